@@ -1,0 +1,16 @@
+//! Lengths and the small records that all crates share.
+//!
+//! A length or a position is a whole number of 1/64 px, a percentage a whole number of hundredths of
+//! a percent. The rounding of both, and the bounds of a used value, are the definitions of
+//! `specs/Units.antt` (CSS 2.2, 4.3.2 and 4.3.3).
+#![tactic(auto)]
+
+mod length;
+mod memory;
+mod records;
+mod text;
+
+pub use length::{Percent, Unit, clamp, clamp_size, half, percent_of};
+pub use memory::NoMemory;
+pub use records::{AbsOut, BlockIn, ClusterWidth, Len, Rect, Sides, WidthList};
+pub use text::Text;
