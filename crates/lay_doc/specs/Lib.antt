@@ -1,0 +1,9 @@
+pub mod PropertyNumbers
+pub mod Words
+pub mod Values
+pub mod Declarations
+pub mod NewNodes
+pub mod Tree
+pub mod Document
+pub mod Edits
+pub mod ComputedStyle

@@ -1,0 +1,19 @@
+//! Documents in document order, their edits, and the values of properties.
+//!
+//! A document is a viewport and a tree of nodes (`specs/Document.antt`). An edit has a first fault or
+//! none, and a document after it (`specs/Edits.antt`). A declaration keeps in its type that its value
+//! is one of its property's (`specs/Values.antt`); the computed styles of a document's nodes are
+//! defined in `specs/ComputedStyle.antt` (CSS 2.2, chapter 6).
+#![tactic(auto)]
+
+mod declaration;
+mod edit;
+mod node;
+mod property;
+mod style;
+
+pub use declaration::{Decl, Decls};
+pub use edit::{Edit, EditFault};
+pub use node::{Kind, NewNode, Node, NodeId};
+pub use property::{Given, OneLength, Property, Word};
+pub use style::{Computed, Style};

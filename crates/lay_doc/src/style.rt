@@ -1,0 +1,46 @@
+//! Computed styles.
+
+ghost use Rattle.std.specs.Prelude.{◌≡◌};
+
+use lay_units::Len;
+use std::marker::Model;
+
+/// The computed style of a node. Lengths are in 1/64 px.
+#[derive(Clone, Copy, Debug, PartialEq, Eq)]
+pub struct Style {
+    pub width: Len,
+    pub height: Len,
+    pub margin_left: Len,
+    pub margin_right: Len,
+}
+
+/// The computed styles of a document's nodes, in document order.
+#[derive(Drop, Debug)]
+pub struct Computed {
+    styles: Vec<Style>,
+}
+
+impl Model for Computed {
+    ghost use Rattle.std.specs.Prelude.{List};
+    ghost use Rattle.lay_doc.specs.declared.style.Style.{Style};
+
+    ghost Value = { List Style };
+
+    ghost view = { λ c. c.styles.items };
+}
+
+impl Computed {
+    /// The list of these styles, which is taken over without a copy.
+    pub fn new(styles: Vec<Style>) -> Computed
+        ensures { result ≡ styles.items }
+    {
+        Computed { styles }
+    }
+
+    /// The styles, in document order.
+    pub fn as_slice(&self) -> &[Style]
+        ensures { result.now ≡ self.now }
+    {
+        self.styles.as_slice()
+    }
+}
