@@ -41,3 +41,7 @@ IsUsedSize v = (pos 0 ≤ℤ v) × (v ≤ℤ limit)
 -- a length or a position that calls are given: below 2^62 in absolute value
 abbrev pub IsPosition : ℤ → Type 0
 IsPosition v = (neg_ℤ (pos (2 ^ 62)) <ℤ v) × (v <ℤ pos (2 ^ 62))
+
+-- a sum or a difference of two positions: below 2^63 in absolute value
+abbrev pub IsSum : ℤ → Type 0
+IsSum v = (neg_ℤ (pos (2 ^ 63)) <ℤ v) × (v <ℤ pos (2 ^ 63))

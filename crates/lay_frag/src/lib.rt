@@ -1,0 +1,16 @@
+//! Laid-out trees: the pieces of boxes, lines and texts, and the lines of a report that list them.
+//!
+//! A tree is a list of contexts, each with its border box on the page, the shift of its content and its
+//! pieces, which are counted from that border box and shared (CSS 2.2, 9.4). `specs/Pieces.antt` says
+//! where a piece stands on the page, and `specs/Lines.antt` how a report writes it.
+#![tactic(auto)]
+
+mod frag;
+mod lines;
+mod placed;
+mod tree;
+
+pub use frag::{Frag, FragKind};
+pub use lines::text_of;
+pub use placed::{Pieces, Placed};
+pub use tree::Tree;
