@@ -1,0 +1,2 @@
+pub mod AutoHeights
+pub mod MinMax
