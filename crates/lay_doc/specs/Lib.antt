@@ -7,3 +7,4 @@ pub mod Tree
 pub mod Document
 pub mod Edits
 pub mod ComputedStyle
+pub mod NumberKinds

@@ -11,6 +11,8 @@ mod edit;
 mod node;
 mod property;
 mod style;
+mod values;
+mod words;
 
 pub use declaration::{Decl, Decls};
 pub use edit::{Edit, EditFault};
