@@ -9,6 +9,7 @@
 mod declaration;
 mod edit;
 mod node;
+mod node_ref;
 mod property;
 mod style;
 mod values;
@@ -17,5 +18,6 @@ mod words;
 pub use declaration::{Decl, Decls};
 pub use edit::{Edit, EditFault};
 pub use node::{Kind, NewNode, Node, NodeId};
+pub use node_ref::NodeRef;
 pub use property::{Given, OneLength, Property, Word};
 pub use style::{Computed, Style};
