@@ -6,4 +6,6 @@ pub mod NewNodes
 pub mod Tree
 pub mod Document
 pub mod Edits
+pub mod NodeRefs
 pub mod ComputedStyle
+pub mod NumberKinds

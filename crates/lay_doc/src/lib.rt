@@ -9,11 +9,15 @@
 mod declaration;
 mod edit;
 mod node;
+mod node_ref;
 mod property;
 mod style;
+mod values;
+mod words;
 
 pub use declaration::{Decl, Decls};
 pub use edit::{Edit, EditFault};
 pub use node::{Kind, NewNode, Node, NodeId};
+pub use node_ref::NodeRef;
 pub use property::{Given, OneLength, Property, Word};
 pub use style::{Computed, Style};
