@@ -1,0 +1,4 @@
+pub mod ColumnWrites
+pub mod HeightSteps
+pub mod CornerSteps
+pub mod OneColumn

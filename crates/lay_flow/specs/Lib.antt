@@ -1,0 +1,4 @@
+pub mod StackedBlocks
+pub mod Laws
+pub mod HeightsFrom
+pub mod CornersTo
