@@ -7,5 +7,6 @@ pub mod Tree
 pub mod Document
 pub mod Edits
 pub mod NodeRefs
+pub mod Index
 pub mod ComputedStyle
 pub mod NumberKinds

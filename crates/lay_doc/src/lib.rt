@@ -6,8 +6,11 @@
 //! defined in `specs/ComputedStyle.antt` (CSS 2.2, chapter 6).
 #![tactic(auto)]
 
+mod columns;
 mod declaration;
+mod doc;
 mod edit;
+mod index;
 mod node;
 mod node_ref;
 mod property;
@@ -16,6 +19,7 @@ mod values;
 mod words;
 
 pub use declaration::{Decl, Decls};
+pub use doc::{Doc, NewFault};
 pub use edit::{Edit, EditFault};
 pub use node::{Kind, NewNode, Node, NodeId};
 pub use node_ref::NodeRef;

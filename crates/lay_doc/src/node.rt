@@ -2,6 +2,7 @@
 
 ghost use Rattle.std.specs.Prelude.{◌≡◌, ◌≤◌, [], ℤ, pos, ◌≤ℤ◌, IfOk};
 ghost use Rattle.lay_doc.specs.Document.{becomes};
+ghost use Rattle.lay_doc.specs.NewNodes.{is_element};
 
 use crate::declaration::Decls;
 use lay_units::{NoMemory, Text, Unit};
@@ -21,6 +22,15 @@ pub enum Kind {
     Text,
     /// A replaced element, with its natural size: 1 to 1,000,000 px each way.
     Replaced { w: Unit, h: Unit },
+}
+
+impl Kind {
+    /// Whether it is an element.
+    pub fn is_element(&self) -> bool
+        ensures { result ≡ is_element self.now }
+    {
+        matches!(self, Kind::Element { .. })
+    }
 }
 
 /// A node that is to be put into a document.
