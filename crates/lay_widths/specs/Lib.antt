@@ -1,0 +1,4 @@
+pub mod Lengths
+pub mod BlockWidths
+pub mod MinMax
+pub mod Laws
