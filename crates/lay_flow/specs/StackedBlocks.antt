@@ -5,7 +5,7 @@
 --
 -- For example, of a root with two children of heights 10 and 20 px, the second child's top stands at
 -- 10 px, and the root's auto height is 30 px.
-use Rattle.std.specs.Prelude.{ℕ, zero, suc, ◌≡◌, ◌+◌, ◌<◌, ◌==◌, ℤ, pos, ◌+ℤ◌, List, [], ◌∷◌, length, drop, slice_index, slice_index_or, Some, None, if◌then◌else◌}
+use Rattle.std.specs.Prelude.{ℕ, zero, suc, ◌≡◌, ◌+◌, ◌^◌, ◌<◌, ◌<ℤ◌, neg_ℤ, ◌==◌, ℤ, pos, ◌+ℤ◌, List, [], ◌∷◌, length, drop, slice_index, slice_index_or, Some, None, if◌then◌else◌}
 use Rattle.std.specs.List.{between}
 use Rattle.lay_units.specs.Units.{clamp_size_of}
 use Rattle.lay_units.specs.declared.length.Unit.{Unit as Length}
@@ -68,3 +68,10 @@ corner_of parents margins hs cs (suc k) =
 pub record HasCorners (parents : List ℕ) (margins : List Length) (hs : List Length) (cs : List Corner) : Type 0 where
   pub length_is : length cs ≡ length parents
   pub each : (k : ℕ) → k < length parents → corner_at cs k ≡ corner_of parents margins hs cs k
+
+-- the corners are less than 2^60 units from their context's
+abbrev pub AreNear : List Corner → Type 0
+AreNear cs = (k : ℕ) → k < length cs → IsNear (corner_at cs k).x.0 × IsNear (corner_at cs k).y.0
+  where
+    IsNear : ℤ → Type 0
+    IsNear v = (neg_ℤ (pos (2 ^ 60)) <ℤ v) × (v <ℤ pos (2 ^ 60))

@@ -2,7 +2,7 @@
 
 ghost use Rattle.std.specs.Prelude.{◌≡◌, ◌+◌, ◌<◌, ◌≤◌, [], ◌∷◌, ◌++◌, length, IfOk, OnOk};
 ghost use Rattle.lay_doc.specs.Tree.{IsTree};
-ghost use Rattle.lay_flow.specs.StackedBlocks.{HasCorners, corner_at, corner_of};
+ghost use Rattle.lay_flow.specs.StackedBlocks.{HasCorners, AreNear, corner_at, corner_of};
 ghost use Rattle.lay_flow.specs.CornersTo.{AreSized, CornersTo};
 
 use crate::columns::{add_at, length_at, parent_at, sum_of};
@@ -21,9 +21,10 @@ pub fn corners(
     requires few { length parents.now ≤ 16384 }
     requires tree { IsTree parents.now }
     requires sized { AreSized parents.now margins.now heights.now }
-    ensures { IfOk result (λ v. HasCorners parents.now margins.now heights.now v.items) }
+    ensures corners { IfOk result (λ v. HasCorners parents.now margins.now heights.now v.items) }
+    ensures near { IfOk result (λ v. AreNear v.items) }
 {
-    let mut corners = Vec::new(alloc);
+    let mut corners = Vec::with_capacity(alloc, parents.len())?;
     let mut sums = vec![in alloc; Unit(0); parents.len()]?;
     for k in 0..parents.len() {
         place(parents, margins, heights, &mut corners, &mut sums, k)?;

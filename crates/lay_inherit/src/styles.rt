@@ -1,10 +1,10 @@
 //! Computed styles.
 
 ghost use Rattle.std.specs.Prelude.{◌≡◌, Option, Some, None, IfOk};
-ghost use Rattle.lay_doc.specs.ComputedStyle.{computed_length, value_or, computed_style, computed_styles};
+ghost use Rattle.lay_doc.specs.ComputedStyle.{size_or_auto, margin_or_zero, computed_style, computed_styles};
 
 use lay_doc::{Computed, Decls, Doc, Given, Property, Style};
-use lay_units::{Len, NoMemory, Unit};
+use lay_units::{Len, NoMemory, Unit, clamp, clamp_size};
 use std::alloc::Global;
 
 /// The computed styles of a document's nodes, in document order.
@@ -22,19 +22,28 @@ fn style(decls: &Decls) -> Style
     ensures { result ≡ computed_style decls.now }
 {
     Style {
-        width: value_or(Len::Auto, decls.get(Property::Width)),
-        height: value_or(Len::Auto, decls.get(Property::Height)),
-        margin_left: value_or(Len::Of(Unit(0)), decls.get(Property::MarginLeft)),
-        margin_right: value_or(Len::Of(Unit(0)), decls.get(Property::MarginRight)),
+        width: size_or_auto(decls.get(Property::Width)),
+        height: size_or_auto(decls.get(Property::Height)),
+        margin_left: margin_or_zero(decls.get(Property::MarginLeft)),
+        margin_right: margin_or_zero(decls.get(Property::MarginRight)),
     }
 }
 
-fn value_or(initial: Len, given: Option<Given>) -> Len
-    ensures { result ≡ value_or initial given }
+fn size_or_auto(given: Option<Given>) -> Len
+    ensures { result ≡ size_or_auto given }
 {
     match given {
-        None => initial,
-        Some(Given::Length(length)) => Len::Of(length),
+        Some(Given::Length(length)) => Len::Of(clamp_size(i128::from(length.0))),
+        _ => Len::Auto,
+    }
+}
+
+fn margin_or_zero(given: Option<Given>) -> Len
+    ensures { result ≡ margin_or_zero given }
+{
+    match given {
+        None => Len::Of(Unit(0)),
+        Some(Given::Length(length)) => Len::Of(clamp(i128::from(length.0))),
         Some(_) => Len::Auto,
     }
 }

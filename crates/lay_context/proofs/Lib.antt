@@ -1,0 +1,3 @@
+pub mod WidthSteps
+pub mod Bounds
+pub mod OneTree

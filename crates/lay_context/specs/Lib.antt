@@ -1,0 +1,4 @@
+pub mod WidthColumn
+pub mod StylesFit
+pub mod Solves
+pub mod Laws

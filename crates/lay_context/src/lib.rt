@@ -1,0 +1,15 @@
+//! Layout of a document: the workings of its boxes, and the tree of which they are the rectangles.
+//!
+//! `Solves` of `specs/Solves.antt` is the meaning of a layout: one set of equations over the whole
+//! document (CSS 2.2, chapters 8 to 10). So far documents are plain blocks, which are one formatting
+//! context. `specs/Laws.antt` says that a document has one tree.
+#![tactic(auto)]
+
+mod block_widths;
+mod columns;
+mod laws;
+mod layout;
+mod pieces;
+
+pub use laws::{one_solution, one_width_column};
+pub use layout::scratch;
