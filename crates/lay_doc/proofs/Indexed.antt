@@ -10,7 +10,7 @@ use Rattle.lay_doc.specs.Tree.{shifted}
 use Rattle.lay_doc.specs.Document.{place_of}
 use Rattle.lay_doc.specs.Index.{number_in, place_in, HasPlaces, IsIndexOf}
 use Rattle.lay_doc.proofs.Places.{map_none, place_here, place_later, place_none}
-use Rattle.lay_doc.proofs.Insertion.{shifted_low, shifted_high}
+use Rattle.lay_doc.proofs.PutTrees.{shifted_low, shifted_high}
 use Rattle.lay_doc.proofs.NodeColumns.{length-column}
 
 shifted_suc : (at k : ℕ) → suc (shifted at k) ≡ shifted (suc at) (suc k)

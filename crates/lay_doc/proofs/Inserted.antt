@@ -11,7 +11,7 @@ use Rattle.lay_doc.specs.declared.node.Node.{Node}
 use Rattle.lay_doc.specs.NewNodes.{is_element}
 use Rattle.lay_doc.specs.Tree.{IsTree, IsSlot, children_before, shifted}
 use Rattle.lay_doc.specs.Document.{Document, IsDocument, parents_of, ids_of, depths_of, text_lengths_of, text_size, is_element_at, place_of, moved, inserted}
-use Rattle.lay_doc.proofs.Insertion.{Puts, puts_tree, shifted_low, shifted_high}
+use Rattle.lay_doc.proofs.PutTrees.{Puts, puts_tree, shifted_low, shifted_high}
 use Rattle.lay_doc.proofs.NodeColumns.{length-column, length-parents, length-ids, length-depths, length-texts, length-elements, elements_of, element_column}
 use Rattle.lay_doc.proofs.Places.{place_none}
 
@@ -106,7 +106,7 @@ small_parents nodes at b node within small one k lt =
     let len = length-parents nodes in
     let count = length-insert nodes at node within in
     rw (map-insert (λ n. n.parent) nodes at node)
-        (each_insert (λ (v : ℕ). v < b) (parents_of nodes) at node.parent (omega arith) (λ a al. small a (omega arith)) one k (omega arith))
+    (each_insert (λ (v : ℕ). v < b) (parents_of nodes) at node.parent (omega arith) (λ a al. small a (omega arith)) one k (omega arith))
 
 -- the parents' places after a node was put at a slot
 puts_nodes : (nodes : List Node) (at : ℕ) (node : Node) → at ≤ length nodes → node.parent < at → Puts (parents_of nodes) (parents_of (inserted nodes at node)) node.parent at
