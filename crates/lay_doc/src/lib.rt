@@ -10,6 +10,7 @@ mod columns;
 mod declaration;
 mod doc;
 mod edit;
+mod faults;
 mod index;
 mod insertion;
 mod node;
