@@ -1,7 +1,7 @@
-use Rattle.std.proofs.Common.{◌≡◌, ℕ, ◌+◌, ◌-◌, ◌<◌, ◌≤◌, arith, length, refl, slice_index, ap, sym, ◌∙◌, get_or}
+use Rattle.std.proofs.Common.{◌<◌, arith, length}
 use Rattle.std.proofs.lemmas.List.{get_or-map}
 use Rattle.std.proofs.lemmas.List.Edits.{map_over_more}
-use Rattle.lay_doc.specs.Document.{parents_of, moved}
+use Rattle.lay_doc.specs.Document.{moved}
 use Rattle.lay_doc.proofs.Inserted.{ahead}
 use Rattle.lay_doc.proofs.insertion.shift_parents.Goals as goal
 

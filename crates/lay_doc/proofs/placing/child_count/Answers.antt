@@ -1,4 +1,4 @@
-use Rattle.std.proofs.Common.{◌≡◌, ◌+◌, ◌<◌, ◌≤◌, arith, length}
+use Rattle.std.proofs.Common.{◌<◌, arith, length}
 use Rattle.lay_doc.specs.Document.{parents_of}
 use Rattle.lay_doc.proofs.Slots.{children_yes, children_no}
 use Rattle.lay_doc.proofs.NodeColumns.{length-parents}

@@ -1,7 +1,6 @@
-use Rattle.std.proofs.Common.{◌≡◌, ℕ, ◌+◌, ◌-◌, ◌<◌, ◌≤◌, arith, length, below_more, slice_index, ap, sym, ◌∙◌}
+use Rattle.std.proofs.Common.{ℕ, ◌<◌, ◌≤◌, arith, length, below_more, slice_index}
 use Rattle.lay_doc.proofs.NodeColumns.{length-parents}
 use Rattle.lay_doc.specs.Document.{parents_of}
-use Rattle.lay_doc.specs.Tree.{IsSlot, children_before}
 use Rattle.lay_doc.proofs.Slots.{children_yes, children_no, end_slot}
 use Rattle.lay_doc.proofs.placing.slot.Goals as goal
 use Rattle.lay_doc.proofs.placing.slot.Goals.{then-here-parent-2+else-seen-index, else-here-parent-2}

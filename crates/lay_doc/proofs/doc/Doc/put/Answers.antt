@@ -1,6 +1,6 @@
-use Rattle.std.proofs.Common.{◌≡◌, ℕ, ◌+◌, List, arith, ap, sym, ◌∙◌, length, get_or, refl}
+use Rattle.std.proofs.Common.{◌≡◌, ℕ, ◌+◌, arith, ap, ◌∙◌, length, get_or, refl}
 use Rattle.lay_doc.specs.declared.node.Node.{Node}
-use Rattle.lay_doc.specs.Document.{Document, depths_of, text_size, inserted, becomes}
+use Rattle.lay_doc.specs.Document.{Document, depths_of, inserted, becomes}
 use Rattle.lay_doc.proofs.Inserted.{HasRoom, put_document, text_size_inserted}
 use Rattle.lay_doc.proofs.doc.Doc.put.Goals as goal
 
