@@ -1,16 +1,16 @@
 -- The index after an id was added, and the places of ids after one was put among them.
-use Rattle.std.proofs.Common.{◌≡◌, ℕ, zero, suc, ◌+◌, ◌-◌, ◌<◌, ◌≤◌, List, [], ◌∷◌, ◌++◌, length, get_or, refl, sym, ap, ◌∙◌, arith, Option, Some, None, option_map, map, inl, inr, subst, eqb, cond, ltb, IfSome}
+use Rattle.std.proofs.Common.{◌≡◌, ℕ, zero, suc, ◌+◌, ◌<◌, ◌≤◌, List, [], ◌∷◌, ◌++◌, length, get_or, refl, sym, ap, ◌∙◌, arith, Option, Some, None, option_map, map, inl, inr, eqb, cond, IfSome}
 use Rattle.std.specs.List.{insert}
-use Rattle.std.proofs.lemmas.Bool.{cases_eq, cases_lt, eq-eqb, ne_eqb, lt-ltb, le-ltb}
-use Rattle.std.proofs.lemmas.Grind.{elements, common_steps}
+use Rattle.std.proofs.lemmas.Bool.{cases_eq, cases_lt, eq-eqb, ne_eqb}
+use Rattle.std.proofs.lemmas.Grind.{elements}
 use Rattle.std.proofs.lemmas.List.{get_or-map, length-append}
 use Rattle.std.proofs.lemmas.List.Edits.{length-insert}
 use Rattle.lay_doc.specs.declared.index.IdIndex.{IdIndex}
 use Rattle.lay_doc.specs.Tree.{shifted}
 use Rattle.lay_doc.specs.Document.{place_of}
-use Rattle.lay_doc.specs.Index.{number_in, place_in, HasPlaces, IsIndexOf}
-use Rattle.lay_doc.proofs.Places.{map_none, place_here, place_later, place_none}
-use Rattle.lay_doc.proofs.Insertion.{shifted_low, shifted_high}
+use Rattle.lay_doc.specs.Index.{number_in, IsIndexOf}
+use Rattle.lay_doc.proofs.Places.{map_none, place_here, place_later}
+use Rattle.lay_doc.proofs.PutTrees.{shifted_low, shifted_high}
 use Rattle.lay_doc.proofs.NodeColumns.{length-column}
 
 shifted_suc : (at k : ℕ) → suc (shifted at k) ≡ shifted (suc at) (suc k)

@@ -1,7 +1,7 @@
 -- The columns of a list of nodes after one was put into it, and the document that it then is.
-use Rattle.std.proofs.Common.{◌≡◌, ℕ, zero, suc, ◌+◌, ◌-◌, ◌<◌, ◌≤◌, List, [], ◌∷◌, ◌++◌, length, get_or, refl, sym, ap, ◌∙◌, arith, Bool, true, false, inl, inr, take, drop, map, subst, Option, Some, None}
+use Rattle.std.proofs.Common.{◌≡◌, ℕ, ◌+◌, ◌-◌, ◌<◌, ◌≤◌, List, [], ◌∷◌, ◌++◌, length, get_or, refl, sym, ap, ◌∙◌, arith, Bool, true, false, inl, inr, take, drop, map, subst, None}
 use Rattle.std.specs.List.{insert}
-use Rattle.std.specs.Prelude.{sum, sum_by}
+use Rattle.std.specs.Prelude.{sum}
 use Rattle.std.proofs.lemmas.Bool.{cases_lt}
 use Rattle.std.proofs.lemmas.List.{get_or-map, map-append, take-map, drop-map}
 use Rattle.std.proofs.lemmas.List.Edits.{length-insert, get_or-insert_below, get_or-insert_at, get_or-insert_above}
@@ -9,9 +9,9 @@ use Rattle.std.proofs.lemmas.List.Sums.{sum-map, sum_by-insert}
 use Rattle.std.proofs.lemmas.Grind.{common_steps}
 use Rattle.lay_doc.specs.declared.node.Node.{Node}
 use Rattle.lay_doc.specs.NewNodes.{is_element}
-use Rattle.lay_doc.specs.Tree.{IsTree, IsSlot, children_before, shifted}
+use Rattle.lay_doc.specs.Tree.{IsSlot, children_before, shifted}
 use Rattle.lay_doc.specs.Document.{Document, IsDocument, parents_of, ids_of, depths_of, text_lengths_of, text_size, is_element_at, place_of, moved, inserted}
-use Rattle.lay_doc.proofs.Insertion.{Puts, puts_tree, shifted_low, shifted_high}
+use Rattle.lay_doc.proofs.PutTrees.{Puts, puts_tree, shifted_low, shifted_high}
 use Rattle.lay_doc.proofs.NodeColumns.{length-column, length-parents, length-ids, length-depths, length-texts, length-elements, elements_of, element_column}
 use Rattle.lay_doc.proofs.Places.{place_none}
 
@@ -106,7 +106,7 @@ small_parents nodes at b node within small one k lt =
     let len = length-parents nodes in
     let count = length-insert nodes at node within in
     rw (map-insert (λ n. n.parent) nodes at node)
-        (each_insert (λ (v : ℕ). v < b) (parents_of nodes) at node.parent (omega arith) (λ a al. small a (omega arith)) one k (omega arith))
+    (each_insert (λ (v : ℕ). v < b) (parents_of nodes) at node.parent (omega arith) (λ a al. small a (omega arith)) one k (omega arith))
 
 -- the parents' places after a node was put at a slot
 puts_nodes : (nodes : List Node) (at : ℕ) (node : Node) → at ≤ length nodes → node.parent < at → Puts (parents_of nodes) (parents_of (inserted nodes at node)) node.parent at

@@ -2,6 +2,6 @@ pub mod Places
 pub mod Declared
 pub mod NodeColumns
 pub mod Slots
-pub mod Insertion
+pub mod PutTrees
 pub mod Indexed
 pub mod Inserted

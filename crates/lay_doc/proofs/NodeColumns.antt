@@ -1,5 +1,5 @@
 -- The columns of a list of nodes.
-use Rattle.std.proofs.Common.{◌≡◌, ℕ, zero, suc, ◌<◌, List, [], ◌∷◌, length, get_or, refl, ap, arith, Bool, true, false, map}
+use Rattle.std.proofs.Common.{◌≡◌, ℕ, zero, suc, ◌<◌, List, [], ◌∷◌, length, get_or, refl, ap, arith, Bool, false, map}
 use Rattle.lay_doc.specs.declared.node.Node.{Node}
 use Rattle.lay_doc.specs.NewNodes.{is_element}
 use Rattle.lay_doc.specs.Document.{parents_of, ids_of, depths_of, text_lengths_of, is_element_at}

@@ -1,5 +1,5 @@
 -- Counting the children before a place.
-use Rattle.std.proofs.Common.{◌≡◌, ℕ, zero, suc, ◌+◌, ◌<◌, ◌≤◌, List, [], ◌∷◌, ◌++◌, length, get_or, refl, sym, ap, ◌∙◌, arith, Bool, true, false, cond, eqb, drop, ◌-◌, inl, inr, add-one, add-zero, add-suc}
+use Rattle.std.proofs.Common.{◌≡◌, ℕ, zero, suc, ◌+◌, ◌<◌, ◌≤◌, List, [], ◌∷◌, length, get_or, refl, sym, ap, ◌∙◌, arith, cond, eqb, drop, ◌-◌, inl, inr, add-one, add-zero}
 use Rattle.std.specs.Prelude.{count_by}
 use Rattle.std.specs.List.{between}
 use Rattle.std.proofs.lemmas.Bool.{eq-eqb, ne_eqb, le-ltb, lt-ltb, cases_lt, cases_eq}
@@ -65,10 +65,10 @@ children_grow parents p k (suc n) after within =
 slot_here : (parents : List ℕ) (p at : ℕ) → at ≤ length parents → (at < length parents → get_or parents at 0 ≤ p) → slot_from p 0 at (drop at parents) ≡ at
 slot_here parents p at within next = elim (cases_lt at (length parents)) [
   | inl lt ↦ ap (slot_from p 0 at) (drop-cons parents at 0 lt) ∙ (elim (cases_lt (get_or parents at 0) p) [
-      | inl low ↦ (let t = lt-ltb (get_or parents at 0) p low in rw t refl)
-      | inr high ↦ (let t = le-ltb (get_or parents at 0) p high in
-          let s = eq-eqb (get_or parents at 0) p (let n = next lt in omega arith) in rw (t, s) refl)
-    ])
+    | inl low ↦ (let t = lt-ltb (get_or parents at 0) p low in rw t refl)
+    | inr high ↦ (let t = le-ltb (get_or parents at 0) p high in
+        let s = eq-eqb (get_or parents at 0) p (let n = next lt in omega arith) in rw (t, s) refl)
+  ])
   | inr end ↦ ap (slot_from p 0 at) (drop_end parents at end)
 ]
   where
@@ -108,3 +108,17 @@ slot_is parents p index at slot =
 
 pub one_slot_lem : OneSlot
 one_slot_lem parents p index at tree has slot = slot_is parents p index at slot
+
+-- the first place behind p's subtree is the slot after its children
+pub end_slot : (parents : List ℕ) → IsTree parents → (p at : ℕ) → p < at → at < length parents → ((j : ℕ) → p < j → j < at → p ≤ get_or parents j 0) → get_or parents at 0 < p → IsSlot parents p (child_count parents p) at
+end_slot parents tree p at after within below low =
+    let n : ℕ = length parents - at in
+    let e : at + n ≡ length parents = omega arith in
+    let h = no_more parents tree p at n after (omega arith) (λ _. low) in
+    record {
+      after = after;
+      within = omega arith;
+      below = below;
+      index_is = sym (sym (ap (children_before parents p) e) ∙ h);
+      next = λ _. omega arith;
+    }

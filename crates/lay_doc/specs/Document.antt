@@ -1,8 +1,8 @@
 -- A document: a viewport in px, and its nodes in document order, each with the place of its parent.
-use Rattle.std.specs.Prelude.{ℕ, zero, ◌≡◌, ◌+◌, ◌<◌, ◌≤◌, List, [], ◌∷◌, map, length, sum_by, slice_index, slice_get, Option, Some, None, option_map, suc, ◌==◌, Bool, true, false, if◌then◌else◌}
+use Rattle.std.specs.Prelude.{ℕ, zero, ◌≡◌, ◌+◌, ◌<◌, ◌≤◌, List, [], ◌∷◌, map, length, sum_by, slice_index, Option, Some, None, option_map, suc, ◌==◌, Bool, true, false, if◌then◌else◌}
 use Rattle.std.specs.List.{insert}
 use Rattle.lay_doc.specs.declared.node.Node.{Node}
-use Rattle.lay_doc.specs.NewNodes.{NewNodeValue, IsNodeForm, is_element}
+use Rattle.lay_doc.specs.NewNodes.{NewNodeValue, is_element}
 use Rattle.lay_doc.specs.Tree.{IsTree, shifted}
 
 pub record Document : Type 0 where

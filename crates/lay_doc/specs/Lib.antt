@@ -8,5 +8,6 @@ pub mod Document
 pub mod Edits
 pub mod NodeRefs
 pub mod Index
+pub mod FaultParts
 pub mod ComputedStyle
 pub mod NumberKinds

@@ -1,15 +1,20 @@
 //! A document.
 
-ghost use Rattle.std.specs.Prelude.{◌≡◌, ◌↔◌, ◌<◌, ◌≤◌, length, slice_index, Some, Err, IfOk, IfSome};
-ghost use Rattle.lay_doc.specs.Document.{IsDocument, ids_of, parents_of, place_of, root_document};
+ghost use Rattle.std.specs.Prelude.{◌≡◌, ◌↔◌, ◌+◌, ◌<◌, ◌≤◌, ◌==◌, length, slice_index, true, Some, None, Err, IfOk, IfErr, IfSome, OnOk, OnErr};
+ghost use Rattle.lay_doc.specs.Document.{IsDocument, ids_of, parents_of, depths_of, text_size, is_element_at, place_of, inserted, becomes, root_document};
 ghost use Rattle.lay_doc.specs.NodeRefs.{node_at, parent_id};
-ghost use Rattle.lay_doc.specs.Edits.{root_fault};
+ghost use Rattle.lay_doc.specs.Tree.{IsSlot, children_before, child_count};
+ghost use Rattle.lay_doc.specs.Edits.{root_fault, fault, after, insert_fault, fault_below, last_index, after_insert, inserted_below};
 
-use crate::columns::{id_at, parent_at};
-use crate::edit::EditFault;
+use crate::columns::{depth_at, id_at, parent_at};
+use crate::edit::{Edit, EditFault};
+use crate::faults::{limit_fault, parent_or_id_fault};
 use crate::index::IdIndex;
+use crate::insertion::put_node;
 use crate::node::{NewNode, Node, NodeId};
 use crate::node_ref::NodeRef;
+use crate::placing::{child_count, last_slot, slot};
+use lay_units::NoMemory;
 use std::alloc::Global;
 use std::marker::Model;
 
@@ -117,6 +122,149 @@ impl Doc {
         ensures valid { IsDocument self.now }
     {
         &self.nodes
+    }
+
+    /// Err with the first fault of an edit (E1 to E11, in their order). It takes no memory.
+    pub fn check(&self, edit: &Edit) -> Result<(), EditFault>
+        ensures ok { OnOk result (fault self.now edit.now ≡ None) }
+        ensures bad { IfErr result (λ f. fault self.now edit.now ≡ Some f) }
+    {
+        match edit {
+            Edit::Insert { parent, index, new } => match self.insert_fault(*parent, *index, new) {
+                None => Ok(()),
+                Some(fault) => Err(fault),
+            },
+        }
+    }
+
+    /// Applies an edit in which `check` finds no fault. On an error all is as before.
+    pub fn apply(&mut self, alloc: Global, edit: &Edit) -> Result<(), NoMemory>
+        requires { fault self.old edit.now ≡ None }
+        ensures ok { OnOk result (self.new ≡ after self.old edit.now) }
+        ensures err { OnErr result (self.new ≡ self.old) }
+    {
+        match edit {
+            Edit::Insert { parent, index, new } => {
+                let new = new.copy(alloc)?;
+                self.insert(*parent, *index, new)
+            }
+        }
+    }
+
+    /// The first fault of putting a node below its parent, as its last child. No child is counted, since
+    /// the index can't be a fault.
+    pub fn check_last(&self, parent: NodeId, new: &NewNode) -> Option<EditFault>
+        ensures { result ≡ insert_fault self.now parent.0 (last_index self.now parent.0) new.now }
+    {
+        match self.find(parent) {
+            None => Some(EditFault::NoNode),
+            Some(place) => self.last_fault(place, new),
+        }
+    }
+
+    /// Puts a node below its parent, as its last child, where `check_last` finds no fault. On an error all
+    /// is as before.
+    pub fn push_last(&mut self, parent: NodeId, new: NewNode) -> Result<(), NoMemory>
+        requires { insert_fault self.old parent.0 (last_index self.old parent.0) new ≡ None }
+        ensures ok { OnOk result (self.new ≡ after_insert self.old parent.0 (last_index self.old parent.0) new) }
+        ensures err { OnErr result (self.new ≡ self.old) }
+    {
+        match self.find(parent) {
+            None => unreachable!(),
+            Some(place) => self.push_below(place, new),
+        }
+    }
+
+    /// The first fault of putting a node below its parent, before the child that has the index.
+    fn insert_fault(&self, parent: NodeId, index: u32, new: &NewNode) -> Option<EditFault>
+        ensures { result ≡ insert_fault self.now parent.0 index new.now }
+    {
+        match self.find(parent) {
+            None => Some(EditFault::NoNode),
+            Some(place) => self.fault_below(place, index, new),
+        }
+    }
+
+    /// The first fault of putting a node below the node at a place.
+    fn fault_below(&self, place: usize, index: u32, new: &NewNode) -> Option<EditFault>
+        requires { place < length self.now.nodes }
+        ensures { result ≡ fault_below self.now.nodes place index new.now }
+    {
+        if let Some(fault) = parent_or_id_fault(&self.nodes, &self.index, place, new.id().0) {
+            return Some(fault);
+        }
+        if child_count(&self.nodes, place) < index {
+            return Some(EditFault::BadIndex);
+        }
+        limit_fault(&self.nodes, self.text_bytes, place, new.content().len())
+    }
+
+    /// Puts a node below its parent, before the child that has the index, or last.
+    fn insert(&mut self, parent: NodeId, index: u32, new: NewNode) -> Result<(), NoMemory>
+        requires { insert_fault self.old parent.0 index new ≡ None }
+        ensures ok { OnOk result (self.new ≡ after_insert self.old parent.0 index new) }
+        ensures err { OnErr result (self.new ≡ self.old) }
+    {
+        match self.find(parent) {
+            None => unreachable!(),
+            Some(place) => self.insert_below(place, index, new),
+        }
+    }
+
+    /// Puts a node below the node at a place, before the child that has the index, or last.
+    fn insert_below(&mut self, place: usize, index: u32, new: NewNode) -> Result<(), NoMemory>
+        requires place { place < length self.old.nodes }
+        requires fault { fault_below self.old.nodes place index new ≡ None }
+        ensures ok { OnOk result (self.new ≡ inserted_below self.old place index new) }
+        ensures err { OnErr result (self.new ≡ self.old) }
+    {
+        let at = slot(&self.nodes, place, index);
+        self.put(place, at, new)?;
+        Ok(())
+    }
+
+    /// The first fault of putting a node below the node at a place, as its last child.
+    fn last_fault(&self, place: usize, new: &NewNode) -> Option<EditFault>
+        requires { place < length self.now.nodes }
+        ensures { result ≡ fault_below self.now.nodes place (child_count (parents_of self.now.nodes) place) new.now }
+    {
+        if let Some(fault) = parent_or_id_fault(&self.nodes, &self.index, place, new.id().0) {
+            return Some(fault);
+        }
+        limit_fault(&self.nodes, self.text_bytes, place, new.content().len())
+    }
+
+    /// Puts a node below the node at a place, as its last child.
+    fn push_below(&mut self, place: usize, new: NewNode) -> Result<(), NoMemory>
+        requires place { place < length self.old.nodes }
+        requires fault { fault_below self.old.nodes place (child_count (parents_of self.old.nodes) place) new ≡ None }
+        ensures ok { OnOk result (self.new ≡ inserted_below self.old place (child_count (parents_of self.old.nodes) place) new) }
+        ensures err { OnErr result (self.new ≡ self.old) }
+    {
+        let at = last_slot(&self.nodes, place);
+        self.put(place, at, new)?;
+        Ok(())
+    }
+
+    /// Puts a node below the node at a place, before the place `at`.
+    fn put(&mut self, place: usize, at: usize, new: NewNode) -> Result<(), NoMemory>
+        requires place { place < length self.old.nodes }
+        requires slot { IsSlot (parents_of self.old.nodes) place (children_before (parents_of self.old.nodes) place at) at }
+        requires element { is_element_at self.old.nodes place ≡ true }
+        requires fresh { place_of new.id.0 (ids_of self.old.nodes) ≡ None }
+        requires named { 0 < new.id.0 }
+        requires few { length self.old.nodes < 16384 }
+        requires shallow { slice_index (depths_of self.old.nodes) place < 128 }
+        requires short { length new.text ≤ 65536 }
+        requires small { text_size self.old.nodes + length new.text ≤ 1048576 }
+        ensures ok { OnOk result (self.new ≡ record self.old { nodes = inserted self.old.nodes at (becomes new place (slice_index (depths_of self.old.nodes) place + 1)) }) }
+        ensures err { OnErr result (self.new ≡ self.old) }
+    {
+        let bytes = new.content().len();
+        let node = new.into_node(place, depth_at(&self.nodes, place) + 1);
+        put_node(&mut self.nodes, &mut self.index, at, node)?;
+        self.text_bytes += bytes;
+        Ok(())
     }
 }
 

@@ -29,7 +29,7 @@ pub fn is_display(word: Word) -> bool
     )
 }
 
-/// `position` (9.3.1).
+/// `position` (CSS 2.2, 9.3.1).
 pub fn is_position(word: Word) -> bool
     ensures { result ≡ is_position word }
 {
@@ -39,14 +39,14 @@ pub fn is_position(word: Word) -> bool
     )
 }
 
-/// `float` (9.5.1).
+/// `float` (CSS 2.2, 9.5.1).
 pub fn is_float(word: Word) -> bool
     ensures { result ≡ is_float word }
 {
     matches!(word, Word::None | Word::Left | Word::Right)
 }
 
-/// `clear` (9.5.2).
+/// `clear` (CSS 2.2, 9.5.2).
 pub fn is_clear(word: Word) -> bool
     ensures { result ≡ is_clear word }
 {
@@ -60,21 +60,21 @@ pub fn is_auto(word: Word) -> bool
     matches!(word, Word::Auto)
 }
 
-/// `max-width` and `max-height` (10.4, 10.7).
+/// `max-width` and `max-height` (CSS 2.2, 10.4, 10.7).
 pub fn is_none(word: Word) -> bool
     ensures { result ≡ is_none word }
 {
     matches!(word, Word::None)
 }
 
-/// A border's width (8.5.1).
+/// A border's width (CSS 2.2, 8.5.1).
 pub fn is_border_width(word: Word) -> bool
     ensures { result ≡ is_border_width word }
 {
     matches!(word, Word::Thin | Word::Medium | Word::Thick)
 }
 
-/// A border's style (8.5.3).
+/// A border's style (CSS 2.2, 8.5.3).
 pub fn is_border_style(word: Word) -> bool
     ensures { result ≡ is_border_style word }
 {
@@ -93,7 +93,7 @@ pub fn is_border_style(word: Word) -> bool
     )
 }
 
-/// `overflow` (11.1.1).
+/// `overflow` (CSS 2.2, 11.1.1).
 pub fn is_overflow(word: Word) -> bool
     ensures { result ≡ is_overflow word }
 {
@@ -103,7 +103,7 @@ pub fn is_overflow(word: Word) -> bool
     )
 }
 
-/// `font-size` (15.7).
+/// `font-size` (CSS 2.2, 15.7).
 pub fn is_font_size(word: Word) -> bool
     ensures { result ≡ is_font_size word }
 {
@@ -128,7 +128,7 @@ pub fn is_normal(word: Word) -> bool
     matches!(word, Word::Normal)
 }
 
-/// `text-align` (16.2).
+/// `text-align` (CSS 2.2, 16.2).
 pub fn is_text_align(word: Word) -> bool
     ensures { result ≡ is_text_align word }
 {
@@ -138,7 +138,7 @@ pub fn is_text_align(word: Word) -> bool
     )
 }
 
-/// `white-space` (16.6).
+/// `white-space` (CSS 2.2, 16.6).
 pub fn is_white_space(word: Word) -> bool
     ensures { result ≡ is_white_space word }
 {
@@ -148,7 +148,7 @@ pub fn is_white_space(word: Word) -> bool
     )
 }
 
-/// `vertical-align` (10.8.1).
+/// `vertical-align` (CSS 2.2, 10.8.1).
 pub fn is_vertical_align(word: Word) -> bool
     ensures { result ≡ is_vertical_align word }
 {
@@ -165,35 +165,35 @@ pub fn is_vertical_align(word: Word) -> bool
     )
 }
 
-/// `table-layout` (17.5.2).
+/// `table-layout` (CSS 2.2, 17.5.2).
 pub fn is_table_layout(word: Word) -> bool
     ensures { result ≡ is_table_layout word }
 {
     matches!(word, Word::Auto | Word::Fixed)
 }
 
-/// `border-collapse` (17.6).
+/// `border-collapse` (CSS 2.2, 17.6).
 pub fn is_border_collapse(word: Word) -> bool
     ensures { result ≡ is_border_collapse word }
 {
     matches!(word, Word::Collapse | Word::Separate)
 }
 
-/// `caption-side` (17.4.1).
+/// `caption-side` (CSS 2.2, 17.4.1).
 pub fn is_caption_side(word: Word) -> bool
     ensures { result ≡ is_caption_side word }
 {
     matches!(word, Word::Top | Word::Bottom)
 }
 
-/// `visibility` (11.2).
+/// `visibility` (CSS 2.2, 11.2).
 pub fn is_visibility(word: Word) -> bool
     ensures { result ≡ is_visibility word }
 {
     matches!(word, Word::Visible | Word::Hidden | Word::Collapse)
 }
 
-/// `empty-cells` (17.6.1.1).
+/// `empty-cells` (CSS 2.2, 17.6.1.1).
 pub fn is_empty_cells(word: Word) -> bool
     ensures { result ≡ is_empty_cells word }
 {

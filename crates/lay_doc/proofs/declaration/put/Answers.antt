@@ -1,4 +1,4 @@
-use Rattle.std.proofs.Common.{◌≡◌, sym, ◌∙◌}
+use Rattle.std.proofs.Common.{sym, ◌∙◌}
 use Rattle.lay_doc.proofs.Declared.{with_none, with_some}
 use Rattle.lay_doc.proofs.declaration.put.Goals as goal
 

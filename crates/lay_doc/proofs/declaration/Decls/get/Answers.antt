@@ -1,4 +1,4 @@
-use Rattle.std.proofs.Common.{◌≡◌, sym, ap, ◌∙◌, Some, get_or}
+use Rattle.std.proofs.Common.{◌≡◌, sym, ap, ◌∙◌, Some}
 use Rattle.lay_doc.specs.Values.{Declaration}
 use Rattle.lay_doc.proofs.Declared.{declared_none, declared_some}
 use Rattle.lay_doc.proofs.declaration.Decls.get.Goals as goal
