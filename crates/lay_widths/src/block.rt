@@ -11,7 +11,8 @@ use crate::wide::{difference, floor_half, length_or_zero, sum};
 use crate::widths::{BlockOut, UsedWidths, held};
 use lay_units::{BlockIn, Len};
 
-/// The used margins and width of a block in flow that isn't replaced (CSS 2.2, 10.3.3 and 10.4).
+/// The used margins and width of a block in flow that isn't replaced (CSS 2.2, 10.3.3 and 10.4). The
+/// lengths given are below 2^62 units of 1/64 px in absolute value.
 pub fn solve_block(block: &BlockIn) -> BlockOut
     requires fits { BlockFits block.now }
     ensures { IsUsedBlock block.now result }

@@ -11,7 +11,8 @@ use crate::widths::{BlockOut, UsedWidths, held};
 use lay_units::{BlockIn, Len, Unit};
 
 /// The used margins and width of a float that isn't replaced, from the preferred minimum and the
-/// preferred width of its content (CSS 2.2, 10.3.5 and 10.4).
+/// preferred width of its content (CSS 2.2, 10.3.5 and 10.4). The block's lengths are below 2^62 units
+/// of 1/64 px in absolute value.
 pub fn solve_float(block: &BlockIn, preferred_minimum: Unit, preferred: Unit) -> BlockOut
     requires fits { BlockFits block.now }
     ensures { IsUsedFloat block.now preferred_minimum preferred result }
