@@ -10,7 +10,8 @@ use Rattle.lay_widths.specs.declared.widths.UsedWidths.{UsedWidths}
 use Rattle.lay_widths.specs.Lengths.{across, together}
 use Rattle.lay_widths.specs.BlockWidths.{GivenMargin, SolvesBlock, IsHeld}
 use Rattle.lay_widths.specs.MinMax.{AtMost, AtLeast, IsBounded}
-use Rattle.lay_widths.specs.Laws.{OneBlockWidth}
+use Rattle.lay_widths.specs.FloatWidths.{SolvesFloat}
+use Rattle.lay_widths.specs.Laws.{OneBlockWidth, OneFloatWidth}
 
 abbrev widths_of : ℤ → ℤ → ℤ → UsedWidths
 widths_of left width right = record { margin_left = left; width = width; margin_right = right }
@@ -81,3 +82,10 @@ held_same s t x y same p q =
 pub one_block_width_lem : OneBlockWidth
 one_block_width_lem b x y p q =
     held_same p.used q.used x y (bounded_same (SolvesBlock b) (solution_same b) b.width b.min_width b.max_width p.used q.used p.bounded q.bounded) p.held q.held
+
+float_solution_same : (b : BlockIn) (preferred_minimum preferred : Unit) (computed : Len) (s t : UsedWidths) → SolvesFloat b preferred_minimum preferred computed s → SolvesFloat b preferred_minimum preferred computed t → s ≡ t
+float_solution_same b preferred_minimum preferred computed s t p q = same_widths s t (p.margin_left ∙ sym q.margin_left) (p.width ∙ sym q.width) (p.margin_right ∙ sym q.margin_right)
+
+pub one_float_width_lem : OneFloatWidth
+one_float_width_lem b preferred_minimum preferred x y p q =
+    held_same p.used q.used x y (bounded_same (SolvesFloat b preferred_minimum preferred) (float_solution_same b preferred_minimum preferred) b.width b.min_width b.max_width p.used q.used p.bounded q.bounded) p.held q.held

@@ -4,60 +4,42 @@ ghost use Rattle.std.specs.Prelude.{◌≡◌, ℤ, pos, ◌+ℤ◌, ◌-ℤ◌,
 ghost use Rattle.lay_units.specs.Units.{IsPosition};
 ghost use Rattle.lay_widths.specs.Lengths.{BlockFits, IsBelow, LenFits, or_zero, edges_of, across, together};
 ghost use Rattle.lay_widths.specs.BlockWidths.{IsHeld, IsUsedBlock, SolvesBlock, AutoWidth, GivenWidth};
-ghost use Rattle.lay_widths.specs.MinMax.{IsBounded, AtMost, AtLeast};
 
+use crate::min_max::{WidthRules, bounded};
+use crate::room::{edges, room_beside};
 use crate::wide::{difference, floor_half, length_or_zero, sum};
 use crate::widths::{BlockOut, UsedWidths, held};
 use lay_units::{BlockIn, Len};
 
-/// The used margins and width of a block in flow that isn't replaced (CSS 2.2, 10.3.3 and 10.4).
+/// The used margins and width of a block in flow that isn't replaced (CSS 2.2, 10.3.3 and 10.4). The
+/// lengths given are below 2^62 units of 1/64 px in absolute value.
 pub fn solve_block(block: &BlockIn) -> BlockOut
     requires fits { BlockFits block.now }
     ensures { IsUsedBlock block.now result }
 {
-    held(&bounded_widths(block))
+    let rules = BlockRules { block };
+    held(&bounded(&rules, block.width, block.min_width, block.max_width))
 }
 
-// 1. The tentative widths are those of the computed width.
-// 2. Where that is greater than the maximum, the rules run again with the maximum.
-// 3. Where that is less than the minimum, the rules run again with the minimum.
-fn bounded_widths(block: &BlockIn) -> UsedWidths
-    requires fits { BlockFits block.now }
-    ensures { IsBounded (SolvesBlock block.now) block.now.width block.now.min_width block.now.max_width result }
-{
-    let tentative = widths_for(block, block.width);
-    let narrowed = at_most_max(block, tentative);
-    at_least_min(block, narrowed)
+#[derive(Clone, Copy)]
+struct BlockRules<'a> {
+    block: &'a BlockIn,
 }
 
-fn at_most_max(block: &BlockIn, tentative: UsedWidths) -> UsedWidths
-    requires fits { BlockFits block.now }
-    ensures { AtMost (SolvesBlock block.now) block.now.max_width tentative result }
-{
-    match block.max_width {
-        Some(max) if tentative.width > i128::from(max.0) => widths_for(block, Len::Of(max)),
-        _ => tentative,
-    }
-}
+impl WidthRules for BlockRules<'_> {
+    ghost fit = { λ r. BlockFits r.block.now };
 
-fn at_least_min(block: &BlockIn, narrowed: UsedWidths) -> UsedWidths
-    requires fits { BlockFits block.now }
-    ensures { AtLeast (SolvesBlock block.now) block.now.min_width narrowed result }
-{
-    if narrowed.width < i128::from(block.min_width.0) {
-        return widths_for(block, Len::Of(block.min_width));
-    }
-    narrowed
-}
+    ghost give = { λ r. SolvesBlock r.block.now };
 
-fn widths_for(block: &BlockIn, computed: Len) -> UsedWidths
-    requires fits { BlockFits block.now }
-    requires computed { LenFits computed }
-    ensures { SolvesBlock block.now computed result }
-{
-    match computed {
-        Len::Auto => auto_width(block),
-        Len::Of(width) => given_width(block, i128::from(width.0)),
+    fn widths_for(&self, computed: Len) -> UsedWidths
+        requires fit { BlockFits self.now.block.now }
+        requires computed { LenFits computed }
+        ensures { SolvesBlock self.now.block.now computed result }
+    {
+        match computed {
+            Len::Auto => auto_width(self.block),
+            Len::Of(width) => given_width(self.block, i128::from(width.0)),
+        }
     }
 }
 
@@ -119,45 +101,4 @@ fn margin_right_follows(block: &BlockIn, margin_left: i128, width: i128) -> Used
         width,
         margin_right: difference(i128::from(block.containing_width.0), taken),
     }
-}
-
-fn room_beside(block: &BlockIn, width: i128) -> i128
-    requires fits { BlockFits block.now }
-    requires width { IsBelow 80 width }
-    ensures value { result ≡ block.now.containing_width.0 -ℤ together block.now width }
-    ensures below { IsBelow 82 result }
-{
-    difference(
-        i128::from(block.containing_width.0),
-        width_together(block, width),
-    )
-}
-
-fn width_together(block: &BlockIn, width: i128) -> i128
-    requires fits { BlockFits block.now }
-    requires width { IsBelow 80 width }
-    ensures value { result ≡ together block.now width }
-    ensures below { IsBelow 81 result }
-{
-    let margins = sum(
-        length_or_zero(block.margin_left),
-        length_or_zero(block.margin_right),
-    );
-    sum(sum(edges(block), margins), width)
-}
-
-fn edges(block: &BlockIn) -> i128
-    requires fits { BlockFits block.now }
-    ensures value { result ≡ edges_of block.now }
-    ensures below { IsBelow 64 result }
-{
-    let left = sum(
-        i128::from(block.border_left.0),
-        i128::from(block.padding_left.0),
-    );
-    let right = sum(
-        i128::from(block.padding_right.0),
-        i128::from(block.border_right.0),
-    );
-    sum(left, right)
 }

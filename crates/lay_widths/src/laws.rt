@@ -1,8 +1,13 @@
-//! Laws of the definitions.
+//! Laws of the definitions. The functions do nothing.
 
-ghost use Rattle.lay_widths.specs.Laws.{OneBlockWidth};
+ghost use Rattle.lay_widths.specs.Laws.{OneBlockWidth, OneFloatWidth};
 
-/// A block has one used width and one pair of used margins. It does nothing.
+/// A block has one used width and one pair of used margins.
 pub fn one_block_width()
     ensures { OneBlockWidth }
+{}
+
+/// A float has one used width and one pair of used margins.
+pub fn one_float_width()
+    ensures { OneFloatWidth }
 {}

@@ -1,17 +1,21 @@
 //! Widths of boxes in flow and of floats: the equation of the widths, the margins and widths that are
 //! `auto`, and the bounds that `min-width` and `max-width` set (CSS 2.2, 10.3.3, 10.3.5 and 10.4).
 //!
-//! Contracts cite `IsUsedBlock` of `specs/BlockWidths.antt`, which is a relation and has one value for
-//! each block (`specs/Laws.antt`).
+//! Contracts cite `IsUsedBlock` of `specs/BlockWidths.antt` and `IsUsedFloat` of
+//! `specs/FloatWidths.antt`. They are relations, and have one value for each box (`specs/Laws.antt`).
 #![tactic(auto)]
 
 mod block;
+mod float;
 mod laws;
+mod min_max;
+mod room;
 #[cfg(test)]
 mod tests;
 mod wide;
 mod widths;
 
 pub use block::solve_block;
-pub use laws::one_block_width;
+pub use float::solve_float;
+pub use laws::{one_block_width, one_float_width};
 pub use widths::{BlockOut, UsedWidths};

@@ -2,7 +2,7 @@
 
 ghost use Rattle.lay_widths.specs.Lengths.{BlockFits, LenFits, LenIsSize};
 
-use crate::{BlockOut, solve_block};
+use crate::{BlockOut, solve_block, solve_float};
 use lay_units::{BlockIn, Len, Unit};
 
 fn margin(v: Option<i16>) -> Len
@@ -62,47 +62,19 @@ fn out(left: i16, width: u16, right: i16) -> BlockOut {
 
 #[test]
 fn blocks_of_the_standard_cases(rt: HostRuntime) {
-    for (name, given, want) in [
-        ("auto width", (Some(10), None, Some(30)), (10, 340, 30)),
-        ("all auto", (None, None, None), (0, 380, 0)),
-        (
-            "no room for an auto width",
-            (Some(300), None, Some(200)),
-            (300, 0, 80),
-        ),
-        (
-            "over-constrained",
-            (Some(10), Some(100), Some(10)),
-            (10, 100, 270),
-        ),
-        (
-            "margin-left auto",
-            (None, Some(100), Some(10)),
-            (270, 100, 10),
-        ),
-        (
-            "margin-right auto",
-            (Some(10), Some(100), None),
-            (10, 100, 270),
-        ),
-        (
-            "both margins auto",
-            (None, Some(100), None),
-            (140, 100, 140),
-        ),
-        ("an odd unit", (None, Some(101), None), (139, 101, 140)),
-        (
-            "too wide, both margins auto",
-            (None, Some(500), None),
-            (0, 500, -120),
-        ),
-        (
-            "too wide with margin-right",
-            (None, Some(370), Some(50)),
-            (0, 370, 10),
-        ),
+    for (name, left, width, right, want) in [
+        ("auto width", Some(10), None, Some(30), (10, 340, 30)),
+        ("all auto", None, None, None, (0, 380, 0)),
+        ("no room", Some(300), None, Some(200), (300, 0, 80)),
+        ("none auto", Some(10), Some(100), Some(10), (10, 100, 270)),
+        ("left auto", None, Some(100), Some(10), (270, 100, 10)),
+        ("right auto", Some(10), Some(100), None, (10, 100, 270)),
+        ("margins auto", None, Some(100), None, (140, 100, 140)),
+        ("odd unit", None, Some(101), None, (139, 101, 140)),
+        ("too wide", None, Some(500), None, (0, 500, -120)),
+        ("too wide, right", None, Some(370), Some(50), (0, 370, 10)),
     ] {
-        let used = solve_block(&block(given.0, given.1, given.2));
+        let used = solve_block(&block(left, width, right));
         assert_eq!(rt; used, out(want.0, want.1, want.2), "{name}");
     }
     for (name, min, max, want) in [
@@ -113,5 +85,29 @@ fn blocks_of_the_standard_cases(rt: HostRuntime) {
     ] {
         let used = solve_block(&bounded(block(None, Some(100), None), min, max));
         assert_eq!(rt; used, out(want.0, want.1, want.2), "{name}");
+    }
+}
+
+#[test]
+fn floats_of_the_standard_cases(rt: HostRuntime) {
+    for (name, given, minimum, preferred, want) in [
+        ("preferred width fits", None, 50, 200, 200),
+        ("available width", None, 50, 900, 350),
+        ("preferred minimum", None, 500, 900, 500),
+        ("prefers less than its minimum", None, 90, 60, 60),
+        ("given width", Some(300), 50, 200, 300),
+    ] {
+        let float = block(Some(10), given, Some(20));
+        let used = solve_float(&float, Unit(minimum), Unit(preferred));
+        assert_eq!(rt; used, out(10, want, 20), "{name}");
+    }
+    for (name, min, max, want) in [
+        ("auto margins", 0, 900, 380),
+        ("above the maximum", 0, 60, 60),
+        ("minimum above the maximum", 80, 60, 80),
+    ] {
+        let float = bounded(block(None, None, None), min, max);
+        let used = solve_float(&float, Unit(50), Unit(900));
+        assert_eq!(rt; used, out(0, want, 0), "{name}");
     }
 }

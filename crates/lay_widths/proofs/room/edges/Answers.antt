@@ -1,6 +1,6 @@
 use Rattle.std.proofs.Common.{arith}
 use Rattle.std.proofs.lemmas.Int.{ints}
-use Rattle.lay_widths.proofs.block.edges.Goals as goal
+use Rattle.lay_widths.proofs.room.edges.Goals as goal
 
 pub returns-clause-value : goal.returns-clause-value
 returns-clause-value c = omega (arith, ints)
