@@ -1,0 +1,3 @@
+//! The reader of plain run documents.
+
+mod number;
