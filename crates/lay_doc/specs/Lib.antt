@@ -6,4 +6,8 @@ pub mod NewNodes
 pub mod Tree
 pub mod Document
 pub mod Edits
+pub mod NodeRefs
+pub mod Index
+pub mod FaultParts
 pub mod ComputedStyle
+pub mod NumberKinds

@@ -1,10 +1,13 @@
 //! Declarations.
 
-ghost use Rattle.std.specs.Prelude.{◌≡◌, ◌↔◌, [], Option, IfSome, IfOk, OnOk, OnErr, IsTrue};
+ghost use Rattle.std.specs.Prelude.{◌≡◌, ◌==◌, ◌<◌, [], length, slice_index, IfSome, IfOk, OnOk, OnErr};
+ghost use Rattle.lay_doc.specs.PropertyNumbers.{number_of};
 ghost use Rattle.lay_doc.specs.Values.{declaration_of};
-ghost use Rattle.lay_doc.specs.Declarations.{declared_value, with_declaration, AreDistinct};
+ghost use Rattle.lay_doc.specs.Declarations.{declared_value, with_declaration, properties_of};
+ghost use Rattle.lay_doc.specs.Document.{place_of};
 
 use crate::property::{Given, Property};
+use crate::values::is_value_of;
 use lay_units::NoMemory;
 use std::alloc::Global;
 use std::marker::Model;
@@ -29,6 +32,33 @@ impl Model for Decl {
     ghost inverse = { λ d. record { property = d.property; value = d.value } };
 }
 
+impl Decl {
+    /// The declaration, or None where the value isn't one of the property's.
+    pub fn new(property: Property, value: Given) -> Option<Decl>
+        ensures { result ≡ declaration_of property value }
+    {
+        if is_value_of(property, value) {
+            Some(Decl { property, value })
+        } else {
+            None
+        }
+    }
+
+    /// Its property.
+    pub fn property(&self) -> Property
+        ensures { result ≡ self.now.property }
+    {
+        self.property
+    }
+
+    /// Its value.
+    pub fn value(&self) -> Given
+        ensures { result ≡ self.now.value }
+    {
+        self.value
+    }
+}
+
 /// The declarations of a node: no property stands twice.
 #[derive(Drop, Debug)]
 pub struct Decls {
@@ -45,4 +75,95 @@ impl Model for Decls {
     ghost view = { λ d. d.items.items };
 
     ghost invariant = { λ d. AreDistinct d.items.items };
+}
+
+impl Decls {
+    /// No declarations; nothing is allocated.
+    pub fn new(alloc: Global) -> Decls
+        ensures { result ≡ [] }
+    {
+        Decls {
+            items: Vec::new(alloc),
+        }
+    }
+
+    /// Puts the declaration in the place of an earlier one of its property, or after the others. On an
+    /// error all is as before.
+    pub fn set(&mut self, decl: Decl) -> Result<(), NoMemory>
+        ensures ok { OnOk result (self.new ≡ with_declaration decl self.old) }
+        ensures err { OnErr result (self.new ≡ self.old) }
+    {
+        put(&mut self.items, decl)?;
+        Ok(())
+    }
+
+    /// The value that is declared for the property.
+    pub fn get(&self, property: Property) -> Option<Given>
+        ensures { result ≡ declared_value property self.now }
+    {
+        let k = place_of_property(self.items.as_slice(), property)?;
+        Some(self.items[k].value())
+    }
+
+    /// How many there are.
+    pub fn len(&self) -> usize
+        ensures { result ≡ length self.now }
+    {
+        self.items.len()
+    }
+
+    /// Whether there are none.
+    pub fn is_empty(&self) -> bool
+        ensures { result ≡ (length self.now == 0) }
+    {
+        self.items.is_empty()
+    }
+
+    /// The declarations, in the order in which their properties were first set.
+    pub fn as_slice(&self) -> &[Decl]
+        ensures { result.now ≡ self.now }
+    {
+        self.items.as_slice()
+    }
+
+    /// Equal declarations.
+    pub fn copy(&self, alloc: Global) -> Result<Decls, NoMemory>
+        ensures { IfOk result (λ d. d ≡ self.now) }
+    {
+        Ok(Decls {
+            items: Vec::from_slice(alloc, self.items.as_slice())?,
+        })
+    }
+}
+
+/// The number of the property of the declaration at a place.
+fn number_at(decls: &[Decl], k: usize) -> u8
+    requires { k < length decls.now }
+    ensures { result ≡ slice_index (properties_of decls.now) k }
+{
+    decls[k].property().number()
+}
+
+/// The place of the declaration of the property.
+fn place_of_property(decls: &[Decl], property: Property) -> Option<usize>
+    ensures value { result ≡ place_of (number_of property) (properties_of decls.now) }
+    ensures within { IfSome result (λ k. k < length decls.now) }
+{
+    for k in 0..decls.len() {
+        if number_at(decls, k) == property.number() {
+            return Some(k);
+        }
+    }
+    None
+}
+
+fn put(decls: &mut Vec<Decl>, decl: Decl) -> Result<(), NoMemory>
+    ensures ok { OnOk result (decls.new.items ≡ with_declaration decl decls.old.items) }
+    ensures err { OnErr result (decls.new.items ≡ decls.old.items) }
+{
+    match place_of_property(decls.as_slice(), decl.property()) {
+        Some(k) => decls[k] = decl,
+        None => decls.push(decl)?,
+    }
+    Ok(())
 }

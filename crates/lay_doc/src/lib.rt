@@ -6,14 +6,25 @@
 //! defined in `specs/ComputedStyle.antt` (CSS 2.2, chapter 6).
 #![tactic(auto)]
 
+mod columns;
 mod declaration;
+mod doc;
 mod edit;
+mod faults;
+mod index;
+mod insertion;
 mod node;
+mod node_ref;
+mod placing;
 mod property;
 mod style;
+mod values;
+mod words;
 
 pub use declaration::{Decl, Decls};
+pub use doc::{Doc, NewFault};
 pub use edit::{Edit, EditFault};
 pub use node::{Kind, NewNode, Node, NodeId};
+pub use node_ref::NodeRef;
 pub use property::{Given, OneLength, Property, Word};
 pub use style::{Computed, Style};

@@ -1,7 +1,12 @@
 //! Nodes.
 
+ghost use Rattle.std.specs.Prelude.{◌≡◌, ◌≤◌, [], ℤ, pos, ◌≤ℤ◌, IfOk};
+ghost use Rattle.lay_doc.specs.Document.{becomes};
+ghost use Rattle.lay_doc.specs.NewNodes.{is_element};
+
 use crate::declaration::Decls;
-use lay_units::{Text, Unit};
+use lay_units::{NoMemory, Text, Unit};
+use std::alloc::Global;
 use std::marker::Model;
 
 /// The id of a node. That of a node of a document is from 1 on.
@@ -17,6 +22,15 @@ pub enum Kind {
     Text,
     /// A replaced element, with its natural size: 1 to 1,000,000 px each way.
     Replaced { w: Unit, h: Unit },
+}
+
+impl Kind {
+    /// Whether it is an element.
+    pub fn is_element(&self) -> bool
+        ensures { result ≡ is_element self.now }
+    {
+        matches!(self, Kind::Element { .. })
+    }
 }
 
 /// A node that is to be put into a document.
@@ -36,6 +50,108 @@ impl Model for NewNode {
     ghost view = { λ n. record { id = n.id; kind = n.kind; decls = n.decls; text = n.text } };
 
     ghost invariant = { λ n. IsNodeForm n.kind n.decls n.text };
+}
+
+impl NewNode {
+    /// An element, with spans of 1 to 64. Nothing is allocated.
+    pub fn element(alloc: Global, id: NodeId, colspan: u32, rowspan: u32, decls: Decls) -> NewNode
+        requires colspan_low { 1 ≤ colspan }
+        requires colspan_high { colspan ≤ 64 }
+        requires rowspan_low { 1 ≤ rowspan }
+        requires rowspan_high { rowspan ≤ 64 }
+        ensures { result ≡ record { id = id; kind = Kind.Element colspan rowspan; decls = decls; text = [] } }
+    {
+        NewNode {
+            id,
+            kind: Kind::Element { colspan, rowspan },
+            decls,
+            text: Text::new(String::new(alloc)),
+        }
+    }
+
+    /// A text. Nothing is allocated.
+    pub fn text(alloc: Global, id: NodeId, text: Text) -> NewNode
+        ensures { result ≡ record { id = id; kind = Kind.Text; decls = []; text = text } }
+    {
+        NewNode {
+            id,
+            kind: Kind::Text,
+            decls: Decls::new(alloc),
+            text,
+        }
+    }
+
+    /// A replaced element, with its natural size: 64 to 64,000,000 units each way. Nothing is allocated.
+    pub fn replaced(alloc: Global, id: NodeId, w: Unit, h: Unit, decls: Decls) -> NewNode
+        requires wide { pos 64 ≤ℤ w.0 }
+        requires narrow { w.0 ≤ℤ pos 64000000 }
+        requires high { pos 64 ≤ℤ h.0 }
+        requires low { h.0 ≤ℤ pos 64000000 }
+        ensures { result ≡ record { id = id; kind = Kind.Replaced w h; decls = decls; text = [] } }
+    {
+        NewNode {
+            id,
+            kind: Kind::Replaced { w, h },
+            decls,
+            text: Text::new(String::new(alloc)),
+        }
+    }
+
+    /// The id that it is to have.
+    pub fn id(&self) -> NodeId
+        ensures { result ≡ self.now.id }
+    {
+        self.id
+    }
+
+    /// What it is.
+    pub fn kind(&self) -> Kind
+        ensures { result ≡ self.now.kind }
+    {
+        self.kind
+    }
+
+    /// Its declarations; a text has none.
+    pub fn decls(&self) -> &Decls
+        ensures { result.now ≡ self.now.decls }
+    {
+        &self.decls
+    }
+
+    /// Its text; only a text has any.
+    pub fn content(&self) -> &Text
+        ensures { result.now ≡ self.now.text }
+    {
+        &self.text
+    }
+
+    /// An equal node.
+    pub fn copy(&self, alloc: Global) -> Result<NewNode, NoMemory>
+        ensures { IfOk result (λ n. n ≡ self.now) }
+    {
+        let decls = self.decls.copy(alloc)?;
+        let text = self.text.copy(alloc)?;
+        Ok(NewNode {
+            id: self.id,
+            kind: self.kind,
+            decls,
+            text,
+        })
+    }
+
+    /// The node that it becomes below the node at the place `parent`, at a depth.
+    pub fn into_node(self, parent: usize, depth: u32) -> Node
+        ensures { result ≡ becomes self parent depth }
+    {
+        Node {
+            id: self.id,
+            parent,
+            depth,
+            kind: self.kind,
+            decls: self.decls,
+            text: self.text,
+        }
+    }
 }
 
 /// A node of a document, with the place of its parent (0 for the root) and its depth (1 for the root).

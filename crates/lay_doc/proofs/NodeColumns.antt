@@ -1,0 +1,38 @@
+-- The columns of a list of nodes.
+use Rattle.std.proofs.Common.{◌≡◌, ℕ, zero, suc, ◌<◌, List, [], ◌∷◌, length, get_or, refl, ap, arith, Bool, true, false, map}
+use Rattle.lay_doc.specs.declared.node.Node.{Node}
+use Rattle.lay_doc.specs.NewNodes.{is_element}
+use Rattle.lay_doc.specs.Document.{parents_of, ids_of, depths_of, text_lengths_of, is_element_at}
+
+pub length-column : {X Y : Type 0} (f : X → Y) (xs : List X) → length (map f xs) ≡ length xs
+length-column f [] = refl
+length-column f (x ∷ xs) = ap suc (length-column f xs)
+
+pub length-parents : (nodes : List Node) → length (parents_of nodes) ≡ length nodes
+length-parents nodes = length-column (λ n. n.parent) nodes
+
+pub length-ids : (nodes : List Node) → length (ids_of nodes) ≡ length nodes
+length-ids nodes = length-column (λ n. n.id.0) nodes
+
+pub length-depths : (nodes : List Node) → length (depths_of nodes) ≡ length nodes
+length-depths nodes = length-column (λ n. n.depth) nodes
+
+pub length-texts : (nodes : List Node) → length (text_lengths_of nodes) ≡ length nodes
+length-texts nodes = length-column (λ n. length n.text) nodes
+
+-- which nodes are elements, as a column
+abbrev pub elements_of : List Node → List Bool
+elements_of nodes = map (λ n. is_element n.kind) nodes
+
+pub length-elements : (nodes : List Node) → length (elements_of nodes) ≡ length nodes
+length-elements nodes = length-column (λ n. is_element n.kind) nodes
+
+pub element_column : (nodes : List Node) (k : ℕ) → is_element_at nodes k ≡ get_or (elements_of nodes) k false
+element_column [] k = refl
+element_column (n ∷ ns) zero = refl
+element_column (n ∷ ns) (suc k) = element_column ns k
+
+pub element_read : (nodes : List Node) (k : ℕ) (n : Node) → k < length nodes → is_element (get_or nodes k n).kind ≡ is_element_at nodes k
+element_read [] k n lt = absurd (omega arith)
+element_read (x ∷ xs) zero n lt = refl
+element_read (x ∷ xs) (suc k) n lt = element_read xs k n (omega arith)

@@ -1,0 +1,25 @@
+use Rattle.std.proofs.Common.{◌≡◌, List, length, arith, ap, ◌∙◌}
+use Rattle.std.specs.Prelude.{map}
+use Rattle.std.specs.List.{insert}
+use Rattle.lay_doc.specs.declared.node.Node.{Node}
+use Rattle.lay_doc.specs.Document.{ids_of, moved, inserted}
+use Rattle.lay_doc.proofs.NodeColumns.{length-ids}
+use Rattle.lay_doc.proofs.Inserted.{small_parents, ids_inserted}
+use Rattle.lay_doc.proofs.Indexed.{index_added}
+use Rattle.lay_doc.proofs.insertion.put_node.Goals as goal
+
+pub shift_parents-requires : goal.shift_parents-requires
+shift_parents-requires c =
+    let items : c.insert_within.new.nodes.items ≡ insert c.args.nodes.now.items c.args.at c.args.node = c.insert_within.ensures ∙ ap (λ (xs : List Node). insert xs c.args.at c.args.node) c.reserve.ensures.items in
+    rw items (small_parents c.args.nodes.now.items c.args.at 16384 c.args.node c.requires.at c.requires.parents c.requires.parent)
+
+pub returns-clause-indexed : goal.returns-clause-indexed
+returns-clause-indexed c =
+    let nodes = c.args.nodes.now.items in
+    let items : c.insert_within.new.nodes.items ≡ insert nodes c.args.at c.args.node = c.insert_within.ensures ∙ ap (λ (xs : List Node). insert xs c.args.at c.args.node) c.reserve.ensures.items in
+    let new : c.shift_parents.new.nodes.items ≡ inserted nodes c.args.at c.args.node = c.shift_parents.ensures ∙ ap (map (moved c.args.at)) items in
+    let ids = ap ids_of new ∙ ids_inserted nodes c.args.at c.args.node in
+    let added = c.in_ok-add.ensures {u = tt} in
+    let len = length-ids nodes in
+    rw ids (index_added c.args.index.now c.add.new.self (ids_of nodes) c.args.node.id.0 c.args.at c.requires.index (omega (arith, c.requires.at)) c.requires.fresh
+    (record { numbers_are = added.numbers; places_are = added.places }))

@@ -1,0 +1,71 @@
+//! The faults of putting a node below a parent that is there.
+
+ghost use Rattle.std.specs.Prelude.{◌≡◌, ◌<◌, ◌≤◌, length};
+ghost use Rattle.lay_doc.specs.Document.{ids_of};
+ghost use Rattle.lay_doc.specs.Index.{IsIndexOf};
+ghost use Rattle.lay_doc.specs.Edits.{is_too_long};
+ghost use Rattle.lay_doc.specs.FaultParts.{parent_or_id_fault, limit_fault};
+
+use crate::columns::{depth_at, is_element_at};
+use crate::edit::EditFault;
+use crate::index::IdIndex;
+use crate::node::Node;
+
+/// The most nodes that a document has.
+const NODES: usize = 16384;
+
+/// The greatest depth of a node.
+const DEPTH: u32 = 128;
+
+/// The most bytes of a text.
+const TEXT_BYTES: usize = 65536;
+
+/// The most bytes of all texts together.
+const ALL_TEXT_BYTES: usize = 1048576;
+
+/// The first fault of the parent's place and the new node's id: E2, E4.
+pub fn parent_or_id_fault(
+    nodes: &[Node],
+    index: &IdIndex,
+    parent: usize,
+    id: u32,
+) -> Option<EditFault>
+    requires parent { parent < length nodes.now }
+    requires index { IsIndexOf index.now (ids_of nodes.now) }
+    ensures { result ≡ parent_or_id_fault nodes.now parent id }
+{
+    if !is_element_at(nodes, parent) {
+        return Some(EditFault::NotElement);
+    }
+    if id == 0 || index.find(id).is_some() {
+        return Some(EditFault::IdTaken);
+    }
+    None
+}
+
+/// The first limit that a new node with a text of so many bytes would pass: E7, E8, E9. `others` are the
+/// bytes of all texts so far.
+pub fn limit_fault(nodes: &[Node], others: usize, parent: usize, bytes: usize) -> Option<EditFault>
+    requires parent { parent < length nodes.now }
+    requires others { others ≤ 1048576 }
+    ensures { result ≡ limit_fault nodes.now others parent bytes }
+{
+    if nodes.len() >= NODES {
+        return Some(EditFault::TooManyNodes);
+    }
+    if depth_at(nodes, parent) >= DEPTH {
+        return Some(EditFault::TooDeep);
+    }
+    if is_too_long(others, bytes) {
+        return Some(EditFault::TextTooLong);
+    }
+    None
+}
+
+/// Whether a text of so many bytes is too long beside others.
+fn is_too_long(others: usize, bytes: usize) -> bool
+    requires { others ≤ 1048576 }
+    ensures { result ≡ is_too_long others bytes }
+{
+    bytes > TEXT_BYTES || others + bytes > ALL_TEXT_BYTES
+}
