@@ -1,7 +1,7 @@
 -- Numbers as CSS 2.2 writes them (4.3.1), and lengths in px.
 -- A number is an optional sign, then digits, or digits that may be absent, a point and digits: at most 9
 -- digits stand before the point and at most 18 after it.
-use Rattle.std.specs.Prelude.{ℕ, ◌+◌, ◌-◌, ◌*◌, ◌^◌, ◌==◌, ◌&&◌, ◌≡◌, ℤ, pos, neg_ℤ, List, [], ◌∷◌, ◌++◌, length, take, drop, Bool, true, false, nat_le, Option, Some, None, option_map, codes, if◌then◌else◌}
+use Rattle.std.specs.Prelude.{ℕ, ◌+◌, ◌-◌, ◌*◌, ◌^◌, ◌==◌, ◌&&◌, ℤ, pos, neg_ℤ, List, [], ◌∷◌, ◌++◌, length, take, drop, Bool, true, false, nat_le, Option, Some, None, option_map, codes, if◌then◌else◌}
 use Rattle.std.specs.List.{list_all}
 use Rattle.std.specs.Str.{bytes_eq}
 use Rattle.lay_units.specs.Units.{clamp_of, floor_div}
