@@ -2,7 +2,7 @@
 -- A run is an object with a viewport of two whole numbers of px, a list of plain nodes that isn't empty,
 -- and neither a face nor editors. The first node is the root; each later one is put into the document as
 -- the last child of its parent, and must have no fault there.
-use Rattle.std.specs.Prelude.{ℕ, ◌+◌, ◌==◌, ◌&&◌, ℤ, List, [], Bool, false, nat_le, is_some, is_none, Option, Some, None, option_and_then, option_map, codes, if◌then◌else◌}
+use Rattle.std.specs.Prelude.{ℕ, ◌==◌, ◌&&◌, List, [], Bool, false, nat_le, is_some, is_none, Option, Some, None, option_and_then, option_map, codes, if◌then◌else◌}
 use Rattle.std.specs.Str.{bytes_eq}
 use Rattle.serde_json.specs.Data.{Data, Items, no_items, item, Members, no_members, member}
 use Rattle.serde_json.specs.Find.{get, at, as_number, as_u64, as_str, as_array, as_object}
