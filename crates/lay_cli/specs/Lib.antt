@@ -1,3 +1,5 @@
 pub mod Numbers
 pub mod PlainRun
 pub mod Reading
+pub mod Input
+pub mod Answers

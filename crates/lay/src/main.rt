@@ -1,0 +1,44 @@
+//! The program `lay`: the top call over standard input and standard output.
+#![tactic(auto)]
+
+use lay_cli::{Status, top};
+use lay_outside::{InputSource, OpenGate, OutputSink};
+use std::process::ExitCode;
+use std::rt::Env;
+use std::sync::Wait;
+use std::thread::Threads;
+use std::{env, io};
+
+fn main(rt: HostRuntime) -> ExitCode {
+    // Words that can't be had as text are a wrong command line.
+    let status = match words(&rt) {
+        Ok(words) => run(&rt, &words),
+        Err(_) => Status::Usage,
+    };
+    ExitCode::from(number(status))
+}
+
+fn words(rt: &(impl Env + AllocGlobal)) -> io::Result<Vec<String>> {
+    let mut words = Vec::new(rt.alloc());
+    for word in env::args(rt)?.skip(1) {
+        words.push(word)?;
+    }
+    Ok(words)
+}
+
+fn run<R: Threads + Wait + Sync + Input + Print + AllocGlobal>(rt: &R, words: &[String]) -> Status {
+    let mut source = InputSource::new(rt.reader());
+    let mut sink = OutputSink::new(io::writer(rt));
+    top(rt, rt.alloc(), words, &mut source, &mut sink, &OpenGate)
+}
+
+fn number(status: Status) -> u8 {
+    match status {
+        Status::Ok => 0,
+        Status::Refused => 1,
+        Status::Usage => 2,
+        Status::ReadFault => 3,
+        Status::WriteFault => 4,
+        Status::NoMemory => 5,
+    }
+}
