@@ -1,6 +1,5 @@
 -- Minimum and maximum heights (CSS 2.2, 10.7), in the three steps of the standard.
-use Rattle.std.specs.Prelude.{ℤ, Option, Some, None, if◌then◌else◌}
-use Rattle.std.specs.Prelude.{int_lt}
+use Rattle.std.specs.Prelude.{ℤ, Option, Some, None, int_lt, if◌then◌else◌}
 use Rattle.lay_units.specs.declared.length.Unit.{Unit}
 
 -- a height, or the maximum where the height is greater than that
