@@ -49,6 +49,7 @@ pub same_index : (a b : IdIndex) (ids : List ℕ) → b.numbers.entries ≡ a.nu
 same_index a b ids numbers places is = record {
   places = λ id. rw (numbers, places) (is.places id);
   found = λ id. rw (numbers, places) (is.found id);
+  count = ap length places ∙ is.count;
   within = λ n. rw places (is.within n);
 }
 
@@ -103,6 +104,7 @@ index_added a b ids id at is within fresh adds =
             ∙ found_old a b id at adds (number_in a x) (is.places x)
             ∙ ap (option_map (shifted at)) (is.found x) ∙ sym (place_insert_other ids at id x within (λ s. other (sym s)))
       ];
+      count = omega (arith, is.count);
       within = λ n lt. elim (cases_lt n (length a.places.items)) [
         | inl low ↦ (let r = read_old a b id at n adds low in
             let w = is.within n low in

@@ -1,15 +1,15 @@
 -- The columns of a list of nodes after one was put into it, and the document that it then is.
-use Rattle.std.proofs.Common.{◌≡◌, ℕ, ◌+◌, ◌-◌, ◌<◌, ◌≤◌, List, [], ◌∷◌, ◌++◌, length, get_or, refl, sym, ap, ◌∙◌, arith, Bool, true, false, inl, inr, take, drop, map, subst, None}
+use Rattle.std.proofs.Common.{set, ◌≡◌, ℕ, ◌+◌, ◌-◌, ◌<◌, ◌≤◌, List, [], ◌∷◌, ◌++◌, length, get_or, refl, sym, ap, ◌∙◌, arith, Bool, true, false, inl, inr, take, drop, map, subst, None, suc, zero}
 use Rattle.std.specs.List.{insert}
 use Rattle.std.specs.Prelude.{sum}
 use Rattle.std.proofs.lemmas.Bool.{cases_lt}
-use Rattle.std.proofs.lemmas.List.{get_or-map, map-append, take-map, drop-map}
-use Rattle.std.proofs.lemmas.List.Edits.{length-insert, get_or-insert_below, get_or-insert_at, get_or-insert_above}
+use Rattle.std.proofs.lemmas.List.{get_or_default, get_or-map, map-append, take-map, drop-map}
+use Rattle.std.proofs.lemmas.List.Edits.{map_over_more, length-insert, get_or-insert_below, get_or-insert_at, get_or-insert_above}
 use Rattle.std.proofs.lemmas.List.Sums.{sum-map, sum_by-insert}
 use Rattle.std.proofs.lemmas.Grind.{common_steps}
 use Rattle.lay_doc.specs.declared.node.Node.{Node}
 use Rattle.lay_doc.specs.NewNodes.{is_element}
-use Rattle.lay_doc.specs.Tree.{IsSlot, children_before, shifted}
+use Rattle.lay_doc.specs.Tree.{IsSlot, IsTree, children_before, shifted}
 use Rattle.lay_doc.specs.Document.{Document, IsDocument, parents_of, ids_of, depths_of, text_lengths_of, text_size, is_element_at, place_of, moved, inserted}
 use Rattle.lay_doc.proofs.PutTrees.{Puts, puts_tree, shifted_low, shifted_high}
 use Rattle.lay_doc.proofs.NodeColumns.{length-column, length-parents, length-ids, length-depths, length-texts, length-elements, elements_of, element_column}
@@ -213,3 +213,47 @@ put_document d is at node fits =
       short = λ k lt. rw (texts_inserted d.nodes at node) (each_insert (λ (v : ℕ). v ≤ 65536) (text_lengths_of d.nodes) at (length node.text) (omega arith) (λ a al. is.short a (omega arith)) fits.not_long k (omega (arith, count)));
       small = omega (arith, text_size_inserted d.nodes at node, fits.texts_fit);
     }
+
+-- nodes whose parents all stand before `at` aren't moved
+pub front_stays : (nodes : List Node) (at k : ℕ) → ((j : ℕ) → j < k → get_or (parents_of nodes) j 0 < at) → map (moved at) (take k nodes) ≡ take k nodes
+front_stays nodes at zero low = refl
+front_stays [] at (suc k) low = refl
+front_stays (n ∷ ns) at (suc k) low =
+    let here : moved at n ≡ n = ap (λ (m : ℕ). record n { parent = m }) (shifted_low at n.parent (low 0 (omega arith))) in
+    rw (here, front_stays ns at k (λ j lt. low (suc j) (omega arith))) refl
+
+-- the parents of the nodes up to a new one stand before it
+pub parents_before : (nodes : List Node) (at : ℕ) (node : Node) → IsTree (parents_of nodes) → 0 < at → at ≤ length nodes → (k : ℕ) → k < at → get_or (parents_of (insert nodes at node)) k 0 < at
+parents_before nodes at node tree positive within k low =
+    let len = length-parents nodes in
+    rw (map-insert (λ n. n.parent) nodes at node)
+    (let e = get_or-insert_below (parents_of nodes) at node.parent 0 k low (omega arith) in
+    elim (cases_lt 0 k) [
+      | inl some ↦ omega (arith, e, tree.before k some (omega arith))
+      | inr none ↦ (let z : k ≡ 0 = omega arith in let r : get_or (parents_of nodes) k 0 ≡ 0 = rw z tree.root in omega (arith, e, r))
+    ])
+
+-- in a tree each parent's place is that of a node
+pub parents_within : (parents : List ℕ) → IsTree parents → (k : ℕ) → k < length parents → get_or parents k 0 < length parents
+parents_within parents tree k lt = elim (cases_lt 0 k) [
+  | inl some ↦ omega (arith, tree.before k some lt)
+  | inr none ↦ (let z : k ≡ 0 = omega arith in rw z (omega (arith, tree.root)))
+]
+
+-- the loop over the nodes from a new one on: what is ahead is as it was, and what it leaves
+length_ahead : {X : Type 0} (f : X → X) (xs ys : List X) (k : ℕ) → k ≤ length xs → ys ≡ map f (take k xs) ++ drop k xs → length ys ≡ length xs
+length_ahead f xs ys k lt is = rw is (grind (arith, common_steps, length-column f (take k xs)))
+
+pub parent_ahead : (xs ys : List Node) (at k : ℕ) → k < length xs → ys ≡ map (moved at) (take k xs) ++ drop k xs → get_or (parents_of ys) k 0 ≡ get_or (parents_of xs) k 0
+parent_ahead [] ys at k lt is = absurd (omega arith)
+parent_ahead (x ∷ xs) ys at k lt is =
+    let n = length_ahead (moved at) (x ∷ xs) ys k (omega arith) is in
+    get_or-map (λ n. n.parent) ys k x 0 (omega arith) ∙ ap (λ (n : Node). n.parent) (ahead (moved at) (x ∷ xs) ys k x lt is) ∙ sym (get_or-map (λ n. n.parent) (x ∷ xs) k x 0 lt)
+
+pub shift_more : (xs ys zs : List Node) (at k : ℕ) → k < length xs → ys ≡ map (moved at) (take k xs) ++ drop k xs → ((d : Node) → zs ≡ set ys k (moved at (get_or ys k d)))
+    → zs ≡ map (moved at) (take (k + 1) xs) ++ drop (k + 1) xs
+shift_more [] ys zs at k lt is gives = absurd (omega arith)
+shift_more (x ∷ xs) ys zs at k lt is gives =
+    let n = length_ahead (moved at) (x ∷ xs) ys k (omega arith) is in
+    let v : Node = get_or ys k x in
+    gives x ∙ map_over_more (moved at) (x ∷ xs) ys k v lt is (get_or_default ys k x v (omega arith))

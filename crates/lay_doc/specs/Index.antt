@@ -22,6 +22,7 @@ HasPlaces index = (id : ℕ) → IfSome (number_in index id) (λ n. n < length i
 pub record IsIndexOf (index : IdIndex) (ids : List ℕ) : Type 0 where
   pub places : HasPlaces index
   pub found : (id : ℕ) → place_in index id ≡ place_of id ids
+  pub count : length index.places.items ≡ length ids
   pub within : (n : ℕ) → n < length index.places.items → slice_index index.places.items n < length ids
 
 -- what stands beside a document's nodes is theirs

@@ -1,6 +1,6 @@
 //! The places of a document's nodes, by their ids.
 
-ghost use Rattle.std.specs.Prelude.{◌≡◌, ◌==◌, ◌<◌, ◌++◌, ◌∷◌, ℕ, [], None, Some, length, map, slice_index, vec_capacity, if◌then◌else◌, OnOk, OnErr};
+ghost use Rattle.std.specs.Prelude.{◌≡◌, ◌==◌, ◌<◌, ◌≤◌, ◌++◌, ◌∷◌, ℕ, [], None, Some, length, map, slice_index, vec_capacity, if◌then◌else◌, OnOk, OnErr};
 ghost use Rattle.std.specs.BTreeMap.{get};
 ghost use Rattle.std.specs.Ordering.{nat_cmp};
 ghost use Rattle.lay_doc.specs.Tree.{shifted};
@@ -42,7 +42,8 @@ impl IdIndex {
     /// Notes that a node with this id was put before the place `at`. On an error all is as before.
     pub fn add(&mut self, id: u32, at: usize) -> Result<(), NoMemory>
         requires fresh { number_in self.old id ≡ None }
-        requires small { (n : ℕ) → n < length self.old.places.items → slice_index self.old.places.items n < 16384 }
+        requires few { length self.old.places.items ≤ 16384 }
+        requires within { (n : ℕ) → n < length self.old.places.items → slice_index self.old.places.items n < length self.old.places.items }
         ensures numbers { OnOk result ((x : ℕ) → number_in self.new x ≡ (if x == id then Some (length self.old.places.items) else number_in self.old x)) }
         ensures places { OnOk result (self.new.places.items ≡ map (shifted at) self.old.places.items ++ at ∷ []) }
         ensures same_numbers { OnErr result (self.new.numbers.entries ≡ self.old.numbers.entries) }
@@ -69,12 +70,16 @@ fn add_number(numbers: &mut BTreeMap<u32, usize>, id: u32, number: usize) -> Res
     }
 }
 
-/// Moves the places for a node that is put before the place `at`.
+/// Moves the places for a node that is put before the place `at`: none, where that is behind them all.
 fn shift(places: &mut Vec<usize>, at: usize)
-    requires { (n : ℕ) → n < length places.old.items → slice_index places.old.items n < 16384 }
+    requires few { length places.old.items ≤ 16384 }
+    requires within { (n : ℕ) → n < length places.old.items → slice_index places.old.items n < length places.old.items }
     ensures items { places.new.items ≡ map (shifted at) places.old.items }
     ensures capacity { vec_capacity places.new ≡ vec_capacity places.old }
 {
+    if at >= places.len() {
+        return;
+    }
     for place in places.iter_mut() {
         *place = place_after(*place, at);
     }

@@ -1,8 +1,10 @@
 //! The list of nodes and its index, when a node is put into it.
 
-ghost use Rattle.std.specs.Prelude.{◌≡◌, ◌<◌, ◌≤◌, ℕ, None, length, map, slice_index, vec_capacity, vec_len, OnOk, OnErr};
+ghost use Rattle.std.specs.Prelude.{◌≡◌, ◌<◌, ◌≤◌, ℕ, None, length, map, slice_index, slice_index_or, slice_set, vec_capacity, vec_len, OnOk, OnErr};
 ghost use Rattle.std.specs.List.{insert};
 ghost use Rattle.lay_doc.specs.Document.{ids_of, parents_of, place_of, moved, inserted};
+ghost use Rattle.lay_doc.specs.Tree.{IsTree};
+ghost use Rattle.lay_doc.specs.declared.node.Node.{Node};
 ghost use Rattle.lay_doc.specs.Index.{IsIndexOf};
 
 use crate::index::{IdIndex, place_after};
@@ -19,8 +21,8 @@ pub fn put_node(
 ) -> Result<(), NoMemory>
     requires at { at ≤ length nodes.old.items }
     requires few { length nodes.old.items < 16384 }
-    requires parents { (k : ℕ) → k < length nodes.old.items → slice_index (parents_of nodes.old.items) k < 16384 }
-    requires parent { node.parent < 16384 }
+    requires tree { IsTree (parents_of nodes.old.items) }
+    requires parent { node.parent < at }
     requires fresh { place_of node.id.0 (ids_of nodes.old.items) ≡ None }
     requires index { IsIndexOf index.old (ids_of nodes.old.items) }
     ensures ok { OnOk result (nodes.new.items ≡ inserted nodes.old.items at node) }
@@ -45,11 +47,24 @@ fn insert_within(nodes: &mut Vec<Node>, at: usize, node: Node)
     }
 }
 
+/// Moves the places of the parents for the node that was put in at `at`. The parents of the nodes before
+/// it stand before it too, so nothing is done where it is the last one.
 fn shift_parents(nodes: &mut Vec<Node>, at: usize)
-    requires { (k : ℕ) → k < length nodes.old.items → slice_index (parents_of nodes.old.items) k < 16384 }
+    requires at { at ≤ length nodes.old.items }
+    requires small { (k : ℕ) → k < length nodes.old.items → slice_index (parents_of nodes.old.items) k < 16384 }
+    requires before { (k : ℕ) → k < at → slice_index (parents_of nodes.old.items) k < at }
     ensures { nodes.new.items ≡ map (moved at) nodes.old.items }
 {
-    for node in nodes.iter_mut() {
-        node.parent = place_after(node.parent, at);
+    for k in at..nodes.len() {
+        shift_parent(nodes, k, at);
     }
+}
+
+/// Moves the place of the parent of the node at `k`.
+fn shift_parent(nodes: &mut Vec<Node>, k: usize, at: usize)
+    requires k { k < length nodes.old.items }
+    requires small { slice_index (parents_of nodes.old.items) k < 16384 }
+    ensures { (d : Node) → nodes.new.items ≡ slice_set nodes.old.items k (moved at (slice_index_or nodes.old.items k d)) }
+{
+    nodes[k].parent = place_after(nodes[k].parent, at);
 }

@@ -1,9 +1,10 @@
 //! Documents in document order, their edits, and the values of properties.
 //!
 //! A document is a viewport and a tree of nodes (`specs/Document.antt`). An edit has a first fault or
-//! none, and a document after it (`specs/Edits.antt`). A declaration keeps in its type that its value
-//! is one of its property's (`specs/Values.antt`); the computed styles of a document's nodes are
-//! defined in `specs/ComputedStyle.antt` (CSS 2.2, chapter 6).
+//! none, and a document after it (`specs/Edits.antt`). Nodes are found by their ids in an index, and
+//! put at slots, of which each index among a node's children has just one (`specs/Tree.antt`). A
+//! declaration keeps in its type that its value is one of its property's (`specs/Values.antt`); the
+//! computed styles of a document's nodes are defined in `specs/ComputedStyle.antt` (CSS 2.2, chapter 6).
 #![tactic(auto)]
 
 mod columns;
@@ -20,6 +21,8 @@ mod node_ref;
 mod placing;
 mod property;
 mod style;
+#[cfg(test)]
+mod tests;
 mod values;
 mod words;
 

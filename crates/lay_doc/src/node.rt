@@ -140,7 +140,7 @@ impl NewNode {
     }
 
     /// The node that it becomes below the node at the place `parent`, at a depth.
-    pub fn into_node(self, parent: usize, depth: u32) -> Node
+    pub(crate) fn into_node(self, parent: usize, depth: u32) -> Node
         ensures { result ≡ becomes self parent depth }
     {
         Node {

@@ -24,7 +24,7 @@ impl<'a> Model for NodeRef<'a> {
 
 impl<'a> NodeRef<'a> {
     /// The reference to a node whose parent has this id.
-    pub fn new(node: &'a Node, parent: NodeId) -> NodeRef<'a>
+    pub(crate) fn new(node: &'a Node, parent: NodeId) -> NodeRef<'a>
         ensures { result ≡ record { node = node.now; parent = parent } }
     {
         NodeRef { node, parent }

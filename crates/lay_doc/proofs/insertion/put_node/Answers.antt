@@ -2,16 +2,24 @@ use Rattle.std.proofs.Common.{◌≡◌, List, arith, ap, ◌∙◌}
 use Rattle.std.specs.Prelude.{map}
 use Rattle.std.specs.List.{insert}
 use Rattle.lay_doc.specs.declared.node.Node.{Node}
-use Rattle.lay_doc.specs.Document.{ids_of, moved, inserted}
-use Rattle.lay_doc.proofs.NodeColumns.{length-ids}
-use Rattle.lay_doc.proofs.Inserted.{small_parents, ids_inserted}
+use Rattle.lay_doc.specs.Document.{ids_of, parents_of, moved, inserted}
+use Rattle.lay_doc.proofs.NodeColumns.{length-ids, length-parents}
+use Rattle.lay_doc.proofs.Inserted.{small_parents, parents_before, parents_within, ids_inserted}
 use Rattle.lay_doc.proofs.Indexed.{index_added}
 use Rattle.lay_doc.proofs.insertion.put_node.Goals as goal
 
-pub shift_parents-requires : goal.shift_parents-requires
-shift_parents-requires c =
-    let items : c.insert_within.new.nodes.items ≡ insert c.args.nodes.now.items c.args.at c.args.node = c.insert_within.ensures ∙ ap (λ (xs : List Node). insert xs c.args.at c.args.node) c.reserve.ensures.items in
-    rw items (small_parents c.args.nodes.now.items c.args.at 16384 c.args.node c.requires.at c.requires.parents c.requires.parent)
+pub shift_parents-requires-clause-small : goal.shift_parents-requires-clause-small
+shift_parents-requires-clause-small c =
+    let nodes = c.args.nodes.now.items in
+    let items : c.insert_within.new.nodes.items ≡ insert nodes c.args.at c.args.node = c.insert_within.ensures ∙ ap (λ (xs : List Node). insert xs c.args.at c.args.node) c.reserve.ensures.items in
+    let len = length-parents nodes in
+    rw items (small_parents nodes c.args.at 16384 c.args.node c.requires.at (λ k lt. omega (arith, parents_within (parents_of nodes) c.requires.tree k (omega arith))) (omega (arith, c.requires.at, c.requires.parent)))
+
+pub shift_parents-requires-clause-before : goal.shift_parents-requires-clause-before
+shift_parents-requires-clause-before c =
+    let nodes = c.args.nodes.now.items in
+    let items : c.insert_within.new.nodes.items ≡ insert nodes c.args.at c.args.node = c.insert_within.ensures ∙ ap (λ (xs : List Node). insert xs c.args.at c.args.node) c.reserve.ensures.items in
+    rw items (parents_before nodes c.args.at c.args.node c.requires.tree (omega (arith, c.requires.parent)) c.requires.at)
 
 pub returns-clause-indexed : goal.returns-clause-indexed
 returns-clause-indexed c =

@@ -1,19 +1,19 @@
-use Rattle.std.proofs.Common.{◌<◌, arith, length}
-use Rattle.std.proofs.lemmas.List.{get_or-map}
-use Rattle.std.proofs.lemmas.List.Edits.{map_over_more}
-use Rattle.lay_doc.specs.Document.{moved}
-use Rattle.lay_doc.proofs.Inserted.{ahead}
+use Rattle.std.proofs.Common.{◌<◌, length, arith}
+use Rattle.std.proofs.lemmas.Grind.{common_steps}
+use Rattle.lay_doc.proofs.Inserted.{front_stays, parent_ahead, shift_more}
 use Rattle.lay_doc.proofs.insertion.shift_parents.Goals as goal
 
-pub place_after-node-requires : goal.place_after-node-requires
-place_after-node-requires c =
-    let within : c.loop-node.node-index < length c.args.nodes.now.items = omega (arith, c.deref_mut-node-items.ensures.len) in
-    let same = ahead (moved c.args.at) c.args.nodes.now.items c.loop-node.node-items c.loop-node.node-index c.node-item.result within c.loop-node.invariant in
-    let at = get_or-map (λ n. n.parent) c.args.nodes.now.items c.loop-node.node-index c.node-item.result 0 within in
-    rw same (omega (arith, at, c.requires c.loop-node.node-index within))
+pub loop-k-init : goal.loop-k-init
+loop-k-init c =
+    let nodes = c.args.nodes.now.items in
+    rw (front_stays nodes c.args.at c.args.at c.requires.before) (grind (arith, common_steps))
 
-pub loop-node-preserved : goal.loop-node-preserved
-loop-node-preserved c =
-    let within : c.loop-node.node-index < length c.args.nodes.now.items = omega (arith, c.deref_mut-node-items.ensures.len) in
-    let h = map_over_more (moved c.args.at) c.args.nodes.now.items c.loop-node.node-items c.loop-node.node-index c.node-item.result within c.loop-node.invariant c.node-item.is in
-    rw (c.place_after-node.ensures, ← c.node-item.is) h
+pub shift_parent-requires-clause-small : goal.shift_parent-requires-clause-small
+shift_parent-requires-clause-small c =
+    let within : c.loop-k.k < length c.args.nodes.now.items = omega arith in
+    rw (parent_ahead c.args.nodes.now.items c.loop-k.nodes.items c.args.at c.loop-k.k within c.loop-k.invariant) (c.requires.small c.loop-k.k within)
+
+pub loop-k-preserved : goal.loop-k-preserved
+loop-k-preserved c =
+    let within : c.loop-k.k < length c.args.nodes.now.items = omega arith in
+    shift_more c.args.nodes.now.items c.loop-k.nodes.items c.shift_parent.new.nodes.items c.args.at c.loop-k.k within c.loop-k.invariant c.shift_parent.ensures
