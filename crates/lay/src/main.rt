@@ -10,12 +10,12 @@ use std::thread::Threads;
 use std::{env, io};
 
 fn main(rt: HostRuntime) -> ExitCode {
-    // Words that can't be had as text are a wrong command line.
+    // Words that can't be had as text are a wrong command line, as none is.
     let status = match words(&rt) {
         Ok(words) => run(&rt, &words),
-        Err(_) => Status::Usage,
+        Err(_) => run(&rt, &[]),
     };
-    ExitCode::from(number(status))
+    ExitCode::from(status.number())
 }
 
 fn words(rt: &(impl Env + AllocGlobal)) -> io::Result<Vec<String>> {
@@ -30,15 +30,4 @@ fn run<R: Threads + Wait + Sync + Input + Print + AllocGlobal>(rt: &R, words: &[
     let mut source = InputSource::new(rt.reader());
     let mut sink = OutputSink::new(io::writer(rt));
     top(rt, rt.alloc(), words, &mut source, &mut sink, &OpenGate)
-}
-
-fn number(status: Status) -> u8 {
-    match status {
-        Status::Ok => 0,
-        Status::Refused => 1,
-        Status::Usage => 2,
-        Status::ReadFault => 3,
-        Status::WriteFault => 4,
-        Status::NoMemory => 5,
-    }
 }

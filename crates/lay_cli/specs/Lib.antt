@@ -3,3 +3,4 @@ pub mod PlainRun
 pub mod Reading
 pub mod Input
 pub mod Answers
+pub mod Statuses

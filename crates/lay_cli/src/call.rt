@@ -14,7 +14,7 @@ use std::alloc::Global;
 use std::sync::Wait;
 use std::thread::Threads;
 
-/// How a call ended. The program ends with its number: 0 for `Ok`, then rising.
+/// How a call ended.
 #[derive(Clone, Copy, Debug, PartialEq, Eq)]
 pub enum Status {
     /// The source was read to its end, and the whole report was written.
@@ -29,6 +29,24 @@ pub enum Status {
     WriteFault,
     /// Memory ran out, and nothing was written.
     NoMemory,
+}
+
+impl Status {
+    ghost use Rattle.lay_cli.specs.Statuses.{number_of};
+
+    /// The number that the program ends with.
+    pub fn number(self) -> u8
+        ensures { result ≡ number_of self }
+    {
+        match self {
+            Status::Ok => 0,
+            Status::Refused => 1,
+            Status::Usage => 2,
+            Status::ReadFault => 3,
+            Status::WriteFault => 4,
+            Status::NoMemory => 5,
+        }
+    }
 }
 
 /// Lays out the run document that the source has left, and writes the report into the sink.
