@@ -7,6 +7,7 @@
 //! computed styles of a document's nodes are defined in `specs/ComputedStyle.antt` (CSS 2.2, chapter 6).
 #![tactic(auto)]
 
+mod changing;
 mod columns;
 mod declaration;
 mod doc;
@@ -28,9 +29,9 @@ mod words;
 
 pub use declaration::{Decl, Decls};
 pub use doc::{Doc, NewFault};
-pub use edit::{Edit, EditFault};
+pub use edit::{BadDeclaration, Edit, EditFault};
 pub use history::Entry;
-pub use laws::one_slot;
+pub use laws::{clears_one, one_slot, sets_one};
 pub use node::{Kind, NewNode, Node, NodeId};
 pub use node_ref::NodeRef;
 pub use property::{Given, OneLength, Property, Word};

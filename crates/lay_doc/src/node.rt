@@ -2,7 +2,7 @@
 
 ghost use Rattle.std.specs.Prelude.{◌≡◌, ◌≤◌, [], ℤ, pos, ◌≤ℤ◌, IfOk};
 ghost use Rattle.lay_doc.specs.Document.{becomes};
-ghost use Rattle.lay_doc.specs.NewNodes.{is_element};
+ghost use Rattle.lay_doc.specs.NewNodes.{is_element, is_text};
 
 use crate::declaration::Decls;
 use lay_units::{NoMemory, Text, Unit};
@@ -30,6 +30,13 @@ impl Kind {
         ensures { result ≡ is_element self.now }
     {
         matches!(self, Kind::Element { .. })
+    }
+
+    /// Whether it is a text.
+    pub fn is_text(&self) -> bool
+        ensures { result ≡ is_text self.now }
+    {
+        matches!(self, Kind::Text)
     }
 }
 
