@@ -7,3 +7,4 @@ pub mod Slots
 pub mod PutTrees
 pub mod Indexed
 pub mod Inserted
+pub mod Cut

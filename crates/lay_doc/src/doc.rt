@@ -14,7 +14,7 @@ use crate::edit::{Edit, EditFault};
 use crate::faults::{limit_fault, parent_or_id_fault, text_fault_at};
 use crate::index::IdIndex;
 use crate::insertion::put_node;
-use crate::node::{NewNode, Node, NodeId};
+use crate::node::{NewNode, Node, NodeId, copy_nodes};
 use crate::node_ref::NodeRef;
 use crate::placing::{child_count, last_slot, slot};
 use crate::property::Property;
@@ -79,6 +79,21 @@ impl Doc {
             nodes,
             index,
             text_bytes: 0,
+        })
+    }
+
+    /// An equal document.
+    pub fn copy(&self, alloc: Global) -> Result<Doc, NoMemory>
+        ensures { IfOk result (λ d. d ≡ self.now) }
+    {
+        let nodes = copy_nodes(alloc, &self.nodes)?;
+        let index = IdIndex::without(alloc, &self.nodes, 0, 0)?;
+        Ok(Doc {
+            width: self.width,
+            height: self.height,
+            nodes,
+            index,
+            text_bytes: self.text_bytes,
         })
     }
 

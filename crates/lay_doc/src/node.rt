@@ -171,3 +171,32 @@ pub struct Node {
     pub decls: Decls,
     pub text: Text,
 }
+
+impl Node {
+    /// An equal node.
+    pub fn copy(&self, alloc: Global) -> Result<Node, NoMemory>
+        ensures { IfOk result (λ n. n ≡ self.now) }
+    {
+        let decls = self.decls.copy(alloc)?;
+        let text = self.text.copy(alloc)?;
+        Ok(Node {
+            id: self.id,
+            parent: self.parent,
+            depth: self.depth,
+            kind: self.kind,
+            decls,
+            text,
+        })
+    }
+}
+
+/// Equal nodes.
+pub(crate) fn copy_nodes(alloc: Global, nodes: &[Node]) -> Result<Vec<Node>, NoMemory>
+    ensures { IfOk result (λ v. v.items ≡ nodes.now) }
+{
+    let mut copies = Vec::new(alloc);
+    for node in nodes {
+        copies.push(node.copy(alloc)?)?;
+    }
+    Ok(copies)
+}
