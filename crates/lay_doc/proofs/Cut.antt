@@ -84,3 +84,38 @@ insert_next xs k lt =
   where
     take_all_of : (ys : List ℕ) (n : ℕ) → length ys ≤ n → take n ys ≡ ys
     take_all_of ys n h = take_all n ys h
+
+pub old_inside : (i j k n : ℕ) → k + (j - i) < n → old_place i j k < n
+old_inside i j k n lt = elim (cases_lt k i) [
+  | inl low ↦ (let a = old_low i j k low in omega arith)
+  | inr high ↦ (let a = old_high i j k high in omega arith)
+]
+
+pub old_more : (i j k : ℕ) → k ≤ old_place i j k
+old_more i j k = elim (cases_lt k i) [
+  | inl low ↦ (let a = old_low i j k low in omega arith)
+  | inr high ↦ (let a = old_high i j k high in omega arith)
+]
+
+-- no old place lies in the stretch
+pub old_outside : (i j k : ℕ) → i ≤ j → i ≤ old_place i j k → j ≤ old_place i j k
+old_outside i j k le from = elim (cases_lt k i) [
+  | inl low ↦ (let a = old_low i j k low in absurd (omega arith))
+  | inr high ↦ (let a = old_high i j k high in omega arith)
+]
+
+-- places whose old ones stand in an order stand in it too
+pub old_less_back : (i j k m : ℕ) → old_place i j k < old_place i j m → k < m
+old_less_back i j k m less = elim (cases_lt k m) [
+  | inl low ↦ low
+  | inr high ↦ elim (cases_lt m k) [
+    | inl over ↦ (let a = old_less i j m k over in absurd (omega arith))
+    | inr same ↦ (let q : k ≡ m = omega arith in let a : old_place i j k ≡ old_place i j m = ap (old_place i j) q in absurd (omega arith))
+  ]
+]
+
+pub old_le_back : (i j k m : ℕ) → old_place i j k ≤ old_place i j m → k ≤ m
+old_le_back i j k m le = elim (cases_lt m k) [
+  | inl over ↦ (let a = old_less i j m k over in absurd (omega arith))
+  | inr high ↦ high
+]

@@ -7,4 +7,6 @@ pub mod Slots
 pub mod PutTrees
 pub mod Indexed
 pub mod Inserted
+pub mod Subtrees
 pub mod Cut
+pub mod Removed

@@ -2,7 +2,7 @@
 use Rattle.std.specs.Prelude.{ℕ, ◌+◌, ◌==◌, ◌||◌, not, List, length, slice_index, Option, Some, None, Bool, nat_lt, nat_le, is_some, if◌then◌else◌}
 use Rattle.lay_doc.specs.declared.node.Node.{Node}
 use Rattle.lay_doc.specs.declared.edit.Edit.{Edit}
-use Rattle.lay_doc.specs.declared.edit.Edit.TheVariants.{SetStyle, ClearStyle, SetText, Insert, Bad}
+use Rattle.lay_doc.specs.declared.edit.Edit.TheVariants.{SetStyle, ClearStyle, SetText, Insert, Remove, Bad}
 use Rattle.lay_doc.specs.declared.edit.BadDeclaration.{BadDeclaration}
 use Rattle.lay_doc.specs.declared.edit.BadDeclaration.TheVariants.{Property as no_property, Value as no_value}
 use Rattle.lay_doc.specs.declared.edit.EditFault.{EditFault}
@@ -11,6 +11,7 @@ use Rattle.lay_doc.specs.NewNodes.{NewNodeValue, is_element}
 use Rattle.lay_doc.specs.Tree.{child_count, slot_of}
 use Rattle.lay_doc.specs.Document.{Document, parents_of, ids_of, depths_of, text_size, is_element_at, is_too_long, place_of, inserted, becomes}
 use Rattle.lay_doc.specs.Changes.{style_fault, text_fault, with_style, without_style, with_text, after_change}
+use Rattle.lay_doc.specs.Removal.{remove_fault, after_remove}
 
 -- the first fault of putting a node below the place p
 abbrev pub fault_below : List Node → ℕ → ℕ → NewNodeValue → Option EditFault
@@ -41,6 +42,7 @@ fault d (SetStyle node decl) = style_fault d node.0
 fault d (ClearStyle node property) = style_fault d node.0
 fault d (SetText node text) = text_fault d node.0 (length text)
 fault d (Bad why) = Some (bad_fault why)
+fault d (Remove node) = remove_fault d node.0
 fault d (Insert parent index new) = insert_fault d parent.0 index new
 
 -- the document with a node put below the place p, before the child that had the index, or last
@@ -64,6 +66,7 @@ after d (SetStyle node decl) = after_change d node.0 (with_style decl)
 after d (ClearStyle node property) = after_change d node.0 (without_style property)
 after d (SetText node text) = after_change d node.0 (with_text text)
 after d (Bad why) = d
+after d (Remove node) = after_remove d node.0
 after d (Insert parent index new) = after_insert d parent.0 index new
 
 -- how many children the node with this id has

@@ -6,6 +6,7 @@ pub mod NewNodes
 pub mod Tree
 pub mod Document
 pub mod Changes
+pub mod Removal
 pub mod Edits
 pub mod NodeRefs
 pub mod Index

@@ -5,6 +5,7 @@ ghost use Rattle.lay_doc.specs.Document.{IsDocument, ids_of, parents_of, depths_
 ghost use Rattle.lay_doc.specs.NodeRefs.{node_at, parent_id};
 ghost use Rattle.lay_doc.specs.Tree.{IsSlot, children_before, child_count};
 ghost use Rattle.lay_doc.specs.Changes.{style_fault, text_fault, text_fault_at, with_style, without_style, with_text, changed_at, after_change};
+ghost use Rattle.lay_doc.specs.Removal.{remove_fault, removed, after_remove};
 ghost use Rattle.lay_doc.specs.Edits.{root_fault, fault, after, insert_fault, fault_below, last_index, after_insert, inserted_below};
 
 use crate::changing::{clear_style, set_style, set_text};
@@ -18,6 +19,7 @@ use crate::node::{NewNode, Node, NodeId, copy_nodes};
 use crate::node_ref::NodeRef;
 use crate::placing::{child_count, last_slot, slot};
 use crate::property::Property;
+use crate::removal::{remove_between, text_bytes_between};
 use lay_units::{NoMemory, Text};
 use std::alloc::Global;
 use std::marker::Model;
@@ -175,6 +177,7 @@ impl Doc {
                 let new = new.copy(alloc)?;
                 self.insert(*parent, *index, new)
             }
+            Edit::Remove { node } => self.remove(alloc, *node),
             Edit::Bad { .. } => unreachable!(),
         }
     }
@@ -212,6 +215,7 @@ impl Doc {
             Edit::ClearStyle { node, .. } => self.style_fault(*node),
             Edit::SetText { node, text } => self.text_fault(*node, text.len()),
             Edit::Insert { parent, index, new } => self.insert_fault(*parent, *index, new),
+            Edit::Remove { node } => self.remove_fault(*node),
             Edit::Bad { why } => Some(why.fault()),
         }
     }
@@ -234,6 +238,17 @@ impl Doc {
         match self.find(node) {
             None => Some(EditFault::NoNode),
             Some(place) => text_fault_at(&self.nodes, self.text_bytes, place, bytes),
+        }
+    }
+
+    /// The first fault of removing a node with its descendants.
+    fn remove_fault(&self, node: NodeId) -> Option<EditFault>
+        ensures { result ≡ remove_fault self.now node.0 }
+    {
+        match self.find(node) {
+            None => Some(EditFault::NoNode),
+            Some(0) => Some(EditFault::RootFixed),
+            Some(_) => None,
         }
     }
 
@@ -269,6 +284,33 @@ impl Doc {
             None => unreachable!(),
             Some(place) => self.set_text_at(place, text),
         }
+    }
+
+    /// Removes a node with its descendants.
+    fn remove(&mut self, alloc: Global, node: NodeId) -> Result<(), NoMemory>
+        requires { remove_fault self.old node.0 ≡ None }
+        ensures ok { OnOk result (self.new ≡ after_remove self.old node.0) }
+        ensures err { OnErr result (self.new ≡ self.old) }
+    {
+        match self.find(node) {
+            None => unreachable!(),
+            Some(place) => self.remove_at(alloc, place),
+        }
+    }
+
+    /// Removes the node at a place, which isn't the root, with its descendants.
+    fn remove_at(&mut self, alloc: Global, place: usize) -> Result<(), NoMemory>
+        requires place { place < length self.old.nodes }
+        requires not_root { 0 < place }
+        ensures ok { OnOk result (self.new ≡ record self.old { nodes = removed self.old.nodes place }) }
+        ensures err { OnErr result (self.new ≡ self.old) }
+    {
+        let end = last_slot(&self.nodes, place);
+        let index = IdIndex::without(alloc, &self.nodes, place, end)?;
+        self.text_bytes -= text_bytes_between(&self.nodes, place, end);
+        remove_between(&mut self.nodes, place, end);
+        self.index = index;
+        Ok(())
     }
 
     /// Sets a declaration of the node at a place.

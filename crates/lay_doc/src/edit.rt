@@ -33,6 +33,8 @@ pub enum Edit {
         index: u32,
         new: NewNode,
     },
+    /// Takes a node and its descendants away.
+    Remove { node: NodeId },
     /// What an editor meant as `SetStyle` or `ClearStyle`, and that is neither. It is always refused.
     Bad {
         why: BadDeclaration,

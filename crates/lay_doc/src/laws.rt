@@ -1,7 +1,7 @@
 //! Laws of the definitions.
 
 ghost use Rattle.lay_doc.specs.Declarations.{SetsOne, ClearsOne};
-ghost use Rattle.lay_doc.specs.Tree.{OneSlot};
+ghost use Rattle.lay_doc.specs.Tree.{OneSlot, HasSubtree};
 
 /// In a tree the slot of an index is the only one.
 pub fn one_slot()
@@ -16,4 +16,9 @@ pub fn sets_one()
 /// To take a declaration away changes what is declared for its property alone.
 pub fn clears_one()
     ensures { ClearsOne }
+{}
+
+/// A node and its descendants stand together, up to the node's end.
+pub fn has_subtree()
+    ensures { HasSubtree }
 {}

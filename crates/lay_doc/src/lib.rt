@@ -21,6 +21,7 @@ mod node;
 mod node_ref;
 mod placing;
 mod property;
+mod removal;
 mod style;
 #[cfg(test)]
 mod tests;
@@ -31,7 +32,7 @@ pub use declaration::{Decl, Decls};
 pub use doc::{Doc, NewFault};
 pub use edit::{BadDeclaration, Edit, EditFault};
 pub use history::Entry;
-pub use laws::{clears_one, one_slot, sets_one};
+pub use laws::{clears_one, has_subtree, one_slot, sets_one};
 pub use node::{Kind, NewNode, Node, NodeId};
 pub use node_ref::NodeRef;
 pub use property::{Given, OneLength, Property, Word};
