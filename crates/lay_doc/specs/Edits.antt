@@ -41,7 +41,7 @@ abbrev pub fault : Document → Edit → Option EditFault
 fault d (SetStyle node decl) = style_fault d node.0
 fault d (ClearStyle node property) = style_fault d node.0
 fault d (SetText node text) = text_fault d node.0 (length text)
-fault d (Bad why) = Some (bad_fault why)
+fault d (Bad bad) = Some (bad_fault bad)
 fault d (Remove node) = remove_fault d node.0
 fault d (Insert parent index new) = insert_fault d parent.0 index new
 
@@ -65,7 +65,7 @@ abbrev pub after : Document → Edit → Document
 after d (SetStyle node decl) = after_change d node.0 (with_style decl)
 after d (ClearStyle node property) = after_change d node.0 (without_style property)
 after d (SetText node text) = after_change d node.0 (with_text text)
-after d (Bad why) = d
+after d (Bad bad) = d
 after d (Remove node) = after_remove d node.0
 after d (Insert parent index new) = after_insert d parent.0 index new
 

@@ -216,7 +216,7 @@ impl Doc {
             Edit::SetText { node, text } => self.text_fault(*node, text.len()),
             Edit::Insert { parent, index, new } => self.insert_fault(*parent, *index, new),
             Edit::Remove { node } => self.remove_fault(*node),
-            Edit::Bad { why } => Some(why.fault()),
+            Edit::Bad { fault } => Some(fault.edit_fault()),
         }
     }
 

@@ -37,7 +37,7 @@ pub enum Edit {
     Remove { node: NodeId },
     /// What an editor meant as `SetStyle` or `ClearStyle`, and that is neither. It is always refused.
     Bad {
-        why: BadDeclaration,
+        fault: BadDeclaration,
     },
 }
 
@@ -52,7 +52,7 @@ pub enum BadDeclaration {
 
 impl BadDeclaration {
     /// The fault of an edit with it: E10 or E11.
-    pub fn fault(self) -> EditFault
+    pub fn edit_fault(self) -> EditFault
         ensures { result ≡ bad_fault self }
     {
         match self {

@@ -9,6 +9,7 @@
 
 mod changing;
 mod columns;
+mod command;
 mod declaration;
 mod doc;
 mod edit;
@@ -28,6 +29,7 @@ mod tests;
 mod values;
 mod words;
 
+pub use command::{Cmd, CmdList, Reply};
 pub use declaration::{Decl, Decls};
 pub use doc::{Doc, NewFault};
 pub use edit::{BadDeclaration, Edit, EditFault};
