@@ -60,7 +60,7 @@ same_properties d (x ∷ ds) k e = elim (cases_eq (number_of x.property) (number
       rw t (ap (λ (r : List ℕ). number_of x.property ∷ r) (same_properties d ds h.before h.is)))
 ]
 
-length-properties : (ds : List Declaration) → length (properties_of ds) ≡ length ds
+pub length-properties : (ds : List Declaration) → length (properties_of ds) ≡ length ds
 length-properties [] = refl
 length-properties (d ∷ ds) = ap suc (length-properties ds)
 

@@ -18,7 +18,7 @@ use Rattle.lay_doc.proofs.Places.{place_none}
 map-insert : {X Y : Type 0} (f : X → Y) (xs : List X) (i : ℕ) (x : X) → map f (insert xs i x) ≡ insert (map f xs) i (f x)
 map-insert f xs i x = map-append f (take i xs) (x ∷ drop i xs) ∙ rw (take-map f i xs, drop-map f i xs) refl
 
-map-map : {X Y Z : Type 0} (g : Y → Z) (f : X → Y) (xs : List X) → map g (map f xs) ≡ map (λ x. g (f x)) xs
+pub map-map : {X Y Z : Type 0} (g : Y → Z) (f : X → Y) (xs : List X) → map g (map f xs) ≡ map (λ x. g (f x)) xs
 map-map g f [] = refl
 map-map g f (x ∷ xs) = ap (λ (r : List _). g (f x) ∷ r) (map-map g f xs)
 
@@ -241,19 +241,19 @@ parents_within parents tree k lt = elim (cases_lt 0 k) [
 ]
 
 -- the loop over the nodes from a new one on: what is ahead is as it was, and what it leaves
-length_ahead : {X : Type 0} (f : X → X) (xs ys : List X) (k : ℕ) → k ≤ length xs → ys ≡ map f (take k xs) ++ drop k xs → length ys ≡ length xs
+pub length_ahead : {X : Type 0} (f : X → X) (xs ys : List X) (k : ℕ) → k ≤ length xs → ys ≡ map f (take k xs) ++ drop k xs → length ys ≡ length xs
 length_ahead f xs ys k lt is = rw is (grind (arith, common_steps, length-column f (take k xs)))
 
-pub parent_ahead : (xs ys : List Node) (at k : ℕ) → k < length xs → ys ≡ map (moved at) (take k xs) ++ drop k xs → get_or (parents_of ys) k 0 ≡ get_or (parents_of xs) k 0
-parent_ahead [] ys at k lt is = absurd (omega arith)
-parent_ahead (x ∷ xs) ys at k lt is =
-    let n = length_ahead (moved at) (x ∷ xs) ys k (omega arith) is in
-    get_or-map (λ n. n.parent) ys k x 0 (omega arith) ∙ ap (λ (n : Node). n.parent) (ahead (moved at) (x ∷ xs) ys k x lt is) ∙ sym (get_or-map (λ n. n.parent) (x ∷ xs) k x 0 lt)
+pub parent_ahead : (f : Node → Node) (xs ys : List Node) (k : ℕ) → k < length xs → ys ≡ map f (take k xs) ++ drop k xs → get_or (parents_of ys) k 0 ≡ get_or (parents_of xs) k 0
+parent_ahead f [] ys k lt is = absurd (omega arith)
+parent_ahead f (x ∷ xs) ys k lt is =
+    let n = length_ahead f (x ∷ xs) ys k (omega arith) is in
+    get_or-map (λ n. n.parent) ys k x 0 (omega arith) ∙ ap (λ (n : Node). n.parent) (ahead f (x ∷ xs) ys k x lt is) ∙ sym (get_or-map (λ n. n.parent) (x ∷ xs) k x 0 lt)
 
-pub shift_more : (xs ys zs : List Node) (at k : ℕ) → k < length xs → ys ≡ map (moved at) (take k xs) ++ drop k xs → ((d : Node) → zs ≡ set ys k (moved at (get_or ys k d)))
-    → zs ≡ map (moved at) (take (k + 1) xs) ++ drop (k + 1) xs
-shift_more [] ys zs at k lt is gives = absurd (omega arith)
-shift_more (x ∷ xs) ys zs at k lt is gives =
-    let n = length_ahead (moved at) (x ∷ xs) ys k (omega arith) is in
+pub shift_more : (f : Node → Node) (xs ys zs : List Node) (k : ℕ) → k < length xs → ys ≡ map f (take k xs) ++ drop k xs → ((d : Node) → zs ≡ set ys k (f (get_or ys k d)))
+    → zs ≡ map f (take (k + 1) xs) ++ drop (k + 1) xs
+shift_more f [] ys zs k lt is gives = absurd (omega arith)
+shift_more f (x ∷ xs) ys zs k lt is gives =
+    let n = length_ahead f (x ∷ xs) ys k (omega arith) is in
     let v : Node = get_or ys k x in
-    gives x ∙ map_over_more (moved at) (x ∷ xs) ys k v lt is (get_or_default ys k x v (omega arith))
+    gives x ∙ map_over_more f (x ∷ xs) ys k v lt is (get_or_default ys k x v (omega arith))

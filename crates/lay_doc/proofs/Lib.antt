@@ -1,7 +1,12 @@
 pub mod Places
 pub mod Declared
+pub mod Cleared
 pub mod NodeColumns
+pub mod Changed
 pub mod Slots
 pub mod PutTrees
 pub mod Indexed
 pub mod Inserted
+pub mod Subtrees
+pub mod Cut
+pub mod Removed

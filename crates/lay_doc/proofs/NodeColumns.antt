@@ -1,8 +1,9 @@
 -- The columns of a list of nodes.
-use Rattle.std.proofs.Common.{◌≡◌, ℕ, zero, suc, ◌<◌, List, [], ◌∷◌, length, get_or, refl, ap, arith, Bool, false, map}
+use Rattle.std.proofs.Common.{◌≡◌, ℕ, zero, suc, ◌<◌, ◌≤◌, List, [], ◌∷◌, length, get_or, refl, ap, arith, Bool, false, map}
+use Rattle.std.proofs.lemmas.List.Sums.{sum_by-cons}
 use Rattle.lay_doc.specs.declared.node.Node.{Node}
-use Rattle.lay_doc.specs.NewNodes.{is_element}
-use Rattle.lay_doc.specs.Document.{parents_of, ids_of, depths_of, text_lengths_of, is_element_at}
+use Rattle.lay_doc.specs.NewNodes.{is_element, is_text}
+use Rattle.lay_doc.specs.Document.{parents_of, ids_of, depths_of, text_lengths_of, text_size, is_element_at, is_text_at}
 
 pub length-column : {X Y : Type 0} (f : X → Y) (xs : List X) → length (map f xs) ≡ length xs
 length-column f [] = refl
@@ -36,3 +37,14 @@ pub element_read : (nodes : List Node) (k : ℕ) (n : Node) → k < length nodes
 element_read [] k n lt = absurd (omega arith)
 element_read (x ∷ xs) zero n lt = refl
 element_read (x ∷ xs) (suc k) n lt = element_read xs k n (omega arith)
+
+pub text_read : (nodes : List Node) (k : ℕ) (n : Node) → k < length nodes → is_text (get_or nodes k n).kind ≡ is_text_at nodes k
+text_read [] k n lt = absurd (omega arith)
+text_read (x ∷ xs) zero n lt = refl
+text_read (x ∷ xs) (suc k) n lt = text_read xs k n (omega arith)
+
+-- a node's text is one of all
+pub text_within : (nodes : List Node) (k : ℕ) → k < length nodes → get_or (text_lengths_of nodes) k 0 ≤ text_size nodes
+text_within [] k lt = absurd (omega arith)
+text_within (x ∷ xs) zero lt = (let e = sum_by-cons (λ (n : Node). length n.text) x xs in omega arith)
+text_within (x ∷ xs) (suc k) lt = (let e = sum_by-cons (λ (n : Node). length n.text) x xs in let h = text_within xs k (omega arith) in omega arith)

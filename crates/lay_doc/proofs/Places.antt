@@ -1,5 +1,5 @@
 -- The first place of a number in a list.
-use Rattle.std.proofs.Common.{◌≡◌, ℕ, zero, suc, ◌<◌, List, [], ◌∷◌, length, get_or, refl, sym, ◌∙◌, arith, Option, Some, None, option_map, inl, inr}
+use Rattle.std.proofs.Common.{◌≡◌, ℕ, zero, suc, ◌<◌, List, [], ◌∷◌, length, get_or, refl, sym, ap, ◌∙◌, arith, Option, Some, None, option_map, inl, inr}
 use Rattle.std.proofs.lemmas.Bool.{cases_eq, eq-eqb, ne_eqb}
 use Rattle.lay_doc.specs.Document.{place_of}
 
@@ -30,3 +30,9 @@ place_none n (x ∷ xs) e (suc k) lt is = elim (cases_eq x n) [
   | inl same ↦ (let h = sym (place_here n x xs same) ∙ e in absurd cc)
   | inr other ↦ place_none n xs (map_none (place_of n xs) (sym (place_later n x xs other) ∙ e)) k (omega arith) is
 ]
+
+pub place_fresh : (n : ℕ) (xs : List ℕ) → ((k : ℕ) → k < length xs → get_or xs k 0 ≡ n → ⊥) → place_of n xs ≡ None
+place_fresh n [] fresh = refl
+place_fresh n (x ∷ xs) fresh =
+    let rest = place_fresh n xs (λ k lt. fresh (suc k) (omega arith)) in
+    place_later n x xs (fresh 0 (omega arith)) ∙ ap (option_map suc) rest

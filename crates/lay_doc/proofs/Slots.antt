@@ -51,7 +51,7 @@ slot_child parents p index at lt is more =
     let c = ne_eqb index 0 (λ e. omega arith) in
     ap (slot_from p index at) (drop-cons parents at 0 lt) ∙ rw (a, b, c, add-one at) refl
 
-children_grow : (parents : List ℕ) (p k n : ℕ) → p < k → k + n ≤ length parents → children_before parents p k ≤ children_before parents p (k + n)
+pub children_grow : (parents : List ℕ) (p k n : ℕ) → p < k → k + n ≤ length parents → children_before parents p k ≤ children_before parents p (k + n)
 children_grow parents p k zero after within = rw (add-zero k) (omega arith)
 children_grow parents p k (suc n) after within =
     let before = children_grow parents p k n after (omega arith) in

@@ -22,3 +22,18 @@ declared_value p (d ∷ ds) = if is_same_property p d.property then Some d.value
 abbrev pub with_declaration : Declaration → List Declaration → List Declaration
 with_declaration d [] = d ∷ []
 with_declaration d (e ∷ es) = if is_same_property d.property e.property then d ∷ es else e ∷ with_declaration d es
+
+-- the declarations without that of a property, where it is declared
+abbrev pub without_declaration : Property → List Declaration → List Declaration
+without_declaration p [] = []
+without_declaration p (d ∷ ds) = if is_same_property p d.property then ds else d ∷ without_declaration p ds
+
+-- what is set is declared afterwards, and every other property is declared as before
+abbrev pub SetsOne : Type 0
+SetsOne = (p : Property) (d : Declaration) (ds : List Declaration) →
+    declared_value p (with_declaration d ds) ≡ (if is_same_property p d.property then Some d.value else declared_value p ds)
+
+-- what is taken away isn't declared afterwards, and every other property is declared as before
+abbrev pub ClearsOne : Type 0
+ClearsOne = (p q : Property) (ds : List Declaration) → AreDistinct ds →
+    declared_value p (without_declaration q ds) ≡ (if is_same_property p q then None else declared_value p ds)

@@ -1,8 +1,8 @@
 -- A document: a viewport in px, and its nodes in document order, each with the place of its parent.
-use Rattle.std.specs.Prelude.{ℕ, zero, ◌≡◌, ◌+◌, ◌<◌, ◌≤◌, List, [], ◌∷◌, map, length, sum_by, slice_index, Option, Some, None, option_map, suc, ◌==◌, Bool, true, false, if◌then◌else◌}
+use Rattle.std.specs.Prelude.{ℕ, zero, ◌≡◌, ◌+◌, ◌<◌, ◌≤◌, List, [], ◌∷◌, map, length, sum_by, slice_index, Option, Some, None, option_map, suc, ◌==◌, ◌||◌, nat_lt, Bool, true, false, if◌then◌else◌}
 use Rattle.std.specs.List.{insert}
 use Rattle.lay_doc.specs.declared.node.Node.{Node}
-use Rattle.lay_doc.specs.NewNodes.{NewNodeValue, is_element}
+use Rattle.lay_doc.specs.NewNodes.{NewNodeValue, is_element, is_text}
 use Rattle.lay_doc.specs.Tree.{IsTree, shifted}
 
 pub record Document : Type 0 where
@@ -26,11 +26,21 @@ text_lengths_of nodes = map (λ n. length n.text) nodes
 abbrev pub text_size : List Node → ℕ
 text_size nodes = sum_by (λ n. length n.text) nodes
 
+-- a text of this many bytes is too long beside others of so many bytes
+abbrev pub is_too_long : ℕ → ℕ → Bool
+is_too_long others bytes = nat_lt 65536 bytes || nat_lt 1048576 (others + bytes)
+
 -- whether the node at a place is an element
 abbrev pub is_element_at : List Node → ℕ → Bool
 is_element_at [] k = false
 is_element_at (n ∷ ns) zero = is_element n.kind
 is_element_at (n ∷ ns) (suc k) = is_element_at ns k
+
+-- whether the node at a place is a text
+abbrev pub is_text_at : List Node → ℕ → Bool
+is_text_at [] k = false
+is_text_at (n ∷ ns) zero = is_text n.kind
+is_text_at (n ∷ ns) (suc k) = is_text_at ns k
 
 -- the place of the first of these ids that is `id`
 abbrev pub place_of : ℕ → List ℕ → Option ℕ

@@ -2,16 +2,16 @@
 use Rattle.std.specs.Prelude.{ℕ, ◌+◌, ◌==◌, ◌||◌, not, List, length, slice_index, Option, Some, None, Bool, nat_lt, nat_le, is_some, if◌then◌else◌}
 use Rattle.lay_doc.specs.declared.node.Node.{Node}
 use Rattle.lay_doc.specs.declared.edit.Edit.{Edit}
-use Rattle.lay_doc.specs.declared.edit.Edit.TheVariants.{Insert}
+use Rattle.lay_doc.specs.declared.edit.Edit.TheVariants.{SetStyle, ClearStyle, SetText, Insert, Remove, Bad}
+use Rattle.lay_doc.specs.declared.edit.BadDeclaration.{BadDeclaration}
+use Rattle.lay_doc.specs.declared.edit.BadDeclaration.TheVariants.{Property as no_property, Value as no_value}
 use Rattle.lay_doc.specs.declared.edit.EditFault.{EditFault}
-use Rattle.lay_doc.specs.declared.edit.EditFault.TheVariants.{NoNode, NotElement, IdTaken, BadIndex, TooManyNodes, TooDeep, TextTooLong}
+use Rattle.lay_doc.specs.declared.edit.EditFault.TheVariants.{NoNode, NotElement, IdTaken, BadIndex, TooManyNodes, TooDeep, TextTooLong, BadProperty, BadValue}
 use Rattle.lay_doc.specs.NewNodes.{NewNodeValue, is_element}
 use Rattle.lay_doc.specs.Tree.{child_count, slot_of}
-use Rattle.lay_doc.specs.Document.{Document, parents_of, ids_of, depths_of, text_size, is_element_at, place_of, inserted, becomes}
-
--- a text of this many bytes is too long beside others of so many bytes
-abbrev pub is_too_long : ℕ → ℕ → Bool
-is_too_long others bytes = nat_lt 65536 bytes || nat_lt 1048576 (others + bytes)
+use Rattle.lay_doc.specs.Document.{Document, parents_of, ids_of, depths_of, text_size, is_element_at, is_too_long, place_of, inserted, becomes}
+use Rattle.lay_doc.specs.Changes.{style_fault, text_fault, with_style, without_style, with_text, after_change}
+use Rattle.lay_doc.specs.Removal.{remove_fault, after_remove}
 
 -- the first fault of putting a node below the place p
 abbrev pub fault_below : List Node → ℕ → ℕ → NewNodeValue → Option EditFault
@@ -31,8 +31,18 @@ insert_fault d parent index new = fault_or (place_of parent (ids_of d.nodes))
     fault_or None = Some NoNode
     fault_or (Some p) = fault_below d.nodes p index new
 
+-- the fault of an edit that was given with no property, or no value of its property
+abbrev pub bad_fault : BadDeclaration → EditFault
+bad_fault no_property = BadProperty
+bad_fault no_value = BadValue
+
 -- the first fault of an edit, or none
 abbrev pub fault : Document → Edit → Option EditFault
+fault d (SetStyle node decl) = style_fault d node.0
+fault d (ClearStyle node property) = style_fault d node.0
+fault d (SetText node text) = text_fault d node.0 (length text)
+fault d (Bad bad) = Some (bad_fault bad)
+fault d (Remove node) = remove_fault d node.0
 fault d (Insert parent index new) = insert_fault d parent.0 index new
 
 -- the document with a node put below the place p, before the child that had the index, or last
@@ -52,6 +62,11 @@ after_insert d parent index new = inserted_or (place_of parent (ids_of d.nodes))
 
 -- the document after an edit; one that has a fault is not applied, and leaves no meaning here
 abbrev pub after : Document → Edit → Document
+after d (SetStyle node decl) = after_change d node.0 (with_style decl)
+after d (ClearStyle node property) = after_change d node.0 (without_style property)
+after d (SetText node text) = after_change d node.0 (with_text text)
+after d (Bad bad) = d
+after d (Remove node) = after_remove d node.0
 after d (Insert parent index new) = after_insert d parent.0 index new
 
 -- how many children the node with this id has

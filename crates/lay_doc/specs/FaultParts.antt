@@ -4,8 +4,7 @@ use Rattle.std.specs.Prelude.{ℕ, ◌==◌, ◌||◌, not, List, length, slice_
 use Rattle.lay_doc.specs.declared.node.Node.{Node}
 use Rattle.lay_doc.specs.declared.edit.EditFault.{EditFault}
 use Rattle.lay_doc.specs.declared.edit.EditFault.TheVariants.{NotElement, IdTaken, TooManyNodes, TooDeep, TextTooLong}
-use Rattle.lay_doc.specs.Document.{ids_of, depths_of, is_element_at, place_of}
-use Rattle.lay_doc.specs.Edits.{is_too_long}
+use Rattle.lay_doc.specs.Document.{ids_of, depths_of, is_element_at, is_too_long, place_of}
 
 abbrev pub parent_or_id_fault : List Node → ℕ → ℕ → Option EditFault
 parent_or_id_fault nodes p id =

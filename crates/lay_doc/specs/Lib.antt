@@ -5,6 +5,8 @@ pub mod Declarations
 pub mod NewNodes
 pub mod Tree
 pub mod Document
+pub mod Changes
+pub mod Removal
 pub mod Edits
 pub mod NodeRefs
 pub mod Index

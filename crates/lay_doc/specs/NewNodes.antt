@@ -24,3 +24,8 @@ abbrev pub is_element : Kind → Bool
 is_element (Element colspan rowspan) = true
 is_element Text = false
 is_element (Replaced w h) = false
+
+abbrev pub is_text : Kind → Bool
+is_text (Element colspan rowspan) = false
+is_text Text = true
+is_text (Replaced w h) = false

@@ -1,7 +1,7 @@
 //! What stands at a place of a list of nodes.
 
 ghost use Rattle.std.specs.Prelude.{◌≡◌, ◌<◌, length, slice_index};
-ghost use Rattle.lay_doc.specs.Document.{ids_of, parents_of, depths_of, is_element_at};
+ghost use Rattle.lay_doc.specs.Document.{ids_of, parents_of, depths_of, text_lengths_of, is_element_at, is_text_at};
 
 use crate::node::Node;
 
@@ -35,4 +35,20 @@ pub fn is_element_at(nodes: &[Node], place: usize) -> bool
     ensures { result ≡ is_element_at nodes.now place }
 {
     nodes[place].kind.is_element()
+}
+
+/// Whether the node at a place is a text.
+pub fn is_text_at(nodes: &[Node], place: usize) -> bool
+    requires { place < length nodes.now }
+    ensures { result ≡ is_text_at nodes.now place }
+{
+    nodes[place].kind.is_text()
+}
+
+/// The bytes of the text of the node at a place.
+pub fn text_bytes_at(nodes: &[Node], place: usize) -> usize
+    requires { place < length nodes.now }
+    ensures { result ≡ slice_index (text_lengths_of nodes.now) place }
+{
+    nodes[place].text.len()
 }

@@ -3,7 +3,7 @@
 ghost use Rattle.std.specs.Prelude.{◌≡◌, ◌==◌, ◌<◌, [], length, slice_index, IfSome, IfOk, OnOk, OnErr};
 ghost use Rattle.lay_doc.specs.PropertyNumbers.{number_of};
 ghost use Rattle.lay_doc.specs.Values.{declaration_of};
-ghost use Rattle.lay_doc.specs.Declarations.{declared_value, with_declaration, properties_of};
+ghost use Rattle.lay_doc.specs.Declarations.{declared_value, with_declaration, without_declaration, properties_of};
 ghost use Rattle.lay_doc.specs.Document.{place_of};
 
 use crate::property::{Given, Property};
@@ -97,6 +97,13 @@ impl Decls {
         Ok(())
     }
 
+    /// Takes away the declaration of the property. Where there is none, it changes nothing.
+    pub fn clear(&mut self, property: Property)
+        ensures { self.new ≡ without_declaration property self.old }
+    {
+        take_away(&mut self.items, property);
+    }
+
     /// The value that is declared for the property.
     pub fn get(&self, property: Property) -> Option<Given>
         ensures { result ≡ declared_value property self.now }
@@ -166,4 +173,12 @@ fn put(decls: &mut Vec<Decl>, decl: Decl) -> Result<(), NoMemory>
         None => decls.push(decl)?,
     }
     Ok(())
+}
+
+fn take_away(decls: &mut Vec<Decl>, property: Property)
+    ensures { decls.new.items ≡ without_declaration property decls.old.items }
+{
+    if let Some(k) = place_of_property(decls.as_slice(), property) {
+        decls.remove(k);
+    }
 }

@@ -4,17 +4,23 @@ ghost use Rattle.std.specs.Prelude.{◌≡◌, ◌↔◌, ◌+◌, ◌<◌, ◌�
 ghost use Rattle.lay_doc.specs.Document.{IsDocument, ids_of, parents_of, depths_of, text_size, is_element_at, place_of, inserted, becomes, root_document};
 ghost use Rattle.lay_doc.specs.NodeRefs.{node_at, parent_id};
 ghost use Rattle.lay_doc.specs.Tree.{IsSlot, children_before, child_count};
+ghost use Rattle.lay_doc.specs.Changes.{style_fault, text_fault, text_fault_at, with_style, without_style, with_text, changed_at, after_change};
+ghost use Rattle.lay_doc.specs.Removal.{remove_fault, removed, after_remove};
 ghost use Rattle.lay_doc.specs.Edits.{root_fault, fault, after, insert_fault, fault_below, last_index, after_insert, inserted_below};
 
-use crate::columns::{depth_at, id_at, parent_at};
+use crate::changing::{clear_style, set_style, set_text};
+use crate::columns::{depth_at, id_at, is_text_at, parent_at, text_bytes_at};
+use crate::declaration::Decl;
 use crate::edit::{Edit, EditFault};
-use crate::faults::{limit_fault, parent_or_id_fault};
+use crate::faults::{limit_fault, parent_or_id_fault, text_fault_at};
 use crate::index::IdIndex;
 use crate::insertion::put_node;
-use crate::node::{NewNode, Node, NodeId};
+use crate::node::{NewNode, Node, NodeId, copy_nodes};
 use crate::node_ref::NodeRef;
 use crate::placing::{child_count, last_slot, slot};
-use lay_units::NoMemory;
+use crate::property::Property;
+use crate::removal::{remove_between, text_bytes_between};
+use lay_units::{NoMemory, Text};
 use std::alloc::Global;
 use std::marker::Model;
 
@@ -78,6 +84,21 @@ impl Doc {
         })
     }
 
+    /// An equal document.
+    pub fn copy(&self, alloc: Global) -> Result<Doc, NoMemory>
+        ensures { IfOk result (λ d. d ≡ self.now) }
+    {
+        let nodes = copy_nodes(alloc, &self.nodes)?;
+        let index = IdIndex::without(alloc, &self.nodes, 0, 0)?;
+        Ok(Doc {
+            width: self.width,
+            height: self.height,
+            nodes,
+            index,
+            text_bytes: self.text_bytes,
+        })
+    }
+
     /// The viewport's width, in px.
     pub fn width(&self) -> u32
         ensures { result ≡ self.now.width }
@@ -129,11 +150,9 @@ impl Doc {
         ensures ok { OnOk result (fault self.now edit.now ≡ None) }
         ensures bad { IfErr result (λ f. fault self.now edit.now ≡ Some f) }
     {
-        match edit {
-            Edit::Insert { parent, index, new } => match self.insert_fault(*parent, *index, new) {
-                None => Ok(()),
-                Some(fault) => Err(fault),
-            },
+        match self.first_fault(edit) {
+            None => Ok(()),
+            Some(fault) => Err(fault),
         }
     }
 
@@ -144,10 +163,22 @@ impl Doc {
         ensures err { OnErr result (self.new ≡ self.old) }
     {
         match edit {
+            Edit::SetStyle { node, decl } => self.set_style(*node, *decl),
+            Edit::ClearStyle { node, property } => {
+                self.clear_style(*node, *property);
+                Ok(())
+            }
+            Edit::SetText { node, text } => {
+                let text = text.copy(alloc)?;
+                self.set_text(*node, text);
+                Ok(())
+            }
             Edit::Insert { parent, index, new } => {
                 let new = new.copy(alloc)?;
                 self.insert(*parent, *index, new)
             }
+            Edit::Remove { node } => self.remove(alloc, *node),
+            Edit::Bad { .. } => unreachable!(),
         }
     }
 
@@ -173,6 +204,141 @@ impl Doc {
             None => unreachable!(),
             Some(place) => self.push_below(place, new),
         }
+    }
+
+    /// The first fault of an edit.
+    fn first_fault(&self, edit: &Edit) -> Option<EditFault>
+        ensures { result ≡ fault self.now edit.now }
+    {
+        match edit {
+            Edit::SetStyle { node, .. } => self.style_fault(*node),
+            Edit::ClearStyle { node, .. } => self.style_fault(*node),
+            Edit::SetText { node, text } => self.text_fault(*node, text.len()),
+            Edit::Insert { parent, index, new } => self.insert_fault(*parent, *index, new),
+            Edit::Remove { node } => self.remove_fault(*node),
+            Edit::Bad { fault } => Some(fault.edit_fault()),
+        }
+    }
+
+    /// The first fault of changing the declarations of a node.
+    fn style_fault(&self, node: NodeId) -> Option<EditFault>
+        ensures { result ≡ style_fault self.now node.0 }
+    {
+        match self.find(node) {
+            None => Some(EditFault::NoNode),
+            Some(place) if is_text_at(&self.nodes, place) => Some(EditFault::NotElement),
+            Some(_) => None,
+        }
+    }
+
+    /// The first fault of giving a node a text of so many bytes.
+    fn text_fault(&self, node: NodeId, bytes: usize) -> Option<EditFault>
+        ensures { result ≡ text_fault self.now node.0 bytes }
+    {
+        match self.find(node) {
+            None => Some(EditFault::NoNode),
+            Some(place) => text_fault_at(&self.nodes, self.text_bytes, place, bytes),
+        }
+    }
+
+    /// The first fault of removing a node with its descendants.
+    fn remove_fault(&self, node: NodeId) -> Option<EditFault>
+        ensures { result ≡ remove_fault self.now node.0 }
+    {
+        match self.find(node) {
+            None => Some(EditFault::NoNode),
+            Some(0) => Some(EditFault::RootFixed),
+            Some(_) => None,
+        }
+    }
+
+    /// Sets a declaration of a node.
+    fn set_style(&mut self, node: NodeId, decl: Decl) -> Result<(), NoMemory>
+        requires { style_fault self.old node.0 ≡ None }
+        ensures ok { OnOk result (self.new ≡ after_change self.old node.0 (with_style decl)) }
+        ensures err { OnErr result (self.new ≡ self.old) }
+    {
+        match self.find(node) {
+            None => unreachable!(),
+            Some(place) => self.set_style_at(place, decl),
+        }
+    }
+
+    /// Takes away what a node declares for a property.
+    fn clear_style(&mut self, node: NodeId, property: Property)
+        requires { style_fault self.old node.0 ≡ None }
+        ensures { self.new ≡ after_change self.old node.0 (without_style property) }
+    {
+        match self.find(node) {
+            None => unreachable!(),
+            Some(place) => self.clear_style_at(place, property),
+        }
+    }
+
+    /// Gives a node another text.
+    fn set_text(&mut self, node: NodeId, text: Text)
+        requires { text_fault self.old node.0 (length text) ≡ None }
+        ensures { self.new ≡ after_change self.old node.0 (with_text text) }
+    {
+        match self.find(node) {
+            None => unreachable!(),
+            Some(place) => self.set_text_at(place, text),
+        }
+    }
+
+    /// Removes a node with its descendants.
+    fn remove(&mut self, alloc: Global, node: NodeId) -> Result<(), NoMemory>
+        requires { remove_fault self.old node.0 ≡ None }
+        ensures ok { OnOk result (self.new ≡ after_remove self.old node.0) }
+        ensures err { OnErr result (self.new ≡ self.old) }
+    {
+        match self.find(node) {
+            None => unreachable!(),
+            Some(place) => self.remove_at(alloc, place),
+        }
+    }
+
+    /// Removes the node at a place, which isn't the root, with its descendants.
+    fn remove_at(&mut self, alloc: Global, place: usize) -> Result<(), NoMemory>
+        requires place { place < length self.old.nodes }
+        requires not_root { 0 < place }
+        ensures ok { OnOk result (self.new ≡ record self.old { nodes = removed self.old.nodes place }) }
+        ensures err { OnErr result (self.new ≡ self.old) }
+    {
+        let end = last_slot(&self.nodes, place);
+        let index = IdIndex::without(alloc, &self.nodes, place, end)?;
+        self.text_bytes -= text_bytes_between(&self.nodes, place, end);
+        remove_between(&mut self.nodes, place, end);
+        self.index = index;
+        Ok(())
+    }
+
+    /// Sets a declaration of the node at a place.
+    fn set_style_at(&mut self, place: usize, decl: Decl) -> Result<(), NoMemory>
+        requires { place < length self.old.nodes }
+        ensures ok { OnOk result (self.new ≡ record self.old { nodes = changed_at place (with_style decl) self.old.nodes }) }
+        ensures err { OnErr result (self.new ≡ self.old) }
+    {
+        set_style(&mut self.nodes, place, decl)?;
+        Ok(())
+    }
+
+    /// Takes away what the node at a place declares for a property.
+    fn clear_style_at(&mut self, place: usize, property: Property)
+        requires { place < length self.old.nodes }
+        ensures { self.new ≡ record self.old { nodes = changed_at place (without_style property) self.old.nodes } }
+    {
+        clear_style(&mut self.nodes, place, property);
+    }
+
+    /// Gives the node at a place another text.
+    fn set_text_at(&mut self, place: usize, text: Text)
+        requires place { place < length self.old.nodes }
+        requires fault { text_fault_at self.old.nodes place (length text) ≡ None }
+        ensures { self.new ≡ record self.old { nodes = changed_at place (with_text text) self.old.nodes } }
+    {
+        self.text_bytes = self.text_bytes - text_bytes_at(&self.nodes, place) + text.len();
+        set_text(&mut self.nodes, place, text);
     }
 
     /// The first fault of putting a node below its parent, before the child that has the index.

@@ -1,10 +1,31 @@
 //! Edits and their faults.
 
+ghost use Rattle.std.specs.Prelude.{◌≡◌};
+ghost use Rattle.lay_doc.specs.Edits.{bad_fault};
+
+use crate::declaration::Decl;
 use crate::node::{NewNode, NodeId};
+use crate::property::Property;
+use lay_units::Text;
 
 /// A change of a document.
 #[derive(Drop, Debug)]
 pub enum Edit {
+    /// Declares a value of a property on a node, in place of an earlier one.
+    SetStyle {
+        node: NodeId,
+        decl: Decl,
+    },
+    /// Takes away what is declared for a property on a node. Where nothing is, it changes nothing.
+    ClearStyle {
+        node: NodeId,
+        property: Property,
+    },
+    /// Gives a text node another text.
+    SetText {
+        node: NodeId,
+        text: Text,
+    },
     /// Puts a node below its parent, before the child that had the index, or last where the index is
     /// the number of children.
     Insert {
@@ -12,6 +33,33 @@ pub enum Edit {
         index: u32,
         new: NewNode,
     },
+    /// Takes a node and its descendants away.
+    Remove { node: NodeId },
+    /// What an editor meant as `SetStyle` or `ClearStyle`, and that is neither. It is always refused.
+    Bad {
+        fault: BadDeclaration,
+    },
+}
+
+/// Why there is no such declaration.
+#[derive(Clone, Copy, Debug, PartialEq, Eq)]
+pub enum BadDeclaration {
+    /// There is no such property.
+    Property,
+    /// The value isn't one of the property's.
+    Value,
+}
+
+impl BadDeclaration {
+    /// The fault of an edit with it: E10 or E11.
+    pub fn edit_fault(self) -> EditFault
+        ensures { result ≡ bad_fault self }
+    {
+        match self {
+            BadDeclaration::Property => EditFault::BadProperty,
+            BadDeclaration::Value => EditFault::BadValue,
+        }
+    }
 }
 
 /// Why an edit is refused; a report says it as E1 to E11.
@@ -19,7 +67,8 @@ pub enum Edit {
 pub enum EditFault {
     /// E1: the named node, or the parent of an insertion, isn't there.
     NoNode,
-    /// E2: the parent of an insertion, the root, or the node whose style is set isn't an element.
+    /// E2: the parent of an insertion or the root isn't an element, or the node whose style is set or
+    /// cleared is a text.
     NotElement,
     /// E3: the node whose text is set isn't a text.
     NotText,

@@ -1,12 +1,12 @@
 //! The faults of putting a node below a parent that is there.
 
 ghost use Rattle.std.specs.Prelude.{◌≡◌, ◌<◌, ◌≤◌, length};
-ghost use Rattle.lay_doc.specs.Document.{ids_of};
+ghost use Rattle.lay_doc.specs.Document.{ids_of, is_too_long, text_size};
+ghost use Rattle.lay_doc.specs.Changes.{text_fault_at};
 ghost use Rattle.lay_doc.specs.Index.{IsIndexOf};
-ghost use Rattle.lay_doc.specs.Edits.{is_too_long};
 ghost use Rattle.lay_doc.specs.FaultParts.{parent_or_id_fault, limit_fault};
 
-use crate::columns::{depth_at, is_element_at};
+use crate::columns::{depth_at, is_element_at, is_text_at, text_bytes_at};
 use crate::edit::EditFault;
 use crate::index::IdIndex;
 use crate::node::Node;
@@ -57,6 +57,23 @@ pub fn limit_fault(nodes: &[Node], others: usize, parent: usize, bytes: usize) -
         return Some(EditFault::TooDeep);
     }
     if is_too_long(others, bytes) {
+        return Some(EditFault::TextTooLong);
+    }
+    None
+}
+
+/// The first fault of giving the node at a place a text of so many bytes: E3, E9. `all` are the bytes of all
+/// texts so far.
+pub fn text_fault_at(nodes: &[Node], all: usize, place: usize, bytes: usize) -> Option<EditFault>
+    requires place { place < length nodes.now }
+    requires all { all ≡ text_size nodes.now }
+    requires small { all ≤ 1048576 }
+    ensures { result ≡ text_fault_at nodes.now place bytes }
+{
+    if !is_text_at(nodes, place) {
+        return Some(EditFault::NotText);
+    }
+    if is_too_long(all - text_bytes_at(nodes, place), bytes) {
         return Some(EditFault::TextTooLong);
     }
     None

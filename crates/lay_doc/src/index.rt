@@ -1,11 +1,15 @@
 //! The places of a document's nodes, by their ids.
 
-ghost use Rattle.std.specs.Prelude.{◌≡◌, ◌==◌, ◌<◌, ◌≤◌, ◌++◌, ◌∷◌, ℕ, [], None, Some, length, map, slice_index, vec_capacity, if◌then◌else◌, OnOk, OnErr};
+ghost use Rattle.std.specs.Prelude.{◌≡◌, ◌==◌, ◌<◌, ◌≤◌, ◌+◌, ◌-◌, ◌++◌, ◌∷◌, ℕ, [], None, Some, length, map, slice_index, vec_capacity, if◌then◌else◌, IfOk, OnOk, OnErr};
 ghost use Rattle.std.specs.BTreeMap.{get};
 ghost use Rattle.std.specs.Ordering.{nat_cmp};
 ghost use Rattle.lay_doc.specs.Tree.{shifted};
-ghost use Rattle.lay_doc.specs.Index.{number_in, place_in, HasPlaces};
+ghost use Rattle.lay_doc.specs.Index.{number_in, place_in, HasPlaces, IsIndexOf};
+ghost use Rattle.lay_doc.specs.Document.{ids_of};
+ghost use Rattle.std.specs.List.{remove_range};
 
+use crate::columns::id_at;
+use crate::node::Node;
 use lay_units::NoMemory;
 use std::alloc::Global;
 use std::collections::BTreeMap;
@@ -28,6 +32,26 @@ impl IdIndex {
             numbers: BTreeMap::new(alloc),
             places: Vec::new(alloc),
         }
+    }
+
+    /// The index of these nodes but for those from the place `from` up to `to`.
+    pub fn without(
+        alloc: Global,
+        nodes: &[Node],
+        from: usize,
+        to: usize,
+    ) -> Result<IdIndex, NoMemory>
+        requires few { length nodes.now ≤ 16384 }
+        requires from { from ≤ to }
+        requires to { to ≤ length nodes.now }
+        requires apart { (j k : ℕ) → j < k → k < length nodes.now → slice_index (ids_of nodes.now) j ≡ slice_index (ids_of nodes.now) k → ⊥ }
+        ensures { IfOk result (λ index. IsIndexOf index (remove_range (ids_of nodes.now) from to)) }
+    {
+        let mut index = IdIndex::new(alloc);
+        for k in 0..nodes.len() - (to - from) {
+            index.add(kept_id(nodes, from, to, k), k)?;
+        }
+        Ok(index)
     }
 
     /// The place of the node with this id.
@@ -56,6 +80,20 @@ impl IdIndex {
             Ok(()) => Ok(()),
             Err(_) => unreachable!(),
         }
+    }
+}
+
+/// The id of the node at a place among those but for the ones from the place `from` up to `to`.
+fn kept_id(nodes: &[Node], from: usize, to: usize, k: usize) -> u32
+    requires from { from ≤ to }
+    requires to { to ≤ length nodes.now }
+    requires k { k + (to - from) < length nodes.now }
+    ensures { result ≡ slice_index (remove_range (ids_of nodes.now) from to) k }
+{
+    if k < from {
+        id_at(nodes, k)
+    } else {
+        id_at(nodes, k + (to - from))
     }
 }
 

@@ -7,7 +7,9 @@
 //! computed styles of a document's nodes are defined in `specs/ComputedStyle.antt` (CSS 2.2, chapter 6).
 #![tactic(auto)]
 
+mod changing;
 mod columns;
+mod command;
 mod declaration;
 mod doc;
 mod edit;
@@ -20,17 +22,19 @@ mod node;
 mod node_ref;
 mod placing;
 mod property;
+mod removal;
 mod style;
 #[cfg(test)]
 mod tests;
 mod values;
 mod words;
 
+pub use command::{Cmd, CmdList, Reply};
 pub use declaration::{Decl, Decls};
 pub use doc::{Doc, NewFault};
-pub use edit::{Edit, EditFault};
+pub use edit::{BadDeclaration, Edit, EditFault};
 pub use history::Entry;
-pub use laws::one_slot;
+pub use laws::{clears_one, has_subtree, one_slot, sets_one};
 pub use node::{Kind, NewNode, Node, NodeId};
 pub use node_ref::NodeRef;
 pub use property::{Given, OneLength, Property, Word};

@@ -2,7 +2,7 @@
 
 ghost use Rattle.std.specs.Prelude.{◌≡◌, ◌≤◌, [], ℤ, pos, ◌≤ℤ◌, IfOk};
 ghost use Rattle.lay_doc.specs.Document.{becomes};
-ghost use Rattle.lay_doc.specs.NewNodes.{is_element};
+ghost use Rattle.lay_doc.specs.NewNodes.{is_element, is_text};
 
 use crate::declaration::Decls;
 use lay_units::{NoMemory, Text, Unit};
@@ -30,6 +30,13 @@ impl Kind {
         ensures { result ≡ is_element self.now }
     {
         matches!(self, Kind::Element { .. })
+    }
+
+    /// Whether it is a text.
+    pub fn is_text(&self) -> bool
+        ensures { result ≡ is_text self.now }
+    {
+        matches!(self, Kind::Text)
     }
 }
 
@@ -163,4 +170,33 @@ pub struct Node {
     pub kind: Kind,
     pub decls: Decls,
     pub text: Text,
+}
+
+impl Node {
+    /// An equal node.
+    pub fn copy(&self, alloc: Global) -> Result<Node, NoMemory>
+        ensures { IfOk result (λ n. n ≡ self.now) }
+    {
+        let decls = self.decls.copy(alloc)?;
+        let text = self.text.copy(alloc)?;
+        Ok(Node {
+            id: self.id,
+            parent: self.parent,
+            depth: self.depth,
+            kind: self.kind,
+            decls,
+            text,
+        })
+    }
+}
+
+/// Equal nodes.
+pub(crate) fn copy_nodes(alloc: Global, nodes: &[Node]) -> Result<Vec<Node>, NoMemory>
+    ensures { IfOk result (λ v. v.items ≡ nodes.now) }
+{
+    let mut copies = Vec::new(alloc);
+    for node in nodes {
+        copies.push(node.copy(alloc)?)?;
+    }
+    Ok(copies)
 }

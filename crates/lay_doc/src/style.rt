@@ -1,8 +1,9 @@
 //! Computed styles.
 
-ghost use Rattle.std.specs.Prelude.{◌≡◌};
+ghost use Rattle.std.specs.Prelude.{◌≡◌, IfOk};
 
-use lay_units::Len;
+use lay_units::{Len, NoMemory};
+use std::alloc::Global;
 use std::marker::Model;
 
 /// The computed style of a node. Lengths are in 1/64 px.
@@ -42,5 +43,14 @@ impl Computed {
         ensures { result.now ≡ self.now }
     {
         self.styles.as_slice()
+    }
+
+    /// An equal list.
+    pub fn copy(&self, alloc: Global) -> Result<Computed, NoMemory>
+        ensures { IfOk result (λ c. c ≡ self.now) }
+    {
+        Ok(Computed {
+            styles: Vec::from_slice(alloc, self.styles.as_slice())?,
+        })
     }
 }

@@ -1,6 +1,9 @@
 //! What no clause says: that the calls succeed, on a tree whose places were worked out by hand.
 
-use crate::{Decl, Decls, Doc, Edit, EditFault, Given, NewNode, NodeId, Property};
+use crate::{
+    BadDeclaration, Cmd, CmdList, Computed, Decl, Decls, Doc, Edit, EditFault, Given, NewNode, NodeId,
+    Property, Style,
+};
 use lay_units::{NoMemory, Text, Unit};
 use std::alloc::Global;
 use std::test::Fail;
@@ -119,4 +122,23 @@ fn a_declaration_has_a_value_of_its_property(rt: HostRuntime) -> Result<(), Fail
     assert_eq!(rt; decls.len(), 3);
     assert_eq!(rt; decls.get(Property::Width), Some(Given::Inherit));
     Ok(())
+}
+
+fn set_width(alloc: Global, node: u32, value: Given) -> Option<Edit> {
+    let decl = Decl::new(Property::Width, value)?;
+    Some(Edit::SetStyle {
+        node: NodeId(node),
+        decl,
+    })
+}
+
+fn set_text(alloc: Global, node: u32, bytes: usize) -> Result<Edit, NoMemory> {
+    let mut text = String::new(alloc);
+    for _ in 0..bytes {
+        text.push_str("x")?;
+    }
+    Ok(Edit::SetText {
+        node: NodeId(node),
+        text: Text::new(text),
+    })
 }

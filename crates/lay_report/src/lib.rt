@@ -1,8 +1,10 @@
 //! The text of a report: the entries of a history, and the lines of a tree.
 //!
-//! The contracts cite `scratch_report` of `specs/Report.antt`.
+//! The contracts cite `entry_line` and `scratch_report` of `specs/Report.antt`.
 #![tactic(auto)]
 
+mod entry;
 mod report;
 
+pub use entry::push_entry;
 pub use report::scratch_report;

@@ -1,14 +1,13 @@
 //! The report of a run without editors.
 
-ghost use Rattle.std.specs.Prelude.{◌≡◌, ◌++◌, IfOk, OnOk, codes, string_bytes};
-ghost use Rattle.std.specs.Fmt.{decimal};
-ghost use Rattle.lay_report.specs.Report.{entry_line, final_text, scratch_report};
+ghost use Rattle.std.specs.Prelude.{◌≡◌, ◌++◌, IfOk, OnOk, string_bytes};
+ghost use Rattle.lay_report.specs.Report.{final_text, scratch_report};
 
+use crate::entry::{push_entry, push_version};
 use lay_doc::Entry;
 use lay_frag::{Tree, text_of};
 use lay_units::{NoMemory, Text};
 use std::alloc::Global;
-use std::fmt::Write;
 
 /// The report of a run without editors: version 0 is published, and its tree is the last one.
 pub fn scratch_report(alloc: Global, tree: &Tree) -> Result<Text, NoMemory>
@@ -20,28 +19,11 @@ pub fn scratch_report(alloc: Global, tree: &Tree) -> Result<Text, NoMemory>
     Ok(Text::new(text))
 }
 
-fn push_entry(text: &mut String, entry: &Entry) -> Result<(), NoMemory>
-    ensures { OnOk result (string_bytes text.new ≡ string_bytes text.old ++ entry_line entry.now) }
-{
-    match entry {
-        Entry::Publish { version } => push_version(text, "publish ", *version),
-    }
-}
-
 fn push_final(alloc: Global, text: &mut String, version: u64, tree: &Tree) -> Result<(), NoMemory>
     ensures { OnOk result (string_bytes text.new ≡ string_bytes text.old ++ final_text version tree.now) }
 {
     push_version(text, "final ", version)?;
     let lines = text_of(alloc, tree)?;
     text.push_str(lines.as_str())?;
-    Ok(())
-}
-
-fn push_version(text: &mut String, word: &str, version: u64) -> Result<(), NoMemory>
-    ensures { OnOk result (string_bytes text.new ≡ string_bytes text.old ++ word.now ++ decimal version ++ codes "\n") }
-{
-    text.push_str(word)?;
-    write!(text, "{version}")?;
-    text.push_str("\n")?;
     Ok(())
 }
