@@ -22,7 +22,7 @@ pub fn runs(alloc: Global, edges: &[Edge]) -> Result<RunList, NoMemory>
     Ok(RunList::new(runs))
 }
 
-/// Passes the edge at k, where the open run begins at `first`. Answers where the one that is open then begins.
+/// Passes the edge at k, where the open run begins at `first`, and answers where it begins after that.
 fn pass(edges: &[Edge], runs: &mut Vec<Run>, first: usize, k: usize) -> Result<usize, NoMemory>
     requires few { length edges.now < 2 ^ 32 }
     requires place { k < length edges.now }
