@@ -1,11 +1,11 @@
-//! What stands below one another in a block formatting context.
+//! Vertical margins of a block formatting context, and what may part them.
 
 ghost use Rattle.std.specs.Prelude.{◌≡◌};
 
 use lay_units::Unit;
 use std::marker::Model;
 
-/// What stands at a vertical edge of a block formatting context, in document order.
+/// An entry of a block formatting context that is read in document order for its vertical margins.
 #[derive(Clone, Copy, Debug, PartialEq, Eq)]
 pub enum Edge {
     /// A vertical margin.
