@@ -1,0 +1,3 @@
+pub mod FaceValue
+pub mod Faces
+pub mod Laws

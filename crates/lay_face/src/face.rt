@@ -1,0 +1,158 @@
+//! Faces.
+
+ghost use Rattle.std.specs.Prelude.{◌≡◌, ◌≤◌, pos, ◌*ℤ◌, All, IfOk};
+ghost use Rattle.lay_units.specs.Units.{IsPosition, IsUsed};
+ghost use Rattle.lay_face.specs.declared.pairs.AdvancePair.{AdvancePair as Pair};
+ghost use Rattle.lay_face.specs.Faces.{FitsAt, face_of, entry_of, thousandths_of};
+
+use crate::pairs::PairList;
+use crate::table::{table_entry, table_of};
+use lay_units::{NoMemory, Unit};
+use std::alloc::Global;
+use std::collections::BTreeMap;
+use std::marker::Model;
+
+/// A face: the advances of characters, and the measures of a line. Each number is in thousandths of the
+/// font size, and is at most 10,000.
+#[derive(Drop, Debug)]
+pub struct Face {
+    table: BTreeMap<u32, u32>,
+    default_advance: u32,
+    ascent: u32,
+    descent: u32,
+    x_height: u32,
+    normal_line_height: u32,
+}
+
+impl Model for Face {
+    ghost use Rattle.lay_face.specs.FaceValue.{FaceValue};
+    ghost use Rattle.lay_face.specs.Faces.{IsInRange};
+
+    ghost Value = { FaceValue };
+
+    ghost view = { λ f. record {
+      table = f.table.entries;
+      default_advance = f.default_advance;
+      ascent = f.ascent;
+      descent = f.descent;
+      x_height = f.x_height;
+      normal_line_height = f.normal_line_height;
+    } };
+
+    ghost invariant = { λ f. IsInRange (record {
+      table = f.table.entries;
+      default_advance = f.default_advance;
+      ascent = f.ascent;
+      descent = f.descent;
+      x_height = f.x_height;
+      normal_line_height = f.normal_line_height;
+    }) };
+}
+
+impl Face {
+    /// The face with these advances, of which a later one of a code point wins, with the advance of all
+    /// other code points, and with the measures of a line. Each number is at most 10,000.
+    pub fn new(
+        alloc: Global,
+        pairs: PairList,
+        default_advance: u32,
+        ascent: u32,
+        descent: u32,
+        x_height: u32,
+        normal_line_height: u32,
+    ) -> Result<Face, NoMemory>
+        requires pairs { All (λ (p : Pair). p.advance ≤ 10000) pairs }
+        requires default_advance { default_advance ≤ 10000 }
+        requires ascent { ascent ≤ 10000 }
+        requires descent { descent ≤ 10000 }
+        requires x_height { x_height ≤ 10000 }
+        requires normal_line_height { normal_line_height ≤ 10000 }
+        ensures { IfOk result (λ f. f ≡ face_of pairs default_advance ascent descent x_height normal_line_height) }
+    {
+        let table = table_of(alloc, pairs.as_slice())?;
+        Ok(Face {
+            table,
+            default_advance,
+            ascent,
+            descent,
+            x_height,
+            normal_line_height,
+        })
+    }
+
+    /// The advance of a character at this font size, rounded down. The size and the advance are below 2^62
+    /// units of 1/64 px in absolute value.
+    pub fn advance(&self, c: char, size: Unit) -> Unit
+        requires size { IsPosition size.0 }
+        requires advance { IsPosition (thousandths_of (entry_of self.now c) size.0) }
+        ensures { result.0 ≡ thousandths_of (entry_of self.now c) size.0 }
+    {
+        thousandths(self.entry(c), size)
+    }
+
+    /// The ascent at this font size, rounded down. The size and the ascent are below 2^62 units of 1/64 px
+    /// in absolute value.
+    pub fn ascent(&self, size: Unit) -> Unit
+        requires size { IsPosition size.0 }
+        requires ascent { IsPosition (thousandths_of self.now.ascent size.0) }
+        ensures { result.0 ≡ thousandths_of self.now.ascent size.0 }
+    {
+        thousandths(self.ascent, size)
+    }
+
+    /// The descent at this font size, rounded down, with the same conditions.
+    pub fn descent(&self, size: Unit) -> Unit
+        requires size { IsPosition size.0 }
+        requires descent { IsPosition (thousandths_of self.now.descent size.0) }
+        ensures { result.0 ≡ thousandths_of self.now.descent size.0 }
+    {
+        thousandths(self.descent, size)
+    }
+
+    /// The x-height at this font size, rounded down, with the same conditions.
+    pub fn x_height(&self, size: Unit) -> Unit
+        requires size { IsPosition size.0 }
+        requires x_height { IsPosition (thousandths_of self.now.x_height size.0) }
+        ensures { result.0 ≡ thousandths_of self.now.x_height size.0 }
+    {
+        thousandths(self.x_height, size)
+    }
+
+    /// What `line-height: normal` is at this font size, rounded down, with the same conditions.
+    pub fn normal_line_height(&self, size: Unit) -> Unit
+        requires size { IsPosition size.0 }
+        requires line_height { IsPosition (thousandths_of self.now.normal_line_height size.0) }
+        ensures { result.0 ≡ thousandths_of self.now.normal_line_height size.0 }
+    {
+        thousandths(self.normal_line_height, size)
+    }
+
+    /// The measures of a face at a used font size meet the conditions of the calls above, since its numbers
+    /// are at most 10,000. Does nothing.
+    pub fn fits_at(&self, size: Unit)
+        requires { IsUsed size.0 }
+        ensures { FitsAt self.now size.0 }
+    {
+        let _ = &self.table;
+    }
+
+    fn entry(&self, c: char) -> u32
+        ensures { result ≡ entry_of self.now c }
+    {
+        table_entry(&self.table, u32::from(c)).unwrap_or(self.default_advance)
+    }
+}
+
+fn thousandths(number: u32, size: Unit) -> Unit
+    requires size { IsPosition size.0 }
+    requires result { IsPosition (thousandths_of number size.0) }
+    ensures { result.0 ≡ thousandths_of number size.0 }
+{
+    Unit(product(number, size).div_euclid(1000) as i64)
+}
+
+fn product(number: u32, size: Unit) -> i128
+    ensures { result ≡ pos number *ℤ size.0 }
+{
+    i128::from(number) * i128::from(size.0)
+}

@@ -1,0 +1,17 @@
+//! Faces: what characters and lines measure in a font, in thousandths of the font size (CSS 2.2, 10.8
+//! and 16.4 leave the metrics of fonts to the user agent).
+//!
+//! Contracts cite `face_of`, `entry_of` and `thousandths_of` of `specs/Faces.antt`. That a later
+//! advance of a code point wins is a law about them (`specs/Laws.antt`).
+#![tactic(auto)]
+
+mod face;
+mod laws;
+mod pairs;
+mod table;
+#[cfg(test)]
+mod tests;
+
+pub use face::Face;
+pub use laws::last_pair_wins;
+pub use pairs::{AdvancePair, PairList};

@@ -1,0 +1,4 @@
+pub mod Margins
+pub mod Places
+pub mod RunSteps
+pub mod OneList
