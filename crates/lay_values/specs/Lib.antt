@@ -1,3 +1,5 @@
 pub mod Names
 pub mod Words
 pub mod Numbers
+pub mod Lengths
+pub mod Reading
