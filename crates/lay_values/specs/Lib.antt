@@ -3,3 +3,4 @@ pub mod Words
 pub mod Numbers
 pub mod Lengths
 pub mod Reading
+pub mod Laws

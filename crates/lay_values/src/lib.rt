@@ -6,11 +6,15 @@
 //! (`specs/Lengths.antt`). Which of them a property takes is `is_value_of` of lay_doc.
 #![tactic(auto)]
 
+mod laws;
 mod lengths;
 mod names;
 mod numbers;
 mod reading;
+#[cfg(test)]
+mod tests;
 mod words;
 
+pub use laws::{name_fault, one_measure, one_name, one_word};
 pub use names::property_of;
 pub use reading::{ValueFault, read};
