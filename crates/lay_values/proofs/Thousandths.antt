@@ -1,5 +1,5 @@
 -- A number in thousandths is within 10^12 of 0.
-use Rattle.std.proofs.Common.{◌≡◌, ℕ, ◌+◌, ◌*◌, ◌/◌, ◌^◌, ◌<◌, ◌≤◌, zero, suc, refl, arith, lit<, Bool, true, false, ℤ, pos, negsuc, neg_ℤ, ◌≤ℤ◌, w64, FitsSigned, to_z, of_z}
+use Rattle.std.proofs.Common.{◌≡◌, ℕ, ◌+◌, ◌*◌, ◌/◌, ◌^◌, ◌<◌, zero, suc, arith, lit<, Bool, true, false, ℤ, pos, neg_ℤ, ◌≤ℤ◌, w64, FitsSigned, to_z, of_z}
 use Rattle.std.specs.Int.{w128}
 use Rattle.std.proofs.Math.Nat.{one-le-pow, div-lt_iff_lt-mul}
 use Rattle.std.proofs.lemmas.Nat.{pow-add}

@@ -1,5 +1,5 @@
 -- What the definitions of this crate must meet.
-use Rattle.std.specs.Prelude.{ℕ, ◌≡◌, ◌++◌, List, map, Option, Some, None, ⊥, Err}
+use Rattle.std.specs.Prelude.{ℕ, ◌≡◌, ◌++◌, List, map, Some, Err}
 use Rattle.std.specs.Char.{to_ascii_lowercase}
 use Rattle.lay_doc.specs.declared.property.Property.{Property}
 use Rattle.lay_doc.specs.declared.property.Word.{Word}
