@@ -55,7 +55,13 @@ name_of EmptyCells = codes "empty-cells"
 
 unfoldable pub all_properties : List Property
 all_properties =
-    Display ∷ Position ∷ Float ∷ Clear ∷ Top ∷ Right ∷ Bottom ∷ Left ∷ ZIndex ∷ Width ∷ Height ∷ MinWidth ∷ MinHeight ∷ MaxWidth ∷ MaxHeight ∷ MarginTop ∷ MarginRight ∷ MarginBottom ∷ MarginLeft ∷ PaddingTop ∷ PaddingRight ∷ PaddingBottom ∷ PaddingLeft ∷ BorderTopWidth ∷ BorderRightWidth ∷ BorderBottomWidth ∷ BorderLeftWidth ∷ BorderTopStyle ∷ BorderRightStyle ∷ BorderBottomStyle ∷ BorderLeftStyle ∷ Overflow ∷ FontSize ∷ LineHeight ∷ TextIndent ∷ TextAlign ∷ WhiteSpace ∷ LetterSpacing ∷ WordSpacing ∷ VerticalAlign ∷ TableLayout ∷ BorderCollapse ∷ BorderSpacing ∷ CaptionSide ∷ Visibility ∷ EmptyCells ∷ []
+    Display ∷ Position ∷ Float ∷ Clear ∷ Top ∷ Right ∷ Bottom ∷ Left ∷ ZIndex ∷ Width ∷ Height ∷
+    MinWidth ∷ MinHeight ∷ MaxWidth ∷ MaxHeight ∷ MarginTop ∷ MarginRight ∷ MarginBottom ∷
+    MarginLeft ∷ PaddingTop ∷ PaddingRight ∷ PaddingBottom ∷ PaddingLeft ∷ BorderTopWidth ∷
+    BorderRightWidth ∷ BorderBottomWidth ∷ BorderLeftWidth ∷ BorderTopStyle ∷ BorderRightStyle ∷
+    BorderBottomStyle ∷ BorderLeftStyle ∷ Overflow ∷ FontSize ∷ LineHeight ∷ TextIndent ∷
+    TextAlign ∷ WhiteSpace ∷ LetterSpacing ∷ WordSpacing ∷ VerticalAlign ∷ TableLayout ∷
+    BorderCollapse ∷ BorderSpacing ∷ CaptionSide ∷ Visibility ∷ EmptyCells ∷ []
 
 -- the property that has this name
 abbrev pub property_of : List ℕ → Option Property

@@ -75,7 +75,17 @@ word_name word.Hide = codes "hide"
 
 unfoldable pub all_words : List Word
 all_words =
-    word.Inline ∷ word.Block ∷ word.ListItem ∷ word.InlineBlock ∷ word.Table ∷ word.InlineTable ∷ word.TableRowGroup ∷ word.TableHeaderGroup ∷ word.TableFooterGroup ∷ word.TableRow ∷ word.TableColumnGroup ∷ word.TableColumn ∷ word.TableCell ∷ word.TableCaption ∷ word.None ∷ word.Static ∷ word.Relative ∷ word.Absolute ∷ word.Fixed ∷ word.Left ∷ word.Right ∷ word.Both ∷ word.Auto ∷ word.Thin ∷ word.Medium ∷ word.Thick ∷ word.Hidden ∷ word.Dotted ∷ word.Dashed ∷ word.Solid ∷ word.Double ∷ word.Groove ∷ word.Ridge ∷ word.Inset ∷ word.Outset ∷ word.Visible ∷ word.Scroll ∷ word.XxSmall ∷ word.XSmall ∷ word.Small ∷ word.Large ∷ word.XLarge ∷ word.XxLarge ∷ word.Larger ∷ word.Smaller ∷ word.Normal ∷ word.Center ∷ word.Justify ∷ word.Pre ∷ word.Nowrap ∷ word.PreWrap ∷ word.PreLine ∷ word.Baseline ∷ word.Sub ∷ word.Super ∷ word.Top ∷ word.TextTop ∷ word.Middle ∷ word.Bottom ∷ word.TextBottom ∷ word.Separate ∷ word.Collapse ∷ word.Show ∷ word.Hide ∷ []
+    word.Inline ∷ word.Block ∷ word.ListItem ∷ word.InlineBlock ∷ word.Table ∷ word.InlineTable ∷
+    word.TableRowGroup ∷ word.TableHeaderGroup ∷ word.TableFooterGroup ∷ word.TableRow ∷
+    word.TableColumnGroup ∷ word.TableColumn ∷ word.TableCell ∷ word.TableCaption ∷ word.None ∷
+    word.Static ∷ word.Relative ∷ word.Absolute ∷ word.Fixed ∷ word.Left ∷ word.Right ∷ word.Both ∷
+    word.Auto ∷ word.Thin ∷ word.Medium ∷ word.Thick ∷ word.Hidden ∷ word.Dotted ∷ word.Dashed ∷
+    word.Solid ∷ word.Double ∷ word.Groove ∷ word.Ridge ∷ word.Inset ∷ word.Outset ∷ word.Visible ∷
+    word.Scroll ∷ word.XxSmall ∷ word.XSmall ∷ word.Small ∷ word.Large ∷ word.XLarge ∷
+    word.XxLarge ∷ word.Larger ∷ word.Smaller ∷ word.Normal ∷ word.Center ∷ word.Justify ∷
+    word.Pre ∷ word.Nowrap ∷ word.PreWrap ∷ word.PreLine ∷ word.Baseline ∷ word.Sub ∷ word.Super ∷
+    word.Top ∷ word.TextTop ∷ word.Middle ∷ word.Bottom ∷ word.TextBottom ∷ word.Separate ∷
+    word.Collapse ∷ word.Show ∷ word.Hide ∷ []
 
 -- the keyword that a text spells
 abbrev pub word_of : List ℕ → Option Word
