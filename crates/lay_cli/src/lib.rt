@@ -11,5 +11,7 @@ mod call;
 mod input;
 mod output;
 mod plain;
+#[cfg(test)]
+mod tests;
 
 pub use call::{Status, top};

@@ -28,12 +28,7 @@ fn push_entry(text: &mut String, entry: &Entry) -> Result<(), NoMemory>
     }
 }
 
-fn push_final(
-    alloc: Global,
-    text: &mut String,
-    version: u64,
-    tree: &Tree,
-) -> Result<(), NoMemory>
+fn push_final(alloc: Global, text: &mut String, version: u64, tree: &Tree) -> Result<(), NoMemory>
     ensures { OnOk result (string_bytes text.new ≡ string_bytes text.old ++ final_text version tree.now) }
 {
     push_version(text, "final ", version)?;
