@@ -1,0 +1,157 @@
+//! The text of a property's value.
+
+ghost use Rattle.std.specs.Prelude.{◌≡◌};
+ghost use Rattle.lay_doc.specs.declared.property.Property.TheVariants.{BorderSpacing};
+ghost use Rattle.lay_values.specs.Numbers.{leading, behind};
+ghost use Rattle.lay_values.specs.Reading.{without_front, trimmed, is_of_number, measure_of, one_length_of, spacing_of, spacings_of, is_of_word, numeric_of, begins_with_letter, value_of, declared_value, read_declaration};
+
+use crate::lengths::{suffix_of, value_with};
+use crate::names::property_of;
+use crate::numbers::number_of;
+use crate::words::keyword_of;
+use lay_doc::{Decl, Given, OneLength, Property};
+use std::alloc::Global;
+
+/// Why a name and a text give no declaration.
+#[derive(Clone, Copy, Debug, PartialEq, Eq)]
+pub enum ValueFault {
+    /// No property has the name.
+    BadProperty,
+    /// The property has the name, and the text is none of its values.
+    BadValue,
+    NoMemory,
+}
+
+fn without_front(text: &[u8]) -> &[u8]
+    ensures { result.now ≡ without_front text.now }
+{
+    text.trim_ascii_start()
+}
+
+/// A text without the white space at both its ends.
+fn trimmed(text: &[u8]) -> &[u8]
+    ensures { result.now ≡ trimmed text.now }
+{
+    without_front(text).trim_ascii_end()
+}
+
+fn is_of_number(byte: u8) -> bool
+    ensures { result ≡ is_of_number byte }
+{
+    byte.is_ascii_digit() || byte == b'+' || byte == b'-' || byte == b'.'
+}
+
+/// The digits, signs and points that a text begins with, and what stands behind them.
+fn split_number(text: &[u8]) -> (&[u8], &[u8])
+    ensures number { result.0.now ≡ leading is_of_number text.now }
+    ensures suffix { result.1.now ≡ behind is_of_number text.now }
+{
+    for (i, b) in text.iter().enumerate() {
+        if !is_of_number(*b) {
+            return text.split_at(i);
+        }
+    }
+    text.split_at(text.len())
+}
+
+/// What a text begins with before its first white space, and the rest.
+fn split_word(text: &[u8]) -> (&[u8], &[u8])
+    ensures word { result.0.now ≡ leading is_of_word text.now }
+    ensures rest { result.1.now ≡ behind is_of_word text.now }
+{
+    for (i, b) in text.iter().enumerate() {
+        if b.is_ascii_whitespace() {
+            return text.split_at(i);
+        }
+    }
+    text.split_at(text.len())
+}
+
+/// A number, and then a unit, `%` or nothing.
+fn measure_of(property: Property, text: &[u8]) -> Option<Given>
+    ensures { result ≡ measure_of property text.now }
+{
+    let (number, suffix) = split_number(text);
+    let number = number_of(number)?;
+    value_with(property, number, suffix_of(suffix)?)
+}
+
+fn one_length_of(value: Given) -> Option<OneLength>
+    ensures { result ≡ one_length_of value }
+{
+    match value {
+        Given::Length(length) => Some(OneLength::Length(length)),
+        Given::Em(em) => Some(OneLength::Em(em)),
+        _ => None,
+    }
+}
+
+/// One of two lengths of `border-spacing`.
+fn spacing_of(text: &[u8]) -> Option<OneLength>
+    ensures { result ≡ spacing_of text.now }
+{
+    one_length_of(measure_of(Property::BorderSpacing, text)?)
+}
+
+/// One length of `border-spacing`, or two of them (CSS 2.2, 17.6.1).
+fn spacings_of(first: &[u8], second: &[u8]) -> Option<Given>
+    ensures { result ≡ spacings_of first.now second.now }
+{
+    if second.is_empty() {
+        return measure_of(Property::BorderSpacing, first);
+    }
+    Some(Given::Pair(spacing_of(first)?, spacing_of(second)?))
+}
+
+fn numeric_of(property: Property, text: &[u8]) -> Option<Given>
+    ensures { result ≡ numeric_of property text.now }
+{
+    match property {
+        Property::BorderSpacing => {
+            let (first, rest) = split_word(text);
+            spacings_of(first, without_front(rest))
+        }
+        _ => measure_of(property, text),
+    }
+}
+
+fn begins_with_letter(text: &[u8]) -> bool
+    ensures { result ≡ begins_with_letter text.now }
+{
+    match text {
+        [] => false,
+        [first, ..] => first.is_ascii_alphabetic(),
+    }
+}
+
+/// The value that a text is, for a property.
+fn value_of(property: Property, text: &[u8]) -> Option<Given>
+    ensures { result ≡ value_of property text.now }
+{
+    if begins_with_letter(text) {
+        keyword_of(text)
+    } else {
+        numeric_of(property, text)
+    }
+}
+
+fn declared_value(property: Property, text: &[u8]) -> Option<Decl>
+    ensures { result ≡ declared_value property text.now }
+{
+    Decl::new(property, value_of(property, trimmed(text))?)
+}
+
+/// The declaration that a property's name and the text of a value give (CSS 2.2, 4.1.8): `BadProperty`
+/// where no property has the name, and else `BadValue` where the text is none of the property's values.
+/// Nothing is allocated, so memory can't run out.
+pub fn read(_alloc: Global, property: &str, text: &str) -> Result<Decl, ValueFault>
+    ensures { result ≡ read_declaration property.now text.now }
+{
+    let Some(property) = property_of(property) else {
+        return Err(ValueFault::BadProperty);
+    };
+    match declared_value(property, text.as_bytes()) {
+        Some(decl) => Ok(decl),
+        None => Err(ValueFault::BadValue),
+    }
+}
