@@ -1,0 +1,10 @@
+pub mod Beside
+pub mod ClearEdge
+pub mod Fits
+pub mod FloatPlace
+pub mod Laws
+pub mod Mirror
+pub mod Room
+pub mod SolidPlace
+pub mod Standing
+pub mod Within
