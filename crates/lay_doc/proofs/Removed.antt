@@ -182,13 +182,13 @@ cut_kept nodes p e cuts k lt =
     let len = length-parents nodes in
     let count = length-cut nodes p e le (omega (arith, cuts.slot.within)) in
     rw (map-cut (λ (n : Node). n.parent) nodes p e, cut_read (parents_of nodes) p e k 0 le cuts.slot.within)
-      (parent_outside (parents_of nodes) cuts.tree p e cuts.not_root cuts.slot (old_place p e k) (old_inside p e k (length (parents_of nodes)) (omega arith)) (old_outside p e k le))
+    (parent_outside (parents_of nodes) cuts.tree p e cuts.not_root cuts.slot (old_place p e k) (old_inside p e k (length (parents_of nodes)) (omega arith)) (old_outside p e k le))
 
 pub cut_before : (nodes : List Node) (p e : ℕ) → CutsSubtree (parents_of nodes) p e → (k : ℕ) → k < p → get_or (parents_of (remove_range nodes p e)) k 0 < p
 cut_before nodes p e cuts k low =
     let le : p ≤ e = omega (arith, cuts.slot.after) in
     rw (map-cut (λ (n : Node). n.parent) nodes p e, cut_read (parents_of nodes) p e k 0 le cuts.slot.within, old_low p e k low)
-      (elim (cases_lt 0 k) [
-        | inl some ↦ (let b = cuts.tree.before k some (omega (arith, cuts.has)) in omega arith)
-        | inr none ↦ (let z : k ≡ 0 = omega arith in let r : get_or (parents_of nodes) k 0 ≡ 0 = ap (λ (m : ℕ). get_or (parents_of nodes) m 0) z ∙ cuts.tree.root in omega (arith, cuts.not_root))
-      ])
+    (elim (cases_lt 0 k) [
+      | inl some ↦ (let b = cuts.tree.before k some (omega (arith, cuts.has)) in omega arith)
+      | inr none ↦ (let z : k ≡ 0 = omega arith in let r : get_or (parents_of nodes) k 0 ≡ 0 = ap (λ (m : ℕ). get_or (parents_of nodes) m 0) z ∙ cuts.tree.root in omega (arith, cuts.not_root))
+    ])

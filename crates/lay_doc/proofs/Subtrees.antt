@@ -69,11 +69,13 @@ under_within : (parents : List ℕ) → IsTree parents → (p e : ℕ) → IsSlo
 under_within parents tree p e slot _ lt itself = (omega arith, slot.after)
 under_within parents tree p e slot _ lt (child k positive up) =
     let b = tree.before k positive lt in
-    let rest = under_within parents tree p e slot (get_or parents k 0) (omega arith) up in
-    (omega (arith, rest.0), elim (cases_lt k e) [
-      | inl low ↦ low
-      | inr high ↦ (let h = parent_behind parents tree p e slot k high lt rest.0 in absurd (omega (arith, rest.1)))
-    ])
+    let rest = under_within parents tree p e slot (get_or parents k 0) (omega arith) up in (
+      omega (arith, rest.0),
+      elim (cases_lt k e) [
+        | inl low ↦ low
+        | inr high ↦ (let h = parent_behind parents tree p e slot k high lt rest.0 in absurd (omega (arith, rest.1)))
+      ],
+    )
 
 within_under : (parents : List ℕ) → IsTree parents → (p e : ℕ) → IsSlot parents p (child_count parents p) e → (n k : ℕ) → k < n → p ≤ k → k < e → IsUnder parents p k
 within_under parents tree p e slot zero k fuel from to = absurd (omega arith)

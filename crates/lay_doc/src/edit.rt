@@ -34,7 +34,9 @@ pub enum Edit {
         new: NewNode,
     },
     /// Takes a node and its descendants away.
-    Remove { node: NodeId },
+    Remove {
+        node: NodeId,
+    },
     /// What an editor meant as `SetStyle` or `ClearStyle`, and that is neither. It is always refused.
     Bad {
         fault: BadDeclaration,

@@ -15,7 +15,9 @@ pub enum Entry {
         reply: Reply,
     },
     /// A version is published.
-    Publish { version: u64 },
+    Publish {
+        version: u64,
+    },
     /// The last published version was asked for; the reply is Shown or NoMemory.
     Latest {
         editor: u32,

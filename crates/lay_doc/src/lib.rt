@@ -2,7 +2,8 @@
 //!
 //! A document is a viewport and a tree of nodes (`specs/Document.antt`). An edit has a first fault or
 //! none, and a document after it (`specs/Edits.antt`). Nodes are found by their ids in an index, and
-//! put at slots, of which each index among a node's children has just one (`specs/Tree.antt`). A
+//! put at slots, of which each index among a node's children has just one (`specs/Tree.antt`). Editors'
+//! commands, the replies to them and the entries of a history are types that other crates speak of. A
 //! declaration keeps in its type that its value is one of its property's (`specs/Values.antt`); the
 //! computed styles of a document's nodes are defined in `specs/ComputedStyle.antt` (CSS 2.2, chapter 6).
 #![tactic(auto)]

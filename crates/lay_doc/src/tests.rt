@@ -1,9 +1,6 @@
 //! What no clause says: that the calls succeed, on a tree whose places were worked out by hand.
 
-use crate::{
-    BadDeclaration, Cmd, CmdList, Computed, Decl, Decls, Doc, Edit, EditFault, Given, NewNode, NodeId,
-    Property, Style,
-};
+use crate::{Cmd, CmdList, Decl, Decls, Doc, Edit, EditFault, Given, NewNode, NodeId, Property};
 use lay_units::{NoMemory, Text, Unit};
 use std::alloc::Global;
 use std::test::Fail;
@@ -124,21 +121,90 @@ fn a_declaration_has_a_value_of_its_property(rt: HostRuntime) -> Result<(), Fail
     Ok(())
 }
 
-fn set_width(alloc: Global, node: u32, value: Given) -> Option<Edit> {
-    let decl = Decl::new(Property::Width, value)?;
-    Some(Edit::SetStyle {
+fn set_style(node: u32, decl: Decl) -> Edit {
+    Edit::SetStyle {
         node: NodeId(node),
         decl,
+    }
+}
+
+fn set_text(alloc: Global, node: u32) -> Result<Edit, NoMemory> {
+    let text = Text::new(String::from_str(alloc, "word")?);
+    Ok(Edit::SetText {
+        node: NodeId(node),
+        text,
     })
 }
 
-fn set_text(alloc: Global, node: u32, bytes: usize) -> Result<Edit, NoMemory> {
-    let mut text = String::new(alloc);
-    for _ in 0..bytes {
-        text.push_str("x")?;
+fn remove(node: u32) -> Edit {
+    Edit::Remove { node: NodeId(node) }
+}
+
+/// Gives a document of the element 1 the children 2, which is a text, 3 and 5, and 3 the child 4.
+fn add_family(alloc: Global, doc: &mut Doc) -> Result<(), NoMemory> {
+    let text = Text::new(String::from_str(alloc, "words")?);
+    pushed(doc, 1, NewNode::text(alloc, NodeId(2), text))?;
+    for (parent, id) in [(1, 3), (3, 4), (1, 5)] {
+        pushed(doc, parent, element(alloc, id))?;
     }
-    Ok(Edit::SetText {
-        node: NodeId(node),
-        text: Text::new(text),
-    })
+    Ok(())
+}
+
+#[test]
+fn edits_have_their_first_fault(rt: HostRuntime) -> Result<(), Fail> {
+    let alloc = rt.alloc();
+    let mut doc = document(alloc).expect(&rt, "a document");
+    add_family(alloc, &mut doc)?;
+    let width = Decl::new(Property::Width, Given::Length(Unit(64))).expect(&rt, "a width");
+    let none = Some(EditFault::NoNode);
+    // of setting a style, of setting a text, of removing
+    let cases = [
+        (9, none, none, none),
+        (
+            1,
+            None,
+            Some(EditFault::NotText),
+            Some(EditFault::RootFixed),
+        ),
+        (2, Some(EditFault::NotElement), None, None),
+        (3, None, Some(EditFault::NotText), None),
+    ];
+    for (node, style, text, removal) in cases {
+        assert_eq!(rt;
+            doc.check(&set_style(node, width)).err(),
+            style,
+            "at {node}"
+        );
+        assert_eq!(rt; doc.check(&set_text(alloc, node)?).err(), text, "at {node}");
+        assert_eq!(rt; doc.check(&remove(node)).err(), removal, "at {node}");
+    }
+    Ok(())
+}
+
+#[test]
+fn edits_change_what_they_name(rt: HostRuntime) -> Result<(), Fail> {
+    let alloc = rt.alloc();
+    let mut doc = document(alloc).expect(&rt, "a document");
+    add_family(alloc, &mut doc)?;
+    let width = Decl::new(Property::Width, Given::Length(Unit(64))).expect(&rt, "a width");
+    assert_eq!(rt; applied(alloc, &mut doc, &set_style(3, width))?, None);
+    assert_eq!(rt; applied(alloc, &mut doc, &set_text(alloc, 2)?)?, None);
+    let before = doc.copy(alloc)?;
+    assert_eq!(rt; applied(alloc, &mut doc, &remove(3))?, None);
+    assert_eq!(rt; shape(alloc, &before)?.as_str(), " 1<0 2<1 3<1 4<3 5<1");
+    assert_eq!(rt; shape(alloc, &doc)?.as_str(), " 1<0 2<1 5<1");
+    assert_eq!(rt; doc.find(NodeId(4)), None);
+    assert_eq!(rt; doc.find(NodeId(5)), Some(2));
+    Ok(())
+}
+
+#[test]
+fn commands_stand_in_order(rt: HostRuntime) -> Result<(), Fail> {
+    let alloc = rt.alloc();
+    let mut commands = CmdList::new(alloc);
+    commands.push(Cmd::Edit(remove(2)))?;
+    commands.push(Cmd::Sync)?;
+    assert_eq!(rt; commands.len(), 2);
+    assert!(rt; matches!(commands.as_slice()[1], Cmd::Sync));
+    Ok(())
 }
