@@ -18,7 +18,7 @@ use lay_units::Unit;
 
 /// The first place that the rules allow, as seen from the side.
 //
-// The top goes down from the least that rules 4 to 6 allow. Where the float doesn't fit, it can't fit
+// The top goes down from the highest that rules 4 to 6 allow. Where the float doesn't fit, it can't fit
 // higher than at the next bottom of a float beside it.
 pub fn first_place(floats: &[Placed], side: Side, request: &FloatReq) -> Place
     requires floats { AllFit floats.now }
@@ -57,7 +57,7 @@ fn outermost_at(floats: &[Placed], side: Side, request: &FloatReq, top: Unit) ->
     }
 }
 
-// The least top that rules 4 to 6 and clearance allow.
+// The highest top that rules 4 to 6 and clearance allow.
 fn highest_top(floats: &[Placed], side: Side, request: &FloatReq) -> Unit
     requires floats { AllFit floats.now }
     requires request { RequestFits request.now }
