@@ -1,11 +1,11 @@
-use Rattle.std.proofs.Common.{◌≡◌, ℕ, ◌+◌, ◌*◌, ◌^◌, ◌<◌, ℤ, pos, ◌+ℤ◌, ◌≤ℤ◌, All, List, [], ◌∷◌, ◌++◌, subst, sym, arith}
+use Rattle.std.proofs.Common.{◌≡◌, ℕ, ◌+◌, ◌*◌, ◌^◌, ◌<◌, ℤ, pos, ◌+ℤ◌, All, List, [], ◌∷◌, ◌++◌, subst, arith}
 use Rattle.std.proofs.lemmas.Int.{ints}
 use Rattle.std.proofs.lemmas.List.Elements.{All-push, All-same, All-weaker}
 use Rattle.lay_floats.specs.declared.placed.Placed.{Placed}
 use Rattle.lay_floats.specs.declared.requests.FloatReq.{FloatReq}
 use Rattle.lay_floats.specs.Fits.{BoxFits}
 use Rattle.lay_floats.specs.FloatPlace.{IsFloatPlace, placed_at}
-use Rattle.lay_floats.specs.Within.{IsWithin, BoxWithin, RequestWithin, PlaceWithin}
+use Rattle.lay_floats.specs.Within.{BoxWithin, RequestWithin, PlaceWithin}
 use Rattle.lay_floats.proofs.tests.Page.put.Goals as goal
 
 abbrev reach : ℕ → ℤ
