@@ -1,17 +1,15 @@
 -- A document stays one when the declarations or the text of a node change.
 use Rattle.std.specs.Prelude.{sum_by}
-use Rattle.std.proofs.Common.{set, ◌≡◌, ℕ, zero, suc, ◌+◌, ◌-◌, ◌<◌, ◌≤◌, List, [], ◌∷◌, length, get_or, refl, sym, ap, ◌∙◌, arith, Bool, true, false, inl, inr, map, subst, Option, Some, None, cond, not}
+use Rattle.std.proofs.Common.{set, ◌≡◌, ℕ, zero, suc, ◌+◌, ◌-◌, ◌<◌, ◌≤◌, List, [], ◌∷◌, length, get_or, refl, sym, ap, ◌∙◌, arith, Bool, true, false, inl, inr, map, subst, None}
 use Rattle.std.proofs.lemmas.Bool.{cases_lt, lt-ltb, le-ltb}
 use Rattle.std.proofs.lemmas.List.Sums.{sum_by-cons}
 use Rattle.lay_doc.specs.declared.node.Node.{Node}
-use Rattle.lay_doc.specs.declared.edit.EditFault.{EditFault}
-use Rattle.lay_doc.specs.declared.edit.EditFault.TheVariants.{NotText, TextTooLong}
 use Rattle.lay_doc.specs.declared.index.IdIndex.{IdIndex}
 use Rattle.lay_doc.specs.NewNodes.{is_element}
-use Rattle.lay_doc.specs.Document.{Document, IsDocument, parents_of, ids_of, depths_of, text_lengths_of, text_size, is_element_at, is_text_at, is_too_long}
+use Rattle.lay_doc.specs.Document.{Document, IsDocument, parents_of, ids_of, depths_of, text_lengths_of, text_size, is_element_at, is_text_at}
 use Rattle.lay_doc.specs.Changes.{changed_at, with_text, text_fault_at}
-use Rattle.lay_doc.specs.Index.{IsKept, IsIndexOf}
-use Rattle.lay_doc.proofs.NodeColumns.{length-ids, length-texts, elements_of, element_column, text_within}
+use Rattle.lay_doc.specs.Index.{IsKept}
+use Rattle.lay_doc.proofs.NodeColumns.{element_column, text_within}
 
 pub changed_is : (nodes : List Node) (k : ℕ) (n : Node) (f : Node → Node) → k < length nodes → n ≡ get_or nodes k n → set nodes k (f n) ≡ changed_at k f nodes
 changed_is [] k n f lt is = absurd (omega arith)

@@ -1,5 +1,5 @@
 -- Declarations without that of a property, and what is declared after one was set or taken away.
-use Rattle.std.proofs.Common.{◌≡◌, ℕ, zero, suc, ◌+◌, ◌<◌, ◌≤◌, List, [], ◌∷◌, ◌++◌, length, get_or, refl, sym, ap, ◌∙◌, arith, Option, Some, None, inl, inr, subst, take, drop, map}
+use Rattle.std.proofs.Common.{◌≡◌, ℕ, suc, ◌+◌, ◌<◌, List, [], ◌∷◌, length, get_or, refl, sym, ap, ◌∙◌, arith, Option, Some, None, inl, inr, subst, take, drop}
 use Rattle.std.specs.List.{remove}
 use Rattle.std.proofs.lemmas.Bool.{cases_eq, cases_lt, eq-eqb, ne_eqb}
 use Rattle.std.proofs.lemmas.List.{map-append, take-map, drop-map}
@@ -7,7 +7,7 @@ use Rattle.std.proofs.lemmas.List.Edits.{length-remove, get_or-remove_below, get
 use Rattle.lay_doc.specs.Values.{Declaration}
 use Rattle.lay_doc.specs.PropertyNumbers.{number_of}
 use Rattle.lay_doc.specs.declared.property.Property.{Property}
-use Rattle.lay_doc.specs.Declarations.{properties_of, declared_value, with_declaration, without_declaration, AreDistinct, SetsOne, ClearsOne}
+use Rattle.lay_doc.specs.Declarations.{properties_of, declared_value, without_declaration, AreDistinct, SetsOne, ClearsOne}
 use Rattle.lay_doc.specs.Document.{place_of}
 use Rattle.lay_doc.proofs.Places.{map_none, map_some, place_here, place_later, place_fresh}
 use Rattle.lay_doc.proofs.Declared.{declared_none, length-properties}

@@ -1,5 +1,5 @@
 -- The columns of a list of nodes after a subtree was taken out of it, and the document that it then is.
-use Rattle.std.proofs.Common.{set, ◌≡◌, ℕ, zero, suc, ◌+◌, ◌-◌, ◌<◌, ◌≤◌, List, [], ◌∷◌, ◌++◌, length, get_or, refl, sym, ap, ◌∙◌, arith, Bool, true, false, inl, inr, take, drop, map, subst}
+use Rattle.std.proofs.Common.{◌≡◌, ℕ, zero, suc, ◌+◌, ◌-◌, ◌<◌, ◌≤◌, List, [], ◌∷◌, length, get_or, refl, sym, ap, ◌∙◌, arith, false, inl, inr, take, drop, map, subst}
 use Rattle.std.specs.Prelude.{sum}
 use Rattle.std.specs.List.{remove_range}
 use Rattle.std.proofs.lemmas.Bool.{cases_lt, lt-ltb, le-ltb}
@@ -8,7 +8,7 @@ use Rattle.std.proofs.lemmas.List.Sums.{sum-map, sum_by-append, sum_by-drop_more
 use Rattle.lay_doc.specs.declared.node.Node.{Node}
 use Rattle.lay_doc.specs.NewNodes.{is_element}
 use Rattle.lay_doc.specs.Tree.{IsTree, IsSlot, child_count}
-use Rattle.lay_doc.specs.Document.{Document, IsDocument, parents_of, ids_of, depths_of, text_lengths_of, text_size, is_element_at}
+use Rattle.lay_doc.specs.Document.{Document, IsDocument, parents_of, ids_of, depths_of, text_lengths_of, text_size}
 use Rattle.lay_doc.specs.Removal.{closed_up, moved_back, removed_between}
 use Rattle.lay_doc.proofs.NodeColumns.{length-column, length-parents, length-ids, length-depths, length-texts, length-elements, elements_of, element_column}
 use Rattle.lay_doc.proofs.Inserted.{map-map}

@@ -1,5 +1,5 @@
 -- A node and its descendants stand together up to the node's end, behind which no parent is among them.
-use Rattle.std.proofs.Common.{◌≡◌, ℕ, zero, suc, ◌+◌, ◌-◌, ◌<◌, ◌≤◌, List, length, get_or, refl, sym, ap, ◌∙◌, arith, inl, inr, subst}
+use Rattle.std.proofs.Common.{◌≡◌, ℕ, zero, suc, ◌+◌, ◌-◌, ◌<◌, ◌≤◌, List, length, get_or, ap, ◌∙◌, arith, inl, inr, subst}
 use Rattle.std.proofs.lemmas.Bool.{cases_lt}
 use Rattle.lay_doc.specs.Tree.{IsTree, IsSlot, child_count, children_before, end_of, IsUnder, itself, child, HasSubtree}
 use Rattle.lay_doc.proofs.Slots.{children_yes, children_grow, end_slot, slot_is}

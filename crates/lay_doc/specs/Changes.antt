@@ -1,5 +1,5 @@
 -- A change of one node, of its declarations or its text: its first fault, and the document after it.
-use Rattle.std.specs.Prelude.{ℕ, zero, suc, ◌-◌, not, List, [], ◌∷◌, length, slice_index, Option, Some, None, if◌then◌else◌}
+use Rattle.std.specs.Prelude.{ℕ, zero, suc, ◌-◌, not, List, [], ◌∷◌, slice_index, Option, Some, None, if◌then◌else◌}
 use Rattle.lay_doc.specs.declared.node.Node.{Node}
 use Rattle.lay_doc.specs.declared.property.Property.{Property}
 use Rattle.lay_doc.specs.declared.edit.EditFault.{EditFault}

@@ -1,10 +1,9 @@
 -- The computed style of a node (CSS 2.2, 6.1.2): of each property the declared value, or else the initial
 -- one. So far of plain blocks, whose declared sizes and margins are lengths or `auto`.
-use Rattle.std.specs.Prelude.{ℕ, pos, List, map, Option, Some, None}
+use Rattle.std.specs.Prelude.{pos, List, map, Option, Some, None}
 use Rattle.lay_units.specs.Units.{clamp_of, clamp_size_of}
 use Rattle.lay_units.specs.declared.records.Len.{Len}
 use Rattle.lay_units.specs.declared.records.Len.TheVariants.{Auto as auto, Of as of}
-use Rattle.lay_doc.specs.declared.property.Property.{Property}
 use Rattle.lay_doc.specs.declared.property.Property.TheVariants.{Width, Height, MarginLeft, MarginRight}
 use Rattle.lay_doc.specs.declared.property.Given.{Given}
 use Rattle.lay_doc.specs.declared.property.Given.TheVariants.{Length}

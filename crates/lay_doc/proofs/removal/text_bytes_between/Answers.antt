@@ -1,5 +1,4 @@
-use Rattle.std.proofs.Common.{◌≡◌, ◌+◌, ◌<◌, arith, length, get_or}
-use Rattle.lay_doc.specs.Document.{text_size, text_lengths_of}
+use Rattle.std.proofs.Common.{arith}
 use Rattle.lay_doc.proofs.Removed.{text_size_cut}
 use Rattle.lay_doc.proofs.removal.text_bytes_between.Goals as goal
 

@@ -1,8 +1,8 @@
-use Rattle.std.proofs.Common.{◌≡◌, ℕ, ◌+◌, ◌-◌, List, arith, ap, sym, ◌∙◌, length}
+use Rattle.std.proofs.Common.{◌≡◌, ℕ, ◌+◌, List, arith, ap, ◌∙◌}
 use Rattle.std.specs.List.{remove_range}
 use Rattle.lay_doc.specs.declared.node.Node.{Node}
 use Rattle.lay_doc.specs.Tree.{child_count, end_of}
-use Rattle.lay_doc.specs.Document.{Document, parents_of, ids_of, text_size}
+use Rattle.lay_doc.specs.Document.{Document, parents_of, text_size}
 use Rattle.lay_doc.specs.Removal.{removed, removed_between}
 use Rattle.lay_doc.proofs.NodeColumns.{length-parents}
 use Rattle.lay_doc.proofs.Slots.{slot_is}

@@ -1,4 +1,4 @@
-use Rattle.std.proofs.Common.{◌≡◌, ℕ, ◌+◌, ◌-◌, ◌≤◌, arith, length, get_or, ap, ◌∙◌}
+use Rattle.std.proofs.Common.{◌≡◌, arith, length, get_or}
 use Rattle.lay_doc.specs.Document.{Document, text_lengths_of}
 use Rattle.lay_doc.proofs.NodeColumns.{text_within}
 use Rattle.lay_doc.proofs.Changed.{text_kept, fits_at}

@@ -1,4 +1,4 @@
-use Rattle.std.proofs.Common.{◌≡◌, ℕ, ◌+◌, ◌-◌, ◌<◌, ◌≤◌, List, arith, length, get_or, take, sym, ap, ◌∙◌}
+use Rattle.std.proofs.Common.{◌≡◌, ℕ, ◌<◌, ◌≤◌, List, arith, length, get_or, take, sym}
 use Rattle.std.specs.List.{remove_range}
 use Rattle.std.proofs.lemmas.List.{length-take-le}
 use Rattle.lay_doc.specs.Document.{ids_of}

@@ -1,4 +1,4 @@
-use Rattle.std.proofs.Common.{◌≡◌, take}
+use Rattle.std.proofs.Common.{take}
 use Rattle.std.specs.List.{remove_range}
 use Rattle.lay_doc.specs.Document.{ids_of}
 use Rattle.lay_doc.specs.Index.{IsIndexOf}
