@@ -1,6 +1,5 @@
 -- Bytes aren't both a plain run and refused, so without faults each has the answer of its kind.
-use Rattle.std.proofs.Common.{◌≡◌, ◌⊎◌, ℕ, ◌<◌, ◌≤◌, List, length, refl, sym, ap, ◌∙◌, arith, inl, inr, Option, Some, None, IfSome}
-use Rattle.serde_json.specs.Data.{Data}
+use Rattle.std.proofs.Common.{◌≡◌, ◌⊎◌, ℕ, ◌≤◌, List, length, refl, sym, ap, ◌∙◌, arith, inl, inr, Option, Some, None, IfSome}
 use Rattle.lay_doc.specs.Document.{Document}
 use Rattle.lay_cli.specs.PlainRun.{run_of}
 use Rattle.lay_cli.specs.Answers.{Spells, IsReport, IsRefusal, too_long, bad_json, not_plain}

@@ -1,7 +1,7 @@
 -- Lengths in units of 1/64 px and percentages in hundredths of a percent (CSS 2.2, 4.3.2 and 4.3.3).
 -- A quotient is rounded toward minus infinity. A used length is held within 2^31 units of 0, and one
 -- that can't be negative, from 0 to 2^31.
-use Rattle.std.specs.Prelude.{ℕ, ◌≡◌, ◌^◌, ◌<◌, ℤ, pos, negsuc, neg_ℤ, ◌+ℤ◌, ◌*ℤ◌, ◌≤ℤ◌, ◌<ℤ◌}
+use Rattle.std.specs.Prelude.{ℕ, ◌^◌, ℤ, pos, neg_ℤ, ◌+ℤ◌, ◌*ℤ◌, ◌≤ℤ◌, ◌<ℤ◌}
 use Rattle.std.specs.Int.{int_min, int_max, int_div_euclid}
 
 -- the greatest absolute value of a used length

@@ -1,4 +1,4 @@
-use Rattle.std.proofs.Common.{◌≡◌, List, ℕ, codes, refl, Err, ap}
+use Rattle.std.proofs.Common.{List, ℕ, codes, refl, Err, ap}
 use Rattle.lay_outside.specs.Outside.{Took}
 use Rattle.lay_cli.specs.Answers.{IsRefusal, IsAnswer, TookFront, bad_json, not_plain, refused}
 use Rattle.lay_cli.proofs.Streams.{all_gives}
