@@ -53,8 +53,9 @@ fn documents_are_laid_out(rt: HostRuntime) -> Result<(), Fail> {
         ),
     ] {
         let run = changed(rt.alloc(), from, to)?;
-        let mut source = SafeSource::new(run.as_bytes().to_vec(rt.alloc())?);
-        let mut sink = FixedSink::new(rt.alloc(), 1000)?;
+        let bytes = run.as_bytes().to_vec(rt.alloc())?;
+        let mut source = MemSource::new(bytes, 7, Vec::new(rt.alloc()));
+        let mut sink = MemSink::new(rt.alloc(), 1000, 10, Vec::new(rt.alloc()))?;
         let status = top(&rt, rt.alloc(), &words, &mut source, &mut sink, &OpenGate);
         let mut want = String::from_str(
             rt.alloc(),
