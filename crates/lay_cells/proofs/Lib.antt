@@ -1,0 +1,4 @@
+pub mod Empty
+pub mod Finds
+pub mod Lists
+pub mod Wires

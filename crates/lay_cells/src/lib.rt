@@ -1,0 +1,16 @@
+//! Cells: what is kept of work that may have to be done again.
+#![tactic(auto)]
+
+mod answers;
+mod cell;
+mod cells;
+mod done;
+mod index;
+mod needs;
+mod reading;
+mod work;
+
+pub use answers::{Claimed, Finished, Look, Released};
+pub use cells::Cells;
+pub use done::Done;
+pub use work::Work;
