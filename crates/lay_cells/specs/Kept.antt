@@ -1,6 +1,6 @@
 -- What stands beside the rows: an index from the keys to the places, for each dependency its place, and
 -- the place of the first dirty cell. No public contract names them.
-use Rattle.std.specs.Prelude.{◌≡◌, ◌<◌, ℕ, Bool, true, false, List, map, slice_get, Some}
+use Rattle.std.specs.Prelude.{◌≡◌, ◌<◌, ℕ, Bool, true, false, List, map, slice_get, slice_set, Some}
 use Rattle.std.specs.BTreeMap.{BTreeMap, get}
 use Rattle.std.specs.declared.cmp.Ordering.{Ordering}
 use Rattle.lay_cells.specs.Shapes.{IsIn}
@@ -40,3 +40,9 @@ module _ {K I V : Type 0} where
     pub sound : IsSound relates record { rows = map row_of cells; draws = draws }
     pub wired : IsWired cmp index (map wire_of cells)
     pub first_dirty : IsLowest (map row_of cells) lowest
+
+  -- the row at a place became another, as P says, and what stands beside the rows is as it was
+  abbrev pub ChangesAt : List (Cell K I (Solved K I V)) → List (Cell K I (Solved K I V)) → ℕ → (Row K I V → Row K I V → Type 0) → Type 0
+  ChangesAt old new place P =
+      (r q : Row K I V) × (slice_get (map row_of old) place ≡ Some r) × P r q
+      × (map row_of new ≡ slice_set (map row_of old) place q) × (map wire_of new ≡ map wire_of old)

@@ -33,7 +33,7 @@ module _ {K I V : Type 0} where
     pub opened : (n : ℕ) → IsOpen r n → n ≡ r.last
     pub first : r.first ≤ r.last
     pub last : r.last ≤ draws
-    pub laid : r.laid ≤ draws
+    pub laid : r.laid < draws
     pub turns : r.turns ≤ draws
     pub counted : IsCounted r
 

@@ -1,15 +1,18 @@
 //! The cells.
 
-ghost use Rattle.std.specs.Prelude.{◌≡◌, [], IfSome, IfNone};
+ghost use Rattle.std.specs.Prelude.{◌≡◌, ◌≤◌, ◌-◌, ◌^◌, [], IfSome, IfNone};
 ghost use Rattle.std.specs.Arc.{arc_value};
 ghost use Rattle.lay_cells.specs.Looks.{IsGone, Looks};
 ghost use Rattle.lay_cells.specs.Reads.{AllClean, IsFirstDirtyKey, IsLaid, IsPaid, KeepsNone, KeepsValue};
 ghost use Rattle.lay_cells.specs.Sound.{IsSound};
+ghost use Rattle.lay_cells.specs.Steps.{ClaimsIn, FinishesIn, GivesBackIn};
 
-use crate::answers::Look;
+use crate::answers::{Claimed, Finished, Look, Released};
 use crate::cell::Cell;
+use crate::change::{claim_at, drawn, finish_at, give_back_at};
 use crate::done::Done;
-use crate::needs::first_dirty_key;
+use crate::index::find;
+use crate::needs::{first_dirty_key, next_dirty};
 use crate::reading::{laid_in, look_in, value_in};
 use crate::work::Work;
 use std::alloc::Global;
@@ -58,6 +61,49 @@ impl<W: Work> Cells<W> {
         ensures { Looks self.now.rows key result }
     {
         look_in::<W>(self.cells.as_slice(), &self.index, key)
+    }
+
+    /// A claim of the key for an input. Taken where the open claim has this input, which is then no longer
+    /// stale. Else Reused where the kept pair has it: the cell is clean, and no claim is open. Else
+    /// Granted: the claim of the new number is the open one. Reused and Granted draw the next number.
+    pub fn claim(&mut self, key: W::Key, input: Arc<W::Input>) -> Claimed
+        requires draws { self.old.draws ≤ 2 ^ 64 - 2 ^ 20 }
+        requires ready { Looks self.old.rows key Look.Ready }
+        ensures { ClaimsIn self.old key (arc_value input) result self.new }
+    {
+        let Some(place) = find::<W>(self.cells.as_slice(), &self.index, key) else {
+            unreachable!()
+        };
+        let answer = claim_at::<W>(&mut self.cells, place, input, self.draws + 1);
+        self.draws = drawn(answer, self.draws);
+        self.lowest = next_dirty::<W>(self.cells.as_slice(), self.lowest);
+        answer
+    }
+
+    /// Finished work. Gone where no cell has its key, or the cell was made after its number. Else
+    /// Superseded where the open claim has another number or input. Else the pair is kept and the claim
+    /// closed: Stored where the claim is stale, and the cell stays dirty; Cleaned where it isn't.
+    pub fn finish(&mut self, done: Done<W>) -> Finished
+        ensures { FinishesIn self.old done result self.new }
+    {
+        let Some(place) = find::<W>(self.cells.as_slice(), &self.index, done.key()) else {
+            return Finished::Gone;
+        };
+        let answer = finish_at::<W>(&mut self.cells, place, done);
+        self.lowest = next_dirty::<W>(self.cells.as_slice(), self.lowest);
+        answer
+    }
+
+    /// A claim that comes back without a value. Gone where no cell has the key, or the cell was made
+    /// after the number. Else Superseded where the open claim has another number. Else the claim is
+    /// closed, and counted as one that came back.
+    pub fn give_back(&mut self, key: W::Key, number: u64) -> Released
+        ensures { GivesBackIn self.old key number result self.new }
+    {
+        match find::<W>(self.cells.as_slice(), &self.index, key) {
+            Some(place) => give_back_at::<W>(&mut self.cells, place, number),
+            None => Released::Gone,
+        }
     }
 
     /// The value of the kept pair, which meets its input. None where no cell has the key, or where the

@@ -4,6 +4,7 @@
 mod answers;
 mod cell;
 mod cells;
+mod change;
 mod done;
 mod index;
 mod needs;
