@@ -4,4 +4,7 @@ pub mod Empty
 pub mod Finds
 pub mod Keeps
 pub mod Lists
+pub mod Marked
+pub mod Reaching
+pub mod Spreading
 pub mod Wires

@@ -65,3 +65,10 @@ in_bounds f xs i y at = let h = map_got f xs i y at in slice_get_within xs i h.0
 pub if_none : {X : Type 0} (o : Option X) (P Q : Type 0) → IfNone o P → (P → Q) → IfNone o Q
 if_none None P Q h f = f h
 if_none (Some x) P Q h f = tt
+
+pub set_after : {X : Type 0} (xs : List X) (i j : ℕ) (x : X) → i < j → slice_get (slice_set xs i x) j ≡ slice_get xs j
+set_after [] i j x lt = refl
+set_after (a ∷ rest) zero zero x lt = absurd (omega (arith, lt))
+set_after (a ∷ rest) zero (suc j) x lt = refl
+set_after (a ∷ rest) (suc i) zero x lt = absurd (omega (arith, lt))
+set_after (a ∷ rest) (suc i) (suc j) x lt = set_after rest i j x (omega (arith, lt))

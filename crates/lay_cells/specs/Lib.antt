@@ -1,7 +1,9 @@
 pub mod Kept
 pub mod Looks
+pub mod Marks
 pub mod Reads
 pub mod Rows
 pub mod Shapes
 pub mod Sound
+pub mod Spreads
 pub mod Steps

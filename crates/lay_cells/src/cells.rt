@@ -3,6 +3,7 @@
 ghost use Rattle.std.specs.Prelude.{◌≡◌, ◌≤◌, ◌-◌, ◌^◌, [], IfSome, IfNone};
 ghost use Rattle.std.specs.Arc.{arc_value};
 ghost use Rattle.lay_cells.specs.Looks.{IsGone, Looks};
+ghost use Rattle.lay_cells.specs.Marks.{Marks};
 ghost use Rattle.lay_cells.specs.Reads.{AllClean, IsFirstDirtyKey, IsLaid, IsPaid, KeepsNone, KeepsValue};
 ghost use Rattle.lay_cells.specs.Sound.{IsSound};
 ghost use Rattle.lay_cells.specs.Steps.{ClaimsIn, FinishesIn, GivesBackIn};
@@ -12,6 +13,7 @@ use crate::cell::Cell;
 use crate::change::{claim_at, drawn, finish_at, give_back_at};
 use crate::done::Done;
 use crate::index::find;
+use crate::marking::{mark_dependents, mark_listed};
 use crate::needs::{first_dirty_key, next_dirty};
 use crate::reading::{laid_in, look_in, value_in};
 use crate::work::Work;
@@ -54,6 +56,17 @@ impl<W: Work> Cells<W> {
             lowest: 0,
             draws: 0,
         }
+    }
+
+    /// Marks the cells of these keys that are there, and each cell that depends on one of them in any
+    /// number of steps: it is dirty, and its open claim is stale. Each other cell stays as it was.
+    pub fn mark(&mut self, keys: &[W::Key])
+        ensures rows { Marks self.old.rows keys.now self.new.rows }
+        ensures draws { self.new.draws ≡ self.old.draws }
+    {
+        mark_listed::<W>(&mut self.cells, &self.index, keys);
+        mark_dependents::<W>(&mut self.cells);
+        self.lowest = next_dirty::<W>(self.cells.as_slice(), 0);
     }
 
     /// What a look at the key shows.

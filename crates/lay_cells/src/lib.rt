@@ -7,6 +7,7 @@ mod cells;
 mod change;
 mod done;
 mod index;
+mod marking;
 mod needs;
 mod reading;
 mod work;
