@@ -6,5 +6,6 @@ pub mod Keeps
 pub mod Lists
 pub mod Marked
 pub mod Reaching
+pub mod Shaping
 pub mod Spreading
 pub mod Wires

@@ -1,7 +1,9 @@
 pub mod Kept
 pub mod Looks
 pub mod Marks
+pub mod Plans
 pub mod Reads
+pub mod Reshapes
 pub mod Rows
 pub mod Shapes
 pub mod Sound

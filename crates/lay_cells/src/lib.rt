@@ -10,9 +10,11 @@ mod index;
 mod marking;
 mod needs;
 mod reading;
+mod shape;
 mod work;
 
 pub use answers::{Claimed, Finished, Look, Released};
 pub use cells::Cells;
 pub use done::Done;
+pub use shape::Shape;
 pub use work::Work;
