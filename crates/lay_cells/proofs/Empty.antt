@@ -6,10 +6,10 @@ use Rattle.std.specs.Map.{lookup}
 use Rattle.std.specs.BTreeMap.{is_at}
 use Rattle.lay_cells.specs.Kept.{IsKept, IsWired, wire_of}
 
-module _ {K I V : Type 0} (relates : I → V → Type 0) (cmp : K → K → Ordering) (index : BTreeMap K ℕ) (empty : index.entries ≡ []) where
-  nothing : (key : K) (place : ℕ) → get cmp index key ≡ Some place → ⊥
-  nothing key place is = let e : None ≡ Some place = ap (lookup (is_at (cmp key))) (sym empty) ∙ is in grind (rules, e)
+pub nothing : {K : Type 0} (cmp : K → K → Ordering) (index : BTreeMap K ℕ) → index.entries ≡ [] → (key : K) (place : ℕ) → get cmp index key ≡ Some place → ⊥
+nothing cmp index empty key place is = let e : None ≡ Some place = ap (lookup (is_at (cmp key))) (sym empty) ∙ is in grind (rules, e)
 
+module _ {K I V : Type 0} (relates : I → V → Type 0) (cmp : K → K → Ordering) (index : BTreeMap K ℕ) (empty : index.entries ≡ []) where
   pub kept_none : IsKept {K = K} {I = I} {V = V} relates cmp [] index 0 0
   kept_none = record {
     sound = record {
@@ -22,7 +22,7 @@ module _ {K I V : Type 0} (relates : I → V → Type 0) (cmp : K → K → Orde
       };
     };
     wired = record {
-      found = λ key place is. absurd (nothing key place is);
+      found = λ key place is. absurd (nothing cmp index empty key place is);
       there = λ w place at. absurd (grind (rules, at));
       places = λ w has. absurd (grind (rules, has.1));
     };

@@ -1,8 +1,10 @@
 pub mod Answered
+pub mod Unnumbered
 pub mod Changes
 pub mod Empty
 pub mod Finds
 pub mod Keeps
+pub mod Keys
 pub mod Lists
 pub mod Marked
 pub mod Reaching

@@ -2,10 +2,12 @@
 #![tactic(auto)]
 
 mod answers;
+mod blanks;
 mod cell;
 mod cells;
 mod change;
 mod done;
+mod fresh;
 mod index;
 mod marking;
 mod needs;

@@ -1,7 +1,8 @@
 //! Shapes.
 
 ghost use Rattle.std.specs.Prelude.{◌≡◌, ◌≢◌, ◌<◌, ◌^◌, ◌++◌, ◌∷◌, [], length, map, OnOk, OnErr};
-ghost use Rattle.lay_cells.specs.Shapes.{Entry, IsEachOnce, IsIn};
+ghost use Rattle.lay_cells.specs.Plans.{planned};
+ghost use Rattle.lay_cells.specs.Shapes.{Entry, IsEachOnce, IsIn, IsShape};
 
 use lay_units::NoMemory;
 use std::alloc::Global;
@@ -61,6 +62,14 @@ impl<K: Copy + Ord> Shape<K> {
         self.plans.push(Planned { key, needs })?;
         self.keys.push_reserved(key);
         Ok(())
+    }
+
+    /// The keys with their dependencies, in order, without a copy.
+    pub(crate) fn into_plans(self) -> Vec<Planned<K>>
+        ensures plans { map planned result.items ≡ self }
+        ensures shaped { IsShape self }
+    {
+        self.plans
     }
 
     /// The keys, in order.
