@@ -1,5 +1,5 @@
 -- From the index to the rows.
-use Rattle.std.proofs.Common.{◌≡◌, ◌∙◌, ℕ, ap, sym, Option, Some, None, IfSome, IfNone, slice_get, map, List, rules, ◌<◌, length}
+use Rattle.std.proofs.Common.{◌≡◌, ◌∙◌, ℕ, ap, sym, Option, Some, None, IfSome, IfNone, slice_get, map, List, rules, ◌<◌, length, Bool, false}
 use Rattle.std.specs.BTreeMap.{BTreeMap, get}
 use Rattle.std.specs.declared.cmp.Ordering.{Ordering}
 use Rattle.lay_cells.specs.Rows.{Row, Solved, row_of}
@@ -31,3 +31,9 @@ module _ {K I V : Type 0} where
       let e : None ≡ Some at.0 = is ∙ ap (get cmp index) (sym k) ∙ g in
       grind (rules, e)
   gone_row cmp index cells wired key (Some i) is = tt
+
+  pub found_fresh : (fresh : Bool) (cells : List (Cell K I (Solved K I V))) (key : K) → fresh ≡ false → (o : Option ℕ)
+      → IfSome o (λ i. (r : Row K I V) × IsAt (map row_of cells) key i r) → IfSome o (λ i. i < length cells)
+      → IfSome o (λ i. (r : Row K I V) × (fresh ≡ false) × IsAt (map row_of cells) key i r × (i < length cells))
+  found_fresh fresh cells key no_more None found within = tt
+  found_fresh fresh cells key no_more (Some i) found within = (found.0, no_more, found.1, within)

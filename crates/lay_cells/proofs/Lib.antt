@@ -1,4 +1,5 @@
 pub mod Answered
+pub mod TakenOver
 pub mod Unnumbered
 pub mod Changes
 pub mod Empty

@@ -5,6 +5,7 @@ pub mod Plans
 pub mod Reads
 pub mod Reshapes
 pub mod Rows
+pub mod Settling
 pub mod Shapes
 pub mod Sound
 pub mod Spreads

@@ -12,6 +12,7 @@ mod index;
 mod marking;
 mod needs;
 mod reading;
+mod reshaping;
 mod shape;
 mod work;
 
