@@ -31,9 +31,21 @@ module _ {K I V : Type 0} where
   entries_of_wires [] = refl
   entries_of_wires (c ∷ cs) = ap (λ es. record { key = c.key; needs = c.needs.items } ∷ es) (entries_of_wires cs)
 
+  pub same_entries : (cells new : List (Cell K I (Solved K I V))) → map wire_of new ≡ map wire_of cells → map entry_of (map row_of new) ≡ map entry_of (map row_of cells)
+  same_entries cells new same = entries_of_wires new ∙ ap (map (λ (w : Wire K). record { key = w.key; needs = w.needs })) same ∙ sym (entries_of_wires cells)
+
   pub shaped_wires : (cells new : List (Cell K I (Solved K I V))) → map wire_of new ≡ map wire_of cells → IsShape (map entry_of (map row_of cells)) → IsShape (map entry_of (map row_of new))
-  shaped_wires cells new same s =
-      subst IsShape (entries_of_wires cells ∙ ap (map (λ (w : Wire K). record { key = w.key; needs = w.needs })) (sym same) ∙ sym (entries_of_wires new)) s
+  shaped_wires cells new same s = subst IsShape (sym (same_entries cells new same)) s
+
+  pub lengths : (cells new : List (Cell K I (Solved K I V))) (n : ℕ) → map wire_of new ≡ map wire_of cells → length cells ≤ n → (length (map row_of new) ≤ n) × (length (map entry_of (map row_of cells)) ≤ n)
+  lengths cells new n same le =
+      let a : length (map wire_of new) ≡ length new = length-map new wire_of in
+      let b : length (map wire_of cells) ≡ length cells = length-map cells wire_of in
+      let c : length (map row_of new) ≡ length new = length-map new row_of in
+      let d : length (map row_of cells) ≡ length cells = length-map cells row_of in
+      let e : length (map entry_of (map row_of cells)) ≡ length (map row_of cells) = length-map (map row_of cells) entry_of in
+      let f : length (map wire_of new) ≡ length (map wire_of cells) = ap length same in
+      (omega (arith, a, b, c, f, le), omega (arith, d, e, le))
 
   -- the cell of a key is marked
   pub marks_key : (cells new : List (Cell K I (Solved K I V))) → IsShape (map entry_of (map row_of cells)) → (key : K) (place : ℕ) (z : Row K I V) → slice_get (map row_of cells) place ≡ Some z → z.key ≡ key
