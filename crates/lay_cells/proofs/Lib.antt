@@ -9,6 +9,7 @@ pub mod Keys
 pub mod Lists
 pub mod Marked
 pub mod Reaching
+pub mod Rebuilt
 pub mod Settled
 pub mod Shaping
 pub mod Spreading

@@ -1,22 +1,28 @@
 //! The cells.
 
-ghost use Rattle.std.specs.Prelude.{◌≡◌, ◌≤◌, ◌-◌, ◌^◌, [], IfSome, IfNone};
+ghost use Rattle.std.specs.Prelude.{◌≡◌, ◌≤◌, ◌-◌, ◌^◌, [], IfSome, IfNone, OnOk, OnErr};
 ghost use Rattle.std.specs.Arc.{arc_value};
 ghost use Rattle.lay_cells.specs.Looks.{IsGone, Looks};
 ghost use Rattle.lay_cells.specs.Marks.{Marks};
 ghost use Rattle.lay_cells.specs.Reads.{AllClean, IsFirstDirtyKey, IsLaid, IsPaid, KeepsNone, KeepsValue};
+ghost use Rattle.lay_cells.specs.Reshapes.{Reshapes};
 ghost use Rattle.lay_cells.specs.Sound.{IsSound};
 ghost use Rattle.lay_cells.specs.Steps.{ClaimsIn, FinishesIn, GivesBackIn};
 
 use crate::answers::{Claimed, Finished, Look, Released};
+use crate::blanks::blank_cells;
 use crate::cell::Cell;
 use crate::change::{claim_at, drawn, finish_at, give_back_at};
 use crate::done::Done;
-use crate::index::find;
+use crate::fresh::key_set;
+use crate::index::{find, index_of};
 use crate::marking::{mark_dependents, mark_listed};
 use crate::needs::{first_dirty_key, next_dirty};
 use crate::reading::{laid_in, look_in, value_in};
+use crate::reshaping::settle_all;
+use crate::shape::Shape;
 use crate::work::Work;
+use lay_units::NoMemory;
 use std::alloc::Global;
 use std::collections::BTreeMap;
 use std::marker::Model;
@@ -56,6 +62,26 @@ impl<W: Work> Cells<W> {
             lowest: 0,
             draws: 0,
         }
+    }
+
+    /// Afterwards the cells are those of the shape, in its order. A cell that was there, and whose key is
+    /// not in `fresh`, keeps its pair, its claim and its counts; it is marked where its dependencies are
+    /// others than before, and where one of them is dirty. Each other cell is made anew, with the next
+    /// number: it has nothing, and is dirty. On an error all is as before.
+    pub fn reshape(&mut self, shape: Shape<W::Key>, fresh: &[W::Key]) -> Result<(), NoMemory>
+        requires draws { self.old.draws ≤ 2 ^ 64 - 2 ^ 20 }
+        ensures ok { OnOk result (Reshapes self.old shape fresh.now self.new) }
+        ensures err { OnErr result (self.new ≡ self.old) }
+    {
+        let alloc = *self.cells.allocator();
+        let fresh = key_set::<W>(alloc, fresh)?;
+        let index = index_of::<W>(alloc, shape.keys())?;
+        let mut cells = blank_cells::<W>(alloc, &index, shape.into_plans())?;
+        self.draws = settle_all::<W>(&mut cells, &mut self.cells, &self.index, &fresh, self.draws);
+        self.lowest = next_dirty::<W>(cells.as_slice(), 0);
+        self.cells = cells;
+        self.index = index;
+        Ok(())
     }
 
     /// Marks the cells of these keys that are there, and each cell that depends on one of them in any
