@@ -1,0 +1,16 @@
+pub mod Answered
+pub mod TakenOver
+pub mod Unnumbered
+pub mod Changes
+pub mod Empty
+pub mod Finds
+pub mod Keeps
+pub mod Keys
+pub mod Lists
+pub mod Marked
+pub mod Reaching
+pub mod Rebuilt
+pub mod Settled
+pub mod Shaping
+pub mod Spreading
+pub mod Wires

@@ -1,0 +1,12 @@
+pub mod Kept
+pub mod Looks
+pub mod Marks
+pub mod Plans
+pub mod Reads
+pub mod Reshapes
+pub mod Rows
+pub mod Settling
+pub mod Shapes
+pub mod Sound
+pub mod Spreads
+pub mod Steps

@@ -1,0 +1,28 @@
+//! The data of one cell.
+
+use std::sync::Arc;
+
+/// A claim that is open, of the input that was handed in last.
+#[derive(Clone, Copy, Debug)]
+pub struct Open {
+    pub number: u64,
+    /// The cell was marked after the claim.
+    pub stale: bool,
+}
+
+/// A cell: its key, the keys that it depends on with their places among the cells, and what is kept of it.
+#[derive(Drop)]
+pub struct Cell<K, I, D> {
+    pub key: K,
+    pub needs: Vec<K>,
+    pub places: Vec<usize>,
+    pub dirty: bool,
+    pub kept: Option<D>,
+    pub claim: Option<Open>,
+    pub given: Option<Arc<I>>,
+    pub first: u64,
+    pub last: u64,
+    pub laid: u64,
+    pub turns: u64,
+    pub backs: u64,
+}

@@ -1,0 +1,188 @@
+//! The cells.
+
+ghost use Rattle.std.specs.Prelude.{◌≡◌, ◌≤◌, ◌-◌, ◌^◌, [], IfSome, IfNone, OnOk, OnErr};
+ghost use Rattle.std.specs.Arc.{arc_value};
+ghost use Rattle.lay_cells.specs.Looks.{IsGone, Looks};
+ghost use Rattle.lay_cells.specs.Marks.{Marks};
+ghost use Rattle.lay_cells.specs.Reads.{AllClean, IsFirstDirtyKey, IsLaid, IsPaid, KeepsNone, KeepsValue};
+ghost use Rattle.lay_cells.specs.Reshapes.{Reshapes};
+ghost use Rattle.lay_cells.specs.Sound.{IsSound};
+ghost use Rattle.lay_cells.specs.Steps.{ClaimsIn, FinishesIn, GivesBackIn};
+
+use crate::answers::{Claimed, Finished, Look, Released};
+use crate::blanks::blank_cells;
+use crate::cell::Cell;
+use crate::change::{claim_at, drawn, finish_at, give_back_at};
+use crate::done::Done;
+use crate::fresh::key_set;
+use crate::index::{find, index_of};
+use crate::marking::{mark_dependents, mark_listed};
+use crate::needs::{first_dirty_key, next_dirty};
+use crate::reading::{laid_in, look_in, value_in};
+use crate::reshaping::settle_all;
+use crate::shape::Shape;
+use crate::work::Work;
+use lay_units::NoMemory;
+use std::alloc::Global;
+use std::collections::BTreeMap;
+use std::marker::Model;
+use std::sync::Arc;
+
+/// Cells in the order of their shape, with what is kept of each. Contracts see them as a list of rows
+/// and the count of the numbers that were drawn.
+#[derive(Drop)]
+pub struct Cells<W: Work> {
+    cells: Vec<Cell<W::Key, W::Input, Done<W>>>,
+    index: BTreeMap<W::Key, usize>,
+    /// The place of the first dirty cell, or the number of cells.
+    lowest: usize,
+    draws: u64,
+}
+
+impl<W: Work> Model for Cells<W> {
+    ghost use Rattle.std.specs.Prelude.{map};
+    ghost use Rattle.lay_cells.specs.Rows.{State, row_of};
+    ghost use Rattle.lay_cells.specs.Kept.{IsKept};
+
+    ghost Value = { State W.Key W.Input W.Value };
+
+    ghost view = { λ c. record { rows = map row_of c.cells.items; draws = c.draws } };
+
+    ghost invariant = { λ c. IsKept W.relates W.Key.cmp c.cells.items c.index c.lowest c.draws };
+}
+
+impl<W: Work> Cells<W> {
+    /// No cells, and no number is drawn.
+    pub fn new(alloc: Global) -> Cells<W>
+        ensures { result ≡ record { rows = []; draws = 0 } }
+    {
+        Cells {
+            cells: Vec::new(alloc),
+            index: BTreeMap::new(alloc),
+            lowest: 0,
+            draws: 0,
+        }
+    }
+
+    /// Afterwards the cells are those of the shape, in its order. A cell that was there, and whose key is
+    /// not in `fresh`, keeps its pair, its claim and its counts; it is marked where its dependencies are
+    /// others than before, and where one of them is dirty. Each other cell is made anew, with the next
+    /// number: it has nothing, and is dirty. On an error all is as before.
+    pub fn reshape(&mut self, shape: Shape<W::Key>, fresh: &[W::Key]) -> Result<(), NoMemory>
+        requires draws { self.old.draws ≤ 2 ^ 64 - 2 ^ 20 }
+        ensures ok { OnOk result (Reshapes self.old shape fresh.now self.new) }
+        ensures err { OnErr result (self.new ≡ self.old) }
+    {
+        let alloc = *self.cells.allocator();
+        let fresh = key_set::<W>(alloc, fresh)?;
+        let index = index_of::<W>(alloc, shape.keys())?;
+        let mut cells = blank_cells::<W>(alloc, &index, shape.into_plans())?;
+        self.draws = settle_all::<W>(&mut cells, &mut self.cells, &self.index, &fresh, self.draws);
+        self.lowest = next_dirty::<W>(cells.as_slice(), 0);
+        self.cells = cells;
+        self.index = index;
+        Ok(())
+    }
+
+    /// Marks the cells of these keys that are there, and each cell that depends on one of them in any
+    /// number of steps: it is dirty, and its open claim is stale. Each other cell stays as it was.
+    pub fn mark(&mut self, keys: &[W::Key])
+        ensures rows { Marks self.old.rows keys.now self.new.rows }
+        ensures draws { self.new.draws ≡ self.old.draws }
+    {
+        mark_listed::<W>(&mut self.cells, &self.index, keys);
+        mark_dependents::<W>(&mut self.cells);
+        self.lowest = next_dirty::<W>(self.cells.as_slice(), 0);
+    }
+
+    /// What a look at the key shows.
+    pub fn look(&self, key: W::Key) -> Look<W::Key>
+        ensures { Looks self.now.rows key result }
+    {
+        look_in::<W>(self.cells.as_slice(), &self.index, key)
+    }
+
+    /// A claim of the key for an input. Taken where the open claim has this input, which is then no longer
+    /// stale. Else Reused where the kept pair has it: the cell is clean, and no claim is open. Else
+    /// Granted: the claim of the new number is the open one. Reused and Granted draw the next number.
+    pub fn claim(&mut self, key: W::Key, input: Arc<W::Input>) -> Claimed
+        requires draws { self.old.draws ≤ 2 ^ 64 - 2 ^ 20 }
+        requires ready { Looks self.old.rows key Look.Ready }
+        ensures { ClaimsIn self.old key (arc_value input) result self.new }
+    {
+        let Some(place) = find::<W>(self.cells.as_slice(), &self.index, key) else {
+            unreachable!()
+        };
+        let answer = claim_at::<W>(&mut self.cells, place, input, self.draws + 1);
+        self.draws = drawn(answer, self.draws);
+        self.lowest = next_dirty::<W>(self.cells.as_slice(), self.lowest);
+        answer
+    }
+
+    /// Finished work. Gone where no cell has its key, or the cell was made after its number. Else
+    /// Superseded where the open claim has another number or input. Else the pair is kept and the claim
+    /// closed: Stored where the claim is stale, and the cell stays dirty; Cleaned where it isn't.
+    pub fn finish(&mut self, done: Done<W>) -> Finished
+        ensures { FinishesIn self.old done result self.new }
+    {
+        let Some(place) = find::<W>(self.cells.as_slice(), &self.index, done.key()) else {
+            return Finished::Gone;
+        };
+        let answer = finish_at::<W>(&mut self.cells, place, done);
+        self.lowest = next_dirty::<W>(self.cells.as_slice(), self.lowest);
+        answer
+    }
+
+    /// A claim that comes back without a value. Gone where no cell has the key, or the cell was made
+    /// after the number. Else Superseded where the open claim has another number. Else the claim is
+    /// closed, and counted as one that came back.
+    pub fn give_back(&mut self, key: W::Key, number: u64) -> Released
+        ensures { GivesBackIn self.old key number result self.new }
+    {
+        match find::<W>(self.cells.as_slice(), &self.index, key) {
+            Some(place) => give_back_at::<W>(&mut self.cells, place, number),
+            None => Released::Gone,
+        }
+    }
+
+    /// The value of the kept pair, which meets its input. None where no cell has the key, or where the
+    /// cell has no kept pair.
+    pub fn value(&self, key: W::Key) -> Option<&Arc<W::Value>>
+        ensures some { IfSome result (λ v. KeepsValue W.relates self.now.rows key (arc_value v.now)) }
+        ensures none { IfNone result (KeepsNone self.now.rows key) }
+    {
+        value_in::<W>(self.cells.as_slice(), &self.index, key)
+    }
+
+    /// How many claims of the cell were granted: at most one more than the turns of its input and the
+    /// claims that were given back. None where no cell has the key.
+    pub fn laid(&self, key: W::Key) -> Option<u64>
+        ensures some { IfSome result (IsLaid self.now.rows key) }
+        ensures paid { IfSome result (IsPaid self.now.rows key) }
+        ensures none { IfNone result (IsGone self.now.rows key) }
+    {
+        laid_in::<W>(self.cells.as_slice(), &self.index, key)
+    }
+
+    /// The key of the first dirty cell. None where every cell is clean.
+    pub fn first_dirty(&self) -> Option<W::Key>
+        ensures some { IfSome result (IsFirstDirtyKey self.now.rows) }
+        ensures none { IfNone result (AllClean self.now.rows) }
+    {
+        first_dirty_key::<W>(self.cells.as_slice(), self.lowest)
+    }
+
+    /// The greatest number that was drawn.
+    pub fn draws(&self) -> u64
+        ensures { result ≡ self.now.draws }
+    {
+        self.draws
+    }
+
+    /// What cells keep through every call.
+    pub fn sound(&self)
+        ensures { IsSound W.relates self.now }
+    {
+        let _draws = self.draws;
+    }
+}

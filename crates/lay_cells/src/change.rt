@@ -1,0 +1,163 @@
+//! What a claim, a finished piece of work and a claim that is given back change in one cell.
+
+ghost use Rattle.std.specs.Prelude.{◌≡◌, ◌↔◌, ◌-◌, ◌<◌, ◌^◌, IsTrue, Some, length, map, option_map, slice_get};
+ghost use Rattle.std.specs.Arc.{arc_value};
+ghost use Rattle.lay_cells.specs.Kept.{ChangesAt, wire_of};
+ghost use Rattle.lay_cells.specs.Rows.{Row, row_of};
+ghost use Rattle.lay_cells.specs.Steps.{Claims, Finishes, GivesBack, draws_after};
+
+use crate::answers::{Claimed, Finished, Released};
+use crate::cell::{Cell, Open};
+use crate::done::Done;
+use crate::work::Work;
+use std::sync::Arc;
+
+/// Whether this is the input that was handed in last.
+fn given_is<W: Work>(given: &Option<Arc<W::Input>>, input: &Arc<W::Input>) -> bool
+    ensures { IsTrue result ↔ (option_map arc_value given.now ≡ Some (arc_value input.now)) }
+{
+    match given {
+        Some(last) => W::same(last, input),
+        None => false,
+    }
+}
+
+/// Whether the kept pair is of this input.
+fn kept_is<W: Work>(kept: &Option<Done<W>>, input: &Arc<W::Input>) -> bool
+    ensures { IsTrue result ↔ (option_map (λ d. d.input) kept.now ≡ Some (arc_value input.now)) }
+{
+    match kept {
+        Some(done) => W::same(done.input(), input),
+        None => false,
+    }
+}
+
+/// A claim of a cell that is ready. A new claim takes this number.
+pub fn claim_cell<W: Work>(
+    cell: &mut Cell<W::Key, W::Input, Done<W>>,
+    input: Arc<W::Input>,
+    number: u64,
+) -> Claimed
+    requires laid { cell.old.laid < 2 ^ 64 - 1 }
+    requires turns { cell.old.turns < 2 ^ 64 - 1 }
+    ensures claims { Claims (row_of cell.old) number (arc_value input) result (row_of cell.new) }
+    ensures wire { wire_of cell.new ≡ wire_of cell.old }
+{
+    let kept = kept_is::<W>(&cell.kept, &input);
+    if given_is::<W>(&cell.given, &input) {
+        if let Some(claim) = &mut cell.claim {
+            claim.stale = false;
+            return Claimed::Taken(claim.number);
+        }
+    } else if cell.given.is_some() {
+        cell.turns += 1;
+    }
+    cell.given = Some(input);
+    cell.last = number;
+    if kept {
+        cell.claim = None;
+        cell.dirty = false;
+        return Claimed::Reused;
+    }
+    cell.claim = Some(Open {
+        number,
+        stale: false,
+    });
+    cell.laid += 1;
+    Claimed::Granted(number)
+}
+
+/// What finished work comes to at its cell.
+pub fn finish_cell<W: Work>(cell: &mut Cell<W::Key, W::Input, Done<W>>, done: Done<W>) -> Finished
+    ensures finishes { Finishes (row_of cell.old) done result (row_of cell.new) }
+    ensures wire { wire_of cell.new ≡ wire_of cell.old }
+{
+    let number = done.number();
+    if number < cell.first {
+        return Finished::Gone;
+    }
+    let same = given_is::<W>(&cell.given, done.input());
+    let Some(claim) = cell.claim else {
+        return Finished::Superseded(cell.last);
+    };
+    if claim.number != number || !same {
+        return Finished::Superseded(cell.last);
+    }
+    cell.claim = None;
+    cell.kept = Some(done);
+    if claim.stale {
+        return Finished::Stored;
+    }
+    cell.dirty = false;
+    Finished::Cleaned
+}
+
+/// What a claim that is given back comes to at its cell.
+pub fn give_back_cell<W: Work>(cell: &mut Cell<W::Key, W::Input, Done<W>>, number: u64) -> Released
+    requires { cell.old.backs < 2 ^ 64 - 1 }
+    ensures gives_back { GivesBack (row_of cell.old) number result (row_of cell.new) }
+    ensures wire { wire_of cell.new ≡ wire_of cell.old }
+{
+    if number < cell.first {
+        return Released::Gone;
+    }
+    let Some(claim) = cell.claim else {
+        return Released::Superseded(cell.last);
+    };
+    if claim.number != number {
+        return Released::Superseded(cell.last);
+    }
+    cell.claim = None;
+    cell.backs += 1;
+    Released::Released
+}
+
+/// A claim of the cell at a place, which is ready. A new claim takes this number.
+pub fn claim_at<W: Work>(
+    cells: &mut Vec<Cell<W::Key, W::Input, Done<W>>>,
+    place: usize,
+    input: Arc<W::Input>,
+    number: u64,
+) -> Claimed
+    requires within { place < length cells.old.items }
+    requires small { (r : Row W.Key W.Input W.Value) → slice_get (map row_of cells.old.items) place ≡ Some r → (r.laid < 2 ^ 64 - 1) × (r.turns < 2 ^ 64 - 1) }
+    ensures { ChangesAt cells.old.items cells.new.items place (λ r q. Claims r number (arc_value input) result q) }
+{
+    claim_cell::<W>(&mut cells[place], input, number)
+}
+
+/// What finished work comes to at the cell at a place.
+pub fn finish_at<W: Work>(
+    cells: &mut Vec<Cell<W::Key, W::Input, Done<W>>>,
+    place: usize,
+    done: Done<W>,
+) -> Finished
+    requires { place < length cells.old.items }
+    ensures { ChangesAt cells.old.items cells.new.items place (λ r q. Finishes r done result q) }
+{
+    finish_cell::<W>(&mut cells[place], done)
+}
+
+/// What a claim that is given back comes to at the cell at a place.
+pub fn give_back_at<W: Work>(
+    cells: &mut Vec<Cell<W::Key, W::Input, Done<W>>>,
+    place: usize,
+    number: u64,
+) -> Released
+    requires within { place < length cells.old.items }
+    requires small { (r : Row W.Key W.Input W.Value) → slice_get (map row_of cells.old.items) place ≡ Some r → r.backs < 2 ^ 64 - 1 }
+    ensures { ChangesAt cells.old.items cells.new.items place (λ r q. GivesBack r number result q) }
+{
+    give_back_cell::<W>(&mut cells[place], number)
+}
+
+/// The greatest number that is drawn after a claim.
+pub fn drawn(answer: Claimed, draws: u64) -> u64
+    requires { draws < 2 ^ 64 - 1 }
+    ensures { result ≡ draws_after answer draws }
+{
+    match answer {
+        Claimed::Taken(_) => draws,
+        _ => draws + 1,
+    }
+}
