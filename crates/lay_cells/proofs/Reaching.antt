@@ -146,10 +146,10 @@ module _ {K I V : Type 0} where
         let x = mid_of has.0 z has.1 in
         let q = mid_of b.0 b.1 b.3 in
         inr (⊎_elim
-            (λ h. on key need x.0 (has.0, x.1) (key_of x.0 z x.2 ∙ key_z) (needs_of x.0 z x.2 need in_needs)
-                (q.0, (b.0, q.1), key_of q.0 b.1 q.2 ∙ b.4, ⊎_elim (λ e. marked_dirty q.0 b.1 e.1) (λ e. absurd (e.0 (subst (IsIn keys) (sym b.4) h))) q.3))
-            (λ h. below key need x.0 (has.0, x.1) (key_of x.0 z x.2 ∙ key_z) (needs_of x.0 z x.2 need in_needs) h)
-            (spreads need deep))
+        (λ h. on key need x.0 (has.0, x.1) (key_of x.0 z x.2 ∙ key_z) (needs_of x.0 z x.2 need in_needs)
+        (q.0, (b.0, q.1), key_of q.0 b.1 q.2 ∙ b.4, ⊎_elim (λ e. marked_dirty q.0 b.1 e.1) (λ e. absurd (e.0 (subst (IsIn keys) (sym b.4) h))) q.3))
+        (λ h. below key need x.0 (has.0, x.1) (key_of x.0 z x.2 ∙ key_z) (needs_of x.0 z x.2 need in_needs) h)
+        (spreads need deep))
 
     -- the row that stands at a place of the middle list
     old_of : (x : Row K I V) → (has : IsIn mid x) → (r : Row K I V) × (slice_get rows has.0 ≡ Some r) × (entry_of x ≡ entry_of r)
@@ -181,21 +181,27 @@ module _ {K I V : Type 0} where
             → Reached rows keys r.key ⊎ (Reached rows keys r.key → ⊥)
             → (Reached rows keys r.key × (q ≡ marked r)) ⊎ ((Reached rows keys r.key → ⊥) × (q ≡ r))
         cell i r q at at_q x (inl reached) =
-            inl (reached, ⊎_elim
-                (λ e. ⊎_elim (λ f. f.1 ∙ ap marked e.1 ∙ marked_twice r) (λ f. f.1 ∙ e.1) (w.each i x.0 q x.1 at_q))
-                (λ e. ⊎_elim
-                    (λ f. f.1 ∙ ap marked e.1)
-                    (λ f. absurd (⊎_elim (λ h. e.0 h) (λ h. f.0 (subst (Depends mid) (sym (key_of x.0 r x.2)) h)) (spreads r.key reached)))
-                    (w.each i x.0 q x.1 at_q))
-                x.3)
+            inl (
+              reached,
+              ⊎_elim
+                  (λ e. ⊎_elim (λ f. f.1 ∙ ap marked e.1 ∙ marked_twice r) (λ f. f.1 ∙ e.1) (w.each i x.0 q x.1 at_q))
+                  (λ e. ⊎_elim
+                  (λ f. f.1 ∙ ap marked e.1)
+                  (λ f. absurd (⊎_elim (λ h. e.0 h) (λ h. f.0 (subst (Depends mid) (sym (key_of x.0 r x.2)) h)) (spreads r.key reached)))
+                  (w.each i x.0 q x.1 at_q))
+                  x.3,
+            )
         cell i r q at at_q x (inr free) =
-            inr (free, ⊎_elim
-                (λ e. absurd (free (listed r.key e.0)))
-                (λ e. ⊎_elim
-                    (λ f. f.1 ∙ ap marked e.1 ∙ same_unreached r.key (subst (Depends mid) (key_of x.0 r x.2) f.0) free i r at refl)
-                    (λ f. f.1 ∙ e.1)
-                    (w.each i x.0 q x.1 at_q))
-                x.3)
+            inr (
+              free,
+              ⊎_elim
+                  (λ e. absurd (free (listed r.key e.0)))
+                  (λ e. ⊎_elim
+                  (λ f. f.1 ∙ ap marked e.1 ∙ same_unreached r.key (subst (Depends mid) (key_of x.0 r x.2) f.0) free i r at refl)
+                  (λ f. f.1 ∙ e.1)
+                  (w.each i x.0 q x.1 at_q))
+                  x.3,
+            )
 
   -- dependencies that are clean, of a cell that isn't reached, stay clean
   clean_marks : (rows new : List (Row K I V)) (keys : List K) → Marks rows keys new → (r : Row K I V) → IsIn rows r → (Reached rows keys r.key → ⊥) → AreClean rows r.needs → AreClean new r.needs

@@ -136,8 +136,8 @@ module _ {K I V : Type 0} where
         subst (λ (rs : List (Row K I V)). RebuildsAll old F rs d (take (n + 1) (map entry_of blank)) rs k) (sym grown)
         (subst (λ (es : List (Entry K)). RebuildsAll old F (take n rows ++ q ∷ []) d es (take n rows ++ q ∷ []) k) (sym entries)
         (rebuilds_last old F (take n rows ++ q ∷ []) d (take n (map entry_of blank)) (take n rows) m (entry_of b) q k
-            (rebuilds_more old F F (λ k f. f) (λ k f. f) (take n rows) (take n rows ++ q ∷ []) (λ x has. (has.0, front_at (take n rows) (q ∷ []) has.0 x has.1)) d (take n (map entry_of blank)) (take n rows) m t.before)
-            one))
+        (rebuilds_more old F F (λ k f. f) (λ k f. f) (take n rows) (take n rows ++ q ∷ []) (λ x has. (has.0, front_at (take n rows) (q ∷ []) has.0 x has.1)) d (take n (map entry_of blank)) (take n rows) m t.before)
+        one))
 
     made_is : record b { first = m + 1; last = m + 1 } ≡ made_row (entry_of b) (m + 1)
     made_is = ap (λ (x : Row K I V). record x { first = m + 1; last = m + 1 }) was_blank
@@ -150,8 +150,12 @@ module _ {K I V : Type 0} where
         → RebuildsAll old F (take (n + 1) new) d (take (n + 1) (map entry_of blank)) (take (n + 1) new) k
     step_marked k new r h why is drawn =
         let q = marked (taken_over b r) in
-        up_to q k new is (inr (r, carried_old r h,
-            inl (⊎_elim (λ a. inl a) (λ a. inr (dirty_low q a)) why, ap (λ x. record (marked r) { key = x; needs = b.needs }) (sym h.2)), drawn))
+        up_to q k new is (inr (
+          r,
+          carried_old r h,
+          inl (⊎_elim (λ a. inl a) (λ a. inr (dirty_low q a)) why, ap (λ x. record (marked r) { key = x; needs = b.needs }) (sym h.2)),
+          drawn,
+        ))
 
     step_same : (k : ℕ) (new : List (Row K I V)) (r : Row K I V) → IsCarried left F b.key r → r.needs ≡ b.needs → AreClean rows b.needs → new ≡ slice_set rows n (taken_over b r) → k ≡ m
         → RebuildsAll old F (take (n + 1) new) d (take (n + 1) (map entry_of blank)) (take (n + 1) new) k
@@ -167,9 +171,9 @@ module _ {K I V : Type 0} where
     before = ⊎_elim
         (λ h. step_made old F blank s is_blank d n m rows left t same same_old step.0 step.1 k new h.0 h.1 h.2)
         (λ h. ⊎_elim
-            (λ a. step_marked old F blank s is_blank d n m rows left t same same_old step.0 step.1 k new h.0 h.1 a.0 a.1 h.3)
-            (λ a. step_same old F blank s is_blank d n m rows left t same same_old step.0 step.1 k new h.0 h.1 a.0 a.1 a.2 h.3)
-            h.2)
+        (λ a. step_marked old F blank s is_blank d n m rows left t same same_old step.0 step.1 k new h.0 h.1 a.0 a.1 h.3)
+        (λ a. step_same old F blank s is_blank d n m rows left t same same_old step.0 step.1 k new h.0 h.1 a.0 a.1 a.2 h.3)
+        h.2)
         step.2;
     after = λ i le. later i le ∙ t.after i (omega (arith, le));
     kept = λ j z at apart. step.3 j z (t.kept j z at (λ e has. apart e (has.0, (let lt = has.1 in omega (arith, lt)), has.2)))
@@ -181,7 +185,7 @@ module _ {K I V : Type 0} where
       later i le = ⊎_elim
           (λ h. ap (λ rs. slice_get rs i) h.1 ∙ set_after rows n i (record step.0 { first = m + 1; last = m + 1 }) (omega (arith, le)))
           (λ h. ⊎_elim
-              (λ a. ap (λ rs. slice_get rs i) a.1 ∙ set_after rows n i (marked (taken_over step.0 h.0)) (omega (arith, le)))
-              (λ a. ap (λ rs. slice_get rs i) a.2 ∙ set_after rows n i (taken_over step.0 h.0) (omega (arith, le)))
-              h.2)
+          (λ a. ap (λ rs. slice_get rs i) a.1 ∙ set_after rows n i (marked (taken_over step.0 h.0)) (omega (arith, le)))
+          (λ a. ap (λ rs. slice_get rs i) a.2 ∙ set_after rows n i (taken_over step.0 h.0) (omega (arith, le)))
+          h.2)
           step.2

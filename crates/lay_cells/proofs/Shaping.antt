@@ -36,13 +36,13 @@ module _ {K : Type 0} where
         apart = λ i j f h at_f at_h same.
             ⊎_elim
             (λ a. ⊎_elim
-                (λ b. s.apart i j f h a b same)
-                (λ b. absurd (fresh f (i, a) (same ∙ ap (λ (x : Entry K). x.key) b.1)))
-                (append_cases entries e j h at_h))
+            (λ b. s.apart i j f h a b same)
+            (λ b. absurd (fresh f (i, a) (same ∙ ap (λ (x : Entry K). x.key) b.1)))
+            (append_cases entries e j h at_h))
             (λ a. ⊎_elim
-                (λ b. absurd (fresh h (j, b) (sym same ∙ ap (λ (x : Entry K). x.key) a.1)))
-                (λ b. a.0 ∙ sym b.0)
-                (append_cases entries e j h at_h))
+            (λ b. absurd (fresh h (j, b) (sym same ∙ ap (λ (x : Entry K). x.key) a.1)))
+            (λ b. a.0 ∙ sym b.0)
+            (append_cases entries e j h at_h))
             (append_cases entries e i f at_f);
         earlier = λ i f at k has.
             ⊎_elim

@@ -37,7 +37,7 @@ module _ {K I V : Type 0} where
       inl (
         why,
         mark.4 ∙ ap (λ xs. slice_set xs place mark.1) carry.4 ∙ set_set rows place carry.1 mark.1
-        ∙ ap (slice_set rows place) (mark.3 ∙ ap marked (same ∙ carry.3 ∙ ap (λ x. taken_over x r) one)),
+            ∙ ap (slice_set rows place) (mark.3 ∙ ap marked (same ∙ carry.3 ∙ ap (λ x. taken_over x r) one)),
       )
 
   pub takes_plain : (cells new : List (Cell K I (Solved K I V))) (place : ℕ) (b r : Row K I V) → slice_get (map row_of cells) place ≡ Some b

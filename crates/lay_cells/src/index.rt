@@ -37,7 +37,10 @@ pub fn find<W: Work>(
 }
 
 /// The cell at a place.
-pub fn cell_at<W: Work>(cells: &[Cell<W::Key, W::Input, Done<W>>], place: usize) -> &Cell<W::Key, W::Input, Done<W>>
+pub fn cell_at<W: Work>(
+    cells: &[Cell<W::Key, W::Input, Done<W>>],
+    place: usize,
+) -> &Cell<W::Key, W::Input, Done<W>>
     requires { place < length cells.now }
     ensures cell { slice_get cells.now place ≡ Some result.now }
     ensures row { slice_get (map row_of cells.now) place ≡ Some (row_of result.now) }

@@ -20,11 +20,7 @@ use crate::work::Work;
 use std::collections::{BTreeMap, BTreeSet};
 
 /// Gives the cell at a place, which is made anew, its number.
-fn number_at<W: Work>(
-    cells: &mut Vec<Cell<W::Key, W::Input, Done<W>>>,
-    place: usize,
-    number: u64,
-)
+fn number_at<W: Work>(cells: &mut Vec<Cell<W::Key, W::Input, Done<W>>>, place: usize, number: u64)
     requires { place < length cells.old.items }
     ensures { ChangesAt cells.old.items cells.new.items place (λ r q. q ≡ record r { first = number; last = number }) }
 {

@@ -128,7 +128,10 @@ fn one_cell_whose_input_turns_forth_and_back(rt: HostRuntime) -> Result<(), Fail
     assert_eq!(rt; claim(alloc, &mut cells, 7, 20)?, Some(Claimed::Granted(3)));
     cells.mark(&[7]);
     assert_eq!(rt; claim(alloc, &mut cells, 7, 10)?, Some(Claimed::Reused));
-    assert_eq!(rt; finish(alloc, &mut cells, 7, 3, 20)?, Finished::Superseded(4));
+    assert_eq!(rt;
+        finish(alloc, &mut cells, 7, 3, 20)?,
+        Finished::Superseded(4)
+    );
     cells.mark(&[7]);
     assert_eq!(rt; claim(alloc, &mut cells, 7, 20)?, Some(Claimed::Granted(5)));
     cells.mark(&[7]);

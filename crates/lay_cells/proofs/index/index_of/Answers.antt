@@ -13,7 +13,7 @@ pub loop-place-preserved : goal.loop-place-preserved
 loop-place-preserved g c =
     let n = c.loop-place.place in
     index_step (key_cases g.W.Key.PartialEq.eq g.met.W.Work.exact) c.args.keys.now c.requires n c.index-keys-place.result (read_at c.args.keys.now n c.index-keys-place.result c.loop-place-test.true c.index-keys-place.is)
-        (get g.W.Key.Ord.cmp c.loop-place.index) (get g.W.Key.Ord.cmp c.put_place.new.index) c.loop-place.invariant c.in_ok-put_place.ensures.here c.in_ok-put_place.ensures.others
+    (get g.W.Key.Ord.cmp c.loop-place.index) (get g.W.Key.Ord.cmp c.put_place.new.index) c.loop-place.invariant c.in_ok-put_place.ensures.here c.in_ok-put_place.ensures.others
 
 pub returns : goal.returns
 returns g c = record {

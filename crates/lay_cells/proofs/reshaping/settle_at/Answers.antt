@@ -13,7 +13,7 @@ returns-in-Some-clause-rows g c =
     let found =
     subst (λ (xs : List _). (r : Row _ _ _) × (contains g.W.Key.Ord.cmp c.args.fresh.now cell.key ≡ false) × IsAt (map row_of xs) cell.key c.in-Some.from r × (c.in-Some.from < length xs)) c.as_slice-2.ensures.value c.in-Some.ensures.some in
     settles_some c.args.cells.now.items c.take_over.new.cells.items c.args.old.now.items c.take_over.new.old.items (λ k. contains g.W.Key.Ord.cmp c.args.fresh.now k ≡ true) c.args.place c.in-Some.from c.args.draws
-        (row_of cell) found.0 at (λ fresh. false≢true (sym found.1 ∙ fresh)) found.2 c.take_over.ensures.rows c.take_over.ensures.old
+    (row_of cell) found.0 at (λ fresh. false≢true (sym found.1 ∙ fresh)) found.2 c.take_over.ensures.rows c.take_over.ensures.old
 
 pub returns-in-None-clause-rows : goal.returns-in-None-clause-rows
 returns-in-None-clause-rows g c =

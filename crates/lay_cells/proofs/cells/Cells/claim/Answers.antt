@@ -32,8 +32,8 @@ next_dirty-self-inside-requires-after_bounds g c _ _ =
     let number = c.self.inside.draws + 1 in
     subst (λ (xs : List _). (j : ℕ) → j < c.self.inside.lowest → (r : Row _ _ _) → slice_get (map row_of xs) j ≡ Some r → r.dirty ≡ false) (sym c.as_slice-2.ensures.value)
     (before_after g.W.Work.relates cells c.claim_at-answer.new.cells.items c.self.inside.lowest (draws_after answer c.self.inside.draws) c.self.invariant.first_dirty c.in-Some.place
-        (λ r q. Claims r number input answer q) c.claim_at-answer.ensures
-        (claim_fits g.W.Work.relates (map row_of cells) c.self.inside.draws c.self.invariant.sound c.args.key ready c.in-Some.place found.0 found.1 input answer))
+    (λ r q. Claims r number input answer q) c.claim_at-answer.ensures
+    (claim_fits g.W.Work.relates (map row_of cells) c.self.inside.draws c.self.invariant.sound c.args.key ready c.in-Some.place found.0 found.1 input answer))
 
 pub invariant_of-self : goal.invariant_of-self
 invariant_of-self g c =
@@ -47,12 +47,12 @@ invariant_of-self g c =
     let number = c.self.inside.draws + 1 in
     subst (IsKept g.W.Work.relates g.W.Key.Ord.cmp new c.self.inside.index c.next_dirty-self-inside.result) (sym c.drawn-self-inside.ensures)
     (kept_after g.W.Work.relates g.W.Key.Ord.cmp cells new c.self.inside.index c.self.inside.lowest c.next_dirty-self-inside.result c.self.inside.draws (draws_after answer c.self.inside.draws)
-        c.self.invariant (draws_more answer c.self.inside.draws) c.in-Some.place (λ r q. Claims r number input answer q) c.claim_at-answer.ensures
-        (claim_fits g.W.Work.relates (map row_of cells) c.self.inside.draws c.self.invariant.sound c.args.key ready c.in-Some.place found.0 found.1 input answer) low)
+    c.self.invariant (draws_more answer c.self.inside.draws) c.in-Some.place (λ r q. Claims r number input answer q) c.claim_at-answer.ensures
+    (claim_fits g.W.Work.relates (map row_of cells) c.self.inside.draws c.self.invariant.sound c.args.key ready c.in-Some.place found.0 found.1 input answer) low)
 
 pub returns : goal.returns
 returns g c =
     let cells = c.self.inside.cells.items in
     let found = subst (λ (xs : List _). (r : Row _ _ _) × IsAt (map row_of xs) c.args.key c.in-Some.place r) c.as_slice.ensures.value c.in-Some.ensures.found in
     claims_in c.args.self.now cells c.claim_at-answer.new.cells.items c.self.inside.draws c.drawn-self-inside.result c.self.view_is c.args.key c.in-Some.place found.0 found.1
-        (arc_value c.args.input) c.claim_at-answer.result c.drawn-self-inside.ensures c.claim_at-answer.ensures
+    (arc_value c.args.input) c.claim_at-answer.result c.drawn-self-inside.ensures c.claim_at-answer.ensures

@@ -24,8 +24,8 @@ next_dirty-self-inside-requires-after_bounds g c _ _ =
     let answer = c.finish_at-answer.result in
     subst (λ (xs : List _). (j : ℕ) → j < c.self.inside.lowest → (r : Row _ _ _) → slice_get (map row_of xs) j ≡ Some r → r.dirty ≡ false) (sym c.as_slice-2.ensures.value)
     (before_after g.W.Work.relates cells c.finish_at-answer.new.cells.items c.self.inside.lowest c.self.inside.draws c.self.invariant.first_dirty c.in-Some.place
-        (λ r q. Finishes r c.args.done answer q) c.finish_at-answer.ensures
-        (finish_fits g.W.Work.relates (map row_of cells) c.self.inside.draws c.self.invariant.sound c.args.done meets c.in-Some.place found.0 found.1 answer))
+    (λ r q. Finishes r c.args.done answer q) c.finish_at-answer.ensures
+    (finish_fits g.W.Work.relates (map row_of cells) c.self.inside.draws c.self.invariant.sound c.args.done meets c.in-Some.place found.0 found.1 answer))
 
 pub invariant_of-self : goal.invariant_of-self
 invariant_of-self g c =
@@ -37,8 +37,8 @@ invariant_of-self g c =
     let low = subst (λ (xs : List _). IsLowest (map row_of xs) c.next_dirty-self-inside.result) c.as_slice-2.ensures.value c.next_dirty-self-inside.ensures in
     let answer = c.finish_at-answer.result in
     kept_after g.W.Work.relates g.W.Key.Ord.cmp cells c.finish_at-answer.new.cells.items c.self.inside.index c.self.inside.lowest c.next_dirty-self-inside.result c.self.inside.draws c.self.inside.draws
-        c.self.invariant (omega arith) c.in-Some.place (λ r q. Finishes r c.args.done answer q) c.finish_at-answer.ensures
-        (finish_fits g.W.Work.relates (map row_of cells) c.self.inside.draws c.self.invariant.sound c.args.done meets c.in-Some.place found.0 found.1 answer) low
+    c.self.invariant (omega arith) c.in-Some.place (λ r q. Finishes r c.args.done answer q) c.finish_at-answer.ensures
+    (finish_fits g.W.Work.relates (map row_of cells) c.self.inside.draws c.self.invariant.sound c.args.done meets c.in-Some.place found.0 found.1 answer) low
 
 pub returns : goal.returns
 returns g c =

@@ -18,9 +18,9 @@ invariant_of-self g c =
     let new = c.give_back_at.new.cells.items in
     let answer = c.give_back_at.result in
     kept_after g.W.Work.relates g.W.Key.Ord.cmp cells new c.self.inside.index c.self.inside.lowest c.self.inside.lowest c.self.inside.draws c.self.inside.draws
-        c.self.invariant (omega arith) c.in-Some.place (λ r q. GivesBack r c.args.number answer q) c.give_back_at.ensures
-        (back_fits g.W.Work.relates (map row_of cells) c.self.inside.draws c.self.invariant.sound c.in-Some.place c.args.number answer)
-        (back_lowest cells new c.self.inside.lowest c.self.invariant.first_dirty c.in-Some.place c.args.number answer c.give_back_at.ensures)
+    c.self.invariant (omega arith) c.in-Some.place (λ r q. GivesBack r c.args.number answer q) c.give_back_at.ensures
+    (back_fits g.W.Work.relates (map row_of cells) c.self.inside.draws c.self.invariant.sound c.in-Some.place c.args.number answer)
+    (back_lowest cells new c.self.inside.lowest c.self.invariant.first_dirty c.in-Some.place c.args.number answer c.give_back_at.ensures)
 
 pub returns-in-Some : goal.returns-in-Some
 returns-in-Some g c =

@@ -18,7 +18,7 @@ blank_cells-requires-after_bounds g c _ _ =
     let index = subst (IsIndexOf g.W.Key.Ord.cmp c.in_ok-index.index) c.keys.ensures c.in_ok-index.ensures in
     let plans = c.into_plans.ensures.plans in
     needs_named g.W.Key.Ord.cmp c.in_ok-index.index c.into_plans.result.items (subst IsShape (sym plans) c.into_plans.ensures.shaped)
-        (subst (λ (es : List (Entry _)). IsIndexOf g.W.Key.Ord.cmp c.in_ok-index.index (map (λ (e : Entry _). e.key) es)) (sym plans) index)
+    (subst (λ (es : List (Entry _)). IsIndexOf g.W.Key.Ord.cmp c.in_ok-index.index (map (λ (e : Entry _). e.key) es)) (sym plans) index)
 
 pub settle_all-self-inside-requires-clause-wired : goal.settle_all-self-inside-requires-clause-wired
 settle_all-self-inside-requires-clause-wired g c _ _ =
@@ -58,7 +58,7 @@ returns-clause-ok g c =
     let rows = c.in_ok-cells.ensures.rows ∙ ap (map blank_row) c.into_plans.ensures.plans in
     let old = map row_of c.self.inside.cells.items in
     let listed = rebuilds_more old (λ k. contains g.W.Key.Ord.cmp c.in_ok-fresh.fresh k ≡ true) (IsIn c.args.fresh.now) (λ k f. (c.in_ok-fresh.ensures k).0 f) (λ k h. (c.in_ok-fresh.ensures k).1 h)
-        (map row_of new) (map row_of new) (λ x has. has) c.self.inside.draws (map entry_of (map row_of cells)) (map row_of new) c.settle_all-self-inside.result c.settle_all-self-inside.ensures.rows in
+    (map row_of new) (map row_of new) (λ x has. has) c.self.inside.draws (map entry_of (map row_of cells)) (map row_of new) c.settle_all-self-inside.result c.settle_all-self-inside.ensures.rows in
     reshaped c.args.self.now c.self.inside.cells.items new c.self.inside.draws c.settle_all-self-inside.result c.self.view_is c.args.shape c.args.fresh.now
     (subst (λ (es : List (Entry _)). RebuildsAll old (IsIn c.args.fresh.now) (map row_of new) c.self.inside.draws es (map row_of new) c.settle_all-self-inside.result)
-        (blank_entries cells c.args.shape rows) listed)
+    (blank_entries cells c.args.shape rows) listed)
