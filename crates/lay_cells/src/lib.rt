@@ -1,4 +1,8 @@
-//! Cells: what is kept of work that may have to be done again.
+//! Cells: what is kept of work that may have to be done again, for any kind of work.
+//!
+//! Contracts see cells as a list of rows (`specs/Rows.antt`), which keep the facts of `specs/Sound.antt`
+//! through every call. What each call comes to is said in `specs/Steps.antt`, `Marks.antt` and
+//! `Reshapes.antt`.
 #![tactic(auto)]
 
 mod answers;
@@ -14,8 +18,6 @@ mod needs;
 mod reading;
 mod reshaping;
 mod shape;
-#[cfg(test)]
-mod tests;
 mod work;
 
 pub use answers::{Claimed, Finished, Look, Released};
