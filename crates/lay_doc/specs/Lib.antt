@@ -11,5 +11,9 @@ pub mod Edits
 pub mod NodeRefs
 pub mod Index
 pub mod FaultParts
+pub mod Inheritance
+pub mod KeywordValues
+pub mod LengthValues
+pub mod InitialStyle
 pub mod ComputedStyle
 pub mod NumberKinds

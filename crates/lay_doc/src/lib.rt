@@ -11,6 +11,7 @@
 mod changing;
 mod columns;
 mod command;
+mod computed;
 mod declaration;
 mod doc;
 mod edit;
@@ -25,12 +26,15 @@ mod placing;
 mod property;
 mod removal;
 mod style;
+mod style_lengths;
+mod style_words;
 #[cfg(test)]
 mod tests;
 mod values;
 mod words;
 
 pub use command::{Cmd, CmdList, Reply};
+pub use computed::Computed;
 pub use declaration::{Decl, Decls};
 pub use doc::{Doc, NewFault};
 pub use edit::{BadDeclaration, Edit, EditFault};
@@ -39,4 +43,12 @@ pub use laws::{clears_one, has_subtree, one_slot, sets_one};
 pub use node::{Kind, NewNode, Node, NodeId};
 pub use node_ref::NodeRef;
 pub use property::{Given, OneLength, Property, Word};
-pub use style::{Computed, Style};
+pub use style::{Borders, Edges, Sizing, Style, TableStyle, TextStyle};
+pub use style_lengths::{
+    BorderSpacing, LengthPercentage, LengthPercentageOrAuto, LengthPercentageOrNone, LineHeight,
+    VerticalAlign, ZIndex,
+};
+pub use style_words::{
+    BorderCollapse, BorderStyle, CaptionSide, Clear, Display, EmptyCells, Float, Overflow,
+    Position, TableLayout, TextAlign, Visibility, WhiteSpace,
+};
