@@ -10,3 +10,4 @@ pub mod Inserted
 pub mod Subtrees
 pub mod Cut
 pub mod Removed
+pub mod OneStyles

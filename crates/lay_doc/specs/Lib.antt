@@ -16,4 +16,5 @@ pub mod KeywordValues
 pub mod LengthValues
 pub mod InitialStyle
 pub mod ComputedStyle
+pub mod Laws
 pub mod NumberKinds

@@ -2,6 +2,7 @@
 
 ghost use Rattle.lay_doc.specs.Declarations.{SetsOne, ClearsOne};
 ghost use Rattle.lay_doc.specs.Tree.{OneSlot, HasSubtree};
+ghost use Rattle.lay_doc.specs.Laws.{OneStyleColumn};
 
 /// In a tree the slot of an index is the only one.
 pub fn one_slot()
@@ -21,4 +22,9 @@ pub fn clears_one()
 /// A node and its descendants stand together, up to the node's end.
 pub fn has_subtree()
     ensures { HasSubtree }
+{}
+
+/// The computed styles of a document are the only ones that meet their definition.
+pub fn one_style_column()
+    ensures { OneStyleColumn }
 {}

@@ -39,7 +39,7 @@ pub use declaration::{Decl, Decls};
 pub use doc::{Doc, NewFault};
 pub use edit::{BadDeclaration, Edit, EditFault};
 pub use history::Entry;
-pub use laws::{clears_one, has_subtree, one_slot, sets_one};
+pub use laws::{clears_one, has_subtree, one_slot, one_style_column, sets_one};
 pub use node::{Kind, NewNode, Node, NodeId};
 pub use node_ref::NodeRef;
 pub use property::{Given, OneLength, Property, Word};
