@@ -28,9 +28,9 @@ before_step parents hs p k same after within =
 before_none : (parents : List ℕ) (hs : List Length) (k : ℕ) → height_before parents hs k (k + 1) ≡ pos 0
 before_none parents hs k = ap (λ (us : List ℕ). stacked k us (between (k + 1) (k + 1) hs)) (between_none parents (k + 1))
 
-pub corner_inner : (parents : List ℕ) (margins : List Length) (hs : List Length) (cs : List Corner) (k : ℕ) → 0 < k → corner_of parents margins hs cs k ≡ record { x = record { 0 = (corner_at cs (get_or parents k 0)).x.0 +ℤ length_at margins k }; y = record { 0 = (corner_at cs (get_or parents k 0)).y.0 +ℤ height_before parents hs (get_or parents k 0) k } }
-corner_inner parents margins hs cs zero positive = absurd (omega arith)
-corner_inner parents margins hs cs (suc k) positive = refl
+pub corner_inner : (parents : List ℕ) (margins : List Length) (insets : List Corner) (hs : List Length) (cs : List Corner) (k : ℕ) → 0 < k → corner_of parents margins insets hs cs k ≡ record { x = record { 0 = (corner_at cs (get_or parents k 0)).x.0 +ℤ (corner_at insets (get_or parents k 0)).x.0 +ℤ length_at margins k }; y = record { 0 = (corner_at cs (get_or parents k 0)).y.0 +ℤ (corner_at insets (get_or parents k 0)).y.0 +ℤ height_before parents hs (get_or parents k 0) k } }
+corner_inner parents margins insets hs cs zero positive = absurd (omega arith)
+corner_inner parents margins insets hs cs (suc k) positive = refl
 
 read_before : (cs : List Corner) (c : Corner) (k : ℕ) → k < length cs → corner_at (cs ++ c ∷ []) k ≡ corner_at cs k
 read_before cs c k lt = grind (arith, elements)
@@ -38,48 +38,50 @@ read_before cs c k lt = grind (arith, elements)
 read_last : (cs : List Corner) (c : Corner) (k : ℕ) → k ≡ length cs → corner_at (cs ++ c ∷ []) k ≡ c
 read_last cs c k e = grind (arith, elements)
 
-of_before : (parents : List ℕ) (margins : List Length) (hs : List Length) → IsTree parents → (cs : List Corner) (c : Corner) (k : ℕ) → k < length parents → k ≤ length cs → corner_of parents margins hs (cs ++ c ∷ []) k ≡ corner_of parents margins hs cs k
-of_before parents margins hs tree cs c zero within lt = refl
-of_before parents margins hs tree cs c (suc k) within lt =
+of_before : (parents : List ℕ) (margins : List Length) (insets : List Corner) (hs : List Length) → IsTree parents → (cs : List Corner) (c : Corner) (k : ℕ) → k < length parents → k ≤ length cs → corner_of parents margins insets hs (cs ++ c ∷ []) k ≡ corner_of parents margins insets hs cs k
+of_before parents margins insets hs tree cs c zero within lt = refl
+of_before parents margins insets hs tree cs c (suc k) within lt =
     let h = tree.before (suc k) (omega arith) within in
     let r = read_before cs c (get_or parents (suc k) 0) (omega arith) in
     rw r refl
 
-pub one_more : (parents : List ℕ) (margins : List Length) (hs : List Length) (cs : List Corner) (sums : List Length) (k : ℕ) (c : Corner) → IsTree parents → AreSized parents margins hs → 0 < k → k < length parents
-    → CornersTo parents margins hs cs sums k → c ≡ corner_of parents margins hs cs k → CornersTo parents margins hs (cs ++ c ∷ []) (set sums (get_or parents k 0) (record { 0 = length_at sums (get_or parents k 0) +ℤ length_at hs k })) (k + 1)
-one_more parents margins hs cs sums k c tree sized positive within to is =
+pub one_more : (parents : List ℕ) (margins : List Length) (insets : List Corner) (hs : List Length) (cs : List Corner) (sums : List Length) (k : ℕ) (c : Corner) → IsTree parents → AreSized parents margins insets hs → 0 < k → k < length parents
+    → CornersTo parents margins insets hs cs sums k → c ≡ corner_of parents margins insets hs cs k → CornersTo parents margins insets hs (cs ++ c ∷ []) (set sums (get_or parents k 0) (record { 0 = length_at sums (get_or parents k 0) +ℤ length_at hs k })) (k + 1)
+one_more parents margins insets hs cs sums k c tree sized positive within to is =
     let p : ℕ = get_or parents k 0 in
     let below = tree.before k positive within in
     let old = λ (j : ℕ) (lt : j < k). read_before cs c j (omega (arith, to.length_is)) in
     let new : corner_at (cs ++ c ∷ []) k ≡ c = read_last cs c k (sym to.length_is) in
-    let inner = corner_inner parents margins hs cs k positive in
+    let inner = corner_inner parents margins insets hs cs k positive in
     let x_is = ap (λ (z : Corner). z.x.0) (new ∙ is ∙ inner) in
     let y_is = ap (λ (z : Corner). z.y.0) (new ∙ is ∙ inner) in
     let left = sized.margin k within in
+    let inset_x = sized.inset_x p (omega arith) in
+    let inset_y = sized.inset_y p (omega arith) in
     let step = λ (q : ℕ) (lt : q < k). before_step parents hs q k sized.height_count lt within in
     let up_here : length_at (set sums p (record { 0 = length_at sums p +ℤ length_at hs k })) p ≡ length_at sums p +ℤ length_at hs k = set_same sums p _ (omega (arith, to.sums_are)) in
     record {
       length_is = grind (arith, elements, to.length_is);
       sums_are = length-set' sums p _ ∙ to.sums_are;
       each = λ j lt. elim (cases_lt j k) [
-        | inl low ↦ old j low ∙ to.each j low ∙ sym (of_before parents margins hs tree cs c j (omega arith) (omega (arith, to.length_is)))
-        | inr high ↦ (let q : j ≡ k = omega arith in ap (corner_at (cs ++ c ∷ [])) q ∙ new ∙ is ∙ sym (of_before parents margins hs tree cs c k within (omega (arith, to.length_is))) ∙ ap (corner_of parents margins hs (cs ++ c ∷ [])) (sym q))
+        | inl low ↦ old j low ∙ to.each j low ∙ sym (of_before parents margins insets hs tree cs c j (omega arith) (omega (arith, to.length_is)))
+        | inr high ↦ (let q : j ≡ k = omega arith in ap (corner_at (cs ++ c ∷ [])) q ∙ new ∙ is ∙ sym (of_before parents margins insets hs tree cs c k within (omega (arith, to.length_is))) ∙ ap (corner_of parents margins insets hs (cs ++ c ∷ [])) (sym q))
       ];
       x_least = λ j lt. elim (cases_lt j k) [
         | inl low ↦ (let e = old j low in rw e (to.x_least j low))
-        | inr high ↦ (let q : j ≡ k = omega arith in let e = ap (λ (m : ℕ). (corner_at (cs ++ c ∷ []) m).x.0) q ∙ x_is in rw e (omega (arith, ints, to.x_least p below, left.0, left.1)))
+        | inr high ↦ (let q : j ≡ k = omega arith in let e = ap (λ (m : ℕ). (corner_at (cs ++ c ∷ []) m).x.0) q ∙ x_is in rw e (omega (arith, ints, to.x_least p below, inset_x.0, inset_x.1, left.0, left.1)))
       ];
       x_most = λ j lt. elim (cases_lt j k) [
         | inl low ↦ (let e = old j low in rw e (to.x_most j low))
-        | inr high ↦ (let q : j ≡ k = omega arith in let e = ap (λ (m : ℕ). (corner_at (cs ++ c ∷ []) m).x.0) q ∙ x_is in rw e (omega (arith, ints, to.x_most p below, left.0, left.1)))
+        | inr high ↦ (let q : j ≡ k = omega arith in let e = ap (λ (m : ℕ). (corner_at (cs ++ c ∷ []) m).x.0) q ∙ x_is in rw e (omega (arith, ints, to.x_most p below, inset_x.0, inset_x.1, left.0, left.1)))
       ];
       y_least = λ j lt. elim (cases_lt j k) [
         | inl low ↦ (let e = old j low in rw e (to.y_least j low))
-        | inr high ↦ (let q : j ≡ k = omega arith in let e = ap (λ (m : ℕ). (corner_at (cs ++ c ∷ []) m).y.0) q ∙ y_is ∙ ap (λ (z : ℤ). (corner_at cs p).y.0 +ℤ z) (sym (to.sum p below)) in rw e (omega (arith, ints, to.y_least p below, to.sum_least p below)))
+        | inr high ↦ (let q : j ≡ k = omega arith in let e = ap (λ (m : ℕ). (corner_at (cs ++ c ∷ []) m).y.0) q ∙ y_is ∙ ap (λ (z : ℤ). (corner_at cs p).y.0 +ℤ (corner_at insets p).y.0 +ℤ z) (sym (to.sum p below)) in rw e (omega (arith, ints, to.y_least p below, inset_y.0, to.sum_least p below)))
       ];
       y_most = λ j lt. elim (cases_lt j k) [
         | inl low ↦ (let e = old j low in rw e (to.y_most j low))
-        | inr high ↦ (let q : j ≡ k = omega arith in let e = ap (λ (m : ℕ). (corner_at (cs ++ c ∷ []) m).y.0) q ∙ y_is ∙ ap (λ (z : ℤ). (corner_at cs p).y.0 +ℤ z) (sym (to.sum p below)) in rw e (omega (arith, ints, to.y_most p below, to.sum_most p below)))
+        | inr high ↦ (let q : j ≡ k = omega arith in let e = ap (λ (m : ℕ). (corner_at (cs ++ c ∷ []) m).y.0) q ∙ y_is ∙ ap (λ (z : ℤ). (corner_at cs p).y.0 +ℤ (corner_at insets p).y.0 +ℤ z) (sym (to.sum p below)) in rw e (omega (arith, ints, to.y_most p below, inset_y.1, to.sum_most p below)))
       ];
       sum = λ q lt. elim (cases_lt q k) [
         | inl low ↦ elim (cases_eq q p) [

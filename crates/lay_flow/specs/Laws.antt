@@ -7,7 +7,7 @@ use Rattle.lay_flow.specs.declared.corner.Corner.{Corner}
 use Rattle.lay_flow.specs.StackedBlocks.{HasHeights, HasCorners}
 
 abbrev pub OneHeightColumn : Type 0
-OneHeightColumn = (parents : List ℕ) (computed : List Len) (hs gs : List Length) → HasHeights parents computed hs → HasHeights parents computed gs → hs ≡ gs
+OneHeightColumn = (parents : List ℕ) (computed : List Len) (edges hs gs : List Length) → HasHeights parents computed edges hs → HasHeights parents computed edges gs → hs ≡ gs
 
 abbrev pub OneCornerColumn : Type 0
-OneCornerColumn = (parents : List ℕ) (margins hs : List Length) (cs bs : List Corner) → IsTree parents → HasCorners parents margins hs cs → HasCorners parents margins hs bs → cs ≡ bs
+OneCornerColumn = (parents : List ℕ) (margins : List Length) (insets : List Corner) (hs : List Length) (cs bs : List Corner) → IsTree parents → HasCorners parents margins insets hs cs → HasCorners parents margins insets hs bs → cs ≡ bs

@@ -10,24 +10,33 @@ use crate::corner::Corner;
 use lay_units::{NoMemory, Unit};
 use std::alloc::Global;
 
-/// The corners of a context's blocks, in document order, from the places of their parents, their left
-/// margins and their heights.
+/// The corners of the border boxes of a context's blocks, in document order, from the places of their
+/// parents, their left margins, the corners of their contents inside their border boxes, and their heights.
 pub fn corners(
     alloc: Global,
     parents: &[usize],
     margins: &[Unit],
+    insets: &[Corner],
     heights: &[Unit],
 ) -> Result<Vec<Corner>, NoMemory>
     requires few { length parents.now ≤ 16384 }
     requires tree { IsTree parents.now }
-    requires sized { AreSized parents.now margins.now heights.now }
-    ensures corners { IfOk result (λ v. HasCorners parents.now margins.now heights.now v.items) }
+    requires sized { AreSized parents.now margins.now insets.now heights.now }
+    ensures corners { IfOk result (λ v. HasCorners parents.now margins.now insets.now heights.now v.items) }
     ensures near { IfOk result (λ v. AreNear v.items) }
 {
     let mut corners = Vec::with_capacity(alloc, parents.len())?;
     let mut sums = vec![in alloc; Unit(0); parents.len()]?;
     for k in 0..parents.len() {
-        place(parents, margins, heights, &mut corners, &mut sums, k)?;
+        place(
+            parents,
+            margins,
+            insets,
+            heights,
+            &mut corners,
+            &mut sums,
+            k,
+        )?;
     }
     Ok(corners)
 }
@@ -36,6 +45,7 @@ pub fn corners(
 fn place(
     parents: &[usize],
     margins: &[Unit],
+    insets: &[Corner],
     heights: &[Unit],
     corners: &mut Vec<Corner>,
     sums: &mut Vec<Unit>,
@@ -44,9 +54,9 @@ fn place(
     requires few { length parents.now ≤ 16384 }
     requires tree { IsTree parents.now }
     requires place { k < length parents.now }
-    requires sized { AreSized parents.now margins.now heights.now }
-    requires known { CornersTo parents.now margins.now heights.now corners.old.items sums.old.items k }
-    ensures { OnOk result (CornersTo parents.now margins.now heights.now corners.new.items sums.new.items (k + 1)) }
+    requires sized { AreSized parents.now margins.now insets.now heights.now }
+    requires known { CornersTo parents.now margins.now insets.now heights.now corners.old.items sums.old.items k }
+    ensures { OnOk result (CornersTo parents.now margins.now insets.now heights.now corners.new.items sums.new.items (k + 1)) }
 {
     if k == 0 {
         push_corner(
@@ -58,7 +68,7 @@ fn place(
         )?;
         return Ok(());
     }
-    let corner = inner_corner(parents, margins, heights, corners, sums, k);
+    let corner = inner_corner(parents, margins, insets, heights, corners, sums, k);
     push_corner(corners, corner)?;
     add_at(sums, parent_at(parents, k), length_at(heights, k));
     Ok(())
@@ -68,6 +78,7 @@ fn place(
 fn inner_corner(
     parents: &[usize],
     margins: &[Unit],
+    insets: &[Corner],
     _heights: &[Unit],
     corners: &[Corner],
     sums: &[Unit],
@@ -77,15 +88,16 @@ fn inner_corner(
     requires tree { IsTree parents.now }
     requires place { k < length parents.now }
     requires positive { 0 < k }
-    requires sized { AreSized parents.now margins.now _heights.now }
-    requires known { CornersTo parents.now margins.now _heights.now corners.now sums.now k }
-    ensures { result ≡ corner_of parents.now margins.now _heights.now corners.now k }
+    requires sized { AreSized parents.now margins.now insets.now _heights.now }
+    requires known { CornersTo parents.now margins.now insets.now _heights.now corners.now sums.now k }
+    ensures { result ≡ corner_of parents.now margins.now insets.now _heights.now corners.now k }
 {
     let parent = parent_at(parents, k);
     let from = corner_at(corners, parent);
+    let inset = corner_at(insets, parent);
     Corner {
-        x: sum_of(from.x, length_at(margins, k)),
-        y: sum_of(from.y, length_at(sums, parent)),
+        x: sum_of(sum_of(from.x, inset.x), length_at(margins, k)),
+        y: sum_of(sum_of(from.y, inset.y), length_at(sums, parent)),
     }
 }
 

@@ -1,7 +1,8 @@
 //! Reading and writing a column of lengths.
 
 ghost use Rattle.std.specs.Prelude.{◌≡◌, ◌^◌, ◌<◌, pos, ◌+ℤ◌, ◌≤ℤ◌, length, slice_index, slice_set};
-ghost use Rattle.lay_units.specs.Units.{IsPosition, IsUsedSize};
+ghost use Rattle.lay_units.specs.Units.{IsPosition};
+ghost use Rattle.lay_flow.specs.CornersTo.{IsBoxHeight};
 ghost use Rattle.lay_flow.specs.StackedBlocks.{length_at, computed_at};
 
 use lay_units::{Len, Unit};
@@ -43,12 +44,12 @@ pub(crate) fn sum_of(a: Unit, b: Unit) -> Unit
     Unit(a.0 + b.0)
 }
 
-/// Adds a used size to a sum of such.
+/// Adds the height of a border box to a sum of such.
 pub(crate) fn add_at(column: &mut Vec<Unit>, k: usize, v: Unit)
     requires place { k < length column.old.items }
     requires least { pos 0 ≤ℤ length_at column.old.items k }
     requires most { length_at column.old.items k ≤ℤ pos (2 ^ 61) }
-    requires size { IsUsedSize v.0 }
+    requires size { IsBoxHeight v.0 }
     ensures { column.new.items ≡ slice_set column.old.items k (record { 0 = length_at column.old.items k +ℤ v.0 }) }
 {
     let sum = sum_of(length_at(column, k), v);
