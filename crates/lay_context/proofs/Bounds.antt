@@ -1,47 +1,31 @@
 -- The lengths of a layout are within their bounds.
-use Rattle.std.proofs.Common.{◌≡◌, ℕ, zero, suc, ◌<◌, ◌≤◌, ℤ, pos, ◌+ℤ◌, List, [], ◌∷◌, length, refl, sym, ◌∙◌, arith, subst, Option, Some, None, IfSome, slice_get, length-append}
+use Rattle.std.proofs.Common.{◌≡◌, ℕ, zero, suc, ◌<◌, ◌≤◌, ℤ, pos, ◌+ℤ◌, List, [], ◌∷◌, length, refl, sym, ◌∙◌, arith, subst, Some, None, IfSome, slice_get, length-append}
 use Rattle.std.proofs.lemmas.Int.{ints, clamps}
-use Rattle.lay_units.specs.Units.{clamp_of, clamp_size_of, IsUsed, IsUsedSize, IsPosition}
+use Rattle.lay_units.specs.Units.{clamp_of, clamp_size_of, percentage_of, IsUsed, IsUsedSize, IsPosition}
 use Rattle.lay_units.specs.declared.length.Unit.{Unit as Length}
 use Rattle.lay_units.specs.declared.records.Len.{Len}
+use Rattle.lay_units.specs.declared.records.Sides.{Sides}
 use Rattle.lay_units.specs.declared.records.Len.TheVariants.{Auto as auto, Of as of}
-use Rattle.lay_doc.specs.Values.{Declaration}
-use Rattle.lay_doc.specs.declared.property.Given.{Given}
-use Rattle.lay_doc.specs.declared.property.Given.TheVariants.{Length as given_length}
 use Rattle.lay_doc.specs.declared.node.Node.{Node}
 use Rattle.lay_doc.specs.declared.style.Style.{Style}
 use Rattle.lay_doc.specs.Document.{ids_of, parents_of}
-use Rattle.lay_doc.specs.ComputedStyle.{size_or_auto, margin_or_zero, computed_style, computed_styles}
+use Rattle.lay_doc.specs.ComputedStyle.{style_at}
 use Rattle.lay_frag.specs.declared.frag.Frag.{Frag}
 use Rattle.lay_frag.specs.Pieces.{moved, page_pieces, IsRectInRange, IsContextInRange, IsTreeInRange}
 use Rattle.lay_frag.proofs.PieceLemmas.{own_piece, inner_piece, length-page_pieces}
 use Rattle.lay_widths.specs.declared.widths.BlockOut.{BlockOut}
-use Rattle.lay_widths.specs.Lengths.{LenFits, LenIsSize}
+use Rattle.lay_doc.specs.declared.style_lengths.LengthPercentage.{LengthPercentage}
+use Rattle.lay_doc.specs.declared.style_lengths.LengthPercentage.TheVariants as measure
 use Rattle.lay_heights.specs.AutoHeights.{auto_height_of}
 use Rattle.lay_flow.specs.declared.corner.Corner.{Corner}
-use Rattle.lay_flow.specs.CornersTo.{AreSized}
-use Rattle.lay_flow.specs.StackedBlocks.{HasHeights, HasCorners, AreNear, used_height, content_height, length_at, computed_at}
-use Rattle.lay_context.specs.StylesFit.{StyleFits}
-use Rattle.lay_context.specs.WidthColumn.{HasWidths, widths_at, style_at}
-use Rattle.lay_context.specs.Solves.{ArePieces, box_piece, left_margins, root_context}
-
-size_fits : (given : Option Given) → LenIsSize (size_or_auto given)
-size_fits None = tt
-size_fits (Some (given_length u)) = (omega (arith, ints, clamps), omega (arith, ints, clamps))
-size_fits (Some _) = tt
-
-margin_fits : (given : Option Given) → LenFits (margin_or_zero given)
-margin_fits None = (omega (arith, ints), omega (arith, ints))
-margin_fits (Some (given_length u)) = (omega (arith, ints, clamps), omega (arith, ints, clamps))
-margin_fits (Some _) = tt
-
-style_fits : (ds : List Declaration) → StyleFits (computed_style ds)
-style_fits ds = record { width = size_fits _; margin_left = margin_fits _; margin_right = margin_fits _ }
-
-pub styles_fit : (nodes : List Node) (k : ℕ) → StyleFits (style_at (computed_styles nodes) k)
-styles_fit [] k = record { width = tt; margin_left = (omega (arith, ints), omega (arith, ints)); margin_right = (omega (arith, ints), omega (arith, ints)) }
-styles_fit (n ∷ ns) zero = style_fits n.decls
-styles_fit (n ∷ ns) (suc k) = styles_fit ns k
+use Rattle.lay_flow.specs.CornersTo.{AreSized, IsInset, IsBoxHeight}
+use Rattle.lay_flow.specs.HeightsFrom.{HaveEdges}
+use Rattle.lay_flow.specs.StackedBlocks.{HasHeights, HasCorners, AreNear, used_height, content_height, length_at, computed_at, corner_at}
+use Rattle.lay_context.specs.UsedLengths.{used_size, edge_of, edges_of}
+use Rattle.lay_context.specs.WidthColumn.{HasWidths, widths_at, containing_width}
+use Rattle.lay_context.specs.EdgeColumn.{HasEdges, edges_at, vertical_edges, insets}
+use Rattle.lay_context.specs.Bounds.{AreInsets, HaveInsets, HaveUsedWidths}
+use Rattle.lay_context.specs.Solves.{ArePieces, box_piece, box_width, left_margins, root_context}
 
 margin_is_used : (v : ℤ) → IsUsed (clamp_of v)
 margin_is_used v = (omega (arith, ints, clamps), omega (arith, ints, clamps))
@@ -71,16 +55,79 @@ margin_within viewport parents styles ws has k within = let e = (has.each k with
 pub width_within : (viewport : Length) (parents : List ℕ) (styles : List Style) (ws : List BlockOut) → HasWidths viewport parents styles ws → (k : ℕ) → k < length parents → IsUsedSize (widths_at ws k).width.0
 width_within viewport parents styles ws has k within = let e = (has.each k within).held.width in rw e (size_is_used (has.each k within).used.width)
 
-pub height_within : (parents : List ℕ) (computed : List Len) (hs : List Length) → HasHeights parents computed hs → (k : ℕ) → k < length parents → IsUsedSize (length_at hs k)
-height_within parents computed hs has k within = let e = has.each k within in rw e (height_is_used (computed_at computed k) (content_height parents hs k))
+-- a border and a padding are two used sizes
+size_used : (containing : Length) (size : LengthPercentage) → IsUsedSize (used_size containing size).0
+size_used containing (measure.Length u) = size_is_used u.0
+size_used containing (measure.Percent h) = size_is_used (percentage_of h.0 containing.0)
 
-pub are_sized : (viewport : Length) (parents : List ℕ) (styles : List Style) (computed : List Len) (ws : List BlockOut) (hs : List Length)
-    → HasWidths viewport parents styles ws → HasHeights parents computed hs → AreSized parents (left_margins ws) hs
-are_sized viewport parents styles computed ws hs widths heights = record {
+edge_is_inset : (containing border : Length) (padding : LengthPercentage) → IsInset (edge_of containing border padding).0
+edge_is_inset containing border padding =
+    let a = size_is_used border.0 in
+    let b = size_used containing padding in
+    (omega (arith, ints, a.0, b.0), omega (arith, ints, a.1, b.1))
+
+edges_are_insets : (containing : Length) (s : Style) → AreInsets (edges_of containing s)
+edges_are_insets containing s = record {
+  top = edge_is_inset containing s.border.width.top s.padding.top;
+  right = edge_is_inset containing s.border.width.right s.padding.right;
+  bottom = edge_is_inset containing s.border.width.bottom s.padding.bottom;
+  left = edge_is_inset containing s.border.width.left s.padding.left;
+}
+
+pub have_insets : (viewport : Length) (parents : List ℕ) (styles : List Style) (ws : List BlockOut) (es : List Sides) → HasEdges viewport parents styles ws es → HaveInsets es
+have_insets viewport parents styles ws es has k within = let e = has.each k (omega (arith, has.length_is)) in rw e (edges_are_insets (containing_width viewport parents ws k) (style_at styles k))
+
+pub have_used_widths : (viewport : Length) (parents : List ℕ) (styles : List Style) (ws : List BlockOut) → HasWidths viewport parents styles ws → HaveUsedWidths ws
+have_used_widths viewport parents styles ws has k within = width_within viewport parents styles ws has k (omega (arith, has.length_is))
+
+vertical_at : (es : List Sides) (k : ℕ) → length_at (vertical_edges es) k ≡ (edges_at es k).top.0 +ℤ (edges_at es k).bottom.0
+vertical_at [] k = refl
+vertical_at (e ∷ es) zero = refl
+vertical_at (e ∷ es) (suc k) = vertical_at es k
+
+length-vertical : (es : List Sides) → length (vertical_edges es) ≡ length es
+length-vertical [] = refl
+length-vertical (e ∷ es) = let r = length-vertical es in omega (arith, r)
+
+inset_x_at : (es : List Sides) (k : ℕ) → (corner_at (insets es) k).x ≡ (edges_at es k).left
+inset_x_at [] k = refl
+inset_x_at (e ∷ es) zero = refl
+inset_x_at (e ∷ es) (suc k) = inset_x_at es k
+
+inset_y_at : (es : List Sides) (k : ℕ) → (corner_at (insets es) k).y ≡ (edges_at es k).top
+inset_y_at [] k = refl
+inset_y_at (e ∷ es) zero = refl
+inset_y_at (e ∷ es) (suc k) = inset_y_at es k
+
+length-insets : (es : List Sides) → length (insets es) ≡ length es
+length-insets [] = refl
+length-insets (e ∷ es) = let r = length-insets es in omega (arith, r)
+
+pub have_edges : (viewport : Length) (parents : List ℕ) (styles : List Style) (ws : List BlockOut) (es : List Sides) → HasEdges viewport parents styles ws es → HaveEdges parents (vertical_edges es)
+have_edges viewport parents styles ws es has = record {
+  count = length-vertical es ∙ has.length_is;
+  least = λ k within. (let e = vertical_at es k in let i = have_insets viewport parents styles ws es has k (omega (arith, has.length_is)) in rw e (omega (arith, ints, i.top.0, i.bottom.0)));
+  most = λ k within. (let e = vertical_at es k in let i = have_insets viewport parents styles ws es has k (omega (arith, has.length_is)) in rw e (omega (arith, ints, i.top.1, i.bottom.1)));
+}
+
+pub height_within : (parents : List ℕ) (computed : List Len) (edges hs : List Length) → HaveEdges parents edges → HasHeights parents computed edges hs → (k : ℕ) → k < length parents → IsBoxHeight (length_at hs k)
+height_within parents computed edges hs edged has k within =
+    let e = has.each k within in
+    let used = height_is_used (computed_at computed k) (content_height parents hs k) in
+    let least = edged.least k within in
+    let most = edged.most k within in
+    rw e (omega (arith, ints, used.0, least), omega (arith, ints, used.1, most))
+
+pub are_sized : (viewport : Length) (parents : List ℕ) (styles : List Style) (computed : List Len) (ws : List BlockOut) (es : List Sides) (hs : List Length)
+    → HasWidths viewport parents styles ws → HasEdges viewport parents styles ws es → HasHeights parents computed (vertical_edges es) hs → AreSized parents (left_margins ws) (insets es) hs
+are_sized viewport parents styles computed ws es hs widths edges heights = record {
   margin_count = length-left_margins ws ∙ widths.length_is;
+  inset_count = length-insets es ∙ edges.length_is;
   height_count = heights.length_is;
   margin = λ k within. let e = left_margin_at ws k in rw e (margin_within viewport parents styles ws widths k within);
-  height = height_within parents computed hs heights;
+  height = height_within parents computed (vertical_edges es) hs (have_edges viewport parents styles ws es edges) heights;
+  inset_x = λ k within. (let e = inset_x_at es k in rw e ((have_insets viewport parents styles ws es edges k (omega (arith, edges.length_is))).left));
+  inset_y = λ k within. (let e = inset_y_at es k in rw e ((have_insets viewport parents styles ws es edges k (omega (arith, edges.length_is))).top));
 }
 
 -- what a member of a list has, the list has at its place
@@ -88,19 +135,21 @@ member_has : {X : Type 0} (P : X → Type 0) (xs : List X) (k : ℕ) (x : X) →
 member_has P xs k x is holds = subst (λ o. IfSome o P) (sym is) holds
 
 -- the boxes of a document are within their bounds
-pub record AreBounded (n : ℕ) (ws : List BlockOut) (hs : List Length) (cs : List Corner) : Type 0 where
+pub record AreBounded (n : ℕ) (ws : List BlockOut) (es : List Sides) (hs : List Length) (cs : List Corner) : Type 0 where
   pub margin : IsUsed (widths_at ws 0).margin_left.0
   pub width : (k : ℕ) → k < n → IsUsedSize (widths_at ws k).width.0
-  pub height : (k : ℕ) → k < n → IsUsedSize (length_at hs k)
+  pub edges : (k : ℕ) → k < n → AreInsets (edges_at es k)
+  pub height : (k : ℕ) → k < n → IsBoxHeight (length_at hs k)
   pub corner_count : length cs ≡ n
   pub near : AreNear cs
 
-pub bounded_boxes : (viewport : Length) (parents : List ℕ) (styles : List Style) (computed : List Len) (margins : List Length) (ws : List BlockOut) (hs : List Length) (cs : List Corner)
-    → HasWidths viewport parents styles ws → HasHeights parents computed hs → HasCorners parents margins hs cs → AreNear cs → 0 < length parents → AreBounded (length parents) ws hs cs
-bounded_boxes viewport parents styles computed margins ws hs cs widths heights corners near some = record {
+pub bounded_boxes : (viewport : Length) (parents : List ℕ) (styles : List Style) (computed : List Len) (margins : List Length) (places : List Corner) (ws : List BlockOut) (es : List Sides) (hs : List Length) (cs : List Corner)
+    → HasWidths viewport parents styles ws → HasEdges viewport parents styles ws es → HasHeights parents computed (vertical_edges es) hs → HasCorners parents margins places hs cs → AreNear cs → 0 < length parents → AreBounded (length parents) ws es hs cs
+bounded_boxes viewport parents styles computed margins places ws es hs cs widths edges heights corners near some = record {
   margin = margin_within viewport parents styles ws widths 0 some;
   width = width_within viewport parents styles ws widths;
-  height = height_within parents computed hs heights;
+  edges = λ k within. have_insets viewport parents styles ws es edges k (omega (arith, edges.length_is));
+  height = height_within parents computed (vertical_edges es) hs (have_edges viewport parents styles ws es edges) heights;
   corner_count = corners.length_is;
   near = near;
 }
@@ -113,54 +162,57 @@ pub length-parents : (nodes : List Node) → length (parents_of nodes) ≡ lengt
 length-parents [] = refl
 length-parents (n ∷ ns) = let e = length-parents ns in omega (arith, e)
 
-used_is_position : (v : ℤ) → IsUsedSize v → IsPosition v
-used_is_position v used = (omega (arith, ints, used.0, used.1), omega (arith, ints, used.0, used.1))
+height_is_position : (v : ℤ) → IsBoxHeight v → IsPosition v
+height_is_position v used = (omega (arith, ints, used.0, used.1), omega (arith, ints, used.0, used.1))
 
-piece_in_range : (n : ℕ) (ids : List ℕ) (ws : List BlockOut) (hs : List Length) (cs : List Corner) → AreBounded n ws hs cs → (k : ℕ) → k < n → IsRectInRange (box_piece ids ws hs cs k).rect
-piece_in_range n ids ws hs cs bounded k within =
+width_is_position : (w : BlockOut) (e : Sides) → IsUsedSize w.width.0 → AreInsets e → IsPosition (box_width w e).0
+width_is_position w e used inset = (omega (arith, ints, used.0, inset.left.0, inset.right.0), omega (arith, ints, used.1, inset.left.1, inset.right.1))
+
+piece_in_range : (n : ℕ) (ids : List ℕ) (ws : List BlockOut) (es : List Sides) (hs : List Length) (cs : List Corner) → AreBounded n ws es hs cs → (k : ℕ) → k < n → IsRectInRange (box_piece ids ws es hs cs k).rect
+piece_in_range n ids ws es hs cs bounded k within =
     let near = bounded.near k (omega (arith, bounded.corner_count)) in
     record {
       x = (omega (arith, ints, near.0.0), omega (arith, ints, near.0.1));
       y = (omega (arith, ints, near.1.0), omega (arith, ints, near.1.1));
-      w = used_is_position _ (bounded.width k within);
-      h = used_is_position _ (bounded.height k within);
+      w = width_is_position (widths_at ws k) (edges_at es k) (bounded.width k within) (bounded.edges k within);
+      h = height_is_position _ (bounded.height k within);
     }
 
 -- so are they where the page has them
-page_piece_in_range : (n : ℕ) (ids : List ℕ) (ws : List BlockOut) (hs : List Length) (cs : List Corner) (down : ℤ) → AreBounded n ws hs cs → down ≡ pos 0 → (k : ℕ) → k < n
-    → IsRectInRange (moved (widths_at ws 0).margin_left.0 down (box_piece ids ws hs cs k)).rect
-page_piece_in_range n ids ws hs cs down bounded top k within =
+page_piece_in_range : (n : ℕ) (ids : List ℕ) (ws : List BlockOut) (es : List Sides) (hs : List Length) (cs : List Corner) (down : ℤ) → AreBounded n ws es hs cs → down ≡ pos 0 → (k : ℕ) → k < n
+    → IsRectInRange (moved (widths_at ws 0).margin_left.0 down (box_piece ids ws es hs cs k)).rect
+page_piece_in_range n ids ws es hs cs down bounded top k within =
     let near = bounded.near k (omega (arith, bounded.corner_count)) in
     let margin = bounded.margin in
     record {
       x = (omega (arith, ints, near.0.0, near.0.1, margin.0, margin.1), omega (arith, ints, near.0.0, near.0.1, margin.0, margin.1));
       y = (omega (arith, ints, near.1.0, near.1.1, top), omega (arith, ints, near.1.0, near.1.1, top));
-      w = used_is_position _ (bounded.width k within);
-      h = used_is_position _ (bounded.height k within);
+      w = width_is_position (widths_at ws k) (edges_at es k) (bounded.width k within) (bounded.edges k within);
+      h = height_is_position _ (bounded.height k within);
     }
 
-pub root_in_range : (n : ℕ) (ids : List ℕ) (ws : List BlockOut) (hs : List Length) (cs : List Corner) (pieces : List Frag) → 0 < n → n ≤ 16384 → length ids ≡ n
-    → AreBounded n ws hs cs → ArePieces ids ws hs cs pieces → IsTreeInRange (root_context ids ws hs pieces ∷ [])
-root_in_range n ids ws hs cs pieces some few counted bounded are = record {
+pub root_in_range : (n : ℕ) (ids : List ℕ) (ws : List BlockOut) (es : List Sides) (hs : List Length) (cs : List Corner) (pieces : List Frag) → 0 < n → n ≤ 16384 → length ids ≡ n
+    → AreBounded n ws es hs cs → ArePieces ids ws es hs cs pieces → IsTreeInRange (root_context ids ws es hs pieces ∷ [])
+root_in_range n ids ws es hs cs pieces some few counted bounded are = record {
   contexts = λ j lt. let e : j ≡ 0 = omega arith in rw e context;
-  few = omega (arith, length-page_pieces (root_context ids ws hs pieces), length-append (page_pieces (root_context ids ws hs pieces)) [], are.length_is, counted);
+  few = omega (arith, length-page_pieces (root_context ids ws es hs pieces), length-append (page_pieces (root_context ids ws es hs pieces)) [], are.length_is, counted);
 }
   where
-    page : (k : ℕ) → k < length (page_pieces (root_context ids ws hs pieces)) → IfSome (slice_get (page_pieces (root_context ids ws hs pieces)) k) (λ f. IsRectInRange f.rect)
-    page zero lt = member_has (λ f. IsRectInRange f.rect) _ 0 _ (own_piece (root_context ids ws hs pieces) _ (are.each 0 (omega (arith, counted)))) (page_piece_in_range n ids ws hs cs (pos 0) bounded refl 0 some)
+    page : (k : ℕ) → k < length (page_pieces (root_context ids ws es hs pieces)) → IfSome (slice_get (page_pieces (root_context ids ws es hs pieces)) k) (λ f. IsRectInRange f.rect)
+    page zero lt = member_has (λ f. IsRectInRange f.rect) _ 0 _ (own_piece (root_context ids ws es hs pieces) _ (are.each 0 (omega (arith, counted)))) (page_piece_in_range n ids ws es hs cs (pos 0) bounded refl 0 some)
     page (suc k) lt =
-        let within : suc k < length ids = omega (arith, length-page_pieces (root_context ids ws hs pieces), are.length_is) in
-        member_has (λ f. IsRectInRange f.rect) _ (suc k) _ (inner_piece (root_context ids ws hs pieces) (suc k) _ (omega arith) (are.each (suc k) within)) (page_piece_in_range n ids ws hs cs (pos 0 +ℤ pos 0) bounded (omega (arith, ints)) (suc k) (omega (arith, counted)))
+        let within : suc k < length ids = omega (arith, length-page_pieces (root_context ids ws es hs pieces), are.length_is) in
+        member_has (λ f. IsRectInRange f.rect) _ (suc k) _ (inner_piece (root_context ids ws es hs pieces) (suc k) _ (omega arith) (are.each (suc k) within)) (page_piece_in_range n ids ws es hs cs (pos 0 +ℤ pos 0) bounded (omega (arith, ints)) (suc k) (omega (arith, counted)))
 
-    context : IsContextInRange (root_context ids ws hs pieces)
+    context : IsContextInRange (root_context ids ws es hs pieces)
     context = record {
       rect = record {
         x = (omega (arith, ints, bounded.margin.0, bounded.margin.1), omega (arith, ints, bounded.margin.0, bounded.margin.1));
         y = (omega (arith, ints), omega (arith, ints));
-        w = used_is_position _ (bounded.width 0 some);
-        h = used_is_position _ (bounded.height 0 some);
+        w = width_is_position (widths_at ws 0) (edges_at es 0) (bounded.width 0 some) (bounded.edges 0 some);
+        h = height_is_position _ (bounded.height 0 some);
       };
       shift = (omega (arith, ints), omega (arith, ints));
-      pieces = λ k lt. member_has (λ f. IsRectInRange f.rect) pieces k _ (are.each k (omega (arith, are.length_is))) (piece_in_range n ids ws hs cs bounded k (omega (arith, are.length_is, counted)));
+      pieces = λ k lt. member_has (λ f. IsRectInRange f.rect) pieces k _ (are.each k (omega (arith, are.length_is))) (piece_in_range n ids ws es hs cs bounded k (omega (arith, are.length_is, counted)));
       page = page;
     }

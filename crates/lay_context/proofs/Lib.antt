@@ -1,3 +1,5 @@
 pub mod WidthSteps
 pub mod Bounds
 pub mod OneTree
+pub mod EdgeSteps
+pub mod PieceSteps

@@ -2,20 +2,25 @@
 use Rattle.std.proofs.Common.{◌≡◌, ℕ, zero, suc, ◌<◌, ◌≤◌, List, [], ◌∷◌, length, refl, sym, ap, ◌∙◌, arith, inl, inr, subst, slice_get}
 use Rattle.std.proofs.lemmas.Bool.{cases_lt}
 use Rattle.lay_units.specs.declared.length.Unit.{Unit as Length}
+use Rattle.lay_units.specs.declared.records.Sides.{Sides}
 use Rattle.lay_doc.specs.Tree.{IsTree}
 use Rattle.lay_doc.specs.Document.{parents_of, ids_of}
-use Rattle.lay_doc.specs.ComputedStyle.{computed_styles}
+use Rattle.lay_doc.specs.LengthValues.{px}
+use Rattle.lay_doc.specs.ComputedStyle.{style_at, declarations_of}
+use Rattle.lay_doc.proofs.OneStyles.{same_list, one_style_column_lem}
 use Rattle.lay_doc.specs.declared.style.Style.{Style}
 use Rattle.lay_frag.specs.declared.frag.Frag.{Frag}
 use Rattle.lay_widths.specs.declared.widths.BlockOut.{BlockOut}
 use Rattle.lay_widths.specs.BlockWidths.{IsUsedBlock}
 use Rattle.lay_widths.proofs.Unique.{one_block_width_lem}
 use Rattle.lay_flow.specs.declared.corner.Corner.{Corner}
-use Rattle.lay_flow.specs.StackedBlocks.{HasCorners}
-use Rattle.lay_flow.proofs.OneColumn.{one_height_column_lem, one_corner_column_lem, same_list}
-use Rattle.lay_context.specs.WidthColumn.{HasWidths, block_of, containing_width, widths_at, style_at, no_widths, px}
-use Rattle.lay_context.specs.Solves.{ArePieces, computed_heights, left_margins}
-use Rattle.lay_context.specs.Laws.{OneSolution, OneWidthColumn}
+use Rattle.lay_flow.specs.StackedBlocks.{HasCorners, HasHeights}
+use Rattle.lay_flow.proofs.OneColumn.{one_height_column_lem, one_corner_column_lem}
+use Rattle.lay_context.specs.UsedLengths.{block_of}
+use Rattle.lay_context.specs.WidthColumn.{HasWidths, containing_width, widths_at, no_widths}
+use Rattle.lay_context.specs.EdgeColumn.{HasEdges, no_edges, vertical_edges, insets}
+use Rattle.lay_context.specs.Solves.{ArePieces, given_heights, left_margins}
+use Rattle.lay_context.specs.Laws.{OneSolution, OneWidthColumn, OneEdgeColumn}
 
 containing_same : (viewport : Length) (parents : List ℕ) (ws vs : List BlockOut) → IsTree parents → (k : ℕ) → k < length parents → ((j : ℕ) → j < k → widths_at ws j ≡ widths_at vs j) → containing_width viewport parents ws k ≡ containing_width viewport parents vs k
 containing_same viewport parents ws vs tree zero within same = refl
@@ -34,6 +39,9 @@ widths_to viewport parents styles ws vs tree a b (suc n) le k lt = elim (cases_l
 pub one_width_column_lem : OneWidthColumn
 one_width_column_lem viewport parents styles ws vs tree a b = same_list no_widths ws vs (a.length_is ∙ sym b.length_is) (λ k lt. widths_to viewport parents styles ws vs tree a b (length parents) (omega arith) k (omega (arith, a.length_is)))
 
+pub one_edge_column_lem : OneEdgeColumn
+one_edge_column_lem viewport parents styles ws es ds a b = same_list no_edges es ds (a.length_is ∙ sym b.length_is) (λ k lt. a.each k (omega (arith, a.length_is)) ∙ sym (b.each k (omega (arith, a.length_is))))
+
 same_members : {X : Type 0} (xs ys : List X) → length xs ≡ length ys → ((k : ℕ) → k < length xs → slice_get xs k ≡ slice_get ys k) → xs ≡ ys
 same_members [] [] e same = refl
 same_members [] (y ∷ ys) e same = absurd (omega arith)
@@ -44,15 +52,20 @@ same_members (x ∷ xs) (y ∷ ys) e same =
     let tail : xs ≡ ys = same_members xs ys (omega arith) (λ k lt. same (suc k) (omega arith)) in
     rw (head, tail) refl
 
-pieces_same : (ids : List ℕ) (ws : List BlockOut) (hs : List Length) (cs : List Corner) (s t : List Frag) → ArePieces ids ws hs cs s → ArePieces ids ws hs cs t → s ≡ t
-pieces_same ids ws hs cs s t a b = same_members s t (a.length_is ∙ sym b.length_is) (λ k lt. a.each k (omega (arith, a.length_is)) ∙ sym (b.each k (omega (arith, a.length_is))))
+pieces_same : (ids : List ℕ) (ws : List BlockOut) (es : List Sides) (hs : List Length) (cs : List Corner) (s t : List Frag) → ArePieces ids ws es hs cs s → ArePieces ids ws es hs cs t → s ≡ t
+pieces_same ids ws es hs cs s t a b = same_members s t (a.length_is ∙ sym b.length_is) (λ k lt. a.each k (omega (arith, a.length_is)) ∙ sym (b.each k (omega (arith, a.length_is))))
 
 pub one_solution_lem : OneSolution
 one_solution_lem d s t is a b =
     let parents : List ℕ = parents_of d.nodes in
-    let widths = one_width_column_lem (px d.width) parents (computed_styles d.nodes) a.widths b.widths is.tree a.has_widths b.has_widths in
-    let heights = one_height_column_lem parents (computed_heights (computed_styles d.nodes)) a.heights b.heights a.has_heights b.has_heights in
-    let placed = subst (λ (ws : List BlockOut). HasCorners parents (left_margins ws) a.heights b.corners) (sym widths) (subst (λ (hs : List Length). HasCorners parents (left_margins b.widths) hs b.corners) (sym heights) b.has_corners) in
-    let corners = one_corner_column_lem parents (left_margins a.widths) a.heights a.corners b.corners is.tree a.has_corners placed in
-    let pieces = pieces_same (ids_of d.nodes) b.widths b.heights b.corners a.pieces b.pieces (rw (← widths, ← heights, ← corners) a.are_pieces) b.are_pieces in
-    a.tree_is ∙ rw (widths, heights, pieces) refl ∙ sym b.tree_is
+    let styles = one_style_column_lem parents (declarations_of d.nodes) a.styles b.styles is.tree a.has_styles b.has_styles in
+    let wide : HasWidths (px d.width) parents a.styles b.widths = rw styles b.has_widths in
+    let widths = one_width_column_lem (px d.width) parents a.styles a.widths b.widths is.tree a.has_widths wide in
+    let edged : HasEdges (px d.width) parents a.styles a.widths b.edges = rw (styles, widths) b.has_edges in
+    let edges = one_edge_column_lem (px d.width) parents a.styles a.widths a.edges b.edges a.has_edges edged in
+    let high : HasHeights parents (given_heights a.styles) (vertical_edges a.edges) b.heights = rw (styles, edges) b.has_heights in
+    let heights = one_height_column_lem parents (given_heights a.styles) (vertical_edges a.edges) a.heights b.heights a.has_heights high in
+    let placed : HasCorners parents (left_margins a.widths) (insets a.edges) a.heights b.corners = rw (widths, edges, heights) b.has_corners in
+    let corners = one_corner_column_lem parents (left_margins a.widths) (insets a.edges) a.heights a.corners b.corners is.tree a.has_corners placed in
+    let pieces = pieces_same (ids_of d.nodes) b.widths b.edges b.heights b.corners a.pieces b.pieces (rw (← widths, ← edges, ← heights, ← corners) a.are_pieces) b.are_pieces in
+    a.tree_is ∙ rw (widths, edges, heights, pieces) refl ∙ sym b.tree_is

@@ -9,7 +9,10 @@ use Rattle.lay_doc.specs.Tree.{IsTree}
 use Rattle.lay_doc.specs.declared.style.Style.{Style}
 use Rattle.lay_widths.specs.declared.widths.BlockOut.{BlockOut}
 use Rattle.lay_widths.specs.BlockWidths.{IsUsedBlock}
-use Rattle.lay_context.specs.WidthColumn.{HasWidths, block_of, containing_width, widths_at, style_at, px}
+use Rattle.lay_doc.specs.LengthValues.{px}
+use Rattle.lay_doc.specs.ComputedStyle.{style_at}
+use Rattle.lay_context.specs.UsedLengths.{block_of}
+use Rattle.lay_context.specs.WidthColumn.{HasWidths, containing_width, widths_at}
 
 -- the boxes before n have their widths
 pub record WidthsTo (viewport : Length) (parents : List ℕ) (styles : List Style) (ws : List BlockOut) (n : ℕ) : Type 0 where

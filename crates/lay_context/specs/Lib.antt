@@ -1,4 +1,6 @@
+pub mod UsedLengths
 pub mod WidthColumn
-pub mod StylesFit
+pub mod EdgeColumn
+pub mod Bounds
 pub mod Solves
 pub mod Laws

@@ -2,8 +2,9 @@
 
 ghost use Rattle.std.specs.Prelude.{◌≡◌, IfOk};
 ghost use Rattle.lay_doc.specs.Document.{parents_of};
-ghost use Rattle.lay_context.specs.Solves.{computed_heights, left_margins};
+ghost use Rattle.lay_context.specs.Solves.{given_heights, left_margins};
 
+use crate::used_lengths::used_given_height;
 use lay_doc::{Node, Style};
 use lay_units::{Len, NoMemory, Unit};
 use lay_widths::BlockOut;
@@ -20,13 +21,13 @@ pub(crate) fn parents(alloc: Global, nodes: &[Node]) -> Result<Vec<usize>, NoMem
     Ok(parents)
 }
 
-/// The computed height of each box.
-pub(crate) fn computed_heights(alloc: Global, styles: &[Style]) -> Result<Vec<Len>, NoMemory>
-    ensures { IfOk result (λ v. v.items ≡ computed_heights styles.now) }
+/// The height that is given for each box.
+pub(crate) fn given_heights(alloc: Global, styles: &[Style]) -> Result<Vec<Len>, NoMemory>
+    ensures { IfOk result (λ v. v.items ≡ given_heights styles.now) }
 {
     let mut heights = Vec::with_capacity(alloc, styles.len())?;
     for style in styles {
-        heights.push(style.height)?;
+        heights.push(used_given_height(style.sizing.height))?;
     }
     Ok(heights)
 }

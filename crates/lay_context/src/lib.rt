@@ -5,11 +5,13 @@
 //! context. `specs/Laws.antt` says that a document has one tree.
 #![tactic(auto)]
 
+mod block_edges;
 mod block_widths;
 mod columns;
 mod laws;
 mod layout;
 mod pieces;
+mod used_lengths;
 
-pub use laws::{one_solution, one_width_column};
+pub use laws::{one_edge_column, one_solution, one_width_column};
 pub use layout::scratch;

@@ -1,14 +1,20 @@
 //! The pieces of a document's boxes, and the tree of its root's context.
 
-ghost use Rattle.std.specs.Prelude.{◌≡◌, ◌+◌, ◌<◌, ◌≤◌, [], ◌∷◌, ◌++◌, length, IfOk, OnOk};
+ghost use Rattle.std.specs.Prelude.{◌≡◌, ◌+ℤ◌, ◌+◌, ◌<◌, ◌≤◌, [], ◌∷◌, ◌++◌, length, IfOk, OnOk};
+ghost use Rattle.lay_units.specs.Units.{IsPosition, IsUsedSize};
 ghost use Rattle.lay_doc.specs.Document.{ids_of};
 ghost use Rattle.lay_frag.specs.Pieces.{IsTreeInRange};
-ghost use Rattle.lay_context.specs.Solves.{box_piece, ArePieces, root_context};
+ghost use Rattle.lay_context.specs.WidthColumn.{widths_at};
+ghost use Rattle.lay_context.specs.EdgeColumn.{edges_at};
+ghost use Rattle.lay_context.specs.Bounds.{AreInsets, HaveInsets, HaveUsedWidths};
+ghost use Rattle.lay_context.specs.Solves.{box_piece, box_width, ArePieces, root_context};
 
+use crate::block_edges::edges_at;
+use crate::block_widths::width_at;
 use lay_doc::Node;
 use lay_flow::Corner;
 use lay_frag::{Frag, FragKind, Pieces, Placed, Tree};
-use lay_units::{NoMemory, Rect, Unit};
+use lay_units::{NoMemory, Rect, Sides, Unit};
 use lay_widths::BlockOut;
 use std::alloc::Global;
 use std::sync::Arc;
@@ -18,17 +24,21 @@ pub(crate) fn pieces(
     alloc: Global,
     nodes: &[Node],
     widths: &[BlockOut],
+    edges: &[Sides],
     heights: &[Unit],
     corners: &[Corner],
 ) -> Result<Vec<Frag>, NoMemory>
     requires widths { length widths.now ≡ length nodes.now }
+    requires edges { length edges.now ≡ length nodes.now }
+    requires insets { HaveInsets edges.now }
+    requires used { HaveUsedWidths widths.now }
     requires heights { length heights.now ≡ length nodes.now }
     requires corners { length corners.now ≡ length nodes.now }
-    ensures { IfOk result (λ v. ArePieces (ids_of nodes.now) widths.now heights.now corners.now v.items) }
+    ensures { IfOk result (λ v. ArePieces (ids_of nodes.now) widths.now edges.now heights.now corners.now v.items) }
 {
     let mut pieces = Vec::with_capacity(alloc, nodes.len())?;
     for k in 0..nodes.len() {
-        pieces.push(box_piece(nodes, widths, heights, corners, k))?;
+        pieces.push(box_piece(nodes, widths, edges, heights, corners, k))?;
     }
     Ok(pieces)
 }
@@ -36,15 +46,19 @@ pub(crate) fn pieces(
 fn box_piece(
     nodes: &[Node],
     widths: &[BlockOut],
+    edges: &[Sides],
     heights: &[Unit],
     corners: &[Corner],
     k: usize,
 ) -> Frag
     requires node { k < length nodes.now }
     requires widths { k < length widths.now }
+    requires edges { k < length edges.now }
+    requires insets { HaveInsets edges.now }
+    requires used { HaveUsedWidths widths.now }
     requires heights { k < length heights.now }
     requires corners { k < length corners.now }
-    ensures { result ≡ box_piece (ids_of nodes.now) widths.now heights.now corners.now k }
+    ensures { result ≡ box_piece (ids_of nodes.now) widths.now edges.now heights.now corners.now k }
 {
     Frag {
         kind: FragKind::Box,
@@ -53,10 +67,38 @@ fn box_piece(
         rect: Rect {
             x: corners[k].x,
             y: corners[k].y,
-            w: widths[k].width,
+            w: box_width(widths, edges, k),
             h: heights[k],
         },
     }
+}
+
+/// The width of the border box at k.
+fn box_width(widths: &[BlockOut], edges: &[Sides], k: usize) -> Unit
+    requires width { k < length widths.now }
+    requires edge { k < length edges.now }
+    requires insets { HaveInsets edges.now }
+    requires used { HaveUsedWidths widths.now }
+    ensures { result ≡ box_width (widths_at widths.now k) (edges_at edges.now k) }
+{
+    box_width_of(width_at(widths, k), edges_at(edges, k))
+}
+
+fn box_width_of(width: Unit, sides: Sides) -> Unit
+    requires used { IsUsedSize width.0 }
+    requires insets { AreInsets sides }
+    ensures { result ≡ record { 0 = width.0 +ℤ sides.left.0 +ℤ sides.right.0 } }
+{
+    sum_of(sum_of(width, sides.left), sides.right)
+}
+
+/// The sum of two positions.
+fn sum_of(a: Unit, b: Unit) -> Unit
+    requires a { IsPosition a.0 }
+    requires b { IsPosition b.0 }
+    ensures { result ≡ record { 0 = a.0 +ℤ b.0 } }
+{
+    Unit(a.0 + b.0)
 }
 
 /// The tree of the root's context.
@@ -64,30 +106,43 @@ pub(crate) fn root_tree(
     alloc: Global,
     nodes: &[Node],
     widths: &[BlockOut],
+    edges: &[Sides],
     heights: &[Unit],
     pieces: Vec<Frag>,
 ) -> Result<Tree, NoMemory>
     requires node { 0 < length nodes.now }
     requires widths { 0 < length widths.now }
+    requires edges { 0 < length edges.now }
+    requires insets { HaveInsets edges.now }
+    requires used { HaveUsedWidths widths.now }
     requires heights { 0 < length heights.now }
-    requires range { IsTreeInRange (root_context (ids_of nodes.now) widths.now heights.now pieces.items ∷ []) }
-    ensures { IfOk result (λ t. t ≡ root_context (ids_of nodes.now) widths.now heights.now pieces.items ∷ []) }
+    requires range { IsTreeInRange (root_context (ids_of nodes.now) widths.now edges.now heights.now pieces.items ∷ []) }
+    ensures { IfOk result (λ t. t ≡ root_context (ids_of nodes.now) widths.now edges.now heights.now pieces.items ∷ []) }
 {
     let pieces = Arc::new(alloc, Pieces::new(pieces))?;
-    let contexts = vec![in alloc; root_placed(nodes, widths, heights, pieces)]?;
+    let contexts = vec![in alloc; root_placed(nodes, widths, edges, heights, pieces)]?;
     Ok(Tree::new(contexts))
 }
 
-fn root_placed(nodes: &[Node], widths: &[BlockOut], heights: &[Unit], pieces: Arc<Pieces>) -> Placed
+fn root_placed(
+    nodes: &[Node],
+    widths: &[BlockOut],
+    edges: &[Sides],
+    heights: &[Unit],
+    pieces: Arc<Pieces>,
+) -> Placed
     requires node { 0 < length nodes.now }
     requires widths { 0 < length widths.now }
+    requires edges { 0 < length edges.now }
+    requires insets { HaveInsets edges.now }
+    requires used { HaveUsedWidths widths.now }
     requires heights { 0 < length heights.now }
-    ensures { result ≡ root_context (ids_of nodes.now) widths.now heights.now pieces.value }
+    ensures { result ≡ root_context (ids_of nodes.now) widths.now edges.now heights.now pieces.value }
 {
     let rect = Rect {
         x: widths[0].margin_left,
         y: Unit(0),
-        w: widths[0].width,
+        w: box_width(widths, edges, 0),
         h: heights[0],
     };
     Placed::new(nodes[0].id, rect, Unit(0), pieces)

@@ -1,4 +1,4 @@
-use Rattle.lay_context.specs.WidthColumn.{px}
+use Rattle.lay_doc.specs.LengthValues.{px}
 use Rattle.lay_context.proofs.WidthSteps.{WidthsTo}
 use Rattle.lay_context.proofs.block_widths.widths.Given as goal
 

@@ -6,5 +6,5 @@ use Rattle.lay_context.proofs.pieces.pieces.Given as goal
 abbrev pub invariant-loop-k : goal.invariant-loop-k
 invariant-loop-k l = record {
   length_is : length l.pieces.items ≡ l.k;
-  each : (k : ℕ) → k < l.k → slice_get l.pieces.items k ≡ Some (box_piece (ids_of l.nodes) l.widths l.heights l.corners k);
+  each : (k : ℕ) → k < l.k → slice_get l.pieces.items k ≡ Some (box_piece (ids_of l.nodes) l.widths l.edges l.heights l.corners k);
 }
