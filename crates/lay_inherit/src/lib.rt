@@ -6,8 +6,10 @@
 mod cascade;
 mod initial;
 mod keywords;
+mod laws;
 mod lengths;
 mod style;
 mod styles;
 
+pub use laws::styles_fit;
 pub use styles::computed;
