@@ -120,7 +120,7 @@ fit_to : (parents : List ℕ) (decls : List (List Declaration)) (styles : List S
 fit_to parents decls styles tree has zero le k lt = absurd (omega arith)
 fit_to parents decls styles tree has (suc n) le k lt =
     subst StyleFits (sym (has.each k (omega arith))) (computed_fits (parent_style parents styles k) (declarations_at decls k)
-      (parent_fits parents styles tree k (omega arith) (λ j jl. fit_to parents decls styles tree has n (omega arith) j (omega arith))))
+    (parent_fits parents styles tree k (omega arith) (λ j jl. fit_to parents decls styles tree has n (omega arith) j (omega arith))))
 
 behind : (styles : List Style) (k : ℕ) → length styles ≤ k → style_at styles k ≡ initial_style
 behind [] k le = refl

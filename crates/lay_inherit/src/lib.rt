@@ -10,6 +10,8 @@ mod laws;
 mod lengths;
 mod style;
 mod styles;
+#[cfg(test)]
+mod tests;
 
 pub use laws::styles_fit;
 pub use styles::computed;
