@@ -1,49 +1,79 @@
-//! Computed styles.
+//! The styles of a document's nodes, from outer to inner ones.
 
-ghost use Rattle.std.specs.Prelude.{◌≡◌, Option, Some, None, IfOk};
-ghost use Rattle.lay_doc.specs.ComputedStyle.{size_or_auto, margin_or_zero, computed_style, computed_styles};
+ghost use Rattle.std.specs.Prelude.{◌≡◌, ◌+◌, ◌<◌, ◌∷◌, [], ◌++◌, length, slice_index, IfOk, OnOk};
+ghost use Rattle.lay_doc.specs.Tree.{IsTree};
+ghost use Rattle.lay_doc.specs.Document.{parents_of};
+ghost use Rattle.lay_doc.specs.ComputedStyle.{HasStyles, computed_style, style_at, parent_style, declarations_of, declarations_at};
+ghost use Rattle.lay_inherit.specs.StylesTo.{StylesTo};
 
-use lay_doc::{Computed, Decls, Doc, Given, Property, Style};
-use lay_units::{Len, NoMemory, Unit, clamp, clamp_size};
+use crate::initial::initial_style;
+use crate::style::computed_style;
+use lay_doc::{Computed, Decls, Doc, Node, Style};
+use lay_units::NoMemory;
 use std::alloc::Global;
 
 /// The computed styles of a document's nodes, in document order.
 pub fn computed(alloc: Global, doc: &Doc) -> Result<Computed, NoMemory>
-    ensures { IfOk result (λ c. c ≡ computed_styles doc.now.nodes) }
+    ensures { IfOk result (HasStyles (parents_of doc.now.nodes) (declarations_of doc.now.nodes)) }
 {
-    let mut styles = Vec::new(alloc);
-    for node in doc.nodes() {
-        styles.push(style(&node.decls))?;
+    let nodes = doc.nodes();
+    let mut styles = Vec::with_capacity(alloc, nodes.len())?;
+    for k in 0..nodes.len() {
+        push_style(nodes, &mut styles, k)?;
     }
     Ok(Computed::new(styles))
 }
 
-fn style(decls: &Decls) -> Style
-    ensures { result ≡ computed_style decls.now }
+/// Adds the style of the node at k to those of the nodes before it.
+fn push_style(nodes: &[Node], styles: &mut Vec<Style>, k: usize) -> Result<(), NoMemory>
+    requires tree { IsTree (parents_of nodes.now) }
+    requires place { k < length nodes.now }
+    requires known { StylesTo (parents_of nodes.now) (declarations_of nodes.now) styles.old.items k }
+    ensures { OnOk result (StylesTo (parents_of nodes.now) (declarations_of nodes.now) styles.new.items (k + 1)) }
 {
-    Style {
-        width: size_or_auto(decls.get(Property::Width)),
-        height: size_or_auto(decls.get(Property::Height)),
-        margin_left: margin_or_zero(decls.get(Property::MarginLeft)),
-        margin_right: margin_or_zero(decls.get(Property::MarginRight)),
-    }
+    let style = style_of(nodes, styles, k);
+    push(styles, style)?;
+    Ok(())
 }
 
-fn size_or_auto(given: Option<Given>) -> Len
-    ensures { result ≡ size_or_auto given }
+/// The style of the node at k.
+fn style_of(nodes: &[Node], styles: &[Style], k: usize) -> Style
+    requires tree { IsTree (parents_of nodes.now) }
+    requires place { k < length nodes.now }
+    requires known { StylesTo (parents_of nodes.now) (declarations_of nodes.now) styles.now k }
+    ensures { result ≡ computed_style (parent_style (parents_of nodes.now) styles.now k) (declarations_at (declarations_of nodes.now) k) }
 {
-    match given {
-        Some(Given::Length(length)) => Len::Of(clamp_size(i128::from(length.0))),
-        _ => Len::Auto,
+    if k == 0 {
+        return computed_style(&initial_style(), decls_at(nodes, k));
     }
+    let parent = parent_at(nodes, k);
+    computed_style(style_at(styles, parent), decls_at(nodes, k))
 }
 
-fn margin_or_zero(given: Option<Given>) -> Len
-    ensures { result ≡ margin_or_zero given }
+fn parent_at(nodes: &[Node], k: usize) -> usize
+    requires { k < length nodes.now }
+    ensures { result ≡ slice_index (parents_of nodes.now) k }
 {
-    match given {
-        None => Len::Of(Unit(0)),
-        Some(Given::Length(length)) => Len::Of(clamp(i128::from(length.0))),
-        Some(_) => Len::Auto,
-    }
+    nodes[k].parent
+}
+
+fn decls_at(nodes: &[Node], k: usize) -> &Decls
+    requires { k < length nodes.now }
+    ensures { result.now ≡ declarations_at (declarations_of nodes.now) k }
+{
+    &nodes[k].decls
+}
+
+fn style_at(styles: &[Style], k: usize) -> &Style
+    requires { k < length styles.now }
+    ensures { result.now ≡ style_at styles.now k }
+{
+    &styles[k]
+}
+
+fn push(styles: &mut Vec<Style>, style: Style) -> Result<(), NoMemory>
+    ensures { OnOk result (styles.new.items ≡ styles.old.items ++ style ∷ []) }
+{
+    styles.push(style)?;
+    Ok(())
 }

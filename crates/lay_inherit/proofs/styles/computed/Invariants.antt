@@ -1,6 +1,7 @@
-use Rattle.std.proofs.Common.{◌≡◌, take}
-use Rattle.lay_doc.specs.ComputedStyle.{computed_styles}
+use Rattle.lay_doc.specs.Document.{parents_of}
+use Rattle.lay_doc.specs.ComputedStyle.{declarations_of}
+use Rattle.lay_inherit.specs.StylesTo.{StylesTo}
 use Rattle.lay_inherit.proofs.styles.computed.Given as goal
 
-abbrev pub invariant-loop-node : goal.invariant-loop-node
-invariant-loop-node l = l.styles.items ≡ computed_styles (take l.node-index l.node-items)
+abbrev pub invariant-loop-k : goal.invariant-loop-k
+invariant-loop-k l = StylesTo (parents_of l.doc.nodes) (declarations_of l.doc.nodes) l.styles.items l.k

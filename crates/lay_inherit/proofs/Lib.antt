@@ -1,0 +1,3 @@
+pub mod StyleSteps
+pub mod ValuesFit
+pub mod StyleBounds
