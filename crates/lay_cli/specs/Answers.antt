@@ -1,58 +1,89 @@
 -- Which text answers which words and which bytes.
--- The words are the one word `scratch`, or else wrong. The bytes are a run document of plain blocks, whose
--- answer is the report of a tree that solves its document; or they are refused with one line.
-use Rattle.std.specs.Prelude.{ℕ, ◌≡◌, ◌<◌, ◌≤◌, List, [], ◌∷◌, length, take, map, codes, string_bytes, String, Option, Some, None, IsUtf8}
+-- The words are the one word `scratch`, or else wrong. The bytes are a run document whose nodes are all laid
+-- out, and whose answer is the report of a tree that solves its document, its editors taken as none; or they
+-- are refused with one line: for the first fault that they have, or else for the first node that isn't laid
+-- out.
+use Rattle.std.specs.Prelude.{ℕ, ◌≡◌, ◌≢◌, ◌≤◌, List, [], ◌∷◌, length, take, map, codes, string_bytes, String, Option, Some, None, Ok, Err}
 use Rattle.std.specs.declared.alloc.Global.{Global}
-use Rattle.serde_json.specs.Data.{Data}
-use Rattle.serde_json.specs.Read.{read}
 use Rattle.lay_outside.specs.Outside.{Took}
-use Rattle.lay_doc.specs.Document.{Document}
+use Rattle.lay_doc.specs.declared.style.Style.{Style}
+use Rattle.lay_doc.specs.Document.{parents_of}
+use Rattle.lay_doc.specs.ComputedStyle.{HasStyles, declarations_of}
 use Rattle.lay_frag.specs.Pieces.{Context}
 use Rattle.lay_context.specs.Solves.{Solves}
 use Rattle.lay_report.specs.Report.{scratch_report}
-use Rattle.lay_cli.specs.PlainRun.{run_of}
+use Rattle.lay_json.specs.declared.fault.InputFault.{InputFault}
+use Rattle.lay_json.specs.declared.fault.InputFault.TheVariants.{NoMemory}
+use Rattle.lay_json.specs.Runs.{Run}
+use Rattle.lay_json.specs.Reading.{IsReading}
+use Rattle.lay_cli.specs.Built.{first_unbuilt}
+use Rattle.lay_cli.specs.Refusals.{fault_line, unbuilt_line}
+use Rattle.lay_cli.specs.declared.answer.Answer.{Answer}
+use Rattle.lay_cli.specs.declared.answer.Answer.TheVariants.{Report, Refusal}
 
 -- the one word `scratch`
 abbrev pub IsScratch : List (String Global) → Type 0
 IsScratch words = map string_bytes words ≡ codes "scratch" ∷ []
 
--- the bytes are a JSON text of this value, nested at most 127 deep
-abbrev pub IsJson : List ℕ → Data → Type 0
-IsJson bytes run = IsUtf8 bytes × (read bytes ≡ Some run)
+-- these are the computed styles of the run's nodes
+abbrev pub AreStyles : Run → List Style → Type 0
+AreStyles run styles = HasStyles (parents_of run.doc.nodes) (declarations_of run.doc.nodes) styles
 
--- the bytes are no such text
-abbrev pub IsNoJson : List ℕ → Type 0
-IsNoJson bytes = IsUtf8 bytes → read bytes ≡ None
+-- the place in the list `nodes` of the first node that isn't laid out
+abbrev pub unbuilt_place : Run → List Style → Option ℕ
+unbuilt_place run styles = first_unbuilt run.doc.nodes styles run.listed
 
--- the bytes spell this document
-pub record Spells (bytes : List ℕ) (document : Document) : Type 0 where
-  pub run : Data
-  pub json : IsJson bytes run
-  pub is : run_of run ≡ Some document
+-- the first node that isn't laid out stands there, or none: the computed styles are there, and decide it
+pub record IsUnbuiltPlace (run : Run) (place : Option ℕ) : Type 0 where
+  pub styles : List Style
+  pub are_styles : AreStyles run styles
+  pub decided : (computed : List Style) → AreStyles run computed → unbuilt_place run computed ≡ place
 
--- the text is the report of a tree that solves the document which the bytes spell
-pub record IsLayoutOf (bytes text : List ℕ) : Type 0 where
-  pub document : Document
-  pub spells : Spells bytes document
+-- all nodes of a run are laid out
+abbrev pub IsBuilt : Run → Type 0
+IsBuilt run = IsUnbuiltPlace run None
+
+-- the bytes spell this run, and all its nodes are laid out
+abbrev pub Spells : List ℕ → Run → Type 0
+Spells bytes run = IsReading bytes (Ok run) × IsBuilt run
+
+-- the text is the report of a tree that solves the run's document
+pub record IsRunReport (run : Run) (text : List ℕ) : Type 0 where
+  pub built : IsBuilt run
   pub tree : List Context
-  pub solves : Solves document tree
+  pub solves : Solves run.doc tree
   pub text_is : text ≡ scratch_report tree
 
--- the same, for at most 16,777,216 bytes
+-- the line names the first node of the run that isn't laid out
+pub record IsRunRefusal (run : Run) (line : List ℕ) : Type 0 where
+  pub place : ℕ
+  pub unbuilt : IsUnbuiltPlace run (Some place)
+  pub line_is : line ≡ unbuilt_line place
+
+-- the text is the report of a tree that solves the document which the bytes spell
 pub record IsReport (bytes text : List ℕ) : Type 0 where
-  pub within : length bytes ≤ 16777216
-  pub layout : IsLayoutOf bytes text
+  pub run : Run
+  pub reading : IsReading bytes (Ok run)
+  pub report : IsRunReport run text
 
 -- why bytes are refused, and the line that says so
 pub data IsRefusal (bytes line : List ℕ) : Type 0 where
-  too_long : 16777216 < length bytes → line ≡ codes "refused I1\n" → IsRefusal bytes line
-  bad_json : length bytes ≤ 16777216 → IsNoJson bytes → line ≡ codes "refused I2\n" → IsRefusal bytes line
-  not_plain : (run : Data) → length bytes ≤ 16777216 → IsJson bytes run → run_of run ≡ None → line ≡ codes "refused NotBuilt 0\n" → IsRefusal bytes line
+  faulty : (fault : InputFault) → fault ≢ NoMemory → IsReading bytes (Err fault) → line ≡ fault_line fault → IsRefusal bytes line
+  unbuilt : (run : Run) → IsReading bytes (Ok run) → IsRunRefusal run line → IsRefusal bytes line
 
 -- a text that answers the bytes
 pub data IsAnswer (bytes text : List ℕ) : Type 0 where
   report : IsReport bytes text → IsAnswer bytes text
   refused : IsRefusal bytes text → IsAnswer bytes text
+
+-- the report or the line of a refusal, for a run, and for bytes
+abbrev pub AnswersRun : Run → Answer → Type 0
+AnswersRun run (Report text) = IsRunReport run text
+AnswersRun run (Refusal line) = IsRunRefusal run line
+
+abbrev pub AnswersBytes : List ℕ → Answer → Type 0
+AnswersBytes bytes (Report text) = IsReport bytes text
+AnswersBytes bytes (Refusal line) = IsRefusal bytes line
 
 -- a front of the text was taken
 abbrev pub TookFront : Option (List ℕ) → Option (List ℕ) → List ℕ → Type 0

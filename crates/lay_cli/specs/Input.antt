@@ -1,8 +1,8 @@
 -- What was read of a source.
 use Rattle.std.specs.Prelude.{ℕ, ◌≡◌, ◌<◌, List, [], ◌++◌, length, Option, Some, IfSome}
 use Rattle.lay_outside.specs.Outside.{Rose}
-use Rattle.lay_cli.specs.declared.input.InputFault.{InputFault}
-use Rattle.lay_cli.specs.declared.input.InputFault.TheVariants.{TooLong, Failed, NoMemory}
+use Rattle.lay_cli.specs.declared.input.SourceFault.{SourceFault}
+use Rattle.lay_cli.specs.declared.input.SourceFault.TheVariants.{TooLong, Failed, NoMemory}
 
 -- these were all the bytes that were left, where they are told
 abbrev pub WasAll : Option (List ℕ) → List ℕ → Type 0
@@ -17,7 +17,7 @@ abbrev pub WasFirst : Option (List ℕ) → Option (List ℕ) → List ℕ → T
 WasFirst left now bytes = IfSome left (λ all. (rest : List ℕ) × (now ≡ Some rest) × (all ≡ bytes ++ rest))
 
 -- when each fault comes
-abbrev pub IsCause : ℕ → ℕ → Option (List ℕ) → InputFault → Type 0
+abbrev pub IsCause : ℕ → ℕ → Option (List ℕ) → SourceFault → Type 0
 IsCause old new left TooLong = IfSome left (λ all. 16777216 < length all)
 IsCause old new left Failed = Rose old new
 IsCause old new left NoMemory = Unit {0}

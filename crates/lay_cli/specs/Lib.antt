@@ -1,6 +1,5 @@
-pub mod Numbers
-pub mod PlainRun
-pub mod Reading
+pub mod Built
+pub mod Refusals
 pub mod Input
 pub mod Answers
 pub mod Statuses

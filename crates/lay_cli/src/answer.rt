@@ -1,61 +1,50 @@
-//! The report for the bytes of a run document.
+//! The answer to the bytes of a run document.
 
-ghost use Rattle.std.specs.Prelude.{◌≡◌, List, Err, IfOk, string_bytes};
-ghost use Rattle.serde_json.specs.Data.{Data};
+ghost use Rattle.std.specs.Prelude.{◌≡◌, IfOk};
 ghost use Rattle.lay_frag.specs.Pieces.{Context};
 ghost use Rattle.lay_context.specs.Solves.{Solves};
 ghost use Rattle.lay_report.specs.Report.{scratch_report};
-ghost use Rattle.lay_cli.specs.PlainRun.{run_of};
-ghost use Rattle.lay_cli.specs.Answers.{IsLayoutOf, IsJson, IsNoJson};
+ghost use Rattle.lay_cli.specs.Answers.{AnswersRun, AnswersBytes};
 
-use crate::plain::{ReadFault, read_run};
+use crate::built::first_unbuilt;
+use crate::refusal::{fault_line, unbuilt_line};
 use lay_context::scratch;
 use lay_doc::Doc;
+use lay_inherit::computed;
+use lay_json::{InputFault, RunDoc, read_run};
 use lay_report::scratch_report;
 use lay_units::{NoMemory, Text};
-use serde_json::{Category, Value};
 use std::alloc::Global;
 
-/// Why there is no report.
-#[derive(Clone, Copy, Debug, PartialEq, Eq)]
-pub enum Refusal {
-    /// The bytes have no JSON reading.
-    BadJson,
-    /// The run isn't plain.
-    NotPlain,
-    /// Memory ran out.
-    NoMemory,
+/// A text that answers bytes.
+#[derive(Drop, Debug)]
+pub enum Answer {
+    /// The report of their document's layout.
+    Report(Text),
+    /// The line that says why they are refused.
+    Refusal(Text),
 }
 
-impl From<NoMemory> for Refusal {
-    ghost use Rattle.std.specs.Prelude.{◌≡◌};
-    ghost use Rattle.lay_cli.specs.declared.answer.Refusal.TheVariants.{NoMemory as ran_out};
-
-    ghost from_gives = { λ _ e. e ≡ ran_out };
-
-    fn from(_: NoMemory) -> Refusal {
-        Refusal::NoMemory
+/// The answer to these bytes.
+pub(crate) fn answer_to(alloc: Global, bytes: &[u8]) -> Result<Answer, NoMemory>
+    ensures { IfOk result (AnswersBytes bytes.now) }
+{
+    match read_run(alloc, bytes) {
+        Ok(run) => answer_for(alloc, &run),
+        Err(InputFault::NoMemory) => Err(NoMemory),
+        Err(fault) => Ok(Answer::Refusal(fault_line(alloc, fault)?)),
     }
 }
 
-/// The report for these bytes.
-pub(crate) fn report_for(alloc: Global, bytes: &[u8]) -> Result<Text, Refusal>
-    ensures report { IfOk result (IsLayoutOf bytes.now) }
-    ensures bad_json { result ≡ Err Refusal.BadJson → IsNoJson bytes.now }
-    ensures not_plain { result ≡ Err Refusal.NotPlain → (run : Data) × IsJson bytes.now run × (run_of run ≡ None) }
+/// The answer for a run: its first node that isn't laid out, or the report of its document's layout.
+fn answer_for(alloc: Global, run: &RunDoc) -> Result<Answer, NoMemory>
+    ensures { IfOk result (AnswersRun run.now) }
 {
-    let value = match Value::from_slice(alloc, bytes) {
-        Ok(value) => value,
-        Err(e) if e.classify() == Category::Memory => return Err(Refusal::NoMemory),
-        Err(_) => return Err(Refusal::BadJson),
-    };
-    let doc = match read_run(alloc, &value) {
-        Ok(doc) => doc,
-        Err(ReadFault::NotPlain) => return Err(Refusal::NotPlain),
-        Err(ReadFault::NoMemory) => return Err(Refusal::NoMemory),
-    };
-    let text = report(alloc, &doc)?;
-    Ok(text)
+    let computed = computed(alloc, run.doc())?;
+    match first_unbuilt(run.doc(), computed.as_slice(), run.listed().as_slice()) {
+        Some(place) => Ok(Answer::Refusal(unbuilt_line(alloc, place)?)),
+        None => Ok(Answer::Report(report(alloc, run.doc())?)),
+    }
 }
 
 fn report(alloc: Global, doc: &Doc) -> Result<Text, NoMemory>

@@ -1,13 +1,13 @@
 //! The call that the program makes.
 
-ghost use Rattle.std.specs.Prelude.{◌≡◌, ◌≢◌, ◌⊎◌, ◌↔◌, ℕ, ◌<◌, ◌≤◌, List, [], ◌∷◌, length, codes, Some, Option, IfSome, IsTrue};
+ghost use Rattle.std.specs.Prelude.{◌≡◌, ◌≢◌, ◌⊎◌, ◌↔◌, ℕ, ◌<◌, List, [], ◌∷◌, codes, Some, Option, IfSome, IsTrue};
 ghost use Rattle.lay_outside.specs.Outside.{Rose, Took, IsQuiet};
-ghost use Rattle.lay_doc.specs.Document.{Document};
+ghost use Rattle.lay_json.specs.Runs.{Run};
 ghost use Rattle.lay_cli.specs.Input.{IsDrained};
 ghost use Rattle.lay_cli.specs.Answers.{IsScratch, Spells, IsReport, IsRefusal, IsAnswer, TookFront};
 
-use crate::answer::{Refusal, report_for};
-use crate::input::{InputFault, read_all};
+use crate::answer::{Answer, answer_to};
+use crate::input::{SourceFault, read_all};
 use crate::output::write_all;
 use lay_outside::{Gate, Sink, Source};
 use std::alloc::Global;
@@ -49,7 +49,8 @@ impl Status {
     }
 }
 
-/// Lays out the run document that the source has left, and writes the report into the sink.
+/// Lays out the run document that the source has left, its editors taken as none, and writes the report
+/// into the sink; or writes the line of the bytes' first fault, or of the first node that isn't laid out yet.
 pub fn top<R: Threads + Wait + Sync, S: Source, K: Sink, G: Gate + Sync>(
     _rt: &R,
     alloc: Global,
@@ -77,9 +78,10 @@ pub fn top<R: Threads + Wait + Sync, S: Source, K: Sink, G: Gate + Sync>(
     ensures unread { (IsScratch words.now → ⊥) → (S.left source.new ≡ S.left source.old) × (S.faults source.new ≡ S.faults source.old) }
     ensures wrong_words { (IsScratch words.now → ⊥) → (result ≡ Status.Usage) ⊎ (result ≡ Status.WriteFault) }
 
-    // Without faults, a plain run has its report and any other input its refusal, but for want of memory.
+    // Without faults, a run whose nodes are all laid out has its report and any other input its refusal, but
+    // for want of memory.
     ensures complete { IsScratch words.now → IsQuiet (S.faults source.old) (S.faults source.new) → IsQuiet (K.faults sink.old) (K.faults sink.new)
-        → IfSome (S.left source.old) (λ bytes. (document : Document) → length bytes ≤ 16777216 → Spells bytes document → (result ≡ Status.Ok) ⊎ (result ≡ Status.NoMemory)) }
+        → IfSome (S.left source.old) (λ bytes. (run : Run) → Spells bytes run → (result ≡ Status.Ok) ⊎ (result ≡ Status.NoMemory)) }
     ensures refuses { IsScratch words.now → IsQuiet (S.faults source.old) (S.faults source.new) → IsQuiet (K.faults sink.old) (K.faults sink.new)
         → IfSome (S.left source.old) (λ bytes. (line : List ℕ) → IsRefusal bytes line → (result ≡ Status.Refused) ⊎ (result ≡ Status.NoMemory)) }
 {
@@ -103,15 +105,14 @@ fn answered<S: Source, K: Sink>(alloc: Global, source: &mut S, sink: &mut K) -> 
 {
     let bytes = match read_all(alloc, source) {
         Ok(bytes) => bytes,
-        Err(InputFault::TooLong) => return told(sink, "refused I1\n", Status::Refused),
-        Err(InputFault::Failed) => return Status::ReadFault,
-        Err(InputFault::NoMemory) => return Status::NoMemory,
+        Err(SourceFault::TooLong) => return told(sink, "refused I1\n", Status::Refused),
+        Err(SourceFault::Failed) => return Status::ReadFault,
+        Err(SourceFault::NoMemory) => return Status::NoMemory,
     };
-    match report_for(alloc, &bytes) {
-        Ok(text) => told(sink, text.as_str(), Status::Ok),
-        Err(Refusal::BadJson) => told(sink, "refused I2\n", Status::Refused),
-        Err(Refusal::NotPlain) => told(sink, "refused NotBuilt 0\n", Status::Refused),
-        Err(Refusal::NoMemory) => Status::NoMemory,
+    match answer_to(alloc, &bytes) {
+        Ok(Answer::Report(text)) => told(sink, text.as_str(), Status::Ok),
+        Ok(Answer::Refusal(line)) => told(sink, line.as_str(), Status::Refused),
+        Err(_) => Status::NoMemory,
     }
 }
 

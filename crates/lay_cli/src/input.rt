@@ -12,7 +12,7 @@ const MOST: usize = 16777216;
 
 /// Why the input isn't there.
 #[derive(Clone, Copy, Debug, PartialEq, Eq)]
-pub enum InputFault {
+pub enum SourceFault {
     /// More than 16,777,216 bytes come.
     TooLong,
     /// A read failed.
@@ -22,7 +22,7 @@ pub enum InputFault {
 }
 
 /// All bytes that a source has left, at most 16,777,216.
-pub(crate) fn read_all<S: Source>(alloc: Global, source: &mut S) -> Result<Vec<u8>, InputFault>
+pub(crate) fn read_all<S: Source>(alloc: Global, source: &mut S) -> Result<Vec<u8>, SourceFault>
     ensures all { IfOk result (λ v. WasAll (S.left source.old) v.items) }
     ensures drained { OnOk result (IsDrained (S.left source.old) (S.left source.new)) }
     ensures within { IfOk result (λ v. length v.items ≤ 16777216) }
@@ -36,21 +36,21 @@ pub(crate) fn read_all<S: Source>(alloc: Global, source: &mut S) -> Result<Vec<u
             Ok(n) => {
                 extend(&mut bytes, &buffer[..n])?;
                 if bytes.len() > MOST {
-                    return Err(InputFault::TooLong);
+                    return Err(SourceFault::TooLong);
                 }
             }
-            Err(_) => return Err(InputFault::Failed),
+            Err(_) => return Err(SourceFault::Failed),
         }
     }
-    Err(InputFault::TooLong)
+    Err(SourceFault::TooLong)
 }
 
-fn extend(bytes: &mut Vec<u8>, piece: &[u8]) -> Result<(), InputFault>
+fn extend(bytes: &mut Vec<u8>, piece: &[u8]) -> Result<(), SourceFault>
     ensures ok { OnOk result (bytes.new.items ≡ bytes.old.items ++ piece.now) }
-    ensures err { IfErr result (λ e. e ≡ InputFault.NoMemory) }
+    ensures err { IfErr result (λ e. e ≡ SourceFault.NoMemory) }
 {
     match bytes.extend_from_slice(piece) {
         Ok(()) => Ok(()),
-        Err(_) => Err(InputFault::NoMemory),
+        Err(_) => Err(SourceFault::NoMemory),
     }
 }

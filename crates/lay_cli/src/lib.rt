@@ -2,15 +2,16 @@
 //! of a report.
 //!
 //! `specs/Answers.antt` says which text answers which words and bytes: the report of a tree that solves
-//! the document which the bytes spell, or the one line of a refusal. What a run document of plain blocks
-//! is, is said in `specs/PlainRun.antt`.
+//! the document which the bytes spell, or the one line of a refusal (`specs/Refusals.antt`), which names the
+//! first fault of the run document or the first node that isn't laid out yet (`specs/Built.antt`).
 #![tactic(auto)]
 
 mod answer;
+mod built;
 mod call;
 mod input;
 mod output;
-mod plain;
+mod refusal;
 #[cfg(test)]
 mod tests;
 

@@ -77,7 +77,8 @@ fn push_reply(text: &mut String, reply: Reply) -> Result<(), NoMemory>
     }
 }
 
-fn push_number(text: &mut String, word: &str, number: u64) -> Result<(), NoMemory>
+/// Adds a word and a number.
+pub fn push_number(text: &mut String, word: &str, number: u64) -> Result<(), NoMemory>
     ensures { OnOk result (string_bytes text.new ≡ string_bytes text.old ++ word.now ++ decimal number) }
 {
     text.push_str(word)?;
@@ -86,7 +87,7 @@ fn push_number(text: &mut String, word: &str, number: u64) -> Result<(), NoMemor
 }
 
 /// The number of a fault, from 1 to 11.
-fn fault_number(fault: EditFault) -> u64
+pub fn fault_number(fault: EditFault) -> u64
     ensures { result ≡ fault_number fault }
 {
     match fault {

@@ -6,5 +6,5 @@
 mod entry;
 mod report;
 
-pub use entry::push_entry;
+pub use entry::{fault_number, push_entry, push_number};
 pub use report::scratch_report;

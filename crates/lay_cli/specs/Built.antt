@@ -1,0 +1,98 @@
+-- Which nodes are laid out so far. Others are refused by their place in the list `nodes` of the run document.
+use Rattle.std.specs.Prelude.{ℕ, suc, pos, ◌==◌, ◌&&◌, List, [], ◌∷◌, Bool, true, false, not, is_none, Option, Some, None, option_map, if◌then◌else◌}
+use Rattle.std.specs.Ordering.{int_eq}
+use Rattle.lay_doc.specs.declared.node.NodeId.{NodeId}
+use Rattle.lay_doc.specs.declared.node.Node.{Node}
+use Rattle.lay_doc.specs.declared.style.Style.{Style}
+use Rattle.lay_doc.specs.declared.style_words.Display.{Display}
+use Rattle.lay_doc.specs.declared.style_words.Display.TheVariants as display
+use Rattle.lay_doc.specs.declared.style_words.Position.{Position}
+use Rattle.lay_doc.specs.declared.style_words.Position.TheVariants as position
+use Rattle.lay_doc.specs.declared.style_words.Float.{Float}
+use Rattle.lay_doc.specs.declared.style_words.Float.TheVariants as float
+use Rattle.lay_doc.specs.declared.style_words.Clear.{Clear}
+use Rattle.lay_doc.specs.declared.style_words.Clear.TheVariants as clear
+use Rattle.lay_doc.specs.declared.style_words.Overflow.{Overflow}
+use Rattle.lay_doc.specs.declared.style_words.Overflow.TheVariants as overflow
+use Rattle.lay_doc.specs.declared.style_lengths.LengthPercentageOrAuto.{LengthPercentageOrAuto}
+use Rattle.lay_doc.specs.declared.style_lengths.LengthPercentageOrAuto.TheVariants as or_auto
+use Rattle.lay_doc.specs.declared.style_lengths.LengthPercentage.{LengthPercentage}
+use Rattle.lay_doc.specs.declared.style_lengths.LengthPercentage.TheVariants as measure
+use Rattle.lay_doc.specs.declared.style_lengths.LengthPercentageOrNone.{LengthPercentageOrNone}
+use Rattle.lay_doc.specs.declared.style_lengths.LengthPercentageOrNone.TheVariants as or_none
+use Rattle.lay_doc.specs.Document.{ids_of, place_of, is_element_at}
+use Rattle.lay_doc.specs.ComputedStyle.{style_at}
+
+-- whether an element in flow becomes a `block` (CSS 2.2, 9.2.1 and 9.7); the root changes what is neither
+-- `none` nor a table into one
+abbrev pub is_block : Bool → Display → Bool
+is_block is_root display.Block = true
+is_block is_root display.ListItem = true
+is_block is_root display.None = false
+is_block is_root display.Table = false
+is_block is_root display.InlineTable = false
+is_block is_root _ = is_root
+
+abbrev pub is_static : Position → Bool
+is_static position.Static = true
+is_static _ = false
+
+abbrev pub is_no_float : Float → Bool
+is_no_float float.None = true
+is_no_float _ = false
+
+abbrev pub is_no_clear : Clear → Bool
+is_no_clear clear.None = true
+is_no_clear _ = false
+
+abbrev pub is_visible : Overflow → Bool
+is_visible overflow.Visible = true
+is_visible _ = false
+
+-- a margin above or below that is `auto` or 0, which 10.6.3 makes 0
+abbrev pub is_no_margin : LengthPercentageOrAuto → Bool
+is_no_margin or_auto.Auto = true
+is_no_margin (or_auto.Length u) = int_eq u.0 (pos 0)
+is_no_margin (or_auto.Percent h) = false
+
+abbrev pub is_no_least : LengthPercentage → Bool
+is_no_least (measure.Length u) = int_eq u.0 (pos 0)
+is_no_least (measure.Percent h) = false
+
+abbrev pub is_no_greatest : LengthPercentageOrNone → Bool
+is_no_greatest or_none.None = true
+is_no_greatest _ = false
+
+abbrev pub is_no_percentage : LengthPercentageOrAuto → Bool
+is_no_percentage (or_auto.Percent h) = false
+is_no_percentage _ = true
+
+-- a block in normal flow
+abbrev pub is_plain_flow : Bool → Style → Bool
+is_plain_flow is_root s = is_block is_root s.display && is_static s.position && is_no_float s.float && is_no_clear s.clear && is_visible s.overflow
+
+-- without margins above and below, and without bounds of its sizes
+abbrev pub is_plain_size : Style → Bool
+is_plain_size s =
+    is_no_margin s.margin.top && is_no_margin s.margin.bottom && is_no_least s.sizing.min_width && is_no_least s.sizing.min_height
+    && is_no_greatest s.sizing.max_width && is_no_greatest s.sizing.max_height && is_no_percentage s.sizing.height
+
+abbrev pub is_built_style : Bool → Style → Bool
+is_built_style is_root s = is_plain_flow is_root s && is_plain_size s
+
+-- whether the node at k of a document, with these computed styles, is laid out
+abbrev pub is_built_at : List Node → List Style → ℕ → Bool
+is_built_at nodes styles k = is_element_at nodes k && is_built_style (k == 0) (style_at styles k)
+
+abbrev pub is_built_place : List Node → List Style → Option ℕ → Bool
+is_built_place nodes styles None = true
+is_built_place nodes styles (Some k) = is_built_at nodes styles k
+
+-- whether the node of an id is laid out
+abbrev pub is_built : List Node → List Style → NodeId → Bool
+is_built nodes styles id = is_built_place nodes styles (place_of id.0 (ids_of nodes))
+
+-- the place of the first of these nodes that isn't laid out
+abbrev pub first_unbuilt : List Node → List Style → List NodeId → Option ℕ
+first_unbuilt nodes styles [] = None
+first_unbuilt nodes styles (id ∷ ids) = if is_built nodes styles id then option_map suc (first_unbuilt nodes styles ids) else Some 0

@@ -1,0 +1,154 @@
+//! Which nodes are laid out so far.
+
+ghost use Rattle.std.specs.Prelude.{◌≡◌, ◌<◌, length};
+ghost use Rattle.lay_doc.specs.Document.{IsDocument, is_element_at};
+ghost use Rattle.lay_doc.specs.ComputedStyle.{style_at};
+ghost use Rattle.lay_cli.specs.Built.{is_block, is_static, is_no_float, is_no_clear, is_visible, is_no_margin, is_no_least, is_no_greatest, is_no_percentage, is_plain_flow, is_plain_size, is_built_style, is_built_at, is_built_place, is_built, first_unbuilt};
+
+use lay_doc::{
+    Clear, Display, Doc, Float, LengthPercentage, LengthPercentageOrAuto, LengthPercentageOrNone,
+    Node, NodeId, Overflow, Position, Style,
+};
+
+/// The place of the first of these nodes of a document, with their computed styles, that isn't laid out.
+pub(crate) fn first_unbuilt(doc: &Doc, styles: &[Style], listed: &[NodeId]) -> Option<usize>
+    requires { length styles.now ≡ length doc.now.nodes }
+    ensures value { result ≡ first_unbuilt doc.now.nodes styles.now listed.now }
+    ensures document { IsDocument doc.now }
+{
+    let nodes = doc.nodes();
+    for k in 0..listed.len() {
+        if !is_built(doc, nodes, styles, listed[k]) {
+            return Some(k);
+        }
+    }
+    None
+}
+
+fn is_built(doc: &Doc, nodes: &[Node], styles: &[Style], id: NodeId) -> bool
+    requires nodes { nodes.now ≡ doc.now.nodes }
+    requires styles { length styles.now ≡ length nodes.now }
+    ensures { result ≡ is_built nodes.now styles.now id }
+{
+    match doc.find(id) {
+        Some(place) => is_built_at(nodes, styles, place),
+        None => true,
+    }
+}
+
+fn is_built_at(nodes: &[Node], styles: &[Style], place: usize) -> bool
+    requires node { place < length nodes.now }
+    requires style { place < length styles.now }
+    ensures { result ≡ is_built_at nodes.now styles.now place }
+{
+    is_element_at(nodes, place) && is_built_style(place == 0, style_at(styles, place))
+}
+
+fn is_element_at(nodes: &[Node], place: usize) -> bool
+    requires { place < length nodes.now }
+    ensures { result ≡ is_element_at nodes.now place }
+{
+    nodes[place].kind.is_element()
+}
+
+fn style_at(styles: &[Style], place: usize) -> &Style
+    requires { place < length styles.now }
+    ensures { result.now ≡ style_at styles.now place }
+{
+    &styles[place]
+}
+
+fn is_built_style(is_root: bool, style: &Style) -> bool
+    ensures { result ≡ is_built_style is_root style.now }
+{
+    is_plain_flow(is_root, style) && is_plain_size(style)
+}
+
+/// Whether it is a block in normal flow.
+fn is_plain_flow(is_root: bool, style: &Style) -> bool
+    ensures { result ≡ is_plain_flow is_root style.now }
+{
+    is_block(is_root, style.display)
+        && is_static(style.position)
+        && is_no_float(style.float)
+        && is_no_clear(style.clear)
+        && is_visible(style.overflow)
+}
+
+/// Whether it has no margins above and below, and no bounds of its sizes.
+fn is_plain_size(style: &Style) -> bool
+    ensures { result ≡ is_plain_size style.now }
+{
+    is_no_margin(style.margin.top)
+        && is_no_margin(style.margin.bottom)
+        && is_no_least(style.sizing.min_width)
+        && is_no_least(style.sizing.min_height)
+        && is_no_greatest(style.sizing.max_width)
+        && is_no_greatest(style.sizing.max_height)
+        && is_no_percentage(style.sizing.height)
+}
+
+fn is_block(is_root: bool, display: Display) -> bool
+    ensures { result ≡ is_block is_root display }
+{
+    match display {
+        Display::Block | Display::ListItem => true,
+        Display::None | Display::Table | Display::InlineTable => false,
+        _ => is_root,
+    }
+}
+
+fn is_static(position: Position) -> bool
+    ensures { result ≡ is_static position }
+{
+    matches!(position, Position::Static)
+}
+
+fn is_no_float(float: Float) -> bool
+    ensures { result ≡ is_no_float float }
+{
+    matches!(float, Float::None)
+}
+
+fn is_no_clear(clear: Clear) -> bool
+    ensures { result ≡ is_no_clear clear }
+{
+    matches!(clear, Clear::None)
+}
+
+fn is_visible(overflow: Overflow) -> bool
+    ensures { result ≡ is_visible overflow }
+{
+    matches!(overflow, Overflow::Visible)
+}
+
+fn is_no_margin(margin: LengthPercentageOrAuto) -> bool
+    ensures { result ≡ is_no_margin margin }
+{
+    match margin {
+        LengthPercentageOrAuto::Auto => true,
+        LengthPercentageOrAuto::Length(length) => length.0 == 0,
+        LengthPercentageOrAuto::Percent(_) => false,
+    }
+}
+
+fn is_no_least(size: LengthPercentage) -> bool
+    ensures { result ≡ is_no_least size }
+{
+    match size {
+        LengthPercentage::Length(length) => length.0 == 0,
+        LengthPercentage::Percent(_) => false,
+    }
+}
+
+fn is_no_greatest(size: LengthPercentageOrNone) -> bool
+    ensures { result ≡ is_no_greatest size }
+{
+    matches!(size, LengthPercentageOrNone::None)
+}
+
+fn is_no_percentage(size: LengthPercentageOrAuto) -> bool
+    ensures { result ≡ is_no_percentage size }
+{
+    !matches!(size, LengthPercentageOrAuto::Percent(_))
+}
