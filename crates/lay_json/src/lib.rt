@@ -1,0 +1,10 @@
+//! The run document: from the bytes of a JSON text to a document, a face and the commands of editors, or
+//! to the first fault of what the bytes say.
+//!
+//! Faults are named by a field and a place. What is asked of each field is said in `specs/Fields.antt`.
+#![tactic(auto)]
+
+mod fault;
+mod fields;
+
+pub use fault::{Field, InputFault, Spot};
