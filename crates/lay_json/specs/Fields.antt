@@ -39,12 +39,12 @@ name_of Value = codes "value"
 name_of Index = codes "index"
 
 -- what the next part of a document gives, or the fault of the part before it
-abbrev pub then_read : {A B : Type 0} → Result A InputFault → (A → Result B InputFault) → Result B InputFault
+abbrev pub then_read : {A B E : Type 0} → Result A E → (A → Result B E) → Result B E
 then_read (Ok a) next = next a
 then_read (Err fault) next = Err fault
 
 -- the same as what is read, by its meaning
-abbrev pub map_read : {A B : Type 0} → (A → B) → Result A InputFault → Result B InputFault
+abbrev pub map_read : {A B E : Type 0} → (A → B) → Result A E → Result B E
 map_read f (Ok a) = Ok (f a)
 map_read f (Err fault) = Err fault
 

@@ -6,5 +6,7 @@
 
 mod fault;
 mod fields;
+mod new_node;
+mod node_form;
 
 pub use fault::{Field, InputFault, Spot};
