@@ -2,8 +2,8 @@
 -- On one field its absence is judged first (I3), then another JSON kind (I4), then a number that isn't
 -- whole or isn't in its range (I9). The members of a list of numbers are judged as the field that holds the list: a
 -- wrong kind anywhere in it comes before a number that is out of range.
-use Rattle.std.specs.Prelude.{ℕ, ◌≡◌, ◌≢◌, ◌&&◌, List, Bool, nat_le, is_some, is_none, Option, Some, None, option_map, option_and_then, ok_or, Result, Ok, Err, codes, if◌then◌else◌}
-use Rattle.serde_json.specs.Data.{Data, Items, Members}
+use Rattle.std.specs.Prelude.{ℕ, suc, ◌≡◌, ◌≢◌, ◌&&◌, List, Bool, nat_le, is_some, is_none, Option, Some, None, option_map, option_and_then, ok_or, Result, Ok, Err, codes, if◌then◌else◌}
+use Rattle.serde_json.specs.Data.{Data, Items, no_items, item, Members}
 use Rattle.serde_json.specs.Find.{get, at, as_number, as_u64, as_str, as_array, as_object}
 use Rattle.lay_json.specs.declared.fault.Field.{Field}
 use Rattle.lay_json.specs.declared.fault.Field.TheVariants.{Run, Viewport, Face, Advance, Default, Ascent, Descent, XHeight, Normal, Nodes, Editors, Id, Parent, Kind, Style, Colspan, Rowspan, Text, Natural, Do, Node, Property, Value, Index}
@@ -70,6 +70,14 @@ list_of f place d = ok_or (as_array d) (WrongKind f place)
 
 abbrev pub text_of : Field → Spot → Data → Result (List ℕ) InputFault
 text_of f place d = ok_or (as_str d) (WrongKind f place)
+
+abbrev pub count_of : Items → ℕ
+count_of no_items = 0
+count_of (item d ds) = suc (count_of ds)
+
+-- whether a list has at most so many items
+abbrev pub has_at_most : ℕ → Items → Bool
+has_at_most most ds = nat_le (count_of ds) most
 
 -- the whole number that a value is, where it is one from low to high
 abbrev pub whole_within : ℕ → ℕ → Option Data → Option ℕ

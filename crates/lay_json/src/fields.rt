@@ -2,7 +2,7 @@
 
 ghost use Rattle.std.specs.Prelude.{◌≡◌, ◌≤◌, ◌&&◌, true, Some, Result, option_map, IfOk, IfSome, IsTrue};
 ghost use Rattle.serde_json.specs.View.{view, items_view, members_view};
-ghost use Rattle.lay_json.specs.Fields.{map_read, value_in, required, object_of, list_of, text_of, whole_within, number_of, required_number, number_or, required_text, has_number, is_pair, pair_within, sides_of, required_sides};
+ghost use Rattle.lay_json.specs.Fields.{map_read, has_at_most, value_in, required, object_of, list_of, text_of, whole_within, number_of, required_number, number_or, required_text, has_number, is_pair, pair_within, sides_of, required_sides};
 
 use crate::fault::{Field, InputFault, Spot};
 use serde_json::{Map, Value};
@@ -46,6 +46,14 @@ pub(crate) fn list_of(value: &Value, field: Field, place: Spot) -> Result<&Vec<V
         Some(items) => Ok(items),
         None => Err(InputFault::WrongKind { field, place }),
     }
+}
+
+/// Whether there are at most so many items.
+#[tactic(auto, using(crate::proofs::Counts::count_of_view))]
+pub(crate) fn has_at_most(most: usize, items: &[Value]) -> bool
+    ensures { result ≡ has_at_most most (items_view items.now) }
+{
+    items.len() <= most
 }
 
 /// A value that must be a text.
