@@ -4,6 +4,7 @@
 //! Faults are named by a field and a place. What is asked of each field is said in `specs/Fields.antt`.
 #![tactic(auto)]
 
+mod command;
 mod face_fields;
 mod fault;
 mod fields;
