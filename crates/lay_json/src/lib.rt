@@ -9,5 +9,6 @@ mod fault;
 mod fields;
 mod new_node;
 mod node_form;
+mod nodes;
 
 pub use fault::{Field, InputFault, Spot};
