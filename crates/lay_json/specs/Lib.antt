@@ -2,3 +2,4 @@ pub mod Fields
 pub mod FaceFields
 pub mod NodeForms
 pub mod Nodes
+pub mod RunDocument
