@@ -53,6 +53,11 @@ abbrev pub Gives : {A : Type 0} → Result A InputFault → Result A InputFault 
 Gives (Ok a) read = read ≡ Ok a
 Gives (Err fault) read = fault ≢ NoMemory → read ≡ Err fault
 
+-- an answer is that a value was changed to what is read, or that memory ran out
+abbrev pub Changes : {A : Type 0} → Result (Unit {0}) InputFault → A → Result A InputFault → Type 0
+Changes (Ok done) new read = read ≡ Ok new
+Changes (Err fault) new read = fault ≢ NoMemory → read ≡ Err fault
+
 -- the value of a field, where the object has it
 abbrev pub value_in : Field → Data → Option Data
 value_in f d = get (name_of f) d

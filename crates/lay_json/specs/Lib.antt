@@ -1,4 +1,6 @@
 pub mod Fields
 pub mod FaceFields
 pub mod NodeForms
+pub mod Nodes
 pub mod Commands
+pub mod RunDocument

@@ -10,5 +10,7 @@ mod fault;
 mod fields;
 mod new_node;
 mod node_form;
+mod nodes;
+mod run;
 
 pub use fault::{Field, InputFault, Spot};
