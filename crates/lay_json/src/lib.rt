@@ -5,6 +5,7 @@
 #![tactic(auto)]
 
 mod command;
+mod editors;
 mod face_fields;
 mod fault;
 mod fields;
@@ -12,5 +13,7 @@ mod new_node;
 mod node_form;
 mod nodes;
 mod run;
+mod script_list;
 
 pub use fault::{Field, InputFault, Spot};
+pub use script_list::ScriptList;
