@@ -5,4 +5,6 @@ pub mod Nodes
 pub mod Commands
 pub mod Scripts
 pub mod Editors
+pub mod Runs
+pub mod Listing
 pub mod RunDocument

@@ -9,11 +9,16 @@ mod editors;
 mod face_fields;
 mod fault;
 mod fields;
+mod listing;
 mod new_node;
 mod node_form;
+mod node_list;
 mod nodes;
 mod run;
+mod run_doc;
 mod script_list;
 
 pub use fault::{Field, InputFault, Spot};
+pub use node_list::NodeList;
+pub use run_doc::RunDoc;
 pub use script_list::ScriptList;
