@@ -8,3 +8,5 @@ pub mod Editors
 pub mod Runs
 pub mod Listing
 pub mod RunDocument
+pub mod Reading
+pub mod Laws

@@ -2,12 +2,21 @@
 
 ghost use Rattle.std.specs.Prelude.{◌≡◌, ◌≤◌, IfOk};
 ghost use Rattle.serde_json.specs.View.{view, items_view};
-ghost use Rattle.lay_json.specs.Fields.{map_read};
-ghost use Rattle.lay_json.specs.RunDocument.{some_nodes, node_list, editor_list, viewport_of};
+ghost use Rattle.lay_json.specs.Fields.{map_read, Gives};
+ghost use Rattle.lay_json.specs.RunDocument.{some_nodes, node_list, editor_list, viewport_of, run_of};
 
+use crate::editors::scripts_of;
+use crate::face_fields::run_face;
 use crate::fault::{Field, InputFault, Spot};
-use crate::fields::{list_of, required, required_sides, value_in};
+use crate::fields::{list_of, object_of, required, required_sides, value_in};
+use crate::listing::listed_in;
+use crate::nodes::document_of;
+use crate::run_doc::RunDoc;
+use lay_face::Face;
+use lay_units::NoMemory;
 use serde_json::Value;
+use std::alloc::Global;
+use std::sync::Arc;
 
 /// The viewport's width and height, in px.
 fn viewport_of(run: &Value) -> Result<(u32, u32), InputFault>
@@ -48,4 +57,27 @@ fn editor_list(run: &Value) -> Result<&[Value], InputFault>
         Some(editors) => Ok(list_of(editors, Field::Editors, Spot::Run)?),
         None => Ok(&[]),
     }
+}
+
+fn shared(alloc: Global, face: Face) -> Result<Arc<Face>, NoMemory>
+    ensures { IfOk result (λ a. a.value ≡ face) }
+{
+    let face = Arc::new(alloc, face)?;
+    Ok(face)
+}
+
+/// The run of a run document, or its first fault.
+pub(crate) fn run_of(alloc: Global, run: &Value) -> Result<RunDoc, InputFault>
+    ensures { Gives result (run_of (view run.now)) }
+{
+    object_of(run, Field::Run, Spot::Run)?;
+    let viewport = viewport_of(run)?;
+    let face = run_face(alloc, run)?;
+    let (first, rest) = node_list(run)?;
+    let editors = editor_list(run)?;
+    let doc = document_of(alloc, viewport, first, rest)?;
+    let scripts = scripts_of(alloc, editors)?;
+    let listed = listed_in(alloc, first, rest)?;
+    let face = shared(alloc, face)?;
+    Ok(RunDoc::new(doc, face, scripts, listed))
 }
