@@ -1,0 +1,20 @@
+-- Laws of the definitions: bytes say one thing, and nodes are counted by the number of nodes before them.
+use Rattle.std.specs.Prelude.{ℕ, ◌≡◌, ◌+◌, List, length, Result, Ok}
+use Rattle.serde_json.specs.Data.{Data}
+use Rattle.lay_doc.specs.declared.node.NodeId.{NodeId}
+use Rattle.lay_doc.specs.NewNodes.{NewNodeValue}
+use Rattle.lay_doc.specs.Document.{Document}
+use Rattle.lay_json.specs.declared.fault.InputFault.{InputFault}
+use Rattle.lay_json.specs.Nodes.{root_of, put_node}
+use Rattle.lay_json.specs.Runs.{Run}
+use Rattle.lay_json.specs.Reading.{IsReading}
+
+-- bytes have one reading
+abbrev pub OneReading : Type 0
+OneReading = (bytes : List ℕ) (a b : Result Run InputFault) → IsReading bytes a → IsReading bytes b → a ≡ b
+
+-- there is one node after the first is read, and one more after each later one
+abbrev pub NodesAreCounted : Type 0
+NodesAreCounted =
+    ((viewport : ℕ × ℕ) (root : NodeId × NewNodeValue) (d : Document) → root_of viewport root ≡ Ok d → length d.nodes ≡ 1)
+    × ((d e : Document) (x : Data) → put_node d x ≡ Ok e → length e.nodes ≡ length d.nodes + 1)

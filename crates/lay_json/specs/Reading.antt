@@ -1,0 +1,23 @@
+-- What bytes say: more than 16,777,216 are too long (I1); else they are a JSON text (RFC 8259) of a value
+-- nested at most 127 deep, or not (I2); and the value is a run document, or has a first fault.
+use Rattle.std.specs.Prelude.{ℕ, ◌≡◌, ◌<◌, ◌≤◌, List, length, Some, None, Result, Err, IsUtf8}
+use Rattle.serde_json.specs.Data.{Data}
+use Rattle.serde_json.specs.Read.{read}
+use Rattle.lay_json.specs.declared.fault.InputFault.{InputFault}
+use Rattle.lay_json.specs.declared.fault.InputFault.TheVariants.{TooLong, BadJson}
+use Rattle.lay_json.specs.RunDocument.{run_of}
+use Rattle.lay_json.specs.Runs.{Run}
+
+-- the bytes are a JSON text of this value, nested at most 127 deep
+abbrev pub IsJson : List ℕ → Data → Type 0
+IsJson bytes value = IsUtf8 bytes × (read bytes ≡ Some value)
+
+-- the bytes are no such text
+abbrev pub IsNoJson : List ℕ → Type 0
+IsNoJson bytes = IsUtf8 bytes → read bytes ≡ None
+
+-- the bytes say this run, or have this first fault
+pub data IsReading (bytes : List ℕ) (outcome : Result Run InputFault) : Type 0 where
+  too_long : 16777216 < length bytes → outcome ≡ Err TooLong → IsReading bytes outcome
+  bad_json : length bytes ≤ 16777216 → IsNoJson bytes → outcome ≡ Err BadJson → IsReading bytes outcome
+  json : (value : Data) → length bytes ≤ 16777216 → IsJson bytes value → outcome ≡ run_of value → IsReading bytes outcome

@@ -1,0 +1,13 @@
+//! Laws of the definitions. The functions do nothing.
+
+ghost use Rattle.lay_json.specs.Laws.{OneReading, NodesAreCounted};
+
+/// Bytes have one reading: a run, or a first fault.
+pub fn one_reading()
+    ensures { OneReading }
+{}
+
+/// The number of a node is the number of nodes that are read before it.
+pub fn nodes_are_counted()
+    ensures { NodesAreCounted }
+{}

@@ -1,0 +1,34 @@
+//! The order of the list of nodes.
+
+ghost use Rattle.std.specs.Prelude.{◌≡◌, ◌∷◌, ◌++◌, [], IfOk, OnOk};
+ghost use Rattle.serde_json.specs.View.{view, items_view};
+ghost use Rattle.lay_json.specs.Listing.{id_in, ids_in, IsListOf};
+
+use crate::fault::Field;
+use crate::fields::{value_in, whole_within};
+use crate::node_list::NodeList;
+use lay_doc::NodeId;
+use lay_units::NoMemory;
+use serde_json::Value;
+use std::alloc::Global;
+
+/// The id of a node, after its form was judged.
+fn id_in(node: &Value) -> NodeId
+    ensures { result ≡ id_in (view node.now) }
+{
+    let id = whole_within(1, 4294967295, value_in(node, Field::Id));
+    NodeId(id.unwrap_or(0) as u32)
+}
+
+/// The ids of a first node and of those after it, in this order, after their forms were judged.
+pub(crate) fn listed_in(alloc: Global, first: &Value, rest: &[Value]) -> Result<NodeList, NoMemory>
+    ensures value { IfOk result (λ l. l ≡ id_in (view first.now) ∷ ids_in (items_view rest.now)) }
+    ensures listed { IfOk result (λ l. IsListOf (view first.now) (items_view rest.now) l) }
+{
+    let mut listed = NodeList::new(alloc);
+    listed.push(id_in(first))?;
+    for node in rest {
+        listed.push(id_in(node))?;
+    }
+    Ok(listed)
+}
