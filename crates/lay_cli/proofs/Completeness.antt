@@ -1,10 +1,9 @@
 -- Bytes aren't both a run that is laid out and refused, so without faults each has the answer of its kind.
-use Rattle.std.proofs.Common.{◌≡◌, ◌⊎◌, ℕ, List, refl, sym, ◌∙◌, inl, inr, Option, Some, None, IfSome, Ok, Err, Result}
-use Rattle.lay_json.specs.declared.fault.InputFault.{InputFault}
+use Rattle.std.proofs.Common.{◌≡◌, ◌⊎◌, ℕ, List, refl, inl, inr, Option, Some, None, IfSome, Ok, Err}
 use Rattle.lay_json.specs.Runs.{Run}
 use Rattle.lay_json.specs.Reading.{IsReading}
 use Rattle.lay_json.proofs.OneReading.{one_reading_lem}
-use Rattle.lay_cli.specs.Answers.{Spells, IsBuilt, IsReport, IsRefusal, faulty, unbuilt, unbuilt_place}
+use Rattle.lay_cli.specs.Answers.{Spells, IsBuilt, IsUnbuiltPlace, IsReport, IsRefusal, faulty, unbuilt, unbuilt_place}
 use Rattle.lay_cli.specs.declared.call.Status.{Status}
 use Rattle.lay_cli.specs.declared.call.Status.TheVariants.{Ok as ok, Refused as refused, Usage as usage, ReadFault as read_fault, WriteFault as write_fault, NoMemory as no_memory}
 
@@ -15,7 +14,8 @@ not_both bytes line run reading built (unbuilt other read refusal) =
     let e : Ok run ≡ Ok other = one_reading_lem bytes (Ok run) (Ok other) reading read in
     let same : run ≡ other = cc in
     let none : unbuilt_place run built.styles ≡ None = built.decided built.styles built.are_styles in
-    let some : unbuilt_place run built.styles ≡ Some refusal.place = (rw same refusal.unbuilt.decided) built.styles built.are_styles in
+    let unbuilt_there : IsUnbuiltPlace run (Some refusal.place) = rw same refusal.unbuilt in
+    let some : unbuilt_place run built.styles ≡ Some refusal.place = unbuilt_there.decided built.styles built.are_styles in
     absurd cc
 
 -- a run that is laid out is reported

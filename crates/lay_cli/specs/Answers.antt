@@ -76,6 +76,11 @@ pub data IsAnswer (bytes text : List ℕ) : Type 0 where
   report : IsReport bytes text → IsAnswer bytes text
   refused : IsRefusal bytes text → IsAnswer bytes text
 
+-- the line for a fault, which isn't that memory ran out
+abbrev pub IsFaultAnswer : InputFault → Answer → Type 0
+IsFaultAnswer fault (Report text) = ⊥
+IsFaultAnswer fault (Refusal line) = (fault ≢ NoMemory) × (line ≡ fault_line fault)
+
 -- the report or the line of a refusal, for a run, and for bytes
 abbrev pub AnswersRun : Run → Answer → Type 0
 AnswersRun run (Report text) = IsRunReport run text

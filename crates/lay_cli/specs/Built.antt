@@ -1,5 +1,5 @@
 -- Which nodes are laid out so far. Others are refused by their place in the list `nodes` of the run document.
-use Rattle.std.specs.Prelude.{ℕ, suc, pos, ◌==◌, ◌&&◌, List, [], ◌∷◌, Bool, true, false, not, is_none, Option, Some, None, option_map, if◌then◌else◌}
+use Rattle.std.specs.Prelude.{ℕ, suc, pos, ◌==◌, ◌&&◌, List, [], ◌∷◌, Bool, true, false, Option, Some, None, option_map, if◌then◌else◌}
 use Rattle.std.specs.Ordering.{int_eq}
 use Rattle.lay_doc.specs.declared.node.NodeId.{NodeId}
 use Rattle.lay_doc.specs.declared.node.Node.{Node}

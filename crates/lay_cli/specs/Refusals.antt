@@ -1,6 +1,6 @@
 -- The one line that says why bytes are refused: the first fault of the run document with its field and its
 -- place, or the first node that isn't laid out yet.
-use Rattle.std.specs.Prelude.{ℕ, List, ◌++◌, codes, Bool, true, false, if◌then◌else◌}
+use Rattle.std.specs.Prelude.{ℕ, List, ◌++◌, codes, Bool, if◌then◌else◌}
 use Rattle.std.specs.Fmt.{decimal}
 use Rattle.lay_json.specs.declared.fault.Field.{Field}
 use Rattle.lay_json.specs.declared.fault.Spot.{Spot}

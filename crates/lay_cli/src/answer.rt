@@ -1,10 +1,10 @@
 //! The answer to the bytes of a run document.
 
-ghost use Rattle.std.specs.Prelude.{◌≡◌, IfOk};
+ghost use Rattle.std.specs.Prelude.{◌≡◌, List, IfOk};
 ghost use Rattle.lay_frag.specs.Pieces.{Context};
 ghost use Rattle.lay_context.specs.Solves.{Solves};
 ghost use Rattle.lay_report.specs.Report.{scratch_report};
-ghost use Rattle.lay_cli.specs.Answers.{AnswersRun, AnswersBytes};
+ghost use Rattle.lay_cli.specs.Answers.{AnswersRun, AnswersBytes, IsFaultAnswer};
 
 use crate::built::first_unbuilt;
 use crate::refusal::{fault_line, unbuilt_line};
@@ -31,9 +31,18 @@ pub(crate) fn answer_to(alloc: Global, bytes: &[u8]) -> Result<Answer, NoMemory>
 {
     match read_run(alloc, bytes) {
         Ok(run) => answer_for(alloc, &run),
-        Err(InputFault::NoMemory) => Err(NoMemory),
-        Err(fault) => Ok(Answer::Refusal(fault_line(alloc, fault)?)),
+        Err(fault) => answer_to_fault(alloc, fault),
     }
+}
+
+/// The answer to bytes that have this fault.
+fn answer_to_fault(alloc: Global, fault: InputFault) -> Result<Answer, NoMemory>
+    ensures { IfOk result (IsFaultAnswer fault) }
+{
+    if fault == InputFault::NoMemory {
+        return Err(NoMemory);
+    }
+    Ok(Answer::Refusal(fault_line(alloc, fault)?))
 }
 
 /// The answer for a run: its first node that isn't laid out, or the report of its document's layout.

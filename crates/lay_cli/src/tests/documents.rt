@@ -90,7 +90,6 @@ fn blocks_stand_below_each_other(rt: HostRuntime) -> Result<(), Fail> {
     Ok(())
 }
 
-
 /// Lays a document out, and compares the report behind its first two lines.
 fn check_report(rt: &HostRuntime, name: &str, run: &str, want: &str) -> Result<(), Fail> {
     let words = scratch(rt.alloc())?;
@@ -105,7 +104,9 @@ fn check_report(rt: &HostRuntime, name: &str, run: &str, want: &str) -> Result<(
 }
 
 #[test]
-fn em_and_percentages_are_of_the_font_and_the_containing_block(rt: HostRuntime) -> Result<(), Fail> {
+fn em_and_percentages_are_of_the_font_and_the_containing_block(
+    rt: HostRuntime,
+) -> Result<(), Fail> {
     check_report(
         &rt,
         "10em of 20px and 12.5% of 800px",

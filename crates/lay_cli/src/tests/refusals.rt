@@ -35,14 +35,46 @@ fn faults_of_the_run_name_their_field(rt: HostRuntime) -> Result<(), Fail> {
     for (name, run, want) in [
         ("a list", "[]", "refused I4 run run\n"),
         ("no viewport", "{}", "refused I3 viewport run\n"),
-        ("a viewport of one number", r#"{"viewport":[800]}"#, "refused I4 viewport run\n"),
-        ("a viewport of 0", r#"{"viewport":[0,600]}"#, "refused I9 viewport run\n"),
-        ("a face that is a number", r#"{"viewport":[8,6],"face":1}"#, "refused I4 face run\n"),
-        ("an ascent too great", r#"{"viewport":[8,6],"face":{"ascent":10001}}"#, "refused I9 ascent run\n"),
-        ("no nodes", r#"{"viewport":[800,600]}"#, "refused I3 nodes run\n"),
-        ("empty nodes", r#"{"viewport":[800,600],"nodes":[]}"#, "refused I3 nodes run\n"),
-        ("a node that is a number", r#"{"viewport":[800,600],"nodes":[1]}"#, "refused I4 nodes node 0\n"),
-        ("a node without an id", r#"{"viewport":[800,600],"nodes":[{"parent":0}]}"#, "refused I3 id node 0\n"),
+        (
+            "a viewport of one number",
+            r#"{"viewport":[800]}"#,
+            "refused I4 viewport run\n",
+        ),
+        (
+            "a viewport of 0",
+            r#"{"viewport":[0,600]}"#,
+            "refused I9 viewport run\n",
+        ),
+        (
+            "a face that is a number",
+            r#"{"viewport":[8,6],"face":1}"#,
+            "refused I4 face run\n",
+        ),
+        (
+            "an ascent too great",
+            r#"{"viewport":[8,6],"face":{"ascent":10001}}"#,
+            "refused I9 ascent run\n",
+        ),
+        (
+            "no nodes",
+            r#"{"viewport":[800,600]}"#,
+            "refused I3 nodes run\n",
+        ),
+        (
+            "empty nodes",
+            r#"{"viewport":[800,600],"nodes":[]}"#,
+            "refused I3 nodes run\n",
+        ),
+        (
+            "a node that is a number",
+            r#"{"viewport":[800,600],"nodes":[1]}"#,
+            "refused I4 nodes node 0\n",
+        ),
+        (
+            "a node without an id",
+            r#"{"viewport":[800,600],"nodes":[{"parent":0}]}"#,
+            "refused I3 id node 0\n",
+        ),
     ] {
         check_refusal(&rt, name, run, want)?;
     }
@@ -53,14 +85,49 @@ fn faults_of_the_run_name_their_field(rt: HostRuntime) -> Result<(), Fail> {
 fn faults_of_nodes_and_commands_name_their_place(rt: HostRuntime) -> Result<(), Fail> {
     for (name, from, to, want) in [
         ("an id twice", r#""id":2"#, r#""id":1"#, "refused I5 1 E4\n"),
-        ("a parent that isn't there", r#""parent":1"#, r#""parent":7"#, "refused I5 1 E1\n"),
+        (
+            "a parent that isn't there",
+            r#""parent":1"#,
+            r#""parent":7"#,
+            "refused I5 1 E1\n",
+        ),
         ("a width without a unit", "100px", "10", "refused I6 1 V2\n"),
-        ("an unknown property", r#""width""#, r#""colour""#, "refused I6 1 V1\n"),
-        ("a declaration before the tree", r#""id":2,"parent":1"#, r#""id":1,"parent":1"#, "refused I5 1 E4\n"),
-        ("a kind that is none", r#""kind":"element","style":{"display":"block","width""#, r#""kind":"box","style":{"display":"block","width""#, "refused I4 kind node 1\n"),
-        ("a command without a node", r#"}}]}"#, r#"}}],"editors":[[{"do":"sync"},{"do":"remove"}]]}"#, "refused I3 node command 1 1\n"),
-        ("an editor that is a text", r#"}}]}"#, r#"}}],"editors":[[],"x"]}"#, "refused I4 editors run\n"),
-        ("17 editors", r#"}}]}"#, r#"}}],"editors":[0,0,0,0,0,0,0,0,0,0,0,0,0,0,0,0,0]}"#, "refused I7\n"),
+        (
+            "an unknown property",
+            r#""width""#,
+            r#""colour""#,
+            "refused I6 1 V1\n",
+        ),
+        (
+            "a declaration before the tree",
+            r#""id":2,"parent":1"#,
+            r#""id":1,"parent":1"#,
+            "refused I5 1 E4\n",
+        ),
+        (
+            "a kind that is none",
+            r#""kind":"element","style":{"display":"block","width""#,
+            r#""kind":"box","style":{"display":"block","width""#,
+            "refused I4 kind node 1\n",
+        ),
+        (
+            "a command without a node",
+            r#"}}]}"#,
+            r#"}}],"editors":[[{"do":"sync"},{"do":"remove"}]]}"#,
+            "refused I3 node command 1 1\n",
+        ),
+        (
+            "an editor that is a text",
+            r#"}}]}"#,
+            r#"}}],"editors":[[],"x"]}"#,
+            "refused I4 editors run\n",
+        ),
+        (
+            "17 editors",
+            r#"}}]}"#,
+            r#"}}],"editors":[0,0,0,0,0,0,0,0,0,0,0,0,0,0,0,0,0]}"#,
+            "refused I7\n",
+        ),
     ] {
         let run = TWO_BLOCKS.replacen(rt.alloc(), from, to, 1)?;
         check_refusal(&rt, name, run.as_str(), want)?;
@@ -72,22 +139,102 @@ fn faults_of_nodes_and_commands_name_their_place(rt: HostRuntime) -> Result<(), 
 fn the_first_node_that_is_not_laid_out_is_named(rt: HostRuntime) -> Result<(), Fail> {
     let width = r#""width":"100px""#;
     for (name, from, to, want) in [
-        ("an inline element", r#""block","width""#, r#""inline","width""#, "refused NotBuilt 1\n"),
-        ("a root without a box", r#""block"}"#, r#""none"}"#, "refused NotBuilt 0\n"),
-        ("a root that is a table", r#""block"}"#, r#""table"}"#, "refused NotBuilt 0\n"),
-        ("a relative box", width, r#""position":"relative""#, "refused NotBuilt 1\n"),
-        ("a float", width, r#""float":"left""#, "refused NotBuilt 1\n"),
-        ("clearance", width, r#""clear":"both""#, "refused NotBuilt 1\n"),
-        ("overflow", width, r#""overflow":"auto""#, "refused NotBuilt 1\n"),
-        ("a margin above", width, r#""margin-top":"1px""#, "refused NotBuilt 1\n"),
-        ("a margin below of 0 percent", width, r#""margin-bottom":"0%""#, "refused NotBuilt 1\n"),
-        ("a least width", width, r#""min-width":"1px""#, "refused NotBuilt 1\n"),
-        ("a greatest height", width, r#""max-height":"9px""#, "refused NotBuilt 1\n"),
-        ("a height in percent", r#""50px""#, r#""50%""#, "refused NotBuilt 1\n"),
-        ("faults come first", r#"}}]}"#, r#"}},{"id":3,"parent":9,"kind":"text","text":""}]}"#, "refused I5 2 E1\n"),
-        ("a text", r#"}}]}"#, r#"}},{"id":3,"parent":2,"kind":"text","text":""}]}"#, "refused NotBuilt 2\n"),
-        ("a replaced element", r#"}}]}"#, r#"}},{"id":3,"parent":2,"kind":"replaced","natural":[1,1],"style":{"display":"block"}}]}"#, "refused NotBuilt 2\n"),
-        ("in the order of the list", r#"}}]}"#, r#"}},{"id":3,"parent":1,"kind":"element"},{"id":4,"parent":2,"kind":"element"}]}"#, "refused NotBuilt 2\n"),
+        (
+            "an inline element",
+            r#""block","width""#,
+            r#""inline","width""#,
+            "refused NotBuilt 1\n",
+        ),
+        (
+            "a root without a box",
+            r#""block"}"#,
+            r#""none"}"#,
+            "refused NotBuilt 0\n",
+        ),
+        (
+            "a root that is a table",
+            r#""block"}"#,
+            r#""table"}"#,
+            "refused NotBuilt 0\n",
+        ),
+        (
+            "a relative box",
+            width,
+            r#""position":"relative""#,
+            "refused NotBuilt 1\n",
+        ),
+        (
+            "a float",
+            width,
+            r#""float":"left""#,
+            "refused NotBuilt 1\n",
+        ),
+        (
+            "clearance",
+            width,
+            r#""clear":"both""#,
+            "refused NotBuilt 1\n",
+        ),
+        (
+            "overflow",
+            width,
+            r#""overflow":"auto""#,
+            "refused NotBuilt 1\n",
+        ),
+        (
+            "a margin above",
+            width,
+            r#""margin-top":"1px""#,
+            "refused NotBuilt 1\n",
+        ),
+        (
+            "a margin below of 0 percent",
+            width,
+            r#""margin-bottom":"0%""#,
+            "refused NotBuilt 1\n",
+        ),
+        (
+            "a least width",
+            width,
+            r#""min-width":"1px""#,
+            "refused NotBuilt 1\n",
+        ),
+        (
+            "a greatest height",
+            width,
+            r#""max-height":"9px""#,
+            "refused NotBuilt 1\n",
+        ),
+        (
+            "a height in percent",
+            r#""50px""#,
+            r#""50%""#,
+            "refused NotBuilt 1\n",
+        ),
+        (
+            "faults come first",
+            r#"}}]}"#,
+            r#"}},{"id":3,"parent":9,"kind":"text","text":""}]}"#,
+            "refused I5 2 E1\n",
+        ),
+        (
+            "a text",
+            r#"}}]}"#,
+            r#"}},{"id":3,"parent":2,"kind":"text","text":""}]}"#,
+            "refused NotBuilt 2\n",
+        ),
+        (
+            "a replaced element",
+            r#"}}]}"#,
+            r#"}},{"id":3,"parent":2,"kind":"replaced","natural":[1,1],"style":{"display":"block"}}]}"#,
+            "refused NotBuilt 2\n",
+        ),
+        (
+            "in the order of the list",
+            r#"}}]}"#,
+            r#"}},{"id":3,"parent":1,"kind":"element"},{"id":4,"parent":2,"kind":"element"}]}"#,
+            "refused NotBuilt 2\n",
+        ),
     ] {
         let run = TWO_BLOCKS.replacen(rt.alloc(), from, to, 1)?;
         check_refusal(&rt, name, run.as_str(), want)?;
@@ -132,4 +279,3 @@ fn too_many_bytes_are_refused_first(rt: HostRuntime) -> Result<(), Fail> {
     }
     Ok(())
 }
-

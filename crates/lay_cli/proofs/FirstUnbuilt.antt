@@ -1,0 +1,40 @@
+-- The first node of a list that isn't laid out, looked for from the front.
+use Rattle.std.proofs.Common.{◌≡◌, ℕ, zero, suc, ◌+◌, ◌<◌, List, [], ◌∷◌, length, get_or, take, refl, arith, Bool, true, false, Option, Some, None, option_map, if◌then◌else◌}
+use Rattle.lay_doc.specs.declared.node.NodeId.{NodeId}
+use Rattle.lay_doc.specs.declared.node.Node.{Node}
+use Rattle.lay_doc.specs.declared.style.Style.{Style}
+use Rattle.lay_doc.specs.NewNodes.{is_element}
+use Rattle.lay_doc.specs.Document.{is_element_at}
+use Rattle.lay_cli.specs.Built.{is_built, first_unbuilt}
+
+-- what is read at a place is an element where the definition says so
+pub element_read : (nodes : List Node) (k : ℕ) (other : Node) → k < length nodes → is_element (get_or nodes k other).kind ≡ is_element_at nodes k
+element_read [] k other within = absurd (omega arith)
+element_read (m ∷ ms) zero other within = refl
+element_read (m ∷ ms) (suc k) other within = element_read ms k other (omega arith)
+
+both : (b : Bool) (o : Option ℕ) → (if b then option_map suc o else Some 0) ≡ None → (b ≡ true) × (o ≡ None)
+both true None e = (refl, refl)
+both true (Some k) e = absurd cc
+both false o e = absurd cc
+
+-- one more that is laid out
+pub one_more : (nodes : List Node) (styles : List Style) (ids : List NodeId) (k : ℕ) (other : NodeId) → k < length ids
+    → first_unbuilt nodes styles (take k ids) ≡ None → is_built nodes styles (get_or ids k other) ≡ true → first_unbuilt nodes styles (take (k + 1) ids) ≡ None
+one_more nodes styles [] k other within none built = absurd (omega arith)
+one_more nodes styles (x ∷ xs) zero other within none built = rw built refl
+one_more nodes styles (x ∷ xs) (suc k) other within none built =
+    let first = both (is_built nodes styles x) (first_unbuilt nodes styles (take k xs)) none in
+    let rest = one_more nodes styles xs k other (omega arith) first.1 built in
+    let e : suc k + 1 ≡ suc (k + 1) = omega arith in
+    rw (e, first.0, rest) refl
+
+-- the first that isn't
+pub found : (nodes : List Node) (styles : List Style) (ids : List NodeId) (k : ℕ) (other : NodeId) → k < length ids
+    → first_unbuilt nodes styles (take k ids) ≡ None → is_built nodes styles (get_or ids k other) ≡ false → first_unbuilt nodes styles ids ≡ Some k
+found nodes styles [] k other within none unbuilt = absurd (omega arith)
+found nodes styles (x ∷ xs) zero other within none unbuilt = rw unbuilt refl
+found nodes styles (x ∷ xs) (suc k) other within none unbuilt =
+    let first = both (is_built nodes styles x) (first_unbuilt nodes styles (take k xs)) none in
+    let rest = found nodes styles xs k other (omega arith) first.1 unbuilt in
+    rw (first.0, rest) refl
