@@ -1,21 +1,21 @@
 -- A change of one cell, as the cells see it.
-use Rattle.std.proofs.Common.{◌≡◌, ◌⊎◌, inl, inr, ⊎_elim, ℕ, List, map, slice_get, slice_set, Some, refl, rules, arith, ap, ◌<◌, ◌≤◌, subst, sym, true, false, ◌+◌, ◌∙◌}
+use Rattle.std.proofs.Common.{◌≡◌, inr, ⊎_elim, ℕ, List, map, slice_get, slice_set, Some, ap, ◌<◌, ◌≤◌, subst, sym, true, false, ◌+◌, ◌∙◌}
 use Rattle.std.specs.BTreeMap.{BTreeMap}
 use Rattle.std.specs.declared.cmp.Ordering.{Ordering}
-use Rattle.lay_cells.specs.Shapes.{IsIn, IsShape}
+use Rattle.lay_cells.specs.Shapes.{IsShape}
 use Rattle.lay_cells.specs.Rows.{Row, State, Solved, entry_of, row_of}
 use Rattle.lay_cells.specs.Looks.{AreClean, IsAt, Looks}
 use Rattle.lay_cells.specs.Steps.{Claims, ClaimsIn, Finishes, FinishesIn, GivesBack, GivesBackIn, draws_after}
-use Rattle.lay_cells.specs.Sound.{IsSound, IsRow}
-use Rattle.lay_cells.specs.Kept.{ChangesAt, IsKept, IsLowest, IsWired, wire_of}
+use Rattle.lay_cells.specs.Sound.{IsSound}
+use Rattle.lay_cells.specs.Kept.{ChangesAt, IsKept, IsLowest, IsWired}
 use Rattle.lay_cells.specs.declared.cell.Cell.{Cell}
 use Rattle.lay_cells.specs.declared.answers.Look.TheVariants as look
 use Rattle.lay_cells.specs.declared.answers.Claimed.{Claimed}
 use Rattle.lay_cells.specs.declared.answers.Finished.{Finished}
 use Rattle.lay_cells.specs.declared.answers.Released.{Released}
 use Rattle.lay_cells.specs.declared.answers.Released.TheVariants as released
-use Rattle.lay_cells.proofs.Lists.{map_at, one_at, set_cases, set_same, set_keeps_at}
-use Rattle.lay_cells.proofs.Keeps.{Fits, claim_row, draws_more, finish_row, give_back_row, set_before, set_sound}
+use Rattle.lay_cells.proofs.Lists.{map_at, one_at, set_cases}
+use Rattle.lay_cells.proofs.Keeps.{Fits, claim_row, finish_row, give_back_row, set_before, set_sound}
 
 module _ {K I V : Type 0} where
   -- one row has a key

@@ -1,10 +1,10 @@
 -- A write of one cell, as the rows see it.
-use Rattle.std.proofs.Common.{◌≡◌, ℕ, List, Some, slice_get, slice_set, map, length, ◌<◌, get_or, sym, ap, subst, ◌∙◌, refl}
+use Rattle.std.proofs.Common.{◌≡◌, ℕ, List, Some, slice_get, slice_set}
 use Rattle.std.proofs.lemmas.List.{map-set}
 use Rattle.lay_cells.specs.Rows.{Row, Solved, row_of}
 use Rattle.lay_cells.specs.Kept.{ChangesAt, wire_of}
 use Rattle.lay_cells.specs.declared.cell.Cell.{Cell}
-use Rattle.lay_cells.proofs.Lists.{read_at, map_at, map_set_kept}
+use Rattle.lay_cells.proofs.Lists.{map_at, map_set_kept}
 
 module _ {K I V : Type 0} where
   -- the cell at a place is read and written

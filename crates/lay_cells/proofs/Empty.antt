@@ -1,10 +1,10 @@
 -- No cells are in order.
-use Rattle.std.proofs.Common.{◌≡◌, ℕ, List, [], Some, None, ap, sym, ◌∙◌, arith, rules, length}
-use Rattle.std.specs.BTreeMap.{BTreeMap, IsEmpty, get}
+use Rattle.std.proofs.Common.{◌≡◌, ℕ, [], Some, None, ap, sym, ◌∙◌, arith, rules}
+use Rattle.std.specs.BTreeMap.{BTreeMap, get}
 use Rattle.std.specs.declared.cmp.Ordering.{Ordering}
 use Rattle.std.specs.Map.{lookup}
 use Rattle.std.specs.BTreeMap.{is_at}
-use Rattle.lay_cells.specs.Kept.{IsKept, IsWired, wire_of}
+use Rattle.lay_cells.specs.Kept.{IsKept}
 
 pub nothing : {K : Type 0} (cmp : K → K → Ordering) (index : BTreeMap K ℕ) → index.entries ≡ [] → (key : K) (place : ℕ) → get cmp index key ≡ Some place → ⊥
 nothing cmp index empty key place is = let e : None ≡ Some place = ap (lookup (is_at (cmp key))) (sym empty) ∙ is in grind (rules, e)

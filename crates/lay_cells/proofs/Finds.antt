@@ -1,5 +1,5 @@
 -- From the index to the rows.
-use Rattle.std.proofs.Common.{◌≡◌, ◌∙◌, ℕ, ap, sym, Option, Some, None, IfSome, IfNone, slice_get, map, List, rules, ◌<◌, length, Bool, false}
+use Rattle.std.proofs.Common.{◌≡◌, ◌∙◌, ℕ, ap, sym, Option, Some, None, IfSome, IfNone, map, List, rules, ◌<◌, length, Bool, false}
 use Rattle.std.specs.BTreeMap.{BTreeMap, get}
 use Rattle.std.specs.declared.cmp.Ordering.{Ordering}
 use Rattle.lay_cells.specs.Rows.{Row, Solved, row_of}

@@ -1,9 +1,9 @@
 -- A change of one cell keeps the cells sound.
-use Rattle.std.proofs.Common.{◌≡◌, ◌⊎◌, inl, inr, ⊎_elim, Option, IsSome, IsNone, ℕ, List, map, slice_get, slice_set, Some, None, refl, rules, arith, ap, ◌<◌, ◌≤◌, subst, sym, true, false, ◌+◌, ◌∙◌, Bool}
+use Rattle.std.proofs.Common.{◌≡◌, inl, inr, ⊎_elim, Option, IsSome, IsNone, ℕ, List, slice_get, slice_set, Some, None, refl, rules, arith, ap, ◌<◌, ◌≤◌, subst, sym, true, false, ◌+◌, ◌∙◌}
 use Rattle.std.specs.Prelude.{option_map}
 use Rattle.std.proofs.lemmas.Bool.{false≢true}
-use Rattle.lay_cells.specs.Shapes.{Entry, IsIn, IsShape}
-use Rattle.lay_cells.specs.Rows.{Row, State, Solved, entry_of}
+use Rattle.lay_cells.specs.Shapes.{Entry, IsShape}
+use Rattle.lay_cells.specs.Rows.{Row, Solved, entry_of}
 use Rattle.lay_cells.specs.Looks.{AreClean, IsClean}
 use Rattle.lay_cells.specs.Steps.{Claims, Finishes, GivesBack, draws_after, Turns, HasClaim, HasKept, IsOpen, IsOpenFor, IsStale}
 use Rattle.lay_cells.specs.Sound.{IsSound, IsRow, IsCounted, IsPairOf}
@@ -15,7 +15,7 @@ use Rattle.lay_cells.specs.declared.answers.Finished.{Finished}
 use Rattle.lay_cells.specs.declared.answers.Finished.TheVariants as finished
 use Rattle.lay_cells.specs.declared.answers.Released.{Released}
 use Rattle.lay_cells.specs.declared.answers.Released.TheVariants as released
-use Rattle.lay_cells.proofs.Lists.{set_cases, set_same, set_keeps_at, map_set_kept, some_inj, one_at}
+use Rattle.lay_cells.proofs.Lists.{set_cases, set_same, set_keeps_at, map_set_kept, some_inj}
 
 none_from : {X : Type 0} (o : Option X) → (IsSome o → ⊥) → IsNone o
 none_from None h = refl

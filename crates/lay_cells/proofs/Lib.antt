@@ -2,6 +2,7 @@ pub mod Answered
 pub mod TakenOver
 pub mod Unnumbered
 pub mod Changes
+pub mod Contained
 pub mod Empty
 pub mod Finds
 pub mod Keeps

@@ -1,17 +1,17 @@
 -- Marks: the listed cells, and then the cells that depend on dirty ones.
-use Rattle.std.proofs.Common.{◌≡◌, ◌⊎◌, inl, inr, ⊎_elim, ℕ, ◌+◌, ◌<◌, ◌≤◌, List, [], ◌∷◌, map, slice_get, slice_set, Some, None, Option, refl, rules, arith, ap, length, subst, sym, ◌∙◌, Bool, true, false, below_more, get_or}
+use Rattle.std.proofs.Common.{◌≡◌, ◌⊎◌, inl, inr, ⊎_elim, ℕ, ◌+◌, ◌<◌, ◌≤◌, List, [], ◌∷◌, map, slice_get, slice_set, Some, None, Option, refl, arith, ap, length, subst, sym, ◌∙◌, true, below_more, get_or}
 use Rattle.std.proofs.lemmas.Bool.{false≢true, cases_lt}
 use Rattle.std.proofs.lemmas.Option.{slice_get_within, slice_get-get_or}
 use Rattle.std.proofs.lemmas.List.{length-map}
 use Rattle.lay_cells.specs.Shapes.{Entry, IsIn, IsShape}
 use Rattle.lay_cells.specs.Rows.{Row, Solved, entry_of, row_of}
-use Rattle.lay_cells.specs.Looks.{AreClean, HasDirty, IsClean, IsDirty}
+use Rattle.lay_cells.specs.Looks.{AreClean, HasDirty, IsDirty}
 use Rattle.lay_cells.specs.Marks.{MarksWhere, marked, staled}
 use Rattle.lay_cells.specs.Spreads.{Depends, IsAmong, Spread, SpreadsTo, on, below}
 use Rattle.lay_cells.specs.Kept.{ChangesAt, Wire, wire_of}
 use Rattle.lay_cells.specs.declared.cell.Cell.{Cell}
 use Rattle.lay_cells.specs.declared.cell.Open.{Open}
-use Rattle.lay_cells.proofs.Lists.{map_at, map_got, one_at, set_cases, length-set, set_after, in_bounds}
+use Rattle.lay_cells.proofs.Lists.{map_at, map_got, one_at, set_cases, length-set, set_after}
 use Rattle.lay_cells.proofs.Answered.{one_by_key}
 
 staled_twice : (o : Option Open) → staled (staled o) ≡ staled o

@@ -1,16 +1,16 @@
 -- The listed cells, and then the cells that depend on dirty ones, are just the cells that are reached.
-use Rattle.std.proofs.Common.{◌≡◌, ◌⊎◌, inl, inr, ⊎_elim, ℕ, zero, suc, ◌+◌, ◌<◌, ◌≤◌, List, [], ◌∷◌, map, slice_get, Some, None, Option, IsNone, IsSome, refl, rules, arith, ap, length, subst, sym, ◌∙◌, Bool, true, false}
+use Rattle.std.proofs.Common.{◌≡◌, ◌⊎◌, inl, inr, ⊎_elim, ℕ, zero, suc, ◌+◌, ◌<◌, List, [], ◌∷◌, map, slice_get, Some, None, Option, IsNone, IsSome, refl, rules, arith, ap, length, subst, sym, ◌∙◌, Bool, true, false}
 use Rattle.std.specs.Prelude.{option_map}
-use Rattle.std.proofs.lemmas.Bool.{false≢true, cases_lt}
+use Rattle.std.proofs.lemmas.Bool.{false≢true}
 use Rattle.lay_cells.specs.Shapes.{Entry, IsIn, IsShape}
-use Rattle.lay_cells.specs.Rows.{Row, Solved, entry_of}
+use Rattle.lay_cells.specs.Rows.{Row, entry_of}
 use Rattle.lay_cells.specs.Looks.{AreClean, IsClean, IsDirty}
 use Rattle.lay_cells.specs.Steps.{IsStale}
 use Rattle.lay_cells.specs.Marks.{Marks, MarksWhere, Reached, listed, through, marked, staled}
 use Rattle.lay_cells.specs.Spreads.{Depends, on, below}
-use Rattle.lay_cells.specs.Sound.{IsRow, IsSound, IsPairOf}
+use Rattle.lay_cells.specs.Sound.{IsRow, IsSound}
 use Rattle.lay_cells.specs.declared.cell.Open.{Open}
-use Rattle.lay_cells.proofs.Lists.{map_at, one_at, some_inj}
+use Rattle.lay_cells.proofs.Lists.{some_inj}
 use Rattle.lay_cells.proofs.Answered.{one_by_key}
 use Rattle.lay_cells.proofs.Marked.{beside, marked_dirty, marked_entry, marked_twice, need_before}
 

@@ -1,16 +1,15 @@
 -- The cells of a new shape are sound.
-use Rattle.std.proofs.Common.{◌≡◌, ◌≢◌, ◌⊎◌, inl, inr, ⊎_elim, ℕ, zero, suc, ◌+◌, ◌<◌, ◌≤◌, List, [], ◌∷◌, Some, None, IsSome, map, length, slice_get, refl, rules, arith, ap, sym, subst, ◌∙◌, true, false}
+use Rattle.std.proofs.Common.{◌≡◌, inl, inr, ℕ, zero, suc, ◌+◌, ◌≤◌, List, [], ◌∷◌, Some, IsSome, map, slice_get, refl, rules, arith, ap, sym, subst, ◌∙◌}
 use Rattle.std.proofs.lemmas.Bool.{false≢true}
-use Rattle.std.proofs.lemmas.Option.{slice_get_within}
 use Rattle.std.specs.BTreeMap.{BTreeMap, get}
 use Rattle.std.specs.declared.cmp.Ordering.{Ordering}
 use Rattle.lay_cells.specs.Shapes.{Entry, IsEachOnce, IsIn, IsShape}
 use Rattle.lay_cells.specs.Rows.{Row, State, Solved, entry_of, row_of}
-use Rattle.lay_cells.specs.Looks.{AreClean, HasDirty}
+use Rattle.lay_cells.specs.Looks.{AreClean}
 use Rattle.lay_cells.specs.Marks.{marked}
 use Rattle.lay_cells.specs.Plans.{AreNamed, ArePlaced, IsIndexOf, blank_row, planned}
-use Rattle.lay_cells.specs.Reshapes.{Carries, IsCarried, IsMade, Rebuilds, RebuildsAll, Reshapes, made_row}
-use Rattle.lay_cells.specs.Sound.{IsRow, IsSound, IsPairOf}
+use Rattle.lay_cells.specs.Reshapes.{Carries, Rebuilds, RebuildsAll, Reshapes, made_row}
+use Rattle.lay_cells.specs.Sound.{IsRow, IsSound}
 use Rattle.lay_cells.specs.Kept.{IsWired, Wire, wire_of}
 use Rattle.lay_cells.specs.declared.cell.Cell.{Cell}
 use Rattle.lay_cells.specs.declared.shape.Planned.{Planned}

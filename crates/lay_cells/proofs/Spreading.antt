@@ -1,5 +1,5 @@
 -- One step of the spreading of marks.
-use Rattle.std.proofs.Common.{◌≡◌, ◌⊎◌, inl, inr, ℕ, List, Option, Some, None, IfSome, IfNone, map, slice_get, slice_set, refl, rules, ap, sym, subst, ◌∙◌, true, false}
+use Rattle.std.proofs.Common.{◌≡◌, inl, inr, ℕ, List, Option, Some, None, IfSome, IfNone, map, slice_get, slice_set, refl, rules, ap, ◌∙◌, true, false}
 use Rattle.std.specs.Prelude.{is_some}
 use Rattle.lay_cells.specs.Rows.{Row, Solved, row_of}
 use Rattle.lay_cells.specs.Looks.{AreClean, HasDirty, IsFirstDirty}

@@ -1,9 +1,9 @@
 -- One cell takes over what is kept of an old one, or takes a number.
-use Rattle.std.proofs.Common.{◌≡◌, ◌≢◌, ◌⊎◌, inl, inr, ⊎_elim, ℕ, zero, suc, ◌+◌, List, [], ◌∷◌, Option, Some, None, IfSome, IfNone, map, slice_get, slice_set, refl, rules, ap, sym, subst, ◌∙◌, Bool, true, false}
+use Rattle.std.proofs.Common.{◌≡◌, inl, inr, ⊎_elim, ℕ, zero, suc, ◌+◌, List, [], ◌∷◌, Option, Some, None, IfSome, IfNone, map, slice_get, slice_set, refl, ap, sym, subst, ◌∙◌, Bool, true, false}
 use Rattle.std.specs.Prelude.{is_some}
 use Rattle.std.proofs.lemmas.Bool.{false≢true}
 use Rattle.lay_cells.specs.Rows.{Row, Solved, row_of}
-use Rattle.lay_cells.specs.Looks.{AreClean, HasDirty, IsAt, IsFirstDirty, IsGone}
+use Rattle.lay_cells.specs.Looks.{AreClean, HasDirty, IsAt, IsFirstDirty}
 use Rattle.lay_cells.specs.Marks.{marked}
 use Rattle.lay_cells.specs.Kept.{ChangesAt}
 use Rattle.lay_cells.specs.Reshapes.{IsMade}

@@ -1,8 +1,7 @@
 -- The blank cells, one by one.
-use Rattle.std.proofs.Common.{◌≡◌, ◌⊎◌, ⊎_elim, ℕ, List, [], ◌∷◌, ◌++◌, map, length, slice_get, Some, refl, arith, ap, sym, subst, ◌∙◌}
+use Rattle.std.proofs.Common.{◌≡◌, ⊎_elim, ℕ, List, [], ◌∷◌, ◌++◌, map, length, slice_get, Some, refl, arith, ap, sym, subst, ◌∙◌}
 use Rattle.std.specs.BTreeMap.{BTreeMap}
 use Rattle.std.specs.declared.cmp.Ordering.{Ordering}
-use Rattle.lay_cells.specs.Shapes.{Entry, IsIn}
 use Rattle.lay_cells.specs.Rows.{Solved, row_of}
 use Rattle.lay_cells.specs.Plans.{ArePlaced, IsPlaced, blank_row, planned}
 use Rattle.lay_cells.specs.declared.cell.Cell.{Cell}

@@ -1,7 +1,7 @@
 -- What marking does. A cell is reached where its key is listed, or where it depends on a cell that is
 -- reached. Each cell that is reached becomes dirty, and its open claim, if there is one, stale; each
 -- other cell stays as it was. So where c depends on b and b on a, the list of a alone marks all three.
-use Rattle.std.specs.Prelude.{◌≡◌, ◌⊎◌, ℕ, true, List, slice_get, Option, Some, None, length, option_map}
+use Rattle.std.specs.Prelude.{◌≡◌, ◌⊎◌, ℕ, true, List, slice_get, Option, Some, length, option_map}
 use Rattle.lay_cells.specs.Shapes.{IsIn}
 use Rattle.lay_cells.specs.Rows.{Row}
 use Rattle.lay_cells.specs.declared.cell.Open.{Open}

@@ -1,12 +1,10 @@
 -- How a shape stands in memory, and what a reshape works with.
-use Rattle.std.specs.Prelude.{◌≡◌, ◌≢◌, ◌⊎◌, ◌+◌, ◌↔◌, ℕ, true, List, map, slice_get, slice_set, Some, IsSome}
+use Rattle.std.specs.Prelude.{◌≡◌, ℕ, List, map, slice_get, Some, IsSome}
 use Rattle.std.specs.BTreeMap.{BTreeMap, get}
 use Rattle.std.specs.declared.cmp.Ordering.{Ordering}
 use Rattle.lay_cells.specs.Shapes.{Entry, IsIn, IsShape}
-use Rattle.lay_cells.specs.Rows.{Row, Solved, entry_of, row_of}
-use Rattle.lay_cells.specs.Kept.{wire_of}
-use Rattle.lay_cells.specs.Spreads.{IsAmong}
-use Rattle.lay_cells.specs.Reshapes.{Carries, IsCarried, IsMade, made_row}
+use Rattle.lay_cells.specs.Rows.{Row, Solved}
+use Rattle.lay_cells.specs.Reshapes.{made_row}
 use Rattle.lay_cells.specs.declared.cell.Cell.{Cell}
 use Rattle.lay_cells.specs.declared.shape.Planned.{Planned}
 

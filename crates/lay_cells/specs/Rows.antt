@@ -1,6 +1,6 @@
 -- Cells as contracts see them: a list of rows in the order of the shape, and the count of the numbers
 -- that were drawn.
-use Rattle.std.specs.Prelude.{◌≡◌, ℕ, Bool, List, Option, option_map}
+use Rattle.std.specs.Prelude.{ℕ, Bool, List, Option, option_map}
 use Rattle.std.specs.Arc.{arc_value}
 use Rattle.lay_cells.specs.Shapes.{Entry}
 use Rattle.lay_cells.specs.declared.cell.Cell.{Cell}

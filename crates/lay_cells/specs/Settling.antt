@@ -1,11 +1,11 @@
 -- How a reshape goes through the blank cells: each takes what is kept under its key, or its number.
-use Rattle.std.specs.Prelude.{◌≡◌, ◌≢◌, ◌⊎◌, ◌<◌, ◌≤◌, ◌+◌, ℕ, Bool, true, false, List, map, take, slice_get, slice_set, Some}
+use Rattle.std.specs.Prelude.{◌≡◌, ◌≢◌, ◌⊎◌, ◌≤◌, ◌+◌, ℕ, Bool, true, false, List, map, take, slice_get, slice_set, Some}
 use Rattle.lay_cells.specs.Shapes.{Entry}
 use Rattle.lay_cells.specs.Rows.{Row, entry_of}
 use Rattle.lay_cells.specs.Looks.{AreClean, HasDirty}
 use Rattle.lay_cells.specs.Marks.{marked}
 use Rattle.lay_cells.specs.Spreads.{IsAmong}
-use Rattle.lay_cells.specs.Reshapes.{IsCarried, IsMade, RebuildsAll, made_row}
+use Rattle.lay_cells.specs.Reshapes.{IsCarried, IsMade, RebuildsAll}
 
 module _ {K I V : Type 0} where
   -- the cell that takes the place of b has all that is kept of r

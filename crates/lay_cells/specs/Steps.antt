@@ -1,6 +1,6 @@
 -- What a claim, a finished piece of work and a claim that is given back come to: the cause of each
 -- answer, and the cell after it.
-use Rattle.std.specs.Prelude.{◌≡◌, ◌≢◌, ◌⊎◌, ◌≤◌, ◌<◌, ◌+◌, ℕ, Bool, true, false, List, slice_set, Option, Some, None, IsSome, option_map}
+use Rattle.std.specs.Prelude.{◌≡◌, ◌≢◌, ◌⊎◌, ◌≤◌, ◌<◌, ◌+◌, ℕ, Bool, true, false, slice_set, Some, None, IsSome, option_map}
 use Rattle.lay_cells.specs.Rows.{Row, State, Solved}
 use Rattle.lay_cells.specs.Looks.{IsAt, IsGone}
 use Rattle.lay_cells.specs.declared.cell.Open.{Open}

@@ -1,4 +1,4 @@
-use Rattle.std.proofs.Common.{arith, refl, map}
+use Rattle.std.proofs.Common.{arith, refl}
 use Rattle.lay_cells.specs.Rows.{row_of}
 use Rattle.lay_cells.proofs.Lists.{in_bounds}
 use Rattle.lay_cells.proofs.needs.first_dirty_key.Goals as goal

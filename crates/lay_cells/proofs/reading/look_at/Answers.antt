@@ -1,4 +1,4 @@
-use Rattle.std.proofs.Common.{map, refl, subst, sym, ap, ◌≡◌, ◌∙◌, false, true}
+use Rattle.std.proofs.Common.{map, refl, subst, sym, ap, ◌∙◌}
 use Rattle.lay_cells.specs.Rows.{Row, row_of}
 use Rattle.lay_cells.specs.Looks.{IsFirstDirty, AreClean}
 use Rattle.lay_cells.proofs.Lists.{one_at}

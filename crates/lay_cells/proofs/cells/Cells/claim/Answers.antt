@@ -1,4 +1,4 @@
-use Rattle.std.proofs.Common.{◌≡◌, ◌≤◌, ◌<◌, ℕ, List, map, slice_get, Some, false, ap, subst, sym, ◌∙◌, ◌+◌, arith}
+use Rattle.std.proofs.Common.{◌≡◌, ◌<◌, ℕ, List, map, slice_get, Some, false, ap, subst, sym, ◌+◌, arith}
 use Rattle.std.specs.Arc.{arc_value}
 use Rattle.lay_cells.specs.Rows.{Row, State, row_of}
 use Rattle.lay_cells.specs.Looks.{IsAt, IsGone, Looks}

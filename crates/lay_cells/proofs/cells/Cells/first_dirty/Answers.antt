@@ -1,7 +1,6 @@
-use Rattle.std.proofs.Common.{map, subst, List, IfSome, IfNone, sym}
+use Rattle.std.proofs.Common.{map, subst, List, IfSome, IfNone}
 use Rattle.lay_cells.specs.Rows.{State, row_of}
 use Rattle.lay_cells.specs.Reads.{AllClean, IsFirstDirtyKey}
-use Rattle.lay_cells.specs.Kept.{IsLowest}
 use Rattle.lay_cells.proofs.cells.Cells.first_dirty.Goals as goal
 
 pub returns-clause-some : goal.returns-clause-some

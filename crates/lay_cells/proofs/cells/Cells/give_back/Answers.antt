@@ -1,7 +1,6 @@
-use Rattle.std.proofs.Common.{◌≡◌, ◌<◌, ℕ, List, map, slice_get, Some, false, subst, sym, refl, inl, arith, ap, rules}
+use Rattle.std.proofs.Common.{◌<◌, List, map, subst, refl, inl, arith, rules}
 use Rattle.lay_cells.specs.Rows.{Row, State, row_of}
 use Rattle.lay_cells.specs.Looks.{IsAt, IsGone}
-use Rattle.lay_cells.specs.Kept.{IsLowest}
 use Rattle.lay_cells.specs.Steps.{GivesBack}
 use Rattle.lay_cells.proofs.Answered.{back_fits, back_lowest, gives_back_in, kept_after}
 use Rattle.lay_cells.proofs.cells.Cells.give_back.Goals as goal

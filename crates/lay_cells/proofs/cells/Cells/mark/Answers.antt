@@ -1,4 +1,4 @@
-use Rattle.std.proofs.Common.{◌≡◌, List, map, subst, sym, ◌∙◌}
+use Rattle.std.proofs.Common.{List, map, subst, sym, ◌∙◌}
 use Rattle.lay_cells.specs.Rows.{State, row_of}
 use Rattle.lay_cells.specs.Marks.{Marks}
 use Rattle.lay_cells.specs.Kept.{IsLowest, IsWired}

@@ -1,4 +1,4 @@
-use Rattle.std.proofs.Common.{sym, subst, List, ℕ, []}
+use Rattle.std.proofs.Common.{sym, subst, List}
 use Rattle.lay_cells.specs.Kept.{IsKept}
 use Rattle.lay_cells.proofs.Empty.{kept_none}
 use Rattle.lay_cells.proofs.cells.Cells.new.Goals as goal

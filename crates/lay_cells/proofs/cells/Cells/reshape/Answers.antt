@@ -1,7 +1,7 @@
 use Rattle.std.proofs.Common.{◌≡◌, ◌∙◌, List, ap, map, subst, sym, true}
 use Rattle.std.specs.BTreeSet.{contains}
 use Rattle.lay_cells.specs.Shapes.{Entry, IsEachOnce, IsIn, IsShape}
-use Rattle.lay_cells.specs.Rows.{Row, entry_of, row_of}
+use Rattle.lay_cells.specs.Rows.{entry_of, row_of}
 use Rattle.lay_cells.specs.Kept.{IsLowest, IsWired}
 use Rattle.lay_cells.specs.Plans.{IsIndexOf, blank_row}
 use Rattle.lay_cells.specs.Reshapes.{RebuildsAll}
