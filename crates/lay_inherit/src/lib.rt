@@ -8,6 +8,7 @@ mod initial;
 mod keywords;
 mod laws;
 mod lengths;
+mod own;
 mod style;
 mod styles;
 #[cfg(test)]
