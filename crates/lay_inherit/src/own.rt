@@ -178,13 +178,8 @@ impl Own<'_> {
         ensures { result ≡ cascaded property self.now.decls.now parent initial (offset_of self.now.font) }
     {
         let font = self.font;
-        cascaded(
-            property,
-            self.decls,
-            parent,
-            initial,
-            |given| offset_of(font, given),
-        )
+        let value = |given| offset_of(font, given);
+        cascaded(property, self.decls, parent, initial, value)
     }
 
     /// A width or a height.
@@ -197,13 +192,8 @@ impl Own<'_> {
         ensures { result ≡ cascaded property self.now.decls.now parent initial (size_or_auto_of self.now.font) }
     {
         let font = self.font;
-        cascaded(
-            property,
-            self.decls,
-            parent,
-            initial,
-            |given| size_or_auto_of(font, given),
-        )
+        let value = |given| size_or_auto_of(font, given);
+        cascaded(property, self.decls, parent, initial, value)
     }
 
     /// A padding, or a least width or height.
@@ -216,13 +206,8 @@ impl Own<'_> {
         ensures { result ≡ cascaded property self.now.decls.now parent initial (size_measure_of self.now.font) }
     {
         let font = self.font;
-        cascaded(
-            property,
-            self.decls,
-            parent,
-            initial,
-            |given| size_measure_of(font, given),
-        )
+        let value = |given| size_measure_of(font, given);
+        cascaded(property, self.decls, parent, initial, value)
     }
 
     /// A greatest width or height.
@@ -235,13 +220,8 @@ impl Own<'_> {
         ensures { result ≡ cascaded property self.now.decls.now parent initial (size_or_none_of self.now.font) }
     {
         let font = self.font;
-        cascaded(
-            property,
-            self.decls,
-            parent,
-            initial,
-            |given| size_or_none_of(font, given),
-        )
+        let value = |given| size_or_none_of(font, given);
+        cascaded(property, self.decls, parent, initial, value)
     }
 
     /// The width of the border on one side, where there is one.
@@ -249,13 +229,8 @@ impl Own<'_> {
         ensures { result ≡ cascaded property self.now.decls.now parent initial (border_width_of self.now.font) }
     {
         let font = self.font;
-        cascaded(
-            property,
-            self.decls,
-            parent,
-            initial,
-            |given| border_width_of(font, given),
-        )
+        let value = |given| border_width_of(font, given);
+        cascaded(property, self.decls, parent, initial, value)
     }
 
     /// The space between letters or words.
@@ -263,13 +238,8 @@ impl Own<'_> {
         ensures { result ≡ cascaded property self.now.decls.now parent initial (spacing_of self.now.font) }
     {
         let font = self.font;
-        cascaded(
-            property,
-            self.decls,
-            parent,
-            initial,
-            |given| spacing_of(font, given),
-        )
+        let value = |given| spacing_of(font, given);
+        cascaded(property, self.decls, parent, initial, value)
     }
 
     /// `line-height`.
@@ -277,13 +247,8 @@ impl Own<'_> {
         ensures { result ≡ cascaded Property.LineHeight self.now.decls.now parent initial (line_height_of self.now.font) }
     {
         let font = self.font;
-        cascaded(
-            Property::LineHeight,
-            self.decls,
-            parent,
-            initial,
-            |given| line_height_of(font, given),
-        )
+        let value = |given| line_height_of(font, given);
+        cascaded(Property::LineHeight, self.decls, parent, initial, value)
     }
 
     /// `text-indent`.
@@ -291,13 +256,8 @@ impl Own<'_> {
         ensures { result ≡ cascaded Property.TextIndent self.now.decls.now parent initial (indent_of self.now.font) }
     {
         let font = self.font;
-        cascaded(
-            Property::TextIndent,
-            self.decls,
-            parent,
-            initial,
-            |given| indent_of(font, given),
-        )
+        let value = |given| indent_of(font, given);
+        cascaded(Property::TextIndent, self.decls, parent, initial, value)
     }
 
     /// `vertical-align`.
@@ -305,13 +265,8 @@ impl Own<'_> {
         ensures { result ≡ cascaded Property.VerticalAlign self.now.decls.now parent initial (vertical_align_of self.now.font) }
     {
         let font = self.font;
-        cascaded(
-            Property::VerticalAlign,
-            self.decls,
-            parent,
-            initial,
-            |given| vertical_align_of(font, given),
-        )
+        let value = |given| vertical_align_of(font, given);
+        cascaded(Property::VerticalAlign, self.decls, parent, initial, value)
     }
 
     /// `z-index`.
@@ -326,12 +281,7 @@ impl Own<'_> {
         ensures { result ≡ cascaded Property.BorderSpacing self.now.decls.now parent initial (border_spacing_of self.now.font) }
     {
         let font = self.font;
-        cascaded(
-            Property::BorderSpacing,
-            self.decls,
-            parent,
-            initial,
-            |given| border_spacing_of(font, given),
-        )
+        let value = |given| border_spacing_of(font, given);
+        cascaded(Property::BorderSpacing, self.decls, parent, initial, value)
     }
 }
