@@ -1,20 +1,13 @@
-//! The computed style of a node (CSS 2.2, 6.1.2), from its declarations, its parent's style and the
-//! initial one. `font` is the node's own computed font size.
+//! The computed style of a node (CSS 2.2, 6.1.2), from what it has itself, its parent's style and the
+//! initial one.
 
 ghost use Rattle.std.specs.Prelude.{◌≡◌};
 ghost use Rattle.lay_doc.specs.ComputedStyle.{font_size, offsets, margins, paddings, border_styles, width_of_style, border_widths, borders, sizing, text_style, table_style, styled, computed_style};
 
 use crate::cascade::cascaded;
 use crate::initial::initial_style;
-use crate::keywords::{
-    border_collapse_of, border_style_of, caption_side_of, clear_of, display_of, empty_cells_of,
-    float_of, overflow_of, position_of, table_layout_of, text_align_of, visibility_of,
-    white_space_of,
-};
-use crate::lengths::{
-    border_spacing_of, border_width_of, font_size_of, indent_of, line_height_of, offset_of, px,
-    size_measure_of, size_or_auto_of, size_or_none_of, spacing_of, vertical_align_of, z_index_of,
-};
+use crate::lengths::{font_size_of, px};
+use crate::own::Own;
 use lay_doc::{
     BorderStyle, Borders, Decls, Edges, LengthPercentage, LengthPercentageOrAuto, Property, Sizing,
     Style, TableStyle, TextStyle,
@@ -32,137 +25,65 @@ fn font_size(parent: Unit, decls: &Decls) -> Unit
 
 /// `top`, `right`, `bottom` and `left` (9.3.2).
 fn offsets(
-    font: Unit,
+    own: &Own<'_>,
     parent: &Edges<LengthPercentageOrAuto>,
     initial: &Edges<LengthPercentageOrAuto>,
-    decls: &Decls,
 ) -> Edges<LengthPercentageOrAuto>
-    ensures { result ≡ offsets font parent.now initial.now decls.now }
+    ensures { result ≡ offsets own.now.font parent.now initial.now own.now.decls.now }
 {
-    let value = |given| offset_of(font, given);
     Edges {
-        top: cascaded(Property::Top, decls, parent.top, initial.top, value),
-        right: cascaded(Property::Right, decls, parent.right, initial.right, value),
-        bottom: cascaded(
-            Property::Bottom,
-            decls,
-            parent.bottom,
-            initial.bottom,
-            value,
-        ),
-        left: cascaded(Property::Left, decls, parent.left, initial.left, value),
+        top: own.offset(Property::Top, parent.top, initial.top),
+        right: own.offset(Property::Right, parent.right, initial.right),
+        bottom: own.offset(Property::Bottom, parent.bottom, initial.bottom),
+        left: own.offset(Property::Left, parent.left, initial.left),
     }
 }
 
 /// The margins (8.3).
 fn margins(
-    font: Unit,
+    own: &Own<'_>,
     parent: &Edges<LengthPercentageOrAuto>,
     initial: &Edges<LengthPercentageOrAuto>,
-    decls: &Decls,
 ) -> Edges<LengthPercentageOrAuto>
-    ensures { result ≡ margins font parent.now initial.now decls.now }
+    ensures { result ≡ margins own.now.font parent.now initial.now own.now.decls.now }
 {
-    let value = |given| offset_of(font, given);
     Edges {
-        top: cascaded(Property::MarginTop, decls, parent.top, initial.top, value),
-        right: cascaded(
-            Property::MarginRight,
-            decls,
-            parent.right,
-            initial.right,
-            value,
-        ),
-        bottom: cascaded(
-            Property::MarginBottom,
-            decls,
-            parent.bottom,
-            initial.bottom,
-            value,
-        ),
-        left: cascaded(
-            Property::MarginLeft,
-            decls,
-            parent.left,
-            initial.left,
-            value,
-        ),
+        top: own.offset(Property::MarginTop, parent.top, initial.top),
+        right: own.offset(Property::MarginRight, parent.right, initial.right),
+        bottom: own.offset(Property::MarginBottom, parent.bottom, initial.bottom),
+        left: own.offset(Property::MarginLeft, parent.left, initial.left),
     }
 }
 
 /// The paddings (8.4).
 fn paddings(
-    font: Unit,
+    own: &Own<'_>,
     parent: &Edges<LengthPercentage>,
     initial: &Edges<LengthPercentage>,
-    decls: &Decls,
 ) -> Edges<LengthPercentage>
-    ensures { result ≡ paddings font parent.now initial.now decls.now }
+    ensures { result ≡ paddings own.now.font parent.now initial.now own.now.decls.now }
 {
-    let value = |given| size_measure_of(font, given);
     Edges {
-        top: cascaded(Property::PaddingTop, decls, parent.top, initial.top, value),
-        right: cascaded(
-            Property::PaddingRight,
-            decls,
-            parent.right,
-            initial.right,
-            value,
-        ),
-        bottom: cascaded(
-            Property::PaddingBottom,
-            decls,
-            parent.bottom,
-            initial.bottom,
-            value,
-        ),
-        left: cascaded(
-            Property::PaddingLeft,
-            decls,
-            parent.left,
-            initial.left,
-            value,
-        ),
+        top: own.least_size(Property::PaddingTop, parent.top, initial.top),
+        right: own.least_size(Property::PaddingRight, parent.right, initial.right),
+        bottom: own.least_size(Property::PaddingBottom, parent.bottom, initial.bottom),
+        left: own.least_size(Property::PaddingLeft, parent.left, initial.left),
     }
 }
 
 /// The styles of the borders (8.5.3).
 fn border_styles(
+    own: &Own<'_>,
     parent: &Edges<BorderStyle>,
     initial: &Edges<BorderStyle>,
-    decls: &Decls,
 ) -> Edges<BorderStyle>
-    ensures { result ≡ border_styles parent.now initial.now decls.now }
+    ensures { result ≡ border_styles parent.now initial.now own.now.decls.now }
 {
     Edges {
-        top: cascaded(
-            Property::BorderTopStyle,
-            decls,
-            parent.top,
-            initial.top,
-            border_style_of,
-        ),
-        right: cascaded(
-            Property::BorderRightStyle,
-            decls,
-            parent.right,
-            initial.right,
-            border_style_of,
-        ),
-        bottom: cascaded(
-            Property::BorderBottomStyle,
-            decls,
-            parent.bottom,
-            initial.bottom,
-            border_style_of,
-        ),
-        left: cascaded(
-            Property::BorderLeftStyle,
-            decls,
-            parent.left,
-            initial.left,
-            border_style_of,
-        ),
+        top: own.border_style(Property::BorderTopStyle, parent.top, initial.top),
+        right: own.border_style(Property::BorderRightStyle, parent.right, initial.right),
+        bottom: own.border_style(Property::BorderBottomStyle, parent.bottom, initial.bottom),
+        left: own.border_style(Property::BorderLeftStyle, parent.left, initial.left),
     }
 }
 
@@ -176,275 +97,116 @@ fn width_of_style(style: BorderStyle, width: Unit) -> Unit
     }
 }
 
-/// The widths of the borders (8.5.1), beside their styles.
+/// The widths of the borders (8.5.1), which have these styles.
 fn border_widths(
-    font: Unit,
+    own: &Own<'_>,
     style: &Edges<BorderStyle>,
     parent: &Edges<Unit>,
     initial: &Edges<Unit>,
-    decls: &Decls,
 ) -> Edges<Unit>
-    ensures { result ≡ border_widths font style.now parent.now initial.now decls.now }
+    ensures { result ≡ border_widths own.now.font style.now parent.now initial.now own.now.decls.now }
 {
-    let value = |given| border_width_of(font, given);
     Edges {
         top: width_of_style(
             style.top,
-            cascaded(
-                Property::BorderTopWidth,
-                decls,
-                parent.top,
-                initial.top,
-                value,
-            ),
+            own.border_width(Property::BorderTopWidth, parent.top, initial.top),
         ),
         right: width_of_style(
             style.right,
-            cascaded(
-                Property::BorderRightWidth,
-                decls,
-                parent.right,
-                initial.right,
-                value,
-            ),
+            own.border_width(Property::BorderRightWidth, parent.right, initial.right),
         ),
         bottom: width_of_style(
             style.bottom,
-            cascaded(
-                Property::BorderBottomWidth,
-                decls,
-                parent.bottom,
-                initial.bottom,
-                value,
-            ),
+            own.border_width(Property::BorderBottomWidth, parent.bottom, initial.bottom),
         ),
         left: width_of_style(
             style.left,
-            cascaded(
-                Property::BorderLeftWidth,
-                decls,
-                parent.left,
-                initial.left,
-                value,
-            ),
+            own.border_width(Property::BorderLeftWidth, parent.left, initial.left),
         ),
     }
 }
 
-fn borders(font: Unit, parent: &Borders, initial: &Borders, decls: &Decls) -> Borders
-    ensures { result ≡ borders font parent.now initial.now decls.now }
+/// The borders (8.5).
+fn borders(own: &Own<'_>, parent: &Borders, initial: &Borders) -> Borders
+    ensures { result ≡ borders own.now.font parent.now initial.now own.now.decls.now }
 {
-    let style = border_styles(&parent.style, &initial.style, decls);
+    let style = border_styles(own, &parent.style, &initial.style);
     Borders {
-        width: border_widths(font, &style, &parent.width, &initial.width, decls),
+        width: border_widths(own, &style, &parent.width, &initial.width),
         style,
     }
 }
 
 /// The sizes and their bounds (10.2, 10.4, 10.5 and 10.7).
-fn sizing(font: Unit, parent: &Sizing, initial: &Sizing, decls: &Decls) -> Sizing
-    ensures { result ≡ sizing font parent.now initial.now decls.now }
+fn sizing(own: &Own<'_>, parent: &Sizing, initial: &Sizing) -> Sizing
+    ensures { result ≡ sizing own.now.font parent.now initial.now own.now.decls.now }
 {
-    let size = |given| size_or_auto_of(font, given);
-    let least = |given| size_measure_of(font, given);
-    let greatest = |given| size_or_none_of(font, given);
     Sizing {
-        width: cascaded(Property::Width, decls, parent.width, initial.width, size),
-        height: cascaded(Property::Height, decls, parent.height, initial.height, size),
-        min_width: cascaded(
-            Property::MinWidth,
-            decls,
-            parent.min_width,
-            initial.min_width,
-            least,
-        ),
-        min_height: cascaded(
-            Property::MinHeight,
-            decls,
-            parent.min_height,
-            initial.min_height,
-            least,
-        ),
-        max_width: cascaded(
-            Property::MaxWidth,
-            decls,
-            parent.max_width,
-            initial.max_width,
-            greatest,
-        ),
-        max_height: cascaded(
-            Property::MaxHeight,
-            decls,
-            parent.max_height,
-            initial.max_height,
-            greatest,
-        ),
+        width: own.size(Property::Width, parent.width, initial.width),
+        height: own.size(Property::Height, parent.height, initial.height),
+        min_width: own.least_size(Property::MinWidth, parent.min_width, initial.min_width),
+        min_height: own.least_size(Property::MinHeight, parent.min_height, initial.min_height),
+        max_width: own.greatest_size(Property::MaxWidth, parent.max_width, initial.max_width),
+        max_height: own.greatest_size(Property::MaxHeight, parent.max_height, initial.max_height),
     }
 }
 
 /// Fonts, lines and texts (10.8, 15.7 and chapter 16).
-fn text_style(font: Unit, parent: &TextStyle, initial: &TextStyle, decls: &Decls) -> TextStyle
-    ensures { result ≡ text_style font parent.now initial.now decls.now }
+fn text_style(own: &Own<'_>, parent: &TextStyle, initial: &TextStyle) -> TextStyle
+    ensures { result ≡ text_style own.now.font parent.now initial.now own.now.decls.now }
 {
-    let spacing = |given| spacing_of(font, given);
     TextStyle {
-        font_size: font,
-        line_height: cascaded(
-            Property::LineHeight,
-            decls,
-            parent.line_height,
-            initial.line_height,
-            |given| line_height_of(font, given),
-        ),
-        text_indent: cascaded(
-            Property::TextIndent,
-            decls,
-            parent.text_indent,
-            initial.text_indent,
-            |given| indent_of(font, given),
-        ),
-        text_align: cascaded(
-            Property::TextAlign,
-            decls,
-            parent.text_align,
-            initial.text_align,
-            text_align_of,
-        ),
-        white_space: cascaded(
-            Property::WhiteSpace,
-            decls,
-            parent.white_space,
-            initial.white_space,
-            white_space_of,
-        ),
-        letter_spacing: cascaded(
+        font_size: own.font,
+        line_height: own.line_height(parent.line_height, initial.line_height),
+        text_indent: own.indent(parent.text_indent, initial.text_indent),
+        text_align: own.text_align(parent.text_align, initial.text_align),
+        white_space: own.white_space(parent.white_space, initial.white_space),
+        letter_spacing: own.spacing(
             Property::LetterSpacing,
-            decls,
             parent.letter_spacing,
             initial.letter_spacing,
-            spacing,
         ),
-        word_spacing: cascaded(
+        word_spacing: own.spacing(
             Property::WordSpacing,
-            decls,
             parent.word_spacing,
             initial.word_spacing,
-            spacing,
         ),
-        vertical_align: cascaded(
-            Property::VerticalAlign,
-            decls,
-            parent.vertical_align,
-            initial.vertical_align,
-            |given| vertical_align_of(font, given),
-        ),
+        vertical_align: own.vertical_align(parent.vertical_align, initial.vertical_align),
     }
 }
 
 /// Tables (chapter 17).
-fn table_style(font: Unit, parent: &TableStyle, initial: &TableStyle, decls: &Decls) -> TableStyle
-    ensures { result ≡ table_style font parent.now initial.now decls.now }
+fn table_style(own: &Own<'_>, parent: &TableStyle, initial: &TableStyle) -> TableStyle
+    ensures { result ≡ table_style own.now.font parent.now initial.now own.now.decls.now }
 {
     TableStyle {
-        layout: cascaded(
-            Property::TableLayout,
-            decls,
-            parent.layout,
-            initial.layout,
-            table_layout_of,
-        ),
-        border_collapse: cascaded(
-            Property::BorderCollapse,
-            decls,
-            parent.border_collapse,
-            initial.border_collapse,
-            border_collapse_of,
-        ),
-        border_spacing: cascaded(
-            Property::BorderSpacing,
-            decls,
-            parent.border_spacing,
-            initial.border_spacing,
-            |given| border_spacing_of(font, given),
-        ),
-        caption_side: cascaded(
-            Property::CaptionSide,
-            decls,
-            parent.caption_side,
-            initial.caption_side,
-            caption_side_of,
-        ),
-        empty_cells: cascaded(
-            Property::EmptyCells,
-            decls,
-            parent.empty_cells,
-            initial.empty_cells,
-            empty_cells_of,
-        ),
+        layout: own.table_layout(parent.layout, initial.layout),
+        border_collapse: own.border_collapse(parent.border_collapse, initial.border_collapse),
+        border_spacing: own.border_spacing(parent.border_spacing, initial.border_spacing),
+        caption_side: own.caption_side(parent.caption_side, initial.caption_side),
+        empty_cells: own.empty_cells(parent.empty_cells, initial.empty_cells),
     }
 }
 
-/// The style of a node of this font size.
-fn styled(font: Unit, parent: &Style, initial: &Style, decls: &Decls) -> Style
-    ensures { result ≡ styled font parent.now initial.now decls.now }
+/// The style of a node that has this itself.
+fn styled(own: &Own<'_>, parent: &Style, initial: &Style) -> Style
+    ensures { result ≡ styled own.now.font parent.now initial.now own.now.decls.now }
 {
     Style {
-        display: cascaded(
-            Property::Display,
-            decls,
-            parent.display,
-            initial.display,
-            display_of,
-        ),
-        position: cascaded(
-            Property::Position,
-            decls,
-            parent.position,
-            initial.position,
-            position_of,
-        ),
-        float: cascaded(
-            Property::Float,
-            decls,
-            parent.float,
-            initial.float,
-            float_of,
-        ),
-        clear: cascaded(
-            Property::Clear,
-            decls,
-            parent.clear,
-            initial.clear,
-            clear_of,
-        ),
-        offset: offsets(font, &parent.offset, &initial.offset, decls),
-        z_index: cascaded(
-            Property::ZIndex,
-            decls,
-            parent.z_index,
-            initial.z_index,
-            z_index_of,
-        ),
-        sizing: sizing(font, &parent.sizing, &initial.sizing, decls),
-        margin: margins(font, &parent.margin, &initial.margin, decls),
-        padding: paddings(font, &parent.padding, &initial.padding, decls),
-        border: borders(font, &parent.border, &initial.border, decls),
-        overflow: cascaded(
-            Property::Overflow,
-            decls,
-            parent.overflow,
-            initial.overflow,
-            overflow_of,
-        ),
-        visibility: cascaded(
-            Property::Visibility,
-            decls,
-            parent.visibility,
-            initial.visibility,
-            visibility_of,
-        ),
-        text: text_style(font, &parent.text, &initial.text, decls),
-        table: table_style(font, &parent.table, &initial.table, decls),
+        display: own.display(parent.display, initial.display),
+        position: own.position(parent.position, initial.position),
+        float: own.float(parent.float, initial.float),
+        clear: own.clear(parent.clear, initial.clear),
+        offset: offsets(own, &parent.offset, &initial.offset),
+        z_index: own.z_index(parent.z_index, initial.z_index),
+        sizing: sizing(own, &parent.sizing, &initial.sizing),
+        margin: margins(own, &parent.margin, &initial.margin),
+        padding: paddings(own, &parent.padding, &initial.padding),
+        border: borders(own, &parent.border, &initial.border),
+        overflow: own.overflow(parent.overflow, initial.overflow),
+        visibility: own.visibility(parent.visibility, initial.visibility),
+        text: text_style(own, &parent.text, &initial.text),
+        table: table_style(own, &parent.table, &initial.table),
     }
 }
 
@@ -453,5 +215,5 @@ pub(crate) fn computed_style(parent: &Style, decls: &Decls) -> Style
     ensures { result ≡ computed_style parent.now decls.now }
 {
     let font = font_size(parent.text.font_size, decls);
-    styled(font, parent, &initial_style(), decls)
+    styled(&Own { decls, font }, parent, &initial_style())
 }

@@ -8,60 +8,35 @@ use lay_doc::{
 use lay_units::{Percent, Unit};
 use std::test::Fail;
 
+/// A font size of a root in px, what is given to its child, and the child's font size.
+const FONT_SIZES: &[(i16, Given, i64)] = &[
+    (20, Given::Em(1500), 1920),
+    (16, Given::Em(333), 340),
+    (20, Given::Percent(Percent(5000)), 640),
+    (16, Given::Percent(Percent(3333)), 341),
+    (16, Given::Keyword(Word::Larger), 1228),
+    (13, Given::Keyword(Word::Larger), 998),
+    (16, Given::Keyword(Word::Smaller), 853),
+    (0, Given::Keyword(Word::Smaller), 0),
+    (20, Given::Keyword(Word::XxSmall), 576),
+    (20, Given::Keyword(Word::XSmall), 640),
+    (20, Given::Keyword(Word::Small), 832),
+    (20, Given::Keyword(Word::Medium), 1024),
+    (20, Given::Keyword(Word::Large), 1152),
+    (20, Given::Keyword(Word::XLarge), 1536),
+    (20, Given::Keyword(Word::XxLarge), 2048),
+    (20, Given::Length(Unit(7)), 7),
+    (20, Given::Inherit, 1280),
+    (20, Given::Em(1000000000000), 2147483648),
+];
+
 #[test]
 fn a_font_size_comes_from_the_parents(rt: HostRuntime) -> Result<(), Fail> {
-    for (name, parent, given, expected) in [
-        ("em", given_px(20), Given::Em(1500), 1920),
-        ("em rounded down", given_px(16), Given::Em(333), 340),
-        ("percent", given_px(20), Given::Percent(Percent(5000)), 640),
-        (
-            "percent rounded down",
-            given_px(16),
-            Given::Percent(Percent(3333)),
-            341,
-        ),
-        ("larger", given_px(16), Given::Keyword(Word::Larger), 1228),
-        (
-            "larger than 13 px",
-            given_px(13),
-            Given::Keyword(Word::Larger),
-            998,
-        ),
-        ("smaller", given_px(16), Given::Keyword(Word::Smaller), 853),
-        (
-            "smaller than 1 unit",
-            Given::Length(Unit(1)),
-            Given::Keyword(Word::Smaller),
-            0,
-        ),
-        ("xx-small", given_px(20), Given::Keyword(Word::XxSmall), 576),
-        ("x-small", given_px(20), Given::Keyword(Word::XSmall), 640),
-        ("small", given_px(20), Given::Keyword(Word::Small), 832),
-        ("medium", given_px(20), Given::Keyword(Word::Medium), 1024),
-        ("large", given_px(20), Given::Keyword(Word::Large), 1152),
-        ("x-large", given_px(20), Given::Keyword(Word::XLarge), 1536),
-        (
-            "xx-large",
-            given_px(20),
-            Given::Keyword(Word::XxLarge),
-            2048,
-        ),
-        ("px", given_px(20), given_px(9), 576),
-        ("inherit", given_px(20), Given::Inherit, 1280),
-        (
-            "clamped",
-            given_px(20),
-            Given::Em(1000000000000),
-            2147483648,
-        ),
-    ] {
-        let root = [(Property::FontSize, parent)];
-        let pair = styles(rt.alloc(), &root, &[(Property::FontSize, given)])?;
-        assert_eq!(rt;
-            pair.map(|(_, child)| child.text.font_size),
-            Some(Unit(expected)),
-            "{name}"
-        );
+    for (parent, given, expected) in FONT_SIZES {
+        let root = [(Property::FontSize, given_px(*parent))];
+        let pair = styles(rt.alloc(), &root, &[(Property::FontSize, *given)])?;
+        let size = pair.map(|(_, child)| child.text.font_size);
+        assert_eq!(rt; size, Some(Unit(*expected)), "{given:?} in {parent} px");
     }
     Ok(())
 }
