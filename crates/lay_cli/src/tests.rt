@@ -4,8 +4,12 @@ mod documents;
 mod refusals;
 mod streams;
 
+use crate::{Status, top};
+use lay_outside::{FixedSink, OpenGate, SafeSource};
 use std::alloc::Global;
+use std::sync::Wait;
 use std::test::Fail;
+use std::thread::Threads;
 
 /// A root and a child that is 100 px wide, centred.
 const TWO_BLOCKS: &str =
@@ -19,7 +23,15 @@ fn scratch(alloc: Global) -> Result<Vec<String>, Fail> {
     Ok(vec![in alloc; String::from_str(alloc, "scratch")?]?)
 }
 
-/// The two blocks with the first of these texts in place of another.
-fn changed(alloc: Global, from: &str, to: &str) -> Result<String, Fail> {
-    Ok(TWO_BLOCKS.replacen(alloc, from, to, 1)?)
+/// The status for a run document that is laid out from scratch, and what was written.
+fn answer<R: Threads + Wait + Sync>(
+    rt: &R,
+    alloc: Global,
+    run: &str,
+) -> Result<(Status, FixedSink), Fail> {
+    let words = scratch(alloc)?;
+    let mut source = SafeSource::new(run.as_bytes().to_vec(alloc)?);
+    let mut sink = FixedSink::new(alloc, 1000)?;
+    let status = top(rt, alloc, &words, &mut source, &mut sink, &OpenGate);
+    Ok((status, sink))
 }

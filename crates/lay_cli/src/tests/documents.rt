@@ -2,9 +2,9 @@
 
 ghost use Rattle.std.specs.Prelude.{◌<◌};
 
-use super::{changed, scratch};
+use super::{TWO_BLOCKS, answer, scratch};
 use crate::{Status, top};
-use lay_outside::{FixedSink, MemSink, MemSource, OpenGate, SafeSource};
+use lay_outside::{MemSink, MemSource, OpenGate};
 use std::test::Fail;
 
 #[test]
@@ -55,7 +55,7 @@ fn documents_are_laid_out(rt: HostRuntime) -> Result<(), Fail> {
             "box 2 0 15904 0 19392 3200\n",
         ),
     ] {
-        let run = changed(rt.alloc(), from, to)?;
+        let run = TWO_BLOCKS.replacen(rt.alloc(), from, to, 1)?;
         let bytes = run.as_bytes().to_vec(rt.alloc())?;
         let mut source = MemSource::new(bytes, 7, Vec::new(rt.alloc()));
         let mut sink = MemSink::new(rt.alloc(), 1000, 10, Vec::new(rt.alloc()))?;
@@ -73,7 +73,6 @@ fn documents_are_laid_out(rt: HostRuntime) -> Result<(), Fail> {
 
 #[test]
 fn blocks_stand_below_each_other(rt: HostRuntime) -> Result<(), Fail> {
-    let words = scratch(rt.alloc())?;
     let run = r#"{"viewport":[100,100],"nodes":[
         {"id":9,"parent":0,"kind":"element","style":{"display":"block","margin-left":"10px"}},
         {"id":3,"parent":9,"kind":"element","style":{"display":"block"}},
@@ -82,59 +81,42 @@ fn blocks_stand_below_each_other(rt: HostRuntime) -> Result<(), Fail> {
         {"id":6,"parent":3,"kind":"element","style":{"display":"block","height":"3px","width":"4px"}}]}"#;
     let want =
         "publish 0\nfinal 0\nbox 9 0 640 0 5760 768\nbox 3 0 640 0 5760 320\nbox 5 0 704 0 5696 128\nbox 6 0 640 128 256 192\nbox 4 0 640 320 5760 448\n";
-    let mut source = SafeSource::new(run.as_bytes().to_vec(rt.alloc())?);
-    let mut sink = FixedSink::new(rt.alloc(), 1000)?;
-    let status = top(&rt, rt.alloc(), &words, &mut source, &mut sink, &OpenGate);
+    let (status, sink) = answer(&rt, rt.alloc(), run)?;
     assert_eq!(rt; status, Status::Ok);
     assert_eq!(rt; sink.bytes(), want.as_bytes());
     Ok(())
 }
 
-/// Lays a document out, and compares the report behind its first two lines.
-fn check_report(rt: &HostRuntime, name: &str, run: &str, want: &str) -> Result<(), Fail> {
-    let words = scratch(rt.alloc())?;
-    let mut source = SafeSource::new(run.as_bytes().to_vec(rt.alloc())?);
-    let mut sink = FixedSink::new(rt.alloc(), 1000)?;
-    let status = top(rt, rt.alloc(), &words, &mut source, &mut sink, &OpenGate);
-    let mut report = String::from_str(rt.alloc(), "publish 0\nfinal 0\n")?;
-    report.push_str(want)?;
-    assert_eq!(rt; status, Status::Ok, "{name}");
-    assert_eq!(rt; sink.bytes(), report.as_bytes(), "{name}");
-    Ok(())
-}
-
 #[test]
-fn em_and_percentages_are_of_the_font_and_the_containing_block(
-    rt: HostRuntime,
-) -> Result<(), Fail> {
-    check_report(
-        &rt,
-        "10em of 20px and 12.5% of 800px",
-        r#"{"viewport":[800,600],"nodes":[
+fn borders_paddings_and_relative_values_are_laid_out(rt: HostRuntime) -> Result<(), Fail> {
+    for (name, run, want) in [
+        (
+            "10em of 20px and 12.5% of 800px",
+            r#"{"viewport":[800,600],"nodes":[
             {"id":1,"parent":0,"kind":"element","style":{"display":"block","font-size":"20px"}},
             {"id":2,"parent":1,"kind":"element","style":{"display":"block","width":"10em","height":"50px","margin-left":"auto","margin-right":"auto","padding-left":"12.5%"}}]}"#,
-        "box 1 0 0 0 51200 3200\nbox 2 0 16000 0 19200 3200\n",
-    )?;
-    check_report(
-        &rt,
-        "an inherited percentage is of the own containing block",
-        r#"{"viewport":[800,600],"nodes":[
+            "publish 0\nfinal 0\nbox 1 0 0 0 51200 3200\nbox 2 0 16000 0 19200 3200\n",
+        ),
+        (
+            "an inherited percentage is of the own containing block",
+            r#"{"viewport":[800,600],"nodes":[
             {"id":1,"parent":0,"kind":"element","style":{"display":"block","width":"50%"}},
             {"id":2,"parent":1,"kind":"element","style":{"display":"block","width":"inherit","height":"50px","margin-left":"auto","margin-right":"auto"}}]}"#,
-        "box 1 0 0 0 25600 3200\nbox 2 0 6400 0 12800 3200\n",
-    )
-}
-
-#[test]
-fn content_stands_inside_borders_and_paddings(rt: HostRuntime) -> Result<(), Fail> {
-    check_report(
-        &rt,
-        "a border and a padding on every side",
-        r#"{"viewport":[100,100],"nodes":[
+            "publish 0\nfinal 0\nbox 1 0 0 0 25600 3200\nbox 2 0 6400 0 12800 3200\n",
+        ),
+        (
+            "a border and a padding round the content",
+            r#"{"viewport":[100,100],"nodes":[
             {"id":1,"parent":0,"kind":"element","style":{"padding-left":"1px","padding-top":"10%","border-bottom-style":"dotted","border-bottom-width":"thin","border-left-style":"hidden"}},
             {"id":2,"parent":1,"kind":"element","style":{"display":"list-item","height":"5px","padding-bottom":"2px"}},
             {"id":3,"parent":1,"kind":"element","style":{"display":"block","margin-left":"3px","height":"1px"}},
             {"id":4,"parent":3,"kind":"element","style":{"display":"block","height":"9px"}}]}"#,
-        "box 1 0 0 0 6400 1216\nbox 2 0 64 640 6336 448\nbox 3 0 256 1088 6144 64\nbox 4 0 256 1088 6144 576\n",
-    )
+            "publish 0\nfinal 0\nbox 1 0 0 0 6400 1216\nbox 2 0 64 640 6336 448\nbox 3 0 256 1088 6144 64\nbox 4 0 256 1088 6144 576\n",
+        ),
+    ] {
+        let (status, sink) = answer(&rt, rt.alloc(), run)?;
+        assert_eq!(rt; status, Status::Ok, "{name}");
+        assert_eq!(rt; sink.bytes(), want.as_bytes(), "{name}");
+    }
+    Ok(())
 }

@@ -1,21 +1,10 @@
 //! The lines of refusals.
 
-use super::{TWO_BLOCKS, scratch};
+use super::{TWO_BLOCKS, answer, scratch};
 use crate::{Status, top};
 use lay_outside::{FixedSink, OpenGate, SafeSource};
 use std::alloc::Global;
 use std::test::Fail;
-
-/// Checks that a run document is refused with this line.
-fn check_refusal(rt: &HostRuntime, name: &str, run: &str, want: &str) -> Result<(), Fail> {
-    let words = scratch(rt.alloc())?;
-    let mut source = SafeSource::new(run.as_bytes().to_vec(rt.alloc())?);
-    let mut sink = FixedSink::new(rt.alloc(), 1000)?;
-    let status = top(rt, rt.alloc(), &words, &mut source, &mut sink, &OpenGate);
-    assert_eq!(rt; status, Status::Refused, "{name}");
-    assert_eq!(rt; sink.bytes(), want.as_bytes(), "{name}");
-    Ok(())
-}
 
 #[test]
 fn bytes_without_a_reading_are_refused(rt: HostRuntime) -> Result<(), Fail> {
@@ -25,7 +14,9 @@ fn bytes_without_a_reading_are_refused(rt: HostRuntime) -> Result<(), Fail> {
         ("two documents", "{} {}"),
         ("a number past the greatest", "[1e999]"),
     ] {
-        check_refusal(&rt, name, run, "refused I2\n")?;
+        let (status, sink) = answer(&rt, rt.alloc(), run)?;
+        assert_eq!(rt; status, Status::Refused, "{name}");
+        assert_eq!(rt; sink.bytes(), b"refused I2\n".as_slice(), "{name}");
     }
     Ok(())
 }
@@ -76,7 +67,9 @@ fn faults_of_the_run_name_their_field(rt: HostRuntime) -> Result<(), Fail> {
             "refused I3 id node 0\n",
         ),
     ] {
-        check_refusal(&rt, name, run, want)?;
+        let (status, sink) = answer(&rt, rt.alloc(), run)?;
+        assert_eq!(rt; status, Status::Refused, "{name}");
+        assert_eq!(rt; sink.bytes(), want.as_bytes(), "{name}");
     }
     Ok(())
 }
@@ -130,7 +123,9 @@ fn faults_of_nodes_and_commands_name_their_place(rt: HostRuntime) -> Result<(), 
         ),
     ] {
         let run = TWO_BLOCKS.replacen(rt.alloc(), from, to, 1)?;
-        check_refusal(&rt, name, run.as_str(), want)?;
+        let (status, sink) = answer(&rt, rt.alloc(), run.as_str())?;
+        assert_eq!(rt; status, Status::Refused, "{name}");
+        assert_eq!(rt; sink.bytes(), want.as_bytes(), "{name}");
     }
     Ok(())
 }
@@ -237,7 +232,9 @@ fn the_first_node_that_is_not_laid_out_is_named(rt: HostRuntime) -> Result<(), F
         ),
     ] {
         let run = TWO_BLOCKS.replacen(rt.alloc(), from, to, 1)?;
-        check_refusal(&rt, name, run.as_str(), want)?;
+        let (status, sink) = answer(&rt, rt.alloc(), run.as_str())?;
+        assert_eq!(rt; status, Status::Refused, "{name}");
+        assert_eq!(rt; sink.bytes(), want.as_bytes(), "{name}");
     }
     Ok(())
 }
