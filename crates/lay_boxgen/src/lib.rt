@@ -2,8 +2,12 @@
 #![tactic(auto)]
 
 mod box_tree;
+mod display;
 mod facts;
+mod forms;
+mod node_boxes;
 mod node_trees;
 mod subtree;
+mod white_space;
 
 pub use box_tree::{BoxKind, BoxList, BoxNode, BoxTree, InnerBox, Preferred};
