@@ -2,6 +2,7 @@
 #![tactic(auto)]
 
 mod box_tree;
+mod contexts;
 mod display;
 mod facts;
 mod forms;
@@ -11,3 +12,4 @@ mod subtree;
 mod white_space;
 
 pub use box_tree::{BoxKind, BoxList, BoxNode, BoxTree, InnerBox, Preferred};
+pub use contexts::is_context;
