@@ -6,8 +6,10 @@ mod contexts;
 mod display;
 mod facts;
 mod forms;
+mod irrelevant;
 mod node_boxes;
 mod node_trees;
+mod runs;
 mod subtree;
 mod white_space;
 
