@@ -2,15 +2,21 @@
 #![tactic(auto)]
 
 mod box_tree;
+mod broken_inlines;
 mod contexts;
 mod display;
 mod facts;
 mod forms;
+mod generation;
+mod inline_runs;
 mod irrelevant;
+mod missing_children;
+mod missing_parents;
 mod node_boxes;
 mod node_trees;
 mod runs;
 mod subtree;
+mod table_wrappers;
 mod white_space;
 
 pub use box_tree::{BoxKind, BoxList, BoxNode, BoxTree, InnerBox, Preferred};
