@@ -17,3 +17,4 @@ pub mod Parts
 pub mod AnonymousStyle
 pub mod Listing
 pub mod Contexts
+pub mod CutTrees

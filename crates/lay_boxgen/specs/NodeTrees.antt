@@ -23,15 +23,16 @@ abbrev pub as_child : Tree → Tree
 as_child (tree f children) =
     if is_absolute f.flow then tree (anchor_facts f) (also (tree (as_own f) children) no_trees) else tree f children
 
-abbrev pub and_child : Option Tree → List Tree → List Tree
-and_child None ts = ts
-and_child (Some t) ts = as_child t ∷ ts
+-- In what follows `seen` says how a parent has the tree of a child.
+abbrev pub and_child : (Tree → Tree) → Option Tree → List Tree → List Tree
+and_child seen None ts = ts
+and_child seen (Some t) ts = seen t ∷ ts
 
 -- The children of the node at k, and the other nodes, among those that have no parent between k and
 -- themselves: the children stand first, for the nodes of a subtree stand together.
-abbrev pub children_of : ℕ → List NodeTree → List Tree
-children_of k [] = []
-children_of k (n ∷ ns) = if n.parent == k then and_child n.tree (children_of k ns) else []
+abbrev pub children_of : (Tree → Tree) → ℕ → List NodeTree → List Tree
+children_of seen k [] = []
+children_of seen k (n ∷ ns) = if n.parent == k then and_child seen n.tree (children_of seen k ns) else []
 
 abbrev pub others_than_children : ℕ → List NodeTree → List NodeTree
 others_than_children k [] = []
@@ -43,15 +44,15 @@ box_with None children = None
 box_with (Some f) children = Some (tree f (trees_of children))
 
 -- the node at k with its children, before the others
-abbrev pub with_node : ℕ → Node → Style → List NodeTree → List NodeTree
-with_node k n s after =
-    record { parent = n.parent; tree = box_with (node_box k n s) (children_of k after) } ∷ others_than_children k after
+abbrev pub with_node : (Tree → Tree) → ℕ → Node → Style → List NodeTree → List NodeTree
+with_node seen k n s after =
+    record { parent = n.parent; tree = box_with (node_box k n s) (children_of seen k after) } ∷ others_than_children k after
 
 -- The trees of these nodes, which stand from the place k on: of each that has no parent among them, in order.
-abbrev pub node_trees : ℕ → List Node → List Style → List NodeTree
-node_trees k [] ss = []
-node_trees k (n ∷ ns) [] = []
-node_trees k (n ∷ ns) (s ∷ ss) = with_node k n s (node_trees (k + 1) ns ss)
+abbrev pub node_trees : (Tree → Tree) → ℕ → List Node → List Style → List NodeTree
+node_trees seen k [] ss = []
+node_trees seen k (n ∷ ns) [] = []
+node_trees seen k (n ∷ ns) (s ∷ ss) = with_node seen k n s (node_trees seen (k + 1) ns ss)
 
 abbrev pub first_tree : List NodeTree → Option Tree
 first_tree [] = None
@@ -59,4 +60,4 @@ first_tree (n ∷ ns) = n.tree
 
 -- the tree of the node at k: of the nodes from there on it is the first
 abbrev pub tree_at : List Node → List Style → ℕ → Option Tree
-tree_at nodes styles k = first_tree (node_trees k (drop k nodes) (drop k styles))
+tree_at nodes styles k = first_tree (node_trees as_child k (drop k nodes) (drop k styles))

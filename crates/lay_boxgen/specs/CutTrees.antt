@@ -1,0 +1,21 @@
+-- The trees of a context's part from the start: a parent has the boxes of inner contexts and anchors alone.
+use Rattle.std.specs.Prelude.{List, [], ◌∷◌, if◌then◌else◌, option_map}
+use Rattle.lay_boxgen.specs.Boxes.{Tree, tree, no_trees}
+use Rattle.lay_boxgen.specs.Forms.{is_absolute}
+use Rattle.lay_boxgen.specs.NodeTrees.{anchor_facts}
+use Rattle.lay_boxgen.specs.Parts.{is_closed, all_put, nothing}
+use Rattle.lay_boxgen.specs.declared.node_trees.NodeTree.{NodeTree}
+
+-- the tree of a node as its parent has it in a part
+abbrev pub as_leaf : Tree → Tree
+as_leaf (tree f children) =
+    if is_absolute f.flow then tree (anchor_facts f) no_trees
+    else (if is_closed f then tree f no_trees else tree f children)
+
+-- a tree with nothing inside the boxes of inner contexts that are below its own box
+abbrev pub cut : Tree → Tree
+cut (tree f children) = tree f (all_put nothing children)
+
+abbrev pub cut_trees : List NodeTree → List NodeTree
+cut_trees [] = []
+cut_trees (n ∷ ns) = record { parent = n.parent; tree = option_map cut n.tree } ∷ cut_trees ns
