@@ -1,6 +1,7 @@
 //! Box generation.
 #![tactic(auto)]
 
+mod anonymous_style;
 mod box_tree;
 mod broken_inlines;
 mod contexts;
@@ -10,6 +11,7 @@ mod forms;
 mod generation;
 mod inline_runs;
 mod irrelevant;
+mod listing;
 mod missing_children;
 mod missing_parents;
 mod node_boxes;

@@ -12,8 +12,8 @@ use std::marker::Model;
 /// A box with the trees of its children.
 #[derive(Drop, Debug)]
 pub struct Subtree {
-    facts: Facts,
-    children: Vec<Subtree>,
+    pub facts: Facts,
+    pub children: Vec<Subtree>,
 }
 
 impl Model for Subtree {
