@@ -1,2 +1,4 @@
 pub mod Above
 pub mod NodeColumns
+pub mod Putting
+pub mod Inside

@@ -18,3 +18,4 @@ pub mod AnonymousStyle
 pub mod Listing
 pub mod Contexts
 pub mod CutTrees
+pub mod Laws
