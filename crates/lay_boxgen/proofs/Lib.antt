@@ -1,4 +1,6 @@
 pub mod Above
+pub mod CutNodes
+pub mod Inside
 pub mod NodeColumns
 pub mod Putting
-pub mod Inside
+pub mod SplitNodes

@@ -1,9 +1,11 @@
 -- The trees of a context's part from the start: a parent has the boxes of inner contexts and anchors alone.
-use Rattle.std.specs.Prelude.{List, [], ◌∷◌, if◌then◌else◌, option_map}
+use Rattle.std.specs.Prelude.{ℕ, Option, List, [], ◌∷◌, if◌then◌else◌, option_map}
+use Rattle.lay_doc.specs.declared.node.Node.{Node}
+use Rattle.lay_doc.specs.declared.style.Style.{Style}
 use Rattle.lay_boxgen.specs.Boxes.{Tree, tree, no_trees}
 use Rattle.lay_boxgen.specs.Forms.{is_absolute}
-use Rattle.lay_boxgen.specs.NodeTrees.{anchor_facts}
-use Rattle.lay_boxgen.specs.Parts.{is_closed, all_put, nothing}
+use Rattle.lay_boxgen.specs.NodeTrees.{anchor_facts, tree_at}
+use Rattle.lay_boxgen.specs.Parts.{is_closed, all_put, nothing, own_tree}
 use Rattle.lay_boxgen.specs.declared.node_trees.NodeTree.{NodeTree}
 
 -- the tree of a node as its parent has it in a part
@@ -19,3 +21,10 @@ cut (tree f children) = tree f (all_put nothing children)
 abbrev pub cut_trees : List NodeTree → List NodeTree
 cut_trees [] = []
 cut_trees (n ∷ ns) = record { parent = n.parent; tree = option_map cut n.tree } ∷ cut_trees ns
+
+-- the tree of a context as its part has it
+abbrev pub cut_own : Tree → Tree
+cut_own t = own_tree (cut t)
+
+abbrev pub cut_tree_at : List Node → List Style → ℕ → Option Tree
+cut_tree_at nodes styles k = option_map cut_own (tree_at nodes styles k)

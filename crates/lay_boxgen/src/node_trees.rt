@@ -1,11 +1,11 @@
 //! From the nodes of a document to trees of boxes.
 
-ghost use Rattle.std.specs.Prelude.{◌≡◌, ◌<◌, ◌≤◌, ◌+◌, ℕ, List, OnOk, IfOk, drop, length, reverse, slice_index};
+ghost use Rattle.std.specs.Prelude.{◌≡◌, ◌<◌, ◌≤◌, ◌+◌, ℕ, List, OnOk, IfOk, drop, length, option_map, reverse, slice_index};
 ghost use Rattle.lay_doc.specs.Document.{parents_of};
 ghost use Rattle.lay_boxgen.specs.Boxes.{tree, no_trees};
-ghost use Rattle.lay_boxgen.specs.CutTrees.{as_leaf};
-ghost use Rattle.lay_boxgen.specs.NodeTrees.{anchor_facts, children_of, others_than_children, box_with, with_node, node_trees};
-ghost use Rattle.lay_boxgen.specs.Parts.{is_closed};
+ghost use Rattle.lay_boxgen.specs.CutTrees.{as_leaf, cut_tree_at};
+ghost use Rattle.lay_boxgen.specs.NodeTrees.{anchor_facts, children_of, others_than_children, box_with, with_node, node_trees, first_tree};
+ghost use Rattle.lay_boxgen.specs.Parts.{is_closed, own_tree};
 
 use crate::facts::{Facts, Flow, Form};
 use crate::forms::{is_absolute, is_inline};
@@ -140,4 +140,52 @@ fn subtree_end(nodes: &[Node], place: usize) -> usize
         }
     }
     nodes.len()
+}
+
+/// The same tree, whose own box is seen from inside.
+fn own_tree(tree: Subtree) -> Subtree
+    ensures { result ≡ own_tree tree }
+{
+    let Subtree { facts, children } = tree;
+    let facts = Facts {
+        inner: false,
+        ..facts
+    };
+    Subtree { facts, children }
+}
+
+/// The same of a tree that may be there.
+fn own_tree_of(tree: Option<Subtree>) -> Option<Subtree>
+    ensures { result ≡ option_map own_tree tree }
+{
+    match tree {
+        None => None,
+        Some(tree) => Some(own_tree(tree)),
+    }
+}
+
+/// The tree on top.
+fn first_tree(mut stack: Vec<NodeTree>) -> Option<Subtree>
+    ensures { result ≡ first_tree (reverse stack.items) }
+{
+    let NodeTree { parent: _, tree } = stack.pop()?;
+    tree
+}
+
+/// The tree of the context of the node at a place, before any rule, with nothing in the boxes of inner
+/// contexts; None where the node generates no box by itself.
+pub fn context_tree(
+    alloc: Global,
+    nodes: &[Node],
+    styles: &[Style],
+    place: usize,
+) -> Result<Option<Subtree>, NoMemory>
+    requires place { place < length nodes.now }
+    requires styles { length styles.now ≡ length nodes.now }
+    requires few { length nodes.now ≤ 16384 }
+    ensures { IfOk result (λ t. t ≡ cut_tree_at nodes.now styles.now place) }
+{
+    let end = subtree_end(nodes, place);
+    let stack = grow(alloc, place, &nodes[place..end], &styles[place..end])?;
+    Ok(own_tree_of(first_tree(stack)))
 }
