@@ -1,5 +1,6 @@
 pub mod Above
 pub mod CutNodes
+pub mod CutParts
 pub mod Inside
 pub mod NodeColumns
 pub mod Putting

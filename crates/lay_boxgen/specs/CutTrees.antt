@@ -1,9 +1,10 @@
 -- The trees of a context's part from the start: a parent has the boxes of inner contexts and anchors alone.
-use Rattle.std.specs.Prelude.{ℕ, Option, List, [], ◌∷◌, if◌then◌else◌, option_map}
+use Rattle.std.specs.Prelude.{ℕ, Option, None, Some, List, [], ◌∷◌, if◌then◌else◌, option_map}
 use Rattle.lay_doc.specs.declared.node.Node.{Node}
 use Rattle.lay_doc.specs.declared.style.Style.{Style}
 use Rattle.lay_boxgen.specs.Boxes.{Tree, tree, no_trees}
 use Rattle.lay_boxgen.specs.Forms.{is_absolute}
+use Rattle.lay_boxgen.specs.Generation.{generated}
 use Rattle.lay_boxgen.specs.NodeTrees.{anchor_facts, tree_at}
 use Rattle.lay_boxgen.specs.Parts.{is_closed, all_put, nothing, own_tree}
 use Rattle.lay_boxgen.specs.declared.node_trees.NodeTree.{NodeTree}
@@ -28,3 +29,8 @@ cut_own t = own_tree (cut t)
 
 abbrev pub cut_tree_at : List Node → List Style → ℕ → Option Tree
 cut_tree_at nodes styles k = option_map cut_own (tree_at nodes styles k)
+
+-- what is generated of such a tree
+abbrev pub generated_cut : Option Tree → List Tree
+generated_cut None = []
+generated_cut (Some t) = generated t

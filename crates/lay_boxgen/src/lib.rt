@@ -4,6 +4,7 @@
 mod anonymous_style;
 mod box_tree;
 mod broken_inlines;
+mod context_boxes;
 mod contexts;
 mod display;
 mod facts;
@@ -22,4 +23,5 @@ mod table_wrappers;
 mod white_space;
 
 pub use box_tree::{BoxKind, BoxList, BoxNode, BoxTree, InnerBox, Preferred};
+pub use context_boxes::boxes;
 pub use contexts::is_context;

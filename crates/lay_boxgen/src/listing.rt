@@ -152,3 +152,20 @@ fn list_all(
     }
     Ok(())
 }
+
+/// The boxes of a context, of the trees that are generated in it. The first counts as its own parent box.
+pub fn listed_part(
+    alloc: Global,
+    sources: Sources<'_>,
+    trees: Vec<Subtree>,
+) -> Result<Vec<BoxNode>, NoMemory>
+    ensures { IfOk result (λ v. v.items ≡ listed_part sources.entry.nodes.now sources.entry.styles.now (put_list nothing trees.items)) }
+{
+    let Some(first) = trees.first() else {
+        return Ok(Vec::new(alloc));
+    };
+    let own = first.facts();
+    let mut out = Vec::new(alloc);
+    list_all(alloc, sources, own, 0, trees, &mut out)?;
+    Ok(out)
+}
