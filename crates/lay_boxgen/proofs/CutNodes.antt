@@ -2,12 +2,12 @@
 use Rattle.std.proofs.Common.{◌≡◌, ℕ, ◌+◌, ◌==◌, Bool, true, false, List, [], ◌∷◌, refl, ap, sym, ◌∙◌, if◌then◌else◌, Option, None, Some, option_map}
 use Rattle.lay_doc.specs.declared.node.Node.{Node}
 use Rattle.lay_doc.specs.declared.style.Style.{Style}
-use Rattle.lay_boxgen.specs.Boxes.{Tree, Trees, tree, no_trees, also, trees_of}
+use Rattle.lay_boxgen.specs.Boxes.{Tree, Trees, tree, no_trees, also}
 use Rattle.lay_boxgen.specs.CutTrees.{as_leaf, cut, cut_trees}
 use Rattle.lay_boxgen.specs.Forms.{is_absolute}
 use Rattle.lay_boxgen.specs.NodeBoxes.{node_box}
 use Rattle.lay_boxgen.specs.NodeTrees.{as_own, anchor_facts, as_child, and_child, children_of, others_than_children, box_with, with_node, node_trees, first_tree, tree_at}
-use Rattle.lay_boxgen.specs.Parts.{is_closed, put, all_put, put_list, nothing, own_tree}
+use Rattle.lay_boxgen.specs.Parts.{is_closed, put, all_put, put_list, nothing}
 use Rattle.lay_boxgen.specs.declared.facts.Facts.{Facts}
 use Rattle.lay_boxgen.specs.declared.node_trees.NodeTree.{NodeTree}
 use Rattle.lay_boxgen.proofs.Putting.{put-trees_of}
@@ -55,7 +55,7 @@ box-cut (Some f) ts = ap (λ us. Some (tree f us)) (sym (put-trees_of nothing ts
 node-cut : (k : ℕ) (n : Node) (s : Style) (ns : List NodeTree) → with_node as_leaf k n s (cut_trees ns) ≡ cut_trees (with_node as_child k n s ns)
 node-cut k n s ns =
     ap (λ t. record { parent = n.parent; tree = t } ∷ others_than_children k (cut_trees ns))
-      (ap (box_with (node_box k n s)) (children-cut k ns) ∙ box-cut (node_box k n s) (children_of as_child k ns))
+    (ap (box_with (node_box k n s)) (children-cut k ns) ∙ box-cut (node_box k n s) (children_of as_child k ns))
     ∙ ap (λ r. record { parent = n.parent; tree = option_map cut (box_with (node_box k n s) (children_of as_child k ns)) } ∷ r) (others-cut k ns)
 
 pub trees-cut : (k : ℕ) (ns : List Node) (ss : List Style) → node_trees as_leaf k ns ss ≡ cut_trees (node_trees as_child k ns ss)

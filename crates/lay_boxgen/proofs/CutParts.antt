@@ -3,7 +3,7 @@ use Rattle.std.proofs.Common.{◌≡◌, List, [], ◌∷◌, refl, ap, sym, ◌
 use Rattle.lay_doc.specs.declared.node.Node.{Node}
 use Rattle.lay_doc.specs.declared.style.Style.{Style}
 use Rattle.lay_boxgen.specs.Boxes.{Tree, tree, trees_of, facts_of}
-use Rattle.lay_boxgen.specs.CutTrees.{cut_own, cut_tree_at, generated_cut}
+use Rattle.lay_boxgen.specs.CutTrees.{cut_own, generated_cut}
 use Rattle.lay_boxgen.specs.Generation.{generated}
 use Rattle.lay_boxgen.specs.Listing.{all_listed, listed_part}
 use Rattle.lay_boxgen.specs.Parts.{put, all_put, put_list, nothing, own_tree, generated_of}

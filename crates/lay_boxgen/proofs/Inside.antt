@@ -101,25 +101,27 @@ whole_put g t =
     let g5 = then_inside broken broken_local g4 in
     next (in_box run_wrapped) m6 g5 _ _ (next broken broken_local g4 _ _ (next (in_box in_wrapper) m4 g3 _ _ (next (in_box parented) m3 g2 _ _ (next (in_box child_wrapped) m2 g1 _ _ (remade-put (in_box relevant) m1 g t)))))
 
-put-put_by : (k : Facts → Trees) (f : Facts) (us : Trees) → all_put nothing (all_put k us) ≡ all_put nothing us → (b : Bool)
-    → tree f (if b then no_trees else all_put nothing (if b then k f else all_put k us)) ≡ tree f (if b then no_trees else all_put nothing us)
-put-put_by k f us ih true = refl
-put-put_by k f us ih false = ap (tree f) ih
+-- What was put inside before makes no difference.
+module _ (h : Facts → Trees) where
+  put-put_by : (k : Facts → Trees) (f : Facts) (us : Trees) → all_put h (all_put k us) ≡ all_put h us → (b : Bool)
+      → tree f (if b then h f else all_put h (if b then k f else all_put k us)) ≡ tree f (if b then h f else all_put h us)
+  put-put_by k f us ih true = refl
+  put-put_by k f us ih false = ap (tree f) ih
 
-mutual
-  put-put : (k : Facts → Trees) (t : Tree) → put nothing (put k t) ≡ put nothing t
-  put-put k (tree f us) = put-put_by k f us (all_put-put k us) (is_closed f)
+  mutual
+    put-put : (k : Facts → Trees) (t : Tree) → put h (put k t) ≡ put h t
+    put-put k (tree f us) = put-put_by k f us (all_put-put k us) (is_closed f)
 
-  all_put-put : (k : Facts → Trees) (us : Trees) → all_put nothing (all_put k us) ≡ all_put nothing us
-  all_put-put k no_trees = refl
-  all_put-put k (also t ts) = ap (λ r. also r (all_put nothing (all_put k ts))) (put-put k t) ∙ ap (also (put nothing t)) (all_put-put k ts)
+    all_put-put : (k : Facts → Trees) (us : Trees) → all_put h (all_put k us) ≡ all_put h us
+    all_put-put k no_trees = refl
+    all_put-put k (also t ts) = ap (λ r. also r (all_put h (all_put k ts))) (put-put k t) ∙ ap (also (put h t)) (all_put-put k ts)
 
-list_put-put : (k : Facts → Trees) (xs : List Tree) → put_list nothing (put_list k xs) ≡ put_list nothing xs
-list_put-put k [] = refl
-list_put-put k (x ∷ xs) = ap (λ r. r ∷ put_list nothing (put_list k xs)) (put-put k x) ∙ ap (λ r. put nothing x ∷ r) (list_put-put k xs)
+  pub list_put-put : (k : Facts → Trees) (xs : List Tree) → put_list h (put_list k xs) ≡ put_list h xs
+  list_put-put k [] = refl
+  list_put-put k (x ∷ xs) = ap (λ r. r ∷ put_list h (put_list k xs)) (put-put k x) ∙ ap (λ r. put h x ∷ r) (list_put-put k xs)
 
 pub parts_agree : PartsAgree
-parts_agree t = ap (put_list nothing) (whole_put nothing t) ∙ list_put-put (final nothing) (generated t)
+parts_agree t = ap (put_list nothing) (whole_put nothing t) ∙ list_put-put nothing (final nothing) (generated t)
 
 -- What is inside the boxes of inner contexts is all that setting it depends on.
 module _ (g h : Facts → Trees) (same : (f : Facts) → is_closed f ≡ true → g f ≡ h f) where

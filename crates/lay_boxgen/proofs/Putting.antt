@@ -1,5 +1,5 @@
 -- Each rule of box generation commutes with setting what is inside the boxes of inner contexts.
-use Rattle.std.proofs.Common.{◌≡◌, Bool, true, false, ◌&&◌, not, List, [], ◌∷◌, ◌++◌, refl, ap, sym, ◌∙◌, filter, if◌then◌else◌, Option, None, Some}
+use Rattle.std.proofs.Common.{◌≡◌, Bool, true, false, ◌&&◌, not, List, [], ◌∷◌, ◌++◌, refl, ap, ◌∙◌, filter, if◌then◌else◌, Option, None, Some}
 use Rattle.std.specs.List.{list_any}
 use Rattle.lay_boxgen.specs.Boxes.{Tree, Trees, tree, also, trees_of, facts_of}
 use Rattle.lay_boxgen.specs.Runs.{gathered, gathered_from, run_over, is_some, anonymous_box, anonymous_facts}

@@ -1,5 +1,5 @@
 -- The tree of a node is that of the node and all below it alone.
-use Rattle.std.proofs.Common.{◌-◌, zero, drop, take, slice_index, option_map, ◌≡◌, ◌<◌, ◌≤◌, ℕ, ◌+◌, ◌==◌, Bool, true, false, List, [], ◌∷◌, ◌++◌, length, refl, ap, sym, ◌∙◌, if◌then◌else◌, Option, None, Some, arith, suc}
+use Rattle.std.proofs.Common.{zero, drop, take, slice_index, option_map, ◌≡◌, ◌<◌, ◌≤◌, ℕ, ◌+◌, ◌==◌, Bool, true, false, List, [], ◌∷◌, ◌++◌, length, refl, ap, sym, ◌∙◌, if◌then◌else◌, Option, None, Some, arith, suc}
 use Rattle.std.specs.List.{between}
 use Rattle.lay_doc.specs.declared.node.Node.{Node}
 use Rattle.lay_doc.specs.declared.style.Style.{Style}
@@ -10,7 +10,7 @@ use Rattle.lay_doc.specs.Document.{parents_of}
 use Rattle.lay_boxgen.specs.CutTrees.{as_leaf, cut, cut_own, cut_tree_at}
 use Rattle.lay_boxgen.specs.Parts.{own_tree}
 use Rattle.lay_boxgen.proofs.CutNodes.{tree-cut}
-use Rattle.lay_boxgen.specs.Boxes.{Tree, tree}
+use Rattle.lay_boxgen.specs.Boxes.{Tree}
 use Rattle.lay_boxgen.specs.NodeBoxes.{node_box}
 use Rattle.lay_boxgen.specs.NodeTrees.{as_child, tree_at, and_child, children_of, others_than_children, with_node, box_with, node_trees, first_tree}
 use Rattle.lay_boxgen.specs.declared.node_trees.NodeTree.{NodeTree}

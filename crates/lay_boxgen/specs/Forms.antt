@@ -6,7 +6,6 @@ use Rattle.lay_boxgen.specs.declared.facts.Flow.{Flow}
 use Rattle.lay_boxgen.specs.declared.facts.Flow.TheVariants as flow
 use Rattle.lay_boxgen.specs.declared.facts.Form.{Form}
 use Rattle.lay_boxgen.specs.declared.facts.Form.TheVariants.{Block, InlineBlock, Inline, Text, Replaced, Wrapper, InlineWrapper, Caption, RowGroup, HeaderGroup, FooterGroup, Row, ColumnGroup, Column, Cell, Anchor}
-use Rattle.lay_boxgen.specs.declared.facts.TextForm.{TextForm}
 use Rattle.lay_boxgen.specs.declared.facts.TextForm.TheVariants.{Seen, White, Blank}
 
 -- a row group box: a row group, a header group or a footer group

@@ -66,7 +66,7 @@ PartsAreWhole = (nodes : List Node) (styles : List Style) (k : ℕ)
 -- A node whose box is no inline box has one box in the end, with what is generated in it inside.
 abbrev pub ContextIsOneBox : Type 0
 ContextIsOneBox = (nodes : List Node) (styles : List Style) (k : ℕ) (f : Facts) (children : Trees)
-    → tree_at nodes styles k ≡ Some (tree f children) → is_inline f.form ≡ false → is_anchor f.form ≡ false
+    → tree_at nodes styles k ≡ Some (tree f children) → is_inline f.form ≡ false
     → whole nodes styles k ≡ tree (as_own f) (inner_boxes nodes styles f) ∷ []
 
 -- An anchor has the boxes of its absolute or fixed element in it.

@@ -1,5 +1,5 @@
 -- The box that a node of a document generates by itself (9.2), and which elements are contexts (9.4.1).
-use Rattle.std.specs.Prelude.{ℕ, Bool, true, false, ◌&&◌, ◌||◌, not, ◌==◌, List, [], ◌∷◌, Option, None, Some, option_map, if◌then◌else◌}
+use Rattle.std.specs.Prelude.{ℕ, Bool, true, false, ◌||◌, not, ◌==◌, List, [], ◌∷◌, Option, None, Some, option_map, if◌then◌else◌}
 use Rattle.lay_doc.specs.declared.node.Kind.{Kind}
 use Rattle.lay_doc.specs.declared.node.Kind.TheVariants as kind
 use Rattle.lay_doc.specs.declared.node.Node.{Node}

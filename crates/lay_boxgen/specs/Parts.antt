@@ -3,10 +3,10 @@
 -- In the tree of boxes of the whole document the boxes of contexts are marked as inner. What is in them is
 -- theirs, and an anchor has the box of its absolute or fixed element in it. The part of a context is what is
 -- left when nothing is put inside the boxes of inner contexts.
-use Rattle.std.specs.Prelude.{ℕ, Bool, true, false, ◌&&◌, not, List, [], ◌∷◌, if◌then◌else◌, Option, None, Some}
+use Rattle.std.specs.Prelude.{ℕ, Bool, ◌&&◌, not, List, [], ◌∷◌, if◌then◌else◌, Option, None, Some}
 use Rattle.lay_doc.specs.declared.node.Node.{Node}
 use Rattle.lay_doc.specs.declared.style.Style.{Style}
-use Rattle.lay_boxgen.specs.Boxes.{Tree, Trees, tree, no_trees, also, trees_of}
+use Rattle.lay_boxgen.specs.Boxes.{Tree, Trees, tree, no_trees, also}
 use Rattle.lay_boxgen.specs.Forms.{is_inline}
 use Rattle.lay_boxgen.specs.Generation.{generated}
 use Rattle.lay_boxgen.specs.NodeTrees.{as_own, tree_at}

@@ -1,6 +1,6 @@
 -- How a proof stores a tree of boxes, and that it gets it back: as marks, each box by its facts where it
 -- begins and by None where it ends. Nothing else speaks of this.
-use Rattle.std.specs.Prelude.{◌≡◌, ◌≤◌, ℕ, ◌+◌, List, [], ◌∷◌, refl, Option, None, Some}
+use Rattle.std.specs.Prelude.{◌≡◌, ◌≤◌, ◌+◌, List, [], ◌∷◌, refl, Option, None, Some}
 use Rattle.std.proofs.Common.{arith, ap, ◌∙◌}
 use Rattle.lay_boxgen.specs.declared.facts.Facts.{Facts}
 use Rattle.lay_boxgen.specs.Boxes.{Tree, Trees, tree, no_trees, also, trees_of, weight, weights}

@@ -1,6 +1,6 @@
 -- White space (16.6.1) in one text: whether it is white space alone, and whether it would then be collapsed
 -- away where it stands alone in its lines (9.2.2.1).
-use Rattle.std.specs.Prelude.{ℕ, Bool, true, false, ◌&&◌, ◌||◌, not, List, ◌==◌, if◌then◌else◌}
+use Rattle.std.specs.Prelude.{ℕ, Bool, false, ◌&&◌, ◌||◌, not, List, ◌==◌, if◌then◌else◌}
 use Rattle.std.specs.List.{list_any, list_all}
 use Rattle.lay_doc.specs.declared.style_words.WhiteSpace.{WhiteSpace}
 use Rattle.lay_doc.specs.declared.style_words.WhiteSpace.TheVariants.{Normal, Pre, Nowrap, PreWrap, PreLine}

@@ -17,12 +17,7 @@ use std::alloc::Global;
 /// The boxes of the context of the node with this id: what the document's boxes have inside the box of the
 /// node, and not inside boxes of inner contexts. A style is given for each node. There is no box where no
 /// node has the id.
-pub fn boxes(
-    alloc: Global,
-    doc: &Doc,
-    style: &Computed,
-    node: NodeId,
-) -> Result<BoxTree, NoMemory>
+pub fn boxes(alloc: Global, doc: &Doc, style: &Computed, node: NodeId) -> Result<BoxTree, NoMemory>
     requires styles { length style.now ≡ length doc.now.nodes }
     ensures { IfOk result (λ t. t.boxes ≡ boxes_of doc.now style.now node.0) }
 {

@@ -9,10 +9,7 @@ use crate::facts::{Facts, Flow, Form, TextForm};
 pub fn is_row_group(form: Form) -> bool
     ensures { result ≡ is_row_group form }
 {
-    matches!(
-        form,
-        Form::RowGroup | Form::HeaderGroup | Form::FooterGroup
-    )
+    matches!(form, Form::RowGroup | Form::HeaderGroup | Form::FooterGroup)
 }
 
 /// Whether it is a table or an inline-table.

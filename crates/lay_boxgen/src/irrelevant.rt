@@ -26,11 +26,7 @@ fn is_descendant_or_none(container: Form, neighbour: Option<Facts>) -> bool
 }
 
 /// Whether white space in a tabular container stands beside nothing but proper table descendants of it.
-fn is_irrelevant_in_container(
-    parent: Form,
-    before: Option<Facts>,
-    after: Option<Facts>,
-) -> bool
+fn is_irrelevant_in_container(parent: Form, before: Option<Facts>, after: Option<Facts>) -> bool
     ensures { result ≡ is_irrelevant_in_container parent before after }
 {
     is_tabular_container(parent)
@@ -83,12 +79,7 @@ impl Sifting {
     }
 
     /// Keeps the white space or lets it go.
-    fn end_gap(
-        &mut self,
-        alloc: Global,
-        parent: Form,
-        after: Option<Facts>,
-    ) -> Result<(), NoMemory>
+    fn end_gap(&mut self, alloc: Global, parent: Form, after: Option<Facts>) -> Result<(), NoMemory>
         ensures kept { OnOk result (self.new.kept.items ≡ self.old.kept.items ++ kept_gap parent self.old.before self.old.gap.items after) }
         ensures gap { OnOk result (self.new.gap.items ≡ []) }
         ensures before { self.new.before ≡ self.old.before }
@@ -136,10 +127,7 @@ fn without_white_space(
 }
 
 /// The columns among the children of a column group.
-fn column_group_children(
-    alloc: Global,
-    children: Vec<Subtree>,
-) -> Result<Vec<Subtree>, NoMemory>
+fn column_group_children(alloc: Global, children: Vec<Subtree>) -> Result<Vec<Subtree>, NoMemory>
     ensures { IfOk result (λ v. v.items ≡ column_group_children children.items) }
 {
     let mut columns = Vec::new(alloc);
@@ -152,11 +140,7 @@ fn column_group_children(
 }
 
 /// The children of a box that aren't irrelevant.
-fn relevant(
-    alloc: Global,
-    facts: Facts,
-    children: Vec<Subtree>,
-) -> Result<Vec<Subtree>, NoMemory>
+fn relevant(alloc: Global, facts: Facts, children: Vec<Subtree>) -> Result<Vec<Subtree>, NoMemory>
     ensures { IfOk result (λ v. v.items ≡ relevant facts children.items) }
 {
     if is_column(facts.form) {

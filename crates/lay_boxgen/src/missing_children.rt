@@ -40,11 +40,7 @@ impl RunRule for CellRound {
 }
 
 /// The children of a row, in cells.
-fn in_cells(
-    alloc: Global,
-    facts: Facts,
-    children: Vec<Subtree>,
-) -> Result<Vec<Subtree>, NoMemory>
+fn in_cells(alloc: Global, facts: Facts, children: Vec<Subtree>) -> Result<Vec<Subtree>, NoMemory>
     ensures { IfOk result (λ v. v.items ≡ in_cells facts children.items) }
 {
     gather::<CellRound>(alloc, facts, children)

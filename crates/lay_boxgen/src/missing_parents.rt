@@ -110,11 +110,7 @@ impl RunRule for TableRound {
 }
 
 /// The children of a box with the parents that were missing.
-fn parented(
-    alloc: Global,
-    facts: Facts,
-    children: Vec<Subtree>,
-) -> Result<Vec<Subtree>, NoMemory>
+fn parented(alloc: Global, facts: Facts, children: Vec<Subtree>) -> Result<Vec<Subtree>, NoMemory>
     ensures { IfOk result (λ v. v.items ≡ parented facts children.items) }
 {
     let rows = cells_in_rows(alloc, facts, children)?;

@@ -83,10 +83,7 @@ pub fn remake<R: BoxRule>(
 /// What a rule makes of some trees. It goes as deep as the boxes are nested, which the document's depth
 /// bounds.
 #[cycle(remake)]
-pub fn remake_all<R: BoxRule>(
-    alloc: Global,
-    trees: Vec<Subtree>,
-) -> Result<Vec<Subtree>, NoMemory>
+pub fn remake_all<R: BoxRule>(alloc: Global, trees: Vec<Subtree>) -> Result<Vec<Subtree>, NoMemory>
     ensures { IfOk result (λ v. v.items ≡ all_remade R.made (trees_of trees.items)) }
 {
     let mut out = Vec::new(alloc);

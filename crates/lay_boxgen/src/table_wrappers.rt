@@ -45,11 +45,7 @@ fn captions_and_table(
 }
 
 /// The children of a box, with a table box where it is a wrapper.
-fn in_wrapper(
-    alloc: Global,
-    facts: Facts,
-    children: Vec<Subtree>,
-) -> Result<Vec<Subtree>, NoMemory>
+fn in_wrapper(alloc: Global, facts: Facts, children: Vec<Subtree>) -> Result<Vec<Subtree>, NoMemory>
     ensures { IfOk result (λ v. v.items ≡ in_wrapper facts children.items) }
 {
     if is_table(facts.form) {

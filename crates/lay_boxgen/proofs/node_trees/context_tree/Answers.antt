@@ -1,4 +1,4 @@
-use Rattle.std.proofs.Common.{rules, ◌≡◌, ap, ◌∙◌, reverse, option_map}
+use Rattle.std.proofs.Common.{rules, ◌≡◌, ◌∙◌, option_map}
 use Rattle.std.specs.List.{between}
 use Rattle.lay_boxgen.specs.CutTrees.{as_leaf}
 use Rattle.lay_boxgen.specs.NodeTrees.{node_trees, first_tree}
