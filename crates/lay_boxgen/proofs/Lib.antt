@@ -1,0 +1,10 @@
+pub mod Above
+pub mod CutNodes
+pub mod CutParts
+pub mod Inside
+pub mod NodeColumns
+pub mod NodeForms
+pub mod Putting
+pub mod Settled
+pub mod SplitNodes
+pub mod WholeParts

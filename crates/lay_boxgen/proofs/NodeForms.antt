@@ -1,0 +1,100 @@
+-- What the box of a node is and isn't.
+use Rattle.std.proofs.Common.{◌≡◌, ℕ, Bool, true, false, List, [], ◌∷◌, refl, sym, Option, None, Some, option_map, ◌==◌, subst}
+use Rattle.lay_doc.specs.declared.node.Kind.{Kind}
+use Rattle.lay_doc.specs.declared.node.Kind.TheVariants as kind
+use Rattle.lay_doc.specs.declared.node.Node.{Node}
+use Rattle.lay_doc.specs.declared.style.Style.{Style}
+use Rattle.lay_doc.specs.declared.style_words.Display.{Display}
+use Rattle.lay_doc.specs.declared.style_words.Display.TheVariants as display
+use Rattle.lay_boxgen.specs.Display.{element_form, as_block, used_display, replaced_display, flow_of}
+use Rattle.lay_boxgen.specs.Forms.{is_anchor, is_white, is_inline, is_absolute}
+use Rattle.lay_boxgen.specs.NodeBoxes.{form_of, replaced_form, node_flow, facts_with, node_box}
+use Rattle.lay_boxgen.specs.declared.facts.Facts.{Facts}
+use Rattle.lay_boxgen.specs.declared.facts.Flow.{Flow}
+use Rattle.lay_boxgen.specs.declared.facts.Flow.TheVariants as flow
+use Rattle.lay_boxgen.specs.declared.facts.Form.{Form}
+
+-- a form, if there is one, that is no anchor
+abbrev IsNoAnchor : Option Form → Type 0
+IsNoAnchor None = Unit {0}
+IsNoAnchor (Some x) = is_anchor x ≡ false
+
+element-no_anchor : (c r : ℕ) (d : Display) → IsNoAnchor (element_form c r d)
+element-no_anchor c r display.Inline = refl
+element-no_anchor c r display.Block = refl
+element-no_anchor c r display.ListItem = refl
+element-no_anchor c r display.InlineBlock = refl
+element-no_anchor c r display.Table = refl
+element-no_anchor c r display.InlineTable = refl
+element-no_anchor c r display.TableRowGroup = refl
+element-no_anchor c r display.TableHeaderGroup = refl
+element-no_anchor c r display.TableFooterGroup = refl
+element-no_anchor c r display.TableRow = refl
+element-no_anchor c r display.TableColumnGroup = refl
+element-no_anchor c r display.TableColumn = refl
+element-no_anchor c r display.TableCell = refl
+element-no_anchor c r display.TableCaption = refl
+element-no_anchor c r display.None = tt
+
+form-no_anchor : (is_root : Bool) (k : Kind) (text : List ℕ) (s : Style) → IsNoAnchor (form_of is_root k text s)
+form-no_anchor is_root (kind.Element c r) text s = element-no_anchor c r (used_display is_root (flow_of s) s.display)
+form-no_anchor is_root kind.Text [] s = tt
+form-no_anchor is_root kind.Text (b ∷ bs) s = refl
+form-no_anchor is_root (kind.Replaced w h) text s = by (used_display is_root (flow_of s) (replaced_display s.display))
+  where
+    by : (d : Display) → IsNoAnchor (replaced_form w h d)
+    by display.None = tt
+    by _ = refl
+
+-- a form, if there is one, that is neither white space nor an inline box
+abbrev IsNoInline : Option Form → Type 0
+IsNoInline None = Unit {0}
+IsNoInline (Some x) = (is_white x ≡ false) × (is_inline x ≡ false)
+
+element-no_inline : (c r : ℕ) (d : Display) → IsNoInline (element_form c r (as_block d))
+element-no_inline c r display.Inline = (refl, refl)
+element-no_inline c r display.Block = (refl, refl)
+element-no_inline c r display.ListItem = (refl, refl)
+element-no_inline c r display.InlineBlock = (refl, refl)
+element-no_inline c r display.Table = (refl, refl)
+element-no_inline c r display.InlineTable = (refl, refl)
+element-no_inline c r display.TableRowGroup = (refl, refl)
+element-no_inline c r display.TableHeaderGroup = (refl, refl)
+element-no_inline c r display.TableFooterGroup = (refl, refl)
+element-no_inline c r display.TableRow = (refl, refl)
+element-no_inline c r display.TableColumnGroup = (refl, refl)
+element-no_inline c r display.TableColumn = (refl, refl)
+element-no_inline c r display.TableCell = (refl, refl)
+element-no_inline c r display.TableCaption = (refl, refl)
+element-no_inline c r display.None = tt
+
+used-absolute : (is_root : Bool) (f : Flow) (d : Display) → is_absolute f ≡ true → used_display is_root f d ≡ as_block d
+used-absolute is_root flow.InFlow d h = cc
+used-absolute is_root flow.Floating d h = cc
+used-absolute true flow.Absolute d h = refl
+used-absolute false flow.Absolute d h = refl
+
+form-no_inline : (is_root : Bool) (k : Kind) (text : List ℕ) (s : Style) → is_absolute (node_flow k s) ≡ true → IsNoInline (form_of is_root k text s)
+form-no_inline is_root (kind.Element c r) text s h =
+    subst (λ d. IsNoInline (element_form c r d)) (sym (used-absolute is_root (flow_of s) s.display h)) (element-no_inline c r s.display)
+form-no_inline is_root kind.Text text s h = cc
+form-no_inline is_root (kind.Replaced w h) text s e = by (used_display is_root (flow_of s) (replaced_display s.display))
+  where
+    by : (d : Display) → IsNoInline (replaced_form w h d)
+    by display.None = tt
+    by _ = (refl, refl)
+
+-- what is known of a node's box, if it has one
+abbrev pub IsNodeBox : ℕ → Option Facts → Type 0
+IsNodeBox k None = Unit {0}
+IsNodeBox k (Some f) =
+    (f.place ≡ k) × (is_anchor f.form ≡ false) × (is_absolute f.flow ≡ true → (is_white f.form ≡ false) × (is_inline f.form ≡ false))
+
+box_by : (k : ℕ) (n : Node) (s : Style) (o : Option Form) → IsNoAnchor o → (is_absolute (node_flow n.kind s) ≡ true → IsNoInline o)
+    → IsNodeBox k (option_map (facts_with k n s) o)
+box_by k n s None h g = tt
+box_by k n s (Some x) h g = (refl, h, g)
+
+pub is-node_box : (k : ℕ) (n : Node) (s : Style) → IsNodeBox k (node_box k n s)
+is-node_box k n s =
+    box_by k n s (form_of (k == 0) n.kind n.text s) (form-no_anchor (k == 0) n.kind n.text s) (form-no_inline (k == 0) n.kind n.text s)

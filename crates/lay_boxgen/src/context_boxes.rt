@@ -1,0 +1,74 @@
+//! The boxes of a context.
+
+ghost use Rattle.std.specs.Prelude.{◌≡◌, ◌<◌, ◌≤◌, [], IfOk, length};
+ghost use Rattle.lay_boxgen.specs.CutTrees.{generated_cut};
+ghost use Rattle.lay_boxgen.specs.Listing.{boxes_of, boxes_at, listed_part};
+ghost use Rattle.lay_boxgen.specs.Parts.{part, put_list, nothing};
+
+use crate::box_tree::{BoxList, BoxNode, BoxTree};
+use crate::generation::generate;
+use crate::listing::{Sources, listed_part};
+use crate::node_trees::context_tree;
+use crate::subtree::Subtree;
+use lay_doc::{Computed, Doc, Node, NodeId, Style};
+use lay_units::NoMemory;
+use std::alloc::Global;
+
+/// The boxes of the context of the node with this id: what the document's boxes have inside the box of the
+/// node, and not inside boxes of inner contexts. A style is given for each node. There is no box where no
+/// node has the id.
+pub fn boxes(alloc: Global, doc: &Doc, style: &Computed, node: NodeId) -> Result<BoxTree, NoMemory>
+    requires styles { length style.now ≡ length doc.now.nodes }
+    ensures { IfOk result (λ t. t.boxes ≡ boxes_of doc.now style.now node.0) }
+{
+    let boxes = match doc.find(node) {
+        None => Vec::new(alloc),
+        Some(place) => boxes_at(alloc, doc.nodes(), style.as_slice(), place)?,
+    };
+    Ok(BoxTree {
+        boxes: BoxList::new(boxes),
+    })
+}
+
+/// The boxes of the context of the node at a place.
+fn boxes_at(
+    alloc: Global,
+    nodes: &[Node],
+    styles: &[Style],
+    place: usize,
+) -> Result<Vec<BoxNode>, NoMemory>
+    requires place { place < length nodes.now }
+    requires styles { length styles.now ≡ length nodes.now }
+    requires few { length nodes.now ≤ 16384 }
+    ensures { IfOk result (λ v. v.items ≡ listed_part nodes.now styles.now (part nodes.now styles.now place)) }
+{
+    let trees = part_trees(alloc, nodes, styles, place)?;
+    listed_part(alloc, Sources { nodes, styles }, trees)
+}
+
+/// The trees of the context of the node at a place, but for what is in the boxes of inner contexts.
+fn part_trees(
+    alloc: Global,
+    nodes: &[Node],
+    styles: &[Style],
+    place: usize,
+) -> Result<Vec<Subtree>, NoMemory>
+    requires place { place < length nodes.now }
+    requires styles { length styles.now ≡ length nodes.now }
+    requires few { length nodes.now ≤ 16384 }
+    ensures { IfOk result (λ v. put_list nothing v.items ≡ part nodes.now styles.now place) }
+{
+    let tree = context_tree(alloc, nodes, styles, place)?;
+    let trees = generate_own(alloc, tree)?;
+    Ok(trees)
+}
+
+/// What is generated of the tree of a context, if there is one.
+fn generate_own(alloc: Global, tree: Option<Subtree>) -> Result<Vec<Subtree>, NoMemory>
+    ensures { IfOk result (λ v. v.items ≡ generated_cut tree) }
+{
+    match tree {
+        None => Ok(Vec::new(alloc)),
+        Some(tree) => generate(alloc, tree),
+    }
+}

@@ -1,0 +1,19 @@
+//! Laws of the definitions. The functions do nothing.
+
+ghost use Rattle.lay_boxgen.specs.Laws.{AnchorsHoldBoxes, ContextIsOneBox, PartsAreWhole};
+
+/// The boxes of a node and all below it are the part of its context, with the boxes of inner contexts inside
+/// theirs.
+pub fn parts_are_whole()
+    ensures { PartsAreWhole }
+{}
+
+/// A node whose box is no inline box has one box in the end, with what is generated in it inside.
+pub fn context_is_one_box()
+    ensures { ContextIsOneBox }
+{}
+
+/// An anchor has the boxes of its absolute or fixed element in it.
+pub fn anchors_hold_boxes()
+    ensures { AnchorsHoldBoxes }
+{}

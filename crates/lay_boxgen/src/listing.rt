@@ -1,0 +1,171 @@
+//! The trees of a part as a list of boxes.
+
+ghost use Rattle.std.specs.Prelude.{◌≡◌, ◌++◌, ℕ, List, OnOk, IfOk, length};
+ghost use Rattle.lay_boxgen.specs.Boxes.{Tree, trees_of};
+ghost use Rattle.lay_boxgen.specs.Listing.{text_at, kind_of, style_of, style_below, box_node, listed, all_listed, listed_part};
+ghost use Rattle.lay_boxgen.specs.Parts.{put, all_put, put_list, nothing};
+
+use crate::anonymous_style::anonymous_style;
+use crate::box_tree::{BoxKind, BoxNode};
+use crate::facts::{Facts, Form};
+use crate::forms::is_anchor;
+use crate::node_trees::is_closed;
+use crate::subtree::Subtree;
+use lay_doc::{Node, Style};
+use lay_units::{NoMemory, Text};
+use std::alloc::Global;
+
+/// A document's nodes and their styles, to look up what boxes are of. A box names the place of a node that
+/// is there; where it named none, the answer would be that there is no memory for it.
+#[derive(Clone, Copy)]
+pub struct Sources<'a> {
+    pub nodes: &'a [Node],
+    pub styles: &'a [Style],
+}
+
+impl<'a> Sources<'a> {
+    /// An equal text of the node at a place.
+    fn text_at(self, alloc: Global, place: usize) -> Result<Text, NoMemory>
+        ensures { IfOk result (λ t. t ≡ text_at self.entry.nodes.now place) }
+    {
+        match self.nodes.get(place) {
+            None => Err(NoMemory),
+            Some(node) => node.text.copy(alloc),
+        }
+    }
+
+    /// The style of a box.
+    fn style_of(self, facts: Facts) -> Result<Style, NoMemory>
+        ensures { IfOk result (λ s. s ≡ style_of self.entry.styles.now facts) }
+    {
+        match self.styles.get(facts.place) {
+            None => Err(NoMemory),
+            Some(style) if facts.anonymous => Ok(anonymous_style(style)),
+            Some(style) => Ok(*style),
+        }
+    }
+
+    /// The style of a box below another, which an anchor has too.
+    fn style_below(self, above: Facts, facts: Facts) -> Result<Style, NoMemory>
+        ensures { IfOk result (λ s. s ≡ style_below self.entry.styles.now above facts) }
+    {
+        if is_anchor(facts.form) {
+            self.style_of(above)
+        } else {
+            self.style_of(facts)
+        }
+    }
+}
+
+/// The kind of a box of this form, whose node has this text.
+fn kind_of(form: Form, text: Text) -> BoxKind
+    ensures { result ≡ kind_of text form }
+{
+    match form {
+        Form::Block => BoxKind::Block,
+        Form::InlineBlock => BoxKind::InlineBlock,
+        Form::Inline => BoxKind::Inline,
+        Form::Text(_) => BoxKind::Text(text),
+        Form::Replaced { w, h, .. } => BoxKind::Replaced { w, h },
+        Form::Wrapper => BoxKind::Wrapper,
+        Form::InlineWrapper => BoxKind::InlineWrapper,
+        Form::Table => BoxKind::Table,
+        Form::Caption => BoxKind::Caption,
+        Form::RowGroup => BoxKind::RowGroup,
+        Form::HeaderGroup => BoxKind::HeaderGroup,
+        Form::FooterGroup => BoxKind::FooterGroup,
+        Form::Row => BoxKind::Row,
+        Form::ColumnGroup { span } => BoxKind::ColumnGroup { span },
+        Form::Column { span } => BoxKind::Column { span },
+        Form::Cell { colspan, rowspan } => BoxKind::Cell { colspan, rowspan },
+        Form::Anchor => BoxKind::Anchor,
+    }
+}
+
+/// A box below another at a place.
+fn box_node(
+    alloc: Global,
+    sources: Sources<'_>,
+    above: Facts,
+    parent: u32,
+    facts: Facts,
+) -> Result<BoxNode, NoMemory>
+    ensures { IfOk result (λ b. b ≡ box_node sources.entry.nodes.now sources.entry.styles.now above parent facts) }
+{
+    let text = sources.text_at(alloc, facts.place)?;
+    let style = sources.style_below(above, facts)?;
+    Ok(BoxNode {
+        node: facts.node,
+        parent,
+        kind: kind_of(facts.form, text),
+        anonymous: facts.anonymous,
+        inner: facts.inner,
+        style,
+    })
+}
+
+/// A place in the list, where so many boxes can be numbered.
+fn number(place: usize) -> Result<u32, NoMemory>
+    ensures { IfOk result (λ n. n ≡ place) }
+{
+    match u32::try_from(place) {
+        Ok(number) => Ok(number),
+        Err(_) => Err(NoMemory),
+    }
+}
+
+/// Puts the boxes of a tree below the box `above` at the place `parent` at the end of `out`.
+#[cycle(list)]
+fn list(
+    alloc: Global,
+    sources: Sources<'_>,
+    above: Facts,
+    parent: u32,
+    tree: Subtree,
+    out: &mut Vec<BoxNode>,
+) -> Result<(), NoMemory>
+    ensures { OnOk result (out.new.items ≡ out.old.items ++ listed sources.entry.nodes.now sources.entry.styles.now above parent (length out.old.items) (put nothing tree)) }
+{
+    let Subtree { facts, children } = tree;
+    let at = number(out.len())?;
+    out.push(box_node(alloc, sources, above, parent, facts)?)?;
+    if is_closed(facts) {
+        return Ok(());
+    }
+    list_all(alloc, sources, facts, at, children, out)
+}
+
+/// Puts the boxes of some trees there.
+#[cycle(list)]
+fn list_all(
+    alloc: Global,
+    sources: Sources<'_>,
+    above: Facts,
+    parent: u32,
+    trees: Vec<Subtree>,
+    out: &mut Vec<BoxNode>,
+) -> Result<(), NoMemory>
+    ensures { OnOk result (out.new.items ≡ out.old.items ++ all_listed sources.entry.nodes.now sources.entry.styles.now above parent (length out.old.items) (all_put nothing (trees_of trees.items))) }
+{
+    for tree in trees {
+        list(alloc, sources, above, parent, tree, out)?;
+    }
+    Ok(())
+}
+
+/// The boxes of a context, of the trees that are generated in it. The first counts as its own parent box.
+pub fn listed_part(
+    alloc: Global,
+    sources: Sources<'_>,
+    trees: Vec<Subtree>,
+) -> Result<Vec<BoxNode>, NoMemory>
+    ensures { IfOk result (λ v. v.items ≡ listed_part sources.entry.nodes.now sources.entry.styles.now (put_list nothing trees.items)) }
+{
+    let Some(first) = trees.first() else {
+        return Ok(Vec::new(alloc));
+    };
+    let own = first.facts();
+    let mut out = Vec::new(alloc);
+    list_all(alloc, sources, own, 0, trees, &mut out)?;
+    Ok(out)
+}
