@@ -16,6 +16,7 @@ pub mod NodeTrees
 pub mod Parts
 pub mod AnonymousStyle
 pub mod Listing
+pub mod BoxColumns
 pub mod Contexts
 pub mod CutTrees
 pub mod Laws

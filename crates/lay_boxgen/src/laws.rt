@@ -1,5 +1,6 @@
 //! Laws of the definitions. The functions do nothing.
 
+ghost use Rattle.lay_boxgen.specs.BoxColumns.{BoxesAreATree};
 ghost use Rattle.lay_boxgen.specs.Laws.{AnchorsHoldBoxes, ContextIsOneBox, PartsAreWhole};
 
 /// The boxes of a node and all below it are the part of its context, with the boxes of inner contexts inside
@@ -16,4 +17,9 @@ pub fn context_is_one_box()
 /// An anchor has the boxes of its absolute or fixed element in it.
 pub fn anchors_hold_boxes()
     ensures { AnchorsHoldBoxes }
+{}
+
+/// The boxes of a context stand in a tree.
+pub fn boxes_are_a_tree()
+    ensures { BoxesAreATree }
 {}

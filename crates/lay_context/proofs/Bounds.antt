@@ -6,9 +6,9 @@ use Rattle.lay_units.specs.declared.length.Unit.{Unit as Length}
 use Rattle.lay_units.specs.declared.records.Len.{Len}
 use Rattle.lay_units.specs.declared.records.Sides.{Sides}
 use Rattle.lay_units.specs.declared.records.Len.TheVariants.{Auto as auto, Of as of}
-use Rattle.lay_doc.specs.declared.node.Node.{Node}
+use Rattle.lay_boxgen.specs.declared.box_tree.BoxNode.{BoxNode}
+use Rattle.lay_boxgen.specs.BoxColumns.{box_ids, box_parents, box_styles}
 use Rattle.lay_doc.specs.declared.style.Style.{Style}
-use Rattle.lay_doc.specs.Document.{ids_of, parents_of}
 use Rattle.lay_doc.specs.ComputedStyle.{style_at}
 use Rattle.lay_frag.specs.declared.frag.Frag.{Frag}
 use Rattle.lay_frag.specs.Pieces.{moved, page_pieces, IsRectInRange, IsContextInRange, IsTreeInRange}
@@ -25,7 +25,7 @@ use Rattle.lay_context.specs.UsedLengths.{used_size, edge_of, edges_of}
 use Rattle.lay_context.specs.WidthColumn.{HasWidths, widths_at, containing_width}
 use Rattle.lay_context.specs.EdgeColumn.{HasEdges, edges_at, vertical_edges, insets}
 use Rattle.lay_context.specs.Bounds.{AreInsets, HaveInsets, HaveUsedWidths}
-use Rattle.lay_context.specs.Solves.{ArePieces, box_piece, box_width, left_margins, root_context}
+use Rattle.lay_context.specs.Solves.{ArePieces, box_piece, box_width, left_margins, root_context, tree_of}
 
 margin_is_used : (v : ℤ) → IsUsed (clamp_of v)
 margin_is_used v = (omega (arith, ints, clamps), omega (arith, ints, clamps))
@@ -136,7 +136,7 @@ member_has P xs k x is holds = subst (λ o. IfSome o P) (sym is) holds
 
 -- the boxes of a document are within their bounds
 pub record AreBounded (n : ℕ) (ws : List BlockOut) (es : List Sides) (hs : List Length) (cs : List Corner) : Type 0 where
-  pub margin : IsUsed (widths_at ws 0).margin_left.0
+  pub margin : 0 < n → IsUsed (widths_at ws 0).margin_left.0
   pub width : (k : ℕ) → k < n → IsUsedSize (widths_at ws k).width.0
   pub edges : (k : ℕ) → k < n → AreInsets (edges_at es k)
   pub height : (k : ℕ) → k < n → IsBoxHeight (length_at hs k)
@@ -144,9 +144,9 @@ pub record AreBounded (n : ℕ) (ws : List BlockOut) (es : List Sides) (hs : Lis
   pub near : AreNear cs
 
 pub bounded_boxes : (viewport : Length) (parents : List ℕ) (styles : List Style) (computed : List Len) (margins : List Length) (places : List Corner) (ws : List BlockOut) (es : List Sides) (hs : List Length) (cs : List Corner)
-    → HasWidths viewport parents styles ws → HasEdges viewport parents styles ws es → HasHeights parents computed (vertical_edges es) hs → HasCorners parents margins places hs cs → AreNear cs → 0 < length parents → AreBounded (length parents) ws es hs cs
-bounded_boxes viewport parents styles computed margins places ws es hs cs widths edges heights corners near some = record {
-  margin = margin_within viewport parents styles ws widths 0 some;
+    → HasWidths viewport parents styles ws → HasEdges viewport parents styles ws es → HasHeights parents computed (vertical_edges es) hs → HasCorners parents margins places hs cs → AreNear cs → AreBounded (length parents) ws es hs cs
+bounded_boxes viewport parents styles computed margins places ws es hs cs widths edges heights corners near = record {
+  margin = λ some. margin_within viewport parents styles ws widths 0 some;
   width = width_within viewport parents styles ws widths;
   edges = λ k within. have_insets viewport parents styles ws es edges k (omega (arith, edges.length_is));
   height = height_within parents computed (vertical_edges es) hs (have_edges viewport parents styles ws es edges) heights;
@@ -154,13 +154,17 @@ bounded_boxes viewport parents styles computed margins places ws es hs cs widths
   near = near;
 }
 
-pub length-ids : (nodes : List Node) → length (ids_of nodes) ≡ length (parents_of nodes)
+pub length-ids : (boxes : List BoxNode) → length (box_ids boxes) ≡ length boxes
 length-ids [] = refl
-length-ids (n ∷ ns) = let e = length-ids ns in omega (arith, e)
+length-ids (b ∷ bs) = let e = length-ids bs in omega (arith, e)
 
-pub length-parents : (nodes : List Node) → length (parents_of nodes) ≡ length nodes
-length-parents [] = refl
-length-parents (n ∷ ns) = let e = length-parents ns in omega (arith, e)
+pub length-box_parents : (boxes : List BoxNode) → length (box_parents boxes) ≡ length boxes
+length-box_parents [] = refl
+length-box_parents (b ∷ bs) = let e = length-box_parents bs in omega (arith, e)
+
+pub length-box_styles : (boxes : List BoxNode) → length (box_styles boxes) ≡ length boxes
+length-box_styles [] = refl
+length-box_styles (b ∷ bs) = let e = length-box_styles bs in omega (arith, e)
 
 height_is_position : (v : ℤ) → IsBoxHeight v → IsPosition v
 height_is_position v used = (omega (arith, ints, used.0, used.1), omega (arith, ints, used.0, used.1))
@@ -183,7 +187,7 @@ page_piece_in_range : (n : ℕ) (ids : List ℕ) (ws : List BlockOut) (es : List
     → IsRectInRange (moved (widths_at ws 0).margin_left.0 down (box_piece ids ws es hs cs k)).rect
 page_piece_in_range n ids ws es hs cs down bounded top k within =
     let near = bounded.near k (omega (arith, bounded.corner_count)) in
-    let margin = bounded.margin in
+    let margin = bounded.margin (omega arith) in
     record {
       x = (omega (arith, ints, near.0.0, near.0.1, margin.0, margin.1), omega (arith, ints, near.0.0, near.0.1, margin.0, margin.1));
       y = (omega (arith, ints, near.1.0, near.1.1, top), omega (arith, ints, near.1.0, near.1.1, top));
@@ -191,7 +195,7 @@ page_piece_in_range n ids ws es hs cs down bounded top k within =
       h = height_is_position _ (bounded.height k within);
     }
 
-pub root_in_range : (n : ℕ) (ids : List ℕ) (ws : List BlockOut) (es : List Sides) (hs : List Length) (cs : List Corner) (pieces : List Frag) → 0 < n → n ≤ 16384 → length ids ≡ n
+pub root_in_range : (n : ℕ) (ids : List ℕ) (ws : List BlockOut) (es : List Sides) (hs : List Length) (cs : List Corner) (pieces : List Frag) → 0 < n → n ≤ 67108864 → length ids ≡ n
     → AreBounded n ws es hs cs → ArePieces ids ws es hs cs pieces → IsTreeInRange (root_context ids ws es hs pieces ∷ [])
 root_in_range n ids ws es hs cs pieces some few counted bounded are = record {
   contexts = λ j lt. let e : j ≡ 0 = omega arith in rw e context;
@@ -205,9 +209,9 @@ root_in_range n ids ws es hs cs pieces some few counted bounded are = record {
         member_has (λ f. IsRectInRange f.rect) _ (suc k) _ (inner_piece (root_context ids ws es hs pieces) (suc k) _ (omega arith) (are.each (suc k) within)) (page_piece_in_range n ids ws es hs cs (pos 0 +ℤ pos 0) bounded (omega (arith, ints)) (suc k) (omega (arith, counted)))
 
     context : IsContextInRange (root_context ids ws es hs pieces)
-    context = record {
+    context = let margin = bounded.margin some in record {
       rect = record {
-        x = (omega (arith, ints, bounded.margin.0, bounded.margin.1), omega (arith, ints, bounded.margin.0, bounded.margin.1));
+        x = (omega (arith, ints, margin.0, margin.1), omega (arith, ints, margin.0, margin.1));
         y = (omega (arith, ints), omega (arith, ints));
         w = width_is_position (widths_at ws 0) (edges_at es 0) (bounded.width 0 some) (bounded.edges 0 some);
         h = height_is_position _ (bounded.height 0 some);
@@ -216,3 +220,9 @@ root_in_range n ids ws es hs cs pieces some few counted bounded are = record {
       pieces = λ k lt. member_has (λ f. IsRectInRange f.rect) pieces k _ (are.each k (omega (arith, are.length_is))) (piece_in_range n ids ws es hs cs bounded k (omega (arith, are.length_is, counted)));
       page = page;
     }
+
+-- the tree of boxes is in range, with a box or without
+pub tree_in_range : (boxes : List BoxNode) (ws : List BlockOut) (es : List Sides) (hs : List Length) (cs : List Corner) (pieces : List Frag) → length boxes ≤ 67108864
+    → AreBounded (length boxes) ws es hs cs → ArePieces (box_ids boxes) ws es hs cs pieces → IsTreeInRange (tree_of boxes ws es hs pieces)
+tree_in_range [] ws es hs cs pieces few bounded are = record { contexts = λ j lt. absurd (omega arith); few = omega arith }
+tree_in_range (b ∷ bs) ws es hs cs pieces few bounded are = root_in_range (length (b ∷ bs)) (box_ids (b ∷ bs)) ws es hs cs pieces (omega arith) few (length-ids (b ∷ bs)) bounded are

@@ -3,12 +3,13 @@
 ghost use Rattle.std.specs.Prelude.{◌≡◌, ◌<◌, ◌≤◌, length, IfOk};
 ghost use Rattle.lay_doc.specs.Tree.{IsTree};
 ghost use Rattle.lay_doc.specs.LengthValues.{px};
+ghost use Rattle.lay_boxgen.specs.BoxColumns.{box_styles};
 ghost use Rattle.lay_context.specs.EdgeColumn.{HasEdges, edges_at, vertical_edges, vertical_edges_of, insets};
 ghost use Rattle.lay_context.specs.Bounds.{AreInsets, HaveInsets};
 
 use crate::block_widths::{containing_width, style_at};
 use crate::used_lengths::edges_of;
-use lay_doc::Style;
+use lay_boxgen::BoxNode;
 use lay_flow::Corner;
 use lay_units::{NoMemory, Sides, Unit};
 use lay_widths::BlockOut;
@@ -20,19 +21,19 @@ pub(crate) fn edges(
     alloc: Global,
     viewport: u32,
     parents: &[usize],
-    styles: &[Style],
+    boxes: &[BoxNode],
     widths: &[BlockOut],
 ) -> Result<Vec<Sides>, NoMemory>
     requires viewport { viewport ≤ 1000000 }
     requires tree { IsTree parents.now }
-    requires styles { length styles.now ≡ length parents.now }
+    requires boxes { length boxes.now ≡ length parents.now }
     requires widths { length widths.now ≡ length parents.now }
-    ensures { IfOk result (λ v. HasEdges (px viewport) parents.now styles.now widths.now v.items) }
+    ensures { IfOk result (λ v. HasEdges (px viewport) parents.now (box_styles boxes.now) widths.now v.items) }
 {
     let mut edges = Vec::with_capacity(alloc, parents.len())?;
-    for k in 0..styles.len() {
+    for k in 0..boxes.len() {
         let containing = containing_width(viewport, parents, widths, k);
-        edges.push(edges_of(containing, style_at(styles, k)))?;
+        edges.push(edges_of(containing, style_at(boxes, k)))?;
     }
     Ok(edges)
 }

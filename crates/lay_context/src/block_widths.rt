@@ -5,11 +5,13 @@ ghost use Rattle.lay_units.specs.Units.{IsPosition, IsUsedSize};
 ghost use Rattle.lay_doc.specs.Tree.{IsTree};
 ghost use Rattle.lay_doc.specs.LengthValues.{px};
 ghost use Rattle.lay_doc.specs.ComputedStyle.{style_at};
+ghost use Rattle.lay_boxgen.specs.BoxColumns.{box_styles};
 ghost use Rattle.lay_widths.specs.BlockWidths.{IsUsedBlock};
 ghost use Rattle.lay_context.specs.UsedLengths.{block_of};
 ghost use Rattle.lay_context.specs.WidthColumn.{HasWidths, containing_width, widths_at};
 
 use crate::used_lengths::block_of;
+use lay_boxgen::BoxNode;
 use lay_doc::Style;
 use lay_units::{NoMemory, Unit};
 use lay_widths::{BlockOut, solve_block};
@@ -20,17 +22,17 @@ pub(crate) fn widths(
     alloc: Global,
     viewport: u32,
     parents: &[usize],
-    styles: &[Style],
+    boxes: &[BoxNode],
 ) -> Result<Vec<BlockOut>, NoMemory>
     requires viewport { viewport ≤ 1000000 }
     requires tree { IsTree parents.now }
-    requires lengths { length styles.now ≡ length parents.now }
-    ensures { IfOk result (λ v. HasWidths (px viewport) parents.now styles.now v.items) }
+    requires lengths { length boxes.now ≡ length parents.now }
+    ensures { IfOk result (λ v. HasWidths (px viewport) parents.now (box_styles boxes.now) v.items) }
 {
     let mut widths = Vec::with_capacity(alloc, parents.len())?;
-    for k in 0..styles.len() {
+    for k in 0..boxes.len() {
         let containing = containing_width(viewport, parents, &widths, k);
-        widths.push(used_widths(containing, style_at(styles, k)))?;
+        widths.push(used_widths(containing, style_at(boxes, k)))?;
     }
     Ok(widths)
 }
@@ -68,9 +70,9 @@ pub(crate) fn width_at(widths: &[BlockOut], k: usize) -> Unit
     widths[k].width
 }
 
-pub(crate) fn style_at(styles: &[Style], k: usize) -> &Style
-    requires { k < length styles.now }
-    ensures { result.now ≡ style_at styles.now k }
+pub(crate) fn style_at(boxes: &[BoxNode], k: usize) -> &Style
+    requires { k < length boxes.now }
+    ensures { result.now ≡ style_at (box_styles boxes.now) k }
 {
-    &styles[k]
+    &boxes[k].style
 }

@@ -1,33 +1,33 @@
-//! The columns of a document that layout reads.
+//! The columns of boxes that layout reads.
 
 ghost use Rattle.std.specs.Prelude.{◌≡◌, IfOk};
-ghost use Rattle.lay_doc.specs.Document.{parents_of};
+ghost use Rattle.lay_boxgen.specs.BoxColumns.{box_parents, box_styles};
 ghost use Rattle.lay_context.specs.Solves.{given_heights, left_margins};
 
 use crate::used_lengths::used_given_height;
-use lay_doc::{Node, Style};
+use lay_boxgen::BoxNode;
 use lay_units::{Len, NoMemory, Unit};
 use lay_widths::BlockOut;
 use std::alloc::Global;
 
-/// The place of each node's parent.
-pub(crate) fn parents(alloc: Global, nodes: &[Node]) -> Result<Vec<usize>, NoMemory>
-    ensures { IfOk result (λ v. v.items ≡ parents_of nodes.now) }
+/// The place of each box's parent.
+pub(crate) fn parents(alloc: Global, boxes: &[BoxNode]) -> Result<Vec<usize>, NoMemory>
+    ensures { IfOk result (λ v. v.items ≡ box_parents boxes.now) }
 {
-    let mut parents = Vec::with_capacity(alloc, nodes.len())?;
-    for node in nodes {
-        parents.push(node.parent)?;
+    let mut parents = Vec::with_capacity(alloc, boxes.len())?;
+    for node in boxes {
+        parents.push(node.parent as usize)?;
     }
     Ok(parents)
 }
 
 /// The height that is given for each box.
-pub(crate) fn given_heights(alloc: Global, styles: &[Style]) -> Result<Vec<Len>, NoMemory>
-    ensures { IfOk result (λ v. v.items ≡ given_heights styles.now) }
+pub(crate) fn given_heights(alloc: Global, boxes: &[BoxNode]) -> Result<Vec<Len>, NoMemory>
+    ensures { IfOk result (λ v. v.items ≡ given_heights (box_styles boxes.now)) }
 {
-    let mut heights = Vec::with_capacity(alloc, styles.len())?;
-    for style in styles {
-        heights.push(used_given_height(style.sizing.height))?;
+    let mut heights = Vec::with_capacity(alloc, boxes.len())?;
+    for node in boxes {
+        heights.push(used_given_height(node.style.sizing.height))?;
     }
     Ok(heights)
 }

@@ -2,16 +2,16 @@
 
 ghost use Rattle.std.specs.Prelude.{◌≡◌, ◌+ℤ◌, ◌+◌, ◌<◌, ◌≤◌, [], ◌∷◌, ◌++◌, length, IfOk, OnOk};
 ghost use Rattle.lay_units.specs.Units.{IsPosition, IsUsedSize};
-ghost use Rattle.lay_doc.specs.Document.{ids_of};
+ghost use Rattle.lay_boxgen.specs.BoxColumns.{box_ids};
 ghost use Rattle.lay_frag.specs.Pieces.{IsTreeInRange};
 ghost use Rattle.lay_context.specs.WidthColumn.{widths_at};
 ghost use Rattle.lay_context.specs.EdgeColumn.{edges_at};
 ghost use Rattle.lay_context.specs.Bounds.{AreInsets, HaveInsets, HaveUsedWidths};
-ghost use Rattle.lay_context.specs.Solves.{box_piece, box_width, ArePieces, root_context};
+ghost use Rattle.lay_context.specs.Solves.{box_piece, box_width, ArePieces, root_context, tree_of};
 
 use crate::block_edges::edges_at;
 use crate::block_widths::width_at;
-use lay_doc::Node;
+use lay_boxgen::BoxNode;
 use lay_flow::Corner;
 use lay_frag::{Frag, FragKind, Pieces, Placed, Tree};
 use lay_units::{NoMemory, Rect, Sides, Unit};
@@ -22,47 +22,47 @@ use std::sync::Arc;
 /// The border boxes of all boxes, in document order, counted from the root's border box.
 pub(crate) fn pieces(
     alloc: Global,
-    nodes: &[Node],
+    boxes: &[BoxNode],
     widths: &[BlockOut],
     edges: &[Sides],
     heights: &[Unit],
     corners: &[Corner],
 ) -> Result<Vec<Frag>, NoMemory>
-    requires widths { length widths.now ≡ length nodes.now }
-    requires edges { length edges.now ≡ length nodes.now }
+    requires widths { length widths.now ≡ length boxes.now }
+    requires edges { length edges.now ≡ length boxes.now }
     requires insets { HaveInsets edges.now }
     requires used { HaveUsedWidths widths.now }
-    requires heights { length heights.now ≡ length nodes.now }
-    requires corners { length corners.now ≡ length nodes.now }
-    ensures { IfOk result (λ v. ArePieces (ids_of nodes.now) widths.now edges.now heights.now corners.now v.items) }
+    requires heights { length heights.now ≡ length boxes.now }
+    requires corners { length corners.now ≡ length boxes.now }
+    ensures { IfOk result (λ v. ArePieces (box_ids boxes.now) widths.now edges.now heights.now corners.now v.items) }
 {
-    let mut pieces = Vec::with_capacity(alloc, nodes.len())?;
-    for k in 0..nodes.len() {
-        pieces.push(box_piece(nodes, widths, edges, heights, corners, k))?;
+    let mut pieces = Vec::with_capacity(alloc, boxes.len())?;
+    for k in 0..boxes.len() {
+        pieces.push(box_piece(boxes, widths, edges, heights, corners, k))?;
     }
     Ok(pieces)
 }
 
 fn box_piece(
-    nodes: &[Node],
+    boxes: &[BoxNode],
     widths: &[BlockOut],
     edges: &[Sides],
     heights: &[Unit],
     corners: &[Corner],
     k: usize,
 ) -> Frag
-    requires node { k < length nodes.now }
+    requires boxes { k < length boxes.now }
     requires widths { k < length widths.now }
     requires edges { k < length edges.now }
     requires insets { HaveInsets edges.now }
     requires used { HaveUsedWidths widths.now }
     requires heights { k < length heights.now }
     requires corners { k < length corners.now }
-    ensures { result ≡ box_piece (ids_of nodes.now) widths.now edges.now heights.now corners.now k }
+    ensures { result ≡ box_piece (box_ids boxes.now) widths.now edges.now heights.now corners.now k }
 {
     Frag {
         kind: FragKind::Box,
-        node: nodes[k].id,
+        node: boxes[k].node,
         part: 0,
         rect: Rect {
             x: corners[k].x,
@@ -101,43 +101,66 @@ fn sum_of(a: Unit, b: Unit) -> Unit
     Unit(a.0 + b.0)
 }
 
-/// The tree of the root's context.
-pub(crate) fn root_tree(
+/// The tree of these boxes: the root's context, where it has a box.
+pub(crate) fn tree_of(
     alloc: Global,
-    nodes: &[Node],
+    boxes: &[BoxNode],
     widths: &[BlockOut],
     edges: &[Sides],
     heights: &[Unit],
     pieces: Vec<Frag>,
 ) -> Result<Tree, NoMemory>
-    requires node { 0 < length nodes.now }
+    requires widths { length widths.now ≡ length boxes.now }
+    requires edges { length edges.now ≡ length boxes.now }
+    requires insets { HaveInsets edges.now }
+    requires used { HaveUsedWidths widths.now }
+    requires heights { length heights.now ≡ length boxes.now }
+    requires range { IsTreeInRange (tree_of boxes.now widths.now edges.now heights.now pieces.items) }
+    ensures { IfOk result (λ t. t ≡ tree_of boxes.now widths.now edges.now heights.now pieces.items) }
+{
+    if boxes.is_empty() {
+        return Ok(Tree::new(Vec::new(alloc)));
+    }
+    root_tree(alloc, boxes, widths, edges, heights, pieces)
+}
+
+/// The tree of the root's context.
+fn root_tree(
+    alloc: Global,
+    boxes: &[BoxNode],
+    widths: &[BlockOut],
+    edges: &[Sides],
+    heights: &[Unit],
+    pieces: Vec<Frag>,
+) -> Result<Tree, NoMemory>
+    requires boxes { 0 < length boxes.now }
     requires widths { 0 < length widths.now }
     requires edges { 0 < length edges.now }
     requires insets { HaveInsets edges.now }
     requires used { HaveUsedWidths widths.now }
     requires heights { 0 < length heights.now }
-    requires range { IsTreeInRange (root_context (ids_of nodes.now) widths.now edges.now heights.now pieces.items ∷ []) }
-    ensures { IfOk result (λ t. t ≡ root_context (ids_of nodes.now) widths.now edges.now heights.now pieces.items ∷ []) }
+    requires range { IsTreeInRange (root_context (box_ids boxes.now) widths.now edges.now heights.now pieces.items ∷ []) }
+    ensures { IfOk result (λ t. t ≡ root_context (box_ids boxes.now) widths.now edges.now heights.now pieces.items ∷ []) }
 {
     let pieces = Arc::new(alloc, Pieces::new(pieces))?;
-    let contexts = vec![in alloc; root_placed(nodes, widths, edges, heights, pieces)]?;
+    let contexts = vec![in alloc; root_placed(boxes, widths, edges, heights, pieces)]?;
     Ok(Tree::new(contexts))
 }
 
 fn root_placed(
-    nodes: &[Node],
+    boxes: &[BoxNode],
     widths: &[BlockOut],
     edges: &[Sides],
     heights: &[Unit],
     pieces: Arc<Pieces>,
 ) -> Placed
-    requires node { 0 < length nodes.now }
+    requires boxes { 0 < length boxes.now }
     requires widths { 0 < length widths.now }
     requires edges { 0 < length edges.now }
     requires insets { HaveInsets edges.now }
     requires used { HaveUsedWidths widths.now }
     requires heights { 0 < length heights.now }
-    ensures { result ≡ root_context (ids_of nodes.now) widths.now edges.now heights.now pieces.value }
+    ensures { result ≡ root_context (box_ids boxes.now) widths.now edges.now heights.now pieces.value }
 {
     let rect = Rect {
         x: widths[0].margin_left,
@@ -145,5 +168,5 @@ fn root_placed(
         w: box_width(widths, edges, 0),
         h: heights[0],
     };
-    Placed::new(nodes[0].id, rect, Unit(0), pieces)
+    Placed::new(boxes[0].node, rect, Unit(0), pieces)
 }

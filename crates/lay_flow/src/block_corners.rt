@@ -19,7 +19,7 @@ pub fn corners(
     insets: &[Corner],
     heights: &[Unit],
 ) -> Result<Vec<Corner>, NoMemory>
-    requires few { length parents.now ≤ 16384 }
+    requires few { length parents.now ≤ 67108864 }
     requires tree { IsTree parents.now }
     requires sized { AreSized parents.now margins.now insets.now heights.now }
     ensures corners { IfOk result (λ v. HasCorners parents.now margins.now insets.now heights.now v.items) }
@@ -51,7 +51,7 @@ fn place(
     sums: &mut Vec<Unit>,
     k: usize,
 ) -> Result<(), NoMemory>
-    requires few { length parents.now ≤ 16384 }
+    requires few { length parents.now ≤ 67108864 }
     requires tree { IsTree parents.now }
     requires place { k < length parents.now }
     requires sized { AreSized parents.now margins.now insets.now heights.now }
@@ -84,7 +84,7 @@ fn inner_corner(
     sums: &[Unit],
     k: usize,
 ) -> Corner
-    requires few { length parents.now ≤ 16384 }
+    requires few { length parents.now ≤ 67108864 }
     requires tree { IsTree parents.now }
     requires place { k < length parents.now }
     requires positive { 0 < k }

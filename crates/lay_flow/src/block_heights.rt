@@ -20,7 +20,7 @@ pub fn heights(
     computed: &[Len],
     edges: &[Unit],
 ) -> Result<Vec<Unit>, NoMemory>
-    requires few { length parents.now ≤ 16384 }
+    requires few { length parents.now ≤ 67108864 }
     requires tree { IsTree parents.now }
     requires lengths { length computed.now ≡ length parents.now }
     requires edges { HaveEdges parents.now edges.now }
@@ -51,7 +51,7 @@ fn settle(
     contents: &mut Vec<Unit>,
     k: usize,
 )
-    requires few { length parents.now ≤ 16384 }
+    requires few { length parents.now ≤ 67108864 }
     requires tree { IsTree parents.now }
     requires lengths { length computed.now ≡ length parents.now }
     requires edges { HaveEdges parents.now edges.now }

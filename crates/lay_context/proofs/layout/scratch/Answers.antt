@@ -1,54 +1,11 @@
-use Rattle.std.proofs.Common.{◌≡◌, ap, sym, ◌∙◌, arith, length}
-use Rattle.lay_doc.specs.Document.{ids_of, parents_of}
-use Rattle.lay_doc.specs.LengthValues.{px}
-use Rattle.lay_context.proofs.Bounds.{have_insets, have_edges, are_sized, bounded_boxes, root_in_range, length-ids, length-parents}
+use Rattle.lay_boxgen.specs.Parts.{part}
+use Rattle.lay_boxgen.proofs.BoxForests.{boxes_are_a_tree_lem}
 use Rattle.lay_context.proofs.layout.scratch.Goals as goal
 
-pub vertical_edges-requires : goal.vertical_edges-requires
-vertical_edges-requires c =
-    let edges = rw (c.deref-2.ensures.value, c.deref-3.ensures.value) at c.in_ok-edges.ensures in
-    rw c.deref-4.ensures.value
-    (have_insets (px c.width-viewport.result) c.in_ok-parents.parents.items c.as_slice-styles.result.now c.in_ok-widths.widths.items c.in_ok-edges.edges.items edges)
+pub lay_boxes-requires-clause-viewport : goal.lay_boxes-requires-clause-viewport
+lay_boxes-requires-clause-viewport c = rw c.width.ensures c.root_boxes.ensures.document.narrow
 
-pub heights-requires-clause-edges : goal.heights-requires-clause-edges
-heights-requires-clause-edges c =
-    let edges = rw (c.deref-2.ensures.value, c.deref-3.ensures.value) at c.in_ok-edges.ensures in
-    rw (c.deref-5.ensures.value, c.deref-7.ensures.value, c.in_ok-vertical.ensures, c.deref-4.ensures.value)
-    (have_edges (px c.width-viewport.result) c.in_ok-parents.parents.items c.as_slice-styles.result.now c.in_ok-widths.widths.items c.in_ok-edges.edges.items edges)
-
-pub corners-requires-clause-sized : goal.corners-requires-clause-sized
-corners-requires-clause-sized c =
-    let widths = rw c.deref.ensures.value at c.in_ok-widths.ensures in
-    let edges = rw (c.deref-2.ensures.value, c.deref-3.ensures.value) at c.in_ok-edges.ensures in
-    let heights = rw (c.deref-5.ensures.value, c.deref-6.ensures.value, c.deref-7.ensures.value, c.in_ok-vertical.ensures, c.deref-4.ensures.value) at c.in_ok-heights.ensures in
-    rw (c.deref-10.ensures.value, c.deref-11.ensures.value, c.deref-12.ensures.value, c.deref-13.ensures.value, c.in_ok-margins.ensures, c.deref-8.ensures.value, c.in_ok-insets.ensures, c.deref-9.ensures.value)
-    (are_sized (px c.width-viewport.result) c.in_ok-parents.parents.items c.as_slice-styles.result.now c.in_ok-given.given.items c.in_ok-widths.widths.items c.in_ok-edges.edges.items c.in_ok-heights.heights.items widths edges heights)
-
-pub pieces-requires-clause-insets : goal.pieces-requires-clause-insets
-pieces-requires-clause-insets c =
-    let edges = rw (c.deref-2.ensures.value, c.deref-3.ensures.value) at c.in_ok-edges.ensures in
-    rw c.deref-15.ensures.value
-    (have_insets (px c.width-viewport.result) c.in_ok-parents.parents.items c.as_slice-styles.result.now c.in_ok-widths.widths.items c.in_ok-edges.edges.items edges)
-
-pub root_tree-requires-clause-insets : goal.root_tree-requires-clause-insets
-root_tree-requires-clause-insets c =
-    let edges = rw (c.deref-2.ensures.value, c.deref-3.ensures.value) at c.in_ok-edges.ensures in
-    rw c.deref-19.ensures.value
-    (have_insets (px c.width-viewport.result) c.in_ok-parents.parents.items c.as_slice-styles.result.now c.in_ok-widths.widths.items c.in_ok-edges.edges.items edges)
-
-pub root_tree-requires-clause-range : goal.root_tree-requires-clause-range
-root_tree-requires-clause-range c =
-    let valid = c.nodes-nodes.ensures.valid in
-    let widths = rw c.deref.ensures.value at c.in_ok-widths.ensures in
-    let edges = rw (c.deref-2.ensures.value, c.deref-3.ensures.value) at c.in_ok-edges.ensures in
-    let heights = rw (c.deref-5.ensures.value, c.deref-6.ensures.value, c.deref-7.ensures.value, c.in_ok-vertical.ensures, c.deref-4.ensures.value) at c.in_ok-heights.ensures in
-    let placed = c.in_ok-corners.ensures {u = tt} in
-    let corners = rw (c.deref-10.ensures.value, c.deref-11.ensures.value, c.deref-12.ensures.value, c.deref-13.ensures.value) at placed.corners in
-    let pieces = rw (c.deref-14.ensures.value, c.deref-15.ensures.value, c.deref-16.ensures.value, c.deref-17.ensures.value) at c.in_ok-pieces.ensures in
-    let counted : length c.in_ok-parents.parents.items ≡ length (parents_of c.nodes-nodes.result.now) = ap length (c.in_ok-parents.ensures {u = tt}) in
-    let all : length (parents_of c.nodes-nodes.result.now) ≡ length c.args.doc.now.nodes = length-parents c.nodes-nodes.result.now ∙ ap length c.nodes-nodes.ensures.nodes in
-    let bounded = bounded_boxes (px c.width-viewport.result) c.in_ok-parents.parents.items c.as_slice-styles.result.now c.in_ok-given.given.items c.in_ok-margins.margins.items c.in_ok-insets.insets.items c.in_ok-widths.widths.items c.in_ok-edges.edges.items c.in_ok-heights.heights.items c.in_ok-corners.corners.items
-    widths edges heights corners placed.near (omega (arith, counted, all, valid.some)) in
-    rw (c.deref-18.ensures.value, c.deref-19.ensures.value, c.deref-20.ensures.value)
-    (root_in_range (length c.in_ok-parents.parents.items) (ids_of c.nodes-nodes.result.now) c.in_ok-widths.widths.items c.in_ok-edges.edges.items c.in_ok-heights.heights.items c.in_ok-corners.corners.items c.in_ok-pieces.pieces.items
-    (omega (arith, counted, all, valid.some)) (omega (arith, counted, all, valid.few)) (length-ids c.nodes-nodes.result.now ∙ sym counted) bounded pieces)
+pub lay_boxes-requires-clause-tree : goal.lay_boxes-requires-clause-tree
+lay_boxes-requires-clause-tree c =
+    let listed = (c.in_ok-root.ensures {u = tt}).boxes in
+    rw (c.as_slice.ensures, listed) (boxes_are_a_tree_lem c.args.doc.now.nodes c.in_ok-computed.computed (part c.args.doc.now.nodes c.in_ok-computed.computed 0))
