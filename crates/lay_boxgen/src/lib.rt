@@ -21,6 +21,8 @@ mod node_trees;
 mod runs;
 mod subtree;
 mod table_wrappers;
+#[cfg(test)]
+mod tests;
 mod white_space;
 
 pub use box_tree::{BoxKind, BoxList, BoxNode, BoxTree, InnerBox, Preferred};
