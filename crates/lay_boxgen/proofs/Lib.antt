@@ -1,7 +1,10 @@
 pub mod Above
 pub mod CutNodes
 pub mod CutParts
+pub mod EveryBox
+pub mod InnerContexts
 pub mod Inside
+pub mod ListedContexts
 pub mod NodeColumns
 pub mod NodeForms
 pub mod Putting

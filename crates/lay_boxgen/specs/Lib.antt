@@ -19,3 +19,4 @@ pub mod Listing
 pub mod Contexts
 pub mod CutTrees
 pub mod Laws
+pub mod InnerBoxes

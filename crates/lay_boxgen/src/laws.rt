@@ -1,5 +1,6 @@
 //! Laws of the definitions. The functions do nothing.
 
+ghost use Rattle.lay_boxgen.specs.InnerBoxes.{BoxesLeadOn};
 ghost use Rattle.lay_boxgen.specs.Laws.{AnchorsHoldBoxes, ContextIsOneBox, PartsAreWhole};
 
 /// The boxes of a node and all below it are the part of its context, with the boxes of inner contexts inside
@@ -16,4 +17,10 @@ pub fn context_is_one_box()
 /// An anchor has the boxes of its absolute or fixed element in it.
 pub fn anchors_hold_boxes()
     ensures { AnchorsHoldBoxes }
+{}
+
+/// In the list of a context's boxes those of inner contexts are of contexts again, further on in the
+/// document.
+pub fn boxes_lead_on()
+    ensures { BoxesLeadOn }
 {}

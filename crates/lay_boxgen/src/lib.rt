@@ -28,4 +28,4 @@ mod white_space;
 pub use box_tree::{BoxKind, BoxList, BoxNode, BoxTree, InnerBox, Preferred};
 pub use context_boxes::boxes;
 pub use contexts::is_context;
-pub use laws::{anchors_hold_boxes, context_is_one_box, parts_are_whole};
+pub use laws::{anchors_hold_boxes, boxes_lead_on, context_is_one_box, parts_are_whole};
