@@ -2,7 +2,10 @@ pub mod Above
 pub mod BoxForests
 pub mod CutNodes
 pub mod CutParts
+pub mod EveryBox
+pub mod InnerContexts
 pub mod Inside
+pub mod ListedContexts
 pub mod NodeColumns
 pub mod NodeForms
 pub mod Putting

@@ -1,5 +1,5 @@
 -- What the box of a node is and isn't.
-use Rattle.std.proofs.Common.{◌≡◌, ℕ, Bool, true, false, List, [], ◌∷◌, refl, sym, Option, None, Some, option_map, ◌==◌, subst}
+use Rattle.std.proofs.Common.{◌≡◌, ℕ, Bool, true, false, ◌||◌, not, List, [], ◌∷◌, refl, sym, Option, None, Some, option_map, ◌==◌, subst}
 use Rattle.lay_doc.specs.declared.node.Kind.{Kind}
 use Rattle.lay_doc.specs.declared.node.Kind.TheVariants as kind
 use Rattle.lay_doc.specs.declared.node.Node.{Node}
@@ -7,8 +7,8 @@ use Rattle.lay_doc.specs.declared.style.Style.{Style}
 use Rattle.lay_doc.specs.declared.style_words.Display.{Display}
 use Rattle.lay_doc.specs.declared.style_words.Display.TheVariants as display
 use Rattle.lay_boxgen.specs.Display.{element_form, as_block, used_display, replaced_display, flow_of}
-use Rattle.lay_boxgen.specs.Forms.{is_anchor, is_white, is_inline, is_absolute}
-use Rattle.lay_boxgen.specs.NodeBoxes.{form_of, replaced_form, node_flow, facts_with, node_box}
+use Rattle.lay_boxgen.specs.Forms.{is_anchor, is_white, is_inline, is_in_flow, is_absolute}
+use Rattle.lay_boxgen.specs.NodeBoxes.{form_of, replaced_form, node_flow, facts_with, is_context_form, node_box}
 use Rattle.lay_boxgen.specs.declared.facts.Facts.{Facts}
 use Rattle.lay_boxgen.specs.declared.facts.Flow.{Flow}
 use Rattle.lay_boxgen.specs.declared.facts.Flow.TheVariants as flow
@@ -84,17 +84,36 @@ form-no_inline is_root (kind.Replaced w h) text s e = by (used_display is_root (
     by display.None = tt
     by _ = (refl, refl)
 
--- what is known of a node's box, if it has one
-abbrev pub IsNodeBox : ℕ → Option Facts → Type 0
-IsNodeBox k None = Unit {0}
-IsNodeBox k (Some f) =
-    (f.place ≡ k) × (is_anchor f.form ≡ false) × (is_absolute f.flow ≡ true → (is_white f.form ≡ false) × (is_inline f.form ≡ false))
+absolute-establishes : (r c : Bool) (f : Flow) → is_absolute f ≡ true → (r || not (is_in_flow f) || c) ≡ true
+absolute-establishes r c flow.InFlow h = cc
+absolute-establishes r c flow.Floating h = cc
+absolute-establishes true c flow.Absolute h = refl
+absolute-establishes false c flow.Absolute h = refl
+
+-- what is known of a node's box
+pub record IsBoxOf (k : ℕ) (n : Node) (f : Facts) : Type 0 where
+  pub place : f.place ≡ k
+  pub node : f.node ≡ n.id
+  pub no_anchor : is_anchor f.form ≡ false
+  pub no_inline : is_absolute f.flow ≡ true → (is_white f.form ≡ false) × (is_inline f.form ≡ false)
+  pub inner : is_absolute f.flow ≡ true → f.inner ≡ true
+
+-- the same, if it has one
+abbrev pub IsNodeBox : ℕ → Node → Option Facts → Type 0
+IsNodeBox k n None = Unit {0}
+IsNodeBox k n (Some f) = IsBoxOf k n f
 
 box_by : (k : ℕ) (n : Node) (s : Style) (o : Option Form) → IsNoAnchor o → (is_absolute (node_flow n.kind s) ≡ true → IsNoInline o)
-    → IsNodeBox k (option_map (facts_with k n s) o)
+    → IsNodeBox k n (option_map (facts_with k n s) o)
 box_by k n s None h g = tt
-box_by k n s (Some x) h g = (refl, h, g)
+box_by k n s (Some x) h g = record {
+  place = refl;
+  node = refl;
+  no_anchor = h;
+  no_inline = g;
+  inner = λ a. absolute-establishes (k == 0) (is_context_form x s.overflow) (node_flow n.kind s) a;
+}
 
-pub is-node_box : (k : ℕ) (n : Node) (s : Style) → IsNodeBox k (node_box k n s)
+pub is-node_box : (k : ℕ) (n : Node) (s : Style) → IsNodeBox k n (node_box k n s)
 is-node_box k n s =
     box_by k n s (form_of (k == 0) n.kind n.text s) (form-no_anchor (k == 0) n.kind n.text s) (form-no_inline (k == 0) n.kind n.text s)

@@ -13,7 +13,7 @@ use Rattle.lay_boxgen.specs.declared.node_trees.NodeTree.{NodeTree}
 use Rattle.lay_boxgen.proofs.NodeForms.{IsNodeBox, is-node_box}
 use Rattle.lay_boxgen.proofs.Putting.{put-trees_of}
 
-drop-next : {X : Type 0} (k : ℕ) (xs : List X) (x : X) (ys : List X) → drop k xs ≡ x ∷ ys → drop (k + 1) xs ≡ ys
+pub drop-next : {X : Type 0} (k : ℕ) (xs : List X) (x : X) (ys : List X) → drop k xs ≡ x ∷ ys → drop (k + 1) xs ≡ ys
 drop-next zero (z ∷ zs) x ys h = ap tail h
   where
     tail : {X : Type 0} → List X → List X
@@ -81,14 +81,14 @@ module _ (nodes : List Node) (styles : List Style) where
   others-settled k [] s = tt
   others-settled k (n ∷ ns) s = others_by n ns (others_than_children k ns) (others-settled k ns s.1) s (n.parent == k)
 
-  box-settled : (k : ℕ) (o : Option Facts) (cs : List Tree) → IsNodeBox k o → tree_at nodes styles k ≡ box_with o cs
+  box-settled : (k : ℕ) (o : Option Facts) (n : Node) (cs : List Tree) → IsNodeBox k n o → tree_at nodes styles k ≡ box_with o cs
       → put_list (below nodes styles) cs ≡ cs → IsSettledTree (box_with o cs)
-  box-settled k None cs b e h = tt
-  box-settled k (Some f) cs b e h = record {
-    own = ap (tree_at nodes styles) b.0 ∙ e;
+  box-settled k None n cs b e h = tt
+  box-settled k (Some f) n cs b e h = record {
+    own = ap (tree_at nodes styles) b.place ∙ e;
     inner = put-trees_of (below nodes styles) cs ∙ ap trees_of h;
-    no_anchor = b.1;
-    no_inline = b.2;
+    no_anchor = b.no_anchor;
+    no_inline = b.no_inline;
   }
 
   pub nodes-settled : (k : ℕ) (ns : List Node) (ss : List Style) → drop k nodes ≡ ns → drop k styles ≡ ss → AllSettled (node_trees as_child k ns ss)
@@ -99,7 +99,7 @@ module _ (nodes : List Node) (styles : List Style) where
       let rest = nodes-settled (k + 1) ns ss (drop-next k nodes n ns g) (drop-next k styles s ss h) in
       let here : tree_at nodes styles k ≡ box_with (node_box k n s) (children_of as_child k after) =
       ap (λ r. first_tree (node_trees as_child k r (drop k styles))) g ∙ ap (λ r. first_tree (node_trees as_child k (n ∷ ns) r)) h in
-      (box-settled k (node_box k n s) (children_of as_child k after) (is-node_box k n s) here (children-settled k after rest), others-settled k after rest)
+      (box-settled k (node_box k n s) n (children_of as_child k after) (is-node_box k n s) here (children-settled k after rest), others-settled k after rest)
 
   first-settled : (ns : List NodeTree) → AllSettled ns → IsSettledTree (first_tree ns)
   first-settled [] s = tt

@@ -1,6 +1,7 @@
 //! Laws of the definitions. The functions do nothing.
 
 ghost use Rattle.lay_boxgen.specs.BoxColumns.{BoxesAreATree};
+ghost use Rattle.lay_boxgen.specs.InnerBoxes.{BoxesLeadOn};
 ghost use Rattle.lay_boxgen.specs.Laws.{AnchorsHoldBoxes, ContextIsOneBox, PartsAreWhole};
 
 /// The boxes of a node and all below it are the part of its context, with the boxes of inner contexts inside
@@ -22,4 +23,10 @@ pub fn anchors_hold_boxes()
 /// The boxes of a context stand in a tree.
 pub fn boxes_are_a_tree()
     ensures { BoxesAreATree }
+{}
+
+/// In the list of a context's boxes those of inner contexts are of contexts again, further on in the
+/// document.
+pub fn boxes_lead_on()
+    ensures { BoxesLeadOn }
 {}

@@ -21,9 +21,13 @@ mod node_trees;
 mod runs;
 mod subtree;
 mod table_wrappers;
+#[cfg(test)]
+mod tests;
 mod white_space;
 
 pub use box_tree::{BoxKind, BoxList, BoxNode, BoxTree, InnerBox, Preferred};
 pub use context_boxes::boxes;
 pub use contexts::is_context;
-pub use laws::{anchors_hold_boxes, boxes_are_a_tree, context_is_one_box, parts_are_whole};
+pub use laws::{
+    anchors_hold_boxes, boxes_are_a_tree, boxes_lead_on, context_is_one_box, parts_are_whole,
+};
