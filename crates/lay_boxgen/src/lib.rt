@@ -28,6 +28,8 @@ mod white_space;
 pub use box_tree::{BoxKind, BoxList, BoxNode, BoxTree, InnerBox, Preferred};
 pub use context_boxes::boxes;
 pub use contexts::is_context;
+pub use display::{flow_of, used_display};
+pub use facts::Flow;
 pub use laws::{
     anchors_hold_boxes, boxes_are_a_tree, boxes_lead_on, context_is_one_box, parts_are_whole,
 };

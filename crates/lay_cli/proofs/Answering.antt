@@ -1,5 +1,5 @@
 -- Answers to runs and to bytes.
-use Rattle.std.proofs.Common.{◌≡◌, ◌≢◌, ℕ, ◌<◌, List, length, codes, refl, ap, ◌∙◌, Option, Some, None, IfSome, Ok, Err, Result, IfOk}
+use Rattle.std.proofs.Common.{◌≡◌, ◌≢◌, ℕ, ◌<◌, List, length, codes, refl, Option, Some, None, IfSome, Bool, Ok, Err, Result, IfOk}
 use Rattle.lay_units.specs.declared.memory.NoMemory.{NoMemory}
 use Rattle.lay_doc.specs.declared.style.Style.{Style}
 use Rattle.lay_doc.specs.Document.{IsDocument, parents_of}
@@ -9,16 +9,23 @@ use Rattle.lay_json.specs.declared.fault.InputFault.{InputFault}
 use Rattle.lay_json.specs.declared.fault.InputFault.TheVariants.{TooLong, NoMemory as ran_out}
 use Rattle.lay_json.specs.Runs.{Run}
 use Rattle.lay_json.specs.Reading.{IsReading, too_long}
+use Rattle.lay_cli.proofs.HiddenSteps.{one_hidden_column}
 use Rattle.lay_cli.specs.declared.answer.Answer.{Answer}
 use Rattle.lay_cli.specs.declared.answer.Answer.TheVariants.{Report, Refusal}
-use Rattle.lay_cli.specs.Answers.{AreStyles, IsFaultAnswer, IsUnbuiltPlace, unbuilt_place, AnswersRun, AnswersBytes, IsRefusal, IsAnswer, faulty, unbuilt, refused}
+use Rattle.lay_cli.specs.Answers.{AreStyles, AreHiddenNodes, IsFaultAnswer, IsUnbuiltPlace, unbuilt_place, AnswersRun, AnswersBytes, IsRefusal, IsAnswer, faulty, unbuilt, refused}
 
 -- the computed styles decide which node isn't laid out
-pub decides : (run : Run) (styles : List Style) (place : Option ℕ) → IsDocument run.doc → AreStyles run styles → unbuilt_place run styles ≡ place → IsUnbuiltPlace run place
-decides run styles place document are is = record {
+pub decides : (run : Run) (styles : List Style) (hidden : List Bool) (place : Option ℕ) → IsDocument run.doc → AreStyles run styles → AreHiddenNodes run styles hidden → unbuilt_place run styles hidden ≡ place → IsUnbuiltPlace run place
+decides run styles hidden place document are none is = record {
   styles = styles;
   are_styles = are;
-  decided = λ other there. ap (unbuilt_place run) (one_style_column_lem (parents_of run.doc.nodes) (declarations_of run.doc.nodes) other styles document.tree there are) ∙ is;
+  hidden = hidden;
+  are_hidden = none;
+  decided = λ other there are_other are_there.
+      let same = one_style_column_lem (parents_of run.doc.nodes) (declarations_of run.doc.nodes) other styles document.tree are_other are in
+      let under : AreHiddenNodes run styles there = rw (← same) are_there in
+      let alike = one_hidden_column (parents_of run.doc.nodes) styles there hidden document.tree under none in
+      rw (same, alike) is;
 }
 
 answers_bytes : (bytes : List ℕ) (run : Run) (answer : Answer) → IsReading bytes (Ok run) → AnswersRun run answer → AnswersBytes bytes answer

@@ -13,9 +13,9 @@ not_both bytes line run reading built (faulty fault named other is) =
 not_both bytes line run reading built (unbuilt other read refusal) =
     let e : Ok run ≡ Ok other = one_reading_lem bytes (Ok run) (Ok other) reading read in
     let same : run ≡ other = cc in
-    let none : unbuilt_place run built.styles ≡ None = built.decided built.styles built.are_styles in
+    let none : unbuilt_place run built.styles built.hidden ≡ None = built.decided built.styles built.hidden built.are_styles built.are_hidden in
     let unbuilt_there : IsUnbuiltPlace run (Some refusal.place) = rw same refusal.unbuilt in
-    let some : unbuilt_place run built.styles ≡ Some refusal.place = unbuilt_there.decided built.styles built.are_styles in
+    let some : unbuilt_place run built.styles built.hidden ≡ Some refusal.place = unbuilt_there.decided built.styles built.hidden built.are_styles built.are_hidden in
     absurd cc
 
 -- a run that is laid out is reported

@@ -19,22 +19,22 @@ both true (Some k) e = absurd cc
 both false o e = absurd cc
 
 -- one more that is laid out
-pub one_more : (nodes : List Node) (styles : List Style) (ids : List NodeId) (k : ℕ) (other : NodeId) → k < length ids
-    → first_unbuilt nodes styles (take k ids) ≡ None → is_built nodes styles (get_or ids k other) ≡ true → first_unbuilt nodes styles (take (k + 1) ids) ≡ None
-one_more nodes styles [] k other within none built = absurd (omega arith)
-one_more nodes styles (x ∷ xs) zero other within none built = rw built refl
-one_more nodes styles (x ∷ xs) (suc k) other within none built =
-    let first = both (is_built nodes styles x) (first_unbuilt nodes styles (take k xs)) none in
-    let rest = one_more nodes styles xs k other (omega arith) first.1 built in
+pub one_more : (nodes : List Node) (styles : List Style) (hidden : List Bool) (ids : List NodeId) (k : ℕ) (other : NodeId) → k < length ids
+    → first_unbuilt nodes styles hidden (take k ids) ≡ None → is_built nodes styles hidden (get_or ids k other) ≡ true → first_unbuilt nodes styles hidden (take (k + 1) ids) ≡ None
+one_more nodes styles hidden [] k other within none built = absurd (omega arith)
+one_more nodes styles hidden (x ∷ xs) zero other within none built = rw built refl
+one_more nodes styles hidden (x ∷ xs) (suc k) other within none built =
+    let first = both (is_built nodes styles hidden x) (first_unbuilt nodes styles hidden (take k xs)) none in
+    let rest = one_more nodes styles hidden xs k other (omega arith) first.1 built in
     let e : suc k + 1 ≡ suc (k + 1) = omega arith in
     rw (e, first.0, rest) refl
 
 -- the first that isn't
-pub found : (nodes : List Node) (styles : List Style) (ids : List NodeId) (k : ℕ) (other : NodeId) → k < length ids
-    → first_unbuilt nodes styles (take k ids) ≡ None → is_built nodes styles (get_or ids k other) ≡ false → first_unbuilt nodes styles ids ≡ Some k
-found nodes styles [] k other within none unbuilt = absurd (omega arith)
-found nodes styles (x ∷ xs) zero other within none unbuilt = rw unbuilt refl
-found nodes styles (x ∷ xs) (suc k) other within none unbuilt =
-    let first = both (is_built nodes styles x) (first_unbuilt nodes styles (take k xs)) none in
-    let rest = found nodes styles xs k other (omega arith) first.1 unbuilt in
+pub found : (nodes : List Node) (styles : List Style) (hidden : List Bool) (ids : List NodeId) (k : ℕ) (other : NodeId) → k < length ids
+    → first_unbuilt nodes styles hidden (take k ids) ≡ None → is_built nodes styles hidden (get_or ids k other) ≡ false → first_unbuilt nodes styles hidden ids ≡ Some k
+found nodes styles hidden [] k other within none unbuilt = absurd (omega arith)
+found nodes styles hidden (x ∷ xs) zero other within none unbuilt = rw unbuilt refl
+found nodes styles hidden (x ∷ xs) (suc k) other within none unbuilt =
+    let first = both (is_built nodes styles hidden x) (first_unbuilt nodes styles hidden (take k xs)) none in
+    let rest = found nodes styles hidden xs k other (omega arith) first.1 unbuilt in
     rw (first.0, rest) refl

@@ -3,7 +3,7 @@
 -- out, and whose answer is the report of a tree that solves its document, its editors taken as none; or they
 -- are refused with one line: for the first fault that they have, or else for the first node that isn't laid
 -- out.
-use Rattle.std.specs.Prelude.{ℕ, ◌≡◌, ◌≢◌, ◌≤◌, List, [], ◌∷◌, length, take, map, codes, string_bytes, String, Option, Some, None, Ok, Err}
+use Rattle.std.specs.Prelude.{ℕ, Bool, ◌≡◌, ◌≢◌, ◌≤◌, List, [], ◌∷◌, length, take, map, codes, string_bytes, String, Option, Some, None, Ok, Err}
 use Rattle.std.specs.declared.alloc.Global.{Global}
 use Rattle.lay_outside.specs.Outside.{Took}
 use Rattle.lay_doc.specs.declared.style.Style.{Style}
@@ -16,7 +16,7 @@ use Rattle.lay_json.specs.declared.fault.InputFault.{InputFault}
 use Rattle.lay_json.specs.declared.fault.InputFault.TheVariants.{NoMemory}
 use Rattle.lay_json.specs.Runs.{Run}
 use Rattle.lay_json.specs.Reading.{IsReading}
-use Rattle.lay_cli.specs.Built.{first_unbuilt}
+use Rattle.lay_cli.specs.Built.{AreHidden, first_unbuilt}
 use Rattle.lay_cli.specs.Refusals.{fault_line, unbuilt_line}
 use Rattle.lay_cli.specs.declared.answer.Answer.{Answer}
 use Rattle.lay_cli.specs.declared.answer.Answer.TheVariants.{Report, Refusal}
@@ -29,15 +29,21 @@ IsScratch words = map string_bytes words ≡ codes "scratch" ∷ []
 abbrev pub AreStyles : Run → List Style → Type 0
 AreStyles run styles = HasStyles (parents_of run.doc.nodes) (declarations_of run.doc.nodes) styles
 
+-- this says which nodes are under `display: none`
+abbrev pub AreHiddenNodes : Run → List Style → List Bool → Type 0
+AreHiddenNodes run styles hidden = AreHidden (parents_of run.doc.nodes) styles hidden
+
 -- the place in the list `nodes` of the first node that isn't laid out
-abbrev pub unbuilt_place : Run → List Style → Option ℕ
-unbuilt_place run styles = first_unbuilt run.doc.nodes styles run.listed
+abbrev pub unbuilt_place : Run → List Style → List Bool → Option ℕ
+unbuilt_place run styles hidden = first_unbuilt run.doc.nodes styles hidden run.listed
 
 -- the first node that isn't laid out stands there, or none: the computed styles are there, and decide it
 pub record IsUnbuiltPlace (run : Run) (place : Option ℕ) : Type 0 where
   pub styles : List Style
   pub are_styles : AreStyles run styles
-  pub decided : (computed : List Style) → AreStyles run computed → unbuilt_place run computed ≡ place
+  pub hidden : List Bool
+  pub are_hidden : AreHiddenNodes run styles hidden
+  pub decided : (computed : List Style) (none : List Bool) → AreStyles run computed → AreHiddenNodes run computed none → unbuilt_place run computed none ≡ place
 
 -- all nodes of a run are laid out
 abbrev pub IsBuilt : Run → Type 0

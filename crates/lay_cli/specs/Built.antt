@@ -1,5 +1,5 @@
 -- Which nodes are laid out so far. Others are refused by their place in the list `nodes` of the run document.
-use Rattle.std.specs.Prelude.{ℕ, suc, pos, ◌==◌, ◌&&◌, List, [], ◌∷◌, Bool, true, false, Option, Some, None, option_map, if◌then◌else◌}
+use Rattle.std.specs.Prelude.{ℕ, zero, suc, pos, ◌≡◌, ◌<◌, ◌==◌, ◌&&◌, ◌||◌, List, [], ◌∷◌, length, slice_index, slice_index_or, Bool, true, false, Option, Some, None, option_map, if◌then◌else◌}
 use Rattle.std.specs.Ordering.{int_eq}
 use Rattle.lay_doc.specs.declared.node.NodeId.{NodeId}
 use Rattle.lay_doc.specs.declared.node.Node.{Node}
@@ -21,17 +21,17 @@ use Rattle.lay_doc.specs.declared.style_lengths.LengthPercentage.TheVariants as 
 use Rattle.lay_doc.specs.declared.style_lengths.LengthPercentageOrNone.{LengthPercentageOrNone}
 use Rattle.lay_doc.specs.declared.style_lengths.LengthPercentageOrNone.TheVariants as or_none
 use Rattle.lay_doc.specs.Document.{ids_of, place_of, is_element_at}
+use Rattle.lay_boxgen.specs.Display.{flow_of, used_display, is_none}
 use Rattle.lay_doc.specs.ComputedStyle.{style_at}
 
--- whether an element in flow becomes a `block` (CSS 2.2, 9.2.1 and 9.7); the root changes what is neither
--- `none` nor a table into one
-abbrev pub is_block : Bool → Display → Bool
-is_block is_root display.Block = true
-is_block is_root display.ListItem = true
-is_block is_root display.None = false
-is_block is_root display.Table = false
-is_block is_root display.InlineTable = false
-is_block is_root _ = is_root
+-- whether an element's display is a block's, after the changes of 9.7
+abbrev pub is_block_display : Display → Bool
+is_block_display display.Block = true
+is_block_display display.ListItem = true
+is_block_display _ = false
+
+abbrev pub is_block : Bool → Style → Bool
+is_block is_root s = is_block_display (used_display is_root (flow_of s) s.display)
 
 abbrev pub is_static : Position → Bool
 is_static position.Static = true
@@ -69,7 +69,7 @@ is_no_percentage _ = true
 
 -- a block in normal flow
 abbrev pub is_plain_flow : Bool → Style → Bool
-is_plain_flow is_root s = is_block is_root s.display && is_static s.position && is_no_float s.float && is_no_clear s.clear && is_visible s.overflow
+is_plain_flow is_root s = is_block is_root s && is_static s.position && is_no_float s.float && is_no_clear s.clear && is_visible s.overflow
 
 -- without margins above and below, and without bounds of its sizes
 abbrev pub is_plain_size : Style → Bool
@@ -80,19 +80,35 @@ is_plain_size s =
 abbrev pub is_built_style : Bool → Style → Bool
 is_built_style is_root s = is_plain_flow is_root s && is_plain_size s
 
--- whether the node at k of a document, with these computed styles, is laid out
-abbrev pub is_built_at : List Node → List Style → ℕ → Bool
-is_built_at nodes styles k = is_element_at nodes k && is_built_style (k == 0) (style_at styles k)
+-- a column that says of each node whether it is under `display: none`: it or a node above it has that value, and
+-- generates no box (9.2.4)
+abbrev pub hidden_at : List Bool → ℕ → Bool
+hidden_at hs k = slice_index_or hs k false
 
-abbrev pub is_built_place : List Node → List Style → Option ℕ → Bool
-is_built_place nodes styles None = true
-is_built_place nodes styles (Some k) = is_built_at nodes styles k
+abbrev pub is_hidden_above : List ℕ → List Bool → ℕ → Bool
+is_hidden_above parents hs zero = false
+is_hidden_above parents hs (suc k) = hidden_at hs (slice_index parents (suc k))
 
--- whether the node of an id is laid out
-abbrev pub is_built : List Node → List Style → NodeId → Bool
-is_built nodes styles id = is_built_place nodes styles (place_of id.0 (ids_of nodes))
+abbrev pub is_hidden : List ℕ → List Style → List Bool → ℕ → Bool
+is_hidden parents styles hs k = is_none (style_at styles k).display || is_hidden_above parents hs k
+
+pub record AreHidden (parents : List ℕ) (styles : List Style) (hs : List Bool) : Type 0 where
+  pub length_is : length hs ≡ length parents
+  pub each : (k : ℕ) → k < length parents → hidden_at hs k ≡ is_hidden parents styles hs k
+
+-- whether the node at k of a document, with these computed styles, is laid out, or is rightly left out
+abbrev pub is_built_at : List Node → List Style → List Bool → ℕ → Bool
+is_built_at nodes styles hidden k = hidden_at hidden k || (is_element_at nodes k && is_built_style (k == 0) (style_at styles k))
+
+abbrev pub is_built_place : List Node → List Style → List Bool → Option ℕ → Bool
+is_built_place nodes styles hidden None = true
+is_built_place nodes styles hidden (Some k) = is_built_at nodes styles hidden k
+
+-- the same of the node with an id
+abbrev pub is_built : List Node → List Style → List Bool → NodeId → Bool
+is_built nodes styles hidden id = is_built_place nodes styles hidden (place_of id.0 (ids_of nodes))
 
 -- the place of the first of these nodes that isn't laid out
-abbrev pub first_unbuilt : List Node → List Style → List NodeId → Option ℕ
-first_unbuilt nodes styles [] = None
-first_unbuilt nodes styles (id ∷ ids) = if is_built nodes styles id then option_map suc (first_unbuilt nodes styles ids) else Some 0
+abbrev pub first_unbuilt : List Node → List Style → List Bool → List NodeId → Option ℕ
+first_unbuilt nodes styles hidden [] = None
+first_unbuilt nodes styles hidden (id ∷ ids) = if is_built nodes styles hidden id then option_map suc (first_unbuilt nodes styles hidden ids) else Some 0

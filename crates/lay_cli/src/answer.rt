@@ -50,7 +50,12 @@ fn answer_for(alloc: Global, run: &RunDoc) -> Result<Answer, NoMemory>
     ensures { IfOk result (AnswersRun run.now) }
 {
     let computed = computed(alloc, run.doc())?;
-    match first_unbuilt(run.doc(), computed.as_slice(), run.listed().as_slice()) {
+    match first_unbuilt(
+        alloc,
+        run.doc(),
+        computed.as_slice(),
+        run.listed().as_slice(),
+    )? {
         Some(place) => Ok(Answer::Refusal(unbuilt_line(alloc, place)?)),
         None => Ok(Answer::Report(report(alloc, run.doc())?)),
     }

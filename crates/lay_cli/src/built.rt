@@ -1,47 +1,76 @@
 //! Which nodes are laid out so far.
 
-ghost use Rattle.std.specs.Prelude.{◌≡◌, ◌<◌, length};
-ghost use Rattle.lay_doc.specs.Document.{IsDocument, is_element_at};
+ghost use Rattle.std.specs.Prelude.{◌≡◌, ◌<◌, List, Bool, length, IfOk};
+ghost use Rattle.lay_doc.specs.Document.{IsDocument, is_element_at, parents_of};
 ghost use Rattle.lay_doc.specs.ComputedStyle.{style_at};
-ghost use Rattle.lay_cli.specs.Built.{is_block, is_static, is_no_float, is_no_clear, is_visible, is_no_margin, is_no_least, is_no_greatest, is_no_percentage, is_plain_flow, is_plain_size, is_built_style, is_built_at, is_built_place, is_built, first_unbuilt};
+ghost use Rattle.lay_cli.specs.Built.{AreHidden, is_block, is_static, is_no_float, is_no_clear, is_visible, is_no_margin, is_no_least, is_no_greatest, is_no_percentage, is_plain_flow, is_plain_size, is_built_style, is_built_at, is_built_place, is_built, first_unbuilt};
 
+use crate::hidden::{hidden, hidden_at};
+use lay_boxgen::{flow_of, used_display};
 use lay_doc::{
     Clear, Display, Doc, Float, LengthPercentage, LengthPercentageOrAuto, LengthPercentageOrNone,
     Node, NodeId, Overflow, Position, Style,
 };
+use lay_units::NoMemory;
+use std::alloc::Global;
 
 /// The place of the first of these nodes of a document, with their computed styles, that isn't laid out.
-pub(crate) fn first_unbuilt(doc: &Doc, styles: &[Style], listed: &[NodeId]) -> Option<usize>
+pub(crate) fn first_unbuilt(
+    alloc: Global,
+    doc: &Doc,
+    styles: &[Style],
+    listed: &[NodeId],
+) -> Result<Option<usize>, NoMemory>
     requires { length styles.now ≡ length doc.now.nodes }
-    ensures value { result ≡ first_unbuilt doc.now.nodes styles.now listed.now }
+    ensures value { IfOk result (λ place. (none : List Bool) × AreHidden (parents_of doc.now.nodes) styles.now none
+        × (place ≡ first_unbuilt doc.now.nodes styles.now none listed.now)) }
     ensures document { IsDocument doc.now }
 {
     let nodes = doc.nodes();
+    let hidden = hidden(alloc, nodes, styles)?;
+    Ok(first_of(doc, nodes, styles, &hidden, listed))
+}
+
+fn first_of(
+    doc: &Doc,
+    nodes: &[Node],
+    styles: &[Style],
+    hidden: &[bool],
+    listed: &[NodeId],
+) -> Option<usize>
+    requires nodes { nodes.now ≡ doc.now.nodes }
+    requires styles { length styles.now ≡ length nodes.now }
+    requires hidden { length hidden.now ≡ length nodes.now }
+    ensures { result ≡ first_unbuilt nodes.now styles.now hidden.now listed.now }
+{
     for k in 0..listed.len() {
-        if !is_built(doc, nodes, styles, listed[k]) {
+        if !is_built(doc, nodes, styles, hidden, listed[k]) {
             return Some(k);
         }
     }
     None
 }
 
-fn is_built(doc: &Doc, nodes: &[Node], styles: &[Style], id: NodeId) -> bool
+fn is_built(doc: &Doc, nodes: &[Node], styles: &[Style], hidden: &[bool], id: NodeId) -> bool
     requires nodes { nodes.now ≡ doc.now.nodes }
     requires styles { length styles.now ≡ length nodes.now }
-    ensures { result ≡ is_built nodes.now styles.now id }
+    requires hidden { length hidden.now ≡ length nodes.now }
+    ensures { result ≡ is_built nodes.now styles.now hidden.now id }
 {
     match doc.find(id) {
-        Some(place) => is_built_at(nodes, styles, place),
+        Some(place) => is_built_at(nodes, styles, hidden, place),
         None => true,
     }
 }
 
-fn is_built_at(nodes: &[Node], styles: &[Style], place: usize) -> bool
+fn is_built_at(nodes: &[Node], styles: &[Style], hidden: &[bool], place: usize) -> bool
     requires node { place < length nodes.now }
     requires style { place < length styles.now }
-    ensures { result ≡ is_built_at nodes.now styles.now place }
+    requires hidden { place < length hidden.now }
+    ensures { result ≡ is_built_at nodes.now styles.now hidden.now place }
 {
-    is_element_at(nodes, place) && is_built_style(place == 0, style_at(styles, place))
+    hidden_at(hidden, place)
+        || is_element_at(nodes, place) && is_built_style(place == 0, style_at(styles, place))
 }
 
 fn is_element_at(nodes: &[Node], place: usize) -> bool
@@ -51,7 +80,7 @@ fn is_element_at(nodes: &[Node], place: usize) -> bool
     nodes[place].kind.is_element()
 }
 
-fn style_at(styles: &[Style], place: usize) -> &Style
+pub(crate) fn style_at(styles: &[Style], place: usize) -> &Style
     requires { place < length styles.now }
     ensures { result.now ≡ style_at styles.now place }
 {
@@ -68,7 +97,7 @@ fn is_built_style(is_root: bool, style: &Style) -> bool
 fn is_plain_flow(is_root: bool, style: &Style) -> bool
     ensures { result ≡ is_plain_flow is_root style.now }
 {
-    is_block(is_root, style.display)
+    is_block(is_root, style)
         && is_static(style.position)
         && is_no_float(style.float)
         && is_no_clear(style.clear)
@@ -88,14 +117,13 @@ fn is_plain_size(style: &Style) -> bool
         && is_no_percentage(style.sizing.height)
 }
 
-fn is_block(is_root: bool, display: Display) -> bool
-    ensures { result ≡ is_block is_root display }
+fn is_block(is_root: bool, style: &Style) -> bool
+    ensures { result ≡ is_block is_root style.now }
 {
-    match display {
-        Display::Block | Display::ListItem => true,
-        Display::None | Display::Table | Display::InlineTable => false,
-        _ => is_root,
-    }
+    matches!(
+        used_display(is_root, flow_of(style), style.display),
+        Display::Block | Display::ListItem
+    )
 }
 
 fn is_static(position: Position) -> bool

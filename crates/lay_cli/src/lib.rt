@@ -9,6 +9,7 @@
 mod answer;
 mod built;
 mod call;
+mod hidden;
 mod input;
 mod output;
 mod refusal;

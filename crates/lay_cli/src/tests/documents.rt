@@ -120,3 +120,31 @@ fn borders_paddings_and_relative_values_are_laid_out(rt: HostRuntime) -> Result<
     }
     Ok(())
 }
+
+#[test]
+fn what_is_under_display_none_has_no_box(rt: HostRuntime) -> Result<(), Fail> {
+    for (name, run, want) in [
+        (
+            "the root",
+            r#"{"viewport":[800,600],"nodes":[
+            {"id":1,"parent":0,"kind":"element","style":{"display":"none"}},
+            {"id":2,"parent":1,"kind":"text","text":"a"}]}"#,
+            "publish 0\nfinal 0\n",
+        ),
+        (
+            "a child and what is in it",
+            r#"{"viewport":[100,100],"nodes":[
+            {"id":1,"parent":0,"kind":"element"},
+            {"id":2,"parent":1,"kind":"element","style":{"display":"none","height":"9px","float":"left"}},
+            {"id":3,"parent":2,"kind":"element","style":{"display":"block","height":"9px"}},
+            {"id":4,"parent":3,"kind":"replaced","natural":[1,1]},
+            {"id":5,"parent":1,"kind":"element","style":{"display":"block","height":"2px"}}]}"#,
+            "publish 0\nfinal 0\nbox 1 0 0 0 6400 128\nbox 5 0 0 0 6400 128\n",
+        ),
+    ] {
+        let (status, sink) = answer(&rt, rt.alloc(), run)?;
+        assert_eq!(rt; status, Status::Ok, "{name}");
+        assert_eq!(rt; sink.bytes(), want.as_bytes(), "{name}");
+    }
+    Ok(())
+}

@@ -141,12 +141,6 @@ fn the_first_node_that_is_not_laid_out_is_named(rt: HostRuntime) -> Result<(), F
             "refused NotBuilt 1\n",
         ),
         (
-            "a root without a box",
-            r#""block"}"#,
-            r#""none"}"#,
-            "refused NotBuilt 0\n",
-        ),
-        (
             "a root that is a table",
             r#""block"}"#,
             r#""table"}"#,

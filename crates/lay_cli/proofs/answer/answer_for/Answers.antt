@@ -6,10 +6,10 @@ pub returns-in-Some : goal.returns-in-Some
 returns-in-Some c =
     let styles = rw c.doc.ensures at (c.in_ok-computed.ensures {u = tt}) in
     let document = rw c.doc-2.ensures at c.first_unbuilt.ensures.document in
-    let place = rw (c.doc-2.ensures, c.as_slice.ensures, c.as_slice-2.ensures, c.listed.ensures.value) at c.first_unbuilt.ensures.value in
+    let known = rw (c.doc-2.ensures, c.as_slice.ensures, c.as_slice-2.ensures, c.listed.ensures.value) at (c.in_ok-place.ensures {u = tt}).value in
     record {
       place = c.in-Some.place;
-      unbuilt = decides c.args.run.now c.in_ok-computed.computed (Some c.in-Some.place) document styles (sym place ∙ c.in-Some.is);
+      unbuilt = decides c.args.run.now c.in_ok-computed.computed known.0 (Some c.in-Some.place) document styles known.1 (sym known.2 ∙ c.in-Some.is);
       line_is = c.in_ok-unbuilt_line-in-Some.ensures {u = tt};
     }
 
@@ -17,10 +17,10 @@ pub returns : goal.returns
 returns c =
     let styles = rw c.doc.ensures at (c.in_ok-computed.ensures {u = tt}) in
     let document = rw c.doc-2.ensures at c.first_unbuilt.ensures.document in
-    let place = rw (c.doc-2.ensures, c.as_slice.ensures, c.as_slice-2.ensures, c.listed.ensures.value) at c.first_unbuilt.ensures.value in
+    let known = rw (c.doc-2.ensures, c.as_slice.ensures, c.as_slice-2.ensures, c.listed.ensures.value) at (c.in_ok-place.ensures {u = tt}).value in
     let report = rw c.doc-in-None.ensures at (c.in_ok-report-in-None.ensures {u = tt}) in
     record {
-      built = decides c.args.run.now c.in_ok-computed.computed None document styles (sym place ∙ c.in-None.is);
+      built = decides c.args.run.now c.in_ok-computed.computed known.0 None document styles known.1 (sym known.2 ∙ c.in-None.is);
       tree = report.0;
       solves = report.1;
       text_is = report.2;
