@@ -1,6 +1,6 @@
 //! Of two faults, the first one is answered.
 
-use super::sample::{first_wrong_pair, first_wrong_run};
+use super::sample::{first_wrong_pair, first_wrong_run, first_wrong_value};
 use std::test::Fail;
 
 const FIELDS_OF_RUNS: &[(&str, &str, &str)] = &[
@@ -100,5 +100,35 @@ const OF_A_NODE: &[((&str, &str), (&str, &str), &str)] = &[
 #[test]
 fn forms_come_before_declarations_and_these_before_places(rt: HostRuntime) -> Result<(), Fail> {
     assert_eq!(rt; first_wrong_pair(rt.alloc(), OF_A_NODE)?, None);
+    Ok(())
+}
+
+const EDITORS: &[(&str, &str)] = &[
+    (r#""editors": [[], [{"do": "sync"}]]"#, "none"),
+    (r#""editors": [[{}], 1]"#, "I4 editors run"),
+    (
+        r#""editors": [[], [{"do": "sync"}, {}]]"#,
+        "I3 do command 2 1",
+    ),
+    (
+        r#""editors": [[1], [{"do": "set", "node": -1}]]"#,
+        "I4 do command 1 0",
+    ),
+    (
+        r#""editors": [[], [], [], [], [], [], [], [], [], [], [], [], [], [], [], []]"#,
+        "none",
+    ),
+    (
+        r#""editors": [[], [], [], [], [], [], [], [], [], [], [], [], [], [], [], [], 1]"#,
+        "I7",
+    ),
+];
+
+#[test]
+fn the_number_of_editors_comes_first_then_their_kind_then_commands(
+    rt: HostRuntime,
+) -> Result<(), Fail> {
+    let from = r#""editors": []"#;
+    assert_eq!(rt; first_wrong_value(rt.alloc(), from, EDITORS)?, None);
     Ok(())
 }
