@@ -117,7 +117,8 @@ has_number d = is_some (option_and_then as_number d)
 abbrev pub is_pair : Data → Bool
 is_pair d = has_number (at 0 d) && has_number (at 1 d) && is_none (at 2 d)
 
--- the two whole numbers of a list, where the first is at most `first` and the second at most `second`
+-- the two whole numbers of a list, where both are at least `low`, the first is at most `first` and the second
+-- at most `second`
 abbrev pub pair_within : ℕ → ℕ → ℕ → Data → Option (ℕ × ℕ)
 pair_within low first second d =
     option_and_then (λ a. option_map (λ b. (a, b)) (whole_within low second (at 1 d))) (whole_within low first (at 0 d))

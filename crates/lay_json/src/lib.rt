@@ -1,7 +1,11 @@
 //! The run document: from the bytes of a JSON text to a document, a face and the commands of editors, or
 //! to the first fault of what the bytes say.
 //!
-//! Faults are named by a field and a place. What is asked of each field is said in `specs/Fields.antt`.
+//! `read_run` answers the one reading that the bytes have (`specs/Reading.antt`, `specs/Laws.antt`): they
+//! are a JSON text, and its value is a run document (`specs/RunDocument.antt`). What is asked of a field,
+//! and which of its faults comes first, is said in `specs/Fields.antt`; then come a file for the face,
+//! two for nodes (`specs/NodeForms.antt`, `specs/Nodes.antt`) and two for the commands of editors
+//! (`specs/Commands.antt`, `specs/Editors.antt`).
 #![tactic(auto)]
 
 mod command;
@@ -19,6 +23,8 @@ mod reading;
 mod run;
 mod run_doc;
 mod script_list;
+#[cfg(test)]
+mod tests;
 
 pub use fault::{Field, InputFault, Spot};
 pub use laws::{nodes_are_counted, one_reading};

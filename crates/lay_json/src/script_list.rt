@@ -3,6 +3,9 @@
 ghost use Rattle.std.specs.Prelude.{◌≡◌, ◌+◌, ◌<◌, ◌≤◌, ◌==◌, ◌++◌, ◌∷◌, [], length, OnOk, OnErr};
 ghost use Rattle.lay_json.specs.Scripts.{IsWithinLimits, is_read, reads_of, command_count, read_count};
 
+#[cfg(test)]
+mod tests;
+
 use lay_doc::{Cmd, CmdList};
 use lay_units::NoMemory;
 use std::alloc::Global;
