@@ -1,4 +1,11 @@
-//! Box generation.
+//! Box generation: from a document and its computed styles to the tree of boxes of a context (CSS 2.2, 9.2,
+//! 9.7 and 17.2.1), and which nodes are contexts (9.4.1).
+//!
+//! A node generates a box by its used `display` (`specs/NodeBoxes.antt`), and the boxes of a document's nodes
+//! are a tree (`specs/NodeTrees.antt`). Each rule of the standard is a definition over the children of a box,
+//! and `specs/Generation.antt` puts them in order. Contracts cite `boxes_of` of `specs/Listing.antt`, which
+//! lists a context's part of the boxes (`specs/Parts.antt`), and `IsContext` of `specs/Contexts.antt`. That
+//! the parts of all contexts are the whole is said in `specs/Laws.antt` and `specs/InnerBoxes.antt`.
 #![tactic(auto)]
 
 mod anonymous_style;

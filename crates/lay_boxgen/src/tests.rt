@@ -683,7 +683,7 @@ fn count_of_many(alloc: Global, parent: &str, letter: char) -> Result<usize, NoM
 }
 
 #[test]
-fn many_siblings_take_linear_time(rt: HostRuntime) -> Result<(), Fail> {
+fn many_siblings_get_their_boxes(rt: HostRuntime) -> Result<(), Fail> {
     let alloc = rt.alloc();
     assert_eq!(rt; count_of_many(alloc, "(r(", 'c')?, 16004);
     assert_eq!(rt; count_of_many(alloc, "(b(", 'i')?, 16002);
