@@ -6,12 +6,14 @@
 //! and borders, which stand one below the other.
 #![tactic(auto)]
 
+mod block;
 mod block_corners;
 mod block_heights;
 mod columns;
 mod corner;
 mod laws;
 
+pub use block::{Block, Inside};
 pub use block_corners::corners;
 pub use block_heights::heights;
 pub use corner::Corner;
