@@ -5,3 +5,7 @@ pub mod OneColumn
 pub mod ChildPlaces
 pub mod MarginWalk
 pub mod RunsAgree
+pub mod WholeRunsAgree
+pub mod PositionsAgree
+pub mod Tabulated
+pub mod BlockLayoutLaws

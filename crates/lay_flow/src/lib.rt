@@ -17,4 +17,4 @@ pub use block::{Block, Inside};
 pub use block_corners::corners;
 pub use block_heights::heights;
 pub use corner::Corner;
-pub use laws::{one_corner_column, one_height_column};
+pub use laws::{one_block_layout, one_corner_column, one_height_column, some_block_layout};
