@@ -9,3 +9,9 @@ pub mod WholeRunsAgree
 pub mod PositionsAgree
 pub mod Tabulated
 pub mod BlockLayoutLaws
+pub mod RunEntries
+pub mod LayoutFacts
+pub mod Openings
+pub mod Closings
+pub mod WholePass
+pub mod StrutBounds

@@ -9,9 +9,13 @@
 mod block;
 mod block_corners;
 mod block_heights;
+mod border_height;
 mod columns;
 mod corner;
 mod laws;
+mod pass_state;
+mod run_ends;
+mod settling;
 
 pub use block::{Block, Inside};
 pub use block_corners::corners;

@@ -1,0 +1,56 @@
+-- How large the numbers of a pass become. Between a mark and the next lie at most a height and what a run's margins
+-- collapse to, which together are less than 2^34 units.
+use Rattle.std.specs.Prelude.{ℕ, ◌≡◌, ◌+◌, ◌*◌, ◌<◌, ◌≤◌, ℤ, pos, neg_ℤ, ◌≤ℤ◌, List, [], length}
+use Rattle.lay_units.specs.Units.{limit}
+use Rattle.lay_units.specs.declared.length.Unit.{Unit as Length}
+use Rattle.lay_margins.specs.StrutValue.{StrutValue}
+use Rattle.lay_flow.specs.declared.block.Block.{Block}
+use Rattle.lay_flow.specs.declared.pass_state.Flow.{Flow}
+use Rattle.lay_flow.specs.StackedBlocks.{length_at}
+use Rattle.lay_flow.specs.CornersTo.{IsBoxHeight}
+use Rattle.lay_flow.specs.BlockLayout.{BlockLayout, IsBlockLayout, HasNoClearance}
+use Rattle.lay_flow.specs.BlockPass.{PassState, IsAt}
+
+-- the strut holds used margins
+pub record StrutFits (s : StrutValue) : Type 0 where
+  pub positive_least : pos 0 ≤ℤ s.positive
+  pub positive_most : s.positive ≤ℤ limit
+  pub negative_least : neg_ℤ limit ≤ℤ s.negative
+  pub negative_most : s.negative ≤ℤ pos 0
+
+-- a start of a run whose first top margin is that of the box at k
+abbrev pub IsStartNear : ℕ → ℤ → Type 0
+IsStartNear k v = (neg_ℤ (pos (17179869184 * k)) ≤ℤ v) × (v ≤ℤ pos (17179869184 * k))
+
+-- a mark of the box at k
+abbrev pub IsMarkNear : ℕ → ℤ → Type 0
+IsMarkNear k v = (neg_ℤ (pos (17179869184 * k + 2147483648)) ≤ℤ v) × (v ≤ℤ pos (17179869184 * k + 2147483648))
+
+pub record StateFits (parents : List ℕ) (now : PassState) (p m : ℕ) : Type 0 where
+  pub parent : p < m
+  pub within : m ≤ length parents
+  pub first_least : 0 < now.first
+  pub first_most : now.first ≤ m
+  pub marks_length : length now.marks ≡ length parents
+  pub heights_length : length now.heights ≡ length parents
+  pub through_length : length now.through ≡ length parents
+  pub start_near : IsStartNear now.first now.start
+  pub mark_near : (j : ℕ) → IsMarkNear j (length_at now.marks j)
+  pub height : (j : ℕ) → IsBoxHeight (length_at now.heights j)
+  pub strut_fits : StrutFits now.strut
+
+-- less than 2^50 units from 0
+abbrev pub IsNear : ℤ → Type 0
+IsNear v = (neg_ℤ (pos 1125899906842624) ≤ℤ v) × (v ≤ℤ pos 1125899906842624)
+
+-- no box has clearance
+abbrev pub IsPlainLayout : List ℕ → List Block → List Length → BlockLayout → Type 0
+IsPlainLayout parents blocks extents y = IsBlockLayout parents blocks extents [] y × HasNoClearance y
+
+abbrev pub state_of : Flow → PassState
+state_of f = record { marks = f.marks.items; heights = f.heights.items; through = f.through.items; start = f.start.0; strut = f.strut; first = f.first }
+
+-- the pass is at the place (p, m), and what it keeps is as in every layout
+pub record Knows (parents : List ℕ) (blocks : List Block) (extents : List Length) (now : PassState) (p m : ℕ) : Type 0 where
+  pub fits : StateFits parents now p m
+  pub is_at : (y : BlockLayout) → IsPlainLayout parents blocks extents y → IsAt parents blocks y now p m
