@@ -78,7 +78,7 @@ module _ (parents : List ℕ) (blocks : List Block) (extents clear_edges : List 
     pub start_up : start_before parents blocks y.runs y.places (slice_index parents p) m ≡ start_below y.runs y.places p
     start_up = start_next parents blocks extents clear_edges y is never (slice_index parents p) m p last_is
 
-    out : next_child parents p m (length parents) ≡ None
+    pub out : next_child parents p m (length parents) ≡ None
     out = next_none parents p m (length parents) (none_left p m was.parent ends)
 
     last_after : last_child parents (slice_index parents p) (p + 1) ≡ Some p

@@ -15,3 +15,6 @@ pub mod Openings
 pub mod Closings
 pub mod WholePass
 pub mod StrutBounds
+pub mod ContentEnds
+pub mod PassFits
+pub mod PassSteps

@@ -1,5 +1,5 @@
 -- A box is opened.
-use Rattle.std.proofs.Common.{◌≡◌, ℕ, zero, suc, ◌+◌, ◌<◌, ◌≤◌, not, nat_lt, Bool, true, false, ℤ, pos, ◌+ℤ◌, List, [], ◌∷◌, ◌++◌, length, slice_index, refl, sym, ap, ◌∙◌, arith, inl, inr, None}
+use Rattle.std.proofs.Common.{◌≡◌, ℕ, zero, suc, ◌+◌, ◌<◌, ◌≤◌, not, nat_lt, Bool, true, false, ℤ, ◌+ℤ◌, List, [], ◌∷◌, ◌++◌, length, slice_index, refl, sym, ap, ◌∙◌, arith, inl, inr, None}
 use Rattle.lay_doc.specs.Tree.{IsTree}
 use Rattle.std.proofs.lemmas.Bool.{cases_lt}
 use Rattle.lay_units.specs.declared.length.Unit.{Unit as Length}
@@ -14,9 +14,6 @@ use Rattle.lay_flow.specs.BlockPass.{Waits, Settled, PassState, IsAt}
 use Rattle.lay_flow.proofs.ChildPlaces.{not_child, child_is, last_none, next_some}
 use Rattle.lay_flow.proofs.LayoutFacts.{coming_first, start_first, going_into, lead_is, rise_is, start_is, low_not, low_yes, settled_marked}
 use Rattle.lay_flow.proofs.RunEntries.{margins-append, not_barred, top_there, top_here, top_none}
-
-abbrev pub no_strut : StrutValue
-no_strut = record { positive = pos 0; negative = pos 0 }
 
 abbrev pub pushed : PassState → StrutValue → PassState
 pushed now strut = record now { strut = strut }
@@ -121,16 +118,16 @@ module _ (parents : List ℕ) (blocks : List Block) (extents clear_edges : List 
   settled_kept flags old new f m end tops settled j lt code top same = elim (cases_lt j f) [
     | inl low ↦ settled.before j low ∙ same
     | inr high ↦ elim (cases_lt (slice_index parents j) f) [
-      | inl start_below ↦ settled.keeps j high lt code start_below ∙ same
+      | inl earlier ↦ settled.keeps j high lt code earlier ∙ same
       | inr over ↦ (let a : not (nat_lt (slice_index parents j) f) ≡ false = sym (tops j high lt) ∙ top in absurd (true_false (not (nat_lt (slice_index parents j) f)) (low_not (slice_index parents j) f over) a))
     ]
   ]
 
-  pub opened_wall : (now : PassState) (k : ℕ) (marks : List Length) (start : ℤ) → 0 < k → k < length parents → parts_tops blocks k ≡ true → IsAt parents blocks y now (slice_index parents k) k
+  pub opened_wall : (now : PassState) (k : ℕ) (marks : List Length) (strut : StrutValue) (start : ℤ) → Holds strut [] → 0 < k → k < length parents → parts_tops blocks k ≡ true → IsAt parents blocks y now (slice_index parents k) k
       → Settled parents now.through now.marks marks now.first (k + 1) (now.start +ℤ collapse (margins (run_before parents blocks y.runs (slice_index parents k) k) ++ (block_at blocks k).margin_top.0 ∷ []))
       → start ≡ length_at marks k +ℤ (block_at blocks k).edge_top.0
-      → IsAt parents blocks y (record now { marks = marks; start = start; strut = no_strut; first = k + 1 }) k (k + 1)
-  opened_wall now k marks start positive within wall was settled start_is' =
+      → IsAt parents blocks y (record now { marks = marks; start = start; strut = strut; first = k + 1 }) k (k + 1)
+  opened_wall now k marks strut start empty positive within wall was settled start_is' =
       let p : ℕ = slice_index parents k in
       let c : List Entry = run_before parents blocks y.runs p k in
       let lead = lead_is parents blocks extents clear_edges y is never k positive within in
@@ -175,7 +172,7 @@ module _ (parents : List ℕ) (blocks : List Block) (extents clear_edges : List 
         first_least = omega arith;
         first_most = omega arith;
         inside = λ i a b. absurd (omega (arith, a, b));
-        strut_holds = let e = ap margins come in rw e (record { positive_is = refl; negative_is = refl });
+        strut_holds = let e = ap margins come in rw e empty;
         start_is = start_is' ∙ ap (λ (v : ℤ). v +ℤ (block_at blocks k).edge_top.0) (marked.stands k (omega arith) code (wall_stands k positive within wall))
             ∙ sym (start_first parents blocks extents clear_edges y is never k (k + 1) none ∙ rw wall refl);
         unbarred = λ q. ap (is_barred parents q) come;

@@ -1,6 +1,6 @@
 -- How large the numbers of a pass become. Between a mark and the next lie at most a height and what a run's margins
 -- collapse to, which together are less than 2^34 units.
-use Rattle.std.specs.Prelude.{ℕ, ◌≡◌, ◌+◌, ◌*◌, ◌<◌, ◌≤◌, ℤ, pos, neg_ℤ, ◌≤ℤ◌, List, [], length}
+use Rattle.std.specs.Prelude.{ℕ, ◌≡◌, ◌+◌, ◌*◌, ◌<◌, ◌≤◌, ℤ, pos, neg_ℤ, ◌≤ℤ◌, false, List, [], length}
 use Rattle.lay_units.specs.Units.{limit}
 use Rattle.lay_units.specs.declared.length.Unit.{Unit as Length}
 use Rattle.lay_margins.specs.StrutValue.{StrutValue}
@@ -8,6 +8,7 @@ use Rattle.lay_flow.specs.declared.block.Block.{Block}
 use Rattle.lay_flow.specs.declared.pass_state.Flow.{Flow}
 use Rattle.lay_flow.specs.StackedBlocks.{length_at}
 use Rattle.lay_flow.specs.CornersTo.{IsBoxHeight}
+use Rattle.lay_flow.specs.MarginRuns.{parts_tops}
 use Rattle.lay_flow.specs.BlockLayout.{BlockLayout, IsBlockLayout, HasNoClearance}
 use Rattle.lay_flow.specs.BlockPass.{PassState, IsAt}
 
@@ -26,7 +27,7 @@ IsStartNear k v = (neg_ℤ (pos (17179869184 * k)) ≤ℤ v) × (v ≤ℤ pos (1
 abbrev pub IsMarkNear : ℕ → ℤ → Type 0
 IsMarkNear k v = (neg_ℤ (pos (17179869184 * k + 2147483648)) ≤ℤ v) × (v ≤ℤ pos (17179869184 * k + 2147483648))
 
-pub record StateFits (parents : List ℕ) (now : PassState) (p m : ℕ) : Type 0 where
+pub record StateFits (parents : List ℕ) (blocks : List Block) (now : PassState) (p m : ℕ) : Type 0 where
   pub parent : p < m
   pub within : m ≤ length parents
   pub first_least : 0 < now.first
@@ -38,6 +39,8 @@ pub record StateFits (parents : List ℕ) (now : PassState) (p m : ℕ) : Type 0
   pub mark_near : (j : ℕ) → IsMarkNear j (length_at now.marks j)
   pub height : (j : ℕ) → IsBoxHeight (length_at now.heights j)
   pub strut_fits : StrutFits now.strut
+  -- the boxes that wait for their marks have no border or padding above their content
+  pub unparted : (j : ℕ) → now.first ≤ j → j < m → parts_tops blocks j ≡ false
 
 -- less than 2^50 units from 0
 abbrev pub IsNear : ℤ → Type 0
@@ -52,5 +55,5 @@ state_of f = record { marks = f.marks.items; heights = f.heights.items; through 
 
 -- the pass is at the place (p, m), and what it keeps is as in every layout
 pub record Knows (parents : List ℕ) (blocks : List Block) (extents : List Length) (now : PassState) (p m : ℕ) : Type 0 where
-  pub fits : StateFits parents now p m
+  pub fits : StateFits parents blocks now p m
   pub is_at : (y : BlockLayout) → IsPlainLayout parents blocks extents y → IsAt parents blocks y now p m

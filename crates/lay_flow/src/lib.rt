@@ -9,6 +9,7 @@
 mod block;
 mod block_corners;
 mod block_heights;
+mod block_steps;
 mod border_height;
 mod columns;
 mod corner;
