@@ -33,7 +33,7 @@ one_runs parents blocks r x tree some c is also =
     (same_list [] r.top_runs x.top_runs (is.top_runs_length ∙ sym also.top_runs_length) (λ k lt. all.top_run k (omega (arith, lt, is.top_runs_length))))
     (same_list [] r.bottom_runs x.bottom_runs (is.bottom_runs_length ∙ sym also.bottom_runs_length) (λ k lt. all.bottom_run k (omega (arith, lt, is.bottom_runs_length))))
 
-same_lengths : (xs ys : List Length) → length xs ≡ length ys → ((k : ℕ) → k < length xs → length_at xs k ≡ length_at ys k) → xs ≡ ys
+pub same_lengths : (xs ys : List Length) → length xs ≡ length ys → ((k : ℕ) → k < length xs → length_at xs k ≡ length_at ys k) → xs ≡ ys
 same_lengths xs ys e each = same_list no_length xs ys e (λ k lt. same_length (slice_index_or xs k no_length) (slice_index_or ys k no_length) (each k lt))
 
 next_positions : (parents : List ℕ) (blocks : List Block) (r : Runs) (extents clear_edges : List Length) (s : Positions) → HasPositions parents blocks r extents clear_edges s → AreNextPositions parents blocks r extents clear_edges s s

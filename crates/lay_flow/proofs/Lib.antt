@@ -18,3 +18,4 @@ pub mod StrutBounds
 pub mod ContentEnds
 pub mod PassFits
 pub mod PassSteps
+pub mod PassEnds

@@ -57,3 +57,8 @@ state_of f = record { marks = f.marks.items; heights = f.heights.items; through 
 pub record Knows (parents : List ℕ) (blocks : List Block) (extents : List Length) (now : PassState) (p m : ℕ) : Type 0 where
   pub fits : StateFits parents blocks now p m
   pub is_at : (y : BlockLayout) → IsPlainLayout parents blocks extents y → IsAt parents blocks y now p m
+
+-- the tops and heights of border boxes are within these bounds
+pub record AreNearBlocks (tops heights : List Length) : Type 0 where
+  pub top : (k : ℕ) → k < length tops → IsNear (length_at tops k)
+  pub height : (k : ℕ) → k < length heights → IsBoxHeight (length_at heights k)

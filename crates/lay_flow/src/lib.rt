@@ -9,6 +9,7 @@
 mod block;
 mod block_corners;
 mod block_heights;
+mod block_places;
 mod block_steps;
 mod border_height;
 mod columns;
@@ -21,5 +22,6 @@ mod settling;
 pub use block::{Block, Inside};
 pub use block_corners::corners;
 pub use block_heights::heights;
+pub use block_places::{BlockPlaces, place_blocks};
 pub use corner::Corner;
 pub use laws::{one_block_layout, one_corner_column, one_height_column, some_block_layout};
