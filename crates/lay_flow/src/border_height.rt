@@ -1,6 +1,6 @@
 //! The heights of blocks whose content is known (CSS 2.2, 10.6.3 and 10.7).
 
-ghost use Rattle.std.specs.Prelude.{◌≡◌, ◌-ℤ◌, ◌+ℤ◌, pos, not};
+ghost use Rattle.std.specs.Prelude.{◌≡◌, ◌-ℤ◌, ◌+ℤ◌, ◌&&◌, pos, not};
 ghost use Rattle.lay_units.specs.Units.{IsPosition, IsUsedSize};
 ghost use Rattle.lay_flow.specs.BlockPositions.{auto_height, border_height, given_or_auto, is_solid};
 ghost use Rattle.lay_flow.specs.BlockSizes.{BlockFits};
@@ -62,21 +62,21 @@ impl Block {
     pub(crate) fn may_collapse_through(&self) -> bool
         ensures { result ≡ may_collapse_through self.now }
     {
-        self.inside.is_blocks()
-            && is_zero(self.edge_top)
-            && is_zero(self.edge_bottom)
-            && is_zero(self.min_height)
-            && is_auto_or_zero(self.height)
+        self.is_open_below() && is_zero(self.edge_top) && is_auto_or_zero(self.height)
     }
 
     /// Whether nothing of the block itself parts its bottom margin from that of its last child.
     pub(crate) fn may_join_bottoms(&self) -> bool
         ensures { result ≡ may_join_bottoms self.now }
     {
-        self.inside.is_blocks()
-            && is_zero(self.edge_bottom)
-            && is_zero(self.min_height)
-            && is_auto(self.height)
+        self.is_open_below() && is_auto(self.height)
+    }
+
+    // No line, no border, padding or min-height stands before its bottom margin.
+    fn is_open_below(&self) -> bool
+        ensures { result ≡ (is_blocks self.now.inside && is_zero self.now.edge_bottom.0 && is_zero self.now.min_height.0) }
+    {
+        self.inside.is_blocks() && is_zero(self.edge_bottom) && is_zero(self.min_height)
     }
 
     /// Whether a border or a padding parts its top margin from those of its children.

@@ -18,6 +18,8 @@ mod laws;
 mod pass_state;
 mod run_ends;
 mod settling;
+#[cfg(test)]
+mod tests;
 
 pub use block::{Block, Inside};
 pub use block_corners::corners;
