@@ -11,6 +11,7 @@
 -- at 10 px and ends at 10 + 20 - 30 = 0 px, and there the third child stands. The second stands at 10 + 20 = 30 px.
 -- The root reaches to the bottom of the third child: it is 10 px high.
 use Rattle.std.specs.Prelude.{ℕ, zero, suc, ◌≡◌, ◌<◌, ◌&&◌, Bool, true, false, ℤ, pos, ◌+ℤ◌, ◌-ℤ◌, List, length, slice_index, if◌then◌else◌, Option, Some, None}
+use Rattle.std.specs.Int.{int_max}
 use Rattle.lay_units.specs.Units.{clamp_size_of}
 use Rattle.lay_units.specs.declared.length.Unit.{Unit as Length}
 use Rattle.lay_units.specs.declared.records.Len.{Len}
@@ -84,9 +85,10 @@ content_bottom parents blocks r at k = below (last_child parents k (length paren
 abbrev pub content_height : List ℕ → List Block → Runs → Positions → ℕ → ℤ
 content_height parents blocks r at k = content_bottom parents blocks r at k -ℤ (length_at at.marks k +ℤ (block_at blocks k).edge_top.0)
 
--- the auto height of a box by what is in it: blocks up to their height, or lines of some extent
+-- the auto height of a box by what is in it: blocks up to their height, or lines of some extent. With blocks in it there is
+-- an extent in the context's own box: how far its floats reach below the top of its content (10.6.7).
 abbrev pub auto_height : Inside → ℤ → ℤ → ℤ
-auto_height blocks_inside extent height = clamp_size_of height
+auto_height blocks_inside extent height = clamp_size_of (int_max height extent)
 auto_height lines_inside extent height = clamp_size_of extent
 auto_height solid_inside extent height = clamp_size_of extent
 

@@ -3,6 +3,9 @@ pub mod Children
 pub mod MarginRuns
 pub mod BlockPositions
 pub mod BlockLayout
+pub mod BlockFloats
+pub mod Clearance
+pub mod ContextFlow
 pub mod BlockPass
 pub mod BlockSizes
 pub mod PassBounds

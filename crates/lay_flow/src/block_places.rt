@@ -23,9 +23,10 @@ pub struct BlockPlaces {
     pub heights: Vec<Unit>,
 }
 
-/// The places of a context's blocks, in which no box has clearance, from the places of their parents, their
-/// sizes, and the extents of those that hold lines or are solid: the height of the lines, and how far the
-/// bottom border edge lies below the top of the run's end (CSS 2.2, 8.3.1, 9.4.1, 10.6.3 and 10.7).
+/// The places of a context's blocks, where no box has clearance and no float is there: from the places of
+/// their parents, their sizes, and their extents. The extent of a box with lines is their height, and that of
+/// a solid box is how far its bottom border edge lies below its mark. Other boxes have the extent 0
+/// (CSS 2.2, 8.3.1, 9.4.1, 10.6.3 and 10.7).
 pub fn place_blocks(
     alloc: Global,
     parents: &[usize],

@@ -1,6 +1,7 @@
 //! The heights of blocks whose content is known (CSS 2.2, 10.6.3 and 10.7).
 
 ghost use Rattle.std.specs.Prelude.{◌≡◌, ◌-ℤ◌, ◌+ℤ◌, ◌&&◌, pos, not};
+ghost use Rattle.std.specs.Int.{int_max};
 ghost use Rattle.lay_units.specs.Units.{IsPosition, IsUsedSize};
 ghost use Rattle.lay_flow.specs.BlockPositions.{auto_height, border_height, given_or_auto, is_solid};
 ghost use Rattle.lay_flow.specs.BlockSizes.{BlockFits};
@@ -122,9 +123,15 @@ fn auto_height(inside: Inside, extent: Unit, height: Unit) -> Unit
     ensures size { IsUsedSize result.0 }
 {
     match inside {
-        Inside::Blocks => clamp_size(i128::from(height.0)),
+        Inside::Blocks => clamp_size(i128::from(greater(height, extent).0)),
         Inside::Lines | Inside::Solid => clamp_size(i128::from(extent.0)),
     }
+}
+
+fn greater(a: Unit, b: Unit) -> Unit
+    ensures { result.0 ≡ int_max a.0 b.0 }
+{
+    Unit(a.0.max(b.0))
 }
 
 fn given_or_auto(given: Len, auto: Unit) -> Unit

@@ -18,6 +18,7 @@ mod laws;
 mod pass_state;
 mod run_ends;
 mod settling;
+mod shape;
 #[cfg(test)]
 mod tests;
 
@@ -27,3 +28,4 @@ pub use block_heights::heights;
 pub use block_places::{BlockPlaces, place_blocks};
 pub use corner::Corner;
 pub use laws::{one_block_layout, one_corner_column, one_height_column, some_block_layout};
+pub use shape::Shape;
