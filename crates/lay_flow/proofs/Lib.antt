@@ -19,3 +19,4 @@ pub mod ContentEnds
 pub mod PassFits
 pub mod PassSteps
 pub mod PassEnds
+pub mod FloatColumns

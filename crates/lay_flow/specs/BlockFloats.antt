@@ -9,17 +9,18 @@
 -- float's mark is that of an empty block there, 30 px, and so is its top. The solid box stands right of it, at 30 px.
 use Rattle.std.specs.Prelude.{ℕ, zero, suc, ◌≡◌, ◌<◌, ℤ, ◌+ℤ◌, List, [], ◌∷◌, ◌++◌, length, slice_index, slice_index_or, Option, Some, None, true}
 use Rattle.std.specs.Int.{int_max}
+use Rattle.lay_units.specs.declared.length.Unit.{Unit as Length}
 use Rattle.lay_floats.specs.declared.placed.Placed.{Placed}
 use Rattle.lay_floats.specs.declared.requests.Side.{Side}
 use Rattle.lay_floats.specs.declared.requests.Clear.TheVariants.{None as clear_none}
 use Rattle.lay_floats.specs.declared.requests.FloatReq.{FloatReq}
 use Rattle.lay_floats.specs.declared.requests.SolidReq.{SolidReq}
 use Rattle.lay_floats.specs.declared.requests.Place.{Place}
+use Rattle.lay_floats.specs.FloatPlace.{IsFloatPlace}
 use Rattle.lay_flow.specs.declared.block.Block.{Block}
 use Rattle.lay_flow.specs.declared.shape.Shape.{Shape}
 use Rattle.lay_flow.specs.StackedBlocks.{no_length, length_at}
 use Rattle.lay_flow.specs.MarginRuns.{no_block, block_at, is_blocks}
-use Rattle.lay_flow.specs.BlockLayout.{BlockLayout}
 
 abbrev pub no_shape : Shape
 no_shape = record { float = None; clear = clear_none; left = no_length; right = no_length; x = no_length; width = no_length; height = no_length }
@@ -47,10 +48,10 @@ floats_before shapes places zero = []
 floats_before shapes places (suc k) = floats_before shapes places k ++ float_of (shape_at shapes k) (place_at places k)
 
 -- a float stands at no place above its mark, nor above the top of its containing block's content
-abbrev pub ceiling : List ℕ → List Block → BlockLayout → ℕ → ℤ
-ceiling parents blocks y k =
+abbrev pub ceiling : List ℕ → List Block → List Length → ℕ → ℤ
+ceiling parents blocks marks k =
     let p = slice_index parents k in
-    int_max (length_at y.places.marks k) (length_at y.places.marks p +ℤ (block_at blocks p).edge_top.0)
+    int_max (length_at marks k) (length_at marks p +ℤ (block_at blocks p).edge_top.0)
 
 -- what a float with this shape asks for
 abbrev pub float_request : Shape → Side → ℤ → FloatReq
@@ -67,3 +68,10 @@ pub record AreShapes (parents : List ℕ) (blocks : List Block) (shapes : List S
   pub float : (k : ℕ) (side : Side) → k < length parents → (shape_at shapes k).float ≡ Some side → block_at blocks k ≡ no_block
   pub parent : (k : ℕ) → 0 < k → k < length parents → is_blocks (block_at blocks (slice_index parents k)).inside ≡ true
   pub outside : (k : ℕ) → 0 < k → k < length parents → (shape_at shapes (slice_index parents k)).float ≡ None
+
+-- the floats stand at their places, where the marks of all boxes are given. Other boxes have no place.
+pub record HasFloatPlaces (parents : List ℕ) (blocks : List Block) (shapes : List Shape) (marks : List Length) (places : List Place) : Type 0 where
+  pub length_is : length places ≡ length parents
+  pub float : (k : ℕ) (side : Side) → k < length parents → (shape_at shapes k).float ≡ Some side
+      → IsFloatPlace (floats_before shapes places k) (float_request (shape_at shapes k) side (ceiling parents blocks marks k)) (place_at places k).x.0 (place_at places k).y.0
+  pub other : (k : ℕ) → k < length parents → (shape_at shapes k).float ≡ None → place_at places k ≡ no_place

@@ -44,7 +44,7 @@ pub record IsContextFlow (parents : List ℕ) (blocks : List Block) (shapes : Li
   pub no_edge : (k : ℕ) → k < length parents → flag_at f.layout.runs.clears k ≡ false → length_at f.clear_edges k ≡ pos 0
   -- the places of floats and of solid boxes
   pub float : (k : ℕ) (side : Side) → 0 < k → k < length parents → (shape_at shapes k).float ≡ Some side
-      → IsFloatPlace (floats_before shapes f.places k) (float_request (shape_at shapes k) side (ceiling parents blocks f.layout k)) (place_at f.places k).x.0 (place_at f.places k).y.0
+      → IsFloatPlace (floats_before shapes f.places k) (float_request (shape_at shapes k) side (ceiling parents blocks f.layout.places.marks k)) (place_at f.places k).x.0 (place_at f.places k).y.0
   pub solid : (k : ℕ) → 0 < k → k < length parents → is_solid (block_at blocks k).inside ≡ true
       → IsSolidPlace (floats_before shapes f.places k) (solid_request (shape_at shapes k) (length_at f.layout.places.marks k)) (place_at f.places k).x.0 (place_at f.places k).y.0
   pub no_place_root : place_at f.places 0 ≡ no_place

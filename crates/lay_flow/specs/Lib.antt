@@ -4,6 +4,7 @@ pub mod MarginRuns
 pub mod BlockPositions
 pub mod BlockLayout
 pub mod BlockFloats
+pub mod FloatsTo
 pub mod Clearance
 pub mod ContextFlow
 pub mod BlockPass
