@@ -17,6 +17,7 @@ pub mod WholePass
 pub mod StrutBounds
 pub mod ContentEnds
 pub mod PassFits
+pub mod PlaceSteps
+pub mod WroteColumns
 pub mod PassSteps
 pub mod PassEnds
-pub mod FloatColumns

@@ -1,7 +1,8 @@
 -- The numbers of a pass stay within their bounds.
-use Rattle.std.proofs.Common.{◌≡◌, ℕ, zero, suc, ◌+◌, ◌<◌, ◌≤◌, Bool, true, false, ℤ, pos, ◌+ℤ◌, List, length, slice_index, sym, ◌∙◌, arith, inl, inr, subst}
+use Rattle.std.proofs.Common.{◌≡◌, ℕ, zero, suc, ◌+◌, ◌<◌, ◌≤◌, Bool, true, false, ℤ, pos, neg_ℤ, ◌≤ℤ◌, ◌+ℤ◌, List, length, slice_index, sym, ◌∙◌, arith, inl, inr, subst}
 use Rattle.std.proofs.lemmas.Bool.{cases_lt, cases_eq}
 use Rattle.std.proofs.lemmas.Int.{ints}
+use Rattle.lay_units.specs.Units.{IsPosition}
 use Rattle.lay_units.specs.declared.length.Unit.{Unit as Length}
 use Rattle.lay_margins.specs.StrutValue.{StrutValue}
 use Rattle.lay_doc.specs.Tree.{IsTree}
@@ -11,7 +12,7 @@ use Rattle.lay_flow.specs.CornersTo.{IsInset, IsBoxHeight}
 use Rattle.lay_flow.specs.Children.{flag_at}
 use Rattle.lay_flow.specs.MarginRuns.{parts_tops}
 use Rattle.lay_flow.specs.BlockPass.{PassState, Settled}
-use Rattle.lay_flow.specs.PassBounds.{StrutFits, StateFits, IsStartNear, IsMarkNear, IsNear}
+use Rattle.lay_flow.specs.PassBounds.{StrutFits, StateFits, IsStartNear, IsMarkNear, IsNear, reach}
 use Rattle.lay_flow.proofs.Openings.{pushed}
 use Rattle.lay_flow.proofs.Closings.{Wrote}
 use Rattle.lay_flow.proofs.WholePass.{true_or}
@@ -73,7 +74,6 @@ module _ (parents : List ℕ) (tree : IsTree parents) (blocks : List Block) (now
     through_length = was.through_length;
     start_near = was.start_near;
     mark_near = was.mark_near;
-    height = was.height;
     strut_fits = fits;
     unparted = λ j low high. elim (cases_lt j k) [
       | inl lt ↦ was.unparted j low lt
@@ -97,7 +97,6 @@ module _ (parents : List ℕ) (tree : IsTree parents) (blocks : List Block) (now
         start_near = below_near k (k + 1) end edge start (end_near now.first k now.start end strut was.start_near fits ended f) (inset_height edge inset) starts (omega arith);
         mark_near = λ j. settled_near parents now.through now.marks marks now.first (k + 1) end tree was.first_least (omega (arith, within)) was.mark_near
             (λ i le. end_near now.first i now.start end strut was.start_near fits ended le) settled (j + 1) j (omega arith);
-        height = was.height;
         strut_fits = fits';
         unparted = λ j low high. absurd (omega (arith, low, high));
       }
@@ -129,7 +128,6 @@ module _ (parents : List ℕ) (tree : IsTree parents) (blocks : List Block) (now
       through_length = wrote_flag.length_is ∙ was.through_length;
       start_near = was.start_near;
       mark_near = written IsMarkNear length_at now.marks marks end wrote_mark (end_near now.first p now.start end strut was.start_near fits ended waits) was.mark_near;
-      height = written (λ j v. IsBoxHeight v) length_at now.heights heights (pos 0) wrote_height (omega (arith, ints), omega (arith, ints)) was.height;
       strut_fits = fits';
       unparted = was.unparted;
     }
@@ -147,7 +145,6 @@ module _ (parents : List ℕ) (tree : IsTree parents) (blocks : List Block) (now
       through_length = was.through_length;
       start_near = below_near p now.first mark height start (subst (IsMarkNear p) (sym marked) (was.mark_near p)) size starts before;
       mark_near = was.mark_near;
-      height = written (λ j v. IsBoxHeight v) length_at now.heights heights height wrote size was.height;
       strut_fits = fits';
       unparted = was.unparted;
     }
@@ -157,11 +154,11 @@ module _ (parents : List ℕ) (tree : IsTree parents) (blocks : List Block) (now
     marks_settled marks end strut settled fits ended j = settled_near parents now.through now.marks marks now.first m end tree was.first_least was.within was.mark_near
         (λ i le. end_near now.first i now.start end strut was.start_near fits ended le) settled (j + 1) j (omega arith)
 
-    pub fits_parted : (marks heights : List Length) (end mark height start : ℤ) (strut strut' : StrutValue)
+    pub fits_parted : (marks heights : List Length) (end height start : ℤ) (strut strut' : StrutValue)
         → Settled parents now.through now.marks marks now.first m end → StrutFits strut → end ≡ now.start +ℤ (strut.positive +ℤ strut.negative)
-        → mark ≡ length_at marks p → IsBoxHeight height → start ≡ mark +ℤ height → Wrote length_at now.heights heights p height → StrutFits strut'
+        → IsStartNear m start → Wrote length_at now.heights heights p height → StrutFits strut'
         → StateFits parents blocks (record { marks = marks; heights = heights; through = now.through; start = start; strut = strut'; first = m }) (slice_index parents p) m
-    fits_parted marks heights end mark height start strut strut' settled fits ended marked size starts wrote fits' =
+    fits_parted marks heights end height start strut strut' settled fits ended near_start wrote fits' =
         let near = marks_settled marks end strut settled fits ended in
         let lt = was.parent in
         record {
@@ -172,9 +169,15 @@ module _ (parents : List ℕ) (tree : IsTree parents) (blocks : List Block) (now
           marks_length = settled.length_is ∙ was.marks_length;
           heights_length = wrote.length_is ∙ was.heights_length;
           through_length = was.through_length;
-          start_near = below_near p m mark height start (subst (IsMarkNear p) (sym marked) (near p)) size starts lt;
+          start_near = near_start;
           mark_near = near;
-          height = written (λ j v. IsBoxHeight v) length_at now.heights heights height wrote size was.height;
           strut_fits = fits';
           unparted = λ j low high. absurd (omega (arith, low, high));
         }
+
+pub box_height_position : (h : ℤ) → IsBoxHeight h → IsPosition h
+box_height_position h size = let a = size.0 in let b = size.1 in (omega (arith, ints, a), omega (arith, ints, b))
+
+-- what is added to a mark to come to a bottom edge
+pub extent_position : (m : ℕ) (mark x : ℤ) → m ≤ 16384 → IsNear mark → (neg_ℤ (reach m)) ≤ℤ (mark +ℤ x) → (mark +ℤ x) ≤ℤ reach m → IsPosition x
+extent_position m mark x few near least most = let a = near.0 in let b = near.1 in (omega (arith, ints, few, a, b, least, most), omega (arith, ints, few, a, b, least, most))

@@ -16,7 +16,6 @@ use Rattle.lay_floats.specs.declared.requests.Clear.TheVariants.{None as clear_n
 use Rattle.lay_floats.specs.declared.requests.FloatReq.{FloatReq}
 use Rattle.lay_floats.specs.declared.requests.SolidReq.{SolidReq}
 use Rattle.lay_floats.specs.declared.requests.Place.{Place}
-use Rattle.lay_floats.specs.FloatPlace.{IsFloatPlace}
 use Rattle.lay_flow.specs.declared.block.Block.{Block}
 use Rattle.lay_flow.specs.declared.shape.Shape.{Shape}
 use Rattle.lay_flow.specs.StackedBlocks.{no_length, length_at}
@@ -68,10 +67,3 @@ pub record AreShapes (parents : List ℕ) (blocks : List Block) (shapes : List S
   pub float : (k : ℕ) (side : Side) → k < length parents → (shape_at shapes k).float ≡ Some side → block_at blocks k ≡ no_block
   pub parent : (k : ℕ) → 0 < k → k < length parents → is_blocks (block_at blocks (slice_index parents k)).inside ≡ true
   pub outside : (k : ℕ) → 0 < k → k < length parents → (shape_at shapes (slice_index parents k)).float ≡ None
-
--- the floats stand at their places, where the marks of all boxes are given. Other boxes have no place.
-pub record HasFloatPlaces (parents : List ℕ) (blocks : List Block) (shapes : List Shape) (marks : List Length) (places : List Place) : Type 0 where
-  pub length_is : length places ≡ length parents
-  pub float : (k : ℕ) (side : Side) → k < length parents → (shape_at shapes k).float ≡ Some side
-      → IsFloatPlace (floats_before shapes places k) (float_request (shape_at shapes k) side (ceiling parents blocks marks k)) (place_at places k).x.0 (place_at places k).y.0
-  pub other : (k : ℕ) → k < length parents → (shape_at shapes k).float ≡ None → place_at places k ≡ no_place

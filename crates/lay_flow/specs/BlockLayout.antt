@@ -1,6 +1,6 @@
 -- A layout of the blocks of one block formatting context: its runs of margins, and its positions and heights. Where
 -- the boxes with clearance and their clear edges are given, it has one, and no other (Laws).
-use Rattle.std.specs.Prelude.{ℕ, ◌≡◌, false, List, []}
+use Rattle.std.specs.Prelude.{ℕ, ◌≡◌, false, List}
 use Rattle.lay_units.specs.declared.length.Unit.{Unit as Length}
 use Rattle.lay_flow.specs.declared.block.Block.{Block}
 use Rattle.lay_flow.specs.Children.{flag_at}
@@ -17,11 +17,3 @@ pub record IsBlockLayout (parents : List ℕ) (blocks : List Block) (extents cle
 
 abbrev pub HasNoClearance : BlockLayout → Type 0
 HasNoClearance y = (k : ℕ) → flag_at y.runs.clears k ≡ false
-
--- these are the top border edges and the heights of the border boxes in the layout in which no box has clearance
-pub record AreBlockPlaces (parents : List ℕ) (blocks : List Block) (extents tops heights : List Length) : Type 0 where
-  pub layout : BlockLayout
-  pub is_layout : IsBlockLayout parents blocks extents [] layout
-  pub unclear : HasNoClearance layout
-  pub tops_are : tops ≡ layout.places.marks
-  pub heights_are : heights ≡ layout.places.heights

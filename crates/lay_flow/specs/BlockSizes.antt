@@ -4,8 +4,7 @@ use Rattle.lay_units.specs.Units.{IsUsed, IsUsedSize}
 use Rattle.lay_units.specs.declared.length.Unit.{Unit as Length}
 use Rattle.lay_doc.specs.Tree.{IsTree}
 use Rattle.lay_flow.specs.declared.block.Block.{Block}
-use Rattle.lay_flow.specs.StackedBlocks.{length_at}
-use Rattle.lay_flow.specs.CornersTo.{IsInset, IsBoxHeight}
+use Rattle.lay_flow.specs.CornersTo.{IsInset}
 use Rattle.lay_flow.specs.MarginRuns.{block_at}
 use Rattle.lay_flow.specs.BlockPositions.{given_or_auto}
 
@@ -26,4 +25,3 @@ pub record AreBlocks (parents : List ℕ) (blocks : List Block) (extents : List 
   pub block_count : length blocks ≡ length parents
   pub extent_count : length extents ≡ length parents
   pub block : (k : ℕ) → k < length parents → BlockFits (block_at blocks k)
-  pub extent : (k : ℕ) → k < length parents → IsBoxHeight (length_at extents k)

@@ -57,3 +57,11 @@ pub record IsContextFlow (parents : List ℕ) (blocks : List Block) (shapes : Li
   pub bottom : Option Length
   pub is_bottom : IsClearEdge (floats_before shapes f.places (length parents)) clear_both bottom
   pub root_extent : length_at f.extents 0 ≡ reach_below bottom (length_at f.layout.places.marks 0 +ℤ (block_at blocks 0).edge_top.0)
+
+-- these are the top border edges and the heights of the border boxes, and the places of floats and solid boxes
+pub record AreContextPlaces (parents : List ℕ) (blocks : List Block) (shapes : List Shape) (given tops heights : List Length) (places : List Place) : Type 0 where
+  pub flow : Flow
+  pub is_flow : IsContextFlow parents blocks shapes given flow
+  pub tops_are : tops ≡ flow.layout.places.marks
+  pub heights_are : heights ≡ flow.layout.places.heights
+  pub places_are : places ≡ flow.places

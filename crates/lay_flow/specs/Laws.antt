@@ -4,10 +4,7 @@ use Rattle.lay_units.specs.declared.length.Unit.{Unit as Length}
 use Rattle.lay_units.specs.declared.records.Len.{Len}
 use Rattle.lay_doc.specs.Tree.{IsTree}
 use Rattle.lay_flow.specs.declared.corner.Corner.{Corner}
-use Rattle.lay_floats.specs.declared.requests.Place.{Place}
 use Rattle.lay_flow.specs.declared.block.Block.{Block}
-use Rattle.lay_flow.specs.declared.shape.Shape.{Shape}
-use Rattle.lay_flow.specs.BlockFloats.{HasFloatPlaces}
 use Rattle.lay_flow.specs.StackedBlocks.{HasHeights, HasCorners}
 use Rattle.lay_flow.specs.BlockLayout.{BlockLayout, IsBlockLayout}
 
@@ -25,8 +22,3 @@ OneBlockLayout = (parents : List ℕ) (blocks : List Block) (extents clear_edges
 abbrev pub SomeBlockLayout : Type 0
 SomeBlockLayout = (parents : List ℕ) (blocks : List Block) (extents clear_edges : List Length) (clears : List Bool) → IsTree parents → 0 < length parents → length clears ≡ length parents
     → (y : BlockLayout) × (y.runs.clears ≡ clears) × IsBlockLayout parents blocks extents clear_edges y
-
--- where the marks are given, the floats of a context have one place each
-abbrev pub OneFloatColumn : Type 0
-OneFloatColumn = (parents : List ℕ) (blocks : List Block) (shapes : List Shape) (marks : List Length) (places others : List Place)
-    → HasFloatPlaces parents blocks shapes marks places → HasFloatPlaces parents blocks shapes marks others → places ≡ others

@@ -4,12 +4,13 @@ pub mod MarginRuns
 pub mod BlockPositions
 pub mod BlockLayout
 pub mod BlockFloats
-pub mod FloatsTo
 pub mod Clearance
 pub mod ContextFlow
 pub mod BlockPass
 pub mod BlockSizes
 pub mod PassBounds
+pub mod PlacesTo
+pub mod PassKnows
 pub mod Laws
 pub mod HeightsFrom
 pub mod CornersTo

@@ -1,6 +1,6 @@
 //! The heights of blocks whose content is known (CSS 2.2, 10.6.3 and 10.7).
 
-ghost use Rattle.std.specs.Prelude.{◌≡◌, ◌-ℤ◌, ◌+ℤ◌, ◌&&◌, pos, not};
+ghost use Rattle.std.specs.Prelude.{◌≡◌, ◌-ℤ◌, ◌+ℤ◌, ◌&&◌, false, pos, not};
 ghost use Rattle.std.specs.Int.{int_max};
 ghost use Rattle.lay_units.specs.Units.{IsPosition, IsUsedSize};
 ghost use Rattle.lay_flow.specs.BlockPositions.{auto_height, border_height, given_or_auto, is_solid};
@@ -30,7 +30,7 @@ impl Inside {
         }
     }
 
-    fn is_solid(self) -> bool
+    pub(crate) fn is_solid(self) -> bool
         ensures { result ≡ is_solid self }
     {
         match self {
@@ -91,11 +91,10 @@ impl Block {
     /// lines or other content of the given extent.
     pub(crate) fn border_height(&self, extent: Unit, mark: Unit, bottom: Unit) -> Unit
         requires block { BlockFits self.now }
-        requires extent { IsBoxHeight extent.0 }
         requires mark { IsNear mark.0 }
         requires bottom { IsNear bottom.0 }
         ensures value { result.0 ≡ border_height self.now extent.0 (bottom.0 -ℤ (mark.0 +ℤ self.now.edge_top.0)) }
-        ensures size { IsBoxHeight result.0 }
+        ensures size { is_solid self.now.inside ≡ false → IsBoxHeight result.0 }
     {
         if self.inside.is_solid() {
             return extent;

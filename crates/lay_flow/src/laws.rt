@@ -1,6 +1,6 @@
 //! The laws of the definitions: each column has one value.
 
-ghost use Rattle.lay_flow.specs.Laws.{OneBlockLayout, OneFloatColumn, OneHeightColumn, OneCornerColumn, SomeBlockLayout};
+ghost use Rattle.lay_flow.specs.Laws.{OneBlockLayout, OneHeightColumn, OneCornerColumn, SomeBlockLayout};
 
 /// The heights of a context are the only ones that meet their definition.
 pub fn one_height_column()
@@ -20,9 +20,4 @@ pub fn one_block_layout()
 /// The blocks of a context have a layout, whichever boxes have clearance.
 pub fn some_block_layout()
     ensures { SomeBlockLayout }
-{}
-
-/// The places of a context's floats are the only ones, where the marks of all boxes are given.
-pub fn one_float_column()
-    ensures { OneFloatColumn }
 {}

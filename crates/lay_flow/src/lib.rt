@@ -14,22 +14,18 @@ mod block_steps;
 mod border_height;
 mod columns;
 mod corner;
-mod float_places;
 mod laws;
 mod pass_state;
+mod place_boxes;
+mod placing;
 mod run_ends;
 mod settling;
 mod shape;
-#[cfg(test)]
-mod tests;
 
 pub use block::{Block, Inside};
 pub use block_corners::corners;
 pub use block_heights::heights;
 pub use block_places::{BlockPlaces, place_blocks};
 pub use corner::Corner;
-pub use float_places::place_floats;
-pub use laws::{
-    one_block_layout, one_corner_column, one_float_column, one_height_column, some_block_layout,
-};
+pub use laws::{one_block_layout, one_corner_column, one_height_column, some_block_layout};
 pub use shape::Shape;

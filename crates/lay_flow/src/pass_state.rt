@@ -1,5 +1,6 @@
 //! What a pass over the blocks of a context keeps.
 
+use crate::placing::Placing;
 use lay_margins::Strut;
 use lay_units::Unit;
 
@@ -16,4 +17,6 @@ pub(crate) struct Flow {
     pub strut: Strut,
     /// The first box whose top margin is in the run. The boxes from there on wait for their marks.
     pub first: usize,
+    /// The floats and the solid boxes.
+    pub placing: Placing,
 }

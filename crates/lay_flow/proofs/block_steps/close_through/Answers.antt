@@ -2,10 +2,12 @@ use Rattle.std.proofs.Common.{arith, true, subst, sym, List, Bool, pos}
 use Rattle.lay_units.specs.declared.length.Unit.{Unit as Length}
 use Rattle.lay_flow.specs.StackedBlocks.{length_at}
 use Rattle.lay_flow.specs.Children.{flag_at}
+use Rattle.lay_flow.specs.PassKnows.{placing_of}
 use Rattle.lay_flow.specs.PassBounds.{state_of}
 use Rattle.lay_flow.proofs.Closings.{Wrote}
 use Rattle.lay_flow.proofs.PassFits.{start_is_near}
-use Rattle.lay_flow.proofs.PassSteps.{wrote_length, wrote_flag, knows_through}
+use Rattle.lay_flow.proofs.PassSteps.{knows_through}
+use Rattle.lay_flow.proofs.WroteColumns.{wrote_length, wrote_flag}
 use Rattle.lay_flow.proofs.block_steps.close_through.Goals as goal
 
 pub run_end-mark-requires-clause-start : goal.run_end-mark-requires-clause-start
@@ -27,5 +29,5 @@ returns c =
     subst (λ (xs : List Length). Wrote length_at old.heights.items xs p (pos 0)) (sym c.write_at-2.ensures) (wrote_length old.heights.items p zero (omega (arith, a, b, l2))) in
     let flag : Wrote flag_at old.through.items c.write_flag.new.flags.items p true =
     subst (λ (xs : List Bool). Wrote flag_at old.through.items xs p true) (sym c.write_flag.ensures) (wrote_flag old.through.items p true (omega (arith, a, b, l3))) in
-    knows_through c.args._parents.now c.args.blocks.now c.args._extents.now c.requires.input.tree (state_of old) p c.args._m c.requires.input c.requires.positive c.requires.ends c.requires.known
+    knows_through c.args._parents.now c.args.blocks.now c.args._shapes.now c.args._given.now c.requires.input.tree (state_of old) (placing_of old.placing) p c.args._m c.requires.input c.requires.positive c.requires.ends c.requires.known
     _ _ _ c.run_end-mark.result.0 c.with_margin-flow.result c.requires.through c.requires.waiting c.run_end-mark.ensures.near c.run_end-mark.ensures.value mark height flag c.with_margin-flow.ensures.fits holds

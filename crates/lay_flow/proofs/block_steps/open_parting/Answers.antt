@@ -2,6 +2,7 @@ use Rattle.std.proofs.Common.{arith, ap, ◌∙◌, ◌+ℤ◌}
 use Rattle.std.proofs.lemmas.Int.{ints}
 use Rattle.lay_flow.specs.declared.block.Block.{Block}
 use Rattle.lay_units.specs.declared.length.Unit.{Unit as Length}
+use Rattle.lay_flow.specs.PassKnows.{placing_of}
 use Rattle.lay_flow.specs.PassBounds.{state_of}
 use Rattle.lay_flow.proofs.PassFits.{start_is_near, end_near, mark_is_near}
 use Rattle.lay_flow.proofs.PassSteps.{knows_parting}
@@ -24,6 +25,6 @@ returns c =
     let holds = rw c.block_at-block.ensures at c.with_margin.ensures.holds in
     let settles = rw c.deref.ensures.value at c.settle.ensures in
     let starts = ap (λ (v : Length). v.0) c.sum_of-flow.ensures ∙ ap (λ (b : Block). c.run_end-mark.result.0 +ℤ b.edge_top.0) c.block_at-block.ensures in
-    knows_parting c.args.parents.now c.args.blocks.now c.args._extents.now c.requires.input.tree (state_of c.args.flow.now) c.args.k _ c.run_end-mark.result.0 c.sum_of-flow.result.0 c.with_margin.result c.no_margin-flow.result
+    knows_parting c.args.parents.now c.args.blocks.now c.args._shapes.now c.args._given.now c.requires.input.tree (state_of c.args.flow.now) (placing_of c.args.flow.now.placing) c.args.k _ c.run_end-mark.result.0 c.sum_of-flow.result.0 c.with_margin.result c.no_margin-flow.result
     c.requires.input c.requires.positive c.requires.within c.requires.parting c.requires.known c.with_margin.ensures.fits holds c.run_end-mark.ensures.near c.run_end-mark.ensures.value
     settles starts c.no_margin-flow.ensures.fits c.no_margin-flow.ensures.holds
