@@ -11,7 +11,7 @@ use Rattle.lay_flow.specs.declared.corner.Corner.{Corner}
 use Rattle.lay_flow.specs.StackedBlocks.{HasHeights, HasCorners, no_length, no_corner, length_at, computed_at, used_height, stacked, corner_at, corner_of}
 use Rattle.lay_flow.specs.Laws.{OneHeightColumn, OneCornerColumn}
 
-same_length : (u v : Length) → u.0 ≡ v.0 → u ≡ v
+pub same_length : (u v : Length) → u.0 ≡ v.0 → u ≡ v
 same_length u v e = ap (λ (n : ℤ). let w : Length = record { 0 = n } in w) e
 
 -- heights agree from the last box upward, since each rests on the boxes behind it

@@ -1,4 +1,16 @@
 pub mod StackedBlocks
+pub mod Children
+pub mod MarginRuns
+pub mod BlockPositions
+pub mod BlockLayout
+pub mod BlockFloats
+pub mod Clearance
+pub mod ContextFlow
+pub mod BlockPass
+pub mod BlockSizes
+pub mod PassBounds
+pub mod PlacesTo
+pub mod PassKnows
 pub mod Laws
 pub mod HeightsFrom
 pub mod CornersTo

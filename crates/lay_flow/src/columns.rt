@@ -4,7 +4,10 @@ ghost use Rattle.std.specs.Prelude.{◌≡◌, ◌^◌, ◌<◌, pos, ◌+ℤ◌
 ghost use Rattle.lay_units.specs.Units.{IsPosition};
 ghost use Rattle.lay_flow.specs.CornersTo.{IsBoxHeight};
 ghost use Rattle.lay_flow.specs.StackedBlocks.{length_at, computed_at};
+ghost use Rattle.lay_flow.specs.Children.{flag_at};
+ghost use Rattle.lay_flow.specs.MarginRuns.{block_at};
 
+use crate::block::Block;
 use lay_units::{Len, Unit};
 
 pub(crate) fn parent_at(parents: &[usize], k: usize) -> usize
@@ -54,4 +57,25 @@ pub(crate) fn add_at(column: &mut Vec<Unit>, k: usize, v: Unit)
 {
     let sum = sum_of(length_at(column, k), v);
     write_at(column, k, sum);
+}
+
+pub(crate) fn block_at(blocks: &[Block], k: usize) -> Block
+    requires { k < length blocks.now }
+    ensures { result ≡ block_at blocks.now k }
+{
+    blocks[k]
+}
+
+pub(crate) fn flag_at(flags: &[bool], k: usize) -> bool
+    requires { k < length flags.now }
+    ensures { result ≡ flag_at flags.now k }
+{
+    flags[k]
+}
+
+pub(crate) fn write_flag(flags: &mut Vec<bool>, k: usize, v: bool)
+    requires { k < length flags.old.items }
+    ensures { flags.new.items ≡ slice_set flags.old.items k v }
+{
+    flags[k] = v;
 }

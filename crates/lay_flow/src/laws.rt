@@ -1,6 +1,6 @@
 //! The laws of the definitions: each column has one value.
 
-ghost use Rattle.lay_flow.specs.Laws.{OneHeightColumn, OneCornerColumn};
+ghost use Rattle.lay_flow.specs.Laws.{OneBlockLayout, OneHeightColumn, OneCornerColumn, SomeBlockLayout};
 
 /// The heights of a context are the only ones that meet their definition.
 pub fn one_height_column()
@@ -10,4 +10,14 @@ pub fn one_height_column()
 /// The positions in a context are the only ones that meet their definition.
 pub fn one_corner_column()
     ensures { OneCornerColumn }
+{}
+
+/// The layout of a context's blocks is the only one, where the boxes with clearance and their clear edges are given.
+pub fn one_block_layout()
+    ensures { OneBlockLayout }
+{}
+
+/// The blocks of a context have a layout, whichever boxes have clearance.
+pub fn some_block_layout()
+    ensures { SomeBlockLayout }
 {}

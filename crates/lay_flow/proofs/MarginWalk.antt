@@ -1,0 +1,45 @@
+-- The margins of a context in document order, as a walk: a position (p, m) lies between two margins, where the boxes before
+-- m were opened and p is the innermost box that is open.
+use Rattle.std.proofs.Common.{◌≡◌, ℕ, zero, suc, ◌+◌, ◌-◌, ◌<◌, ◌≤◌, List, length, slice_index, refl, arith, inl, inr, subst}
+use Rattle.std.proofs.lemmas.Bool.{cases_lt, cases_eq}
+use Rattle.lay_doc.specs.Tree.{IsTree}
+
+-- the place to which the walk goes before it opens the box at m
+pub record IsNextUp (parents : List ℕ) (m q : ℕ) : Type 0 where
+  pub known : m < length parents → slice_index parents m ≡ q
+  pub last : length parents ≤ m → q ≡ 0
+
+module _ (parents : List ℕ) (tree : IsTree parents) (S : ℕ → ℕ → Type 0)
+    (close : (p m : ℕ) → 0 < p → p < m → m ≤ length parents → (m < length parents → slice_index parents m < p) → S p m → S (slice_index parents p) m) where
+  pub closes : (q m fuel p : ℕ) → p < fuel → q ≤ p → p < m → m ≤ length parents → IsNextUp parents m q → S p m → S q m
+  closes q m zero p small le lt within next s = absurd (omega (arith, small))
+  closes q m (suc fuel) p small le lt within next s = elim (cases_eq p q) [
+    | inl e ↦ subst (λ (x : ℕ). S x m) e s
+    | inr ne ↦ (let less : q < p = omega (arith, le, ne) in
+        let b = tree.before p (omega (arith, less)) (omega (arith, lt, within)) in
+        let ends : m < length parents → slice_index parents m < p = λ w. (let k = next.known w in omega (arith, k, less)) in
+        let stays : q ≤ slice_index parents p = elim (cases_lt m (length parents)) [
+          | inl w ↦ (let k = next.known w in let t = tree.together p m lt w (omega (arith, k, less)) in omega (arith, k, t))
+          | inr over ↦ (let z = next.last over in omega (arith, z))
+        ] in
+        closes q m fuel (slice_index parents p) (omega (arith, b, small)) stays (omega (arith, b, lt)) within next (close p m (omega (arith, less)) lt within ends s))
+  ]
+
+  module _ (open_one : (k : ℕ) → 0 < k → k < length parents → S (slice_index parents k) k → S k (k + 1)) where
+    -- the box at k was just opened
+    pub opens : (k : ℕ) → S 0 1 → k < length parents → S k (k + 1)
+    opens zero s within = s
+    opens (suc k) s within =
+        let was = opens k s (omega (arith, within)) in
+        let b = tree.before (suc k) (omega arith) within in
+        let next : IsNextUp parents (suc k) (slice_index parents (suc k)) = record { known = λ w. refl; last = λ over. absurd (omega (arith, within, over)) } in
+        let low : slice_index parents (suc k) ≤ k = omega (arith, b) in
+        let one : k + 1 ≡ suc k = omega arith in
+        let there = subst (λ (m : ℕ). S k m) one was in
+        open_one (suc k) (omega arith) within (closes (slice_index parents (suc k)) (suc k) (suc k) k (omega arith) low (omega arith) (omega (arith, within)) next there)
+
+    pub walk : S 0 1 → 0 < length parents → S 0 (length parents)
+    walk s some = let n : ℕ = length parents in
+        let one : (n - 1) + 1 ≡ n = omega (arith, some) in
+        let was = subst (λ (m : ℕ). S (n - 1) m) one (opens (n - 1) s (omega (arith, some))) in
+        closes 0 n n (n - 1) (omega (arith, some)) (omega arith) (omega (arith, some)) (omega arith) (record { known = λ w. absurd (omega (arith, w)); last = λ o. refl }) was

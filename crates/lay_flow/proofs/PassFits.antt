@@ -1,0 +1,183 @@
+-- The numbers of a pass stay within their bounds.
+use Rattle.std.proofs.Common.{◌≡◌, ℕ, zero, suc, ◌+◌, ◌<◌, ◌≤◌, Bool, true, false, ℤ, pos, neg_ℤ, ◌≤ℤ◌, ◌+ℤ◌, List, length, slice_index, sym, ◌∙◌, arith, inl, inr, subst}
+use Rattle.std.proofs.lemmas.Bool.{cases_lt, cases_eq}
+use Rattle.std.proofs.lemmas.Int.{ints}
+use Rattle.lay_units.specs.Units.{IsPosition}
+use Rattle.lay_units.specs.declared.length.Unit.{Unit as Length}
+use Rattle.lay_margins.specs.StrutValue.{StrutValue}
+use Rattle.lay_doc.specs.Tree.{IsTree}
+use Rattle.lay_flow.specs.declared.block.Block.{Block}
+use Rattle.lay_flow.specs.StackedBlocks.{length_at}
+use Rattle.lay_flow.specs.CornersTo.{IsInset, IsBoxHeight}
+use Rattle.lay_flow.specs.Children.{flag_at}
+use Rattle.lay_flow.specs.MarginRuns.{parts_tops}
+use Rattle.lay_flow.specs.BlockPass.{PassState, Settled}
+use Rattle.lay_flow.specs.PassBounds.{StrutFits, StateFits, IsStartNear, IsMarkNear, IsNear, reach}
+use Rattle.lay_flow.proofs.Openings.{pushed}
+use Rattle.lay_flow.proofs.Closings.{Wrote}
+use Rattle.lay_flow.proofs.WholePass.{true_or}
+
+pub start_is_near : (k : ℕ) (v : ℤ) → k ≤ 16384 → IsStartNear k v → IsNear v
+start_is_near k v few near = let a = near.0 in let b = near.1 in (omega (arith, ints, few, a), omega (arith, ints, few, b))
+
+pub mark_is_near : (k : ℕ) (v : ℤ) → k ≤ 16384 → IsMarkNear k v → IsNear v
+mark_is_near k v few near = let a = near.0 in let b = near.1 in (omega (arith, ints, few, a), omega (arith, ints, few, b))
+
+-- a mark at the end of a run, of a box from the run's first one on
+pub end_near : (f k : ℕ) (start end : ℤ) (s : StrutValue) → IsStartNear f start → StrutFits s → end ≡ start +ℤ (s.positive +ℤ s.negative) → f ≤ k → IsMarkNear k end
+end_near f k start end s near fits e le =
+    let a = near.0 in let b = near.1 in let c = fits.positive_least in let d = fits.positive_most in let g = fits.negative_least in let h = fits.negative_most in
+    (omega (arith, ints, a, c, d, g, h, e, le), omega (arith, ints, b, c, d, g, h, e, le))
+
+-- the start of a run under a box, or at the top of its content
+pub below_near : (k f : ℕ) (mark height start : ℤ) → IsMarkNear k mark → IsBoxHeight height → start ≡ mark +ℤ height → k < f → IsStartNear f start
+below_near k f mark height start near size e lt =
+    let a = near.0 in let b = near.1 in let c = size.0 in let d = size.1 in
+    (omega (arith, ints, a, c, d, e, lt), omega (arith, ints, b, c, d, e, lt))
+
+pub inset_height : (v : ℤ) → IsInset v → IsBoxHeight v
+inset_height v i = let a = i.0 in let b = i.1 in (a, omega (arith, ints, b))
+
+higher_near : (j k : ℕ) (v : ℤ) → j ≤ k → IsMarkNear j v → IsMarkNear k v
+higher_near j k v le near = let a = near.0 in let b = near.1 in (omega (arith, ints, a, le), omega (arith, ints, b, le))
+
+-- the marks once a run has ended
+pub settled_near : (parents : List ℕ) (flags : List Bool) (old new : List Length) (f m : ℕ) (end : ℤ) → IsTree parents → 0 < f → m ≤ length parents
+    → ((j : ℕ) → IsMarkNear j (length_at old j)) → ((j : ℕ) → f ≤ j → IsMarkNear j end) → Settled parents flags old new f m end
+    → (n j : ℕ) → j < n → IsMarkNear j (length_at new j)
+settled_near parents flags old new f m end tree positive within was ended settled zero j lt = absurd (omega (arith, lt))
+settled_near parents flags old new f m end tree positive within was ended settled (suc n) j lt = elim (cases_lt j f) [
+  | inl low ↦ subst (IsMarkNear j) (sym (settled.before j low)) (was j)
+  | inr high ↦ elim (cases_lt j m) [
+    | inl inside ↦ true_or (flag_at flags j) (IsMarkNear j (length_at new j))
+        (λ code. elim (cases_lt (slice_index parents j) f) [
+          | inl low ↦ subst (IsMarkNear j) (sym (settled.keeps j high inside code low)) (was j)
+          | inr up ↦ (let b = tree.before j (omega (arith, positive, high)) (omega (arith, inside, within)) in
+              subst (IsMarkNear j) (sym (settled.inherits j high inside code up))
+              (higher_near (slice_index parents j) j (length_at new (slice_index parents j)) (omega (arith, b))
+              (settled_near parents flags old new f m end tree positive within was ended settled n (slice_index parents j) (omega (arith, b, lt)))))
+        ])
+        (λ code. subst (IsMarkNear j) (sym (settled.stands j high inside code)) (ended j high))
+    | inr after ↦ subst (IsMarkNear j) (sym (settled.after j after)) (was j)
+  ]
+]
+
+module _ (parents : List ℕ) (tree : IsTree parents) (blocks : List Block) (now : PassState) where
+  pub fits_opened : (k : ℕ) (strut : StrutValue) → k < length parents → parts_tops blocks k ≡ false → StateFits parents blocks now (slice_index parents k) k → StrutFits strut → StateFits parents blocks (pushed now strut) k (k + 1)
+  fits_opened k strut within plain was fits = record {
+    parent = omega arith;
+    within = omega (arith, within);
+    first_least = was.first_least;
+    first_most = let f = was.first_most in omega (arith, f);
+    marks_length = was.marks_length;
+    heights_length = was.heights_length;
+    through_length = was.through_length;
+    start_near = was.start_near;
+    mark_near = was.mark_near;
+    strut_fits = fits;
+    unparted = λ j low high. elim (cases_lt j k) [
+      | inl lt ↦ was.unparted j low lt
+      | inr ge ↦ (let e : j ≡ k = omega (arith, ge, high) in subst (λ (j : ℕ). parts_tops blocks j ≡ false) (sym e) plain)
+    ];
+  }
+
+  pub fits_parting : (k : ℕ) (marks : List Length) (end start edge : ℤ) (strut strut' : StrutValue) → k < length parents → StateFits parents blocks now (slice_index parents k) k
+      → Settled parents now.through now.marks marks now.first (k + 1) end → StrutFits strut → end ≡ now.start +ℤ (strut.positive +ℤ strut.negative) → IsInset edge → start ≡ end +ℤ edge → StrutFits strut'
+      → StateFits parents blocks (record now { marks = marks; start = start; strut = strut'; first = k + 1 }) k (k + 1)
+  fits_parting k marks end start edge strut strut' within was settled fits ended inset starts fits' =
+      let f = was.first_most in
+      record {
+        parent = omega arith;
+        within = omega (arith, within);
+        first_least = omega arith;
+        first_most = omega arith;
+        marks_length = settled.length_is ∙ was.marks_length;
+        heights_length = was.heights_length;
+        through_length = was.through_length;
+        start_near = below_near k (k + 1) end edge start (end_near now.first k now.start end strut was.start_near fits ended f) (inset_height edge inset) starts (omega arith);
+        mark_near = λ j. settled_near parents now.through now.marks marks now.first (k + 1) end tree was.first_least (omega (arith, within)) was.mark_near
+            (λ i le. end_near now.first i now.start end strut was.start_near fits ended le) settled (j + 1) j (omega arith);
+        strut_fits = fits';
+        unparted = λ j low high. absurd (omega (arith, low, high));
+      }
+
+  module _ (p m : ℕ) (positive : 0 < p) (was : StateFits parents blocks now p m) where
+    up_less : slice_index parents p < p
+    up_less = let a = was.parent in let b = was.within in tree.before p positive (omega (arith, a, b))
+
+    up_parent : slice_index parents p < m
+    up_parent = let a = was.parent in let b = up_less in omega (arith, a, b)
+
+    written : {A : Type 0} (P : ℕ → A → Type 0) (read : List Length → ℕ → A) (old new : List Length) (v : A) → Wrote read old new p v → P p v → ((j : ℕ) → P j (read old j)) → (j : ℕ) → P j (read new j)
+    written P read old new v wrote here each j = elim (cases_eq j p) [
+      | inl e ↦ (let h = wrote.here in subst (λ (j : ℕ). P j (read new j)) (sym e) (subst (P p) (sym h) here))
+      | inr ne ↦ subst (P j) (sym (wrote.other j ne)) (each j)
+    ]
+
+    pub fits_through : (marks heights : List Length) (flags : List Bool) (end : ℤ) (strut strut' : StrutValue) → now.first ≤ p
+        → Wrote length_at now.marks marks p end → Wrote length_at now.heights heights p (pos 0) → Wrote flag_at now.through flags p true
+        → StrutFits strut → end ≡ now.start +ℤ (strut.positive +ℤ strut.negative) → StrutFits strut'
+        → StateFits parents blocks (record now { marks = marks; heights = heights; through = flags; strut = strut' }) (slice_index parents p) m
+    fits_through marks heights flags end strut strut' waits wrote_mark wrote_height wrote_flag fits ended fits' = record {
+      parent = up_parent;
+      within = was.within;
+      first_least = was.first_least;
+      first_most = was.first_most;
+      marks_length = wrote_mark.length_is ∙ was.marks_length;
+      heights_length = wrote_height.length_is ∙ was.heights_length;
+      through_length = wrote_flag.length_is ∙ was.through_length;
+      start_near = was.start_near;
+      mark_near = written IsMarkNear length_at now.marks marks end wrote_mark (end_near now.first p now.start end strut was.start_near fits ended waits) was.mark_near;
+      strut_fits = fits';
+      unparted = was.unparted;
+    }
+
+    pub fits_joined : (heights : List Length) (mark height start : ℤ) (strut' : StrutValue) → p < now.first → mark ≡ length_at now.marks p → IsBoxHeight height → start ≡ mark +ℤ height
+        → Wrote length_at now.heights heights p height → StrutFits strut'
+        → StateFits parents blocks (record now { heights = heights; start = start; strut = strut' }) (slice_index parents p) m
+    fits_joined heights mark height start strut' before marked size starts wrote fits' = record {
+      parent = up_parent;
+      within = was.within;
+      first_least = was.first_least;
+      first_most = was.first_most;
+      marks_length = was.marks_length;
+      heights_length = wrote.length_is ∙ was.heights_length;
+      through_length = was.through_length;
+      start_near = below_near p now.first mark height start (subst (IsMarkNear p) (sym marked) (was.mark_near p)) size starts before;
+      mark_near = was.mark_near;
+      strut_fits = fits';
+      unparted = was.unparted;
+    }
+
+    pub marks_settled : (marks : List Length) (end : ℤ) (strut : StrutValue) → Settled parents now.through now.marks marks now.first m end → StrutFits strut → end ≡ now.start +ℤ (strut.positive +ℤ strut.negative)
+        → (j : ℕ) → IsMarkNear j (length_at marks j)
+    marks_settled marks end strut settled fits ended j = settled_near parents now.through now.marks marks now.first m end tree was.first_least was.within was.mark_near
+        (λ i le. end_near now.first i now.start end strut was.start_near fits ended le) settled (j + 1) j (omega arith)
+
+    pub fits_parted : (marks heights : List Length) (end height start : ℤ) (strut strut' : StrutValue)
+        → Settled parents now.through now.marks marks now.first m end → StrutFits strut → end ≡ now.start +ℤ (strut.positive +ℤ strut.negative)
+        → IsStartNear m start → Wrote length_at now.heights heights p height → StrutFits strut'
+        → StateFits parents blocks (record { marks = marks; heights = heights; through = now.through; start = start; strut = strut'; first = m }) (slice_index parents p) m
+    fits_parted marks heights end height start strut strut' settled fits ended near_start wrote fits' =
+        let near = marks_settled marks end strut settled fits ended in
+        let lt = was.parent in
+        record {
+          parent = up_parent;
+          within = was.within;
+          first_least = omega (arith, lt);
+          first_most = omega arith;
+          marks_length = settled.length_is ∙ was.marks_length;
+          heights_length = wrote.length_is ∙ was.heights_length;
+          through_length = was.through_length;
+          start_near = near_start;
+          mark_near = near;
+          strut_fits = fits';
+          unparted = λ j low high. absurd (omega (arith, low, high));
+        }
+
+pub box_height_position : (h : ℤ) → IsBoxHeight h → IsPosition h
+box_height_position h size = let a = size.0 in let b = size.1 in (omega (arith, ints, a), omega (arith, ints, b))
+
+-- what is added to a mark to come to a bottom edge
+pub extent_position : (m : ℕ) (mark x : ℤ) → m ≤ 16384 → IsNear mark → (neg_ℤ (reach m)) ≤ℤ (mark +ℤ x) → (mark +ℤ x) ≤ℤ reach m → IsPosition x
+extent_position m mark x few near least most = let a = near.0 in let b = near.1 in (omega (arith, ints, few, a, b, least, most), omega (arith, ints, few, a, b, least, most))

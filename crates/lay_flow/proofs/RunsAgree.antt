@@ -1,0 +1,182 @@
+-- Columns of runs that are worked out again and again from one another, each time from all columns before, come to agree
+-- with any others that are. So the equations of runs have one solution, and there is one.
+use Rattle.std.proofs.Common.{◌≡◌, ℕ, zero, suc, ◌+◌, ◌<◌, ◌≤◌, ◌&&◌, Bool, true, false, List, length, slice_index, refl, sym, ap, ◌∙◌, arith, inl, inr, Option, Some, None, subst}
+use Rattle.std.proofs.lemmas.Bool.{cases_lt, cases_eq}
+use Rattle.lay_doc.specs.Tree.{IsTree}
+use Rattle.lay_flow.specs.declared.block.Block.{Block}
+use Rattle.lay_flow.specs.Children.{is_child, last_child, flag_at}
+use Rattle.lay_flow.specs.MarginRuns.{Runs, Entry, has_top, block_at, run_at, run_before, may_collapse_through, through_of, before_top_of, to_bottom_of, top_run_of, bottom_run_of}
+use Rattle.lay_flow.proofs.ChildPlaces.{not_child, last_same}
+use Rattle.lay_flow.proofs.MarginWalk.{walk}
+
+child_low : (parents : List ℕ) (p k : ℕ) → is_child parents p k ≡ true → p < k
+child_low parents p k t = grind (arith, t)
+
+pub last_there : (parents : List ℕ) (p m s : ℕ) → last_child parents p m ≡ Some s → (p < s) × (s < m)
+last_there parents p zero s e = absurd (grind (arith, e))
+last_there parents p (suc k) s e = go (is_child parents p k) refl (last_there parents p k s)
+  where
+    go : (b : Bool) → is_child parents p k ≡ b → (last_child parents p k ≡ Some s → (p < s) × (s < k)) → (p < s) × (s < suc k)
+    go true t before = let f : Some k ≡ Some s = sym (rw t refl) ∙ e in let g : k ≡ s = grind (arith, f) in let l = child_low parents p k t in (omega (arith, l, g), omega (arith, g))
+    go false t before = let f : last_child parents p k ≡ Some s = sym (rw t refl) ∙ e in let h = before f in let h0 = h.0 in let h1 = h.1 in (h0, omega (arith, h1))
+
+-- no child of p stands after its subtree
+pub none_left : (parents : List ℕ) → IsTree parents → (p m : ℕ) → p < m → (m < length parents → slice_index parents m < p) → (k : ℕ) → m ≤ k → k < length parents → is_child parents p k ≡ false
+none_left parents tree p m lt ends k le within = not_child parents p k (λ low e. elim (cases_eq k m) [
+  | inl same ↦ (let a = ends (omega (arith, le, within)) in let b = ap (slice_index parents) same in omega (arith, a, b, e))
+  | inr ne ↦ (let a = ends (omega (arith, le, within)) in
+      let t = tree.together m k (omega (arith, le, ne)) within (omega (arith, e, lt)) in omega (arith, a, t, e))
+])
+
+-- the boxes between the parent of p and m lie in that parent, if those between p and m lie in p
+pub inside_up : (parents : List ℕ) → IsTree parents → (p m : ℕ) → p < length parents → slice_index parents p < p → ((i : ℕ) → p < i → i < m → p ≤ slice_index parents i)
+    → (i : ℕ) → slice_index parents p < i → i < m → slice_index parents p ≤ slice_index parents i
+inside_up parents tree p m within up inside i low high = elim (cases_lt i p) [
+  | inl before ↦ tree.together i p before within low
+  | inr from ↦ elim (cases_eq i p) [
+    | inl e ↦ rw e (omega arith)
+    | inr ne ↦ (let b = inside i (omega (arith, from, ne)) high in omega (arith, b, up))
+  ]
+]
+
+-- the second columns are worked out from the first
+pub record AreNext (parents : List ℕ) (blocks : List Block) (r x : Runs) : Type 0 where
+  pub through : (k : ℕ) → k < length parents → flag_at x.through k ≡ through_of parents blocks r k
+  pub before_top : (k : ℕ) → k < length parents → run_at x.before_tops k ≡ before_top_of parents blocks r k
+  pub to_bottom : (k : ℕ) → k < length parents → run_at x.to_bottoms k ≡ to_bottom_of parents blocks r k
+  pub top_run : (k : ℕ) → k < length parents → run_at x.top_runs k ≡ top_run_of parents blocks r k
+  pub bottom_run : (k : ℕ) → k < length parents → run_at x.bottom_runs k ≡ bottom_run_of parents blocks r k
+
+-- the box was closed alike
+pub record Closed (r x : Runs) (j : ℕ) : Type 0 where
+  pub pass : flag_at r.through j ≡ flag_at x.through j
+  pub tail : run_at r.to_bottoms j ≡ run_at x.to_bottoms j
+
+-- the columns agree up to the place (p, m)
+pub record Same (parents : List ℕ) (r x : Runs) (p m : ℕ) : Type 0 where
+  pub lead : (j : ℕ) → j < m → run_at r.before_tops j ≡ run_at x.before_tops j
+  pub closed : (j : ℕ) → p < j → j < m → Closed r x j
+  pub gone : (j i : ℕ) → j < i → i < m → slice_index parents i < j → Closed r x j
+
+module _ (parents : List ℕ) (tree : IsTree parents) (blocks : List Block) (a b : ℕ → Runs)
+    (a_next : (i : ℕ) → AreNext parents blocks (a i) (a (suc i))) (b_next : (i : ℕ) → AreNext parents blocks (b i) (b (suc i)))
+    (clears : (i k : ℕ) → flag_at (a i).clears k ≡ flag_at (b i).clears k) where
+  -- from some time on they agree up to there
+  pub record Settles (p m : ℕ) : Type 0 where
+    pub parent : p < m
+    pub within : m ≤ length parents
+    pub inside : (i : ℕ) → p < i → i < m → p ≤ slice_index parents i
+    pub after : ℕ
+    pub same : (i : ℕ) → after ≤ i → Same parents (a i) (b i) p m
+
+  pub before_same : (r x : Runs) (p m : ℕ) → run_at r.before_tops p ≡ run_at x.before_tops p → ((s : ℕ) → p < s → s < m → run_at r.to_bottoms s ≡ run_at x.to_bottoms s) → run_before parents blocks r p m ≡ run_before parents blocks x p m
+  before_same r x p m lead tails = go (last_child parents p m) refl
+    where
+      go : (o : Option ℕ) → last_child parents p m ≡ o → run_before parents blocks r p m ≡ run_before parents blocks x p m
+      go None e = rw (e, lead) refl
+      go (Some s) e = let l = last_there parents p m s e in rw (e, tails s l.0 l.1) refl
+
+  lead_same : (r x : Runs) (k : ℕ) → 0 < k → flag_at r.clears k ≡ flag_at x.clears k → run_before parents blocks r (slice_index parents k) k ≡ run_before parents blocks x (slice_index parents k) k → before_top_of parents blocks r k ≡ before_top_of parents blocks x k
+  lead_same r x zero positive c e = absurd (omega (arith, positive))
+  lead_same r x (suc k) positive c e = rw (c, e) refl
+
+  open_settles : (k : ℕ) → 0 < k → k < length parents → Settles (slice_index parents k) k → Settles k (k + 1)
+  open_settles k positive within was = record {
+    parent = omega arith;
+    within = omega (arith, within);
+    inside = λ i low high. absurd (omega (arith, low, high));
+    after = suc was.after;
+    same = later;
+  }
+    where
+      later : (i : ℕ) → suc was.after ≤ i → Same parents (a i) (b i) k (k + 1)
+      later zero le = absurd (omega (arith, le))
+      later (suc i) le =
+          let before = was.same i (omega (arith, le)) in
+          let now = was.same (suc i) (omega (arith, le)) in
+          let come = before_same (a i) (b i) (slice_index parents k) k (before.lead (slice_index parents k) was.parent) (λ s low high. (before.closed s low high).tail) in
+          let mine : run_at (a (suc i)).before_tops k ≡ run_at (b (suc i)).before_tops k =
+          (a_next i).before_top k within ∙ lead_same (a i) (b i) k positive (clears i k) come ∙ sym ((b_next i).before_top k within) in
+          record {
+            lead = λ j high. elim (cases_lt j k) [
+              | inl lt ↦ now.lead j lt
+              | inr ge ↦ (let e : j ≡ k = omega (arith, high, ge) in subst (λ (j : ℕ). run_at (a (suc i)).before_tops j ≡ run_at (b (suc i)).before_tops j) (sym e) mine)
+            ];
+            closed = λ j low high. absurd (omega (arith, low, high));
+            gone = λ j i low high lower. elim (cases_lt i k) [
+              | inl lt ↦ now.gone j i low lt lower
+              | inr ge ↦ (let e : i ≡ k = omega (arith, high, ge) in now.closed j (rw e at lower) (omega (arith, low, e)))
+            ];
+          }
+
+  pass_same : (r x : Runs) (p : ℕ) → 0 < p → run_before parents blocks r p (length parents) ≡ run_before parents blocks x p (length parents) → through_of parents blocks r p ≡ through_of parents blocks x p
+  pass_same r x zero positive e = absurd (omega (arith, positive))
+  pass_same r x (suc p) positive e = ap (λ (run : List Entry). may_collapse_through (block_at blocks (suc p)) && has_top (suc p) run) e
+
+  tail_same : (r x : Runs) (p : ℕ) → 0 < p → flag_at r.through p ≡ flag_at x.through p → run_before parents blocks r p (length parents) ≡ run_before parents blocks x p (length parents) → to_bottom_of parents blocks r p ≡ to_bottom_of parents blocks x p
+  tail_same r x zero positive f e = absurd (omega (arith, positive))
+  tail_same r x (suc p) positive f e = rw (f, e) refl
+
+  close_settles : (p m : ℕ) → 0 < p → p < m → m ≤ length parents → (m < length parents → slice_index parents m < p) → Settles p m → Settles (slice_index parents p) m
+  close_settles p m positive lt within ends was = record {
+    parent = omega (arith, up, lt);
+    within = within;
+    inside = inside_up parents tree p m inner up was.inside;
+    after = suc (suc was.after);
+    same = later;
+  }
+    where
+      inner : p < length parents
+      inner = omega (arith, lt, within)
+
+      up : slice_index parents p < p
+      up = tree.before p positive inner
+
+      come : (i : ℕ) → was.after ≤ i → run_before parents blocks (a i) p (length parents) ≡ run_before parents blocks (b i) p (length parents)
+      come i le = let s = was.same i le in
+          let here = before_same (a i) (b i) p m (s.lead p lt) (λ t low high. (s.closed t low high).tail) in
+          let last = last_same parents p m (length parents) within (none_left parents tree p m lt ends) in rw last here
+
+      pass : (i : ℕ) → was.after ≤ i → flag_at (a (suc i)).through p ≡ flag_at (b (suc i)).through p
+      pass i le = (a_next i).through p inner ∙ pass_same (a i) (b i) p positive (come i le) ∙ sym ((b_next i).through p inner)
+
+      tail : (i : ℕ) → was.after ≤ i → run_at (a (suc (suc i))).to_bottoms p ≡ run_at (b (suc (suc i))).to_bottoms p
+      tail i le = (a_next (suc i)).to_bottom p inner
+          ∙ tail_same (a (suc i)) (b (suc i)) p positive (pass i le) (come (suc i) (omega (arith, le)))
+          ∙ sym ((b_next (suc i)).to_bottom p inner)
+
+      later : (i : ℕ) → suc (suc was.after) ≤ i → Same parents (a i) (b i) (slice_index parents p) m
+      later zero le = absurd (omega (arith, le))
+      later (suc zero) le = absurd (omega (arith, le))
+      later (suc (suc i)) le =
+          let now = was.same (suc (suc i)) (omega (arith, le)) in
+          let mine : Closed (a (suc (suc i))) (b (suc (suc i))) p = record { pass = pass (suc i) (omega (arith, le)); tail = tail i (omega (arith, le)) } in
+          record {
+            lead = now.lead;
+            closed = λ j low high. elim (cases_lt j p) [
+              | inl before ↦ now.gone j p before lt low
+              | inr from ↦ elim (cases_eq j p) [
+                | inl e ↦ subst (Closed (a (suc (suc i))) (b (suc (suc i)))) (sym e) mine
+                | inr ne ↦ now.closed j (omega (arith, from, ne)) high
+              ]
+            ];
+            gone = now.gone;
+          }
+
+  pub settles : 0 < length parents → Settles 0 (length parents)
+  settles some = walk parents tree Settles close_settles open_settles (record {
+    parent = omega arith;
+    within = omega (arith, some);
+    inside = λ i low high. absurd (omega (arith, low, high));
+    after = 1;
+    same = start;
+  }) some
+    where
+      start : (i : ℕ) → 1 ≤ i → Same parents (a i) (b i) 0 1
+      start zero le = absurd (omega (arith, le))
+      start (suc i) le = record {
+        lead = λ j high. let e : j ≡ 0 = omega (arith, high) in subst (λ (j : ℕ). run_at (a (suc i)).before_tops j ≡ run_at (b (suc i)).before_tops j) (sym e)
+            ((a_next i).before_top 0 some ∙ sym ((b_next i).before_top 0 some));
+        closed = λ j low high. absurd (omega (arith, low, high));
+        gone = λ j i low high lower. absurd (omega (arith, low, high));
+      }

@@ -1,0 +1,84 @@
+use Rattle.std.proofs.Common.{ℕ, ℤ, ◌+ℤ◌, ◌-ℤ◌, arith, subst, sym, List, ap, ◌∙◌, length}
+use Rattle.lay_units.specs.declared.length.Unit.{Unit as Length}
+use Rattle.lay_floats.specs.declared.requests.Clear.TheVariants.{Both as clear_both}
+use Rattle.lay_flow.specs.declared.block.Block.{Block}
+use Rattle.lay_flow.specs.StackedBlocks.{length_at}
+use Rattle.lay_flow.specs.MarginRuns.{block_at}
+use Rattle.lay_flow.specs.BlockPositions.{border_height}
+use Rattle.lay_flow.specs.ContextFlow.{reach_below}
+use Rattle.lay_flow.specs.PassBounds.{state_of, IsMarkNear}
+use Rattle.lay_flow.specs.PlacesTo.{PlacesTo}
+use Rattle.lay_flow.specs.PassKnows.{placing_of}
+use Rattle.lay_flow.proofs.Closings.{Wrote}
+use Rattle.lay_flow.proofs.PassFits.{start_is_near, mark_is_near, end_near}
+use Rattle.lay_flow.proofs.PassSteps.{placed_kept}
+use Rattle.lay_flow.proofs.PlaceSteps.{clear_edge_position}
+use Rattle.lay_flow.proofs.PassEnds.{all_places, near_tops}
+use Rattle.lay_flow.proofs.WroteColumns.{wrote_length}
+use Rattle.lay_flow.proofs.block_places.close_root.Goals as goal
+
+pub run_end-end-requires-clause-start : goal.run_end-end-requires-clause-start
+run_end-end-requires-clause-start c =
+    let f = c.requires.known.fits in let few = c.requires.input.few in let a = f.first_most in let b = f.within in
+    start_is_near c.args.flow.now.first c.args.flow.now.start.0 (omega (arith, few, a, b)) f.start_near
+
+pub place_up_to-requires-clause-near : goal.place_up_to-requires-clause-near
+place_up_to-requires-clause-near c =
+    let f = c.requires.known.fits in
+    let settles = rw c.deref.ensures.value at c.settle.ensures in
+    let near = near_tops c.args.parents.now c.args.blocks.now c.args.shapes.now c.args._lines.now c.requires.input (state_of c.args.flow.now) _ c.run_end-end.result.0 f c.run_end-end.ensures.near settles in
+    subst (λ (xs : List Length). (j : ℕ) → IsMarkNear j (length_at xs j)) (sym c.deref-2.ensures.value) near
+
+pub place_up_to-requires-clause-known : goal.place_up_to-requires-clause-known
+place_up_to-requires-clause-known c =
+    let known = c.requires.known in
+    let f = known.fits in
+    let early = known.early in let few = f.first_most in let within = f.within in
+    let settles = rw c.deref.ensures.value at c.settle.ensures in
+    let old = c.args.flow.now in
+    let placing = placing_of old.placing in
+    let kept = placed_kept c.args.parents.now c.args.blocks.now c.args.shapes.now old.marks.items c.settle.new.marks.items placing (length placing.places) c.requires.input.tree (omega (arith, early, few, within)) known.placed
+    (λ j lt. settles.before j (omega (arith, lt, early))) in
+    subst (λ (xs : List Length). PlacesTo c.args.parents.now c.args.blocks.now c.args.shapes.now xs placing (length placing.places)) (sym c.deref-2.ensures.value) kept
+
+pub reach_below-extent-requires-clause-bottom : goal.reach_below-extent-requires-clause-bottom
+reach_below-extent-requires-clause-bottom c =
+    let done = c.in_ok-place_up_to.ensures {u = tt} in
+    clear_edge_position (length c.args.parents.now) _ clear_both c.clear_edge-bottom.result c.requires.input.few done.placed.within c.clear_edge-bottom.ensures
+
+pub border_height-height-requires-clause-bottom : goal.border_height-height-requires-clause-bottom
+border_height-height-requires-clause-bottom c =
+    let f = c.requires.known.fits in let few = c.requires.input.few in
+    mark_is_near (length c.args.parents.now) c.run_end-end.result.0 (omega (arith, few)) (end_near c.args.flow.now.first (length c.args.parents.now) c.args.flow.now.start.0 c.run_end-end.result.0 c.args.flow.now.strut f.start_near f.strut_fits c.run_end-end.ensures.near f.first_most)
+
+pub returns-clause-places : goal.returns-clause-places
+returns-clause-places c =
+    let f = c.requires.known.fits in let some = c.requires.input.some in let l = f.heights_length in
+    let old = c.args.flow.now in
+    let block = c.block_at-block.ensures in
+    let marked = rw c.deref-3.ensures.value at c.length_at-mark.ensures in
+    let settles = rw c.deref.ensures.value at c.settle.ensures in
+    let done = c.in_ok-place_up_to.ensures {u = tt} in
+    let placed = rw c.deref-2.ensures.value at done.placed in
+    let placing = placing_of c.place_up_to.new.placing in
+    let m = placed.extents_length in
+    let top = ap (λ (v : Length). v.0) c.sum_of.ensures ∙ ap (λ (b : Block). c.length_at-mark.result.0 +ℤ b.edge_top.0) block in
+    let reach = c.reach_below-extent.ensures ∙ ap (reach_below c.clear_edge-bottom.result) top in
+    let wrote : Wrote length_at placing.extents c.write_at.new.column.items 0 c.reach_below-extent.result.0 =
+    subst (λ (xs : List Length). Wrote length_at placing.extents xs 0 c.reach_below-extent.result.0) (sym c.write_at.ensures) (wrote_length placing.extents 0 c.reach_below-extent.result (omega (arith, some, m))) in
+    let wrote_extent = subst (λ (v : ℤ). Wrote length_at placing.extents c.write_at.new.column.items 0 v) reach wrote in
+    let height = rw block at c.border_height-height.ensures.value in
+    let is_height = height ∙ ap (λ (v : ℤ). border_height (block_at c.args.blocks.now 0) v (c.run_end-end.result.0 -ℤ (c.length_at-mark.result.0 +ℤ (block_at c.args.blocks.now 0).edge_top.0))) (sym wrote.here) in
+    let wrote_height : Wrote length_at old.heights.items c.write_at-2.new.column.items 0 c.border_height-height.result.0 =
+    subst (λ (xs : List Length). Wrote length_at old.heights.items xs 0 c.border_height-height.result.0) (sym c.write_at-2.ensures) (wrote_length old.heights.items 0 c.border_height-height.result (omega (arith, some, l))) in
+    all_places c.args.parents.now c.args.blocks.now c.args.shapes.now c.args._lines.now c.requires.input (state_of old) (placing_of old.placing) placing _ _ c.write_at.new.column.items c.clear_edge-bottom.result
+    c.run_end-end.result.0 c.length_at-mark.result.0 c.border_height-height.result.0 c.requires.shapes c.requires.known c.run_end-end.ensures.value settles placed done.kept c.clear_edge-bottom.ensures
+    wrote_extent marked is_height wrote_height
+
+pub returns-clause-near : goal.returns-clause-near
+returns-clause-near c k lt =
+    let f = c.requires.known.fits in let few = c.requires.input.few in let l = f.marks_length in
+    let settles = rw c.deref.ensures.value at c.settle.ensures in
+    let m = settles.length_is in
+    mark_is_near k _ (omega (arith, few, l, m, lt))
+    (near_tops c.args.parents.now c.args.blocks.now c.args.shapes.now c.args._lines.now c.requires.input (state_of c.args.flow.now) _ c.run_end-end.result.0 f c.run_end-end.ensures.near settles k)

@@ -1,0 +1,28 @@
+use Rattle.std.proofs.Common.{◌≡◌, ◌<◌, arith, refl, sym, ap, ◌∙◌, subst, slice_index, ◌+ℤ◌}
+use Rattle.std.specs.Int.{int_max}
+use Rattle.lay_units.specs.Units.{IsPosition}
+use Rattle.lay_units.specs.declared.length.Unit.{Unit as Length}
+use Rattle.lay_flow.specs.StackedBlocks.{length_at}
+use Rattle.lay_flow.specs.MarginRuns.{block_at}
+use Rattle.lay_flow.proofs.PlaceSteps.{ceiling_near, mark_is_position}
+use Rattle.lay_flow.proofs.place_boxes.ceiling.Goals as goal
+
+pub sum_of-content-requires-clause-a : goal.sum_of-content-requires-clause-a
+sum_of-content-requires-clause-a c =
+    let few = c.requires.input.few in let within = c.requires.within in
+    let parent : slice_index c.args.parents.now c.args.k < c.args.k = c.requires.input.tree.before c.args.k c.requires.positive within in
+    let is = c.parent_at-parent.ensures in
+    subst IsPosition (sym c.length_at.ensures) (mark_is_position c.parent_at-parent.result _ (omega (arith, few, within, parent, is)) (c.requires.near c.parent_at-parent.result))
+
+pub returns-clause-near : goal.returns-clause-near
+returns-clause-near c =
+    let within = c.requires.within in
+    let up : slice_index c.args.parents.now c.args.k < c.args.k = c.requires.input.tree.before c.args.k c.requires.positive within in
+    let is = c.parent_at-parent.ensures in
+    let p = c.parent_at-parent.result in
+    let less : p < c.args.k = omega (arith, up, is) in
+    let edge = c.requires.input.edge p (omega (arith, less, within)) in
+    let sum = ap (λ (v : Length). v.0) c.sum_of-content.ensures in
+    let top : c.lower.result.0 ≡ int_max (length_at c.args.marks.now c.args.k) (length_at c.args.marks.now p +ℤ (block_at c.args.blocks.now p).edge_top.0) =
+    c.lower.ensures ∙ (λ i. int_max (c.length_at-2.ensures i) (sum i)) ∙ rw (c.length_at.ensures, c.block_at.ensures) refl in
+    ceiling_near c.args.k p _ _ _ _ (omega (arith, less)) (c.requires.near c.args.k) (c.requires.near p) edge.0 edge.1 top

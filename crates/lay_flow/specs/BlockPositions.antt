@@ -1,0 +1,123 @@
+-- Positions and heights of the blocks of one block formatting context (CSS 2.2, 8.3.1, 9.4.1, 10.6.3, 10.6.7 and
+-- 10.7). Positions are counted downward from the top border edge of the context's own box.
+--
+-- A run of margins starts at the bottom of what stands before it, and reaches from there as far as its margins
+-- collapse to. A box stands at the end of the run of its top margin. One that is collapsed through has no height
+-- and may stand higher: where its parent does, if the run has the parent's top margin, and else where it would
+-- stand if it had a bottom border, that is, where the margins before its own bottom margin collapse to.
+--
+-- For example, a root has three children. The first is 10 px high with a bottom margin of 20 px, the second is empty with
+-- a top margin of 10 px and a bottom margin of -30 px, and the third is 10 px high. The run of 20, 10 and -30 starts
+-- at 10 px and ends at 10 + 20 - 30 = 0 px, and there the third child stands. The second stands at 10 + 20 = 30 px.
+-- The root reaches to the bottom of the third child: it is 10 px high.
+use Rattle.std.specs.Prelude.{ℕ, zero, suc, ◌≡◌, ◌<◌, ◌&&◌, Bool, true, false, ℤ, pos, ◌+ℤ◌, ◌-ℤ◌, List, length, slice_index, if◌then◌else◌, Option, Some, None}
+use Rattle.std.specs.Int.{int_max}
+use Rattle.lay_units.specs.Units.{clamp_size_of}
+use Rattle.lay_units.specs.declared.length.Unit.{Unit as Length}
+use Rattle.lay_units.specs.declared.records.Len.{Len}
+use Rattle.lay_units.specs.declared.records.Len.TheVariants.{Auto as auto, Of as of}
+use Rattle.lay_heights.specs.MinMax.{with_min_max_of}
+use Rattle.lay_margins.specs.Collapse.{collapse}
+use Rattle.lay_flow.specs.declared.block.Block.{Block}
+use Rattle.lay_flow.specs.declared.block.Inside.{Inside}
+use Rattle.lay_flow.specs.declared.block.Inside.TheVariants.{Blocks as blocks_inside, Lines as lines_inside, Solid as solid_inside}
+use Rattle.lay_flow.specs.StackedBlocks.{length_at}
+use Rattle.lay_flow.specs.Children.{last_child, flag_at}
+use Rattle.lay_flow.specs.MarginRuns.{Runs, margins, has_top, block_at, run_at, parts_tops, joins_bottom, run_before}
+
+-- Columns with an entry for each box.
+pub record Positions : Type 0 where
+  -- where the run of its top margin starts
+  pub starts : List Length
+  -- its mark: where its top border edge stands
+  pub marks : List Length
+  -- the height of its border box
+  pub heights : List Length
+
+-- where a run starts that follows the box: at its bottom border edge, or, where the box is collapsed through,
+-- where the run of its margins starts
+abbrev pub start_below : Runs → Positions → ℕ → ℤ
+start_below r at s = if flag_at r.through s then length_at at.starts s else (length_at at.marks s +ℤ length_at at.heights s)
+
+-- where the run starts that ends at the place (p, m) of the row of margins
+abbrev pub start_before : List ℕ → List Block → Runs → Positions → ℕ → ℕ → ℤ
+start_before parents blocks r at p m = after (last_child parents p m)
+  where
+    after : Option ℕ → ℤ
+    after None = if parts_tops blocks p then (length_at at.marks p +ℤ (block_at blocks p).edge_top.0) else length_at at.starts p
+    after (Some s) = start_below r at s
+
+-- the margins between the start of its run and its top border edge: those before its bottom margin, where the box is
+-- collapsed through, and else all
+abbrev pub margins_above : List ℕ → List Block → Runs → ℕ → List ℤ
+margins_above parents blocks r k = margins (if flag_at r.through k then run_before parents blocks r k (length parents) else run_at r.top_runs k)
+
+-- A box with clearance begins a run. That starts where it has to so that the box stands at its clear edge, of
+-- which there is a column with an entry for each box.
+abbrev pub start_of : List ℕ → List Block → Runs → List Length → Positions → ℕ → ℤ
+start_of parents blocks r clear_edges at zero = pos 0
+start_of parents blocks r clear_edges at (suc k) =
+    if flag_at r.clears (suc k) then length_at clear_edges (suc k) -ℤ collapse (margins_above parents blocks r (suc k))
+    else start_before parents blocks r at (slice_index parents (suc k)) (suc k)
+
+-- the run of the box's top margin has its parent's top margin
+abbrev pub meets_parents_top : List ℕ → Runs → ℕ → Bool
+meets_parents_top parents r k = has_top (slice_index parents k) (run_at r.before_tops k)
+
+abbrev pub mark_of : List ℕ → List Block → Runs → Positions → ℕ → ℤ
+mark_of parents blocks r at zero = pos 0
+mark_of parents blocks r at (suc k) =
+    if flag_at r.through (suc k) && meets_parents_top parents r (suc k) then length_at at.marks (slice_index parents (suc k))
+    else length_at at.starts (suc k) +ℤ collapse (margins_above parents blocks r (suc k))
+
+-- the bottom of the blocks in a box (10.6.3): the bottom border edge of the last one, where its bottom margin adjoins
+-- the box's own, and else the bottom edge of that margin, collapsed. In the context's own box that is the end of
+-- the last run (10.6.7).
+abbrev pub content_bottom : List ℕ → List Block → Runs → Positions → ℕ → ℤ
+content_bottom parents blocks r at k = below (last_child parents k (length parents))
+  where
+    below : Option ℕ → ℤ
+    below None = length_at at.marks k +ℤ (block_at blocks k).edge_top.0
+    below (Some c) =
+        if joins_bottom parents blocks r k then start_below r at c
+        else start_below r at c +ℤ collapse (margins (run_at r.to_bottoms c))
+
+abbrev pub content_height : List ℕ → List Block → Runs → Positions → ℕ → ℤ
+content_height parents blocks r at k = content_bottom parents blocks r at k -ℤ (length_at at.marks k +ℤ (block_at blocks k).edge_top.0)
+
+-- the auto height of a box by what is in it: blocks up to their height, or lines of some extent. With blocks in it there is
+-- an extent in the context's own box: how far its floats reach below the top of its content (10.6.7).
+abbrev pub auto_height : Inside → ℤ → ℤ → ℤ
+auto_height blocks_inside extent height = clamp_size_of (int_max height extent)
+auto_height lines_inside extent height = clamp_size_of extent
+auto_height solid_inside extent height = clamp_size_of extent
+
+abbrev pub given_or_auto : Len → ℤ → ℤ
+given_or_auto auto height = height
+given_or_auto (of given) height = given.0
+
+abbrev pub is_solid : Inside → Bool
+is_solid blocks_inside = false
+is_solid lines_inside = false
+is_solid solid_inside = true
+
+-- the height of a border box. That of a solid box is its extent: how far its bottom border edge lies below its mark.
+abbrev pub border_height : Block → ℤ → ℤ → ℤ
+border_height b extent height =
+    if is_solid b.inside then extent
+    else b.edge_top.0 +ℤ with_min_max_of (given_or_auto b.height (auto_height b.inside extent height)) b.min_height.0 b.max_height +ℤ b.edge_bottom.0
+
+abbrev pub height_of : List ℕ → List Block → Runs → List Length → Positions → ℕ → ℤ
+height_of parents blocks r extents at k =
+    if flag_at r.through k then pos 0
+    else border_height (block_at blocks k) (length_at extents k) (content_height parents blocks r at k)
+
+-- these are the positions and the heights, where the runs, the extents of lines and solid boxes and the clear edges
+-- are given
+pub record HasPositions (parents : List ℕ) (blocks : List Block) (r : Runs) (extents clear_edges : List Length) (at : Positions) : Type 0 where
+  pub starts_length : length at.starts ≡ length parents
+  pub marks_length : length at.marks ≡ length parents
+  pub heights_length : length at.heights ≡ length parents
+  pub start : (k : ℕ) → k < length parents → length_at at.starts k ≡ start_of parents blocks r clear_edges at k
+  pub mark : (k : ℕ) → k < length parents → length_at at.marks k ≡ mark_of parents blocks r at k
+  pub height : (k : ℕ) → k < length parents → length_at at.heights k ≡ height_of parents blocks r extents at k

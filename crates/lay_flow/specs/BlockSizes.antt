@@ -1,0 +1,27 @@
+-- The sizes of blocks that a pass over a context is given.
+use Rattle.std.specs.Prelude.{ℕ, ◌≡◌, ◌<◌, ◌≤◌, pos, List, length}
+use Rattle.lay_units.specs.Units.{IsUsed, IsUsedSize}
+use Rattle.lay_units.specs.declared.length.Unit.{Unit as Length}
+use Rattle.lay_doc.specs.Tree.{IsTree}
+use Rattle.lay_flow.specs.declared.block.Block.{Block}
+use Rattle.lay_flow.specs.CornersTo.{IsInset}
+use Rattle.lay_flow.specs.MarginRuns.{block_at}
+use Rattle.lay_flow.specs.BlockPositions.{given_or_auto}
+
+-- used margins, a border and a padding on each side, and a given height and a minimum that are used sizes
+pub record BlockFits (b : Block) : Type 0 where
+  pub margin_top : IsUsed b.margin_top.0
+  pub margin_bottom : IsUsed b.margin_bottom.0
+  pub edge_top : IsInset b.edge_top.0
+  pub edge_bottom : IsInset b.edge_bottom.0
+  pub height : IsUsedSize (given_or_auto b.height (pos 0))
+  pub min_height : IsUsedSize b.min_height.0
+
+-- a tree of 1 to 16384 boxes, with a block and an extent for each
+pub record AreBlocks (parents : List ℕ) (blocks : List Block) (extents : List Length) : Type 0 where
+  pub some : 0 < length parents
+  pub few : length parents ≤ 16384
+  pub tree : IsTree parents
+  pub block_count : length blocks ≡ length parents
+  pub extent_count : length extents ≡ length parents
+  pub block : (k : ℕ) → k < length parents → BlockFits (block_at blocks k)

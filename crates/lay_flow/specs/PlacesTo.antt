@@ -1,0 +1,58 @@
+-- Floats and solid boxes that are placed up to a place among the boxes, as a pass over a context has them.
+use Rattle.std.specs.Prelude.{ℕ, ◌≡◌, ◌+◌, ◌*◌, ◌<◌, ℤ, pos, ◌+ℤ◌, ◌-ℤ◌, true, false, List, length, Some, None, All}
+use Rattle.lay_units.specs.declared.length.Unit.{Unit as Length}
+use Rattle.lay_floats.specs.declared.placed.Placed.{Placed}
+use Rattle.lay_floats.specs.declared.requests.Side.{Side}
+use Rattle.lay_floats.specs.declared.requests.Clear.TheVariants.{None as clear_none}
+use Rattle.lay_floats.specs.declared.requests.Place.{Place}
+use Rattle.lay_floats.specs.FloatPlace.{IsFloatPlace}
+use Rattle.lay_floats.specs.SolidPlace.{IsSolidPlace}
+use Rattle.lay_floats.specs.Within.{BoxWithin, IsWithin}
+use Rattle.lay_flow.specs.declared.block.Block.{Block}
+use Rattle.lay_flow.specs.declared.shape.Shape.{Shape}
+use Rattle.lay_flow.specs.StackedBlocks.{length_at}
+use Rattle.lay_flow.specs.MarginRuns.{block_at}
+use Rattle.lay_flow.specs.BlockPositions.{is_solid}
+use Rattle.lay_flow.specs.BlockFloats.{shape_at, place_at, no_place, floats_before, float_request, solid_request, ceiling}
+use Rattle.lay_flow.specs.PassBounds.{reach}
+
+-- sizes are at most 2^34 units, and edges at most 2^50 units from the origin
+pub record ShapeFits (s : Shape) : Type 0 where
+  pub width : IsWithin (pos 17179869184) s.width.0
+  pub height : IsWithin (pos 17179869184) s.height.0
+  pub left : IsWithin (pos 1125899906842624) s.left.0
+  pub right : IsWithin (pos 1125899906842624) s.right.0
+  pub x : IsWithin (pos 1125899906842624) s.x.0
+
+-- the shapes have these sizes, and no box asks for clearance but floats
+pub record AreFree (parents : List ℕ) (shapes : List Shape) : Type 0 where
+  pub fits : (k : ℕ) → k < length parents → ShapeFits (shape_at shapes k)
+  pub unclear : (k : ℕ) → k < length parents → (shape_at shapes k).float ≡ None → (shape_at shapes k).clear ≡ clear_none
+
+-- what a pass keeps of floats and solid boxes: the extents of the boxes, as far as they are known, the floats that stand,
+-- and the places so far
+pub record Placing : Type 0 where
+  pub extents : List Length
+  pub floats : List Placed
+  pub places : List Place
+
+-- the boxes before the one at n are placed
+pub record PlacesTo (parents : List ℕ) (blocks : List Block) (shapes : List Shape) (marks : List Length) (now : Placing) (n : ℕ) : Type 0 where
+  pub some : 0 < n
+  pub places_length : length now.places ≡ n
+  pub extents_length : length now.extents ≡ length parents
+  pub floats_are : now.floats ≡ floats_before shapes now.places n
+  pub within : All (BoxWithin (reach n)) now.floats
+  pub root : place_at now.places 0 ≡ no_place
+  pub float : (k : ℕ) (side : Side) → 0 < k → k < n → (shape_at shapes k).float ≡ Some side
+      → IsFloatPlace (floats_before shapes now.places k) (float_request (shape_at shapes k) side (ceiling parents blocks marks k)) (place_at now.places k).x.0 (place_at now.places k).y.0
+  pub solid : (k : ℕ) → 0 < k → k < n → is_solid (block_at blocks k).inside ≡ true
+      → IsSolidPlace (floats_before shapes now.places k) (solid_request (shape_at shapes k) (length_at marks k)) (place_at now.places k).x.0 (place_at now.places k).y.0
+  pub extent : (k : ℕ) → 0 < k → k < n → is_solid (block_at blocks k).inside ≡ true
+      → length_at now.extents k ≡ (place_at now.places k).y.0 -ℤ length_at marks k +ℤ (shape_at shapes k).height.0
+  pub low : (k : ℕ) → 0 < k → k < n → is_solid (block_at blocks k).inside ≡ true → IsWithin (reach n) (length_at marks k +ℤ length_at now.extents k)
+  pub other : (k : ℕ) → 0 < k → k < n → (shape_at shapes k).float ≡ None → is_solid (block_at blocks k).inside ≡ false → place_at now.places k ≡ no_place
+
+-- a ceiling of the box at k: its mark, or the top of its parent's content
+abbrev pub IsCeilingNear : ℕ → ℤ → Type 0
+IsCeilingNear k v = IsWithin (pos (2251799813685248 + 68719476736 * k + 8589934592)) v

@@ -1,0 +1,229 @@
+//! The places of the boxes of a context, in one pass over their margins in document order.
+
+ghost use Rattle.std.specs.Prelude.{◌≡◌, ℕ, ◌+◌, ◌-◌, ◌-ℤ◌, ◌<◌, ◌≤◌, ◌∷◌, [], length, slice_index, IfOk, OnOk, IfSome};
+ghost use Rattle.lay_units.specs.Units.{IsPosition};
+ghost use Rattle.lay_flow.specs.BlockFloats.{AreShapes, no_place};
+ghost use Rattle.lay_flow.specs.BlockSizes.{AreBlocks};
+ghost use Rattle.lay_flow.specs.ContextFlow.{AreContextPlaces, reach_below};
+ghost use Rattle.lay_flow.specs.PassBounds.{AreNear, state_of};
+ghost use Rattle.lay_flow.specs.PassKnows.{ArePlaceable, Knows, placing_of};
+ghost use Rattle.lay_flow.specs.PlacesTo.{AreFree};
+
+use crate::block::Block;
+use crate::block_steps::{close, open};
+use crate::columns::{block_at, length_at, parent_at, sum_of, write_at};
+use crate::pass_state::Flow;
+use crate::place_boxes::{nowhere, place_up_to, push_place};
+use crate::placing::Placing;
+use crate::run_ends::{no_margin, run_end};
+use crate::settling::settle;
+use crate::shape::Shape;
+use lay_floats::{Clear, Floats, Place};
+use lay_units::{NoMemory, Unit};
+use std::alloc::Global;
+
+/// Where the boxes of a context stand, in document order, in 1/64 px. Positions are counted downward from the
+/// top border edge of the context's own box.
+#[derive(Drop, Debug)]
+pub struct BlockPlaces {
+    /// The top edges of their border boxes.
+    pub tops: Vec<Unit>,
+    /// The heights of their border boxes. That of a solid box reaches down from its top edge in the flow, its
+    /// mark, past the floats that it doesn't fit beside.
+    pub heights: Vec<Unit>,
+    /// The corners of the margin boxes of floats and of the border boxes of solid boxes, and (0, 0) for others.
+    pub places: Vec<Place>,
+}
+
+/// The places of a context's boxes, none of which has `clear` but floats: from the places of their parents,
+/// their sizes, their shapes, and the heights of the lines of those that hold lines. The last are 0 for other
+/// boxes (CSS 2.2, 8.3.1, 9.4.1, 9.5, 10.6.3, 10.6.7 and 10.7).
+pub fn place_blocks(
+    alloc: Global,
+    parents: &[usize],
+    blocks: &[Block],
+    shapes: &[Shape],
+    lines: &[Unit],
+) -> Result<BlockPlaces, NoMemory>
+    requires blocks { AreBlocks parents.now blocks.now lines.now }
+    requires shapes { AreShapes parents.now blocks.now shapes.now }
+    requires free { AreFree parents.now shapes.now }
+    ensures places { IfOk result (λ r. AreContextPlaces parents.now blocks.now shapes.now lines.now r.tops.items r.heights.items r.places.items) }
+    ensures near { IfOk result (λ r. AreNear r.tops.items) }
+{
+    let mut flow = begin(alloc, parents, blocks, shapes, lines)?;
+    for k in 1..parents.len() {
+        advance(parents, blocks, shapes, lines, &mut flow, k)?;
+    }
+    finish(parents, blocks, shapes, lines, &mut flow)?;
+    let placing = flow.placing;
+    Ok(BlockPlaces {
+        tops: flow.marks,
+        heights: flow.heights,
+        places: placing.places,
+    })
+}
+
+// The top of the content of the context's own box: the pass is before its first child.
+fn begin(
+    alloc: Global,
+    parents: &[usize],
+    blocks: &[Block],
+    _shapes: &[Shape],
+    lines: &[Unit],
+) -> Result<Flow, NoMemory>
+    requires input { AreBlocks parents.now blocks.now lines.now }
+    requires shapes { AreShapes parents.now blocks.now _shapes.now }
+    ensures { IfOk result (λ flow. Knows parents.now blocks.now _shapes.now lines.now (state_of flow) (placing_of flow.placing) 0 1) }
+{
+    let count = parents.len();
+    Ok(Flow {
+        marks: vec![in alloc; Unit(0); count]?,
+        heights: vec![in alloc; Unit(0); count]?,
+        through: vec![in alloc; false; count]?,
+        start: block_at(blocks, 0).edge_top,
+        strut: no_margin(),
+        first: 1,
+        placing: placing_of(alloc, lines)?,
+    })
+}
+
+// The context's own box is placed, and no other.
+fn placing_of(alloc: Global, lines: &[Unit]) -> Result<Placing, NoMemory>
+    ensures extents { IfOk result (λ placing. placing.extents.items ≡ lines.now) }
+    ensures floats { IfOk result (λ placing. placing.floats ≡ []) }
+    ensures places { IfOk result (λ placing. placing.places.items ≡ no_place ∷ []) }
+{
+    let mut extents = Vec::with_capacity(alloc, lines.len())?;
+    extents.extend_from_slice(lines)?;
+    let mut places = Vec::new(alloc);
+    push_place(&mut places, nowhere())?;
+    Ok(Placing {
+        extents,
+        floats: Floats::new(alloc),
+        places,
+    })
+}
+
+// Closes the open boxes that the box at k isn't in, and opens that one.
+fn advance(
+    parents: &[usize],
+    blocks: &[Block],
+    shapes: &[Shape],
+    lines: &[Unit],
+    flow: &mut Flow,
+    k: usize,
+) -> Result<(), NoMemory>
+    requires input { AreBlocks parents.now blocks.now lines.now }
+    requires shapes { ArePlaceable parents.now blocks.now shapes.now }
+    requires positive { 0 < k }
+    requires within { k < length parents.now }
+    requires known { Knows parents.now blocks.now shapes.now lines.now (state_of flow.old) (placing_of flow.old.placing) (k - 1) k }
+    ensures { OnOk result (Knows parents.now blocks.now shapes.now lines.now (state_of flow.new) (placing_of flow.new.placing) k (k + 1)) }
+{
+    let parent = parent_at(parents, k);
+    close_to(parents, blocks, shapes, lines, flow, k - 1, parent, k)?;
+    open(parents, blocks, shapes, lines, flow, k);
+    Ok(())
+}
+
+// Closes the open boxes from the innermost one up to those in the box `to`, in which the box at m stands.
+fn close_to(
+    parents: &[usize],
+    blocks: &[Block],
+    shapes: &[Shape],
+    lines: &[Unit],
+    flow: &mut Flow,
+    from: usize,
+    to: usize,
+    m: usize,
+) -> Result<(), NoMemory>
+    requires input { AreBlocks parents.now blocks.now lines.now }
+    requires shapes { ArePlaceable parents.now blocks.now shapes.now }
+    requires order { to ≤ from }
+    requires next { m < length parents.now → slice_index parents.now m ≡ to }
+    requires last { length parents.now ≤ m → to ≡ 0 }
+    requires known { Knows parents.now blocks.now shapes.now lines.now (state_of flow.old) (placing_of flow.old.placing) from m }
+    ensures { OnOk result (Knows parents.now blocks.now shapes.now lines.now (state_of flow.new) (placing_of flow.new.placing) to m) }
+{
+    let mut innermost = from;
+    while innermost != to {
+        close(parents, blocks, shapes, lines, flow, innermost, m)?;
+        innermost = parent_at(parents, innermost);
+    }
+    Ok(())
+}
+
+// Closes all boxes, the context's own one last.
+fn finish(
+    parents: &[usize],
+    blocks: &[Block],
+    shapes: &[Shape],
+    lines: &[Unit],
+    flow: &mut Flow,
+) -> Result<(), NoMemory>
+    requires input { AreBlocks parents.now blocks.now lines.now }
+    requires shapes { ArePlaceable parents.now blocks.now shapes.now }
+    requires known { Knows parents.now blocks.now shapes.now lines.now (state_of flow.old) (placing_of flow.old.placing) (length parents.now - 1) (length parents.now) }
+    ensures places { OnOk result (AreContextPlaces parents.now blocks.now shapes.now lines.now flow.new.marks.items flow.new.heights.items flow.new.placing.places.items) }
+    ensures near { OnOk result (AreNear flow.new.marks.items) }
+{
+    let count = parents.len();
+    close_to(parents, blocks, shapes, lines, flow, count - 1, 0, count)?;
+    close_root(parents, blocks, shapes, lines, flow)?;
+    Ok(())
+}
+
+// The last run ends, and with it the content of the context's own box, which reaches round its floats.
+fn close_root(
+    parents: &[usize],
+    blocks: &[Block],
+    shapes: &[Shape],
+    _lines: &[Unit],
+    flow: &mut Flow,
+) -> Result<(), NoMemory>
+    requires input { AreBlocks parents.now blocks.now _lines.now }
+    requires shapes { ArePlaceable parents.now blocks.now shapes.now }
+    requires known { Knows parents.now blocks.now shapes.now _lines.now (state_of flow.old) (placing_of flow.old.placing) 0 (length parents.now) }
+    ensures places { OnOk result (AreContextPlaces parents.now blocks.now shapes.now _lines.now flow.new.marks.items flow.new.heights.items flow.new.placing.places.items) }
+    ensures near { OnOk result (AreNear flow.new.marks.items) }
+{
+    let count = parents.len();
+    let end = run_end(flow.start, flow.strut);
+    settle(
+        parents,
+        &flow.through,
+        &mut flow.marks,
+        flow.first,
+        count,
+        end,
+    );
+    place_up_to(
+        parents,
+        blocks,
+        shapes,
+        &flow.marks,
+        &mut flow.placing,
+        count,
+    )?;
+    let block = block_at(blocks, 0);
+    let mark = length_at(&flow.marks, 0);
+    let bottom = flow.placing.floats.clear_edge(Clear::Both);
+    let extent = reach_below(bottom, sum_of(mark, block.edge_top));
+    write_at(&mut flow.placing.extents, 0, extent);
+    let height = block.border_height(extent, mark, end);
+    write_at(&mut flow.heights, 0, height);
+    Ok(())
+}
+
+// How far floats down to a lowest bottom reach below the top of the content.
+fn reach_below(bottom: Option<Unit>, top: Unit) -> Unit
+    requires bottom { IfSome bottom (λ v. IsPosition v.0) }
+    requires top { IsPosition top.0 }
+    ensures { result.0 ≡ reach_below bottom top.0 }
+{
+    match bottom {
+        Some(bottom) => Unit(bottom.0 - top.0),
+        None => Unit(0),
+    }
+}

@@ -1,0 +1,204 @@
+//! The steps of the pass: a box is opened or closed, and its top or bottom margin is read.
+
+ghost use Rattle.std.specs.Prelude.{◌≡◌, ◌+◌, ◌<◌, ◌≤◌, true, false, length, slice_index, OnOk};
+ghost use Rattle.lay_flow.specs.BlockSizes.{AreBlocks};
+ghost use Rattle.lay_flow.specs.MarginRuns.{block_at, may_collapse_through, may_join_bottoms, parts_tops};
+ghost use Rattle.lay_flow.specs.PassBounds.{state_of};
+ghost use Rattle.lay_flow.specs.PassKnows.{ArePlaceable, Knows, placing_of};
+
+use crate::block::Block;
+use crate::columns::{block_at, length_at, sum_of, write_at, write_flag};
+use crate::pass_state::Flow;
+use crate::place_boxes::place_up_to;
+use crate::run_ends::{lone_margin, no_margin, run_end, with_margin};
+use crate::settling::settle;
+use crate::shape::Shape;
+use lay_units::{NoMemory, Unit};
+
+/// Reads the top margin of the box at k, which is then the innermost open one.
+pub(crate) fn open(
+    parents: &[usize],
+    blocks: &[Block],
+    shapes: &[Shape],
+    given: &[Unit],
+    flow: &mut Flow,
+    k: usize,
+)
+    requires input { AreBlocks parents.now blocks.now given.now }
+    requires shapes { ArePlaceable parents.now blocks.now shapes.now }
+    requires positive { 0 < k }
+    requires within { k < length parents.now }
+    requires known { Knows parents.now blocks.now shapes.now given.now (state_of flow.old) (placing_of flow.old.placing) (slice_index parents.now k) k }
+    ensures { Knows parents.now blocks.now shapes.now given.now (state_of flow.new) (placing_of flow.new.placing) k (k + 1) }
+{
+    if block_at(blocks, k).has_edge_top() {
+        open_parting(parents, blocks, shapes, given, flow, k);
+    } else {
+        open_plain(parents, blocks, shapes, given, flow, k);
+    }
+}
+
+// The run goes on in the box.
+fn open_plain(
+    _parents: &[usize],
+    blocks: &[Block],
+    _shapes: &[Shape],
+    _given: &[Unit],
+    flow: &mut Flow,
+    k: usize,
+)
+    requires input { AreBlocks _parents.now blocks.now _given.now }
+    requires shapes { ArePlaceable _parents.now blocks.now _shapes.now }
+    requires positive { 0 < k }
+    requires within { k < length _parents.now }
+    requires plain { parts_tops blocks.now k ≡ false }
+    requires known { Knows _parents.now blocks.now _shapes.now _given.now (state_of flow.old) (placing_of flow.old.placing) (slice_index _parents.now k) k }
+    ensures { Knows _parents.now blocks.now _shapes.now _given.now (state_of flow.new) (placing_of flow.new.placing) k (k + 1) }
+{
+    flow.strut = with_margin(flow.strut, block_at(blocks, k).margin_top);
+}
+
+// A border or a padding ends the run.
+fn open_parting(
+    parents: &[usize],
+    blocks: &[Block],
+    _shapes: &[Shape],
+    _given: &[Unit],
+    flow: &mut Flow,
+    k: usize,
+)
+    requires input { AreBlocks parents.now blocks.now _given.now }
+    requires shapes { ArePlaceable parents.now blocks.now _shapes.now }
+    requires positive { 0 < k }
+    requires within { k < length parents.now }
+    requires parting { parts_tops blocks.now k ≡ true }
+    requires known { Knows parents.now blocks.now _shapes.now _given.now (state_of flow.old) (placing_of flow.old.placing) (slice_index parents.now k) k }
+    ensures { Knows parents.now blocks.now _shapes.now _given.now (state_of flow.new) (placing_of flow.new.placing) k (k + 1) }
+{
+    let block = block_at(blocks, k);
+    let mark = run_end(flow.start, with_margin(flow.strut, block.margin_top));
+    settle(
+        parents,
+        &flow.through,
+        &mut flow.marks,
+        flow.first,
+        k + 1,
+        mark,
+    );
+    flow.start = sum_of(mark, block.edge_top);
+    flow.strut = no_margin();
+    flow.first = k + 1;
+}
+
+/// Reads the bottom margin of the box at p, the innermost open one, whose boxes all stand before m.
+pub(crate) fn close(
+    parents: &[usize],
+    blocks: &[Block],
+    shapes: &[Shape],
+    given: &[Unit],
+    flow: &mut Flow,
+    p: usize,
+    m: usize,
+) -> Result<(), NoMemory>
+    requires input { AreBlocks parents.now blocks.now given.now }
+    requires shapes { ArePlaceable parents.now blocks.now shapes.now }
+    requires positive { 0 < p }
+    requires ends { m < length parents.now → slice_index parents.now m < p }
+    requires known { Knows parents.now blocks.now shapes.now given.now (state_of flow.old) (placing_of flow.old.placing) p m }
+    ensures { OnOk result (Knows parents.now blocks.now shapes.now given.now (state_of flow.new) (placing_of flow.new.placing) (slice_index parents.now p) m) }
+{
+    let block = block_at(blocks, p);
+    if block.may_collapse_through() && flow.first <= p {
+        close_through(parents, blocks, shapes, given, flow, p, m);
+    } else if block.may_join_bottoms() {
+        close_joined(parents, blocks, shapes, given, flow, p, m);
+    } else {
+        close_parted(parents, blocks, shapes, given, flow, p, m)?;
+    }
+    Ok(())
+}
+
+// The run of its top margin goes on past its bottom margin: it is collapsed through.
+fn close_through(
+    _parents: &[usize],
+    blocks: &[Block],
+    _shapes: &[Shape],
+    _given: &[Unit],
+    flow: &mut Flow,
+    p: usize,
+    _m: usize,
+)
+    requires input { AreBlocks _parents.now blocks.now _given.now }
+    requires shapes { ArePlaceable _parents.now blocks.now _shapes.now }
+    requires positive { 0 < p }
+    requires ends { _m < length _parents.now → slice_index _parents.now _m < p }
+    requires through { may_collapse_through (block_at blocks.now p) ≡ true }
+    requires waiting { flow.old.first ≤ p }
+    requires known { Knows _parents.now blocks.now _shapes.now _given.now (state_of flow.old) (placing_of flow.old.placing) p _m }
+    ensures { Knows _parents.now blocks.now _shapes.now _given.now (state_of flow.new) (placing_of flow.new.placing) (slice_index _parents.now p) _m }
+{
+    let mark = run_end(flow.start, flow.strut);
+    write_at(&mut flow.marks, p, mark);
+    write_at(&mut flow.heights, p, Unit(0));
+    write_flag(&mut flow.through, p, true);
+    flow.strut = with_margin(flow.strut, block_at(blocks, p).margin_bottom);
+}
+
+// Its bottom margin adjoins that of its last child.
+fn close_joined(
+    _parents: &[usize],
+    blocks: &[Block],
+    _shapes: &[Shape],
+    _given: &[Unit],
+    flow: &mut Flow,
+    p: usize,
+    _m: usize,
+)
+    requires input { AreBlocks _parents.now blocks.now _given.now }
+    requires shapes { ArePlaceable _parents.now blocks.now _shapes.now }
+    requires positive { 0 < p }
+    requires ends { _m < length _parents.now → slice_index _parents.now _m < p }
+    requires joined { may_join_bottoms (block_at blocks.now p) ≡ true }
+    requires settled { may_collapse_through (block_at blocks.now p) ≡ true → p < flow.old.first }
+    requires known { Knows _parents.now blocks.now _shapes.now _given.now (state_of flow.old) (placing_of flow.old.placing) p _m }
+    ensures { Knows _parents.now blocks.now _shapes.now _given.now (state_of flow.new) (placing_of flow.new.placing) (slice_index _parents.now p) _m }
+{
+    let block = block_at(blocks, p);
+    let mark = length_at(&flow.marks, p);
+    let height = block.border_height(length_at(&flow.placing.extents, p), mark, flow.start);
+    write_at(&mut flow.heights, p, height);
+    flow.start = sum_of(mark, height);
+    flow.strut = with_margin(flow.strut, block.margin_bottom);
+}
+
+// Its bottom margin begins a run.
+fn close_parted(
+    parents: &[usize],
+    blocks: &[Block],
+    shapes: &[Shape],
+    _given: &[Unit],
+    flow: &mut Flow,
+    p: usize,
+    m: usize,
+) -> Result<(), NoMemory>
+    requires input { AreBlocks parents.now blocks.now _given.now }
+    requires shapes { ArePlaceable parents.now blocks.now shapes.now }
+    requires positive { 0 < p }
+    requires ends { m < length parents.now → slice_index parents.now m < p }
+    requires parted { may_join_bottoms (block_at blocks.now p) ≡ false }
+    requires settled { may_collapse_through (block_at blocks.now p) ≡ true → p < flow.old.first }
+    requires known { Knows parents.now blocks.now shapes.now _given.now (state_of flow.old) (placing_of flow.old.placing) p m }
+    ensures { OnOk result (Knows parents.now blocks.now shapes.now _given.now (state_of flow.new) (placing_of flow.new.placing) (slice_index parents.now p) m) }
+{
+    let block = block_at(blocks, p);
+    let end = run_end(flow.start, flow.strut);
+    settle(parents, &flow.through, &mut flow.marks, flow.first, m, end);
+    place_up_to(parents, blocks, shapes, &flow.marks, &mut flow.placing, m)?;
+    let mark = length_at(&flow.marks, p);
+    let height = block.border_height(length_at(&flow.placing.extents, p), mark, end);
+    write_at(&mut flow.heights, p, height);
+    flow.start = sum_of(mark, height);
+    flow.strut = lone_margin(block.margin_bottom);
+    flow.first = m;
+    Ok(())
+}

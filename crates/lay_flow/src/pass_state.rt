@@ -1,0 +1,22 @@
+//! What a pass over the blocks of a context keeps.
+
+use crate::placing::Placing;
+use lay_margins::Strut;
+use lay_units::Unit;
+
+/// The columns as far as they are known, and the run of margins that the pass is in.
+#[derive(Drop, Debug)]
+pub(crate) struct Flow {
+    pub marks: Vec<Unit>,
+    pub heights: Vec<Unit>,
+    /// The boxes that are known to be collapsed through.
+    pub through: Vec<bool>,
+    /// Where the run starts.
+    pub start: Unit,
+    /// Its margins so far.
+    pub strut: Strut,
+    /// The first box whose top margin is in the run. The boxes from there on wait for their marks.
+    pub first: usize,
+    /// The floats and the solid boxes.
+    pub placing: Placing,
+}

@@ -1,0 +1,221 @@
+//! Floats and solid boxes find their places, in document order, once their marks are known.
+
+ghost use Rattle.std.specs.Prelude.{◌≡◌, ℕ, ◌+◌, ◌-ℤ◌, ◌+ℤ◌, ◌<◌, ◌≤◌, ◌++◌, ◌∷◌, [], length, pos, true, false, OnOk, Some, None};
+ghost use Rattle.std.specs.Int.{int_max};
+ghost use Rattle.lay_floats.specs.Within.{IsWithin};
+ghost use Rattle.lay_flow.specs.BlockFloats.{ceiling, float_request, solid_request, no_place, shape_at};
+ghost use Rattle.lay_flow.specs.BlockPositions.{is_solid};
+ghost use Rattle.lay_flow.specs.MarginRuns.{block_at};
+ghost use Rattle.lay_flow.specs.PassBounds.{IsMarkNear, IsNear};
+ghost use Rattle.lay_flow.specs.PassKnows.{ArePlaceable, AreExtentsKept, placing_of};
+ghost use Rattle.lay_flow.specs.PlacesTo.{PlacesTo, IsCeilingNear};
+ghost use Rattle.lay_flow.specs.StackedBlocks.{length_at};
+
+use crate::block::Block;
+use crate::columns::{block_at, length_at, parent_at, sum_of, write_at};
+use crate::placing::Placing;
+use crate::shape::Shape;
+use lay_floats::{FloatReq, Place, Side, SolidReq};
+use lay_units::{NoMemory, Unit};
+
+/// Places the boxes before m that have no place yet, where their marks are known.
+pub(crate) fn place_up_to(
+    parents: &[usize],
+    blocks: &[Block],
+    shapes: &[Shape],
+    marks: &[Unit],
+    placing: &mut Placing,
+    m: usize,
+) -> Result<(), NoMemory>
+    requires input { ArePlaceable parents.now blocks.now shapes.now }
+    requires within { m ≤ length parents.now }
+    requires count { length marks.now ≡ length parents.now }
+    requires near { (j : ℕ) → IsMarkNear j (length_at marks.now j) }
+    requires order { length placing.old.places.items ≤ m }
+    requires known { PlacesTo parents.now blocks.now shapes.now marks.now (placing_of placing.old) (length placing.old.places.items) }
+    ensures placed { OnOk result (PlacesTo parents.now blocks.now shapes.now marks.now (placing_of placing.new) m) }
+    ensures kept { OnOk result (AreExtentsKept blocks.now (length placing.old.places.items) placing.old.extents.items placing.new.extents.items) }
+{
+    for k in placing.places.len()..m {
+        place_one(parents, blocks, shapes, marks, placing, k)?;
+    }
+    Ok(())
+}
+
+fn place_one(
+    parents: &[usize],
+    blocks: &[Block],
+    shapes: &[Shape],
+    marks: &[Unit],
+    placing: &mut Placing,
+    k: usize,
+) -> Result<(), NoMemory>
+    requires input { ArePlaceable parents.now blocks.now shapes.now }
+    requires within { k < length parents.now }
+    requires count { length marks.now ≡ length parents.now }
+    requires near { (j : ℕ) → IsMarkNear j (length_at marks.now j) }
+    requires known { PlacesTo parents.now blocks.now shapes.now marks.now (placing_of placing.old) k }
+    ensures placed { OnOk result (PlacesTo parents.now blocks.now shapes.now marks.now (placing_of placing.new) (k + 1)) }
+    ensures kept { OnOk result (AreExtentsKept blocks.now k placing.old.extents.items placing.new.extents.items) }
+{
+    if let Some(side) = shape_at(shapes, k).float {
+        place_float(parents, blocks, shapes, marks, placing, k, side)?;
+        return Ok(());
+    }
+    if block_at(blocks, k).inside.is_solid() {
+        place_solid(parents, blocks, shapes, marks, placing, k)?;
+        return Ok(());
+    }
+    place_nowhere(parents, blocks, shapes, marks, placing, k)?;
+    Ok(())
+}
+
+fn place_float(
+    parents: &[usize],
+    blocks: &[Block],
+    shapes: &[Shape],
+    marks: &[Unit],
+    placing: &mut Placing,
+    k: usize,
+    side: Side,
+) -> Result<(), NoMemory>
+    requires input { ArePlaceable parents.now blocks.now shapes.now }
+    requires within { k < length parents.now }
+    requires count { length marks.now ≡ length parents.now }
+    requires near { (j : ℕ) → IsMarkNear j (length_at marks.now j) }
+    requires float { (shape_at shapes.now k).float ≡ Some side }
+    requires known { PlacesTo parents.now blocks.now shapes.now marks.now (placing_of placing.old) k }
+    ensures placed { OnOk result (PlacesTo parents.now blocks.now shapes.now marks.now (placing_of placing.new) (k + 1)) }
+    ensures kept { OnOk result (placing.new.extents.items ≡ placing.old.extents.items) }
+{
+    let top = ceiling(parents, blocks, marks, shapes, k);
+    let request = float_request(&shape_at(shapes, k), side, top);
+    let place = placing.floats.place(&request)?;
+    push_place(&mut placing.places, place)?;
+    Ok(())
+}
+
+fn place_solid(
+    _parents: &[usize],
+    _blocks: &[Block],
+    shapes: &[Shape],
+    marks: &[Unit],
+    placing: &mut Placing,
+    k: usize,
+) -> Result<(), NoMemory>
+    requires input { ArePlaceable _parents.now _blocks.now shapes.now }
+    requires within { k < length _parents.now }
+    requires count { length marks.now ≡ length _parents.now }
+    requires near { (j : ℕ) → IsMarkNear j (length_at marks.now j) }
+    requires solid { is_solid (block_at _blocks.now k).inside ≡ true }
+    requires known { PlacesTo _parents.now _blocks.now shapes.now marks.now (placing_of placing.old) k }
+    ensures placed { OnOk result (PlacesTo _parents.now _blocks.now shapes.now marks.now (placing_of placing.new) (k + 1)) }
+    ensures kept { OnOk result (AreExtentsKept _blocks.now k placing.old.extents.items placing.new.extents.items) }
+{
+    let shape = shape_at(shapes, k);
+    let mark = length_at(marks, k);
+    let place = placing.floats.fit_solid(&solid_request(&shape, mark));
+    let extent = extent_below(mark, place.y, shape.height);
+    write_at(&mut placing.extents, k, extent);
+    push_place(&mut placing.places, place)?;
+    Ok(())
+}
+
+fn place_nowhere(
+    _parents: &[usize],
+    _blocks: &[Block],
+    _shapes: &[Shape],
+    _marks: &[Unit],
+    placing: &mut Placing,
+    k: usize,
+) -> Result<(), NoMemory>
+    requires within { k < length _parents.now }
+    requires float { (shape_at _shapes.now k).float ≡ None }
+    requires solid { is_solid (block_at _blocks.now k).inside ≡ false }
+    requires known { PlacesTo _parents.now _blocks.now _shapes.now _marks.now (placing_of placing.old) k }
+    ensures placed { OnOk result (PlacesTo _parents.now _blocks.now _shapes.now _marks.now (placing_of placing.new) (k + 1)) }
+    ensures kept { OnOk result (placing.new.extents.items ≡ placing.old.extents.items) }
+{
+    push_place(&mut placing.places, nowhere())?;
+    Ok(())
+}
+
+// How far the bottom of a box lies below its mark.
+fn extent_below(mark: Unit, top: Unit, height: Unit) -> Unit
+    requires mark { IsNear mark.0 }
+    requires top { IsNear top.0 }
+    requires height { IsWithin (pos 17179869184) height.0 }
+    ensures { result.0 ≡ top.0 -ℤ mark.0 +ℤ height.0 }
+{
+    Unit(top.0 - mark.0 + height.0)
+}
+
+// The lower of its mark and of the top of its containing block's content.
+fn ceiling(parents: &[usize], blocks: &[Block], marks: &[Unit], _shapes: &[Shape], k: usize) -> Unit
+    requires input { ArePlaceable parents.now blocks.now _shapes.now }
+    requires within { k < length parents.now }
+    requires positive { 0 < k }
+    requires count { length marks.now ≡ length parents.now }
+    requires near { (j : ℕ) → IsMarkNear j (length_at marks.now j) }
+    ensures value { result.0 ≡ ceiling parents.now blocks.now marks.now k }
+    ensures near { IsCeilingNear k result.0 }
+{
+    let parent = parent_at(parents, k);
+    let content = sum_of(length_at(marks, parent), block_at(blocks, parent).edge_top);
+    lower(length_at(marks, k), content)
+}
+
+fn lower(a: Unit, b: Unit) -> Unit
+    ensures { result.0 ≡ int_max a.0 b.0 }
+{
+    Unit(a.0.max(b.0))
+}
+
+fn float_request(shape: &Shape, side: Side, ceiling: Unit) -> FloatReq
+    ensures { result ≡ float_request shape.now side ceiling.0 }
+{
+    FloatReq {
+        side,
+        width: shape.width,
+        height: shape.height,
+        left: shape.left,
+        right: shape.right,
+        ceiling,
+        clear: shape.clear,
+    }
+}
+
+fn solid_request(shape: &Shape, mark: Unit) -> SolidReq
+    ensures { result ≡ solid_request shape.now mark.0 }
+{
+    SolidReq {
+        x: shape.x,
+        width: shape.width,
+        height: shape.height,
+        right: shape.right,
+        top: mark,
+    }
+}
+
+fn shape_at(shapes: &[Shape], k: usize) -> Shape
+    requires { k < length shapes.now }
+    ensures { result ≡ shape_at shapes.now k }
+{
+    shapes[k]
+}
+
+pub(crate) fn nowhere() -> Place
+    ensures { result ≡ no_place }
+{
+    Place {
+        x: Unit(0),
+        y: Unit(0),
+    }
+}
+
+pub(crate) fn push_place(places: &mut Vec<Place>, place: Place) -> Result<(), NoMemory>
+    ensures { OnOk result (places.new.items ≡ places.old.items ++ place ∷ []) }
+{
+    places.push(place)?;
+    Ok(())
+}

@@ -1,0 +1,55 @@
+//! Runs of margins that grow and end.
+
+ghost use Rattle.std.specs.Prelude.{◌≡◌, ℤ, ◌+ℤ◌, List, ◌∷◌, ◌++◌, []};
+ghost use Rattle.lay_units.specs.Units.{IsUsed};
+ghost use Rattle.lay_margins.specs.Collapse.{Holds, collapse};
+ghost use Rattle.lay_flow.specs.PassBounds.{IsNear, StrutFits};
+
+use crate::columns::sum_of;
+use lay_margins::Strut;
+use lay_units::Unit;
+
+/// The strut with one more margin.
+pub(crate) fn with_margin(strut: Strut, margin: Unit) -> Strut
+    requires strut { StrutFits strut }
+    requires margin { IsUsed margin.0 }
+    ensures holds { (margins : List ℤ) → Holds strut margins → Holds result (margins ++ margin.0 ∷ []) }
+    ensures fits { StrutFits result }
+{
+    strut.add(margin)
+}
+
+/// The strut that holds one margin.
+pub(crate) fn lone_margin(margin: Unit) -> Strut
+    requires margin { IsUsed margin.0 }
+    ensures holds { Holds result (margin.0 ∷ []) }
+    ensures fits { StrutFits result }
+{
+    with_margin(no_margin(), margin)
+}
+
+/// The strut that holds no margin.
+pub(crate) fn no_margin() -> Strut
+    ensures holds { Holds result [] }
+    ensures fits { StrutFits result }
+{
+    Strut::zero()
+}
+
+/// Where a run ends.
+pub(crate) fn run_end(start: Unit, strut: Strut) -> Unit
+    requires start { IsNear start.0 }
+    requires strut { StrutFits strut }
+    ensures value { (margins : List ℤ) → Holds strut margins → result.0 ≡ start.0 +ℤ collapse margins }
+    ensures near { result.0 ≡ start.0 +ℤ (strut.positive +ℤ strut.negative) }
+{
+    sum_of(start, strut_sum(strut))
+}
+
+fn strut_sum(strut: Strut) -> Unit
+    requires strut { StrutFits strut }
+    ensures value { (margins : List ℤ) → Holds strut margins → result.0 ≡ collapse margins }
+    ensures near { result.0 ≡ strut.positive +ℤ strut.negative }
+{
+    strut.sum()
+}
