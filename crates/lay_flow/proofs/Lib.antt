@@ -23,3 +23,4 @@ pub mod PassSteps
 pub mod PassEnds
 pub mod PositionsUpTo
 pub mod FreeFlows
+pub mod Hypotheticals

@@ -1,6 +1,6 @@
 //! The laws of the definitions: each column has one value.
 
-ghost use Rattle.lay_flow.specs.Laws.{OneBlockLayout, OneHeightColumn, OneCornerColumn, OneFreeFlow, SomeBlockLayout};
+ghost use Rattle.lay_flow.specs.Laws.{OneBlockLayout, OneHeightColumn, OneCornerColumn, OneFreeFlow, OneHypothetical, SomeBlockLayout, SomeHypothetical};
 
 /// The heights of a context are the only ones that meet their definition.
 pub fn one_height_column()
@@ -25,4 +25,14 @@ pub fn some_block_layout()
 /// The flow of a context is the only one, where no box but floats has `clear`.
 pub fn one_free_flow()
     ensures { OneFreeFlow }
+{}
+
+/// The hypothetical layout of a box is the only one.
+pub fn one_hypothetical()
+    ensures { OneHypothetical }
+{}
+
+/// Each box has a hypothetical layout.
+pub fn some_hypothetical()
+    ensures { SomeHypothetical }
 {}

@@ -35,6 +35,7 @@ pub use block_heights::heights;
 pub use block_places::{BlockPlaces, place_blocks};
 pub use corner::Corner;
 pub use laws::{
-    one_block_layout, one_corner_column, one_free_flow, one_height_column, some_block_layout,
+    one_block_layout, one_corner_column, one_free_flow, one_height_column, one_hypothetical,
+    some_block_layout, some_hypothetical,
 };
 pub use shape::Shape;
