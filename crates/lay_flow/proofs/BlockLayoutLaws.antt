@@ -21,7 +21,7 @@ next_of parents blocks r is = record { through = is.through; before_top = is.bef
 same_runs : (r x : Runs) → r.clears ≡ x.clears → r.through ≡ x.through → r.before_tops ≡ x.before_tops → r.to_bottoms ≡ x.to_bottoms → r.top_runs ≡ x.top_runs → r.bottom_runs ≡ x.bottom_runs → r ≡ x
 same_runs r x c t l m u v = λ i. record { clears = c i; through = t i; before_tops = l i; to_bottoms = m i; top_runs = u i; bottom_runs = v i }
 
-one_runs : (parents : List ℕ) (blocks : List Block) (r x : Runs) → IsTree parents → 0 < length parents → r.clears ≡ x.clears → HasRuns parents blocks r → HasRuns parents blocks x → r ≡ x
+pub one_runs : (parents : List ℕ) (blocks : List Block) (r x : Runs) → IsTree parents → 0 < length parents → r.clears ≡ x.clears → HasRuns parents blocks r → HasRuns parents blocks x → r ≡ x
 one_runs parents blocks r x tree some c is also =
     let clears : (i k : ℕ) → flag_at r.clears k ≡ flag_at x.clears k = λ i k. ap (λ (flags : List Bool). flag_at flags k) c in
     let n : ℕ = agree_at parents tree blocks (λ i. r) (λ i. x) (λ i. next_of parents blocks r is) (λ i. next_of parents blocks x also) clears some in
@@ -42,7 +42,7 @@ next_positions parents blocks r extents clear_edges s is = record { start = is.s
 same_positions : (s t : Positions) → s.starts ≡ t.starts → s.marks ≡ t.marks → s.heights ≡ t.heights → s ≡ t
 same_positions s t e f g = λ i. record { starts = e i; marks = f i; heights = g i }
 
-one_positions : (parents : List ℕ) (blocks : List Block) (r : Runs) (extents clear_edges : List Length) (s t : Positions) → IsTree parents → 0 < length parents
+pub one_positions : (parents : List ℕ) (blocks : List Block) (r : Runs) (extents clear_edges : List Length) (s t : Positions) → IsTree parents → 0 < length parents
     → HasPositions parents blocks r extents clear_edges s → HasPositions parents blocks r extents clear_edges t → s ≡ t
 one_positions parents blocks r extents clear_edges s t tree some is also =
     let st = stands parents tree blocks r extents clear_edges (λ i. s) (λ i. t) (λ i. next_positions parents blocks r extents clear_edges s is) (λ i. next_positions parents blocks r extents clear_edges t also) some in

@@ -13,6 +13,7 @@ use Rattle.lay_flow.specs.BlockLayout.{BlockLayout, IsBlockLayout, HasNoClearanc
 use Rattle.lay_flow.specs.declared.block.Block.{Block}
 use Rattle.lay_flow.specs.BlockPass.{Waits, Settled, PassState, IsAt, IsDone}
 use Rattle.lay_flow.proofs.ChildPlaces.{not_child, child_is, last_same, last_some, next_none, next_same}
+use Rattle.lay_flow.proofs.RunsAgree.{none_left}
 use Rattle.lay_flow.proofs.LayoutFacts.{coming_next, start_next, going_out, going_ends, fall_is, tail_is, through_is, joined_is, mark_through, settled_marked, low_yes, low_not}
 use Rattle.lay_flow.proofs.RunEntries.{margins-append, not_barred, bottom_same}
 use Rattle.lay_flow.proofs.Openings.{true_false, settled_kept}
@@ -48,14 +49,6 @@ parent_low parents f p tree positive le within zero low = let r = tree.root in o
 parent_low parents f p tree positive le within (suc j) low = let b = tree.before (suc j) (omega arith) (omega (arith, low, le, within)) in omega (arith, b, low)
 
 module _ (parents : List ℕ) (blocks : List Block) (extents clear_edges : List Length) (y : BlockLayout) (is : IsBlockLayout parents blocks extents clear_edges y) (never : HasNoClearance y) (tree : IsTree parents) where
-  -- no child of p stands after its subtree
-  none_left : (p m : ℕ) → p < m → (m < length parents → slice_index parents m < p) → (k : ℕ) → m ≤ k → k < length parents → is_child parents p k ≡ false
-  none_left p m lt ends k le within = not_child parents p k (λ low e. elim (cases_eq k m) [
-    | inl same ↦ (let a = ends (omega (arith, le, within)) in let b = ap (slice_index parents) same in omega (arith, a, b, e))
-    | inr ne ↦ (let a = ends (omega (arith, le, within)) in
-        let t = tree.together m k (omega (arith, le, ne)) within (omega (arith, e, lt)) in omega (arith, a, t, e))
-  ])
-
   between : (p m : ℕ) → slice_index parents p < p → ((i : ℕ) → p < i → i < m → p ≤ slice_index parents i) → (k : ℕ) → p < k → k < m → is_child parents (slice_index parents p) k ≡ false
   between p m up inside k low high = not_child parents (slice_index parents p) k (λ a e. let b = inside k low high in omega (arith, up, e, b))
 
@@ -67,7 +60,7 @@ module _ (parents : List ℕ) (blocks : List Block) (extents clear_edges : List 
     up_less = tree.before p positive within_p
 
     pub coming_here : run_before parents blocks y.runs p (length parents) ≡ run_before parents blocks y.runs p m
-    coming_here = let e = last_same parents p m (length parents) was.within (none_left p m was.parent ends) in rw e refl
+    coming_here = let e = last_same parents p m (length parents) was.within (none_left parents tree p m was.parent ends) in rw e refl
 
     last_is : last_child parents (slice_index parents p) m ≡ Some p
     last_is = last_some parents (slice_index parents p) p m was.parent (child_is parents (slice_index parents p) p up_less refl) (between p m up_less was.inside)
@@ -79,7 +72,7 @@ module _ (parents : List ℕ) (blocks : List Block) (extents clear_edges : List 
     start_up = start_next parents blocks extents clear_edges y is never (slice_index parents p) m p last_is
 
     pub out : next_child parents p m (length parents) ≡ None
-    out = next_none parents p m (length parents) (none_left p m was.parent ends)
+    out = next_none parents p m (length parents) (none_left parents tree p m was.parent ends)
 
     last_after : last_child parents (slice_index parents p) (p + 1) ≡ Some p
     last_after = last_some parents (slice_index parents p) p (p + 1) (omega arith) (child_is parents (slice_index parents p) p up_less refl) (λ k a b. absurd (omega (arith, a, b)))
@@ -294,7 +287,7 @@ module _ (parents : List ℕ) (blocks : List Block) (extents clear_edges : List 
 
     -- where its content ends
     last_here : last_child parents p (length parents) ≡ last_child parents p m
-    last_here = last_same parents p m (length parents) was.within (none_left p m was.parent ends)
+    last_here = last_same parents p m (length parents) was.within (none_left parents tree p m was.parent ends)
 
     pub end_leaf : last_child parents p m ≡ None → content_bottom parents blocks y.runs y.places p ≡ length_at y.places.marks p +ℤ (block_at blocks p).edge_top.0
     end_leaf e = let f = last_here ∙ e in rw f refl

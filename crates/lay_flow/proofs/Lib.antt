@@ -21,3 +21,6 @@ pub mod PlaceSteps
 pub mod WroteColumns
 pub mod PassSteps
 pub mod PassEnds
+pub mod PositionsUpTo
+pub mod FreeFlows
+pub mod Hypotheticals

@@ -1,4 +1,4 @@
--- The whole runs, from the last place of the row of margins back to the first.
+-- The whole runs, from the last place of the sequence of margins back to the first.
 use Rattle.std.proofs.Common.{◌≡◌, ℕ, zero, suc, ◌+◌, ◌<◌, ◌≤◌, Bool, true, false, List, length, slice_index, refl, sym, ap, ◌∙◌, arith, inl, inr, Option, Some, None, subst}
 use Rattle.std.proofs.lemmas.Bool.{cases_lt, cases_eq}
 use Rattle.lay_doc.specs.Tree.{IsTree}

@@ -39,7 +39,7 @@ pub record Positions : Type 0 where
 abbrev pub start_below : Runs → Positions → ℕ → ℤ
 start_below r at s = if flag_at r.through s then length_at at.starts s else (length_at at.marks s +ℤ length_at at.heights s)
 
--- where the run starts that ends at the place (p, m) of the row of margins
+-- where the run starts that ends at the place (p, m) of the sequence of margins
 abbrev pub start_before : List ℕ → List Block → Runs → Positions → ℕ → ℕ → ℤ
 start_before parents blocks r at p m = after (last_child parents p m)
   where

@@ -1,10 +1,10 @@
 -- Runs of adjoining margins of the blocks of one block formatting context (CSS 2.2, 8.3.1).
 --
--- In document order the margins of a context stand in one row: the top margin of a box, then those of its
+-- In document order the margins of a context stand in one sequence: the top margin of a box, then those of its
 -- children, then its bottom margin. Two that are neighbours there are of one of four kinds: the top margins
 -- of a box and of its first child, the bottom margin of a box and the top margin of its next sibling, the
 -- bottom margins of a last child and of its parent, the two margins of a box without children. A run is a
--- longest stretch of the row in which each margin adjoins the next. Where two neighbours don't adjoin, a new
+-- longest stretch of that in which each margin adjoins the next. Where two neighbours don't adjoin, a new
 -- run begins. The margins of the context's own box are in no run.
 --
 -- For example, a root has two children. The first has a bottom margin of 20 px, and a height. The second is
@@ -12,7 +12,7 @@
 -- since nothing stands between the margins of the second box: it is collapsed through. The first box's top
 -- margin of 0 is a run of its own.
 --
--- The boxes are read as the list of the place of each one's parent. A place (p, m) in the row is the one
+-- The boxes are read as the list of the place of each one's parent. A place (p, m) in the sequence is the one
 -- before the top margin of the child of p at m, or, where no child of p stands at m or later, the one before
 -- p's bottom margin: the boxes before m are passed, and p is open.
 use Rattle.std.specs.Prelude.{ℕ, zero, suc, ◌≡◌, ◌+◌, ◌<◌, ◌==◌, ◌&&◌, ◌||◌, not, Bool, true, false, ℤ, pos, negsuc, List, [], ◌∷◌, ◌++◌, length, slice_index, slice_index_or, if◌then◌else◌, Option, Some, None}
@@ -112,7 +112,7 @@ pub record Runs : Type 0 where
 abbrev pub to_top : List Block → Runs → ℕ → List Entry
 to_top blocks r k = run_at r.before_tops k ++ mark k ∷ margin (block_at blocks k).margin_top.0 ∷ []
 
--- the run that ends at the place (p, m) of the row, so far: it has the bottom margin of the last child before
+-- the run that ends at the place (p, m) of the sequence, so far: it has the bottom margin of the last child before
 -- m, or, where there is none, p's own top margin, unless p parts that from what is in it
 abbrev pub run_before : List ℕ → List Block → Runs → ℕ → ℕ → List Entry
 run_before parents blocks r p m = after (last_child parents p m)

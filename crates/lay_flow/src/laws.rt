@@ -1,6 +1,6 @@
 //! The laws of the definitions: each column has one value.
 
-ghost use Rattle.lay_flow.specs.Laws.{OneBlockLayout, OneHeightColumn, OneCornerColumn, SomeBlockLayout};
+ghost use Rattle.lay_flow.specs.Laws.{OneBlockLayout, OneHeightColumn, OneCornerColumn, OneFreeFlow, OneHypothetical, SomeBlockLayout, SomeHypothetical};
 
 /// The heights of a context are the only ones that meet their definition.
 pub fn one_height_column()
@@ -20,4 +20,19 @@ pub fn one_block_layout()
 /// The blocks of a context have a layout, whichever boxes have clearance.
 pub fn some_block_layout()
     ensures { SomeBlockLayout }
+{}
+
+/// The flow of a context is the only one, where no box but floats has `clear`.
+pub fn one_free_flow()
+    ensures { OneFreeFlow }
+{}
+
+/// The hypothetical layout of a box is the only one.
+pub fn one_hypothetical()
+    ensures { OneHypothetical }
+{}
+
+/// Each box has a hypothetical layout.
+pub fn some_hypothetical()
+    ensures { SomeHypothetical }
 {}

@@ -34,5 +34,8 @@ pub use block_corners::corners;
 pub use block_heights::heights;
 pub use block_places::{BlockPlaces, place_blocks};
 pub use corner::Corner;
-pub use laws::{one_block_layout, one_corner_column, one_height_column, some_block_layout};
+pub use laws::{
+    one_block_layout, one_corner_column, one_free_flow, one_height_column, one_hypothetical,
+    some_block_layout, some_hypothetical,
+};
 pub use shape::Shape;

@@ -1,4 +1,4 @@
-use Rattle.std.proofs.Common.{◌≡◌, ◌<◌, arith, refl, sym, ap, ◌∙◌, subst, slice_index, ◌+ℤ◌}
+use Rattle.std.proofs.Common.{◌≡◌, ◌<◌, arith, sym, ap, ◌∙◌, subst, slice_index, ◌+ℤ◌}
 use Rattle.std.specs.Int.{int_max}
 use Rattle.lay_units.specs.Units.{IsPosition}
 use Rattle.lay_units.specs.declared.length.Unit.{Unit as Length}
@@ -24,5 +24,5 @@ returns-clause-near c =
     let edge = c.requires.input.edge p (omega (arith, less, within)) in
     let sum = ap (λ (v : Length). v.0) c.sum_of-content.ensures in
     let top : c.lower.result.0 ≡ int_max (length_at c.args.marks.now c.args.k) (length_at c.args.marks.now p +ℤ (block_at c.args.blocks.now p).edge_top.0) =
-    c.lower.ensures ∙ (λ i. int_max (c.length_at-2.ensures i) (sum i)) ∙ rw (c.length_at.ensures, c.block_at.ensures) refl in
+    c.lower.ensures ∙ (λ i. int_max (c.length_at-2.ensures i) (sum i)) ∙ (λ i. int_max (length_at c.args.marks.now c.args.k) (c.length_at.ensures i +ℤ (c.block_at.ensures i).edge_top.0)) in
     ceiling_near c.args.k p _ _ _ _ (omega (arith, less)) (c.requires.near c.args.k) (c.requires.near p) edge.0 edge.1 top

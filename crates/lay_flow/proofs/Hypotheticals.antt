@@ -1,0 +1,53 @@
+-- A box has one hypothetical layout and no other.
+use Rattle.std.proofs.Common.{◌≡◌, ℕ, zero, suc, ◌<◌, ◌≤◌, Bool, true, false, List, [], ◌∷◌, length, nat_lt, refl, sym, ◌∙◌, ap, arith, inl, inr, if◌then◌else◌}
+use Rattle.std.proofs.lemmas.Bool.{cases_lt}
+use Rattle.lay_doc.proofs.OneStyles.{same_list}
+use Rattle.lay_flow.specs.Children.{flag_at}
+use Rattle.lay_flow.specs.Laws.{OneHypothetical, SomeHypothetical}
+use Rattle.lay_flow.proofs.Tabulated.{tab, tab_length, tab_at}
+use Rattle.lay_flow.proofs.BlockLayoutLaws.{one_block_layout_lem, some_block_layout_lem}
+
+pub one_hypothetical_lem : OneHypothetical
+one_hypothetical_lem parents blocks extents clear_edges y without other k tree some is also =
+    let clears = same_list false without.runs.clears other.runs.clears (is.is_layout.has_runs.clears_length ∙ sym also.is_layout.has_runs.clears_length) (λ j lt. elim (cases_lt j k) [
+      | inl low ↦ is.earlier j low ∙ sym (also.earlier j low)
+      | inr high ↦ is.later j high ∙ sym (also.later j high)
+    ]) in
+    one_block_layout_lem parents blocks extents clear_edges without other tree some clears is.is_layout also.is_layout
+
+-- the flags before the place k
+abbrev cut : List Bool → ℕ → ℕ → Bool
+cut flags k j = if nat_lt j k then flag_at flags j else false
+
+cut_low : (flags : List Bool) (k j : ℕ) → j < k → cut flags k j ≡ flag_at flags j
+cut_low flags k j lt = let t : nat_lt j k ≡ true = grind (arith, lt) in rw t refl
+
+cut_high : (flags : List Bool) (k j : ℕ) → k ≤ j → cut flags k j ≡ false
+cut_high flags k j le = let f : nat_lt j k ≡ false = grind (arith, le) in rw f refl
+
+beyond : (flags : List Bool) (j : ℕ) → length flags ≤ j → flag_at flags j ≡ false
+beyond [] j le = refl
+beyond (b ∷ flags) zero le = absurd (omega (arith, le))
+beyond (b ∷ flags) (suc j) le = beyond flags j (omega (arith, le))
+
+pub some_hypothetical_lem : SomeHypothetical
+some_hypothetical_lem parents blocks extents clear_edges y k tree some is =
+    let n : ℕ = length parents in
+    let flags = y.runs.clears in
+    let there = some_block_layout_lem parents blocks extents clear_edges (tab (cut flags k) n) tree some (tab_length (cut flags k) n) in
+    let read : (j : ℕ) → flag_at (there.0).runs.clears j ≡ flag_at (tab (cut flags k) n) j = λ j. ap (λ (fs : List Bool). flag_at fs j) there.1 in
+    let l = is.has_runs.clears_length in
+    let m = tab_length (cut flags k) n in (
+      there.0,
+      record {
+        is_layout = there.2;
+        earlier = λ j lt. read j ∙ elim (cases_lt j n) [
+          | inl within ↦ tab_at (cut flags k) false n j within ∙ cut_low flags k j lt
+          | inr over ↦ beyond (tab (cut flags k) n) j (omega (arith, over, m)) ∙ sym (beyond flags j (omega (arith, over, l)))
+        ];
+        later = λ j le. read j ∙ elim (cases_lt j n) [
+          | inl within ↦ tab_at (cut flags k) false n j within ∙ cut_high flags k j le
+          | inr over ↦ beyond (tab (cut flags k) n) j (omega (arith, over, m))
+        ];
+      },
+    )

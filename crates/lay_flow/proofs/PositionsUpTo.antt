@@ -1,0 +1,149 @@
+-- Positions up to a place don't depend on the extents of boxes from there on.
+use Rattle.std.proofs.Common.{◌≡◌, ◌⊎◌, ℕ, zero, suc, ◌+◌, ◌<◌, ◌≤◌, List, length, slice_index, refl, sym, ◌∙◌, arith, inl, inr, Option, Some, None, subst}
+use Rattle.std.proofs.lemmas.Bool.{cases_lt, cases_eq}
+use Rattle.lay_units.specs.declared.length.Unit.{Unit as Length}
+use Rattle.lay_doc.specs.Tree.{IsTree}
+use Rattle.lay_flow.specs.declared.block.Block.{Block}
+use Rattle.lay_flow.specs.StackedBlocks.{length_at}
+use Rattle.lay_flow.specs.Children.{last_child}
+use Rattle.lay_flow.specs.MarginRuns.{Runs}
+use Rattle.lay_flow.specs.BlockPositions.{Positions, HasPositions, start_below, start_before, start_of, mark_of, content_height, content_bottom, height_of}
+use Rattle.lay_flow.proofs.ChildPlaces.{last_same}
+use Rattle.lay_flow.proofs.MarginWalk.{opens}
+use Rattle.lay_flow.proofs.RunsAgree.{last_there, none_left, inside_up}
+use Rattle.lay_flow.proofs.PositionsAgree.{SamePositions}
+
+module _ (parents : List ℕ) (tree : IsTree parents) (blocks : List Block) (r : Runs) (extents others clear_edges : List Length) (s t : Positions)
+    (is : HasPositions parents blocks r extents clear_edges s) (also : HasPositions parents blocks r others clear_edges t)
+    (limit : ℕ) (same : (j : ℕ) → 0 < j → j < limit → length_at extents j ≡ length_at others j) where
+  record Agrees (p m : ℕ) : Type 0 where
+    pub parent : p < m
+    pub within : m ≤ length parents
+    pub inside : (i : ℕ) → p < i → i < m → p ≤ slice_index parents i
+    pub alike : SamePositions parents s t p m
+
+  abbrev UpTo : ℕ → ℕ → Type 0
+  UpTo p m = (m ≤ limit ⊎ ((p ≡ limit) × (m ≡ limit + 1))) → Agrees p m
+
+  below_same : (c : ℕ) → length_at s.starts c ≡ length_at t.starts c → length_at s.marks c ≡ length_at t.marks c → length_at s.heights c ≡ length_at t.heights c → start_below r s c ≡ start_below r t c
+  below_same c e f g = rw (e, f, g) refl
+
+  before_same : (p m : ℕ) → p < m → SamePositions parents s t p m → start_before parents blocks r s p m ≡ start_before parents blocks r t p m
+  before_same p m lt was = go (last_child parents p m) refl
+    where
+      go : (o : Option ℕ) → last_child parents p m ≡ o → start_before parents blocks r s p m ≡ start_before parents blocks r t p m
+      go None e = let f = was.mark p lt in let g = was.start p lt in rw (e, f, g) refl
+      go (Some c) e = let l = last_there parents p m c e in rw e (below_same c (was.start c l.1) (was.mark c l.1) (was.closed c l.0 l.1))
+
+  start_same : (k : ℕ) → 0 < k → start_before parents blocks r s (slice_index parents k) k ≡ start_before parents blocks r t (slice_index parents k) k → start_of parents blocks r clear_edges s k ≡ start_of parents blocks r clear_edges t k
+  start_same zero positive e = absurd (omega (arith, positive))
+  start_same (suc k) positive e = rw e refl
+
+  mark_same : (k : ℕ) → 0 < k → length_at s.starts k ≡ length_at t.starts k → length_at s.marks (slice_index parents k) ≡ length_at t.marks (slice_index parents k) → mark_of parents blocks r s k ≡ mark_of parents blocks r t k
+  mark_same zero positive e f = absurd (omega (arith, positive))
+  mark_same (suc k) positive e f = rw (e, f) refl
+
+  open_agrees : (k : ℕ) → 0 < k → k < length parents → UpTo (slice_index parents k) k → UpTo k (k + 1)
+  open_agrees k positive within before cond = record {
+    parent = omega arith;
+    within = omega (arith, within);
+    inside = λ i low high. absurd (omega (arith, low, high));
+    alike = record {
+      start = λ j high. elim (cases_lt j k) [
+        | inl lt ↦ was.alike.start j lt
+        | inr ge ↦ (let e : j ≡ k = omega (arith, high, ge) in subst (λ (j : ℕ). length_at s.starts j ≡ length_at t.starts j) (sym e) start)
+      ];
+      mark = λ j high. elim (cases_lt j k) [
+        | inl lt ↦ was.alike.mark j lt
+        | inr ge ↦ (let e : j ≡ k = omega (arith, high, ge) in subst (λ (j : ℕ). length_at s.marks j ≡ length_at t.marks j) (sym e) mark)
+      ];
+      closed = λ j low high. absurd (omega (arith, low, high));
+      gone = λ j i low high lower. elim (cases_lt i k) [
+        | inl lt ↦ was.alike.gone j i low lt lower
+        | inr ge ↦ (let e : i ≡ k = omega (arith, high, ge) in was.alike.closed j (rw e at lower) (omega (arith, low, e)))
+      ];
+    };
+  }
+    where
+      low_enough : (k + 1 ≤ limit ⊎ ((k ≡ limit) × (k + 1 ≡ limit + 1))) → k ≤ limit
+      low_enough (inl le) = omega (arith, le)
+      low_enough (inr e) = let f = e.0 in omega (arith, f)
+
+      was : Agrees (slice_index parents k) k
+      was = before (inl (low_enough cond))
+
+      start : length_at s.starts k ≡ length_at t.starts k
+      start = let w = was in is.start k within ∙ start_same k positive (before_same (slice_index parents k) k w.parent w.alike) ∙ sym (also.start k within)
+
+      mark : length_at s.marks k ≡ length_at t.marks k
+      mark = let w = was in is.mark k within ∙ mark_same k positive start (w.alike.mark (slice_index parents k) w.parent) ∙ sym (also.mark k within)
+
+  content_same : (p m : ℕ) → last_child parents p (length parents) ≡ last_child parents p m → p < m → SamePositions parents s t p m → content_height parents blocks r s p ≡ content_height parents blocks r t p
+  content_same p m last lt was = let e = bottom in let f = was.mark p lt in rw (e, f) refl
+    where
+      go : (o : Option ℕ) → last_child parents p m ≡ o → content_bottom parents blocks r s p ≡ content_bottom parents blocks r t p
+      go None e = let g = last ∙ e in let f = was.mark p lt in rw (g, f) refl
+      go (Some c) e = let g = last ∙ e in let l = last_there parents p m c e in let u = below_same c (was.start c l.1) (was.mark c l.1) (was.closed c l.0 l.1) in rw (g, u) refl
+
+      bottom : content_bottom parents blocks r s p ≡ content_bottom parents blocks r t p
+      bottom = go (last_child parents p m) refl
+
+  height_same : (p : ℕ) → length_at extents p ≡ length_at others p → content_height parents blocks r s p ≡ content_height parents blocks r t p → height_of parents blocks r extents s p ≡ height_of parents blocks r others t p
+  height_same p e f = rw (e, f) refl
+
+  close_agrees : (p m : ℕ) → 0 < p → p < m → m ≤ length parents → (m < length parents → slice_index parents m < p) → UpTo p m → UpTo (slice_index parents p) m
+  close_agrees p m positive lt within ends before cond = record {
+    parent = omega (arith, up, lt);
+    within = within;
+    inside = inside_up parents tree p m inner up was.inside;
+    alike = record {
+      start = was.alike.start;
+      mark = was.alike.mark;
+      closed = λ j low high. elim (cases_lt j p) [
+        | inl earlier ↦ was.alike.gone j p earlier lt low
+        | inr from ↦ elim (cases_eq j p) [
+          | inl e ↦ subst (λ (j : ℕ). length_at s.heights j ≡ length_at t.heights j) (sym e) mine
+          | inr ne ↦ was.alike.closed j (omega (arith, from, ne)) high
+        ]
+      ];
+      gone = was.alike.gone;
+    };
+  }
+    where
+      inner : p < length parents
+      inner = omega (arith, lt, within)
+
+      up : slice_index parents p < p
+      up = tree.before p positive inner
+
+      low_enough : (m ≤ limit ⊎ ((slice_index parents p ≡ limit) × (m ≡ limit + 1))) → m ≤ limit
+      low_enough (inl le) = le
+      low_enough (inr e) = let f = e.0 in let g = e.1 in let u = up in absurd (omega (arith, f, g, u, lt))
+
+      was : Agrees p m
+      was = before (inl (low_enough cond))
+
+      mine : length_at s.heights p ≡ length_at t.heights p
+      mine =
+          let w = was in
+          let le = low_enough cond in
+          let last = last_same parents p m (length parents) within (none_left parents tree p m lt ends) in
+          is.height p inner ∙ height_same p (same p positive (omega (arith, lt, le))) (content_same p m last lt w.alike) ∙ sym (also.height p inner)
+
+  -- the marks of the boxes up to the limit
+  pub marks_up_to : 0 < length parents → limit < length parents → (j : ℕ) → j ≤ limit → length_at s.marks j ≡ length_at t.marks j
+  marks_up_to some within j le =
+      (opens parents tree UpTo close_agrees open_agrees limit begins within (inr (refl, refl))).alike.mark j (omega (arith, le))
+    where
+      begins : UpTo 0 1
+      begins cond = record {
+        parent = omega arith;
+        within = omega (arith, some);
+        inside = λ i low high. absurd (omega (arith, low, high));
+        alike = record {
+          start = λ j high. let e : j ≡ 0 = omega (arith, high) in subst (λ (j : ℕ). length_at s.starts j ≡ length_at t.starts j) (sym e) (is.start 0 some ∙ sym (also.start 0 some));
+          mark = λ j high. let e : j ≡ 0 = omega (arith, high) in subst (λ (j : ℕ). length_at s.marks j ≡ length_at t.marks j) (sym e) (is.mark 0 some ∙ sym (also.mark 0 some));
+          closed = λ j low high. absurd (omega (arith, low, high));
+          gone = λ j i low high lower. absurd (omega (arith, low, high));
+        };
+      }
