@@ -5,6 +5,7 @@ pub mod EveryBox
 pub mod InnerContexts
 pub mod Inside
 pub mod ListedContexts
+pub mod ListedTrees
 pub mod NodeColumns
 pub mod NodeForms
 pub mod Putting

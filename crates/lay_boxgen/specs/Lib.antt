@@ -20,3 +20,4 @@ pub mod Contexts
 pub mod CutTrees
 pub mod Laws
 pub mod InnerBoxes
+pub mod BoxLists

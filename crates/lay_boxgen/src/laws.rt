@@ -1,5 +1,6 @@
 //! Laws of the definitions. The functions do nothing.
 
+ghost use Rattle.lay_boxgen.specs.BoxLists.{BoxesAreTree};
 ghost use Rattle.lay_boxgen.specs.InnerBoxes.{BoxesLeadOn};
 ghost use Rattle.lay_boxgen.specs.Laws.{AnchorsHoldBoxes, ContextIsOneBox, PartsAreWhole};
 
@@ -23,4 +24,9 @@ pub fn anchors_hold_boxes()
 /// document.
 pub fn boxes_lead_on()
     ensures { BoxesLeadOn }
+{}
+
+/// The list of a context's boxes is a tree in document order.
+pub fn boxes_are_tree()
+    ensures { BoxesAreTree }
 {}
