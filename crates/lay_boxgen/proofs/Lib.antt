@@ -9,6 +9,7 @@ pub mod ListedTrees
 pub mod NodeColumns
 pub mod NodeForms
 pub mod Putting
+pub mod Replaced
 pub mod Settled
 pub mod SplitNodes
 pub mod WholeParts

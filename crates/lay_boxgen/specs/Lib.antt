@@ -21,3 +21,4 @@ pub mod CutTrees
 pub mod Laws
 pub mod InnerBoxes
 pub mod BoxLists
+pub mod RunLaws

@@ -3,6 +3,12 @@
 ghost use Rattle.lay_boxgen.specs.BoxLists.{BoxesAreTree};
 ghost use Rattle.lay_boxgen.specs.InnerBoxes.{BoxesLeadOn};
 ghost use Rattle.lay_boxgen.specs.Laws.{AnchorsHoldBoxes, ContextIsOneBox, PartsAreWhole};
+ghost use Rattle.lay_boxgen.specs.RunLaws.{RunsAreReplaced};
+
+/// Gathering runs of consecutive siblings replaces each longest run, and nothing else does.
+pub fn runs_are_replaced()
+    ensures { RunsAreReplaced }
+{}
 
 /// The boxes of a node and all below it are the part of its context, with the boxes of inner contexts inside
 /// theirs.

@@ -38,4 +38,5 @@ pub use context_boxes::boxes;
 pub use contexts::is_context;
 pub use laws::{
     anchors_hold_boxes, boxes_are_tree, boxes_lead_on, context_is_one_box, parts_are_whole,
+    runs_are_replaced,
 };
