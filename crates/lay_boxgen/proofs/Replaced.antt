@@ -5,16 +5,16 @@ use Rattle.lay_boxgen.specs.Runs.{gathered, gathered_from, run_over, is_some, is
 use Rattle.lay_boxgen.specs.RunLaws.{IsGap, IsRun, one, further, EndsRun, nothing_follows, other, behind_white, IsReplaced, none, kept, replaced, RunsAreReplaced}
 use Rattle.lay_boxgen.specs.declared.facts.Facts.{Facts}
 
-assoc : (xs ys zs : List Tree) → (xs ++ ys) ++ zs ≡ xs ++ (ys ++ zs)
+pub assoc : (xs ys zs : List Tree) → (xs ++ ys) ++ zs ≡ xs ++ (ys ++ zs)
 assoc [] ys zs = refl
 assoc (x ∷ xs) ys zs = ap (λ r. x ∷ r) (assoc xs ys zs)
 
-no_more : (xs : List Tree) → xs ++ [] ≡ xs
+pub no_more : (xs : List Tree) → xs ++ [] ≡ xs
 no_more [] = refl
 no_more (x ∷ xs) = ap (λ r. x ∷ r) (no_more xs)
 
 -- three lists and a box between
-seam : (xs ys : List Tree) (t : Tree) (zs : List Tree) → (xs ++ ys ++ t ∷ []) ++ zs ≡ xs ++ (ys ++ t ∷ zs)
+pub seam : (xs ys : List Tree) (t : Tree) (zs : List Tree) → (xs ++ ys ++ t ∷ []) ++ zs ≡ xs ++ (ys ++ t ∷ zs)
 seam xs ys t zs = assoc (xs ++ ys) (t ∷ []) zs ∙ assoc xs ys (t ∷ zs)
 
 some-append : (xs : List Tree) (t : Tree) (zs : List Tree) → is_some (xs ++ t ∷ zs) ≡ true

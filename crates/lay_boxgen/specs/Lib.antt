@@ -22,3 +22,4 @@ pub mod Laws
 pub mod InnerBoxes
 pub mod BoxLists
 pub mod RunLaws
+pub mod BreakLaws

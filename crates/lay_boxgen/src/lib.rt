@@ -37,6 +37,6 @@ pub use box_tree::{BoxKind, BoxList, BoxNode, BoxTree, InnerBox, Preferred};
 pub use context_boxes::boxes;
 pub use contexts::is_context;
 pub use laws::{
-    anchors_hold_boxes, boxes_are_tree, boxes_lead_on, context_is_one_box, parts_are_whole,
-    runs_are_replaced,
+    anchors_hold_boxes, boxes_are_tree, boxes_lead_on, context_is_one_box, inlines_are_broken,
+    parts_are_whole, runs_are_replaced,
 };
