@@ -61,7 +61,7 @@ module _ (P : Facts → Type 0) (opened : (f : Facts) → f.inner ≡ false → 
     every-gathered : (ts : List Tree) → AllOf P ts → AllOf P (gathered fault close ts)
     every-gathered ts h = every-gathered_from ts [] [] h tt tt
 
-  -- 1.
+  -- The first stage.
   every-kept_gap : (p : Form) (b a : Option Facts) (gap : List Tree) → AllOf P gap → AllOf P (kept_gap p b gap a)
   every-kept_gap p b a gap h = every-if (is_irrelevant p b a) [] gap tt h
 
@@ -103,7 +103,7 @@ module _ (P : Facts → Type 0) (opened : (f : Facts) → f.inner ≡ false → 
   pub every-relevant : (f : Facts) (ts : List Tree) → AllKept f.form ts → AllOf P (relevant f ts)
   every-relevant f ts h = relevant_by f ts h (is_column f.form) (is_column_group f.form) refl refl
 
-  -- 2.
+  -- The second stage.
   every-in_cells : (f : Facts) (ts : List Tree) → AllOf P ts → AllOf P (in_cells f ts)
   every-in_cells f ts h = every-gathered is_no_cell (cell_round f) (every-box f (Cell 1 1)) ts h
 
@@ -118,7 +118,7 @@ module _ (P : Facts → Type 0) (opened : (f : Facts) → f.inner ≡ false → 
       (every-gathered is_no_row (row_round f) (every-row_round f) ts h)
       (every-if (is_row f.form) (in_cells f ts) ts (every-in_cells f ts h) h))
 
-  -- 3.
+  -- The third stage.
   every-cells_in_rows : (f : Facts) (ts : List Tree) → AllOf P ts → AllOf P (cells_in_rows f ts)
   every-cells_in_rows f ts h =
       every-if (is_row f.form) ts (gathered is_cell_in_flow (row_of_cells f) ts) h (every-gathered is_cell_in_flow (row_of_cells f) (every-box f Row) ts h)

@@ -1,5 +1,6 @@
 pub mod Above
 pub mod BoxForests
+pub mod Broken
 pub mod CutNodes
 pub mod CutParts
 pub mod EveryBox
@@ -9,6 +10,7 @@ pub mod ListedContexts
 pub mod NodeColumns
 pub mod NodeForms
 pub mod Putting
+pub mod Replaced
 pub mod Settled
 pub mod SplitNodes
 pub mod WholeParts

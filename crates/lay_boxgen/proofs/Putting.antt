@@ -80,7 +80,7 @@ module _ (g : Facts → Trees) where
   pub put-open : (f : Facts) (run : List Tree) → is_closed f ≡ false → put g (tree f (trees_of run)) ≡ tree f (trees_of (put_list g run))
   put-open f run h = simp (h, put-trees_of run) refl
 
-  -- 1.
+  -- The first stage.
   put-kept_gap : (p : Form) (b a : Option Facts) (gap : List Tree) → put_list g (kept_gap p b gap a) ≡ kept_gap p b (put_list g gap) a
   put-kept_gap p b a gap = put-if (is_irrelevant p b a) [] gap
 
@@ -110,7 +110,7 @@ module _ (g : Facts → Trees) where
   pub put-relevant : (f : Facts) (children : List Tree) → put_list g (relevant f children) ≡ relevant f (put_list g children)
   put-relevant f children = relevant_along f (is_column f.form) (is_column_group f.form) children
 
-  -- 2.
+  -- The second stage.
   put-in_cells : (f : Facts) (children : List Tree) → put_list g (in_cells f children) ≡ in_cells f (put_list g children)
   put-in_cells f children = put-gathered is_no_cell (cell_round f) (put-box f (Cell 1 1)) children
 
@@ -128,7 +128,7 @@ module _ (g : Facts → Trees) where
   pub put-child_wrapped : (f : Facts) (children : List Tree) → put_list g (child_wrapped f children) ≡ child_wrapped f (put_list g children)
   put-child_wrapped f children = wrapped_along f (is_table f.form) (is_row_group f.form) (is_row f.form) children
 
-  -- 3.
+  -- The third stage.
   rows_along : (f : Facts) (b : Bool) (children : List Tree)
       → put_list g (if b then children else gathered is_cell_in_flow (row_of_cells f) children) ≡ (if b then put_list g children else gathered is_cell_in_flow (row_of_cells f) (put_list g children))
   rows_along f true children = refl

@@ -4,7 +4,8 @@
 -- box into two boxes (even if either side is empty), one on each side of the block-level box(es)."
 --
 -- `inline ("a" block "b")` is `inline ("a") block inline ("b")`; `inline (block " " float block)` is
--- `inline () block float block inline ()`, in which both parts are boxes of the one element.
+-- `inline () block float block inline ()`, in which both parts are boxes of the one element. BreakLaws.antt
+-- says the same without going from child to child.
 use Rattle.std.specs.Prelude.{Bool, true, false, ◌&&◌, ◌||◌, not, List, [], ◌∷◌, ◌++◌, if◌then◌else◌, filter}
 use Rattle.std.specs.List.{list_any}
 use Rattle.lay_boxgen.specs.Boxes.{Tree, tree, trees_of, facts_of}

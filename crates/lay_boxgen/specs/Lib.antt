@@ -21,3 +21,5 @@ pub mod Contexts
 pub mod CutTrees
 pub mod Laws
 pub mod InnerBoxes
+pub mod RunLaws
+pub mod BreakLaws

@@ -1,5 +1,6 @@
 -- Runs of consecutive siblings (17.2.1). Two siblings are consecutive if nothing or only an anonymous inline
--- box of white space stands between them.
+-- box of white space stands between them. RunLaws.antt says what comes of this without going from child to
+-- child.
 use Rattle.std.specs.Prelude.{Bool, true, false, ◌&&◌, List, [], ◌∷◌, ◌++◌, if◌then◌else◌}
 use Rattle.lay_boxgen.specs.Boxes.{Tree, tree, trees_of, facts_of}
 use Rattle.lay_boxgen.specs.Forms.{is_white}

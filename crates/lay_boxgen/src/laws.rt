@@ -1,8 +1,20 @@
 //! Laws of the definitions. The functions do nothing.
 
 ghost use Rattle.lay_boxgen.specs.BoxColumns.{BoxesAreATree};
+ghost use Rattle.lay_boxgen.specs.BreakLaws.{InlinesAreBroken};
 ghost use Rattle.lay_boxgen.specs.InnerBoxes.{BoxesLeadOn};
 ghost use Rattle.lay_boxgen.specs.Laws.{AnchorsHoldBoxes, ContextIsOneBox, PartsAreWhole};
+ghost use Rattle.lay_boxgen.specs.RunLaws.{RunsAreReplaced};
+
+/// Gathering runs of consecutive siblings replaces each longest run, and nothing else does.
+pub fn runs_are_replaced()
+    ensures { RunsAreReplaced }
+{}
+
+/// An inline box is broken round each longest break, and in no other way.
+pub fn inlines_are_broken()
+    ensures { InlinesAreBroken }
+{}
 
 /// The boxes of a node and all below it are the part of its context, with the boxes of inner contexts inside
 /// theirs.

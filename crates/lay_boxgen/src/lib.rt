@@ -5,7 +5,8 @@
 //! are a tree (`specs/NodeTrees.antt`). Each rule of the standard is a definition over the children of a box,
 //! and `specs/Generation.antt` puts them in order. Contracts cite `boxes_of` of `specs/Listing.antt`, which
 //! lists a context's part of the boxes (`specs/Parts.antt`), and `IsContext` of `specs/Contexts.antt`. That
-//! the parts of all contexts are the whole is said in `specs/Laws.antt` and `specs/InnerBoxes.antt`.
+//! the parts of all contexts are the whole is said in `specs/Laws.antt` and `specs/InnerBoxes.antt`, and that
+//! a list of boxes is a tree in document order in `specs/BoxColumns.antt`.
 #![tactic(auto)]
 
 mod anonymous_style;
@@ -38,5 +39,6 @@ pub use contexts::is_context;
 pub use display::{flow_of, used_display};
 pub use facts::Flow;
 pub use laws::{
-    anchors_hold_boxes, boxes_are_a_tree, boxes_lead_on, context_is_one_box, parts_are_whole,
+    anchors_hold_boxes, boxes_are_a_tree, boxes_lead_on, context_is_one_box, inlines_are_broken,
+    parts_are_whole, runs_are_replaced,
 };
