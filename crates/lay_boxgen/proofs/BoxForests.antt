@@ -1,12 +1,12 @@
 -- The parents of listed boxes: those of trees that stand one behind the other.
-use Rattle.std.proofs.Common.{◌≡◌, ◌⊎◌, ℕ, zero, suc, ◌+◌, ◌-◌, ◌<◌, ◌≤◌, List, [], ◌∷◌, ◌++◌, length, get_or, map, refl, sym, ap, ◌∙◌, arith, inl, inr, length-append}
+use Rattle.std.proofs.Common.{◌≡◌, ◌⊎◌, ℕ, zero, suc, ◌+◌, ◌-◌, ◌<◌, ◌≤◌, List, [], ◌∷◌, ◌++◌, length, get_or, refl, ap, arith, inl, inr, length-append}
 use Rattle.std.proofs.lemmas.Bool.{cases_lt}
 use Rattle.std.proofs.lemmas.Grind.{elements}
 use Rattle.lay_doc.specs.declared.node.Node.{Node}
 use Rattle.lay_doc.specs.declared.style.Style.{Style}
 use Rattle.lay_doc.specs.Tree.{IsTree}
 use Rattle.lay_boxgen.specs.Boxes.{Tree, Trees, tree, no_trees, also, trees_of, facts_of}
-use Rattle.lay_boxgen.specs.Listing.{listed, all_listed, listed_part}
+use Rattle.lay_boxgen.specs.Listing.{listed, all_listed}
 use Rattle.lay_boxgen.specs.BoxColumns.{box_parents, BoxesAreATree}
 use Rattle.lay_boxgen.specs.declared.box_tree.BoxNode.{BoxNode}
 use Rattle.lay_boxgen.specs.declared.facts.Facts.{Facts}
