@@ -9,6 +9,9 @@ pub mod Keeps
 pub mod Keys
 pub mod Lists
 pub mod Marked
+pub mod OneAnswer
+pub mod OneRead
+pub mod OneState
 pub mod Reaching
 pub mod Rebuilt
 pub mod Settled

@@ -1,4 +1,5 @@
 pub mod Kept
+pub mod Laws
 pub mod Looks
 pub mod Marks
 pub mod Plans

@@ -2,7 +2,7 @@
 //!
 //! Contracts see cells as a list of rows (`specs/Rows.antt`), which keep the facts of `specs/Sound.antt`
 //! through every call. What each call comes to is said in `specs/Steps.antt`, `Marks.antt` and
-//! `Reshapes.antt`.
+//! `Reshapes.antt`, and that each call has one answer and leaves one state, in `specs/Laws.antt`.
 #![tactic(auto)]
 
 mod answers;
@@ -13,6 +13,7 @@ mod change;
 mod done;
 mod fresh;
 mod index;
+mod laws;
 mod marking;
 mod needs;
 mod reading;
@@ -25,5 +26,9 @@ mod work;
 pub use answers::{Claimed, Finished, Look, Released};
 pub use cells::Cells;
 pub use done::Done;
+pub use laws::{
+    one_claim, one_finish, one_first_dirty, one_give_back, one_laid, one_look, one_marking,
+    one_reshape, one_value,
+};
 pub use shape::Shape;
 pub use work::Work;
