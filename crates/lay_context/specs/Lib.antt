@@ -1,6 +1,9 @@
 pub mod UsedLengths
-pub mod WidthColumn
-pub mod EdgeColumn
-pub mod Bounds
+pub mod BoxSizes
+pub mod ContextSizes
+pub mod ContextBlocks
+pub mod ContextList
+pub mod ContextPlaces
+pub mod DocumentLayout
 pub mod Solves
 pub mod Laws

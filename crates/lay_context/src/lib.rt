@@ -1,18 +1,12 @@
-//! Layout of a document: the workings of its boxes, and the tree of which they are the rectangles.
+//! Layout of a document: the workings of its contexts, and the tree of which they are the rectangles.
 //!
-//! `Solves` of `specs/Solves.antt` is the meaning of a layout: one set of equations over the whole
-//! document (CSS 2.2, chapters 8 to 10), over the boxes that the root's context generates. So far it speaks of
-//! blocks in normal flow, which are one formatting context. `specs/Laws.antt` says that a document has one
-//! tree.
+//! `Solves` of `specs/Solves.antt` is the meaning of a layout: one set of equations over the whole document
+//! (CSS 2.2, chapters 8 to 10), over the contexts of the document (`specs/ContextList.antt`). Used sizes are
+//! worked out from outer to inner contexts (`specs/ContextSizes.antt`), and places from inner to outer ones
+//! (`specs/ContextPlaces.antt`). So far it speaks of block boxes, in flow or floating. `specs/Laws.antt` says
+//! that a document has one tree.
 #![tactic(auto)]
 
-mod block_edges;
-mod block_widths;
-mod columns;
-mod laws;
-mod layout;
-mod pieces;
-mod used_lengths;
-
-pub use laws::{one_edge_column, one_solution, one_width_column};
-pub use layout::scratch;
+mod box_sizes;
+mod context_spot;
+mod corner;

@@ -1,0 +1,78 @@
+-- Where the boxes of one context stand, counted from the corner of its own border box (CSS 2.2, 9.4.1 and 9.5), beside the
+-- used sizes and the heights of inner contexts.
+use Rattle.std.specs.Prelude.{ℕ, zero, suc, ◌≡◌, ◌<◌, ◌+ℤ◌, List, [], ◌∷◌, ◌++◌, length, map, slice_index, slice_index_or, Option, Some, None, if◌then◌else◌}
+use Rattle.lay_units.specs.declared.length.Unit.{Unit as Length}
+use Rattle.lay_units.specs.declared.records.Rect.{Rect}
+use Rattle.lay_frag.specs.declared.frag.Frag.{Frag}
+use Rattle.lay_frag.specs.declared.frag.FragKind.TheVariants.{Box}
+use Rattle.lay_boxgen.specs.declared.box_tree.BoxNode.{BoxNode}
+use Rattle.lay_boxgen.specs.BoxColumns.{box_parents, box_ids}
+use Rattle.lay_floats.specs.declared.requests.Place.{Place}
+use Rattle.lay_flow.specs.declared.block.Block.{Block}
+use Rattle.lay_flow.specs.declared.shape.Shape.{Shape}
+use Rattle.lay_flow.specs.StackedBlocks.{length_at}
+use Rattle.lay_flow.specs.BlockFloats.{place_at}
+use Rattle.lay_flow.specs.ContextFlow.{AreContextPlaces}
+use Rattle.lay_context.specs.declared.box_sizes.BoxSizes.{BoxSizes}
+use Rattle.lay_context.specs.declared.corner.Corner.{Corner}
+use Rattle.lay_context.specs.UsedLengths.{no_length}
+use Rattle.lay_context.specs.BoxSizes.{border_width}
+use Rattle.lay_context.specs.ContextSizes.{sizes_at}
+use Rattle.lay_context.specs.ContextBlocks.{is_inner, is_float, AreBlocksOf, HasLefts, AreShapesOf}
+
+pub record ContextPlaces : Type 0 where
+  -- the heights of the border boxes of inner contexts, and 0 for other boxes
+  pub inner_heights : List Length
+  -- the left border edges of boxes in flow, where no float is beside them
+  pub lefts : List Length
+  pub blocks : List Block
+  pub shapes : List Shape
+  -- the top border edges, and the heights of border boxes
+  pub tops : List Length
+  pub heights : List Length
+  -- the places of floats and solid boxes
+  pub places : List Place
+
+-- no box holds lines yet
+abbrev pub no_lines : List BoxNode → List Length
+no_lines boxes = map (λ b. no_length) boxes
+
+-- these are the places beside the heights of inner contexts
+pub record HasPlaces (boxes : List BoxNode) (sizes : List BoxSizes) (p : ContextPlaces) : Type 0 where
+  pub has_lefts : HasLefts boxes sizes p.lefts
+  pub are_blocks : AreBlocksOf boxes sizes p.blocks
+  pub are_shapes : AreShapesOf boxes sizes p.lefts p.inner_heights p.shapes
+  pub are_places : AreContextPlaces (box_parents boxes) p.blocks p.shapes (no_lines boxes) p.tops p.heights p.places
+
+-- the corner of the border box of the box at k: a float stands with its margin box at its place, and a solid box with its
+-- border box
+abbrev pub corner_of_box : List BoxNode → List BoxSizes → ContextPlaces → ℕ → Corner
+corner_of_box boxes sizes p k =
+    if is_float boxes k then record {
+      x = record { 0 = (place_at p.places k).x.0 +ℤ (sizes_at sizes k).widths.margin_left.0 };
+      y = record { 0 = (place_at p.places k).y.0 +ℤ (sizes_at sizes k).margin_top.0 };
+    }
+    else (if is_inner boxes k then record { x = (place_at p.places k).x; y = (place_at p.places k).y }
+    else record { x = record { 0 = length_at p.lefts k }; y = record { 0 = length_at p.tops k } })
+
+-- the piece of the box at k, its border box
+abbrev pub piece_of_box : List BoxNode → List BoxSizes → ContextPlaces → ℕ → Frag
+piece_of_box boxes sizes p k = record {
+  kind = Box;
+  node = record { 0 = slice_index (box_ids boxes) k };
+  part = 0;
+  rect = record {
+    x = (corner_of_box boxes sizes p k).x;
+    y = (corner_of_box boxes sizes p k).y;
+    w = record { 0 = border_width (sizes_at sizes k) };
+    h = record { 0 = length_at p.heights k };
+  };
+}
+
+-- the pieces of the first n boxes of a context, in order. The boxes of inner contexts are pieces of those.
+abbrev pub pieces_to : List BoxNode → List BoxSizes → ContextPlaces → ℕ → List Frag
+pieces_to boxes sizes p zero = []
+pieces_to boxes sizes p (suc k) = pieces_to boxes sizes p k ++ (if is_inner boxes k then [] else piece_of_box boxes sizes p k ∷ [])
+
+abbrev pub pieces_of : List BoxNode → List BoxSizes → ContextPlaces → List Frag
+pieces_of boxes sizes p = pieces_to boxes sizes p (length boxes)

@@ -1,0 +1,34 @@
+-- The used sizes of the boxes of one context, from outer to inner ones (CSS 2.2, 10.1): the containing block of a box is
+-- the content box of its parent box. That of the context's own box is given.
+use Rattle.std.specs.Prelude.{ℕ, zero, suc, ◌≡◌, ◌<◌, List, length, slice_index, slice_index_or, None}
+use Rattle.lay_units.specs.declared.records.Len.TheVariants.{Auto as auto}
+use Rattle.lay_units.specs.declared.records.Sides.{Sides}
+use Rattle.lay_widths.specs.declared.widths.BlockOut.{BlockOut}
+use Rattle.lay_doc.specs.ComputedStyle.{style_at}
+use Rattle.lay_boxgen.specs.declared.box_tree.BoxNode.{BoxNode}
+use Rattle.lay_boxgen.specs.BoxColumns.{box_parents, box_styles}
+use Rattle.lay_context.specs.declared.box_sizes.BoxSizes.{BoxSizes}
+use Rattle.lay_context.specs.declared.box_sizes.ContainingBlock.{ContainingBlock}
+use Rattle.lay_context.specs.UsedLengths.{no_length}
+use Rattle.lay_context.specs.BoxSizes.{IsSized, content_block}
+
+abbrev pub no_widths : BlockOut
+no_widths = record { margin_left = no_length; width = no_length; margin_right = no_length }
+
+abbrev pub no_edges : Sides
+no_edges = record { top = no_length; right = no_length; bottom = no_length; left = no_length }
+
+abbrev pub no_sizes : BoxSizes
+no_sizes = record { widths = no_widths; edges = no_edges; margin_top = no_length; margin_bottom = no_length; height = auto; min_height = no_length; max_height = None }
+
+abbrev pub sizes_at : List BoxSizes → ℕ → BoxSizes
+sizes_at sizes k = slice_index_or sizes k no_sizes
+
+abbrev pub containing_block : ContainingBlock → List ℕ → List BoxSizes → ℕ → ContainingBlock
+containing_block outer parents sizes zero = outer
+containing_block outer parents sizes (suc k) = content_block (sizes_at sizes (slice_index parents (suc k)))
+
+-- each box has its used sizes
+pub record HasSizes (outer : ContainingBlock) (boxes : List BoxNode) (sizes : List BoxSizes) : Type 0 where
+  pub count : length sizes ≡ length boxes
+  pub each : (k : ℕ) → k < length boxes → IsSized (containing_block outer (box_parents boxes) sizes k) (style_at (box_styles boxes) k) (sizes_at sizes k)
