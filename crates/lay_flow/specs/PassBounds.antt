@@ -7,7 +7,9 @@ use Rattle.lay_margins.specs.StrutValue.{StrutValue}
 use Rattle.lay_flow.specs.declared.block.Block.{Block}
 use Rattle.lay_flow.specs.declared.pass_state.Flow.{Flow}
 use Rattle.lay_flow.specs.StackedBlocks.{length_at}
-use Rattle.lay_flow.specs.MarginRuns.{parts_tops}
+use Rattle.lay_flow.specs.CornersTo.{IsBoxHeight}
+use Rattle.lay_flow.specs.MarginRuns.{block_at, parts_tops}
+use Rattle.lay_flow.specs.BlockPositions.{is_solid}
 use Rattle.lay_flow.specs.BlockLayout.{BlockLayout, IsBlockLayout, HasNoClearance}
 use Rattle.lay_flow.specs.BlockPass.{PassState}
 
@@ -58,3 +60,7 @@ state_of f = record { marks = f.marks.items; heights = f.heights.items; through 
 -- the tops of border boxes are near
 abbrev pub AreNear : List Length → Type 0
 AreNear tops = (k : ℕ) → k < length tops → IsNear (length_at tops k)
+
+-- the heights of border boxes lie within their bounds. That of a solid box, which may be of any extent, is left open.
+abbrev pub AreBoxHeights : List Block → List Length → Type 0
+AreBoxHeights blocks heights = (k : ℕ) → k < length heights → is_solid (block_at blocks k).inside ≡ false → IsBoxHeight (length_at heights k)

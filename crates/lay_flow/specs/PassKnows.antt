@@ -13,7 +13,7 @@ use Rattle.lay_flow.specs.BlockPositions.{is_solid}
 use Rattle.lay_flow.specs.BlockLayout.{BlockLayout}
 use Rattle.lay_flow.specs.BlockPass.{PassState, IsAt}
 use Rattle.lay_flow.specs.PassBounds.{StateFits, IsPlainLayout}
-use Rattle.lay_flow.specs.PlacesTo.{Placing, PlacesTo, AreFree}
+use Rattle.lay_flow.specs.PlacesTo.{Placing, PlacesTo, HaveShapeSizes}
 
 -- extents as they may be at last: of boxes that aren't solid they are the given ones, and of the solid boxes that are
 -- placed they are known
@@ -32,14 +32,14 @@ AreGiven parents blocks given extents = (j : ℕ) → 0 < j → j < length paren
 abbrev pub AreExtentsKept : List Block → ℕ → List Length → List Length → Type 0
 AreExtentsKept blocks k old new = (j : ℕ) → (is_solid (block_at blocks j).inside ≡ true → j < k) → length_at new j ≡ length_at old j
 
--- a tree of at most 16384 boxes, with blocks and shapes that fit, none of which asks for clearance but floats
+-- a tree of at most 16384 boxes, with blocks and shapes that fit
 pub record ArePlaceable (parents : List ℕ) (blocks : List Block) (shapes : List Shape) : Type 0 where
   pub few : length parents ≤ 16384
   pub tree : IsTree parents
   pub block_count : length blocks ≡ length parents
   pub edge : (k : ℕ) → k < length parents → IsInset (block_at blocks k).edge_top.0
   pub are_shapes : AreShapes parents blocks shapes
-  pub free : AreFree parents shapes
+  pub sizes : HaveShapeSizes parents shapes
 
 -- the pass is at the place (p, m), and what it keeps is as in every layout without clearance whose extents may be
 -- those of the context

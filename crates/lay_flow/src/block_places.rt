@@ -5,9 +5,9 @@ ghost use Rattle.lay_units.specs.Units.{IsPosition};
 ghost use Rattle.lay_flow.specs.BlockFloats.{AreShapes, no_place};
 ghost use Rattle.lay_flow.specs.BlockSizes.{AreBlocks};
 ghost use Rattle.lay_flow.specs.ContextFlow.{AreContextPlaces, reach_below};
-ghost use Rattle.lay_flow.specs.PassBounds.{AreNear, state_of};
+ghost use Rattle.lay_flow.specs.PassBounds.{AreBoxHeights, AreNear, state_of};
 ghost use Rattle.lay_flow.specs.PassKnows.{ArePlaceable, Knows, placing_of};
-ghost use Rattle.lay_flow.specs.PlacesTo.{AreFree};
+ghost use Rattle.lay_flow.specs.PlacesTo.{HaveShapeSizes};
 
 use crate::block::Block;
 use crate::block_steps::{close, open};
@@ -35,9 +35,9 @@ pub struct BlockPlaces {
     pub places: Vec<Place>,
 }
 
-/// The places of a context's boxes, none of which has `clear` but floats: from the places of their parents,
-/// their sizes, their shapes, and the heights of the lines of those that hold lines. The last are 0 for other
-/// boxes (CSS 2.2, 8.3.1, 9.4.1, 9.5, 10.6.3, 10.6.7 and 10.7).
+/// The places of a context's boxes, from the places of their parents, their sizes, their shapes, and the
+/// heights of the lines of those that hold lines. The last are 0 for other boxes (CSS 2.2, 8.3.1, 9.4.1, 9.5,
+/// 9.5.2, 10.6.3, 10.6.7 and 10.7).
 pub fn place_blocks(
     alloc: Global,
     parents: &[usize],
@@ -47,9 +47,10 @@ pub fn place_blocks(
 ) -> Result<BlockPlaces, NoMemory>
     requires blocks { AreBlocks parents.now blocks.now lines.now }
     requires shapes { AreShapes parents.now blocks.now shapes.now }
-    requires free { AreFree parents.now shapes.now }
+    requires sizes { HaveShapeSizes parents.now shapes.now }
     ensures places { IfOk result (λ r. AreContextPlaces parents.now blocks.now shapes.now lines.now r.tops.items r.heights.items r.places.items) }
     ensures near { IfOk result (λ r. AreNear r.tops.items) }
+    ensures sized { IfOk result (λ r. AreBoxHeights blocks.now r.heights.items) }
 {
     let mut flow = begin(alloc, parents, blocks, shapes, lines)?;
     for k in 1..parents.len() {
