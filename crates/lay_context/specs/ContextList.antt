@@ -12,6 +12,7 @@ use Rattle.lay_doc.specs.declared.node.Node.{Node}
 use Rattle.lay_doc.specs.declared.style.Style.{Style}
 use Rattle.lay_doc.specs.Document.{ids_of, place_of}
 use Rattle.lay_boxgen.specs.declared.box_tree.BoxNode.{BoxNode}
+use Rattle.lay_boxgen.specs.declared.box_tree.BoxTree.{BoxTree}
 use Rattle.lay_boxgen.specs.Parts.{part}
 use Rattle.lay_boxgen.specs.Listing.{listed_part}
 use Rattle.lay_context.specs.declared.context_spot.ContextSpot.{ContextSpot}
@@ -32,20 +33,23 @@ inner_spots spots ids at next (b ∷ boxes) =
     let own = if b.inner then if_found (place_of b.node.0 ids) (λ place. spots place at next) else [] in
     own ++ inner_spots spots ids (at + 1) (next + length own) boxes
 
+-- the context at a spot, where its node generates these boxes, and those in it
+abbrev pub with_inner : ContextSpot → List ContextSpot → List BoxNode → List ContextSpot
+with_inner spot inner [] = []
+with_inner spot inner (b ∷ boxes) = spot ∷ inner
+
 -- the context of the node at a place, whose box stands in the context `around` at the place `at`, and those in it
 abbrev pub context_spots : List Node → List Style → (turns place around at number : ℕ) → List ContextSpot
 context_spots nodes styles zero place around at number = []
 context_spots nodes styles (suc turns) place around at number =
-    record { place = place; around = around; at = at }
-    ∷ inner_spots (λ p a n. context_spots nodes styles turns p number a n) (ids_of nodes) 0 (number + 1) (boxes_of_place nodes styles place)
+    let boxes = boxes_of_place nodes styles place in
+    with_inner (record { place = place; around = around; at = at })
+    (inner_spots (λ p a n. context_spots nodes styles turns p number a n) (ids_of nodes) 0 (number + 1) boxes)
+    boxes
 
--- those of a document, where the root has these boxes
-abbrev pub spots_from_root : List Node → List Style → List BoxNode → List ContextSpot
-spots_from_root nodes styles [] = []
-spots_from_root nodes styles (b ∷ boxes) = context_spots nodes styles (length nodes) 0 0 0 0
-
+-- those of a document
 abbrev pub document_spots : List Node → List Style → List ContextSpot
-document_spots nodes styles = spots_from_root nodes styles (boxes_of_place nodes styles 0)
+document_spots nodes styles = context_spots nodes styles (length nodes) 0 0 0 0
 
 abbrev pub no_spot : ContextSpot
 no_spot = record { place = 0; around = 0; at = 0 }
@@ -59,3 +63,7 @@ boxes_of_spots nodes styles spots = map (λ s. boxes_of_place nodes styles s.pla
 
 abbrev pub boxes_in : List (List BoxNode) → ℕ → List BoxNode
 boxes_in contexts i = slice_index_or contexts i []
+
+-- the boxes in a list of trees of them
+abbrev pub boxes_of_trees : List BoxTree → List (List BoxNode)
+boxes_of_trees trees = map (λ t. t.boxes) trees

@@ -14,6 +14,7 @@ use Rattle.lay_flow.specs.StackedBlocks.{length_at}
 use Rattle.lay_flow.specs.BlockFloats.{place_at}
 use Rattle.lay_flow.specs.ContextFlow.{AreContextPlaces}
 use Rattle.lay_context.specs.declared.box_sizes.BoxSizes.{BoxSizes}
+use Rattle.lay_context.specs.declared.context_places.BoxPlaces.{BoxPlaces}
 use Rattle.lay_context.specs.declared.corner.Corner.{Corner}
 use Rattle.lay_context.specs.UsedLengths.{no_length}
 use Rattle.lay_context.specs.BoxSizes.{border_width}
@@ -25,13 +26,15 @@ pub record ContextPlaces : Type 0 where
   pub inner_heights : List Length
   -- the left border edges of boxes in flow, where no float is beside them
   pub lefts : List Length
-  pub blocks : List Block
-  pub shapes : List Shape
   -- the top border edges, and the heights of border boxes
   pub tops : List Length
   pub heights : List Length
   -- the places of floats and solid boxes
   pub places : List Place
+
+-- the columns of these places
+abbrev pub columns_of : BoxPlaces → ContextPlaces
+columns_of p = record { inner_heights = p.inner_heights.items; lefts = p.lefts.items; tops = p.tops.items; heights = p.heights.items; places = p.places.items }
 
 -- no box holds lines yet
 abbrev pub no_lines : List BoxNode → List Length
@@ -39,10 +42,12 @@ no_lines boxes = map (λ b. no_length) boxes
 
 -- these are the places beside the heights of inner contexts
 pub record HasPlaces (boxes : List BoxNode) (sizes : List BoxSizes) (p : ContextPlaces) : Type 0 where
+  pub blocks : List Block
+  pub shapes : List Shape
   pub has_lefts : HasLefts boxes sizes p.lefts
-  pub are_blocks : AreBlocksOf boxes sizes p.blocks
-  pub are_shapes : AreShapesOf boxes sizes p.lefts p.inner_heights p.shapes
-  pub are_places : AreContextPlaces (box_parents boxes) p.blocks p.shapes (no_lines boxes) p.tops p.heights p.places
+  pub are_blocks : AreBlocksOf boxes sizes blocks
+  pub are_shapes : AreShapesOf boxes sizes p.lefts p.inner_heights shapes
+  pub are_places : AreContextPlaces (box_parents boxes) blocks shapes (no_lines boxes) p.tops p.heights p.places
 
 -- the corner of the border box of the box at k: a float stands with its margin box at its place, and a solid box with its
 -- border box

@@ -39,7 +39,7 @@ pub record HasDocumentSizes (viewport : ContainingBlock) (spots : List ContextSp
   pub each : (i : ℕ) → i < length boxes → HasSizes (outer_block viewport spots boxes sizes i) (boxes_in boxes i) (sizes_in sizes i)
 
 abbrev pub no_places : ContextPlaces
-no_places = record { inner_heights = []; lefts = []; blocks = []; shapes = []; tops = []; heights = []; places = [] }
+no_places = record { inner_heights = []; lefts = []; tops = []; heights = []; places = [] }
 
 -- the places in the context with this number
 abbrev pub places_in : List ContextPlaces → ℕ → ContextPlaces

@@ -4,6 +4,7 @@ pub mod ContextSizes
 pub mod ContextBlocks
 pub mod ContextList
 pub mod ContextPlaces
+pub mod ContextOrder
 pub mod DocumentLayout
 pub mod Solves
 pub mod Laws

@@ -8,5 +8,8 @@
 #![tactic(auto)]
 
 mod box_sizes;
+mod context_list;
+mod context_places;
 mod context_spot;
 mod corner;
+mod used_lengths;

@@ -1,0 +1,111 @@
+//! Used lengths: percentages taken of the width of the containing block.
+
+ghost use Rattle.std.specs.Prelude.{◌≡◌, ◌+ℤ◌, Option};
+ghost use Rattle.lay_units.specs.Units.{IsPosition, IsUsedSize, percentage_of};
+ghost use Rattle.lay_doc.specs.LengthValues.{length_of, size_of};
+ghost use Rattle.lay_widths.specs.Lengths.{BlockFits};
+ghost use Rattle.lay_context.specs.UsedLengths.{used_margin, used_width, used_size, used_limit, block_of, edge_of, edges_of};
+
+use lay_doc::{LengthPercentage, LengthPercentageOrAuto, LengthPercentageOrNone, Style};
+use lay_units::{BlockIn, Len, Percent, Sides, Unit, clamp, clamp_size, percent_of};
+
+/// What the used widths of a block depend on, for the width of its containing block.
+pub(crate) fn block_of(containing: Unit, style: &Style) -> BlockIn
+    requires { IsPosition containing.0 }
+    ensures value { result ≡ block_of containing style.now }
+    ensures fits { BlockFits result }
+{
+    BlockIn {
+        containing_width: containing,
+        margin_left: used_margin(containing, style.margin.left),
+        border_left: size_of(style.border.width.left),
+        padding_left: used_size(containing, style.padding.left),
+        width: used_width(containing, style.sizing.width),
+        padding_right: used_size(containing, style.padding.right),
+        border_right: size_of(style.border.width.right),
+        margin_right: used_margin(containing, style.margin.right),
+        min_width: used_size(containing, style.sizing.min_width),
+        max_width: used_limit(containing, style.sizing.max_width),
+    }
+}
+
+/// The border and the padding of each side together, for the width of the containing block.
+pub(crate) fn edges_of(containing: Unit, style: &Style) -> Sides
+    ensures { result ≡ edges_of containing style.now }
+{
+    Sides {
+        top: edge_of(containing, style.border.width.top, style.padding.top),
+        right: edge_of(containing, style.border.width.right, style.padding.right),
+        bottom: edge_of(containing, style.border.width.bottom, style.padding.bottom),
+        left: edge_of(containing, style.border.width.left, style.padding.left),
+    }
+}
+
+fn edge_of(containing: Unit, border: Unit, padding: LengthPercentage) -> Unit
+    ensures { result ≡ edge_of containing border padding }
+{
+    Unit(size_of(border).0 + used_size(containing, padding).0)
+}
+
+fn used_margin(containing: Unit, margin: LengthPercentageOrAuto) -> Len
+    ensures { result ≡ used_margin containing margin }
+{
+    match margin {
+        LengthPercentageOrAuto::Auto => Len::Auto,
+        LengthPercentageOrAuto::Length(length) => Len::Of(length_of(length)),
+        LengthPercentageOrAuto::Percent(percent) => {
+            Len::Of(length_of(percent_of(percent, containing)))
+        }
+    }
+}
+
+fn used_width(containing: Unit, width: LengthPercentageOrAuto) -> Len
+    ensures { result ≡ used_width containing width }
+{
+    match width {
+        LengthPercentageOrAuto::Auto => Len::Auto,
+        LengthPercentageOrAuto::Length(length) => Len::Of(size_of(length)),
+        LengthPercentageOrAuto::Percent(percent) => Len::Of(share_of(percent, containing)),
+    }
+}
+
+fn used_size(containing: Unit, size: LengthPercentage) -> Unit
+    ensures value { result ≡ used_size containing size }
+    ensures size { IsUsedSize result.0 }
+{
+    match size {
+        LengthPercentage::Length(length) => size_of(length),
+        LengthPercentage::Percent(percent) => share_of(percent, containing),
+    }
+}
+
+fn used_limit(containing: Unit, limit: LengthPercentageOrNone) -> Option<Unit>
+    ensures { result ≡ used_limit containing limit }
+{
+    match limit {
+        LengthPercentageOrNone::None => None,
+        LengthPercentageOrNone::Length(length) => Some(size_of(length)),
+        LengthPercentageOrNone::Percent(percent) => Some(share_of(percent, containing)),
+    }
+}
+
+/// A percentage of a width, from 0.
+fn share_of(percent: Percent, width: Unit) -> Unit
+    ensures value { result ≡ size_of (percentage_of percent.0 width.0) }
+    ensures size { IsUsedSize result.0 }
+{
+    size_of(percent_of(percent, width))
+}
+
+fn length_of(length: Unit) -> Unit
+    ensures { result ≡ length_of length.0 }
+{
+    clamp(i128::from(length.0))
+}
+
+fn size_of(length: Unit) -> Unit
+    ensures value { result ≡ size_of length.0 }
+    ensures size { IsUsedSize result.0 }
+{
+    clamp_size(i128::from(length.0))
+}
