@@ -71,14 +71,21 @@ abbrev pub is_right : Flow → Float → Bool
 is_right Floating float.Right = true
 is_right _ _ = false
 
+abbrev pub root_left : ContainingBlock → Style → BoxSizes → Length
+root_left viewport s z = if is_right (flow_of s) s.float then record { 0 = viewport.width.0 -ℤ z.widths.margin_right.0 -ℤ border_width z } else z.widths.margin_left
+
 abbrev pub root_corner : ContainingBlock → Style → BoxSizes → Corner
-root_corner viewport s z = record {
-  x = if is_right (flow_of s) s.float then record { 0 = viewport.width.0 -ℤ z.widths.margin_right.0 -ℤ border_width z } else z.widths.margin_left;
-  y = z.margin_top;
-}
+root_corner viewport s z = record { x = root_left viewport s z; y = z.margin_top }
+
+-- a corner that is counted from another one
+abbrev pub beside : Corner → Corner → Corner
+beside outer inner = record { x = record { 0 = outer.x.0 +ℤ inner.x.0 }; y = record { 0 = outer.y.0 +ℤ inner.y.0 } }
+
+abbrev pub no_corner : Corner
+no_corner = record { x = no_length; y = no_length }
 
 abbrev pub corner_at : List Corner → ℕ → Corner
-corner_at corners i = slice_index_or corners i (record { x = no_length; y = no_length })
+corner_at corners i = slice_index_or corners i no_corner
 
 -- the corner of the border box of the context with the number i on the page
 abbrev pub page_corner : ContainingBlock → List ContextSpot → List (List BoxNode) → List (List BoxSizes) → List ContextPlaces → List Corner → ℕ → Corner
@@ -86,11 +93,7 @@ page_corner viewport spots boxes sizes places corners zero =
     root_corner viewport (style_at (box_styles (boxes_in boxes 0)) 0) (sizes_at (sizes_in sizes 0) 0)
 page_corner viewport spots boxes sizes places corners (suc i) =
     let s = spot_at spots (suc i) in
-    let inside = corner_of_box (boxes_in boxes s.around) (sizes_in sizes s.around) (places_in places s.around) s.at in
-    record {
-      x = record { 0 = (corner_at corners s.around).x.0 +ℤ inside.x.0 };
-      y = record { 0 = (corner_at corners s.around).y.0 +ℤ inside.y.0 };
-    }
+    beside (corner_at corners s.around) (corner_of_box (boxes_in boxes s.around) (sizes_in sizes s.around) (places_in places s.around) s.at)
 
 pub record HasPageCorners (viewport : ContainingBlock) (spots : List ContextSpot) (boxes : List (List BoxNode)) (sizes : List (List BoxSizes)) (places : List ContextPlaces) (corners : List Corner) : Type 0 where
   pub count : length corners ≡ length boxes

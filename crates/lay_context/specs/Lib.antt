@@ -6,5 +6,6 @@ pub mod ContextList
 pub mod ContextPlaces
 pub mod ContextOrder
 pub mod DocumentLayout
+pub mod PageRange
 pub mod Solves
 pub mod Laws

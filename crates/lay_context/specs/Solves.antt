@@ -5,6 +5,7 @@
 -- contexts on the page from outer to inner ones. A document whose root generates no box has the tree without contexts.
 use Rattle.std.specs.Prelude.{ℕ, ◌≡◌, ◌<◌, List, length, slice_get, slice_index, Some}
 use Rattle.lay_units.specs.declared.records.Len.TheVariants.{Of as of}
+use Rattle.lay_units.specs.declared.records.Rect.{Rect}
 use Rattle.lay_doc.specs.declared.style.Style.{Style}
 use Rattle.lay_doc.specs.Document.{Document, parents_of}
 use Rattle.lay_doc.specs.LengthValues.{px}
@@ -24,19 +25,28 @@ use Rattle.lay_context.specs.ContextList.{document_spots, boxes_of_spots, boxes_
 use Rattle.lay_context.specs.ContextPlaces.{ContextPlaces, pieces_of}
 use Rattle.lay_context.specs.DocumentLayout.{HasDocumentSizes, HasDocumentPlaces, HasPageCorners, sizes_in, places_in, corner_at}
 
+-- the border box of a context whose corner on the page this is
+abbrev pub own_rect : List BoxSizes → ContextPlaces → Corner → Rect
+own_rect sizes places corner = record {
+  x = corner.x;
+  y = corner.y;
+  w = record { 0 = border_width (sizes_at sizes 0) };
+  h = record { 0 = length_at places.heights 0 };
+}
+
 -- a context of a tree: its own border box on the page, and its pieces
 abbrev pub context_of : List BoxNode → List BoxSizes → ContextPlaces → Corner → Context
 context_of boxes sizes places corner = record {
   node = record { 0 = slice_index (box_ids boxes) 0 };
-  rect = record {
-    x = corner.x;
-    y = corner.y;
-    w = record { 0 = border_width (sizes_at sizes 0) };
-    h = record { 0 = length_at places.heights 0 };
-  };
+  rect = own_rect sizes places corner;
   shift = no_length;
   pieces = pieces_of boxes sizes places;
 }
+
+-- the tree has these contexts, in their order
+pub record IsTreeOf (boxes : List (List BoxNode)) (sizes : List (List BoxSizes)) (places : List ContextPlaces) (corners : List Corner) (tree : List Context) : Type 0 where
+  pub count : length tree ≡ length boxes
+  pub each : (i : ℕ) → i < length boxes → slice_get tree i ≡ Some (context_of (boxes_in boxes i) (sizes_in sizes i) (places_in places i) (corner_at corners i))
 
 -- the tree of these contexts, for a viewport, has the rectangles of workings that meet their equations
 pub record SolvesContexts (viewport : ContainingBlock) (spots : List ContextSpot) (boxes : List (List BoxNode)) (tree : List Context) : Type 0 where
@@ -46,8 +56,7 @@ pub record SolvesContexts (viewport : ContainingBlock) (spots : List ContextSpot
   pub has_sizes : HasDocumentSizes viewport spots boxes sizes
   pub has_places : HasDocumentPlaces spots boxes sizes places
   pub has_corners : HasPageCorners viewport spots boxes sizes places corners
-  pub tree_length : length tree ≡ length boxes
-  pub tree_is : (i : ℕ) → i < length boxes → slice_get tree i ≡ Some (context_of (boxes_in boxes i) (sizes_in sizes i) (places_in places i) (corner_at corners i))
+  pub tree_is : IsTreeOf boxes sizes places corners tree
 
 -- the viewport as the root's containing block (10.1)
 abbrev pub viewport_of : Document → ContainingBlock

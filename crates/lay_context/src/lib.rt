@@ -11,5 +11,8 @@ mod box_sizes;
 mod context_list;
 mod context_places;
 mod context_spot;
+mod context_tree;
 mod corner;
+mod page_range;
+mod pieces;
 mod used_lengths;

@@ -1,0 +1,3 @@
+pub mod OneCorners
+pub mod OneTree
+pub mod PageRange
