@@ -1,5 +1,5 @@
--- Between which bounds the used sizes of boxes are (CSS 2.2, 8.3 to 8.5 and 10.2 to 10.7). A height that depends on content
--- counts as 0 here.
+-- Within which bounds the used sizes of boxes are: margins are at most 2^31 units from 0, a width, a given height and a
+-- minimum are from 0 to 2^31 units, and a border and a padding together are from 0 to 2^32.
 use Rattle.std.specs.Prelude.{ℕ, ◌<◌, pos, List, length}
 use Rattle.lay_units.specs.Units.{IsUsed, IsUsedSize}
 use Rattle.lay_flow.specs.CornersTo.{IsInset}
@@ -7,15 +7,14 @@ use Rattle.lay_flow.specs.BlockPositions.{given_or_auto}
 use Rattle.lay_context.specs.declared.box_sizes.BoxSizes.{BoxSizes}
 use Rattle.lay_context.specs.ContextSizes.{sizes_at}
 
--- margins are used lengths, sizes used ones that aren't negative, and an edge is a border and a padding
 pub record SizeFits (z : BoxSizes) : Type 0 where
   pub margin_left : IsUsed z.widths.margin_left.0
   pub width : IsUsedSize z.widths.width.0
   pub margin_right : IsUsed z.widths.margin_right.0
-  pub edge_top : IsInset z.edges.top.0
-  pub edge_right : IsInset z.edges.right.0
-  pub edge_bottom : IsInset z.edges.bottom.0
-  pub edge_left : IsInset z.edges.left.0
+  pub top : IsInset z.edges.top.0
+  pub right : IsInset z.edges.right.0
+  pub bottom : IsInset z.edges.bottom.0
+  pub left : IsInset z.edges.left.0
   pub margin_top : IsUsed z.margin_top.0
   pub margin_bottom : IsUsed z.margin_bottom.0
   pub height : IsUsedSize (given_or_auto z.height (pos 0))
