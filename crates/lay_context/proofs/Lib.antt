@@ -1,2 +1,3 @@
 pub mod SizesFit
 pub mod SizeSteps
+pub mod DocumentSizeSteps

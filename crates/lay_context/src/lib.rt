@@ -9,9 +9,12 @@
 
 mod box_columns;
 mod box_sizes;
+mod context_columns;
 mod context_list;
 mod context_places;
 mod context_sizes;
 mod context_spot;
 mod corner;
+mod document_sizes;
+mod size_column;
 mod used_lengths;
