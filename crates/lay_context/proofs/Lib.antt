@@ -1,3 +1,6 @@
 pub mod OneCorners
 pub mod OneTree
 pub mod PageRange
+pub mod SizesFit
+pub mod SizeSteps
+pub mod DocumentSizeSteps

@@ -7,12 +7,17 @@
 //! that a document has one tree.
 #![tactic(auto)]
 
+mod box_columns;
 mod box_sizes;
+mod context_columns;
 mod context_list;
 mod context_places;
+mod context_sizes;
 mod context_spot;
 mod context_tree;
 mod corner;
 mod page_range;
 mod pieces;
+mod document_sizes;
+mod size_column;
 mod used_lengths;
