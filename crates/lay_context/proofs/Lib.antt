@@ -4,3 +4,5 @@ pub mod PageRange
 pub mod SizesFit
 pub mod SizeSteps
 pub mod DocumentSizeSteps
+pub mod CornerSteps
+pub mod TreeSteps

@@ -7,6 +7,7 @@ pub mod ContextList
 pub mod ContextPlaces
 pub mod ContextOrder
 pub mod DocumentLayout
+pub mod OwnBoxes
 pub mod PageRange
 pub mod Solves
 pub mod Laws

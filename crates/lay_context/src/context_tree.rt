@@ -1,26 +1,35 @@
 //! The tree of a document: its contexts on the page.
 
-ghost use Rattle.std.specs.Prelude.{◌≡◌, ◌<◌, ◌≤◌, Some, length, slice_get, IfOk};
+ghost use Rattle.std.specs.Prelude.{◌≡◌, ◌<◌, ◌≤◌, length, map, IfOk};
 ghost use Rattle.lay_frag.specs.Pieces.{IsContextInRange};
 ghost use Rattle.lay_context.specs.SizeBounds.{SizeFits};
+ghost use Rattle.lay_context.specs.ContextList.{boxes_of_trees};
 ghost use Rattle.lay_context.specs.ContextSizes.{sizes_at};
+ghost use Rattle.lay_context.specs.ContextOrder.{AreInOrder};
 ghost use Rattle.lay_context.specs.ContextPlaces.{columns_of};
-ghost use Rattle.lay_context.specs.Solves.{context_of, own_rect};
+ghost use Rattle.lay_context.specs.OwnBoxes.{HaveOwnHeights, HaveOwnSizes};
+ghost use Rattle.lay_context.specs.Solves.{context_of, own_rect, IsTreeOf};
 
 use crate::box_columns::border_width;
 use crate::box_sizes::BoxSizes;
+use crate::context_columns::boxes_in;
+use crate::context_list::ContextList;
 use crate::context_places::BoxPlaces;
 use crate::corner::Corner;
 use crate::page_range::{are_halfway, is_rect_halfway};
 use crate::pieces::pieces_of;
+use crate::size_column::{SizeColumn, sizes_in};
 use lay_boxgen::BoxNode;
-use lay_frag::{Frag, Pieces, Placed};
+use lay_frag::{Pieces, Placed, Tree};
 use lay_units::{NoMemory, Rect, Unit};
 use std::alloc::Global;
 use std::sync::Arc;
 
 /// The most boxes of a context: a document has no more nodes, and a block no more boxes than nodes.
 const MOST_PIECES: usize = 16384;
+
+/// The most contexts of a document: it has no more nodes.
+const MOST_CONTEXTS: usize = 16384;
 
 /// A context on the page, whose border box has this corner. Where a piece isn't sure to be in range it is
 /// answered with want of memory.

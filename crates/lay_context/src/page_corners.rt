@@ -5,7 +5,7 @@ ghost use Rattle.lay_units.specs.Units.{IsPosition};
 ghost use Rattle.lay_context.specs.ContextList.{boxes_of_trees};
 ghost use Rattle.lay_context.specs.ContextOrder.{AreInOrder};
 ghost use Rattle.lay_context.specs.ContextPlaces.{columns_of};
-ghost use Rattle.lay_context.specs.DocumentLayout.{HasDocumentPlaces, HasDocumentSizes, HasPageCorners, is_right, page_corner, root_corner};
+ghost use Rattle.lay_context.specs.DocumentLayout.{HasDocumentPlaces, HasDocumentSizes, HasPageCorners, is_right, page_corner, root_corner, root_left, beside};
 ghost use Rattle.lay_context.specs.SizeBounds.{SizeFits};
 
 use crate::box_columns::{border_width, sizes_at, style_at};
@@ -13,7 +13,8 @@ use crate::box_sizes::{BoxSizes, ContainingBlock};
 use crate::context_columns::{boxes_in, spot_at};
 use crate::context_list::ContextList;
 use crate::context_places::BoxPlaces;
-use crate::corner::{Corner, corner_of_box, position_sum};
+use crate::corner::Corner;
+use crate::corners::{corner_of_box, position_sum};
 use crate::size_column::{SizeColumn, sizes_in};
 use lay_boxgen::{Flow, flow_of};
 use lay_doc::{Float, Style};

@@ -1,0 +1,45 @@
+-- A tree of contexts that grows.
+use Rattle.std.proofs.Common.{◌≡◌, ℕ, ◌+◌, ◌*◌, ◌^◌, ◌<◌, ◌≤◌, List, [], ◌∷◌, ◌++◌, length, sym, ◌∙◌, ap, arith, inl, inr, subst, Some, slice_get, IfSome, length-append}
+use Rattle.std.proofs.lemmas.Bool.{cases_lt}
+use Rattle.std.proofs.lemmas.Grind.{elements}
+use Rattle.lay_frag.specs.Pieces.{Context, frags_of, page_pieces, IsContextInRange, IsTreeInRange}
+use Rattle.lay_frag.proofs.PieceLemmas.{length-page_pieces}
+
+-- the first n contexts are these, are in range, and have at most 16384 pieces each
+pub record TreeTo (of : ℕ → Context) (tree : List Context) (n : ℕ) : Type 0 where
+  pub count : length tree ≡ n
+  pub each : (i : ℕ) → i < n → slice_get tree i ≡ Some (of i)
+  pub range : (i : ℕ) → i < n → IfSome (slice_get tree i) IsContextInRange
+  pub few : length (frags_of tree) ≤ 16384 * n
+
+read_before : (cs : List Context) (c : Context) (k : ℕ) → k < length cs → slice_get (cs ++ c ∷ []) k ≡ slice_get cs k
+read_before cs c k lt = grind (arith, elements)
+
+read_last : (cs : List Context) (c : Context) (k : ℕ) → k ≡ length cs → slice_get (cs ++ c ∷ []) k ≡ Some c
+read_last cs c k is = grind (arith, elements)
+
+frags-append : (cs : List Context) (c : Context) → length (frags_of (cs ++ c ∷ [])) ≡ length (frags_of cs) + length c.pieces
+frags-append [] c = omega (arith, length-page_pieces c, length-append (page_pieces c) [])
+frags-append (x ∷ xs) c =
+    let rest = frags-append xs c in
+    omega (arith, rest, length-append (page_pieces x) (frags_of (xs ++ c ∷ [])), length-append (page_pieces x) (frags_of xs))
+
+pub one_more : (of : ℕ → Context) (cs : List Context) (n : ℕ) (c : Context) → TreeTo of cs n → c ≡ of n → IsContextInRange c → length c.pieces ≤ 16384 → TreeTo of (cs ++ c ∷ []) (n + 1)
+one_more of cs n c so_far is range few = record {
+  count = grind (arith, elements, so_far.count);
+  each = λ i lt. elim (cases_lt i n) [
+    | inl low ↦ read_before cs c i (omega (arith, low, so_far.count)) ∙ so_far.each i low
+    | inr high ↦ (let q : i ≡ n = omega (arith, high, lt) in read_last cs c i (q ∙ sym so_far.count) ∙ ap Some is ∙ ap (λ (m : ℕ). Some (of m)) (sym q))
+  ];
+  range = λ i lt. elim (cases_lt i n) [
+    | inl low ↦ subst (λ o. IfSome o IsContextInRange) (sym (read_before cs c i (omega (arith, low, so_far.count)))) (so_far.range i low)
+    | inr high ↦ (let q : i ≡ n = omega (arith, high, lt) in subst (λ o. IfSome o IsContextInRange) (sym (read_last cs c i (q ∙ sym so_far.count))) range)
+  ];
+  few = omega (arith, so_far.few, frags-append cs c, few);
+}
+
+pub tree_in_range : (of : ℕ → Context) (tree : List Context) (n : ℕ) → n ≤ 16384 → TreeTo of tree n → IsTreeInRange tree
+tree_in_range of tree n few so_far = record {
+  contexts = λ j lt. so_far.range j (omega (arith, lt, so_far.count));
+  few = omega (arith, so_far.few, few);
+}
