@@ -3,6 +3,7 @@ pub mod BoxSizes
 pub mod ContextSizes
 pub mod ContextBlocks
 pub mod ContextList
+pub mod InnerContexts
 pub mod ContextPlaces
 pub mod ContextOrder
 pub mod DocumentLayout
