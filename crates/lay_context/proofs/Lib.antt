@@ -1,1 +1,2 @@
 pub mod SpotLists
+pub mod SpotOrder

@@ -3,6 +3,7 @@
 ghost use Rattle.std.specs.Prelude.{◌≡◌, ◌<◌, ◌++◌, ◌∷◌, [], IfOk, OnOk, Some, length};
 ghost use Rattle.lay_doc.specs.Document.{ids_of, place_of};
 ghost use Rattle.lay_context.specs.ContextList.{boxes_of_spots, boxes_of_trees, boxes_of_place, context_spots, document_spots};
+ghost use Rattle.lay_context.specs.ContextOrder.{AreInOrder};
 ghost use Rattle.lay_context.specs.InnerContexts.{inner_contexts, spots_of_inner, spots_of_node};
 
 use crate::context_spot::ContextSpot;
@@ -34,6 +35,7 @@ pub(crate) fn context_list(
     requires styles { length computed.now ≡ length doc.now.nodes }
     ensures spots { IfOk result (λ l. l.spots.items ≡ document_spots doc.now.nodes computed.now) }
     ensures boxes { IfOk result (λ l. boxes_of_trees l.boxes.items ≡ boxes_of_spots doc.now.nodes computed.now l.spots.items) }
+    ensures order { IfOk result (λ l. AreInOrder l.spots.items (boxes_of_trees l.boxes.items)) }
 {
     let mut list = ContextList {
         spots: Vec::new(alloc),
