@@ -1,3 +1,4 @@
 pub mod SizesFit
 pub mod SizeSteps
 pub mod DocumentSizeSteps
+pub mod OneSizes

@@ -16,5 +16,8 @@ mod context_sizes;
 mod context_spot;
 mod corner;
 mod document_sizes;
+mod laws;
 mod size_column;
 mod used_lengths;
+
+pub use laws::{one_context_sizes, one_document_sizes};
