@@ -1,8 +1,25 @@
--- The equations of a document have one solution.
+-- The equations of a document have one solution, and so have those of each of its columns.
 use Rattle.std.specs.Prelude.{◌≡◌, List}
+use Rattle.lay_doc.specs.Tree.{IsTree}
 use Rattle.lay_doc.specs.Document.{Document, IsDocument}
+use Rattle.lay_boxgen.specs.declared.box_tree.BoxNode.{BoxNode}
+use Rattle.lay_boxgen.specs.BoxColumns.{box_parents}
 use Rattle.lay_frag.specs.Pieces.{Context}
+use Rattle.lay_context.specs.declared.box_sizes.BoxSizes.{BoxSizes}
+use Rattle.lay_context.specs.declared.box_sizes.ContainingBlock.{ContainingBlock}
+use Rattle.lay_context.specs.declared.context_spot.ContextSpot.{ContextSpot}
+use Rattle.lay_context.specs.ContextSizes.{HasSizes}
+use Rattle.lay_context.specs.ContextOrder.{AreInOrder}
+use Rattle.lay_context.specs.DocumentLayout.{HasDocumentSizes}
 use Rattle.lay_context.specs.Solves.{Solves}
+
+-- the boxes of a context have one column of used sizes
+abbrev pub OneContextSizes : Type 0
+OneContextSizes = (outer : ContainingBlock) (boxes : List BoxNode) (x y : List BoxSizes) → IsTree (box_parents boxes) → HasSizes outer boxes x → HasSizes outer boxes y → x ≡ y
+
+-- the contexts of a document have one list of such columns
+abbrev pub OneDocumentSizes : Type 0
+OneDocumentSizes = (viewport : ContainingBlock) (spots : List ContextSpot) (boxes : List (List BoxNode)) (x y : List (List BoxSizes)) → AreInOrder spots boxes → HasDocumentSizes viewport spots boxes x → HasDocumentSizes viewport spots boxes y → x ≡ y
 
 -- two trees that solve one document are equal
 abbrev pub OneSolution : Type 0

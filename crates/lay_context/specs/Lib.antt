@@ -1,6 +1,7 @@
 pub mod UsedLengths
 pub mod BoxSizes
 pub mod ContextSizes
+pub mod SizeBounds
 pub mod ContextBlocks
 pub mod ContextList
 pub mod InnerContexts

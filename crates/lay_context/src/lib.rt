@@ -7,9 +7,17 @@
 //! that a document has one tree.
 #![tactic(auto)]
 
+mod box_columns;
 mod box_sizes;
+mod context_columns;
 mod context_list;
 mod context_places;
+mod context_sizes;
 mod context_spot;
 mod corner;
+mod document_sizes;
+mod laws;
+mod size_column;
 mod used_lengths;
+
+pub use laws::{one_context_sizes, one_document_sizes};

@@ -1,12 +1,13 @@
-//! Used lengths: percentages taken of the width of the containing block.
+//! Used lengths: percentages taken of the width or the height of the containing block.
 
 ghost use Rattle.std.specs.Prelude.{◌≡◌, ◌+ℤ◌, Option};
 ghost use Rattle.lay_units.specs.Units.{IsPosition, IsUsedSize, percentage_of};
 ghost use Rattle.lay_doc.specs.LengthValues.{length_of, size_of};
 ghost use Rattle.lay_widths.specs.Lengths.{BlockFits};
-ghost use Rattle.lay_context.specs.UsedLengths.{used_margin, used_width, used_size, used_limit, block_of, edge_of, edges_of};
+ghost use Rattle.lay_context.specs.UsedLengths.{or_zero, used_margin, used_vertical_margin, used_width, used_size, used_limit, used_height, used_min_height, used_max_height, definite_height, block_of, edge_of, edges_of};
 
 use lay_doc::{LengthPercentage, LengthPercentageOrAuto, LengthPercentageOrNone, Style};
+use lay_heights::with_min_max;
 use lay_units::{BlockIn, Len, Percent, Sides, Unit, clamp, clamp_size, percent_of};
 
 /// What the used widths of a block depend on, for the width of its containing block.
@@ -59,6 +60,69 @@ fn used_margin(containing: Unit, margin: LengthPercentageOrAuto) -> Len
     }
 }
 
+/// A margin above or below.
+pub(crate) fn used_vertical_margin(containing: Unit, margin: LengthPercentageOrAuto) -> Unit
+    ensures { result ≡ used_vertical_margin containing margin }
+{
+    or_zero(used_margin(containing, margin))
+}
+
+fn or_zero(length: Len) -> Unit
+    ensures { result ≡ or_zero length }
+{
+    match length {
+        Len::Auto => Unit(0),
+        Len::Of(length) => length,
+    }
+}
+
+/// A `height`, for the height of the containing block.
+pub(crate) fn used_height(containing: Len, height: LengthPercentageOrAuto) -> Len
+    ensures { result ≡ used_height containing height }
+{
+    match (height, containing) {
+        (LengthPercentageOrAuto::Auto, _) => Len::Auto,
+        (LengthPercentageOrAuto::Length(length), _) => Len::Of(size_of(length)),
+        (LengthPercentageOrAuto::Percent(_), Len::Auto) => Len::Auto,
+        (LengthPercentageOrAuto::Percent(percent), Len::Of(containing)) => {
+            Len::Of(share_of(percent, containing))
+        }
+    }
+}
+
+pub(crate) fn used_min_height(containing: Len, height: LengthPercentage) -> Unit
+    ensures { result ≡ used_min_height containing height }
+{
+    match (height, containing) {
+        (LengthPercentage::Length(length), _) => size_of(length),
+        (LengthPercentage::Percent(_), Len::Auto) => Unit(0),
+        (LengthPercentage::Percent(percent), Len::Of(containing)) => share_of(percent, containing),
+    }
+}
+
+pub(crate) fn used_max_height(containing: Len, height: LengthPercentageOrNone) -> Option<Unit>
+    ensures { result ≡ used_max_height containing height }
+{
+    match (height, containing) {
+        (LengthPercentageOrNone::None, _) => None,
+        (LengthPercentageOrNone::Length(length), _) => Some(size_of(length)),
+        (LengthPercentageOrNone::Percent(_), Len::Auto) => None,
+        (LengthPercentageOrNone::Percent(percent), Len::Of(containing)) => {
+            Some(share_of(percent, containing))
+        }
+    }
+}
+
+/// The height of a content where it doesn't depend on what is in it.
+pub(crate) fn definite_height(height: Len, min: Unit, max: Option<Unit>) -> Len
+    ensures { result ≡ definite_height height min max }
+{
+    match height {
+        Len::Auto => Len::Auto,
+        Len::Of(height) => Len::Of(with_min_max(height, min, max)),
+    }
+}
+
 fn used_width(containing: Unit, width: LengthPercentageOrAuto) -> Len
     ensures { result ≡ used_width containing width }
 {
@@ -89,12 +153,12 @@ fn used_limit(containing: Unit, limit: LengthPercentageOrNone) -> Option<Unit>
     }
 }
 
-/// A percentage of a width, from 0.
-fn share_of(percent: Percent, width: Unit) -> Unit
-    ensures value { result ≡ size_of (percentage_of percent.0 width.0) }
+/// A percentage of a length, from 0.
+fn share_of(percent: Percent, length: Unit) -> Unit
+    ensures value { result ≡ size_of (percentage_of percent.0 length.0) }
     ensures size { IsUsedSize result.0 }
 {
-    size_of(percent_of(percent, width))
+    size_of(percent_of(percent, length))
 }
 
 fn length_of(length: Unit) -> Unit
