@@ -1,9 +1,11 @@
 pub mod UsedLengths
 pub mod BoxSizes
 pub mod ContextSizes
+pub mod SizeBounds
 pub mod ContextBlocks
 pub mod ContextList
 pub mod ContextPlaces
+pub mod PlaceBounds
 pub mod ContextOrder
 pub mod DocumentLayout
 pub mod Solves

@@ -7,9 +7,12 @@
 //! that a document has one tree.
 #![tactic(auto)]
 
+mod box_columns;
 mod box_sizes;
+mod context_blocks;
 mod context_list;
 mod context_places;
+mod context_shapes;
 mod context_spot;
 mod corner;
 mod used_lengths;
