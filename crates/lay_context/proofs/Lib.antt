@@ -1,3 +1,4 @@
 pub mod BlockSteps
 pub mod LeftSteps
 pub mod ShapeSteps
+pub mod FlowFacts
