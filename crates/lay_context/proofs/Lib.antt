@@ -4,3 +4,7 @@ pub mod SizesFit
 pub mod SizeSteps
 pub mod DocumentSizeSteps
 pub mod OneSizes
+pub mod BlockSteps
+pub mod LeftSteps
+pub mod ShapeSteps
+pub mod FlowFacts

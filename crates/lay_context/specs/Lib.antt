@@ -6,6 +6,7 @@ pub mod ContextBlocks
 pub mod ContextList
 pub mod InnerContexts
 pub mod ContextPlaces
+pub mod PlaceBounds
 pub mod ContextOrder
 pub mod DocumentLayout
 pub mod Solves

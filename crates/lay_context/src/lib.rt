@@ -9,9 +9,11 @@
 
 mod box_columns;
 mod box_sizes;
+mod context_blocks;
 mod context_columns;
 mod context_list;
 mod context_places;
+mod context_shapes;
 mod context_sizes;
 mod context_spot;
 mod corner;
