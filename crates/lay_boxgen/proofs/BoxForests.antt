@@ -23,10 +23,10 @@ from_parent parent at us le forest i lt = elim (forest.near i lt) [
   | inr b ↦ omega (arith, b.0)
 ]
 
-read_left : (xs ys : List ℕ) (i : ℕ) → i < length xs → get_or (xs ++ ys) i 0 ≡ get_or xs i 0
+pub read_left : (xs ys : List ℕ) (i : ℕ) → i < length xs → get_or (xs ++ ys) i 0 ≡ get_or xs i 0
 read_left xs ys i lt = grind (arith, elements)
 
-read_right : (xs ys : List ℕ) (i m : ℕ) → i ≡ length xs + m → get_or (xs ++ ys) i 0 ≡ get_or ys m 0
+pub read_right : (xs ys : List ℕ) (i m : ℕ) → i ≡ length xs + m → get_or (xs ++ ys) i 0 ≡ get_or ys m 0
 read_right xs ys i m e = grind (arith, elements)
 
 -- trees behind trees
@@ -82,11 +82,11 @@ grow parent at cs below = record { near = near; together = together }
 none : (parent at : ℕ) → IsForest parent at []
 none parent at = record { near = λ i lt. absurd (omega arith); together = λ i j lt within over. absurd (omega arith) }
 
-parents-append : (xs ys : List BoxNode) → box_parents (xs ++ ys) ≡ box_parents xs ++ box_parents ys
+pub parents-append : (xs ys : List BoxNode) → box_parents (xs ++ ys) ≡ box_parents xs ++ box_parents ys
 parents-append [] ys = refl
 parents-append (x ∷ xs) ys = ap (λ (us : List ℕ). x.parent ∷ us) (parents-append xs ys)
 
-length-parents : (xs : List BoxNode) → length (box_parents xs) ≡ length xs
+pub length-parents : (xs : List BoxNode) → length (box_parents xs) ≡ length xs
 length-parents [] = refl
 length-parents (x ∷ xs) = let e = length-parents xs in omega (arith, e)
 

@@ -81,6 +81,10 @@ module _ (P : Facts → Type 0) (opened : (f : Facts) → f.inner ≡ false → 
   AllKept p [] = Unit {0}
   AllKept p (t ∷ ts) = (keeps_form p (facts_of t).form ≡ true → AllBoxes P t) × AllKept p ts
 
+  pub every-kept : (p : Form) (ts : List Tree) → AllOf P ts → AllKept p ts
+  every-kept p [] h = tt
+  every-kept p (t ∷ ts) h = (λ kept. h.0, every-kept p ts h.1)
+
   columns_by : (p : Form) (t : Tree) (ts : List Tree) → is_column p ≡ false → is_column_group p ≡ true → AllKept p (t ∷ ts) → AllOf P (filter is_column_box ts)
       → (b : Bool) → is_column_box t ≡ b → AllOf P (if b then t ∷ filter is_column_box ts else filter is_column_box ts)
   columns_by p t ts e g h ih true c = (h.0 (simp (e, g, c) refl), ih)
@@ -168,7 +172,7 @@ module _ (P : Facts → Type 0) (opened : (f : Facts) → f.inner ≡ false → 
 
   module _ (make : Facts → List Tree → List Tree) (along : (f : Facts) (ts : List Tree) → P f → AllOf P ts → AllOf P (make f ts)) where
     mutual
-      every-remade : (t : Tree) → AllBoxes P t → AllOf P (remade make t)
+      pub every-remade : (t : Tree) → AllBoxes P t → AllOf P (remade make t)
       every-remade (tree f us) h = along f (all_remade make us) h.0 (every-all_remade us h.1)
 
       every-all_remade : (us : Trees) → AllIn P us → AllOf P (all_remade make us)
@@ -178,7 +182,7 @@ module _ (P : Facts → Type 0) (opened : (f : Facts) → f.inner ≡ false → 
     every-rule : (ts : List Tree) → AllOf P ts → AllOf P (all_remade make (trees_of ts))
     every-rule ts h = every-all_remade (trees_of ts) (every-in ts h)
 
-  every-in_box : (change : Facts → List Tree → List Tree) → ((f : Facts) (ts : List Tree) → AllOf P ts → AllOf P (change f ts))
+  pub every-in_box : (change : Facts → List Tree → List Tree) → ((f : Facts) (ts : List Tree) → AllOf P ts → AllOf P (change f ts))
       → (f : Facts) (ts : List Tree) → P f → AllOf P ts → AllOf P (in_box change f ts)
   every-in_box change along f ts p h = ((p, every-in (change f ts) (along f ts h)), tt)
 

@@ -4,9 +4,12 @@ pub mod Broken
 pub mod CutNodes
 pub mod CutParts
 pub mod EveryBox
+pub mod FirstBoxes
 pub mod InnerContexts
+pub mod InnerLeaves
 pub mod Inside
 pub mod ListedContexts
+pub mod ListedLeaves
 pub mod NodeColumns
 pub mod NodeForms
 pub mod Putting

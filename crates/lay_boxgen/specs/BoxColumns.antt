@@ -1,6 +1,7 @@
--- The boxes of a context as columns: the place of each box's parent, its node's id and its style. The boxes stand in
--- a tree: each parent before its children, and the boxes of each subtree together.
-use Rattle.std.specs.Prelude.{ℕ, List, map}
+-- The boxes of a context as columns: the place of each box's parent, its node's id, its style, and whether it is that
+-- of an inner context. The boxes stand in a tree: each parent before its children, and the boxes of each subtree
+-- together.
+use Rattle.std.specs.Prelude.{ℕ, Bool, List, map}
 use Rattle.lay_doc.specs.declared.node.Node.{Node}
 use Rattle.lay_doc.specs.declared.style.Style.{Style}
 use Rattle.lay_doc.specs.Tree.{IsTree}
@@ -16,6 +17,9 @@ box_ids boxes = map (λ b. b.node.0) boxes
 
 abbrev pub box_styles : List BoxNode → List Style
 box_styles boxes = map (λ b. b.style) boxes
+
+abbrev pub box_inner : List BoxNode → List Bool
+box_inner boxes = map (λ b. b.inner) boxes
 
 abbrev pub BoxesAreATree : Type 0
 BoxesAreATree = (nodes : List Node) (styles : List Style) (trees : List Tree) → IsTree (box_parents (listed_part nodes styles trees))

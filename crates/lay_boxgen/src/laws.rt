@@ -2,7 +2,7 @@
 
 ghost use Rattle.lay_boxgen.specs.BoxColumns.{BoxesAreATree};
 ghost use Rattle.lay_boxgen.specs.BreakLaws.{InlinesAreBroken};
-ghost use Rattle.lay_boxgen.specs.InnerBoxes.{BoxesLeadOn};
+ghost use Rattle.lay_boxgen.specs.InnerBoxes.{BoxesLeadOn, InnerBoxesAreLeaves};
 ghost use Rattle.lay_boxgen.specs.Laws.{AnchorsHoldBoxes, ContextIsOneBox, PartsAreWhole};
 ghost use Rattle.lay_boxgen.specs.RunLaws.{RunsAreReplaced};
 
@@ -41,4 +41,9 @@ pub fn boxes_are_a_tree()
 /// document.
 pub fn boxes_lead_on()
     ensures { BoxesLeadOn }
+{}
+
+/// In the list of a context's boxes the first isn't that of an inner context, and no box is inside one of those.
+pub fn inner_boxes_are_leaves()
+    ensures { InnerBoxesAreLeaves }
 {}

@@ -40,5 +40,5 @@ pub use display::{flow_of, used_display};
 pub use facts::Flow;
 pub use laws::{
     anchors_hold_boxes, boxes_are_a_tree, boxes_lead_on, context_is_one_box, inlines_are_broken,
-    parts_are_whole, runs_are_replaced,
+    inner_boxes_are_leaves, parts_are_whole, runs_are_replaced,
 };

@@ -1,5 +1,5 @@
 -- Columns of used sizes that grow in number, from outer to inner contexts.
-use Rattle.std.proofs.Common.{◌≡◌, ℕ, zero, suc, ◌+◌, ◌<◌, ◌≤◌, List, [], ◌∷◌, ◌++◌, length, get_or, refl, sym, ap, ◌∙◌, arith, inl, inr}
+use Rattle.std.proofs.Common.{◌≡◌, ℕ, zero, suc, ◌+◌, ◌<◌, ◌≤◌, List, [], ◌∷◌, ◌++◌, length, get_or, refl, sym, ap, arith, inl, inr}
 use Rattle.std.proofs.lemmas.Bool.{cases_lt}
 use Rattle.std.proofs.lemmas.Int.{ints}
 use Rattle.std.proofs.lemmas.Grind.{elements}
@@ -15,7 +15,7 @@ use Rattle.lay_context.specs.BoxSizes.{content_block}
 use Rattle.lay_context.specs.ContextSizes.{HasSizes, sizes_at}
 use Rattle.lay_context.specs.ContextList.{spot_at, boxes_in, boxes_of_trees}
 use Rattle.lay_context.specs.ContextOrder.{AreInOrder}
-use Rattle.lay_context.specs.DocumentLayout.{HasDocumentSizes, outer_block, sizes_in}
+use Rattle.lay_context.specs.DocumentLayout.{outer_block, sizes_in}
 use Rattle.lay_context.proofs.SizesFit.{have_size_bounds}
 use Rattle.lay_context.proofs.SizeSteps.{length-box_parents}
 
@@ -81,6 +81,3 @@ outer_fits viewport spots boxes sizes (suc n) fits order within so_far =
     let there = parent_within spots boxes order n within in
     let used = (have_size_bounds (outer_block viewport spots boxes sizes around) (boxes_in boxes around) (sizes_in sizes around) has parent (omega (arith, there, has.count))).width in
     (omega (arith, ints, used.0, used.1), omega (arith, ints, used.0, used.1))
-
-pub all_sizes : (viewport : ContainingBlock) (spots : List ContextSpot) (boxes : List (List BoxNode)) (sizes : List (List BoxSizes)) (n : ℕ) → n ≡ length boxes → DocumentSizesTo viewport spots boxes sizes n → HasDocumentSizes viewport spots boxes sizes
-all_sizes viewport spots boxes sizes n e so_far = record { count = so_far.count ∙ e; each = λ i lt. so_far.each i (omega arith) }

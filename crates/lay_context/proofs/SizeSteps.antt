@@ -1,5 +1,5 @@
 -- A column of used sizes that grows, from outer to inner boxes.
-use Rattle.std.proofs.Common.{◌≡◌, ℕ, zero, suc, ◌+◌, ◌<◌, ◌≤◌, List, [], ◌∷◌, ◌++◌, length, get_or, refl, sym, ap, ◌∙◌, arith, inl, inr}
+use Rattle.std.proofs.Common.{◌≡◌, ℕ, zero, suc, ◌+◌, ◌<◌, ◌≤◌, List, [], ◌∷◌, ◌++◌, length, get_or, refl, sym, ap, arith, inl, inr}
 use Rattle.std.proofs.lemmas.Bool.{cases_lt}
 use Rattle.std.proofs.lemmas.Int.{ints}
 use Rattle.std.proofs.lemmas.Grind.{elements}
@@ -11,7 +11,7 @@ use Rattle.lay_boxgen.specs.BoxColumns.{box_parents, box_styles}
 use Rattle.lay_context.specs.declared.box_sizes.BoxSizes.{BoxSizes}
 use Rattle.lay_context.specs.declared.box_sizes.ContainingBlock.{ContainingBlock}
 use Rattle.lay_context.specs.BoxSizes.{IsSized, content_block}
-use Rattle.lay_context.specs.ContextSizes.{HasSizes, containing_block, sizes_at}
+use Rattle.lay_context.specs.ContextSizes.{containing_block, sizes_at}
 use Rattle.lay_context.proofs.SizesFit.{size_fits}
 
 -- the boxes before n have their sizes
@@ -62,6 +62,3 @@ containing_fits outer boxes sizes (suc n) fits tree within so_far =
     let p : ℕ = get_or (box_parents boxes) (suc n) 0 in
     let used = (size_fits (containing_block outer (box_parents boxes) sizes p) (style_at (box_styles boxes) p) (sizes_at sizes p) (so_far.each p (parent_before boxes tree n within))).width in
     (omega (arith, ints, used.0, used.1), omega (arith, ints, used.0, used.1))
-
-pub all_sizes : (outer : ContainingBlock) (boxes : List BoxNode) (sizes : List BoxSizes) (n : ℕ) → n ≡ length boxes → SizesTo outer boxes sizes n → HasSizes outer boxes sizes
-all_sizes outer boxes sizes n e so_far = record { count = so_far.count ∙ e; each = λ k lt. so_far.each k (omega arith) }

@@ -1,9 +1,7 @@
 -- The used sizes of one box beside its containing block (CSS 2.2, 8.3 to 8.5, 10.2 to 10.5 and 10.7): its horizontal
 -- margins and its width by 10.3.3, or by 10.3.5 where it floats, its borders and paddings, its vertical margins, and its
 -- height with the bounds of that, as far as they don't depend on what is in it.
-use Rattle.std.specs.Prelude.{◌≡◌, ◌+ℤ◌, ℤ, pos, None}
-use Rattle.lay_units.specs.declared.length.Unit.{Unit as Length}
-use Rattle.lay_units.specs.declared.records.Len.TheVariants.{Auto as auto}
+use Rattle.std.specs.Prelude.{◌≡◌, ◌+ℤ◌, ℤ}
 use Rattle.lay_units.specs.declared.records.BlockIn.{BlockIn}
 use Rattle.lay_doc.specs.declared.style.Style.{Style}
 use Rattle.lay_widths.specs.declared.widths.BlockOut.{BlockOut}

@@ -1,10 +1,9 @@
 -- The boxes of one context as its block formatting context takes them (CSS 2.2, 9.4.1 and 9.5). The box of an inner context
 -- floats, or is solid: no float of this context overlaps it. The others are plain blocks, and the context's own box is one.
 -- Horizontal positions are counted from the left border edge of the context's own box.
-use Rattle.std.specs.Prelude.{ℕ, zero, suc, ◌≡◌, ◌<◌, ◌+ℤ◌, ◌&&◌, Bool, true, false, pos, List, length, map, slice_index, Option, Some, None, if◌then◌else◌}
+use Rattle.std.specs.Prelude.{ℕ, zero, suc, ◌≡◌, ◌<◌, ◌+ℤ◌, ◌&&◌, Bool, true, false, List, length, map, slice_index, Option, Some, None, if◌then◌else◌}
 use Rattle.lay_units.specs.declared.length.Unit.{Unit as Length}
 use Rattle.lay_units.specs.declared.records.Len.TheVariants.{Auto as auto}
-use Rattle.lay_doc.specs.declared.style.Style.{Style}
 use Rattle.lay_doc.specs.declared.style_words.Float.{Float}
 use Rattle.lay_doc.specs.declared.style_words.Float.TheVariants as float
 use Rattle.lay_doc.specs.declared.style_words.Clear.{Clear as ClearStyle}

@@ -1,8 +1,7 @@
 -- Where the boxes of one context stand, counted from the corner of its own border box (CSS 2.2, 9.4.1 and 9.5), beside the
 -- used sizes and the heights of inner contexts.
-use Rattle.std.specs.Prelude.{ℕ, zero, suc, ◌≡◌, ◌<◌, ◌+ℤ◌, List, [], ◌∷◌, ◌++◌, length, map, slice_index, slice_index_or, Option, Some, None, if◌then◌else◌}
+use Rattle.std.specs.Prelude.{ℕ, zero, suc, ◌+ℤ◌, List, [], ◌∷◌, ◌++◌, length, map, slice_index, if◌then◌else◌}
 use Rattle.lay_units.specs.declared.length.Unit.{Unit as Length}
-use Rattle.lay_units.specs.declared.records.Rect.{Rect}
 use Rattle.lay_frag.specs.declared.frag.Frag.{Frag}
 use Rattle.lay_frag.specs.declared.frag.FragKind.TheVariants.{Box}
 use Rattle.lay_boxgen.specs.declared.box_tree.BoxNode.{BoxNode}

@@ -8,7 +8,7 @@ use Rattle.lay_doc.specs.declared.style_words.Float.TheVariants as float
 use Rattle.lay_doc.specs.ComputedStyle.{style_at}
 use Rattle.lay_boxgen.specs.declared.box_tree.BoxNode.{BoxNode}
 use Rattle.lay_boxgen.specs.declared.facts.Flow.{Flow}
-use Rattle.lay_boxgen.specs.declared.facts.Flow.TheVariants.{InFlow, Floating, Absolute}
+use Rattle.lay_boxgen.specs.declared.facts.Flow.TheVariants.{Floating}
 use Rattle.lay_boxgen.specs.Display.{flow_of}
 use Rattle.lay_boxgen.specs.BoxColumns.{box_parents, box_styles}
 use Rattle.lay_flow.specs.StackedBlocks.{length_at}

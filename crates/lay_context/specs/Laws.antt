@@ -1,24 +1,30 @@
 -- The equations of a document have one solution: each column has one value beside those before it, and so has the tree.
 use Rattle.std.specs.Prelude.{◌≡◌, List}
 use Rattle.lay_doc.specs.Document.{Document, IsDocument}
+use Rattle.lay_doc.specs.Tree.{IsTree}
 use Rattle.lay_frag.specs.Pieces.{Context}
 use Rattle.lay_boxgen.specs.declared.box_tree.BoxNode.{BoxNode}
+use Rattle.lay_boxgen.specs.BoxColumns.{box_parents}
 use Rattle.lay_context.specs.declared.box_sizes.BoxSizes.{BoxSizes}
 use Rattle.lay_context.specs.declared.box_sizes.ContainingBlock.{ContainingBlock}
 use Rattle.lay_context.specs.declared.context_spot.ContextSpot.{ContextSpot}
 use Rattle.lay_context.specs.declared.corner.Corner.{Corner}
+use Rattle.lay_context.specs.ContextSizes.{HasSizes}
 use Rattle.lay_context.specs.ContextPlaces.{ContextPlaces}
 use Rattle.lay_context.specs.ContextOrder.{AreInOrder}
 use Rattle.lay_context.specs.DocumentLayout.{HasDocumentSizes, HasDocumentPlaces, HasPageCorners}
 use Rattle.lay_context.specs.Solves.{Solves}
 
+-- the boxes of a context have one column of used sizes
+abbrev pub OneContextSizes : Type 0
+OneContextSizes = (outer : ContainingBlock) (boxes : List BoxNode) (x y : List BoxSizes) → IsTree (box_parents boxes) → HasSizes outer boxes x → HasSizes outer boxes y → x ≡ y
+
+-- the contexts of a document have one list of such columns
 abbrev pub OneDocumentSizes : Type 0
-OneDocumentSizes = (viewport : ContainingBlock) (spots : List ContextSpot) (boxes : List (List BoxNode)) (x y : List (List BoxSizes)) → AreInOrder spots boxes
-    → HasDocumentSizes viewport spots boxes x → HasDocumentSizes viewport spots boxes y → x ≡ y
+OneDocumentSizes = (viewport : ContainingBlock) (spots : List ContextSpot) (boxes : List (List BoxNode)) (x y : List (List BoxSizes)) → AreInOrder spots boxes → HasDocumentSizes viewport spots boxes x → HasDocumentSizes viewport spots boxes y → x ≡ y
 
 abbrev pub OneDocumentPlaces : Type 0
-OneDocumentPlaces = (spots : List ContextSpot) (boxes : List (List BoxNode)) (sizes : List (List BoxSizes)) (x y : List ContextPlaces) → AreInOrder spots boxes
-    → HasDocumentPlaces spots boxes sizes x → HasDocumentPlaces spots boxes sizes y → x ≡ y
+OneDocumentPlaces = (spots : List ContextSpot) (boxes : List (List BoxNode)) (sizes : List (List BoxSizes)) (x y : List ContextPlaces) → AreInOrder spots boxes → HasDocumentPlaces spots boxes sizes x → HasDocumentPlaces spots boxes sizes y → x ≡ y
 
 abbrev pub OnePageCorners : Type 0
 OnePageCorners = (viewport : ContainingBlock) (spots : List ContextSpot) (boxes : List (List BoxNode)) (sizes : List (List BoxSizes)) (places : List ContextPlaces) (x y : List Corner) → AreInOrder spots boxes

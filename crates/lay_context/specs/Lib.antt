@@ -4,7 +4,9 @@ pub mod ContextSizes
 pub mod SizeBounds
 pub mod ContextBlocks
 pub mod ContextList
+pub mod InnerContexts
 pub mod ContextPlaces
+pub mod PlaceBounds
 pub mod ContextOrder
 pub mod DocumentLayout
 pub mod OwnBoxes

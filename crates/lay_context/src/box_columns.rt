@@ -1,13 +1,43 @@
 //! Reading the columns of one context's boxes.
 
-ghost use Rattle.std.specs.Prelude.{◌≡◌, ◌<◌, length, slice_index};
+ghost use Rattle.std.specs.Prelude.{◌≡◌, ◌+ℤ◌, ◌<◌, length, slice_index, IfOk};
+ghost use Rattle.lay_units.specs.Units.{IsPosition};
 ghost use Rattle.lay_doc.specs.ComputedStyle.{style_at};
 ghost use Rattle.lay_boxgen.specs.BoxColumns.{box_parents, box_styles};
+ghost use Rattle.lay_flow.specs.StackedBlocks.{length_at};
+ghost use Rattle.lay_context.specs.BoxSizes.{border_width, margin_width};
+ghost use Rattle.lay_context.specs.SizeBounds.{SizeFits};
 ghost use Rattle.lay_context.specs.ContextSizes.{sizes_at};
+ghost use Rattle.lay_context.specs.ContextBlocks.{is_floating, is_float, is_inner};
+ghost use Rattle.lay_context.specs.ContextPlaces.{no_lines};
 
 use crate::box_sizes::BoxSizes;
-use lay_boxgen::BoxNode;
+use lay_boxgen::{BoxNode, Flow, flow_of};
 use lay_doc::Style;
+use lay_units::{NoMemory, Unit};
+use std::alloc::Global;
+
+/// The place of each box's parent.
+pub(crate) fn box_parents(alloc: Global, boxes: &[BoxNode]) -> Result<Vec<usize>, NoMemory>
+    ensures { IfOk result (λ v. v.items ≡ box_parents boxes.now) }
+{
+    let mut parents = Vec::with_capacity(alloc, boxes.len())?;
+    for node in boxes {
+        parents.push(node.parent as usize)?;
+    }
+    Ok(parents)
+}
+
+/// The heights of the lines in each box: none holds any.
+pub(crate) fn no_lines(alloc: Global, boxes: &[BoxNode]) -> Result<Vec<Unit>, NoMemory>
+    ensures { IfOk result (λ v. v.items ≡ no_lines boxes.now) }
+{
+    let mut lines = Vec::with_capacity(alloc, boxes.len())?;
+    for _node in boxes {
+        lines.push(Unit(0))?;
+    }
+    Ok(lines)
+}
 
 pub(crate) fn parent_at(boxes: &[BoxNode], k: usize) -> usize
     requires { k < length boxes.now }
@@ -23,9 +53,74 @@ pub(crate) fn style_at(boxes: &[BoxNode], k: usize) -> &Style
     &boxes[k].style
 }
 
+/// The box at k is that of an inner context.
+pub(crate) fn is_inner(boxes: &[BoxNode], k: usize) -> bool
+    requires { k < length boxes.now }
+    ensures { result ≡ is_inner boxes.now k }
+{
+    boxes[k].inner
+}
+
+/// The box at k is that of an inner context which floats.
+pub(crate) fn is_float(boxes: &[BoxNode], k: usize) -> bool
+    requires { k < length boxes.now }
+    ensures { result ≡ is_float boxes.now k }
+{
+    let floats = is_floating(flow_of(style_at(boxes, k)));
+    is_inner(boxes, k) && floats
+}
+
+fn is_floating(flow: Flow) -> bool
+    ensures { result ≡ is_floating flow }
+{
+    match flow {
+        Flow::InFlow => false,
+        Flow::Floating => true,
+        Flow::Absolute => false,
+    }
+}
+
 pub(crate) fn sizes_at(sizes: &[BoxSizes], k: usize) -> BoxSizes
     requires { k < length sizes.now }
     ensures { result ≡ sizes_at sizes.now k }
 {
     sizes[k]
+}
+
+pub(crate) fn length_at(column: &[Unit], k: usize) -> Unit
+    requires { k < length column.now }
+    ensures { result ≡ record { 0 = length_at column.now k } }
+{
+    column[k]
+}
+
+/// The width of a border box.
+pub(crate) fn border_width(sizes: BoxSizes) -> Unit
+    requires { SizeFits sizes }
+    ensures { result ≡ record { 0 = border_width sizes } }
+{
+    sum_of(
+        sum_of(sizes.widths.width, sizes.edges.left),
+        sizes.edges.right,
+    )
+}
+
+/// The width of a margin box.
+pub(crate) fn margin_width(sizes: BoxSizes) -> Unit
+    requires { SizeFits sizes }
+    ensures { result ≡ record { 0 = margin_width sizes } }
+{
+    sum_of(
+        sum_of(sizes.widths.margin_left, border_width(sizes)),
+        sizes.widths.margin_right,
+    )
+}
+
+/// The sum of two positions.
+pub(crate) fn sum_of(a: Unit, b: Unit) -> Unit
+    requires a { IsPosition a.0 }
+    requires b { IsPosition b.0 }
+    ensures { result ≡ record { 0 = a.0 +ℤ b.0 } }
+{
+    Unit(a.0 + b.0)
 }

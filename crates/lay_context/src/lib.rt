@@ -9,15 +9,20 @@
 
 mod box_columns;
 mod box_sizes;
+mod context_blocks;
 mod context_columns;
 mod context_list;
 mod context_places;
+mod context_shapes;
 mod context_sizes;
 mod context_spot;
 mod context_tree;
 mod corner;
+mod document_sizes;
+mod laws;
 mod page_corners;
 mod page_range;
-mod document_sizes;
 mod size_column;
 mod used_lengths;
+
+pub use laws::{one_context_sizes, one_document_sizes};

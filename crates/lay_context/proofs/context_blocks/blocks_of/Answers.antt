@@ -1,0 +1,13 @@
+use Rattle.std.proofs.Common.{arith}
+use Rattle.std.proofs.lemmas.Grind.{elements}
+use Rattle.lay_context.specs.ContextBlocks.{block_of_box}
+use Rattle.lay_context.proofs.BlockSteps.{one_more}
+use Rattle.lay_context.proofs.context_blocks.blocks_of.Goals as goal
+
+pub loop-k-preserved : goal.loop-k-preserved
+loop-k-preserved c =
+    let ok = c.in_ok-push.ensures {u = tt} in
+    record {
+      count = rw ok.items (grind (arith, elements, c.loop-k.invariant.count));
+      each = rw ok.items (one_more (block_of_box c.args.boxes.now c.args.sizes.now) c.loop-k.blocks.items c.loop-k.k c.block_of_box.result c.loop-k.invariant.count c.loop-k.invariant.each c.block_of_box.ensures);
+    }

@@ -1,0 +1,13 @@
+//! The laws of the definitions: the equations of a document have one solution.
+
+ghost use Rattle.lay_context.specs.Laws.{OneContextSizes, OneDocumentSizes};
+
+/// The used sizes of the boxes of a context are the only ones that meet their equations.
+pub fn one_context_sizes()
+    ensures { OneContextSizes }
+{}
+
+/// So are those of the contexts of a document.
+pub fn one_document_sizes()
+    ensures { OneDocumentSizes }
+{}
