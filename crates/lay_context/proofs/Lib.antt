@@ -1,6 +1,5 @@
 pub mod OneCorners
 pub mod OneTree
-pub mod PageRange
 pub mod SizesFit
 pub mod SizeSteps
 pub mod DocumentSizeSteps

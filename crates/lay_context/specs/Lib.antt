@@ -9,7 +9,5 @@ pub mod ContextPlaces
 pub mod PlaceBounds
 pub mod ContextOrder
 pub mod DocumentLayout
-pub mod OwnBoxes
-pub mod PageRange
 pub mod Solves
 pub mod Laws

@@ -21,7 +21,6 @@ mod corner;
 mod document_sizes;
 mod laws;
 mod page_corners;
-mod page_range;
 mod size_column;
 mod used_lengths;
 

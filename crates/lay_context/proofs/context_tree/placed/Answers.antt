@@ -1,9 +1,0 @@
-use Rattle.std.proofs.Common.{refl, ◌∙◌}
-use Rattle.lay_context.proofs.PageRange.{context_in_range}
-use Rattle.lay_context.proofs.context_tree.placed.Goals as goal
-
-pub returns-clause-range : goal.returns-clause-range
-returns-clause-range c =
-    let pieces = (c.in_ok-pieces-2.ensures {u = tt}).ok ∙ c.new.ensures in
-    let halfway = rw c.deref.ensures.value at (c.if-not-are_halfway.ensures {u = tt} cc) in
-    rw (c.new-3.ensures, pieces) (context_in_range _ refl (c.if-not-is_rect_halfway.ensures {u = tt} cc) halfway)
