@@ -2,3 +2,4 @@ pub mod BlockSteps
 pub mod LeftSteps
 pub mod ShapeSteps
 pub mod FlowFacts
+pub mod PieceSteps

@@ -15,4 +15,6 @@ mod context_places;
 mod context_shapes;
 mod context_spot;
 mod corner;
+mod corners;
+mod pieces;
 mod used_lengths;
