@@ -15,3 +15,4 @@ pub mod BlockSteps
 pub mod LeftSteps
 pub mod ShapeSteps
 pub mod FlowFacts
+pub mod PieceSteps

@@ -22,6 +22,8 @@ mod document_sizes;
 mod laws;
 mod page_corners;
 mod size_column;
+mod corners;
+mod pieces;
 mod used_lengths;
 
 pub use laws::{one_context_sizes, one_document_sizes};
