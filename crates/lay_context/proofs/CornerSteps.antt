@@ -1,5 +1,5 @@
 -- A column of the contexts' corners on the page that grows, from outer to inner contexts.
-use Rattle.std.proofs.Common.{◌≡◌, ℕ, zero, suc, ◌+◌, ◌<◌, ◌≤◌, List, [], ◌∷◌, ◌++◌, length, refl, sym, ◌∙◌, arith, inl, inr}
+use Rattle.std.proofs.Common.{◌≡◌, ℕ, zero, suc, ◌+◌, ◌<◌, ◌≤◌, List, [], ◌∷◌, ◌++◌, length, length-append, refl, sym, ◌∙◌, arith, inl, inr}
 use Rattle.std.proofs.lemmas.Bool.{cases_lt}
 use Rattle.std.proofs.lemmas.Grind.{elements}
 use Rattle.lay_boxgen.specs.declared.box_tree.BoxNode.{BoxNode}
@@ -7,8 +7,10 @@ use Rattle.lay_context.specs.declared.box_sizes.BoxSizes.{BoxSizes}
 use Rattle.lay_context.specs.declared.box_sizes.ContainingBlock.{ContainingBlock}
 use Rattle.lay_context.specs.declared.context_spot.ContextSpot.{ContextSpot}
 use Rattle.lay_context.specs.declared.corner.Corner.{Corner}
+use Rattle.lay_context.specs.ContextList.{spot_at}
 use Rattle.lay_context.specs.ContextPlaces.{ContextPlaces}
 use Rattle.lay_context.specs.ContextOrder.{AreInOrder}
+use Rattle.lay_context.specs.PlaceBounds.{AreNearCorners, IsCornerNear}
 use Rattle.lay_context.specs.DocumentLayout.{HasPageCorners, page_corner, corner_at}
 
 -- the contexts before n have their corners
@@ -27,7 +29,7 @@ page_corner_before : (viewport : ContainingBlock) (spots : List ContextSpot) (bo
 page_corner_before viewport spots boxes sizes places cs c order zero within le = refl
 page_corner_before viewport spots boxes sizes places cs c order (suc i) within le =
     let around = order.around (suc i) (omega arith) (omega (arith, within, order.count)) in
-    rw (read_before cs c _ (omega (arith, around, le))) refl
+    rw (read_before cs c (spot_at spots (suc i)).around (omega (arith, around, le))) refl
 
 pub one_more : (viewport : ContainingBlock) (spots : List ContextSpot) (boxes : List (List BoxNode)) (sizes : List (List BoxSizes)) (places : List ContextPlaces) (cs : List Corner) (n : ℕ) (c : Corner) → AreInOrder spots boxes
     → n < length boxes → PageCornersTo viewport spots boxes sizes places cs n → c ≡ page_corner viewport spots boxes sizes places cs n → PageCornersTo viewport spots boxes sizes places (cs ++ c ∷ []) (n + 1)
@@ -43,3 +45,9 @@ one_more viewport spots boxes sizes places cs n c order within so_far is = recor
 pub all_corners : (viewport : ContainingBlock) (spots : List ContextSpot) (boxes : List (List BoxNode)) (sizes : List (List BoxSizes)) (places : List ContextPlaces) (cs : List Corner) (n : ℕ) → n ≡ length boxes
     → PageCornersTo viewport spots boxes sizes places cs n → HasPageCorners viewport spots boxes sizes places cs
 all_corners viewport spots boxes sizes places cs n e so_far = record { count = so_far.count ∙ e; each = λ i lt. so_far.each i (omega (arith, e, lt)) }
+
+pub one_more_near : (cs : List Corner) (c : Corner) → AreNearCorners cs → IsCornerNear c → AreNearCorners (cs ++ c ∷ [])
+one_more_near cs c are is i lt = elim (cases_lt i (length cs)) [
+  | inl low ↦ rw (read_before cs c i low) (are i low)
+  | inr high ↦ (let counted : length (cs ++ c ∷ []) ≡ length cs + 1 = length-append cs (c ∷ []) in rw (read_last cs c i (omega (arith, high, lt, counted))) is)
+]

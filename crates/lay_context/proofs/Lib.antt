@@ -7,12 +7,10 @@ pub mod CornerSteps
 pub mod TreeSteps
 pub mod SpotLists
 pub mod SpotOrder
-pub mod SizesFit
-pub mod SizeSteps
-pub mod DocumentSizeSteps
 pub mod OneSizes
 pub mod BlockSteps
 pub mod LeftSteps
 pub mod ShapeSteps
 pub mod FlowFacts
 pub mod PieceSteps
+pub mod PageRange

@@ -4,6 +4,13 @@ use Rattle.std.proofs.lemmas.Bool.{cases_lt}
 use Rattle.std.proofs.lemmas.Grind.{elements}
 use Rattle.lay_frag.specs.Pieces.{Context, frags_of, page_pieces, IsContextInRange, IsTreeInRange}
 use Rattle.lay_frag.proofs.PieceLemmas.{length-page_pieces}
+use Rattle.lay_boxgen.specs.declared.box_tree.BoxNode.{BoxNode}
+use Rattle.lay_context.specs.declared.box_sizes.BoxSizes.{BoxSizes}
+use Rattle.lay_context.specs.declared.corner.Corner.{Corner}
+use Rattle.lay_context.specs.ContextList.{boxes_in}
+use Rattle.lay_context.specs.ContextPlaces.{ContextPlaces}
+use Rattle.lay_context.specs.DocumentLayout.{sizes_in, places_in, corner_at}
+use Rattle.lay_context.specs.Solves.{context_of, IsTreeOf}
 
 -- the first n contexts are these, are in range, and have at most 16384 pieces each
 pub record TreeTo (of : ℕ → Context) (tree : List Context) (n : ℕ) : Type 0 where
@@ -43,3 +50,7 @@ tree_in_range of tree n few so_far = record {
   contexts = λ j lt. so_far.range j (omega (arith, lt, so_far.count));
   few = omega (arith, so_far.few, few);
 }
+
+pub all_contexts : (boxes : List (List BoxNode)) (sizes : List (List BoxSizes)) (places : List ContextPlaces) (corners : List Corner) (tree : List Context) (n : ℕ) → n ≡ length boxes
+    → TreeTo (λ i. context_of (boxes_in boxes i) (sizes_in sizes i) (places_in places i) (corner_at corners i)) tree n → IsTreeOf boxes sizes places corners tree
+all_contexts boxes sizes places corners tree n e so_far = record { count = so_far.count ∙ e; each = λ i lt. so_far.each i (omega (arith, e, lt)) }

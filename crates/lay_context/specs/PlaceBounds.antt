@@ -9,7 +9,9 @@ use Rattle.lay_flow.specs.CornersTo.{IsBoxHeight}
 use Rattle.lay_flow.specs.StackedBlocks.{length_at}
 use Rattle.lay_context.specs.declared.box_sizes.BoxSizes.{BoxSizes}
 use Rattle.lay_context.specs.declared.corner.Corner.{Corner}
+use Rattle.lay_context.specs.ContextList.{boxes_in}
 use Rattle.lay_context.specs.ContextPlaces.{ContextPlaces}
+use Rattle.lay_context.specs.DocumentLayout.{sizes_in, places_in, corner_at}
 
 -- each column has an entry for each box
 pub record HaveCounts (boxes : List BoxNode) (sizes : List BoxSizes) (p : ContextPlaces) : Type 0 where
@@ -43,3 +45,12 @@ pub record IsRectNear (r : Rect) : Type 0 where
 
 abbrev pub AreNearPieces : List Frag → Type 0
 AreNearPieces pieces = (k : ℕ) → k < length pieces → IfSome (slice_get pieces k) (λ f. IsRectNear f.rect)
+
+abbrev pub AreNearCorners : List Corner → Type 0
+AreNearCorners corners = (i : ℕ) → i < length corners → IsCornerNear (corner_at corners i)
+
+-- each context has columns with an entry for each of its boxes
+pub record HaveDocumentCounts (boxes : List (List BoxNode)) (sizes : List (List BoxSizes)) (places : List ContextPlaces) : Type 0 where
+  pub size_count : length sizes ≡ length boxes
+  pub place_count : length places ≡ length boxes
+  pub each : (i : ℕ) → i < length boxes → HaveCounts (boxes_in boxes i) (sizes_in sizes i) (places_in places i)

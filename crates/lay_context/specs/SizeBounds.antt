@@ -6,6 +6,7 @@ use Rattle.lay_flow.specs.CornersTo.{IsInset}
 use Rattle.lay_flow.specs.BlockPositions.{given_or_auto}
 use Rattle.lay_context.specs.declared.box_sizes.BoxSizes.{BoxSizes}
 use Rattle.lay_context.specs.ContextSizes.{sizes_at}
+use Rattle.lay_context.specs.DocumentLayout.{sizes_in}
 
 pub record SizeFits (z : BoxSizes) : Type 0 where
   pub margin_left : IsUsed z.widths.margin_left.0
@@ -22,3 +23,6 @@ pub record SizeFits (z : BoxSizes) : Type 0 where
 
 abbrev pub HaveSizeBounds : List BoxSizes → Type 0
 HaveSizeBounds sizes = (k : ℕ) → k < length sizes → SizeFits (sizes_at sizes k)
+
+abbrev pub HaveDocumentSizeBounds : List (List BoxSizes) → Type 0
+HaveDocumentSizeBounds sizes = (i : ℕ) → i < length sizes → HaveSizeBounds (sizes_in sizes i)

@@ -5,7 +5,7 @@ ghost use Rattle.lay_frag.specs.Pieces.{IsContextInRange};
 ghost use Rattle.lay_context.specs.ContextList.{boxes_of_trees};
 ghost use Rattle.lay_context.specs.ContextOrder.{AreInOrder};
 ghost use Rattle.lay_context.specs.ContextPlaces.{columns_of};
-ghost use Rattle.lay_context.specs.PlaceBounds.{AreNearCorners, HaveCounts, HaveDocumentCounts, IsCornerNear};
+ghost use Rattle.lay_context.specs.PlaceBounds.{AreNearCorners, HaveCounts, HaveDocumentCounts, IsCornerNear, IsRectNear};
 ghost use Rattle.lay_context.specs.SizeBounds.{HaveDocumentSizeBounds, HaveSizeBounds};
 ghost use Rattle.lay_context.specs.Solves.{context_of, own_rect, IsTreeOf};
 
@@ -15,6 +15,7 @@ use crate::context_columns::boxes_in;
 use crate::context_list::ContextList;
 use crate::context_places::BoxPlaces;
 use crate::corner::Corner;
+use crate::corners::near_position;
 use crate::page_corners::{corner_at, places_in};
 use crate::pieces::pieces_of;
 use crate::size_column::{SizeColumn, sizes_in};
@@ -70,7 +71,7 @@ fn placed(
     ensures range { IfOk result IsContextInRange }
     ensures few { IfOk result (λ c. length c.pieces ≤ 16384) }
 {
-    let rect = own_rect(sizes, places, corner);
+    let rect = own_rect(sizes, places, corner)?;
     let pieces = pieces_of(alloc, boxes, sizes, places)?;
     if pieces.len() > MOST_CONTEXTS {
         return Err(NoMemory);
@@ -80,16 +81,18 @@ fn placed(
 }
 
 /// The border box of a context on the page.
-fn own_rect(sizes: &[BoxSizes], places: &BoxPlaces, corner: Corner) -> Rect
+fn own_rect(sizes: &[BoxSizes], places: &BoxPlaces, corner: Corner) -> Result<Rect, NoMemory>
     requires some { 0 < length sizes.now }
     requires heights { 0 < length places.now.heights.items }
     requires bounds { HaveSizeBounds sizes.now }
-    ensures { result ≡ own_rect sizes.now (columns_of places.now) corner }
+    requires near { IsCornerNear corner }
+    ensures rect { IfOk result (λ r. r ≡ own_rect sizes.now (columns_of places.now) corner) }
+    ensures near { IfOk result IsRectNear }
 {
-    Rect {
+    Ok(Rect {
         x: corner.x,
         y: corner.y,
         w: border_width(sizes[0]),
-        h: places.heights[0],
-    }
+        h: near_position(places.heights[0])?,
+    })
 }

@@ -50,7 +50,8 @@ fn float_corner(place: Place, sizes: BoxSizes) -> Result<Corner, NoMemory>
     Ok(Corner { x, y })
 }
 
-fn near_corner(x: Unit, y: Unit) -> Result<Corner, NoMemory>
+/// A corner. NoMemory is the answer where it is more than 2^60 units away.
+pub(crate) fn near_corner(x: Unit, y: Unit) -> Result<Corner, NoMemory>
     ensures corner { IfOk result (λ c. c ≡ record { x = x; y = y }) }
     ensures near { IfOk result IsCornerNear }
 {

@@ -18,12 +18,12 @@ mod context_sizes;
 mod context_spot;
 mod context_tree;
 mod corner;
+mod corners;
 mod document_sizes;
 mod laws;
 mod page_corners;
-mod size_column;
-mod corners;
 mod pieces;
+mod size_column;
 mod used_lengths;
 
 pub use laws::{one_context_sizes, one_document_sizes};
