@@ -8,3 +8,4 @@ pub mod BlockSteps
 pub mod LeftSteps
 pub mod ShapeSteps
 pub mod FlowFacts
+pub mod PlaceSteps
