@@ -3,3 +3,5 @@ pub mod LeftSteps
 pub mod ShapeSteps
 pub mod FlowFacts
 pub mod PieceSteps
+pub mod OnePlaces
+pub mod PlaceFacts
