@@ -5,3 +5,4 @@ pub mod FlowFacts
 pub mod PieceSteps
 pub mod OnePlaces
 pub mod PlaceFacts
+pub mod PieceRanges
