@@ -9,3 +9,7 @@ pub mod LeftSteps
 pub mod ShapeSteps
 pub mod FlowFacts
 pub mod PlaceSteps
+pub mod PieceSteps
+pub mod OnePlaces
+pub mod PlaceFacts
+pub mod PieceRanges

@@ -1,9 +1,23 @@
--- Within which bounds the places in one context are, and what functions over its columns are given.
-use Rattle.std.specs.Prelude.{ℕ, ◌<◌, pos, List, length}
+-- Within which bounds the places in one context are, and how long its columns are.
+use Rattle.std.specs.Prelude.{ℕ, ◌<◌, ◌≡◌, ℤ, pos, List, length, slice_get, IfSome}
 use Rattle.lay_units.specs.declared.length.Unit.{Unit as Length}
+use Rattle.lay_units.specs.declared.records.Rect.{Rect}
+use Rattle.lay_boxgen.specs.declared.box_tree.BoxNode.{BoxNode}
+use Rattle.lay_frag.specs.declared.frag.Frag.{Frag}
 use Rattle.lay_floats.specs.Within.{IsWithin}
 use Rattle.lay_flow.specs.CornersTo.{IsBoxHeight}
 use Rattle.lay_flow.specs.StackedBlocks.{length_at}
+use Rattle.lay_context.specs.declared.box_sizes.BoxSizes.{BoxSizes}
+use Rattle.lay_context.specs.declared.corner.Corner.{Corner}
+use Rattle.lay_context.specs.ContextPlaces.{ContextPlaces}
+
+-- each column has an entry for each box
+pub record HaveCounts (boxes : List BoxNode) (sizes : List BoxSizes) (p : ContextPlaces) : Type 0 where
+  pub size_count : length sizes ≡ length boxes
+  pub left_count : length p.lefts ≡ length boxes
+  pub top_count : length p.tops ≡ length boxes
+  pub height_count : length p.heights ≡ length boxes
+  pub place_count : length p.places ≡ length boxes
 
 -- the left border edges are at most 2^49 units away
 abbrev pub AreNearLefts : List Length → Type 0
@@ -12,3 +26,20 @@ AreNearLefts lefts = (k : ℕ) → k < length lefts → IsWithin (pos 5629499534
 -- the heights are those of border boxes
 abbrev pub HaveBoxHeights : List Length → Type 0
 HaveBoxHeights heights = (k : ℕ) → k < length heights → IsBoxHeight (length_at heights k)
+
+-- at most 2^60 units from 0
+abbrev pub IsNear : ℤ → Type 0
+IsNear v = IsWithin (pos 1152921504606846976) v
+
+pub record IsCornerNear (c : Corner) : Type 0 where
+  pub x : IsNear c.x.0
+  pub y : IsNear c.y.0
+
+pub record IsRectNear (r : Rect) : Type 0 where
+  pub x : IsNear r.x.0
+  pub y : IsNear r.y.0
+  pub w : IsNear r.w.0
+  pub h : IsNear r.h.0
+
+abbrev pub AreNearPieces : List Frag → Type 0
+AreNearPieces pieces = (k : ℕ) → k < length pieces → IfSome (slice_get pieces k) (λ f. IsRectNear f.rect)

@@ -10,6 +10,7 @@ ghost use Rattle.lay_context.specs.SizeBounds.{SizeFits};
 ghost use Rattle.lay_context.specs.ContextSizes.{sizes_at};
 ghost use Rattle.lay_context.specs.ContextBlocks.{is_floating, is_float, is_inner};
 ghost use Rattle.lay_context.specs.ContextPlaces.{no_lines};
+ghost use Rattle.lay_context.specs.PlaceBounds.{IsNear};
 
 use crate::box_sizes::BoxSizes;
 use lay_boxgen::{BoxNode, Flow, flow_of};
@@ -97,7 +98,8 @@ pub(crate) fn length_at(column: &[Unit], k: usize) -> Unit
 /// The width of a border box.
 pub(crate) fn border_width(sizes: BoxSizes) -> Unit
     requires { SizeFits sizes }
-    ensures { result ≡ record { 0 = border_width sizes } }
+    ensures value { result ≡ record { 0 = border_width sizes } }
+    ensures near { IsNear result.0 }
 {
     sum_of(
         sum_of(sizes.widths.width, sizes.edges.left),

@@ -17,10 +17,12 @@ mod context_shapes;
 mod context_sizes;
 mod context_spot;
 mod corner;
+mod corners;
 mod document_places;
 mod document_sizes;
 mod height_column;
 mod laws;
+mod pieces;
 mod size_column;
 mod used_lengths;
 

@@ -1,0 +1,90 @@
+//! The corners of the boxes of one context.
+
+ghost use Rattle.std.specs.Prelude.{◌≡◌, ◌<◌, ◌+ℤ◌, length, IfOk};
+ghost use Rattle.lay_units.specs.Units.{IsUsed};
+ghost use Rattle.lay_flow.specs.BlockFloats.{place_at};
+ghost use Rattle.lay_context.specs.ContextPlaces.{columns_of, corner_of_box};
+ghost use Rattle.lay_context.specs.PlaceBounds.{HaveCounts, IsCornerNear, IsNear};
+
+use crate::box_columns::{is_float, is_inner, length_at, sizes_at};
+use crate::box_sizes::BoxSizes;
+use crate::context_places::BoxPlaces;
+use crate::corner::Corner;
+use lay_boxgen::BoxNode;
+use lay_floats::Place;
+use lay_units::{NoMemory, Unit};
+
+/// The greatest distance of an edge from the origin.
+const FAR: i64 = 1152921504606846976;
+
+/// The corner of the border box of the box at k, counted from that of the context's own. NoMemory is the
+/// answer where it is more than 2^60 units away, which it is in no document within the limits.
+pub(crate) fn corner_of_box(
+    boxes: &[BoxNode],
+    sizes: &[BoxSizes],
+    places: &BoxPlaces,
+    k: usize,
+) -> Result<Corner, NoMemory>
+    requires place { k < length boxes.now }
+    requires counts { HaveCounts boxes.now sizes.now (columns_of places.now) }
+    ensures corner { IfOk result (λ c. c ≡ corner_of_box boxes.now sizes.now (columns_of places.now) k) }
+    ensures near { IfOk result IsCornerNear }
+{
+    if is_float(boxes, k) {
+        return float_corner(place_at(&places.places, k), sizes_at(sizes, k));
+    }
+    if is_inner(boxes, k) {
+        let place = place_at(&places.places, k);
+        return near_corner(place.x, place.y);
+    }
+    near_corner(length_at(&places.lefts, k), length_at(&places.tops, k))
+}
+
+/// The corner of the border box of a float, whose margin box stands at this place.
+fn float_corner(place: Place, sizes: BoxSizes) -> Result<Corner, NoMemory>
+    ensures corner { IfOk result (λ c. c ≡ record { x = record { 0 = place.x.0 +ℤ sizes.widths.margin_left.0 }; y = record { 0 = place.y.0 +ℤ sizes.margin_top.0 } }) }
+    ensures near { IfOk result IsCornerNear }
+{
+    let x = position_sum(place.x, sizes.widths.margin_left)?;
+    let y = position_sum(place.y, sizes.margin_top)?;
+    Ok(Corner { x, y })
+}
+
+fn near_corner(x: Unit, y: Unit) -> Result<Corner, NoMemory>
+    ensures corner { IfOk result (λ c. c ≡ record { x = x; y = y }) }
+    ensures near { IfOk result IsCornerNear }
+{
+    let x = near_position(x)?;
+    let y = near_position(y)?;
+    Ok(Corner { x, y })
+}
+
+/// The sum of two positions. NoMemory is the answer where it is more than 2^60 units from 0, which it is in no
+/// document within the limits.
+pub(crate) fn position_sum(a: Unit, b: Unit) -> Result<Unit, NoMemory>
+    ensures sum { IfOk result (λ v. v ≡ record { 0 = a.0 +ℤ b.0 }) }
+    ensures near { IfOk result (λ v. IsNear v.0) }
+{
+    match a.0.checked_add(b.0) {
+        Some(sum) => near_position(Unit(sum)),
+        None => Err(NoMemory),
+    }
+}
+
+/// A position. NoMemory is the answer where it is more than 2^60 units from 0.
+pub(crate) fn near_position(v: Unit) -> Result<Unit, NoMemory>
+    ensures value { IfOk result (λ u. u ≡ v) }
+    ensures near { IfOk result (λ u. IsNear u.0) }
+{
+    if v.0 < -FAR || v.0 > FAR {
+        return Err(NoMemory);
+    }
+    Ok(v)
+}
+
+fn place_at(places: &[Place], k: usize) -> Place
+    requires { k < length places.now }
+    ensures { result ≡ place_at places.now k }
+{
+    places[k]
+}
