@@ -12,5 +12,9 @@ pub mod BlockSteps
 pub mod LeftSteps
 pub mod ShapeSteps
 pub mod FlowFacts
+pub mod PlaceSteps
 pub mod PieceSteps
 pub mod PageRange
+pub mod OnePlaces
+pub mod PlaceFacts
+pub mod PieceRanges

@@ -9,5 +9,6 @@ pub mod ContextPlaces
 pub mod PlaceBounds
 pub mod ContextOrder
 pub mod DocumentLayout
+pub mod PlacesFrom
 pub mod Solves
 pub mod Laws
