@@ -14,7 +14,7 @@ pub mod ShapeSteps
 pub mod FlowFacts
 pub mod PlaceSteps
 pub mod PieceSteps
-pub mod PageRange
 pub mod OnePlaces
 pub mod PlaceFacts
 pub mod PieceRanges
+pub mod DocumentBounds

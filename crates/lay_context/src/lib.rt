@@ -19,15 +19,15 @@ mod context_spot;
 mod context_tree;
 mod corner;
 mod corners;
-mod document_sizes;
-mod laws;
-mod page_corners;
 mod document_places;
 mod document_sizes;
 mod height_column;
 mod laws;
+mod layout;
+mod page_corners;
 mod pieces;
 mod size_column;
 mod used_lengths;
 
 pub use laws::{one_context_sizes, one_document_sizes};
+pub use layout::scratch;
