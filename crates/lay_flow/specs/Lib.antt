@@ -11,6 +11,7 @@ pub mod BlockSizes
 pub mod PassBounds
 pub mod PlacesTo
 pub mod PassKnows
+pub mod ClearSteps
 pub mod Laws
 pub mod HeightsFrom
 pub mod CornersTo

@@ -197,7 +197,7 @@ fn solid_request(shape: &Shape, mark: Unit) -> SolidReq
     }
 }
 
-fn shape_at(shapes: &[Shape], k: usize) -> Shape
+pub(crate) fn shape_at(shapes: &[Shape], k: usize) -> Shape
     requires { k < length shapes.now }
     ensures { result ≡ shape_at shapes.now k }
 {
