@@ -10,6 +10,7 @@ pub mod PositionsAgree
 pub mod Tabulated
 pub mod BlockLayoutLaws
 pub mod RunEntries
+pub mod RunFacts
 pub mod LayoutFacts
 pub mod Openings
 pub mod Closings
