@@ -17,6 +17,8 @@ pub mod Closings
 pub mod WholePass
 pub mod StrutBounds
 pub mod ContentEnds
+pub mod GatheredRuns
+pub mod CollapsedThrough
 pub mod PassFits
 pub mod PlaceSteps
 pub mod WroteColumns

@@ -1,8 +1,8 @@
 -- What the equations of the runs of a context say, of a box that isn't the context's own.
-use Rattle.std.proofs.Common.{◌≡◌, ℕ, zero, suc, ◌+◌, ◌<◌, ◌≤◌, ◌&&◌, ◌||◌, not, Bool, true, false, List, [], ◌∷◌, ◌++◌, length, slice_index, refl, ◌∙◌, arith, Some, None, if◌then◌else◌}
+use Rattle.std.proofs.Common.{◌≡◌, ℕ, zero, suc, ◌+◌, ◌<◌, ◌&&◌, ◌||◌, not, true, false, List, [], ◌∷◌, ◌++◌, length, slice_index, refl, ◌∙◌, arith, Some, None, if◌then◌else◌}
 use Rattle.lay_flow.specs.declared.block.Block.{Block}
 use Rattle.lay_flow.specs.Children.{last_child, next_child, flag_at}
-use Rattle.lay_flow.specs.MarginRuns.{Runs, HasRuns, Entry, margin, clear, has_top, is_barred, block_at, run_at, parts_tops, to_top, run_before, run_across, joins_bottom, may_join_bottoms, may_collapse_through}
+use Rattle.lay_flow.specs.MarginRuns.{Runs, HasRuns, margin, clear, has_top, is_barred, block_at, run_at, parts_tops, to_top, run_before, run_across, joins_bottom, may_join_bottoms, may_collapse_through}
 
 module _ (parents : List ℕ) (blocks : List Block) (r : Runs) where
   pub first_comes : (p m : ℕ) → last_child parents p m ≡ None → run_before parents blocks r p m ≡ (if parts_tops blocks p then [] else to_top blocks r p)
