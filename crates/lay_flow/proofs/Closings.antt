@@ -35,7 +35,7 @@ going_picked parents blocks r p m = go (next_child parents p m (length parents))
     go None e = rw e refl
     go (Some c) e = rw e refl
 
-going_same : (parents : List ℕ) (blocks : List Block) (r : Runs) (p l m : ℕ) → next_child parents p l (length parents) ≡ next_child parents p m (length parents) → run_before parents blocks r p l ≡ run_before parents blocks r p m → run_across parents blocks r p l ≡ run_across parents blocks r p m
+pub going_same : (parents : List ℕ) (blocks : List Block) (r : Runs) (p l m : ℕ) → next_child parents p l (length parents) ≡ next_child parents p m (length parents) → run_before parents blocks r p l ≡ run_before parents blocks r p m → run_across parents blocks r p l ≡ run_across parents blocks r p m
 going_same parents blocks r p l m e f = going_picked parents blocks r p l ∙ (λ i. picked r (joins_bottom parents blocks r p) (run_at r.bottom_runs p) (e i) (f i)) ∙ sym (going_picked parents blocks r p m)
 
 sum_two : (a b c d : ℤ) → a ≡ b → c ≡ d → (a +ℤ c) ≡ (b +ℤ d)

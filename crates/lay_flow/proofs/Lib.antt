@@ -10,12 +10,15 @@ pub mod PositionsAgree
 pub mod Tabulated
 pub mod BlockLayoutLaws
 pub mod RunEntries
+pub mod RunFacts
 pub mod LayoutFacts
 pub mod Openings
 pub mod Closings
 pub mod WholePass
 pub mod StrutBounds
 pub mod ContentEnds
+pub mod GatheredRuns
+pub mod CollapsedThrough
 pub mod PassFits
 pub mod PlaceSteps
 pub mod WroteColumns
