@@ -1,5 +1,5 @@
 -- What a pass over a context decides before it reads the top margin of a box with `clear`.
-use Rattle.std.specs.Prelude.{ℕ, ◌≡◌, ◌<◌, ◌≤◌, ¬, ℤ, false, List, Option, Some, None}
+use Rattle.std.specs.Prelude.{ℕ, ◌≡◌, ◌<◌, ◌≤◌, ℤ, false, List, Option, Some, None}
 use Rattle.lay_units.specs.declared.length.Unit.{Unit as Length}
 use Rattle.lay_floats.specs.declared.requests.Side.{Side}
 use Rattle.lay_floats.specs.declared.requests.Clear.{Clear}
@@ -30,5 +30,5 @@ HasWaitingFloat shapes first k = (j : ℕ) × (first ≤ j) × (j < k) × IsSide
 -- the mark of the box at k in each layout that the blocks may have, but without clearance from that box on
 abbrev pub IsEdgeWithout : List ℕ → List Block → List Length → PassState → Placing → ℕ → ℤ → Type 0
 IsEdgeWithout parents blocks given now placing k edge =
-    (extents clear_edges : List Length) (w : BlockLayout) → MayBe parents blocks given placing extents → IsCandidate parents blocks extents clear_edges w now k → ((j : ℕ) → k ≤ j → flag_at w.runs.clears j ≡ false)
+    (extents clear_edges : List Length) (w : BlockLayout) → MayBe parents blocks given placing extents → IsCandidate parents blocks extents clear_edges w now.clears now.clear_edges k → ((j : ℕ) → k ≤ j → flag_at w.runs.clears j ≡ false)
     → edge ≡ length_at w.places.marks k

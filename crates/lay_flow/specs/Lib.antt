@@ -6,6 +6,7 @@ pub mod BlockLayout
 pub mod BlockFloats
 pub mod Clearance
 pub mod ContextFlow
+pub mod Gathered
 pub mod BlockPass
 pub mod BlockSizes
 pub mod PassBounds

@@ -1,6 +1,6 @@
 -- How large the numbers of a pass become. Between a mark and the next lie at most a height and what a run's margins
 -- collapse to, or a float, which together are less than 2^36 units; and the first float lies within 2^51 units.
-use Rattle.std.specs.Prelude.{ℕ, ◌≡◌, ◌+◌, ◌*◌, ◌<◌, ◌≤◌, ℤ, pos, neg_ℤ, ◌≤ℤ◌, true, false, List, length}
+use Rattle.std.specs.Prelude.{ℕ, ◌≡◌, ◌+◌, ◌*◌, ◌<◌, ◌≤◌, ℤ, pos, neg_ℤ, ◌≤ℤ◌, ◌==◌, ◌&&◌, nat_lt, Bool, true, false, List, length, slice_index}
 use Rattle.lay_units.specs.Units.{limit}
 use Rattle.lay_units.specs.declared.length.Unit.{Unit as Length}
 use Rattle.lay_margins.specs.StrutValue.{StrutValue}
@@ -8,6 +8,7 @@ use Rattle.lay_flow.specs.declared.block.Block.{Block}
 use Rattle.lay_flow.specs.declared.pass_state.Flow.{Flow}
 use Rattle.lay_flow.specs.StackedBlocks.{length_at}
 use Rattle.lay_flow.specs.CornersTo.{IsBoxHeight}
+use Rattle.lay_flow.specs.Children.{flag_at}
 use Rattle.lay_flow.specs.MarginRuns.{block_at, parts_tops}
 use Rattle.lay_flow.specs.BlockPositions.{is_solid}
 use Rattle.lay_flow.specs.BlockPass.{PassState}
@@ -63,7 +64,11 @@ abbrev pub IsNear : ℤ → Type 0
 IsNear v = (neg_ℤ (pos 9007199254740992) ≤ℤ v) × (v ≤ℤ pos 9007199254740992)
 
 abbrev pub state_of : Flow → PassState
-state_of f = record { marks = f.marks.items; heights = f.heights.items; through = f.through.items; clears = f.clears.items; clear_edges = f.clear_edges.items; start = f.start.0; strut = f.strut; first = f.first; cleared = f.cleared; hangs = f.hangs }
+state_of f = record { marks = f.marks.items; heights = f.heights.items; through = f.through.items; clears = f.clears.items; clear_edges = f.clear_edges.items; start = f.start.0; strut = f.strut; first = f.first; hangs = f.hangs }
+
+-- the run was begun by clearance of a child of p
+abbrev pub is_barred : List ℕ → PassState → ℕ → Bool
+is_barred parents now p = nat_lt now.first (length now.clears) && flag_at now.clears now.first && slice_index parents now.first == p
 
 -- the tops of border boxes are near
 abbrev pub AreNear : List Length → Type 0

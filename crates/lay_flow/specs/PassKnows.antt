@@ -1,5 +1,5 @@
 -- What is known at each place of a pass over the boxes of a context.
-use Rattle.std.specs.Prelude.{ℕ, ◌≡◌, ◌+◌, ◌<◌, ◌≤◌, pos, true, false, List, length, slice_index, Some, None}
+use Rattle.std.specs.Prelude.{ℕ, ◌≡◌, ◌+◌, ◌<◌, ◌≤◌, Bool, pos, true, false, List, length, slice_index, Some, None}
 use Rattle.lay_units.specs.declared.length.Unit.{Unit as Length}
 use Rattle.lay_doc.specs.Tree.{IsTree}
 use Rattle.lay_floats.specs.declared.requests.Side.{Side}
@@ -46,51 +46,49 @@ pub record ArePlaceable (parents : List ℕ) (blocks : List Block) (shapes : Lis
   pub sizes : HaveShapeSizes parents shapes
 
 -- a layout that the blocks may have at last: the boxes before m have the clearance that was decided
-pub record IsCandidate (parents : List ℕ) (blocks : List Block) (extents clear_edges : List Length) (y : BlockLayout) (now : PassState) (m : ℕ) : Type 0 where
+pub record IsCandidate (parents : List ℕ) (blocks : List Block) (extents clear_edges : List Length) (y : BlockLayout) (flags : List Bool) (edges : List Length) (m : ℕ) : Type 0 where
   pub is_layout : IsBlockLayout parents blocks extents clear_edges y
-  pub clears : (j : ℕ) → j < m → flag_at y.runs.clears j ≡ flag_at now.clears j
-  pub edge : (j : ℕ) → j < m → flag_at now.clears j ≡ true → length_at clear_edges j ≡ length_at now.clear_edges j
+  pub clears : (j : ℕ) → j < m → flag_at y.runs.clears j ≡ flag_at flags j
+  pub edge : (j : ℕ) → j < m → flag_at flags j ≡ true → length_at clear_edges j ≡ length_at edges j
 
 -- places of which those that are known are the same
 abbrev pub ArePlacesKept : List Place → List Place → Type 0
 ArePlacesKept old new = (j : ℕ) → j < length old → place_at new j ≡ place_at old j
 
 -- the clearance of the boxes before m was decided as it is in every flow that the context may have at last
-abbrev pub AreDecided : List ℕ → List Block → List Shape → List Length → PassState → Placing → ℕ → Type 0
-AreDecided parents blocks shapes given now placing m =
+abbrev pub AreDecided : List ℕ → List Block → List Shape → List Length → List Bool → List Length → Placing → ℕ → Type 0
+AreDecided parents blocks shapes given flags edges placing m =
     (k : ℕ) → 0 < k → k < m → (shape_at shapes k).float ≡ None
-    → (extents clear_edges : List Length) (y : BlockLayout) (places : List Place) → MayBe parents blocks given placing extents → IsCandidate parents blocks extents clear_edges y now m → ArePlacesKept placing.places places
+    → (extents clear_edges : List Length) (y : BlockLayout) (places : List Place) → MayBe parents blocks given placing extents → IsCandidate parents blocks extents clear_edges y flags edges m → ArePlacesKept placing.places places
     → HasClearance parents blocks shapes extents clear_edges places y k
 
 -- the columns of clearance, as far as the boxes before m are decided
-pub record AreClears (parents : List ℕ) (shapes : List Shape) (now : PassState) (m : ℕ) : Type 0 where
-  pub clears_length : length now.clears ≡ length parents
-  pub edges_length : length now.clear_edges ≡ length parents
-  pub later : (j : ℕ) → m ≤ j → flag_at now.clears j ≡ false
-  pub root : flag_at now.clears 0 ≡ false
-  pub float : (k : ℕ) (side : Side) → (shape_at shapes k).float ≡ Some side → flag_at now.clears k ≡ false
-  pub no_edge : (k : ℕ) → flag_at now.clears k ≡ false → length_at now.clear_edges k ≡ pos 0
+pub record AreClears (parents : List ℕ) (shapes : List Shape) (flags : List Bool) (edges : List Length) (m : ℕ) : Type 0 where
+  pub clears_length : length flags ≡ length parents
+  pub edges_length : length edges ≡ length parents
+  pub later : (j : ℕ) → m ≤ j → flag_at flags j ≡ false
+  pub root : flag_at flags 0 ≡ false
+  pub float : (k : ℕ) (side : Side) → (shape_at shapes k).float ≡ Some side → flag_at flags k ≡ false
+  pub no_edge : (k : ℕ) → flag_at flags k ≡ false → length_at edges k ≡ pos 0
 
 -- the pass is at the place (p, m), and what it keeps is as in every layout that may be that of the context
 pub record Knows (parents : List ℕ) (blocks : List Block) (shapes : List Shape) (given : List Length) (now : PassState) (placing : Placing) (p m : ℕ) : Type 0 where
   pub fits : StateFits parents blocks now p m
   pub near : IsStartNear m now.start
-  pub begun : now.cleared ≡ true → now.first < m
-  pub hanging : now.hangs ≡ true → now.first ≤ p
-  pub is_at : (extents clear_edges : List Length) (y : BlockLayout) → MayBe parents blocks given placing extents → IsCandidate parents blocks extents clear_edges y now m → IsAt parents blocks clear_edges y now p m
+  pub is_at : (extents clear_edges : List Length) (y : BlockLayout) → MayBe parents blocks given placing extents → IsCandidate parents blocks extents clear_edges y now.clears now.clear_edges m → IsAt parents blocks clear_edges y now p m
   pub are_given : AreGiven parents blocks given placing.extents
   pub placed : PlacesTo parents blocks shapes now.marks placing (length placing.places)
   pub early : length placing.places ≤ now.first
-  pub are_clears : AreClears parents shapes now m
-  pub decided : AreDecided parents blocks shapes given now placing m
+  pub are_clears : AreClears parents shapes now.clears now.clear_edges m
+  pub decided : AreDecided parents blocks shapes given now.clears now.clear_edges placing m
 
 -- the pass is before the top margin of the box at k, and it is decided whether that has clearance
 pub record IsReady (parents : List ℕ) (blocks : List Block) (shapes : List Shape) (given : List Length) (now : PassState) (placing : Placing) (k : ℕ) : Type 0 where
   pub fits : StateFits parents blocks now (slice_index parents k) k
   pub near : IsEdgeNear k now.start
-  pub is_before : (extents clear_edges : List Length) (y : BlockLayout) → MayBe parents blocks given placing extents → IsCandidate parents blocks extents clear_edges y now (k + 1) → IsBefore parents clear_edges y now k
+  pub is_before : (extents clear_edges : List Length) (y : BlockLayout) → MayBe parents blocks given placing extents → IsCandidate parents blocks extents clear_edges y now.clears now.clear_edges (k + 1) → IsBefore parents blocks clear_edges y now k
   pub are_given : AreGiven parents blocks given placing.extents
   pub placed : PlacesTo parents blocks shapes now.marks placing (length placing.places)
   pub early : length placing.places ≤ now.first
-  pub are_clears : AreClears parents shapes now (k + 1)
-  pub decided : AreDecided parents blocks shapes given now placing (k + 1)
+  pub are_clears : AreClears parents shapes now.clears now.clear_edges (k + 1)
+  pub decided : AreDecided parents blocks shapes given now.clears now.clear_edges placing (k + 1)

@@ -87,7 +87,6 @@ fn begin(
         start: block_at(blocks, 0).edge_top,
         strut: no_margin(),
         first: 1,
-        cleared: false,
         hangs: false,
         placing: placing_of(alloc, lines)?,
     })

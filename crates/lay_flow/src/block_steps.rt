@@ -1,14 +1,14 @@
 //! The steps of the pass: a box is opened or closed, and its top or bottom margin is read.
 
-ghost use Rattle.std.specs.Prelude.{◌≡◌, ◌+◌, ◌<◌, ◌≤◌, ◌==◌, ◌&&◌, not, true, false, length, slice_index, OnOk};
+ghost use Rattle.std.specs.Prelude.{◌≡◌, ◌+◌, ◌<◌, ◌≤◌, ◌&&◌, not, true, false, length, slice_index, OnOk};
 ghost use Rattle.lay_flow.specs.BlockSizes.{AreBlocks};
 ghost use Rattle.lay_flow.specs.MarginRuns.{block_at, may_collapse_through, may_join_bottoms, parts_tops};
-ghost use Rattle.lay_flow.specs.PassBounds.{state_of};
+ghost use Rattle.lay_flow.specs.PassBounds.{is_barred, state_of};
 ghost use Rattle.lay_flow.specs.PassKnows.{ArePlaceable, IsReady, Knows, placing_of};
 
 use crate::block::Block;
 use crate::clear_steps::clear;
-use crate::columns::{block_at, length_at, parent_at, sum_of, write_at, write_flag};
+use crate::columns::{block_at, flag_at, length_at, parent_at, sum_of, write_at, write_flag};
 use crate::pass_state::Flow;
 use crate::place_boxes::place_up_to;
 use crate::run_ends::{above, lone_margin, no_margin, run_end, with_margin};
@@ -111,7 +111,6 @@ fn open_parting(
     flow.start = sum_of(mark, block.edge_top);
     flow.strut = no_margin();
     flow.first = k + 1;
-    flow.cleared = false;
     flow.hangs = false;
 }
 
@@ -145,10 +144,12 @@ pub(crate) fn close(
 
 // The run was begun by clearance of a child of the box at p.
 fn is_barred(parents: &[usize], flow: &Flow, p: usize) -> bool
-    requires { flow.now.cleared ≡ true → flow.now.first < length parents.now }
-    ensures { result ≡ (flow.now.cleared && (slice_index parents.now flow.now.first == p)) }
+    requires { length flow.now.clears.items ≡ length parents.now }
+    ensures { result ≡ is_barred parents.now (state_of flow.now) p }
 {
-    flow.cleared && parent_at(parents, flow.first) == p
+    flow.first < flow.clears.len()
+        && flag_at(&flow.clears, flow.first)
+        && parent_at(parents, flow.first) == p
 }
 
 // It is collapsed through.
@@ -245,7 +246,7 @@ fn close_joined(
     requires positive { 0 < p }
     requires ends { _m < length _parents.now → slice_index _parents.now _m < p }
     requires joined { may_join_bottoms (block_at blocks.now p) ≡ true }
-    requires unbarred { (flow.old.cleared && (slice_index _parents.now flow.old.first == p)) ≡ false }
+    requires unbarred { is_barred _parents.now (state_of flow.old) p ≡ false }
     requires settled { may_collapse_through (block_at blocks.now p) ≡ true → p < flow.old.first }
     requires known { Knows _parents.now blocks.now _shapes.now _given.now (state_of flow.old) (placing_of flow.old.placing) p _m }
     ensures { Knows _parents.now blocks.now _shapes.now _given.now (state_of flow.new) (placing_of flow.new.placing) (slice_index _parents.now p) _m }
@@ -272,7 +273,7 @@ fn close_parted(
     requires shapes { ArePlaceable parents.now blocks.now shapes.now }
     requires positive { 0 < p }
     requires ends { m < length parents.now → slice_index parents.now m < p }
-    requires parted { (may_join_bottoms (block_at blocks.now p) && not (flow.old.cleared && (slice_index parents.now flow.old.first == p))) ≡ false }
+    requires parted { (may_join_bottoms (block_at blocks.now p) && not (is_barred parents.now (state_of flow.old) p)) ≡ false }
     requires settled { may_collapse_through (block_at blocks.now p) ≡ true → p < flow.old.first }
     requires known { Knows parents.now blocks.now shapes.now _given.now (state_of flow.old) (placing_of flow.old.placing) p m }
     ensures { OnOk result (Knows parents.now blocks.now shapes.now _given.now (state_of flow.new) (placing_of flow.new.placing) (slice_index parents.now p) m) }
@@ -287,7 +288,6 @@ fn close_parted(
     flow.start = sum_of(mark, height);
     flow.strut = lone_margin(block.margin_bottom);
     flow.first = m;
-    flow.cleared = false;
     flow.hangs = false;
     Ok(())
 }

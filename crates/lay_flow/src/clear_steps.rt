@@ -1,6 +1,6 @@
 //! Clearance: it is decided before the top margin of a box is read, and begins a run (CSS 2.2, 9.5.2).
 
-ghost use Rattle.std.specs.Prelude.{◌≡◌, ◌+◌, ◌<◌, ◌≤◌, ¬, ◌⊎◌, true, false, length, slice_index, None, Option, OnOk};
+ghost use Rattle.std.specs.Prelude.{◌≡◌, ◌+◌, ◌<◌, ◌≤◌, ◌⊎◌, true, false, length, slice_index, None, Option, OnOk};
 ghost use Rattle.lay_units.specs.declared.length.Unit.{Unit};
 ghost use Rattle.lay_floats.specs.ClearEdge.{Clears, IsClearEdge};
 ghost use Rattle.lay_flow.specs.BlockFloats.{shape_at};
@@ -228,7 +228,6 @@ fn begin_cleared(
     flow.start = edge;
     flow.strut = no_margin();
     flow.first = k;
-    flow.cleared = true;
     flow.hangs = true;
     Ok(())
 }

@@ -20,10 +20,8 @@ pub(crate) struct Flow {
     pub strut: Strut,
     /// The first box whose top margin is in the run. The boxes from there on wait for their marks.
     pub first: usize,
-    /// The run was begun by clearance of the box at `first`.
-    pub cleared: bool,
-    /// And that box is open. The run ends at its clear edge, or, if it comes out as collapsed through, starts
-    /// above that.
+    /// The run was begun by clearance of the box at `first`, which is open. The run ends at its clear edge, or,
+    /// if the box comes out as collapsed through, starts above that.
     pub hangs: bool,
     /// The floats and the solid boxes.
     pub placing: Placing,
