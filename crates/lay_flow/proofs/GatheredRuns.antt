@@ -1,44 +1,19 @@
--- Which margins are in the run that comes to a place of the sequence. The boxes with their top margins in it are
--- those from some place on. None of them but the first has clearance, nothing parts their tops, and those that
--- were closed are collapsed through.
+-- The run that comes to each place of the sequence of margins has the top margins of the boxes from some place on.
 use Rattle.std.proofs.Common.{◌≡◌, ◌≢◌, ℕ, ℤ, ◌+◌, ◌<◌, ◌≤◌, ◌==◌, ◌&&◌, ◌||◌, not, nat_lt, Bool, true, false, List, [], ◌∷◌, ◌++◌, length, slice_index, refl, sym, ap, ◌∙◌, arith, inl, inr, Some, None, subst}
 use Rattle.std.proofs.lemmas.Bool.{cases_lt, cases_eq, ne_eqb, eq-eqb}
 use Rattle.lay_doc.specs.Tree.{IsTree}
 use Rattle.lay_flow.specs.declared.block.Block.{Block}
 use Rattle.lay_flow.specs.Children.{is_child, last_child, next_child, flag_at}
 use Rattle.lay_flow.specs.MarginRuns.{Runs, HasRuns, Entry, margin, mark, clear, has_top, is_barred, block_at, run_at, parts_tops, to_top, run_before, run_across, joins_bottom, may_join_bottoms, may_collapse_through}
+use Rattle.lay_flow.specs.Gathered.{Holds, Gathered}
 use Rattle.lay_flow.proofs.ChildPlaces.{not_child, child_is, last_none, last_same, last_some, next_none, next_same, next_some}
-use Rattle.lay_flow.proofs.MarginWalk.{IsPlace, walk_to}
+use Rattle.lay_flow.specs.MarginPlace.{IsPlace}
+use Rattle.lay_flow.proofs.MarginWalk.{walk_to}
 use Rattle.lay_flow.proofs.RunsAgree.{none_left, inside_up}
 use Rattle.lay_flow.proofs.RunEntries.{top_there, top_here, top_none, bottom_same}
-use Rattle.lay_flow.proofs.RunFacts.{first_comes, next_comes, goes_in, goes_out, joins_is, lead_goes_on, lead_begins, top_run_is, to_bottom_is, bottom_run_is, passes_is}
-use Rattle.lay_flow.proofs.LayoutFacts.{low_not, low_yes}
-use Rattle.lay_flow.proofs.Openings.{true_false}
-use Rattle.lay_flow.proofs.Closings.{going_same}
-use Rattle.lay_flow.proofs.ContentEnds.{joined_passes}
-
--- the boxes from j to before m stand in the one at j
-abbrev pub Holds : List ℕ → ℕ → ℕ → Type 0
-Holds parents j m = (i : ℕ) → j < i → i < m → j ≤ slice_index parents i
-
--- the run that comes to the place (p, m) has the top margins of the boxes from `first` to before m
-pub record Gathered (parents : List ℕ) (blocks : List Block) (r : Runs) (first p m : ℕ) : Type 0 where
-  pub parent : p < m
-  pub within : m ≤ length parents
-  pub inside : Holds parents p m
-  pub least : 0 < first
-  pub most : first ≤ m
-  pub own : (j : ℕ) → first ≤ j → j < m → has_top j (run_before parents blocks r p m) ≡ true
-  pub older : (j : ℕ) → j < first → has_top j (run_before parents blocks r p m) ≡ false
-  pub barred : (q : ℕ) → is_barred parents q (run_before parents blocks r p m) ≡ (nat_lt first m && flag_at r.clears first && slice_index parents first == q)
-  -- before the top margin of one of them are those of the ones before it
-  pub leads : (i j : ℕ) → first ≤ j → j < m → i < j → has_top i (run_at r.before_tops j) ≡ not (nat_lt i first)
-  pub unparted : (j : ℕ) → first ≤ j → j < m → parts_tops blocks j ≡ false
-  pub unclear : (j : ℕ) → first < j → j < m → flag_at r.clears j ≡ false
-  pub closed : (j : ℕ) → first ≤ j → p < j → j < m → flag_at r.through j ≡ true
-  pub gone : (j i : ℕ) → first ≤ j → j < i → i < m → slice_index parents i < j → flag_at r.through j ≡ true
-  -- the whole run of an open one goes on across the place
-  pub rise : (j : ℕ) → first ≤ j → j ≤ p → Holds parents j m → run_at r.top_runs j ≡ run_across parents blocks r p m
+use Rattle.lay_flow.proofs.RunFacts.{going_same, first_comes, next_comes, goes_in, goes_out, joins_is, lead_goes_on, lead_begins, top_run_is, to_bottom_is, bottom_run_is, passes_is}
+use Rattle.lay_flow.proofs.BlockKinds.{joined_passes}
+use Rattle.lay_flow.proofs.Truths.{true_false, low_not, low_yes}
 
 pub barred_top : (parents : List ℕ) (q k : ℕ) (t : ℤ) (xs : List Entry) → is_barred parents q (xs ++ mark k ∷ margin t ∷ []) ≡ is_barred parents q xs
 barred_top parents q k t [] = refl
@@ -78,7 +53,7 @@ module _ (parents : List ℕ) (tree : IsTree parents) (blocks : List Block) (r :
     alone : Holds parents k (k + 1)
     alone i low high = absurd (omega (arith, low, high))
 
-    opened_top : parts_tops blocks k ≡ false → run_before parents blocks r k (k + 1) ≡ to_top blocks r k
+    pub opened_top : parts_tops blocks k ≡ false → run_before parents blocks r k (k + 1) ≡ to_top blocks r k
     opened_top plain = first_comes parents blocks r k (k + 1) childless ∙ rw plain refl
 
     opened_rise : parts_tops blocks k ≡ false → run_at r.top_runs k ≡ run_across parents blocks r k (k + 1)

@@ -9,6 +9,8 @@ pub mod WholeRunsAgree
 pub mod PositionsAgree
 pub mod Tabulated
 pub mod BlockLayoutLaws
+pub mod Truths
+pub mod BlockKinds
 pub mod RunEntries
 pub mod RunFacts
 pub mod LayoutFacts
@@ -19,6 +21,9 @@ pub mod StrutBounds
 pub mod ContentEnds
 pub mod GatheredRuns
 pub mod CollapsedThrough
+pub mod PositionFacts
+pub mod LookAhead
+pub mod LookAheadSteps
 pub mod PassFits
 pub mod PlaceSteps
 pub mod WroteColumns

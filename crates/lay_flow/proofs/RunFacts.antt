@@ -1,8 +1,22 @@
 -- What the equations of the runs of a context say, of a box that isn't the context's own.
-use Rattle.std.proofs.Common.{◌≡◌, ℕ, zero, suc, ◌+◌, ◌<◌, ◌&&◌, ◌||◌, not, true, false, List, [], ◌∷◌, ◌++◌, length, slice_index, refl, ◌∙◌, arith, Some, None, if◌then◌else◌}
+use Rattle.std.proofs.Common.{◌≡◌, ℕ, zero, suc, ◌+◌, ◌<◌, ◌&&◌, ◌||◌, not, Bool, true, false, List, [], ◌∷◌, ◌++◌, length, slice_index, refl, sym, ◌∙◌, arith, Option, Some, None, if◌then◌else◌}
 use Rattle.lay_flow.specs.declared.block.Block.{Block}
 use Rattle.lay_flow.specs.Children.{last_child, next_child, flag_at}
-use Rattle.lay_flow.specs.MarginRuns.{Runs, HasRuns, margin, clear, has_top, is_barred, block_at, run_at, parts_tops, to_top, run_before, run_across, joins_bottom, may_join_bottoms, may_collapse_through}
+use Rattle.lay_flow.specs.MarginRuns.{Runs, HasRuns, Entry, margin, clear, has_top, is_barred, block_at, run_at, parts_tops, to_top, run_before, run_across, joins_bottom, may_join_bottoms, may_collapse_through}
+
+abbrev pub picked : Runs → Bool → List Entry → Option ℕ → List Entry → List Entry
+picked r j falls None run = if j then falls else run
+picked r j falls (Some c) run = if flag_at r.clears c then run else run_at r.top_runs c
+
+going_picked : (parents : List ℕ) (blocks : List Block) (r : Runs) (p m : ℕ) → run_across parents blocks r p m ≡ picked r (joins_bottom parents blocks r p) (run_at r.bottom_runs p) (next_child parents p m (length parents)) (run_before parents blocks r p m)
+going_picked parents blocks r p m = go (next_child parents p m (length parents)) refl
+  where
+    go : (o : Option ℕ) → next_child parents p m (length parents) ≡ o → run_across parents blocks r p m ≡ picked r (joins_bottom parents blocks r p) (run_at r.bottom_runs p) o (run_before parents blocks r p m)
+    go None e = rw e refl
+    go (Some c) e = rw e refl
+
+pub going_same : (parents : List ℕ) (blocks : List Block) (r : Runs) (p l m : ℕ) → next_child parents p l (length parents) ≡ next_child parents p m (length parents) → run_before parents blocks r p l ≡ run_before parents blocks r p m → run_across parents blocks r p l ≡ run_across parents blocks r p m
+going_same parents blocks r p l m e f = going_picked parents blocks r p l ∙ (λ i. picked r (joins_bottom parents blocks r p) (run_at r.bottom_runs p) (e i) (f i)) ∙ sym (going_picked parents blocks r p m)
 
 module _ (parents : List ℕ) (blocks : List Block) (r : Runs) where
   pub first_comes : (p m : ℕ) → last_child parents p m ≡ None → run_before parents blocks r p m ≡ (if parts_tops blocks p then [] else to_top blocks r p)

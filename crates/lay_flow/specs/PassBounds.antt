@@ -30,6 +30,10 @@ IsStartNear k v = (neg_ℤ (reach k) ≤ℤ v) × (v ≤ℤ reach k)
 abbrev pub IsMarkNear : ℕ → ℤ → Type 0
 IsMarkNear k v = (neg_ℤ (pos (2251799813685248 + 68719476736 * k + 2147483648)) ≤ℤ v) × (v ≤ℤ pos (2251799813685248 + 68719476736 * k + 2147483648))
 
+-- what margins collapse to
+abbrev pub IsCollapseNear : ℤ → Type 0
+IsCollapseNear v = (neg_ℤ limit ≤ℤ v) × (v ≤ℤ limit)
+
 pub record StateFits (parents : List ℕ) (blocks : List Block) (now : PassState) (p m : ℕ) : Type 0 where
   pub parent : p < m
   pub within : m ≤ length parents

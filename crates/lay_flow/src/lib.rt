@@ -19,6 +19,7 @@ mod block_steps;
 mod border_height;
 mod columns;
 mod corner;
+mod hypothetical_edge;
 mod laws;
 mod pass_state;
 mod place_boxes;
