@@ -24,6 +24,7 @@ pub mod CollapsedThrough
 pub mod PositionFacts
 pub mod LookAhead
 pub mod LookAheadSteps
+pub mod HangingRuns
 pub mod PassFits
 pub mod PlaceSteps
 pub mod WroteColumns
