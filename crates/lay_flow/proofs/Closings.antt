@@ -16,7 +16,7 @@ use Rattle.lay_flow.specs.BlockPass.{Settled, PassState, IsAt}
 use Rattle.lay_flow.proofs.CollapsedThrough.{through_inside}
 use Rattle.lay_flow.proofs.GatheredRuns.{comes_here, comes_up, last_up, childless_on, passes_here, close_joined as gathered_joined, close_parted as gathered_parted}
 use Rattle.lay_flow.proofs.LayoutFacts.{start_next, start_clears_through, mark_through}
-use Rattle.lay_flow.proofs.MarginWalk.{IsPlace}
+use Rattle.lay_flow.specs.MarginPlace.{IsPlace}
 use Rattle.lay_flow.proofs.Openings.{WithMargin}
 use Rattle.lay_flow.proofs.RunEntries.{margins-append}
 use Rattle.lay_flow.proofs.RunFacts.{ends_inside, to_bottom_is, joins_is}

@@ -8,7 +8,8 @@ use Rattle.lay_flow.specs.StackedBlocks.{length_at}
 use Rattle.lay_flow.specs.Children.{flag_at}
 use Rattle.lay_flow.specs.MarginRuns.{Runs, HasRuns, block_at, parts_tops, joins_bottom, may_collapse_through}
 use Rattle.lay_flow.specs.BlockPositions.{Positions, HasPositions, start_before}
-use Rattle.lay_flow.proofs.MarginWalk.{IsPlace, walk_to}
+use Rattle.lay_flow.specs.MarginPlace.{IsPlace}
+use Rattle.lay_flow.proofs.MarginWalk.{walk_to}
 use Rattle.lay_flow.specs.Gathered.{Holds, Gathered}
 use Rattle.lay_flow.proofs.Truths.{not_low}
 use Rattle.lay_flow.proofs.GatheredRuns.{gathers, one_first, childless, open_plain, open_cleared, open_parting, close_joined, close_parted, joined_through, last_up, passes_here, begins}

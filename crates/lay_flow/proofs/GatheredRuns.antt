@@ -7,7 +7,8 @@ use Rattle.lay_flow.specs.Children.{is_child, last_child, next_child, flag_at}
 use Rattle.lay_flow.specs.MarginRuns.{Runs, HasRuns, Entry, margin, mark, clear, has_top, is_barred, block_at, run_at, parts_tops, to_top, run_before, run_across, joins_bottom, may_join_bottoms, may_collapse_through}
 use Rattle.lay_flow.specs.Gathered.{Holds, Gathered}
 use Rattle.lay_flow.proofs.ChildPlaces.{not_child, child_is, last_none, last_same, last_some, next_none, next_same, next_some}
-use Rattle.lay_flow.proofs.MarginWalk.{IsPlace, walk_to}
+use Rattle.lay_flow.specs.MarginPlace.{IsPlace}
+use Rattle.lay_flow.proofs.MarginWalk.{walk_to}
 use Rattle.lay_flow.proofs.RunsAgree.{none_left, inside_up}
 use Rattle.lay_flow.proofs.RunEntries.{top_there, top_here, top_none, bottom_same}
 use Rattle.lay_flow.proofs.RunFacts.{going_same, first_comes, next_comes, goes_in, goes_out, joins_is, lead_goes_on, lead_begins, top_run_is, to_bottom_is, bottom_run_is, passes_is}
@@ -52,7 +53,7 @@ module _ (parents : List ℕ) (tree : IsTree parents) (blocks : List Block) (r :
     alone : Holds parents k (k + 1)
     alone i low high = absurd (omega (arith, low, high))
 
-    opened_top : parts_tops blocks k ≡ false → run_before parents blocks r k (k + 1) ≡ to_top blocks r k
+    pub opened_top : parts_tops blocks k ≡ false → run_before parents blocks r k (k + 1) ≡ to_top blocks r k
     opened_top plain = first_comes parents blocks r k (k + 1) childless ∙ rw plain refl
 
     opened_rise : parts_tops blocks k ≡ false → run_at r.top_runs k ≡ run_across parents blocks r k (k + 1)

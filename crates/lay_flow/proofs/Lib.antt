@@ -23,6 +23,10 @@ pub mod Closings
 pub mod WholePass
 pub mod StrutBounds
 pub mod ContentEnds
+pub mod PositionFacts
+pub mod LookAhead
+pub mod LookAheadSteps
+pub mod HangingRuns
 pub mod PassFits
 pub mod PlaceSteps
 pub mod WroteColumns

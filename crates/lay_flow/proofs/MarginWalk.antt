@@ -3,18 +3,12 @@
 use Rattle.std.proofs.Common.{◌≡◌, ℕ, zero, suc, ◌+◌, ◌-◌, ◌<◌, ◌≤◌, List, length, slice_index, refl, arith, inl, inr, subst}
 use Rattle.std.proofs.lemmas.Bool.{cases_lt, cases_eq}
 use Rattle.lay_doc.specs.Tree.{IsTree}
+use Rattle.lay_flow.specs.MarginPlace.{IsPlace}
 
 -- the place to which the walk goes before it opens the box at m
 pub record IsNextUp (parents : List ℕ) (m q : ℕ) : Type 0 where
   pub known : m < length parents → slice_index parents m ≡ q
   pub last : length parents ≤ m → q ≡ 0
-
--- the place (p, m) of the sequence of margins, where the box at m is not in a box in p
-pub record IsPlace (parents : List ℕ) (p m : ℕ) : Type 0 where
-  pub parent : p < m
-  pub within : m ≤ length parents
-  pub inside : (i : ℕ) → p < i → i < m → p ≤ slice_index parents i
-  pub next : m < length parents → slice_index parents m ≤ p
 
 module _ (parents : List ℕ) (tree : IsTree parents) (S : ℕ → ℕ → Type 0)
     (close : (p m : ℕ) → 0 < p → p < m → m ≤ length parents → (m < length parents → slice_index parents m < p) → S p m → S (slice_index parents p) m) where

@@ -17,7 +17,7 @@ use Rattle.lay_flow.specs.BlockPass.{Settled, PassState, IsSoFar, IsInRun, IsAt,
 use Rattle.lay_flow.proofs.CollapsedThrough.{through_inside}
 use Rattle.lay_flow.proofs.GatheredRuns.{childless, next_here, open_plain, open_cleared, open_parting}
 use Rattle.lay_flow.proofs.LayoutFacts.{start_first, start_flows, start_clears, mark_standing}
-use Rattle.lay_flow.proofs.MarginWalk.{IsPlace}
+use Rattle.lay_flow.specs.MarginPlace.{IsPlace}
 use Rattle.lay_flow.proofs.RunEntries.{margins-append}
 use Rattle.lay_flow.proofs.RunFacts.{first_comes, goes_in, ends_above, lead_goes_on, lead_begins, top_run_is}
 use Rattle.lay_flow.proofs.RunReach.{RunEnds, mark_here, waiting_open, tops_here, reach_is}

@@ -16,7 +16,7 @@ use Rattle.lay_flow.specs.BlockLayout.{BlockLayout, IsBlockLayout}
 use Rattle.lay_flow.specs.BlockPass.{PassState, IsSoFar, IsInRun}
 use Rattle.lay_flow.proofs.CollapsedThrough.{one_start}
 use Rattle.lay_flow.proofs.LayoutFacts.{mark_standing, start_clears}
-use Rattle.lay_flow.proofs.MarginWalk.{IsPlace}
+use Rattle.lay_flow.specs.MarginPlace.{IsPlace}
 use Rattle.lay_flow.proofs.Truths.{true_false, true_or}
 
 -- where a run ends that starts at `start` or hangs from it

@@ -13,7 +13,7 @@ use Rattle.lay_flow.specs.BlockPass.{Marked, Settled, PassState, IsAt}
 use Rattle.lay_flow.proofs.ChildPlaces.{next_none}
 use Rattle.lay_flow.proofs.GatheredRuns.{begins as gathered_begins}
 use Rattle.lay_flow.proofs.LayoutFacts.{mark_inherits}
-use Rattle.lay_flow.proofs.MarginWalk.{IsPlace}
+use Rattle.lay_flow.specs.MarginPlace.{IsPlace}
 use Rattle.lay_flow.proofs.RunFacts.{ends_inside}
 use Rattle.lay_flow.proofs.RunReach.{RunEnds, mark_here, waiting_open, tops_here, reach_is}
 use Rattle.lay_flow.proofs.SoFar.{so_far_settled}

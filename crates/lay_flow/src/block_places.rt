@@ -15,7 +15,7 @@ use crate::columns::{block_at, length_at, parent_at, sum_of, write_at};
 use crate::pass_state::Flow;
 use crate::place_boxes::{nowhere, place_up_to, push_place};
 use crate::placing::Placing;
-use crate::run_ends::{no_margin, run_end};
+use crate::run_ends::{end_of, no_margin};
 use crate::settling::settle;
 use crate::shape::Shape;
 use lay_floats::{Clear, Floats, Place};
@@ -195,7 +195,7 @@ fn close_root(
     ensures sized { OnOk result (AreBoxHeights blocks.now flow.new.heights.items) }
 {
     let count = parents.len();
-    let end = run_end(flow.start, flow.hangs, flow.strut);
+    let end = end_of(flow.start, flow.hangs, flow.strut);
     settle(
         parents,
         &flow.through,

@@ -11,7 +11,7 @@ use crate::clear_steps::clear;
 use crate::columns::{block_at, flag_at, length_at, parent_at, sum_of, write_at, write_flag};
 use crate::pass_state::Flow;
 use crate::place_boxes::place_up_to;
-use crate::run_ends::{above, lone_margin, no_margin, run_end, with_margin};
+use crate::run_ends::{end_of, lone_margin, no_margin, run_start, with_margin};
 use crate::settling::settle;
 use crate::shape::Shape;
 use lay_units::{NoMemory, Unit};
@@ -99,7 +99,7 @@ fn open_parting(
 {
     let block = block_at(blocks, k);
     let strut = with_margin(flow.strut, block.margin_top);
-    let mark = run_end(flow.start, flow.hangs, strut);
+    let mark = end_of(flow.start, flow.hangs, strut);
     settle(
         parents,
         &flow.through,
@@ -200,7 +200,7 @@ fn start_run(
     ensures starts { flow.new.hangs ≡ false }
     ensures first { flow.new.first ≡ flow.old.first }
 {
-    flow.start = above(flow.start, flow.strut);
+    flow.start = run_start(flow.start, flow.strut);
     flow.hangs = false;
 }
 
@@ -224,7 +224,7 @@ fn close_through(
     requires known { Knows _parents.now blocks.now _shapes.now _given.now (state_of flow.old) (placing_of flow.old.placing) p _m }
     ensures { Knows _parents.now blocks.now _shapes.now _given.now (state_of flow.new) (placing_of flow.new.placing) (slice_index _parents.now p) _m }
 {
-    let mark = run_end(flow.start, flow.hangs, flow.strut);
+    let mark = end_of(flow.start, flow.hangs, flow.strut);
     write_at(&mut flow.marks, p, mark);
     write_at(&mut flow.heights, p, Unit(0));
     write_flag(&mut flow.through, p, true);
@@ -279,7 +279,7 @@ fn close_parted(
     ensures { OnOk result (Knows parents.now blocks.now shapes.now _given.now (state_of flow.new) (placing_of flow.new.placing) (slice_index parents.now p) m) }
 {
     let block = block_at(blocks, p);
-    let end = run_end(flow.start, flow.hangs, flow.strut);
+    let end = end_of(flow.start, flow.hangs, flow.strut);
     settle(parents, &flow.through, &mut flow.marks, flow.first, m, end);
     place_up_to(parents, blocks, shapes, &flow.marks, &mut flow.placing, m)?;
     let mark = length_at(&flow.marks, p);

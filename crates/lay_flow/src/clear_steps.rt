@@ -15,7 +15,7 @@ use crate::columns::{write_at, write_flag};
 use crate::hypothetical_edge::hypothetical_edge;
 use crate::pass_state::Flow;
 use crate::place_boxes::{place_up_to, shape_at};
-use crate::run_ends::{no_margin, run_end};
+use crate::run_ends::{end_of, no_margin};
 use crate::settling::settle;
 use crate::shape::Shape;
 use lay_floats::{Clear, Side};
@@ -218,7 +218,7 @@ fn begin_cleared(
     requires decides { HasWaitingFloat shapes.now flow.old.first k ⊎ IsAbove hypothetical.0 _bottom }
     ensures { OnOk result (IsReady parents.now blocks.now shapes.now _given.now (state_of flow.new) (placing_of flow.new.placing) k) }
 {
-    let end = run_end(flow.start, flow.hangs, flow.strut);
+    let end = end_of(flow.start, flow.hangs, flow.strut);
     settle(parents, &flow.through, &mut flow.marks, flow.first, k, end);
     place_up_to(parents, blocks, shapes, &flow.marks, &mut flow.placing, k)?;
     let bottom = flow.placing.floats.clear_edge(shape_at(shapes, k).clear);

@@ -36,8 +36,8 @@ pub(crate) fn no_margin() -> Strut
     Strut::zero()
 }
 
-/// Where a run ends that starts at `start`, or that hangs from the clear edge `start`.
-pub(crate) fn run_end(start: Unit, hangs: bool, strut: Strut) -> Unit
+/// Where a run ends that starts at `start`, or hangs from that as a clear edge.
+pub(crate) fn end_of(start: Unit, hangs: bool, strut: Strut) -> Unit
     requires start { IsNear start.0 }
     requires strut { StrutFits strut }
     ensures hanging { hangs ≡ true → result.0 ≡ start.0 }
@@ -47,11 +47,11 @@ pub(crate) fn run_end(start: Unit, hangs: bool, strut: Strut) -> Unit
     if hangs {
         return start;
     }
-    below(start, strut)
+    run_end(start, strut)
 }
 
-/// How far down a run reaches that starts at `start`.
-pub(crate) fn below(start: Unit, strut: Strut) -> Unit
+/// Where a run ends that starts at `start`.
+pub(crate) fn run_end(start: Unit, strut: Strut) -> Unit
     requires start { IsNear start.0 }
     requires strut { StrutFits strut }
     ensures value { (margins : List ℤ) → Holds strut margins → result.0 ≡ start.0 +ℤ collapse margins }
@@ -61,7 +61,7 @@ pub(crate) fn below(start: Unit, strut: Strut) -> Unit
 }
 
 /// Where a run starts that ends at `end`.
-pub(crate) fn above(end: Unit, strut: Strut) -> Unit
+pub(crate) fn run_start(end: Unit, strut: Strut) -> Unit
     requires end { IsNear end.0 }
     requires strut { StrutFits strut }
     ensures value { (margins : List ℤ) → Holds strut margins → result.0 ≡ end.0 -ℤ collapse margins }
