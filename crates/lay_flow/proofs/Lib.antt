@@ -31,6 +31,8 @@ pub mod PassFits
 pub mod PlaceSteps
 pub mod WroteColumns
 pub mod PassSteps
+pub mod ClearedFloats
+pub mod ClearSteps
 pub mod PassEnds
 pub mod PositionsUpTo
 pub mod FreeFlows

@@ -10,7 +10,8 @@ use Rattle.lay_flow.specs.declared.block.Block.{Block}
 use Rattle.lay_flow.specs.StackedBlocks.{length_at}
 use Rattle.lay_flow.specs.CornersTo.{IsInset, IsBoxHeight}
 use Rattle.lay_flow.specs.Children.{flag_at}
-use Rattle.lay_flow.specs.MarginRuns.{parts_tops}
+use Rattle.lay_flow.specs.MarginRuns.{block_at, parts_tops}
+use Rattle.lay_flow.specs.BlockPositions.{is_solid}
 use Rattle.lay_flow.specs.BlockPass.{PassState, Settled}
 use Rattle.lay_flow.specs.PassBounds.{StrutFits, StateFits, IsStartNear, IsRunNear, IsEdgeNear, IsMarkNear, IsCollapseNear, IsNear, reach}
 use Rattle.lay_flow.proofs.Openings.{pushed}
@@ -98,6 +99,7 @@ module _ (parents : List ℕ) (tree : IsTree parents) (blocks : List Block) (now
     edge_near = was.edge_near;
     mark_near = was.mark_near;
     strut_fits = fits;
+    sized = was.sized;
     unparted = λ j low high. elim (cases_lt j k) [
       | inl lt ↦ was.unparted j low lt
       | inr ge ↦ (let e : j ≡ k = omega (arith, ge, high) in subst (λ (j : ℕ). parts_tops blocks j ≡ false) (sym e) plain)
@@ -120,6 +122,7 @@ module _ (parents : List ℕ) (tree : IsTree parents) (blocks : List Block) (now
     mark_near = λ j. settled_near parents now.through now.marks marks now.first (k + 1) end tree was.first_least (omega (arith, within)) was.mark_near
         (λ i le. end_near now.first i now.start end was.start_near ended le) settled (j + 1) j (omega arith);
     strut_fits = fits';
+    sized = was.sized;
     unparted = λ j low high. absurd (omega (arith, low, high));
   }
 
@@ -139,6 +142,7 @@ module _ (parents : List ℕ) (tree : IsTree parents) (blocks : List Block) (now
     mark_near = λ j. settled_near parents now.through now.marks marks now.first k end tree was.first_least was.within was.mark_near
         (λ i le. end_near now.first i now.start end was.start_near ended le) settled (j + 1) j (omega arith);
     strut_fits = fits';
+    sized = was.sized;
     unparted = λ j low high. absurd (omega (arith, low, high));
   }
 
@@ -149,7 +153,7 @@ module _ (parents : List ℕ) (tree : IsTree parents) (blocks : List Block) (now
     up_parent : slice_index parents p < m
     up_parent = let a = was.parent in let b = up_less in omega (arith, a, b)
 
-    written : {A : Type 0} (P : ℕ → A → Type 0) (read : List Length → ℕ → A) (old new : List Length) (v : A) → Wrote read old new p v → P p v → ((j : ℕ) → P j (read old j)) → (j : ℕ) → P j (read new j)
+    pub written : {A : Type 0} (P : ℕ → A → Type 0) (read : List Length → ℕ → A) (old new : List Length) (v : A) → Wrote read old new p v → P p v → ((j : ℕ) → P j (read old j)) → (j : ℕ) → P j (read new j)
     written P read old new v wrote here each j = elim (cases_eq j p) [
       | inl e ↦ (let h = wrote.here in subst (λ (j : ℕ). P j (read new j)) (sym e) (subst (P p) (sym h) here))
       | inr ne ↦ subst (P j) (sym (wrote.other j ne)) (each j)
@@ -168,6 +172,7 @@ module _ (parents : List ℕ) (tree : IsTree parents) (blocks : List Block) (now
       edge_near = λ t. absurd (true_false false t refl);
       mark_near = was.mark_near;
       strut_fits = was.strut_fits;
+      sized = was.sized;
       unparted = was.unparted;
     }
 
@@ -187,12 +192,13 @@ module _ (parents : List ℕ) (tree : IsTree parents) (blocks : List Block) (now
       edge_near = was.edge_near;
       mark_near = written IsMarkNear length_at now.marks marks end wrote_mark (end_near now.first p now.start end was.start_near ended waits) was.mark_near;
       strut_fits = fits';
+      sized = written (λ (j : ℕ) (v : ℤ). is_solid (block_at blocks j).inside ≡ false → IsBoxHeight v) length_at now.heights heights (pos 0) wrote_height (λ flow. (omega (arith, ints), omega (arith, ints))) was.sized;
       unparted = was.unparted;
     }
 
-    pub fits_joined : (heights : List Length) (height start : ℤ) (strut' : StrutValue) → IsStartNear now.first start → Wrote length_at now.heights heights p height → StrutFits strut'
+    pub fits_joined : (heights : List Length) (height start : ℤ) (strut' : StrutValue) → IsStartNear now.first start → IsBoxHeight height → Wrote length_at now.heights heights p height → StrutFits strut'
         → StateFits parents blocks (record now { heights = heights; start = start; strut = strut' }) (slice_index parents p) m
-    fits_joined heights height start strut' near wrote fits' = record {
+    fits_joined heights height start strut' near size wrote fits' = record {
       parent = up_parent;
       within = was.within;
       first_least = was.first_least;
@@ -204,6 +210,7 @@ module _ (parents : List ℕ) (tree : IsTree parents) (blocks : List Block) (now
       edge_near = λ t. start_edge_near now.first start near;
       mark_near = was.mark_near;
       strut_fits = fits';
+      sized = written (λ (j : ℕ) (v : ℤ). is_solid (block_at blocks j).inside ≡ false → IsBoxHeight v) length_at now.heights heights height wrote (λ flow. size) was.sized;
       unparted = was.unparted;
     }
 
@@ -214,9 +221,9 @@ module _ (parents : List ℕ) (tree : IsTree parents) (blocks : List Block) (now
 
     pub fits_parted : (marks heights : List Length) (end height start : ℤ) (strut' : StrutValue)
         → Settled parents now.through now.marks marks now.first m end → IsCollapseNear (end -ℤ now.start)
-        → IsStartNear m start → Wrote length_at now.heights heights p height → StrutFits strut'
+        → IsStartNear m start → (is_solid (block_at blocks p).inside ≡ false → IsBoxHeight height) → Wrote length_at now.heights heights p height → StrutFits strut'
         → StateFits parents blocks (record now { marks = marks; heights = heights; start = start; strut = strut'; first = m; hangs = false }) (slice_index parents p) m
-    fits_parted marks heights end height start strut' settled ended near wrote fits' =
+    fits_parted marks heights end height start strut' settled ended near size wrote fits' =
         let lt = was.parent in
         record {
           parent = up_parent;
@@ -230,6 +237,7 @@ module _ (parents : List ℕ) (tree : IsTree parents) (blocks : List Block) (now
           edge_near = λ t. absurd (true_false false t refl);
           mark_near = marks_settled marks end settled ended;
           strut_fits = fits';
+          sized = written (λ (j : ℕ) (v : ℤ). is_solid (block_at blocks j).inside ≡ false → IsBoxHeight v) length_at now.heights heights height wrote size was.sized;
           unparted = λ j low high. absurd (omega (arith, low, high));
         }
 

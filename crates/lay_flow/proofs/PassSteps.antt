@@ -85,15 +85,15 @@ barred_same parents blocks shapes extents clear_edges y now p m within are candi
       rw (t, u, a) refl)
   | inr ge ↦ (let f = are.later now.first ge in
       let t : nat_lt now.first m ≡ false = grind (arith, ge) in
-      rw (t, f) (sym (nothing (nat_lt now.first (length now.clears)))))
+      rw (t, f) (sym (nothing (nat_lt now.first (length now.clears)) (slice_index parents now.first == p))))
 ]
   where
     lower : (a b : ℕ) → a < b → nat_lt a b ≡ true
     lower a b lt = grind (arith, lt)
 
-    nothing : (b : Bool) → (b && false) ≡ false
-    nothing true = refl
-    nothing false = refl
+    nothing : (b c : Bool) → (b && false && c) ≡ false
+    nothing true c = refl
+    nothing false c = refl
 
 module _ (parents : List ℕ) (blocks : List Block) (shapes : List Shape) (given : List Length) (tree : IsTree parents) (now : PassState) (placing : Placing) where
   pub knows_opened : (k : ℕ) (strut : StrutValue) → 0 < k → k < length parents → parts_tops blocks k ≡ false → IsReady parents blocks shapes given now placing k → StrutFits strut
@@ -194,7 +194,7 @@ module _ (parents : List ℕ) (blocks : List Block) (shapes : List Shape) (given
         → StrutFits strut' → WithMargin now.strut strut' (block_at blocks p).margin_bottom.0
         → Knows parents blocks shapes given (record now { heights = heights; start = start; strut = strut' }) placing (slice_index parents p) m
     knows_joined heights mark height start strut' may unbarred settled marked size is_height starts wrote fits' holds = record {
-      fits = fits_joined parents tree blocks now p m positive was.fits heights height start strut' near wrote fits';
+      fits = fits_joined parents tree blocks now p m positive was.fits heights height start strut' near size wrote fits';
       near = later_near now.first m start was.fits.first_most near;
       is_at = there;
       are_given = was.are_given;
@@ -234,8 +234,8 @@ module _ (parents : List ℕ) (blocks : List Block) (shapes : List Shape) (given
         → start ≡ mark +ℤ height → Wrote length_at now.heights heights p height
         → StrutFits strut' → Holds strut' ((block_at blocks p).margin_bottom.0 ∷ [])
         → Knows parents blocks shapes given (record now { marks = marks; heights = heights; start = start; strut = strut'; first = m; hangs = false }) placing' (slice_index parents p) m
-    knows_parted marks heights placing' end mark height start strut' may settled reach ended settles placed kept same marked size is_height starts wrote fits' holds = record {
-      fits = fits_parted parents tree blocks now p m positive was.fits marks heights end height start strut' settles ended start_near wrote fits';
+    knows_parted marks heights placing' end mark height start strut' may settled reaches ended settles placed kept same marked size is_height starts wrote fits' holds = record {
+      fits = fits_parted parents tree blocks now p m positive was.fits marks heights end height start strut' settles ended start_near size wrote fits';
       near = start_near;
       is_at = there;
       are_given = given_kept parents blocks given placing.extents placing'.extents (length placing.places) kept was.are_given;
@@ -271,9 +271,9 @@ module _ (parents : List ℕ) (blocks : List Block) (shapes : List Shape) (given
             let at = was.is_at extents clear_edges y may_be candidate in
             let truth = stands extents clear_edges y may_be candidate settled in
             let parted : joins_bottom parents blocks y.runs p ≡ false = joins_here extents clear_edges y may_be candidate ∙ rw (truth, may) refl in
-            let mark_is = marked ∙ mark_parted parents blocks extents clear_edges y is tree now p m positive at ends truth parted end reach marks settles in
-            let bottom = reach_parted parents blocks extents clear_edges y is tree now p m positive at ends truth parted end reach ∙ sym (bottom_parted parents blocks extents clear_edges y is tree now p m positive at ends parted truth) in
+            let mark_is = marked ∙ mark_parted parents blocks extents clear_edges y is tree now p m positive at ends truth parted end reaches marks settles in
+            let bottom = reach_parted parents blocks extents clear_edges y is tree now p m positive at ends truth parted end reaches ∙ sym (bottom_parted parents blocks extents clear_edges y is tree now p m positive at ends parted truth) in
             let height_is = height_there parents blocks extents clear_edges y is tree now p m positive at ends height mark end truth mark_is bottom (is_height ∙ ap (λ (v : ℤ). border_height (block_at blocks p) v (end -ℤ (mark +ℤ (block_at blocks p).edge_top.0))) ext) in
             let wrote_height : Wrote length_at now.heights heights p (length_at y.places.heights p) = subst (λ (v : ℤ). Wrote length_at now.heights heights p v) height_is wrote in
-            close_parted parents blocks extents clear_edges y is tree now p m positive at ends truth parted end reach marks settles heights strut' start wrote_height
+            close_parted parents blocks extents clear_edges y is tree now p m positive at ends truth parted end reaches marks settles heights strut' start wrote_height
             (starts ∙ (λ i. marked i +ℤ (sym wrote.here) i)) holds

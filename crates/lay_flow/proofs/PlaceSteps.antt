@@ -48,7 +48,7 @@ nothing_more [] = refl
 nothing_more (x ∷ xs) = ap (λ (zs : List Placed). x ∷ zs) (nothing_more xs)
 
 -- one more place
-old_place : (places : List Place) (p : Place) (j : ℕ) → j < length places → get_or (places ++ p ∷ []) j no_place ≡ get_or places j no_place
+pub old_place : (places : List Place) (p : Place) (j : ℕ) → j < length places → get_or (places ++ p ∷ []) j no_place ≡ get_or places j no_place
 old_place places p j lt = grind (arith, elements, lt)
 
 new_place : (places : List Place) (p : Place) (k : ℕ) → length places ≡ k → get_or (places ++ p ∷ []) k no_place ≡ p

@@ -3,7 +3,6 @@ use Rattle.std.specs.Prelude.{ℕ, ◌≡◌, ◌<◌, ◌≤◌, ℤ, false, Li
 use Rattle.lay_units.specs.declared.length.Unit.{Unit as Length}
 use Rattle.lay_floats.specs.declared.requests.Side.{Side}
 use Rattle.lay_floats.specs.declared.requests.Clear.{Clear}
-use Rattle.lay_floats.specs.declared.requests.Clear.TheVariants.{None as clear_none}
 use Rattle.lay_floats.specs.ClearEdge.{Clears}
 use Rattle.lay_flow.specs.declared.block.Block.{Block}
 use Rattle.lay_flow.specs.declared.shape.Shape.{Shape}
@@ -14,10 +13,6 @@ use Rattle.lay_flow.specs.BlockLayout.{BlockLayout}
 use Rattle.lay_flow.specs.BlockPass.{PassState}
 use Rattle.lay_flow.specs.PlacesTo.{Placing}
 use Rattle.lay_flow.specs.PassKnows.{MayBe, IsCandidate}
-
--- a box in flow that goes past floats
-abbrev pub AsksToClear : Shape → Type 0
-AsksToClear s = (s.float ≡ None) × ¬ (s.clear ≡ clear_none)
 
 -- a float of a side to clear
 abbrev pub IsSideToClear : Clear → Option Side → Type 0

@@ -58,6 +58,7 @@ pub record StateFits (parents : List ℕ) (blocks : List Block) (now : PassState
   pub strut_fits : StrutFits now.strut
   -- the boxes that wait for their marks have no border or padding above their content
   pub unparted : (j : ℕ) → now.first ≤ j → j < m → parts_tops blocks j ≡ false
+  pub sized : (j : ℕ) → is_solid (block_at blocks j).inside ≡ false → IsBoxHeight (length_at now.heights j)
 
 -- at most 2^53 units from 0
 abbrev pub IsNear : ℤ → Type 0

@@ -3,10 +3,11 @@
 ghost use Rattle.std.specs.Prelude.{◌≡◌, ◌+◌, ◌<◌, ◌≤◌, ◌⊎◌, true, false, length, slice_index, None, Option, OnOk};
 ghost use Rattle.lay_units.specs.declared.length.Unit.{Unit};
 ghost use Rattle.lay_floats.specs.ClearEdge.{Clears, IsClearEdge};
+ghost use Rattle.lay_floats.specs.declared.requests.Clear.TheVariants.{None as clear_none};
 ghost use Rattle.lay_flow.specs.BlockFloats.{shape_at};
 ghost use Rattle.lay_flow.specs.BlockSizes.{AreBlocks};
 ghost use Rattle.lay_flow.specs.Clearance.{IsAbove, lower_of};
-ghost use Rattle.lay_flow.specs.ClearSteps.{AsksToClear, HasWaitingFloat, IsEdgeWithout, IsSideToClear};
+ghost use Rattle.lay_flow.specs.ClearSteps.{HasWaitingFloat, IsEdgeWithout, IsSideToClear};
 ghost use Rattle.lay_flow.specs.PassBounds.{IsEdgeNear, state_of};
 ghost use Rattle.lay_flow.specs.PassKnows.{ArePlaceable, IsReady, Knows, placing_of};
 
@@ -45,8 +46,8 @@ pub(crate) fn clear(
 }
 
 fn asks_to_clear(shape: &Shape) -> bool
-    ensures asks { result ≡ true → AsksToClear shape.now }
-    ensures doesnt { result ≡ false → ¬ AsksToClear shape.now }
+    ensures flows { result ≡ true → shape.now.float ≡ None }
+    ensures passes_none { result ≡ false → shape.now.float ≡ None → shape.now.clear ≡ clear_none }
 {
     shape.float.is_none() && shape.clear != Clear::None
 }
@@ -93,7 +94,7 @@ fn clear_floats(
     requires shapes { ArePlaceable parents.now blocks.now shapes.now }
     requires positive { 0 < k }
     requires within { k < length parents.now }
-    requires asks { AsksToClear (shape_at shapes.now k) }
+    requires flows { (shape_at shapes.now k).float ≡ None }
     requires settled { length flow.old.placing.places.items ≡ flow.old.first }
     requires known { Knows parents.now blocks.now shapes.now given.now (state_of flow.old) (placing_of flow.old.placing) (slice_index parents.now k) k }
     ensures { OnOk result (IsReady parents.now blocks.now shapes.now given.now (state_of flow.new) (placing_of flow.new.placing) k) }
@@ -209,7 +210,7 @@ fn begin_cleared(
     requires shapes { ArePlaceable parents.now blocks.now shapes.now }
     requires positive { 0 < k }
     requires within { k < length parents.now }
-    requires asks { AsksToClear (shape_at shapes.now k) }
+    requires flows { (shape_at shapes.now k).float ≡ None }
     requires settled { length flow.old.placing.places.items ≡ flow.old.first }
     requires known { Knows parents.now blocks.now shapes.now _given.now (state_of flow.old) (placing_of flow.old.placing) (slice_index parents.now k) k }
     requires edge { IsEdgeWithout parents.now blocks.now _given.now (state_of flow.old) (placing_of flow.old.placing) k hypothetical.0 }
