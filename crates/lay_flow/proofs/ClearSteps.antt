@@ -16,8 +16,9 @@ use Rattle.lay_flow.specs.declared.block.Block.{Block}
 use Rattle.lay_flow.specs.declared.shape.Shape.{Shape}
 use Rattle.lay_flow.specs.StackedBlocks.{length_at}
 use Rattle.lay_flow.specs.Children.{flag_at}
-use Rattle.lay_flow.specs.MarginRuns.{has_top, run_at, run_before}
-use Rattle.lay_flow.specs.BlockLayout.{BlockLayout}
+use Rattle.lay_flow.specs.MarginRuns.{margins, has_top, run_at, run_before}
+use Rattle.lay_flow.specs.BlockPositions.{start_before}
+use Rattle.lay_flow.specs.BlockLayout.{BlockLayout, IsBlockLayout}
 use Rattle.lay_flow.specs.BlockFloats.{shape_at, place_at, floats_before}
 use Rattle.lay_flow.specs.Clearance.{IsHypothetical, HasClearedFloat, IsAbove, lower_of, HasClearance}
 use Rattle.lay_flow.specs.BlockPass.{PassState, IsAt, Settled}
@@ -36,7 +37,7 @@ use Rattle.lay_flow.proofs.PlaceSteps.{floats_same}
 use Rattle.lay_flow.proofs.RunFacts.{lead_goes_on}
 use Rattle.lay_flow.proofs.RunReach.{RunEnds}
 use Rattle.lay_flow.proofs.SoFar.{Wrote}
-use Rattle.lay_flow.proofs.Truths.{true_false}
+use Rattle.lay_flow.proofs.Truths.{true_false, low_not, low_yes}
 
 no_some : {A : Type 0} (v : A) → None ≡ Some v → ⊥
 no_some v e = grind (arith, e)
@@ -91,7 +92,7 @@ module _ (parents : List ℕ) (blocks : List Block) (shapes : List Shape) (given
             | inl low ↦ absurd (true_false (has_top j (run_before parents blocks without.runs (slice_index parents k) k)) top (at_without.in_run.gathered.older j low))
             | inr high ↦ high
           ] in
-          (j, from, w.2, w.1, w.3, w.4)
+          (j, from, w.2, (w.1, w.3, w.4))
 
       pub cleared_waits : HasWaitingFloat shapes now.first k → HasClearedFloat shapes k (run_at without.runs.before_tops k)
       cleared_waits w =
@@ -105,6 +106,20 @@ module _ (parents : List ℕ) (blocks : List Block) (shapes : List Shape) (given
       let run = (was.is_at extents clear_edges w may_be candidate).in_run in
       let h = run.hanging t in
       h.edge ∙ sym (hangs_at_edge parents tree blocks extents clear_edges w candidate.is_layout now.first k within run.gathered h.clears (later k (omega arith)) h.open_yet h.contains)
+
+  -- in another run the look ahead finds it
+  pub flowing_edge : now.hangs ≡ false → (edge : ℤ)
+      → ((extents clear_edges : List Length) (w : BlockLayout) → IsBlockLayout parents blocks extents clear_edges w → ((j : ℕ) → k ≤ j → flag_at w.runs.clears j ≡ false)
+      → Holds now.strut (margins (run_before parents blocks w.runs (slice_index parents k) k)) → now.start ≡ start_before parents blocks w.runs w.places (slice_index parents k) k
+      → ((j : ℕ) → j < k → has_top j (run_before parents blocks w.runs (slice_index parents k) k) ≡ not (nat_lt j now.first))
+      → edge ≡ length_at w.places.marks k)
+      → IsEdgeWithout parents blocks given now placing k edge
+  flowing_edge f edge ahead extents clear_edges w may_be candidate later =
+      let run = (was.is_at extents clear_edges w may_be candidate).in_run in
+      ahead extents clear_edges w candidate.is_layout later run.strut_holds (run.start_is f) (λ j lt. elim (cases_lt j now.first) [
+        | inl low ↦ run.gathered.older j low ∙ sym (low_yes j now.first low)
+        | inr high ↦ run.gathered.own j high lt ∙ sym (low_not j now.first high)
+      ])
 
   -- it is decided that the box at k has no clearance
   pub ready_unclear : ((shape_at shapes k).float ≡ None
@@ -166,7 +181,7 @@ module _ (parents : List ℕ) (blocks : List Block) (shapes : List Shape) (given
         without = there.0;
         is_hypothetical = there.1;
         bottom = bottom;
-        is_bottom = edge_of_more shapes places (shape_at shapes k).clear bottom now.first k was.fits.first_most (λ j low high side float clears. none_waits (j, low, high, side, float, clears))
+        is_bottom = edge_of_more shapes places (shape_at shapes k).clear bottom now.first k was.fits.first_most (λ j low high side float clears. none_waits (j, low, high, (side, float, clears)))
             (subst (λ (fs : List Placed). IsClearEdge fs (shape_at shapes k).clear bottom) floats is_bottom);
         decides = (
           λ t. absurd (true_false (flag_at y.runs.clears k) t unclear),

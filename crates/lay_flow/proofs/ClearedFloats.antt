@@ -78,7 +78,7 @@ module _ (shapes : List Shape) (places : List Place) where
 
   pub edge_of_more : (clear : Clear) (bottom : Option Length) (n m : ℕ) → n ≤ m → ((j : ℕ) → n ≤ j → j < m → (side : Side) → (shape_at shapes j).float ≡ Some side → Clears clear side → ⊥)
       → IsClearEdge (floats_before shapes places n) clear bottom → IsClearEdge (floats_before shapes places m) clear bottom
-  edge_of_more clear None n m le none is i f at_i clears = let w = from_earlier clear n m le none f clears (i, at_i) in is w.0 f w.1 clears
+  edge_of_more clear None n m le none is = λ i f at_i clears. let w = from_earlier clear n m le none f clears (i, at_i) in is w.0 f w.1 clears
   edge_of_more clear (Some v) n m le none is = record {
     one_of = let w = is.one_of in let h = stays n m le w.1 (w.0, w.2) in (h.0, w.1, h.1, w.3);
     most = λ u w. let h = from_earlier clear n m le none w.1 w.3.0 (w.0, w.2) in is.most u (h.0, w.1, h.1, w.3);

@@ -45,6 +45,10 @@ edge_run_near k v near = let a = near.0 in let b = near.1 in (omega (arith, ints
 pub start_edge_near : (k : ℕ) (v : ℤ) → IsStartNear k v → IsEdgeNear k v
 start_edge_near k v near = let a = near.0 in let b = near.1 in (omega (arith, ints, a), omega (arith, ints, b))
 
+-- what a run reaches that may begin before the box at k
+pub ahead_near : (k : ℕ) (start end : ℤ) → IsStartNear k start → IsCollapseNear (end -ℤ start) → IsEdgeNear k end
+ahead_near k start end near collapsed = let a = near.0 in let b = near.1 in let c = collapsed.0 in let d = collapsed.1 in (omega (arith, ints, a, c), omega (arith, ints, b, d))
+
 pub later_near : (j k : ℕ) (v : ℤ) → j ≤ k → IsStartNear j v → IsStartNear k v
 later_near j k v le near = let a = near.0 in let b = near.1 in (omega (arith, ints, a, le), omega (arith, ints, b, le))
 

@@ -26,7 +26,8 @@ use Rattle.lay_flow.specs.StackedBlocks.{length_at}
 use Rattle.lay_flow.specs.MarginRuns.{block_at}
 use Rattle.lay_flow.specs.BlockPositions.{is_solid}
 use Rattle.lay_flow.specs.BlockFloats.{AreShapes, shape_at, place_at, no_place, float_of, floats_before, float_request, solid_request, ceiling}
-use Rattle.lay_flow.specs.PassBounds.{reach, IsMarkNear}
+use Rattle.lay_flow.specs.Clearance.{lower_of}
+use Rattle.lay_flow.specs.PassBounds.{reach, IsMarkNear, IsEdgeNear}
 use Rattle.lay_flow.specs.PlacesTo.{Placing, PlacesTo, ShapeFits, IsCeilingNear}
 use Rattle.lay_flow.proofs.SoFar.{Wrote}
 use Rattle.lay_flow.proofs.Truths.{true_false}
@@ -375,3 +376,12 @@ clear_edge_position n floats clear (Some v) few all is =
     let b = (all_at (BoxWithin (reach n)) floats w.0 w.1 all w.2).bottom in
     let least = b.0 in let most = b.1 in let e = w.3.1 in
     (omega (arith, ints, few, least, e), omega (arith, ints, few, most, e))
+
+-- the clear edge of a box is near
+pub lower_near : (n : ℕ) (floats : List Placed) (clear : Clear) (bottom : Option Length) (hypothetical : ℤ) → All (BoxWithin (reach n)) floats → IsClearEdge floats clear bottom → IsEdgeNear n hypothetical → IsEdgeNear n (lower_of bottom hypothetical)
+lower_near n floats clear None hypothetical all is near = near
+lower_near n floats clear (Some v) hypothetical all is near =
+    let w = is.one_of in
+    let b = (all_at (BoxWithin (reach n)) floats w.0 w.1 all w.2).bottom in
+    let least = b.0 in let most = b.1 in let e = w.3.1 in let c = near.0 in let d = near.1 in
+    (omega (arith, ints, clamps, least, e, c), omega (arith, ints, clamps, most, e, d))

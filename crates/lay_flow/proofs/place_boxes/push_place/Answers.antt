@@ -6,4 +6,4 @@ use Rattle.lay_flow.proofs.place_boxes.push_place.Goals as goal
 
 pub returns-clause-same : goal.returns-clause-same
 returns-clause-same c =
-    subst (λ (places : List Place). ArePlacesKept c.args.places.now.items places) (sym (c.in_ok-push.ensures {u = tt})) (λ j lt. old_place c.args.places.now.items c.args.place j lt)
+    subst (λ (places : List Place). ArePlacesKept c.args.places.now.items places) (sym (c.in_ok-push.ensures {u = tt}).items) (λ j lt. old_place c.args.places.now.items c.args.place j lt)
