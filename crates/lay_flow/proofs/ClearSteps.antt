@@ -1,12 +1,10 @@
 -- What is known once it is decided whether a box has clearance.
-use Rattle.std.proofs.Common.{◌≡◌, ◌⊎◌, ℕ, zero, suc, ◌+◌, ◌<◌, ◌≤◌, not, nat_lt, Bool, true, false, ℤ, ◌+ℤ◌, ◌-ℤ◌, ◌<ℤ◌, List, [], length, slice_index, refl, sym, ap, ◌∙◌, arith, inl, inr, Option, Some, None, subst}
+use Rattle.std.proofs.Common.{◌≡◌, ◌⊎◌, ℕ, ◌+◌, ◌<◌, ◌≤◌, not, nat_lt, Bool, true, false, ℤ, ◌-ℤ◌, List, [], length, slice_index, refl, sym, ap, ◌∙◌, arith, inl, inr, Option, Some, None, subst}
 use Rattle.std.proofs.lemmas.Bool.{cases_lt, cases_eq}
-use Rattle.std.proofs.lemmas.Int.{ints}
 use Rattle.lay_units.specs.declared.length.Unit.{Unit as Length}
 use Rattle.lay_margins.specs.StrutValue.{StrutValue}
 use Rattle.lay_margins.specs.Collapse.{Holds}
 use Rattle.lay_floats.specs.declared.placed.Placed.{Placed}
-use Rattle.lay_floats.specs.declared.requests.Side.{Side}
 use Rattle.lay_floats.specs.declared.requests.Clear.{Clear}
 use Rattle.lay_floats.specs.declared.requests.Clear.TheVariants.{None as clear_none}
 use Rattle.lay_floats.specs.declared.requests.Place.{Place}
@@ -19,20 +17,19 @@ use Rattle.lay_flow.specs.Children.{flag_at}
 use Rattle.lay_flow.specs.MarginRuns.{margins, has_top, run_at, run_before}
 use Rattle.lay_flow.specs.BlockPositions.{start_before}
 use Rattle.lay_flow.specs.BlockLayout.{BlockLayout, IsBlockLayout}
-use Rattle.lay_flow.specs.BlockFloats.{shape_at, place_at, floats_before}
+use Rattle.lay_flow.specs.BlockFloats.{shape_at, floats_before}
 use Rattle.lay_flow.specs.Clearance.{IsHypothetical, HasClearedFloat, IsAbove, lower_of, HasClearance}
 use Rattle.lay_flow.specs.BlockPass.{PassState, IsAt, Settled}
-use Rattle.lay_flow.specs.BlockSizes.{AreBlocks}
 use Rattle.lay_flow.specs.PassBounds.{StrutFits, IsEdgeNear, IsCollapseNear}
 use Rattle.lay_flow.specs.PlacesTo.{Placing, PlacesTo}
-use Rattle.lay_flow.specs.PassKnows.{Knows, IsReady, MayBe, IsCandidate, AreClears, AreDecided, AreExtentsKept, ArePlacesKept}
+use Rattle.lay_flow.specs.PassKnows.{Knows, IsReady, MayBe, IsCandidate, AreExtentsKept, ArePlacesKept}
 use Rattle.lay_flow.specs.ClearSteps.{HasWaitingFloat, IsEdgeWithout}
 use Rattle.lay_flow.proofs.ClearedFloats.{edge_of_more, higher_with_more}
 use Rattle.lay_flow.proofs.HangingRuns.{hangs_at_edge}
 use Rattle.lay_flow.proofs.Hypotheticals.{some_hypothetical_lem}
 use Rattle.lay_flow.proofs.Openings.{opened_cleared}
 use Rattle.lay_flow.proofs.PassFits.{fits_cleared, start_edge_near}
-use Rattle.lay_flow.proofs.PassSteps.{placed_kept, may_before, given_kept, places_before, decided_placed}
+use Rattle.lay_flow.proofs.PassSteps.{may_before, given_kept, places_before, decided_placed}
 use Rattle.lay_flow.proofs.PlaceSteps.{floats_same}
 use Rattle.lay_flow.proofs.RunFacts.{lead_goes_on}
 use Rattle.lay_flow.proofs.RunReach.{RunEnds}

@@ -1,5 +1,5 @@
 -- The lowest bottom of the floats of the sides to clear, with more floats.
-use Rattle.std.proofs.Common.{◌≡◌, ℕ, zero, suc, ◌+◌, ◌<◌, ◌≤◌, ℤ, ◌<ℤ◌, ◌≤ℤ◌, List, [], ◌∷◌, ◌++◌, length, slice_get, refl, sym, ap, ◌∙◌, arith, inl, inr, Option, Some, None, subst}
+use Rattle.std.proofs.Common.{◌≡◌, ℕ, zero, suc, ◌<◌, ◌≤◌, ℤ, List, [], ◌∷◌, ◌++◌, length, slice_get, refl, ap, arith, inl, inr, Option, Some, None, subst}
 use Rattle.std.proofs.lemmas.Bool.{cases_lt}
 use Rattle.std.proofs.lemmas.Int.{ints}
 use Rattle.std.proofs.lemmas.Grind.{elements}
@@ -8,9 +8,9 @@ use Rattle.lay_floats.specs.declared.placed.Placed.{Placed}
 use Rattle.lay_floats.specs.declared.requests.Side.{Side}
 use Rattle.lay_floats.specs.declared.requests.Clear.{Clear}
 use Rattle.lay_floats.specs.declared.requests.Place.{Place}
-use Rattle.lay_floats.specs.ClearEdge.{Clears, ClearedBottoms, IsClearEdge}
+use Rattle.lay_floats.specs.ClearEdge.{Clears, IsClearEdge}
 use Rattle.lay_flow.specs.declared.shape.Shape.{Shape}
-use Rattle.lay_flow.specs.BlockFloats.{shape_at, place_at, float_of, floats_before}
+use Rattle.lay_flow.specs.BlockFloats.{shape_at, floats_before}
 use Rattle.lay_flow.specs.Clearance.{IsAbove}
 
 -- a float is in the list

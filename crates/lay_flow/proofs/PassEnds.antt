@@ -1,5 +1,5 @@
 -- The beginning and the end of the pass.
-use Rattle.std.proofs.Common.{◌≡◌, ℕ, zero, suc, ◌+◌, ◌<◌, Bool, true, false, ℤ, pos, ◌+ℤ◌, ◌-ℤ◌, List, [], ◌∷◌, length, slice_index_or, replicate, All, refl, sym, ap, ◌∙◌, arith, inl, inr, Option, Some, None, subst}
+use Rattle.std.proofs.Common.{◌≡◌, ℕ, zero, suc, ◌+◌, Bool, false, ℤ, pos, ◌+ℤ◌, ◌-ℤ◌, List, [], ◌∷◌, length, slice_index_or, replicate, All, refl, sym, ap, ◌∙◌, arith, inl, inr, Option, Some, None, subst}
 use Rattle.std.proofs.lemmas.Bool.{cases_eq}
 use Rattle.std.proofs.lemmas.Int.{ints}
 use Rattle.std.proofs.lemmas.List.Elements.{All-nil}
@@ -21,7 +21,7 @@ use Rattle.lay_flow.specs.BlockPositions.{start_below, start_before, border_heig
 use Rattle.lay_flow.specs.BlockLayout.{BlockLayout, IsBlockLayout}
 use Rattle.lay_flow.specs.BlockFloats.{AreShapes, shape_at, place_at, no_place, floats_before}
 use Rattle.lay_flow.specs.ContextFlow.{AreContextPlaces, reach_below}
-use Rattle.lay_flow.specs.BlockPass.{PassState, IsAt, Settled}
+use Rattle.lay_flow.specs.BlockPass.{PassState, Settled}
 use Rattle.lay_flow.specs.BlockSizes.{AreBlocks}
 use Rattle.lay_flow.specs.PassBounds.{StrutFits, StateFits, IsMarkNear, IsCollapseNear, AreBoxHeights, reach}
 use Rattle.lay_flow.specs.PlacesTo.{Placing, PlacesTo}

@@ -8,7 +8,7 @@ use Rattle.lay_flow.specs.Children.{flag_at}
 use Rattle.lay_flow.specs.MarginRuns.{has_top, run_at}
 use Rattle.lay_flow.specs.Gathered.{Holds as Contains}
 use Rattle.lay_flow.specs.BlockLayout.{BlockLayout}
-use Rattle.lay_flow.specs.BlockPass.{Settled, Marked, IsDone, IsSoFar}
+use Rattle.lay_flow.specs.BlockPass.{Settled, IsDone, IsSoFar}
 use Rattle.lay_flow.proofs.Truths.{true_false, not_low, low_not}
 
 -- one entry was changed

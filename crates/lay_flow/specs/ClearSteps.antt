@@ -1,5 +1,5 @@
 -- What a pass over a context decides before it reads the top margin of a box with `clear`.
-use Rattle.std.specs.Prelude.{ℕ, ◌≡◌, ◌<◌, ◌≤◌, ℤ, false, List, Option, Some, None}
+use Rattle.std.specs.Prelude.{ℕ, ◌≡◌, ◌<◌, ◌≤◌, ℤ, false, List, Option, Some}
 use Rattle.lay_units.specs.declared.length.Unit.{Unit as Length}
 use Rattle.lay_floats.specs.declared.requests.Side.{Side}
 use Rattle.lay_floats.specs.declared.requests.Clear.{Clear}

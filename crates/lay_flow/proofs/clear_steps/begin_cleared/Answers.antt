@@ -1,4 +1,4 @@
-use Rattle.std.proofs.Common.{◌≡◌, ℕ, ◌+◌, Bool, true, arith, subst, sym, List, ap, ◌∙◌, length, slice_index}
+use Rattle.std.proofs.Common.{ℕ, ◌+◌, Bool, true, arith, subst, sym, List, length}
 use Rattle.lay_units.specs.declared.length.Unit.{Unit as Length}
 use Rattle.lay_floats.specs.ClearEdge.{IsClearEdge}
 use Rattle.lay_flow.specs.declared.shape.Shape.{Shape}
