@@ -3,6 +3,7 @@
 use Rattle.std.proofs.Common.{◌≡◌, ℕ, zero, suc, ◌+◌, ◌-◌, ◌<◌, ◌≤◌, List, length, slice_index, refl, arith, inl, inr, subst}
 use Rattle.std.proofs.lemmas.Bool.{cases_lt, cases_eq}
 use Rattle.lay_doc.specs.Tree.{IsTree}
+use Rattle.lay_flow.specs.MarginPlace.{IsPlace}
 
 -- the place to which the walk goes before it opens the box at m
 pub record IsNextUp (parents : List ℕ) (m q : ℕ) : Type 0 where
@@ -11,19 +12,28 @@ pub record IsNextUp (parents : List ℕ) (m q : ℕ) : Type 0 where
 
 module _ (parents : List ℕ) (tree : IsTree parents) (S : ℕ → ℕ → Type 0)
     (close : (p m : ℕ) → 0 < p → p < m → m ≤ length parents → (m < length parents → slice_index parents m < p) → S p m → S (slice_index parents p) m) where
-  pub closes : (q m fuel p : ℕ) → p < fuel → q ≤ p → p < m → m ≤ length parents → IsNextUp parents m q → S p m → S q m
-  closes q m zero p small le lt within next s = absurd (omega (arith, small))
-  closes q m (suc fuel) p small le lt within next s = elim (cases_eq p q) [
+  -- the boxes in q are closed from the innermost one on
+  reaches : (q m : ℕ) → IsPlace parents q m → (fuel p : ℕ) → p < fuel → q ≤ p → p < m → S p m → S q m
+  reaches q m at zero p small le lt s = absurd (omega (arith, small))
+  reaches q m at (suc fuel) p small le lt s = elim (cases_eq p q) [
     | inl e ↦ subst (λ (x : ℕ). S x m) e s
     | inr ne ↦ (let less : q < p = omega (arith, le, ne) in
-        let b = tree.before p (omega (arith, less)) (omega (arith, lt, within)) in
-        let ends : m < length parents → slice_index parents m < p = λ w. (let k = next.known w in omega (arith, k, less)) in
-        let stays : q ≤ slice_index parents p = elim (cases_lt m (length parents)) [
-          | inl w ↦ (let k = next.known w in let t = tree.together p m lt w (omega (arith, k, less)) in omega (arith, k, t))
-          | inr over ↦ (let z = next.last over in omega (arith, z))
-        ] in
-        closes q m fuel (slice_index parents p) (omega (arith, b, small)) stays (omega (arith, b, lt)) within next (close p m (omega (arith, less)) lt within ends s))
+        let w = at.within in
+        let b = tree.before p (omega (arith, less)) (omega (arith, lt, w)) in
+        let ends : m < length parents → slice_index parents m < p = λ w. (let k = at.next w in omega (arith, k, less)) in
+        reaches q m at fuel (slice_index parents p) (omega (arith, b, small)) (at.inside p less lt) (omega (arith, b, lt)) (close p m (omega (arith, less)) lt w ends s))
   ]
+
+  pub closes : (q m fuel p : ℕ) → p < fuel → q ≤ p → p < m → m ≤ length parents → IsNextUp parents m q → S p m → S q m
+  closes q m fuel p small le lt within next s = reaches q m (record {
+    parent = omega (arith, le, lt);
+    within = within;
+    inside = λ i low high. elim (cases_lt m (length parents)) [
+      | inl w ↦ (let k = next.known w in let t = tree.together i m high w (omega (arith, k, low)) in omega (arith, k, t))
+      | inr over ↦ (let z = next.last over in omega (arith, z))
+    ];
+    next = λ w. let k = next.known w in omega (arith, k);
+  }) fuel p small le lt s
 
   module _ (open_one : (k : ℕ) → 0 < k → k < length parents → S (slice_index parents k) k → S k (k + 1)) where
     -- the box at k was just opened
@@ -43,3 +53,12 @@ module _ (parents : List ℕ) (tree : IsTree parents) (S : ℕ → ℕ → Type 
         let one : (n - 1) + 1 ≡ n = omega (arith, some) in
         let was = subst (λ (m : ℕ). S (n - 1) m) one (opens (n - 1) s (omega (arith, some))) in
         closes 0 n n (n - 1) (omega (arith, some)) (omega arith) (omega (arith, some)) (omega arith) (record { known = λ w. absurd (omega (arith, w)); last = λ o. refl }) was
+
+    -- and so to each place of the sequence
+    pub walk_to : S 0 1 → (p m : ℕ) → IsPlace parents p m → S p m
+    walk_to s p zero at = let lt = at.parent in absurd (omega (arith, lt))
+    walk_to s p (suc m) at =
+        let w = at.within in
+        let lt = at.parent in
+        let one : m + 1 ≡ suc m = omega arith in
+        reaches p (suc m) at (suc m) m (omega arith) (omega (arith, lt)) (omega arith) (subst (λ (n : ℕ). S m n) one (opens m s (omega (arith, w))))

@@ -6,11 +6,15 @@ pub mod BlockLayout
 pub mod BlockFloats
 pub mod Clearance
 pub mod ContextFlow
+pub mod Gathered
+pub mod MarginPlace
 pub mod BlockPass
 pub mod BlockSizes
 pub mod PassBounds
+pub mod LookAhead
 pub mod PlacesTo
 pub mod PassKnows
+pub mod ClearSteps
 pub mod Laws
 pub mod HeightsFrom
 pub mod CornersTo

@@ -53,4 +53,4 @@ pub record PlacesTo (parents : List ℕ) (blocks : List Block) (shapes : List Sh
 
 -- a ceiling of the box at k: its mark, or the top of its parent's content
 abbrev pub IsCeilingNear : ℕ → ℤ → Type 0
-IsCeilingNear k v = IsWithin (pos (2251799813685248 + 68719476736 * k + 8589934592)) v
+IsCeilingNear k v = IsWithin (pos (2251799813685248 + 68719476736 * k + 17179869184)) v

@@ -15,7 +15,7 @@ use crate::columns::{block_at, length_at, parent_at, sum_of, write_at};
 use crate::pass_state::Flow;
 use crate::place_boxes::{nowhere, place_up_to, push_place};
 use crate::placing::Placing;
-use crate::run_ends::{no_margin, run_end};
+use crate::run_ends::{end_of, no_margin};
 use crate::settling::settle;
 use crate::shape::Shape;
 use lay_floats::{Clear, Floats, Place};
@@ -82,9 +82,12 @@ fn begin(
         marks: vec![in alloc; Unit(0); count]?,
         heights: vec![in alloc; Unit(0); count]?,
         through: vec![in alloc; false; count]?,
+        clears: vec![in alloc; false; count]?,
+        clear_edges: vec![in alloc; Unit(0); count]?,
         start: block_at(blocks, 0).edge_top,
         strut: no_margin(),
         first: 1,
+        hangs: false,
         placing: placing_of(alloc, lines)?,
     })
 }
@@ -124,7 +127,7 @@ fn advance(
 {
     let parent = parent_at(parents, k);
     close_to(parents, blocks, shapes, lines, flow, k - 1, parent, k)?;
-    open(parents, blocks, shapes, lines, flow, k);
+    open(parents, blocks, shapes, lines, flow, k)?;
     Ok(())
 }
 
@@ -168,6 +171,7 @@ fn finish(
     requires known { Knows parents.now blocks.now shapes.now lines.now (state_of flow.old) (placing_of flow.old.placing) (length parents.now - 1) (length parents.now) }
     ensures places { OnOk result (AreContextPlaces parents.now blocks.now shapes.now lines.now flow.new.marks.items flow.new.heights.items flow.new.placing.places.items) }
     ensures near { OnOk result (AreNear flow.new.marks.items) }
+    ensures sized { OnOk result (AreBoxHeights blocks.now flow.new.heights.items) }
 {
     let count = parents.len();
     close_to(parents, blocks, shapes, lines, flow, count - 1, 0, count)?;
@@ -188,9 +192,10 @@ fn close_root(
     requires known { Knows parents.now blocks.now shapes.now _lines.now (state_of flow.old) (placing_of flow.old.placing) 0 (length parents.now) }
     ensures places { OnOk result (AreContextPlaces parents.now blocks.now shapes.now _lines.now flow.new.marks.items flow.new.heights.items flow.new.placing.places.items) }
     ensures near { OnOk result (AreNear flow.new.marks.items) }
+    ensures sized { OnOk result (AreBoxHeights blocks.now flow.new.heights.items) }
 {
     let count = parents.len();
-    let end = run_end(flow.start, flow.strut);
+    let end = end_of(flow.start, flow.hangs, flow.strut);
     settle(
         parents,
         &flow.through,

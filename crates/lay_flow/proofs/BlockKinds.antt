@@ -1,0 +1,42 @@
+-- What follows from the kinds of blocks.
+use Rattle.std.proofs.Common.{◌≡◌, ℕ, zero, suc, ◌&&◌, not, Bool, true, false, ℤ, pos, negsuc, List, refl, ap, arith}
+use Rattle.lay_units.specs.declared.records.Len.{Len}
+use Rattle.lay_units.specs.declared.records.Len.TheVariants.{Auto as auto, Of as of}
+use Rattle.lay_flow.specs.declared.block.Block.{Block}
+use Rattle.lay_flow.specs.declared.block.Inside.{Inside}
+use Rattle.lay_flow.specs.declared.block.Inside.TheVariants.{Blocks as blocks_inside, Lines as lines_inside, Solid as solid_inside}
+use Rattle.lay_flow.specs.MarginRuns.{block_at, is_zero, is_auto, is_auto_or_zero, is_blocks, parts_tops, may_join_bottoms, may_collapse_through}
+use Rattle.lay_flow.specs.BlockPositions.{is_solid}
+use Rattle.lay_flow.proofs.Truths.{true_false}
+
+zero_is : (v : ℤ) → is_zero v ≡ true → v ≡ pos 0
+zero_is (pos n) e = let h : n ≡ 0 = grind (arith, e) in ap pos h
+zero_is (negsuc n) e = absurd (true_false false e refl)
+
+pub no_edge : (blocks : List Block) (p : ℕ) → parts_tops blocks p ≡ false → (block_at blocks p).edge_top.0 ≡ pos 0
+no_edge blocks zero e = absurd (true_false true refl e)
+no_edge blocks (suc p) e = zero_is (block_at blocks (suc p)).edge_top.0 (not_not (is_zero (block_at blocks (suc p)).edge_top.0) e)
+  where
+    not_not : (b : Bool) → not b ≡ false → b ≡ true
+    not_not true e = refl
+    not_not false e = absurd (true_false true refl e)
+
+-- a box of auto height without an edge above its content may be collapsed through where its bottom margin may adjoin
+-- that of its last child
+pub joined_passes : (blocks : List Block) (p : ℕ) → parts_tops blocks p ≡ false → may_join_bottoms (block_at blocks p) ≡ true → may_collapse_through (block_at blocks p) ≡ true
+joined_passes blocks zero e j = absurd (true_false true refl e)
+joined_passes blocks (suc p) e j = let b : Block = block_at blocks (suc p) in
+    all_true (is_blocks b.inside) (is_zero b.edge_top.0) (is_zero b.edge_bottom.0) (is_zero b.min_height.0) b.height e j
+  where
+    all_true : (a b c d : Bool) (h : Len) → not b ≡ false → (a && c && d && is_auto h) ≡ true → (a && b && c && d && is_auto_or_zero h) ≡ true
+    all_true a b c d auto e j = grind (arith, e, j)
+    all_true a b c d (of h) e j = absurd (grind (arith, j))
+
+-- a box whose bottom margin may adjoin that of its last child isn't solid
+pub joins_flow : (b : Block) → may_join_bottoms b ≡ true → is_solid b.inside ≡ false
+joins_flow b may = by_inside b.inside may
+  where
+    by_inside : (inside : Inside) → may_join_bottoms (record b { inside = inside }) ≡ true → is_solid inside ≡ false
+    by_inside blocks_inside e = refl
+    by_inside lines_inside e = refl
+    by_inside solid_inside e = absurd (true_false false e refl)

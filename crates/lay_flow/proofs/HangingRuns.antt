@@ -1,0 +1,123 @@
+-- What stands in a run that was begun by clearance of an open box stands at the clear edge of that box.
+use Rattle.std.proofs.Common.{◌≡◌, ℕ, zero, suc, ◌+◌, ◌<◌, ◌≤◌, true, false, ℤ, ◌+ℤ◌, ◌-ℤ◌, List, length, slice_index, refl, sym, ap, ◌∙◌, arith, inl, inr, subst}
+use Rattle.std.proofs.lemmas.Bool.{cases_lt, cases_eq}
+use Rattle.std.proofs.lemmas.Int.{ints}
+use Rattle.lay_units.specs.declared.length.Unit.{Unit as Length}
+use Rattle.lay_doc.specs.Tree.{IsTree}
+use Rattle.lay_margins.specs.Collapse.{collapse}
+use Rattle.lay_flow.specs.declared.block.Block.{Block}
+use Rattle.lay_flow.specs.StackedBlocks.{length_at}
+use Rattle.lay_flow.specs.Children.{flag_at}
+use Rattle.lay_flow.specs.MarginRuns.{Entry, margins, has_top, run_at, run_before}
+use Rattle.lay_flow.specs.BlockPositions.{margins_above, start_before}
+use Rattle.lay_flow.specs.BlockLayout.{BlockLayout, IsBlockLayout}
+use Rattle.lay_flow.specs.Gathered.{Gathered, Holds as Contains}
+use Rattle.lay_flow.proofs.Truths.{true_false, true_or, low_not}
+use Rattle.lay_flow.proofs.RunFacts.{goes_in, lead_goes_on, lead_begins}
+use Rattle.lay_flow.proofs.PositionFacts.{stands_at_end, stands_with_parent, stands_through, starts_before, starts_above_edge}
+use Rattle.lay_flow.proofs.GatheredRuns.{next_here}
+use Rattle.lay_flow.proofs.CollapsedThrough.{through_inside, one_start}
+use Rattle.lay_flow.proofs.LookAhead.{place_before}
+
+module _ (parents : List ℕ) (tree : IsTree parents) (blocks : List Block) (extents clear_edges : List Length) (w : BlockLayout) (is : IsBlockLayout parents blocks extents clear_edges w) where
+  -- a box with clearance stands at its clear edge
+  pub stands_at_edge : (d : ℕ) → 0 < d → d < length parents → flag_at w.runs.clears d ≡ true → length_at w.places.marks d ≡ length_at clear_edges d
+  stands_at_edge d positive within cleared = true_or (flag_at w.runs.through d) (length_at w.places.marks d ≡ length_at clear_edges d)
+      (λ t. stands_through parents blocks w.runs extents clear_edges w.places is.has_positions d positive within t (own_lead t) ∙ from_edge (run_before parents blocks w.runs d (length parents)) (above_through t))
+      (λ f. stands_at_end parents blocks w.runs extents clear_edges w.places is.has_positions d positive within f ∙ from_edge (run_at w.runs.top_runs d) (above_end f))
+    where
+      start : length_at w.places.starts d ≡ length_at clear_edges d -ℤ collapse (margins_above parents blocks w.runs d)
+      start = starts_above_edge parents blocks w.runs extents clear_edges w.places is.has_positions d positive within cleared
+
+      back : (e c : ℤ) → (e -ℤ c +ℤ c) ≡ e
+      back e c = omega (arith, ints)
+
+      from_edge : (run : List Entry) → margins_above parents blocks w.runs d ≡ margins run → length_at w.places.starts d +ℤ collapse (margins run) ≡ length_at clear_edges d
+      from_edge run e = (λ i. start i +ℤ collapse (margins run)) ∙ (λ i. length_at clear_edges d -ℤ collapse (e i) +ℤ collapse (margins run)) ∙ back (length_at clear_edges d) (collapse (margins run))
+
+      above_through : flag_at w.runs.through d ≡ true → margins_above parents blocks w.runs d ≡ margins (run_before parents blocks w.runs d (length parents))
+      above_through t = rw t refl
+
+      above_end : flag_at w.runs.through d ≡ false → margins_above parents blocks w.runs d ≡ margins (run_at w.runs.top_runs d)
+      above_end f = rw f refl
+
+      own_lead : flag_at w.runs.through d ≡ true → has_top (slice_index parents d) (run_at w.runs.before_tops d) ≡ false
+      own_lead t = let lead = lead_begins parents blocks w.runs is.has_runs d positive within cleared in ap (has_top (slice_index parents d)) lead
+
+  module _ (first k : ℕ) (within : k < length parents) (g : Gathered parents blocks w.runs first (slice_index parents k) k) (cleared : flag_at w.runs.clears first ≡ true) (unclear : flag_at w.runs.clears k ≡ false)
+      (above : first ≤ slice_index parents k) (contains : Contains parents first k) where
+    positive : 0 < first
+    positive = g.least
+
+    less : first < k
+    less = let p = g.parent in omega (arith, above, p)
+
+    edge : ℤ
+    edge = length_at clear_edges first
+
+    -- the boxes in the run are inside the one at `first`
+    parent_inside : (c : ℕ) → first < c → c ≤ k → first ≤ slice_index parents c
+    parent_inside c lt le = elim (cases_lt c k) [
+      | inl low ↦ contains c lt low
+      | inr ge ↦ (let e : c ≡ k = omega (arith, le, ge) in rw e above)
+    ]
+
+    lead_there : (c : ℕ) → first < c → c ≤ k → has_top (slice_index parents c) (run_at w.runs.before_tops c) ≡ true
+    lead_there c lt le = elim (cases_lt c k) [
+      | inl low ↦ (let b = tree.before c (omega (arith, lt)) (omega (arith, low, within)) in let i = parent_inside c lt le in
+          g.leads (slice_index parents c) c (omega (arith, lt)) low b ∙ low_not (slice_index parents c) first i)
+      | inr ge ↦ (let e : k ≡ c = omega (arith, le, ge) in let l = less in
+          subst (λ (c : ℕ). has_top (slice_index parents c) (run_at w.runs.before_tops c) ≡ true) e
+          (ap (has_top (slice_index parents k)) (lead_goes_on parents blocks w.runs is.has_runs k (omega (arith, l)) within unclear) ∙ g.own (slice_index parents k) above g.parent))
+    ]
+
+    -- an open one of them, or the next
+    record Stands (c : ℕ) : Type 0 where
+      pub start : length_at w.places.starts c ≡ length_at w.places.starts first
+      pub rise : run_at w.runs.top_runs c ≡ run_at w.runs.top_runs first
+
+    start_of_first : (j : ℕ) → first ≤ j → j < k → length_at w.places.starts j ≡ start_before parents blocks w.runs w.places (slice_index parents k) k
+    start_of_first j from lt = let l = less in
+        one_start parents tree blocks w.runs is.has_runs extents clear_edges w.places is.has_positions first (slice_index parents k) k (place_before parents tree k (omega (arith, l)) within) g first j (omega arith) above contains from lt
+
+    as_first : (c : ℕ) → first ≤ c → c ≤ k → Contains parents c (k + 1) → Stands c
+    as_first c from le inside = elim (cases_lt c k) [
+      | inl lt ↦ record {
+        start = start_of_first c from lt ∙ sym (start_of_first first (omega arith) less);
+        rise = g.rise c from (inside k lt (omega arith)) (λ i a b. inside i a (omega (arith, b))) ∙ sym (g.rise first (omega arith) above contains);
+      }
+      | inr ge ↦ (let e : k ≡ c = omega (arith, le, ge) in let l = less in subst Stands e (record {
+        start = starts_before parents blocks w.runs extents clear_edges w.places is.has_positions k (omega (arith, l)) within unclear ∙ sym (start_of_first first (omega arith) less);
+        rise = sym (goes_in parents blocks w.runs (slice_index parents k) k k (next_here parents tree blocks w.runs is.has_runs k (omega (arith, l)) within) unclear) ∙ sym (g.rise first (omega arith) above contains);
+      }))
+    ]
+
+    stands_at : (fuel c : ℕ) → c < fuel → first ≤ c → c ≤ k → Contains parents c (k + 1) → length_at w.places.marks c ≡ length_at clear_edges first
+    stands_at zero c small from le inside = absurd (omega (arith, small))
+    stands_at (suc fuel) c small from le inside = elim (cases_eq c first) [
+      | inl e ↦ (let p = positive in let l = less in ap (length_at w.places.marks) e ∙ stands_at_edge first p (omega (arith, l, within)) cleared)
+      | inr ne ↦ (let p = positive in let l = less in
+          let lt : first < c = omega (arith, from, ne) in
+          let here : c < length parents = omega (arith, le, within) in
+          let b = tree.before c (omega (arith, lt)) here in
+          true_or (flag_at w.runs.through c) (length_at w.places.marks c ≡ length_at clear_edges first)
+          (λ t. stands_with_parent parents blocks w.runs extents clear_edges w.places is.has_positions c (omega (arith, lt)) here t (lead_there c lt le)
+          ∙ stands_at fuel (slice_index parents c) (omega (arith, b, small)) (parent_inside c lt le) (omega (arith, b, le)) (λ i a z. elim (cases_lt i c) [
+            | inl before ↦ tree.together i c before here a
+            | inr after ↦ elim (cases_eq i c) [
+              | inl e ↦ rw e (omega arith)
+              | inr other ↦ (let x = inside i (omega (arith, after, other)) z in omega (arith, x, b))
+            ]
+          ]))
+          (λ f. let same = as_first c from le inside in
+          let first_stands : flag_at w.runs.through first ≡ false = true_or (flag_at w.runs.through first) (flag_at w.runs.through first ≡ false)
+          (λ t. absurd (true_false (flag_at w.runs.through c) (through_inside parents tree blocks w.runs is.has_runs first c p lt here (λ i a z. parent_inside i a (omega (arith, z, le))) t).through f)) (λ f. f) in
+          stands_at_end parents blocks w.runs extents clear_edges w.places is.has_positions c (omega (arith, lt)) here f
+          ∙ (λ i. same.start i +ℤ collapse (margins (same.rise i)))
+          ∙ sym (stands_at_end parents blocks w.runs extents clear_edges w.places is.has_positions first p (omega (arith, l, within)) first_stands)
+          ∙ stands_at_edge first p (omega (arith, l, within)) cleared))
+    ]
+
+    -- the box at k stands there
+    pub hangs_at_edge : length_at w.places.marks k ≡ length_at clear_edges first
+    hangs_at_edge = let l = less in stands_at (k + 1) k (omega arith) (omega (arith, l)) (omega arith) (λ i a b. absurd (omega (arith, a, b)))

@@ -1,0 +1,30 @@
+-- Which margins are in the run that comes to a place of the sequence of margins. The boxes with their top margins in it are
+-- those from some place on. None of them but the first has clearance, nothing parts their tops, and those that
+-- were closed are collapsed through.
+use Rattle.std.specs.Prelude.{ℕ, ◌≡◌, ◌<◌, ◌≤◌, ◌==◌, ◌&&◌, not, nat_lt, true, false, List, length, slice_index}
+use Rattle.lay_flow.specs.declared.block.Block.{Block}
+use Rattle.lay_flow.specs.Children.{flag_at}
+use Rattle.lay_flow.specs.MarginRuns.{Runs, has_top, is_barred, run_at, parts_tops, run_before, run_across}
+
+-- the boxes from j to before m stand in the one at j
+abbrev pub Holds : List ℕ → ℕ → ℕ → Type 0
+Holds parents j m = (i : ℕ) → j < i → i < m → j ≤ slice_index parents i
+
+-- the run that comes to the place (p, m) has the top margins of the boxes from `first` to before m
+pub record Gathered (parents : List ℕ) (blocks : List Block) (r : Runs) (first p m : ℕ) : Type 0 where
+  pub parent : p < m
+  pub within : m ≤ length parents
+  pub inside : Holds parents p m
+  pub least : 0 < first
+  pub most : first ≤ m
+  pub own : (j : ℕ) → first ≤ j → j < m → has_top j (run_before parents blocks r p m) ≡ true
+  pub older : (j : ℕ) → j < first → has_top j (run_before parents blocks r p m) ≡ false
+  pub barred : (q : ℕ) → is_barred parents q (run_before parents blocks r p m) ≡ (nat_lt first m && flag_at r.clears first && slice_index parents first == q)
+  -- before the top margin of one of them are those of the ones before it
+  pub leads : (i j : ℕ) → first ≤ j → j < m → i < j → has_top i (run_at r.before_tops j) ≡ not (nat_lt i first)
+  pub unparted : (j : ℕ) → first ≤ j → j < m → parts_tops blocks j ≡ false
+  pub unclear : (j : ℕ) → first < j → j < m → flag_at r.clears j ≡ false
+  pub closed : (j : ℕ) → first ≤ j → p < j → j < m → flag_at r.through j ≡ true
+  pub gone : (j i : ℕ) → first ≤ j → j < i → i < m → slice_index parents i < j → flag_at r.through j ≡ true
+  -- the whole run of an open one goes on across the place
+  pub rise : (j : ℕ) → first ≤ j → j ≤ p → Holds parents j m → run_at r.top_runs j ≡ run_across parents blocks r p m
