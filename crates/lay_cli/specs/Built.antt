@@ -1,6 +1,7 @@
--- Which nodes are laid out so far. Others are refused by their place in the list `nodes` of the run document.
-use Rattle.std.specs.Prelude.{ℕ, zero, suc, pos, ◌≡◌, ◌<◌, ◌==◌, ◌&&◌, ◌||◌, List, [], ◌∷◌, length, slice_index, slice_index_or, Bool, true, false, Option, Some, None, option_map, if◌then◌else◌}
-use Rattle.std.specs.Ordering.{int_eq}
+-- Which nodes are laid out so far: elements whose boxes are blocks after the changes of 9.7, in flow or floating, that
+-- aren't positioned (9.3.1), but no float that shrinks to fit (10.3.5); and what is under `display: none`, which has no
+-- box. Others are refused by their place in the list `nodes` of the run document.
+use Rattle.std.specs.Prelude.{ℕ, zero, suc, ◌≡◌, ◌<◌, ◌==◌, ◌&&◌, ◌||◌, not, List, [], ◌∷◌, length, slice_index, slice_index_or, Bool, true, false, Option, Some, None, option_map, if◌then◌else◌}
 use Rattle.lay_doc.specs.declared.node.NodeId.{NodeId}
 use Rattle.lay_doc.specs.declared.node.Node.{Node}
 use Rattle.lay_doc.specs.declared.style.Style.{Style}
@@ -8,20 +9,10 @@ use Rattle.lay_doc.specs.declared.style_words.Display.{Display}
 use Rattle.lay_doc.specs.declared.style_words.Display.TheVariants as display
 use Rattle.lay_doc.specs.declared.style_words.Position.{Position}
 use Rattle.lay_doc.specs.declared.style_words.Position.TheVariants as position
-use Rattle.lay_doc.specs.declared.style_words.Float.{Float}
-use Rattle.lay_doc.specs.declared.style_words.Float.TheVariants as float
-use Rattle.lay_doc.specs.declared.style_words.Clear.{Clear}
-use Rattle.lay_doc.specs.declared.style_words.Clear.TheVariants as clear
-use Rattle.lay_doc.specs.declared.style_words.Overflow.{Overflow}
-use Rattle.lay_doc.specs.declared.style_words.Overflow.TheVariants as overflow
 use Rattle.lay_doc.specs.declared.style_lengths.LengthPercentageOrAuto.{LengthPercentageOrAuto}
-use Rattle.lay_doc.specs.declared.style_lengths.LengthPercentageOrAuto.TheVariants as or_auto
-use Rattle.lay_doc.specs.declared.style_lengths.LengthPercentage.{LengthPercentage}
-use Rattle.lay_doc.specs.declared.style_lengths.LengthPercentage.TheVariants as measure
-use Rattle.lay_doc.specs.declared.style_lengths.LengthPercentageOrNone.{LengthPercentageOrNone}
-use Rattle.lay_doc.specs.declared.style_lengths.LengthPercentageOrNone.TheVariants as or_none
+use Rattle.lay_doc.specs.declared.style_lengths.LengthPercentageOrAuto.TheVariants.{Auto}
 use Rattle.lay_doc.specs.Document.{ids_of, place_of, is_element_at}
-use Rattle.lay_boxgen.specs.Display.{flow_of, used_display, is_none}
+use Rattle.lay_boxgen.specs.Display.{flow_of, used_display, is_floated, is_none}
 use Rattle.lay_doc.specs.ComputedStyle.{style_at}
 
 -- whether an element's display is a block's, after the changes of 9.7
@@ -37,48 +28,17 @@ abbrev pub is_static : Position → Bool
 is_static position.Static = true
 is_static _ = false
 
-abbrev pub is_no_float : Float → Bool
-is_no_float float.None = true
-is_no_float _ = false
+abbrev pub is_auto : LengthPercentageOrAuto → Bool
+is_auto Auto = true
+is_auto _ = false
 
-abbrev pub is_no_clear : Clear → Bool
-is_no_clear clear.None = true
-is_no_clear _ = false
+-- 10.3.5: a float whose width is `auto` shrinks to fit what is in it
+abbrev pub shrinks_to_fit : Style → Bool
+shrinks_to_fit s = is_floated s.float && is_auto s.sizing.width
 
-abbrev pub is_visible : Overflow → Bool
-is_visible overflow.Visible = true
-is_visible _ = false
-
--- a margin above or below that is `auto` or 0, which 10.6.3 makes 0
-abbrev pub is_no_margin : LengthPercentageOrAuto → Bool
-is_no_margin or_auto.Auto = true
-is_no_margin (or_auto.Length u) = int_eq u.0 (pos 0)
-is_no_margin (or_auto.Percent h) = false
-
-abbrev pub is_no_least : LengthPercentage → Bool
-is_no_least (measure.Length u) = int_eq u.0 (pos 0)
-is_no_least (measure.Percent h) = false
-
-abbrev pub is_no_greatest : LengthPercentageOrNone → Bool
-is_no_greatest or_none.None = true
-is_no_greatest _ = false
-
-abbrev pub is_no_percentage : LengthPercentageOrAuto → Bool
-is_no_percentage (or_auto.Percent h) = false
-is_no_percentage _ = true
-
--- a block in normal flow
-abbrev pub is_plain_flow : Bool → Style → Bool
-is_plain_flow is_root s = is_block is_root s && is_static s.position && is_no_float s.float && is_no_clear s.clear && is_visible s.overflow
-
--- without margins above and below, and without bounds of its sizes
-abbrev pub is_plain_size : Style → Bool
-is_plain_size s =
-    is_no_margin s.margin.top && is_no_margin s.margin.bottom && is_no_least s.sizing.min_width && is_no_least s.sizing.min_height
-    && is_no_greatest s.sizing.max_width && is_no_greatest s.sizing.max_height && is_no_percentage s.sizing.height
-
+-- elements with this style are laid out
 abbrev pub is_built_style : Bool → Style → Bool
-is_built_style is_root s = is_plain_flow is_root s && is_plain_size s
+is_built_style is_root s = is_block is_root s && is_static s.position && not (shrinks_to_fit s)
 
 -- a column that says of each node whether it is under `display: none`: it or a node above it has that value, and
 -- generates no box (9.2.4)

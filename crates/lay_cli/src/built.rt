@@ -3,14 +3,12 @@
 ghost use Rattle.std.specs.Prelude.{◌≡◌, ◌<◌, List, Bool, length, IfOk};
 ghost use Rattle.lay_doc.specs.Document.{IsDocument, is_element_at, parents_of};
 ghost use Rattle.lay_doc.specs.ComputedStyle.{style_at};
-ghost use Rattle.lay_cli.specs.Built.{AreHidden, is_block, is_static, is_no_float, is_no_clear, is_visible, is_no_margin, is_no_least, is_no_greatest, is_no_percentage, is_plain_flow, is_plain_size, is_built_style, is_built_at, is_built_place, is_built, first_unbuilt};
+ghost use Rattle.lay_boxgen.specs.Display.{is_floated};
+ghost use Rattle.lay_cli.specs.Built.{AreHidden, is_block, is_static, is_auto, shrinks_to_fit, is_built_style, is_built_at, is_built_place, is_built, first_unbuilt};
 
 use crate::hidden::{hidden, hidden_at};
 use lay_boxgen::{flow_of, used_display};
-use lay_doc::{
-    Clear, Display, Doc, Float, LengthPercentage, LengthPercentageOrAuto, LengthPercentageOrNone,
-    Node, NodeId, Overflow, Position, Style,
-};
+use lay_doc::{Display, Doc, Float, LengthPercentageOrAuto, Node, NodeId, Position, Style};
 use lay_units::NoMemory;
 use std::alloc::Global;
 
@@ -90,31 +88,7 @@ pub(crate) fn style_at(styles: &[Style], place: usize) -> &Style
 fn is_built_style(is_root: bool, style: &Style) -> bool
     ensures { result ≡ is_built_style is_root style.now }
 {
-    is_plain_flow(is_root, style) && is_plain_size(style)
-}
-
-/// Whether it is a block in normal flow.
-fn is_plain_flow(is_root: bool, style: &Style) -> bool
-    ensures { result ≡ is_plain_flow is_root style.now }
-{
-    is_block(is_root, style)
-        && is_static(style.position)
-        && is_no_float(style.float)
-        && is_no_clear(style.clear)
-        && is_visible(style.overflow)
-}
-
-/// Whether it has no margins above and below, and no bounds of its sizes.
-fn is_plain_size(style: &Style) -> bool
-    ensures { result ≡ is_plain_size style.now }
-{
-    is_no_margin(style.margin.top)
-        && is_no_margin(style.margin.bottom)
-        && is_no_least(style.sizing.min_width)
-        && is_no_least(style.sizing.min_height)
-        && is_no_greatest(style.sizing.max_width)
-        && is_no_greatest(style.sizing.max_height)
-        && is_no_percentage(style.sizing.height)
+    is_block(is_root, style) && is_static(style.position) && !shrinks_to_fit(style)
 }
 
 fn is_block(is_root: bool, style: &Style) -> bool
@@ -132,51 +106,21 @@ fn is_static(position: Position) -> bool
     matches!(position, Position::Static)
 }
 
-fn is_no_float(float: Float) -> bool
-    ensures { result ≡ is_no_float float }
+/// Whether it is a float whose width is that of what is in it.
+fn shrinks_to_fit(style: &Style) -> bool
+    ensures { result ≡ shrinks_to_fit style.now }
 {
-    matches!(float, Float::None)
+    is_floated(style.float) && is_auto(style.sizing.width)
 }
 
-fn is_no_clear(clear: Clear) -> bool
-    ensures { result ≡ is_no_clear clear }
+fn is_floated(float: Float) -> bool
+    ensures { result ≡ is_floated float }
 {
-    matches!(clear, Clear::None)
+    !matches!(float, Float::None)
 }
 
-fn is_visible(overflow: Overflow) -> bool
-    ensures { result ≡ is_visible overflow }
+fn is_auto(width: LengthPercentageOrAuto) -> bool
+    ensures { result ≡ is_auto width }
 {
-    matches!(overflow, Overflow::Visible)
-}
-
-fn is_no_margin(margin: LengthPercentageOrAuto) -> bool
-    ensures { result ≡ is_no_margin margin }
-{
-    match margin {
-        LengthPercentageOrAuto::Auto => true,
-        LengthPercentageOrAuto::Length(length) => length.0 == 0,
-        LengthPercentageOrAuto::Percent(_) => false,
-    }
-}
-
-fn is_no_least(size: LengthPercentage) -> bool
-    ensures { result ≡ is_no_least size }
-{
-    match size {
-        LengthPercentage::Length(length) => length.0 == 0,
-        LengthPercentage::Percent(_) => false,
-    }
-}
-
-fn is_no_greatest(size: LengthPercentageOrNone) -> bool
-    ensures { result ≡ is_no_greatest size }
-{
-    matches!(size, LengthPercentageOrNone::None)
-}
-
-fn is_no_percentage(size: LengthPercentageOrAuto) -> bool
-    ensures { result ≡ is_no_percentage size }
-{
-    !matches!(size, LengthPercentageOrAuto::Percent(_))
+    matches!(width, LengthPercentageOrAuto::Auto)
 }
