@@ -13,3 +13,4 @@ pub mod PieceSteps
 pub mod OnePlaces
 pub mod PlaceFacts
 pub mod PieceRanges
+pub mod OneDocument

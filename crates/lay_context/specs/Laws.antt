@@ -9,13 +9,10 @@ use Rattle.lay_context.specs.declared.box_sizes.BoxSizes.{BoxSizes}
 use Rattle.lay_context.specs.declared.box_sizes.ContainingBlock.{ContainingBlock}
 use Rattle.lay_context.specs.declared.context_spot.ContextSpot.{ContextSpot}
 use Rattle.lay_context.specs.ContextSizes.{HasSizes}
-use Rattle.lay_context.specs.ContextOrder.{AreInOrder}
-use Rattle.lay_context.specs.DocumentLayout.{HasDocumentSizes}
-use Rattle.lay_context.specs.Solves.{Solves}
-use Rattle.lay_boxgen.specs.declared.box_tree.BoxNode.{BoxNode}
-use Rattle.lay_context.specs.declared.box_sizes.BoxSizes.{BoxSizes}
-use Rattle.lay_context.specs.ContextOrder.{AreContextBoxes}
+use Rattle.lay_context.specs.ContextOrder.{AreContextBoxes, AreInOrder}
 use Rattle.lay_context.specs.ContextPlaces.{ContextPlaces, HasPlaces}
+use Rattle.lay_context.specs.DocumentLayout.{HasDocumentPlaces, HasDocumentSizes}
+use Rattle.lay_context.specs.Solves.{Solves}
 
 -- the boxes of a context have one column of used sizes
 abbrev pub OneContextSizes : Type 0
@@ -32,3 +29,7 @@ OneSolution = (d : Document) (s t : List Context) → IsDocument d → Solves d 
 -- beside the used sizes and the heights of inner contexts there is one place for each box
 abbrev pub OneContextPlaces : Type 0
 OneContextPlaces = (boxes : List BoxNode) (sizes : List BoxSizes) (p q : ContextPlaces) → AreContextBoxes boxes → HasPlaces boxes sizes p → HasPlaces boxes sizes q → p.inner_heights ≡ q.inner_heights → p ≡ q
+
+-- the contexts of a document have one list of places beside their used sizes
+abbrev pub OneDocumentPlaces : Type 0
+OneDocumentPlaces = (spots : List ContextSpot) (boxes : List (List BoxNode)) (sizes : List (List BoxSizes)) (x y : List ContextPlaces) → AreInOrder spots boxes → HasDocumentPlaces spots boxes sizes x → HasDocumentPlaces spots boxes sizes y → x ≡ y
