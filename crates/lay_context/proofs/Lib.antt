@@ -18,3 +18,4 @@ pub mod OnePlaces
 pub mod PlaceFacts
 pub mod PieceRanges
 pub mod DocumentBounds
+pub mod OneDocument
