@@ -10,14 +10,10 @@ use Rattle.lay_context.specs.declared.box_sizes.ContainingBlock.{ContainingBlock
 use Rattle.lay_context.specs.declared.context_spot.ContextSpot.{ContextSpot}
 use Rattle.lay_context.specs.declared.corner.Corner.{Corner}
 use Rattle.lay_context.specs.ContextSizes.{HasSizes}
-use Rattle.lay_context.specs.ContextPlaces.{ContextPlaces}
-use Rattle.lay_context.specs.ContextOrder.{AreInOrder}
+use Rattle.lay_context.specs.ContextPlaces.{ContextPlaces, HasPlaces}
+use Rattle.lay_context.specs.ContextOrder.{AreContextBoxes, AreInOrder}
 use Rattle.lay_context.specs.DocumentLayout.{HasDocumentSizes, HasDocumentPlaces, HasPageCorners}
 use Rattle.lay_context.specs.Solves.{Solves}
-use Rattle.lay_boxgen.specs.declared.box_tree.BoxNode.{BoxNode}
-use Rattle.lay_context.specs.declared.box_sizes.BoxSizes.{BoxSizes}
-use Rattle.lay_context.specs.ContextOrder.{AreContextBoxes}
-use Rattle.lay_context.specs.ContextPlaces.{ContextPlaces, HasPlaces}
 
 -- the boxes of a context have one column of used sizes
 abbrev pub OneContextSizes : Type 0
@@ -27,9 +23,15 @@ OneContextSizes = (outer : ContainingBlock) (boxes : List BoxNode) (x y : List B
 abbrev pub OneDocumentSizes : Type 0
 OneDocumentSizes = (viewport : ContainingBlock) (spots : List ContextSpot) (boxes : List (List BoxNode)) (x y : List (List BoxSizes)) → AreInOrder spots boxes → HasDocumentSizes viewport spots boxes x → HasDocumentSizes viewport spots boxes y → x ≡ y
 
+-- beside the used sizes and the heights of inner contexts there is one place for each box
+abbrev pub OneContextPlaces : Type 0
+OneContextPlaces = (boxes : List BoxNode) (sizes : List BoxSizes) (p q : ContextPlaces) → AreContextBoxes boxes → HasPlaces boxes sizes p → HasPlaces boxes sizes q → p.inner_heights ≡ q.inner_heights → p ≡ q
+
+-- the contexts of a document have one list of places beside their used sizes
 abbrev pub OneDocumentPlaces : Type 0
 OneDocumentPlaces = (spots : List ContextSpot) (boxes : List (List BoxNode)) (sizes : List (List BoxSizes)) (x y : List ContextPlaces) → AreInOrder spots boxes → HasDocumentPlaces spots boxes sizes x → HasDocumentPlaces spots boxes sizes y → x ≡ y
 
+-- and one list of corners on the page
 abbrev pub OnePageCorners : Type 0
 OnePageCorners = (viewport : ContainingBlock) (spots : List ContextSpot) (boxes : List (List BoxNode)) (sizes : List (List BoxSizes)) (places : List ContextPlaces) (x y : List Corner) → AreInOrder spots boxes
     → HasPageCorners viewport spots boxes sizes places x → HasPageCorners viewport spots boxes sizes places y → x ≡ y
@@ -37,7 +39,3 @@ OnePageCorners = (viewport : ContainingBlock) (spots : List ContextSpot) (boxes 
 -- two trees that solve one document are equal
 abbrev pub OneSolution : Type 0
 OneSolution = (d : Document) (s t : List Context) → IsDocument d → Solves d s → Solves d t → s ≡ t
-
--- beside the used sizes and the heights of inner contexts there is one place for each box
-abbrev pub OneContextPlaces : Type 0
-OneContextPlaces = (boxes : List BoxNode) (sizes : List BoxSizes) (p q : ContextPlaces) → AreContextBoxes boxes → HasPlaces boxes sizes p → HasPlaces boxes sizes q → p.inner_heights ≡ q.inner_heights → p ≡ q
