@@ -83,13 +83,13 @@ module _ (parents : List ℕ) (tree : IsTree parents) (blocks : List Block) (ext
     as_first : (c : ℕ) → first ≤ c → c ≤ k → Contains parents c (k + 1) → Stands c
     as_first c from le inside = elim (cases_lt c k) [
       | inl lt ↦ record {
-          start = start_of_first c from lt ∙ sym (start_of_first first (omega arith) less);
-          rise = g.rise c from (inside k lt (omega arith)) (λ i a b. inside i a (omega (arith, b))) ∙ sym (g.rise first (omega arith) above contains);
-        }
+        start = start_of_first c from lt ∙ sym (start_of_first first (omega arith) less);
+        rise = g.rise c from (inside k lt (omega arith)) (λ i a b. inside i a (omega (arith, b))) ∙ sym (g.rise first (omega arith) above contains);
+      }
       | inr ge ↦ (let e : k ≡ c = omega (arith, le, ge) in let l = less in subst Stands e (record {
-          start = starts_before parents blocks w.runs extents clear_edges w.places is.has_positions k (omega (arith, l)) within unclear ∙ sym (start_of_first first (omega arith) less);
-          rise = sym (goes_in parents blocks w.runs (slice_index parents k) k k (next_here parents tree blocks w.runs is.has_runs k (omega (arith, l)) within) unclear) ∙ sym (g.rise first (omega arith) above contains);
-        }))
+        start = starts_before parents blocks w.runs extents clear_edges w.places is.has_positions k (omega (arith, l)) within unclear ∙ sym (start_of_first first (omega arith) less);
+        rise = sym (goes_in parents blocks w.runs (slice_index parents k) k k (next_here parents tree blocks w.runs is.has_runs k (omega (arith, l)) within) unclear) ∙ sym (g.rise first (omega arith) above contains);
+      }))
     ]
 
     stands_at : (fuel c : ℕ) → c < fuel → first ≤ c → c ≤ k → Contains parents c (k + 1) → length_at w.places.marks c ≡ length_at clear_edges first
@@ -102,20 +102,20 @@ module _ (parents : List ℕ) (tree : IsTree parents) (blocks : List Block) (ext
           let b = tree.before c (omega (arith, lt)) here in
           true_or (flag_at w.runs.through c) (length_at w.places.marks c ≡ length_at clear_edges first)
           (λ t. stands_with_parent parents blocks w.runs extents clear_edges w.places is.has_positions c (omega (arith, lt)) here t (lead_there c lt le)
-              ∙ stands_at fuel (slice_index parents c) (omega (arith, b, small)) (parent_inside c lt le) (omega (arith, b, le)) (λ i a z. elim (cases_lt i c) [
-                | inl before ↦ tree.together i c before here a
-                | inr after ↦ elim (cases_eq i c) [
-                  | inl e ↦ rw e (omega arith)
-                  | inr other ↦ (let x = inside i (omega (arith, after, other)) z in omega (arith, x, b))
-                ]
-              ]))
+          ∙ stands_at fuel (slice_index parents c) (omega (arith, b, small)) (parent_inside c lt le) (omega (arith, b, le)) (λ i a z. elim (cases_lt i c) [
+            | inl before ↦ tree.together i c before here a
+            | inr after ↦ elim (cases_eq i c) [
+              | inl e ↦ rw e (omega arith)
+              | inr other ↦ (let x = inside i (omega (arith, after, other)) z in omega (arith, x, b))
+            ]
+          ]))
           (λ f. let same = as_first c from le inside in
-              let first_stands : flag_at w.runs.through first ≡ false = true_or (flag_at w.runs.through first) (flag_at w.runs.through first ≡ false)
-              (λ t. absurd (true_false (flag_at w.runs.through c) (through_inside parents tree blocks w.runs is.has_runs first c p lt here (λ i a z. parent_inside i a (omega (arith, z, le))) t).through f)) (λ f. f) in
-              stands_at_end parents blocks w.runs extents clear_edges w.places is.has_positions c (omega (arith, lt)) here f
-              ∙ (λ i. same.start i +ℤ collapse (margins (same.rise i)))
-              ∙ sym (stands_at_end parents blocks w.runs extents clear_edges w.places is.has_positions first p (omega (arith, l, within)) first_stands)
-              ∙ stands_at_edge first p (omega (arith, l, within)) cleared))
+          let first_stands : flag_at w.runs.through first ≡ false = true_or (flag_at w.runs.through first) (flag_at w.runs.through first ≡ false)
+          (λ t. absurd (true_false (flag_at w.runs.through c) (through_inside parents tree blocks w.runs is.has_runs first c p lt here (λ i a z. parent_inside i a (omega (arith, z, le))) t).through f)) (λ f. f) in
+          stands_at_end parents blocks w.runs extents clear_edges w.places is.has_positions c (omega (arith, lt)) here f
+          ∙ (λ i. same.start i +ℤ collapse (margins (same.rise i)))
+          ∙ sym (stands_at_end parents blocks w.runs extents clear_edges w.places is.has_positions first p (omega (arith, l, within)) first_stands)
+          ∙ stands_at_edge first p (omega (arith, l, within)) cleared))
     ]
 
     -- the box at k stands there

@@ -20,6 +20,8 @@ mod border_height;
 mod columns;
 mod corner;
 mod hypothetical_edge;
+#[cfg(test)]
+mod hypothetical_edge_tests;
 mod laws;
 mod pass_state;
 mod place_boxes;
