@@ -88,7 +88,7 @@ module _ (parents : List ℕ) (blocks : List Block) (shapes : List Shape) (given
       pub extent : (j : ℕ) → 0 < j → j < k → length_at f.extents j ≡ length_at g.extents j
 
     marks_to : (k : ℕ) → k < length parents → SameTo k → (j : ℕ) → j ≤ k → length_at f.layout.places.marks j ≡ length_at g.layout.places.marks j
-    marks_to k within before = marks_up_to parents tree blocks f.layout.runs f.extents g.extents f.clear_edges f.layout.places g.layout.places is.layout.has_positions positions k before.extent some within
+    marks_to k within before = marks_up_to parents tree blocks f.layout.runs f.extents g.extents f.clear_edges f.clear_edges f.layout.places g.layout.places is.layout.has_positions positions k before.extent (λ j le cleared. refl) some within
 
     module _ (k : ℕ) (positive : 0 < k) (within : k < length parents) (before : SameTo k) where
       floats_to : floats_before shapes f.places k ≡ floats_before shapes g.places k

@@ -25,6 +25,7 @@ pub mod PositionFacts
 pub mod LookAhead
 pub mod LookAheadSteps
 pub mod HangingRuns
+pub mod RunsUpTo
 pub mod PassFits
 pub mod PlaceSteps
 pub mod WroteColumns
