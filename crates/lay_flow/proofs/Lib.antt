@@ -26,6 +26,7 @@ pub mod LookAhead
 pub mod LookAheadSteps
 pub mod HangingRuns
 pub mod RunsUpTo
+pub mod LayoutsAlike
 pub mod PassFits
 pub mod PlaceSteps
 pub mod WroteColumns
