@@ -27,6 +27,8 @@ pub mod LookAheadSteps
 pub mod HangingRuns
 pub mod RunsUpTo
 pub mod LayoutsAlike
+pub mod AlikeSteps
+pub mod AlikeClosings
 pub mod PassFits
 pub mod PlaceSteps
 pub mod WroteColumns

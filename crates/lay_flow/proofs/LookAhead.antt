@@ -13,7 +13,7 @@ use Rattle.lay_flow.specs.BlockPositions.{start_before}
 use Rattle.lay_flow.specs.BlockLayout.{BlockLayout, IsBlockLayout}
 use Rattle.lay_flow.specs.Gathered.{Gathered, Holds as Contains}
 use Rattle.lay_flow.specs.MarginPlace.{IsPlace}
-use Rattle.lay_flow.specs.LookAhead.{ComesTo, IsOutermost, Reads, ReadsAll}
+use Rattle.lay_flow.specs.LookAhead.{ComesTo, IsOutermost, IsHolder, Reads, ReadsAll}
 use Rattle.lay_flow.proofs.Truths.{true_false, true_or, low_not, low_yes}
 use Rattle.lay_flow.proofs.RunEntries.{margins-append, top_there, top_here, bottom_same}
 use Rattle.lay_flow.proofs.RunFacts.{goes_in, ends_inside, joins_is, lead_goes_on, top_run_is, to_bottom_is, parting_stands}
