@@ -1,5 +1,5 @@
 -- Two layouts stay alike where a box is closed.
-use Rattle.std.proofs.Common.{◌≡◌, ◌⊎◌, ℕ, zero, suc, ◌+◌, ◌<◌, ◌≤◌, ◌&&◌, ◌||◌, not, Bool, true, false, ℤ, pos, ◌+ℤ◌, ◌-ℤ◌, List, length, slice_index, refl, sym, ap, ◌∙◌, arith, inl, inr, subst, Option, Some, None}
+use Rattle.std.proofs.Common.{◌≡◌, ℕ, ◌<◌, ◌≤◌, ◌&&◌, ◌||◌, not, Bool, true, false, pos, ◌+ℤ◌, ◌-ℤ◌, List, length, slice_index, refl, sym, ap, ◌∙◌, arith, inl, inr, subst, Option, Some, None}
 use Rattle.std.proofs.lemmas.Bool.{cases_lt, cases_eq}
 use Rattle.lay_units.specs.declared.length.Unit.{Unit as Length}
 use Rattle.lay_doc.specs.Tree.{IsTree}
@@ -7,7 +7,7 @@ use Rattle.lay_margins.specs.Collapse.{collapse}
 use Rattle.lay_flow.specs.declared.block.Block.{Block}
 use Rattle.lay_flow.specs.StackedBlocks.{length_at}
 use Rattle.lay_flow.specs.Children.{flag_at, last_child}
-use Rattle.lay_flow.specs.MarginRuns.{Entry, margins, has_top, is_barred, block_at, run_at, run_before, joins_bottom, may_join_bottoms, may_collapse_through}
+use Rattle.lay_flow.specs.MarginRuns.{margins, has_top, is_barred, block_at, run_at, run_before, joins_bottom, may_join_bottoms, may_collapse_through}
 use Rattle.lay_flow.specs.BlockPositions.{margins_above, start_before, start_below, content_bottom, content_height, border_height}
 use Rattle.lay_flow.specs.BlockLayout.{BlockLayout, IsBlockLayout}
 use Rattle.lay_flow.specs.Gathered.{Gathered, Holds as Contains}
@@ -20,7 +20,7 @@ use Rattle.lay_flow.proofs.PositionFacts.{stands_through, starts_above_edge}
 use Rattle.lay_flow.proofs.GatheredRuns.{childless_on, close_joined, close_parted, joined_through, passes_here, comes_here, last_over, last_up}
 use Rattle.lay_flow.proofs.CollapsedThrough.{through_inside, one_start}
 use Rattle.lay_flow.proofs.HangingRuns.{stands_at_edge}
-use Rattle.lay_flow.proofs.LayoutsAlike.{IsHanging, ClosedAlike, Alike, EndsIn, same_runs, same_run, also_gathered, start_same, marks_same}
+use Rattle.lay_flow.proofs.LayoutsAlike.{IsHanging, ClosedAlike, EndsIn, same_runs, same_run, also_gathered, start_same, marks_same}
 use Rattle.lay_flow.proofs.AlikeSteps.{AlikeAt, IsClosed, StartsAlike, MarksTo}
 
 module _ (parents : List ℕ) (tree : IsTree parents) (blocks : List Block) (extents clear_edges : List Length) (y : BlockLayout) (is : IsBlockLayout parents blocks extents clear_edges y)
@@ -187,9 +187,9 @@ module _ (parents : List ℕ) (tree : IsTree parents) (blocks : List Block) (ext
   closed_joined : joins_bottom parents blocks y.runs p ≡ true → p < first → (may_join_bottoms (block_at blocks p) ≡ true → length_at extents p ≡ length_at others p) → SomeClosed
   closed_joined joined before extent =
       let stands : flag_at y.runs.through p ≡ false = passes_here parents tree blocks y.runs is.has_runs p m positive lt within ends was.gathered.inside first was.gathered
-          ∙ (let n = low_yes p first before in rw n (and_false (may_collapse_through (block_at blocks p)))) in
+      ∙ (let n = low_yes p first before in rw n (and_false (may_collapse_through (block_at blocks p)))) in
       let may : may_join_bottoms (block_at blocks p) ≡ true = (let j = sym (joins_is parents blocks y.runs p positive) ∙ joined in
-          right_of (flag_at y.runs.through p) (may_join_bottoms (block_at blocks p)) (not (is_barred parents p (run_before parents blocks y.runs p (length parents)))) stands j) in
+      right_of (flag_at y.runs.through p) (may_join_bottoms (block_at blocks p)) (not (is_barred parents p (run_before parents blocks y.runs p (length parents)))) stands j) in
       let start : start_before parents blocks y.runs y.places p m ≡ start_before parents blocks z.runs z.places p m = elim was.start [
         | inl e ↦ e
         | inr h ↦ (let u = h.above in absurd (omega (arith, u, before)))

@@ -1,27 +1,25 @@
 -- Two layouts stay alike where a box is opened or closed.
-use Rattle.std.proofs.Common.{◌≡◌, ◌⊎◌, ℕ, zero, suc, ◌+◌, ◌<◌, ◌≤◌, ◌&&◌, ◌||◌, not, Bool, true, false, ℤ, pos, ◌+ℤ◌, ◌-ℤ◌, List, [], ◌∷◌, ◌++◌, length, slice_index, refl, sym, ap, ◌∙◌, arith, inl, inr, subst, Option, Some, None}
-use Rattle.std.proofs.lemmas.Bool.{cases_lt, cases_eq}
+use Rattle.std.proofs.Common.{◌≡◌, ◌⊎◌, ℕ, ◌+◌, ◌<◌, ◌≤◌, true, false, ℤ, ◌+ℤ◌, List, [], ◌∷◌, ◌++◌, length, slice_index, refl, sym, ap, ◌∙◌, arith, inl, inr}
+use Rattle.std.proofs.lemmas.Bool.{cases_lt}
 use Rattle.lay_units.specs.declared.length.Unit.{Unit as Length}
 use Rattle.lay_doc.specs.Tree.{IsTree}
 use Rattle.lay_margins.specs.Collapse.{collapse}
 use Rattle.lay_flow.specs.declared.block.Block.{Block}
 use Rattle.lay_flow.specs.StackedBlocks.{length_at}
-use Rattle.lay_flow.specs.Children.{flag_at, last_child}
-use Rattle.lay_flow.specs.MarginRuns.{Entry, margin, mark, margins, is_barred, block_at, run_at, parts_tops, to_top, run_before, joins_bottom, may_join_bottoms}
-use Rattle.lay_flow.specs.BlockPositions.{margins_above, start_before, start_below, content_bottom, content_height, border_height}
+use Rattle.lay_flow.specs.Children.{flag_at}
+use Rattle.lay_flow.specs.MarginRuns.{Entry, margin, mark, margins, block_at, run_at, parts_tops, to_top, run_before}
+use Rattle.lay_flow.specs.BlockPositions.{start_before}
 use Rattle.lay_flow.specs.BlockLayout.{BlockLayout, IsBlockLayout}
 use Rattle.lay_flow.specs.Gathered.{Gathered, Holds as Contains}
 use Rattle.lay_flow.specs.MarginPlace.{IsPlace}
-use Rattle.lay_flow.proofs.Truths.{true_false, true_or, low_yes}
-use Rattle.lay_flow.proofs.RunsAgree.{Same, Closed, last_there, inside_up}
-use Rattle.lay_flow.proofs.RunsUpTo.{runs_up_to}
-use Rattle.lay_flow.proofs.RunFacts.{goes_in, ends_above, ends_inside, joins_is, lead_goes_on, top_run_is, parting_stands}
-use Rattle.lay_flow.proofs.PositionFacts.{stands_at_end, stands_through, starts_before, starts_above_edge}
-use Rattle.lay_flow.proofs.GatheredRuns.{next_here, childless, childless_on, open_plain, open_cleared, open_parting, close_joined, close_parted, joined_through, passes_here, comes_here, last_over, last_up}
-use Rattle.lay_flow.proofs.CollapsedThrough.{through_inside, one_start, start_inside}
+use Rattle.lay_flow.proofs.Truths.{true_false, true_or}
+use Rattle.lay_flow.proofs.RunFacts.{goes_in, ends_above, lead_goes_on, top_run_is, parting_stands}
+use Rattle.lay_flow.proofs.PositionFacts.{stands_at_end, starts_before}
+use Rattle.lay_flow.proofs.GatheredRuns.{next_here, childless, open_plain, open_cleared, open_parting}
+use Rattle.lay_flow.proofs.CollapsedThrough.{through_inside, start_inside}
 use Rattle.lay_flow.proofs.LookAhead.{place_before}
 use Rattle.lay_flow.proofs.HangingRuns.{stands_at_edge}
-use Rattle.lay_flow.proofs.LayoutsAlike.{IsHanging, ClosedAlike, Alike, EndsIn, same_runs, same_run, also_gathered, start_same, marks_same}
+use Rattle.lay_flow.proofs.LayoutsAlike.{IsHanging, ClosedAlike, Alike, EndsIn, same_run, also_gathered, start_same, marks_same}
 
 module _ (parents : List ℕ) (tree : IsTree parents) (blocks : List Block) (extents clear_edges : List Length) (y : BlockLayout) (is : IsBlockLayout parents blocks extents clear_edges y)
     (others other_edges : List Length) (z : BlockLayout) (also : IsBlockLayout parents blocks others other_edges z) where
@@ -181,8 +179,8 @@ module _ (parents : List ℕ) (tree : IsTree parents) (blocks : List Block) (ext
       pub opens_alike : SomeOpened
       opens_alike = true_or (parts_tops blocks k) SomeOpened
           (λ parts. true_or (flag_at y.runs.clears k) SomeOpened
-              (λ cleared. record { next = k + 1; alike = parting_clear parts cleared })
-              (λ unclear. record { next = k + 1; alike = parting_plain parts unclear }))
+          (λ cleared. record { next = k + 1; alike = parting_clear parts cleared })
+          (λ unclear. record { next = k + 1; alike = parting_plain parts unclear }))
           (λ plain. true_or (flag_at y.runs.clears k) SomeOpened
-              (λ cleared. record { next = k; alike = opened_cleared plain cleared })
-              (λ unclear. record { next = first; alike = opened_plain plain unclear }))
+          (λ cleared. record { next = k; alike = opened_cleared plain cleared })
+          (λ unclear. record { next = first; alike = opened_plain plain unclear }))

@@ -1,6 +1,6 @@
 -- Two layouts in which the same boxes before a place have clearance are alike as far as runs have ended there.
-use Rattle.std.proofs.Common.{◌≡◌, ◌⊎◌, ℕ, zero, suc, ◌+◌, ◌<◌, ◌≤◌, Bool, true, false, ℤ, ◌+ℤ◌, ◌-ℤ◌, List, length, slice_index, refl, sym, ap, ◌∙◌, arith, inl, inr, subst}
-use Rattle.std.proofs.lemmas.Bool.{cases_lt, cases_eq}
+use Rattle.std.proofs.Common.{◌≡◌, ◌⊎◌, ℕ, zero, suc, ◌<◌, ◌≤◌, true, false, ◌+ℤ◌, ◌-ℤ◌, List, length, slice_index, refl, sym, ap, ◌∙◌, arith, inl, inr, subst}
+use Rattle.std.proofs.lemmas.Bool.{cases_lt}
 use Rattle.lay_units.specs.declared.length.Unit.{Unit as Length}
 use Rattle.lay_doc.specs.Tree.{IsTree}
 use Rattle.lay_margins.specs.Collapse.{collapse}
@@ -35,9 +35,9 @@ open_or_ended parents j (suc m) = elim (open_or_ended parents j m) [
     | inl lt ↦ elim (cases_lt (slice_index parents m) j) [
       | inl out ↦ inr (record { place = m; after = lt; before = omega arith; outside = out })
       | inr in_it ↦ inl (λ i low high. elim (cases_lt i m) [
-          | inl before ↦ inside i low before
-          | inr here ↦ (let e : i ≡ m = omega (arith, here, high) in rw e in_it)
-        ])
+        | inl before ↦ inside i low before
+        | inr here ↦ (let e : i ≡ m = omega (arith, here, high) in rw e in_it)
+      ])
     ]
   ]
 ]
@@ -138,8 +138,8 @@ module _ (parents : List ℕ) (tree : IsTree parents) (blocks : List Block) (ext
           let lead = same_runs.lead j lt in
           true_or (has_top (slice_index parents j) (run_at y.runs.before_tops j)) (length_at y.places.marks j ≡ length_at z.places.marks j)
           (λ t. stands_with_parent parents blocks y.runs extents clear_edges y.places is.has_positions j positive there through t
-              ∙ up (tree.before j positive there)
-              ∙ sym (stands_with_parent parents blocks z.runs others other_edges z.places also.has_positions j positive there also_through (ap (has_top (slice_index parents j)) (sym lead) ∙ t)))
+          ∙ up (tree.before j positive there)
+          ∙ sym (stands_with_parent parents blocks z.runs others other_edges z.places also.has_positions j positive there also_through (ap (has_top (slice_index parents j)) (sym lead) ∙ t)))
           (closed.kept through)
 
       marks_to : (fuel j : ℕ) → j < fuel → j < m → length_at y.places.marks j ≡ length_at z.places.marks j

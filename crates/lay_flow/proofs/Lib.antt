@@ -31,9 +31,12 @@ pub mod AlikeSteps
 pub mod AlikeClosings
 pub mod PassFits
 pub mod PlaceSteps
+pub mod FloatLists
+pub mod FlowPlaces
 pub mod WroteColumns
 pub mod PassSteps
 pub mod PassEnds
 pub mod PositionsUpTo
-pub mod FreeFlows
+pub mod OneClearance
+pub mod OneContextFlow
 pub mod Hypotheticals

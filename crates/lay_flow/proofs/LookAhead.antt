@@ -1,5 +1,5 @@
 -- A look ahead reads margins in which the box stands as high as one that is open yet.
-use Rattle.std.proofs.Common.{◌≡◌, ℕ, zero, suc, ◌+◌, ◌<◌, ◌≤◌, ◌&&◌, Bool, true, false, ℤ, ◌+ℤ◌, List, [], ◌∷◌, ◌++◌, length, slice_index, refl, sym, ap, ◌∙◌, arith, inl, inr, subst}
+use Rattle.std.proofs.Common.{◌≡◌, ℕ, ◌+◌, ◌<◌, ◌≤◌, ◌&&◌, Bool, true, false, ℤ, ◌+ℤ◌, List, [], ◌∷◌, ◌++◌, length, slice_index, refl, sym, ap, ◌∙◌, arith, inl, inr, subst}
 use Rattle.std.proofs.lemmas.Bool.{cases_lt, cases_eq}
 use Rattle.lay_units.specs.declared.length.Unit.{Unit as Length}
 use Rattle.lay_doc.specs.Tree.{IsTree}
@@ -13,7 +13,7 @@ use Rattle.lay_flow.specs.BlockPositions.{start_before}
 use Rattle.lay_flow.specs.BlockLayout.{BlockLayout, IsBlockLayout}
 use Rattle.lay_flow.specs.Gathered.{Gathered, Holds as Contains}
 use Rattle.lay_flow.specs.MarginPlace.{IsPlace}
-use Rattle.lay_flow.specs.LookAhead.{ComesTo, IsOutermost, IsHolder, Reads, ReadsAll}
+use Rattle.lay_flow.specs.LookAhead.{ComesTo, IsOutermost, Reads, ReadsAll}
 use Rattle.lay_flow.proofs.Truths.{true_false, true_or, low_not, low_yes}
 use Rattle.lay_flow.proofs.RunEntries.{margins-append, top_there, top_here, bottom_same}
 use Rattle.lay_flow.proofs.RunFacts.{goes_in, ends_inside, joins_is, lead_goes_on, top_run_is, to_bottom_is, parting_stands}

@@ -1,5 +1,5 @@
 -- Runs up to a place don't depend on clearance of boxes from there on.
-use Rattle.std.proofs.Common.{◌≡◌, ℕ, zero, suc, ◌+◌, ◌<◌, ◌≤◌, List, length, slice_index, refl, sym, ◌∙◌, arith, inl, inr, subst}
+use Rattle.std.proofs.Common.{◌≡◌, ℕ, ◌+◌, ◌<◌, ◌≤◌, List, length, slice_index, sym, ◌∙◌, arith, inl, inr, subst}
 use Rattle.std.proofs.lemmas.Bool.{cases_lt, cases_eq}
 use Rattle.lay_doc.specs.Tree.{IsTree}
 use Rattle.lay_flow.specs.declared.block.Block.{Block}
@@ -30,7 +30,7 @@ module _ (parents : List ℕ) (tree : IsTree parents) (blocks : List Block) (r x
     same = λ le.
         let before = was.same (omega (arith, le)) in
         let mine : run_at r.before_tops k ≡ run_at x.before_tops k = is.before_top k within
-            ∙ lead_same parents blocks r x k positive (clears k (omega (arith, le))) (run_same (slice_index parents k) k was.parent before) ∙ sym (also.before_top k within) in
+        ∙ lead_same parents blocks r x k positive (clears k (omega (arith, le))) (run_same (slice_index parents k) k was.parent before) ∙ sym (also.before_top k within) in
         record {
           lead = λ j high. elim (cases_lt j k) [
             | inl lt ↦ before.lead j lt
