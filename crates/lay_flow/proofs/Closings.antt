@@ -1,303 +1,190 @@
 -- A box is closed.
-use Rattle.std.proofs.Common.{◌≡◌, ◌≢◌, ℕ, zero, suc, ◌+◌, ◌<◌, ◌≤◌, ◌&&◌, ◌||◌, not, nat_lt, Bool, true, false, ℤ, pos, ◌+ℤ◌, List, [], ◌∷◌, ◌++◌, length, slice_index, refl, sym, ap, ◌∙◌, arith, inl, inr, Option, Some, None, if◌then◌else◌, subst}
-use Rattle.lay_doc.specs.Tree.{IsTree}
-use Rattle.lay_flow.specs.StackedBlocks.{length_at}
-use Rattle.std.proofs.lemmas.Bool.{cases_lt, cases_eq}
+use Rattle.std.proofs.Common.{◌≡◌, ℕ, ◌<◌, ◌≤◌, ◌==◌, ◌&&◌, ◌||◌, not, nat_lt, Bool, true, false, ℤ, pos, ◌+ℤ◌, ◌-ℤ◌, List, [], ◌∷◌, ◌++◌, length, slice_index, refl, sym, ap, ◌∙◌, arith, inl, inr}
+use Rattle.std.proofs.lemmas.Bool.{cases_eq}
 use Rattle.lay_units.specs.declared.length.Unit.{Unit as Length}
 use Rattle.lay_margins.specs.StrutValue.{StrutValue}
 use Rattle.lay_margins.specs.Collapse.{Holds, collapse}
-use Rattle.lay_flow.specs.Children.{is_child, last_child, next_child, flag_at}
-use Rattle.lay_flow.specs.MarginRuns.{Runs, Entry, margin, margins, has_top, is_barred, block_at, run_at, run_before, run_across, joins_bottom, may_collapse_through, may_join_bottoms}
-use Rattle.lay_flow.specs.BlockPositions.{start_before, start_below, content_bottom}
-use Rattle.lay_flow.specs.BlockLayout.{BlockLayout, IsBlockLayout, HasNoClearance}
+use Rattle.lay_doc.specs.Tree.{IsTree}
 use Rattle.lay_flow.specs.declared.block.Block.{Block}
-use Rattle.lay_flow.specs.BlockPass.{Waits, Settled, PassState, IsAt, IsDone}
-use Rattle.lay_flow.proofs.ChildPlaces.{not_child, child_is, last_same, last_some, next_none, next_same}
-use Rattle.lay_flow.proofs.RunsAgree.{none_left}
-use Rattle.lay_flow.proofs.LayoutFacts.{coming_next, start_next, going_out, going_ends, fall_is, tail_is, through_is, joined_is, mark_through, settled_marked, low_yes, low_not}
-use Rattle.lay_flow.proofs.RunEntries.{margins-append, not_barred, bottom_same}
-use Rattle.lay_flow.proofs.Openings.{true_false, settled_kept}
+use Rattle.lay_flow.specs.StackedBlocks.{length_at}
+use Rattle.lay_flow.specs.Children.{flag_at}
+use Rattle.lay_flow.specs.MarginRuns.{Entry, margin, margins, has_top, is_barred, block_at, run_at, run_before, run_across, joins_bottom, may_collapse_through, may_join_bottoms}
+use Rattle.lay_flow.specs.BlockPositions.{start_before, start_below}
+use Rattle.lay_flow.specs.BlockLayout.{BlockLayout, IsBlockLayout}
+use Rattle.lay_flow.specs.BlockPass.{Settled, PassState, IsAt}
+use Rattle.lay_flow.proofs.CollapsedThrough.{through_inside}
+use Rattle.lay_flow.proofs.GatheredRuns.{comes_here, comes_up, last_up, childless_on, passes_here, close_joined as gathered_joined, close_parted as gathered_parted}
+use Rattle.lay_flow.proofs.LayoutFacts.{start_next, start_clears_through, mark_through}
+use Rattle.lay_flow.specs.MarginPlace.{IsPlace}
+use Rattle.lay_flow.proofs.Openings.{WithMargin}
+use Rattle.lay_flow.proofs.RunEntries.{margins-append}
+use Rattle.lay_flow.proofs.RunFacts.{ends_inside, to_bottom_is, joins_is}
+use Rattle.lay_flow.proofs.RunReach.{RunEnds, sum_two, starts_here, mark_here, waiting_open, tops_here, reach_is}
+use Rattle.lay_flow.proofs.SoFar.{Wrote, so_far_settled, so_far_closed, so_far_through}
+use Rattle.lay_flow.proofs.Truths.{true_false, true_or, low_not}
 
--- one entry was changed
-pub record Wrote {A B : Type 0} (read : List A → ℕ → B) (old new : List A) (k : ℕ) (v : B) : Type 0 where
-  pub length_is : length new ≡ length old
-  pub here : read new k ≡ v
-  pub other : (j : ℕ) → j ≢ k → read new j ≡ read old j
+module _ (parents : List ℕ) (blocks : List Block) (extents clear_edges : List Length) (y : BlockLayout) (is : IsBlockLayout parents blocks extents clear_edges y) (tree : IsTree parents)
+    (now : PassState) (p m : ℕ) (positive : 0 < p) (was : IsAt parents blocks clear_edges y now p m) (ends : m < length parents → slice_index parents m < p) where
+  lt : p < m
+  lt = was.in_run.gathered.parent
 
-abbrev pub picked : Runs → Bool → List Entry → Option ℕ → List Entry → List Entry
-picked r j falls None run = if j then falls else run
-picked r j falls (Some c) run = if flag_at r.clears c then run else run_at r.top_runs c
+  within : m ≤ length parents
+  within = was.in_run.gathered.within
 
-going_picked : (parents : List ℕ) (blocks : List Block) (r : Runs) (p m : ℕ) → run_across parents blocks r p m ≡ picked r (joins_bottom parents blocks r p) (run_at r.bottom_runs p) (next_child parents p m (length parents)) (run_before parents blocks r p m)
-going_picked parents blocks r p m = go (next_child parents p m (length parents)) refl
-  where
-    go : (o : Option ℕ) → next_child parents p m (length parents) ≡ o → run_across parents blocks r p m ≡ picked r (joins_bottom parents blocks r p) (run_at r.bottom_runs p) o (run_before parents blocks r p m)
-    go None e = rw e refl
-    go (Some c) e = rw e refl
+  within_p : p < length parents
+  within_p = let a = lt in let b = within in omega (arith, a, b)
 
-pub going_same : (parents : List ℕ) (blocks : List Block) (r : Runs) (p l m : ℕ) → next_child parents p l (length parents) ≡ next_child parents p m (length parents) → run_before parents blocks r p l ≡ run_before parents blocks r p m → run_across parents blocks r p l ≡ run_across parents blocks r p m
-going_same parents blocks r p l m e f = going_picked parents blocks r p l ∙ (λ i. picked r (joins_bottom parents blocks r p) (run_at r.bottom_runs p) (e i) (f i)) ∙ sym (going_picked parents blocks r p m)
+  inside : (i : ℕ) → p < i → i < m → p ≤ slice_index parents i
+  inside = was.in_run.gathered.inside
 
-sum_two : (a b c d : ℤ) → a ≡ b → c ≡ d → (a +ℤ c) ≡ (b +ℤ d)
-sum_two a b c d e f = rw (e, f) refl
+  pub place_below : IsPlace parents p m
+  place_below = record { parent = lt; within = within; inside = inside; next = λ w. let e = ends w in omega (arith, e) }
 
-sum_same : (a b : ℤ) (xs zs : List Entry) → a ≡ b → xs ≡ zs → (a +ℤ collapse (margins xs)) ≡ (b +ℤ collapse (margins zs))
-sum_same a b xs zs e f = rw (e, f) refl
+  abbrev c : List Entry
+  c = run_before parents blocks y.runs p m
 
-parent_low : (parents : List ℕ) (f p : ℕ) → IsTree parents → 0 < f → f ≤ p → p < length parents → (j : ℕ) → j < f → slice_index parents j < f
-parent_low parents f p tree positive le within zero low = let r = tree.root in omega (arith, r, positive)
-parent_low parents f p tree positive le within (suc j) low = let b = tree.before (suc j) (omega arith) (omega (arith, low, le, within)) in omega (arith, b, low)
+  abbrev bottom : ℤ
+  bottom = (block_at blocks p).margin_bottom.0
 
-module _ (parents : List ℕ) (blocks : List Block) (extents clear_edges : List Length) (y : BlockLayout) (is : IsBlockLayout parents blocks extents clear_edges y) (never : HasNoClearance y) (tree : IsTree parents) where
-  between : (p m : ℕ) → slice_index parents p < p → ((i : ℕ) → p < i → i < m → p ≤ slice_index parents i) → (k : ℕ) → p < k → k < m → is_child parents (slice_index parents p) k ≡ false
-  between p m up inside k low high = not_child parents (slice_index parents p) k (λ a e. let b = inside k low high in omega (arith, up, e, b))
+  pub coming_here : run_before parents blocks y.runs p (length parents) ≡ run_before parents blocks y.runs p m
+  coming_here = comes_here parents tree blocks y.runs is.has_runs p m positive lt within ends inside
 
-  module _ (now : PassState) (p m : ℕ) (positive : 0 < p) (was : IsAt parents blocks y now p m) (ends : m < length parents → slice_index parents m < p) where
-    within_p : p < length parents
-    within_p = let a = was.parent in let b = was.within in omega (arith, a, b)
+  pub out_parted : joins_bottom parents blocks y.runs p ≡ false → run_across parents blocks y.runs p m ≡ run_before parents blocks y.runs p m
+  out_parted parted = ends_inside parents blocks y.runs p m (childless_on parents tree blocks y.runs is.has_runs p m positive lt within ends inside) parted
 
-    up_less : slice_index parents p < p
-    up_less = tree.before p positive within_p
+  start_up : start_before parents blocks y.runs y.places (slice_index parents p) m ≡ start_below y.runs y.places p
+  start_up = start_next parents blocks y.runs y.places (slice_index parents p) m p (last_up parents tree blocks y.runs is.has_runs p m positive lt within ends inside)
 
-    pub coming_here : run_before parents blocks y.runs p (length parents) ≡ run_before parents blocks y.runs p m
-    coming_here = let e = last_same parents p m (length parents) was.within (none_left parents tree p m was.parent ends) in rw e refl
+  come_joined : joins_bottom parents blocks y.runs p ≡ true → run_before parents blocks y.runs (slice_index parents p) m ≡ c ++ margin bottom ∷ []
+  come_joined j = comes_up parents tree blocks y.runs is.has_runs p m positive lt within ends inside ∙ to_bottom_is parents blocks y.runs is.has_runs p positive within_p ∙ (let h = coming_here in rw (j, h) refl)
 
-    last_is : last_child parents (slice_index parents p) m ≡ Some p
-    last_is = last_some parents (slice_index parents p) p m was.parent (child_is parents (slice_index parents p) p up_less refl) (between p m up_less was.inside)
+  come_parted : joins_bottom parents blocks y.runs p ≡ false → run_before parents blocks y.runs (slice_index parents p) m ≡ margin bottom ∷ []
+  come_parted j = comes_up parents tree blocks y.runs is.has_runs p m positive lt within ends inside ∙ to_bottom_is parents blocks y.runs is.has_runs p positive within_p ∙ rw j refl
 
-    pub coming_up : run_before parents blocks y.runs (slice_index parents p) m ≡ run_at y.runs.to_bottoms p
-    coming_up = coming_next parents blocks extents clear_edges y is never (slice_index parents p) m p last_is
+  holds_joined : (strut : StrutValue) → joins_bottom parents blocks y.runs p ≡ true → WithMargin now.strut strut bottom → Holds strut (margins (run_before parents blocks y.runs (slice_index parents p) m))
+  holds_joined strut j holds = let e = ap margins (come_joined j) ∙ margins-append c (margin bottom ∷ []) in rw e (holds (margins c) was.in_run.strut_holds)
 
-    pub start_up : start_before parents blocks y.runs y.places (slice_index parents p) m ≡ start_below y.runs y.places p
-    start_up = start_next parents blocks extents clear_edges y is never (slice_index parents p) m p last_is
+  pub code_open : flag_at now.through p ≡ false
+  code_open = was.so_far.open_yet p (omega arith) inside
 
-    pub out : next_child parents p m (length parents) ≡ None
-    out = next_none parents p m (length parents) (none_left parents tree p m was.parent ends)
+  pub passes_is : flag_at y.runs.through p ≡ (may_collapse_through (block_at blocks p) && not (nat_lt p now.first))
+  passes_is = passes_here parents tree blocks y.runs is.has_runs p m positive lt within ends inside now.first was.in_run.gathered
 
-    last_after : last_child parents (slice_index parents p) (p + 1) ≡ Some p
-    last_after = last_some parents (slice_index parents p) p (p + 1) (omega arith) (child_is parents (slice_index parents p) p up_less refl) (λ k a b. absurd (omega (arith, a, b)))
+  pub joined_here : joins_bottom parents blocks y.runs p ≡ (flag_at y.runs.through p || (may_join_bottoms (block_at blocks p) && not (nat_lt now.first m && flag_at y.runs.clears now.first && slice_index parents now.first == p)))
+  joined_here = joins_is parents blocks y.runs p positive ∙ ap (λ (b : Bool). flag_at y.runs.through p || (may_join_bottoms (block_at blocks p) && not b)) (ap (is_barred parents p) coming_here ∙ was.in_run.gathered.barred p)
 
-    pub fall_up : run_at y.runs.bottom_runs p ≡ run_across parents blocks y.runs (slice_index parents p) m
-    fall_up = fall_is parents blocks extents clear_edges y is never p positive within_p
-        ∙ (let q = was.parent in let e = next_same parents (slice_index parents p) (p + 1) m (length parents) (omega (arith, q)) (λ k a b. between p m up_less was.inside k (omega (arith, a)) b) in going_same parents blocks y.runs (slice_index parents p) (p + 1) m e (coming_next parents blocks extents clear_edges y is never (slice_index parents p) (p + 1) p last_after ∙ sym coming_up))
+  pub through_here : may_collapse_through (block_at blocks p) ≡ true → now.first ≤ p → flag_at y.runs.through p ≡ true
+  through_here may waits = passes_is ∙ (let e : not (nat_lt p now.first) ≡ true = low_not p now.first waits in rw (may, e) refl)
 
-    pub tail_joined : joins_bottom parents blocks y.runs p ≡ true → run_at y.runs.to_bottoms p ≡ run_before parents blocks y.runs p m ++ margin (block_at blocks p).margin_bottom.0 ∷ []
-    tail_joined j = tail_is parents blocks extents clear_edges y is never p positive within_p ∙ (let h = coming_here in rw (j, h) refl)
+  -- the run that its clearance began starts above its clear edge
+  pub started : (start : ℤ) → may_collapse_through (block_at blocks p) ≡ true → now.hangs ≡ true → now.first ≡ p → ((ms : List ℤ) → Holds now.strut ms → start ≡ now.start -ℤ collapse ms)
+      → IsAt parents blocks clear_edges y (record now { start = start; hangs = false }) p m
+  started start may hangs first value = record {
+    so_far = was.so_far;
+    in_run = record {
+      gathered = was.in_run.gathered;
+      strut_holds = was.in_run.strut_holds;
+      start_is = λ f. let h = was.in_run.hanging hangs in
+          let truth = through_here may (omega (arith, first)) in
+          let edge = h.edge ∙ ap (length_at clear_edges) first in
+          let here = start_clears_through parents blocks extents clear_edges y is p positive within_p (sym (ap (flag_at y.runs.clears) first) ∙ h.clears) truth in
+          value _ was.in_run.strut_holds ∙ (λ i. edge i -ℤ collapse (margins (sym coming_here i))) ∙ sym here ∙ starts_here parents blocks extents clear_edges y is tree now p m was.in_run place_below p (omega (arith, first)) (omega arith) inside;
+      hanging = λ t. absurd (true_false false t refl);
+    };
+  }
 
-    pub tail_parted : joins_bottom parents blocks y.runs p ≡ false → run_at y.runs.to_bottoms p ≡ margin (block_at blocks p).margin_bottom.0 ∷ []
-    tail_parted j = tail_is parents blocks extents clear_edges y is never p positive within_p ∙ rw j refl
-
-    pub code_open : flag_at now.through p ≡ false
-    code_open = was.open_yet p (omega arith) was.inside
-
-    pub passes_is : flag_at y.runs.through p ≡ (may_collapse_through (block_at blocks p) && not (nat_lt p now.first))
-    passes_is = through_is parents blocks extents clear_edges y is never p positive within_p ∙ ap (λ (b : Bool). may_collapse_through (block_at blocks p) && b) (ap (has_top p) coming_here ∙ owns)
-      where
-        owns : has_top p (run_before parents blocks y.runs p m) ≡ not (nat_lt p now.first)
-        owns = elim (cases_lt p now.first) [
-          | inl low ↦ was.older p low ∙ sym (low_yes p now.first low)
-          | inr high ↦ was.own p high was.parent ∙ sym (low_not p now.first high)
-        ]
-
-    pub joined_here : joins_bottom parents blocks y.runs p ≡ (flag_at y.runs.through p || may_join_bottoms (block_at blocks p))
-    joined_here = joined_is parents blocks extents clear_edges y is never p positive ∙ (let e = ap (is_barred parents p) coming_here ∙ was.unbarred p in rw e (or_and (flag_at y.runs.through p) (may_join_bottoms (block_at blocks p))))
-      where
-        or_and : (a b : Bool) → (a || (b && true)) ≡ (a || b)
-        or_and true true = refl
-        or_and true false = refl
-        or_and false true = refl
-        or_and false false = refl
-
-    -- the bounds of the place that follows
-    inside_up : (i : ℕ) → slice_index parents p < i → i < m → slice_index parents p ≤ slice_index parents i
-    inside_up i low high = elim (cases_lt i p) [
-      | inl before ↦ tree.together i p before within_p low
-      | inr from ↦ elim (cases_eq i p) [
-        | inl e ↦ rw e (omega arith)
-        | inr ne ↦ (let b = was.inside i (omega (arith, from, ne)) high in let u = up_less in omega (arith, b, u))
-      ]
-    ]
-
-    closed_up : (flags : List Bool) (heights : List Length) → IsDone y flags heights p → ((j : ℕ) → j ≢ p → flag_at flags j ≡ flag_at now.through j) → ((j : ℕ) → j ≢ p → length_at heights j ≡ length_at now.heights j)
-        → (j : ℕ) → slice_index parents p < j → j < m → IsDone y flags heights j
-    closed_up flags heights here same_passes same_heights j low high = elim (cases_lt j p) [
-      | inl before ↦ moved j (λ e. omega (arith, e, before)) (was.gone j p before was.parent low)
-      | inr from ↦ elim (cases_eq j p) [
-        | inl e ↦ subst (IsDone y flags heights) (sym e) here
-        | inr ne ↦ moved j ne (was.closed j (omega (arith, from, ne)) high)
-      ]
-    ]
-      where
-        moved : (j : ℕ) → j ≢ p → IsDone y now.through now.heights j → IsDone y flags heights j
-        moved j ne d = record { pass = same_passes j ne ∙ d.pass; height = same_heights j ne ∙ d.height }
-
-    gone_up : (flags : List Bool) (heights : List Length) → ((j : ℕ) → j ≢ p → flag_at flags j ≡ flag_at now.through j) → ((j : ℕ) → j ≢ p → length_at heights j ≡ length_at now.heights j)
-        → (j i : ℕ) → j < i → i < m → slice_index parents i < j → IsDone y flags heights j
-    gone_up flags heights same_passes same_heights j i low high lower =
-        let d = was.gone j i low high lower in
-        let ne : j ≢ p = λ e. (let b = was.inside i (omega (arith, low, e)) high in omega (arith, b, e, lower)) in
-        record { pass = same_passes j ne ∙ d.pass; height = same_heights j ne ∙ d.height }
-
-    -- its margins are in one run
-    pub close_passing : (marks heights : List Length) (flags : List Bool) (strut : StrutValue) → may_collapse_through (block_at blocks p) ≡ true → now.first ≤ p
-        → Wrote length_at now.marks marks p (now.start +ℤ collapse (margins (run_before parents blocks y.runs p m))) → Wrote length_at now.heights heights p (pos 0) → Wrote flag_at now.through flags p true
-        → Holds strut (margins (run_before parents blocks y.runs p m) ++ (block_at blocks p).margin_bottom.0 ∷ [])
-        → IsAt parents blocks y (record now { marks = marks; heights = heights; through = flags; strut = strut }) (slice_index parents p) m
-    close_passing marks heights flags strut may pending wrote_mark wrote_height wrote_pass holds =
-        let c : List Entry = run_before parents blocks y.runs p m in
-        let bottom : ℤ = (block_at blocks p).margin_bottom.0 in
-        let truth : flag_at y.runs.through p ≡ true = passes_is ∙ (let e : not (nat_lt p now.first) ≡ true = low_not p now.first pending in rw (may, e) refl) in
-        let joined : joins_bottom parents blocks y.runs p ≡ true = joined_here ∙ rw truth refl in
-        let come : run_before parents blocks y.runs (slice_index parents p) m ≡ c ++ margin bottom ∷ [] = coming_up ∙ tail_joined joined in
-        let w = was.waits p pending was.parent code_open in
-        let up = up_less in
-        let par = was.parent in
-        let height_zero : length_at y.places.heights p ≡ pos 0 = is.has_positions.height p within_p ∙ rw truth refl in
-        let done : IsDone y flags heights p = record { pass = wrote_pass.here ∙ sym truth; height = wrote_height.here ∙ sym height_zero } in
-        record {
-          marks_length = wrote_mark.length_is ∙ was.marks_length;
-          heights_length = wrote_height.length_is ∙ was.heights_length;
-          through_length = wrote_pass.length_is ∙ was.through_length;
-          within = was.within;
-          parent = omega (arith, up, par);
-          first_least = was.first_least;
-          first_most = was.first_most;
-          inside = inside_up;
-          strut_holds = let e = ap margins come ∙ margins-append c (margin bottom ∷ []) in rw e holds;
-          start_is = sym w.start_is ∙ sym (start_up ∙ rw truth refl);
-          unbarred = λ q. ap (is_barred parents q) come ∙ not_barred parents q c (margin bottom ∷ []) (was.unbarred q) refl;
-          own = λ j a b. ap (has_top j) come ∙ bottom_same j bottom c ∙ was.own j a b;
-          older = λ j a. ap (has_top j) come ∙ bottom_same j bottom c ∙ was.older j a;
-          waits = λ j a b code.
-              let ne : j ≢ p = λ e. true_false (flag_at flags p) wrote_pass.here (ap (flag_at flags) (sym e) ∙ code) in
-              let v = was.waits j a b (sym (wrote_pass.other j ne) ∙ code) in
-              let u = v.above in
-              record {
-                rise = v.rise ∙ going_out parents blocks extents clear_edges y is never p m out joined ∙ fall_up;
-                start_is = v.start_is;
-                above = v.holds p (omega (arith, u, ne)) was.parent;
-                holds = v.holds;
-              };
-          inherits = was.inherits;
-          passed = λ j b code. elim (cases_eq j p) [
-            | inl e ↦ rw e truth
-            | inr ne ↦ was.passed j b (sym (wrote_pass.other j ne) ∙ code)
-          ];
-          closed = closed_up flags heights done wrote_pass.other wrote_height.other;
-          gone = gone_up flags heights wrote_pass.other wrote_height.other;
-          marked = record {
-            stands = λ j a code t. let ne : j ≢ p = λ e. omega (arith, e, a, pending) in
-                wrote_mark.other j ne ∙ was.marked.stands j a (sym (wrote_pass.other j ne) ∙ code) t;
-            inherits = λ j a code top. let ne : j ≢ p = λ e. omega (arith, e, a, pending) in
-                let u = parent_low parents now.first p tree was.first_least pending within_p j a in
-                let ne' : slice_index parents j ≢ p = λ e. omega (arith, e, u, pending) in
-                wrote_mark.other j ne ∙ was.marked.inherits j a (sym (wrote_pass.other j ne) ∙ code) top ∙ sym (wrote_mark.other (slice_index parents j) ne');
+  -- its margins are in one run
+  pub close_passing : (marks heights : List Length) (flags : List Bool) (strut : StrutValue) (mark : ℤ) → may_collapse_through (block_at blocks p) ≡ true → now.first ≤ p → (now.hangs ≡ true → now.first < p)
+      → RunEnds now.hangs now.start now.strut mark
+      → Wrote length_at now.marks marks p mark → Wrote length_at now.heights heights p (pos 0) → Wrote flag_at now.through flags p true → WithMargin now.strut strut bottom
+      → IsAt parents blocks clear_edges y (record now { marks = marks; heights = heights; through = flags; strut = strut }) (slice_index parents p) m
+  close_passing marks heights flags strut mark may waits below reach wrote_mark wrote_height wrote_flag holds =
+      let g = was.in_run.gathered in
+      let truth = through_here may waits in
+      let joined : joins_bottom parents blocks y.runs p ≡ true = joined_here ∙ rw truth refl in
+      let zero_high : length_at y.places.heights p ≡ pos 0 = is.has_positions.height p within_p ∙ rw truth refl in
+      let start = starts_here parents blocks extents clear_edges y is tree now p m was.in_run place_below p waits (omega arith) inside in
+      record {
+        so_far = so_far_through parents tree y p m positive lt within inside now.through flags now.heights heights now.marks marks now.first mark g.least waits truth zero_high wrote_mark wrote_height wrote_flag (mark_is truth) was.so_far;
+        in_run = record {
+          gathered = gathered_joined parents tree blocks y.runs is.has_runs p m positive lt within ends inside now.first g joined;
+          strut_holds = holds_joined strut joined holds;
+          start_is = λ f. was.in_run.start_is f ∙ sym start ∙ sym (start_up ∙ rw truth refl);
+          hanging = λ t. let h = was.in_run.hanging t in record {
+            clears = h.clears;
+            edge = h.edge;
+            open_yet = h.contains p (below t) lt;
+            contains = h.contains;
           };
-          kept = λ j b code top. elim (cases_eq j p) [
-            | inl e ↦ ap (length_at marks) e ∙ wrote_mark.here ∙ sum_same now.start (length_at y.places.starts p) c (run_before parents blocks y.runs p (length parents)) (sym w.start_is) (sym coming_here) ∙ sym (mark_through parents blocks extents clear_edges y is never p positive within_p truth (rw e at top)) ∙ ap (length_at y.places.marks) (sym e)
-            | inr ne ↦ wrote_mark.other j ne ∙ was.kept j b (sym (wrote_pass.other j ne) ∙ code) top
-          ];
-          fresh = λ j a. let ne : j ≢ p = λ e. omega (arith, e, a, par) in wrote_pass.other j ne ∙ was.fresh j a;
-          open_yet = λ j a holds. let ne : j ≢ p = λ e. omega (arith, e, a, up) in wrote_pass.other j ne ∙ was.open_yet j (omega (arith, a, up)) holds;
-        }
+        };
+      }
+    where
+      mark_is : flag_at y.runs.through p ≡ true → has_top (slice_index parents p) (run_at y.runs.before_tops p) ≡ false → mark ≡ length_at y.places.marks p
+      mark_is truth none = true_or now.hangs (mark ≡ length_at y.places.marks p)
+          (λ t. let h = was.in_run.hanging t in absurd (true_false (has_top (slice_index parents p) (run_at y.runs.before_tops p))
+          (tops_here parents blocks extents clear_edges y is tree now p m was.in_run place_below p waits lt ∙ low_not (slice_index parents p) now.first (h.contains p (below t) lt)) none))
+          (λ f. let start = was.in_run.start_is f ∙ sym (starts_here parents blocks extents clear_edges y is tree now p m was.in_run place_below p waits (omega arith) inside) in
+          reach.value f _ was.in_run.strut_holds ∙ (λ i. start i +ℤ collapse (margins (sym coming_here i))) ∙ sym (mark_through parents blocks extents clear_edges y is p positive within_p truth none))
 
-    -- its bottom margin begins a run
-    pub close_parted : (marks heights : List Length) (strut : StrutValue) (start : ℤ) → flag_at y.runs.through p ≡ false → joins_bottom parents blocks y.runs p ≡ false
-        → Settled parents now.through now.marks marks now.first m (now.start +ℤ collapse (margins (run_before parents blocks y.runs p m))) → Wrote length_at now.heights heights p (length_at y.places.heights p)
-        → start ≡ length_at marks p +ℤ length_at heights p
-        → Holds strut ((block_at blocks p).margin_bottom.0 ∷ [])
-        → IsAt parents blocks y (record { marks = marks; heights = heights; through = now.through; start = start; strut = strut; first = m }) (slice_index parents p) m
-    close_parted marks heights strut start truth parted settled wrote_height starts holds =
-        let c : List Entry = run_before parents blocks y.runs p m in
-        let bottom : ℤ = (block_at blocks p).margin_bottom.0 in
-        let come : run_before parents blocks y.runs (slice_index parents p) m ≡ margin bottom ∷ [] = coming_up ∙ tail_parted parted in
-        let up = up_less in
-        let par = was.parent in
-        let done : IsDone y now.through heights p = record { pass = code_open ∙ sym truth; height = wrote_height.here } in
-        let waits : (j : ℕ) → now.first ≤ j → j < m → flag_at now.through j ≡ false → Waits parents y now.start c p m j = λ j a b code. let w = was.waits j a b code in record {
-          rise = w.rise ∙ going_ends parents blocks extents clear_edges y is never p m out parted;
-          start_is = w.start_is;
-          above = w.above;
-          holds = w.holds;
-        } in
-        let marked = settled_marked parents blocks extents clear_edges y is never tree now.through now.marks marks now.start (now.start +ℤ collapse (margins c)) c p now.first m
-        was.first_least was.first_most was.within waits was.inherits refl settled was.marked in
-        record {
-          marks_length = settled.length_is ∙ was.marks_length;
-          heights_length = wrote_height.length_is ∙ was.heights_length;
-          through_length = was.through_length;
-          within = was.within;
-          parent = omega (arith, up, par);
-          first_least = omega (arith, par);
-          first_most = omega arith;
-          inside = inside_up;
-          strut_holds = let e = ap margins come in rw e holds;
-          start_is = starts ∙ sum_two (length_at marks p) (length_at y.places.marks p) (length_at heights p) (length_at y.places.heights p) (marked.stands p par code_open truth) wrote_height.here ∙ sym (start_up ∙ rw truth refl);
-          unbarred = λ q. ap (is_barred parents q) come;
-          own = λ j a b. absurd (omega (arith, a, b));
-          older = λ j a. ap (has_top j) come;
-          waits = λ j a b code. absurd (omega (arith, a, b));
-          inherits = λ j a b. absurd (omega (arith, a, b));
-          passed = was.passed;
-          closed = closed_up now.through heights done (λ j ne. refl) wrote_height.other;
-          gone = gone_up now.through heights (λ j ne. refl) wrote_height.other;
-          marked = marked;
-          kept = λ j b code top. settled_kept parents blocks extents clear_edges y is never tree now.through now.marks marks now.first m _ was.inherits settled j b code top (was.kept j b code top);
-          fresh = was.fresh;
-          open_yet = λ j a holds. was.open_yet j (omega (arith, a, up)) holds;
-        }
+  -- where the run ends that comes to its bottom margin
+  module _ (truth : flag_at y.runs.through p ≡ false) (parted : joins_bottom parents blocks y.runs p ≡ false) (end : ℤ) (reach : RunEnds now.hangs now.start now.strut end) where
+    stands : now.hangs ≡ true → flag_at y.runs.through now.first ≡ false
+    stands t =
+        let h = was.in_run.hanging t in
+        let le = h.open_yet in
+        true_or (flag_at y.runs.through now.first) (flag_at y.runs.through now.first ≡ false)
+        (λ through. elim (cases_eq now.first p) [
+          | inl e ↦ ap (flag_at y.runs.through) e ∙ truth
+          | inr ne ↦ (let l = lt in absurd (true_false (flag_at y.runs.through p) (through_inside parents tree blocks y.runs is.has_runs now.first p was.in_run.gathered.least (omega (arith, le, ne)) within_p (λ i low high. h.contains i low (omega (arith, high, l))) through).through truth))
+        ])
+        (λ f. f)
 
-    -- its bottom margin adjoins that of its last child, and its top margin is in an earlier run
-    pub close_joined : (heights : List Length) (strut : StrutValue) (start : ℤ) → flag_at y.runs.through p ≡ false → joins_bottom parents blocks y.runs p ≡ true → p < now.first
-        → Wrote length_at now.heights heights p (length_at y.places.heights p)
-        → start ≡ length_at now.marks p +ℤ length_at heights p
-        → Holds strut (margins (run_before parents blocks y.runs p m) ++ (block_at blocks p).margin_bottom.0 ∷ [])
-        → IsAt parents blocks y (record now { heights = heights; start = start; strut = strut }) (slice_index parents p) m
-    close_joined heights strut start truth joined before wrote_height starts holds =
-        let c : List Entry = run_before parents blocks y.runs p m in
-        let bottom : ℤ = (block_at blocks p).margin_bottom.0 in
-        let come : run_before parents blocks y.runs (slice_index parents p) m ≡ c ++ margin bottom ∷ [] = coming_up ∙ tail_joined joined in
-        let up = up_less in
-        let par = was.parent in
-        let done : IsDone y now.through heights p = record { pass = code_open ∙ sym truth; height = wrote_height.here } in
-        record {
-          marks_length = was.marks_length;
-          heights_length = wrote_height.length_is ∙ was.heights_length;
-          through_length = was.through_length;
-          within = was.within;
-          parent = omega (arith, up, par);
-          first_least = was.first_least;
-          first_most = was.first_most;
-          inside = inside_up;
-          strut_holds = let e = ap margins come ∙ margins-append c (margin bottom ∷ []) in rw e holds;
-          start_is = starts ∙ sum_two (length_at now.marks p) (length_at y.places.marks p) (length_at heights p) (length_at y.places.heights p) (was.marked.stands p before code_open truth) wrote_height.here ∙ sym (start_up ∙ rw truth refl);
-          unbarred = λ q. ap (is_barred parents q) come ∙ not_barred parents q c (margin bottom ∷ []) (was.unbarred q) refl;
-          own = λ j a b. ap (has_top j) come ∙ bottom_same j bottom c ∙ was.own j a b;
-          older = λ j a. ap (has_top j) come ∙ bottom_same j bottom c ∙ was.older j a;
-          waits = λ j a b code. let w = was.waits j a b code in let u = w.above in absurd (omega (arith, a, u, before));
-          inherits = was.inherits;
-          passed = was.passed;
-          closed = closed_up now.through heights done (λ j ne. refl) wrote_height.other;
-          gone = gone_up now.through heights (λ j ne. refl) wrote_height.other;
-          marked = was.marked;
-          kept = was.kept;
-          fresh = was.fresh;
-          open_yet = λ j a holds. was.open_yet j (omega (arith, a, up)) holds;
-        }
+    pub reach_parted : end ≡ start_before parents blocks y.runs y.places p m +ℤ collapse (margins (run_before parents blocks y.runs p m))
+    reach_parted =
+        let whole = ap margins (out_parted parted) in
+        reach_is parents blocks extents clear_edges y is tree now p m was.in_run place_below now.strut end reach (rw whole was.in_run.strut_holds) stands
+        ∙ ap (λ (ms : List ℤ). start_before parents blocks y.runs y.places p m +ℤ collapse ms) whole
 
-    -- where its content ends
-    last_here : last_child parents p (length parents) ≡ last_child parents p m
-    last_here = last_same parents p m (length parents) was.within (none_left parents tree p m was.parent ends)
+    ends_parted : (j : ℕ) → now.first ≤ j → j < m → flag_at now.through j ≡ false → flag_at y.runs.through j ≡ false → length_at y.places.marks j ≡ end
+    ends_parted j a b code truth_j =
+        let open_yet = waiting_open parents blocks extents clear_edges y is tree now p m was.in_run place_below was.so_far j a b code in
+        mark_here parents blocks extents clear_edges y is tree now p m was.in_run place_below j a open_yet.0 open_yet.1 truth_j
+        ∙ ap (λ (run : List Entry). start_before parents blocks y.runs y.places p m +ℤ collapse (margins run)) (out_parted parted) ∙ sym reach_parted
 
-    pub end_leaf : last_child parents p m ≡ None → content_bottom parents blocks y.runs y.places p ≡ length_at y.places.marks p +ℤ (block_at blocks p).edge_top.0
-    end_leaf e = let f = last_here ∙ e in rw f refl
+    module _ (marks : List Length) (settled : Settled parents now.through now.marks marks now.first m end) where
+      pub mark_parted : length_at marks p ≡ length_at y.places.marks p
+      mark_parted =
+          (so_far_settled parents tree y now.through now.heights now.marks marks now.first p m end was.in_run.gathered.least was.in_run.gathered.most within
+          (tops_here parents blocks extents clear_edges y is tree now p m was.in_run place_below) ends_parted settled was.so_far).marked.stands p lt code_open truth
 
-    pub end_joined : (c : ℕ) → last_child parents p m ≡ Some c → joins_bottom parents blocks y.runs p ≡ true → content_bottom parents blocks y.runs y.places p ≡ now.start
-    end_joined c e j = let f = last_here ∙ e in let s = was.start_is ∙ start_next parents blocks extents clear_edges y is never p m c e in rw (f, j) (sym s)
+      -- its bottom margin begins a run
+      pub close_parted : (heights : List Length) (strut : StrutValue) (start : ℤ) → Wrote length_at now.heights heights p (length_at y.places.heights p) → start ≡ length_at marks p +ℤ length_at heights p → Holds strut (bottom ∷ [])
+          → IsAt parents blocks clear_edges y (record now { marks = marks; heights = heights; start = start; strut = strut; first = m; hangs = false }) (slice_index parents p) m
+      close_parted heights strut start wrote starts holds = record {
+        so_far = so_far_closed parents tree y p m positive lt within inside now.through now.heights heights marks m truth wrote
+            (so_far_settled parents tree y now.through now.heights now.marks marks now.first p m end was.in_run.gathered.least was.in_run.gathered.most within
+            (tops_here parents blocks extents clear_edges y is tree now p m was.in_run place_below) ends_parted settled was.so_far);
+        in_run = record {
+          gathered = gathered_parted parents tree blocks y.runs is.has_runs p m positive lt within ends inside parted;
+          strut_holds = let e = ap margins (come_parted parted) in rw e holds;
+          start_is = λ f. starts ∙ sum_two (length_at marks p) (length_at y.places.marks p) (length_at heights p) (length_at y.places.heights p) mark_parted wrote.here ∙ sym (start_up ∙ rw truth refl);
+          hanging = λ t. absurd (true_false false t refl);
+        };
+      }
 
-    pub end_parted : (c : ℕ) → last_child parents p m ≡ Some c → joins_bottom parents blocks y.runs p ≡ false → content_bottom parents blocks y.runs y.places p ≡ now.start +ℤ collapse (margins (run_before parents blocks y.runs p m))
-    end_parted c e j = let f = last_here ∙ e in let s = was.start_is ∙ start_next parents blocks extents clear_edges y is never p m c e in let t = coming_next parents blocks extents clear_edges y is never p m c e in
-        go f ∙ sum_same (start_below y.runs y.places c) now.start (run_at y.runs.to_bottoms c) (run_before parents blocks y.runs p m) (sym s) (sym t)
-      where
-        go : last_child parents p (length parents) ≡ Some c → content_bottom parents blocks y.runs y.places p ≡ start_below y.runs y.places c +ℤ collapse (margins (run_at y.runs.to_bottoms c))
-        go f = rw (f, j) refl
+  -- its bottom margin adjoins that of its last child, and its top margin is in an earlier run
+  pub not_hanging : p < now.first → now.hangs ≡ false
+  not_hanging before = true_or now.hangs (now.hangs ≡ false) (λ t. let h = was.in_run.hanging t in let o = h.open_yet in absurd (omega (arith, o, before))) (λ f. f)
+
+  pub close_joined : (heights : List Length) (strut : StrutValue) (start : ℤ) → flag_at y.runs.through p ≡ false → joins_bottom parents blocks y.runs p ≡ true → p < now.first
+      → Wrote length_at now.heights heights p (length_at y.places.heights p) → start ≡ length_at now.marks p +ℤ length_at heights p → WithMargin now.strut strut bottom
+      → IsAt parents blocks clear_edges y (record now { heights = heights; start = start; strut = strut }) (slice_index parents p) m
+  close_joined heights strut start truth joined before wrote starts holds = record {
+    so_far = so_far_closed parents tree y p m positive lt within inside now.through now.heights heights now.marks now.first truth wrote was.so_far;
+    in_run = record {
+      gathered = gathered_joined parents tree blocks y.runs is.has_runs p m positive lt within ends inside now.first was.in_run.gathered joined;
+      strut_holds = holds_joined strut joined holds;
+      start_is = λ f. starts ∙ sum_two (length_at now.marks p) (length_at y.places.marks p) (length_at heights p) (length_at y.places.heights p) (was.so_far.marked.stands p before code_open truth) wrote.here ∙ sym (start_up ∙ rw truth refl);
+      hanging = λ t. absurd (true_false now.hangs t (not_hanging before));
+    };
+  }

@@ -13,14 +13,16 @@ pub mod Truths
 pub mod BlockKinds
 pub mod RunEntries
 pub mod RunFacts
+pub mod GatheredRuns
+pub mod CollapsedThrough
 pub mod LayoutFacts
+pub mod SoFar
+pub mod RunReach
 pub mod Openings
 pub mod Closings
 pub mod WholePass
 pub mod StrutBounds
 pub mod ContentEnds
-pub mod GatheredRuns
-pub mod CollapsedThrough
 pub mod PositionFacts
 pub mod LookAhead
 pub mod LookAheadSteps
@@ -35,6 +37,8 @@ pub mod FloatLists
 pub mod FlowPlaces
 pub mod WroteColumns
 pub mod PassSteps
+pub mod ClearedFloats
+pub mod ClearSteps
 pub mod PassEnds
 pub mod PositionsUpTo
 pub mod OneClearance

@@ -1,202 +1,221 @@
 -- A box is opened.
-use Rattle.std.proofs.Common.{◌≡◌, ℕ, zero, suc, ◌+◌, ◌<◌, ◌≤◌, not, nat_lt, Bool, true, false, ℤ, ◌+ℤ◌, List, [], ◌∷◌, ◌++◌, length, slice_index, refl, sym, ap, ◌∙◌, arith, inl, inr, None}
-use Rattle.lay_doc.specs.Tree.{IsTree}
+use Rattle.std.proofs.Common.{◌≡◌, ℕ, zero, suc, ◌+◌, ◌<◌, ◌≤◌, not, nat_lt, Bool, true, false, ℤ, ◌+ℤ◌, ◌-ℤ◌, List, [], ◌∷◌, ◌++◌, length, slice_index, refl, sym, ap, ◌∙◌, arith, inl, inr, subst}
 use Rattle.std.proofs.lemmas.Bool.{cases_lt}
+use Rattle.std.proofs.lemmas.Int.{ints}
 use Rattle.lay_units.specs.declared.length.Unit.{Unit as Length}
 use Rattle.lay_margins.specs.StrutValue.{StrutValue}
 use Rattle.lay_margins.specs.Collapse.{Holds, collapse}
-use Rattle.lay_flow.specs.Children.{last_child, flag_at}
-use Rattle.lay_flow.specs.MarginRuns.{Entry, margin, mark, margins, has_top, is_barred, block_at, run_at, parts_tops, run_before, run_across}
-use Rattle.lay_flow.specs.StackedBlocks.{length_at}
-use Rattle.lay_flow.specs.BlockLayout.{BlockLayout, IsBlockLayout, HasNoClearance}
+use Rattle.lay_doc.specs.Tree.{IsTree}
 use Rattle.lay_flow.specs.declared.block.Block.{Block}
-use Rattle.lay_flow.specs.BlockPass.{Waits, Settled, PassState, IsAt}
-use Rattle.lay_flow.proofs.ChildPlaces.{not_child, child_is, last_none, next_some}
-use Rattle.lay_flow.proofs.LayoutFacts.{coming_first, start_first, going_into, lead_is, rise_is, start_is, low_not, low_yes, settled_marked}
-use Rattle.lay_flow.proofs.RunEntries.{margins-append, not_barred, top_there, top_here, top_none}
+use Rattle.lay_flow.specs.StackedBlocks.{length_at}
+use Rattle.lay_flow.specs.Children.{flag_at}
+use Rattle.lay_flow.specs.MarginRuns.{Entry, margin, mark, margins, has_top, block_at, run_at, parts_tops, to_top, run_before, run_across}
+use Rattle.lay_flow.specs.Gathered.{Gathered, Holds as Contains}
+use Rattle.lay_flow.specs.BlockPositions.{start_before}
+use Rattle.lay_flow.specs.BlockLayout.{BlockLayout, IsBlockLayout}
+use Rattle.lay_flow.specs.BlockPass.{Settled, PassState, IsInRun, IsAt, BeginsRun, IsBefore}
+use Rattle.lay_flow.proofs.CollapsedThrough.{through_inside}
+use Rattle.lay_flow.proofs.GatheredRuns.{childless, next_here, open_plain, open_cleared, open_parting}
+use Rattle.lay_flow.proofs.LayoutFacts.{start_first, start_flows, start_clears, mark_standing}
+use Rattle.lay_flow.specs.MarginPlace.{IsPlace}
+use Rattle.lay_flow.proofs.RunEntries.{margins-append}
+use Rattle.lay_flow.proofs.RunFacts.{first_comes, goes_in, ends_above, lead_goes_on, lead_begins, top_run_is}
+use Rattle.lay_flow.proofs.RunReach.{RunEnds, mark_here, waiting_open, tops_here, reach_is}
+use Rattle.lay_flow.proofs.SoFar.{so_far_opened, so_far_settled}
+use Rattle.lay_flow.proofs.Truths.{true_false, true_or, low_not, low_yes}
 
 abbrev pub pushed : PassState → StrutValue → PassState
 pushed now strut = record now { strut = strut }
 
-pub true_false : (b : Bool) → b ≡ true → b ≡ false → ⊥
-true_false b t f = grind (arith, t, f)
+-- the strut with the top margin of a box
+abbrev pub WithMargin : StrutValue → StrutValue → ℤ → Type 0
+WithMargin old new v = (ms : List ℤ) → Holds old ms → Holds new (ms ++ v ∷ [])
 
-module _ (parents : List ℕ) (blocks : List Block) (extents clear_edges : List Length) (y : BlockLayout) (is : IsBlockLayout parents blocks extents clear_edges y) (never : HasNoClearance y) (tree : IsTree parents) where
-  pub lead_top : (now : PassState) (k : ℕ) → 0 < k → k < length parents → IsAt parents blocks y now (slice_index parents k) k → has_top (slice_index parents k) (run_at y.runs.before_tops k) ≡ not (nat_lt (slice_index parents k) now.first)
-  lead_top now k positive within was = elim (cases_lt (slice_index parents k) now.first) [
-    | inl low ↦ (let b = low_yes (slice_index parents k) now.first low in
-        ap (has_top (slice_index parents k)) (lead_is parents blocks extents clear_edges y is never k positive within) ∙ was.older (slice_index parents k) low ∙ sym b)
-    | inr high ↦ ap (has_top (slice_index parents k)) (lead_is parents blocks extents clear_edges y is never k positive within) ∙ was.own (slice_index parents k) high was.parent ∙ sym (low_not (slice_index parents k) now.first high)
+pub wall_stands : (parents : List ℕ) (blocks : List Block) (extents clear_edges : List Length) (y : BlockLayout) → IsBlockLayout parents blocks extents clear_edges y
+    → (k : ℕ) → 0 < k → k < length parents → parts_tops blocks k ≡ true → flag_at y.runs.through k ≡ false
+wall_stands parents blocks extents clear_edges y is zero positive within wall = absurd (omega (arith, positive))
+wall_stands parents blocks extents clear_edges y is (suc k) positive within wall = let e = is.has_runs.through (suc k) within in grind (arith, e, wall)
+
+-- the place before the top margin of a box
+pub place_above : (parents : List ℕ) (blocks : List Block) (clear_edges : List Length) (y : BlockLayout) (now : PassState) (k : ℕ) → IsInRun parents blocks clear_edges y now (slice_index parents k) k → IsPlace parents (slice_index parents k) k
+place_above parents blocks clear_edges y now k run = record { parent = run.gathered.parent; within = run.gathered.within; inside = run.gathered.inside; next = λ w. omega arith }
+
+module _ (parents : List ℕ) (blocks : List Block) (extents clear_edges : List Length) (y : BlockLayout) (is : IsBlockLayout parents blocks extents clear_edges y) (tree : IsTree parents)
+    (k : ℕ) (positive : 0 < k) (within : k < length parents) where
+  abbrev c : List Entry
+  c = run_before parents blocks y.runs (slice_index parents k) k
+
+  up : slice_index parents k < k
+  up = tree.before k positive within
+
+  abbrev top : ℤ
+  top = (block_at blocks k).margin_top.0
+
+  to_top_here : parts_tops blocks k ≡ false → run_before parents blocks y.runs k (k + 1) ≡ to_top blocks y.runs k
+  to_top_here plain = first_comes parents blocks y.runs k (k + 1) (childless parents tree blocks y.runs is.has_runs k positive within) ∙ rw plain refl
+
+  start_here : parts_tops blocks k ≡ false → start_before parents blocks y.runs y.places k (k + 1) ≡ length_at y.places.starts k
+  start_here plain = start_first parents blocks y.runs y.places k (k + 1) (childless parents tree blocks y.runs is.has_runs k positive within) ∙ rw plain refl
+
+  top_margins : flag_at y.runs.clears k ≡ false → margins (to_top blocks y.runs k) ≡ margins c ++ top ∷ []
+  top_margins unclear = ap (λ (xs : List Entry). margins (xs ++ mark k ∷ margin top ∷ [])) (lead_goes_on parents blocks y.runs is.has_runs k positive within unclear) ∙ margins-append c (mark k ∷ margin top ∷ [])
+
+  contains_more : (first : ℕ) → first ≤ slice_index parents k → Contains parents first k → Contains parents first (k + 1)
+  contains_more first le holds i low high = elim (cases_lt i k) [
+    | inl before ↦ holds i low before
+    | inr here ↦ (let e : i ≡ k = omega (arith, here, high) in rw e le)
   ]
 
-  pub into_next : (now : PassState) (k : ℕ) → 0 < k → k < length parents → IsAt parents blocks y now (slice_index parents k) k → run_across parents blocks y.runs (slice_index parents k) k ≡ run_at y.runs.top_runs k
-  into_next now k positive within was =
-      going_into parents blocks extents clear_edges y is never (slice_index parents k) k k (next_some parents (slice_index parents k) k k (length parents) (omega arith) within (child_is parents (slice_index parents k) k was.parent refl) (λ j a b. absurd (omega (arith, a, b))))
-
-  pub nothing_yet : (k : ℕ) → last_child parents k (k + 1) ≡ None
-  nothing_yet k = last_none parents k (k + 1) (λ j lt. not_child parents k j (λ low e. omega (arith, lt, low)))
-
-  pub opened : (now : PassState) (k : ℕ) (strut : StrutValue) → 0 < k → k < length parents → parts_tops blocks k ≡ false → IsAt parents blocks y now (slice_index parents k) k
-      → Holds strut (margins (run_before parents blocks y.runs (slice_index parents k) k) ++ (block_at blocks k).margin_top.0 ∷ [])
-      → IsAt parents blocks y (pushed now strut) k (k + 1)
-  opened now k strut positive within unwalled was holds =
-      let p : ℕ = slice_index parents k in
-      let c : List Entry = run_before parents blocks y.runs p k in
-      let lead = lead_is parents blocks extents clear_edges y is never k positive within in
-      let none = nothing_yet k in
-      let come : run_before parents blocks y.runs k (k + 1) ≡ c ++ mark k ∷ margin (block_at blocks k).margin_top.0 ∷ [] =
-      coming_first parents blocks extents clear_edges y is never k (k + 1) none ∙ rw (unwalled, lead) refl in
-      let rise : run_at y.runs.top_runs k ≡ run_across parents blocks y.runs k (k + 1) = rise_is parents blocks extents clear_edges y is never k positive within ∙ rw unwalled refl in
-      let start : length_at y.places.starts k ≡ now.start = start_is parents blocks extents clear_edges y is never k positive within ∙ sym was.start_is in
-      record {
-        marks_length = was.marks_length;
-        heights_length = was.heights_length;
-        through_length = was.through_length;
-        within = omega (arith, within);
-        parent = omega arith;
-        first_least = was.first_least;
-        first_most = let f = was.first_most in omega (arith, f);
-        inside = λ i a b. absurd (omega (arith, a, b));
-        strut_holds = let e = ap margins come ∙ margins-append c (mark k ∷ margin (block_at blocks k).margin_top.0 ∷ []) in rw e holds;
-        start_is = sym start ∙ sym (start_first parents blocks extents clear_edges y is never k (k + 1) none ∙ rw unwalled refl);
-        unbarred = λ q. ap (is_barred parents q) come ∙ not_barred parents q c (mark k ∷ margin (block_at blocks k).margin_top.0 ∷ []) (was.unbarred q) refl;
-        own = λ j a b. ap (has_top j) come ∙ elim (cases_lt j k) [
-          | inl lt ↦ top_there j k (block_at blocks k).margin_top.0 c (was.own j a lt)
-          | inr ge ↦ (let e : j ≡ k = omega (arith, b, ge) in rw e (top_here k (block_at blocks k).margin_top.0 c))
-        ];
-        older = λ j a. let f = was.first_most in ap (has_top j) come ∙ top_none j k (block_at blocks k).margin_top.0 c (was.older j a) (λ e. omega (arith, a, f, e));
-        waits = λ j a b code. elim (cases_lt j k) [
-          | inl lt ↦ (let w = was.waits j a lt code in let u = w.above in let par = was.parent in record {
-            rise = w.rise ∙ into_next now k positive within was ∙ rise;
-            start_is = w.start_is;
-            above = omega (arith, u, par);
-            holds = λ i low high. elim (cases_lt i k) [
-              | inl before ↦ w.holds i low before
-              | inr here ↦ (let e : i ≡ k = omega (arith, here, high) in rw e u)
-            ];
-          })
-          | inr ge ↦ (let e : j ≡ k = omega (arith, b, ge) in record {
-            rise = ap (run_at y.runs.top_runs) e ∙ rise;
-            start_is = ap (length_at y.places.starts) e ∙ start;
-            above = omega (arith, e);
-            holds = λ i low high. absurd (omega (arith, e, low, high));
-          })
-        ];
-        inherits = λ j a b. elim (cases_lt j k) [
-          | inl lt ↦ was.inherits j a lt
-          | inr ge ↦ (let e : j ≡ k = omega (arith, b, ge) in rw e (lead_top now k positive within was))
-        ];
-        passed = λ j b code. elim (cases_lt j k) [
-          | inl lt ↦ was.passed j lt code
-          | inr ge ↦ absurd (true_false (flag_at now.through j) code (was.fresh j ge))
-        ];
-        closed = λ j a b. absurd (omega (arith, a, b));
-        gone = λ j i a b lower. elim (cases_lt i k) [
-          | inl lt ↦ was.gone j i a lt lower
-          | inr ge ↦ (let e : i ≡ k = omega (arith, b, ge) in was.closed j (rw e at lower) (omega (arith, a, e)))
-        ];
-        marked = was.marked;
-        kept = λ j b code top. elim (cases_lt j k) [
-          | inl lt ↦ was.kept j lt code top
-          | inr ge ↦ absurd (true_false (flag_at now.through j) code (was.fresh j ge))
-        ];
-        fresh = λ j a. was.fresh j (omega (arith, a));
-        open_yet = λ j a holds. elim (cases_lt j k) [
-          | inl lt ↦ was.open_yet j (holds k lt (omega arith)) (λ i low high. holds i low (omega (arith, high)))
-          | inr ge ↦ was.fresh j ge
-        ];
+  pub opened : (now : PassState) (strut : StrutValue) → parts_tops blocks k ≡ false → WithMargin now.strut strut top → IsBefore parents blocks clear_edges y now k → IsAt parents blocks clear_edges y (pushed now strut) k (k + 1)
+  opened now strut plain holds was = record { so_far = so_far_opened parents tree y now.through now.heights now.marks now.first k positive within was.so_far; in_run = elim was.run [ inl both ↦ goes_on both.0 both.1 | inr begins ↦ hangs begins ] }
+    where
+      goes_on : flag_at y.runs.clears k ≡ false → IsInRun parents blocks clear_edges y now (slice_index parents k) k → IsInRun parents blocks clear_edges y (pushed now strut) k (k + 1)
+      goes_on unclear run = record {
+        gathered = open_plain parents tree blocks y.runs is.has_runs k positive within now.first run.gathered plain unclear;
+        strut_holds = let e = ap margins (to_top_here plain) ∙ top_margins unclear in rw e (holds (margins c) run.strut_holds);
+        start_is = λ f. run.start_is f ∙ sym (start_flows parents blocks extents clear_edges y is k positive within unclear) ∙ sym (start_here plain);
+        hanging = λ t. let h = run.hanging t in let le = h.open_yet in let u = up in record { clears = h.clears; edge = h.edge; open_yet = omega (arith, le, u); contains = contains_more now.first le h.contains };
       }
 
-  pub wall_stands : (k : ℕ) → 0 < k → k < length parents → parts_tops blocks k ≡ true → flag_at y.runs.through k ≡ false
-  wall_stands zero positive within wall = absurd (omega (arith, positive))
-  wall_stands (suc k) positive within wall = let e = is.has_runs.through (suc k) within in grind (arith, e, wall)
+      hangs : BeginsRun clear_edges y now k → IsInRun parents blocks clear_edges y (pushed now strut) k (k + 1)
+      hangs begins =
+          let same = begins.first_is in
+          let lead = lead_begins parents blocks y.runs is.has_runs k positive within begins.clears in
+          let one : margins (run_before parents blocks y.runs k (k + 1)) ≡ top ∷ [] = ap margins (to_top_here plain) ∙ ap (λ (xs : List Entry). margins (xs ++ mark k ∷ margin top ∷ [])) lead in
+          record {
+            gathered = subst (λ (f : ℕ). Gathered parents blocks y.runs f k (k + 1)) (sym same) (open_cleared parents tree blocks y.runs is.has_runs k positive within plain begins.clears);
+            strut_holds = rw one (holds [] begins.strut_holds);
+            start_is = λ f. absurd (true_false now.hangs begins.hangs f);
+            hanging = λ t. record {
+              clears = ap (flag_at y.runs.clears) same ∙ begins.clears;
+              edge = begins.edge ∙ sym (ap (length_at clear_edges) same);
+              open_yet = omega (arith, same);
+              contains = λ i low high. absurd (omega (arith, same, low, high));
+            };
+          }
 
-  pub settled_kept : (flags : List Bool) (old new : List Length) (f m : ℕ) (end : ℤ)
-      → ((j : ℕ) → f ≤ j → j < m → has_top (slice_index parents j) (run_at y.runs.before_tops j) ≡ not (nat_lt (slice_index parents j) f))
-      → Settled parents flags old new f m end
-      → (j : ℕ) → j < m → flag_at flags j ≡ true → has_top (slice_index parents j) (run_at y.runs.before_tops j) ≡ false → length_at old j ≡ length_at y.places.marks j → length_at new j ≡ length_at y.places.marks j
-  settled_kept flags old new f m end tops settled j lt code top same = elim (cases_lt j f) [
-    | inl low ↦ settled.before j low ∙ same
-    | inr high ↦ elim (cases_lt (slice_index parents j) f) [
-      | inl earlier ↦ settled.keeps j high lt code earlier ∙ same
-      | inr over ↦ (let a : not (nat_lt (slice_index parents j) f) ≡ false = sym (tops j high lt) ∙ top in absurd (true_false (not (nat_lt (slice_index parents j) f)) (low_not (slice_index parents j) f over) a))
-    ]
-  ]
+  -- where the run ends, before an edge of the box
+  module _ (now : PassState) (strut : StrutValue) (end : ℤ) (wall : parts_tops blocks k ≡ true) (holds : WithMargin now.strut strut top) (ends : RunEnds now.hangs now.start strut end) (was : IsBefore parents blocks clear_edges y now k) where
+    stands : flag_at y.runs.through k ≡ false
+    stands = wall_stands parents blocks extents clear_edges y is k positive within wall
 
-  pub opened_wall : (now : PassState) (k : ℕ) (marks : List Length) (strut : StrutValue) (start : ℤ) → Holds strut [] → 0 < k → k < length parents → parts_tops blocks k ≡ true → IsAt parents blocks y now (slice_index parents k) k
-      → Settled parents now.through now.marks marks now.first (k + 1) (now.start +ℤ collapse (margins (run_before parents blocks y.runs (slice_index parents k) k) ++ (block_at blocks k).margin_top.0 ∷ []))
-      → start ≡ length_at marks k +ℤ (block_at blocks k).edge_top.0
-      → IsAt parents blocks y (record now { marks = marks; start = start; strut = strut; first = k + 1 }) k (k + 1)
-  opened_wall now k marks strut start empty positive within wall was settled start_is' =
-      let p : ℕ = slice_index parents k in
-      let c : List Entry = run_before parents blocks y.runs p k in
-      let lead = lead_is parents blocks extents clear_edges y is never k positive within in
-      let none = nothing_yet k in
-      let run : List Entry = c ++ mark k ∷ margin (block_at blocks k).margin_top.0 ∷ [] in
-      let come : run_before parents blocks y.runs k (k + 1) ≡ [] = coming_first parents blocks extents clear_edges y is never k (k + 1) none ∙ rw wall refl in
-      let rise : run_at y.runs.top_runs k ≡ run = rise_is parents blocks extents clear_edges y is never k positive within ∙ rw (wall, lead) refl in
-      let start_k : length_at y.places.starts k ≡ now.start = start_is parents blocks extents clear_edges y is never k positive within ∙ sym was.start_is in
-      let code : flag_at now.through k ≡ false = was.fresh k (omega arith) in
-      let f : now.first ≤ k = was.first_most in
-      let par : p < k = was.parent in
-      let waits : (j : ℕ) → now.first ≤ j → j < k + 1 → flag_at now.through j ≡ false → Waits parents y now.start run k (k + 1) j = λ j a b code. elim (cases_lt j k) [
-        | inl lt ↦ (let w = was.waits j a lt code in let u = w.above in record {
-          rise = w.rise ∙ into_next now k positive within was ∙ rise;
-          start_is = w.start_is;
-          above = omega (arith, u, par);
-          holds = λ i low high. elim (cases_lt i k) [
-            | inl before ↦ w.holds i low before
-            | inr here ↦ (let e : i ≡ k = omega (arith, here, high) in rw e u)
-          ];
-        })
-        | inr ge ↦ (let e : j ≡ k = omega (arith, b, ge) in record {
-          rise = ap (run_at y.runs.top_runs) e ∙ rise;
-          start_is = ap (length_at y.places.starts) e ∙ start_k;
-          above = omega (arith, e);
-          holds = λ i low high. absurd (omega (arith, e, low, high));
-        })
-      ] in
-      let tops : (j : ℕ) → now.first ≤ j → j < k + 1 → has_top (slice_index parents j) (run_at y.runs.before_tops j) ≡ not (nat_lt (slice_index parents j) now.first) = λ j a b. elim (cases_lt j k) [
-        | inl lt ↦ was.inherits j a lt
-        | inr ge ↦ (let e : j ≡ k = omega (arith, b, ge) in rw e (lead_top now k positive within was))
-      ] in
-      let end_is : (now.start +ℤ collapse (margins c ++ (block_at blocks k).margin_top.0 ∷ [])) ≡ now.start +ℤ collapse (margins run) = ap (λ (xs : List ℤ). now.start +ℤ collapse xs) (sym (margins-append c (mark k ∷ margin (block_at blocks k).margin_top.0 ∷ []))) in
-      let marked = settled_marked parents blocks extents clear_edges y is never tree now.through now.marks marks now.start (now.start +ℤ collapse (margins c ++ (block_at blocks k).margin_top.0 ∷ [])) run k now.first (k + 1)
-      was.first_least (omega (arith, f)) (omega (arith, within)) waits tops end_is settled was.marked in
-      record {
-        marks_length = settled.length_is ∙ was.marks_length;
-        heights_length = was.heights_length;
-        through_length = was.through_length;
-        within = omega (arith, within);
-        parent = omega arith;
-        first_least = omega arith;
-        first_most = omega arith;
-        inside = λ i a b. absurd (omega (arith, a, b));
-        strut_holds = let e = ap margins come in rw e empty;
-        start_is = start_is' ∙ ap (λ (v : ℤ). v +ℤ (block_at blocks k).edge_top.0) (marked.stands k (omega arith) code (wall_stands k positive within wall))
-            ∙ sym (start_first parents blocks extents clear_edges y is never k (k + 1) none ∙ rw wall refl);
-        unbarred = λ q. ap (is_barred parents q) come;
-        own = λ j a b. absurd (omega (arith, a, b));
-        older = λ j a. ap (has_top j) come;
-        waits = λ j a b c. absurd (omega (arith, a, b));
-        inherits = λ j a b. absurd (omega (arith, a, b));
-        passed = λ j b code. elim (cases_lt j k) [
-          | inl lt ↦ was.passed j lt code
-          | inr ge ↦ absurd (true_false (flag_at now.through j) code (was.fresh j ge))
-        ];
-        closed = λ j a b. absurd (omega (arith, a, b));
-        gone = λ j i a b lower. elim (cases_lt i k) [
-          | inl lt ↦ was.gone j i a lt lower
-          | inr ge ↦ (let e : i ≡ k = omega (arith, b, ge) in was.closed j (rw e at lower) (omega (arith, a, e)))
-        ];
-        marked = marked;
-        kept = λ j b code top. elim (cases_lt j k) [
-          | inl lt ↦ settled_kept now.through now.marks marks now.first (k + 1) _ tops settled j b code top (was.kept j lt code top)
-          | inr ge ↦ absurd (true_false (flag_at now.through j) code (was.fresh j ge))
-        ];
-        fresh = λ j a. was.fresh j (omega (arith, a));
-        open_yet = λ j a holds. elim (cases_lt j k) [
-          | inl lt ↦ was.open_yet j (holds k lt (omega arith)) (λ i low high. holds i low (omega (arith, high)))
-          | inr ge ↦ was.fresh j ge
-        ];
-      }
+    rise_here : run_at y.runs.top_runs k ≡ to_top blocks y.runs k
+    rise_here = top_run_is parents blocks y.runs is.has_runs k positive within ∙ rw wall refl
+
+    pub ends_wall : (j : ℕ) → now.first ≤ j → j < k + 1 → flag_at now.through j ≡ false → flag_at y.runs.through j ≡ false → length_at y.places.marks j ≡ end
+    ends_wall j a b code truth = elim was.run [ inl both ↦ goes_on both.0 both.1 | inr begins ↦ hangs begins ]
+      where
+        hangs : BeginsRun clear_edges y now k → length_at y.places.marks j ≡ end
+        hangs begins =
+            let f = begins.first_is in
+            let same : j ≡ k = omega (arith, a, b, f) in
+            ap (length_at y.places.marks) same ∙ mark_standing parents blocks extents clear_edges y is k positive within stands
+            ∙ minus_plus (length_at y.places.starts k) (length_at clear_edges k) (collapse (margins (run_at y.runs.top_runs k))) (start_clears parents blocks extents clear_edges y is k positive within begins.clears stands)
+            ∙ sym begins.edge ∙ sym (ends.hanging begins.hangs)
+          where
+            minus_plus : (s e c : ℤ) → s ≡ e -ℤ c → s +ℤ c ≡ e
+            minus_plus s e c h = omega (arith, ints, h)
+
+        goes_on : flag_at y.runs.clears k ≡ false → IsInRun parents blocks clear_edges y now (slice_index parents k) k → length_at y.places.marks j ≡ end
+        goes_on unclear run =
+            let at = place_above parents blocks clear_edges y now k run in
+            let into : run_across parents blocks y.runs (slice_index parents k) k ≡ run_at y.runs.top_runs k = goes_in parents blocks y.runs (slice_index parents k) k k (next_here parents tree blocks y.runs is.has_runs k positive within) unclear in
+            let whole : margins (run_across parents blocks y.runs (slice_index parents k) k) ≡ margins c ++ top ∷ [] = ap margins (into ∙ rise_here) ∙ top_margins unclear in
+            let reach = reach_is parents blocks extents clear_edges y is tree now (slice_index parents k) k run at strut end ends (rw whole (holds (margins c) run.strut_holds)) (λ t. opened_stands t) in
+            elim (cases_lt j k) [
+              | inl lt ↦ (let open_yet = waiting_open parents blocks extents clear_edges y is tree now (slice_index parents k) k run at was.so_far j a lt code in
+                  mark_here parents blocks extents clear_edges y is tree now (slice_index parents k) k run at j a open_yet.0 open_yet.1 truth ∙ sym reach)
+              | inr ge ↦ (let same : j ≡ k = omega (arith, b, ge) in
+                  let start = start_flows parents blocks extents clear_edges y is k positive within unclear in
+                  ap (length_at y.places.marks) same ∙ mark_standing parents blocks extents clear_edges y is k positive within stands ∙ (λ i. start i +ℤ collapse (margins (sym into i))) ∙ sym reach)
+            ]
+          where
+            opened_stands : now.hangs ≡ true → flag_at y.runs.through now.first ≡ false
+            opened_stands t =
+                let h = run.hanging t in
+                let le = h.open_yet in
+                let u = up in
+                true_or (flag_at y.runs.through now.first) (flag_at y.runs.through now.first ≡ false)
+                (λ through. absurd (true_false (parts_tops blocks k) wall (through_inside parents tree blocks y.runs is.has_runs now.first k run.gathered.least (omega (arith, le, u)) within (contains_more now.first le h.contains) through).unparted))
+                (λ f. f)
+
+    tops_wall : (j : ℕ) → now.first ≤ j → j < k + 1 → has_top (slice_index parents j) (run_at y.runs.before_tops j) ≡ not (nat_lt (slice_index parents j) now.first)
+    tops_wall j a b = elim was.run [ inl both ↦ goes_on both.0 both.1 | inr begins ↦ hangs begins ]
+      where
+        goes_on : flag_at y.runs.clears k ≡ false → IsInRun parents blocks clear_edges y now (slice_index parents k) k → has_top (slice_index parents j) (run_at y.runs.before_tops j) ≡ not (nat_lt (slice_index parents j) now.first)
+        goes_on unclear run = elim (cases_lt j k) [
+          | inl lt ↦ tops_here parents blocks extents clear_edges y is tree now (slice_index parents k) k run (place_above parents blocks clear_edges y now k run) j a lt
+          | inr ge ↦ (let same : j ≡ k = omega (arith, b, ge) in subst (λ (j : ℕ). has_top (slice_index parents j) (run_at y.runs.before_tops j) ≡ not (nat_lt (slice_index parents j) now.first)) (sym same) here)
+        ]
+          where
+            here : has_top (slice_index parents k) (run_at y.runs.before_tops k) ≡ not (nat_lt (slice_index parents k) now.first)
+            here = ap (has_top (slice_index parents k)) (lead_goes_on parents blocks y.runs is.has_runs k positive within unclear) ∙ elim (cases_lt (slice_index parents k) now.first) [
+              | inl low ↦ run.gathered.older (slice_index parents k) low ∙ sym (low_yes (slice_index parents k) now.first low)
+              | inr high ↦ run.gathered.own (slice_index parents k) high up ∙ sym (low_not (slice_index parents k) now.first high)
+            ]
+
+        hangs : BeginsRun clear_edges y now k → has_top (slice_index parents j) (run_at y.runs.before_tops j) ≡ not (nat_lt (slice_index parents j) now.first)
+        hangs begins =
+            let f = begins.first_is in
+            let same : j ≡ k = omega (arith, a, b, f) in
+            let u = up in
+            subst (λ (j : ℕ). has_top (slice_index parents j) (run_at y.runs.before_tops j) ≡ not (nat_lt (slice_index parents j) now.first)) (sym same)
+            (ap (has_top (slice_index parents k)) (lead_begins parents blocks y.runs is.has_runs k positive within begins.clears) ∙ sym (low_yes (slice_index parents k) now.first (omega (arith, f, u))))
+
+    first_least : 0 < now.first
+    first_least = elim was.run [ inl both ↦ both.1.gathered.least | inr begins ↦ (let f = begins.first_is in omega (arith, f, positive)) ]
+
+    first_most : now.first ≤ k
+    first_most = elim was.run [ inl both ↦ both.1.gathered.most | inr begins ↦ (let f = begins.first_is in omega (arith, f)) ]
+
+    pub opened_wall : (marks : List Length) (empty_strut : StrutValue) (start : ℤ) → Holds empty_strut [] → Settled parents now.through now.marks marks now.first (k + 1) end → start ≡ length_at marks k +ℤ (block_at blocks k).edge_top.0
+        → IsAt parents blocks clear_edges y (record now { marks = marks; start = start; strut = empty_strut; first = k + 1; hangs = false }) k (k + 1)
+    opened_wall marks empty_strut start empty settled starts =
+        let f = first_most in
+        let e = childless parents tree blocks y.runs is.has_runs k positive within in
+        let come : run_before parents blocks y.runs k (k + 1) ≡ [] = first_comes parents blocks y.runs k (k + 1) e ∙ rw wall refl in
+        let so_far = so_far_settled parents tree y now.through now.heights now.marks marks now.first k (k + 1) end first_least (omega (arith, f)) (omega (arith, within)) tops_wall ends_wall settled
+        (so_far_opened parents tree y now.through now.heights now.marks now.first k positive within was.so_far) in
+        record {
+          so_far = so_far;
+          in_run = record {
+            gathered = open_parting parents tree blocks y.runs is.has_runs k positive within wall;
+            strut_holds = let m = ap margins come in rw m empty;
+            start_is = λ f. starts ∙ ap (λ (v : ℤ). v +ℤ (block_at blocks k).edge_top.0) (so_far.marked.stands k (omega arith) (was.so_far.fresh k (omega arith)) stands)
+                ∙ sym (start_first parents blocks y.runs y.places k (k + 1) e ∙ rw wall refl);
+            hanging = λ t. absurd (true_false false t refl);
+          };
+        }
+
+  -- where the run ends, before the clearance of the box
+  module _ (now : PassState) (end : ℤ) (clears : flag_at y.runs.clears k ≡ true) (ends : RunEnds now.hangs now.start now.strut end) (was : IsAt parents blocks clear_edges y now (slice_index parents k) k) where
+    at_above : IsPlace parents (slice_index parents k) k
+    at_above = place_above parents blocks clear_edges y now k was.in_run
+
+    across : run_across parents blocks y.runs (slice_index parents k) k ≡ run_before parents blocks y.runs (slice_index parents k) k
+    across = ends_above parents blocks y.runs (slice_index parents k) k k (next_here parents tree blocks y.runs is.has_runs k positive within) clears
+
+    before_stands : now.hangs ≡ true → flag_at y.runs.through now.first ≡ false
+    before_stands t =
+        let h = was.in_run.hanging t in
+        let le = h.open_yet in
+        let u = up in
+        true_or (flag_at y.runs.through now.first) (flag_at y.runs.through now.first ≡ false)
+        (λ through. absurd (true_false (flag_at y.runs.clears k) clears (through_inside parents tree blocks y.runs is.has_runs now.first k was.in_run.gathered.least (omega (arith, le, u)) within (contains_more now.first le h.contains) through).unclear))
+        (λ f. f)
+
+    ends_cleared : (j : ℕ) → now.first ≤ j → j < k → flag_at now.through j ≡ false → flag_at y.runs.through j ≡ false → length_at y.places.marks j ≡ end
+    ends_cleared j a b code truth =
+        let whole = ap margins across in
+        let reach = reach_is parents blocks extents clear_edges y is tree now (slice_index parents k) k was.in_run at_above now.strut end ends (rw whole was.in_run.strut_holds) before_stands in
+        let open_yet = waiting_open parents blocks extents clear_edges y is tree now (slice_index parents k) k was.in_run at_above was.so_far j a b code in
+        mark_here parents blocks extents clear_edges y is tree now (slice_index parents k) k was.in_run at_above j a open_yet.0 open_yet.1 truth ∙ sym reach
+
+    -- the clearance begins a run
+    pub opened_cleared : (marks edges : List Length) (flags : List Bool) (empty_strut : StrutValue) (edge : ℤ) → Holds empty_strut [] → Settled parents now.through now.marks marks now.first k end → edge ≡ length_at clear_edges k
+        → IsBefore parents blocks clear_edges y (record now { marks = marks; clears = flags; clear_edges = edges; start = edge; strut = empty_strut; first = k; hangs = true }) k
+    opened_cleared marks edges flags empty_strut edge empty settled edge_is = record {
+      so_far = so_far_settled parents tree y now.through now.heights now.marks marks now.first (slice_index parents k) k end was.in_run.gathered.least was.in_run.gathered.most (omega (arith, within))
+          (tops_here parents blocks extents clear_edges y is tree now (slice_index parents k) k was.in_run at_above) ends_cleared settled was.so_far;
+      run = inr (record { clears = clears; first_is = refl; hangs = refl; edge = edge_is; strut_holds = empty });
+    }

@@ -1,5 +1,5 @@
 -- The numbers of a pass stay within their bounds.
-use Rattle.std.proofs.Common.{◌≡◌, ℕ, zero, suc, ◌+◌, ◌<◌, ◌≤◌, Bool, true, false, ℤ, pos, neg_ℤ, ◌≤ℤ◌, ◌+ℤ◌, List, length, slice_index, sym, ◌∙◌, arith, inl, inr, subst}
+use Rattle.std.proofs.Common.{◌≡◌, ℕ, zero, suc, ◌+◌, ◌<◌, ◌≤◌, Bool, true, false, ℤ, pos, neg_ℤ, ◌≤ℤ◌, ◌+ℤ◌, ◌-ℤ◌, List, length, slice_index, refl, sym, ◌∙◌, arith, inl, inr, subst}
 use Rattle.std.proofs.lemmas.Bool.{cases_lt, cases_eq}
 use Rattle.std.proofs.lemmas.Int.{ints}
 use Rattle.lay_units.specs.Units.{IsPosition}
@@ -10,30 +10,57 @@ use Rattle.lay_flow.specs.declared.block.Block.{Block}
 use Rattle.lay_flow.specs.StackedBlocks.{length_at}
 use Rattle.lay_flow.specs.CornersTo.{IsInset, IsBoxHeight}
 use Rattle.lay_flow.specs.Children.{flag_at}
-use Rattle.lay_flow.specs.MarginRuns.{parts_tops}
+use Rattle.lay_flow.specs.MarginRuns.{block_at, parts_tops}
+use Rattle.lay_flow.specs.BlockPositions.{is_solid}
 use Rattle.lay_flow.specs.BlockPass.{PassState, Settled}
-use Rattle.lay_flow.specs.PassBounds.{StrutFits, StateFits, IsStartNear, IsMarkNear, IsNear, reach}
+use Rattle.lay_flow.specs.PassBounds.{StrutFits, StateFits, IsStartNear, IsRunNear, IsEdgeNear, IsMarkNear, IsCollapseNear, IsNear, reach}
 use Rattle.lay_flow.proofs.Openings.{pushed}
-use Rattle.lay_flow.proofs.Closings.{Wrote}
-use Rattle.lay_flow.proofs.WholePass.{true_or}
+use Rattle.lay_flow.proofs.SoFar.{Wrote}
+use Rattle.lay_flow.proofs.Truths.{true_false, true_or}
 
-pub start_is_near : (k : ℕ) (v : ℤ) → k ≤ 16384 → IsStartNear k v → IsNear v
+pub start_is_near : (k : ℕ) (v : ℤ) → k ≤ 16384 → IsRunNear k v → IsNear v
 start_is_near k v few near = let a = near.0 in let b = near.1 in (omega (arith, ints, few, a), omega (arith, ints, few, b))
 
 pub mark_is_near : (k : ℕ) (v : ℤ) → k ≤ 16384 → IsMarkNear k v → IsNear v
 mark_is_near k v few near = let a = near.0 in let b = near.1 in (omega (arith, ints, few, a), omega (arith, ints, few, b))
 
 -- a mark at the end of a run, of a box from the run's first one on
-pub end_near : (f k : ℕ) (start end : ℤ) (s : StrutValue) → IsStartNear f start → StrutFits s → end ≡ start +ℤ (s.positive +ℤ s.negative) → f ≤ k → IsMarkNear k end
-end_near f k start end s near fits e le =
-    let a = near.0 in let b = near.1 in let c = fits.positive_least in let d = fits.positive_most in let g = fits.negative_least in let h = fits.negative_most in
-    (omega (arith, ints, a, c, d, g, h, e, le), omega (arith, ints, b, c, d, g, h, e, le))
+pub end_near : (f k : ℕ) (start end : ℤ) → IsRunNear f start → IsCollapseNear (end -ℤ start) → f ≤ k → IsMarkNear k end
+end_near f k start end near collapsed le =
+    let a = near.0 in let b = near.1 in let c = collapsed.0 in let d = collapsed.1 in
+    (omega (arith, ints, a, c, le), omega (arith, ints, b, d, le))
 
 -- the start of a run under a box, or at the top of its content
 pub below_near : (k f : ℕ) (mark height start : ℤ) → IsMarkNear k mark → IsBoxHeight height → start ≡ mark +ℤ height → k < f → IsStartNear f start
 below_near k f mark height start near size e lt =
     let a = near.0 in let b = near.1 in let c = size.0 in let d = size.1 in
     (omega (arith, ints, a, c, d, e, lt), omega (arith, ints, b, c, d, e, lt))
+
+pub run_near : (k : ℕ) (v : ℤ) → IsStartNear k v → IsRunNear k v
+run_near k v near = let a = near.0 in let b = near.1 in (omega (arith, ints, a), omega (arith, ints, b))
+
+pub edge_run_near : (k : ℕ) (v : ℤ) → IsEdgeNear k v → IsRunNear k v
+edge_run_near k v near = let a = near.0 in let b = near.1 in (omega (arith, ints, a), omega (arith, ints, b))
+
+pub start_edge_near : (k : ℕ) (v : ℤ) → IsStartNear k v → IsEdgeNear k v
+start_edge_near k v near = let a = near.0 in let b = near.1 in (omega (arith, ints, a), omega (arith, ints, b))
+
+-- what a run reaches that may begin before the box at k
+pub ahead_near : (k : ℕ) (start end : ℤ) → IsStartNear k start → IsCollapseNear (end -ℤ start) → IsEdgeNear k end
+ahead_near k start end near collapsed = let a = near.0 in let b = near.1 in let c = collapsed.0 in let d = collapsed.1 in (omega (arith, ints, a, c), omega (arith, ints, b, d))
+
+pub later_near : (j k : ℕ) (v : ℤ) → j ≤ k → IsStartNear j v → IsStartNear k v
+later_near j k v le near = let a = near.0 in let b = near.1 in (omega (arith, ints, a, le), omega (arith, ints, b, le))
+
+pub edge_later_near : (j k : ℕ) (v : ℤ) → j < k → IsEdgeNear j v → IsStartNear k v
+edge_later_near j k v lt near = let a = near.0 in let b = near.1 in (omega (arith, ints, a, lt), omega (arith, ints, b, lt))
+
+-- the start of a run that ends near a clear edge
+pub above_near : (k : ℕ) (edge start : ℤ) → IsEdgeNear k edge → IsCollapseNear (edge -ℤ start) → IsRunNear k start
+above_near k edge start near collapsed = let a = near.0 in let b = near.1 in let c = collapsed.0 in let d = collapsed.1 in (omega (arith, ints, a, d), omega (arith, ints, b, c))
+
+pub run_later_near : (j k : ℕ) (v : ℤ) → j < k → IsRunNear j v → IsStartNear k v
+run_later_near j k v lt near = let a = near.0 in let b = near.1 in (omega (arith, ints, a, lt), omega (arith, ints, b, lt))
 
 pub inset_height : (v : ℤ) → IsInset v → IsBoxHeight v
 inset_height v i = let a = i.0 in let b = i.1 in (a, omega (arith, ints, b))
@@ -73,33 +100,55 @@ module _ (parents : List ℕ) (tree : IsTree parents) (blocks : List Block) (now
     heights_length = was.heights_length;
     through_length = was.through_length;
     start_near = was.start_near;
+    edge_near = was.edge_near;
     mark_near = was.mark_near;
     strut_fits = fits;
+    sized = was.sized;
     unparted = λ j low high. elim (cases_lt j k) [
       | inl lt ↦ was.unparted j low lt
       | inr ge ↦ (let e : j ≡ k = omega (arith, ge, high) in subst (λ (j : ℕ). parts_tops blocks j ≡ false) (sym e) plain)
     ];
   }
 
-  pub fits_parting : (k : ℕ) (marks : List Length) (end start edge : ℤ) (strut strut' : StrutValue) → k < length parents → StateFits parents blocks now (slice_index parents k) k
-      → Settled parents now.through now.marks marks now.first (k + 1) end → StrutFits strut → end ≡ now.start +ℤ (strut.positive +ℤ strut.negative) → IsInset edge → start ≡ end +ℤ edge → StrutFits strut'
-      → StateFits parents blocks (record now { marks = marks; start = start; strut = strut'; first = k + 1 }) k (k + 1)
-  fits_parting k marks end start edge strut strut' within was settled fits ended inset starts fits' =
-      let f = was.first_most in
-      record {
-        parent = omega arith;
-        within = omega (arith, within);
-        first_least = omega arith;
-        first_most = omega arith;
-        marks_length = settled.length_is ∙ was.marks_length;
-        heights_length = was.heights_length;
-        through_length = was.through_length;
-        start_near = below_near k (k + 1) end edge start (end_near now.first k now.start end strut was.start_near fits ended f) (inset_height edge inset) starts (omega arith);
-        mark_near = λ j. settled_near parents now.through now.marks marks now.first (k + 1) end tree was.first_least (omega (arith, within)) was.mark_near
-            (λ i le. end_near now.first i now.start end strut was.start_near fits ended le) settled (j + 1) j (omega arith);
-        strut_fits = fits';
-        unparted = λ j low high. absurd (omega (arith, low, high));
-      }
+  pub fits_parting : (k : ℕ) (marks : List Length) (end start : ℤ) (strut' : StrutValue) → k < length parents → StateFits parents blocks now (slice_index parents k) k
+      → Settled parents now.through now.marks marks now.first (k + 1) end → IsCollapseNear (end -ℤ now.start) → IsStartNear (k + 1) start → StrutFits strut'
+      → StateFits parents blocks (record now { marks = marks; start = start; strut = strut'; first = k + 1; hangs = false }) k (k + 1)
+  fits_parting k marks end start strut' within was settled ended near fits' = record {
+    parent = omega arith;
+    within = omega (arith, within);
+    first_least = omega arith;
+    first_most = omega arith;
+    marks_length = settled.length_is ∙ was.marks_length;
+    heights_length = was.heights_length;
+    through_length = was.through_length;
+    start_near = run_near (k + 1) start near;
+    edge_near = λ t. absurd (true_false false t refl);
+    mark_near = λ j. settled_near parents now.through now.marks marks now.first (k + 1) end tree was.first_least (omega (arith, within)) was.mark_near
+        (λ i le. end_near now.first i now.start end was.start_near ended le) settled (j + 1) j (omega arith);
+    strut_fits = fits';
+    sized = was.sized;
+    unparted = λ j low high. absurd (omega (arith, low, high));
+  }
+
+  pub fits_cleared : (k : ℕ) (marks edges : List Length) (flags : List Bool) (end edge : ℤ) (strut' : StrutValue) → 0 < k → StateFits parents blocks now (slice_index parents k) k
+      → Settled parents now.through now.marks marks now.first k end → IsCollapseNear (end -ℤ now.start) → IsEdgeNear k edge → StrutFits strut'
+      → StateFits parents blocks (record now { marks = marks; clears = flags; clear_edges = edges; start = edge; strut = strut'; first = k; hangs = true }) (slice_index parents k) k
+  fits_cleared k marks edges flags end edge strut' positive was settled ended near fits' = record {
+    parent = was.parent;
+    within = was.within;
+    first_least = positive;
+    first_most = omega arith;
+    marks_length = settled.length_is ∙ was.marks_length;
+    heights_length = was.heights_length;
+    through_length = was.through_length;
+    start_near = edge_run_near k edge near;
+    edge_near = λ t. near;
+    mark_near = λ j. settled_near parents now.through now.marks marks now.first k end tree was.first_least was.within was.mark_near
+        (λ i le. end_near now.first i now.start end was.start_near ended le) settled (j + 1) j (omega arith);
+    strut_fits = fits';
+    sized = was.sized;
+    unparted = λ j low high. absurd (omega (arith, low, high));
+  }
 
   module _ (p m : ℕ) (positive : 0 < p) (was : StateFits parents blocks now p m) where
     up_less : slice_index parents p < p
@@ -108,17 +157,34 @@ module _ (parents : List ℕ) (tree : IsTree parents) (blocks : List Block) (now
     up_parent : slice_index parents p < m
     up_parent = let a = was.parent in let b = up_less in omega (arith, a, b)
 
-    written : {A : Type 0} (P : ℕ → A → Type 0) (read : List Length → ℕ → A) (old new : List Length) (v : A) → Wrote read old new p v → P p v → ((j : ℕ) → P j (read old j)) → (j : ℕ) → P j (read new j)
+    pub written : {A : Type 0} (P : ℕ → A → Type 0) (read : List Length → ℕ → A) (old new : List Length) (v : A) → Wrote read old new p v → P p v → ((j : ℕ) → P j (read old j)) → (j : ℕ) → P j (read new j)
     written P read old new v wrote here each j = elim (cases_eq j p) [
       | inl e ↦ (let h = wrote.here in subst (λ (j : ℕ). P j (read new j)) (sym e) (subst (P p) (sym h) here))
       | inr ne ↦ subst (P j) (sym (wrote.other j ne)) (each j)
     ]
 
-    pub fits_through : (marks heights : List Length) (flags : List Bool) (end : ℤ) (strut strut' : StrutValue) → now.first ≤ p
+    pub fits_started : (start : ℤ) → now.hangs ≡ true → IsCollapseNear (now.start -ℤ start) → StateFits parents blocks (record now { start = start; hangs = false }) p m
+    fits_started start hangs collapsed = record {
+      parent = was.parent;
+      within = was.within;
+      first_least = was.first_least;
+      first_most = was.first_most;
+      marks_length = was.marks_length;
+      heights_length = was.heights_length;
+      through_length = was.through_length;
+      start_near = above_near now.first now.start start (was.edge_near hangs) collapsed;
+      edge_near = λ t. absurd (true_false false t refl);
+      mark_near = was.mark_near;
+      strut_fits = was.strut_fits;
+      sized = was.sized;
+      unparted = was.unparted;
+    }
+
+    pub fits_through : (marks heights : List Length) (flags : List Bool) (end : ℤ) (strut' : StrutValue) → now.first ≤ p
         → Wrote length_at now.marks marks p end → Wrote length_at now.heights heights p (pos 0) → Wrote flag_at now.through flags p true
-        → StrutFits strut → end ≡ now.start +ℤ (strut.positive +ℤ strut.negative) → StrutFits strut'
+        → IsCollapseNear (end -ℤ now.start) → StrutFits strut'
         → StateFits parents blocks (record now { marks = marks; heights = heights; through = flags; strut = strut' }) (slice_index parents p) m
-    fits_through marks heights flags end strut strut' waits wrote_mark wrote_height wrote_flag fits ended fits' = record {
+    fits_through marks heights flags end strut' waits wrote_mark wrote_height wrote_flag ended fits' = record {
       parent = up_parent;
       within = was.within;
       first_least = was.first_least;
@@ -127,15 +193,16 @@ module _ (parents : List ℕ) (tree : IsTree parents) (blocks : List Block) (now
       heights_length = wrote_height.length_is ∙ was.heights_length;
       through_length = wrote_flag.length_is ∙ was.through_length;
       start_near = was.start_near;
-      mark_near = written IsMarkNear length_at now.marks marks end wrote_mark (end_near now.first p now.start end strut was.start_near fits ended waits) was.mark_near;
+      edge_near = was.edge_near;
+      mark_near = written IsMarkNear length_at now.marks marks end wrote_mark (end_near now.first p now.start end was.start_near ended waits) was.mark_near;
       strut_fits = fits';
+      sized = written (λ (j : ℕ) (v : ℤ). is_solid (block_at blocks j).inside ≡ false → IsBoxHeight v) length_at now.heights heights (pos 0) wrote_height (λ flow. (omega (arith, ints), omega (arith, ints))) was.sized;
       unparted = was.unparted;
     }
 
-    pub fits_joined : (heights : List Length) (mark height start : ℤ) (strut' : StrutValue) → p < now.first → mark ≡ length_at now.marks p → IsBoxHeight height → start ≡ mark +ℤ height
-        → Wrote length_at now.heights heights p height → StrutFits strut'
+    pub fits_joined : (heights : List Length) (height start : ℤ) (strut' : StrutValue) → IsStartNear now.first start → IsBoxHeight height → Wrote length_at now.heights heights p height → StrutFits strut'
         → StateFits parents blocks (record now { heights = heights; start = start; strut = strut' }) (slice_index parents p) m
-    fits_joined heights mark height start strut' before marked size starts wrote fits' = record {
+    fits_joined heights height start strut' near size wrote fits' = record {
       parent = up_parent;
       within = was.within;
       first_least = was.first_least;
@@ -143,23 +210,24 @@ module _ (parents : List ℕ) (tree : IsTree parents) (blocks : List Block) (now
       marks_length = was.marks_length;
       heights_length = wrote.length_is ∙ was.heights_length;
       through_length = was.through_length;
-      start_near = below_near p now.first mark height start (subst (IsMarkNear p) (sym marked) (was.mark_near p)) size starts before;
+      start_near = run_near now.first start near;
+      edge_near = λ t. start_edge_near now.first start near;
       mark_near = was.mark_near;
       strut_fits = fits';
+      sized = written (λ (j : ℕ) (v : ℤ). is_solid (block_at blocks j).inside ≡ false → IsBoxHeight v) length_at now.heights heights height wrote (λ flow. size) was.sized;
       unparted = was.unparted;
     }
 
-    pub marks_settled : (marks : List Length) (end : ℤ) (strut : StrutValue) → Settled parents now.through now.marks marks now.first m end → StrutFits strut → end ≡ now.start +ℤ (strut.positive +ℤ strut.negative)
+    pub marks_settled : (marks : List Length) (end : ℤ) → Settled parents now.through now.marks marks now.first m end → IsCollapseNear (end -ℤ now.start)
         → (j : ℕ) → IsMarkNear j (length_at marks j)
-    marks_settled marks end strut settled fits ended j = settled_near parents now.through now.marks marks now.first m end tree was.first_least was.within was.mark_near
-        (λ i le. end_near now.first i now.start end strut was.start_near fits ended le) settled (j + 1) j (omega arith)
+    marks_settled marks end settled ended j = settled_near parents now.through now.marks marks now.first m end tree was.first_least was.within was.mark_near
+        (λ i le. end_near now.first i now.start end was.start_near ended le) settled (j + 1) j (omega arith)
 
-    pub fits_parted : (marks heights : List Length) (end height start : ℤ) (strut strut' : StrutValue)
-        → Settled parents now.through now.marks marks now.first m end → StrutFits strut → end ≡ now.start +ℤ (strut.positive +ℤ strut.negative)
-        → IsStartNear m start → Wrote length_at now.heights heights p height → StrutFits strut'
-        → StateFits parents blocks (record { marks = marks; heights = heights; through = now.through; start = start; strut = strut'; first = m }) (slice_index parents p) m
-    fits_parted marks heights end height start strut strut' settled fits ended near_start wrote fits' =
-        let near = marks_settled marks end strut settled fits ended in
+    pub fits_parted : (marks heights : List Length) (end height start : ℤ) (strut' : StrutValue)
+        → Settled parents now.through now.marks marks now.first m end → IsCollapseNear (end -ℤ now.start)
+        → IsStartNear m start → (is_solid (block_at blocks p).inside ≡ false → IsBoxHeight height) → Wrote length_at now.heights heights p height → StrutFits strut'
+        → StateFits parents blocks (record now { marks = marks; heights = heights; start = start; strut = strut'; first = m; hangs = false }) (slice_index parents p) m
+    fits_parted marks heights end height start strut' settled ended near size wrote fits' =
         let lt = was.parent in
         record {
           parent = up_parent;
@@ -169,9 +237,11 @@ module _ (parents : List ℕ) (tree : IsTree parents) (blocks : List Block) (now
           marks_length = settled.length_is ∙ was.marks_length;
           heights_length = wrote.length_is ∙ was.heights_length;
           through_length = was.through_length;
-          start_near = near_start;
-          mark_near = near;
+          start_near = run_near m start near;
+          edge_near = λ t. absurd (true_false false t refl);
+          mark_near = marks_settled marks end settled ended;
           strut_fits = fits';
+          sized = written (λ (j : ℕ) (v : ℤ). is_solid (block_at blocks j).inside ≡ false → IsBoxHeight v) length_at now.heights heights height wrote size was.sized;
           unparted = λ j low high. absurd (omega (arith, low, high));
         }
 

@@ -1,44 +1,36 @@
 -- What is known after each step of the pass.
-use Rattle.std.proofs.Common.{◌≡◌, ℕ, ◌+◌, ◌<◌, ◌≤◌, ◌&&◌, not, nat_lt, Bool, true, false, ℤ, pos, ◌+ℤ◌, ◌-ℤ◌, List, [], ◌∷◌, ◌++◌, length, slice_index, refl, sym, ap, ◌∙◌, arith, inl, inr, subst}
+use Rattle.std.proofs.Common.{◌≡◌, ℕ, ◌+◌, ◌<◌, ◌≤◌, ◌==◌, ◌&&◌, ◌||◌, not, nat_lt, Bool, true, false, ℤ, pos, ◌+ℤ◌, ◌-ℤ◌, List, [], ◌∷◌, length, slice_index, refl, sym, ap, ◌∙◌, arith, inl, inr, subst}
 use Rattle.std.proofs.lemmas.Bool.{cases_lt}
 use Rattle.lay_units.specs.declared.length.Unit.{Unit as Length}
 use Rattle.lay_margins.specs.StrutValue.{StrutValue}
 use Rattle.lay_margins.specs.Collapse.{Holds, collapse}
+use Rattle.lay_floats.specs.declared.requests.Place.{Place}
 use Rattle.lay_floats.specs.FloatPlace.{IsFloatPlace}
 use Rattle.lay_floats.specs.SolidPlace.{IsSolidPlace}
 use Rattle.lay_floats.specs.Within.{IsWithin}
 use Rattle.lay_doc.specs.Tree.{IsTree}
 use Rattle.lay_flow.specs.declared.block.Block.{Block}
-use Rattle.lay_flow.specs.declared.block.Inside.{Inside}
-use Rattle.lay_flow.specs.declared.block.Inside.TheVariants.{Blocks as blocks_inside, Lines as lines_inside, Solid as solid_inside}
 use Rattle.lay_flow.specs.declared.shape.Shape.{Shape}
 use Rattle.lay_flow.specs.StackedBlocks.{length_at}
 use Rattle.lay_flow.specs.CornersTo.{IsBoxHeight}
 use Rattle.lay_flow.specs.Children.{flag_at}
-use Rattle.lay_flow.specs.MarginRuns.{block_at, parts_tops, run_before, joins_bottom, may_collapse_through, may_join_bottoms}
+use Rattle.lay_flow.specs.MarginRuns.{block_at, parts_tops, joins_bottom, may_collapse_through, may_join_bottoms}
 use Rattle.lay_flow.specs.BlockPositions.{border_height, is_solid}
 use Rattle.lay_flow.specs.BlockLayout.{BlockLayout}
 use Rattle.lay_flow.specs.BlockFloats.{shape_at, place_at, floats_before, float_request, solid_request, ceiling}
-use Rattle.lay_flow.specs.BlockPass.{PassState, IsAt, Settled, Marked}
+use Rattle.lay_flow.specs.BlockPass.{PassState, IsAt, Settled}
 use Rattle.lay_flow.specs.BlockSizes.{AreBlocks}
-use Rattle.lay_flow.specs.PassBounds.{StrutFits, IsPlainLayout, IsStartNear, IsMarkNear, reach}
+use Rattle.lay_flow.specs.PassBounds.{StrutFits, IsStartNear, IsMarkNear, IsCollapseNear, is_barred, reach}
 use Rattle.lay_flow.specs.PlacesTo.{Placing, PlacesTo}
-use Rattle.lay_flow.specs.PassKnows.{Knows, MayBe, AreExtentsKept}
-use Rattle.lay_flow.proofs.LayoutFacts.{low_yes, going_ends, settled_marked}
-use Rattle.lay_flow.proofs.Openings.{pushed, opened, opened_wall, true_false}
-use Rattle.lay_flow.proofs.Closings.{Wrote, out, passes_is, joined_here, code_open, close_passing, close_joined, close_parted}
-use Rattle.lay_flow.proofs.ContentEnds.{joined_passes, bottom_joined, bottom_parted, height_there}
-use Rattle.lay_flow.proofs.PassFits.{fits_opened, fits_parting, fits_through, fits_joined, fits_parted, marks_settled, below_near}
-use Rattle.lay_flow.proofs.WholePass.{true_or}
-
--- a box whose bottom margin may adjoin that of its last child isn't solid
-pub joins_flow : (b : Block) → may_join_bottoms b ≡ true → is_solid b.inside ≡ false
-joins_flow b may = by_inside b.inside may
-  where
-    by_inside : (inside : Inside) → may_join_bottoms (record b { inside = inside }) ≡ true → is_solid inside ≡ false
-    by_inside blocks_inside e = refl
-    by_inside lines_inside e = refl
-    by_inside solid_inside e = absurd (true_false false e refl)
+use Rattle.lay_flow.specs.PassKnows.{Knows, IsReady, MayBe, IsCandidate, AreGiven, AreClears, AreDecided, AreExtentsKept, ArePlacesKept}
+use Rattle.lay_flow.proofs.BlockKinds.{joined_passes, joins_flow}
+use Rattle.lay_flow.proofs.Openings.{WithMargin, pushed, opened, opened_wall}
+use Rattle.lay_flow.proofs.Closings.{passes_is, joined_here, code_open, not_hanging, started, close_passing, close_joined, close_parted, mark_parted, reach_parted}
+use Rattle.lay_flow.proofs.ContentEnds.{bottom_joined, bottom_parted, height_there}
+use Rattle.lay_flow.proofs.PassFits.{fits_opened, fits_parting, fits_started, fits_through, fits_joined, fits_parted, marks_settled, end_near, below_near, inset_height, later_near, edge_later_near, run_later_near, above_near}
+use Rattle.lay_flow.proofs.RunReach.{RunEnds}
+use Rattle.lay_flow.proofs.SoFar.{Wrote}
+use Rattle.lay_flow.proofs.Truths.{true_false, true_or, low_yes}
 
 -- boxes stay placed where the marks before them are the same
 pub placed_kept : (parents : List ℕ) (blocks : List Block) (shapes : List Shape) (old new : List Length) (now : Placing) (n : ℕ) → IsTree parents → n ≤ length parents
@@ -62,56 +54,114 @@ placed_kept parents blocks shapes old new now n tree within was same = record {
   other = was.other;
 }
 
+-- extents that may be at last when more boxes are placed
+pub may_before : (parents : List ℕ) (blocks : List Block) (given : List Length) (old new : Placing) (extents : List Length) → length old.places ≤ length new.places → AreExtentsKept blocks (length old.places) old.extents new.extents
+    → MayBe parents blocks given new extents → MayBe parents blocks given old extents
+may_before parents blocks given old new extents le kept may_be = record {
+  other = may_be.other;
+  solid = λ j some lt solid. may_be.solid j some (omega (arith, lt, le)) solid ∙ kept j (λ s. lt);
+}
+
+pub given_kept : (parents : List ℕ) (blocks : List Block) (given old new : List Length) (n : ℕ) → AreExtentsKept blocks n old new → AreGiven parents blocks given old → AreGiven parents blocks given new
+given_kept parents blocks given old new n kept was j some lt flow = kept j (λ solid. absurd (true_false (is_solid (block_at blocks j).inside) solid flow)) ∙ was j some lt flow
+
+pub places_before : (old new places : List Place) → length old ≤ length new → ArePlacesKept old new → ArePlacesKept new places → ArePlacesKept old places
+places_before old new places le kept are j lt = are j (omega (arith, lt, le)) ∙ kept j lt
+
+-- what was decided stays so when more boxes are placed
+pub decided_placed : (parents : List ℕ) (blocks : List Block) (shapes : List Shape) (given : List Length) (flags : List Bool) (edges : List Length) (old new : Placing) (m : ℕ)
+    → length old.places ≤ length new.places → AreExtentsKept blocks (length old.places) old.extents new.extents → ArePlacesKept old.places new.places
+    → AreDecided parents blocks shapes given flags edges old m → AreDecided parents blocks shapes given flags edges new m
+decided_placed parents blocks shapes given flags edges old new m le kept same was k positive lt none extents clear_edges y places may_be candidate are =
+    was k positive lt none extents clear_edges y places (may_before parents blocks given old new extents le kept may_be) candidate (places_before old.places new.places places le same are)
+
+-- the run was begun by clearance of a child of p
+pub barred_same : (parents : List ℕ) (blocks : List Block) (shapes : List Shape) (extents clear_edges : List Length) (y : BlockLayout) (now : PassState) (p m : ℕ) → m ≤ length parents → AreClears parents shapes now.clears now.clear_edges m
+    → IsCandidate parents blocks extents clear_edges y now.clears now.clear_edges m → (nat_lt now.first m && flag_at y.runs.clears now.first && slice_index parents now.first == p) ≡ is_barred parents now p
+barred_same parents blocks shapes extents clear_edges y now p m within are candidate = elim (cases_lt now.first m) [
+  | inl lt ↦ (let a = candidate.clears now.first lt in let l = are.clears_length in
+      let t : nat_lt now.first m ≡ true = grind (arith, lt) in
+      let u : nat_lt now.first (length now.clears) ≡ true = lower now.first (length now.clears) (omega (arith, lt, within, l)) in
+      rw (t, u, a) refl)
+  | inr ge ↦ (let f = are.later now.first ge in
+      let t : nat_lt now.first m ≡ false = grind (arith, ge) in
+      rw (t, f) (sym (nothing (nat_lt now.first (length now.clears)) (slice_index parents now.first == p))))
+]
+  where
+    lower : (a b : ℕ) → a < b → nat_lt a b ≡ true
+    lower a b lt = grind (arith, lt)
+
+    nothing : (b c : Bool) → (b && false && c) ≡ false
+    nothing true c = refl
+    nothing false c = refl
+
 module _ (parents : List ℕ) (blocks : List Block) (shapes : List Shape) (given : List Length) (tree : IsTree parents) (now : PassState) (placing : Placing) where
-  pub knows_opened : (k : ℕ) (strut : StrutValue) → 0 < k → k < length parents → parts_tops blocks k ≡ false → Knows parents blocks shapes given now placing (slice_index parents k) k → StrutFits strut
-      → ((ms : List ℤ) → Holds now.strut ms → Holds strut (ms ++ (block_at blocks k).margin_top.0 ∷ []))
+  pub knows_opened : (k : ℕ) (strut : StrutValue) → 0 < k → k < length parents → parts_tops blocks k ≡ false → IsReady parents blocks shapes given now placing k → StrutFits strut
+      → WithMargin now.strut strut (block_at blocks k).margin_top.0
       → Knows parents blocks shapes given (pushed now strut) placing k (k + 1)
   knows_opened k strut positive within plain was fits holds = record {
     fits = fits_opened parents tree blocks now k strut within plain was.fits fits;
-    is_at = λ extents y may_be good. let at = was.is_at extents y may_be good in opened parents blocks extents [] y good.0 good.1 tree now k strut positive within plain at (holds _ at.strut_holds);
+    near = edge_later_near k (k + 1) now.start (omega arith) was.near;
+    is_at = λ extents clear_edges y may_be candidate. opened parents blocks extents clear_edges y candidate.is_layout tree k positive within now strut plain holds (was.is_before extents clear_edges y may_be candidate);
     are_given = was.are_given;
     placed = was.placed;
     early = was.early;
+    are_clears = was.are_clears;
+    decided = was.decided;
   }
 
-  pub knows_parting : (k : ℕ) (marks : List Length) (end start : ℤ) (strut strut' : StrutValue) → AreBlocks parents blocks given → 0 < k → k < length parents → parts_tops blocks k ≡ true → Knows parents blocks shapes given now placing (slice_index parents k) k
-      → StrutFits strut → ((ms : List ℤ) → Holds now.strut ms → Holds strut (ms ++ (block_at blocks k).margin_top.0 ∷ []))
-      → end ≡ now.start +ℤ (strut.positive +ℤ strut.negative) → ((ms : List ℤ) → Holds strut ms → end ≡ now.start +ℤ collapse ms)
+  pub knows_parting : (k : ℕ) (marks : List Length) (end start : ℤ) (strut strut' : StrutValue) → AreBlocks parents blocks given → 0 < k → k < length parents → parts_tops blocks k ≡ true → IsReady parents blocks shapes given now placing k
+      → WithMargin now.strut strut (block_at blocks k).margin_top.0 → RunEnds now.hangs now.start strut end → IsCollapseNear (end -ℤ now.start)
       → Settled parents now.through now.marks marks now.first (k + 1) end → start ≡ end +ℤ (block_at blocks k).edge_top.0 → StrutFits strut' → Holds strut' []
-      → Knows parents blocks shapes given (record now { marks = marks; start = start; strut = strut'; first = k + 1 }) placing k (k + 1)
-  knows_parting k marks end start strut strut' input positive within parting was fits holds near value settled starts fits' empty = record {
-    fits = fits_parting parents tree blocks now k marks end start (block_at blocks k).edge_top.0 strut strut' within was.fits settled fits near (input.block k within).edge_top starts fits';
-    is_at = λ extents y may_be good.
-        let at = was.is_at extents y may_be good in
-        let e = value _ (holds _ at.strut_holds) in
-        let here = at.first_most in
-        opened_wall parents blocks extents [] y good.0 good.1 tree now k marks strut' start empty positive within parting at
-        (subst (λ (v : ℤ). Settled parents now.through now.marks marks now.first (k + 1) v) e settled)
-        (starts ∙ ap (λ (v : ℤ). v +ℤ (block_at blocks k).edge_top.0) (sym (settled.stands k here (omega arith) (at.fresh k (omega arith)))));
-    are_given = was.are_given;
-    placed = let few = was.fits.first_most in let early = was.early in placed_kept parents blocks shapes now.marks marks placing (length placing.places) tree (omega (arith, few, early, within)) was.placed (λ j lt. settled.before j (omega (arith, lt, early)));
-    early = let few = was.fits.first_most in let early = was.early in omega (arith, few, early);
-  }
+      → Knows parents blocks shapes given (record now { marks = marks; start = start; strut = strut'; first = k + 1; hangs = false }) placing k (k + 1)
+  knows_parting k marks end start strut strut' input positive within parting was holds ends ended settled starts fits' empty =
+      let f = was.fits.first_most in
+      let near = below_near k (k + 1) end (block_at blocks k).edge_top.0 start (end_near now.first k now.start end was.fits.start_near ended f) (inset_height (block_at blocks k).edge_top.0 (input.block k within).edge_top) starts (omega arith) in
+      record {
+        fits = fits_parting parents tree blocks now k marks end start strut' within was.fits settled ended near fits';
+        near = near;
+        is_at = λ extents clear_edges y may_be candidate.
+            let before = was.is_before extents clear_edges y may_be candidate in
+            opened_wall parents blocks extents clear_edges y candidate.is_layout tree k positive within now strut end parting holds ends before marks strut' start empty settled
+            (starts ∙ ap (λ (v : ℤ). v +ℤ (block_at blocks k).edge_top.0) (sym (settled.stands k f (omega arith) (before.so_far.fresh k (omega arith)))));
+        are_given = was.are_given;
+        placed = let early = was.early in placed_kept parents blocks shapes now.marks marks placing (length placing.places) tree (omega (arith, f, early, within)) was.placed (λ j lt. settled.before j (omega (arith, lt, early)));
+        early = let early = was.early in omega (arith, f, early);
+        are_clears = was.are_clears;
+        decided = was.decided;
+      }
 
   module _ (p m : ℕ) (input : AreBlocks parents blocks given) (positive : 0 < p) (ends : m < length parents → slice_index parents m < p) (was : Knows parents blocks shapes given now placing p m) where
     places_within : length placing.places ≤ length parents
     places_within = let early = was.early in let few = was.fits.first_most in let within = was.fits.within in omega (arith, early, few, within)
 
-    pub knows_through : (marks heights : List Length) (flags : List Bool) (end : ℤ) (strut' : StrutValue) → may_collapse_through (block_at blocks p) ≡ true → now.first ≤ p
-        → end ≡ now.start +ℤ (now.strut.positive +ℤ now.strut.negative) → ((ms : List ℤ) → Holds now.strut ms → end ≡ now.start +ℤ collapse ms)
+    pub knows_started : (start : ℤ) → may_collapse_through (block_at blocks p) ≡ true → now.hangs ≡ true → now.first ≡ p → ((ms : List ℤ) → Holds now.strut ms → start ≡ now.start -ℤ collapse ms) → IsCollapseNear (now.start -ℤ start)
+        → Knows parents blocks shapes given (record now { start = start; hangs = false }) placing p m
+    knows_started start may hangs first value collapsed = record {
+      fits = fits_started parents tree blocks now p m positive was.fits start hangs collapsed;
+      near = let lt = was.fits.parent in run_later_near now.first m start (omega (arith, first, lt)) (above_near now.first now.start start (was.fits.edge_near hangs) collapsed);
+      is_at = λ extents clear_edges y may_be candidate. started parents blocks extents clear_edges y candidate.is_layout tree now p m positive (was.is_at extents clear_edges y may_be candidate) ends start may hangs first value;
+      are_given = was.are_given;
+      placed = was.placed;
+      early = was.early;
+      are_clears = was.are_clears;
+      decided = was.decided;
+    }
+
+    pub knows_through : (marks heights : List Length) (flags : List Bool) (end : ℤ) (strut' : StrutValue) → may_collapse_through (block_at blocks p) ≡ true → now.first ≤ p → (now.hangs ≡ true → now.first < p)
+        → RunEnds now.hangs now.start now.strut end → IsCollapseNear (end -ℤ now.start)
         → Wrote length_at now.marks marks p end → Wrote length_at now.heights heights p (pos 0) → Wrote flag_at now.through flags p true
-        → StrutFits strut' → ((ms : List ℤ) → Holds now.strut ms → Holds strut' (ms ++ (block_at blocks p).margin_bottom.0 ∷ []))
+        → StrutFits strut' → WithMargin now.strut strut' (block_at blocks p).margin_bottom.0
         → Knows parents blocks shapes given (record now { marks = marks; heights = heights; through = flags; strut = strut' }) placing (slice_index parents p) m
-    knows_through marks heights flags end strut' may waits near value wrote_mark wrote_height wrote_flag fits' holds = record {
-      fits = fits_through parents tree blocks now p m positive was.fits marks heights flags end now.strut strut' waits wrote_mark wrote_height wrote_flag was.fits.strut_fits near fits';
-      is_at = λ extents y may_be good.
-          let at = was.is_at extents y may_be good in
-          let e = value _ at.strut_holds in
-          close_passing parents blocks extents [] y good.0 good.1 tree now p m positive at ends marks heights flags strut' may waits
-          (subst (λ (v : ℤ). Wrote length_at now.marks marks p v) e wrote_mark) wrote_height wrote_flag (holds _ at.strut_holds);
+    knows_through marks heights flags end strut' may waits below reach ended wrote_mark wrote_height wrote_flag fits' holds = record {
+      fits = fits_through parents tree blocks now p m positive was.fits marks heights flags end strut' waits wrote_mark wrote_height wrote_flag ended fits';
+      near = was.near;
+      is_at = λ extents clear_edges y may_be candidate. close_passing parents blocks extents clear_edges y candidate.is_layout tree now p m positive (was.is_at extents clear_edges y may_be candidate) ends marks heights flags strut' end may waits below reach wrote_mark wrote_height wrote_flag holds;
       are_given = was.are_given;
       placed = placed_kept parents blocks shapes now.marks marks placing (length placing.places) tree places_within was.placed (λ j lt. wrote_mark.other j (λ same. let early = was.early in omega (arith, lt, early, same, waits)));
       early = was.early;
+      are_clears = was.are_clears;
+      decided = was.decided;
     }
 
     inner : p < length parents
@@ -124,96 +174,106 @@ module _ (parents : List ℕ) (blocks : List Block) (shapes : List Shape) (given
       | inr high ↦ settled (joined_passes blocks p (was.fits.unparted p high was.fits.parent) may)
     ]
 
-    stands : (extents : List Length) (y : BlockLayout) (may_be : MayBe parents blocks given placing extents) (good : IsPlainLayout parents blocks extents y) → (may_collapse_through (block_at blocks p) ≡ true → p < now.first) → flag_at y.runs.through p ≡ false
-    stands extents y may_be good settled = passes_is parents blocks extents [] y good.0 good.1 tree now p m positive (was.is_at extents y may_be good) ends
-        ∙ true_or (may_collapse_through (block_at blocks p)) ((may_collapse_through (block_at blocks p) && not (nat_lt p now.first)) ≡ false)
-        (λ t. let low = low_yes p now.first (settled t) in rw (t, low) refl)
-        (λ f. rw f refl)
+    module _ (extents clear_edges : List Length) (y : BlockLayout) (may_be : MayBe parents blocks given placing extents) (candidate : IsCandidate parents blocks extents clear_edges y now.clears now.clear_edges m) where
+      at : IsAt parents blocks clear_edges y now p m
+      at = was.is_at extents clear_edges y may_be candidate
 
-    pub knows_joined : (heights : List Length) (mark height start : ℤ) (strut' : StrutValue) → may_join_bottoms (block_at blocks p) ≡ true → (may_collapse_through (block_at blocks p) ≡ true → p < now.first)
+      stands : (may_collapse_through (block_at blocks p) ≡ true → p < now.first) → flag_at y.runs.through p ≡ false
+      stands settled = passes_is parents blocks extents clear_edges y candidate.is_layout tree now p m positive at ends
+          ∙ true_or (may_collapse_through (block_at blocks p)) ((may_collapse_through (block_at blocks p) && not (nat_lt p now.first)) ≡ false)
+          (λ t. let low = low_yes p now.first (settled t) in rw (t, low) refl)
+          (λ f. rw f refl)
+
+      joins_here : joins_bottom parents blocks y.runs p ≡ (flag_at y.runs.through p || (may_join_bottoms (block_at blocks p) && not (is_barred parents now p)))
+      joins_here = joined_here parents blocks extents clear_edges y candidate.is_layout tree now p m positive at ends
+          ∙ ap (λ (b : Bool). flag_at y.runs.through p || (may_join_bottoms (block_at blocks p) && not b)) (barred_same parents blocks shapes extents clear_edges y now p m was.fits.within was.are_clears candidate)
+
+    pub knows_joined : (heights : List Length) (mark height start : ℤ) (strut' : StrutValue) → may_join_bottoms (block_at blocks p) ≡ true → is_barred parents now p ≡ false → (may_collapse_through (block_at blocks p) ≡ true → p < now.first)
         → mark ≡ length_at now.marks p → IsBoxHeight height → height ≡ border_height (block_at blocks p) (length_at placing.extents p) (now.start -ℤ (mark +ℤ (block_at blocks p).edge_top.0))
         → start ≡ mark +ℤ height → Wrote length_at now.heights heights p height
-        → StrutFits strut' → ((ms : List ℤ) → Holds now.strut ms → Holds strut' (ms ++ (block_at blocks p).margin_bottom.0 ∷ []))
+        → StrutFits strut' → WithMargin now.strut strut' (block_at blocks p).margin_bottom.0
         → Knows parents blocks shapes given (record now { heights = heights; start = start; strut = strut' }) placing (slice_index parents p) m
-    knows_joined heights mark height start strut' may settled marked size is_height starts wrote fits' holds = record {
-      fits = fits_joined parents tree blocks now p m positive was.fits heights mark height start strut' before marked size starts wrote fits';
+    knows_joined heights mark height start strut' may unbarred settled marked size is_height starts wrote fits' holds = record {
+      fits = fits_joined parents tree blocks now p m positive was.fits heights height start strut' near size wrote fits';
+      near = later_near now.first m start was.fits.first_most near;
       is_at = there;
       are_given = was.are_given;
       placed = was.placed;
       early = was.early;
+      are_clears = was.are_clears;
+      decided = was.decided;
     }
       where
         before : p < now.first
         before = joined_before may settled
 
-        there : (extents : List Length) (y : BlockLayout) → MayBe parents blocks given placing extents → IsPlainLayout parents blocks extents y → IsAt parents blocks y (record now { heights = heights; start = start; strut = strut' }) (slice_index parents p) m
-        there extents y may_be good =
-            let at = was.is_at extents y may_be good in
-            let truth = stands extents y may_be good settled in
-            let ext : length_at placing.extents p ≡ length_at extents p = was.are_given p positive inner (joins_flow (block_at blocks p) may) ∙ sym (may_be.other p positive inner (joins_flow (block_at blocks p) may)) in
-            let joined : joins_bottom parents blocks y.runs p ≡ true = joined_here parents blocks extents [] y good.0 good.1 tree now p m positive at ends ∙ rw (truth, may) refl in
-            let b = before in
-            let mark_is = marked ∙ at.marked.stands p b (code_open parents blocks extents [] y good.0 good.1 tree now p m positive at ends) truth in
-            let bottom = bottom_joined parents blocks extents [] y good.0 good.1 tree now p m positive at ends joined b in
-            let height_is = height_there parents blocks extents [] y good.0 good.1 tree now p m positive at ends height mark now.start truth mark_is (sym bottom) (is_height ∙ ap (λ (v : ℤ). border_height (block_at blocks p) v (now.start -ℤ (mark +ℤ (block_at blocks p).edge_top.0))) ext) in
-            let wrote_height : Wrote length_at now.heights heights p (length_at y.places.heights p) = subst (λ (v : ℤ). Wrote length_at now.heights heights p v) height_is wrote in
-            close_joined parents blocks extents [] y good.0 good.1 tree now p m positive at ends heights strut' start truth joined b wrote_height
-            (starts ∙ (λ i. marked i +ℤ (sym wrote.here) i)) (holds _ at.strut_holds)
+        near : IsStartNear now.first start
+        near = below_near p now.first mark height start (subst (IsMarkNear p) (sym marked) (was.fits.mark_near p)) size starts before
 
-    pub knows_parted : (marks heights : List Length) (placing' : Placing) (end mark height start : ℤ) (strut' : StrutValue) → may_join_bottoms (block_at blocks p) ≡ false → (may_collapse_through (block_at blocks p) ≡ true → p < now.first)
-        → end ≡ now.start +ℤ (now.strut.positive +ℤ now.strut.negative) → ((ms : List ℤ) → Holds now.strut ms → end ≡ now.start +ℤ collapse ms)
+        there : (extents clear_edges : List Length) (y : BlockLayout) → MayBe parents blocks given placing extents → IsCandidate parents blocks extents clear_edges y now.clears now.clear_edges m
+            → IsAt parents blocks clear_edges y (record now { heights = heights; start = start; strut = strut' }) (slice_index parents p) m
+        there extents clear_edges y may_be candidate =
+            let is = candidate.is_layout in
+            let at = was.is_at extents clear_edges y may_be candidate in
+            let truth = stands extents clear_edges y may_be candidate settled in
+            let ext : length_at placing.extents p ≡ length_at extents p = was.are_given p positive inner (joins_flow (block_at blocks p) may) ∙ sym (may_be.other p positive inner (joins_flow (block_at blocks p) may)) in
+            let joined : joins_bottom parents blocks y.runs p ≡ true = joins_here extents clear_edges y may_be candidate ∙ rw (truth, may, unbarred) refl in
+            let mark_is = marked ∙ at.so_far.marked.stands p before (code_open parents blocks extents clear_edges y is tree now p m positive at ends) truth in
+            let bottom = bottom_joined parents blocks extents clear_edges y is tree now p m positive at ends joined before in
+            let from = at.in_run.start_is (not_hanging parents blocks extents clear_edges y is tree now p m positive at ends before) in
+            let height_is = height_there parents blocks extents clear_edges y is tree now p m positive at ends height mark now.start truth mark_is (from ∙ sym bottom) (is_height ∙ ap (λ (v : ℤ). border_height (block_at blocks p) v (now.start -ℤ (mark +ℤ (block_at blocks p).edge_top.0))) ext) in
+            let wrote_height : Wrote length_at now.heights heights p (length_at y.places.heights p) = subst (λ (v : ℤ). Wrote length_at now.heights heights p v) height_is wrote in
+            close_joined parents blocks extents clear_edges y is tree now p m positive at ends heights strut' start truth joined before wrote_height
+            (starts ∙ (λ i. marked i +ℤ (sym wrote.here) i)) holds
+
+    pub knows_parted : (marks heights : List Length) (placing' : Placing) (end mark height start : ℤ) (strut' : StrutValue) → (may_join_bottoms (block_at blocks p) && not (is_barred parents now p)) ≡ false → (may_collapse_through (block_at blocks p) ≡ true → p < now.first)
+        → RunEnds now.hangs now.start now.strut end → IsCollapseNear (end -ℤ now.start)
         → Settled parents now.through now.marks marks now.first m end
-        → PlacesTo parents blocks shapes marks placing' m → AreExtentsKept blocks (length placing.places) placing.extents placing'.extents
+        → PlacesTo parents blocks shapes marks placing' m → AreExtentsKept blocks (length placing.places) placing.extents placing'.extents → ArePlacesKept placing.places placing'.places
         → mark ≡ length_at marks p → (is_solid (block_at blocks p).inside ≡ false → IsBoxHeight height) → height ≡ border_height (block_at blocks p) (length_at placing'.extents p) (end -ℤ (mark +ℤ (block_at blocks p).edge_top.0))
         → start ≡ mark +ℤ height → Wrote length_at now.heights heights p height
         → StrutFits strut' → Holds strut' ((block_at blocks p).margin_bottom.0 ∷ [])
-        → Knows parents blocks shapes given (record { marks = marks; heights = heights; through = now.through; start = start; strut = strut'; first = m }) placing' (slice_index parents p) m
-    knows_parted marks heights placing' end mark height start strut' may settled near value settles placed kept marked size is_height starts wrote fits' holds = record {
-      fits = fits_parted parents tree blocks now p m positive was.fits marks heights end height start now.strut strut' settles was.fits.strut_fits near start_near wrote fits';
+        → Knows parents blocks shapes given (record now { marks = marks; heights = heights; start = start; strut = strut'; first = m; hangs = false }) placing' (slice_index parents p) m
+    knows_parted marks heights placing' end mark height start strut' may settled reaches ended settles placed kept same marked size is_height starts wrote fits' holds = record {
+      fits = fits_parted parents tree blocks now p m positive was.fits marks heights end height start strut' settles ended start_near size wrote fits';
+      near = start_near;
       is_at = there;
-      are_given = λ j some lt flow. kept j (λ solid. absurd (true_false (is_solid (block_at blocks j).inside) solid flow)) ∙ was.are_given j some lt flow;
+      are_given = given_kept parents blocks given placing.extents placing'.extents (length placing.places) kept was.are_given;
       placed = let e = placed.places_length in subst (λ (n : ℕ). PlacesTo parents blocks shapes marks placing' n) (sym e) placed;
       early = let e = placed.places_length in omega (arith, e);
+      are_clears = was.are_clears;
+      decided = decided_placed parents blocks shapes given now.clears now.clear_edges placing placing' m more kept same was.decided;
     }
       where
+        more : length placing.places ≤ length placing'.places
+        more = let l = placed.places_length in let early = was.early in let few = was.fits.first_most in omega (arith, l, early, few)
+
         -- the bottom border edge of the box
         start_near : IsStartNear m start
         start_near = true_or (is_solid (block_at blocks p).inside) (IsStartNear m start)
             (λ solid. let low = placed.low p positive was.fits.parent solid in
             let h : height ≡ length_at placing'.extents p = is_height ∙ rw solid refl in
             subst (λ (v : ℤ). IsWithin (reach m) v) (sym (starts ∙ (λ i. marked i +ℤ h i))) low)
-            (λ flow. let near_mark = marks_settled parents tree blocks now p m positive was.fits marks end now.strut settles was.fits.strut_fits near p in
+            (λ flow. let near_mark = marks_settled parents tree blocks now p m positive was.fits marks end settles ended p in
             below_near p m mark height start (subst (IsMarkNear p) (sym marked) near_mark) (size flow) starts was.fits.parent)
-
-        may_before : (extents : List Length) → MayBe parents blocks given placing' extents → MayBe parents blocks given placing extents
-        may_before extents may_be = record {
-          other = may_be.other;
-          solid = λ j some lt solid. (let l = placed.places_length in let early = was.early in let few = was.fits.first_most in may_be.solid j some (omega (arith, lt, l, early, few)) solid ∙ kept j (λ s. lt));
-        }
 
         ext_there : (extents : List Length) → MayBe parents blocks given placing' extents → length_at placing'.extents p ≡ length_at extents p
         ext_there extents may_be = true_or (is_solid (block_at blocks p).inside) (length_at placing'.extents p ≡ length_at extents p)
             (λ solid. let l = placed.places_length in let lt = was.fits.parent in sym (may_be.solid p positive (omega (arith, l, lt)) solid))
             (λ flow. kept p (λ solid. absurd (true_false (is_solid (block_at blocks p).inside) solid flow)) ∙ was.are_given p positive inner flow ∙ sym (may_be.other p positive inner flow))
 
-        there : (extents : List Length) (y : BlockLayout) → MayBe parents blocks given placing' extents → IsPlainLayout parents blocks extents y → IsAt parents blocks y (record { marks = marks; heights = heights; through = now.through; start = start; strut = strut'; first = m }) (slice_index parents p) m
-        there extents y may_be' good =
-            let may_be = may_before extents may_be' in
+        there : (extents clear_edges : List Length) (y : BlockLayout) → MayBe parents blocks given placing' extents → IsCandidate parents blocks extents clear_edges y now.clears now.clear_edges m
+            → IsAt parents blocks clear_edges y (record now { marks = marks; heights = heights; start = start; strut = strut'; first = m; hangs = false }) (slice_index parents p) m
+        there extents clear_edges y may_be' candidate =
+            let is = candidate.is_layout in
+            let may_be = may_before parents blocks given placing placing' extents more kept may_be' in
             let ext = ext_there extents may_be' in
-            let at = was.is_at extents y may_be good in
-            let truth = stands extents y may_be good settled in
-            let code = code_open parents blocks extents [] y good.0 good.1 tree now p m positive at ends in
-            let parted : joins_bottom parents blocks y.runs p ≡ false = joined_here parents blocks extents [] y good.0 good.1 tree now p m positive at ends ∙ rw (truth, may) refl in
-            let e = value _ at.strut_holds in
-            let settles' = subst (λ (v : ℤ). Settled parents now.through now.marks marks now.first m v) e settles in
-            let ended = going_ends parents blocks extents [] y good.0 good.1 p m (out parents blocks extents [] y good.0 good.1 tree now p m positive at ends) parted in
-            let marked' : Marked parents y marks now.through m = settled_marked parents blocks extents [] y good.0 good.1 tree now.through now.marks marks now.start _ (run_before parents blocks y.runs p m) p now.first m
-            at.first_least at.first_most at.within
-            (λ j low high open_yet. let w = at.waits j low high open_yet in record { rise = w.rise ∙ ended; start_is = w.start_is; above = w.above; holds = w.holds })
-            at.inherits refl settles' at.marked in
-            let mark_is = marked ∙ marked'.stands p at.parent code truth in
-            let bottom = bottom_parted parents blocks extents [] y good.0 good.1 tree now p m positive at ends parted truth code in
-            let height_is = height_there parents blocks extents [] y good.0 good.1 tree now p m positive at ends height mark end truth mark_is (e ∙ sym bottom) (is_height ∙ ap (λ (v : ℤ). border_height (block_at blocks p) v (end -ℤ (mark +ℤ (block_at blocks p).edge_top.0))) ext) in
+            let at = was.is_at extents clear_edges y may_be candidate in
+            let truth = stands extents clear_edges y may_be candidate settled in
+            let parted : joins_bottom parents blocks y.runs p ≡ false = joins_here extents clear_edges y may_be candidate ∙ rw (truth, may) refl in
+            let mark_is = marked ∙ mark_parted parents blocks extents clear_edges y is tree now p m positive at ends truth parted end reaches marks settles in
+            let bottom = reach_parted parents blocks extents clear_edges y is tree now p m positive at ends truth parted end reaches ∙ sym (bottom_parted parents blocks extents clear_edges y is tree now p m positive at ends parted truth) in
+            let height_is = height_there parents blocks extents clear_edges y is tree now p m positive at ends height mark end truth mark_is bottom (is_height ∙ ap (λ (v : ℤ). border_height (block_at blocks p) v (end -ℤ (mark +ℤ (block_at blocks p).edge_top.0))) ext) in
             let wrote_height : Wrote length_at now.heights heights p (length_at y.places.heights p) = subst (λ (v : ℤ). Wrote length_at now.heights heights p v) height_is wrote in
-            close_parted parents blocks extents [] y good.0 good.1 tree now p m positive at ends marks heights strut' start truth parted settles' wrote_height
+            close_parted parents blocks extents clear_edges y is tree now p m positive at ends truth parted end reaches marks settles heights strut' start wrote_height
             (starts ∙ (λ i. marked i +ℤ (sym wrote.here) i)) holds

@@ -26,10 +26,11 @@ use Rattle.lay_flow.specs.StackedBlocks.{length_at}
 use Rattle.lay_flow.specs.MarginRuns.{block_at}
 use Rattle.lay_flow.specs.BlockPositions.{is_solid}
 use Rattle.lay_flow.specs.BlockFloats.{AreShapes, shape_at, place_at, no_place, float_of, floats_before, float_request, solid_request, ceiling}
-use Rattle.lay_flow.specs.PassBounds.{reach, IsMarkNear}
+use Rattle.lay_flow.specs.Clearance.{lower_of}
+use Rattle.lay_flow.specs.PassBounds.{reach, IsMarkNear, IsEdgeNear}
 use Rattle.lay_flow.specs.PlacesTo.{Placing, PlacesTo, ShapeFits, IsCeilingNear}
-use Rattle.lay_flow.proofs.Openings.{true_false}
-use Rattle.lay_flow.proofs.Closings.{Wrote}
+use Rattle.lay_flow.proofs.SoFar.{Wrote}
+use Rattle.lay_flow.proofs.Truths.{true_false}
 
 -- an element of which all have a property
 all_at : (P : Placed → Type 0) (floats : List Placed) (i : ℕ) (f : Placed) → All P floats → slice_get floats i ≡ Some f → P f
@@ -48,7 +49,7 @@ nothing_more [] = refl
 nothing_more (x ∷ xs) = ap (λ (zs : List Placed). x ∷ zs) (nothing_more xs)
 
 -- one more place
-old_place : (places : List Place) (p : Place) (j : ℕ) → j < length places → get_or (places ++ p ∷ []) j no_place ≡ get_or places j no_place
+pub old_place : (places : List Place) (p : Place) (j : ℕ) → j < length places → get_or (places ++ p ∷ []) j no_place ≡ get_or places j no_place
 old_place places p j lt = grind (arith, elements, lt)
 
 new_place : (places : List Place) (p : Place) (k : ℕ) → length places ≡ k → get_or (places ++ p ∷ []) k no_place ≡ p
@@ -67,7 +68,7 @@ further n f b =
       bottom = (omega (arith, ints, d), omega (arith, ints, d));
     }
 
-request_within : (n : ℕ) (s : Shape) (side : Side) (top : ℤ) → ShapeFits s → IsCeilingNear n top → RequestWithin (pos (2251799813685248 + 68719476736 * n + 8589934592)) (pos 17179869184) (float_request s side top)
+request_within : (n : ℕ) (s : Shape) (side : Side) (top : ℤ) → ShapeFits s → IsCeilingNear n top → RequestWithin (pos (2251799813685248 + 68719476736 * n + 17179869184)) (pos 17179869184) (float_request s side top)
 request_within n s side top fits near =
     let l = fits.left in let r = fits.right in
     record {
@@ -103,7 +104,7 @@ wider m n f le b =
 put_within : (n : ℕ) (floats : List Placed) (s : Shape) (side : Side) (top x y : ℤ) → ShapeFits s → IsCeilingNear n top → All (BoxWithin (reach n)) floats → IsFloatPlace floats (float_request s side top) x y
     → BoxWithin (reach (n + 1)) (placed_at (float_request s side top) x y)
 put_within n floats s side top x y fits near all place =
-    let m : ℤ = pos (2251799813685248 + 68719476736 * n + 8589934592) in
+    let m : ℤ = pos (2251799813685248 + 68719476736 * n + 17179869184) in
     let all' : All (BoxWithin m) floats = All-weaker (BoxWithin (reach n)) (BoxWithin m) (λ f b. wider (reach n) m f (omega (arith, ints)) b) floats all in
     wider (m +ℤ pos 17179869184) (reach (n + 1)) _ (omega (arith, ints)) (place_within_lem m (pos 17179869184) floats (float_request s side top) x y all' (request_within n s side top fits near) place)
 
@@ -155,7 +156,7 @@ solid_low m floats r x y all top place = place.first r.x.0 m (record {
 
 pub solid_near : (n : ℕ) (floats : List Placed) (s : Shape) (mark x y : ℤ) → ShapeFits s → IsMarkNear n mark → All (BoxWithin (reach n)) floats → IsSolidPlace floats (solid_request s mark) x y → IsMarkNear n y
 solid_near n floats s mark x y fits near all place =
-    let m : ℤ = pos (2251799813685248 + 68719476736 * n + 2147483648) in
+    let m : ℤ = pos (2251799813685248 + 68719476736 * n + 6442450944) in
     let all' : All (BoxWithin m) floats = All-weaker (BoxWithin (reach n)) (BoxWithin m) (λ f b. wider (reach n) m f (omega (arith, ints)) b) floats all in
     let low = solid_low m floats (solid_request s mark) x y all' near.1 place in
     let below = place.stands.below_mark in
@@ -375,3 +376,12 @@ clear_edge_position n floats clear (Some v) few all is =
     let b = (all_at (BoxWithin (reach n)) floats w.0 w.1 all w.2).bottom in
     let least = b.0 in let most = b.1 in let e = w.3.1 in
     (omega (arith, ints, few, least, e), omega (arith, ints, few, most, e))
+
+-- the clear edge of a box is near
+pub lower_near : (n : ℕ) (floats : List Placed) (clear : Clear) (bottom : Option Length) (hypothetical : ℤ) → All (BoxWithin (reach n)) floats → IsClearEdge floats clear bottom → IsEdgeNear n hypothetical → IsEdgeNear n (lower_of bottom hypothetical)
+lower_near n floats clear None hypothetical all is near = near
+lower_near n floats clear (Some v) hypothetical all is near =
+    let w = is.one_of in
+    let b = (all_at (BoxWithin (reach n)) floats w.0 w.1 all w.2).bottom in
+    let least = b.0 in let most = b.1 in let e = w.3.1 in let c = near.0 in let d = near.1 in
+    (omega (arith, ints, clamps, least, e, c), omega (arith, ints, clamps, most, e, d))

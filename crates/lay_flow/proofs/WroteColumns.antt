@@ -5,7 +5,7 @@ use Rattle.lay_units.specs.declared.length.Unit.{Unit as Length}
 use Rattle.lay_flow.specs.StackedBlocks.{length_at}
 use Rattle.lay_flow.specs.Children.{flag_at}
 use Rattle.lay_flow.proofs.ColumnWrites.{set_same, set_other, length-set'}
-use Rattle.lay_flow.proofs.Closings.{Wrote}
+use Rattle.lay_flow.proofs.SoFar.{Wrote}
 
 pub wrote_length : (column : List Length) (k : ℕ) (v : Length) → k < length column → Wrote length_at column (set column k v) k v.0
 wrote_length column k v within = record { length_is = length-set' column k v; here = set_same column k v within; other = λ j ne. set_other column k j v ne }

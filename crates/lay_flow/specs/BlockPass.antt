@@ -1,32 +1,32 @@
 -- How far one pass over the boxes has come, which reads the margins of a context in document order.
-use Rattle.std.specs.Prelude.{ℕ, ◌≡◌, ◌<◌, ◌≤◌, not, nat_lt, Bool, true, false, ℤ, List, length, slice_index}
+use Rattle.std.specs.Prelude.{ℕ, ◌≡◌, ◌⊎◌, ◌<◌, ◌≤◌, Bool, true, false, ℤ, List, [], length, slice_index}
 use Rattle.lay_units.specs.declared.length.Unit.{Unit as Length}
 use Rattle.lay_margins.specs.StrutValue.{StrutValue}
 use Rattle.lay_margins.specs.Collapse.{Holds}
 use Rattle.lay_flow.specs.Children.{flag_at}
-use Rattle.lay_flow.specs.MarginRuns.{Entry, margins, has_top, is_barred, run_at, run_before, run_across}
+use Rattle.lay_flow.specs.MarginRuns.{margins, has_top, run_at, run_before}
+use Rattle.lay_flow.specs.Gathered.{Gathered, Holds as Contains}
 use Rattle.lay_flow.specs.StackedBlocks.{length_at}
 use Rattle.lay_flow.specs.BlockPositions.{start_before}
 use Rattle.lay_flow.specs.BlockLayout.{BlockLayout}
 use Rattle.lay_flow.specs.declared.block.Block.{Block}
 
--- what the pass keeps: columns of the marks and heights as far as they are known and of the boxes that are known to be
--- collapsed through, and the run that it is in: its start, its margins so far, and the first box whose top margin
--- is in it. The boxes from there on wait for their marks.
+-- what the pass keeps: columns of the marks and heights as far as they are known, of the boxes that are known to be
+-- collapsed through, and of clearance as decided so far; and the run that it is in: its margins so far, and the first
+-- box whose top margin is in it. The boxes from there on wait for their marks.
 pub record PassState : Type 0 where
   pub marks : List Length
   pub heights : List Length
   pub through : List Bool
+  pub clears : List Bool
+  pub clear_edges : List Length
+  -- where the run starts; if it hangs, the clear edge of the box at `first`
   pub start : ℤ
   pub strut : StrutValue
   pub first : ℕ
-
--- a box whose run hasn't ended
-pub record Waits (parents : List ℕ) (y : BlockLayout) (start : ℤ) (run : List Entry) (p m j : ℕ) : Type 0 where
-  pub rise : run_at y.runs.top_runs j ≡ run
-  pub start_is : length_at y.places.starts j ≡ start
-  pub above : j ≤ p
-  pub holds : (i : ℕ) → j < i → i < m → j ≤ slice_index parents i
+  -- the run was begun by clearance of the box at `first`, which is open: the run ends at its clear edge, or, if the box
+  -- comes out as collapsed through, starts above that
+  pub hangs : Bool
 
 -- a box whose bottom margin was passed
 pub record IsDone (y : BlockLayout) (flags : List Bool) (heights : List Length) (j : ℕ) : Type 0 where
@@ -38,30 +38,48 @@ pub record Marked (parents : List ℕ) (y : BlockLayout) (marks : List Length) (
   pub stands : (j : ℕ) → j < f → flag_at flags j ≡ false → flag_at y.runs.through j ≡ false → length_at marks j ≡ length_at y.places.marks j
   pub inherits : (j : ℕ) → j < f → flag_at flags j ≡ true → has_top (slice_index parents j) (run_at y.runs.before_tops j) ≡ true → length_at marks j ≡ length_at marks (slice_index parents j)
 
--- the boxes before m were opened, and those of them that stand after p or whose subtree ended before m were closed
-pub record IsAt (parents : List ℕ) (blocks : List Block) (y : BlockLayout) (now : PassState) (p m : ℕ) : Type 0 where
-  pub marks_length : length now.marks ≡ length parents
-  pub heights_length : length now.heights ≡ length parents
-  pub through_length : length now.through ≡ length parents
-  pub within : m ≤ length parents
-  pub parent : p < m
-  pub first_least : 0 < now.first
-  pub first_most : now.first ≤ m
-  pub inside : (i : ℕ) → p < i → i < m → p ≤ slice_index parents i
+-- the columns are those of the layout y, as far as they are known at the place (p, m): the boxes before m were opened, and those
+-- of them that stand after p or whose subtree ended before m were closed
+pub record IsSoFar (parents : List ℕ) (y : BlockLayout) (flags : List Bool) (heights marks : List Length) (first p m : ℕ) : Type 0 where
+  pub passed : (j : ℕ) → j < m → flag_at flags j ≡ true → flag_at y.runs.through j ≡ true
+  pub closed : (j : ℕ) → p < j → j < m → IsDone y flags heights j
+  pub gone : (j i : ℕ) → j < i → i < m → slice_index parents i < j → IsDone y flags heights j
+  pub marked : Marked parents y marks flags first
+  pub kept : (j : ℕ) → j < m → flag_at flags j ≡ true → has_top (slice_index parents j) (run_at y.runs.before_tops j) ≡ false → length_at marks j ≡ length_at y.places.marks j
+  pub fresh : (j : ℕ) → m ≤ j → flag_at flags j ≡ false
+  pub open_yet : (j : ℕ) → j ≤ p → Contains parents j m → flag_at flags j ≡ false
+
+-- the run hangs from the clear edge of the box at `first`
+pub record Hangs (parents : List ℕ) (clear_edges : List Length) (y : BlockLayout) (now : PassState) (p m : ℕ) : Type 0 where
+  pub clears : flag_at y.runs.clears now.first ≡ true
+  pub edge : now.start ≡ length_at clear_edges now.first
+  pub open_yet : now.first ≤ p
+  pub contains : Contains parents now.first m
+
+-- the run that comes to the place (p, m) is that of the layout y
+pub record IsInRun (parents : List ℕ) (blocks : List Block) (clear_edges : List Length) (y : BlockLayout) (now : PassState) (p m : ℕ) : Type 0 where
+  pub gathered : Gathered parents blocks y.runs now.first p m
   pub strut_holds : Holds now.strut (margins (run_before parents blocks y.runs p m))
-  pub start_is : now.start ≡ start_before parents blocks y.runs y.places p m
-  pub unbarred : (q : ℕ) → is_barred parents q (run_before parents blocks y.runs p m) ≡ false
-  pub own : (j : ℕ) → now.first ≤ j → j < m → has_top j (run_before parents blocks y.runs p m) ≡ true
-  pub older : (j : ℕ) → j < now.first → has_top j (run_before parents blocks y.runs p m) ≡ false
-  pub waits : (j : ℕ) → now.first ≤ j → j < m → flag_at now.through j ≡ false → Waits parents y now.start (run_across parents blocks y.runs p m) p m j
-  pub inherits : (j : ℕ) → now.first ≤ j → j < m → has_top (slice_index parents j) (run_at y.runs.before_tops j) ≡ not (nat_lt (slice_index parents j) now.first)
-  pub passed : (j : ℕ) → j < m → flag_at now.through j ≡ true → flag_at y.runs.through j ≡ true
-  pub closed : (j : ℕ) → p < j → j < m → IsDone y now.through now.heights j
-  pub gone : (j i : ℕ) → j < i → i < m → slice_index parents i < j → IsDone y now.through now.heights j
-  pub marked : Marked parents y now.marks now.through now.first
-  pub kept : (j : ℕ) → j < m → flag_at now.through j ≡ true → has_top (slice_index parents j) (run_at y.runs.before_tops j) ≡ false → length_at now.marks j ≡ length_at y.places.marks j
-  pub fresh : (j : ℕ) → m ≤ j → flag_at now.through j ≡ false
-  pub open_yet : (j : ℕ) → j ≤ p → ((i : ℕ) → j < i → i < m → j ≤ slice_index parents i) → flag_at now.through j ≡ false
+  pub start_is : now.hangs ≡ false → now.start ≡ start_before parents blocks y.runs y.places p m
+  pub hanging : now.hangs ≡ true → Hangs parents clear_edges y now p m
+
+-- what is kept at the place (p, m) is that of y
+pub record IsAt (parents : List ℕ) (blocks : List Block) (clear_edges : List Length) (y : BlockLayout) (now : PassState) (p m : ℕ) : Type 0 where
+  pub so_far : IsSoFar parents y now.through now.heights now.marks now.first p m
+  pub in_run : IsInRun parents blocks clear_edges y now p m
+
+-- the clearance of the box at k begins a run, before its top margin
+pub record BeginsRun (clear_edges : List Length) (y : BlockLayout) (now : PassState) (k : ℕ) : Type 0 where
+  pub clears : flag_at y.runs.clears k ≡ true
+  pub first_is : now.first ≡ k
+  pub hangs : now.hangs ≡ true
+  pub edge : now.start ≡ length_at clear_edges k
+  pub strut_holds : Holds now.strut []
+
+-- what is kept before the top margin of the box at k, and behind its clearance if it has that, is that of y
+pub record IsBefore (parents : List ℕ) (blocks : List Block) (clear_edges : List Length) (y : BlockLayout) (now : PassState) (k : ℕ) : Type 0 where
+  pub so_far : IsSoFar parents y now.through now.heights now.marks now.first (slice_index parents k) k
+  pub run : ((flag_at y.runs.clears k ≡ false) × IsInRun parents blocks clear_edges y now (slice_index parents k) k) ⊎ BeginsRun clear_edges y now k
 
 -- the marks of the boxes from f on, before m, were set once their run ended at end
 pub record Settled (parents : List ℕ) (flags : List Bool) (old new : List Length) (f m : ℕ) (end : ℤ) : Type 0 where

@@ -14,6 +14,7 @@ pub mod PassBounds
 pub mod LookAhead
 pub mod PlacesTo
 pub mod PassKnows
+pub mod ClearSteps
 pub mod Laws
 pub mod HeightsFrom
 pub mod CornersTo

@@ -1,14 +1,16 @@
 -- How large the numbers of a pass become. Between a mark and the next lie at most a height and what a run's margins
 -- collapse to, or a float, which together are less than 2^36 units; and the first float lies within 2^51 units.
-use Rattle.std.specs.Prelude.{ℕ, ◌≡◌, ◌+◌, ◌*◌, ◌<◌, ◌≤◌, ℤ, pos, neg_ℤ, ◌≤ℤ◌, false, List, [], length}
+use Rattle.std.specs.Prelude.{ℕ, ◌≡◌, ◌+◌, ◌*◌, ◌<◌, ◌≤◌, ℤ, pos, neg_ℤ, ◌≤ℤ◌, ◌==◌, ◌&&◌, nat_lt, Bool, true, false, List, length, slice_index}
 use Rattle.lay_units.specs.Units.{limit}
 use Rattle.lay_units.specs.declared.length.Unit.{Unit as Length}
 use Rattle.lay_margins.specs.StrutValue.{StrutValue}
 use Rattle.lay_flow.specs.declared.block.Block.{Block}
 use Rattle.lay_flow.specs.declared.pass_state.Flow.{Flow}
 use Rattle.lay_flow.specs.StackedBlocks.{length_at}
-use Rattle.lay_flow.specs.MarginRuns.{parts_tops}
-use Rattle.lay_flow.specs.BlockLayout.{BlockLayout, IsBlockLayout, HasNoClearance}
+use Rattle.lay_flow.specs.CornersTo.{IsBoxHeight}
+use Rattle.lay_flow.specs.Children.{flag_at}
+use Rattle.lay_flow.specs.MarginRuns.{block_at, parts_tops}
+use Rattle.lay_flow.specs.BlockPositions.{is_solid}
 use Rattle.lay_flow.specs.BlockPass.{PassState}
 
 -- the strut holds used margins
@@ -22,13 +24,21 @@ pub record StrutFits (s : StrutValue) : Type 0 where
 abbrev pub reach : ℕ → ℤ
 reach k = pos (2251799813685248 + 68719476736 * k)
 
--- a start of a run whose first top margin is that of the box at k
+-- where a box without clearance may begin a run
 abbrev pub IsStartNear : ℕ → ℤ → Type 0
 IsStartNear k v = (neg_ℤ (reach k) ≤ℤ v) × (v ≤ℤ reach k)
 
+-- a clear edge of the box at k
+abbrev pub IsEdgeNear : ℕ → ℤ → Type 0
+IsEdgeNear k v = (neg_ℤ (pos (2251799813685248 + 68719476736 * k + 2147483648)) ≤ℤ v) × (v ≤ℤ pos (2251799813685248 + 68719476736 * k + 2147483648))
+
+-- a start of a run whose first top margin is that of the box at k
+abbrev pub IsRunNear : ℕ → ℤ → Type 0
+IsRunNear k v = (neg_ℤ (pos (2251799813685248 + 68719476736 * k + 4294967296)) ≤ℤ v) × (v ≤ℤ pos (2251799813685248 + 68719476736 * k + 4294967296))
+
 -- a mark of the box at k
 abbrev pub IsMarkNear : ℕ → ℤ → Type 0
-IsMarkNear k v = (neg_ℤ (pos (2251799813685248 + 68719476736 * k + 2147483648)) ≤ℤ v) × (v ≤ℤ pos (2251799813685248 + 68719476736 * k + 2147483648))
+IsMarkNear k v = (neg_ℤ (pos (2251799813685248 + 68719476736 * k + 6442450944)) ≤ℤ v) × (v ≤ℤ pos (2251799813685248 + 68719476736 * k + 6442450944))
 
 -- what margins collapse to
 abbrev pub IsCollapseNear : ℤ → Type 0
@@ -42,23 +52,29 @@ pub record StateFits (parents : List ℕ) (blocks : List Block) (now : PassState
   pub marks_length : length now.marks ≡ length parents
   pub heights_length : length now.heights ≡ length parents
   pub through_length : length now.through ≡ length parents
-  pub start_near : IsStartNear now.first now.start
+  pub start_near : IsRunNear now.first now.start
+  pub edge_near : now.hangs ≡ true → IsEdgeNear now.first now.start
   pub mark_near : (j : ℕ) → IsMarkNear j (length_at now.marks j)
   pub strut_fits : StrutFits now.strut
   -- the boxes that wait for their marks have no border or padding above their content
   pub unparted : (j : ℕ) → now.first ≤ j → j < m → parts_tops blocks j ≡ false
+  pub sized : (j : ℕ) → is_solid (block_at blocks j).inside ≡ false → IsBoxHeight (length_at now.heights j)
 
 -- at most 2^53 units from 0
 abbrev pub IsNear : ℤ → Type 0
 IsNear v = (neg_ℤ (pos 9007199254740992) ≤ℤ v) × (v ≤ℤ pos 9007199254740992)
 
--- no box has clearance
-abbrev pub IsPlainLayout : List ℕ → List Block → List Length → BlockLayout → Type 0
-IsPlainLayout parents blocks extents y = IsBlockLayout parents blocks extents [] y × HasNoClearance y
-
 abbrev pub state_of : Flow → PassState
-state_of f = record { marks = f.marks.items; heights = f.heights.items; through = f.through.items; start = f.start.0; strut = f.strut; first = f.first }
+state_of f = record { marks = f.marks.items; heights = f.heights.items; through = f.through.items; clears = f.clears.items; clear_edges = f.clear_edges.items; start = f.start.0; strut = f.strut; first = f.first; hangs = f.hangs }
+
+-- the run was begun by clearance of a child of p
+abbrev pub is_barred : List ℕ → PassState → ℕ → Bool
+is_barred parents now p = nat_lt now.first (length now.clears) && flag_at now.clears now.first && slice_index parents now.first == p
 
 -- the tops of border boxes are near
 abbrev pub AreNear : List Length → Type 0
 AreNear tops = (k : ℕ) → k < length tops → IsNear (length_at tops k)
+
+-- the heights of border boxes lie within their bounds. That of a solid box, which may be of any extent, is left open.
+abbrev pub AreBoxHeights : List Block → List Length → Type 0
+AreBoxHeights blocks heights = (k : ℕ) → k < length heights → is_solid (block_at blocks k).inside ≡ false → IsBoxHeight (length_at heights k)

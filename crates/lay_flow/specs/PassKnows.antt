@@ -1,19 +1,23 @@
 -- What is known at each place of a pass over the boxes of a context.
-use Rattle.std.specs.Prelude.{ℕ, ◌≡◌, ◌<◌, ◌≤◌, true, false, List, length}
+use Rattle.std.specs.Prelude.{ℕ, ◌≡◌, ◌+◌, ◌<◌, ◌≤◌, Bool, pos, true, false, List, length, slice_index, Some, None}
 use Rattle.lay_units.specs.declared.length.Unit.{Unit as Length}
 use Rattle.lay_doc.specs.Tree.{IsTree}
+use Rattle.lay_floats.specs.declared.requests.Side.{Side}
+use Rattle.lay_floats.specs.declared.requests.Place.{Place}
 use Rattle.lay_flow.specs.declared.block.Block.{Block}
 use Rattle.lay_flow.specs.declared.shape.Shape.{Shape}
 use Rattle.lay_flow.specs.declared.placing.Placing.{Placing as PlacingState}
 use Rattle.lay_flow.specs.StackedBlocks.{length_at}
 use Rattle.lay_flow.specs.CornersTo.{IsInset}
+use Rattle.lay_flow.specs.Children.{flag_at}
 use Rattle.lay_flow.specs.MarginRuns.{block_at}
-use Rattle.lay_flow.specs.BlockFloats.{AreShapes}
+use Rattle.lay_flow.specs.BlockFloats.{AreShapes, shape_at, place_at}
 use Rattle.lay_flow.specs.BlockPositions.{is_solid}
-use Rattle.lay_flow.specs.BlockLayout.{BlockLayout}
-use Rattle.lay_flow.specs.BlockPass.{PassState, IsAt}
-use Rattle.lay_flow.specs.PassBounds.{StateFits, IsPlainLayout}
-use Rattle.lay_flow.specs.PlacesTo.{Placing, PlacesTo, AreFree}
+use Rattle.lay_flow.specs.BlockLayout.{BlockLayout, IsBlockLayout}
+use Rattle.lay_flow.specs.Clearance.{HasClearance}
+use Rattle.lay_flow.specs.BlockPass.{PassState, IsAt, IsBefore}
+use Rattle.lay_flow.specs.PassBounds.{StateFits, IsStartNear, IsEdgeNear}
+use Rattle.lay_flow.specs.PlacesTo.{Placing, PlacesTo, HaveShapeSizes}
 
 -- extents as they may be at last: of boxes that aren't solid they are the given ones, and of the solid boxes that are
 -- placed they are known
@@ -32,20 +36,59 @@ AreGiven parents blocks given extents = (j : ℕ) → 0 < j → j < length paren
 abbrev pub AreExtentsKept : List Block → ℕ → List Length → List Length → Type 0
 AreExtentsKept blocks k old new = (j : ℕ) → (is_solid (block_at blocks j).inside ≡ true → j < k) → length_at new j ≡ length_at old j
 
--- a tree of at most 16384 boxes, with blocks and shapes that fit, none of which asks for clearance but floats
+-- a tree of at most 16384 boxes, with blocks and shapes that fit
 pub record ArePlaceable (parents : List ℕ) (blocks : List Block) (shapes : List Shape) : Type 0 where
   pub few : length parents ≤ 16384
   pub tree : IsTree parents
   pub block_count : length blocks ≡ length parents
   pub edge : (k : ℕ) → k < length parents → IsInset (block_at blocks k).edge_top.0
   pub are_shapes : AreShapes parents blocks shapes
-  pub free : AreFree parents shapes
+  pub sizes : HaveShapeSizes parents shapes
 
--- the pass is at the place (p, m), and what it keeps is as in every layout without clearance whose extents may be
--- those of the context
+-- a layout that the blocks may have at last: the boxes before m have the clearance that was decided
+pub record IsCandidate (parents : List ℕ) (blocks : List Block) (extents clear_edges : List Length) (y : BlockLayout) (flags : List Bool) (edges : List Length) (m : ℕ) : Type 0 where
+  pub is_layout : IsBlockLayout parents blocks extents clear_edges y
+  pub clears : (j : ℕ) → j < m → flag_at y.runs.clears j ≡ flag_at flags j
+  pub edge : (j : ℕ) → j < m → flag_at flags j ≡ true → length_at clear_edges j ≡ length_at edges j
+
+-- places of which those that are known are the same
+abbrev pub ArePlacesKept : List Place → List Place → Type 0
+ArePlacesKept old new = (j : ℕ) → j < length old → place_at new j ≡ place_at old j
+
+-- the clearance of the boxes before m was decided as it is in every flow that the context may have at last
+abbrev pub AreDecided : List ℕ → List Block → List Shape → List Length → List Bool → List Length → Placing → ℕ → Type 0
+AreDecided parents blocks shapes given flags edges placing m =
+    (k : ℕ) → 0 < k → k < m → (shape_at shapes k).float ≡ None
+    → (extents clear_edges : List Length) (y : BlockLayout) (places : List Place) → MayBe parents blocks given placing extents → IsCandidate parents blocks extents clear_edges y flags edges m → ArePlacesKept placing.places places
+    → HasClearance parents blocks shapes extents clear_edges places y k
+
+-- the columns of clearance, as far as the boxes before m are decided
+pub record AreClears (parents : List ℕ) (shapes : List Shape) (flags : List Bool) (edges : List Length) (m : ℕ) : Type 0 where
+  pub clears_length : length flags ≡ length parents
+  pub edges_length : length edges ≡ length parents
+  pub later : (j : ℕ) → m ≤ j → flag_at flags j ≡ false
+  pub root : flag_at flags 0 ≡ false
+  pub float : (k : ℕ) (side : Side) → (shape_at shapes k).float ≡ Some side → flag_at flags k ≡ false
+  pub no_edge : (k : ℕ) → flag_at flags k ≡ false → length_at edges k ≡ pos 0
+
+-- the pass is at the place (p, m), and what it keeps is as in every layout that may be that of the context
 pub record Knows (parents : List ℕ) (blocks : List Block) (shapes : List Shape) (given : List Length) (now : PassState) (placing : Placing) (p m : ℕ) : Type 0 where
   pub fits : StateFits parents blocks now p m
-  pub is_at : (extents : List Length) (y : BlockLayout) → MayBe parents blocks given placing extents → IsPlainLayout parents blocks extents y → IsAt parents blocks y now p m
+  pub near : IsStartNear m now.start
+  pub is_at : (extents clear_edges : List Length) (y : BlockLayout) → MayBe parents blocks given placing extents → IsCandidate parents blocks extents clear_edges y now.clears now.clear_edges m → IsAt parents blocks clear_edges y now p m
   pub are_given : AreGiven parents blocks given placing.extents
   pub placed : PlacesTo parents blocks shapes now.marks placing (length placing.places)
   pub early : length placing.places ≤ now.first
+  pub are_clears : AreClears parents shapes now.clears now.clear_edges m
+  pub decided : AreDecided parents blocks shapes given now.clears now.clear_edges placing m
+
+-- the pass is before the top margin of the box at k, and it is decided whether that has clearance
+pub record IsReady (parents : List ℕ) (blocks : List Block) (shapes : List Shape) (given : List Length) (now : PassState) (placing : Placing) (k : ℕ) : Type 0 where
+  pub fits : StateFits parents blocks now (slice_index parents k) k
+  pub near : IsEdgeNear k now.start
+  pub is_before : (extents clear_edges : List Length) (y : BlockLayout) → MayBe parents blocks given placing extents → IsCandidate parents blocks extents clear_edges y now.clears now.clear_edges (k + 1) → IsBefore parents blocks clear_edges y now k
+  pub are_given : AreGiven parents blocks given placing.extents
+  pub placed : PlacesTo parents blocks shapes now.marks placing (length placing.places)
+  pub early : length placing.places ≤ now.first
+  pub are_clears : AreClears parents shapes now.clears now.clear_edges (k + 1)
+  pub decided : AreDecided parents blocks shapes given now.clears now.clear_edges placing (k + 1)

@@ -3,7 +3,6 @@ use Rattle.std.specs.Prelude.{ℕ, ◌≡◌, ◌+◌, ◌*◌, ◌<◌, ℤ, po
 use Rattle.lay_units.specs.declared.length.Unit.{Unit as Length}
 use Rattle.lay_floats.specs.declared.placed.Placed.{Placed}
 use Rattle.lay_floats.specs.declared.requests.Side.{Side}
-use Rattle.lay_floats.specs.declared.requests.Clear.TheVariants.{None as clear_none}
 use Rattle.lay_floats.specs.declared.requests.Place.{Place}
 use Rattle.lay_floats.specs.FloatPlace.{IsFloatPlace}
 use Rattle.lay_floats.specs.SolidPlace.{IsSolidPlace}
@@ -24,10 +23,9 @@ pub record ShapeFits (s : Shape) : Type 0 where
   pub right : IsWithin (pos 1125899906842624) s.right.0
   pub x : IsWithin (pos 1125899906842624) s.x.0
 
--- the shapes have these sizes, and no box asks for clearance but floats
-pub record AreFree (parents : List ℕ) (shapes : List Shape) : Type 0 where
-  pub fits : (k : ℕ) → k < length parents → ShapeFits (shape_at shapes k)
-  pub unclear : (k : ℕ) → k < length parents → (shape_at shapes k).float ≡ None → (shape_at shapes k).clear ≡ clear_none
+-- the shapes have these sizes
+abbrev pub HaveShapeSizes : List ℕ → List Shape → Type 0
+HaveShapeSizes parents shapes = (k : ℕ) → k < length parents → ShapeFits (shape_at shapes k)
 
 -- what a pass keeps of floats and solid boxes: the extents of the boxes, as far as they are known, the floats that stand,
 -- and the places so far
@@ -55,4 +53,4 @@ pub record PlacesTo (parents : List ℕ) (blocks : List Block) (shapes : List Sh
 
 -- a ceiling of the box at k: its mark, or the top of its parent's content
 abbrev pub IsCeilingNear : ℕ → ℤ → Type 0
-IsCeilingNear k v = IsWithin (pos (2251799813685248 + 68719476736 * k + 8589934592)) v
+IsCeilingNear k v = IsWithin (pos (2251799813685248 + 68719476736 * k + 17179869184)) v

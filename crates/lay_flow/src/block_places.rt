@@ -5,9 +5,9 @@ ghost use Rattle.lay_units.specs.Units.{IsPosition};
 ghost use Rattle.lay_flow.specs.BlockFloats.{AreShapes, no_place};
 ghost use Rattle.lay_flow.specs.BlockSizes.{AreBlocks};
 ghost use Rattle.lay_flow.specs.ContextFlow.{AreContextPlaces, reach_below};
-ghost use Rattle.lay_flow.specs.PassBounds.{AreNear, state_of};
+ghost use Rattle.lay_flow.specs.PassBounds.{AreBoxHeights, AreNear, state_of};
 ghost use Rattle.lay_flow.specs.PassKnows.{ArePlaceable, Knows, placing_of};
-ghost use Rattle.lay_flow.specs.PlacesTo.{AreFree};
+ghost use Rattle.lay_flow.specs.PlacesTo.{HaveShapeSizes};
 
 use crate::block::Block;
 use crate::block_steps::{close, open};
@@ -15,7 +15,7 @@ use crate::columns::{block_at, length_at, parent_at, sum_of, write_at};
 use crate::pass_state::Flow;
 use crate::place_boxes::{nowhere, place_up_to, push_place};
 use crate::placing::Placing;
-use crate::run_ends::{no_margin, run_end};
+use crate::run_ends::{end_of, no_margin};
 use crate::settling::settle;
 use crate::shape::Shape;
 use lay_floats::{Clear, Floats, Place};
@@ -35,9 +35,9 @@ pub struct BlockPlaces {
     pub places: Vec<Place>,
 }
 
-/// The places of a context's boxes, none of which has `clear` but floats: from the places of their parents,
-/// their sizes, their shapes, and the heights of the lines of those that hold lines. The last are 0 for other
-/// boxes (CSS 2.2, 8.3.1, 9.4.1, 9.5, 10.6.3, 10.6.7 and 10.7).
+/// The places of a context's boxes, from the places of their parents, their sizes, their shapes, and the
+/// heights of the lines of those that hold lines. The last are 0 for other boxes (CSS 2.2, 8.3.1, 9.4.1, 9.5,
+/// 9.5.2, 10.6.3, 10.6.7 and 10.7).
 pub fn place_blocks(
     alloc: Global,
     parents: &[usize],
@@ -47,9 +47,10 @@ pub fn place_blocks(
 ) -> Result<BlockPlaces, NoMemory>
     requires blocks { AreBlocks parents.now blocks.now lines.now }
     requires shapes { AreShapes parents.now blocks.now shapes.now }
-    requires free { AreFree parents.now shapes.now }
+    requires sizes { HaveShapeSizes parents.now shapes.now }
     ensures places { IfOk result (λ r. AreContextPlaces parents.now blocks.now shapes.now lines.now r.tops.items r.heights.items r.places.items) }
     ensures near { IfOk result (λ r. AreNear r.tops.items) }
+    ensures sized { IfOk result (λ r. AreBoxHeights blocks.now r.heights.items) }
 {
     let mut flow = begin(alloc, parents, blocks, shapes, lines)?;
     for k in 1..parents.len() {
@@ -81,9 +82,12 @@ fn begin(
         marks: vec![in alloc; Unit(0); count]?,
         heights: vec![in alloc; Unit(0); count]?,
         through: vec![in alloc; false; count]?,
+        clears: vec![in alloc; false; count]?,
+        clear_edges: vec![in alloc; Unit(0); count]?,
         start: block_at(blocks, 0).edge_top,
         strut: no_margin(),
         first: 1,
+        hangs: false,
         placing: placing_of(alloc, lines)?,
     })
 }
@@ -123,7 +127,7 @@ fn advance(
 {
     let parent = parent_at(parents, k);
     close_to(parents, blocks, shapes, lines, flow, k - 1, parent, k)?;
-    open(parents, blocks, shapes, lines, flow, k);
+    open(parents, blocks, shapes, lines, flow, k)?;
     Ok(())
 }
 
@@ -167,6 +171,7 @@ fn finish(
     requires known { Knows parents.now blocks.now shapes.now lines.now (state_of flow.old) (placing_of flow.old.placing) (length parents.now - 1) (length parents.now) }
     ensures places { OnOk result (AreContextPlaces parents.now blocks.now shapes.now lines.now flow.new.marks.items flow.new.heights.items flow.new.placing.places.items) }
     ensures near { OnOk result (AreNear flow.new.marks.items) }
+    ensures sized { OnOk result (AreBoxHeights blocks.now flow.new.heights.items) }
 {
     let count = parents.len();
     close_to(parents, blocks, shapes, lines, flow, count - 1, 0, count)?;
@@ -187,9 +192,10 @@ fn close_root(
     requires known { Knows parents.now blocks.now shapes.now _lines.now (state_of flow.old) (placing_of flow.old.placing) 0 (length parents.now) }
     ensures places { OnOk result (AreContextPlaces parents.now blocks.now shapes.now _lines.now flow.new.marks.items flow.new.heights.items flow.new.placing.places.items) }
     ensures near { OnOk result (AreNear flow.new.marks.items) }
+    ensures sized { OnOk result (AreBoxHeights blocks.now flow.new.heights.items) }
 {
     let count = parents.len();
-    let end = run_end(flow.start, flow.strut);
+    let end = end_of(flow.start, flow.hangs, flow.strut);
     settle(
         parents,
         &flow.through,

@@ -17,6 +17,7 @@ mod block_heights;
 mod block_places;
 mod block_steps;
 mod border_height;
+mod clear_steps;
 mod columns;
 mod corner;
 mod hypothetical_edge;

@@ -7,7 +7,7 @@ ghost use Rattle.lay_flow.specs.BlockFloats.{ceiling, float_request, solid_reque
 ghost use Rattle.lay_flow.specs.BlockPositions.{is_solid};
 ghost use Rattle.lay_flow.specs.MarginRuns.{block_at};
 ghost use Rattle.lay_flow.specs.PassBounds.{IsMarkNear, IsNear};
-ghost use Rattle.lay_flow.specs.PassKnows.{ArePlaceable, AreExtentsKept, placing_of};
+ghost use Rattle.lay_flow.specs.PassKnows.{ArePlaceable, AreExtentsKept, ArePlacesKept, placing_of};
 ghost use Rattle.lay_flow.specs.PlacesTo.{PlacesTo, IsCeilingNear};
 ghost use Rattle.lay_flow.specs.StackedBlocks.{length_at};
 
@@ -35,6 +35,7 @@ pub(crate) fn place_up_to(
     requires known { PlacesTo parents.now blocks.now shapes.now marks.now (placing_of placing.old) (length placing.old.places.items) }
     ensures placed { OnOk result (PlacesTo parents.now blocks.now shapes.now marks.now (placing_of placing.new) m) }
     ensures kept { OnOk result (AreExtentsKept blocks.now (length placing.old.places.items) placing.old.extents.items placing.new.extents.items) }
+    ensures same { OnOk result (ArePlacesKept placing.old.places.items placing.new.places.items) }
 {
     for k in placing.places.len()..m {
         place_one(parents, blocks, shapes, marks, placing, k)?;
@@ -57,6 +58,7 @@ fn place_one(
     requires known { PlacesTo parents.now blocks.now shapes.now marks.now (placing_of placing.old) k }
     ensures placed { OnOk result (PlacesTo parents.now blocks.now shapes.now marks.now (placing_of placing.new) (k + 1)) }
     ensures kept { OnOk result (AreExtentsKept blocks.now k placing.old.extents.items placing.new.extents.items) }
+    ensures same { OnOk result (ArePlacesKept placing.old.places.items placing.new.places.items) }
 {
     if let Some(side) = shape_at(shapes, k).float {
         place_float(parents, blocks, shapes, marks, placing, k, side)?;
@@ -87,6 +89,7 @@ fn place_float(
     requires known { PlacesTo parents.now blocks.now shapes.now marks.now (placing_of placing.old) k }
     ensures placed { OnOk result (PlacesTo parents.now blocks.now shapes.now marks.now (placing_of placing.new) (k + 1)) }
     ensures kept { OnOk result (placing.new.extents.items ≡ placing.old.extents.items) }
+    ensures same { OnOk result (ArePlacesKept placing.old.places.items placing.new.places.items) }
 {
     let top = ceiling(parents, blocks, marks, shapes, k);
     let request = float_request(&shape_at(shapes, k), side, top);
@@ -111,6 +114,7 @@ fn place_solid(
     requires known { PlacesTo _parents.now _blocks.now shapes.now marks.now (placing_of placing.old) k }
     ensures placed { OnOk result (PlacesTo _parents.now _blocks.now shapes.now marks.now (placing_of placing.new) (k + 1)) }
     ensures kept { OnOk result (AreExtentsKept _blocks.now k placing.old.extents.items placing.new.extents.items) }
+    ensures same { OnOk result (ArePlacesKept placing.old.places.items placing.new.places.items) }
 {
     let shape = shape_at(shapes, k);
     let mark = length_at(marks, k);
@@ -135,6 +139,7 @@ fn place_nowhere(
     requires known { PlacesTo _parents.now _blocks.now _shapes.now _marks.now (placing_of placing.old) k }
     ensures placed { OnOk result (PlacesTo _parents.now _blocks.now _shapes.now _marks.now (placing_of placing.new) (k + 1)) }
     ensures kept { OnOk result (placing.new.extents.items ≡ placing.old.extents.items) }
+    ensures same { OnOk result (ArePlacesKept placing.old.places.items placing.new.places.items) }
 {
     push_place(&mut placing.places, nowhere())?;
     Ok(())
@@ -197,7 +202,7 @@ fn solid_request(shape: &Shape, mark: Unit) -> SolidReq
     }
 }
 
-fn shape_at(shapes: &[Shape], k: usize) -> Shape
+pub(crate) fn shape_at(shapes: &[Shape], k: usize) -> Shape
     requires { k < length shapes.now }
     ensures { result ≡ shape_at shapes.now k }
 {
@@ -214,7 +219,8 @@ pub(crate) fn nowhere() -> Place
 }
 
 pub(crate) fn push_place(places: &mut Vec<Place>, place: Place) -> Result<(), NoMemory>
-    ensures { OnOk result (places.new.items ≡ places.old.items ++ place ∷ []) }
+    ensures pushed { OnOk result (places.new.items ≡ places.old.items ++ place ∷ []) }
+    ensures same { OnOk result (ArePlacesKept places.old.items places.new.items) }
 {
     places.push(place)?;
     Ok(())

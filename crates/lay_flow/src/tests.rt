@@ -8,9 +8,8 @@ ghost use Rattle.lay_flow.specs.BlockSizes.{AreBlocks, BlockFits};
 ghost use Rattle.lay_flow.specs.CornersTo.{IsInset};
 ghost use Rattle.lay_floats.specs.Within.{IsWithin};
 ghost use Rattle.lay_floats.specs.declared.requests.Side.{Side};
-ghost use Rattle.lay_floats.specs.declared.requests.Clear.TheVariants.{None as clear_none};
 ghost use Rattle.lay_flow.specs.BlockFloats.{AreShapes, shape_at};
-ghost use Rattle.lay_flow.specs.PlacesTo.{AreFree, ShapeFits};
+ghost use Rattle.lay_flow.specs.PlacesTo.{HaveShapeSizes, ShapeFits};
 ghost use Rattle.lay_flow.specs.MarginRuns.{block_at, is_blocks, no_block};
 
 use crate::columns::{block_at, parent_at};
@@ -168,19 +167,12 @@ fn shape_fits(s: &Shape) -> bool
         && is_small(s.x)
 }
 
-fn is_free(s: &Shape) -> bool
-    ensures { result ≡ true → s.now.float ≡ None → s.now.clear ≡ clear_none }
-{
-    s.float.is_some() || s.clear == Clear::None
-}
-
-fn are_free(parents: &[usize], shapes: &[Shape]) -> bool
+fn have_sizes(parents: &[usize], shapes: &[Shape]) -> bool
     requires { length shapes.now ≡ length parents.now }
-    ensures { result ≡ true → AreFree parents.now shapes.now }
+    ensures { result ≡ true → HaveShapeSizes parents.now shapes.now }
 {
     for k in 0..parents.len() {
-        let shape = shape_at(shapes, k);
-        if !shape_fits(&shape) || !is_free(&shape) {
+        if !shape_fits(&shape_at(shapes, k)) {
             return false;
         }
     }
@@ -260,7 +252,7 @@ fn placed_with(
     if !are_blocks(parents, blocks, lines) || shapes.len() != parents.len() {
         return Ok(None);
     }
-    if !are_shapes(parents, blocks, shapes) || !are_free(parents, shapes) {
+    if !are_shapes(parents, blocks, shapes) || !have_sizes(parents, shapes) {
         return Ok(None);
     }
     let places = place_blocks(alloc, parents, blocks, shapes, lines)?;
@@ -464,6 +456,143 @@ fn floats_stand_at_their_marks_and_solid_boxes_beside_or_below_them(
         .as_str(),
         " 0,0 0,0 0,30 500,30 / 80 10 0 0",
         "floats of both sides after a margin"
+    );
+    Ok(())
+}
+
+/// The tops and heights of the blocks and the tops of the floats, in pixels, where the boxes have these shapes.
+fn cleared(
+    alloc: Global,
+    parents: &[usize],
+    blocks: &[Block],
+    shapes: &[Shape],
+) -> Result<String, Fail> {
+    let lines = vec![in alloc; px(0); parents.len()]?;
+    let places = placed_with(alloc, parents, blocks, shapes, &lines)?;
+    let mut text = String::new(alloc);
+    if let Some(places) = places {
+        push_lengths(&mut text, &places.tops)?;
+        write!(text, " /")?;
+        push_lengths(&mut text, &places.heights)?;
+        write!(text, " /")?;
+        for place in &places.places {
+            let y = place.y.0 / 64;
+            write!(text, " {y}")?;
+        }
+    }
+    Ok(text)
+}
+
+fn left_float(height: i16) -> Shape {
+    Shape {
+        float: Some(Side::Left),
+        width: px(10),
+        height: px(height),
+        ..IN_FLOW
+    }
+}
+
+const CLEAR_LEFT: Shape = Shape {
+    clear: Clear::Left,
+    ..IN_FLOW
+};
+
+#[test]
+fn a_box_with_clear_stands_below_the_floats_of_its_sides(rt: HostRuntime) -> Result<(), Fail> {
+    let alloc = rt.alloc();
+    let parents = [0, 0, 0, 0];
+    let blocks = [EMPTY, EMPTY, sized(0, 10, 0), sized(0, 10, 0)];
+    assert_eq!(rt;
+        cleared(
+            alloc,
+            &parents,
+            &blocks,
+            &[IN_FLOW, left_float(30), IN_FLOW, CLEAR_LEFT]
+        )?
+        .as_str(),
+        " 0 0 0 30 / 40 0 10 10 / 0 0 0 0",
+        "below a float of 30 px"
+    );
+    assert_eq!(rt;
+        cleared(
+            alloc,
+            &parents,
+            &blocks,
+            &[IN_FLOW, left_float(5), IN_FLOW, CLEAR_LEFT]
+        )?
+        .as_str(),
+        " 0 0 0 10 / 20 0 10 10 / 0 0 0 0",
+        "where it stands below the float anyway"
+    );
+    let right = Shape {
+        float: Some(Side::Right),
+        ..left_float(30)
+    };
+    assert_eq!(rt;
+        cleared(
+            alloc,
+            &parents,
+            &blocks,
+            &[IN_FLOW, right, IN_FLOW, CLEAR_LEFT]
+        )?
+        .as_str(),
+        " 0 0 0 10 / 30 0 10 10 / 0 0 0 0",
+        "beside a float of the other side"
+    );
+    Ok(())
+}
+
+#[test]
+fn a_float_in_the_run_of_a_box_with_clear_brings_clearance(rt: HostRuntime) -> Result<(), Fail> {
+    let alloc = rt.alloc();
+    assert_eq!(rt;
+        cleared(
+            alloc,
+            &[0, 0, 1, 1],
+            &[EMPTY, EMPTY, EMPTY, sized(20, 10, 0)],
+            &[IN_FLOW, IN_FLOW, left_float(10), CLEAR_LEFT]
+        )?
+        .as_str(),
+        " 0 0 0 20 / 30 30 0 10 / 0 0 0 0",
+        "a top margin as high as the clear edge of its parent's content"
+    );
+    assert_eq!(rt;
+        cleared(
+            alloc,
+            &[0, 0, 0, 0],
+            &[EMPTY, sized(0, 10, 20), EMPTY, sized(30, 10, 0)],
+            &[IN_FLOW, IN_FLOW, left_float(5), CLEAR_LEFT]
+        )?
+        .as_str(),
+        " 0 0 30 40 / 50 10 0 10 / 0 0 30 0",
+        "a margin before the float in the same run"
+    );
+    Ok(())
+}
+
+#[test]
+fn a_cleared_box_without_content_parts_its_margins_from_its_parents_bottom(
+    rt: HostRuntime,
+) -> Result<(), Fail> {
+    let alloc = rt.alloc();
+    let parents = [0, 0, 1, 1, 0];
+    let blocks = [EMPTY, block(0, 40), EMPTY, block(10, 15), sized(0, 10, 0)];
+    let shapes = [IN_FLOW, IN_FLOW, left_float(30), CLEAR_LEFT, IN_FLOW];
+    assert_eq!(rt;
+        cleared(alloc, &parents, &blocks, &shapes)?.as_str(),
+        " 0 0 0 30 75 / 85 35 0 0 10 / 0 0 0 0 0",
+        "collapsed through, and last in its parent"
+    );
+    assert_eq!(rt;
+        cleared(
+            alloc,
+            &[0, 0, 0, 2, 0],
+            &[EMPTY, EMPTY, block(10, 0), block(20, 15), sized(25, 10, 0)],
+            &[IN_FLOW, left_float(30), CLEAR_LEFT, IN_FLOW, IN_FLOW]
+        )?
+        .as_str(),
+        " 0 0 30 30 35 / 45 0 0 0 10 / 0 0 0 0 0",
+        "with a box in it that is collapsed through"
     );
     Ok(())
 }

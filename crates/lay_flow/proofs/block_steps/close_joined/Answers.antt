@@ -7,9 +7,10 @@ use Rattle.lay_units.specs.declared.length.Unit.{Unit as Length}
 use Rattle.lay_flow.specs.StackedBlocks.{length_at}
 use Rattle.lay_flow.specs.PassKnows.{placing_of}
 use Rattle.lay_flow.specs.PassBounds.{state_of, IsNear}
-use Rattle.lay_flow.proofs.Closings.{Wrote}
+use Rattle.lay_flow.proofs.BlockKinds.{joins_flow}
+use Rattle.lay_flow.proofs.SoFar.{Wrote}
 use Rattle.lay_flow.proofs.PassFits.{start_is_near, mark_is_near, box_height_position}
-use Rattle.lay_flow.proofs.PassSteps.{knows_joined, joins_flow}
+use Rattle.lay_flow.proofs.PassSteps.{knows_joined}
 use Rattle.lay_flow.proofs.WroteColumns.{wrote_length}
 use Rattle.lay_flow.proofs.block_steps.close_joined.Goals as goal
 
@@ -46,7 +47,7 @@ returns c =
     let wrote : Wrote length_at old.heights.items c.write_at.new.column.items p c.border_height-height.result.0 =
     subst (λ (xs : List Length). Wrote length_at old.heights.items xs p c.border_height-height.result.0) (sym c.write_at.ensures) (wrote_length old.heights.items p c.border_height-height.result (omega (arith, a, b, l))) in
     knows_joined c.args._parents.now c.args.blocks.now c.args._shapes.now c.args._given.now c.requires.input.tree (state_of old) (placing_of old.placing) p c.args._m c.requires.input c.requires.positive c.requires.ends c.requires.known
-    _ c.length_at-mark.result.0 c.border_height-height.result.0 c.sum_of-flow.result.0 c.with_margin-flow.result c.requires.joined c.requires.settled marked (c.border_height-height.ensures.size flow) height starts wrote
+    _ c.length_at-mark.result.0 c.border_height-height.result.0 c.sum_of-flow.result.0 c.with_margin-flow.result c.requires.joined c.requires.unbarred c.requires.settled marked (c.border_height-height.ensures.size flow) height starts wrote
     c.with_margin-flow.ensures.fits holds
 
 pub sum_of-flow-requires-clause-b : goal.sum_of-flow-requires-clause-b

@@ -10,15 +10,16 @@ use Rattle.lay_flow.specs.MarginRuns.{block_at}
 use Rattle.lay_flow.specs.PassBounds.{state_of, IsMarkNear, IsNear}
 use Rattle.lay_flow.specs.PlacesTo.{PlacesTo}
 use Rattle.lay_flow.specs.PassKnows.{placing_of}
-use Rattle.lay_flow.proofs.Closings.{Wrote}
+use Rattle.lay_flow.proofs.SoFar.{Wrote}
 use Rattle.lay_flow.proofs.PassFits.{start_is_near, mark_is_near, marks_settled, end_near, box_height_position, extent_position}
 use Rattle.lay_flow.proofs.PassSteps.{knows_parted, placed_kept}
-use Rattle.lay_flow.proofs.WholePass.{true_or}
+use Rattle.lay_flow.proofs.RunReach.{RunEnds}
+use Rattle.lay_flow.proofs.Truths.{true_or}
 use Rattle.lay_flow.proofs.WroteColumns.{wrote_length}
 use Rattle.lay_flow.proofs.block_steps.close_parted.Goals as goal
 
-pub run_end-end-requires-clause-start : goal.run_end-end-requires-clause-start
-run_end-end-requires-clause-start c =
+pub end_of-end-requires-clause-start : goal.end_of-end-requires-clause-start
+end_of-end-requires-clause-start c =
     let f = c.requires.known.fits in let few = c.requires.input.few in let a = f.first_most in let b = f.within in
     start_is_near c.args.flow.now.first c.args.flow.now.start.0 (omega (arith, few, a, b)) f.start_near
 
@@ -26,7 +27,7 @@ pub place_up_to-requires-clause-near : goal.place_up_to-requires-clause-near
 place_up_to-requires-clause-near c =
     let f = c.requires.known.fits in
     let settles = rw c.deref.ensures.value at c.settle.ensures in
-    let near = marks_settled c.args.parents.now c.requires.input.tree c.args.blocks.now (state_of c.args.flow.now) c.args.p c.args.m c.requires.positive f _ c.run_end-end.result.0 c.args.flow.now.strut settles f.strut_fits c.run_end-end.ensures.near in
+    let near = marks_settled c.args.parents.now c.requires.input.tree c.args.blocks.now (state_of c.args.flow.now) c.args.p c.args.m c.requires.positive f _ c.end_of-end.result.0 settles c.end_of-end.ensures.near in
     subst (λ (xs : List Length). (j : ℕ) → IsMarkNear j (length_at xs j)) (sym c.deref-2.ensures.value) near
 
 pub place_up_to-requires-clause-known : goal.place_up_to-requires-clause-known
@@ -46,20 +47,20 @@ border_height-height-requires-clause-mark c =
     let f = c.requires.known.fits in let few = c.requires.input.few in let a = f.parent in let b = f.within in
     let e = rw c.deref-3.ensures.value at c.length_at-mark.ensures in
     let settles = rw c.deref.ensures.value at c.settle.ensures in
-    let near = marks_settled c.args.parents.now c.requires.input.tree c.args.blocks.now (state_of c.args.flow.now) c.args.p c.args.m c.requires.positive f _ c.run_end-end.result.0 c.args.flow.now.strut settles f.strut_fits c.run_end-end.ensures.near c.args.p in
+    let near = marks_settled c.args.parents.now c.requires.input.tree c.args.blocks.now (state_of c.args.flow.now) c.args.p c.args.m c.requires.positive f _ c.end_of-end.result.0 settles c.end_of-end.ensures.near c.args.p in
     subst IsNear (sym e) (mark_is_near c.args.p _ (omega (arith, few, a, b)) near)
 
 pub border_height-height-requires-clause-bottom : goal.border_height-height-requires-clause-bottom
 border_height-height-requires-clause-bottom c =
     let f = c.requires.known.fits in let few = c.requires.input.few in let b = f.within in
-    mark_is_near c.args.m c.run_end-end.result.0 (omega (arith, few, b)) (end_near c.args.flow.now.first c.args.m c.args.flow.now.start.0 c.run_end-end.result.0 c.args.flow.now.strut f.start_near f.strut_fits c.run_end-end.ensures.near f.first_most)
+    mark_is_near c.args.m c.end_of-end.result.0 (omega (arith, few, b)) (end_near c.args.flow.now.first c.args.m c.args.flow.now.start.0 c.end_of-end.result.0 f.start_near c.end_of-end.ensures.near f.first_most)
 
 pub sum_of-flow-requires-clause-a : goal.sum_of-flow-requires-clause-a
 sum_of-flow-requires-clause-a c =
     let f = c.requires.known.fits in let few = c.requires.input.few in let a = f.parent in let b = f.within in
     let e = rw c.deref-3.ensures.value at c.length_at-mark.ensures in
     let settles = rw c.deref.ensures.value at c.settle.ensures in
-    let near = marks_settled c.args.parents.now c.requires.input.tree c.args.blocks.now (state_of c.args.flow.now) c.args.p c.args.m c.requires.positive f _ c.run_end-end.result.0 c.args.flow.now.strut settles f.strut_fits c.run_end-end.ensures.near c.args.p in
+    let near = marks_settled c.args.parents.now c.requires.input.tree c.args.blocks.now (state_of c.args.flow.now) c.args.p c.args.m c.requires.positive f _ c.end_of-end.result.0 settles c.end_of-end.ensures.near c.args.p in
     let n = subst IsNear (sym e) (mark_is_near c.args.p _ (omega (arith, few, a, b)) near) in
     let u = n.0 in let v = n.1 in (omega (arith, ints, u), omega (arith, ints, v))
 
@@ -69,7 +70,7 @@ sum_of-flow-requires-clause-b c =
     let p = c.args.p in
     let block = c.block_at-block.ensures in
     let settles = rw c.deref.ensures.value at c.settle.ensures in
-    let near = marks_settled c.args.parents.now c.requires.input.tree c.args.blocks.now (state_of c.args.flow.now) p c.args.m c.requires.positive f _ c.run_end-end.result.0 c.args.flow.now.strut settles f.strut_fits c.run_end-end.ensures.near p in
+    let near = marks_settled c.args.parents.now c.requires.input.tree c.args.blocks.now (state_of c.args.flow.now) p c.args.m c.requires.positive f _ c.end_of-end.result.0 settles c.end_of-end.ensures.near p in
     let done = c.in_ok-place_up_to.ensures {u = tt} in
     let placed = rw c.deref-2.ensures.value at done.placed in
     let extent = rw c.deref-4.ensures.value at c.length_at.ensures in
@@ -97,7 +98,8 @@ returns c =
     let starts = ap (λ (v : Length). v.0) c.sum_of-flow.ensures in
     let wrote : Wrote length_at old.heights.items c.write_at.new.column.items p c.border_height-height.result.0 =
     subst (λ (xs : List Length). Wrote length_at old.heights.items xs p c.border_height-height.result.0) (sym c.write_at.ensures) (wrote_length old.heights.items p c.border_height-height.result (omega (arith, a, b, l))) in
+    let ends : RunEnds old.hangs old.start.0 old.strut c.end_of-end.result.0 = record { hanging = c.end_of-end.ensures.hanging; value = c.end_of-end.ensures.value } in
     knows_parted c.args.parents.now c.args.blocks.now c.args.shapes.now c.args._given.now c.requires.input.tree (state_of old) (placing_of old.placing) p c.args.m c.requires.input c.requires.positive c.requires.ends c.requires.known
-    _ _ (placing_of c.place_up_to.new.placing) c.run_end-end.result.0 c.length_at-mark.result.0 c.border_height-height.result.0 c.sum_of-flow.result.0 c.lone_margin-flow.result c.requires.parted c.requires.settled
-    c.run_end-end.ensures.near c.run_end-end.ensures.value settles placed done.kept marked size height starts wrote
+    _ _ (placing_of c.place_up_to.new.placing) c.end_of-end.result.0 c.length_at-mark.result.0 c.border_height-height.result.0 c.sum_of-flow.result.0 c.lone_margin-flow.result c.requires.parted c.requires.settled
+    ends c.end_of-end.ensures.near settles placed done.kept done.same marked size height starts wrote
     c.lone_margin-flow.ensures.fits holds

@@ -19,7 +19,7 @@ place-requires-clause-request c =
     let shape = c.shape_at.ensures in
     let asked = c.float_request-request.ensures ∙ (λ i. float_request (shape i) c.args.side (top i)) in
     let near = subst (IsCeilingNear c.args.k) top c.ceiling-top.ensures.near in
-    subst RequestFits (sym asked) (request_fits c.args.k _ c.args.side _ (omega (arith, few, within)) (c.requires.input.free.fits c.args.k within) near)
+    subst RequestFits (sym asked) (request_fits c.args.k _ c.args.side _ (omega (arith, few, within)) (c.requires.input.sizes c.args.k within) near)
 
 pub place-requires-clause-place : goal.place-requires-clause-place
 place-requires-clause-place c x y place =
@@ -29,7 +29,7 @@ place-requires-clause-place c x y place =
     let asked = c.float_request-request.ensures ∙ (λ i. float_request (shape i) c.args.side (top i)) in
     let near = subst (IsCeilingNear c.args.k) top c.ceiling-top.ensures.near in
     subst (λ (r : FloatReq). BoxFits (placed_at r x y)) (sym asked)
-    (box_fits c.args.k c.args.placing.now.floats _ c.args.side _ x y (omega (arith, few, within)) (c.requires.input.free.fits c.args.k within) near c.requires.known.within
+    (box_fits c.args.k c.args.placing.now.floats _ c.args.side _ x y (omega (arith, few, within)) (c.requires.input.sizes c.args.k within) near c.requires.known.within
     (subst (λ (r : FloatReq). IsFloatPlace c.args.placing.now.floats r x y) asked place))
 
 pub returns-clause-placed : goal.returns-clause-placed
@@ -43,8 +43,8 @@ returns-clause-placed c =
     let p = c.in_ok-place.place in
     let stands = subst (λ (r : FloatReq). IsFloatPlace c.args.placing.now.floats r p.x.0 p.y.0) asked put.place in
     let floats = rw asked at put.placed in
-    let pushed = c.in_ok-push_place.ensures {u = tt} in
+    let pushed = (c.in_ok-push_place.ensures {u = tt}).pushed in
     let flow : is_solid (block_at c.args.blocks.now c.args.k).inside ≡ false = ap (λ (b : Block). is_solid b.inside) (c.requires.input.are_shapes.float c.args.k c.args.side within c.requires.float) in
     subst (λ (places : List Place). PlacesTo c.args.parents.now c.args.blocks.now c.args.shapes.now c.args.marks.now (record { extents = c.args.placing.now.extents.items; floats = c.place.new.self; places = places }) (c.args.k + 1)) (sym pushed)
     (knows_float c.args.parents.now c.args.blocks.now c.args.shapes.now c.args.marks.now (placing_of c.args.placing.now) c.args.k c.requires.known p c.args.side c.place.new.self
-    c.requires.float flow (c.requires.input.free.fits c.args.k within) near stands floats)
+    c.requires.float flow (c.requires.input.sizes c.args.k within) near stands floats)

@@ -9,7 +9,7 @@ use Rattle.lay_flow.specs.BlockFloats.{solid_request, shape_at}
 use Rattle.lay_flow.specs.PassBounds.{IsNear}
 use Rattle.lay_flow.specs.PlacesTo.{PlacesTo}
 use Rattle.lay_flow.specs.PassKnows.{placing_of}
-use Rattle.lay_flow.proofs.Closings.{Wrote}
+use Rattle.lay_flow.proofs.SoFar.{Wrote}
 use Rattle.lay_flow.proofs.WroteColumns.{wrote_length}
 use Rattle.lay_flow.proofs.PassFits.{mark_is_near}
 use Rattle.lay_flow.proofs.PlaceSteps.{solid_fits, solid_near, knows_solid, float_or_solid}
@@ -21,7 +21,7 @@ fit_solid-place-requires c =
     let shape = c.shape_at-shape.ensures in
     let mark = c.length_at-mark.ensures in
     let asked = c.solid_request.ensures ∙ (λ i. solid_request (shape i) (mark i)) in
-    subst SolidFits (sym asked) (solid_fits c.args.k _ _ (omega (arith, few, within)) (c.requires.input.free.fits c.args.k within) (c.requires.near c.args.k))
+    subst SolidFits (sym asked) (solid_fits c.args.k _ _ (omega (arith, few, within)) (c.requires.input.sizes c.args.k within) (c.requires.near c.args.k))
 
 pub extent_below-extent-requires-clause-mark : goal.extent_below-extent-requires-clause-mark
 extent_below-extent-requires-clause-mark c =
@@ -37,7 +37,7 @@ extent_below-extent-requires-clause-top c =
     let p = c.fit_solid-place.result in
     let stands = subst (λ (r : SolidReq). IsSolidPlace c.args.placing.now.floats r p.x.0 p.y.0) asked c.fit_solid-place.ensures in
     mark_is_near c.args.k p.y.0 (omega (arith, few, within))
-    (solid_near c.args.k c.args.placing.now.floats (shape_at c.args.shapes.now c.args.k) (length_at c.args.marks.now c.args.k) p.x.0 p.y.0 (c.requires.input.free.fits c.args.k within) (c.requires.near c.args.k) c.requires.known.within stands)
+    (solid_near c.args.k c.args.placing.now.floats (shape_at c.args.shapes.now c.args.k) (length_at c.args.marks.now c.args.k) p.x.0 p.y.0 (c.requires.input.sizes c.args.k within) (c.requires.near c.args.k) c.requires.known.within stands)
 
 pub returns-clause-placed : goal.returns-clause-placed
 returns-clause-placed c =
@@ -54,8 +54,8 @@ returns-clause-placed c =
     let wrote : Wrote length_at old.extents.items c.write_at.new.column.items c.args.k (p.y.0 -ℤ length_at c.args.marks.now c.args.k +ℤ (shape_at c.args.shapes.now c.args.k).height.0) =
     subst (λ (v : ℤ). Wrote length_at old.extents.items c.write_at.new.column.items c.args.k v) value
     (subst (λ (xs : List Length). Wrote length_at old.extents.items xs c.args.k c.extent_below-extent.result.0) (sym c.write_at.ensures) (wrote_length old.extents.items c.args.k c.extent_below-extent.result (omega (arith, within, l)))) in
-    let pushed = c.in_ok-push_place.ensures {u = tt} in
+    let pushed = (c.in_ok-push_place.ensures {u = tt}).pushed in
     let none = float_or_solid c.args._parents.now c.args._blocks.now c.args.shapes.now c.args.k c.requires.input.are_shapes within c.requires.solid in
     subst (λ (places : List Place). PlacesTo c.args._parents.now c.args._blocks.now c.args.shapes.now c.args.marks.now (record { extents = c.write_at.new.column.items; floats = old.floats; places = places }) (c.args.k + 1)) (sym pushed)
     (knows_solid c.args._parents.now c.args._blocks.now c.args.shapes.now c.args.marks.now (placing_of old) c.args.k c.requires.known p c.write_at.new.column.items
-    none c.requires.solid (c.requires.input.free.fits c.args.k within) (c.requires.near c.args.k) stands wrote)
+    none c.requires.solid (c.requires.input.sizes c.args.k within) (c.requires.near c.args.k) stands wrote)

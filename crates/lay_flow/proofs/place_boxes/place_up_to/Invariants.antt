@@ -1,6 +1,6 @@
 use Rattle.std.proofs.Common.{◌≤◌, length}
 use Rattle.lay_flow.specs.PlacesTo.{PlacesTo}
-use Rattle.lay_flow.specs.PassKnows.{AreExtentsKept, placing_of}
+use Rattle.lay_flow.specs.PassKnows.{AreExtentsKept, ArePlacesKept, placing_of}
 use Rattle.lay_flow.proofs.place_boxes.place_up_to.Given as goal
 
 abbrev pub invariant-loop-k : goal.invariant-loop-k
@@ -8,3 +8,4 @@ invariant-loop-k l =
     (length l.fn.placing.places.items ≤ l.k)
     × PlacesTo l.parents l.blocks l.shapes l.marks (placing_of l.placing) l.k
     × AreExtentsKept l.blocks (length l.fn.placing.places.items) l.fn.placing.extents.items l.placing.extents.items
+    × ArePlacesKept l.fn.placing.places.items l.placing.places.items

@@ -1,0 +1,29 @@
+-- What a pass over a context decides before it reads the top margin of a box with `clear`.
+use Rattle.std.specs.Prelude.{ℕ, ◌≡◌, ◌<◌, ◌≤◌, ℤ, false, List, Option, Some}
+use Rattle.lay_units.specs.declared.length.Unit.{Unit as Length}
+use Rattle.lay_floats.specs.declared.requests.Side.{Side}
+use Rattle.lay_floats.specs.declared.requests.Clear.{Clear}
+use Rattle.lay_floats.specs.ClearEdge.{Clears}
+use Rattle.lay_flow.specs.declared.block.Block.{Block}
+use Rattle.lay_flow.specs.declared.shape.Shape.{Shape}
+use Rattle.lay_flow.specs.StackedBlocks.{length_at}
+use Rattle.lay_flow.specs.Children.{flag_at}
+use Rattle.lay_flow.specs.BlockFloats.{shape_at}
+use Rattle.lay_flow.specs.BlockLayout.{BlockLayout}
+use Rattle.lay_flow.specs.BlockPass.{PassState}
+use Rattle.lay_flow.specs.PlacesTo.{Placing}
+use Rattle.lay_flow.specs.PassKnows.{MayBe, IsCandidate}
+
+-- a float of a side to clear
+abbrev pub IsSideToClear : Clear → Option Side → Type 0
+IsSideToClear clear float = (side : Side) × (float ≡ Some side) × Clears clear side
+
+-- a float that the box at k goes past stands among the boxes from `first` on
+abbrev pub HasWaitingFloat : List Shape → ℕ → ℕ → Type 0
+HasWaitingFloat shapes first k = (j : ℕ) × (first ≤ j) × (j < k) × IsSideToClear (shape_at shapes k).clear (shape_at shapes j).float
+
+-- the mark of the box at k in each layout that the blocks may have, but without clearance from that box on
+abbrev pub IsEdgeWithout : List ℕ → List Block → List Length → PassState → Placing → ℕ → ℤ → Type 0
+IsEdgeWithout parents blocks given now placing k edge =
+    (extents clear_edges : List Length) (w : BlockLayout) → MayBe parents blocks given placing extents → IsCandidate parents blocks extents clear_edges w now.clears now.clear_edges k → ((j : ℕ) → k ≤ j → flag_at w.runs.clears j ≡ false)
+    → edge ≡ length_at w.places.marks k
