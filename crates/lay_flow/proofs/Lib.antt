@@ -23,7 +23,6 @@ pub mod Closings
 pub mod WholePass
 pub mod StrutBounds
 pub mod ContentEnds
-pub mod PositionFacts
 pub mod LookAhead
 pub mod LookAheadSteps
 pub mod HangingRuns
