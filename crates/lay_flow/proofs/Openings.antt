@@ -1,5 +1,5 @@
 -- A box is opened.
-use Rattle.std.proofs.Common.{◌≡◌, ℕ, zero, suc, ◌+◌, ◌<◌, ◌≤◌, not, nat_lt, Bool, true, false, ℤ, ◌+ℤ◌, ◌-ℤ◌, List, [], ◌∷◌, ◌++◌, length, slice_index, refl, sym, ap, ◌∙◌, arith, inl, inr, subst}
+use Rattle.std.proofs.Common.{◌≡◌, ℕ, ◌+◌, ◌<◌, ◌≤◌, not, nat_lt, Bool, true, false, ℤ, ◌+ℤ◌, ◌-ℤ◌, List, [], ◌∷◌, ◌++◌, length, slice_index, refl, sym, ap, ◌∙◌, arith, inl, inr, subst}
 use Rattle.std.proofs.lemmas.Bool.{cases_lt}
 use Rattle.std.proofs.lemmas.Int.{ints}
 use Rattle.lay_units.specs.declared.length.Unit.{Unit as Length}
@@ -19,7 +19,7 @@ use Rattle.lay_flow.proofs.GatheredRuns.{childless, next_here, open_plain, open_
 use Rattle.lay_flow.proofs.LayoutFacts.{start_first, start_flows, start_clears, mark_standing}
 use Rattle.lay_flow.specs.MarginPlace.{IsPlace}
 use Rattle.lay_flow.proofs.RunEntries.{margins-append}
-use Rattle.lay_flow.proofs.RunFacts.{first_comes, goes_in, ends_above, lead_goes_on, lead_begins, top_run_is}
+use Rattle.lay_flow.proofs.RunFacts.{first_comes, goes_in, ends_above, lead_goes_on, lead_begins, top_run_is, parting_stands}
 use Rattle.lay_flow.proofs.RunReach.{RunEnds, mark_here, waiting_open, tops_here, reach_is}
 use Rattle.lay_flow.proofs.SoFar.{so_far_opened, so_far_settled}
 use Rattle.lay_flow.proofs.Truths.{true_false, true_or, low_not, low_yes}
@@ -30,11 +30,6 @@ pushed now strut = record now { strut = strut }
 -- the strut with the top margin of a box
 abbrev pub WithMargin : StrutValue → StrutValue → ℤ → Type 0
 WithMargin old new v = (ms : List ℤ) → Holds old ms → Holds new (ms ++ v ∷ [])
-
-pub wall_stands : (parents : List ℕ) (blocks : List Block) (extents clear_edges : List Length) (y : BlockLayout) → IsBlockLayout parents blocks extents clear_edges y
-    → (k : ℕ) → 0 < k → k < length parents → parts_tops blocks k ≡ true → flag_at y.runs.through k ≡ false
-wall_stands parents blocks extents clear_edges y is zero positive within wall = absurd (omega (arith, positive))
-wall_stands parents blocks extents clear_edges y is (suc k) positive within wall = let e = is.has_runs.through (suc k) within in grind (arith, e, wall)
 
 -- the place before the top margin of a box
 pub place_above : (parents : List ℕ) (blocks : List Block) (clear_edges : List Length) (y : BlockLayout) (now : PassState) (k : ℕ) → IsInRun parents blocks clear_edges y now (slice_index parents k) k → IsPlace parents (slice_index parents k) k
@@ -97,7 +92,7 @@ module _ (parents : List ℕ) (blocks : List Block) (extents clear_edges : List 
   -- where the run ends, before an edge of the box
   module _ (now : PassState) (strut : StrutValue) (end : ℤ) (wall : parts_tops blocks k ≡ true) (holds : WithMargin now.strut strut top) (ends : RunEnds now.hangs now.start strut end) (was : IsBefore parents blocks clear_edges y now k) where
     stands : flag_at y.runs.through k ≡ false
-    stands = wall_stands parents blocks extents clear_edges y is k positive within wall
+    stands = parting_stands parents blocks y.runs is.has_runs k positive within wall
 
     rise_here : run_at y.runs.top_runs k ≡ to_top blocks y.runs k
     rise_here = top_run_is parents blocks y.runs is.has_runs k positive within ∙ rw wall refl
