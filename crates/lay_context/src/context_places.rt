@@ -18,7 +18,7 @@ use lay_flow::place_blocks;
 use lay_units::{NoMemory, Unit};
 use std::alloc::Global;
 
-/// The most boxes of a context that block flow takes: as many as a document has nodes.
+/// The most boxes of a context that block flow takes, which is as many nodes as a document may have.
 const MOST_BOXES: usize = 16384;
 
 /// Where the boxes of one context stand, in the order of the boxes, in 1/64 px. Positions are counted from the

@@ -15,9 +15,9 @@ use lay_frag::{Frag, FragKind};
 use lay_units::{NoMemory, Rect};
 use std::alloc::Global;
 
-/// The border boxes of the boxes of one context in order, counted from the context's own. Those of inner
-/// contexts are pieces of these. NoMemory is also the answer where one stands more than 2^60 units away, which
-/// it does in no document within the limits.
+/// The border boxes of the boxes of one context in order, counted from the context's own. Boxes of inner
+/// contexts are left out, since they are pieces of those. NoMemory is also the answer where one stands more
+/// than 2^60 units away, which it does in no document within the limits.
 pub(crate) fn pieces_of(
     alloc: Global,
     boxes: &[BoxNode],
