@@ -14,3 +14,4 @@ pub mod OnePlaces
 pub mod PlaceFacts
 pub mod PieceRanges
 pub mod OneDocument
+pub mod EnoughTurns

@@ -1,6 +1,8 @@
--- The equations of a document have one solution, and so have those of each of its columns.
-use Rattle.std.specs.Prelude.{◌≡◌, List}
+-- The equations of a document have one solution, and so have those of each of its columns. The list of its contexts has all of
+-- them.
+use Rattle.std.specs.Prelude.{ℕ, ◌≡◌, ◌+◌, List, length}
 use Rattle.lay_doc.specs.Tree.{IsTree}
+use Rattle.lay_doc.specs.declared.style.Style.{Style}
 use Rattle.lay_doc.specs.Document.{Document, IsDocument}
 use Rattle.lay_boxgen.specs.declared.box_tree.BoxNode.{BoxNode}
 use Rattle.lay_boxgen.specs.BoxColumns.{box_parents}
@@ -8,6 +10,7 @@ use Rattle.lay_frag.specs.Pieces.{Context}
 use Rattle.lay_context.specs.declared.box_sizes.BoxSizes.{BoxSizes}
 use Rattle.lay_context.specs.declared.box_sizes.ContainingBlock.{ContainingBlock}
 use Rattle.lay_context.specs.declared.context_spot.ContextSpot.{ContextSpot}
+use Rattle.lay_context.specs.ContextList.{context_spots, document_spots}
 use Rattle.lay_context.specs.ContextSizes.{HasSizes}
 use Rattle.lay_context.specs.ContextOrder.{AreContextBoxes, AreInOrder}
 use Rattle.lay_context.specs.ContextPlaces.{ContextPlaces, HasPlaces}
@@ -33,3 +36,7 @@ OneContextPlaces = (boxes : List BoxNode) (sizes : List BoxSizes) (p q : Context
 -- the contexts of a document have one list of places beside their used sizes
 abbrev pub OneDocumentPlaces : Type 0
 OneDocumentPlaces = (spots : List ContextSpot) (boxes : List (List BoxNode)) (sizes : List (List BoxSizes)) (x y : List ContextPlaces) → AreInOrder spots boxes → HasDocumentPlaces spots boxes sizes x → HasDocumentPlaces spots boxes sizes y → x ≡ y
+
+-- more turns than a document has nodes reach no further context
+abbrev pub EnoughTurns : Type 0
+EnoughTurns = (d : Document) (styles : List Style) (more : ℕ) → IsDocument d → context_spots d.nodes styles (length d.nodes + more) 0 0 0 0 ≡ document_spots d.nodes styles

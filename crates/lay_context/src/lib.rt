@@ -26,4 +26,4 @@ mod pieces;
 mod size_column;
 mod used_lengths;
 
-pub use laws::{one_context_sizes, one_document_sizes};
+pub use laws::{enough_turns, one_context_sizes, one_document_sizes};
