@@ -24,6 +24,8 @@ mod height_column;
 mod laws;
 mod pieces;
 mod size_column;
+#[cfg(test)]
+mod tests;
 mod used_lengths;
 
 pub use laws::{enough_turns, one_context_sizes, one_document_sizes};
