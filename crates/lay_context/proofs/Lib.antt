@@ -19,3 +19,4 @@ pub mod PlaceFacts
 pub mod PieceRanges
 pub mod DocumentBounds
 pub mod OneDocument
+pub mod EnoughTurns

@@ -1,5 +1,7 @@
--- The equations of a document have one solution: each column has one value beside those before it, and so has the tree.
-use Rattle.std.specs.Prelude.{◌≡◌, List}
+-- The equations of a document have one solution: each column has one value beside those before it, and so has the tree. The
+-- list of a document's contexts has all of them.
+use Rattle.std.specs.Prelude.{ℕ, ◌≡◌, ◌+◌, List, length}
+use Rattle.lay_doc.specs.declared.style.Style.{Style}
 use Rattle.lay_doc.specs.Document.{Document, IsDocument}
 use Rattle.lay_doc.specs.Tree.{IsTree}
 use Rattle.lay_frag.specs.Pieces.{Context}
@@ -9,11 +11,16 @@ use Rattle.lay_context.specs.declared.box_sizes.BoxSizes.{BoxSizes}
 use Rattle.lay_context.specs.declared.box_sizes.ContainingBlock.{ContainingBlock}
 use Rattle.lay_context.specs.declared.context_spot.ContextSpot.{ContextSpot}
 use Rattle.lay_context.specs.declared.corner.Corner.{Corner}
+use Rattle.lay_context.specs.ContextList.{context_spots, document_spots}
 use Rattle.lay_context.specs.ContextSizes.{HasSizes}
 use Rattle.lay_context.specs.ContextPlaces.{ContextPlaces, HasPlaces}
 use Rattle.lay_context.specs.ContextOrder.{AreContextBoxes, AreInOrder}
 use Rattle.lay_context.specs.DocumentLayout.{HasDocumentSizes, HasDocumentPlaces, HasPageCorners}
 use Rattle.lay_context.specs.Solves.{Solves}
+
+-- more turns than a document has nodes reach no further context
+abbrev pub EnoughTurns : Type 0
+EnoughTurns = (d : Document) (styles : List Style) (more : ℕ) → IsDocument d → context_spots d.nodes styles (length d.nodes + more) 0 0 0 0 ≡ document_spots d.nodes styles
 
 -- the boxes of a context have one column of used sizes
 abbrev pub OneContextSizes : Type 0

@@ -27,7 +27,10 @@ mod layout;
 mod page_corners;
 mod pieces;
 mod size_column;
+#[cfg(test)]
+mod tests;
 mod used_lengths;
 
 pub use laws::{one_context_sizes, one_document_sizes};
 pub use layout::scratch;
+pub use laws::{enough_turns, one_context_sizes, one_document_sizes};
