@@ -1,7 +1,10 @@
 //! Whole calls over sources and sinks in memory.
 
 mod documents;
+mod floats;
+mod margins;
 mod refusals;
+mod sizes;
 mod streams;
 
 use crate::{Status, top};
@@ -34,4 +37,22 @@ fn answer<R: Threads + Wait + Sync>(
     let mut sink = FixedSink::new(alloc, 1000)?;
     let status = top(rt, alloc, &words, &mut source, &mut sink, &OpenGate);
     Ok((status, sink))
+}
+
+/// A run document over 800 by 600 px: a block with the id 1, and these nodes behind it.
+fn behind_root(alloc: Global, nodes: &str) -> Result<String, Fail> {
+    let mut run = String::from_str(
+        alloc,
+        r#"{"viewport":[800,600],"nodes":[{"id":1,"parent":0,"kind":"element","style":{"display":"block"}},"#,
+    )?;
+    run.push_str(nodes)?;
+    run.push_str("]}")?;
+    Ok(run)
+}
+
+/// The report of a layout from scratch with these lines of boxes.
+fn report(alloc: Global, boxes: &str) -> Result<String, Fail> {
+    let mut text = String::from_str(alloc, "publish 0\nfinal 0\n")?;
+    text.push_str(boxes)?;
+    Ok(text)
 }
