@@ -12,7 +12,8 @@ use Rattle.lay_context.specs.ContextList.{boxes_in}
 use Rattle.lay_context.specs.ContextPlaces.{ContextPlaces}
 use Rattle.lay_context.specs.ContextOrder.{AreInOrder}
 use Rattle.lay_context.specs.DocumentLayout.{HasDocumentPlaces, HasInnerHeights, height_inside, no_places, own_heights, places_in, sizes_in}
-use Rattle.lay_context.specs.Laws.{OneContextPlaces, OneDocumentPlaces}
+use Rattle.lay_context.specs.Laws.{OneDocumentPlaces}
+use Rattle.lay_context.proofs.OnePlaces.{one_context_places_lem}
 
 own_behind : (x : List ContextPlaces) (i : ℕ) → drop i (own_heights x) ≡ own_heights (drop i x)
 own_behind x i = drop-map (λ (p : ContextPlaces). record { 0 = length_at p.heights 0 }) i x
@@ -27,7 +28,7 @@ inner_same spots boxes x y i hs gs behind a b =
     let same : length_at hs k ≡ length_at gs k = a.each k within ∙ ap (λ (heights : List Length). (height_inside i k (drop (i + 1) spots) heights).0) own ∙ sym (b.each k within) in
     ap (λ (v : ℤ). let l : Length = record { 0 = v } in l) same))
 
-module _ (one : OneContextPlaces) (spots : List ContextSpot) (boxes : List (List BoxNode)) (sizes : List (List BoxSizes)) (x y : List ContextPlaces)
+module _ (spots : List ContextSpot) (boxes : List (List BoxNode)) (sizes : List (List BoxSizes)) (x y : List ContextPlaces)
     (order : AreInOrder spots boxes) (a : HasDocumentPlaces spots boxes sizes x) (b : HasDocumentPlaces spots boxes sizes y) where
   -- the places in the last m contexts are the same
   last_same : (m i : ℕ) → i + m ≡ length boxes → drop i x ≡ drop i y
@@ -36,10 +37,10 @@ module _ (one : OneContextPlaces) (spots : List ContextSpot) (boxes : List (List
       let there : i < length boxes = omega (arith, e) in
       let behind = last_same m (i + 1) (omega (arith, e)) in
       let inner = inner_same spots boxes x y i (places_in x i).inner_heights (places_in y i).inner_heights behind (a.inner i there) (b.inner i there) in
-      let here : places_in x i ≡ places_in y i = one (boxes_in boxes i) (sizes_in sizes i) (places_in x i) (places_in y i) (order.each i there) (a.each i there) (b.each i there) inner in
+      let here : places_in x i ≡ places_in y i = one_context_places_lem (boxes_in boxes i) (sizes_in sizes i) (places_in x i) (places_in y i) (order.each i there) (a.each i there) (b.each i there) inner in
       let front : drop i x ≡ places_in x i ∷ drop (i + 1) x = drop_more x i no_places (omega (arith, there, a.count)) in
       let other : drop i y ≡ places_in y i ∷ drop (i + 1) y = drop_more y i no_places (omega (arith, there, b.count)) in
       front ∙ rw (here, behind) refl ∙ sym other
 
-pub one_document_places_lem : OneContextPlaces → OneDocumentPlaces
-one_document_places_lem one spots boxes sizes x y order a b = last_same one spots boxes sizes x y order a b (length boxes) 0 (omega arith)
+pub one_document_places_lem : OneDocumentPlaces
+one_document_places_lem spots boxes sizes x y order a b = last_same spots boxes sizes x y order a b (length boxes) 0 (omega arith)

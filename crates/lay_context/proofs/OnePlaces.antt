@@ -18,14 +18,10 @@ use Rattle.lay_context.specs.UsedLengths.{no_length}
 use Rattle.lay_context.specs.ContextSizes.{sizes_at}
 use Rattle.lay_context.specs.ContextBlocks.{left_of_box, AreBlocksOf, HasLefts, AreShapesOf}
 use Rattle.lay_context.specs.ContextPlaces.{no_lines}
+use Rattle.lay_flow.proofs.OneContextFlow.{one_context_places_lem as flow_places_lem}
 use Rattle.lay_context.specs.Laws.{OneContextPlaces}
 use Rattle.lay_context.proofs.LeftSteps.{length-parents}
 use Rattle.lay_context.proofs.FlowFacts.{are_shapes}
-
--- the flow of a context has one column of tops, of heights and of places
-abbrev pub OneFlow : Type 0
-OneFlow = (parents : List ℕ) (blocks : List Block) (shapes : List Shape) (given tops heights other_tops other_heights : List Length) (places other_places : List Place) → IsTree parents → 0 < length parents → AreShapes parents blocks shapes
-    → AreContextPlaces parents blocks shapes given tops heights places → AreContextPlaces parents blocks shapes given other_tops other_heights other_places → (tops ≡ other_tops) × (heights ≡ other_heights) × (places ≡ other_places)
 
 left_same : (boxes : List BoxNode) (sizes : List BoxSizes) (ls ms : List Length) → IsTree (box_parents boxes) → (k : ℕ) → k < length boxes → ((j : ℕ) → j < k → length_at ls j ≡ length_at ms j)
     → (left_of_box boxes sizes ls k).0 ≡ (left_of_box boxes sizes ms k).0
@@ -54,13 +50,13 @@ one_shape_column : (boxes : List BoxNode) (sizes : List BoxSizes) (lefts heights
 one_shape_column boxes sizes lefts heights ss ts a b =
     same_list no_shape ss ts (a.count ∙ sym b.count) (λ k lt. (let within : k < length boxes = omega (arith, a.count) in a.each k within ∙ sym (b.each k within)))
 
-pub one_context_places_lem : OneFlow → OneContextPlaces
-one_context_places_lem one_flow boxes sizes p q are a b inner =
+pub one_context_places_lem : OneContextPlaces
+one_context_places_lem boxes sizes p q are a b inner =
     let lefts = one_left_column boxes sizes p.lefts q.lefts are.tree a.has_lefts b.has_lefts in
     let blocks = one_block_column boxes sizes a.blocks b.blocks a.are_blocks b.are_blocks in
     let shaped : AreShapesOf boxes sizes p.lefts p.inner_heights b.shapes = rw (lefts, inner) b.are_shapes in
     let shapes = one_shape_column boxes sizes p.lefts p.inner_heights a.shapes b.shapes a.are_shapes shaped in
     let placed : AreContextPlaces (box_parents boxes) a.blocks a.shapes (no_lines boxes) q.tops q.heights q.places = rw (blocks, shapes) b.are_places in
     let there = are_shapes boxes sizes a.blocks p.lefts p.inner_heights a.shapes are a.are_blocks a.are_shapes in
-    let same = one_flow (box_parents boxes) a.blocks a.shapes (no_lines boxes) p.tops p.heights q.tops q.heights p.places q.places are.tree (omega (arith, are.some, length-parents boxes)) there a.are_places placed in
+    let same = flow_places_lem (box_parents boxes) a.blocks a.shapes (no_lines boxes) p.tops p.heights q.tops q.heights p.places q.places are.tree (omega (arith, are.some, length-parents boxes)) there a.are_places placed in
     λ i. record { inner_heights = inner i; lefts = lefts i; tops = same.0 i; heights = same.1 i; places = same.2 i }

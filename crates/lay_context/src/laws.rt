@@ -1,7 +1,7 @@
 //! The laws of the definitions: the equations of a document have one solution, and the list of its contexts
 //! has all of them.
 
-ghost use Rattle.lay_context.specs.Laws.{EnoughTurns, OneContextSizes, OneDocumentSizes};
+ghost use Rattle.lay_context.specs.Laws.{EnoughTurns, OneContextPlaces, OneContextSizes, OneDocumentPlaces, OneDocumentSizes, OnePageCorners, OneSolution};
 
 /// The used sizes of the boxes of a context are the only ones that meet their equations.
 pub fn one_context_sizes()
@@ -16,4 +16,24 @@ pub fn one_document_sizes()
 /// As many turns as a document has nodes reach all of its contexts: more turns reach no further one.
 pub fn enough_turns()
     ensures { EnoughTurns }
+{}
+
+/// The places in a context are the only ones beside its used sizes and the heights of inner contexts.
+pub fn one_context_places()
+    ensures { OneContextPlaces }
+{}
+
+/// So are those in the contexts of a document beside their used sizes.
+pub fn one_document_places()
+    ensures { OneDocumentPlaces }
+{}
+
+/// The corners of contexts on the page are the only ones beside their used sizes and places.
+pub fn one_page_corners()
+    ensures { OnePageCorners }
+{}
+
+/// Two trees that solve one document are equal.
+pub fn one_solution()
+    ensures { OneSolution }
 {}

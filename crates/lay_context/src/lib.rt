@@ -31,6 +31,8 @@ mod size_column;
 mod tests;
 mod used_lengths;
 
-pub use laws::{one_context_sizes, one_document_sizes};
+pub use laws::{
+    enough_turns, one_context_places, one_context_sizes, one_document_places, one_document_sizes,
+    one_page_corners, one_solution,
+};
 pub use layout::scratch;
-pub use laws::{enough_turns, one_context_sizes, one_document_sizes};
