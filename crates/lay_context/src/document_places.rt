@@ -71,7 +71,7 @@ fn place_last(
         sizes_in(sizes, i),
         column.into_vec(),
     )?;
-    hand_out(list, columns, own_height(&placed.heights));
+    set_inner_height(list, columns, own_height(&placed.heights));
     places.push(placed)?;
     Ok(())
 }
@@ -86,9 +86,9 @@ fn own_height(heights: &[Unit]) -> Unit
     }
 }
 
-/// Hands the height of a context to the context around it. `columns` has those of the contexts before it; where
-/// there is none it is the root's.
-fn hand_out(list: &ContextList, columns: &mut Vec<HeightColumn>, height: Unit)
+/// Sets the height of a context's own box in the column of the context around it. `columns` has those of the
+/// contexts before it; where there is none it is the root's, and nothing is around it.
+fn set_inner_height(list: &ContextList, columns: &mut Vec<HeightColumn>, height: Unit)
     requires order { AreInOrder list.now.spots.items (boxes_of_trees list.now.boxes.items) }
     requires place { length columns.old.items < length list.now.spots.items }
     requires counts { (j : ℕ) → j < length columns.old.items → length (heights_in columns.old.items j) ≡ length (boxes_in (boxes_of_trees list.now.boxes.items) j) }

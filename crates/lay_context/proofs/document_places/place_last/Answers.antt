@@ -29,13 +29,13 @@ context_places-requires-clause-bounds c =
     let there = next_is_there spots boxes c.args.sizes.now c.args.columns.now.items c.args.column (all_columns (reverse c.args.places.now.items)) c.requires.known in
     rw c.sizes_in.ensures (sizes_fit spots boxes c.args.sizes.now c.requires.sizes.0 c.len-i.result c.requires.sizes.1 (omega (arith, there, c.len-i.ensures)))
 
-pub hand_out-requires-clause-place : goal.hand_out-requires-clause-place
-hand_out-requires-clause-place c =
+pub set_inner_height-requires-clause-place : goal.set_inner_height-requires-clause-place
+set_inner_height-requires-clause-place c =
     let there = next_is_there c.args.list.now.spots.items (boxes_of_trees c.args.list.now.boxes.items) c.args.sizes.now c.args.columns.now.items c.args.column (all_columns (reverse c.args.places.now.items)) c.requires.known in
     omega (arith, there, c.requires.order.count)
 
-pub hand_out-requires-clause-counts : goal.hand_out-requires-clause-counts
-hand_out-requires-clause-counts c =
+pub set_inner_height-requires-clause-counts : goal.set_inner_height-requires-clause-counts
+set_inner_height-requires-clause-counts c =
     counts_before c.args.list.now.spots.items (boxes_of_trees c.args.list.now.boxes.items) c.args.sizes.now c.args.columns.now.items c.args.column (all_columns (reverse c.args.places.now.items)) c.requires.known
 
 pub returns-clause-known : goal.returns-clause-known
@@ -49,5 +49,5 @@ returns-clause-known c =
     let inner : placed.inner_heights.items ≡ c.args.column = search rules in
     let pushed : c.push.new.self.items ≡ c.args.places.now.items ++ placed ∷ [] = search rules in
     let more = behind_more c.args.places.now.items placed in
-    rw (c.hand_out.ensures, c.own_height.ensures, c.deref.ensures.value, pushed, more)
+    rw (c.set_inner_height.ensures, c.own_height.ensures, c.deref.ensures.value, pushed, more)
     (one_placed spots boxes c.args.sizes.now columns c.args.column (columns_of placed) (all_columns (reverse c.args.places.now.items)) c.requires.order c.requires.known has inner c.in_ok-placed.ensures.own)
