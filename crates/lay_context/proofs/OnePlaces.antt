@@ -6,10 +6,9 @@ use Rattle.lay_doc.specs.Tree.{IsTree}
 use Rattle.lay_doc.proofs.OneStyles.{same_list}
 use Rattle.lay_boxgen.specs.declared.box_tree.BoxNode.{BoxNode}
 use Rattle.lay_boxgen.specs.BoxColumns.{box_parents}
-use Rattle.lay_floats.specs.declared.requests.Place.{Place}
 use Rattle.lay_flow.specs.declared.block.Block.{Block}
 use Rattle.lay_flow.specs.declared.shape.Shape.{Shape}
-use Rattle.lay_flow.specs.BlockFloats.{AreShapes, no_shape}
+use Rattle.lay_flow.specs.BlockFloats.{no_shape}
 use Rattle.lay_flow.specs.ContextFlow.{AreContextPlaces}
 use Rattle.lay_flow.specs.MarginRuns.{no_block}
 use Rattle.lay_flow.specs.StackedBlocks.{length_at}

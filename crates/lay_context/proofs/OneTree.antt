@@ -1,5 +1,5 @@
 -- Two workings that meet the equations of a document are equal, column by column, and so are their trees.
-use Rattle.std.proofs.Common.{◌≡◌, ℕ, zero, suc, ◌<◌, List, [], ◌∷◌, length, refl, sym, ◌∙◌, arith, slice_get}
+use Rattle.std.proofs.Common.{◌≡◌, ℕ, suc, ◌<◌, List, [], ◌∷◌, length, refl, sym, ◌∙◌, arith, slice_get}
 use Rattle.lay_doc.specs.Document.{parents_of}
 use Rattle.lay_doc.specs.ComputedStyle.{declarations_of}
 use Rattle.lay_doc.proofs.OneStyles.{one_style_column_lem}
@@ -36,7 +36,7 @@ one_tree viewport spots boxes s t order a b =
     let cornered : HasPageCorners viewport spots boxes a.sizes a.places b.corners = rw (sizes, places) b.has_corners in
     let corners = one_page_corners_lem viewport spots boxes a.sizes a.places a.corners b.corners order a.has_corners cornered in
     same_members s t (a.tree_is.count ∙ sym b.tree_is.count) (λ i lt. (let x = a.tree_is.each i (omega (arith, a.tree_is.count)) in let y = b.tree_is.each i (omega (arith, a.tree_is.count)) in
-        x ∙ (rw (sizes, places, corners) refl) ∙ sym y))
+    x ∙ (rw (sizes, places, corners) refl) ∙ sym y))
 
 pub one_solution_lem : OneSolution
 one_solution_lem d s t is a b =

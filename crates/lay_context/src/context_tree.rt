@@ -49,7 +49,13 @@ pub(crate) fn context_tree(
     let mut contexts = Vec::with_capacity(alloc, list.boxes.len())?;
     for i in 0..list.boxes.len() {
         let places = places_in(places, i);
-        let context = placed(alloc, boxes_in(list, i), sizes_in(sizes, i), places, corner_at(corners, i))?;
+        let context = placed(
+            alloc,
+            boxes_in(list, i),
+            sizes_in(sizes, i),
+            places,
+            corner_at(corners, i),
+        )?;
         contexts.push(context)?;
     }
     Ok(Tree::new(contexts))

@@ -20,4 +20,4 @@ pub returns : goal.returns
 returns c =
     let counted : length (boxes_of_trees c.args.list.now.boxes.items) ≡ length c.args.list.now.boxes.items = length-trees c.args.list.now.boxes.items in
     rw c.new.ensures (all_contexts (boxes_of_trees c.args.list.now.boxes.items) c.args.sizes.now (map columns_of c.args.places.now) c.args.corners.now c.loop-i.contexts.items c.loop-i.i
-        (omega (arith, counted, c.loop-i-test.false, c.loop-i.auto.i-end, c.len-i-end.ensures)) c.loop-i.invariant)
+    (omega (arith, counted, c.loop-i-test.false, c.loop-i.auto.i-end, c.len-i-end.ensures)) c.loop-i.invariant)
