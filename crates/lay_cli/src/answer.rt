@@ -1,6 +1,8 @@
 //! The answer to the bytes of a run document.
 
 ghost use Rattle.std.specs.Prelude.{◌≡◌, List, IfOk};
+ghost use Rattle.lay_doc.specs.ComputedStyle.{HasStyles, declarations_of};
+ghost use Rattle.lay_doc.specs.Document.{parents_of};
 ghost use Rattle.lay_frag.specs.Pieces.{Context};
 ghost use Rattle.lay_context.specs.Solves.{Solves};
 ghost use Rattle.lay_report.specs.Report.{scratch_report};
@@ -8,8 +10,8 @@ ghost use Rattle.lay_cli.specs.Answers.{AnswersRun, AnswersBytes, IsFaultAnswer}
 
 use crate::built::first_unbuilt;
 use crate::refusal::{fault_line, unbuilt_line};
-use lay_context::scratch;
-use lay_doc::Doc;
+use lay_context::scratch_styled;
+use lay_doc::{Computed, Doc};
 use lay_inherit::computed;
 use lay_json::{InputFault, RunDoc, read_run};
 use lay_report::scratch_report;
@@ -57,14 +59,15 @@ fn answer_for(alloc: Global, run: &RunDoc) -> Result<Answer, NoMemory>
         run.listed().as_slice(),
     )? {
         Some(place) => Ok(Answer::Refusal(unbuilt_line(alloc, place)?)),
-        None => Ok(Answer::Report(report(alloc, run.doc())?)),
+        None => Ok(Answer::Report(report(alloc, run.doc(), &computed)?)),
     }
 }
 
-fn report(alloc: Global, doc: &Doc) -> Result<Text, NoMemory>
+fn report(alloc: Global, doc: &Doc, computed: &Computed) -> Result<Text, NoMemory>
+    requires styles { HasStyles (parents_of doc.now.nodes) (declarations_of doc.now.nodes) computed.now }
     ensures { IfOk result (λ t. (tree : List Context) × Solves doc.now tree × (t ≡ scratch_report tree)) }
 {
-    let tree = scratch(alloc, doc)?;
+    let tree = scratch_styled(alloc, doc, computed)?;
     let text = scratch_report(alloc, &tree)?;
     Ok(text)
 }

@@ -2,6 +2,8 @@
 
 ghost use Rattle.std.specs.Prelude.{◌≡◌, IfOk};
 ghost use Rattle.lay_units.specs.Units.{IsUsedSize};
+ghost use Rattle.lay_doc.specs.ComputedStyle.{HasStyles, declarations_of};
+ghost use Rattle.lay_doc.specs.Document.{parents_of};
 ghost use Rattle.lay_context.specs.ContextList.{boxes_of_trees};
 ghost use Rattle.lay_context.specs.ContextOrder.{AreInOrder};
 ghost use Rattle.lay_context.specs.Solves.{Solves, SolvesContexts, viewport_of};
@@ -12,7 +14,7 @@ use crate::context_tree::context_tree;
 use crate::document_places::document_places;
 use crate::document_sizes::document_sizes;
 use crate::page_corners::page_corners;
-use lay_doc::Doc;
+use lay_doc::{Computed, Doc};
 use lay_frag::Tree;
 use lay_inherit::computed;
 use lay_units::{Len, NoMemory, Unit};
@@ -23,7 +25,15 @@ pub fn scratch(alloc: Global, doc: &Doc) -> Result<Tree, NoMemory>
     ensures { IfOk result (Solves doc.now) }
 {
     let computed = computed(alloc, doc)?;
-    let list = context_list(alloc, doc, &computed)?;
+    scratch_styled(alloc, doc, &computed)
+}
+
+/// The same, where the computed styles of the document are known.
+pub fn scratch_styled(alloc: Global, doc: &Doc, computed: &Computed) -> Result<Tree, NoMemory>
+    requires styles { HasStyles (parents_of doc.now.nodes) (declarations_of doc.now.nodes) computed.now }
+    ensures { IfOk result (Solves doc.now) }
+{
+    let list = context_list(alloc, doc, computed)?;
     lay_contexts(alloc, viewport_of(doc), &list)
 }
 

@@ -35,4 +35,4 @@ pub use laws::{
     enough_turns, one_context_places, one_context_sizes, one_document_places, one_document_sizes,
     one_page_corners, one_solution,
 };
-pub use layout::scratch;
+pub use layout::{scratch, scratch_styled};
