@@ -81,7 +81,7 @@ module _ (parents : List ℕ) (tree : IsTree parents) (blocks : List Block) (r :
     start_is zero positive within unclear = absurd (omega (arith, positive))
     start_is (suc k) positive within unclear = has.start (suc k) within ∙ rw unclear refl
 
-    start_inside : (k : ℕ) → 0 < k → k < length parents → parts_tops blocks k ≡ false → length_at s.starts k ≡ start_before parents blocks r s k (k + 1)
+    pub start_inside : (k : ℕ) → 0 < k → k < length parents → parts_tops blocks k ≡ false → length_at s.starts k ≡ start_before parents blocks r s k (k + 1)
     start_inside k positive within plain = let e = childless parents tree blocks r is k positive within in rw (e, plain) refl
 
     opens_started : (k : ℕ) → 0 < k → k < length parents → Started (slice_index parents k) k → Started k (k + 1)

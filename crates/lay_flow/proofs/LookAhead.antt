@@ -1,5 +1,5 @@
 -- A look ahead reads margins in which the box stands as high as one that is open yet.
-use Rattle.std.proofs.Common.{◌≡◌, ℕ, zero, suc, ◌+◌, ◌<◌, ◌≤◌, ◌&&◌, Bool, true, false, ℤ, ◌+ℤ◌, List, [], ◌∷◌, ◌++◌, length, slice_index, refl, sym, ap, ◌∙◌, arith, inl, inr, subst}
+use Rattle.std.proofs.Common.{◌≡◌, ℕ, ◌+◌, ◌<◌, ◌≤◌, ◌&&◌, Bool, true, false, ℤ, ◌+ℤ◌, List, [], ◌∷◌, ◌++◌, length, slice_index, refl, sym, ap, ◌∙◌, arith, inl, inr, subst}
 use Rattle.std.proofs.lemmas.Bool.{cases_lt, cases_eq}
 use Rattle.lay_units.specs.declared.length.Unit.{Unit as Length}
 use Rattle.lay_doc.specs.Tree.{IsTree}
@@ -16,7 +16,7 @@ use Rattle.lay_flow.specs.MarginPlace.{IsPlace}
 use Rattle.lay_flow.specs.LookAhead.{ComesTo, IsOutermost, Reads, ReadsAll}
 use Rattle.lay_flow.proofs.Truths.{true_false, true_or, low_not, low_yes}
 use Rattle.lay_flow.proofs.RunEntries.{margins-append, top_there, top_here, bottom_same}
-use Rattle.lay_flow.proofs.RunFacts.{goes_in, ends_inside, joins_is, lead_goes_on, top_run_is, to_bottom_is}
+use Rattle.lay_flow.proofs.RunFacts.{goes_in, ends_inside, joins_is, lead_goes_on, top_run_is, to_bottom_is, parting_stands}
 use Rattle.lay_flow.proofs.PositionFacts.{stands_at_end, stands_with_parent, stands_through, starts_before}
 use Rattle.lay_flow.proofs.GatheredRuns.{gathers, one_first, next_here, joined_through, comes_here, comes_up, childless_on, passes_here, opened_top}
 use Rattle.lay_flow.proofs.CollapsedThrough.{through_inside, one_start}
@@ -164,12 +164,8 @@ module _ (parents : List ℕ) (tree : IsTree parents) (blocks : List Block) (ext
               let parts_k = subst (λ (j : ℕ). parts_tops blocks j ≡ true) e parts in
               let rise_k = subst (λ (j : ℕ). run_at w.runs.top_runs j ≡ to_top blocks w.runs j) e rise in
               let held_k = subst (λ (j : ℕ). Holds next (margins (to_top blocks w.runs j))) e held in
-              all_above k (to_top blocks w.runs k) next o (omega arith) (λ j a b. absurd (omega (arith, a, b))) refl (wall_stands k top_k within parts_k) rise_k held_k)
+              all_above k (to_top blocks w.runs k) next o (omega arith) (λ j a b. absurd (omega (arith, a, b))) refl (parting_stands parents blocks w.runs is.has_runs k top_k within parts_k) rise_k held_k)
         ]
-      where
-        wall_stands : (j : ℕ) → 0 < j → j < length parents → parts_tops blocks j ≡ true → flag_at w.runs.through j ≡ false
-        wall_stands zero positive within wall = absurd (omega (arith, positive))
-        wall_stands (suc j) positive within wall = let e = is.has_runs.through (suc j) within in grind (arith, e, wall)
 
   -- a box is closed
   module _ (p m : ℕ) (at : IsPlace parents p m) (least : outermost ≤ p) (after : k < m) (ends : m < length parents → slice_index parents m < p) (strut : StrutValue) (was : Reads parents blocks w k outermost strut p m) where

@@ -1,11 +1,11 @@
--- Positions up to a place don't depend on the extents of boxes from there on.
-use Rattle.std.proofs.Common.{◌≡◌, ◌⊎◌, ℕ, zero, suc, ◌+◌, ◌<◌, ◌≤◌, List, length, slice_index, refl, sym, ◌∙◌, arith, inl, inr, Option, Some, None, subst}
+-- Positions up to a place don't depend on the extents of boxes from there on, nor on clear edges of boxes after it.
+use Rattle.std.proofs.Common.{◌≡◌, ◌⊎◌, ℕ, zero, suc, ◌+◌, ◌<◌, ◌≤◌, Bool, true, false, List, length, slice_index, refl, sym, ◌∙◌, arith, inl, inr, Option, Some, None, subst}
 use Rattle.std.proofs.lemmas.Bool.{cases_lt, cases_eq}
 use Rattle.lay_units.specs.declared.length.Unit.{Unit as Length}
 use Rattle.lay_doc.specs.Tree.{IsTree}
 use Rattle.lay_flow.specs.declared.block.Block.{Block}
 use Rattle.lay_flow.specs.StackedBlocks.{length_at}
-use Rattle.lay_flow.specs.Children.{last_child}
+use Rattle.lay_flow.specs.Children.{last_child, flag_at}
 use Rattle.lay_flow.specs.MarginRuns.{Runs}
 use Rattle.lay_flow.specs.BlockPositions.{Positions, HasPositions, start_below, start_before, start_of, mark_of, content_height, content_bottom, height_of}
 use Rattle.lay_flow.proofs.ChildPlaces.{last_same}
@@ -13,9 +13,9 @@ use Rattle.lay_flow.proofs.MarginWalk.{opens}
 use Rattle.lay_flow.proofs.RunsAgree.{last_there, none_left, inside_up}
 use Rattle.lay_flow.proofs.PositionsAgree.{SamePositions}
 
-module _ (parents : List ℕ) (tree : IsTree parents) (blocks : List Block) (r : Runs) (extents others clear_edges : List Length) (s t : Positions)
-    (is : HasPositions parents blocks r extents clear_edges s) (also : HasPositions parents blocks r others clear_edges t)
-    (limit : ℕ) (same : (j : ℕ) → 0 < j → j < limit → length_at extents j ≡ length_at others j) where
+module _ (parents : List ℕ) (tree : IsTree parents) (blocks : List Block) (r : Runs) (extents others clear_edges other_edges : List Length) (s t : Positions)
+    (is : HasPositions parents blocks r extents clear_edges s) (also : HasPositions parents blocks r others other_edges t)
+    (limit : ℕ) (same : (j : ℕ) → 0 < j → j < limit → length_at extents j ≡ length_at others j) (edges : (j : ℕ) → j ≤ limit → flag_at r.clears j ≡ true → length_at clear_edges j ≡ length_at other_edges j) where
   record Agrees (p m : ℕ) : Type 0 where
     pub parent : p < m
     pub within : m ≤ length parents
@@ -35,9 +35,13 @@ module _ (parents : List ℕ) (tree : IsTree parents) (blocks : List Block) (r :
       go None e = let f = was.mark p lt in let g = was.start p lt in rw (e, f, g) refl
       go (Some c) e = let l = last_there parents p m c e in rw e (below_same c (was.start c l.1) (was.mark c l.1) (was.closed c l.0 l.1))
 
-  start_same : (k : ℕ) → 0 < k → start_before parents blocks r s (slice_index parents k) k ≡ start_before parents blocks r t (slice_index parents k) k → start_of parents blocks r clear_edges s k ≡ start_of parents blocks r clear_edges t k
-  start_same zero positive e = absurd (omega (arith, positive))
-  start_same (suc k) positive e = rw e refl
+  start_same : (k : ℕ) → 0 < k → k ≤ limit → start_before parents blocks r s (slice_index parents k) k ≡ start_before parents blocks r t (slice_index parents k) k → start_of parents blocks r clear_edges s k ≡ start_of parents blocks r other_edges t k
+  start_same zero positive le e = absurd (omega (arith, positive))
+  start_same (suc k) positive le e = go (flag_at r.clears (suc k)) refl
+    where
+      go : (b : Bool) → flag_at r.clears (suc k) ≡ b → start_of parents blocks r clear_edges s (suc k) ≡ start_of parents blocks r other_edges t (suc k)
+      go true cleared = let d = edges (suc k) le cleared in rw (cleared, d) refl
+      go false unclear = rw (unclear, e) refl
 
   mark_same : (k : ℕ) → 0 < k → length_at s.starts k ≡ length_at t.starts k → length_at s.marks (slice_index parents k) ≡ length_at t.marks (slice_index parents k) → mark_of parents blocks r s k ≡ mark_of parents blocks r t k
   mark_same zero positive e f = absurd (omega (arith, positive))
@@ -73,7 +77,7 @@ module _ (parents : List ℕ) (tree : IsTree parents) (blocks : List Block) (r :
       was = before (inl (low_enough cond))
 
       start : length_at s.starts k ≡ length_at t.starts k
-      start = let w = was in is.start k within ∙ start_same k positive (before_same (slice_index parents k) k w.parent w.alike) ∙ sym (also.start k within)
+      start = let w = was in is.start k within ∙ start_same k positive (low_enough cond) (before_same (slice_index parents k) k w.parent w.alike) ∙ sym (also.start k within)
 
       mark : length_at s.marks k ≡ length_at t.marks k
       mark = let w = was in is.mark k within ∙ mark_same k positive start (w.alike.mark (slice_index parents k) w.parent) ∙ sym (also.mark k within)

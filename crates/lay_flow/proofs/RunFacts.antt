@@ -65,3 +65,8 @@ module _ (parents : List ℕ) (blocks : List Block) (r : Runs) where
     pub passes_is : (k : ℕ) → 0 < k → k < length parents → flag_at r.through k ≡ (may_collapse_through (block_at blocks k) && has_top k (run_before parents blocks r k (length parents)))
     passes_is zero lt within = absurd (omega (arith, lt))
     passes_is (suc k) lt within = is.through (suc k) within
+
+    -- a box with an edge above its content isn't collapsed through
+    pub parting_stands : (k : ℕ) → 0 < k → k < length parents → parts_tops blocks k ≡ true → flag_at r.through k ≡ false
+    parting_stands zero lt within parts = absurd (omega (arith, lt))
+    parting_stands (suc k) lt within parts = let e = is.through (suc k) within in grind (arith, e, parts)

@@ -58,6 +58,26 @@ pub record Same (parents : List ℕ) (r x : Runs) (p m : ℕ) : Type 0 where
   pub closed : (j : ℕ) → p < j → j < m → Closed r x j
   pub gone : (j i : ℕ) → j < i → i < m → slice_index parents i < j → Closed r x j
 
+module _ (parents : List ℕ) (blocks : List Block) where
+  pub before_same : (r x : Runs) (p m : ℕ) → run_at r.before_tops p ≡ run_at x.before_tops p → ((s : ℕ) → p < s → s < m → run_at r.to_bottoms s ≡ run_at x.to_bottoms s) → run_before parents blocks r p m ≡ run_before parents blocks x p m
+  before_same r x p m lead tails = go (last_child parents p m) refl
+    where
+      go : (o : Option ℕ) → last_child parents p m ≡ o → run_before parents blocks r p m ≡ run_before parents blocks x p m
+      go None e = rw (e, lead) refl
+      go (Some s) e = let l = last_there parents p m s e in rw (e, tails s l.0 l.1) refl
+
+  pub lead_same : (r x : Runs) (k : ℕ) → 0 < k → flag_at r.clears k ≡ flag_at x.clears k → run_before parents blocks r (slice_index parents k) k ≡ run_before parents blocks x (slice_index parents k) k → before_top_of parents blocks r k ≡ before_top_of parents blocks x k
+  lead_same r x zero positive c e = absurd (omega (arith, positive))
+  lead_same r x (suc k) positive c e = rw (c, e) refl
+
+  pub pass_same : (r x : Runs) (p : ℕ) → 0 < p → run_before parents blocks r p (length parents) ≡ run_before parents blocks x p (length parents) → through_of parents blocks r p ≡ through_of parents blocks x p
+  pass_same r x zero positive e = absurd (omega (arith, positive))
+  pass_same r x (suc p) positive e = ap (λ (run : List Entry). may_collapse_through (block_at blocks (suc p)) && has_top (suc p) run) e
+
+  pub tail_same : (r x : Runs) (p : ℕ) → 0 < p → flag_at r.through p ≡ flag_at x.through p → run_before parents blocks r p (length parents) ≡ run_before parents blocks x p (length parents) → to_bottom_of parents blocks r p ≡ to_bottom_of parents blocks x p
+  tail_same r x zero positive f e = absurd (omega (arith, positive))
+  tail_same r x (suc p) positive f e = rw (f, e) refl
+
 module _ (parents : List ℕ) (tree : IsTree parents) (blocks : List Block) (a b : ℕ → Runs)
     (a_next : (i : ℕ) → AreNext parents blocks (a i) (a (suc i))) (b_next : (i : ℕ) → AreNext parents blocks (b i) (b (suc i)))
     (clears : (i k : ℕ) → flag_at (a i).clears k ≡ flag_at (b i).clears k) where
@@ -68,17 +88,6 @@ module _ (parents : List ℕ) (tree : IsTree parents) (blocks : List Block) (a b
     pub inside : (i : ℕ) → p < i → i < m → p ≤ slice_index parents i
     pub after : ℕ
     pub same : (i : ℕ) → after ≤ i → Same parents (a i) (b i) p m
-
-  pub before_same : (r x : Runs) (p m : ℕ) → run_at r.before_tops p ≡ run_at x.before_tops p → ((s : ℕ) → p < s → s < m → run_at r.to_bottoms s ≡ run_at x.to_bottoms s) → run_before parents blocks r p m ≡ run_before parents blocks x p m
-  before_same r x p m lead tails = go (last_child parents p m) refl
-    where
-      go : (o : Option ℕ) → last_child parents p m ≡ o → run_before parents blocks r p m ≡ run_before parents blocks x p m
-      go None e = rw (e, lead) refl
-      go (Some s) e = let l = last_there parents p m s e in rw (e, tails s l.0 l.1) refl
-
-  lead_same : (r x : Runs) (k : ℕ) → 0 < k → flag_at r.clears k ≡ flag_at x.clears k → run_before parents blocks r (slice_index parents k) k ≡ run_before parents blocks x (slice_index parents k) k → before_top_of parents blocks r k ≡ before_top_of parents blocks x k
-  lead_same r x zero positive c e = absurd (omega (arith, positive))
-  lead_same r x (suc k) positive c e = rw (c, e) refl
 
   open_settles : (k : ℕ) → 0 < k → k < length parents → Settles (slice_index parents k) k → Settles k (k + 1)
   open_settles k positive within was = record {
@@ -94,9 +103,9 @@ module _ (parents : List ℕ) (tree : IsTree parents) (blocks : List Block) (a b
       later (suc i) le =
           let before = was.same i (omega (arith, le)) in
           let now = was.same (suc i) (omega (arith, le)) in
-          let come = before_same (a i) (b i) (slice_index parents k) k (before.lead (slice_index parents k) was.parent) (λ s low high. (before.closed s low high).tail) in
+          let come = before_same parents blocks (a i) (b i) (slice_index parents k) k (before.lead (slice_index parents k) was.parent) (λ s low high. (before.closed s low high).tail) in
           let mine : run_at (a (suc i)).before_tops k ≡ run_at (b (suc i)).before_tops k =
-          (a_next i).before_top k within ∙ lead_same (a i) (b i) k positive (clears i k) come ∙ sym ((b_next i).before_top k within) in
+          (a_next i).before_top k within ∙ lead_same parents blocks (a i) (b i) k positive (clears i k) come ∙ sym ((b_next i).before_top k within) in
           record {
             lead = λ j high. elim (cases_lt j k) [
               | inl lt ↦ now.lead j lt
@@ -108,14 +117,6 @@ module _ (parents : List ℕ) (tree : IsTree parents) (blocks : List Block) (a b
               | inr ge ↦ (let e : i ≡ k = omega (arith, high, ge) in now.closed j (rw e at lower) (omega (arith, low, e)))
             ];
           }
-
-  pass_same : (r x : Runs) (p : ℕ) → 0 < p → run_before parents blocks r p (length parents) ≡ run_before parents blocks x p (length parents) → through_of parents blocks r p ≡ through_of parents blocks x p
-  pass_same r x zero positive e = absurd (omega (arith, positive))
-  pass_same r x (suc p) positive e = ap (λ (run : List Entry). may_collapse_through (block_at blocks (suc p)) && has_top (suc p) run) e
-
-  tail_same : (r x : Runs) (p : ℕ) → 0 < p → flag_at r.through p ≡ flag_at x.through p → run_before parents blocks r p (length parents) ≡ run_before parents blocks x p (length parents) → to_bottom_of parents blocks r p ≡ to_bottom_of parents blocks x p
-  tail_same r x zero positive f e = absurd (omega (arith, positive))
-  tail_same r x (suc p) positive f e = rw (f, e) refl
 
   close_settles : (p m : ℕ) → 0 < p → p < m → m ≤ length parents → (m < length parents → slice_index parents m < p) → Settles p m → Settles (slice_index parents p) m
   close_settles p m positive lt within ends was = record {
@@ -134,15 +135,15 @@ module _ (parents : List ℕ) (tree : IsTree parents) (blocks : List Block) (a b
 
       come : (i : ℕ) → was.after ≤ i → run_before parents blocks (a i) p (length parents) ≡ run_before parents blocks (b i) p (length parents)
       come i le = let s = was.same i le in
-          let here = before_same (a i) (b i) p m (s.lead p lt) (λ t low high. (s.closed t low high).tail) in
+          let here = before_same parents blocks (a i) (b i) p m (s.lead p lt) (λ t low high. (s.closed t low high).tail) in
           let last = last_same parents p m (length parents) within (none_left parents tree p m lt ends) in rw last here
 
       pass : (i : ℕ) → was.after ≤ i → flag_at (a (suc i)).through p ≡ flag_at (b (suc i)).through p
-      pass i le = (a_next i).through p inner ∙ pass_same (a i) (b i) p positive (come i le) ∙ sym ((b_next i).through p inner)
+      pass i le = (a_next i).through p inner ∙ pass_same parents blocks (a i) (b i) p positive (come i le) ∙ sym ((b_next i).through p inner)
 
       tail : (i : ℕ) → was.after ≤ i → run_at (a (suc (suc i))).to_bottoms p ≡ run_at (b (suc (suc i))).to_bottoms p
       tail i le = (a_next (suc i)).to_bottom p inner
-          ∙ tail_same (a (suc i)) (b (suc i)) p positive (pass i le) (come (suc i) (omega (arith, le)))
+          ∙ tail_same parents blocks (a (suc i)) (b (suc i)) p positive (pass i le) (come (suc i) (omega (arith, le)))
           ∙ sym ((b_next (suc i)).to_bottom p inner)
 
       later : (i : ℕ) → suc (suc was.after) ≤ i → Same parents (a i) (b i) (slice_index parents p) m

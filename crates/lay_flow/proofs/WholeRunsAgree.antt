@@ -65,7 +65,7 @@ module _ (parents : List ℕ) (tree : IsTree parents) (blocks : List Block) (a b
   before_all : (i : ℕ) → settled_at ≤ i → (p m : ℕ) → p < length parents → m ≤ length parents → run_before parents blocks (a i) p m ≡ run_before parents blocks (b i) p m
   before_all i le p m less within =
       let s = same_at i le in
-      before_same parents tree blocks a b a_next b_next clears (a i) (b i) p m (s.lead p less) (λ s' low high. (s.closed s' (omega (arith, low)) (omega (arith, high, within))).tail)
+      before_same parents blocks (a i) (b i) p m (s.lead p less) (λ s' low high. (s.closed s' (omega (arith, low)) (omega (arith, high, within))).tail)
 
   joined_alike : (i : ℕ) → settled_at ≤ i → (p : ℕ) → p < length parents → joins_bottom parents blocks (a i) p ≡ joins_bottom parents blocks (b i) p
   joined_alike i le zero less = refl

@@ -1,15 +1,15 @@
--- The heights and the positions of a context have one value each, and its blocks have one layout.
-use Rattle.std.specs.Prelude.{ℕ, ◌≡◌, ◌<◌, Bool, List, length, None}
+-- The heights and the positions of a context have one value each, its blocks have one layout, and it has one flow.
+use Rattle.std.specs.Prelude.{ℕ, ◌≡◌, ◌<◌, Bool, List, length}
 use Rattle.lay_units.specs.declared.length.Unit.{Unit as Length}
 use Rattle.lay_units.specs.declared.records.Len.{Len}
 use Rattle.lay_doc.specs.Tree.{IsTree}
 use Rattle.lay_flow.specs.declared.corner.Corner.{Corner}
-use Rattle.lay_floats.specs.declared.requests.Clear.TheVariants.{None as clear_none}
+use Rattle.lay_floats.specs.declared.requests.Place.{Place}
 use Rattle.lay_flow.specs.declared.block.Block.{Block}
 use Rattle.lay_flow.specs.declared.shape.Shape.{Shape}
-use Rattle.lay_flow.specs.BlockFloats.{AreShapes, shape_at}
+use Rattle.lay_flow.specs.BlockFloats.{AreShapes}
 use Rattle.lay_flow.specs.Clearance.{IsHypothetical}
-use Rattle.lay_flow.specs.ContextFlow.{Flow, IsContextFlow}
+use Rattle.lay_flow.specs.ContextFlow.{Flow, IsContextFlow, AreContextPlaces}
 use Rattle.lay_flow.specs.StackedBlocks.{HasHeights, HasCorners}
 use Rattle.lay_flow.specs.BlockLayout.{BlockLayout, IsBlockLayout}
 
@@ -28,11 +28,16 @@ abbrev pub SomeBlockLayout : Type 0
 SomeBlockLayout = (parents : List ℕ) (blocks : List Block) (extents clear_edges : List Length) (clears : List Bool) → IsTree parents → 0 < length parents → length clears ≡ length parents
     → (y : BlockLayout) × (y.runs.clears ≡ clears) × IsBlockLayout parents blocks extents clear_edges y
 
--- where no box but floats has `clear`, a context has one flow
-abbrev pub OneFreeFlow : Type 0
-OneFreeFlow = (parents : List ℕ) (blocks : List Block) (shapes : List Shape) (given : List Length) (f g : Flow) → IsTree parents → 0 < length parents → AreShapes parents blocks shapes
-    → ((k : ℕ) → k < length parents → (shape_at shapes k).float ≡ None → (shape_at shapes k).clear ≡ clear_none)
+-- a context has one flow
+abbrev pub OneContextFlow : Type 0
+OneContextFlow = (parents : List ℕ) (blocks : List Block) (shapes : List Shape) (given : List Length) (f g : Flow) → IsTree parents → 0 < length parents → AreShapes parents blocks shapes
     → IsContextFlow parents blocks shapes given f → IsContextFlow parents blocks shapes given g → f ≡ g
+
+-- and its boxes have one place each
+abbrev pub OneContextPlaces : Type 0
+OneContextPlaces = (parents : List ℕ) (blocks : List Block) (shapes : List Shape) (given tops heights other_tops other_heights : List Length) (places other_places : List Place) → IsTree parents → 0 < length parents → AreShapes parents blocks shapes
+    → AreContextPlaces parents blocks shapes given tops heights places → AreContextPlaces parents blocks shapes given other_tops other_heights other_places
+    → (tops ≡ other_tops) × (heights ≡ other_heights) × (places ≡ other_places)
 
 -- a box has one hypothetical layout and no other
 abbrev pub OneHypothetical : Type 0

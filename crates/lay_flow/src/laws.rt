@@ -1,6 +1,6 @@
 //! The laws of the definitions: each column has one value.
 
-ghost use Rattle.lay_flow.specs.Laws.{OneBlockLayout, OneHeightColumn, OneCornerColumn, OneFreeFlow, OneHypothetical, SomeBlockLayout, SomeHypothetical};
+ghost use Rattle.lay_flow.specs.Laws.{OneBlockLayout, OneHeightColumn, OneCornerColumn, OneContextFlow, OneContextPlaces, OneHypothetical, SomeBlockLayout, SomeHypothetical};
 
 /// The heights of a context are the only ones that meet their definition.
 pub fn one_height_column()
@@ -22,9 +22,14 @@ pub fn some_block_layout()
     ensures { SomeBlockLayout }
 {}
 
-/// The flow of a context is the only one, where no box but floats has `clear`.
-pub fn one_free_flow()
-    ensures { OneFreeFlow }
+/// The flow of a context is the only one.
+pub fn one_context_flow()
+    ensures { OneContextFlow }
+{}
+
+/// The places and the heights of a context's boxes are the only ones that meet their definition.
+pub fn one_context_places()
+    ensures { OneContextPlaces }
 {}
 
 /// The hypothetical layout of a box is the only one.

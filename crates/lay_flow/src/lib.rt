@@ -5,7 +5,7 @@
 //! (`specs/MarginRuns.antt`), positions and heights (`specs/BlockPositions.antt`), floats and boxes that they
 //! may not overlap (`specs/BlockFloats.antt`), and clearance (`specs/Clearance.antt`), each as a column of a
 //! value per box in document order. It takes no box with clearance yet. The laws in `specs/Laws.antt` say that
-//! runs, positions and heights are the only ones.
+//! runs, positions, heights and flows are the only ones.
 //!
 //! `heights` and `corners` cite `HasHeights` and `HasCorners` of `specs/StackedBlocks.antt`, for blocks without
 //! vertical margins, which stand one below the other.
@@ -21,6 +21,8 @@ mod clear_steps;
 mod columns;
 mod corner;
 mod hypothetical_edge;
+#[cfg(test)]
+mod hypothetical_edge_tests;
 mod laws;
 mod pass_state;
 mod place_boxes;
@@ -37,7 +39,7 @@ pub use block_heights::heights;
 pub use block_places::{BlockPlaces, place_blocks};
 pub use corner::Corner;
 pub use laws::{
-    one_block_layout, one_corner_column, one_free_flow, one_height_column, one_hypothetical,
-    some_block_layout, some_hypothetical,
+    one_block_layout, one_context_flow, one_context_places, one_corner_column, one_height_column,
+    one_hypothetical, some_block_layout, some_hypothetical,
 };
 pub use shape::Shape;

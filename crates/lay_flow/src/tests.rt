@@ -19,11 +19,11 @@ use lay_units::{Len, Unit};
 use std::alloc::Global;
 use std::test::Fail;
 
-fn px(v: i16) -> Unit {
+pub(crate) fn px(v: i16) -> Unit {
     Unit(i64::from(v) * 64)
 }
 
-const EMPTY: Block = Block {
+pub(crate) const EMPTY: Block = Block {
     margin_top: Unit(0),
     margin_bottom: Unit(0),
     edge_top: Unit(0),
@@ -45,7 +45,7 @@ const IN_FLOW: Shape = Shape {
 };
 
 /// A block with these margins that holds blocks.
-fn block(top: i16, bottom: i16) -> Block {
+pub(crate) fn block(top: i16, bottom: i16) -> Block {
     Block {
         margin_top: px(top),
         margin_bottom: px(bottom),
@@ -54,14 +54,14 @@ fn block(top: i16, bottom: i16) -> Block {
 }
 
 /// A block with these margins and this height.
-fn sized(top: i16, height: i16, bottom: i16) -> Block {
+pub(crate) fn sized(top: i16, height: i16, bottom: i16) -> Block {
     Block {
         height: Len::Of(px(height)),
         ..block(top, bottom)
     }
 }
 
-fn is_used(v: Unit) -> bool
+pub(crate) fn is_used(v: Unit) -> bool
     ensures { result ≡ true → IsUsed v.0 }
 {
     -2147483648 <= v.0 && v.0 <= 2147483648
@@ -141,7 +141,7 @@ fn is_tree(parents: &[usize]) -> bool
     parent_at(parents, 0) == 0
 }
 
-fn are_blocks(parents: &[usize], blocks: &[Block], lines: &[Unit]) -> bool
+pub(crate) fn are_blocks(parents: &[usize], blocks: &[Block], lines: &[Unit]) -> bool
     ensures { result ≡ true → AreBlocks parents.now blocks.now lines.now }
 {
     let count = parents.len();

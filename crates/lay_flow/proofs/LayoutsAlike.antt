@@ -1,0 +1,162 @@
+-- Two layouts in which the same boxes before a place have clearance are alike as far as runs have ended there.
+use Rattle.std.proofs.Common.{◌≡◌, ◌⊎◌, ℕ, zero, suc, ◌<◌, ◌≤◌, true, false, ◌+ℤ◌, ◌-ℤ◌, List, length, slice_index, refl, sym, ap, ◌∙◌, arith, inl, inr, subst}
+use Rattle.std.proofs.lemmas.Bool.{cases_lt}
+use Rattle.lay_units.specs.declared.length.Unit.{Unit as Length}
+use Rattle.lay_doc.specs.Tree.{IsTree}
+use Rattle.lay_margins.specs.Collapse.{collapse}
+use Rattle.lay_flow.specs.declared.block.Block.{Block}
+use Rattle.lay_flow.specs.StackedBlocks.{length_at}
+use Rattle.lay_flow.specs.Children.{flag_at}
+use Rattle.lay_flow.specs.MarginRuns.{Entry, margins, has_top, run_at, run_before}
+use Rattle.lay_flow.specs.BlockPositions.{margins_above, start_before}
+use Rattle.lay_flow.specs.BlockLayout.{BlockLayout, IsBlockLayout}
+use Rattle.lay_flow.specs.Gathered.{Gathered, Holds as Contains}
+use Rattle.lay_flow.specs.MarginPlace.{IsPlace}
+use Rattle.lay_flow.proofs.Truths.{true_or}
+use Rattle.lay_flow.proofs.RunsAgree.{Same}
+use Rattle.lay_flow.proofs.RunsUpTo.{runs_up_to, run_up_to}
+use Rattle.lay_flow.proofs.PositionFacts.{stands_at_end, stands_with_parent, starts_above_edge}
+use Rattle.lay_flow.proofs.GatheredRuns.{gathers, one_first}
+use Rattle.lay_flow.proofs.CollapsedThrough.{one_start}
+
+-- the box at i stands outside the one at j, which ended before it
+pub record EndedBefore (parents : List ℕ) (j m : ℕ) : Type 0 where
+  pub place : ℕ
+  pub after : j < place
+  pub before : place < m
+  pub outside : slice_index parents place < j
+
+pub open_or_ended : (parents : List ℕ) (j m : ℕ) → Contains parents j m ⊎ EndedBefore parents j m
+open_or_ended parents j zero = inl (λ i low high. absurd (omega (arith, high)))
+open_or_ended parents j (suc m) = elim (open_or_ended parents j m) [
+  | inr e ↦ inr (record { place = e.place; after = e.after; before = let b = e.before in omega (arith, b); outside = e.outside })
+  | inl inside ↦ elim (cases_lt j m) [
+    | inr le ↦ inl (λ i low high. absurd (omega (arith, low, high, le)))
+    | inl lt ↦ elim (cases_lt (slice_index parents m) j) [
+      | inl out ↦ inr (record { place = m; after = lt; before = omega arith; outside = out })
+      | inr in_it ↦ inl (λ i low high. elim (cases_lt i m) [
+        | inl before ↦ inside i low before
+        | inr here ↦ (let e : i ≡ m = omega (arith, here, high) in rw e in_it)
+      ])
+    ]
+  ]
+]
+
+-- the run that comes to the place (p, m) was begun by clearance of the box at `first`, which is open
+pub record IsHanging (parents : List ℕ) (y : BlockLayout) (first p m : ℕ) : Type 0 where
+  pub clears : flag_at y.runs.clears first ≡ true
+  pub above : first ≤ p
+  pub contains : Contains parents first m
+
+module _ (parents : List ℕ) (tree : IsTree parents) (blocks : List Block) (extents clear_edges : List Length) (y : BlockLayout) (is : IsBlockLayout parents blocks extents clear_edges y)
+    (others other_edges : List Length) (z : BlockLayout) (also : IsBlockLayout parents blocks others other_edges z) where
+  -- a box whose bottom margin was passed
+  pub record ClosedAlike (j : ℕ) : Type 0 where
+    pub height : length_at y.places.heights j ≡ length_at z.places.heights j
+    pub kept : flag_at y.runs.through j ≡ true → has_top (slice_index parents j) (run_at y.runs.before_tops j) ≡ false → length_at y.places.marks j ≡ length_at z.places.marks j
+
+  -- the layouts are alike at the place (p, m): the boxes before `first` have their marks
+  pub record Alike (first p m : ℕ) : Type 0 where
+    pub gathered : Gathered parents blocks y.runs first p m
+    pub clears : (j : ℕ) → j < m → flag_at y.runs.clears j ≡ flag_at z.runs.clears j
+    pub edges : (j : ℕ) → j < m → flag_at y.runs.clears j ≡ true → length_at clear_edges j ≡ length_at other_edges j
+    pub mark : (j : ℕ) → j < first → length_at y.places.marks j ≡ length_at z.places.marks j
+    pub closed : (j : ℕ) → p < j → j < m → ClosedAlike j
+    pub gone : (j i : ℕ) → j < i → i < m → slice_index parents i < j → ClosedAlike j
+    pub start : (start_before parents blocks y.runs y.places p m ≡ start_before parents blocks z.runs z.places p m) ⊎ IsHanging parents y first p m
+
+  module _ (first p m : ℕ) (at : IsPlace parents p m) (was : Alike first p m) where
+    pub same_runs : Same parents y.runs z.runs p m
+    same_runs = runs_up_to parents tree blocks y.runs z.runs is.has_runs also.has_runs m was.clears p m at (omega arith)
+
+    pub same_run : run_before parents blocks y.runs p m ≡ run_before parents blocks z.runs p m
+    same_run = run_up_to parents tree blocks y.runs z.runs is.has_runs also.has_runs m was.clears p m at (omega arith)
+
+    pub also_gathered : Gathered parents blocks z.runs first p m
+    also_gathered =
+        let there = gathers parents tree blocks z.runs also.has_runs p m at in
+        let e = same_run in
+        let same = one_first parents blocks z.runs there.first first p m there.is_gathered was.gathered.most
+        (λ j lt le. ap (has_top j) (sym e) ∙ was.gathered.own j le lt) (λ j lt low. ap (has_top j) (sym e) ∙ was.gathered.older j low) in
+        subst (λ (f : ℕ). Gathered parents blocks z.runs f p m) same there.is_gathered
+
+    -- the run ended: this is the whole run of the top margin of an open box in it
+    pub record EndsIn (run : List Entry) (c : ℕ) : Type 0 where
+      pub rise : run_at y.runs.top_runs c ≡ run
+      pub also_rise : run_at z.runs.top_runs c ≡ run
+      pub stands : flag_at y.runs.through c ≡ false
+      pub also_stands : flag_at z.runs.through c ≡ false
+
+    module _ (run : List Entry) (ended : (c : ℕ) → first ≤ c → c ≤ p → Contains parents c m → EndsIn run c) where
+      some : 0 < length parents
+      some = let a = at.parent in let b = at.within in omega (arith, a, b)
+
+      starts_there : (c : ℕ) → first ≤ c → c ≤ p → Contains parents c m → length_at y.places.starts c ≡ start_before parents blocks y.runs y.places p m
+      starts_there c from above inside = let a = at.parent in
+          one_start parents tree blocks y.runs is.has_runs extents clear_edges y.places is.has_positions first p m at was.gathered c c from above inside (omega arith) (omega (arith, above, a))
+
+      also_starts : (c : ℕ) → first ≤ c → c ≤ p → Contains parents c m → length_at z.places.starts c ≡ start_before parents blocks z.runs z.places p m
+      also_starts c from above inside = let a = at.parent in
+          one_start parents tree blocks z.runs also.has_runs others other_edges z.places also.has_positions first p m at also_gathered c c from above inside (omega arith) (omega (arith, above, a))
+
+      above_standing : (r : BlockLayout) → flag_at r.runs.through first ≡ false → run_at r.runs.top_runs first ≡ run → margins_above parents blocks r.runs first ≡ margins run
+      above_standing r stands rise = rw (stands, rise) refl
+
+      pub start_same : start_before parents blocks y.runs y.places p m ≡ start_before parents blocks z.runs z.places p m
+      start_same = elim was.start [
+        | inl e ↦ e
+        | inr h ↦ (let pos = was.gathered.least in let up = h.above in let a = at.parent in let b = at.within in
+            let there : first < length parents = omega (arith, up, a, b) in
+            let before : first < m = omega (arith, up, a) in
+            let e = ended first (omega arith) up h.contains in
+            let mine = above_standing y e.stands e.rise in
+            let other = above_standing z e.also_stands e.also_rise in
+            let edge = was.edges first before h.clears in
+            sym (starts_there first (omega arith) up h.contains)
+            ∙ starts_above_edge parents blocks y.runs extents clear_edges y.places is.has_positions first pos there h.clears
+            ∙ (λ i. edge i -ℤ collapse (mine i)) ∙ (λ i. length_at other_edges first -ℤ collapse (sym other i))
+            ∙ sym (starts_above_edge parents blocks z.runs others other_edges z.places also.has_positions first pos there (sym (was.clears first before) ∙ h.clears))
+            ∙ also_starts first (omega arith) up h.contains)
+      ]
+
+      open_mark : (j : ℕ) → first ≤ j → j ≤ p → Contains parents j m → length_at y.places.marks j ≡ length_at z.places.marks j
+      open_mark j from above inside =
+          let pos = was.gathered.least in let a = at.parent in let b = at.within in
+          let e = ended j from above inside in
+          stands_at_end parents blocks y.runs extents clear_edges y.places is.has_positions j (omega (arith, pos, from)) (omega (arith, above, a, b)) e.stands
+          ∙ (λ i. starts_there j from above inside i +ℤ collapse (margins (e.rise i)))
+          ∙ (λ i. start_same i +ℤ collapse (margins run))
+          ∙ (λ i. sym (also_starts j from above inside) i +ℤ collapse (margins (sym e.also_rise i)))
+          ∙ sym (stands_at_end parents blocks z.runs others other_edges z.places also.has_positions j (omega (arith, pos, from)) (omega (arith, above, a, b)) e.also_stands)
+
+      closed_mark : (j : ℕ) → first ≤ j → j < m → flag_at y.runs.through j ≡ true → flag_at z.runs.through j ≡ true → ClosedAlike j
+          → (slice_index parents j < j → length_at y.places.marks (slice_index parents j) ≡ length_at z.places.marks (slice_index parents j)) → length_at y.places.marks j ≡ length_at z.places.marks j
+      closed_mark j from lt through also_through closed up =
+          let pos = was.gathered.least in let b = at.within in
+          let there : j < length parents = omega (arith, lt, b) in
+          let positive : 0 < j = omega (arith, pos, from) in
+          let lead = same_runs.lead j lt in
+          true_or (has_top (slice_index parents j) (run_at y.runs.before_tops j)) (length_at y.places.marks j ≡ length_at z.places.marks j)
+          (λ t. stands_with_parent parents blocks y.runs extents clear_edges y.places is.has_positions j positive there through t
+          ∙ up (tree.before j positive there)
+          ∙ sym (stands_with_parent parents blocks z.runs others other_edges z.places also.has_positions j positive there also_through (ap (has_top (slice_index parents j)) (sym lead) ∙ t)))
+          (closed.kept through)
+
+      marks_to : (fuel j : ℕ) → j < fuel → j < m → length_at y.places.marks j ≡ length_at z.places.marks j
+      marks_to zero j small lt = absurd (omega (arith, small))
+      marks_to (suc fuel) j small lt =
+          let up : slice_index parents j < j → length_at y.places.marks (slice_index parents j) ≡ length_at z.places.marks (slice_index parents j) = λ b. marks_to fuel (slice_index parents j) (omega (arith, b, small)) (omega (arith, b, lt)) in
+          elim (cases_lt j first) [
+            | inl low ↦ was.mark j low
+            | inr from ↦ elim (cases_lt p j) [
+              | inl after ↦ closed_mark j from lt (was.gathered.closed j from after lt) (also_gathered.closed j from after lt) (was.closed j after lt) up
+              | inr above ↦ elim (open_or_ended parents j m) [
+                | inl inside ↦ open_mark j from above inside
+                | inr e ↦ closed_mark j from lt (was.gathered.gone j e.place from e.after e.before e.outside) (also_gathered.gone j e.place from e.after e.before e.outside) (was.gone j e.place e.after e.before e.outside) up
+              ]
+            ]
+          ]
+
+      -- the boxes of the run have their marks
+      pub marks_same : (j : ℕ) → j < m → length_at y.places.marks j ≡ length_at z.places.marks j
+      marks_same j lt = marks_to (suc j) j (omega arith) lt
