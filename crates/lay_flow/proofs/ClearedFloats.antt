@@ -2,7 +2,6 @@
 use Rattle.std.proofs.Common.{◌≡◌, ℕ, zero, suc, ◌<◌, ◌≤◌, ℤ, List, [], ◌∷◌, ◌++◌, length, slice_get, refl, ap, arith, inl, inr, Option, Some, None, subst}
 use Rattle.std.proofs.lemmas.Bool.{cases_lt}
 use Rattle.std.proofs.lemmas.Int.{ints}
-use Rattle.std.proofs.lemmas.Grind.{elements}
 use Rattle.lay_units.specs.declared.length.Unit.{Unit as Length}
 use Rattle.lay_floats.specs.declared.placed.Placed.{Placed}
 use Rattle.lay_floats.specs.declared.requests.Side.{Side}
@@ -12,42 +11,7 @@ use Rattle.lay_floats.specs.ClearEdge.{Clears, IsClearEdge}
 use Rattle.lay_flow.specs.declared.shape.Shape.{Shape}
 use Rattle.lay_flow.specs.BlockFloats.{shape_at, floats_before}
 use Rattle.lay_flow.specs.Clearance.{IsAbove}
-
--- a float is in the list
-abbrev Has : List Placed → Placed → Type 0
-Has floats f = (i : ℕ) × (slice_get floats i ≡ Some f)
-
-has_there : (xs : List Placed) (x f : Placed) → Has xs f → Has (xs ++ x ∷ []) f
-has_there xs x f w = (w.0, old_at xs x f w.0 w.1)
-  where
-    old_at : (xs : List Placed) (x f : Placed) (i : ℕ) → slice_get xs i ≡ Some f → slice_get (xs ++ x ∷ []) i ≡ Some f
-    old_at xs x f i e = grind (arith, elements, e)
-
-has_back : (xs : List Placed) (x f : Placed) (P : Type 0) → (Has xs f → P) → (f ≡ x → P) → Has (xs ++ x ∷ []) f → P
-has_back xs x f P old new w = elim (cases_lt w.0 (length xs)) [
-  | inl lt ↦ old (w.0, before xs x f w.0 lt w.1)
-  | inr ge ↦ new (last xs x f w.0 ge w.1)
-]
-  where
-    before : (xs : List Placed) (x f : Placed) (i : ℕ) → i < length xs → slice_get (xs ++ x ∷ []) i ≡ Some f → slice_get xs i ≡ Some f
-    before xs x f i lt e = grind (arith, elements, e, lt)
-
-    last : (xs : List Placed) (x f : Placed) (i : ℕ) → length xs ≤ i → slice_get (xs ++ x ∷ []) i ≡ Some f → f ≡ x
-    last xs x f i ge e = grind (arith, elements, e, ge)
-
-has_nothing : (xs : List Placed) (f : Placed) → Has (xs ++ []) f → Has xs f
-has_nothing xs f w = subst (λ (zs : List Placed). Has zs f) (nothing_more xs) w
-  where
-    nothing_more : (xs : List Placed) → xs ++ [] ≡ xs
-    nothing_more [] = refl
-    nothing_more (x ∷ xs) = ap (λ (zs : List Placed). x ∷ zs) (nothing_more xs)
-
-nothing_has : (xs : List Placed) (f : Placed) → Has xs f → Has (xs ++ []) f
-nothing_has xs f w = subst (λ (zs : List Placed). Has zs f) (more_nothing xs) w
-  where
-    more_nothing : (xs : List Placed) → xs ≡ xs ++ []
-    more_nothing [] = refl
-    more_nothing (x ∷ xs) = ap (λ (zs : List Placed). x ∷ zs) (more_nothing xs)
+use Rattle.lay_flow.proofs.FloatLists.{Has, has_there, has_back, nothing_more}
 
 module _ (shapes : List Shape) (places : List Place) where
   -- floats stay in the list
@@ -59,7 +23,7 @@ module _ (shapes : List Shape) (places : List Place) where
   ]
     where
       go : (o : Option Side) → (shape_at shapes m).float ≡ o → Has (floats_before shapes places m) f → Has (floats_before shapes places (suc m)) f
-      go None e h = rw e (nothing_has (floats_before shapes places m) f h)
+      go None e h = rw e (subst (λ (fs : List Placed). Has fs f) (sym (nothing_more (floats_before shapes places m))) h)
       go (Some side) e h = rw e (has_there (floats_before shapes places m) _ f h)
 
   -- of the sides to clear none is added
@@ -72,7 +36,7 @@ module _ (shapes : List Shape) (places : List Place) where
   ]
     where
       go : (o : Option Side) → (shape_at shapes m).float ≡ o → n ≤ m → Has (floats_before shapes places (suc m)) f → Has (floats_before shapes places m) f
-      go None e ge h = has_nothing (floats_before shapes places m) f (rw e at h)
+      go None e ge h = subst (λ (fs : List Placed). Has fs f) (nothing_more (floats_before shapes places m)) (rw e at h)
       go (Some side) e ge h = has_back (floats_before shapes places m) _ f (Has (floats_before shapes places m) f) (λ w. w)
           (λ same. absurd (none m ge (omega arith) side e (subst (Clears clear) (ap (λ (f : Placed). f.side) same) clears))) (rw e at h)
 

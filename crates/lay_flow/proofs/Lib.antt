@@ -15,7 +15,10 @@ pub mod RunEntries
 pub mod RunFacts
 pub mod GatheredRuns
 pub mod CollapsedThrough
-pub mod LayoutFacts
+pub mod PositionFacts
+pub mod LookAhead
+pub mod LookAheadSteps
+pub mod HangingRuns
 pub mod SoFar
 pub mod RunReach
 pub mod Openings
@@ -23,10 +26,6 @@ pub mod Closings
 pub mod WholePass
 pub mod StrutBounds
 pub mod ContentEnds
-pub mod PositionFacts
-pub mod LookAhead
-pub mod LookAheadSteps
-pub mod HangingRuns
 pub mod RunsUpTo
 pub mod LayoutsAlike
 pub mod AlikeSteps

@@ -1,12 +1,19 @@
 -- What the equations of the positions of a context say, of a box that isn't the context's own.
-use Rattle.std.proofs.Common.{◌≡◌, ℕ, zero, suc, ◌<◌, true, false, ◌+ℤ◌, ◌-ℤ◌, List, length, slice_index, refl, ◌∙◌, arith}
+use Rattle.std.proofs.Common.{◌≡◌, ℕ, zero, suc, ◌<◌, true, false, ◌+ℤ◌, ◌-ℤ◌, List, length, slice_index, refl, ◌∙◌, arith, Some, None, if◌then◌else◌}
 use Rattle.lay_units.specs.declared.length.Unit.{Unit as Length}
 use Rattle.lay_margins.specs.Collapse.{collapse}
 use Rattle.lay_flow.specs.declared.block.Block.{Block}
 use Rattle.lay_flow.specs.StackedBlocks.{length_at}
-use Rattle.lay_flow.specs.Children.{flag_at}
-use Rattle.lay_flow.specs.MarginRuns.{Runs, margins, has_top, run_at, run_before}
-use Rattle.lay_flow.specs.BlockPositions.{Positions, HasPositions, start_before, margins_above}
+use Rattle.lay_flow.specs.Children.{last_child, flag_at}
+use Rattle.lay_flow.specs.MarginRuns.{Runs, margins, has_top, block_at, run_at, parts_tops, run_before}
+use Rattle.lay_flow.specs.BlockPositions.{Positions, HasPositions, start_below, start_before, margins_above}
+
+module _ (parents : List ℕ) (blocks : List Block) (r : Runs) (s : Positions) where
+  pub start_first : (p m : ℕ) → last_child parents p m ≡ None → start_before parents blocks r s p m ≡ (if parts_tops blocks p then (length_at s.marks p +ℤ (block_at blocks p).edge_top.0) else length_at s.starts p)
+  start_first p m e = rw e refl
+
+  pub start_next : (p m c : ℕ) → last_child parents p m ≡ Some c → start_before parents blocks r s p m ≡ start_below r s c
+  start_next p m c e = rw e refl
 
 module _ (parents : List ℕ) (blocks : List Block) (r : Runs) (extents clear_edges : List Length) (s : Positions) (has : HasPositions parents blocks r extents clear_edges s) where
   -- a box that isn't collapsed through stands where the run of its top margin ends

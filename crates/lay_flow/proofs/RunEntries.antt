@@ -15,12 +15,6 @@ has_top-append j (margin m ∷ xs) ys = has_top-append j xs ys
 has_top-append j (mark k ∷ xs) ys = let h = has_top-append j xs ys in grind (arith, h)
 has_top-append j (clear k ∷ xs) ys = has_top-append j xs ys
 
-pub not_barred : (parents : List ℕ) (q : ℕ) (xs ys : List Entry) → is_barred parents q xs ≡ false → is_barred parents q ys ≡ false → is_barred parents q (xs ++ ys) ≡ false
-not_barred parents q [] ys h k = k
-not_barred parents q (margin m ∷ xs) ys h k = refl
-not_barred parents q (mark j ∷ xs) ys h k = refl
-not_barred parents q (clear j ∷ xs) ys h k = h
-
 -- the top margin of the box at k was added
 pub top_there : (j k : ℕ) (t : ℤ) (xs : List Entry) → has_top j xs ≡ true → has_top j (xs ++ mark k ∷ margin t ∷ []) ≡ true
 top_there j k t xs h = has_top-append j xs (mark k ∷ margin t ∷ []) ∙ rw h refl
