@@ -1,7 +1,7 @@
 -- Runs that grow.
 use Rattle.std.proofs.Common.{◌≡◌, ℕ, ◌==◌, ◌||◌, Bool, true, false, ℤ, List, [], ◌∷◌, ◌++◌, refl, ap, ◌∙◌, arith, ◌≢◌}
 use Rattle.std.proofs.lemmas.Bool.{eq-eqb, ne_eqb}
-use Rattle.lay_flow.specs.MarginRuns.{Entry, margin, mark, clear, margins, has_top, is_barred}
+use Rattle.lay_flow.specs.MarginRuns.{Entry, margin, mark, clear, margins, has_top}
 
 pub margins-append : (xs ys : List Entry) → margins (xs ++ ys) ≡ margins xs ++ margins ys
 margins-append [] ys = refl
