@@ -8,7 +8,7 @@ use Rattle.lay_flow.specs.declared.block.Block.{Block}
 use Rattle.lay_flow.specs.StackedBlocks.{length_at}
 use Rattle.lay_flow.specs.Children.{flag_at, last_child}
 use Rattle.lay_flow.specs.MarginRuns.{margins, has_top, is_barred, block_at, run_at, run_before, joins_bottom, may_join_bottoms, may_collapse_through}
-use Rattle.lay_flow.specs.BlockPositions.{margins_above, start_before, start_below, content_bottom, content_height, border_height}
+use Rattle.lay_flow.specs.BlockPositions.{start_before, start_below, content_bottom, content_height, border_height}
 use Rattle.lay_flow.specs.BlockLayout.{BlockLayout, IsBlockLayout}
 use Rattle.lay_flow.specs.Gathered.{Gathered, Holds as Contains}
 use Rattle.lay_flow.specs.MarginPlace.{IsPlace}
@@ -16,7 +16,7 @@ use Rattle.lay_flow.proofs.Truths.{true_false, true_or, low_yes, low_not}
 use Rattle.lay_flow.proofs.RunsAgree.{Same, Closed, last_there, inside_up}
 use Rattle.lay_flow.proofs.RunsUpTo.{runs_up_to}
 use Rattle.lay_flow.proofs.RunFacts.{ends_inside, joins_is}
-use Rattle.lay_flow.proofs.PositionFacts.{stands_through, starts_above_edge}
+use Rattle.lay_flow.proofs.LayoutFacts.{mark_through, start_clears_through}
 use Rattle.lay_flow.proofs.GatheredRuns.{childless_on, close_joined, close_parted, joined_through, passes_here, comes_here, last_over, last_up}
 use Rattle.lay_flow.proofs.CollapsedThrough.{through_inside, one_start}
 use Rattle.lay_flow.proofs.HangingRuns.{stands_at_edge}
@@ -223,9 +223,6 @@ module _ (parents : List ℕ) (tree : IsTree parents) (blocks : List Block) (ext
         let b : length_at z.places.heights p ≡ pos 0 = also.has_positions.height p inner ∙ rw u refl in
         a ∙ sym b
 
-    above_y : (r : BlockLayout) → flag_at r.runs.through p ≡ true → margins_above parents blocks r.runs p ≡ margins (run_before parents blocks r.runs p (length parents))
-    above_y r t = rw t refl
-
     -- it has clearance
     is_first : IsHanging parents y first p m → slice_index parents p < first → first ≡ p
     is_first h low = elim (cases_eq first p) [
@@ -237,12 +234,10 @@ module _ (parents : List ℕ) (tree : IsTree parents) (blocks : List Block) (ext
     starts_cleared h e =
         let clears = ap (flag_at y.runs.clears) (sym e) ∙ h.clears in
         let edge = was.edges p lt clears in
-        let a = above_y y through in
-        let b = above_y z also_through in
         let r = run_end in
-        starts_above_edge parents blocks y.runs extents clear_edges y.places is.has_positions p positive inner clears
-        ∙ (λ i. edge i -ℤ collapse (a i)) ∙ (λ i. length_at other_edges p -ℤ collapse (margins (r i))) ∙ (λ i. length_at other_edges p -ℤ collapse (sym b i))
-        ∙ sym (starts_above_edge parents blocks z.runs others other_edges z.places also.has_positions p positive inner (sym (was.clears p lt) ∙ clears))
+        start_clears_through parents blocks extents clear_edges y is p positive inner clears through
+        ∙ (λ i. edge i -ℤ collapse (margins (r i)))
+        ∙ sym (start_clears_through parents blocks others other_edges z also p positive inner (sym (was.clears p lt) ∙ clears) also_through)
 
     mark_kept : has_top (slice_index parents p) (run_at y.runs.before_tops p) ≡ false → MarkSame
     mark_kept top =
@@ -254,9 +249,9 @@ module _ (parents : List ℕ) (tree : IsTree parents) (blocks : List Block) (ext
         ] in
         elim was.start [
           | inl e ↦ (let r = run_end in
-              stands_through parents blocks y.runs extents clear_edges y.places is.has_positions p positive inner through top
+              mark_through parents blocks extents clear_edges y is p positive inner through top
               ∙ (λ i. starts_y i +ℤ collapse (margins (r i))) ∙ (λ i. e i +ℤ collapse (margins (run_before parents blocks z.runs p (length parents)))) ∙ (λ i. sym starts_z i +ℤ collapse (margins (run_before parents blocks z.runs p (length parents))))
-              ∙ sym (stands_through parents blocks z.runs others other_edges z.places also.has_positions p positive inner also_through also_top))
+              ∙ sym (mark_through parents blocks others other_edges z also p positive inner also_through also_top))
           | inr h ↦ (let e = is_first h low in let clears = ap (flag_at y.runs.clears) (sym e) ∙ h.clears in
               stands_at_edge parents tree blocks extents clear_edges y is p positive inner clears ∙ was.edges p lt clears
               ∙ sym (stands_at_edge parents tree blocks others other_edges z also p positive inner (sym (was.clears p lt) ∙ clears)))

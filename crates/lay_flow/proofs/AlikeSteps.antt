@@ -14,7 +14,7 @@ use Rattle.lay_flow.specs.Gathered.{Gathered, Holds as Contains}
 use Rattle.lay_flow.specs.MarginPlace.{IsPlace}
 use Rattle.lay_flow.proofs.Truths.{true_false, true_or}
 use Rattle.lay_flow.proofs.RunFacts.{goes_in, ends_above, lead_goes_on, top_run_is, parting_stands}
-use Rattle.lay_flow.proofs.PositionFacts.{stands_at_end, starts_before}
+use Rattle.lay_flow.proofs.LayoutFacts.{mark_standing, start_flows}
 use Rattle.lay_flow.proofs.GatheredRuns.{next_here, childless, open_plain, open_cleared, open_parting}
 use Rattle.lay_flow.proofs.CollapsedThrough.{through_inside, start_inside}
 use Rattle.lay_flow.proofs.LookAhead.{place_before}
@@ -101,10 +101,10 @@ module _ (parents : List ℕ) (tree : IsTree parents) (blocks : List Block) (ext
       opened_plain plain unclear = opened first (open_plain parents tree blocks y.runs is.has_runs k positive within first was.gathered plain unclear) was.mark start
         where
           inside_y : start_before parents blocks y.runs y.places k (k + 1) ≡ start_before parents blocks y.runs y.places (slice_index parents k) k
-          inside_y = sym (start_inside parents tree blocks y.runs is.has_runs extents clear_edges y.places is.has_positions k positive within plain) ∙ starts_before parents blocks y.runs extents clear_edges y.places is.has_positions k positive within unclear
+          inside_y = sym (start_inside parents tree blocks y.runs is.has_runs extents clear_edges y.places is.has_positions k positive within plain) ∙ start_flows parents blocks extents clear_edges y is k positive within unclear
 
           inside_z : start_before parents blocks z.runs z.places k (k + 1) ≡ start_before parents blocks z.runs z.places (slice_index parents k) k
-          inside_z = sym (start_inside parents tree blocks z.runs also.has_runs others other_edges z.places also.has_positions k positive within plain) ∙ starts_before parents blocks z.runs others other_edges z.places also.has_positions k positive within (sym clear_same ∙ unclear)
+          inside_z = sym (start_inside parents tree blocks z.runs also.has_runs others other_edges z.places also.has_positions k positive within plain) ∙ start_flows parents blocks others other_edges z also k positive within (sym clear_same ∙ unclear)
 
           start : StartsAlike first k (k + 1)
           start = elim was.start [
@@ -166,11 +166,11 @@ module _ (parents : List ℕ) (tree : IsTree parents) (blocks : List Block) (ext
             let also_rise : run_at z.runs.top_runs k ≡ to_top blocks z.runs k = top_run_is parents blocks z.runs also.has_runs k positive within ∙ rw parts refl in
             let lead = lead_goes_on parents blocks y.runs is.has_runs k positive within unclear ∙ run_is ∙ sym (lead_goes_on parents blocks z.runs also.has_runs k positive within also_unclear) in
             let tops = rise ∙ ap (λ (xs : List Entry). xs ++ mark k ∷ margin (block_at blocks k).margin_top.0 ∷ []) lead ∙ sym also_rise in
-            let starts = starts_before parents blocks y.runs extents clear_edges y.places is.has_positions k positive within unclear ∙ start ∙ sym (starts_before parents blocks z.runs others other_edges z.places also.has_positions k positive within also_unclear) in
+            let starts = start_flows parents blocks extents clear_edges y is k positive within unclear ∙ start ∙ sym (start_flows parents blocks others other_edges z also k positive within also_unclear) in
             opened_parting (marks_same parents tree blocks extents clear_edges y is others other_edges z also first (slice_index parents k) k at was run (ended_by_edge parts unclear))
-            (stands_at_end parents blocks y.runs extents clear_edges y.places is.has_positions k positive within (parting_stands parents blocks y.runs is.has_runs k positive within parts)
+            (mark_standing parents blocks extents clear_edges y is k positive within (parting_stands parents blocks y.runs is.has_runs k positive within parts)
             ∙ (λ i. starts i +ℤ collapse (margins (tops i)))
-            ∙ sym (stands_at_end parents blocks z.runs others other_edges z.places also.has_positions k positive within (parting_stands parents blocks z.runs also.has_runs k positive within parts)))
+            ∙ sym (mark_standing parents blocks others other_edges z also k positive within (parting_stands parents blocks z.runs also.has_runs k positive within parts)))
 
       pub record SomeOpened : Type 0 where
         pub next : ℕ

@@ -1,5 +1,5 @@
 -- The lowest bottom of the floats of the sides to clear, with more floats.
-use Rattle.std.proofs.Common.{◌≡◌, ℕ, zero, suc, ◌<◌, ◌≤◌, ℤ, List, refl, sym, ap, arith, inl, inr, Option, Some, None, subst}
+use Rattle.std.proofs.Common.{◌≡◌, ℕ, zero, suc, ◌<◌, ◌≤◌, ℤ, List, [], ◌++◌, refl, sym, ap, arith, inl, inr, Option, Some, None, subst}
 use Rattle.std.proofs.lemmas.Bool.{cases_lt}
 use Rattle.std.proofs.lemmas.Int.{ints}
 use Rattle.lay_units.specs.declared.length.Unit.{Unit as Length}
@@ -11,7 +11,14 @@ use Rattle.lay_floats.specs.ClearEdge.{Clears, IsClearEdge}
 use Rattle.lay_flow.specs.declared.shape.Shape.{Shape}
 use Rattle.lay_flow.specs.BlockFloats.{shape_at, floats_before}
 use Rattle.lay_flow.specs.Clearance.{IsAbove}
-use Rattle.lay_flow.proofs.FloatLists.{Has, has_there, has_back, nothing_more}
+use Rattle.lay_flow.proofs.PlaceSteps.{nothing_more}
+use Rattle.lay_flow.proofs.FloatLists.{Has, has_there, has_back}
+
+has_nothing : (xs : List Placed) (f : Placed) → Has (xs ++ []) f → Has xs f
+has_nothing xs f w = subst (λ (zs : List Placed). Has zs f) (nothing_more xs) w
+
+nothing_has : (xs : List Placed) (f : Placed) → Has xs f → Has (xs ++ []) f
+nothing_has xs f w = subst (λ (zs : List Placed). Has zs f) (sym (nothing_more xs)) w
 
 module _ (shapes : List Shape) (places : List Place) where
   -- floats stay in the list
@@ -23,7 +30,7 @@ module _ (shapes : List Shape) (places : List Place) where
   ]
     where
       go : (o : Option Side) → (shape_at shapes m).float ≡ o → Has (floats_before shapes places m) f → Has (floats_before shapes places (suc m)) f
-      go None e h = rw e (subst (λ (fs : List Placed). Has fs f) (sym (nothing_more (floats_before shapes places m))) h)
+      go None e h = rw e (nothing_has (floats_before shapes places m) f h)
       go (Some side) e h = rw e (has_there (floats_before shapes places m) _ f h)
 
   -- of the sides to clear none is added
@@ -36,7 +43,7 @@ module _ (shapes : List Shape) (places : List Place) where
   ]
     where
       go : (o : Option Side) → (shape_at shapes m).float ≡ o → n ≤ m → Has (floats_before shapes places (suc m)) f → Has (floats_before shapes places m) f
-      go None e ge h = subst (λ (fs : List Placed). Has fs f) (nothing_more (floats_before shapes places m)) (rw e at h)
+      go None e ge h = has_nothing (floats_before shapes places m) f (rw e at h)
       go (Some side) e ge h = has_back (floats_before shapes places m) _ f (Has (floats_before shapes places m) f) (λ w. w)
           (λ same. absurd (none m ge (omega arith) side e (subst (Clears clear) (ap (λ (f : Placed). f.side) same) clears))) (rw e at h)
 

@@ -14,7 +14,7 @@ use Rattle.lay_flow.specs.BlockLayout.{BlockLayout, IsBlockLayout}
 use Rattle.lay_flow.specs.BlockPass.{Settled, PassState, IsAt}
 use Rattle.lay_flow.proofs.CollapsedThrough.{through_inside}
 use Rattle.lay_flow.proofs.GatheredRuns.{comes_here, comes_up, last_up, childless_on, passes_here, close_joined as gathered_joined, close_parted as gathered_parted}
-use Rattle.lay_flow.proofs.PositionFacts.{start_next, starts_above_edge, stands_through}
+use Rattle.lay_flow.proofs.LayoutFacts.{start_next, start_clears_through, mark_through}
 use Rattle.lay_flow.specs.MarginPlace.{IsPlace}
 use Rattle.lay_flow.proofs.Openings.{WithMargin}
 use Rattle.lay_flow.proofs.RunEntries.{margins-append}
@@ -87,7 +87,7 @@ module _ (parents : List ℕ) (blocks : List Block) (extents clear_edges : List 
       start_is = λ f. let h = was.in_run.hanging hangs in
           let truth = through_here may (omega (arith, first)) in
           let edge = h.edge ∙ ap (length_at clear_edges) first in
-          let here : length_at y.places.starts p ≡ length_at clear_edges p -ℤ collapse (margins (run_before parents blocks y.runs p (length parents))) = starts_above_edge parents blocks y.runs extents clear_edges y.places is.has_positions p positive within_p (sym (ap (flag_at y.runs.clears) first) ∙ h.clears) ∙ rw truth refl in
+          let here = start_clears_through parents blocks extents clear_edges y is p positive within_p (sym (ap (flag_at y.runs.clears) first) ∙ h.clears) truth in
           value _ was.in_run.strut_holds ∙ (λ i. edge i -ℤ collapse (margins (sym coming_here i))) ∙ sym here ∙ starts_here parents blocks extents clear_edges y is tree now p m was.in_run place_below p (omega (arith, first)) (omega arith) inside;
       hanging = λ t. absurd (true_false false t refl);
     };
@@ -124,7 +124,7 @@ module _ (parents : List ℕ) (blocks : List Block) (extents clear_edges : List 
           (λ t. let h = was.in_run.hanging t in absurd (true_false (has_top (slice_index parents p) (run_at y.runs.before_tops p))
           (tops_here parents blocks extents clear_edges y is tree now p m was.in_run place_below p waits lt ∙ low_not (slice_index parents p) now.first (h.contains p (below t) lt)) none))
           (λ f. let start = was.in_run.start_is f ∙ sym (starts_here parents blocks extents clear_edges y is tree now p m was.in_run place_below p waits (omega arith) inside) in
-          reach.value f _ was.in_run.strut_holds ∙ (λ i. start i +ℤ collapse (margins (sym coming_here i))) ∙ sym (stands_through parents blocks y.runs extents clear_edges y.places is.has_positions p positive within_p truth none))
+          reach.value f _ was.in_run.strut_holds ∙ (λ i. start i +ℤ collapse (margins (sym coming_here i))) ∙ sym (mark_through parents blocks extents clear_edges y is p positive within_p truth none))
 
   -- where the run ends that comes to its bottom margin
   module _ (truth : flag_at y.runs.through p ≡ false) (parted : joins_bottom parents blocks y.runs p ≡ false) (end : ℤ) (reach : RunEnds now.hangs now.start now.strut end) where

@@ -12,6 +12,7 @@ use Rattle.lay_flow.specs.MarginPlace.{IsPlace}
 use Rattle.lay_flow.proofs.MarginWalk.{walk_to}
 use Rattle.lay_flow.specs.Gathered.{Holds, Gathered}
 use Rattle.lay_flow.proofs.Truths.{not_low}
+use Rattle.lay_flow.proofs.LayoutFacts.{start_flows}
 use Rattle.lay_flow.proofs.GatheredRuns.{gathers, one_first, childless, open_plain, open_cleared, open_parting, close_joined, close_parted, joined_through, last_up, passes_here, begins}
 
 -- the boxes in the one at d end before the place m
@@ -78,8 +79,7 @@ module _ (parents : List ℕ) (tree : IsTree parents) (blocks : List Block) (r :
       pub starts : (d j : ℕ) → first ≤ d → d ≤ p → Holds parents d m → d ≤ j → j < m → length_at s.starts j ≡ start_before parents blocks r s p m
 
     start_is : (k : ℕ) → 0 < k → k < length parents → flag_at r.clears k ≡ false → length_at s.starts k ≡ start_before parents blocks r s (slice_index parents k) k
-    start_is zero positive within unclear = absurd (omega (arith, positive))
-    start_is (suc k) positive within unclear = has.start (suc k) within ∙ rw unclear refl
+    start_is = start_flows parents blocks extents clear_edges (record { runs = r; places = s }) (record { has_runs = is; has_positions = has })
 
     pub start_inside : (k : ℕ) → 0 < k → k < length parents → parts_tops blocks k ≡ false → length_at s.starts k ≡ start_before parents blocks r s k (k + 1)
     start_inside k positive within plain = let e = childless parents tree blocks r is k positive within in rw (e, plain) refl

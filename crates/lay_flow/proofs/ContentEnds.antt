@@ -15,7 +15,7 @@ use Rattle.lay_flow.specs.BlockPass.{PassState, IsAt}
 use Rattle.lay_flow.proofs.BlockKinds.{no_edge}
 use Rattle.lay_flow.proofs.Closings.{place_below, out_parted}
 use Rattle.lay_flow.proofs.GatheredRuns.{last_over}
-use Rattle.lay_flow.proofs.PositionFacts.{start_first, start_next}
+use Rattle.lay_flow.proofs.LayoutFacts.{start_first, start_next}
 use Rattle.lay_flow.proofs.RunEntries.{top_here}
 use Rattle.lay_flow.proofs.RunFacts.{first_comes, next_comes}
 use Rattle.lay_flow.proofs.RunReach.{mark_here}

@@ -11,6 +11,7 @@ use Rattle.lay_floats.specs.ClearEdge.{Clears, IsClearEdge}
 use Rattle.lay_floats.proofs.Unique.{one_clear_edge_lem}
 use Rattle.lay_flow.specs.declared.shape.Shape.{Shape}
 use Rattle.lay_flow.specs.BlockFloats.{shape_at, place_at, floats_before}
+use Rattle.lay_flow.proofs.PlaceSteps.{nothing_more}
 
 -- a float is in the list
 abbrev pub Has : List Placed → Placed → Type 0
@@ -39,10 +40,6 @@ has_back xs x f P old new w = elim (cases_lt w.0 (length xs)) [
 
     last : (xs : List Placed) (x f : Placed) (i : ℕ) → length xs ≤ i → slice_get (xs ++ x ∷ []) i ≡ Some f → f ≡ x
     last xs x f i ge e = grind (arith, elements, e, ge)
-
-pub nothing_more : (xs : List Placed) → xs ++ [] ≡ xs
-nothing_more [] = refl
-nothing_more (x ∷ xs) = ap (λ (zs : List Placed). x ∷ zs) (nothing_more xs)
 
 -- the places of the floats of the sides to clear are the same
 abbrev pub SameCleared : List Shape → Clear → List Place → List Place → ℕ → Type 0

@@ -1,5 +1,5 @@
 -- What stands in a run that was begun by clearance of an open box stands at the clear edge of that box.
-use Rattle.std.proofs.Common.{◌≡◌, ℕ, zero, suc, ◌+◌, ◌<◌, ◌≤◌, true, false, ℤ, ◌+ℤ◌, ◌-ℤ◌, List, length, slice_index, refl, sym, ap, ◌∙◌, arith, inl, inr, subst}
+use Rattle.std.proofs.Common.{◌≡◌, ℕ, zero, suc, ◌+◌, ◌<◌, ◌≤◌, true, false, ℤ, ◌+ℤ◌, ◌-ℤ◌, List, length, slice_index, sym, ap, ◌∙◌, arith, inl, inr, subst}
 use Rattle.std.proofs.lemmas.Bool.{cases_lt, cases_eq}
 use Rattle.std.proofs.lemmas.Int.{ints}
 use Rattle.lay_units.specs.declared.length.Unit.{Unit as Length}
@@ -8,13 +8,13 @@ use Rattle.lay_margins.specs.Collapse.{collapse}
 use Rattle.lay_flow.specs.declared.block.Block.{Block}
 use Rattle.lay_flow.specs.StackedBlocks.{length_at}
 use Rattle.lay_flow.specs.Children.{flag_at}
-use Rattle.lay_flow.specs.MarginRuns.{Entry, margins, has_top, run_at, run_before}
-use Rattle.lay_flow.specs.BlockPositions.{margins_above, start_before}
+use Rattle.lay_flow.specs.MarginRuns.{margins, has_top, run_at, run_before}
+use Rattle.lay_flow.specs.BlockPositions.{start_before}
 use Rattle.lay_flow.specs.BlockLayout.{BlockLayout, IsBlockLayout}
 use Rattle.lay_flow.specs.Gathered.{Gathered, Holds as Contains}
 use Rattle.lay_flow.proofs.Truths.{true_false, true_or, low_not}
 use Rattle.lay_flow.proofs.RunFacts.{goes_in, lead_goes_on, lead_begins}
-use Rattle.lay_flow.proofs.PositionFacts.{stands_at_end, stands_with_parent, stands_through, starts_before, starts_above_edge}
+use Rattle.lay_flow.proofs.LayoutFacts.{mark_standing, mark_inherits, mark_through, start_flows, start_clears, start_clears_through}
 use Rattle.lay_flow.proofs.GatheredRuns.{next_here}
 use Rattle.lay_flow.proofs.CollapsedThrough.{through_inside, one_start}
 use Rattle.lay_flow.proofs.LookAhead.{place_before}
@@ -23,23 +23,13 @@ module _ (parents : List ℕ) (tree : IsTree parents) (blocks : List Block) (ext
   -- a box with clearance stands at its clear edge
   pub stands_at_edge : (d : ℕ) → 0 < d → d < length parents → flag_at w.runs.clears d ≡ true → length_at w.places.marks d ≡ length_at clear_edges d
   stands_at_edge d positive within cleared = true_or (flag_at w.runs.through d) (length_at w.places.marks d ≡ length_at clear_edges d)
-      (λ t. stands_through parents blocks w.runs extents clear_edges w.places is.has_positions d positive within t (own_lead t) ∙ from_edge (run_before parents blocks w.runs d (length parents)) (above_through t))
-      (λ f. stands_at_end parents blocks w.runs extents clear_edges w.places is.has_positions d positive within f ∙ from_edge (run_at w.runs.top_runs d) (above_end f))
+      (λ t. mark_through parents blocks extents clear_edges w is d positive within t (own_lead t)
+      ∙ from_edge (length_at w.places.starts d) (length_at clear_edges d) (collapse (margins (run_before parents blocks w.runs d (length parents)))) (start_clears_through parents blocks extents clear_edges w is d positive within cleared t))
+      (λ f. mark_standing parents blocks extents clear_edges w is d positive within f
+      ∙ from_edge (length_at w.places.starts d) (length_at clear_edges d) (collapse (margins (run_at w.runs.top_runs d))) (start_clears parents blocks extents clear_edges w is d positive within cleared f))
     where
-      start : length_at w.places.starts d ≡ length_at clear_edges d -ℤ collapse (margins_above parents blocks w.runs d)
-      start = starts_above_edge parents blocks w.runs extents clear_edges w.places is.has_positions d positive within cleared
-
-      back : (e c : ℤ) → (e -ℤ c +ℤ c) ≡ e
-      back e c = omega (arith, ints)
-
-      from_edge : (run : List Entry) → margins_above parents blocks w.runs d ≡ margins run → length_at w.places.starts d +ℤ collapse (margins run) ≡ length_at clear_edges d
-      from_edge run e = (λ i. start i +ℤ collapse (margins run)) ∙ (λ i. length_at clear_edges d -ℤ collapse (e i) +ℤ collapse (margins run)) ∙ back (length_at clear_edges d) (collapse (margins run))
-
-      above_through : flag_at w.runs.through d ≡ true → margins_above parents blocks w.runs d ≡ margins (run_before parents blocks w.runs d (length parents))
-      above_through t = rw t refl
-
-      above_end : flag_at w.runs.through d ≡ false → margins_above parents blocks w.runs d ≡ margins (run_at w.runs.top_runs d)
-      above_end f = rw f refl
+      from_edge : (start edge sum : ℤ) → start ≡ edge -ℤ sum → start +ℤ sum ≡ edge
+      from_edge start edge sum e = omega (arith, ints, e)
 
       own_lead : flag_at w.runs.through d ≡ true → has_top (slice_index parents d) (run_at w.runs.before_tops d) ≡ false
       own_lead t = let lead = lead_begins parents blocks w.runs is.has_runs d positive within cleared in ap (has_top (slice_index parents d)) lead
@@ -87,7 +77,7 @@ module _ (parents : List ℕ) (tree : IsTree parents) (blocks : List Block) (ext
         rise = g.rise c from (inside k lt (omega arith)) (λ i a b. inside i a (omega (arith, b))) ∙ sym (g.rise first (omega arith) above contains);
       }
       | inr ge ↦ (let e : k ≡ c = omega (arith, le, ge) in let l = less in subst Stands e (record {
-        start = starts_before parents blocks w.runs extents clear_edges w.places is.has_positions k (omega (arith, l)) within unclear ∙ sym (start_of_first first (omega arith) less);
+        start = start_flows parents blocks extents clear_edges w is k (omega (arith, l)) within unclear ∙ sym (start_of_first first (omega arith) less);
         rise = sym (goes_in parents blocks w.runs (slice_index parents k) k k (next_here parents tree blocks w.runs is.has_runs k (omega (arith, l)) within) unclear) ∙ sym (g.rise first (omega arith) above contains);
       }))
     ]
@@ -101,7 +91,7 @@ module _ (parents : List ℕ) (tree : IsTree parents) (blocks : List Block) (ext
           let here : c < length parents = omega (arith, le, within) in
           let b = tree.before c (omega (arith, lt)) here in
           true_or (flag_at w.runs.through c) (length_at w.places.marks c ≡ length_at clear_edges first)
-          (λ t. stands_with_parent parents blocks w.runs extents clear_edges w.places is.has_positions c (omega (arith, lt)) here t (lead_there c lt le)
+          (λ t. mark_inherits parents blocks extents clear_edges w is c (omega (arith, lt)) here t (lead_there c lt le)
           ∙ stands_at fuel (slice_index parents c) (omega (arith, b, small)) (parent_inside c lt le) (omega (arith, b, le)) (λ i a z. elim (cases_lt i c) [
             | inl before ↦ tree.together i c before here a
             | inr after ↦ elim (cases_eq i c) [
@@ -112,9 +102,9 @@ module _ (parents : List ℕ) (tree : IsTree parents) (blocks : List Block) (ext
           (λ f. let same = as_first c from le inside in
           let first_stands : flag_at w.runs.through first ≡ false = true_or (flag_at w.runs.through first) (flag_at w.runs.through first ≡ false)
           (λ t. absurd (true_false (flag_at w.runs.through c) (through_inside parents tree blocks w.runs is.has_runs first c p lt here (λ i a z. parent_inside i a (omega (arith, z, le))) t).through f)) (λ f. f) in
-          stands_at_end parents blocks w.runs extents clear_edges w.places is.has_positions c (omega (arith, lt)) here f
+          mark_standing parents blocks extents clear_edges w is c (omega (arith, lt)) here f
           ∙ (λ i. same.start i +ℤ collapse (margins (same.rise i)))
-          ∙ sym (stands_at_end parents blocks w.runs extents clear_edges w.places is.has_positions first p (omega (arith, l, within)) first_stands)
+          ∙ sym (mark_standing parents blocks extents clear_edges w is first p (omega (arith, l, within)) first_stands)
           ∙ stands_at_edge first p (omega (arith, l, within)) cleared))
     ]
 

@@ -1,5 +1,5 @@
 -- Two layouts in which the same boxes before a place have clearance are alike as far as runs have ended there.
-use Rattle.std.proofs.Common.{◌≡◌, ◌⊎◌, ℕ, zero, suc, ◌<◌, ◌≤◌, true, false, ◌+ℤ◌, ◌-ℤ◌, List, length, slice_index, refl, sym, ap, ◌∙◌, arith, inl, inr, subst}
+use Rattle.std.proofs.Common.{◌≡◌, ◌⊎◌, ℕ, zero, suc, ◌<◌, ◌≤◌, true, false, ◌+ℤ◌, ◌-ℤ◌, List, length, slice_index, sym, ap, ◌∙◌, arith, inl, inr, subst}
 use Rattle.std.proofs.lemmas.Bool.{cases_lt}
 use Rattle.lay_units.specs.declared.length.Unit.{Unit as Length}
 use Rattle.lay_doc.specs.Tree.{IsTree}
@@ -8,14 +8,14 @@ use Rattle.lay_flow.specs.declared.block.Block.{Block}
 use Rattle.lay_flow.specs.StackedBlocks.{length_at}
 use Rattle.lay_flow.specs.Children.{flag_at}
 use Rattle.lay_flow.specs.MarginRuns.{Entry, margins, has_top, run_at, run_before}
-use Rattle.lay_flow.specs.BlockPositions.{margins_above, start_before}
+use Rattle.lay_flow.specs.BlockPositions.{start_before}
 use Rattle.lay_flow.specs.BlockLayout.{BlockLayout, IsBlockLayout}
 use Rattle.lay_flow.specs.Gathered.{Gathered, Holds as Contains}
 use Rattle.lay_flow.specs.MarginPlace.{IsPlace}
 use Rattle.lay_flow.proofs.Truths.{true_or}
 use Rattle.lay_flow.proofs.RunsAgree.{Same}
 use Rattle.lay_flow.proofs.RunsUpTo.{runs_up_to, run_up_to}
-use Rattle.lay_flow.proofs.PositionFacts.{stands_at_end, stands_with_parent, starts_above_edge}
+use Rattle.lay_flow.proofs.LayoutFacts.{mark_standing, mark_inherits, start_clears}
 use Rattle.lay_flow.proofs.GatheredRuns.{gathers, one_first}
 use Rattle.lay_flow.proofs.CollapsedThrough.{one_start}
 
@@ -99,9 +99,6 @@ module _ (parents : List ℕ) (tree : IsTree parents) (blocks : List Block) (ext
       also_starts c from above inside = let a = at.parent in
           one_start parents tree blocks z.runs also.has_runs others other_edges z.places also.has_positions first p m at also_gathered c c from above inside (omega arith) (omega (arith, above, a))
 
-      above_standing : (r : BlockLayout) → flag_at r.runs.through first ≡ false → run_at r.runs.top_runs first ≡ run → margins_above parents blocks r.runs first ≡ margins run
-      above_standing r stands rise = rw (stands, rise) refl
-
       pub start_same : start_before parents blocks y.runs y.places p m ≡ start_before parents blocks z.runs z.places p m
       start_same = elim was.start [
         | inl e ↦ e
@@ -109,13 +106,11 @@ module _ (parents : List ℕ) (tree : IsTree parents) (blocks : List Block) (ext
             let there : first < length parents = omega (arith, up, a, b) in
             let before : first < m = omega (arith, up, a) in
             let e = ended first (omega arith) up h.contains in
-            let mine = above_standing y e.stands e.rise in
-            let other = above_standing z e.also_stands e.also_rise in
             let edge = was.edges first before h.clears in
             sym (starts_there first (omega arith) up h.contains)
-            ∙ starts_above_edge parents blocks y.runs extents clear_edges y.places is.has_positions first pos there h.clears
-            ∙ (λ i. edge i -ℤ collapse (mine i)) ∙ (λ i. length_at other_edges first -ℤ collapse (sym other i))
-            ∙ sym (starts_above_edge parents blocks z.runs others other_edges z.places also.has_positions first pos there (sym (was.clears first before) ∙ h.clears))
+            ∙ start_clears parents blocks extents clear_edges y is first pos there h.clears e.stands
+            ∙ (λ i. edge i -ℤ collapse (margins (e.rise i))) ∙ (λ i. length_at other_edges first -ℤ collapse (margins (sym e.also_rise i)))
+            ∙ sym (start_clears parents blocks others other_edges z also first pos there (sym (was.clears first before) ∙ h.clears) e.also_stands)
             ∙ also_starts first (omega arith) up h.contains)
       ]
 
@@ -123,11 +118,11 @@ module _ (parents : List ℕ) (tree : IsTree parents) (blocks : List Block) (ext
       open_mark j from above inside =
           let pos = was.gathered.least in let a = at.parent in let b = at.within in
           let e = ended j from above inside in
-          stands_at_end parents blocks y.runs extents clear_edges y.places is.has_positions j (omega (arith, pos, from)) (omega (arith, above, a, b)) e.stands
+          mark_standing parents blocks extents clear_edges y is j (omega (arith, pos, from)) (omega (arith, above, a, b)) e.stands
           ∙ (λ i. starts_there j from above inside i +ℤ collapse (margins (e.rise i)))
           ∙ (λ i. start_same i +ℤ collapse (margins run))
           ∙ (λ i. sym (also_starts j from above inside) i +ℤ collapse (margins (sym e.also_rise i)))
-          ∙ sym (stands_at_end parents blocks z.runs others other_edges z.places also.has_positions j (omega (arith, pos, from)) (omega (arith, above, a, b)) e.also_stands)
+          ∙ sym (mark_standing parents blocks others other_edges z also j (omega (arith, pos, from)) (omega (arith, above, a, b)) e.also_stands)
 
       closed_mark : (j : ℕ) → first ≤ j → j < m → flag_at y.runs.through j ≡ true → flag_at z.runs.through j ≡ true → ClosedAlike j
           → (slice_index parents j < j → length_at y.places.marks (slice_index parents j) ≡ length_at z.places.marks (slice_index parents j)) → length_at y.places.marks j ≡ length_at z.places.marks j
@@ -137,9 +132,9 @@ module _ (parents : List ℕ) (tree : IsTree parents) (blocks : List Block) (ext
           let positive : 0 < j = omega (arith, pos, from) in
           let lead = same_runs.lead j lt in
           true_or (has_top (slice_index parents j) (run_at y.runs.before_tops j)) (length_at y.places.marks j ≡ length_at z.places.marks j)
-          (λ t. stands_with_parent parents blocks y.runs extents clear_edges y.places is.has_positions j positive there through t
+          (λ t. mark_inherits parents blocks extents clear_edges y is j positive there through t
           ∙ up (tree.before j positive there)
-          ∙ sym (stands_with_parent parents blocks z.runs others other_edges z.places also.has_positions j positive there also_through (ap (has_top (slice_index parents j)) (sym lead) ∙ t)))
+          ∙ sym (mark_inherits parents blocks others other_edges z also j positive there also_through (ap (has_top (slice_index parents j)) (sym lead) ∙ t)))
           (closed.kept through)
 
       marks_to : (fuel j : ℕ) → j < fuel → j < m → length_at y.places.marks j ≡ length_at z.places.marks j

@@ -15,10 +15,7 @@ pub mod RunEntries
 pub mod RunFacts
 pub mod GatheredRuns
 pub mod CollapsedThrough
-pub mod PositionFacts
-pub mod LookAhead
-pub mod LookAheadSteps
-pub mod HangingRuns
+pub mod LayoutFacts
 pub mod SoFar
 pub mod RunReach
 pub mod Openings
@@ -26,6 +23,9 @@ pub mod Closings
 pub mod WholePass
 pub mod StrutBounds
 pub mod ContentEnds
+pub mod LookAhead
+pub mod LookAheadSteps
+pub mod HangingRuns
 pub mod RunsUpTo
 pub mod LayoutsAlike
 pub mod AlikeSteps

@@ -17,7 +17,7 @@ use Rattle.lay_flow.specs.LookAhead.{ComesTo, IsOutermost, Reads, ReadsAll}
 use Rattle.lay_flow.proofs.Truths.{true_false, true_or, low_not, low_yes}
 use Rattle.lay_flow.proofs.RunEntries.{margins-append, top_there, top_here, bottom_same}
 use Rattle.lay_flow.proofs.RunFacts.{goes_in, ends_inside, joins_is, lead_goes_on, top_run_is, to_bottom_is, parting_stands}
-use Rattle.lay_flow.proofs.PositionFacts.{stands_at_end, stands_with_parent, stands_through, starts_before}
+use Rattle.lay_flow.proofs.LayoutFacts.{mark_standing, mark_inherits, mark_through, start_flows}
 use Rattle.lay_flow.proofs.GatheredRuns.{gathers, one_first, next_here, joined_through, comes_here, comes_up, childless_on, passes_here, opened_top}
 use Rattle.lay_flow.proofs.CollapsedThrough.{through_inside, one_start}
 
@@ -46,7 +46,7 @@ module _ (parents : List ℕ) (tree : IsTree parents) (blocks : List Block) (ext
       subst (λ (f : ℕ). Gathered parents blocks w.runs f (slice_index parents k) k) same there.is_gathered
 
   start_k : length_at w.places.starts k ≡ start_before parents blocks w.runs w.places (slice_index parents k) k
-  start_k = starts_before parents blocks w.runs extents clear_edges w.places is.has_positions k top_k within (comes.later k (omega arith))
+  start_k = start_flows parents blocks extents clear_edges w is k top_k within (comes.later k (omega arith))
 
   -- the boxes that hold it in its run start where the run does
   start_there : (c : ℕ) → outermost ≤ c → c ≤ k → Contains parents c (k + 1) → length_at w.places.starts c ≡ start_before parents blocks w.runs w.places (slice_index parents k) k
@@ -73,7 +73,7 @@ module _ (parents : List ℕ) (tree : IsTree parents) (blocks : List Block) (ext
   all_above c run strut least most inside same stands rise holds = record {
     all = margins run;
     strut_holds = holds;
-    mark = let p = outer.positive in same ∙ stands_at_end parents blocks w.runs extents clear_edges w.places is.has_positions c (omega (arith, p, least)) (omega (arith, most, within)) stands
+    mark = let p = outer.positive in same ∙ mark_standing parents blocks extents clear_edges w is c (omega (arith, p, least)) (omega (arith, most, within)) stands
         ∙ sum_same (length_at w.places.starts c) (start_before parents blocks w.runs w.places (slice_index parents k) k) (run_at w.runs.top_runs c) run (start_there c least most inside) rise;
   }
 
@@ -243,7 +243,7 @@ module _ (parents : List ℕ) (tree : IsTree parents) (blocks : List Block) (ext
           all = margins (run_before parents blocks w.runs p m);
           strut_holds = was.strut_holds;
           mark = i.mark ∙ ap (length_at w.places.marks) e
-              ∙ stands_through parents blocks w.runs extents clear_edges w.places is.has_positions p positive_p inner_p (passes_p ∙ passes) alone
+              ∙ mark_through parents blocks extents clear_edges w is p positive_p inner_p (passes_p ∙ passes) alone
               ∙ sum_same (length_at w.places.starts p) (start_before parents blocks w.runs w.places (slice_index parents k) k) (run_before parents blocks w.runs p (length parents)) (run_before parents blocks w.runs p m) start here;
         }
 
@@ -280,7 +280,7 @@ module _ (parents : List ℕ) (tree : IsTree parents) (blocks : List Block) (ext
                     | inr ne ↦ (let x = at.inside j (omega (arith, from, ne)) b in omega (arith, x, up))
                   ]
                 ];
-                mark = i.mark ∙ ap (length_at w.places.marks) e ∙ stands_with_parent parents blocks w.runs extents clear_edges w.places is.has_positions p positive_p inner_p through
+                mark = i.mark ∙ ap (length_at w.places.marks) e ∙ mark_inherits parents blocks extents clear_edges w is p positive_p inner_p through
                     (g.is_gathered.leads (slice_index parents p) p (omega (arith, low, least)) lt up ∙ low_not (slice_index parents p) g.first_there (omega (arith, low, over)));
               },
             )

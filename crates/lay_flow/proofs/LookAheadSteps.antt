@@ -1,9 +1,8 @@
 -- The steps of a look ahead.
-use Rattle.std.proofs.Common.{◌≡◌, ℕ, ℤ, zero, suc, ◌+◌, ◌<◌, ◌≤◌, ◌==◌, ◌||◌, not, ap, Bool, true, false, List, [], ◌∷◌, ◌++◌, length, slice_index, refl, sym, ◌∙◌, arith, inl, inr}
+use Rattle.std.proofs.Common.{◌≡◌, ℕ, zero, suc, ◌+◌, ◌<◌, ◌≤◌, ◌==◌, ◌||◌, not, ap, Bool, true, false, List, length, slice_index, refl, sym, ◌∙◌, arith, inl, inr}
 use Rattle.std.proofs.lemmas.Bool.{cases_lt, ne_eqb}
 use Rattle.lay_doc.specs.Tree.{IsTree}
 use Rattle.lay_margins.specs.StrutValue.{StrutValue}
-use Rattle.lay_margins.specs.Collapse.{Holds}
 use Rattle.lay_flow.specs.declared.block.Block.{Block}
 use Rattle.lay_flow.specs.declared.hypothetical_edge.Outset.{Outset}
 use Rattle.lay_flow.specs.MarginRuns.{block_at, is_zero, parts_tops, may_collapse_through}
@@ -12,11 +11,8 @@ use Rattle.lay_flow.specs.PassBounds.{StrutFits}
 use Rattle.lay_flow.specs.LookAhead.{IsOutset, IsReading, HasRead}
 use Rattle.lay_flow.proofs.Truths.{true_or, low_not}
 use Rattle.lay_flow.proofs.RunsAgree.{inside_up}
+use Rattle.lay_flow.proofs.Openings.{WithMargin}
 use Rattle.lay_flow.proofs.LookAhead.{place_before, reads_top, ends_below_top, ends_inside_box, ends_before_bottom, reads_bottom}
-
--- the strut got one more margin
-abbrev pub Adds : StrutValue → ℤ → StrutValue → Type 0
-Adds strut margin next = (margins : List ℤ) → Holds strut margins → Holds next (margins ++ margin ∷ [])
 
 module _ (parents : List ℕ) (tree : IsTree parents) (blocks : List Block) (from : Outset) (out : IsOutset parents from) where
   pub begins_reading : StrutFits from.strut → IsReading parents blocks from from.strut (slice_index parents from.k) from.k
@@ -37,7 +33,7 @@ module _ (parents : List ℕ) (tree : IsTree parents) (blocks : List Block) (fro
         };
       }
 
-  module _ (m : ℕ) (within : m < length parents) (strut next : StrutValue) (was : IsReading parents blocks from strut (slice_index parents m) m) (fits : StrutFits next) (adds : Adds strut (block_at blocks m).margin_top.0 next) where
+  module _ (m : ℕ) (within : m < length parents) (strut next : StrutValue) (was : IsReading parents blocks from strut (slice_index parents m) m) (fits : StrutFits next) (adds : WithMargin strut next (block_at blocks m).margin_top.0) where
     pub opened_reading : parts_tops blocks m ≡ false → IsReading parents blocks from next m (m + 1)
     opened_reading plain =
         let begun = was.begun in
@@ -85,7 +81,7 @@ module _ (parents : List ℕ) (tree : IsTree parents) (blocks : List Block) (fro
           (was.reads extents clear_edges w is comes) parts);
     }
 
-    pub closed_reading : (next : StrutValue) → StrutFits next → Adds strut (block_at blocks p).margin_bottom.0 next → (p ≡ from.outermost → ⊥) → may_collapse_through (block_at blocks p) ≡ true → IsReading parents blocks from next (slice_index parents p) m
+    pub closed_reading : (next : StrutValue) → StrutFits next → WithMargin strut next (block_at blocks p).margin_bottom.0 → (p ≡ from.outermost → ⊥) → may_collapse_through (block_at blocks p) ≡ true → IsReading parents blocks from next (slice_index parents p) m
     closed_reading next fits adds other passes =
         let a = was.place.parent in let b = was.place.within in
         let o = out.is_outermost.most in let pos = out.is_outermost.positive in

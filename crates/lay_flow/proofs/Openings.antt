@@ -1,6 +1,7 @@
 -- A box is opened.
-use Rattle.std.proofs.Common.{◌≡◌, ℕ, ◌+◌, ◌<◌, ◌≤◌, not, nat_lt, Bool, true, false, ℤ, ◌+ℤ◌, List, [], ◌∷◌, ◌++◌, length, slice_index, refl, sym, ap, ◌∙◌, arith, inl, inr, subst}
+use Rattle.std.proofs.Common.{◌≡◌, ℕ, ◌+◌, ◌<◌, ◌≤◌, not, nat_lt, Bool, true, false, ℤ, ◌+ℤ◌, ◌-ℤ◌, List, [], ◌∷◌, ◌++◌, length, slice_index, refl, sym, ap, ◌∙◌, arith, inl, inr, subst}
 use Rattle.std.proofs.lemmas.Bool.{cases_lt}
+use Rattle.std.proofs.lemmas.Int.{ints}
 use Rattle.lay_units.specs.declared.length.Unit.{Unit as Length}
 use Rattle.lay_margins.specs.StrutValue.{StrutValue}
 use Rattle.lay_margins.specs.Collapse.{Holds, collapse}
@@ -15,9 +16,7 @@ use Rattle.lay_flow.specs.BlockLayout.{BlockLayout, IsBlockLayout}
 use Rattle.lay_flow.specs.BlockPass.{Settled, PassState, IsInRun, IsAt, BeginsRun, IsBefore}
 use Rattle.lay_flow.proofs.CollapsedThrough.{through_inside}
 use Rattle.lay_flow.proofs.GatheredRuns.{childless, next_here, open_plain, open_cleared, open_parting}
-use Rattle.lay_flow.proofs.HangingRuns.{stands_at_edge}
-use Rattle.lay_flow.proofs.LookAhead.{place_before}
-use Rattle.lay_flow.proofs.PositionFacts.{start_first, starts_before, stands_at_end}
+use Rattle.lay_flow.proofs.LayoutFacts.{start_first, start_flows, start_clears, mark_standing}
 use Rattle.lay_flow.specs.MarginPlace.{IsPlace}
 use Rattle.lay_flow.proofs.RunEntries.{margins-append}
 use Rattle.lay_flow.proofs.RunFacts.{first_comes, goes_in, ends_above, lead_goes_on, lead_begins, top_run_is, parting_stands}
@@ -31,6 +30,10 @@ pushed now strut = record now { strut = strut }
 -- the strut with the top margin of a box
 abbrev pub WithMargin : StrutValue → StrutValue → ℤ → Type 0
 WithMargin old new v = (ms : List ℤ) → Holds old ms → Holds new (ms ++ v ∷ [])
+
+-- the place before the top margin of a box
+pub place_above : (parents : List ℕ) (blocks : List Block) (clear_edges : List Length) (y : BlockLayout) (now : PassState) (k : ℕ) → IsInRun parents blocks clear_edges y now (slice_index parents k) k → IsPlace parents (slice_index parents k) k
+place_above parents blocks clear_edges y now k run = record { parent = run.gathered.parent; within = run.gathered.within; inside = run.gathered.inside; next = λ w. omega arith }
 
 module _ (parents : List ℕ) (blocks : List Block) (extents clear_edges : List Length) (y : BlockLayout) (is : IsBlockLayout parents blocks extents clear_edges y) (tree : IsTree parents)
     (k : ℕ) (positive : 0 < k) (within : k < length parents) where
@@ -65,7 +68,7 @@ module _ (parents : List ℕ) (blocks : List Block) (extents clear_edges : List 
       goes_on unclear run = record {
         gathered = open_plain parents tree blocks y.runs is.has_runs k positive within now.first run.gathered plain unclear;
         strut_holds = let e = ap margins (to_top_here plain) ∙ top_margins unclear in rw e (holds (margins c) run.strut_holds);
-        start_is = λ f. run.start_is f ∙ sym (starts_before parents blocks y.runs extents clear_edges y.places is.has_positions k positive within unclear) ∙ sym (start_here plain);
+        start_is = λ f. run.start_is f ∙ sym (start_flows parents blocks extents clear_edges y is k positive within unclear) ∙ sym (start_here plain);
         hanging = λ t. let h = run.hanging t in let le = h.open_yet in let u = up in record { clears = h.clears; edge = h.edge; open_yet = omega (arith, le, u); contains = contains_more now.first le h.contains };
       }
 
@@ -94,18 +97,23 @@ module _ (parents : List ℕ) (blocks : List Block) (extents clear_edges : List 
     rise_here : run_at y.runs.top_runs k ≡ to_top blocks y.runs k
     rise_here = top_run_is parents blocks y.runs is.has_runs k positive within ∙ rw wall refl
 
-    ends_wall : (j : ℕ) → now.first ≤ j → j < k + 1 → flag_at now.through j ≡ false → flag_at y.runs.through j ≡ false → length_at y.places.marks j ≡ end
+    pub ends_wall : (j : ℕ) → now.first ≤ j → j < k + 1 → flag_at now.through j ≡ false → flag_at y.runs.through j ≡ false → length_at y.places.marks j ≡ end
     ends_wall j a b code truth = elim was.run [ inl both ↦ goes_on both.0 both.1 | inr begins ↦ hangs begins ]
       where
         hangs : BeginsRun clear_edges y now k → length_at y.places.marks j ≡ end
         hangs begins =
             let f = begins.first_is in
             let same : j ≡ k = omega (arith, a, b, f) in
-            ap (length_at y.places.marks) same ∙ stands_at_edge parents tree blocks extents clear_edges y is k positive within begins.clears ∙ sym begins.edge ∙ sym (ends.hanging begins.hangs)
+            ap (length_at y.places.marks) same ∙ mark_standing parents blocks extents clear_edges y is k positive within stands
+            ∙ minus_plus (length_at y.places.starts k) (length_at clear_edges k) (collapse (margins (run_at y.runs.top_runs k))) (start_clears parents blocks extents clear_edges y is k positive within begins.clears stands)
+            ∙ sym begins.edge ∙ sym (ends.hanging begins.hangs)
+          where
+            minus_plus : (s e c : ℤ) → s ≡ e -ℤ c → s +ℤ c ≡ e
+            minus_plus s e c h = omega (arith, ints, h)
 
         goes_on : flag_at y.runs.clears k ≡ false → IsInRun parents blocks clear_edges y now (slice_index parents k) k → length_at y.places.marks j ≡ end
         goes_on unclear run =
-            let at = place_before parents tree k positive within in
+            let at = place_above parents blocks clear_edges y now k run in
             let into : run_across parents blocks y.runs (slice_index parents k) k ≡ run_at y.runs.top_runs k = goes_in parents blocks y.runs (slice_index parents k) k k (next_here parents tree blocks y.runs is.has_runs k positive within) unclear in
             let whole : margins (run_across parents blocks y.runs (slice_index parents k) k) ≡ margins c ++ top ∷ [] = ap margins (into ∙ rise_here) ∙ top_margins unclear in
             let reach = reach_is parents blocks extents clear_edges y is tree now (slice_index parents k) k run at strut end ends (rw whole (holds (margins c) run.strut_holds)) (λ t. opened_stands t) in
@@ -113,8 +121,8 @@ module _ (parents : List ℕ) (blocks : List Block) (extents clear_edges : List 
               | inl lt ↦ (let open_yet = waiting_open parents blocks extents clear_edges y is tree now (slice_index parents k) k run at was.so_far j a lt code in
                   mark_here parents blocks extents clear_edges y is tree now (slice_index parents k) k run at j a open_yet.0 open_yet.1 truth ∙ sym reach)
               | inr ge ↦ (let same : j ≡ k = omega (arith, b, ge) in
-                  let start = starts_before parents blocks y.runs extents clear_edges y.places is.has_positions k positive within unclear in
-                  ap (length_at y.places.marks) same ∙ stands_at_end parents blocks y.runs extents clear_edges y.places is.has_positions k positive within stands ∙ (λ i. start i +ℤ collapse (margins (sym into i))) ∙ sym reach)
+                  let start = start_flows parents blocks extents clear_edges y is k positive within unclear in
+                  ap (length_at y.places.marks) same ∙ mark_standing parents blocks extents clear_edges y is k positive within stands ∙ (λ i. start i +ℤ collapse (margins (sym into i))) ∙ sym reach)
             ]
           where
             opened_stands : now.hangs ≡ true → flag_at y.runs.through now.first ≡ false
@@ -131,7 +139,7 @@ module _ (parents : List ℕ) (blocks : List Block) (extents clear_edges : List 
       where
         goes_on : flag_at y.runs.clears k ≡ false → IsInRun parents blocks clear_edges y now (slice_index parents k) k → has_top (slice_index parents j) (run_at y.runs.before_tops j) ≡ not (nat_lt (slice_index parents j) now.first)
         goes_on unclear run = elim (cases_lt j k) [
-          | inl lt ↦ tops_here parents blocks extents clear_edges y is tree now (slice_index parents k) k run (place_before parents tree k positive within) j a lt
+          | inl lt ↦ tops_here parents blocks extents clear_edges y is tree now (slice_index parents k) k run (place_above parents blocks clear_edges y now k run) j a lt
           | inr ge ↦ (let same : j ≡ k = omega (arith, b, ge) in subst (λ (j : ℕ). has_top (slice_index parents j) (run_at y.runs.before_tops j) ≡ not (nat_lt (slice_index parents j) now.first)) (sym same) here)
         ]
           where
@@ -177,7 +185,7 @@ module _ (parents : List ℕ) (blocks : List Block) (extents clear_edges : List 
   -- where the run ends, before the clearance of the box
   module _ (now : PassState) (end : ℤ) (clears : flag_at y.runs.clears k ≡ true) (ends : RunEnds now.hangs now.start now.strut end) (was : IsAt parents blocks clear_edges y now (slice_index parents k) k) where
     at_above : IsPlace parents (slice_index parents k) k
-    at_above = place_before parents tree k positive within
+    at_above = place_above parents blocks clear_edges y now k was.in_run
 
     across : run_across parents blocks y.runs (slice_index parents k) k ≡ run_before parents blocks y.runs (slice_index parents k) k
     across = ends_above parents blocks y.runs (slice_index parents k) k k (next_here parents tree blocks y.runs is.has_runs k positive within) clears

@@ -27,7 +27,7 @@ use Rattle.lay_flow.specs.PassBounds.{StrutFits, StateFits, IsMarkNear, IsCollap
 use Rattle.lay_flow.specs.PlacesTo.{Placing, PlacesTo}
 use Rattle.lay_flow.specs.PassKnows.{Knows, MayBe, IsCandidate, AreExtentsKept, ArePlacesKept}
 use Rattle.lay_flow.proofs.BlockLayoutLaws.{some_block_layout_lem, same_lengths}
-use Rattle.lay_flow.proofs.PositionFacts.{start_first, start_next}
+use Rattle.lay_flow.proofs.LayoutFacts.{start_first, start_next}
 use Rattle.lay_flow.proofs.PassFits.{settled_near, end_near}
 use Rattle.lay_flow.proofs.PassSteps.{given_kept}
 use Rattle.lay_flow.proofs.RunFacts.{first_comes, next_comes}

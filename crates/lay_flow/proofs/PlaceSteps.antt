@@ -44,7 +44,7 @@ floats_same shapes places others (suc k) same =
     let f = same k (omega arith) in
     rw (e, f) refl
 
-nothing_more : (xs : List Placed) → xs ++ [] ≡ xs
+pub nothing_more : (xs : List Placed) → xs ++ [] ≡ xs
 nothing_more [] = refl
 nothing_more (x ∷ xs) = ap (λ (zs : List Placed). x ∷ zs) (nothing_more xs)
 

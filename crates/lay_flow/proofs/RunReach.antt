@@ -1,6 +1,7 @@
 -- Where the boxes that wait for their marks come to stand.
-use Rattle.std.proofs.Common.{◌≡◌, ℕ, ◌<◌, ◌≤◌, not, nat_lt, Bool, true, false, ℤ, ◌+ℤ◌, List, length, slice_index, refl, sym, ap, ◌∙◌, arith, inl, inr}
+use Rattle.std.proofs.Common.{◌≡◌, ℕ, ◌<◌, ◌≤◌, not, nat_lt, Bool, true, false, ℤ, ◌+ℤ◌, ◌-ℤ◌, List, length, slice_index, refl, sym, ap, ◌∙◌, arith, inl, inr}
 use Rattle.std.proofs.lemmas.Bool.{cases_lt}
+use Rattle.std.proofs.lemmas.Int.{ints}
 use Rattle.lay_units.specs.declared.length.Unit.{Unit as Length}
 use Rattle.lay_margins.specs.StrutValue.{StrutValue}
 use Rattle.lay_margins.specs.Collapse.{Holds, collapse}
@@ -14,8 +15,7 @@ use Rattle.lay_flow.specs.BlockPositions.{start_before}
 use Rattle.lay_flow.specs.BlockLayout.{BlockLayout, IsBlockLayout}
 use Rattle.lay_flow.specs.BlockPass.{PassState, IsSoFar, IsInRun}
 use Rattle.lay_flow.proofs.CollapsedThrough.{one_start}
-use Rattle.lay_flow.proofs.HangingRuns.{stands_at_edge}
-use Rattle.lay_flow.proofs.PositionFacts.{stands_at_end}
+use Rattle.lay_flow.proofs.LayoutFacts.{mark_standing, start_clears}
 use Rattle.lay_flow.specs.MarginPlace.{IsPlace}
 use Rattle.lay_flow.proofs.Truths.{true_false, true_or}
 
@@ -26,6 +26,9 @@ pub record RunEnds (hangs : Bool) (start : ℤ) (strut : StrutValue) (end : ℤ)
 
 pub sum_two : (a b c d : ℤ) → a ≡ b → c ≡ d → (a +ℤ c) ≡ (b +ℤ d)
 sum_two a b c d e f = rw (e, f) refl
+
+back : (s e c : ℤ) → s ≡ e -ℤ c → e ≡ s +ℤ c
+back s e c h = omega (arith, ints, h)
 
 module _ (parents : List ℕ) (blocks : List Block) (extents clear_edges : List Length) (y : BlockLayout) (is : IsBlockLayout parents blocks extents clear_edges y) (tree : IsTree parents)
     (now : PassState) (p m : ℕ) (in_run : IsInRun parents blocks clear_edges y now p m) (at : IsPlace parents p m) where
@@ -44,7 +47,7 @@ module _ (parents : List ℕ) (blocks : List Block) (extents clear_edges : List 
   mark_here j a b holds truth =
       let start = starts_here j a b holds in
       let rise = in_run.gathered.rise j a b holds in
-      stands_at_end parents blocks y.runs extents clear_edges y.places is.has_positions j (positive_here j a) (within_here j b) truth ∙ (λ i. start i +ℤ collapse (margins (rise i)))
+      mark_standing parents blocks extents clear_edges y is j (positive_here j a) (within_here j b) truth ∙ (λ i. start i +ℤ collapse (margins (rise i)))
 
   -- the boxes that wait are open
   pub waiting_open : IsSoFar parents y now.through now.heights now.marks now.first p m → (j : ℕ) → now.first ≤ j → j < m → flag_at now.through j ≡ false → (j ≤ p) × Contains parents j m
@@ -69,5 +72,8 @@ module _ (parents : List ℕ) (blocks : List Block) (extents clear_edges : List 
       (λ t. let h = in_run.hanging t in
       let f : ℕ = now.first in
       let e = h.open_yet in
-      ends.hanging t ∙ h.edge ∙ sym (stands_at_edge parents tree blocks extents clear_edges y is f (positive_here f (omega arith)) (within_here f e) h.clears) ∙ mark_here f (omega arith) e h.contains (stands t))
+      let truth = stands t in
+      let clears = start_clears parents blocks extents clear_edges y is f (positive_here f (omega arith)) (within_here f e) h.clears truth in
+      ends.hanging t ∙ h.edge ∙ back (length_at y.places.starts f) (length_at clear_edges f) (collapse (margins (run_at y.runs.top_runs f))) clears
+      ∙ sym (mark_standing parents blocks extents clear_edges y is f (positive_here f (omega arith)) (within_here f e) truth) ∙ mark_here f (omega arith) e h.contains truth)
       (λ f. let s = in_run.start_is f in ends.value f _ holds ∙ ap (λ (v : ℤ). v +ℤ collapse (margins (run_across parents blocks y.runs p m))) s)

@@ -12,7 +12,7 @@ use Rattle.lay_flow.specs.BlockLayout.{BlockLayout, IsBlockLayout}
 use Rattle.lay_flow.specs.BlockPass.{Marked, Settled, PassState, IsAt}
 use Rattle.lay_flow.proofs.ChildPlaces.{next_none}
 use Rattle.lay_flow.proofs.GatheredRuns.{begins as gathered_begins}
-use Rattle.lay_flow.proofs.PositionFacts.{stands_with_parent}
+use Rattle.lay_flow.proofs.LayoutFacts.{mark_inherits}
 use Rattle.lay_flow.specs.MarginPlace.{IsPlace}
 use Rattle.lay_flow.proofs.RunFacts.{ends_inside}
 use Rattle.lay_flow.proofs.RunReach.{RunEnds, mark_here, waiting_open, tops_here, reach_is}
@@ -37,7 +37,7 @@ module _ (parents : List ℕ) (blocks : List Block) (extents clear_edges : List 
       (λ t. true_or (has_top (slice_index parents k) (run_at y.runs.before_tops k)) (length_at marks k ≡ length_at y.places.marks k)
       (λ top. marked.inherits k less t top
       ∙ marks_to flags marks n within marked kept known root m (omega (arith, le)) (slice_index parents k) (omega (arith, b, lt))
-      ∙ sym (stands_with_parent parents blocks y.runs extents clear_edges y.places is.has_positions k (omega arith) (omega (arith, less, within)) (sym same ∙ t) top))
+      ∙ sym (mark_inherits parents blocks extents clear_edges y is k (omega arith) (omega (arith, less, within)) (sym same ∙ t) top))
       (λ top. kept k less t top))
       (λ f. marked.stands k less f (sym same ∙ f))
 

@@ -4,8 +4,8 @@
 //! `place_blocks` cites `IsContextFlow` of `specs/ContextFlow.antt`: runs of adjoining margins
 //! (`specs/MarginRuns.antt`), positions and heights (`specs/BlockPositions.antt`), floats and boxes that they
 //! may not overlap (`specs/BlockFloats.antt`), and clearance (`specs/Clearance.antt`), each as a column of a
-//! value per box in document order. The laws in `specs/Laws.antt` say that runs, positions, heights and flows
-//! are the only ones.
+//! value per box in document order. The laws in `specs/Laws.antt` say that a context has one flow, and its
+//! blocks one layout.
 //!
 //! `heights` and `corners` cite `HasHeights` and `HasCorners` of `specs/StackedBlocks.antt`, for blocks without
 //! vertical margins, which stand one below the other.
