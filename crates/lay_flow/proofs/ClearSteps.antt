@@ -23,7 +23,7 @@ use Rattle.lay_flow.specs.BlockPass.{PassState, IsAt, Settled}
 use Rattle.lay_flow.specs.PassBounds.{StrutFits, IsEdgeNear, IsCollapseNear}
 use Rattle.lay_flow.specs.PlacesTo.{Placing, PlacesTo}
 use Rattle.lay_flow.specs.PassKnows.{Knows, IsReady, MayBe, IsCandidate, AreExtentsKept, ArePlacesKept}
-use Rattle.lay_flow.specs.ClearSteps.{HasWaitingFloat, IsEdgeWithout}
+use Rattle.lay_flow.specs.ClearSteps.{HasWaitingFloat, IsAboveFloats, IsEdgeWithout}
 use Rattle.lay_flow.proofs.ClearedFloats.{edge_of_more, higher_with_more}
 use Rattle.lay_flow.proofs.HangingRuns.{hangs_at_edge}
 use Rattle.lay_flow.proofs.Hypotheticals.{some_hypothetical_lem}
@@ -81,7 +81,7 @@ module _ (parents : List ℕ) (blocks : List Block) (shapes : List Shape) (given
       lead_without = lead_goes_on parents blocks without.runs is.is_layout.has_runs k positive within (is.later k (omega arith))
 
       -- the floats that it goes past and that are in its run are those that wait
-      pub waits_cleared : HasClearedFloat shapes k (run_at without.runs.before_tops k) → HasWaitingFloat shapes now.first k
+      waits_cleared : HasClearedFloat shapes k (run_at without.runs.before_tops k) → HasWaitingFloat shapes now.first k
       waits_cleared w =
           let j : ℕ = w.0 in
           let top : has_top j (run_before parents blocks without.runs (slice_index parents k) k) ≡ true = sym (ap (has_top j) lead_without) ∙ w.5 in
@@ -91,7 +91,7 @@ module _ (parents : List ℕ) (blocks : List Block) (shapes : List Shape) (given
           ] in
           (j, from, w.2, (w.1, w.3, w.4))
 
-      pub cleared_waits : HasWaitingFloat shapes now.first k → HasClearedFloat shapes k (run_at without.runs.before_tops k)
+      cleared_waits : HasWaitingFloat shapes now.first k → HasClearedFloat shapes k (run_at without.runs.before_tops k)
       cleared_waits w =
           let j : ℕ = w.0 in
           let side = w.3 in
@@ -191,8 +191,8 @@ module _ (parents : List ℕ) (blocks : List Block) (shapes : List Shape) (given
       })
 
   -- its clearance begins a run
-  module _ (hypothetical : ℤ) (bottom : Option Length) (flows : (shape_at shapes k).float ≡ None) (settled : length placing.places ≡ now.first) (edge_is : IsEdgeWithout parents blocks given now placing k hypothetical)
-      (is_bottom : IsClearEdge placing.floats (shape_at shapes k).clear bottom) (decides : HasWaitingFloat shapes now.first k ⊎ IsAbove hypothetical bottom)
+  module _ (hypothetical : ℤ) (flows : (shape_at shapes k).float ≡ None) (settled : length placing.places ≡ now.first) (edge_is : IsEdgeWithout parents blocks given now placing k hypothetical)
+      (decides : HasWaitingFloat shapes now.first k ⊎ IsAboveFloats placing.floats (shape_at shapes k).clear hypothetical)
       (marks edges : List Length) (flags : List Bool) (placing' : Placing) (end edge : ℤ) (bottom' : Option Length) (strut' : StrutValue)
       (ends : RunEnds now.hangs now.start now.strut end) (ended : IsCollapseNear (end -ℤ now.start)) (settles : Settled parents now.through now.marks marks now.first k end)
       (placed : PlacesTo parents blocks shapes marks placing' k) (kept : AreExtentsKept blocks (length placing.places) placing.extents placing'.extents) (same : ArePlacesKept placing.places placing'.places)
@@ -230,10 +230,10 @@ module _ (parents : List ℕ) (blocks : List Block) (shapes : List Shape) (given
           let floats : placing.floats ≡ floats_before shapes places now.first = was.placed.floats_are ∙ ap (floats_before shapes placing.places) settled
           ∙ sym (floats_same shapes places placing.places now.first (λ j lt. are j (omega (arith, lt, l, f)) ∙ same j (omega (arith, lt, settled)))) in
           let at_last = subst (λ (fs : List Placed). IsClearEdge fs (shape_at shapes k).clear bottom') floats' is_bottom' in
-          let at_first = subst (λ (fs : List Placed). IsClearEdge fs (shape_at shapes k).clear bottom) floats is_bottom in
           let has : HasClearedFloat shapes k (run_at there.0.runs.before_tops k) ⊎ IsAbove (length_at there.0.places.marks k) bottom' = elim decides [
             | inl waits ↦ inl (cleared_waits extents clear_edges y may_be before there.0 there.1 waits)
-            | inr above ↦ inr (subst (λ (v : ℤ). IsAbove v bottom') mark (higher_with_more shapes places (shape_at shapes k).clear bottom bottom' now.first k f at_first at_last hypothetical above))
+            | inr above ↦ inr (let at_first = subst (λ (fs : List Placed). IsClearEdge fs (shape_at shapes k).clear above.0) floats above.1 in
+                subst (λ (v : ℤ). IsAbove v bottom') mark (higher_with_more shapes places (shape_at shapes k).clear above.0 bottom' now.first k f at_first at_last hypothetical above.2))
           ] in
           record {
             without = there.0;

@@ -9,30 +9,12 @@ use Rattle.lay_flow.specs.MarginRuns.{block_at, is_zero, parts_tops, may_collaps
 use Rattle.lay_flow.specs.Gathered.{Holds as Contains}
 use Rattle.lay_flow.specs.PassBounds.{StrutFits}
 use Rattle.lay_flow.specs.LookAhead.{IsOutset, IsReading, HasRead}
-use Rattle.lay_flow.proofs.Truths.{true_or, low_not}
+use Rattle.lay_flow.proofs.Truths.{true_or}
 use Rattle.lay_flow.proofs.RunsAgree.{inside_up}
 use Rattle.lay_flow.proofs.Openings.{WithMargin}
-use Rattle.lay_flow.proofs.LookAhead.{place_before, reads_top, ends_below_top, ends_inside_box, ends_before_bottom, reads_bottom}
+use Rattle.lay_flow.proofs.LookAhead.{reads_top, ends_below_top, ends_inside_box, ends_before_bottom, reads_bottom}
 
 module _ (parents : List ℕ) (tree : IsTree parents) (blocks : List Block) (from : Outset) (out : IsOutset parents from) where
-  pub begins_reading : StrutFits from.strut → IsReading parents blocks from from.strut (slice_index parents from.k) from.k
-  begins_reading fits =
-      let a = out.least in let b = out.most in let o = out.is_outermost.most in
-      let round = out.is_outermost.inside in
-      record {
-        fits = fits;
-        place = place_before parents tree from.k (omega (arith, a, b)) out.within;
-        begun = omega arith;
-        first_place = λ e. refl;
-        above = λ lt. round from.k lt (omega arith);
-        inside = λ lt i low high. round i low (omega (arith, high));
-        reads = λ extents clear_edges w is comes. record {
-          strut_holds = comes.strut_holds;
-          own = λ lt. comes.tops from.outermost lt ∙ low_not from.outermost from.first (out.is_outermost.from lt);
-          holder = λ lt. absurd (omega (arith, lt));
-        };
-      }
-
   module _ (m : ℕ) (within : m < length parents) (strut next : StrutValue) (was : IsReading parents blocks from strut (slice_index parents m) m) (fits : StrutFits next) (adds : WithMargin strut next (block_at blocks m).margin_top.0) where
     pub opened_reading : parts_tops blocks m ≡ false → IsReading parents blocks from next m (m + 1)
     opened_reading plain =

@@ -36,10 +36,10 @@ below_near k f mark height start near size e lt =
     let a = near.0 in let b = near.1 in let c = size.0 in let d = size.1 in
     (omega (arith, ints, a, c, d, e, lt), omega (arith, ints, b, c, d, e, lt))
 
-pub run_near : (k : ℕ) (v : ℤ) → IsStartNear k v → IsRunNear k v
+run_near : (k : ℕ) (v : ℤ) → IsStartNear k v → IsRunNear k v
 run_near k v near = let a = near.0 in let b = near.1 in (omega (arith, ints, a), omega (arith, ints, b))
 
-pub edge_run_near : (k : ℕ) (v : ℤ) → IsEdgeNear k v → IsRunNear k v
+edge_run_near : (k : ℕ) (v : ℤ) → IsEdgeNear k v → IsRunNear k v
 edge_run_near k v near = let a = near.0 in let b = near.1 in (omega (arith, ints, a), omega (arith, ints, b))
 
 pub start_edge_near : (k : ℕ) (v : ℤ) → IsStartNear k v → IsEdgeNear k v
@@ -157,7 +157,7 @@ module _ (parents : List ℕ) (tree : IsTree parents) (blocks : List Block) (now
     up_parent : slice_index parents p < m
     up_parent = let a = was.parent in let b = up_less in omega (arith, a, b)
 
-    pub written : {A : Type 0} (P : ℕ → A → Type 0) (read : List Length → ℕ → A) (old new : List Length) (v : A) → Wrote read old new p v → P p v → ((j : ℕ) → P j (read old j)) → (j : ℕ) → P j (read new j)
+    written : {A : Type 0} (P : ℕ → A → Type 0) (read : List Length → ℕ → A) (old new : List Length) (v : A) → Wrote read old new p v → P p v → ((j : ℕ) → P j (read old j)) → (j : ℕ) → P j (read new j)
     written P read old new v wrote here each j = elim (cases_eq j p) [
       | inl e ↦ (let h = wrote.here in subst (λ (j : ℕ). P j (read new j)) (sym e) (subst (P p) (sym h) here))
       | inr ne ↦ subst (P j) (sym (wrote.other j ne)) (each j)

@@ -76,7 +76,7 @@ decided_placed parents blocks shapes given flags edges old new m le kept same wa
     was k positive lt none extents clear_edges y places (may_before parents blocks given old new extents le kept may_be) candidate (places_before old.places new.places places le same are)
 
 -- the run was begun by clearance of a child of p
-pub barred_same : (parents : List ℕ) (blocks : List Block) (shapes : List Shape) (extents clear_edges : List Length) (y : BlockLayout) (now : PassState) (p m : ℕ) → m ≤ length parents → AreClears parents shapes now.clears now.clear_edges m
+barred_same : (parents : List ℕ) (blocks : List Block) (shapes : List Shape) (extents clear_edges : List Length) (y : BlockLayout) (now : PassState) (p m : ℕ) → m ≤ length parents → AreClears parents shapes now.clears now.clear_edges m
     → IsCandidate parents blocks extents clear_edges y now.clears now.clear_edges m → (nat_lt now.first m && flag_at y.runs.clears now.first && slice_index parents now.first == p) ≡ is_barred parents now p
 barred_same parents blocks shapes extents clear_edges y now p m within are candidate = elim (cases_lt now.first m) [
   | inl lt ↦ (let a = candidate.clears now.first lt in let l = are.clears_length in
@@ -168,7 +168,7 @@ module _ (parents : List ℕ) (blocks : List Block) (shapes : List Shape) (given
     inner = let a = was.fits.parent in let b = was.fits.within in omega (arith, a, b)
 
     -- a box that isn't collapsed through, and whose bottom margin may adjoin that of its last child, has its mark
-    pub joined_before : may_join_bottoms (block_at blocks p) ≡ true → (may_collapse_through (block_at blocks p) ≡ true → p < now.first) → p < now.first
+    joined_before : may_join_bottoms (block_at blocks p) ≡ true → (may_collapse_through (block_at blocks p) ≡ true → p < now.first) → p < now.first
     joined_before may settled = elim (cases_lt p now.first) [
       | inl low ↦ low
       | inr high ↦ settled (joined_passes blocks p (was.fits.unparted p high was.fits.parent) may)

@@ -1,7 +1,7 @@
 -- Runs that grow.
 use Rattle.std.proofs.Common.{◌≡◌, ℕ, ◌==◌, ◌||◌, Bool, true, false, ℤ, List, [], ◌∷◌, ◌++◌, refl, ap, ◌∙◌, arith, ◌≢◌}
 use Rattle.std.proofs.lemmas.Bool.{eq-eqb, ne_eqb}
-use Rattle.lay_flow.specs.MarginRuns.{Entry, margin, mark, clear, margins, has_top, is_barred}
+use Rattle.lay_flow.specs.MarginRuns.{Entry, margin, mark, clear, margins, has_top}
 
 pub margins-append : (xs ys : List Entry) → margins (xs ++ ys) ≡ margins xs ++ margins ys
 margins-append [] ys = refl
@@ -14,12 +14,6 @@ has_top-append j [] ys = refl
 has_top-append j (margin m ∷ xs) ys = has_top-append j xs ys
 has_top-append j (mark k ∷ xs) ys = let h = has_top-append j xs ys in grind (arith, h)
 has_top-append j (clear k ∷ xs) ys = has_top-append j xs ys
-
-pub not_barred : (parents : List ℕ) (q : ℕ) (xs ys : List Entry) → is_barred parents q xs ≡ false → is_barred parents q ys ≡ false → is_barred parents q (xs ++ ys) ≡ false
-not_barred parents q [] ys h k = k
-not_barred parents q (margin m ∷ xs) ys h k = refl
-not_barred parents q (mark j ∷ xs) ys h k = refl
-not_barred parents q (clear j ∷ xs) ys h k = h
 
 -- the top margin of the box at k was added
 pub top_there : (j k : ℕ) (t : ℤ) (xs : List Entry) → has_top j xs ≡ true → has_top j (xs ++ mark k ∷ margin t ∷ []) ≡ true

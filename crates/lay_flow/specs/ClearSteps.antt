@@ -1,14 +1,16 @@
 -- What a pass over a context decides before it reads the top margin of a box with `clear`.
 use Rattle.std.specs.Prelude.{ℕ, ◌≡◌, ◌<◌, ◌≤◌, ℤ, false, List, Option, Some}
 use Rattle.lay_units.specs.declared.length.Unit.{Unit as Length}
+use Rattle.lay_floats.specs.declared.placed.Placed.{Placed}
 use Rattle.lay_floats.specs.declared.requests.Side.{Side}
 use Rattle.lay_floats.specs.declared.requests.Clear.{Clear}
-use Rattle.lay_floats.specs.ClearEdge.{Clears}
+use Rattle.lay_floats.specs.ClearEdge.{Clears, IsClearEdge}
 use Rattle.lay_flow.specs.declared.block.Block.{Block}
 use Rattle.lay_flow.specs.declared.shape.Shape.{Shape}
 use Rattle.lay_flow.specs.StackedBlocks.{length_at}
 use Rattle.lay_flow.specs.Children.{flag_at}
 use Rattle.lay_flow.specs.BlockFloats.{shape_at}
+use Rattle.lay_flow.specs.Clearance.{IsAbove}
 use Rattle.lay_flow.specs.BlockLayout.{BlockLayout}
 use Rattle.lay_flow.specs.BlockPass.{PassState}
 use Rattle.lay_flow.specs.PlacesTo.{Placing}
@@ -21,6 +23,10 @@ IsSideToClear clear float = (side : Side) × (float ≡ Some side) × Clears cle
 -- a float that the box at k goes past stands among the boxes from `first` on
 abbrev pub HasWaitingFloat : List Shape → ℕ → ℕ → Type 0
 HasWaitingFloat shapes first k = (j : ℕ) × (first ≤ j) × (j < k) × IsSideToClear (shape_at shapes k).clear (shape_at shapes j).float
+
+-- a hypothetical edge is above the lowest bottom of the floats to clear
+abbrev pub IsAboveFloats : List Placed → Clear → ℤ → Type 0
+IsAboveFloats floats clear hypothetical = (bottom : Option Length) × IsClearEdge floats clear bottom × IsAbove hypothetical bottom
 
 -- the mark of the box at k in each layout that the blocks may have, but without clearance from that box on
 abbrev pub IsEdgeWithout : List ℕ → List Block → List Length → PassState → Placing → ℕ → ℤ → Type 0

@@ -2,12 +2,12 @@
 
 ghost use Rattle.std.specs.Prelude.{◌≡◌, ◌+◌, ◌<◌, ◌≤◌, ◌⊎◌, true, false, length, slice_index, None, Option, OnOk};
 ghost use Rattle.lay_units.specs.declared.length.Unit.{Unit};
-ghost use Rattle.lay_floats.specs.ClearEdge.{Clears, IsClearEdge};
+ghost use Rattle.lay_floats.specs.ClearEdge.{Clears};
 ghost use Rattle.lay_floats.specs.declared.requests.Clear.TheVariants.{None as clear_none};
 ghost use Rattle.lay_flow.specs.BlockFloats.{shape_at};
 ghost use Rattle.lay_flow.specs.BlockSizes.{AreBlocks};
 ghost use Rattle.lay_flow.specs.Clearance.{IsAbove, lower_of};
-ghost use Rattle.lay_flow.specs.ClearSteps.{HasWaitingFloat, IsEdgeWithout, IsSideToClear};
+ghost use Rattle.lay_flow.specs.ClearSteps.{HasWaitingFloat, IsAboveFloats, IsEdgeWithout, IsSideToClear};
 ghost use Rattle.lay_flow.specs.PassBounds.{IsEdgeNear, state_of};
 ghost use Rattle.lay_flow.specs.PassKnows.{ArePlaceable, IsReady, Knows, placing_of};
 
@@ -102,16 +102,7 @@ fn clear_floats(
     let bottom = flow.placing.floats.clear_edge(shape_at(shapes, k).clear);
     let hypothetical = edge_without(parents, blocks, shapes, given, flow, k);
     if has_waiting_float(shapes, flow.first, k) || is_above(hypothetical, bottom) {
-        begin_cleared(
-            parents,
-            blocks,
-            shapes,
-            given,
-            flow,
-            k,
-            hypothetical,
-            bottom,
-        )?;
+        begin_cleared(parents, blocks, shapes, given, flow, k, hypothetical)?;
     }
     Ok(())
 }
@@ -204,7 +195,6 @@ fn begin_cleared(
     flow: &mut Flow,
     k: usize,
     hypothetical: Unit,
-    _bottom: Option<Unit>,
 ) -> Result<(), NoMemory>
     requires input { AreBlocks parents.now blocks.now _given.now }
     requires shapes { ArePlaceable parents.now blocks.now shapes.now }
@@ -215,8 +205,7 @@ fn begin_cleared(
     requires known { Knows parents.now blocks.now shapes.now _given.now (state_of flow.old) (placing_of flow.old.placing) (slice_index parents.now k) k }
     requires edge { IsEdgeWithout parents.now blocks.now _given.now (state_of flow.old) (placing_of flow.old.placing) k hypothetical.0 }
     requires near { IsEdgeNear k hypothetical.0 }
-    requires bottom { IsClearEdge flow.old.placing.floats (shape_at shapes.now k).clear _bottom }
-    requires decides { HasWaitingFloat shapes.now flow.old.first k ⊎ IsAbove hypothetical.0 _bottom }
+    requires decides { HasWaitingFloat shapes.now flow.old.first k ⊎ IsAboveFloats flow.old.placing.floats (shape_at shapes.now k).clear hypothetical.0 }
     ensures { OnOk result (IsReady parents.now blocks.now shapes.now _given.now (state_of flow.new) (placing_of flow.new.placing) k) }
 {
     let end = end_of(flow.start, flow.hangs, flow.strut);
