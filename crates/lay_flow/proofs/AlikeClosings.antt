@@ -5,7 +5,7 @@ use Rattle.lay_units.specs.declared.length.Unit.{Unit as Length}
 use Rattle.lay_doc.specs.Tree.{IsTree}
 use Rattle.lay_margins.specs.Collapse.{collapse}
 use Rattle.lay_flow.specs.declared.block.Block.{Block}
-use Rattle.lay_flow.specs.StackedBlocks.{length_at}
+use Rattle.lay_flow.specs.Lengths.{length_at}
 use Rattle.lay_flow.specs.Children.{flag_at, last_child}
 use Rattle.lay_flow.specs.MarginRuns.{margins, has_top, is_barred, block_at, run_at, run_before, joins_bottom, may_join_bottoms, may_collapse_through}
 use Rattle.lay_flow.specs.BlockPositions.{start_before, start_below, content_bottom, content_height, border_height}

@@ -4,12 +4,12 @@ use Rattle.lay_units.specs.declared.length.Unit.{Unit as Length}
 use Rattle.lay_doc.specs.Tree.{IsTree}
 use Rattle.lay_doc.proofs.OneStyles.{same_list}
 use Rattle.lay_flow.specs.declared.block.Block.{Block}
-use Rattle.lay_flow.specs.StackedBlocks.{no_length, length_at}
+use Rattle.lay_flow.specs.Lengths.{no_length, length_at}
 use Rattle.lay_flow.specs.Children.{flag_at}
 use Rattle.lay_flow.specs.MarginRuns.{Runs, HasRuns, through_of, before_top_of, to_bottom_of, top_run_of, bottom_run_of}
 use Rattle.lay_flow.specs.BlockPositions.{Positions, HasPositions, start_of, mark_of, height_of}
 use Rattle.lay_flow.specs.Laws.{OneBlockLayout, SomeBlockLayout}
-use Rattle.lay_flow.proofs.OneColumn.{same_length}
+use Rattle.lay_flow.proofs.Lengths.{same_length}
 use Rattle.lay_flow.proofs.Tabulated.{tab, tab_length, tab_at}
 use Rattle.lay_flow.proofs.RunsAgree.{AreNext}
 use Rattle.lay_flow.proofs.WholeRunsAgree.{agree_at, all_same}

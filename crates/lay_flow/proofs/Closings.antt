@@ -6,7 +6,7 @@ use Rattle.lay_margins.specs.StrutValue.{StrutValue}
 use Rattle.lay_margins.specs.Collapse.{Holds, collapse}
 use Rattle.lay_doc.specs.Tree.{IsTree}
 use Rattle.lay_flow.specs.declared.block.Block.{Block}
-use Rattle.lay_flow.specs.StackedBlocks.{length_at}
+use Rattle.lay_flow.specs.Lengths.{length_at}
 use Rattle.lay_flow.specs.Children.{flag_at}
 use Rattle.lay_flow.specs.MarginRuns.{Entry, margin, margins, has_top, is_barred, block_at, run_at, run_before, run_across, joins_bottom, may_collapse_through, may_join_bottoms}
 use Rattle.lay_flow.specs.BlockPositions.{start_before, start_below}

@@ -1,8 +1,8 @@
 -- A column of lengths, read after a write.
-use Rattle.std.proofs.Common.{◌≡◌, ℕ, ◌<◌, List, length, get_or, set, drop, arith, ap}
-use Rattle.std.proofs.lemmas.Grind.{elements, common_steps}
+use Rattle.std.proofs.Common.{◌≡◌, ℕ, ◌<◌, List, length, get_or, set, arith, ap}
+use Rattle.std.proofs.lemmas.Grind.{elements}
 use Rattle.lay_units.specs.declared.length.Unit.{Unit as Length}
-use Rattle.lay_flow.specs.StackedBlocks.{no_length, length_at}
+use Rattle.lay_flow.specs.Lengths.{no_length, length_at}
 
 entry_same : (hs : List Length) (k : ℕ) (h : Length) → k < length hs → get_or (set hs k h) k no_length ≡ h
 entry_same hs k h within = grind (arith, elements)
@@ -18,6 +18,3 @@ set_other hs k j h apart = ap (λ (u : Length). u.0) (entry_other hs k j h apart
 
 pub length-set' : (hs : List Length) (k : ℕ) (h : Length) → length (set hs k h) ≡ length hs
 length-set' hs k h = grind (arith, elements)
-
-pub drop-set_below : (hs : List Length) (k j : ℕ) (h : Length) → k < j → drop j (set hs k h) ≡ drop j hs
-drop-set_below hs k j h lt = grind (arith, common_steps)

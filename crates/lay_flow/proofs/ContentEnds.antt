@@ -6,7 +6,7 @@ use Rattle.lay_units.specs.declared.length.Unit.{Unit as Length}
 use Rattle.lay_margins.specs.Collapse.{collapse}
 use Rattle.lay_doc.specs.Tree.{IsTree}
 use Rattle.lay_flow.specs.declared.block.Block.{Block}
-use Rattle.lay_flow.specs.StackedBlocks.{length_at}
+use Rattle.lay_flow.specs.Lengths.{length_at}
 use Rattle.lay_flow.specs.Children.{last_child, flag_at}
 use Rattle.lay_flow.specs.MarginRuns.{Entry, margins, has_top, block_at, run_at, parts_tops, to_top, run_before, joins_bottom}
 use Rattle.lay_flow.specs.BlockPositions.{content_bottom, content_height, border_height, start_below, start_before}

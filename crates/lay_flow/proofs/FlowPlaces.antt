@@ -11,12 +11,12 @@ use Rattle.lay_floats.specs.SolidPlace.{IsSolidPlace}
 use Rattle.lay_floats.proofs.Unique.{one_float_place_lem, one_solid_place_lem}
 use Rattle.lay_flow.specs.declared.block.Block.{Block}
 use Rattle.lay_flow.specs.declared.shape.Shape.{Shape}
-use Rattle.lay_flow.specs.StackedBlocks.{length_at}
+use Rattle.lay_flow.specs.Lengths.{length_at}
 use Rattle.lay_flow.specs.MarginRuns.{block_at}
 use Rattle.lay_flow.specs.BlockPositions.{is_solid}
 use Rattle.lay_flow.specs.BlockFloats.{shape_at, place_at, floats_before, float_request, solid_request, ceiling}
 use Rattle.lay_flow.specs.ContextFlow.{Flow, IsContextFlow}
-use Rattle.lay_flow.proofs.OneColumn.{same_length}
+use Rattle.lay_flow.proofs.Lengths.{same_length}
 use Rattle.lay_flow.proofs.PlaceSteps.{floats_same}
 
 same_place : (a b : Place) → a.x.0 ≡ b.x.0 → a.y.0 ≡ b.y.0 → a ≡ b

@@ -1,7 +1,5 @@
 pub mod ColumnWrites
-pub mod HeightSteps
-pub mod CornerSteps
-pub mod OneColumn
+pub mod Lengths
 pub mod ChildPlaces
 pub mod MarginWalk
 pub mod RunsAgree

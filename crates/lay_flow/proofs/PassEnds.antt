@@ -13,8 +13,8 @@ use Rattle.lay_floats.specs.ClearEdge.{IsClearEdge}
 use Rattle.lay_floats.specs.Within.{BoxWithin}
 use Rattle.lay_flow.specs.declared.block.Block.{Block}
 use Rattle.lay_flow.specs.declared.shape.Shape.{Shape}
-use Rattle.lay_flow.specs.StackedBlocks.{length_at, no_length}
-use Rattle.lay_flow.specs.CornersTo.{IsBoxHeight}
+use Rattle.lay_flow.specs.Lengths.{length_at, no_length}
+use Rattle.lay_flow.specs.BlockSizes.{IsBoxHeight}
 use Rattle.lay_flow.specs.Children.{last_child, flag_at}
 use Rattle.lay_flow.specs.MarginRuns.{Entry, margins, block_at, run_at, run_before}
 use Rattle.lay_flow.specs.BlockPositions.{start_below, start_before, border_height, content_bottom, content_height, is_solid}

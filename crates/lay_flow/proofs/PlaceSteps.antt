@@ -22,7 +22,7 @@ use Rattle.lay_floats.specs.Within.{IsWithin, BoxWithin, RequestWithin}
 use Rattle.lay_floats.proofs.Bounds.{place_within_lem}
 use Rattle.lay_flow.specs.declared.block.Block.{Block}
 use Rattle.lay_flow.specs.declared.shape.Shape.{Shape}
-use Rattle.lay_flow.specs.StackedBlocks.{length_at}
+use Rattle.lay_flow.specs.Lengths.{length_at}
 use Rattle.lay_flow.specs.MarginRuns.{block_at}
 use Rattle.lay_flow.specs.BlockPositions.{is_solid}
 use Rattle.lay_flow.specs.BlockFloats.{AreShapes, shape_at, place_at, no_place, float_of, floats_before, float_request, solid_request, ceiling}

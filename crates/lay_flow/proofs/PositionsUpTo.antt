@@ -4,7 +4,7 @@ use Rattle.std.proofs.lemmas.Bool.{cases_lt, cases_eq}
 use Rattle.lay_units.specs.declared.length.Unit.{Unit as Length}
 use Rattle.lay_doc.specs.Tree.{IsTree}
 use Rattle.lay_flow.specs.declared.block.Block.{Block}
-use Rattle.lay_flow.specs.StackedBlocks.{length_at}
+use Rattle.lay_flow.specs.Lengths.{length_at}
 use Rattle.lay_flow.specs.Children.{last_child, flag_at}
 use Rattle.lay_flow.specs.MarginRuns.{Runs}
 use Rattle.lay_flow.specs.BlockPositions.{Positions, HasPositions, start_below, start_before, start_of, mark_of, content_height, content_bottom, height_of}

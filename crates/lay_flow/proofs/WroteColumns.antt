@@ -2,7 +2,7 @@
 use Rattle.std.proofs.Common.{ℕ, ◌<◌, Bool, List, length, set, arith}
 use Rattle.std.proofs.lemmas.Grind.{elements}
 use Rattle.lay_units.specs.declared.length.Unit.{Unit as Length}
-use Rattle.lay_flow.specs.StackedBlocks.{length_at}
+use Rattle.lay_flow.specs.Lengths.{length_at}
 use Rattle.lay_flow.specs.Children.{flag_at}
 use Rattle.lay_flow.proofs.ColumnWrites.{set_same, set_other, length-set'}
 use Rattle.lay_flow.proofs.SoFar.{Wrote}

@@ -18,7 +18,7 @@ use Rattle.lay_floats.specs.declared.requests.SolidReq.{SolidReq}
 use Rattle.lay_floats.specs.declared.requests.Place.{Place}
 use Rattle.lay_flow.specs.declared.block.Block.{Block}
 use Rattle.lay_flow.specs.declared.shape.Shape.{Shape}
-use Rattle.lay_flow.specs.StackedBlocks.{no_length, length_at}
+use Rattle.lay_flow.specs.Lengths.{no_length, length_at}
 use Rattle.lay_flow.specs.MarginRuns.{no_block, block_at, is_blocks}
 
 abbrev pub no_shape : Shape

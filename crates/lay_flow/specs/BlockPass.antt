@@ -6,7 +6,7 @@ use Rattle.lay_margins.specs.Collapse.{Holds}
 use Rattle.lay_flow.specs.Children.{flag_at}
 use Rattle.lay_flow.specs.MarginRuns.{margins, has_top, run_at, run_before}
 use Rattle.lay_flow.specs.Gathered.{Gathered, Holds as Contains}
-use Rattle.lay_flow.specs.StackedBlocks.{length_at}
+use Rattle.lay_flow.specs.Lengths.{length_at}
 use Rattle.lay_flow.specs.BlockPositions.{start_before}
 use Rattle.lay_flow.specs.BlockLayout.{BlockLayout}
 use Rattle.lay_flow.specs.declared.block.Block.{Block}

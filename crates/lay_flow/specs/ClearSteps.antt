@@ -7,7 +7,7 @@ use Rattle.lay_floats.specs.declared.requests.Clear.{Clear}
 use Rattle.lay_floats.specs.ClearEdge.{Clears, IsClearEdge}
 use Rattle.lay_flow.specs.declared.block.Block.{Block}
 use Rattle.lay_flow.specs.declared.shape.Shape.{Shape}
-use Rattle.lay_flow.specs.StackedBlocks.{length_at}
+use Rattle.lay_flow.specs.Lengths.{length_at}
 use Rattle.lay_flow.specs.Children.{flag_at}
 use Rattle.lay_flow.specs.BlockFloats.{shape_at}
 use Rattle.lay_flow.specs.Clearance.{IsAbove}

@@ -18,7 +18,7 @@ use Rattle.lay_floats.specs.declared.requests.Place.{Place}
 use Rattle.lay_floats.specs.ClearEdge.{Clears, IsClearEdge}
 use Rattle.lay_flow.specs.declared.block.Block.{Block}
 use Rattle.lay_flow.specs.declared.shape.Shape.{Shape}
-use Rattle.lay_flow.specs.StackedBlocks.{length_at}
+use Rattle.lay_flow.specs.Lengths.{length_at}
 use Rattle.lay_flow.specs.Children.{flag_at}
 use Rattle.lay_flow.specs.MarginRuns.{Entry, has_top, run_at}
 use Rattle.lay_flow.specs.BlockLayout.{BlockLayout, IsBlockLayout}

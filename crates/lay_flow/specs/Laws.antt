@@ -1,23 +1,14 @@
--- The heights and the positions of a context have one value each, its blocks have one layout, and it has one flow.
+-- The blocks of a context have one layout, and it has one flow.
 use Rattle.std.specs.Prelude.{ℕ, ◌≡◌, ◌<◌, Bool, List, length}
 use Rattle.lay_units.specs.declared.length.Unit.{Unit as Length}
-use Rattle.lay_units.specs.declared.records.Len.{Len}
 use Rattle.lay_doc.specs.Tree.{IsTree}
-use Rattle.lay_flow.specs.declared.corner.Corner.{Corner}
 use Rattle.lay_floats.specs.declared.requests.Place.{Place}
 use Rattle.lay_flow.specs.declared.block.Block.{Block}
 use Rattle.lay_flow.specs.declared.shape.Shape.{Shape}
 use Rattle.lay_flow.specs.BlockFloats.{AreShapes}
 use Rattle.lay_flow.specs.Clearance.{IsHypothetical}
 use Rattle.lay_flow.specs.ContextFlow.{Flow, IsContextFlow, AreContextPlaces}
-use Rattle.lay_flow.specs.StackedBlocks.{HasHeights, HasCorners}
 use Rattle.lay_flow.specs.BlockLayout.{BlockLayout, IsBlockLayout}
-
-abbrev pub OneHeightColumn : Type 0
-OneHeightColumn = (parents : List ℕ) (computed : List Len) (edges hs gs : List Length) → HasHeights parents computed edges hs → HasHeights parents computed edges gs → hs ≡ gs
-
-abbrev pub OneCornerColumn : Type 0
-OneCornerColumn = (parents : List ℕ) (margins : List Length) (insets : List Corner) (hs : List Length) (cs bs : List Corner) → IsTree parents → HasCorners parents margins insets hs cs → HasCorners parents margins insets hs bs → cs ≡ bs
 
 -- where the boxes with clearance and their clear edges are given, the blocks of a context have one layout and no other
 abbrev pub OneBlockLayout : Type 0

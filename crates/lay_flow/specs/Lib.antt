@@ -1,4 +1,4 @@
-pub mod StackedBlocks
+pub mod Lengths
 pub mod Children
 pub mod MarginRuns
 pub mod BlockPositions
@@ -16,5 +16,3 @@ pub mod PlacesTo
 pub mod PassKnows
 pub mod ClearSteps
 pub mod Laws
-pub mod HeightsFrom
-pub mod CornersTo

@@ -22,7 +22,7 @@ use Rattle.lay_flow.specs.declared.block.Block.{Block}
 use Rattle.lay_flow.specs.declared.block.Inside.{Inside}
 use Rattle.lay_flow.specs.declared.block.Inside.TheVariants.{Blocks as blocks_inside, Lines as lines_inside, Solid as solid_inside}
 use Rattle.lay_flow.specs.Children.{last_child, next_child, flag_at}
-use Rattle.lay_flow.specs.StackedBlocks.{no_length}
+use Rattle.lay_flow.specs.Lengths.{no_length}
 
 abbrev pub no_block : Block
 no_block = record { margin_top = no_length; margin_bottom = no_length; edge_top = no_length; edge_bottom = no_length; height = auto; min_height = no_length; max_height = None; inside = blocks_inside }

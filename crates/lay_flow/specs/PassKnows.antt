@@ -7,8 +7,8 @@ use Rattle.lay_floats.specs.declared.requests.Place.{Place}
 use Rattle.lay_flow.specs.declared.block.Block.{Block}
 use Rattle.lay_flow.specs.declared.shape.Shape.{Shape}
 use Rattle.lay_flow.specs.declared.placing.Placing.{Placing as PlacingState}
-use Rattle.lay_flow.specs.StackedBlocks.{length_at}
-use Rattle.lay_flow.specs.CornersTo.{IsInset}
+use Rattle.lay_flow.specs.Lengths.{length_at}
+use Rattle.lay_flow.specs.BlockSizes.{IsInset}
 use Rattle.lay_flow.specs.Children.{flag_at}
 use Rattle.lay_flow.specs.MarginRuns.{block_at}
 use Rattle.lay_flow.specs.BlockFloats.{AreShapes, shape_at, place_at}

@@ -5,7 +5,7 @@ ghost use Rattle.std.specs.Int.{int_max};
 ghost use Rattle.lay_units.specs.Units.{IsPosition, IsUsedSize};
 ghost use Rattle.lay_flow.specs.BlockPositions.{auto_height, border_height, given_or_auto, is_solid};
 ghost use Rattle.lay_flow.specs.BlockSizes.{BlockFits};
-ghost use Rattle.lay_flow.specs.CornersTo.{IsInset, IsBoxHeight};
+ghost use Rattle.lay_flow.specs.BlockSizes.{IsInset, IsBoxHeight};
 ghost use Rattle.lay_flow.specs.PassBounds.{IsNear};
 ghost use Rattle.lay_flow.specs.MarginRuns.{is_auto, is_auto_or_zero, is_blocks, is_zero, may_collapse_through, may_join_bottoms};
 

@@ -5,7 +5,7 @@ ghost use Rattle.lay_units.specs.declared.length.Unit.{Unit};
 ghost use Rattle.lay_margins.specs.Collapse.{Holds};
 ghost use Rattle.lay_doc.specs.Tree.{IsTree};
 ghost use Rattle.lay_flow.specs.Children.{flag_at};
-ghost use Rattle.lay_flow.specs.StackedBlocks.{length_at};
+ghost use Rattle.lay_flow.specs.Lengths.{length_at};
 ghost use Rattle.lay_flow.specs.BlockLayout.{BlockLayout, IsBlockLayout};
 ghost use Rattle.lay_flow.specs.BlockPositions.{start_before};
 ghost use Rattle.lay_flow.specs.BlockSizes.{BlockFits};

@@ -1,16 +1,6 @@
 //! The laws of the definitions: each column has one value.
 
-ghost use Rattle.lay_flow.specs.Laws.{OneBlockLayout, OneHeightColumn, OneCornerColumn, OneContextFlow, OneContextPlaces, OneHypothetical, SomeBlockLayout, SomeHypothetical};
-
-/// The heights of a context are the only ones that meet their definition.
-pub fn one_height_column()
-    ensures { OneHeightColumn }
-{}
-
-/// The positions in a context are the only ones that meet their definition.
-pub fn one_corner_column()
-    ensures { OneCornerColumn }
-{}
+ghost use Rattle.lay_flow.specs.Laws.{OneBlockLayout, OneContextFlow, OneContextPlaces, OneHypothetical, SomeBlockLayout, SomeHypothetical};
 
 /// The layout of a context's blocks is the only one, where the boxes with clearance and their clear edges are given.
 pub fn one_block_layout()

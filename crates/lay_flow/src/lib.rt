@@ -6,20 +6,14 @@
 //! may not overlap (`specs/BlockFloats.antt`), and clearance (`specs/Clearance.antt`), each as a column of a
 //! value per box in document order. The laws in `specs/Laws.antt` say that a context has one flow, and its
 //! blocks one layout.
-//!
-//! `heights` and `corners` cite `HasHeights` and `HasCorners` of `specs/StackedBlocks.antt`, for blocks without
-//! vertical margins, which stand one below the other.
 #![tactic(auto)]
 
 mod block;
-mod block_corners;
-mod block_heights;
 mod block_places;
 mod block_steps;
 mod border_height;
 mod clear_steps;
 mod columns;
-mod corner;
 mod hypothetical_edge;
 #[cfg(test)]
 mod hypothetical_edge_tests;
@@ -34,12 +28,9 @@ mod shape;
 mod tests;
 
 pub use block::{Block, Inside};
-pub use block_corners::corners;
-pub use block_heights::heights;
 pub use block_places::{BlockPlaces, place_blocks};
-pub use corner::Corner;
 pub use laws::{
-    one_block_layout, one_context_flow, one_context_places, one_corner_column, one_height_column,
-    one_hypothetical, some_block_layout, some_hypothetical,
+    one_block_layout, one_context_flow, one_context_places, one_hypothetical, some_block_layout,
+    some_hypothetical,
 };
 pub use shape::Shape;

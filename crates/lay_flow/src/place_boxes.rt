@@ -9,7 +9,7 @@ ghost use Rattle.lay_flow.specs.MarginRuns.{block_at};
 ghost use Rattle.lay_flow.specs.PassBounds.{IsMarkNear, IsNear};
 ghost use Rattle.lay_flow.specs.PassKnows.{ArePlaceable, AreExtentsKept, ArePlacesKept, placing_of};
 ghost use Rattle.lay_flow.specs.PlacesTo.{PlacesTo, IsCeilingNear};
-ghost use Rattle.lay_flow.specs.StackedBlocks.{length_at};
+ghost use Rattle.lay_flow.specs.Lengths.{length_at};
 
 use crate::block::Block;
 use crate::columns::{block_at, length_at, parent_at, sum_of, write_at};

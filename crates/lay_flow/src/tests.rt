@@ -5,7 +5,7 @@ ghost use Rattle.lay_units.specs.Units.{IsUsed, IsUsedSize};
 ghost use Rattle.lay_doc.specs.Tree.{IsTree};
 ghost use Rattle.lay_flow.specs.BlockPositions.{given_or_auto};
 ghost use Rattle.lay_flow.specs.BlockSizes.{AreBlocks, BlockFits};
-ghost use Rattle.lay_flow.specs.CornersTo.{IsInset};
+ghost use Rattle.lay_flow.specs.BlockSizes.{IsInset};
 ghost use Rattle.lay_floats.specs.Within.{IsWithin};
 ghost use Rattle.lay_floats.specs.declared.requests.Side.{Side};
 ghost use Rattle.lay_flow.specs.BlockFloats.{AreShapes, shape_at};

@@ -2,7 +2,7 @@ use Rattle.std.proofs.Common.{◌≡◌, List, Bool, length, replicate, false, r
 use Rattle.std.proofs.lemmas.Grind.{elements}
 use Rattle.lay_units.specs.declared.length.Unit.{Unit as Length}
 use Rattle.lay_flow.specs.declared.block.Block.{Block}
-use Rattle.lay_flow.specs.StackedBlocks.{length_at, no_length}
+use Rattle.lay_flow.specs.Lengths.{length_at, no_length}
 use Rattle.lay_flow.specs.Children.{flag_at}
 use Rattle.lay_flow.specs.PassBounds.{state_of}
 use Rattle.lay_flow.specs.PassKnows.{placing_of}

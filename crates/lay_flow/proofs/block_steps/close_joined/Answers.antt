@@ -4,7 +4,7 @@ use Rattle.lay_flow.specs.MarginRuns.{block_at}
 use Rattle.std.proofs.Common.{◌≡◌, false, arith, subst, sym, List, ap}
 use Rattle.std.proofs.lemmas.Int.{ints}
 use Rattle.lay_units.specs.declared.length.Unit.{Unit as Length}
-use Rattle.lay_flow.specs.StackedBlocks.{length_at}
+use Rattle.lay_flow.specs.Lengths.{length_at}
 use Rattle.lay_flow.specs.PassKnows.{placing_of}
 use Rattle.lay_flow.specs.PassBounds.{state_of, IsNear}
 use Rattle.lay_flow.proofs.BlockKinds.{joins_flow}

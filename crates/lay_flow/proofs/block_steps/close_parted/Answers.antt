@@ -3,8 +3,8 @@ use Rattle.std.proofs.lemmas.Int.{ints}
 use Rattle.lay_units.specs.Units.{IsPosition}
 use Rattle.lay_units.specs.declared.length.Unit.{Unit as Length}
 use Rattle.lay_flow.specs.declared.block.Block.{Block}
-use Rattle.lay_flow.specs.StackedBlocks.{length_at}
-use Rattle.lay_flow.specs.CornersTo.{IsBoxHeight}
+use Rattle.lay_flow.specs.Lengths.{length_at}
+use Rattle.lay_flow.specs.BlockSizes.{IsBoxHeight}
 use Rattle.lay_flow.specs.BlockPositions.{is_solid}
 use Rattle.lay_flow.specs.MarginRuns.{block_at}
 use Rattle.lay_flow.specs.PassBounds.{state_of, IsMarkNear, IsNear}

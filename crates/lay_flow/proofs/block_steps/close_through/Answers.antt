@@ -1,6 +1,6 @@
 use Rattle.std.proofs.Common.{arith, true, subst, sym, List, Bool, pos}
 use Rattle.lay_units.specs.declared.length.Unit.{Unit as Length}
-use Rattle.lay_flow.specs.StackedBlocks.{length_at}
+use Rattle.lay_flow.specs.Lengths.{length_at}
 use Rattle.lay_flow.specs.Children.{flag_at}
 use Rattle.lay_flow.specs.PassKnows.{placing_of}
 use Rattle.lay_flow.specs.PassBounds.{state_of}

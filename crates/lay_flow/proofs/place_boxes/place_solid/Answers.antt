@@ -4,7 +4,7 @@ use Rattle.lay_floats.specs.declared.requests.Place.{Place}
 use Rattle.lay_floats.specs.Fits.{SolidFits}
 use Rattle.lay_floats.specs.SolidPlace.{IsSolidPlace}
 use Rattle.lay_units.specs.declared.length.Unit.{Unit as Length}
-use Rattle.lay_flow.specs.StackedBlocks.{length_at}
+use Rattle.lay_flow.specs.Lengths.{length_at}
 use Rattle.lay_flow.specs.BlockFloats.{solid_request, shape_at}
 use Rattle.lay_flow.specs.PassBounds.{IsNear}
 use Rattle.lay_flow.specs.PlacesTo.{PlacesTo}
