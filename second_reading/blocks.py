@@ -1,0 +1,252 @@
+#!/usr/bin/env python3
+"""A second reading of CSS 2.2: block layout with collapsing margins, floats and clearance, as plain as can be.
+
+usage: blocks.py < DOCUMENT      prints the report of `lay scratch` on a run document without faults
+
+It was written apart from the crates, so that each is a test of the other (`compare`). It is slow on purpose: what the
+standard calls a hypothetical position is got by laying a context out once more for each box with `clear`. Begin here,
+with `Flow`; then `margins` (8.3.1), `floats` (9.5), `sizes` (10), `boxes` (9.2 and 9.7) and `styles` (6).
+
+Words: a context is a block formatting context, and its own box is the one that establishes it. A solid box is a
+context's own box in the flow, which overlaps no float. The mark of a box is where the flow puts its top border edge,
+before floats move it. The start of a run of margins is the edge from which its margins are counted.
+
+How open places of the standard are read
+- 8.3.1: the start of a run is the bottom border edge of the last box before it that isn't collapsed through, also where
+  that edge is inside what the box holds (`max-height`), or the content would have a negative height. A box with
+  clearance sets the start so that it comes to stand at its clear edge: by all margins of its run, or where it is
+  collapsed through by those before its own bottom margin.
+- 8.3.1: that margins with clearance keep off the parent's bottom margin holds where one of the last children in the
+  flow has clearance, and it and all after it are collapsed through. It keeps apart no other margins.
+- 8.3.1: a padding in percent parts margins only where its used value isn't 0.
+- 9.5.1: boxes are next to each other where their vertical ranges share a point. A box to be placed that is less than
+  one unit high is the line of its top, and an earlier float of such a height is next to nothing. The range of a float
+  is that of its margin box, and the range of a solid box that of its border box.
+- 9.5.1, rule 5: a float isn't above its own mark, which is that of an empty block without margins in its place.
+- 9.5.1, rule 7: a left float has "another left float to its left" where the right edge of that one isn't right of its
+  own left edge, so also where the margin box of that one has a negative width.
+- 9.5.2: the hypothetical edge of a solid box is its mark, and not the edge to which floats would move it.
+- 9.5.2: a box also has clearance where a float to clear has its mark in the run of the box's top margin, also a float
+  before the first margin of that run: without clearance the two would move together.
+- 10.1: the root's containing block is the viewport, also for percentages of its height and of the bounds of that. A
+  root that floats right ends at the viewport's right edge.
+- 10.4: the widths that are compared solve the equation as it stands, before they are held within the limit of lengths.
+- 10.5: percentages are of the height after 10.7.
+- 6.2.1 and 8.5.1: on the root `inherit` is the initial value, so `border-top-width: inherit` is `medium`.
+"""
+import json
+import sys
+
+from boxes import Box, boxes_of_context, first_not_built, read_nodes
+from floats import ContainingBlock, bottoms_to_clear, clears, place_float, place_solid
+from margins import MarginRuns, bottom_margin, top_margin
+from sizes import find_sizes, used_height
+from styles import UNITS_PER_PX
+
+
+class Flow:
+    """The places and heights of the boxes of a context (9.4.1), from the top left corner of its own border box.
+
+    The boxes with clearance are given, each with its hypothetical edge. Inner contexts are laid out before.
+    """
+
+    def __init__(self, context_box, hypothetical_edges):
+        self.context_box, self.hypothetical_edges = context_box, hypothetical_edges
+        self.runs = MarginRuns(context_box, hypothetical_edges.keys())
+        self.marks, self.left, self.top, self.height = {}, {}, {}, {}
+        self.bottoms_to_clear = {}              # of the floats before a box
+        self.floats = []                        # margin boxes, in document order
+        self.content_boxes = {}
+        self.start = 0                          # of the run that the next margin is in
+        self.content_height = self.place_all()
+
+    def place_all(self):
+        """Places all boxes; gives the content height of the context, which reaches round its floats (10.6.7)."""
+        content_top = self.open_content_box(self.context_box, 0, 0).top
+        self.start = content_top
+        for child in self.context_box.children:
+            self.place(child)
+        children = self.context_box.children_in_flow()
+        end = self.start + self.runs.whole(bottom_margin(children[-1])) if children else content_top
+        bottom = max([end] + [other.bottom for other in self.floats])
+        return used_height(self.context_box, bottom - content_top)
+
+    def open_content_box(self, box, left, top):
+        """The content box of a box whose border box has this corner."""
+        content_left = left + box.border.left + box.padding.left
+        content_top = top + box.border.top + box.padding.top
+        self.content_boxes[box] = ContainingBlock(content_left, content_top, content_left + box.width)
+        return self.content_boxes[box]
+
+    def mark(self, box):
+        """Where the flow puts the top border edge (8.3.1).
+
+        - A box that isn't collapsed through stands at the end of its top margin's run.
+        - One that is collapsed through stands with its parent where the parent's top margin is in the run,
+        - and else where it would stand if it had a bottom border.
+        """
+        if not self.runs.collapses_through(box):
+            return self.start + self.runs.whole(top_margin(box))
+        parent = box.parent
+        if parent is not self.context_box and self.runs.adjoin(top_margin(parent), top_margin(box)):
+            return self.marks[parent]
+        return self.start + self.runs.before(bottom_margin(box))
+
+    def clear(self, box):
+        """Moves the start so that a box with clearance comes to stand at its clear edge (9.5.2)."""
+        self.bottoms_to_clear[box] = bottoms_to_clear(box.clear, self.floats)
+        if box not in self.hypothetical_edges:
+            return
+        clear_edge = max([self.hypothetical_edges[box]] + self.bottoms_to_clear[box])
+        if self.runs.collapses_through(box):
+            self.start = clear_edge - self.runs.before(bottom_margin(box))
+        else:
+            self.start = clear_edge - self.runs.whole(top_margin(box))
+
+    def place(self, box):
+        """Places a box and all in it that is of this context."""
+        if box.is_floating:
+            self.place_float(box)
+            return
+        self.clear(box)
+        self.marks[box] = self.mark(box)
+        if box.is_context:
+            self.place_solid(box)
+        else:
+            self.place_block(box)
+
+    def place_float(self, box):
+        """A float, which is an empty block in the flow and leaves the start as it is (9.5.1)."""
+        mark = self.mark(box)
+        self.marks[box] = mark
+        height = box.margin.top + box.border_box_height + box.margin.bottom
+        margin_box = place_float(box, height, self.content_boxes[box.parent], mark, self.floats)
+        self.floats.append(margin_box)
+        self.left[box] = margin_box.left + box.margin.left
+        self.top[box] = margin_box.top + box.margin.top
+        self.height[box] = box.border_box_height
+
+    def place_solid(self, box):
+        """A solid box, after which the flow goes on from its bottom border edge (9.5)."""
+        height = box.border_box_height
+        containing_block = self.content_boxes[box.parent]
+        self.left[box], self.top[box] = place_solid(box, height, containing_block, self.marks[box], self.floats)
+        self.height[box] = height
+        self.start = self.top[box] + height
+
+    def place_block(self, box):
+        """A block of this context, with what is in it (9.4.1); its height is known after that (10.6.3)."""
+        self.left[box] = self.content_boxes[box.parent].left + box.margin.left
+        self.top[box] = self.marks[box]
+        content_top = self.open_content_box(box, self.left[box], self.top[box]).top
+        if box.border.top or box.padding.top:
+            self.start = content_top
+        for child in box.children:
+            self.place(child)
+        content_height = used_height(box, self.content_bottom(box) - content_top)
+        self.height[box] = content_top - self.top[box] + content_height + box.padding.bottom + box.border.bottom
+        if not self.runs.collapses_through(box):
+            self.start = self.top[box] + self.height[box]
+
+    def content_bottom(self, box):
+        """Where the content ends for a height of `auto` (10.6.3), which is
+
+        - below the bottom margin of the last child in the flow, if it doesn't collapse with the box's,
+        - else at the bottom border edge of the last one whose top margin doesn't collapse with that,
+        - else at the top.
+        """
+        children = box.children_in_flow()
+        if children and not self.runs.adjoin(bottom_margin(children[-1]), bottom_margin(box)):
+            return self.start + self.runs.whole(bottom_margin(children[-1]))
+        for child in reversed(children):
+            if not self.runs.adjoin(top_margin(child), bottom_margin(box)):
+                return self.top[child] + self.height[child]
+        return self.content_boxes[box].top
+
+
+# -- clearance
+
+def has_clearance(box, hypothetical_edge, hypothetical_flow):
+    """The hypothetical edge isn't past the floats to clear, or one of these has its mark in the run above (9.5.2)."""
+    runs = hypothetical_flow.runs
+    is_past = all(hypothetical_edge >= bottom for bottom in hypothetical_flow.bottoms_to_clear[box])
+    moves_with_float = any(clears(box.clear, other.side)
+                           and runs.stands_before(top_margin(other.box), top_margin(box))
+                           and runs.adjoin(top_margin(other.box), top_margin(box))
+                           for other in hypothetical_flow.floats)
+    return moves_with_float or not is_past
+
+
+def find_clearance(context_box):
+    """The hypothetical edges of the boxes with clearance.
+
+    In the hypothetical flow of a box the boxes before it have the clearance that they have, and it and those after it
+    have none; so they are found in document order.
+    """
+    hypothetical_edges = {}
+    for box in boxes_of_context(context_box):
+        if box.is_floating or box.clear == 'none':
+            continue
+        hypothetical_flow = Flow(context_box, hypothetical_edges)
+        hypothetical_edge = hypothetical_flow.marks[box]
+        if has_clearance(box, hypothetical_edge, hypothetical_flow):
+            hypothetical_edges[box] = hypothetical_edge
+    return hypothetical_edges
+
+
+def lay_out_context(box):
+    """Sets the flow of a context's own box and the height of its border box, inner contexts first."""
+    for inner in boxes_of_context(box):
+        if inner.is_context:
+            lay_out_context(inner)
+    box.flow = Flow(box, find_clearance(box))
+    box.border_box_height = (box.border.top + box.padding.top + box.flow.content_height
+                             + box.padding.bottom + box.border.bottom)
+
+
+# -- the page
+
+def lay_out_page(root_node, viewport):
+    """The root's box with all sizes and flows set, and the corner of its border box; the viewport is in px (10.1)."""
+    width, height = (side * UNITS_PER_PX for side in viewport)
+    root = Box(root_node, None)
+    find_sizes(root, width, height)
+    lay_out_context(root)
+    left = width - root.margin.right - root.border_box_width if root.side == 'right' else root.margin.left
+    return root, left, root.margin.top
+
+
+def border_boxes(box, left, top):
+    """The border boxes of a context whose own one has this corner, its own boxes before those of inner contexts."""
+    yield box.node.id, left, top, box.border_box_width, box.border_box_height
+    flow, inner = box.flow, []
+    for child in boxes_of_context(box):
+        if child.is_context:
+            inner.append(child)
+        else:
+            yield (child.node.id, left + flow.left[child], top + flow.top[child],
+                   child.border_box_width, flow.height[child])
+    for child in inner:
+        yield from border_boxes(child, left + flow.left[child], top + flow.top[child])
+
+
+def report(run):
+    """The text that the program has to print for a run document, and its status."""
+    nodes = read_nodes(run)
+    place = first_not_built(nodes)
+    if place is not None:
+        return 'refused NotBuilt %d\n' % place, 1
+    lines = ['publish 0', 'final 0']
+    if not nodes[0].is_hidden:
+        lines += ['box %d 0 %d %d %d %d' % line for line in border_boxes(*lay_out_page(nodes[0], run['viewport']))]
+    return '\n'.join(lines) + '\n', 0
+
+
+def main():
+    text, status = report(json.loads(sys.stdin.buffer.read()))
+    sys.stdout.write(text)
+    sys.exit(status)
+
+
+if __name__ == '__main__':
+    main()

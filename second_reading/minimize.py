@@ -1,0 +1,114 @@
+"""Smaller documents that still show what a document shows."""
+import copy
+import json
+
+from boxes import first_not_built, read_nodes
+
+PLAIN_WORDS = {'float': 'left', 'clear': 'left', 'overflow': 'hidden', '-style': 'solid'}
+PLAIN_VIEWPORT = [100, 80]
+
+
+def without_node(run, place, keeps_children):
+    """The document without a node and what is in it, or with its children given to its parent."""
+    smaller = copy.deepcopy(run)
+    gone = {smaller['nodes'][place]['id']}
+    parent = smaller['nodes'][place]['parent']
+    kept = []
+    for node in smaller['nodes']:
+        if node['id'] in gone:
+            continue
+        if node['parent'] in gone and not keeps_children:
+            gone.add(node['id'])
+            continue
+        if node['parent'] in gone:
+            node['parent'] = parent
+        kept.append(node)
+    smaller['nodes'] = kept
+    return smaller
+
+
+def with_declaration(run, place, name, text):
+    """The document with another text for a property of a node, or with none."""
+    other = copy.deepcopy(run)
+    style = other['nodes'][place]['style']
+    if text is None:
+        del style[name]
+    else:
+        style[name] = text
+    return other
+
+
+def plainer_texts(name, text):
+    """Plainer values of a property."""
+    if name == 'display':
+        return []
+    for ending, word in PLAIN_WORDS.items():
+        if name.endswith(ending):
+            return [word] if text != word else []
+    if text.startswith('-'):
+        plainer = ['0', '-10px'] if name.startswith('margin') else ['0']
+    else:
+        plainer = ['0'] if text in ('10px', '20px') else ['0', '10px', '20px']
+    return [plain for plain in plainer if text not in (plain, '0')]
+
+
+def with_fewer_nodes(run):
+    """Without a node and all in it, or without a node alone; the last ones first."""
+    for keeps_children in (False, True):
+        for place in range(len(run['nodes']) - 1, 0, -1):
+            yield without_node(run, place, keeps_children)
+
+
+def with_plainer_styles(run):
+    """With a declaration less, or with a plainer value."""
+    declarations = [(place, name, text)
+                    for place, node in enumerate(run['nodes']) for name, text in node['style'].items()]
+    for place, name, text in declarations:
+        if name != 'display':
+            yield with_declaration(run, place, name, None)
+        elif text == 'list-item':
+            yield with_declaration(run, place, name, 'block')
+    for place, name, text in declarations:
+        for plain in plainer_texts(name, text):
+            yield with_declaration(run, place, name, plain)
+
+
+def with_plainer_numbers(run):
+    """With the usual viewport, and with the ids 1, 2, 3 and so on."""
+    if run['viewport'] != PLAIN_VIEWPORT:
+        yield dict(run, viewport=PLAIN_VIEWPORT)
+    ids = [node['id'] for node in run['nodes']]
+    if ids != list(range(1, len(ids) + 1)):
+        new = {0: 0, **{old: place + 1 for place, old in enumerate(ids)}}
+        yield dict(run, nodes=[dict(node, id=new[node['id']], parent=new[node['parent']]) for node in run['nodes']])
+
+
+def smaller_documents(run):
+    """The documents that are one change smaller, the boldest changes first."""
+    yield from with_fewer_nodes(run)
+    yield from with_plainer_styles(run)
+    yield from with_plainer_numbers(run)
+
+
+def is_laid_out(run):
+    """The change has left a document that `blocks` lays out."""
+    try:
+        return first_not_built(read_nodes(run)) is None
+    except (KeyError, ValueError, IndexError, TypeError):
+        return False
+
+
+def minimize(run, shows):
+    """A document none of whose smaller ones `shows` the same."""
+    tried = set()
+    while True:
+        for smaller in smaller_documents(run):
+            text = json.dumps(smaller)
+            if text in tried:
+                continue
+            tried.add(text)
+            if is_laid_out(smaller) and shows(smaller):
+                run = smaller
+                break
+        else:
+            return run

@@ -1,0 +1,110 @@
+"""Used margins, borders, paddings and widths, and heights as they are given (CSS 2.2, 8.3 to 8.5, 10.2 to 10.7).
+
+They depend on the containing block alone, so they are found before any box is placed. None stands for `auto`, and for a
+greatest size of `none`.
+"""
+from collections import namedtuple
+
+from styles import SIDES, resolve, size_within_limit, within_limit
+
+Edges = namedtuple('Edges', SIDES)
+Widths = namedtuple('Widths', 'margin_left margin_right width')
+
+
+def solve_in_flow(containing_width, margin_left, margin_right, width, rest):
+    """The widths of a block in normal flow (10.3.3); the rest is its borders and paddings.
+
+    - With a width of `auto` other values of `auto` are 0, and so is a width that would be negative.
+    - If the widths are over the containing block's, margins of `auto` are 0.
+    - If both margins are `auto`, they are equal; if one is, it follows.
+    - In each case the right margin follows at last.
+    """
+    if width is None:
+        margin_left, margin_right = margin_left or 0, margin_right or 0
+        width = max(0, containing_width - margin_left - rest - margin_right)
+    room = containing_width - rest - width
+    if (margin_left or 0) + (margin_right or 0) > room:
+        margin_left, margin_right = margin_left or 0, margin_right or 0
+    if margin_left is None and margin_right is None:
+        margin_left = room // 2
+    elif margin_left is None:
+        margin_left = room - margin_right
+    return Widths(margin_left, room - margin_left, width)
+
+
+def solve_floating(containing_width, margin_left, margin_right, width, rest):
+    """The widths of a float with a width of its own: margins of `auto` are 0 (10.3.5)."""
+    return Widths(margin_left or 0, margin_right or 0, width)
+
+
+def used_widths(box, containing_width):
+    """The used width and horizontal margins, after the three steps of 10.4, each of which solves the widths anew."""
+    style = box.node.style
+    margin_left, margin_right = (resolve(style[name], containing_width) for name in ('margin-left', 'margin-right'))
+    rest = box.border.left + box.padding.left + box.padding.right + box.border.right
+
+    def with_width(width):
+        solve = solve_floating if box.is_floating else solve_in_flow
+        return solve(containing_width, margin_left, margin_right, width, rest)
+
+    least = size_within_limit(resolve(style['min-width'], containing_width))
+    most = resolve(style['max-width'], containing_width)
+    widths = with_width(resolve(style['width'], containing_width))
+    if most is not None and widths.width > most:
+        widths = with_width(most)
+    if widths.width < least:
+        widths = with_width(least)
+    return widths
+
+
+def height_within(height, least, most):
+    """The three steps of 10.7."""
+    if most is not None and height > most:
+        height = most
+    if height < least:
+        height = least
+    return height
+
+
+def used_height(box, auto_height):
+    """The used content height (10.7), `auto_height` being what 10.6 gives where the height is `auto`."""
+    if box.definite_height is not None:
+        return box.definite_height
+    return size_within_limit(height_within(size_within_limit(auto_height), box.min_height, box.max_height))
+
+
+def find_edges(box, containing_width):
+    """Sets the used borders and paddings; percentages above and below are of the width, too (8.4)."""
+    style = box.node.style
+    box.border = Edges(*(size_within_limit(style['border-%s-width' % side].amount) for side in SIDES))
+    box.padding = Edges(*(size_within_limit(resolve(style['padding-' + side], containing_width)) for side in SIDES))
+
+
+def find_widths(box, containing_width):
+    """Sets the used margins, width and width of the border box; vertical margins of `auto` are 0 (8.3 and 10.6.3)."""
+    widths = used_widths(box, containing_width)
+    top, bottom = (resolve(box.node.style[name], containing_width) for name in ('margin-top', 'margin-bottom'))
+    box.margin = Edges(within_limit(top or 0), within_limit(widths.margin_right),
+                       within_limit(bottom or 0), within_limit(widths.margin_left))
+    box.width = size_within_limit(widths.width)
+    box.border_box_width = box.border.left + box.padding.left + box.width + box.padding.right + box.border.right
+
+
+def find_heights(box, containing_height):
+    """Sets the height as given, its bounds, and the height that the children's percentages are of (10.5 and 10.7)."""
+    style = box.node.style
+    box.given_height = resolve(style['height'], containing_height)
+    box.min_height = resolve(style['min-height'], containing_height) or 0
+    box.max_height = resolve(style['max-height'], containing_height)
+    box.definite_height = None
+    if box.given_height is not None:
+        box.definite_height = size_within_limit(height_within(box.given_height, box.min_height, box.max_height))
+
+
+def find_sizes(box, containing_width, containing_height):
+    """Sets the sizes of a box and of all below it; the containing block's height is None where it isn't definite."""
+    find_edges(box, containing_width)
+    find_widths(box, containing_width)
+    find_heights(box, containing_height)
+    for child in box.children:
+        find_sizes(child, box.width, box.definite_height)

@@ -1,0 +1,210 @@
+"""Layouts worked out by hand from CSS 2.2, in px.
+
+python3 -m unittest discover second_reading
+"""
+import unittest
+
+from blocks import report
+
+FLOAT = 'float: left; width: 50px; height: 10px'
+
+
+def block(ident, declarations='', *children):
+    """A block with its id, what is declared beside `display: block`, and its children."""
+    style = {'display': 'block'}
+    for declaration in filter(None, declarations.split(';')):
+        name, text = declaration.split(':')
+        style[name.strip()] = text.strip()
+    return ident, style, children
+
+
+def nodes_of(tree, parent=0):
+    """The list of nodes of a run document."""
+    ident, style, children = tree
+    yield {'id': ident, 'parent': parent, 'kind': 'element', 'style': style}
+    for child in children:
+        yield from nodes_of(child, ident)
+
+
+class LayoutCase(unittest.TestCase):
+    """Roots in a viewport of 100 by 80; a box is `id x y width height`, in the order of the report."""
+
+    def assert_boxes(self, root, *boxes):
+        """The report of a document with this root has these boxes."""
+        text, status = report({'viewport': [100, 80], 'nodes': list(nodes_of(root))})
+        lines = [line.split() for line in text.splitlines()[2:]]
+        got = [' '.join([line[1]] + ['%g' % (int(number) / 64) for number in line[3:]]) for line in lines]
+        self.assertEqual(list(boxes), got)
+        self.assertEqual(0, status)
+
+
+class Margins(LayoutCase):
+    def test_run_starts_at_the_bottom_of_a_box_with_max_height(self):
+        # 10, where it ends, and 20 for the child's margin
+        self.assert_boxes(
+            block(1, '', block(2, 'max-height: 10px', block(3, 'height: 100px; margin-bottom: 20px')),
+                  block(4, 'height: 5px')),
+            '1 0 0 100 35', '2 0 0 100 10', '3 0 0 100 100', '4 0 30 100 5')
+
+    def test_run_inside_max_height_starts_at_the_child(self):
+        # the last child stands at 100 + max(20, 5)
+        self.assert_boxes(
+            block(1, '', block(2, 'max-height: 10px', block(3, 'height: 100px; margin-bottom: 20px'),
+                               block(5, 'margin-top: 5px')),
+                  block(4, 'height: 5px')),
+            '1 0 0 100 35', '2 0 0 100 10', '3 0 0 100 100', '5 0 120 100 0', '4 0 30 100 5')
+
+    def test_run_starts_at_the_bottom_of_a_height_raised_to_zero(self):
+        self.assert_boxes(
+            block(1, '', block(2, 'padding-top: 1px', block(3, 'height: 10px; margin-top: -50px; margin-bottom: 7px')),
+                  block(4, 'height: 5px')),
+            '1 0 0 100 13', '2 0 0 100 1', '3 0 -49 100 10', '4 0 8 100 5')
+
+    def test_min_height_parts_bottom_margins(self):
+        self.assert_boxes(
+            block(1, '', block(2, 'min-height: 5px', block(3, 'height: 10px; margin-bottom: 20px')),
+                  block(4, 'height: 5px')),
+            '1 0 0 100 35', '2 0 0 100 30', '3 0 0 100 10', '4 0 30 100 5')
+
+    def test_height_zero_is_collapsed_through(self):
+        self.assert_boxes(
+            block(1, '', block(2, 'height: 0; margin-top: 5px; margin-bottom: 8px',
+                               block(3, 'margin-top: 10px; margin-bottom: 20px')),
+                  block(4, 'height: 5px')),
+            '1 0 0 100 25', '2 0 20 100 0', '3 0 20 100 0', '4 0 20 100 5')
+
+    def test_height_zero_with_a_filled_child_is_not_collapsed_through(self):
+        # the child's bottom margin stays inside
+        self.assert_boxes(
+            block(1, '', block(2, 'height: 0; margin-bottom: 8px', block(3, 'height: 10px; margin-bottom: 20px')),
+                  block(4, 'height: 5px')),
+            '1 0 0 100 13', '2 0 0 100 0', '3 0 0 100 10', '4 0 8 100 5')
+
+
+class Clearance(LayoutCase):
+    def test_margins_with_clearance_keep_off_the_parents_bottom_margin(self):
+        # The clear edge is 30, so the run of 20 and 25 starts at 10 and ends at 35, where the parent ends. The next run
+        # has 3 and 4.
+        self.assert_boxes(
+            block(1, '', block(2, 'margin-bottom: 3px', block(3, 'float: left; width: 50px; height: 30px'),
+                               block(4, 'clear: left; margin-top: 20px; margin-bottom: 25px')),
+                  block(6, 'height: 5px; margin-top: 4px')),
+            '1 0 0 100 44', '2 0 0 100 35', '4 0 30 100 0', '6 0 39 100 5', '3 0 0 50 30')
+
+    def test_without_clear_the_same_margins_are_one_run(self):
+        # of 20, 25, 3 and 4, and the float has its mark there
+        self.assert_boxes(
+            block(1, '', block(2, 'margin-bottom: 3px', block(3, 'float: left; width: 50px; height: 30px'),
+                               block(4, 'margin-top: 20px; margin-bottom: 25px')),
+                  block(6, 'height: 5px; margin-top: 4px')),
+            '1 0 0 100 55', '2 0 25 100 0', '4 0 25 100 0', '6 0 25 100 5', '3 0 25 50 30')
+
+    def test_box_at_the_bottom_of_the_float_has_no_clearance(self):
+        # so its top margin collapses with its child's
+        self.assert_boxes(
+            block(1, '', block(2, 'height: 5px', block(3, FLOAT)),
+                  block(5, 'clear: left; margin-top: 5px', block(6, 'margin-top: 5px; height: 1px'))),
+            '1 0 0 100 11', '2 0 0 100 5', '5 0 10 100 1', '6 0 10 100 1', '3 0 0 50 10')
+
+    def test_box_above_the_bottom_of_the_float_has_clearance(self):
+        self.assert_boxes(
+            block(1, '', block(2, 'height: 5px', block(3, FLOAT)),
+                  block(5, 'clear: left; margin-top: 4px', block(6, 'margin-top: 2px; height: 1px'))),
+            '1 0 0 100 11', '2 0 0 100 5', '5 0 10 100 1', '6 0 10 100 1', '3 0 0 50 10')
+
+    def test_hypothetical_edge_takes_later_margins(self):
+        # 5 + max(4, 8) is past the float
+        self.assert_boxes(
+            block(1, '', block(2, 'height: 5px', block(3, FLOAT)),
+                  block(5, 'clear: left; margin-top: 4px', block(6, 'margin-top: 8px; height: 1px'))),
+            '1 0 0 100 14', '2 0 0 100 5', '5 0 13 100 1', '6 0 13 100 1', '3 0 0 50 10')
+
+    def test_boxes_with_clear_in_each_other_pass_the_float_by_their_margins(self):
+        # neither has clearance in the outer one's hypothetical layout, and the float isn't in their run
+        self.assert_boxes(
+            block(1, '', block(2, 'height: 5px', block(3, FLOAT)),
+                  block(5, 'clear: left; margin-top: 4px', block(6, 'clear: left; margin-top: 8px; height: 1px'))),
+            '1 0 0 100 14', '2 0 0 100 5', '5 0 13 100 1', '6 0 13 100 1', '3 0 0 50 10')
+
+
+class Floats(LayoutCase):
+    def test_float_moves_below_a_float_to_its_left_when_it_does_not_fit(self):
+        self.assert_boxes(
+            block(1, '', block(2, 'float: left; width: 60px; height: 10px'),
+                  block(3, 'float: left; width: 150px; height: 5px')),
+            '1 0 0 100 15', '2 0 0 60 10', '3 0 10 150 5')
+
+    def test_wide_float_stays_when_it_is_alone(self):
+        self.assert_boxes(
+            block(1, '', block(3, 'float: left; width: 150px; height: 5px')),
+            '1 0 0 100 5', '3 0 0 150 5')
+
+    def test_left_float_moves_below_a_right_float(self):
+        self.assert_boxes(
+            block(1, '', block(2, 'float: right; width: 50px; height: 10px'),
+                  block(3, 'float: left; width: 60px; height: 5px')),
+            '1 0 0 100 15', '2 50 0 50 10', '3 0 10 60 5')
+
+    def test_float_is_not_above_an_earlier_one(self):
+        self.assert_boxes(
+            block(1, '', block(2, 'float: left; width: 60px; height: 10px'),
+                  block(3, 'float: left; width: 60px; height: 5px'),
+                  block(4, 'float: right; width: 20px; height: 5px')),
+            '1 0 0 100 15', '2 0 0 60 10', '3 0 10 60 5', '4 80 10 20 5')
+
+    def test_float_is_not_above_its_containing_block(self):
+        # its mark is 10 - 30
+        self.assert_boxes(
+            block(1, '', block(2, 'height: 10px; margin-bottom: -30px'), block(3, FLOAT)),
+            '1 0 0 100 10', '2 0 0 100 10', '3 0 0 50 10')
+
+
+class SolidBoxes(LayoutCase):
+    def test_left_edge_is_at_the_margin_or_at_the_float(self):
+        self.assert_boxes(
+            block(1, '', block(2, FLOAT), block(3, 'overflow: hidden; width: 30px; height: 4px; margin-left: 20px')),
+            '1 0 0 100 10', '2 0 0 50 10', '3 50 0 30 4')
+
+    def test_too_wide_box_stands_where_no_float_is_beside_it(self):
+        self.assert_boxes(
+            block(1, '', block(2, FLOAT), block(3, 'overflow: hidden; width: 130px; height: 4px')),
+            '1 0 0 100 14', '2 0 0 50 10', '3 0 10 130 4')
+
+    def test_margins_collapse_outside_and_not_inside(self):
+        self.assert_boxes(
+            block(1, '', block(2, 'height: 5px; margin-bottom: 10px'),
+                  block(3, 'overflow: hidden; margin-top: 20px; margin-bottom: 6px',
+                        block(5, 'margin-top: 3px; height: 2px; margin-bottom: 4px')),
+                  block(4, 'margin-top: 5px; height: 1px')),
+            '1 0 0 100 41', '2 0 0 100 5', '4 0 40 100 1', '3 0 25 100 9', '5 0 28 100 2')
+
+
+class Sizes(LayoutCase):
+    def test_context_reaches_round_its_floats_and_its_last_margin(self):
+        self.assert_boxes(
+            block(1, '', block(2, 'float: left; width: 50px',
+                               block(3, 'float: left; width: 10px; height: 7px; margin-bottom: 3px'),
+                               block(4, 'height: 2px; margin-bottom: 4px')),
+                  block(5, 'overflow: hidden', block(6, 'margin-top: 4px'))),
+            '1 0 0 100 14', '2 0 0 50 10', '4 0 0 50 2', '3 0 0 10 7', '5 0 10 100 4', '6 0 14 100 0')
+
+    def test_percentage_of_a_height_is_of_the_bounded_height(self):
+        self.assert_boxes(
+            block(1, '', block(2, 'height: 40px; max-height: 30px', block(3, 'height: 50%', block(4, 'height: 200%')))),
+            '1 0 0 100 30', '2 0 0 100 30', '3 0 0 100 15', '4 0 0 100 30')
+
+    def test_percentage_of_a_height_of_auto_is_auto(self):
+        self.assert_boxes(
+            block(1, '', block(2, '', block(3, 'height: 50%; min-height: 50%; max-height: 1%',
+                                            block(4, 'height: 7px')))),
+            '1 0 0 100 7', '2 0 0 100 7', '3 0 0 100 7', '4 0 0 100 7')
+
+    def test_percentages_on_the_root_are_of_the_viewport(self):
+        self.assert_boxes(
+            block(1, 'height: 50%; margin-top: 3px; margin-left: 4px; width: 50%',
+                  block(2, 'margin-top: 5px; height: 100%')),
+            '1 4 3 50 40', '2 4 8 50 40')
+
+
+if __name__ == '__main__':
+    unittest.main()

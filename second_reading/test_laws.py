@@ -1,0 +1,56 @@
+"""What holds of every layout, tried on random documents."""
+import unittest
+
+from blocks import lay_out_page
+from boxes import boxes_of_context, read_nodes
+from documents import document
+from margins import top_margin
+
+SEED, DOCUMENTS = 99, 400
+
+
+def contexts(box):
+    """The own boxes of a context and of all in it."""
+    yield box
+    for child in boxes_of_context(box):
+        if child.is_context:
+            yield from contexts(child)
+
+
+class Laws(unittest.TestCase):
+    @classmethod
+    def setUpClass(cls):
+        runs = [document(SEED, number) for number in range(DOCUMENTS)]
+        roots = [(read_nodes(run)[0], run['viewport']) for run in runs]
+        pages = [lay_out_page(root, viewport)[0] for root, viewport in roots if not root.is_hidden]
+        cls.flows = [box.flow for root in pages for box in contexts(root)]
+
+    def test_run_is_a_stretch_of_the_sequence_of_margins(self):
+        for flow in self.flows:
+            runs = [flow.runs.run(margin) for margin in flow.runs.margins]
+            beginnings = [run for place, run in enumerate(runs) if place == 0 or runs[place - 1] != run]
+            self.assertEqual(len(set(beginnings)), len(beginnings))
+
+    def test_box_with_clearance_stands_at_its_clear_edge(self):
+        for flow in self.flows:
+            for box, hypothetical_edge in flow.hypothetical_edges.items():
+                self.assertEqual(max([hypothetical_edge] + flow.bottoms_to_clear[box]), flow.marks[box])
+
+    def test_box_that_is_collapsed_through_has_no_height(self):
+        for flow in self.flows:
+            for box in boxes_of_context(flow.context_box):
+                if flow.runs.collapses_through(box) and not box.is_floating:
+                    self.assertEqual(0, flow.height[box])
+
+    def test_top_margins_that_collapse_bring_boxes_to_one_top(self):
+        for flow in self.flows:
+            for box in boxes_of_context(flow.context_box):
+                parent = box.parent
+                if parent is flow.context_box or any(map(flow.runs.collapses_through, (parent, box))):
+                    continue
+                if flow.runs.adjoin(top_margin(parent), top_margin(box)):
+                    self.assertEqual(flow.marks[parent], flow.marks[box])
+
+
+if __name__ == '__main__':
+    unittest.main()
