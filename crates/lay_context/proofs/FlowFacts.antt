@@ -13,15 +13,14 @@ use Rattle.lay_floats.specs.declared.requests.Side.{Side}
 use Rattle.lay_floats.specs.Within.{IsWithin}
 use Rattle.lay_flow.specs.declared.block.Block.{Block}
 use Rattle.lay_flow.specs.declared.shape.Shape.{Shape}
-use Rattle.lay_flow.specs.BlockSizes.{AreBlocks, BlockFits}
+use Rattle.lay_flow.specs.BlockSizes.{AreBlocks, BlockFits, IsBoxHeight}
 use Rattle.lay_flow.specs.BlockFloats.{AreShapes, no_shape}
 use Rattle.lay_flow.specs.BlockPositions.{is_solid}
 use Rattle.lay_flow.specs.ContextFlow.{AreContextPlaces}
-use Rattle.lay_flow.specs.CornersTo.{IsBoxHeight}
 use Rattle.lay_flow.specs.MarginRuns.{block_at, no_block}
 use Rattle.lay_flow.specs.PassBounds.{AreBoxHeights}
 use Rattle.lay_flow.specs.PlacesTo.{ShapeFits, HaveShapeSizes}
-use Rattle.lay_flow.specs.StackedBlocks.{length_at}
+use Rattle.lay_flow.specs.Lengths.{length_at}
 use Rattle.lay_context.specs.declared.box_sizes.BoxSizes.{BoxSizes}
 use Rattle.lay_context.specs.BoxSizes.{border_width, margin_width}
 use Rattle.lay_context.specs.ContextSizes.{sizes_at}

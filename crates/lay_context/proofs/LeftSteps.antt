@@ -8,7 +8,7 @@ use Rattle.lay_doc.specs.Tree.{IsTree}
 use Rattle.lay_boxgen.specs.declared.box_tree.BoxNode.{BoxNode}
 use Rattle.lay_boxgen.specs.BoxColumns.{box_parents}
 use Rattle.lay_floats.specs.Within.{IsWithin}
-use Rattle.lay_flow.specs.StackedBlocks.{length_at}
+use Rattle.lay_flow.specs.Lengths.{length_at}
 use Rattle.lay_context.specs.declared.box_sizes.BoxSizes.{BoxSizes}
 use Rattle.lay_context.specs.ContextSizes.{sizes_at}
 use Rattle.lay_context.specs.SizeBounds.{SizeFits, HaveSizeBounds}

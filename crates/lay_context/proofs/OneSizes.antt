@@ -16,10 +16,11 @@ use Rattle.lay_boxgen.specs.declared.facts.Flow.TheVariants.{InFlow, Floating, A
 use Rattle.lay_boxgen.specs.Display.{flow_of}
 use Rattle.lay_boxgen.specs.declared.box_tree.BoxNode.{BoxNode}
 use Rattle.lay_boxgen.specs.BoxColumns.{box_parents, box_styles}
+use Rattle.lay_flow.specs.Lengths.{no_length}
 use Rattle.lay_context.specs.declared.box_sizes.BoxSizes.{BoxSizes}
 use Rattle.lay_context.specs.declared.box_sizes.ContainingBlock.{ContainingBlock}
 use Rattle.lay_context.specs.declared.context_spot.ContextSpot.{ContextSpot}
-use Rattle.lay_context.specs.UsedLengths.{no_length, block_of}
+use Rattle.lay_context.specs.UsedLengths.{block_of}
 use Rattle.lay_context.specs.BoxSizes.{IsSized, IsUsedWidth, content_block}
 use Rattle.lay_context.specs.ContextSizes.{HasSizes, containing_block, no_sizes, sizes_at}
 use Rattle.lay_context.specs.ContextList.{spot_at, boxes_in}

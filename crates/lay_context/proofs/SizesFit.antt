@@ -20,7 +20,7 @@ use Rattle.lay_boxgen.specs.declared.facts.Flow.TheVariants.{InFlow, Floating, A
 use Rattle.lay_boxgen.specs.Display.{flow_of}
 use Rattle.lay_boxgen.specs.declared.box_tree.BoxNode.{BoxNode}
 use Rattle.lay_boxgen.specs.BoxColumns.{box_parents, box_styles}
-use Rattle.lay_flow.specs.CornersTo.{IsInset}
+use Rattle.lay_flow.specs.BlockSizes.{IsInset}
 use Rattle.lay_flow.specs.BlockPositions.{given_or_auto}
 use Rattle.lay_context.specs.declared.box_sizes.BoxSizes.{BoxSizes}
 use Rattle.lay_context.specs.declared.box_sizes.ContainingBlock.{ContainingBlock}

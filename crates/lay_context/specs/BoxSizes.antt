@@ -10,9 +10,10 @@ use Rattle.lay_widths.specs.FloatWidths.{IsUsedFloat}
 use Rattle.lay_boxgen.specs.declared.facts.Flow.{Flow}
 use Rattle.lay_boxgen.specs.declared.facts.Flow.TheVariants.{InFlow, Floating, Absolute}
 use Rattle.lay_boxgen.specs.Display.{flow_of}
+use Rattle.lay_flow.specs.Lengths.{no_length}
 use Rattle.lay_context.specs.declared.box_sizes.BoxSizes.{BoxSizes}
 use Rattle.lay_context.specs.declared.box_sizes.ContainingBlock.{ContainingBlock}
-use Rattle.lay_context.specs.UsedLengths.{no_length, block_of, edges_of, used_vertical_margin, used_height, used_min_height, used_max_height, definite_height}
+use Rattle.lay_context.specs.UsedLengths.{block_of, edges_of, used_vertical_margin, used_height, used_min_height, used_max_height, definite_height}
 
 -- The used margins and width. Of a float whose width is auto the content's preferred widths aren't known yet, and count
 -- as 0.

@@ -21,12 +21,11 @@ use Rattle.lay_floats.specs.declared.requests.Clear.TheVariants as sides
 use Rattle.lay_flow.specs.declared.block.Block.{Block}
 use Rattle.lay_flow.specs.declared.block.Inside.TheVariants.{Blocks as blocks_inside, Solid as solid_inside}
 use Rattle.lay_flow.specs.declared.shape.Shape.{Shape}
-use Rattle.lay_flow.specs.StackedBlocks.{length_at}
+use Rattle.lay_flow.specs.Lengths.{length_at, no_length}
 use Rattle.lay_flow.specs.Children.{flag_at}
 use Rattle.lay_flow.specs.MarginRuns.{no_block, block_at}
 use Rattle.lay_flow.specs.BlockFloats.{no_shape, shape_at}
 use Rattle.lay_context.specs.declared.box_sizes.BoxSizes.{BoxSizes}
-use Rattle.lay_context.specs.UsedLengths.{no_length}
 use Rattle.lay_context.specs.BoxSizes.{border_width, margin_width}
 use Rattle.lay_context.specs.ContextSizes.{sizes_at}
 

@@ -7,9 +7,9 @@ use Rattle.lay_widths.specs.declared.widths.BlockOut.{BlockOut}
 use Rattle.lay_doc.specs.ComputedStyle.{style_at}
 use Rattle.lay_boxgen.specs.declared.box_tree.BoxNode.{BoxNode}
 use Rattle.lay_boxgen.specs.BoxColumns.{box_parents, box_styles}
+use Rattle.lay_flow.specs.Lengths.{no_length}
 use Rattle.lay_context.specs.declared.box_sizes.BoxSizes.{BoxSizes}
 use Rattle.lay_context.specs.declared.box_sizes.ContainingBlock.{ContainingBlock}
-use Rattle.lay_context.specs.UsedLengths.{no_length}
 use Rattle.lay_context.specs.BoxSizes.{IsSized, content_block}
 
 abbrev pub no_widths : BlockOut

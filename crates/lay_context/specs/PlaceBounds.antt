@@ -5,8 +5,8 @@ use Rattle.lay_units.specs.declared.records.Rect.{Rect}
 use Rattle.lay_boxgen.specs.declared.box_tree.BoxNode.{BoxNode}
 use Rattle.lay_frag.specs.declared.frag.Frag.{Frag}
 use Rattle.lay_floats.specs.Within.{IsWithin}
-use Rattle.lay_flow.specs.CornersTo.{IsBoxHeight}
-use Rattle.lay_flow.specs.StackedBlocks.{length_at}
+use Rattle.lay_flow.specs.BlockSizes.{IsBoxHeight}
+use Rattle.lay_flow.specs.Lengths.{length_at}
 use Rattle.lay_context.specs.declared.box_sizes.BoxSizes.{BoxSizes}
 use Rattle.lay_context.specs.declared.corner.Corner.{Corner}
 use Rattle.lay_context.specs.ContextList.{boxes_in}

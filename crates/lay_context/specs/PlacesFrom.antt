@@ -3,12 +3,11 @@
 use Rattle.std.specs.Prelude.{ℕ, ◌≡◌, ◌+◌, ◌<◌, List, [], ◌∷◌, length, map, drop, replicate, slice_index_or, slice_set}
 use Rattle.lay_units.specs.declared.length.Unit.{Unit as Length}
 use Rattle.lay_boxgen.specs.declared.box_tree.BoxNode.{BoxNode}
-use Rattle.lay_flow.specs.CornersTo.{IsBoxHeight}
-use Rattle.lay_flow.specs.StackedBlocks.{length_at}
+use Rattle.lay_flow.specs.BlockSizes.{IsBoxHeight}
+use Rattle.lay_flow.specs.Lengths.{length_at, no_length}
 use Rattle.lay_context.specs.declared.box_sizes.BoxSizes.{BoxSizes}
 use Rattle.lay_context.specs.declared.context_places.BoxPlaces.{BoxPlaces}
 use Rattle.lay_context.specs.declared.context_spot.ContextSpot.{ContextSpot}
-use Rattle.lay_context.specs.UsedLengths.{no_length}
 use Rattle.lay_context.specs.ContextList.{boxes_in}
 use Rattle.lay_context.specs.ContextPlaces.{ContextPlaces, HasPlaces, columns_of}
 use Rattle.lay_context.specs.DocumentLayout.{height_inside, own_heights, places_in, sizes_in}

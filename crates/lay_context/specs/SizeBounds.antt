@@ -2,7 +2,7 @@
 -- minimum are from 0 to 2^31 units, and a border and a padding together are from 0 to 2^32.
 use Rattle.std.specs.Prelude.{ℕ, ◌<◌, pos, List, length}
 use Rattle.lay_units.specs.Units.{IsUsed, IsUsedSize}
-use Rattle.lay_flow.specs.CornersTo.{IsInset}
+use Rattle.lay_flow.specs.BlockSizes.{IsInset}
 use Rattle.lay_flow.specs.BlockPositions.{given_or_auto}
 use Rattle.lay_context.specs.declared.box_sizes.BoxSizes.{BoxSizes}
 use Rattle.lay_context.specs.ContextSizes.{sizes_at}

@@ -4,7 +4,7 @@ ghost use Rattle.std.specs.Prelude.{◌≡◌, ◌+ℤ◌, ◌<◌, length, slic
 ghost use Rattle.lay_units.specs.Units.{IsPosition};
 ghost use Rattle.lay_doc.specs.ComputedStyle.{style_at};
 ghost use Rattle.lay_boxgen.specs.BoxColumns.{box_parents, box_styles};
-ghost use Rattle.lay_flow.specs.StackedBlocks.{length_at};
+ghost use Rattle.lay_flow.specs.Lengths.{length_at};
 ghost use Rattle.lay_context.specs.BoxSizes.{border_width, margin_width};
 ghost use Rattle.lay_context.specs.SizeBounds.{SizeFits};
 ghost use Rattle.lay_context.specs.ContextSizes.{sizes_at};

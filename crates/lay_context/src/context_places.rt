@@ -1,8 +1,8 @@
 //! Where the boxes of one context stand.
 
 ghost use Rattle.std.specs.Prelude.{◌≡◌, length, IfOk};
-ghost use Rattle.lay_flow.specs.CornersTo.{IsBoxHeight};
-ghost use Rattle.lay_flow.specs.StackedBlocks.{length_at};
+ghost use Rattle.lay_flow.specs.BlockSizes.{IsBoxHeight};
+ghost use Rattle.lay_flow.specs.Lengths.{length_at};
 ghost use Rattle.lay_context.specs.SizeBounds.{HaveSizeBounds};
 ghost use Rattle.lay_context.specs.ContextOrder.{AreContextBoxes};
 ghost use Rattle.lay_context.specs.ContextPlaces.{columns_of, HasPlaces};

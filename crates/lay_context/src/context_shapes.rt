@@ -4,7 +4,7 @@ ghost use Rattle.std.specs.Prelude.{◌≡◌, ◌<◌, ◌≤◌, ◌+ℤ◌, p
 ghost use Rattle.lay_units.specs.Units.{IsPosition};
 ghost use Rattle.lay_doc.specs.Tree.{IsTree};
 ghost use Rattle.lay_boxgen.specs.BoxColumns.{box_parents};
-ghost use Rattle.lay_flow.specs.CornersTo.{IsBoxHeight};
+ghost use Rattle.lay_flow.specs.BlockSizes.{IsBoxHeight};
 ghost use Rattle.lay_context.specs.SizeBounds.{SizeFits, HaveSizeBounds};
 ghost use Rattle.lay_context.specs.BoxSizes.{border_width, margin_width};
 ghost use Rattle.lay_context.specs.ContextBlocks.{side_of, cleared_sides, shape_beside, shape_of_box, AreShapesOf};

@@ -1,7 +1,7 @@
 //! Where the boxes of a document's contexts stand, from inner to outer contexts.
 
 ghost use Rattle.std.specs.Prelude.{ℕ, ◌≡◌, ◌∷◌, ◌++◌, ◌<◌, [], IfOk, OnOk, length, reverse};
-ghost use Rattle.lay_flow.specs.StackedBlocks.{length_at};
+ghost use Rattle.lay_flow.specs.Lengths.{length_at};
 ghost use Rattle.lay_context.specs.declared.box_sizes.ContainingBlock.{ContainingBlock};
 ghost use Rattle.lay_context.specs.ContextList.{boxes_in, boxes_of_trees, spot_at};
 ghost use Rattle.lay_context.specs.ContextOrder.{AreInOrder};

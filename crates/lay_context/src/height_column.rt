@@ -1,7 +1,7 @@
 //! Columns of heights of inner contexts, one for each context.
 
 ghost use Rattle.std.specs.Prelude.{◌≡◌, ◌<◌, IfOk, length, replicate, slice_set};
-ghost use Rattle.lay_context.specs.UsedLengths.{no_length};
+ghost use Rattle.lay_flow.specs.Lengths.{no_length};
 
 use lay_units::{NoMemory, Unit};
 use std::alloc::Global;

@@ -1,9 +1,8 @@
 -- A layout of the blocks of one block formatting context: its runs of margins, and its positions and heights. Where
 -- the boxes with clearance and their clear edges are given, it has one, and no other (Laws).
-use Rattle.std.specs.Prelude.{ℕ, ◌≡◌, false, List}
+use Rattle.std.specs.Prelude.{ℕ, List}
 use Rattle.lay_units.specs.declared.length.Unit.{Unit as Length}
 use Rattle.lay_flow.specs.declared.block.Block.{Block}
-use Rattle.lay_flow.specs.Children.{flag_at}
 use Rattle.lay_flow.specs.MarginRuns.{Runs, HasRuns}
 use Rattle.lay_flow.specs.BlockPositions.{Positions, HasPositions}
 
@@ -14,6 +13,3 @@ pub record BlockLayout : Type 0 where
 pub record IsBlockLayout (parents : List ℕ) (blocks : List Block) (extents clear_edges : List Length) (y : BlockLayout) : Type 0 where
   pub has_runs : HasRuns parents blocks y.runs
   pub has_positions : HasPositions parents blocks y.runs extents clear_edges y.places
-
-abbrev pub HasNoClearance : BlockLayout → Type 0
-HasNoClearance y = (k : ℕ) → flag_at y.runs.clears k ≡ false
