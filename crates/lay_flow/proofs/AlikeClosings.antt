@@ -10,7 +10,7 @@ use Rattle.lay_flow.specs.Children.{flag_at, last_child}
 use Rattle.lay_flow.specs.MarginRuns.{margins, has_top, is_barred, block_at, run_at, run_before, joins_bottom, may_join_bottoms, may_collapse_through}
 use Rattle.lay_flow.specs.BlockPositions.{start_before, start_below, content_bottom, content_height, border_height}
 use Rattle.lay_flow.specs.BlockLayout.{BlockLayout, IsBlockLayout}
-use Rattle.lay_flow.specs.Gathered.{Gathered, Holds as Contains}
+use Rattle.lay_flow.specs.Gathered.{Gathered, IsAround}
 use Rattle.lay_flow.specs.MarginPlace.{IsPlace}
 use Rattle.lay_flow.proofs.Truths.{true_false, true_or, low_yes, low_not}
 use Rattle.lay_flow.proofs.RunsAgree.{Same, Closed, last_there, inside_up}
@@ -141,7 +141,7 @@ module _ (parents : List ℕ) (tree : IsTree parents) (blocks : List Block) (ext
       (inl (start_standing y stands ∙ (λ i. mark i +ℤ height i) ∙ sym (start_standing z (sym closed_runs.pass ∙ stands))))
 
   -- its bottom margin begins a run
-  ended_here : joins_bottom parents blocks y.runs p ≡ false → (c : ℕ) → first ≤ c → c ≤ p → Contains parents c m → EndsIn parents tree blocks extents clear_edges y is others other_edges z also first p m at was (run_before parents blocks y.runs p m) c
+  ended_here : joins_bottom parents blocks y.runs p ≡ false → (c : ℕ) → first ≤ c → c ≤ p → IsAround parents c m → EndsIn parents tree blocks extents clear_edges y is others other_edges z also first p m at was (run_before parents blocks y.runs p m) c
   ended_here parted c from above inside =
       let least = was.gathered.least in
       let also_parted : joins_bottom parents blocks z.runs p ≡ false = sym joins_same ∙ parted in
@@ -160,13 +160,13 @@ module _ (parents : List ℕ) (tree : IsTree parents) (blocks : List Block) (ext
           left_false true b e = e
           left_false false b e = refl
 
-      through_too : (r : BlockLayout) → IsBlockLayout parents blocks extents clear_edges r → (c : ℕ) → 0 < c → c ≤ p → Contains parents c m → flag_at r.runs.through c ≡ true → flag_at r.runs.through p ≡ true
+      through_too : (r : BlockLayout) → IsBlockLayout parents blocks extents clear_edges r → (c : ℕ) → 0 < c → c ≤ p → IsAround parents c m → flag_at r.runs.through c ≡ true → flag_at r.runs.through p ≡ true
       through_too r has c there above inside t = elim (cases_eq c p) [
         | inl e ↦ ap (flag_at r.runs.through) (sym e) ∙ t
         | inr ne ↦ (through_inside parents tree blocks r.runs has.has_runs c p there (omega (arith, ne, above)) inner (λ i a b. inside i a (let q = lt in omega (arith, b, q))) t).through
       ]
 
-      also_through_too : (c : ℕ) → 0 < c → c ≤ p → Contains parents c m → flag_at z.runs.through c ≡ true → flag_at z.runs.through p ≡ true
+      also_through_too : (c : ℕ) → 0 < c → c ≤ p → IsAround parents c m → flag_at z.runs.through c ≡ true → flag_at z.runs.through p ≡ true
       also_through_too c there above inside t = elim (cases_eq c p) [
         | inl e ↦ ap (flag_at z.runs.through) (sym e) ∙ t
         | inr ne ↦ (through_inside parents tree blocks z.runs also.has_runs c p there (omega (arith, ne, above)) inner (λ i a b. inside i a (let q = lt in omega (arith, b, q))) t).through

@@ -10,7 +10,7 @@ use Rattle.lay_flow.specs.Children.{flag_at}
 use Rattle.lay_flow.specs.MarginRuns.{Entry, margin, mark, margins, block_at, run_at, parts_tops, to_top, run_before}
 use Rattle.lay_flow.specs.BlockPositions.{start_before}
 use Rattle.lay_flow.specs.BlockLayout.{BlockLayout, IsBlockLayout}
-use Rattle.lay_flow.specs.Gathered.{Gathered, Holds as Contains}
+use Rattle.lay_flow.specs.Gathered.{Gathered, IsAround}
 use Rattle.lay_flow.specs.MarginPlace.{IsPlace}
 use Rattle.lay_flow.proofs.Truths.{true_false, true_or}
 use Rattle.lay_flow.proofs.RunFacts.{goes_in, ends_above, lead_goes_on, top_run_is, parting_stands}
@@ -48,7 +48,7 @@ module _ (parents : List ℕ) (tree : IsTree parents) (blocks : List Block) (ext
     gathered_z : Gathered parents blocks z.runs first (slice_index parents k) k
     gathered_z = also_gathered parents tree blocks extents clear_edges y is others other_edges z also first (slice_index parents k) k at was
 
-    wider : (c : ℕ) → c ≤ slice_index parents k → Contains parents c k → Contains parents c (k + 1)
+    wider : (c : ℕ) → c ≤ slice_index parents k → IsAround parents c k → IsAround parents c (k + 1)
     wider c above inside i low high = elim (cases_lt i k) [
       | inl before ↦ inside i low before
       | inr here ↦ (let e : i ≡ k = omega (arith, here, high) in rw e above)
@@ -58,7 +58,7 @@ module _ (parents : List ℕ) (tree : IsTree parents) (blocks : List Block) (ext
     EndsBeforeTop = EndsIn parents tree blocks extents clear_edges y is others other_edges z also first (slice_index parents k) k at was
 
     -- clearance of the box at k ends the run
-    pub ended_by_clearance : flag_at y.runs.clears k ≡ true → flag_at z.runs.clears k ≡ true → (c : ℕ) → first ≤ c → c ≤ slice_index parents k → Contains parents c k → EndsBeforeTop run_up c
+    pub ended_by_clearance : flag_at y.runs.clears k ≡ true → flag_at z.runs.clears k ≡ true → (c : ℕ) → first ≤ c → c ≤ slice_index parents k → IsAround parents c k → EndsBeforeTop run_up c
     ended_by_clearance cleared also_cleared c from above inside =
         let lt = at.parent in
         let least = was.gathered.least in
@@ -117,7 +117,7 @@ module _ (parents : List ℕ) (tree : IsTree parents) (blocks : List Block) (ext
           (inr (record { clears = cleared; above = omega arith; contains = λ i low high. absurd (omega (arith, low, high)) }))
 
       -- a border or a padding of the box ends the run below its top margin
-      ended_by_edge : parts_tops blocks k ≡ true → flag_at y.runs.clears k ≡ false → (c : ℕ) → first ≤ c → c ≤ slice_index parents k → Contains parents c k → EndsBeforeTop (to_top blocks y.runs k) c
+      ended_by_edge : parts_tops blocks k ≡ true → flag_at y.runs.clears k ≡ false → (c : ℕ) → first ≤ c → c ≤ slice_index parents k → IsAround parents c k → EndsBeforeTop (to_top blocks y.runs k) c
       ended_by_edge parts unclear c from above inside =
           let lt = at.parent in
           let least = was.gathered.least in

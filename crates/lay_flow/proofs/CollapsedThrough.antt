@@ -10,7 +10,7 @@ use Rattle.lay_flow.specs.MarginRuns.{Runs, HasRuns, block_at, parts_tops, joins
 use Rattle.lay_flow.specs.BlockPositions.{Positions, HasPositions, start_before}
 use Rattle.lay_flow.specs.MarginPlace.{IsPlace}
 use Rattle.lay_flow.proofs.MarginWalk.{walk_to}
-use Rattle.lay_flow.specs.Gathered.{Holds, Gathered}
+use Rattle.lay_flow.specs.Gathered.{IsAround, Gathered}
 use Rattle.lay_flow.proofs.Truths.{not_low}
 use Rattle.lay_flow.proofs.LayoutFacts.{start_flows}
 use Rattle.lay_flow.proofs.GatheredRuns.{gathers, one_first, childless, open_plain, open_cleared, open_parting, close_joined, close_parted, joined_through, last_up, passes_here, begins}
@@ -19,14 +19,14 @@ use Rattle.lay_flow.proofs.GatheredRuns.{gathers, one_first, childless, open_pla
 pub record EndsBefore (parents : List ℕ) (d m : ℕ) : Type 0 where
   pub parent : d < m
   pub within : m ≤ length parents
-  pub inside : Holds parents d m
+  pub inside : IsAround parents d m
   pub ends : m < length parents → slice_index parents m < d
 
 pub record SomeEnd (parents : List ℕ) (d : ℕ) : Type 0 where
   pub end : ℕ
   pub ends : EndsBefore parents d end
 
-end_from : (parents : List ℕ) (d m fuel : ℕ) → m + fuel ≡ length parents → d < m → Holds parents d m → SomeEnd parents d
+end_from : (parents : List ℕ) (d m fuel : ℕ) → m + fuel ≡ length parents → d < m → IsAround parents d m → SomeEnd parents d
 end_from parents d m zero e lt inside = record { end = m; ends = record { parent = lt; within = omega (arith, e); inside = inside; ends = λ w. absurd (omega (arith, e, w)) } }
 end_from parents d m (suc fuel) e lt inside = elim (cases_lt (slice_index parents m) d) [
   | inl low ↦ record { end = m; ends = record { parent = lt; within = omega (arith, e); inside = inside; ends = λ w. low } }
@@ -52,7 +52,7 @@ pub record Passes (blocks : List Block) (r : Runs) (k : ℕ) : Type 0 where
   pub unparted : parts_tops blocks k ≡ false
 
 module _ (parents : List ℕ) (tree : IsTree parents) (blocks : List Block) (r : Runs) (is : HasRuns parents blocks r) where
-  pub through_inside : (d k : ℕ) → 0 < d → d < k → k < length parents → Holds parents d (k + 1) → flag_at r.through d ≡ true → Passes blocks r k
+  pub through_inside : (d k : ℕ) → 0 < d → d < k → k < length parents → IsAround parents d (k + 1) → flag_at r.through d ≡ true → Passes blocks r k
   through_inside d k positive lt within inside through =
       let end = end_of parents d (omega (arith, lt, within)) in
       let e = end.ends in
@@ -76,7 +76,7 @@ module _ (parents : List ℕ) (tree : IsTree parents) (blocks : List Block) (r :
     record Started (p m : ℕ) : Type 0 where
       pub first : ℕ
       pub is_gathered : Gathered parents blocks r first p m
-      pub starts : (d j : ℕ) → first ≤ d → d ≤ p → Holds parents d m → d ≤ j → j < m → length_at s.starts j ≡ start_before parents blocks r s p m
+      pub starts : (d j : ℕ) → first ≤ d → d ≤ p → IsAround parents d m → d ≤ j → j < m → length_at s.starts j ≡ start_before parents blocks r s p m
 
     start_is : (k : ℕ) → 0 < k → k < length parents → flag_at r.clears k ≡ false → length_at s.starts k ≡ start_before parents blocks r s (slice_index parents k) k
     start_is = start_flows parents blocks extents clear_edges (record { runs = r; places = s }) (record { has_runs = is; has_positions = has })
@@ -127,7 +127,7 @@ module _ (parents : List ℕ) (tree : IsTree parents) (blocks : List Block) (r :
         }
 
     -- the boxes in an open box whose top margin is in the run start where the run does
-    pub one_start : (first p m : ℕ) → IsPlace parents p m → Gathered parents blocks r first p m → (d j : ℕ) → first ≤ d → d ≤ p → Holds parents d m → d ≤ j → j < m → length_at s.starts j ≡ start_before parents blocks r s p m
+    pub one_start : (first p m : ℕ) → IsPlace parents p m → Gathered parents blocks r first p m → (d j : ℕ) → first ≤ d → d ≤ p → IsAround parents d m → d ≤ j → j < m → length_at s.starts j ≡ start_before parents blocks r s p m
     one_start first p m at g d j a b holds over lt =
         let some : 0 < length parents = let x = at.parent in let z = at.within in omega (arith, x, z) in
         let there = walk_to parents tree Started closes_started opens_started (record {

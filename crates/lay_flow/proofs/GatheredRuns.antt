@@ -5,7 +5,7 @@ use Rattle.lay_doc.specs.Tree.{IsTree}
 use Rattle.lay_flow.specs.declared.block.Block.{Block}
 use Rattle.lay_flow.specs.Children.{is_child, last_child, next_child, flag_at}
 use Rattle.lay_flow.specs.MarginRuns.{Runs, HasRuns, Entry, margin, mark, clear, has_top, is_barred, block_at, run_at, parts_tops, to_top, run_before, run_across, joins_bottom, may_join_bottoms, may_collapse_through}
-use Rattle.lay_flow.specs.Gathered.{Holds, Gathered}
+use Rattle.lay_flow.specs.Gathered.{IsAround, Gathered}
 use Rattle.lay_flow.proofs.ChildPlaces.{not_child, child_is, last_none, last_same, last_some, next_none, next_same, next_some}
 use Rattle.lay_flow.specs.MarginPlace.{IsPlace}
 use Rattle.lay_flow.proofs.MarginWalk.{walk_to}
@@ -50,7 +50,7 @@ module _ (parents : List ℕ) (tree : IsTree parents) (blocks : List Block) (r :
     pub next_here : next_child parents (slice_index parents k) k (length parents) ≡ Some k
     next_here = next_some parents (slice_index parents k) k k (length parents) (omega arith) within (child_is parents (slice_index parents k) k up refl) (λ j a b. absurd (omega (arith, a, b)))
 
-    alone : Holds parents k (k + 1)
+    alone : IsAround parents k (k + 1)
     alone i low high = absurd (omega (arith, low, high))
 
     pub opened_top : parts_tops blocks k ≡ false → run_before parents blocks r k (k + 1) ≡ to_top blocks r k
@@ -168,7 +168,7 @@ module _ (parents : List ℕ) (tree : IsTree parents) (blocks : List Block) (r :
         come : run_before parents blocks r k (k + 1) ≡ []
         come = first_comes parents blocks r k (k + 1) childless ∙ rw parts refl
 
-  module _ (p m : ℕ) (positive : 0 < p) (lt : p < m) (within : m ≤ length parents) (ends : m < length parents → slice_index parents m < p) (inside : Holds parents p m) where
+  module _ (p m : ℕ) (positive : 0 < p) (lt : p < m) (within : m ≤ length parents) (ends : m < length parents → slice_index parents m < p) (inside : IsAround parents p m) where
     inner : p < length parents
     inner = omega (arith, lt, within)
 

@@ -11,7 +11,7 @@ use Rattle.lay_flow.specs.Children.{flag_at}
 use Rattle.lay_flow.specs.MarginRuns.{margins, has_top, run_at, run_before}
 use Rattle.lay_flow.specs.BlockPositions.{start_before}
 use Rattle.lay_flow.specs.BlockLayout.{BlockLayout, IsBlockLayout}
-use Rattle.lay_flow.specs.Gathered.{Gathered, Holds as Contains}
+use Rattle.lay_flow.specs.Gathered.{Gathered, IsAround}
 use Rattle.lay_flow.proofs.Truths.{true_false, true_or, low_not}
 use Rattle.lay_flow.proofs.RunFacts.{goes_in, lead_goes_on, lead_begins}
 use Rattle.lay_flow.proofs.LayoutFacts.{mark_standing, mark_inherits, mark_through, start_flows, start_clears, start_clears_through}
@@ -35,7 +35,7 @@ module _ (parents : List ℕ) (tree : IsTree parents) (blocks : List Block) (ext
       own_lead t = let lead = lead_begins parents blocks w.runs is.has_runs d positive within cleared in ap (has_top (slice_index parents d)) lead
 
   module _ (first k : ℕ) (within : k < length parents) (g : Gathered parents blocks w.runs first (slice_index parents k) k) (cleared : flag_at w.runs.clears first ≡ true) (unclear : flag_at w.runs.clears k ≡ false)
-      (above : first ≤ slice_index parents k) (contains : Contains parents first k) where
+      (above : first ≤ slice_index parents k) (contains : IsAround parents first k) where
     positive : 0 < first
     positive = g.least
 
@@ -70,7 +70,7 @@ module _ (parents : List ℕ) (tree : IsTree parents) (blocks : List Block) (ext
     start_of_first j from lt = let l = less in
         one_start parents tree blocks w.runs is.has_runs extents clear_edges w.places is.has_positions first (slice_index parents k) k (place_before parents tree k (omega (arith, l)) within) g first j (omega arith) above contains from lt
 
-    as_first : (c : ℕ) → first ≤ c → c ≤ k → Contains parents c (k + 1) → Stands c
+    as_first : (c : ℕ) → first ≤ c → c ≤ k → IsAround parents c (k + 1) → Stands c
     as_first c from le inside = elim (cases_lt c k) [
       | inl lt ↦ record {
         start = start_of_first c from lt ∙ sym (start_of_first first (omega arith) less);
@@ -82,7 +82,7 @@ module _ (parents : List ℕ) (tree : IsTree parents) (blocks : List Block) (ext
       }))
     ]
 
-    stands_at : (fuel c : ℕ) → c < fuel → first ≤ c → c ≤ k → Contains parents c (k + 1) → length_at w.places.marks c ≡ length_at clear_edges first
+    stands_at : (fuel c : ℕ) → c < fuel → first ≤ c → c ≤ k → IsAround parents c (k + 1) → length_at w.places.marks c ≡ length_at clear_edges first
     stands_at zero c small from le inside = absurd (omega (arith, small))
     stands_at (suc fuel) c small from le inside = elim (cases_eq c first) [
       | inl e ↦ (let p = positive in let l = less in ap (length_at w.places.marks) e ∙ stands_at_edge first p (omega (arith, l, within)) cleared)

@@ -10,7 +10,7 @@ use Rattle.lay_flow.specs.Children.{flag_at}
 use Rattle.lay_flow.specs.MarginRuns.{Entry, margins, has_top, run_at, run_before}
 use Rattle.lay_flow.specs.BlockPositions.{start_before}
 use Rattle.lay_flow.specs.BlockLayout.{BlockLayout, IsBlockLayout}
-use Rattle.lay_flow.specs.Gathered.{Gathered, Holds as Contains}
+use Rattle.lay_flow.specs.Gathered.{Gathered, IsAround}
 use Rattle.lay_flow.specs.MarginPlace.{IsPlace}
 use Rattle.lay_flow.proofs.Truths.{true_or}
 use Rattle.lay_flow.proofs.RunsAgree.{Same}
@@ -26,7 +26,7 @@ pub record EndedBefore (parents : List ℕ) (j m : ℕ) : Type 0 where
   pub before : place < m
   pub outside : slice_index parents place < j
 
-pub open_or_ended : (parents : List ℕ) (j m : ℕ) → Contains parents j m ⊎ EndedBefore parents j m
+pub open_or_ended : (parents : List ℕ) (j m : ℕ) → IsAround parents j m ⊎ EndedBefore parents j m
 open_or_ended parents j zero = inl (λ i low high. absurd (omega (arith, high)))
 open_or_ended parents j (suc m) = elim (open_or_ended parents j m) [
   | inr e ↦ inr (record { place = e.place; after = e.after; before = let b = e.before in omega (arith, b); outside = e.outside })
@@ -46,7 +46,7 @@ open_or_ended parents j (suc m) = elim (open_or_ended parents j m) [
 pub record IsHanging (parents : List ℕ) (y : BlockLayout) (first p m : ℕ) : Type 0 where
   pub clears : flag_at y.runs.clears first ≡ true
   pub above : first ≤ p
-  pub contains : Contains parents first m
+  pub contains : IsAround parents first m
 
 module _ (parents : List ℕ) (tree : IsTree parents) (blocks : List Block) (extents clear_edges : List Length) (y : BlockLayout) (is : IsBlockLayout parents blocks extents clear_edges y)
     (others other_edges : List Length) (z : BlockLayout) (also : IsBlockLayout parents blocks others other_edges z) where
@@ -87,15 +87,15 @@ module _ (parents : List ℕ) (tree : IsTree parents) (blocks : List Block) (ext
       pub stands : flag_at y.runs.through c ≡ false
       pub also_stands : flag_at z.runs.through c ≡ false
 
-    module _ (run : List Entry) (ended : (c : ℕ) → first ≤ c → c ≤ p → Contains parents c m → EndsIn run c) where
+    module _ (run : List Entry) (ended : (c : ℕ) → first ≤ c → c ≤ p → IsAround parents c m → EndsIn run c) where
       some : 0 < length parents
       some = let a = at.parent in let b = at.within in omega (arith, a, b)
 
-      starts_there : (c : ℕ) → first ≤ c → c ≤ p → Contains parents c m → length_at y.places.starts c ≡ start_before parents blocks y.runs y.places p m
+      starts_there : (c : ℕ) → first ≤ c → c ≤ p → IsAround parents c m → length_at y.places.starts c ≡ start_before parents blocks y.runs y.places p m
       starts_there c from above inside = let a = at.parent in
           one_start parents tree blocks y.runs is.has_runs extents clear_edges y.places is.has_positions first p m at was.gathered c c from above inside (omega arith) (omega (arith, above, a))
 
-      also_starts : (c : ℕ) → first ≤ c → c ≤ p → Contains parents c m → length_at z.places.starts c ≡ start_before parents blocks z.runs z.places p m
+      also_starts : (c : ℕ) → first ≤ c → c ≤ p → IsAround parents c m → length_at z.places.starts c ≡ start_before parents blocks z.runs z.places p m
       also_starts c from above inside = let a = at.parent in
           one_start parents tree blocks z.runs also.has_runs others other_edges z.places also.has_positions first p m at also_gathered c c from above inside (omega arith) (omega (arith, above, a))
 
@@ -114,7 +114,7 @@ module _ (parents : List ℕ) (tree : IsTree parents) (blocks : List Block) (ext
             ∙ also_starts first (omega arith) up h.contains)
       ]
 
-      open_mark : (j : ℕ) → first ≤ j → j ≤ p → Contains parents j m → length_at y.places.marks j ≡ length_at z.places.marks j
+      open_mark : (j : ℕ) → first ≤ j → j ≤ p → IsAround parents j m → length_at y.places.marks j ≡ length_at z.places.marks j
       open_mark j from above inside =
           let pos = was.gathered.least in let a = at.parent in let b = at.within in
           let e = ended j from above inside in

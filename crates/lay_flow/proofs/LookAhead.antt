@@ -11,7 +11,7 @@ use Rattle.lay_flow.specs.Children.{flag_at}
 use Rattle.lay_flow.specs.MarginRuns.{Entry, margin, mark, margins, has_top, block_at, run_at, parts_tops, to_top, run_before, joins_bottom, may_collapse_through}
 use Rattle.lay_flow.specs.BlockPositions.{start_before}
 use Rattle.lay_flow.specs.BlockLayout.{BlockLayout, IsBlockLayout}
-use Rattle.lay_flow.specs.Gathered.{Gathered, Holds as Contains}
+use Rattle.lay_flow.specs.Gathered.{Gathered, IsAround}
 use Rattle.lay_flow.specs.MarginPlace.{IsPlace}
 use Rattle.lay_flow.specs.LookAhead.{ComesTo, IsOutermost, Reads, ReadsAll}
 use Rattle.lay_flow.proofs.Truths.{true_false, true_or, low_not, low_yes}
@@ -49,7 +49,7 @@ module _ (parents : List ℕ) (tree : IsTree parents) (blocks : List Block) (ext
   start_k = start_flows parents blocks extents clear_edges w is k top_k within (comes.later k (omega arith))
 
   -- the boxes that hold it in its run start where the run does
-  start_there : (c : ℕ) → outermost ≤ c → c ≤ k → Contains parents c (k + 1) → length_at w.places.starts c ≡ start_before parents blocks w.runs w.places (slice_index parents k) k
+  start_there : (c : ℕ) → outermost ≤ c → c ≤ k → IsAround parents c (k + 1) → length_at w.places.starts c ≡ start_before parents blocks w.runs w.places (slice_index parents k) k
   start_there c least most inside = elim (cases_lt c k) [
     | inl lt ↦ (let o = outer.most in let f = outer.from (omega (arith, least, lt)) in let up = inside k lt (omega arith) in
         one_start parents tree blocks w.runs is.has_runs extents clear_edges w.places is.has_positions first (slice_index parents k) k (place_before parents tree k top_k within) gathered_k c c
@@ -68,7 +68,7 @@ module _ (parents : List ℕ) (tree : IsTree parents) (blocks : List Block) (ext
   ]
 
   -- the margins of a run in which the holder isn't collapsed through are all margins above it
-  all_above : (c : ℕ) (run : List Entry) (strut : StrutValue) → outermost ≤ c → c ≤ k → Contains parents c (k + 1) → length_at w.places.marks k ≡ length_at w.places.marks c → flag_at w.runs.through c ≡ false → run_at w.runs.top_runs c ≡ run
+  all_above : (c : ℕ) (run : List Entry) (strut : StrutValue) → outermost ≤ c → c ≤ k → IsAround parents c (k + 1) → length_at w.places.marks k ≡ length_at w.places.marks c → flag_at w.runs.through c ≡ false → run_at w.runs.top_runs c ≡ run
       → Holds strut (margins run) → ReadsAll parents blocks w k strut
   all_above c run strut least most inside same stands rise holds = record {
     all = margins run;
@@ -152,7 +152,7 @@ module _ (parents : List ℕ) (tree : IsTree parents) (blocks : List Block) (ext
                 | inl less ↦ absurd (true_false (has_top outermost (run_before parents blocks w.runs (slice_index parents m) m)) own (there.is_gathered.older outermost less))
                 | inr le ↦ le
               ] in
-              let contains : Contains parents c (m + 1) = λ j a b. elim (cases_lt j m) [
+              let contains : IsAround parents c (m + 1) = λ j a b. elim (cases_lt j m) [
                 | inl before ↦ i.inside j a before
                 | inr here ↦ (let e : j ≡ m = omega (arith, here, b) in rw e u)
               ] in
@@ -249,7 +249,7 @@ module _ (parents : List ℕ) (tree : IsTree parents) (blocks : List Block) (ext
 
     -- it is collapsed through, and the run goes on
     pub reads_bottom : (p ≡ outermost → ⊥) → may_collapse_through (block_at blocks p) ≡ true → (next : StrutValue) → Holds next (margins (run_before parents blocks w.runs p m) ++ (block_at blocks p).margin_bottom.0 ∷ [])
-        → Contains parents outermost m → Reads parents blocks w k outermost next (slice_index parents p) m
+        → IsAround parents outermost m → Reads parents blocks w k outermost next (slice_index parents p) m
     reads_bottom other passes next holds round =
         let g = gathered_p in
         let low = g.low in

@@ -6,7 +6,7 @@ use Rattle.lay_margins.specs.StrutValue.{StrutValue}
 use Rattle.lay_flow.specs.declared.block.Block.{Block}
 use Rattle.lay_flow.specs.declared.hypothetical_edge.Outset.{Outset}
 use Rattle.lay_flow.specs.MarginRuns.{block_at, is_zero, parts_tops, may_collapse_through}
-use Rattle.lay_flow.specs.Gathered.{Holds as Contains}
+use Rattle.lay_flow.specs.Gathered.{IsAround}
 use Rattle.lay_flow.specs.PassBounds.{StrutFits}
 use Rattle.lay_flow.specs.LookAhead.{IsOutset, IsReading, HasRead}
 use Rattle.lay_flow.proofs.Truths.{true_or}
@@ -70,7 +70,7 @@ module _ (parents : List ℕ) (tree : IsTree parents) (blocks : List Block) (fro
         let l = least in
         let inner : p < length parents = omega (arith, a, b) in
         let up = tree.before p (omega (arith, l, pos)) inner in
-        let round : Contains parents from.outermost m = was.inside (omega (arith, o, after)) in
+        let round : IsAround parents from.outermost m = was.inside (omega (arith, o, after)) in
         record {
           fits = fits;
           place = record {

@@ -10,7 +10,7 @@ use Rattle.lay_flow.specs.declared.block.Block.{Block}
 use Rattle.lay_flow.specs.Lengths.{length_at}
 use Rattle.lay_flow.specs.Children.{flag_at}
 use Rattle.lay_flow.specs.MarginRuns.{Entry, margin, mark, margins, has_top, block_at, run_at, parts_tops, to_top, run_before, run_across}
-use Rattle.lay_flow.specs.Gathered.{Gathered, Holds as Contains}
+use Rattle.lay_flow.specs.Gathered.{Gathered, IsAround}
 use Rattle.lay_flow.specs.BlockPositions.{start_before}
 use Rattle.lay_flow.specs.BlockLayout.{BlockLayout, IsBlockLayout}
 use Rattle.lay_flow.specs.BlockPass.{Settled, PassState, IsInRun, IsAt, BeginsRun, IsBefore}
@@ -55,7 +55,7 @@ module _ (parents : List ℕ) (blocks : List Block) (extents clear_edges : List 
   top_margins : flag_at y.runs.clears k ≡ false → margins (to_top blocks y.runs k) ≡ margins c ++ top ∷ []
   top_margins unclear = ap (λ (xs : List Entry). margins (xs ++ mark k ∷ margin top ∷ [])) (lead_goes_on parents blocks y.runs is.has_runs k positive within unclear) ∙ margins-append c (mark k ∷ margin top ∷ [])
 
-  contains_more : (first : ℕ) → first ≤ slice_index parents k → Contains parents first k → Contains parents first (k + 1)
+  contains_more : (first : ℕ) → first ≤ slice_index parents k → IsAround parents first k → IsAround parents first (k + 1)
   contains_more first le holds i low high = elim (cases_lt i k) [
     | inl before ↦ holds i low before
     | inr here ↦ (let e : i ≡ k = omega (arith, here, high) in rw e le)

@@ -10,7 +10,7 @@ use Rattle.lay_flow.specs.declared.block.Block.{Block}
 use Rattle.lay_flow.specs.Lengths.{length_at}
 use Rattle.lay_flow.specs.Children.{flag_at}
 use Rattle.lay_flow.specs.MarginRuns.{margins, has_top, run_at, run_across}
-use Rattle.lay_flow.specs.Gathered.{Holds as Contains}
+use Rattle.lay_flow.specs.Gathered.{IsAround}
 use Rattle.lay_flow.specs.BlockPositions.{start_before}
 use Rattle.lay_flow.specs.BlockLayout.{BlockLayout, IsBlockLayout}
 use Rattle.lay_flow.specs.BlockPass.{PassState, IsSoFar, IsInRun}
@@ -32,7 +32,7 @@ back s e c h = omega (arith, ints, h)
 
 module _ (parents : List ℕ) (blocks : List Block) (extents clear_edges : List Length) (y : BlockLayout) (is : IsBlockLayout parents blocks extents clear_edges y) (tree : IsTree parents)
     (now : PassState) (p m : ℕ) (in_run : IsInRun parents blocks clear_edges y now p m) (at : IsPlace parents p m) where
-  pub starts_here : (j : ℕ) → now.first ≤ j → j ≤ p → Contains parents j m → length_at y.places.starts j ≡ start_before parents blocks y.runs y.places p m
+  pub starts_here : (j : ℕ) → now.first ≤ j → j ≤ p → IsAround parents j m → length_at y.places.starts j ≡ start_before parents blocks y.runs y.places p m
   starts_here j a b holds = let lt = at.parent in one_start parents tree blocks y.runs is.has_runs extents clear_edges y.places is.has_positions now.first p m at in_run.gathered j j a b holds (omega arith) (omega (arith, b, lt))
 
   positive_here : (j : ℕ) → now.first ≤ j → 0 < j
@@ -42,7 +42,7 @@ module _ (parents : List ℕ) (blocks : List Block) (extents clear_edges : List 
   within_here j b = let lt = at.parent in let w = at.within in omega (arith, b, lt, w)
 
   -- the mark of an open box whose top margin is in the run
-  pub mark_here : (j : ℕ) → now.first ≤ j → j ≤ p → Contains parents j m → flag_at y.runs.through j ≡ false
+  pub mark_here : (j : ℕ) → now.first ≤ j → j ≤ p → IsAround parents j m → flag_at y.runs.through j ≡ false
       → length_at y.places.marks j ≡ start_before parents blocks y.runs y.places p m +ℤ collapse (margins (run_across parents blocks y.runs p m))
   mark_here j a b holds truth =
       let start = starts_here j a b holds in
@@ -50,7 +50,7 @@ module _ (parents : List ℕ) (blocks : List Block) (extents clear_edges : List 
       mark_standing parents blocks extents clear_edges y is j (positive_here j a) (within_here j b) truth ∙ (λ i. start i +ℤ collapse (margins (rise i)))
 
   -- the boxes that wait are open
-  pub waiting_open : IsSoFar parents y now.through now.heights now.marks now.first p m → (j : ℕ) → now.first ≤ j → j < m → flag_at now.through j ≡ false → (j ≤ p) × Contains parents j m
+  pub waiting_open : IsSoFar parents y now.through now.heights now.marks now.first p m → (j : ℕ) → now.first ≤ j → j < m → flag_at now.through j ≡ false → (j ≤ p) × IsAround parents j m
   waiting_open so_far j a b code = (
     elim (cases_lt p j) [
       | inl over ↦ absurd (true_false (flag_at now.through j) ((so_far.closed j over b).pass ∙ in_run.gathered.closed j a over b) code)

@@ -5,7 +5,7 @@ use Rattle.lay_doc.specs.Tree.{IsTree}
 use Rattle.lay_flow.specs.declared.block.Block.{Block}
 use Rattle.lay_flow.specs.Children.{flag_at}
 use Rattle.lay_flow.specs.MarginRuns.{Runs, HasRuns, run_at, run_before}
-use Rattle.lay_flow.specs.Gathered.{Holds as Contains}
+use Rattle.lay_flow.specs.Gathered.{IsAround}
 use Rattle.lay_flow.specs.MarginPlace.{IsPlace}
 use Rattle.lay_flow.proofs.ChildPlaces.{last_same}
 use Rattle.lay_flow.proofs.MarginWalk.{walk_to}
@@ -16,7 +16,7 @@ module _ (parents : List ℕ) (tree : IsTree parents) (blocks : List Block) (r x
   record Agrees (p m : ℕ) : Type 0 where
     pub parent : p < m
     pub within : m ≤ length parents
-    pub inside : Contains parents p m
+    pub inside : IsAround parents p m
     pub same : m ≤ limit → Same parents r x p m
 
   run_same : (p m : ℕ) → p < m → Same parents r x p m → run_before parents blocks r p m ≡ run_before parents blocks x p m

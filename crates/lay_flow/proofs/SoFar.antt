@@ -6,7 +6,7 @@ use Rattle.lay_doc.specs.Tree.{IsTree}
 use Rattle.lay_flow.specs.Lengths.{length_at}
 use Rattle.lay_flow.specs.Children.{flag_at}
 use Rattle.lay_flow.specs.MarginRuns.{has_top, run_at}
-use Rattle.lay_flow.specs.Gathered.{Holds as Contains}
+use Rattle.lay_flow.specs.Gathered.{IsAround}
 use Rattle.lay_flow.specs.BlockLayout.{BlockLayout}
 use Rattle.lay_flow.specs.BlockPass.{Settled, IsDone, IsSoFar}
 use Rattle.lay_flow.proofs.Truths.{true_false, not_low, low_not}
@@ -76,7 +76,7 @@ module _ (parents : List ℕ) (tree : IsTree parents) (y : BlockLayout) where
     open_yet = was.open_yet;
   }
 
-  module _ (p m : ℕ) (positive : 0 < p) (lt : p < m) (within : m ≤ length parents) (inside : Contains parents p m) where
+  module _ (p m : ℕ) (positive : 0 < p) (lt : p < m) (within : m ≤ length parents) (inside : IsAround parents p m) where
     less : slice_index parents p < p
     less = tree.before p positive (omega (arith, lt, within))
 

@@ -5,7 +5,7 @@ use Rattle.lay_margins.specs.StrutValue.{StrutValue}
 use Rattle.lay_margins.specs.Collapse.{Holds}
 use Rattle.lay_flow.specs.Children.{flag_at}
 use Rattle.lay_flow.specs.MarginRuns.{margins, has_top, run_at, run_before}
-use Rattle.lay_flow.specs.Gathered.{Gathered, Holds as Contains}
+use Rattle.lay_flow.specs.Gathered.{Gathered, IsAround}
 use Rattle.lay_flow.specs.Lengths.{length_at}
 use Rattle.lay_flow.specs.BlockPositions.{start_before}
 use Rattle.lay_flow.specs.BlockLayout.{BlockLayout}
@@ -47,14 +47,14 @@ pub record IsSoFar (parents : List ℕ) (y : BlockLayout) (flags : List Bool) (h
   pub marked : Marked parents y marks flags first
   pub kept : (j : ℕ) → j < m → flag_at flags j ≡ true → has_top (slice_index parents j) (run_at y.runs.before_tops j) ≡ false → length_at marks j ≡ length_at y.places.marks j
   pub fresh : (j : ℕ) → m ≤ j → flag_at flags j ≡ false
-  pub open_yet : (j : ℕ) → j ≤ p → Contains parents j m → flag_at flags j ≡ false
+  pub open_yet : (j : ℕ) → j ≤ p → IsAround parents j m → flag_at flags j ≡ false
 
 -- the run hangs from the clear edge of the box at `first`
 pub record Hangs (parents : List ℕ) (clear_edges : List Length) (y : BlockLayout) (now : PassState) (p m : ℕ) : Type 0 where
   pub clears : flag_at y.runs.clears now.first ≡ true
   pub edge : now.start ≡ length_at clear_edges now.first
   pub open_yet : now.first ≤ p
-  pub contains : Contains parents now.first m
+  pub contains : IsAround parents now.first m
 
 -- the run that comes to the place (p, m) is that of the layout y
 pub record IsInRun (parents : List ℕ) (blocks : List Block) (clear_edges : List Length) (y : BlockLayout) (now : PassState) (p m : ℕ) : Type 0 where

@@ -6,15 +6,15 @@ use Rattle.lay_flow.specs.declared.block.Block.{Block}
 use Rattle.lay_flow.specs.Children.{flag_at}
 use Rattle.lay_flow.specs.MarginRuns.{Runs, has_top, is_barred, run_at, parts_tops, run_before, run_across}
 
--- the boxes from j to before m stand in the one at j
-abbrev pub Holds : List ℕ → ℕ → ℕ → Type 0
-Holds parents j m = (i : ℕ) → j < i → i < m → j ≤ slice_index parents i
+-- the box at j is around the place m: the boxes from j to before m stand in it
+abbrev pub IsAround : List ℕ → ℕ → ℕ → Type 0
+IsAround parents j m = (i : ℕ) → j < i → i < m → j ≤ slice_index parents i
 
 -- the run that comes to the place (p, m) has the top margins of the boxes from `first` to before m
 pub record Gathered (parents : List ℕ) (blocks : List Block) (r : Runs) (first p m : ℕ) : Type 0 where
   pub parent : p < m
   pub within : m ≤ length parents
-  pub inside : Holds parents p m
+  pub inside : IsAround parents p m
   pub least : 0 < first
   pub most : first ≤ m
   pub own : (j : ℕ) → first ≤ j → j < m → has_top j (run_before parents blocks r p m) ≡ true
@@ -27,4 +27,4 @@ pub record Gathered (parents : List ℕ) (blocks : List Block) (r : Runs) (first
   pub closed : (j : ℕ) → first ≤ j → p < j → j < m → flag_at r.through j ≡ true
   pub gone : (j i : ℕ) → first ≤ j → j < i → i < m → slice_index parents i < j → flag_at r.through j ≡ true
   -- the whole run of an open one goes on across the place
-  pub rise : (j : ℕ) → first ≤ j → j ≤ p → Holds parents j m → run_at r.top_runs j ≡ run_across parents blocks r p m
+  pub rise : (j : ℕ) → first ≤ j → j ≤ p → IsAround parents j m → run_at r.top_runs j ≡ run_across parents blocks r p m

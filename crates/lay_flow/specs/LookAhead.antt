@@ -9,7 +9,7 @@ use Rattle.lay_flow.specs.declared.block.Block.{Block}
 use Rattle.lay_flow.specs.declared.hypothetical_edge.Outset.{Outset}
 use Rattle.lay_flow.specs.Children.{flag_at}
 use Rattle.lay_flow.specs.Lengths.{length_at}
-use Rattle.lay_flow.specs.Gathered.{Holds as Contains}
+use Rattle.lay_flow.specs.Gathered.{IsAround}
 use Rattle.lay_flow.specs.MarginPlace.{IsPlace}
 use Rattle.lay_flow.specs.MarginRuns.{margins, has_top, run_before}
 use Rattle.lay_flow.specs.BlockPositions.{start_before}
@@ -27,7 +27,7 @@ pub record ComesTo (parents : List ℕ) (blocks : List Block) (w : BlockLayout) 
 pub record IsOutermost (parents : List ℕ) (first k outermost : ℕ) : Type 0 where
   pub positive : 0 < outermost
   pub most : outermost ≤ k
-  pub inside : Contains parents outermost (k + 1)
+  pub inside : IsAround parents outermost (k + 1)
   pub from : outermost < k → first ≤ outermost
   pub parent : slice_index parents outermost < first
 
@@ -43,7 +43,7 @@ pub record IsHolder (parents : List ℕ) (w : BlockLayout) (k outermost p m hold
   pub least : outermost ≤ holder
   pub most : holder ≤ k
   pub above : holder ≤ p
-  pub inside : Contains parents holder m
+  pub inside : IsAround parents holder m
   pub mark : length_at w.places.marks k ≡ length_at w.places.marks holder
 
 -- the strut holds the margins of the run that comes to the place (p, m)
@@ -65,7 +65,7 @@ pub record IsReading (parents : List ℕ) (blocks : List Block) (from : Outset) 
   pub begun : from.k ≤ m
   pub first_place : m ≡ from.k → p ≡ slice_index parents from.k
   pub above : from.outermost < m → from.outermost ≤ p
-  pub inside : from.outermost < m → Contains parents from.outermost m
+  pub inside : from.outermost < m → IsAround parents from.outermost m
   pub reads : (extents clear_edges : List Length) (w : BlockLayout) → IsBlockLayout parents blocks extents clear_edges w → ComesTo parents blocks w from.strut from.first from.k
       → Reads parents blocks w from.k from.outermost strut p m
 
