@@ -68,7 +68,7 @@ module _ (d : Document) (styles : List Style) (doc : IsDocument d) where
       (inner_same (λ p a n. context_spots d.nodes styles (turns + more) p number a n) (λ p a n. context_spots d.nodes styles turns p number a n) (ids_of d.nodes) boxes 0 (number + 1) agree))
 
 -- the root generates no box, or is a context
-root_case : (nodes : List Node) (styles : List Style) → 0 < length nodes → (boxes_of_place nodes styles 0 ≡ []) ⊎ IsContextAt nodes styles 0
+pub root_case : (nodes : List Node) (styles : List Style) → 0 < length nodes → (boxes_of_place nodes styles 0 ≡ []) ⊎ IsContextAt nodes styles 0
 root_case [] styles some = absurd (omega (arith, some))
 root_case (n ∷ ns) [] some = inl refl
 root_case (n ∷ ns) (s ∷ ss) some = go (form_of (0 == 0) n.kind n.text s) refl
@@ -83,11 +83,11 @@ root_case (n ∷ ns) (s ∷ ss) some = go (form_of (0 == 0) n.kind n.text s) ref
       generates = root (subst (λ (o : Option Form). IsTrue (has_box (option_map (facts_with 0 n s) o))) (sym e) (search rules));
     })
 
-no_context : (nodes : List Node) (styles : List Style) (turns : ℕ) → boxes_of_place nodes styles 0 ≡ [] → context_spots nodes styles turns 0 0 0 0 ≡ []
+pub no_context : (nodes : List Node) (styles : List Style) (turns : ℕ) → boxes_of_place nodes styles 0 ≡ [] → context_spots nodes styles turns 0 0 0 0 ≡ []
 no_context nodes styles zero none = refl
 no_context nodes styles (suc turns) none = rw none refl
 
-first_place : (ids : List ℕ) → 0 < length ids → place_of (get_or ids 0 0) ids ≡ Some 0
+pub first_place : (ids : List ℕ) → 0 < length ids → place_of (get_or ids 0 0) ids ≡ Some 0
 first_place [] some = absurd (omega (arith, some))
 first_place (x ∷ xs) some = place_here x x xs refl
 

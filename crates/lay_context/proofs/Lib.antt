@@ -20,3 +20,4 @@ pub mod PieceRanges
 pub mod DocumentBounds
 pub mod OneDocument
 pub mod EnoughTurns
+pub mod SpotContexts

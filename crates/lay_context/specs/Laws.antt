@@ -1,22 +1,27 @@
 -- The equations of a document have one solution: each column has one value beside those before it, and so has the tree. The
 -- list of a document's contexts has all of them.
-use Rattle.std.specs.Prelude.{ℕ, ◌≡◌, ◌+◌, List, length}
+use Rattle.std.specs.Prelude.{ℕ, ◌≡◌, ◌+◌, ◌<◌, List, length}
 use Rattle.lay_doc.specs.declared.style.Style.{Style}
 use Rattle.lay_doc.specs.Document.{Document, IsDocument}
 use Rattle.lay_doc.specs.Tree.{IsTree}
 use Rattle.lay_frag.specs.Pieces.{Context}
 use Rattle.lay_boxgen.specs.declared.box_tree.BoxNode.{BoxNode}
 use Rattle.lay_boxgen.specs.BoxColumns.{box_parents}
+use Rattle.lay_boxgen.specs.Contexts.{IsContextAt}
 use Rattle.lay_context.specs.declared.box_sizes.BoxSizes.{BoxSizes}
 use Rattle.lay_context.specs.declared.box_sizes.ContainingBlock.{ContainingBlock}
 use Rattle.lay_context.specs.declared.context_spot.ContextSpot.{ContextSpot}
 use Rattle.lay_context.specs.declared.corner.Corner.{Corner}
-use Rattle.lay_context.specs.ContextList.{context_spots, document_spots}
+use Rattle.lay_context.specs.ContextList.{context_spots, document_spots, spot_at}
 use Rattle.lay_context.specs.ContextSizes.{HasSizes}
 use Rattle.lay_context.specs.ContextPlaces.{ContextPlaces, HasPlaces}
 use Rattle.lay_context.specs.ContextOrder.{AreContextBoxes, AreInOrder}
 use Rattle.lay_context.specs.DocumentLayout.{HasDocumentSizes, HasDocumentPlaces, HasPageCorners}
 use Rattle.lay_context.specs.Solves.{Solves}
+
+-- the node at each place in the list is a context (CSS 2.2, 9.4.1)
+abbrev pub SpotsAreContexts : Type 0
+SpotsAreContexts = (d : Document) (styles : List Style) → IsDocument d → (i : ℕ) → i < length (document_spots d.nodes styles) → IsContextAt d.nodes styles (spot_at (document_spots d.nodes styles) i).place
 
 -- more turns than a document has nodes reach no further context
 abbrev pub EnoughTurns : Type 0

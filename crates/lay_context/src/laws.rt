@@ -1,7 +1,7 @@
 //! The laws of the definitions: the equations of a document have one solution, and the list of its contexts
 //! has all of them.
 
-ghost use Rattle.lay_context.specs.Laws.{EnoughTurns, OneContextPlaces, OneContextSizes, OneDocumentPlaces, OneDocumentSizes, OnePageCorners, OneSolution};
+ghost use Rattle.lay_context.specs.Laws.{EnoughTurns, OneContextPlaces, OneContextSizes, OneDocumentPlaces, OneDocumentSizes, OnePageCorners, OneSolution, SpotsAreContexts};
 
 /// The used sizes of the boxes of a context are the only ones that meet their equations.
 pub fn one_context_sizes()
@@ -36,4 +36,9 @@ pub fn one_page_corners()
 /// Two trees that solve one document are equal.
 pub fn one_solution()
     ensures { OneSolution }
+{}
+
+/// Each node in the list of a document's contexts is a context.
+pub fn spots_are_contexts()
+    ensures { SpotsAreContexts }
 {}

@@ -33,6 +33,6 @@ mod used_lengths;
 
 pub use laws::{
     enough_turns, one_context_places, one_context_sizes, one_document_places, one_document_sizes,
-    one_page_corners, one_solution,
+    one_page_corners, one_solution, spots_are_contexts,
 };
 pub use layout::{scratch, scratch_styled};
