@@ -5,7 +5,7 @@ use Rattle.lay_units.specs.Units.{limit}
 use Rattle.lay_units.specs.declared.length.Unit.{Unit as Length}
 use Rattle.lay_margins.specs.StrutValue.{StrutValue}
 use Rattle.lay_flow.specs.declared.block.Block.{Block}
-use Rattle.lay_flow.specs.declared.pass_state.Flow.{Flow}
+use Rattle.lay_flow.specs.declared.pass_state.Pass.{Pass}
 use Rattle.lay_flow.specs.Lengths.{length_at}
 use Rattle.lay_flow.specs.BlockSizes.{IsBoxHeight}
 use Rattle.lay_flow.specs.Children.{flag_at}
@@ -64,7 +64,7 @@ pub record StateFits (parents : List ℕ) (blocks : List Block) (now : PassState
 abbrev pub IsNear : ℤ → Type 0
 IsNear v = (neg_ℤ (pos 9007199254740992) ≤ℤ v) × (v ≤ℤ pos 9007199254740992)
 
-abbrev pub state_of : Flow → PassState
+abbrev pub state_of : Pass → PassState
 state_of f = record { marks = f.marks.items; heights = f.heights.items; through = f.through.items; clears = f.clears.items; clear_edges = f.clear_edges.items; start = f.start.0; strut = f.strut; first = f.first; hangs = f.hangs }
 
 -- the run was begun by clearance of a child of p

@@ -12,7 +12,7 @@ ghost use Rattle.lay_flow.specs.PlacesTo.{HaveShapeSizes};
 use crate::block::Block;
 use crate::block_steps::{close, open};
 use crate::columns::{block_at, length_at, parent_at, sum_of, write_at};
-use crate::pass_state::Flow;
+use crate::pass_state::Pass;
 use crate::place_boxes::{nowhere, place_up_to, push_place};
 use crate::placing::Placing;
 use crate::run_ends::{end_of, no_margin};
@@ -72,13 +72,13 @@ fn begin(
     blocks: &[Block],
     _shapes: &[Shape],
     lines: &[Unit],
-) -> Result<Flow, NoMemory>
+) -> Result<Pass, NoMemory>
     requires input { AreBlocks parents.now blocks.now lines.now }
     requires shapes { AreShapes parents.now blocks.now _shapes.now }
     ensures { IfOk result (λ flow. Knows parents.now blocks.now _shapes.now lines.now (state_of flow) (placing_of flow.placing) 0 1) }
 {
     let count = parents.len();
-    Ok(Flow {
+    Ok(Pass {
         marks: vec![in alloc; Unit(0); count]?,
         heights: vec![in alloc; Unit(0); count]?,
         through: vec![in alloc; false; count]?,
@@ -115,7 +115,7 @@ fn advance(
     blocks: &[Block],
     shapes: &[Shape],
     lines: &[Unit],
-    flow: &mut Flow,
+    flow: &mut Pass,
     k: usize,
 ) -> Result<(), NoMemory>
     requires input { AreBlocks parents.now blocks.now lines.now }
@@ -137,7 +137,7 @@ fn close_to(
     blocks: &[Block],
     shapes: &[Shape],
     lines: &[Unit],
-    flow: &mut Flow,
+    flow: &mut Pass,
     from: usize,
     to: usize,
     m: usize,
@@ -164,7 +164,7 @@ fn finish(
     blocks: &[Block],
     shapes: &[Shape],
     lines: &[Unit],
-    flow: &mut Flow,
+    flow: &mut Pass,
 ) -> Result<(), NoMemory>
     requires input { AreBlocks parents.now blocks.now lines.now }
     requires shapes { ArePlaceable parents.now blocks.now shapes.now }
@@ -185,7 +185,7 @@ fn close_root(
     blocks: &[Block],
     shapes: &[Shape],
     _lines: &[Unit],
-    flow: &mut Flow,
+    flow: &mut Pass,
 ) -> Result<(), NoMemory>
     requires input { AreBlocks parents.now blocks.now _lines.now }
     requires shapes { ArePlaceable parents.now blocks.now shapes.now }

@@ -9,7 +9,7 @@ ghost use Rattle.lay_flow.specs.PassKnows.{ArePlaceable, IsReady, Knows, placing
 use crate::block::Block;
 use crate::clear_steps::clear;
 use crate::columns::{block_at, flag_at, length_at, parent_at, sum_of, write_at, write_flag};
-use crate::pass_state::Flow;
+use crate::pass_state::Pass;
 use crate::place_boxes::place_up_to;
 use crate::run_ends::{end_of, lone_margin, no_margin, run_start, with_margin};
 use crate::settling::settle;
@@ -22,7 +22,7 @@ pub(crate) fn open(
     blocks: &[Block],
     shapes: &[Shape],
     given: &[Unit],
-    flow: &mut Flow,
+    flow: &mut Pass,
     k: usize,
 ) -> Result<(), NoMemory>
     requires input { AreBlocks parents.now blocks.now given.now }
@@ -43,7 +43,7 @@ fn enter(
     blocks: &[Block],
     shapes: &[Shape],
     given: &[Unit],
-    flow: &mut Flow,
+    flow: &mut Pass,
     k: usize,
 )
     requires input { AreBlocks parents.now blocks.now given.now }
@@ -66,7 +66,7 @@ fn open_plain(
     blocks: &[Block],
     _shapes: &[Shape],
     _given: &[Unit],
-    flow: &mut Flow,
+    flow: &mut Pass,
     k: usize,
 )
     requires input { AreBlocks _parents.now blocks.now _given.now }
@@ -86,7 +86,7 @@ fn open_parting(
     blocks: &[Block],
     _shapes: &[Shape],
     _given: &[Unit],
-    flow: &mut Flow,
+    flow: &mut Pass,
     k: usize,
 )
     requires input { AreBlocks parents.now blocks.now _given.now }
@@ -120,7 +120,7 @@ pub(crate) fn close(
     blocks: &[Block],
     shapes: &[Shape],
     given: &[Unit],
-    flow: &mut Flow,
+    flow: &mut Pass,
     p: usize,
     m: usize,
 ) -> Result<(), NoMemory>
@@ -143,7 +143,7 @@ pub(crate) fn close(
 }
 
 // The run was begun by clearance of a child of the box at p.
-fn is_barred(parents: &[usize], flow: &Flow, p: usize) -> bool
+fn is_barred(parents: &[usize], flow: &Pass, p: usize) -> bool
     requires { length flow.now.clears.items ≡ length parents.now }
     ensures { result ≡ is_barred parents.now (state_of flow.now) p }
 {
@@ -158,7 +158,7 @@ fn pass_through(
     blocks: &[Block],
     shapes: &[Shape],
     given: &[Unit],
-    flow: &mut Flow,
+    flow: &mut Pass,
     p: usize,
     m: usize,
 )
@@ -184,7 +184,7 @@ fn start_run(
     _blocks: &[Block],
     _shapes: &[Shape],
     _given: &[Unit],
-    flow: &mut Flow,
+    flow: &mut Pass,
     _p: usize,
     _m: usize,
 )
@@ -210,7 +210,7 @@ fn close_through(
     blocks: &[Block],
     _shapes: &[Shape],
     _given: &[Unit],
-    flow: &mut Flow,
+    flow: &mut Pass,
     p: usize,
     _m: usize,
 )
@@ -237,7 +237,7 @@ fn close_joined(
     blocks: &[Block],
     _shapes: &[Shape],
     _given: &[Unit],
-    flow: &mut Flow,
+    flow: &mut Pass,
     p: usize,
     _m: usize,
 )
@@ -265,7 +265,7 @@ fn close_parted(
     blocks: &[Block],
     shapes: &[Shape],
     _given: &[Unit],
-    flow: &mut Flow,
+    flow: &mut Pass,
     p: usize,
     m: usize,
 ) -> Result<(), NoMemory>

@@ -14,7 +14,7 @@ ghost use Rattle.lay_flow.specs.PassKnows.{ArePlaceable, IsReady, Knows, placing
 use crate::block::Block;
 use crate::columns::{write_at, write_flag};
 use crate::hypothetical_edge::hypothetical_edge;
-use crate::pass_state::Flow;
+use crate::pass_state::Pass;
 use crate::place_boxes::{place_up_to, shape_at};
 use crate::run_ends::{end_of, no_margin};
 use crate::settling::settle;
@@ -28,7 +28,7 @@ pub(crate) fn clear(
     blocks: &[Block],
     shapes: &[Shape],
     given: &[Unit],
-    flow: &mut Flow,
+    flow: &mut Pass,
     k: usize,
 ) -> Result<(), NoMemory>
     requires input { AreBlocks parents.now blocks.now given.now }
@@ -58,7 +58,7 @@ fn place_settled(
     blocks: &[Block],
     shapes: &[Shape],
     _given: &[Unit],
-    flow: &mut Flow,
+    flow: &mut Pass,
     _k: usize,
 ) -> Result<(), NoMemory>
     requires input { AreBlocks parents.now blocks.now _given.now }
@@ -87,7 +87,7 @@ fn clear_floats(
     blocks: &[Block],
     shapes: &[Shape],
     given: &[Unit],
-    flow: &mut Flow,
+    flow: &mut Pass,
     k: usize,
 ) -> Result<(), NoMemory>
     requires input { AreBlocks parents.now blocks.now given.now }
@@ -113,7 +113,7 @@ fn edge_without(
     blocks: &[Block],
     _shapes: &[Shape],
     _given: &[Unit],
-    flow: &Flow,
+    flow: &Pass,
     k: usize,
 ) -> Unit
     requires input { AreBlocks parents.now blocks.now _given.now }
@@ -192,7 +192,7 @@ fn begin_cleared(
     blocks: &[Block],
     shapes: &[Shape],
     _given: &[Unit],
-    flow: &mut Flow,
+    flow: &mut Pass,
     k: usize,
     hypothetical: Unit,
 ) -> Result<(), NoMemory>

@@ -6,7 +6,7 @@ use lay_units::Unit;
 
 /// The columns as far as they are known, and the run of margins that the pass is in.
 #[derive(Drop, Debug)]
-pub(crate) struct Flow {
+pub(crate) struct Pass {
     pub marks: Vec<Unit>,
     pub heights: Vec<Unit>,
     /// The boxes that are known to be collapsed through.
