@@ -1,0 +1,74 @@
+//! Clearance (CSS 2.2, 9.5.2): a context is laid out once more for each box with `clear`, without its clearance.
+
+use crate::tests::floats::clears;
+use crate::tests::flow::{Flow, Given, settled};
+use crate::tests::margins::top_of;
+use crate::tests::sizes::{PlainBox, box_at, stands_in};
+use lay_doc::Word;
+use lay_units::NoMemory;
+use std::alloc::Global;
+
+/// A box that may have clearance.
+fn may_clear(boxes: &[PlainBox], own: usize, place: usize) -> bool {
+    let plain = box_at(boxes, place);
+    stands_in(boxes, own, place) && !plain.is_float() && plain.clear != Word::None
+}
+
+/// In the flow without its clearance, the box is above the bottom of a float to clear, or the run of its top margin has
+/// the mark of such a float.
+fn has_clearance(
+    alloc: Global,
+    given: &Given<'_>,
+    without: &Flow,
+    place: usize,
+) -> Result<bool, NoMemory> {
+    let clear = box_at(given.boxes, place).clear;
+    let floats = without.floats_before(alloc, given, place)?;
+    for float in &floats {
+        if clears(clear, float.side) && without.at(place).mark < float.bottom {
+            return Ok(true);
+        }
+    }
+    for k in 0..place {
+        let other = box_at(given.boxes, k);
+        if stands_in(given.boxes, given.own, k)
+            && other.is_float()
+            && clears(clear, other.float)
+            && without.runs().adjoin(top_of(k), top_of(place))
+        {
+            return Ok(true);
+        }
+    }
+    Ok(false)
+}
+
+/// The hypothetical edges of the boxes with clearance, in document order. None where a flow has no solution.
+pub fn hypothetical_edges(
+    alloc: Global,
+    boxes: &[PlainBox],
+    own: usize,
+    heights: &[i64],
+) -> Result<Option<Vec<Option<i64>>>, NoMemory> {
+    let mut cleared = Vec::new(alloc);
+    for _ in boxes {
+        cleared.push(None)?;
+    }
+    for k in 0..boxes.len() {
+        if may_clear(boxes, own, k) {
+            let given = Given {
+                boxes,
+                own,
+                cleared: cleared.as_slice(),
+                heights,
+            };
+            let Some(without) = settled(alloc, &given)? else {
+                return Ok(None);
+            };
+            let clears = has_clearance(alloc, &given, &without, k)?;
+            if clears && let Some(edge) = cleared.get_mut(k) {
+                *edge = Some(without.at(k).mark);
+            }
+        }
+    }
+    Ok(Some(cleared))
+}
