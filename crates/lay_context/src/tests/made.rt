@@ -1,5 +1,7 @@
 //! Made documents: trees of 2 to 12 blocks with drawn sizes, as plain records. Lengths are in 1/64 px.
 
+ghost use Rattle.std.specs.Prelude.{◌<◌};
+
 use lay_doc::Word;
 use lay_units::NoMemory;
 use std::alloc::Global;
