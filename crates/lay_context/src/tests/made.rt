@@ -15,9 +15,9 @@ pub struct Edges {
     pub left: i64,
 }
 
-/// A `height`.
+/// A `width` or a `height`.
 #[derive(Clone, Copy)]
-pub enum Height {
+pub enum Size {
     Auto,
     Length(i64),
     /// In hundredths of a percent.
@@ -36,8 +36,11 @@ pub struct Made {
     pub margin_right: Option<i64>,
     pub border: Edges,
     pub padding: Edges,
-    pub width: Option<i64>,
-    pub height: Height,
+    pub width: Size,
+    pub min_width: i64,
+    /// None is `none`.
+    pub max_width: Option<i64>,
+    pub height: Size,
     pub min_height: i64,
     /// None is `none`.
     pub max_height: Option<i64>,
@@ -52,17 +55,30 @@ pub fn px(v: i64) -> i64 {
     v.saturating_mul(64)
 }
 
-/// Numbers that look drawn, the same for the same seed.
+/// Numbers that look drawn, the same for the same seed. In one document of three much parts margins, and in others
+/// little does.
 #[derive(Drop)]
-struct Dice(u64);
+struct Dice {
+    state: u64,
+    parting: bool,
+}
 
 impl Dice {
+    fn new(seed: u64) -> Dice {
+        let mut dice = Dice {
+            state: seed,
+            parting: false,
+        };
+        dice.parting = dice.once_in(3);
+        dice
+    }
+
     /// A number below 32,768.
     fn draw(&mut self) -> u64
         ensures { result < 32768 }
     {
-        let next = self.0.wrapping_mul(1103515245).wrapping_add(12345) % 2147483648;
-        self.0 = next;
+        let next = self.state.wrapping_mul(1103515245).wrapping_add(12345) % 2147483648;
+        self.state = next;
         next / 65536
     }
 
@@ -86,9 +102,26 @@ impl Dice {
         px(least.saturating_add(self.roll(64) as i64))
     }
 
+    /// One of the first `count` lengths of ten times `least` px and 10 px more each.
+    fn tens(&mut self, least: i64, count: u64) -> i64
+        requires { 0 < count }
+    {
+        px(
+            least
+                .saturating_add(self.roll(count) as i64)
+                .saturating_mul(10),
+        )
+    }
+
+    /// 0% to 49.9%.
+    fn share(&mut self) -> Size {
+        Size::Percent(self.roll(500) as i32 * 10)
+    }
+
     /// Mostly 0, and else a length of 1 to 8 px.
     fn edge(&mut self) -> i64 {
-        if self.once_in(6) {
+        let sides = if self.parting { 5 } else { 40 };
+        if self.once_in(sides) {
             px(1 + self.roll(8) as i64)
         } else {
             0
@@ -106,50 +139,94 @@ impl Dice {
 
     /// A margin above or below: often 0, and often negative.
     fn margin(&mut self) -> i64 {
-        if self.once_in(3) { 0 } else { self.length(-30) }
+        if self.once_in(3) { 0 } else { self.tens(-3, 8) }
     }
 
     /// A margin at the left or the right.
     fn side_margin(&mut self) -> Option<i64> {
         match self.roll(8) {
             0 => None,
-            1 | 2 => Some(self.length(-20)),
+            1..4 => Some(self.length(-20)),
             _ => Some(0),
         }
     }
 
-    fn width(&mut self, float: Word) -> Option<i64> {
-        if float != Word::None || self.once_in(4) {
-            Some(self.length(40).saturating_mul(2))
+    fn width(&mut self) -> Size {
+        if self.once_in(4) {
+            self.share()
+        } else {
+            Size::Length(self.length(20).saturating_mul(2))
+        }
+    }
+
+    /// The width of a box in flow.
+    fn width_in_flow(&mut self) -> Size {
+        if self.once_in(4) {
+            self.width()
+        } else {
+            Size::Auto
+        }
+    }
+
+    fn given_height(&mut self) -> Size {
+        match self.roll(4) {
+            0 | 1 => Size::Length(self.tens(1, 5)),
+            2 => Size::Length(0),
+            _ => self.share(),
+        }
+    }
+
+    /// The height of a box in flow.
+    fn height_in_flow(&mut self) -> Size {
+        let sides = if self.parting { 2 } else { 6 };
+        if self.once_in(sides) {
+            self.given_height()
+        } else {
+            Size::Auto
+        }
+    }
+
+    fn float_height(&mut self) -> Size {
+        if self.once_in(2) {
+            self.given_height()
+        } else {
+            self.height_in_flow()
+        }
+    }
+
+    fn min_width(&mut self) -> i64 {
+        if self.once_in(8) { self.length(0) } else { 0 }
+    }
+
+    fn max_width(&mut self) -> Option<i64> {
+        if self.once_in(8) {
+            Some(self.length(40))
         } else {
             None
         }
     }
 
-    /// 0% to 49.9%.
-    fn share(&mut self) -> i32 {
-        self.roll(500) as i32 * 10
+    /// One height in so many has a bound.
+    fn bound(&self) -> u64
+        ensures { 0 < result }
+    {
+        if self.parting { 8 } else { 16 }
     }
 
-    fn height(&mut self) -> Height {
-        match self.roll(8) {
-            0 | 1 => Height::Length(self.length(1)),
-            2 => Height::Length(0),
-            3 => Height::Percent(self.share()),
-            _ => Height::Auto,
+    fn min_height(&mut self) -> i64 {
+        if self.once_in(self.bound()) {
+            self.tens(1, 5)
+        } else {
+            0
         }
     }
 
     fn max_height(&mut self) -> Option<i64> {
-        if self.once_in(10) {
-            Some(self.length(0))
+        if self.once_in(self.bound()) {
+            Some(self.tens(0, 4))
         } else {
             None
         }
-    }
-
-    fn min_height(&mut self) -> i64 {
-        if self.once_in(10) { self.length(1) } else { 0 }
     }
 
     fn float(&mut self) -> Word {
@@ -161,7 +238,7 @@ impl Dice {
     }
 
     fn clear(&mut self) -> Word {
-        match self.roll(6) {
+        match self.roll(4) {
             0 => Word::Left,
             1 => Word::Right,
             2 => Word::Both,
@@ -169,9 +246,10 @@ impl Dice {
         }
     }
 
-    /// A block below this parent.
+    /// A block below this parent. A float has a width of its own.
     fn block(&mut self, parent: usize) -> Made {
         let float = self.float();
+        let in_flow = float == Word::None;
         Made {
             parent,
             margin_top: self.margin(),
@@ -180,8 +258,18 @@ impl Dice {
             margin_right: self.side_margin(),
             border: self.edges(),
             padding: self.edges(),
-            width: self.width(float),
-            height: self.height(),
+            width: if in_flow {
+                self.width_in_flow()
+            } else {
+                self.width()
+            },
+            height: if in_flow {
+                self.height_in_flow()
+            } else {
+                self.float_height()
+            },
+            min_width: self.min_width(),
+            max_width: self.max_width(),
             min_height: self.min_height(),
             max_height: self.max_height(),
             float,
@@ -195,6 +283,15 @@ impl Dice {
         Made {
             float: Word::None,
             ..self.block(0)
+        }
+    }
+
+    /// How many blocks a document has besides its root: 1 to 11, and mostly 11.
+    fn others(&mut self) -> u64 {
+        if self.once_in(4) {
+            1 + self.roll(11)
+        } else {
+            11
         }
     }
 }
@@ -219,12 +316,11 @@ fn above_last(made: &[Made], steps: u64) -> usize {
 /// The blocks of the document of this seed, in document order. The first one is the root, and the parent of each
 /// other one is the block before it or an ancestor of that.
 pub fn made_blocks(alloc: Global, seed: u64) -> Result<Vec<Made>, NoMemory> {
-    let mut dice = Dice(seed);
+    let mut dice = Dice::new(seed);
     let mut made = Vec::new(alloc);
     made.push(dice.root())?;
-    let others = 1 + dice.roll(11);
-    for _ in 0..others {
-        let steps = dice.roll(4);
+    for _ in 0..dice.others() {
+        let steps = dice.roll(3);
         let parent = above_last(made.as_slice(), steps);
         made.push(dice.block(parent))?;
     }

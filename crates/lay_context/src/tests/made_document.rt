@@ -1,6 +1,6 @@
 //! A made document as a document.
 
-use crate::tests::made::{Height, Made};
+use crate::tests::made::{Made, Size};
 use lay_doc::{Decl, Decls, Doc, Given, NewNode, NodeId, Property, Word};
 use lay_units::{NoMemory, Percent, Unit};
 use std::alloc::Global;
@@ -29,11 +29,11 @@ fn length_or(v: Option<i64>, word: Word) -> Given {
     }
 }
 
-fn height(height: Height) -> Given {
-    match height {
-        Height::Auto => Given::Keyword(Word::Auto),
-        Height::Length(v) => length(v),
-        Height::Percent(v) => Given::Percent(Percent(v)),
+fn size(size: Size) -> Given {
+    match size {
+        Size::Auto => Given::Keyword(Word::Auto),
+        Size::Length(v) => length(v),
+        Size::Percent(v) => Given::Percent(Percent(v)),
     }
 }
 
@@ -41,15 +41,17 @@ fn overflow(hidden: bool) -> Word {
     if hidden { Word::Hidden } else { Word::Visible }
 }
 
-fn declarations(made: &Made) -> [(Property, Given); 24] {
+fn declarations(made: &Made) -> [(Property, Given); 26] {
     let solid = Given::Keyword(Word::Solid);
     [
         (Property::Display, Given::Keyword(Word::Block)),
         (Property::Float, Given::Keyword(made.float)),
         (Property::Clear, Given::Keyword(made.clear)),
         (Property::Overflow, Given::Keyword(overflow(made.hidden))),
-        (Property::Width, length_or(made.width, Word::Auto)),
-        (Property::Height, height(made.height)),
+        (Property::Width, size(made.width)),
+        (Property::MinWidth, length(made.min_width)),
+        (Property::MaxWidth, length_or(made.max_width, Word::None)),
+        (Property::Height, size(made.height)),
         (Property::MinHeight, length(made.min_height)),
         (Property::MaxHeight, length_or(made.max_height, Word::None)),
         (Property::MarginTop, length(made.margin_top)),

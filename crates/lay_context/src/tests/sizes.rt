@@ -1,6 +1,6 @@
-//! Used sizes, as far as they depend on the containing block alone (CSS 2.2, 8.3 to 8.5, 10.2, 10.3, 10.5 and 10.7).
+//! Used sizes, as far as they depend on the containing block alone (CSS 2.2, 8.3 to 8.5, 10.2 to 10.5 and 10.7).
 
-use crate::tests::made::{Edges, Height, Made, px};
+use crate::tests::made::{Edges, Made, Size, px};
 use crate::tests::made_document::{HEIGHT, WIDTH};
 use lay_doc::Word;
 use lay_units::NoMemory;
@@ -80,17 +80,26 @@ fn zero_if_auto(v: Option<i64>) -> i64 {
     v.unwrap_or(0)
 }
 
+/// A size beside that of the containing block; None is `auto`, as a percentage is where that one isn't known (10.2 and
+/// 10.5).
+fn used_size(size: Size, containing: Option<i64>) -> Option<i64> {
+    match (size, containing) {
+        (Size::Auto, _) | (Size::Percent(_), None) => None,
+        (Size::Length(v), _) => Some(v),
+        (Size::Percent(part), Some(whole)) => {
+            Some(i64::from(part).saturating_mul(whole).div_euclid(10000))
+        }
+    }
+}
+
 /// 10.3.3, `room` being what borders and paddings leave of the containing block's width.
-fn widths_in_flow(room: i64, made: &Made) -> Widths {
+fn widths_in_flow(room: i64, made: &Made, width: Option<i64>) -> Widths {
     let left = zero_if_auto(made.margin_left);
     let right = zero_if_auto(made.margin_right);
     let beside = room.saturating_sub(left).saturating_sub(right);
-    let width = match made.width {
-        None => beside.max(0),
-        Some(width) => width,
-    };
-    let spare = beside.saturating_sub(width);
-    let left = if made.width.is_none() || spare < 0 {
+    let used = width.unwrap_or(beside.max(0));
+    let spare = beside.saturating_sub(used);
+    let left = if width.is_none() || spare < 0 {
         left
     } else {
         match (made.margin_left, made.margin_right) {
@@ -99,27 +108,41 @@ fn widths_in_flow(room: i64, made: &Made) -> Widths {
             (Some(left), _) => left,
         }
     };
-    let right = room.saturating_sub(width).saturating_sub(left);
-    Widths { left, width, right }
+    Widths {
+        left,
+        width: used,
+        right: room.saturating_sub(used).saturating_sub(left),
+    }
 }
 
 /// 10.3.5, where the width isn't `auto`.
-fn widths_of_float(made: &Made) -> Widths {
+fn widths_of_float(made: &Made, width: Option<i64>) -> Widths {
     Widths {
         left: zero_if_auto(made.margin_left),
-        width: zero_if_auto(made.width),
+        width: zero_if_auto(width),
         right: zero_if_auto(made.margin_right),
     }
 }
 
-/// 10.5
-fn used_height(height: Height, containing: Option<i64>) -> Option<i64> {
-    match (height, containing) {
-        (Height::Auto, _) | (Height::Percent(_), None) => None,
-        (Height::Length(v), _) => Some(v),
-        (Height::Percent(part), Some(whole)) => {
-            Some(i64::from(part).saturating_mul(whole).div_euclid(10000))
-        }
+fn widths_with(room: i64, made: &Made, width: Option<i64>) -> Widths {
+    if made.float == Word::None {
+        widths_in_flow(room, made, width)
+    } else {
+        widths_of_float(made, width)
+    }
+}
+
+/// The three steps of 10.4, each of which solves the widths anew.
+fn used_widths(room: i64, made: &Made, width: Option<i64>) -> Widths {
+    let first = widths_with(room, made, width);
+    let second = match made.max_width {
+        Some(most) if most < first.width => widths_with(room, made, Some(most)),
+        _ => first,
+    };
+    if second.width < made.min_width {
+        widths_with(room, made, Some(made.min_width))
+    } else {
+        second
     }
 }
 
@@ -135,20 +158,16 @@ fn both(border: Edges, padding: Edges) -> Edges {
 /// The used sizes of a block beside its containing block. Its box stands in this context.
 fn used_box(made: &Made, context: usize, root: bool, containing: ContainingBlock) -> PlainBox {
     let edge = both(made.border, made.padding);
-    let float = made.float != Word::None;
     let room = containing
         .width
         .saturating_sub(edge.left)
         .saturating_sub(edge.right);
-    let widths = if float {
-        widths_of_float(made)
-    } else {
-        widths_in_flow(room, made)
-    };
+    let width = used_size(made.width, Some(containing.width));
+    let widths = used_widths(room, made, width);
     PlainBox {
         parent: made.parent,
         context,
-        inner: root || float || made.hidden,
+        inner: root || made.float != Word::None || made.hidden,
         float: made.float,
         clear: made.clear,
         margin: Edges {
@@ -159,7 +178,7 @@ fn used_box(made: &Made, context: usize, root: bool, containing: ContainingBlock
         },
         edge,
         width: widths.width,
-        height: used_height(made.height, containing.height),
+        height: used_size(made.height, containing.height),
         min_height: made.min_height,
         max_height: made.max_height,
     }
