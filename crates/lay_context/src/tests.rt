@@ -3,6 +3,7 @@
 
 mod clearance;
 mod comparison;
+mod context;
 mod context_order;
 mod floats;
 mod flow;

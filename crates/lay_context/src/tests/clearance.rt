@@ -1,7 +1,8 @@
 //! Clearance (CSS 2.2, 9.5.2): a context is laid out once more for each box with `clear`, without its clearance.
 
+use crate::tests::context::Context;
 use crate::tests::floats::clears;
-use crate::tests::flow::{Flow, Given, settled};
+use crate::tests::flow::{Flow, settled};
 use crate::tests::margins::top_of;
 use crate::tests::sizes::{PlainBox, box_at, stands_in};
 use lay_doc::Word;
@@ -18,20 +19,20 @@ fn may_clear(boxes: &[PlainBox], own: usize, place: usize) -> bool {
 /// the mark of such a float.
 fn has_clearance(
     alloc: Global,
-    given: &Given<'_>,
+    context: &Context<'_>,
     without: &Flow,
     place: usize,
 ) -> Result<bool, NoMemory> {
-    let clear = box_at(given.boxes, place).clear;
-    let floats = without.floats_before(alloc, given, place)?;
+    let clear = box_at(context.boxes, place).clear;
+    let floats = without.floats_before(alloc, context, place)?;
     for float in &floats {
         if clears(clear, float.side) && without.at(place).mark < float.bottom {
             return Ok(true);
         }
     }
     for k in 0..place {
-        let other = box_at(given.boxes, k);
-        if stands_in(given.boxes, given.own, k)
+        let other = box_at(context.boxes, k);
+        if stands_in(context.boxes, context.own, k)
             && other.is_float()
             && clears(clear, other.float)
             && without.runs().adjoin(top_of(k), top_of(place))
@@ -55,16 +56,16 @@ pub fn hypothetical_edges(
     }
     for k in 0..boxes.len() {
         if may_clear(boxes, own, k) {
-            let given = Given {
+            let context = Context {
                 boxes,
                 own,
                 cleared: cleared.as_slice(),
                 heights,
             };
-            let Some(without) = settled(alloc, &given)? else {
+            let Some(without) = settled(alloc, &context)? else {
                 return Ok(None);
             };
-            let clears = has_clearance(alloc, &given, &without, k)?;
+            let clears = has_clearance(alloc, &context, &without, k)?;
             if clears && let Some(edge) = cleared.get_mut(k) {
                 *edge = Some(without.at(k).mark);
             }

@@ -1,5 +1,5 @@
-//! Places of floats, and of boxes that no float overlaps (CSS 2.2, 9.5 and 9.5.1, with 9.5.2 for `clear` on floats): the
-//! least of all candidates that the rules allow.
+//! Places of floats, and of boxes that no float overlaps (CSS 2.2, 9.5 and 9.5.1, with 9.5.2 for `clear` on floats):
+//! the first of all candidates that the rules allow.
 
 use lay_doc::Word;
 use lay_units::NoMemory;
@@ -37,7 +37,7 @@ pub struct Corner {
 }
 
 impl Corner {
-    /// It is higher than another one, or as high and further left.
+    /// It is higher than another one (8), or as high and further left (9).
     fn is_before(self, other: Corner) -> bool {
         self.y < other.y || (self.y == other.y && self.x < other.x)
     }
@@ -113,7 +113,7 @@ impl Asked {
         rule_2 && rule_3 && rule_5 && rule_7 && cleared
     }
 
-    /// All of these rules, with 1, 4 and 6.
+    /// All of these rules, with 1, and with 4 to 6 as far as they don't speak of floats.
     fn obeys(self, floats: &[FloatBox], corner: Corner) -> bool {
         for other in floats {
             if !self.obeys_beside(corner, *other) {

@@ -1,10 +1,11 @@
-//! The places and heights of the boxes of one context (CSS 2.2, 8.3.1, 9.4.1, 9.5, 10.6.3, 10.6.7 and 10.7), as a column
-//! of values for each quantity. Each value has an equation, which names others; all are worked out again and again
-//! until none changes. Positions are counted from the corner of the border box of the context's own box.
+//! The places and heights of the boxes of one context (CSS 2.2, 8.3.1, 9.4.1, 9.5, 10.6.3, 10.6.7 and 10.7), as a
+//! column of values for each quantity. Each value has an equation, which names others; all are worked out again and
+//! again until none changes. Positions are counted from the corner of the border box of the context's own box.
 
+use crate::tests::context::Context;
 use crate::tests::floats::{Asked, Corner, FloatBox, clears, place_float, place_solid};
 use crate::tests::margins::{Runs, bottom_of, top_of};
-use crate::tests::sizes::{PlainBox, between, box_at, is_child, stands_in};
+use crate::tests::sizes::{between, is_child, stands_in};
 use lay_doc::Word;
 use lay_units::NoMemory;
 use std::alloc::Global;
@@ -32,87 +33,18 @@ const NO_SPOT: Spot = Spot {
     place: Corner { x: 0, y: 0 },
 };
 
-/// The boxes of the context of the box at `own`. Each box with clearance has its hypothetical edge in `cleared`. The
-/// border boxes of inner contexts have these heights.
-#[derive(Clone, Copy)]
-pub struct Given<'a> {
-    pub boxes: &'a [PlainBox],
-    pub own: usize,
-    pub cleared: &'a [Option<i64>],
-    pub heights: &'a [i64],
-}
-
 #[derive(Drop)]
 pub struct Flow {
     runs: Runs,
     spots: Vec<Spot>,
 }
 
-impl Given<'_> {
-    fn at(&self, place: usize) -> PlainBox {
-        box_at(self.boxes, place)
-    }
-
-    fn is_own(&self, place: usize) -> bool {
-        place == self.own
-    }
-
-    /// The height of the border box of an inner context.
-    fn inner_height(&self, place: usize) -> i64 {
-        self.heights.get(place).copied().unwrap_or(0)
-    }
-
-    fn hypothetical_edge(&self, place: usize) -> Option<i64> {
-        self.cleared.get(place).copied().unwrap_or(None)
-    }
-
-    /// The sibling before a box.
-    fn sibling_before(&self, place: usize) -> Option<usize> {
-        let parent = self.at(place).parent;
-        for k in (0..self.boxes.len()).rev() {
-            if k < place && is_child(self.boxes, parent, k) {
-                return Some(k);
-            }
-        }
-        None
-    }
-
-    /// The last child in flow.
-    fn last_in_flow(&self, parent: usize) -> Option<usize> {
-        for k in (0..self.boxes.len()).rev() {
-            if is_child(self.boxes, parent, k) && !self.at(k).is_float() {
-                return Some(k);
-            }
-        }
-        None
-    }
-
-    /// The size of the margin box of a float.
-    fn float_width(&self, place: usize) -> i64 {
-        let plain = self.at(place);
-        plain
-            .margin
-            .left
-            .saturating_add(plain.border_width())
-            .saturating_add(plain.margin.right)
-    }
-
-    fn float_height(&self, place: usize) -> i64 {
-        let plain = self.at(place);
-        plain
-            .margin
-            .top
-            .saturating_add(self.inner_height(place))
-            .saturating_add(plain.margin.bottom)
-    }
-}
-
 impl Flow {
     /// The flow in which no value is known.
-    fn new(alloc: Global, given: &Given<'_>) -> Result<Flow, NoMemory> {
-        let runs = Runs::new(alloc, given.boxes, given.own, given.cleared)?;
+    fn new(alloc: Global, context: &Context<'_>) -> Result<Flow, NoMemory> {
+        let runs = Runs::new(alloc, context.boxes, context.own, context.cleared)?;
         let mut spots = Vec::new(alloc);
-        for _ in given.boxes {
+        for _ in context.boxes {
             spots.push(NO_SPOT)?;
         }
         Ok(Flow { runs, spots })
@@ -127,47 +59,49 @@ impl Flow {
     }
 
     /// The top edge of the content of a box.
-    fn content_top(&self, given: &Given<'_>, place: usize) -> i64 {
-        self.at(place).mark.saturating_add(given.at(place).edge.top)
+    fn content_top(&self, context: &Context<'_>, place: usize) -> i64 {
+        self.at(place)
+            .mark
+            .saturating_add(context.at(place).edge.top)
     }
 
-    fn content_left(&self, given: &Given<'_>, place: usize) -> i64 {
+    fn content_left(&self, context: &Context<'_>, place: usize) -> i64 {
         self.at(place)
             .left
-            .saturating_add(given.at(place).edge.left)
+            .saturating_add(context.at(place).edge.left)
     }
 
     /// The floats before a place, as they stand.
     pub fn floats_before(
         &self,
         alloc: Global,
-        given: &Given<'_>,
+        context: &Context<'_>,
         place: usize,
     ) -> Result<Vec<FloatBox>, NoMemory> {
         let mut floats = Vec::new(alloc);
-        for k in 0..given.boxes.len() {
-            if k < place && stands_in(given.boxes, given.own, k) && given.at(k).is_float() {
-                floats.push(self.float_box(given, k))?;
+        for k in 0..context.boxes.len() {
+            if k < place && stands_in(context.boxes, context.own, k) && context.at(k).is_float() {
+                floats.push(self.float_box(context, k))?;
             }
         }
         Ok(floats)
     }
 
-    fn float_box(&self, given: &Given<'_>, place: usize) -> FloatBox {
+    fn float_box(&self, context: &Context<'_>, place: usize) -> FloatBox {
         let corner = self.at(place).place;
         FloatBox {
-            side: given.at(place).float,
+            side: context.at(place).float,
             left: corner.x,
             top: corner.y,
-            right: corner.x.saturating_add(given.float_width(place)),
-            bottom: corner.y.saturating_add(given.float_height(place)),
+            right: corner.x.saturating_add(context.float_width(place)),
+            bottom: corner.y.saturating_add(context.float_height(place)),
         }
     }
 
     /// A box stands its left margin away from the content edge of its parent.
-    fn left(&self, given: &Given<'_>, place: usize) -> i64 {
-        let plain = given.at(place);
-        self.content_left(given, plain.parent)
+    fn left(&self, context: &Context<'_>, place: usize) -> i64 {
+        let plain = context.at(place);
+        self.content_left(context, plain.parent)
             .saturating_add(plain.margin.left)
     }
 
@@ -193,27 +127,27 @@ impl Flow {
 
     /// A box with clearance makes its run start so that it stands at its clear edge. Another one's run starts at what
     /// stands before it: below its sibling, below the top edge of its parent, or where its parent's run does.
-    fn start(&self, given: &Given<'_>, floats: &[FloatBox], place: usize) -> i64 {
-        if let Some(hypothetical) = given.hypothetical_edge(place) {
-            let edge = clear_edge(given.at(place).clear, floats, hypothetical);
+    fn start(&self, context: &Context<'_>, floats: &[FloatBox], place: usize) -> i64 {
+        if let Some(hypothetical) = context.hypothetical_edge(place) {
+            let edge = clear_edge(context.at(place).clear, floats, hypothetical);
             return edge.saturating_sub(self.margins_above(place));
         }
-        let parent = given.at(place).parent;
-        match given.sibling_before(place) {
+        let parent = context.at(place).parent;
+        match context.sibling_before(place) {
             Some(sibling) => self.start_below(sibling),
-            None if given.is_own(parent) || given.at(parent).edge.top != 0 => {
-                self.content_top(given, parent)
+            None if context.is_own(parent) || context.at(parent).edge.top != 0 => {
+                self.content_top(context, parent)
             }
             None => self.at(parent).start,
         }
     }
 
-    /// A box stands at the end of the run of its top margin. One that is collapsed through stands where its parent does,
-    /// if that one's top margin is in the run, and else where it would stand if it had a bottom border.
-    fn mark(&self, given: &Given<'_>, start: i64, place: usize) -> i64 {
-        let parent = given.at(place).parent;
+    /// A box stands at the end of the run of its top margin. One that is collapsed through stands where its parent
+    /// does, if that one's top margin is in the run, and else where it would stand if it had a bottom border.
+    fn mark(&self, context: &Context<'_>, start: i64, place: usize) -> i64 {
+        let parent = context.at(place).parent;
         if self.runs.is_through(place)
-            && !given.is_own(parent)
+            && !context.is_own(parent)
             && self.runs.adjoin(top_of(parent), top_of(place))
         {
             return self.at(parent).mark;
@@ -225,26 +159,26 @@ impl Flow {
     fn place(
         &self,
         alloc: Global,
-        given: &Given<'_>,
+        context: &Context<'_>,
         floats: &[FloatBox],
         spot: Spot,
         place: usize,
     ) -> Result<Option<Corner>, NoMemory> {
-        let plain = given.at(place);
+        let plain = context.at(place);
         if !plain.inner {
             return Ok(Some(NO_SPOT.place));
         }
-        let content_left = self.content_left(given, plain.parent);
-        let right = content_left.saturating_add(given.at(plain.parent).width);
+        let content_left = self.content_left(context, plain.parent);
+        let right = content_left.saturating_add(context.at(plain.parent).width);
         if plain.is_float() {
             let asked = Asked {
                 side: plain.float,
                 clear: plain.clear,
-                width: given.float_width(place),
-                height: given.float_height(place),
+                width: context.float_width(place),
+                height: context.float_height(place),
                 left: content_left,
                 right,
-                highest: spot.mark.max(self.content_top(given, plain.parent)),
+                highest: spot.mark.max(self.content_top(context, plain.parent)),
             };
             return place_float(alloc, asked, floats);
         }
@@ -252,7 +186,7 @@ impl Flow {
             side: Word::None,
             clear: Word::None,
             width: plain.border_width(),
-            height: given.inner_height(place),
+            height: context.inner_height(place),
             left: spot.left,
             right,
             highest: spot.mark,
@@ -263,30 +197,32 @@ impl Flow {
     /// Where the content of a box ends that has a height of `auto` (10.6.3): below the bottom margin of its last child
     /// in flow, if that doesn't collapse with its own, else at the bottom border edge of the last one whose top margin
     /// doesn't collapse with that, and else at its top.
-    fn content_bottom(&self, given: &Given<'_>, place: usize) -> i64 {
-        if let Some(last) = given.last_in_flow(place)
+    fn content_bottom(&self, context: &Context<'_>, place: usize) -> i64 {
+        if let Some(last) = context.last_in_flow(place)
             && !self.runs.adjoin(bottom_of(last), bottom_of(place))
         {
             return self
                 .start_below(last)
                 .saturating_add(self.runs.whole(bottom_of(last)));
         }
-        for k in (0..given.boxes.len()).rev() {
-            if is_child(given.boxes, place, k)
-                && !given.at(k).is_float()
+        for k in (0..context.boxes.len()).rev() {
+            if is_child(context.boxes, place, k)
+                && !context.at(k).is_float()
                 && !self.runs.adjoin(top_of(k), bottom_of(place))
             {
                 let spot = self.at(k);
                 return spot.mark.saturating_add(spot.height);
             }
         }
-        self.content_top(given, place)
+        self.content_top(context, place)
     }
 
     /// The height of a border box whose content ends here where it is `auto`.
-    fn border_height(&self, given: &Given<'_>, bottom: i64, place: usize) -> i64 {
-        let plain = given.at(place);
-        let auto = bottom.saturating_sub(self.content_top(given, place)).max(0);
+    fn border_height(&self, context: &Context<'_>, bottom: i64, place: usize) -> i64 {
+        let plain = context.at(place);
+        let auto = bottom
+            .saturating_sub(self.content_top(context, place))
+            .max(0);
         let height = plain.height.unwrap_or(auto);
         plain
             .edge
@@ -297,56 +233,56 @@ impl Flow {
 
     /// How far the bottom border edge of a box is below its mark. What follows an inner context's box in flow starts
     /// at the bottom border edge of that.
-    fn height(&self, given: &Given<'_>, spot: Spot, place: usize) -> i64 {
+    fn height(&self, context: &Context<'_>, spot: Spot, place: usize) -> i64 {
         if self.runs.is_through(place) {
             return 0;
         }
-        if given.at(place).inner {
+        if context.at(place).inner {
             return spot
                 .place
                 .y
-                .saturating_add(given.inner_height(place))
+                .saturating_add(context.inner_height(place))
                 .saturating_sub(spot.mark);
         }
-        self.border_height(given, self.content_bottom(given, place), place)
+        self.border_height(context, self.content_bottom(context, place), place)
     }
 
     /// The values of the box at a place by its equations; None where it has no place.
     fn spot(
         &self,
         alloc: Global,
-        given: &Given<'_>,
+        context: &Context<'_>,
         place: usize,
     ) -> Result<Option<Spot>, NoMemory> {
-        let floats = self.floats_before(alloc, given, place)?;
-        let left = self.left(given, place);
-        let start = self.start(given, floats.as_slice(), place);
-        let mark = self.mark(given, start, place);
+        let floats = self.floats_before(alloc, context, place)?;
+        let left = self.left(context, place);
+        let start = self.start(context, floats.as_slice(), place);
+        let mark = self.mark(context, start, place);
         let flowing = Spot {
             left,
             start,
             mark,
             ..NO_SPOT
         };
-        let Some(corner) = self.place(alloc, given, floats.as_slice(), flowing, place)? else {
+        let Some(corner) = self.place(alloc, context, floats.as_slice(), flowing, place)? else {
             return Ok(None);
         };
         let placed = Spot {
             place: corner,
             ..flowing
         };
-        let height = self.height(given, placed, place);
+        let height = self.height(context, placed, place);
         Ok(Some(Spot { height, ..placed }))
     }
 
     /// The values of the context's own box, which reaches round its floats.
-    fn own_spot(&self, alloc: Global, given: &Given<'_>) -> Result<Spot, NoMemory> {
-        let floats = self.floats_before(alloc, given, given.boxes.len())?;
-        let mut bottom = self.content_bottom(given, given.own);
+    fn own_spot(&self, alloc: Global, context: &Context<'_>) -> Result<Spot, NoMemory> {
+        let floats = self.floats_before(alloc, context, context.boxes.len())?;
+        let mut bottom = self.content_bottom(context, context.own);
         for float in &floats {
             bottom = bottom.max(float.bottom);
         }
-        let height = self.border_height(given, bottom, given.own);
+        let height = self.border_height(context, bottom, context.own);
         Ok(Spot { height, ..NO_SPOT })
     }
 
@@ -363,18 +299,18 @@ impl Flow {
     }
 
     /// Works out all values again; true where that changes one. None where a box has no place.
-    fn work_out(&mut self, alloc: Global, given: &Given<'_>) -> Result<Option<bool>, NoMemory> {
+    fn work_out(&mut self, alloc: Global, context: &Context<'_>) -> Result<Option<bool>, NoMemory> {
         let mut changes = false;
-        for k in 0..given.boxes.len() {
-            if stands_in(given.boxes, given.own, k) {
-                let Some(spot) = self.spot(alloc, given, k)? else {
+        for k in 0..context.boxes.len() {
+            if stands_in(context.boxes, context.own, k) {
+                let Some(spot) = self.spot(alloc, context, k)? else {
                     return Ok(None);
                 };
                 changes = self.set(k, spot) || changes;
             }
         }
-        let own = self.own_spot(alloc, given)?;
-        changes = self.set(given.own, own) || changes;
+        let own = self.own_spot(alloc, context)?;
+        changes = self.set(context.own, own) || changes;
         Ok(Some(changes))
     }
 }
@@ -391,10 +327,10 @@ fn clear_edge(clear: Word, floats: &[FloatBox], hypothetical: i64) -> i64 {
 }
 
 /// The flow whose values meet all equations. None where they don't settle, or a box has no place.
-pub fn settled(alloc: Global, given: &Given<'_>) -> Result<Option<Flow>, NoMemory> {
-    let mut flow = Flow::new(alloc, given)?;
-    for _ in 0..given.boxes.len().saturating_add(2) {
-        match flow.work_out(alloc, given)? {
+pub fn settled(alloc: Global, context: &Context<'_>) -> Result<Option<Flow>, NoMemory> {
+    let mut flow = Flow::new(alloc, context)?;
+    for _ in 0..context.boxes.len().saturating_add(2) {
+        match flow.work_out(alloc, context)? {
             None => return Ok(None),
             Some(false) => return Ok(Some(flow)),
             Some(true) => {}

@@ -2,8 +2,9 @@
 //! page.
 
 use crate::tests::clearance::hypothetical_edges;
+use crate::tests::context::Context;
 use crate::tests::floats::Corner;
-use crate::tests::flow::{Flow, Given, settled};
+use crate::tests::flow::{Flow, settled};
 use crate::tests::made::Made;
 use crate::tests::made_document::id_of;
 use crate::tests::sizes::{PlainBox, box_at, boxes_of, stands_in};
@@ -156,13 +157,13 @@ impl Plain {
         let Some(cleared) = hypothetical_edges(alloc, boxes, own, heights)? else {
             return Ok(false);
         };
-        let given = Given {
+        let context = Context {
             boxes,
             own,
             cleared: cleared.as_slice(),
             heights,
         };
-        let Some(flow) = settled(alloc, &given)? else {
+        let Some(flow) = settled(alloc, &context)? else {
             return Ok(false);
         };
         self.take(&flow, cleared.as_slice(), own);
