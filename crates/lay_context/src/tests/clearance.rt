@@ -15,9 +15,8 @@ fn may_clear(boxes: &[PlainBox], own: usize, place: usize) -> bool {
     stands_in(boxes, own, place) && !plain.is_float() && plain.clear != Word::None
 }
 
-/// In the flow without its clearance, the box is above the bottom of a float to clear, or the run of its top margin has
-/// the mark of such a float.
-fn has_clearance(
+/// The box is above the bottom of a float to clear.
+fn is_above_float(
     alloc: Global,
     context: &Context<'_>,
     without: &Flow,
@@ -30,6 +29,12 @@ fn has_clearance(
             return Ok(true);
         }
     }
+    Ok(false)
+}
+
+/// The run of the box's top margin has the mark of an earlier float to clear, which would move with the box.
+fn moves_with_float(context: &Context<'_>, without: &Flow, place: usize) -> bool {
+    let clear = box_at(context.boxes, place).clear;
     for k in 0..place {
         let other = box_at(context.boxes, k);
         if stands_in(context.boxes, context.own, k)
@@ -37,10 +42,21 @@ fn has_clearance(
             && clears(clear, other.float)
             && without.runs().adjoin(top_of(k), top_of(place))
         {
-            return Ok(true);
+            return true;
         }
     }
-    Ok(false)
+    false
+}
+
+/// Whether the box has clearance, by the flow without it.
+fn has_clearance(
+    alloc: Global,
+    context: &Context<'_>,
+    without: &Flow,
+    place: usize,
+) -> Result<bool, NoMemory> {
+    let above = is_above_float(alloc, context, without, place)?;
+    Ok(above || moves_with_float(context, without, place))
 }
 
 /// The hypothetical edges of the boxes with clearance, in document order. None where a flow has no solution.
