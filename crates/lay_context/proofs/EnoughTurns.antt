@@ -1,4 +1,4 @@
--- As many turns as a document has nodes reach all of its contexts, since each inner context's node stands behind that of the
+-- More turns than a document has nodes reach no further context, since each inner context's node stands behind that of the
 -- context around it.
 use Rattle.std.proofs.Common.{All, rules, inl, inr, ◌⊎◌, ◌≡◌, ◌<◌, ◌≤◌, ℕ, zero, suc, ◌+◌, Bool, true, false, List, [], ◌∷◌, length, get_or, refl, sym, ap, ◌∙◌, subst, arith, if◌then◌else◌, Option, Some, None, IsTrue, ◌==◌, option_map}
 use Rattle.std.proofs.lemmas.Bool.{cases_eq}

@@ -1,5 +1,5 @@
 -- The equations of a document have one solution: each column has one value beside those before it, and so has the tree. The
--- list of a document's contexts has all of them.
+-- nodes in the list of a document's contexts are contexts.
 use Rattle.std.specs.Prelude.{ℕ, ◌≡◌, ◌+◌, ◌<◌, List, length}
 use Rattle.lay_doc.specs.declared.style.Style.{Style}
 use Rattle.lay_doc.specs.Document.{Document, IsDocument}

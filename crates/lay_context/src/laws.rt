@@ -1,5 +1,5 @@
-//! The laws of the definitions: the equations of a document have one solution, and the list of its contexts
-//! has all of them.
+//! The laws of the definitions: the equations of a document have one solution, and the nodes in the list of
+//! its contexts are contexts.
 
 ghost use Rattle.lay_context.specs.Laws.{EnoughTurns, OneContextPlaces, OneContextSizes, OneDocumentPlaces, OneDocumentSizes, OnePageCorners, OneSolution, SpotsAreContexts};
 
@@ -13,7 +13,7 @@ pub fn one_document_sizes()
     ensures { OneDocumentSizes }
 {}
 
-/// As many turns as a document has nodes reach all of its contexts: more turns reach no further one.
+/// More turns than a document has nodes reach no further context.
 pub fn enough_turns()
     ensures { EnoughTurns }
 {}

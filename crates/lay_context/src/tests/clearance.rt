@@ -60,7 +60,7 @@ fn has_clearance(
 }
 
 /// The hypothetical edges of the boxes with clearance, in document order. None where a flow has no solution.
-pub fn hypothetical_edges(
+pub(crate) fn hypothetical_edges(
     alloc: Global,
     boxes: &[PlainBox],
     own: usize,

@@ -13,25 +13,25 @@ pub struct Context<'a> {
 }
 
 impl Context<'_> {
-    pub fn at(&self, place: usize) -> PlainBox {
+    pub(crate) fn at(&self, place: usize) -> PlainBox {
         box_at(self.boxes, place)
     }
 
-    pub fn is_own(&self, place: usize) -> bool {
+    pub(crate) fn is_own(&self, place: usize) -> bool {
         place == self.own
     }
 
     /// The height of the border box of an inner context.
-    pub fn inner_height(&self, place: usize) -> i64 {
+    pub(crate) fn inner_height(&self, place: usize) -> i64 {
         self.heights.get(place).copied().unwrap_or(0)
     }
 
-    pub fn hypothetical_edge(&self, place: usize) -> Option<i64> {
+    pub(crate) fn hypothetical_edge(&self, place: usize) -> Option<i64> {
         self.cleared.get(place).copied().unwrap_or(None)
     }
 
     /// The sibling before a box.
-    pub fn sibling_before(&self, place: usize) -> Option<usize> {
+    pub(crate) fn sibling_before(&self, place: usize) -> Option<usize> {
         let parent = self.at(place).parent;
         for k in (0..self.boxes.len()).rev() {
             if k < place && is_child(self.boxes, parent, k) {
@@ -42,7 +42,7 @@ impl Context<'_> {
     }
 
     /// The last child in flow.
-    pub fn last_in_flow(&self, parent: usize) -> Option<usize> {
+    pub(crate) fn last_in_flow(&self, parent: usize) -> Option<usize> {
         for k in (0..self.boxes.len()).rev() {
             if is_child(self.boxes, parent, k) && !self.at(k).is_float() {
                 return Some(k);
@@ -52,7 +52,7 @@ impl Context<'_> {
     }
 
     /// The size of the margin box of a float.
-    pub fn float_width(&self, place: usize) -> i64 {
+    pub(crate) fn float_width(&self, place: usize) -> i64 {
         let plain = self.at(place);
         plain
             .margin
@@ -61,7 +61,7 @@ impl Context<'_> {
             .saturating_add(plain.margin.right)
     }
 
-    pub fn float_height(&self, place: usize) -> i64 {
+    pub(crate) fn float_height(&self, place: usize) -> i64 {
         let plain = self.at(place);
         plain
             .margin

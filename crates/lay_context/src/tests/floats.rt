@@ -51,7 +51,7 @@ impl Corner {
 }
 
 /// A box with this `clear` goes past the floats of this side.
-pub fn clears(clear: Word, side: Word) -> bool {
+pub(crate) fn clears(clear: Word, side: Word) -> bool {
     clear == Word::Both || clear == side
 }
 
@@ -210,7 +210,7 @@ fn mirror_images(alloc: Global, floats: &[FloatBox]) -> Result<Vec<FloatBox>, No
 
 /// Where the margin box of a float stands among the earlier ones: at the highest place that the rules allow, and at the
 /// outermost such. A right float is a left one in the mirror image.
-pub fn place_float(
+pub(crate) fn place_float(
     alloc: Global,
     asked: Asked,
     floats: &[FloatBox],
@@ -228,7 +228,7 @@ pub fn place_float(
 
 /// Where the border box of a box stands that no float overlaps: at the highest top at which it fits beside the floats,
 /// or has none beside it.
-pub fn place_solid(
+pub(crate) fn place_solid(
     alloc: Global,
     asked: Asked,
     floats: &[FloatBox],

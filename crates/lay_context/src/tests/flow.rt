@@ -50,11 +50,11 @@ impl Flow {
         Ok(Flow { runs, spots })
     }
 
-    pub fn runs(&self) -> &Runs {
+    pub(crate) fn runs(&self) -> &Runs {
         &self.runs
     }
 
-    pub fn at(&self, place: usize) -> Spot {
+    pub(crate) fn at(&self, place: usize) -> Spot {
         self.spots.get(place).copied().unwrap_or(NO_SPOT)
     }
 
@@ -72,7 +72,7 @@ impl Flow {
     }
 
     /// The floats before a place, as they stand.
-    pub fn floats_before(
+    pub(crate) fn floats_before(
         &self,
         alloc: Global,
         context: &Context<'_>,
@@ -327,7 +327,7 @@ fn clear_edge(clear: Word, floats: &[FloatBox], hypothetical: i64) -> i64 {
 }
 
 /// The flow whose values meet all equations. None where they don't settle, or a box has no place.
-pub fn settled(alloc: Global, context: &Context<'_>) -> Result<Option<Flow>, NoMemory> {
+pub(crate) fn settled(alloc: Global, context: &Context<'_>) -> Result<Option<Flow>, NoMemory> {
     let mut flow = Flow::new(alloc, context)?;
     for _ in 0..context.boxes.len().saturating_add(2) {
         match flow.work_out(alloc, context)? {

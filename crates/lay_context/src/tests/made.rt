@@ -51,7 +51,7 @@ pub struct Made {
 }
 
 /// So many px.
-pub fn px(v: i64) -> i64 {
+pub(crate) fn px(v: i64) -> i64 {
     v.saturating_mul(64)
 }
 
@@ -315,7 +315,7 @@ fn above_last(made: &[Made], steps: u64) -> usize {
 
 /// The blocks of the document of this seed, in document order. The first one is the root, and the parent of each
 /// other one is the block before it or an ancestor of that.
-pub fn made_blocks(alloc: Global, seed: u64) -> Result<Vec<Made>, NoMemory> {
+pub(crate) fn made_blocks(alloc: Global, seed: u64) -> Result<Vec<Made>, NoMemory> {
     let mut dice = Dice::new(seed);
     let mut made = Vec::new(alloc);
     made.push(dice.root())?;

@@ -11,7 +11,7 @@ pub const WIDTH: u32 = 400;
 pub const HEIGHT: u32 = 300;
 
 /// The id of the block at a place.
-pub fn id_of(place: usize) -> u32 {
+pub(crate) fn id_of(place: usize) -> u32 {
     match u32::try_from(place) {
         Ok(place) => place.saturating_add(1),
         Err(_) => 0,
@@ -105,7 +105,7 @@ fn put(alloc: Global, doc: &mut Doc, place: usize, made: &Made) -> Result<bool, 
 }
 
 /// The document of these blocks; None where one has a fault.
-pub fn document_of(alloc: Global, made: &[Made]) -> Result<Option<Doc>, NoMemory> {
+pub(crate) fn document_of(alloc: Global, made: &[Made]) -> Result<Option<Doc>, NoMemory> {
     let Some((first, others)) = made.split_first() else {
         return Ok(None);
     };

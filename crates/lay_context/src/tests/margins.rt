@@ -11,14 +11,14 @@ pub struct Margin {
     pub bottom: bool,
 }
 
-pub fn top_of(place: usize) -> Margin {
+pub(crate) fn top_of(place: usize) -> Margin {
     Margin {
         place,
         bottom: false,
     }
 }
 
-pub fn bottom_of(place: usize) -> Margin {
+pub(crate) fn bottom_of(place: usize) -> Margin {
     Margin {
         place,
         bottom: true,
@@ -228,7 +228,7 @@ impl Collapsed {
 
 impl Runs {
     /// The runs of the context of the box at `own`; `cleared` has a value for each box with clearance.
-    pub fn new(
+    pub(crate) fn new(
         alloc: Global,
         boxes: &[PlainBox],
         own: usize,
@@ -261,7 +261,7 @@ impl Runs {
     }
 
     /// The two margins of the box adjoin.
-    pub fn is_through(&self, place: usize) -> bool {
+    pub(crate) fn is_through(&self, place: usize) -> bool {
         flag(self.through.as_slice(), place)
     }
 
@@ -276,13 +276,13 @@ impl Runs {
     }
 
     /// Two margins of the context are in one run.
-    pub fn adjoin(&self, a: Margin, b: Margin) -> bool {
+    pub(crate) fn adjoin(&self, a: Margin, b: Margin) -> bool {
         let run = self.run(a);
         run != 0 && run == self.run(b)
     }
 
     /// What the whole run of a margin collapses to.
-    pub fn whole(&self, margin: Margin) -> i64 {
+    pub(crate) fn whole(&self, margin: Margin) -> i64 {
         let run = self.run(margin);
         let mut collapsed = NONE_COLLAPSED;
         for member in &self.sequence {
@@ -294,7 +294,7 @@ impl Runs {
     }
 
     /// What the margins before this one in its run collapse to.
-    pub fn before(&self, margin: Margin) -> i64 {
+    pub(crate) fn before(&self, margin: Margin) -> i64 {
         let run = self.run(margin);
         let mut collapsed = NONE_COLLAPSED;
         for member in &self.sequence {

@@ -118,7 +118,7 @@ impl Plain {
         })
     }
 
-    pub fn seen(&self) -> Seen {
+    pub(crate) fn seen(&self) -> Seen {
         self.seen
     }
 
@@ -220,7 +220,7 @@ impl Plain {
     }
 
     /// The contexts with their pieces, in document order.
-    pub fn lines(&self, alloc: Global) -> Result<Vec<Line>, NoMemory> {
+    pub(crate) fn lines(&self, alloc: Global) -> Result<Vec<Line>, NoMemory> {
         let mut lines = Vec::new(alloc);
         for k in 0..self.boxes.len() {
             if box_at(self.boxes.as_slice(), k).inner {
@@ -232,7 +232,7 @@ impl Plain {
 }
 
 /// The layout of these blocks; None where a context has no solution.
-pub fn plain_layout(alloc: Global, made: &[Made]) -> Result<Option<Plain>, NoMemory> {
+pub(crate) fn plain_layout(alloc: Global, made: &[Made]) -> Result<Option<Plain>, NoMemory> {
     let mut plain = Plain::new(alloc, made)?;
     for own in (0..made.len()).rev() {
         let inner = box_at(plain.boxes.as_slice(), own).inner;

@@ -45,7 +45,7 @@ struct Widths {
 }
 
 /// A height held between its bounds, the least one last (10.7).
-pub fn between(height: i64, least: i64, most: Option<i64>) -> i64 {
+pub(crate) fn between(height: i64, least: i64, most: Option<i64>) -> i64 {
     match most {
         None => height.max(least),
         Some(most) => height.min(most).max(least),
@@ -53,12 +53,12 @@ pub fn between(height: i64, least: i64, most: Option<i64>) -> i64 {
 }
 
 impl PlainBox {
-    pub fn is_float(&self) -> bool {
+    pub(crate) fn is_float(&self) -> bool {
         self.float != Word::None
     }
 
     /// The width of its border box.
-    pub fn border_width(&self) -> i64 {
+    pub(crate) fn border_width(&self) -> i64 {
         self.edge
             .left
             .saturating_add(self.width)
@@ -206,7 +206,7 @@ fn next_box(boxes: &[PlainBox], made: &Made) -> PlainBox {
 }
 
 /// The boxes of these blocks.
-pub fn boxes_of(alloc: Global, made: &[Made]) -> Result<Vec<PlainBox>, NoMemory> {
+pub(crate) fn boxes_of(alloc: Global, made: &[Made]) -> Result<Vec<PlainBox>, NoMemory> {
     let mut boxes = Vec::new(alloc);
     for block in made {
         let next = next_box(boxes.as_slice(), block);
@@ -238,7 +238,7 @@ const NO_EDGES: Edges = Edges {
 };
 
 /// The box at a place.
-pub fn box_at(boxes: &[PlainBox], place: usize) -> PlainBox {
+pub(crate) fn box_at(boxes: &[PlainBox], place: usize) -> PlainBox {
     match boxes.get(place) {
         None => NO_BOX,
         Some(found) => *found,
@@ -246,11 +246,11 @@ pub fn box_at(boxes: &[PlainBox], place: usize) -> PlainBox {
 }
 
 /// The box at a place stands in the context of the box at `own`.
-pub fn stands_in(boxes: &[PlainBox], own: usize, place: usize) -> bool {
+pub(crate) fn stands_in(boxes: &[PlainBox], own: usize, place: usize) -> bool {
     place > 0 && box_at(boxes, place).context == own
 }
 
 /// The box at a place is a child of the box at `parent` in one context.
-pub fn is_child(boxes: &[PlainBox], parent: usize, place: usize) -> bool {
+pub(crate) fn is_child(boxes: &[PlainBox], parent: usize, place: usize) -> bool {
     place > 0 && box_at(boxes, place).parent == parent
 }
