@@ -1,2 +1,5 @@
 pub mod Tables
 pub mod Measures
+pub mod ClusterSums
+pub mod PlainTexts
+pub mod WidthBounds

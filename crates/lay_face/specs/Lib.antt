@@ -1,3 +1,5 @@
+pub mod Clusters
 pub mod FaceValue
 pub mod Faces
 pub mod Laws
+pub mod PlainTexts

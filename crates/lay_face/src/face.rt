@@ -1,8 +1,9 @@
 //! Faces.
 
-ghost use Rattle.std.specs.Prelude.{◌≡◌, ◌≤◌, pos, ◌*ℤ◌, All, IfOk};
+ghost use Rattle.std.specs.Prelude.{◌≡◌, ◌≤◌, pos, ◌*ℤ◌, All, IfOk, length};
 ghost use Rattle.lay_units.specs.Units.{IsPosition, IsUsed};
 ghost use Rattle.lay_face.specs.declared.pairs.AdvancePair.{AdvancePair as Pair};
+ghost use Rattle.lay_face.specs.Clusters.{WidthsFit};
 ghost use Rattle.lay_face.specs.Faces.{FitsAt, face_of, entry_of, thousandths_of};
 
 use crate::pairs::PairList;
@@ -132,6 +133,18 @@ impl Face {
     pub fn fits_at(&self, size: Unit)
         requires { IsUsed size.0 }
         ensures { FitsAt self.now size.0 }
+    {
+        let _ = &self.table;
+    }
+
+    /// Used lengths and a text of at most 2^20 bytes meet the condition of `cluster_widths`, since the
+    /// numbers of a face are at most 10,000. Does nothing.
+    pub fn widths_fit(&self, text: &str, size: Unit, letter: Unit, word: Unit)
+        requires text { length text.now ≤ 1048576 }
+        requires size { IsUsed size.0 }
+        requires letter { IsUsed letter.0 }
+        requires word { IsUsed word.0 }
+        ensures { WidthsFit self.now (record { size = size; letter = letter; word = word }) text.now }
     {
         let _ = &self.table;
     }

@@ -1,10 +1,12 @@
 //! Faces: what characters and lines measure in a font, in thousandths of the font size (CSS 2.2, 10.8
 //! and 16.4 leave the metrics of fonts to the user agent).
 //!
-//! Contracts cite `face_of`, `entry_of` and `thousandths_of` of `specs/Faces.antt`. That a later
-//! advance of a code point wins is a law about them (`specs/Laws.antt`).
+//! Contracts cite `face_of`, `entry_of` and `thousandths_of` of `specs/Faces.antt`, and `widths_of` of
+//! `specs/Clusters.antt`. That a later advance of a code point wins is a law about them
+//! (`specs/Laws.antt`).
 #![tactic(auto)]
 
+mod clusters;
 mod face;
 mod laws;
 mod pairs;

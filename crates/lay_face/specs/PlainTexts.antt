@@ -1,0 +1,14 @@
+-- Texts of ASCII without CR: each byte is a character and a grapheme cluster of its own (CR LF would be
+-- one cluster of two). What the code knows of such a text is said here in bytes.
+use Rattle.std.specs.Prelude.{ℕ, ◌==◌, ℤ, pos, ◌+ℤ◌, ◌<◌, ◌≢◌, List, [], ◌∷◌, if◌then◌else◌}
+use Rattle.lay_face.specs.declared.clusters.Setting.{Setting}
+use Rattle.lay_face.specs.FaceValue.{FaceValue}
+use Rattle.lay_face.specs.Clusters.{char_width}
+
+abbrev pub IsPlain : List ℕ → Type 0
+IsPlain [] = Unit {0}
+IsPlain (b ∷ bs) = (b < 128) × (b ≢ 13) × IsPlain bs
+
+-- the width of a cluster of one byte
+abbrev pub plain_width_of : FaceValue → Setting → ℕ → ℤ
+plain_width_of face s b = if b == 10 then pos 0 else char_width face s b +ℤ s.letter.0
