@@ -1,8 +1,8 @@
 -- The columns of a document's contexts are as long as their boxes, and used sizes are within their bounds.
 use Rattle.std.proofs.Common.{List, arith}
 use Rattle.lay_boxgen.specs.declared.box_tree.BoxNode.{BoxNode}
-use Rattle.lay_context.specs.declared.box_sizes.BoxSizes.{BoxSizes}
-use Rattle.lay_context.specs.declared.box_sizes.ContainingBlock.{ContainingBlock}
+use Rattle.lay_sizes.specs.declared.sizing.BoxSizes.{BoxSizes}
+use Rattle.lay_sizes.specs.declared.sizing.ContainingBlock.{ContainingBlock}
 use Rattle.lay_context.specs.declared.context_spot.ContextSpot.{ContextSpot}
 use Rattle.lay_context.specs.ContextList.{boxes_in}
 use Rattle.lay_context.specs.ContextPlaces.{ContextPlaces}

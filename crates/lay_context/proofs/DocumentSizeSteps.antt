@@ -8,10 +8,10 @@ use Rattle.lay_doc.specs.Tree.{IsTree}
 use Rattle.lay_boxgen.specs.declared.box_tree.BoxNode.{BoxNode}
 use Rattle.lay_boxgen.specs.declared.box_tree.BoxTree.{BoxTree}
 use Rattle.lay_boxgen.specs.BoxColumns.{box_parents}
-use Rattle.lay_context.specs.declared.box_sizes.BoxSizes.{BoxSizes}
-use Rattle.lay_context.specs.declared.box_sizes.ContainingBlock.{ContainingBlock}
+use Rattle.lay_sizes.specs.declared.sizing.BoxSizes.{BoxSizes}
+use Rattle.lay_sizes.specs.declared.sizing.ContainingBlock.{ContainingBlock}
 use Rattle.lay_context.specs.declared.context_spot.ContextSpot.{ContextSpot}
-use Rattle.lay_context.specs.BoxSizes.{content_block}
+use Rattle.lay_sizes.specs.BoxSizes.{content_block}
 use Rattle.lay_context.specs.ContextSizes.{HasSizes, sizes_at}
 use Rattle.lay_context.specs.ContextList.{spot_at, boxes_in, boxes_of_trees}
 use Rattle.lay_context.specs.ContextOrder.{AreInOrder}

@@ -15,16 +15,21 @@ use Rattle.lay_flow.specs.declared.block.Block.{Block}
 use Rattle.lay_flow.specs.declared.shape.Shape.{Shape}
 use Rattle.lay_flow.specs.BlockSizes.{AreBlocks, BlockFits, IsBoxHeight}
 use Rattle.lay_flow.specs.BlockFloats.{AreShapes, no_shape}
-use Rattle.lay_flow.specs.BlockPositions.{is_solid}
+use Rattle.lay_flow.specs.BlockPositions.{is_solid, given_or_auto}
 use Rattle.lay_flow.specs.ContextFlow.{AreContextPlaces}
 use Rattle.lay_flow.specs.MarginRuns.{block_at, no_block}
 use Rattle.lay_flow.specs.PassBounds.{AreBoxHeights}
 use Rattle.lay_flow.specs.PlacesTo.{ShapeFits, HaveShapeSizes}
 use Rattle.lay_flow.specs.Lengths.{length_at}
-use Rattle.lay_context.specs.declared.box_sizes.BoxSizes.{BoxSizes}
-use Rattle.lay_context.specs.BoxSizes.{border_width, margin_width}
+use Rattle.lay_sizes.specs.declared.sizing.BoxSizes.{BoxSizes}
+use Rattle.lay_sizes.specs.BoxSizes.{border_width}
+use Rattle.lay_context.specs.ContextBlocks.{margin_width}
 use Rattle.lay_context.specs.ContextSizes.{sizes_at}
-use Rattle.lay_context.specs.SizeBounds.{SizeFits, HaveSizeBounds}
+use Rattle.lay_units.specs.Units.{IsUsedSize}
+use Rattle.lay_units.specs.declared.records.Len.{Len}
+use Rattle.lay_units.specs.declared.records.Len.TheVariants as len
+use Rattle.lay_sizes.specs.SizeBounds.{SizeFits, IsUsedSizeOrAuto}
+use Rattle.lay_context.specs.SizeBounds.{HaveSizeBounds}
 use Rattle.lay_context.specs.ContextBlocks.{is_inner, is_float, side_of, plain_block, solid_block, block_of_box, shape_beside, shape_of_box, AreBlocksOf, AreShapesOf}
 use Rattle.lay_context.specs.ContextOrder.{AreContextBoxes}
 use Rattle.lay_context.specs.ContextPlaces.{no_lines}
@@ -34,6 +39,11 @@ use Rattle.lay_context.proofs.LeftSteps.{length-parents}
 length-no_lines : (boxes : List BoxNode) → length (no_lines boxes) ≡ length boxes
 length-no_lines [] = refl
 length-no_lines (b ∷ bs) = ap suc (length-no_lines bs)
+
+-- a height that is given is a used size
+given_fits : (height : Len) → IsUsedSizeOrAuto height → IsUsedSize (given_or_auto height (pos 0))
+given_fits len.Auto fits = (omega (arith, ints), omega (arith, ints))
+given_fits (len.Of v) fits = fits
 
 block_fits : (floats inner : Bool) (z : BoxSizes) → SizeFits z → BlockFits (if floats then no_block else (if inner then solid_block z else plain_block z))
 block_fits true inner z fits = record {
@@ -57,7 +67,7 @@ block_fits false false z fits = record {
   margin_bottom = fits.margin_bottom;
   edge_top = fits.top;
   edge_bottom = fits.bottom;
-  height = fits.height;
+  height = given_fits z.height fits.height;
   min_height = fits.min_height;
 }
 

@@ -9,9 +9,10 @@ use Rattle.lay_boxgen.specs.declared.box_tree.BoxNode.{BoxNode}
 use Rattle.lay_boxgen.specs.BoxColumns.{box_parents}
 use Rattle.lay_floats.specs.Within.{IsWithin}
 use Rattle.lay_flow.specs.Lengths.{length_at}
-use Rattle.lay_context.specs.declared.box_sizes.BoxSizes.{BoxSizes}
+use Rattle.lay_sizes.specs.declared.sizing.BoxSizes.{BoxSizes}
 use Rattle.lay_context.specs.ContextSizes.{sizes_at}
-use Rattle.lay_context.specs.SizeBounds.{SizeFits, HaveSizeBounds}
+use Rattle.lay_sizes.specs.SizeBounds.{SizeFits}
+use Rattle.lay_context.specs.SizeBounds.{HaveSizeBounds}
 use Rattle.lay_context.specs.ContextBlocks.{left_of_box, HasLefts}
 use Rattle.lay_context.specs.PlaceBounds.{AreNearLefts}
 

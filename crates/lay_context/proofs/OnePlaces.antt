@@ -12,7 +12,7 @@ use Rattle.lay_flow.specs.BlockFloats.{no_shape}
 use Rattle.lay_flow.specs.ContextFlow.{AreContextPlaces}
 use Rattle.lay_flow.specs.MarginRuns.{no_block}
 use Rattle.lay_flow.specs.Lengths.{length_at, no_length}
-use Rattle.lay_context.specs.declared.box_sizes.BoxSizes.{BoxSizes}
+use Rattle.lay_sizes.specs.declared.sizing.BoxSizes.{BoxSizes}
 use Rattle.lay_context.specs.ContextSizes.{sizes_at}
 use Rattle.lay_context.specs.ContextBlocks.{left_of_box, AreBlocksOf, HasLefts, AreShapesOf}
 use Rattle.lay_context.specs.ContextPlaces.{no_lines}

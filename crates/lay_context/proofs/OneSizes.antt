@@ -1,63 +1,23 @@
 -- Used sizes that meet their equations are the only ones, box by box and context by context.
 use Rattle.std.proofs.Common.{◌≡◌, ℕ, zero, suc, ◌<◌, ◌≤◌, List, [], length, get_or, refl, sym, ap, ◌∙◌, arith, inl, inr, subst, Option}
 use Rattle.std.proofs.lemmas.Bool.{cases_lt}
-use Rattle.lay_units.specs.declared.length.Unit.{Unit as Length}
-use Rattle.lay_units.specs.declared.records.Len.{Len}
-use Rattle.lay_units.specs.declared.records.Sides.{Sides}
-use Rattle.lay_units.specs.declared.records.BlockIn.{BlockIn}
 use Rattle.lay_doc.specs.Tree.{IsTree}
-use Rattle.lay_doc.specs.declared.style.Style.{Style}
 use Rattle.lay_doc.specs.ComputedStyle.{style_at}
 use Rattle.lay_doc.proofs.OneStyles.{same_list}
-use Rattle.lay_widths.specs.declared.widths.BlockOut.{BlockOut}
-use Rattle.lay_widths.proofs.Unique.{one_block_width_lem, one_float_width_lem}
-use Rattle.lay_boxgen.specs.declared.facts.Flow.{Flow}
-use Rattle.lay_boxgen.specs.declared.facts.Flow.TheVariants.{InFlow, Floating, Absolute}
 use Rattle.lay_boxgen.specs.Display.{flow_of}
 use Rattle.lay_boxgen.specs.declared.box_tree.BoxNode.{BoxNode}
 use Rattle.lay_boxgen.specs.BoxColumns.{box_parents, box_styles}
-use Rattle.lay_flow.specs.Lengths.{no_length}
-use Rattle.lay_context.specs.declared.box_sizes.BoxSizes.{BoxSizes}
-use Rattle.lay_context.specs.declared.box_sizes.ContainingBlock.{ContainingBlock}
+use Rattle.lay_sizes.specs.declared.sizing.BoxSizes.{BoxSizes}
+use Rattle.lay_sizes.specs.declared.sizing.ContainingBlock.{ContainingBlock}
 use Rattle.lay_context.specs.declared.context_spot.ContextSpot.{ContextSpot}
-use Rattle.lay_context.specs.UsedLengths.{block_of}
-use Rattle.lay_context.specs.BoxSizes.{IsSized, IsUsedWidth, content_block}
-use Rattle.lay_context.specs.ContextSizes.{HasSizes, containing_block, no_sizes, sizes_at}
+use Rattle.lay_sizes.specs.BoxSizes.{IsSized, IsUsedWidth, content_block}
+use Rattle.lay_context.specs.ContextSizes.{HasSizes, containing_block, no_sizes, sizes_at, width_rule}
 use Rattle.lay_context.specs.ContextList.{spot_at, boxes_in}
 use Rattle.lay_context.specs.ContextOrder.{AreInOrder}
 use Rattle.lay_context.specs.DocumentLayout.{HasDocumentSizes, outer_block, sizes_in}
 use Rattle.lay_context.specs.Laws.{OneContextSizes, OneDocumentSizes}
+use Rattle.lay_sizes.proofs.OneSizes.{one_box_sizes_lem}
 use Rattle.lay_context.proofs.SizeSteps.{parent_before}
-
-one_used_width : (flow : Flow) (b : BlockIn) (x y : BlockOut) → IsUsedWidth flow b x → IsUsedWidth flow b y → x ≡ y
-one_used_width InFlow b x y p q = one_block_width_lem b x y p q
-one_used_width Floating b x y p q = one_float_width_lem b no_length no_length x y p q
-one_used_width Absolute b x y p q = one_block_width_lem b x y p q
-
-abbrev sizes_of : BlockOut → Sides → (margin_top margin_bottom : Length) → Len → Length → Option Length → BoxSizes
-sizes_of widths edges margin_top margin_bottom height min_height max_height = record {
-  widths = widths;
-  edges = edges;
-  margin_top = margin_top;
-  margin_bottom = margin_bottom;
-  height = height;
-  min_height = min_height;
-  max_height = max_height;
-}
-
--- a box has one set of used sizes
-one_box_sizes : (containing : ContainingBlock) (s : Style) (y z : BoxSizes) → IsSized containing s y → IsSized containing s z → y ≡ z
-one_box_sizes containing s y z p q =
-    let widths = one_used_width (flow_of s) (block_of containing.width s) y.widths z.widths p.widths q.widths in
-    let edges = p.edges ∙ sym q.edges in
-    let margin_top = p.margin_top ∙ sym q.margin_top in
-    let margin_bottom = p.margin_bottom ∙ sym q.margin_bottom in
-    let height = p.height ∙ sym q.height in
-    let min_height = p.min_height ∙ sym q.min_height in
-    let max_height = p.max_height ∙ sym q.max_height in
-    let e : sizes_of y.widths y.edges y.margin_top y.margin_bottom y.height y.min_height y.max_height ≡ sizes_of z.widths z.edges z.margin_top z.margin_bottom z.height z.min_height z.max_height =
-    rw (widths, edges, margin_top, margin_bottom, height, min_height, max_height) refl in
-    e
 
 containing_same : (outer : ContainingBlock) (boxes : List BoxNode) (x y : List BoxSizes) → IsTree (box_parents boxes) → (k : ℕ) → k < length boxes → ((j : ℕ) → j < k → sizes_at x j ≡ sizes_at y j)
     → containing_block outer (box_parents boxes) x k ≡ containing_block outer (box_parents boxes) y k
@@ -71,8 +31,8 @@ sizes_to outer boxes x y tree a b zero le k lt = absurd (omega arith)
 sizes_to outer boxes x y tree a b (suc n) le k lt = elim (cases_lt k n) [
   | inl low ↦ sizes_to outer boxes x y tree a b n (omega arith) k low
   | inr high ↦ (let same = containing_same outer boxes x y tree k (omega arith) (λ j jl. sizes_to outer boxes x y tree a b n (omega arith) j (omega arith)) in
-      let here = subst (λ (c : ContainingBlock). IsSized c (style_at (box_styles boxes) k) (sizes_at x k)) same (a.each k (omega arith)) in
-      one_box_sizes (containing_block outer (box_parents boxes) y k) (style_at (box_styles boxes) k) (sizes_at x k) (sizes_at y k) here (b.each k (omega arith)))
+      let here = subst (λ (c : ContainingBlock). IsSized c (width_rule (flow_of (style_at (box_styles boxes) k))) (style_at (box_styles boxes) k) (sizes_at x k)) same (a.each k (omega arith)) in
+      one_box_sizes_lem (containing_block outer (box_parents boxes) y k) (width_rule (flow_of (style_at (box_styles boxes) k))) (style_at (box_styles boxes) k) (sizes_at x k) (sizes_at y k) here (b.each k (omega arith)))
 ]
 
 pub one_context_sizes_lem : OneContextSizes

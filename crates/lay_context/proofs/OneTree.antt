@@ -5,7 +5,7 @@ use Rattle.lay_doc.specs.ComputedStyle.{declarations_of}
 use Rattle.lay_doc.proofs.OneStyles.{one_style_column_lem}
 use Rattle.lay_frag.specs.Pieces.{Context}
 use Rattle.lay_boxgen.specs.declared.box_tree.BoxNode.{BoxNode}
-use Rattle.lay_context.specs.declared.box_sizes.ContainingBlock.{ContainingBlock}
+use Rattle.lay_sizes.specs.declared.sizing.ContainingBlock.{ContainingBlock}
 use Rattle.lay_context.specs.declared.context_spot.ContextSpot.{ContextSpot}
 use Rattle.lay_context.specs.ContextList.{document_spots, boxes_of_spots}
 use Rattle.lay_context.specs.ContextOrder.{AreInOrder}

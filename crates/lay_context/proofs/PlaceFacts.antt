@@ -1,7 +1,7 @@
 -- What follows for the columns of one context from what they are.
 use Rattle.std.proofs.Common.{◌≡◌, List, length, ap, ◌∙◌}
 use Rattle.lay_boxgen.specs.declared.box_tree.BoxNode.{BoxNode}
-use Rattle.lay_context.specs.declared.box_sizes.BoxSizes.{BoxSizes}
+use Rattle.lay_sizes.specs.declared.sizing.BoxSizes.{BoxSizes}
 use Rattle.lay_context.specs.ContextPlaces.{ContextPlaces, HasPlaces}
 use Rattle.lay_context.specs.PlaceBounds.{HaveCounts}
 use Rattle.lay_context.proofs.LeftSteps.{length-parents}

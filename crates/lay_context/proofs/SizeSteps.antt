@@ -8,16 +8,17 @@ use Rattle.lay_doc.specs.Tree.{IsTree}
 use Rattle.lay_doc.specs.ComputedStyle.{style_at}
 use Rattle.lay_boxgen.specs.declared.box_tree.BoxNode.{BoxNode}
 use Rattle.lay_boxgen.specs.BoxColumns.{box_parents, box_styles}
-use Rattle.lay_context.specs.declared.box_sizes.BoxSizes.{BoxSizes}
-use Rattle.lay_context.specs.declared.box_sizes.ContainingBlock.{ContainingBlock}
-use Rattle.lay_context.specs.BoxSizes.{IsSized, content_block}
-use Rattle.lay_context.specs.ContextSizes.{containing_block, sizes_at}
-use Rattle.lay_context.proofs.SizesFit.{size_fits}
+use Rattle.lay_sizes.specs.declared.sizing.BoxSizes.{BoxSizes}
+use Rattle.lay_sizes.specs.declared.sizing.ContainingBlock.{ContainingBlock}
+use Rattle.lay_sizes.specs.BoxSizes.{IsSized, content_block}
+use Rattle.lay_sizes.proofs.SizesFit.{sizes_fit_lem}
+use Rattle.lay_boxgen.specs.Display.{flow_of}
+use Rattle.lay_context.specs.ContextSizes.{containing_block, sizes_at, width_rule}
 
 -- the boxes before n have their sizes
 pub record SizesTo (outer : ContainingBlock) (boxes : List BoxNode) (sizes : List BoxSizes) (n : ℕ) : Type 0 where
   pub count : length sizes ≡ n
-  pub each : (k : ℕ) → k < n → IsSized (containing_block outer (box_parents boxes) sizes k) (style_at (box_styles boxes) k) (sizes_at sizes k)
+  pub each : (k : ℕ) → k < n → IsSized (containing_block outer (box_parents boxes) sizes k) (width_rule (flow_of (style_at (box_styles boxes) k))) (style_at (box_styles boxes) k) (sizes_at sizes k)
 
 read_before : (sizes : List BoxSizes) (z : BoxSizes) (k : ℕ) → k < length sizes → sizes_at (sizes ++ z ∷ []) k ≡ sizes_at sizes k
 read_before sizes z k lt = grind (arith, elements)
@@ -40,7 +41,7 @@ containing_before outer boxes tree sizes z (suc k) within known =
     ap content_block (read_before sizes z (get_or (box_parents boxes) (suc k) 0) (let h = parent_before boxes tree k within in omega arith))
 
 pub one_more : (outer : ContainingBlock) (boxes : List BoxNode) (sizes : List BoxSizes) (n : ℕ) (z : BoxSizes) → IsTree (box_parents boxes) → n < length boxes
-    → SizesTo outer boxes sizes n → IsSized (containing_block outer (box_parents boxes) sizes n) (style_at (box_styles boxes) n) z → SizesTo outer boxes (sizes ++ z ∷ []) (n + 1)
+    → SizesTo outer boxes sizes n → IsSized (containing_block outer (box_parents boxes) sizes n) (width_rule (flow_of (style_at (box_styles boxes) n))) (style_at (box_styles boxes) n) z → SizesTo outer boxes (sizes ++ z ∷ []) (n + 1)
 one_more outer boxes sizes n z tree within so_far is = record {
   count = grind (arith, elements, so_far.count);
   each = λ k lt. elim (cases_lt k n) [
@@ -60,5 +61,5 @@ pub containing_fits : (outer : ContainingBlock) (boxes : List BoxNode) (sizes : 
 containing_fits outer boxes sizes zero fits tree within so_far = fits
 containing_fits outer boxes sizes (suc n) fits tree within so_far =
     let p : ℕ = get_or (box_parents boxes) (suc n) 0 in
-    let used = (size_fits (containing_block outer (box_parents boxes) sizes p) (style_at (box_styles boxes) p) (sizes_at sizes p) (so_far.each p (parent_before boxes tree n within))).width in
+    let used = (sizes_fit_lem (containing_block outer (box_parents boxes) sizes p) (width_rule (flow_of (style_at (box_styles boxes) p))) (style_at (box_styles boxes) p) (sizes_at sizes p) (so_far.each p (parent_before boxes tree n within))).width in
     (omega (arith, ints, used.0, used.1), omega (arith, ints, used.0, used.1))

@@ -1,106 +1,15 @@
 -- Used sizes are within their bounds.
-use Rattle.std.proofs.Common.{ℤ, pos, List, arith}
-use Rattle.std.proofs.lemmas.Int.{ints, clamps}
-use Rattle.lay_units.specs.Units.{clamp_of, clamp_size_of, percentage_of, IsUsed, IsUsedSize}
-use Rattle.lay_units.specs.declared.length.Unit.{Unit as Length}
-use Rattle.lay_units.specs.declared.records.Len.{Len}
-use Rattle.lay_units.specs.declared.records.Len.TheVariants.{Auto as auto, Of as of}
-use Rattle.lay_units.specs.declared.records.BlockIn.{BlockIn}
-use Rattle.lay_doc.specs.declared.style.Style.{Style}
+use Rattle.std.proofs.Common.{List, arith}
 use Rattle.lay_doc.specs.ComputedStyle.{style_at}
-use Rattle.lay_doc.specs.declared.style_lengths.LengthPercentageOrAuto.{LengthPercentageOrAuto}
-use Rattle.lay_doc.specs.declared.style_lengths.LengthPercentageOrAuto.TheVariants as or_auto
-use Rattle.lay_doc.specs.declared.style_lengths.LengthPercentage.{LengthPercentage}
-use Rattle.lay_doc.specs.declared.style_lengths.LengthPercentage.TheVariants as measure
-use Rattle.lay_widths.specs.declared.widths.BlockOut.{BlockOut}
-use Rattle.lay_widths.specs.declared.widths.UsedWidths.{UsedWidths}
-use Rattle.lay_widths.specs.BlockWidths.{IsHeld}
-use Rattle.lay_boxgen.specs.declared.facts.Flow.{Flow}
-use Rattle.lay_boxgen.specs.declared.facts.Flow.TheVariants.{InFlow, Floating, Absolute}
 use Rattle.lay_boxgen.specs.Display.{flow_of}
 use Rattle.lay_boxgen.specs.declared.box_tree.BoxNode.{BoxNode}
 use Rattle.lay_boxgen.specs.BoxColumns.{box_parents, box_styles}
-use Rattle.lay_flow.specs.BlockSizes.{IsInset}
-use Rattle.lay_flow.specs.BlockPositions.{given_or_auto}
-use Rattle.lay_context.specs.declared.box_sizes.BoxSizes.{BoxSizes}
-use Rattle.lay_context.specs.declared.box_sizes.ContainingBlock.{ContainingBlock}
-use Rattle.lay_context.specs.UsedLengths.{used_size, used_vertical_margin, used_height, used_min_height, edge_of, block_of}
-use Rattle.lay_context.specs.BoxSizes.{IsSized, IsUsedWidth}
-use Rattle.lay_context.specs.ContextSizes.{HasSizes, containing_block, sizes_at}
-use Rattle.lay_context.specs.SizeBounds.{SizeFits, HaveSizeBounds}
-
-margin_is_used : (v : ℤ) → IsUsed (clamp_of v)
-margin_is_used v = (omega (arith, ints, clamps), omega (arith, ints, clamps))
-
-size_is_used : (v : ℤ) → IsUsedSize (clamp_size_of v)
-size_is_used v = (omega (arith, ints, clamps), omega (arith, ints, clamps))
-
-zero_is_size : IsUsedSize (pos 0)
-zero_is_size = (omega (arith, ints), omega (arith, ints))
-
--- margins and a width that are held within the bounds of used lengths
-record WidthsFit (out : BlockOut) : Type 0 where
-  margin_left : IsUsed out.margin_left.0
-  width : IsUsedSize out.width.0
-  margin_right : IsUsed out.margin_right.0
-
-held_fit : (used : UsedWidths) (out : BlockOut) → IsHeld used out → WidthsFit out
-held_fit used out held = record {
-  margin_left = let e = held.margin_left in rw e (margin_is_used used.margin_left);
-  width = let e = held.width in rw e (size_is_used used.width);
-  margin_right = let e = held.margin_right in rw e (margin_is_used used.margin_right);
-}
-
-widths_fit : (flow : Flow) (b : BlockIn) (out : BlockOut) → IsUsedWidth flow b out → WidthsFit out
-widths_fit InFlow b out is = held_fit is.used out is.held
-widths_fit Floating b out is = held_fit is.used out is.held
-widths_fit Absolute b out is = held_fit is.used out is.held
-
-vertical_margin_is_used : (containing : Length) (margin : LengthPercentageOrAuto) → IsUsed (used_vertical_margin containing margin).0
-vertical_margin_is_used containing or_auto.Auto = (omega (arith, ints), omega (arith, ints))
-vertical_margin_is_used containing (or_auto.Length u) = margin_is_used u.0
-vertical_margin_is_used containing (or_auto.Percent h) = margin_is_used (percentage_of h.0 containing.0)
-
-used_size_is_used : (containing : Length) (size : LengthPercentage) → IsUsedSize (used_size containing size).0
-used_size_is_used containing (measure.Length u) = size_is_used u.0
-used_size_is_used containing (measure.Percent h) = size_is_used (percentage_of h.0 containing.0)
-
--- a border and a padding are two used sizes
-edge_is_inset : (containing border : Length) (padding : LengthPercentage) → IsInset (edge_of containing border padding).0
-edge_is_inset containing border padding =
-    let a = size_is_used border.0 in
-    let b = used_size_is_used containing padding in
-    (omega (arith, ints, a.0, b.0), omega (arith, ints, a.1, b.1))
-
-height_is_used : (containing : Len) (height : LengthPercentageOrAuto) → IsUsedSize (given_or_auto (used_height containing height) (pos 0))
-height_is_used containing or_auto.Auto = zero_is_size
-height_is_used containing (or_auto.Length u) = size_is_used u.0
-height_is_used auto (or_auto.Percent h) = zero_is_size
-height_is_used (of containing) (or_auto.Percent h) = size_is_used (percentage_of h.0 containing.0)
-
-min_height_is_used : (containing : Len) (height : LengthPercentage) → IsUsedSize (used_min_height containing height).0
-min_height_is_used containing (measure.Length u) = size_is_used u.0
-min_height_is_used auto (measure.Percent h) = zero_is_size
-min_height_is_used (of containing) (measure.Percent h) = size_is_used (percentage_of h.0 containing.0)
-
-pub size_fits : (containing : ContainingBlock) (s : Style) (z : BoxSizes) → IsSized containing s z → SizeFits z
-size_fits containing s z is =
-    let widths = widths_fit (flow_of s) (block_of containing.width s) z.widths is.widths in
-    let edges = is.edges in
-    record {
-      margin_left = widths.margin_left;
-      width = widths.width;
-      margin_right = widths.margin_right;
-      top = rw edges (edge_is_inset containing.width s.border.width.top s.padding.top);
-      right = rw edges (edge_is_inset containing.width s.border.width.right s.padding.right);
-      bottom = rw edges (edge_is_inset containing.width s.border.width.bottom s.padding.bottom);
-      left = rw edges (edge_is_inset containing.width s.border.width.left s.padding.left);
-      margin_top = let e = is.margin_top in rw e (vertical_margin_is_used containing.width s.margin.top);
-      margin_bottom = let e = is.margin_bottom in rw e (vertical_margin_is_used containing.width s.margin.bottom);
-      height = let e = is.height in rw e (height_is_used containing.height s.sizing.height);
-      min_height = let e = is.min_height in rw e (min_height_is_used containing.height s.sizing.min_height);
-    }
+use Rattle.lay_sizes.specs.declared.sizing.BoxSizes.{BoxSizes}
+use Rattle.lay_sizes.specs.declared.sizing.ContainingBlock.{ContainingBlock}
+use Rattle.lay_sizes.proofs.SizesFit.{sizes_fit_lem}
+use Rattle.lay_context.specs.ContextSizes.{HasSizes, containing_block, sizes_at, width_rule}
+use Rattle.lay_context.specs.SizeBounds.{HaveSizeBounds}
 
 pub have_size_bounds : (outer : ContainingBlock) (boxes : List BoxNode) (sizes : List BoxSizes) → HasSizes outer boxes sizes → HaveSizeBounds sizes
 have_size_bounds outer boxes sizes has k within =
-    size_fits (containing_block outer (box_parents boxes) sizes k) (style_at (box_styles boxes) k) (sizes_at sizes k) (has.each k (omega (arith, has.count)))
+    sizes_fit_lem (containing_block outer (box_parents boxes) sizes k) (width_rule (flow_of (style_at (box_styles boxes) k))) (style_at (box_styles boxes) k) (sizes_at sizes k) (has.each k (omega (arith, has.count)))

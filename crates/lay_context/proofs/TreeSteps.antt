@@ -5,7 +5,7 @@ use Rattle.std.proofs.lemmas.Grind.{elements}
 use Rattle.lay_frag.specs.Pieces.{Context, frags_of, page_pieces, IsContextInRange, IsTreeInRange}
 use Rattle.lay_frag.proofs.PieceLemmas.{length-page_pieces}
 use Rattle.lay_boxgen.specs.declared.box_tree.BoxNode.{BoxNode}
-use Rattle.lay_context.specs.declared.box_sizes.BoxSizes.{BoxSizes}
+use Rattle.lay_sizes.specs.declared.sizing.BoxSizes.{BoxSizes}
 use Rattle.lay_context.specs.declared.corner.Corner.{Corner}
 use Rattle.lay_context.specs.ContextList.{boxes_in}
 use Rattle.lay_context.specs.ContextPlaces.{ContextPlaces}

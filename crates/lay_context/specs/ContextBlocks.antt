@@ -1,7 +1,7 @@
 -- The boxes of one context as its block formatting context takes them (CSS 2.2, 9.4.1 and 9.5). The box of an inner context
 -- floats, or is solid: no float of this context overlaps it. The others are plain blocks, and the context's own box is one.
 -- Horizontal positions are counted from the left border edge of the context's own box.
-use Rattle.std.specs.Prelude.{ℕ, zero, suc, ◌≡◌, ◌<◌, ◌+ℤ◌, ◌&&◌, Bool, true, false, List, length, map, slice_index, Option, Some, None, if◌then◌else◌}
+use Rattle.std.specs.Prelude.{ℕ, ℤ, zero, suc, ◌≡◌, ◌<◌, ◌+ℤ◌, ◌&&◌, Bool, true, false, List, length, map, slice_index, Option, Some, None, if◌then◌else◌}
 use Rattle.lay_units.specs.declared.length.Unit.{Unit as Length}
 use Rattle.lay_units.specs.declared.records.Len.TheVariants.{Auto as auto}
 use Rattle.lay_doc.specs.declared.style_words.Float.{Float}
@@ -25,9 +25,13 @@ use Rattle.lay_flow.specs.Lengths.{length_at, no_length}
 use Rattle.lay_flow.specs.Children.{flag_at}
 use Rattle.lay_flow.specs.MarginRuns.{no_block, block_at}
 use Rattle.lay_flow.specs.BlockFloats.{no_shape, shape_at}
-use Rattle.lay_context.specs.declared.box_sizes.BoxSizes.{BoxSizes}
-use Rattle.lay_context.specs.BoxSizes.{border_width, margin_width}
+use Rattle.lay_sizes.specs.declared.sizing.BoxSizes.{BoxSizes}
+use Rattle.lay_sizes.specs.BoxSizes.{border_width}
 use Rattle.lay_context.specs.ContextSizes.{sizes_at}
+
+-- the width of a margin box
+abbrev pub margin_width : BoxSizes → ℤ
+margin_width z = z.widths.margin_left.0 +ℤ border_width z +ℤ z.widths.margin_right.0
 
 -- the box at k is that of an inner context
 abbrev pub is_inner : List BoxNode → ℕ → Bool

@@ -12,10 +12,10 @@ use Rattle.lay_flow.specs.declared.shape.Shape.{Shape}
 use Rattle.lay_flow.specs.Lengths.{length_at, no_length}
 use Rattle.lay_flow.specs.BlockFloats.{place_at}
 use Rattle.lay_flow.specs.ContextFlow.{AreContextPlaces}
-use Rattle.lay_context.specs.declared.box_sizes.BoxSizes.{BoxSizes}
+use Rattle.lay_sizes.specs.declared.sizing.BoxSizes.{BoxSizes}
 use Rattle.lay_context.specs.declared.context_places.BoxPlaces.{BoxPlaces}
 use Rattle.lay_context.specs.declared.corner.Corner.{Corner}
-use Rattle.lay_context.specs.BoxSizes.{border_width}
+use Rattle.lay_sizes.specs.BoxSizes.{border_width}
 use Rattle.lay_context.specs.ContextSizes.{sizes_at}
 use Rattle.lay_context.specs.ContextBlocks.{is_inner, is_float, AreBlocksOf, HasLefts, AreShapesOf}
 

@@ -6,11 +6,23 @@ use Rattle.lay_units.specs.declared.records.Sides.{Sides}
 use Rattle.lay_widths.specs.declared.widths.BlockOut.{BlockOut}
 use Rattle.lay_doc.specs.ComputedStyle.{style_at}
 use Rattle.lay_boxgen.specs.declared.box_tree.BoxNode.{BoxNode}
+use Rattle.lay_boxgen.specs.declared.facts.Flow.{Flow}
+use Rattle.lay_boxgen.specs.declared.facts.Flow.TheVariants.{InFlow, Floating, Absolute}
+use Rattle.lay_boxgen.specs.Display.{flow_of}
 use Rattle.lay_boxgen.specs.BoxColumns.{box_parents, box_styles}
 use Rattle.lay_flow.specs.Lengths.{no_length}
-use Rattle.lay_context.specs.declared.box_sizes.BoxSizes.{BoxSizes}
-use Rattle.lay_context.specs.declared.box_sizes.ContainingBlock.{ContainingBlock}
-use Rattle.lay_context.specs.BoxSizes.{IsSized, content_block}
+use Rattle.lay_sizes.specs.declared.sizing.BoxSizes.{BoxSizes}
+use Rattle.lay_sizes.specs.declared.sizing.ContainingBlock.{ContainingBlock}
+use Rattle.lay_sizes.specs.declared.sizing.WidthRule.{WidthRule}
+use Rattle.lay_sizes.specs.declared.sizing.WidthRule.TheVariants.{Fills, ShrinksToFit}
+use Rattle.lay_sizes.specs.BoxSizes.{IsSized, content_block}
+
+-- Which rule gives a box its width (10.3.3 and 10.3.5). Of a float the preferred widths of its content aren't known yet, and
+-- count as 0.
+abbrev pub width_rule : Flow → WidthRule
+width_rule InFlow = Fills
+width_rule Floating = ShrinksToFit no_length no_length
+width_rule Absolute = Fills
 
 abbrev pub no_widths : BlockOut
 no_widths = record { margin_left = no_length; width = no_length; margin_right = no_length }
@@ -31,4 +43,4 @@ containing_block outer parents sizes (suc k) = content_block (sizes_at sizes (sl
 -- each box has its used sizes
 pub record HasSizes (outer : ContainingBlock) (boxes : List BoxNode) (sizes : List BoxSizes) : Type 0 where
   pub count : length sizes ≡ length boxes
-  pub each : (k : ℕ) → k < length boxes → IsSized (containing_block outer (box_parents boxes) sizes k) (style_at (box_styles boxes) k) (sizes_at sizes k)
+  pub each : (k : ℕ) → k < length boxes → IsSized (containing_block outer (box_parents boxes) sizes k) (width_rule (flow_of (style_at (box_styles boxes) k))) (style_at (box_styles boxes) k) (sizes_at sizes k)

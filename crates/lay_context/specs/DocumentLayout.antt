@@ -12,11 +12,11 @@ use Rattle.lay_boxgen.specs.declared.facts.Flow.TheVariants.{Floating}
 use Rattle.lay_boxgen.specs.Display.{flow_of}
 use Rattle.lay_boxgen.specs.BoxColumns.{box_parents, box_styles}
 use Rattle.lay_flow.specs.Lengths.{length_at, no_length}
-use Rattle.lay_context.specs.declared.box_sizes.BoxSizes.{BoxSizes}
-use Rattle.lay_context.specs.declared.box_sizes.ContainingBlock.{ContainingBlock}
+use Rattle.lay_sizes.specs.declared.sizing.BoxSizes.{BoxSizes}
+use Rattle.lay_sizes.specs.declared.sizing.ContainingBlock.{ContainingBlock}
 use Rattle.lay_context.specs.declared.context_spot.ContextSpot.{ContextSpot}
 use Rattle.lay_context.specs.declared.corner.Corner.{Corner}
-use Rattle.lay_context.specs.BoxSizes.{border_width, content_block}
+use Rattle.lay_sizes.specs.BoxSizes.{border_width, content_block}
 use Rattle.lay_context.specs.ContextSizes.{HasSizes, sizes_at}
 use Rattle.lay_context.specs.ContextList.{spot_at, boxes_in}
 use Rattle.lay_context.specs.ContextPlaces.{ContextPlaces, HasPlaces, corner_of_box}

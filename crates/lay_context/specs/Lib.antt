@@ -1,5 +1,3 @@
-pub mod UsedLengths
-pub mod BoxSizes
 pub mod ContextSizes
 pub mod SizeBounds
 pub mod ContextBlocks

@@ -14,11 +14,11 @@ use Rattle.lay_boxgen.specs.declared.box_tree.BoxNode.{BoxNode}
 use Rattle.lay_boxgen.specs.BoxColumns.{box_ids}
 use Rattle.lay_frag.specs.Pieces.{Context}
 use Rattle.lay_flow.specs.Lengths.{length_at, no_length}
-use Rattle.lay_context.specs.declared.box_sizes.BoxSizes.{BoxSizes}
-use Rattle.lay_context.specs.declared.box_sizes.ContainingBlock.{ContainingBlock}
+use Rattle.lay_sizes.specs.declared.sizing.BoxSizes.{BoxSizes}
+use Rattle.lay_sizes.specs.declared.sizing.ContainingBlock.{ContainingBlock}
 use Rattle.lay_context.specs.declared.context_spot.ContextSpot.{ContextSpot}
 use Rattle.lay_context.specs.declared.corner.Corner.{Corner}
-use Rattle.lay_context.specs.BoxSizes.{border_width}
+use Rattle.lay_sizes.specs.BoxSizes.{border_width}
 use Rattle.lay_context.specs.ContextSizes.{sizes_at}
 use Rattle.lay_context.specs.ContextList.{document_spots, boxes_of_spots, boxes_in}
 use Rattle.lay_context.specs.ContextPlaces.{ContextPlaces, pieces_of}

@@ -5,16 +5,17 @@ ghost use Rattle.lay_units.specs.Units.{IsPosition};
 ghost use Rattle.lay_doc.specs.ComputedStyle.{style_at};
 ghost use Rattle.lay_boxgen.specs.BoxColumns.{box_parents, box_styles};
 ghost use Rattle.lay_flow.specs.Lengths.{length_at};
-ghost use Rattle.lay_context.specs.BoxSizes.{border_width, margin_width};
-ghost use Rattle.lay_context.specs.SizeBounds.{SizeFits};
+ghost use Rattle.lay_sizes.specs.BoxSizes.{border_width};
+ghost use Rattle.lay_context.specs.ContextBlocks.{margin_width};
+ghost use Rattle.lay_sizes.specs.SizeBounds.{SizeFits};
 ghost use Rattle.lay_context.specs.ContextSizes.{sizes_at};
 ghost use Rattle.lay_context.specs.ContextBlocks.{is_floating, is_float, is_inner};
 ghost use Rattle.lay_context.specs.ContextPlaces.{no_lines};
 ghost use Rattle.lay_context.specs.PlaceBounds.{IsNear};
 
-use crate::box_sizes::BoxSizes;
 use lay_boxgen::{BoxNode, Flow, flow_of};
 use lay_doc::Style;
+use lay_sizes::BoxSizes;
 use lay_units::{NoMemory, Unit};
 use std::alloc::Global;
 
@@ -101,10 +102,7 @@ pub(crate) fn border_width(sizes: BoxSizes) -> Unit
     ensures value { result ≡ record { 0 = border_width sizes } }
     ensures near { IsNear result.0 }
 {
-    sum_of(
-        sum_of(sizes.widths.width, sizes.edges.left),
-        sizes.edges.right,
-    )
+    lay_sizes::border_width(&sizes)
 }
 
 /// The width of a margin box.

@@ -5,14 +5,15 @@ ghost use Rattle.lay_units.specs.Units.{IsPosition};
 ghost use Rattle.lay_doc.specs.Tree.{IsTree};
 ghost use Rattle.lay_boxgen.specs.BoxColumns.{box_parents};
 ghost use Rattle.lay_floats.specs.Within.{IsWithin};
-ghost use Rattle.lay_context.specs.SizeBounds.{SizeFits, HaveSizeBounds};
+ghost use Rattle.lay_sizes.specs.SizeBounds.{SizeFits};
+ghost use Rattle.lay_context.specs.SizeBounds.{HaveSizeBounds};
 ghost use Rattle.lay_context.specs.ContextBlocks.{plain_block, solid_block, block_of_box, content_left, left_of_box, AreBlocksOf, HasLefts};
 ghost use Rattle.lay_context.specs.PlaceBounds.{AreNearLefts};
 
 use crate::box_columns::{is_float, is_inner, length_at, parent_at, sizes_at, sum_of};
-use crate::box_sizes::BoxSizes;
 use lay_boxgen::BoxNode;
 use lay_flow::{Block, Inside};
+use lay_sizes::BoxSizes;
 use lay_units::{Len, NoMemory, Unit};
 use std::alloc::Global;
 

@@ -13,14 +13,14 @@ use lay_units::NoMemory;
 use std::alloc::Global;
 
 /// The contexts of a document in document order, and the boxes of each.
-#[derive(Drop, Debug)]
+#[derive(Drop)]
 pub(crate) struct ContextList {
     pub spots: Vec<ContextSpot>,
     pub boxes: Vec<BoxTree>,
 }
 
 /// The node of an inner context, and the place of its box among the boxes of the context around it.
-#[derive(Clone, Copy, Debug, PartialEq, Eq)]
+#[derive(Clone, Copy)]
 struct InnerContext {
     node: NodeId,
     at: usize,

@@ -9,12 +9,12 @@ ghost use Rattle.lay_context.specs.ContextPlaces.{columns_of, HasPlaces};
 ghost use Rattle.lay_context.specs.PlaceBounds.{HaveBoxHeights};
 
 use crate::box_columns::{box_parents, no_lines};
-use crate::box_sizes::BoxSizes;
 use crate::context_blocks::{blocks_of, lefts_of};
 use crate::context_shapes::shapes_of;
 use lay_boxgen::BoxNode;
 use lay_floats::Place;
 use lay_flow::place_blocks;
+use lay_sizes::BoxSizes;
 use lay_units::{NoMemory, Unit};
 use std::alloc::Global;
 
@@ -23,7 +23,7 @@ const MOST_BOXES: usize = 16384;
 
 /// Where the boxes of one context stand, in the order of the boxes, in 1/64 px. Positions are counted from the
 /// corner of the context's own border box.
-#[derive(Drop, Debug)]
+#[derive(Drop)]
 pub(crate) struct BoxPlaces {
     /// The heights of the border boxes of inner contexts, and 0 for other boxes.
     pub inner_heights: Vec<Unit>,

@@ -5,20 +5,22 @@ ghost use Rattle.lay_units.specs.Units.{IsPosition};
 ghost use Rattle.lay_doc.specs.Tree.{IsTree};
 ghost use Rattle.lay_boxgen.specs.BoxColumns.{box_parents};
 ghost use Rattle.lay_flow.specs.BlockSizes.{IsBoxHeight};
-ghost use Rattle.lay_context.specs.SizeBounds.{SizeFits, HaveSizeBounds};
-ghost use Rattle.lay_context.specs.BoxSizes.{border_width, margin_width};
+ghost use Rattle.lay_sizes.specs.SizeBounds.{SizeFits};
+ghost use Rattle.lay_context.specs.SizeBounds.{HaveSizeBounds};
+ghost use Rattle.lay_sizes.specs.BoxSizes.{border_width};
+ghost use Rattle.lay_context.specs.ContextBlocks.{margin_width};
 ghost use Rattle.lay_context.specs.ContextBlocks.{side_of, cleared_sides, shape_beside, shape_of_box, AreShapesOf};
 ghost use Rattle.lay_context.specs.PlaceBounds.{AreNearLefts, HaveBoxHeights};
 
 use crate::box_columns::{
     border_width, is_float, length_at, margin_width, parent_at, sizes_at, style_at, sum_of,
 };
-use crate::box_sizes::BoxSizes;
 use crate::context_blocks::content_left;
 use lay_boxgen::BoxNode;
 use lay_doc::Float;
 use lay_floats::{Clear, Side};
 use lay_flow::Shape;
+use lay_sizes::BoxSizes;
 use lay_units::{NoMemory, Unit};
 use std::alloc::Global;
 

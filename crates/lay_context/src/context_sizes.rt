@@ -4,12 +4,12 @@ ghost use Rattle.std.specs.Prelude.{◌≡◌, ◌<◌, ◌≤◌, length, IfOk}
 ghost use Rattle.lay_units.specs.Units.{IsPosition};
 ghost use Rattle.lay_doc.specs.Tree.{IsTree};
 ghost use Rattle.lay_boxgen.specs.BoxColumns.{box_parents};
-ghost use Rattle.lay_context.specs.ContextSizes.{HasSizes, containing_block};
+ghost use Rattle.lay_context.specs.ContextSizes.{HasSizes, containing_block, width_rule};
 
 use crate::box_columns::{parent_at, sizes_at, style_at};
-use crate::box_sizes::{BoxSizes, ContainingBlock, box_sizes, content_block};
-use lay_boxgen::BoxNode;
-use lay_units::NoMemory;
+use lay_boxgen::{BoxNode, Flow, flow_of};
+use lay_sizes::{BoxSizes, ContainingBlock, WidthRule, box_sizes, content_block};
+use lay_units::{NoMemory, Unit};
 use std::alloc::Global;
 
 /// The used sizes of the boxes of a context, in their order, for the containing block of the first one, which is
@@ -26,7 +26,8 @@ pub(crate) fn context_sizes(
     let mut sizes = Vec::with_capacity(alloc, boxes.len())?;
     for k in 0..boxes.len() {
         let containing = containing_block(outer, boxes, &sizes, k);
-        sizes.push(box_sizes(containing, style_at(boxes, k)))?;
+        let style = style_at(boxes, k);
+        sizes.push(box_sizes(containing, width_rule(flow_of(style)), style))?;
     }
     Ok(sizes)
 }
@@ -47,4 +48,19 @@ fn containing_block(
         return outer;
     }
     content_block(&sizes_at(sizes, parent_at(boxes, k)))
+}
+
+/// Which rule gives a box its width. Of a float the preferred widths of its content aren't known yet, and count
+/// as 0.
+fn width_rule(flow: Flow) -> WidthRule
+    ensures { result ≡ width_rule flow }
+{
+    match flow {
+        Flow::InFlow => WidthRule::Fills,
+        Flow::Floating => WidthRule::ShrinksToFit {
+            preferred_minimum: Unit(0),
+            preferred: Unit(0),
+        },
+        Flow::Absolute => WidthRule::Fills,
+    }
 }

@@ -1,7 +1,7 @@
 //! Contexts among the contexts of a document.
 
 /// A context of a document, and where its box stands outside it.
-#[derive(Clone, Copy, Debug, PartialEq, Eq)]
+#[derive(Clone, Copy)]
 pub struct ContextSpot {
     /// The place of its node in the document.
     pub place: usize,

@@ -10,7 +10,6 @@ ghost use Rattle.lay_context.specs.SizeBounds.{HaveDocumentSizeBounds, HaveSizeB
 ghost use Rattle.lay_context.specs.Solves.{context_of, own_rect, IsTreeOf};
 
 use crate::box_columns::border_width;
-use crate::box_sizes::BoxSizes;
 use crate::context_columns::boxes_in;
 use crate::context_list::ContextList;
 use crate::context_places::BoxPlaces;
@@ -21,6 +20,7 @@ use crate::pieces::pieces_of;
 use crate::size_column::{SizeColumn, sizes_in};
 use lay_boxgen::BoxNode;
 use lay_frag::{Pieces, Placed, Tree};
+use lay_sizes::BoxSizes;
 use lay_units::{NoMemory, Rect, Unit};
 use std::alloc::Global;
 use std::sync::Arc;

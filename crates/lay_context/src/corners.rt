@@ -7,11 +7,11 @@ ghost use Rattle.lay_context.specs.ContextPlaces.{columns_of, corner_of_box};
 ghost use Rattle.lay_context.specs.PlaceBounds.{HaveCounts, IsCornerNear, IsNear};
 
 use crate::box_columns::{is_float, is_inner, length_at, sizes_at};
-use crate::box_sizes::BoxSizes;
 use crate::context_places::BoxPlaces;
 use crate::corner::Corner;
 use lay_boxgen::BoxNode;
 use lay_floats::Place;
+use lay_sizes::BoxSizes;
 use lay_units::{NoMemory, Unit};
 
 /// The greatest distance of an edge from the origin.

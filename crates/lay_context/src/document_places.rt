@@ -2,7 +2,7 @@
 
 ghost use Rattle.std.specs.Prelude.{ℕ, ◌≡◌, ◌∷◌, ◌++◌, ◌<◌, [], IfOk, OnOk, length, reverse};
 ghost use Rattle.lay_flow.specs.Lengths.{length_at};
-ghost use Rattle.lay_context.specs.declared.box_sizes.ContainingBlock.{ContainingBlock};
+ghost use Rattle.lay_sizes.specs.declared.sizing.ContainingBlock.{ContainingBlock};
 ghost use Rattle.lay_context.specs.ContextList.{boxes_in, boxes_of_trees, spot_at};
 ghost use Rattle.lay_context.specs.ContextOrder.{AreInOrder};
 ghost use Rattle.lay_context.specs.DocumentLayout.{HasDocumentPlaces, HasDocumentSizes};

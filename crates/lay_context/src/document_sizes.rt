@@ -7,11 +7,11 @@ ghost use Rattle.lay_context.specs.ContextOrder.{AreInOrder};
 ghost use Rattle.lay_context.specs.DocumentLayout.{HasDocumentSizes, outer_block, sizes_in};
 
 use crate::box_columns::{parent_at, sizes_at};
-use crate::box_sizes::{ContainingBlock, content_block};
 use crate::context_columns::{boxes_in, spot_at};
 use crate::context_list::ContextList;
 use crate::context_sizes::context_sizes;
 use crate::size_column::{SizeColumn, sizes_in};
+use lay_sizes::{ContainingBlock, content_block};
 use lay_units::NoMemory;
 use std::alloc::Global;
 

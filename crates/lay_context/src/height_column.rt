@@ -9,7 +9,7 @@ use std::marker::Model;
 
 /// The heights of the border boxes of inner contexts among the boxes of one context, in the order of the boxes,
 /// and 0 for other boxes.
-#[derive(Drop, Debug)]
+#[derive(Drop)]
 pub(crate) struct HeightColumn {
     items: Vec<Unit>,
 }

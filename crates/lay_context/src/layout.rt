@@ -8,7 +8,6 @@ ghost use Rattle.lay_context.specs.ContextList.{boxes_of_trees};
 ghost use Rattle.lay_context.specs.ContextOrder.{AreInOrder};
 ghost use Rattle.lay_context.specs.Solves.{Solves, SolvesContexts, viewport_of};
 
-use crate::box_sizes::ContainingBlock;
 use crate::context_list::{ContextList, context_list};
 use crate::context_tree::context_tree;
 use crate::document_places::document_places;
@@ -17,6 +16,7 @@ use crate::page_corners::page_corners;
 use lay_doc::{Computed, Doc};
 use lay_frag::Tree;
 use lay_inherit::computed;
+use lay_sizes::ContainingBlock;
 use lay_units::{Len, NoMemory, Unit};
 use std::alloc::Global;
 

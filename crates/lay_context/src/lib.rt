@@ -8,7 +8,6 @@
 #![tactic(auto)]
 
 mod box_columns;
-mod box_sizes;
 mod context_blocks;
 mod context_columns;
 mod context_list;
@@ -27,9 +26,6 @@ mod layout;
 mod page_corners;
 mod pieces;
 mod size_column;
-#[cfg(test)]
-mod tests;
-mod used_lengths;
 
 pub use laws::{
     enough_turns, one_context_places, one_context_sizes, one_document_places, one_document_sizes,

@@ -7,10 +7,10 @@ ghost use Rattle.lay_context.specs.ContextOrder.{AreInOrder};
 ghost use Rattle.lay_context.specs.ContextPlaces.{columns_of};
 ghost use Rattle.lay_context.specs.DocumentLayout.{HasPageCorners, beside, corner_at, is_right, page_corner, places_in, root_corner, root_left};
 ghost use Rattle.lay_context.specs.PlaceBounds.{AreNearCorners, HaveDocumentCounts, IsCornerNear, IsNear};
-ghost use Rattle.lay_context.specs.SizeBounds.{HaveDocumentSizeBounds, SizeFits};
+ghost use Rattle.lay_sizes.specs.SizeBounds.{SizeFits};
+ghost use Rattle.lay_context.specs.SizeBounds.{HaveDocumentSizeBounds};
 
 use crate::box_columns::{border_width, sizes_at, style_at};
-use crate::box_sizes::{BoxSizes, ContainingBlock};
 use crate::context_columns::{boxes_in, spot_at};
 use crate::context_list::ContextList;
 use crate::context_places::BoxPlaces;
@@ -19,6 +19,7 @@ use crate::corners::{corner_of_box, near_corner, position_sum};
 use crate::size_column::{SizeColumn, sizes_in};
 use lay_boxgen::{Flow, flow_of};
 use lay_doc::{Float, Style};
+use lay_sizes::{BoxSizes, ContainingBlock};
 use lay_units::{NoMemory, Unit};
 use std::alloc::Global;
 

@@ -7,11 +7,11 @@ ghost use Rattle.lay_context.specs.ContextPlaces.{columns_of, piece_of_box, piec
 ghost use Rattle.lay_context.specs.PlaceBounds.{AreNearPieces, HaveCounts, IsRectNear};
 
 use crate::box_columns::{border_width, is_inner, length_at, sizes_at};
-use crate::box_sizes::BoxSizes;
 use crate::context_places::BoxPlaces;
 use crate::corners::{corner_of_box, near_position};
 use lay_boxgen::BoxNode;
 use lay_frag::{Frag, FragKind};
+use lay_sizes::BoxSizes;
 use lay_units::{NoMemory, Rect};
 use std::alloc::Global;
 

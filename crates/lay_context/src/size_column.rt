@@ -3,18 +3,18 @@
 ghost use Rattle.std.specs.Prelude.{◌≡◌, ◌<◌, length};
 ghost use Rattle.lay_context.specs.DocumentLayout.{sizes_in};
 
-use crate::box_sizes::BoxSizes;
+use lay_sizes::BoxSizes;
 use std::marker::Model;
 
 /// The used sizes of the boxes of one context, in their order.
-#[derive(Drop, Debug)]
+#[derive(Drop)]
 pub(crate) struct SizeColumn {
     items: Vec<BoxSizes>,
 }
 
 impl Model for SizeColumn {
     ghost use Rattle.std.specs.Prelude.{List};
-    ghost use Rattle.lay_context.specs.declared.box_sizes.BoxSizes.{BoxSizes};
+    ghost use Rattle.lay_sizes.specs.declared.sizing.BoxSizes.{BoxSizes};
 
     ghost Value = { List BoxSizes };
 

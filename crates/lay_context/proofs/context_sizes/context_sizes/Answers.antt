@@ -10,5 +10,5 @@ box_sizes-requires c =
 pub loop-k-preserved : goal.loop-k-preserved
 loop-k-preserved c =
     let ok = c.in_ok-push.ensures {u = tt} in
-    let is = rw (c.containing_block-containing.ensures, c.deref.ensures.value, c.style_at.ensures) at c.box_sizes.ensures in
+    let is = rw (c.containing_block-containing.ensures, c.deref.ensures.value, c.width_rule.ensures, c.flow_of.ensures, c.style_at-style.ensures) at c.box_sizes.ensures.sized in
     rw ok.items (one_more c.args.outer c.args.boxes.now c.loop-k.sizes.items c.loop-k.k c.box_sizes.result c.requires.tree (omega arith) c.loop-k.invariant is)

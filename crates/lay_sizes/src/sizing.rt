@@ -1,30 +1,41 @@
 //! The used sizes of boxes.
 
-ghost use Rattle.std.specs.Prelude.{◌≡◌};
+ghost use Rattle.std.specs.Prelude.{◌≡◌, ◌+ℤ◌};
 ghost use Rattle.lay_units.specs.Units.{IsPosition};
-ghost use Rattle.lay_boxgen.specs.Display.{flow_of};
-ghost use Rattle.lay_context.specs.UsedLengths.{block_of};
-ghost use Rattle.lay_context.specs.BoxSizes.{IsSized, IsUsedWidth, content_block};
+ghost use Rattle.lay_sizes.specs.UsedLengths.{block_of};
+ghost use Rattle.lay_sizes.specs.BoxSizes.{IsSized, IsUsedWidth, border_width, content_block};
+ghost use Rattle.lay_sizes.specs.SizeBounds.{SizeFits};
 
 use crate::used_lengths::{
     block_of, definite_height, edges_of, used_height, used_max_height, used_min_height,
     used_vertical_margin,
 };
-use lay_boxgen::{Flow, flow_of};
 use lay_doc::Style;
 use lay_units::{Len, Sides, Unit};
 use lay_widths::{BlockOut, solve_block, solve_float};
 
 /// A containing block (CSS 2.2, 10.1), in 1/64 px. Its height is auto where it depends on what is in it.
-#[derive(Clone, Copy, Debug, PartialEq, Eq)]
+#[derive(Clone, Copy)]
 pub struct ContainingBlock {
     pub width: Unit,
     pub height: Len,
 }
 
+/// Which rule gives a box its width.
+#[derive(Clone, Copy)]
+pub enum WidthRule {
+    /// A block in flow fills its containing block (CSS 2.2, 10.3.3).
+    Fills,
+    /// A float is as wide as its content, whose preferred widths these are in 1/64 px (10.3.5).
+    ShrinksToFit {
+        preferred_minimum: Unit,
+        preferred: Unit,
+    },
+}
+
 /// What the used sizes of a box are beside its containing block (CSS 2.2, 8.3 to 8.5, 10.3, 10.5 and
 /// 10.7), in 1/64 px.
-#[derive(Clone, Copy, Debug, PartialEq, Eq)]
+#[derive(Clone, Copy)]
 pub struct BoxSizes {
     /// Its left and right margins and its width.
     pub widths: BlockOut,
@@ -39,15 +50,16 @@ pub struct BoxSizes {
     pub max_height: Option<Unit>,
 }
 
-/// The used sizes of a box of this style.
-pub(crate) fn box_sizes(containing: ContainingBlock, style: &Style) -> BoxSizes
+/// The used sizes of a box of this style, whose width comes by this rule.
+pub fn box_sizes(containing: ContainingBlock, rule: WidthRule, style: &Style) -> BoxSizes
     requires { IsPosition containing.width.0 }
-    ensures { IsSized containing style.now result }
+    ensures sized { IsSized containing rule style.now result }
+    ensures fits { SizeFits result }
 {
     let width = containing.width;
     let height = containing.height;
     BoxSizes {
-        widths: used_widths(width, style),
+        widths: used_widths(width, rule, style),
         edges: edges_of(width, style),
         margin_top: used_vertical_margin(width, style.margin.top),
         margin_bottom: used_vertical_margin(width, style.margin.bottom),
@@ -58,24 +70,45 @@ pub(crate) fn box_sizes(containing: ContainingBlock, style: &Style) -> BoxSizes
 }
 
 /// The used margins and width, for the width of the containing block.
-fn used_widths(containing: Unit, style: &Style) -> BlockOut
+fn used_widths(containing: Unit, rule: WidthRule, style: &Style) -> BlockOut
     requires { IsPosition containing.0 }
-    ensures { IsUsedWidth (flow_of style.now) (block_of containing style.now) result }
+    ensures { IsUsedWidth rule (block_of containing style.now) result }
 {
     let block = block_of(containing, style);
-    match flow_of(style) {
-        Flow::InFlow => solve_block(&block),
-        Flow::Floating => solve_float(&block, Unit(0), Unit(0)),
-        Flow::Absolute => solve_block(&block),
+    match rule {
+        WidthRule::Fills => solve_block(&block),
+        WidthRule::ShrinksToFit {
+            preferred_minimum,
+            preferred,
+        } => solve_float(&block, preferred_minimum, preferred),
     }
 }
 
 /// The content box of a box, as the containing block of what is in it.
-pub(crate) fn content_block(sizes: &BoxSizes) -> ContainingBlock
+pub fn content_block(sizes: &BoxSizes) -> ContainingBlock
     ensures { result ≡ content_block sizes.now }
 {
     ContainingBlock {
         width: sizes.widths.width,
         height: definite_height(sizes.height, sizes.min_height, sizes.max_height),
     }
+}
+
+/// The width of the border box.
+pub fn border_width(sizes: &BoxSizes) -> Unit
+    requires { SizeFits sizes.now }
+    ensures { result ≡ record { 0 = border_width sizes.now } }
+{
+    sum_of(
+        sum_of(sizes.widths.width, sizes.edges.left),
+        sizes.edges.right,
+    )
+}
+
+fn sum_of(a: Unit, b: Unit) -> Unit
+    requires a { IsPosition a.0 }
+    requires b { IsPosition b.0 }
+    ensures { result ≡ record { 0 = a.0 +ℤ b.0 } }
+{
+    Unit(a.0 + b.0)
 }

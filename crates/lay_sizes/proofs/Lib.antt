@@ -1,0 +1,2 @@
+pub mod SizesFit
+pub mod OneSizes

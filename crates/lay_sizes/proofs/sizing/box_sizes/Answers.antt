@@ -1,0 +1,13 @@
+use Rattle.lay_sizes.proofs.SizesFit.{sizes_fit_lem}
+use Rattle.lay_sizes.proofs.sizing.box_sizes.Goals as goal
+
+pub returns-clause-fits : goal.returns-clause-fits
+returns-clause-fits c = sizes_fit_lem c.args.containing c.args.rule c.args.style.now _ (record {
+  widths = c.used_widths.ensures;
+  edges = c.edges_of.ensures;
+  margin_top = c.used_vertical_margin.ensures;
+  margin_bottom = c.used_vertical_margin-2.ensures;
+  height = c.used_height.ensures;
+  min_height = c.used_min_height.ensures;
+  max_height = c.used_max_height.ensures;
+})

@@ -1,0 +1,4 @@
+pub mod UsedLengths
+pub mod BoxSizes
+pub mod SizeBounds
+pub mod Laws
