@@ -32,13 +32,8 @@ use Rattle.lay_sizes.specs.SizeBounds.{SizeFits, IsUsedSizeOrAuto}
 use Rattle.lay_context.specs.SizeBounds.{HaveSizeBounds}
 use Rattle.lay_context.specs.ContextBlocks.{is_inner, is_float, side_of, plain_block, solid_block, block_of_box, shape_beside, shape_of_box, AreBlocksOf, AreShapesOf}
 use Rattle.lay_context.specs.ContextOrder.{AreContextBoxes}
-use Rattle.lay_context.specs.ContextPlaces.{no_lines}
 use Rattle.lay_context.specs.PlaceBounds.{AreNearLefts, HaveBoxHeights}
 use Rattle.lay_context.proofs.LeftSteps.{length-parents}
-
-length-no_lines : (boxes : List BoxNode) → length (no_lines boxes) ≡ length boxes
-length-no_lines [] = refl
-length-no_lines (b ∷ bs) = ap suc (length-no_lines bs)
 
 -- a height that is given is a used size
 given_fits : (height : Len) → IsUsedSizeOrAuto height → IsUsedSize (given_or_auto height (pos 0))
@@ -72,13 +67,12 @@ block_fits false false z fits = record {
 }
 
 pub are_blocks : (boxes : List BoxNode) (sizes : List BoxSizes) (blocks : List Block) → AreContextBoxes boxes → length boxes ≤ 16384 → length sizes ≡ length boxes → HaveSizeBounds sizes → AreBlocksOf boxes sizes blocks
-    → AreBlocks (box_parents boxes) blocks (no_lines boxes)
+    → AreBlocks (box_parents boxes) blocks
 are_blocks boxes sizes blocks are few counted bounds of = record {
   some = omega (arith, are.some, length-parents boxes);
   few = omega (arith, few, length-parents boxes);
   tree = are.tree;
   block_count = of.count ∙ sym (length-parents boxes);
-  extent_count = length-no_lines boxes ∙ sym (length-parents boxes);
   block = λ k lt.
       let within : k < length boxes = omega (arith, length-parents boxes) in
       rw (of.each k within) (block_fits (is_float boxes k) (is_inner boxes k) (sizes_at sizes k) (bounds k (omega (arith, counted))));
@@ -174,9 +168,9 @@ shape_sizes boxes sizes lefts heights shapes tree sizes_counted bounds lefts_cou
         (near p (omega (arith, lefts_counted))) (near (suc k) (omega (arith, lefts_counted))) (sized (suc k) (omega (arith, heights_counted)))
 
 -- the height of the context's own border box is within its bounds
-pub own_height : (boxes : List BoxNode) (sizes : List BoxSizes) (blocks : List Block) (shapes : List Shape) (given tops heights : List Length) (places : List Place) → AreContextBoxes boxes → AreBlocksOf boxes sizes blocks
-    → AreContextPlaces (box_parents boxes) blocks shapes given tops heights places → AreBoxHeights blocks heights → IsBoxHeight (length_at heights 0)
-own_height boxes sizes blocks shapes given tops heights places are of placed sized =
+pub own_height : (boxes : List BoxNode) (sizes : List BoxSizes) (blocks : List Block) (shapes : List Shape) (tops heights : List Length) (places : List Place) → AreContextBoxes boxes → AreBlocksOf boxes sizes blocks
+    → AreContextPlaces (box_parents boxes) blocks shapes tops heights places → AreBoxHeights blocks heights → IsBoxHeight (length_at heights 0)
+own_height boxes sizes blocks shapes tops heights places are of placed sized =
     let counted : length heights ≡ length boxes = ap length placed.heights_are ∙ placed.is_flow.layout.has_positions.heights_length ∙ length-parents boxes in
     let plain : is_solid (block_at blocks 0).inside ≡ false = rw (of.each 0 are.some, plain_inside boxes sizes 0 are.own) refl in
     sized 0 (omega (arith, counted, are.some)) plain

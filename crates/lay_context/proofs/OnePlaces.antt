@@ -15,7 +15,6 @@ use Rattle.lay_flow.specs.Lengths.{length_at, no_length}
 use Rattle.lay_sizes.specs.declared.sizing.BoxSizes.{BoxSizes}
 use Rattle.lay_context.specs.ContextSizes.{sizes_at}
 use Rattle.lay_context.specs.ContextBlocks.{left_of_box, AreBlocksOf, HasLefts, AreShapesOf}
-use Rattle.lay_context.specs.ContextPlaces.{no_lines}
 use Rattle.lay_flow.proofs.OneContextFlow.{one_context_places_lem as flow_places_lem}
 use Rattle.lay_context.specs.Laws.{OneContextPlaces}
 use Rattle.lay_context.proofs.LeftSteps.{length-parents}
@@ -54,7 +53,7 @@ one_context_places_lem boxes sizes p q are a b inner =
     let blocks = one_block_column boxes sizes a.blocks b.blocks a.are_blocks b.are_blocks in
     let shaped : AreShapesOf boxes sizes p.lefts p.inner_heights b.shapes = rw (lefts, inner) b.are_shapes in
     let shapes = one_shape_column boxes sizes p.lefts p.inner_heights a.shapes b.shapes a.are_shapes shaped in
-    let placed : AreContextPlaces (box_parents boxes) a.blocks a.shapes (no_lines boxes) q.tops q.heights q.places = rw (blocks, shapes) b.are_places in
+    let placed : AreContextPlaces (box_parents boxes) a.blocks a.shapes q.tops q.heights q.places = rw (blocks, shapes) b.are_places in
     let there = are_shapes boxes sizes a.blocks p.lefts p.inner_heights a.shapes are a.are_blocks a.are_shapes in
-    let same = flow_places_lem (box_parents boxes) a.blocks a.shapes (no_lines boxes) p.tops p.heights q.tops q.heights p.places q.places are.tree (omega (arith, are.some, length-parents boxes)) there a.are_places placed in
+    let same = flow_places_lem (box_parents boxes) a.blocks a.shapes p.tops p.heights q.tops q.heights p.places q.places are.tree (omega (arith, are.some, length-parents boxes)) there a.are_places placed in
     λ i. record { inner_heights = inner i; lefts = lefts i; tops = same.0 i; heights = same.1 i; places = same.2 i }

@@ -1,6 +1,6 @@
 -- Where the boxes of one context stand, counted from the corner of its own border box (CSS 2.2, 9.4.1 and 9.5), beside the
 -- used sizes and the heights of inner contexts.
-use Rattle.std.specs.Prelude.{ℕ, zero, suc, ◌+ℤ◌, List, [], ◌∷◌, ◌++◌, length, map, slice_index, if◌then◌else◌}
+use Rattle.std.specs.Prelude.{ℕ, zero, suc, ◌+ℤ◌, List, [], ◌∷◌, ◌++◌, length, slice_index, if◌then◌else◌}
 use Rattle.lay_units.specs.declared.length.Unit.{Unit as Length}
 use Rattle.lay_frag.specs.declared.frag.Frag.{Frag}
 use Rattle.lay_frag.specs.declared.frag.FragKind.TheVariants.{Box}
@@ -9,7 +9,7 @@ use Rattle.lay_boxgen.specs.BoxColumns.{box_parents, box_ids}
 use Rattle.lay_floats.specs.declared.requests.Place.{Place}
 use Rattle.lay_flow.specs.declared.block.Block.{Block}
 use Rattle.lay_flow.specs.declared.shape.Shape.{Shape}
-use Rattle.lay_flow.specs.Lengths.{length_at, no_length}
+use Rattle.lay_flow.specs.Lengths.{length_at}
 use Rattle.lay_flow.specs.BlockFloats.{place_at}
 use Rattle.lay_flow.specs.ContextFlow.{AreContextPlaces}
 use Rattle.lay_sizes.specs.declared.sizing.BoxSizes.{BoxSizes}
@@ -34,10 +34,6 @@ pub record ContextPlaces : Type 0 where
 abbrev pub columns_of : BoxPlaces → ContextPlaces
 columns_of p = record { inner_heights = p.inner_heights.items; lefts = p.lefts.items; tops = p.tops.items; heights = p.heights.items; places = p.places.items }
 
--- no box holds lines yet
-abbrev pub no_lines : List BoxNode → List Length
-no_lines boxes = map (λ b. no_length) boxes
-
 -- these are the places beside the heights of inner contexts
 pub record HasPlaces (boxes : List BoxNode) (sizes : List BoxSizes) (p : ContextPlaces) : Type 0 where
   pub blocks : List Block
@@ -45,7 +41,7 @@ pub record HasPlaces (boxes : List BoxNode) (sizes : List BoxSizes) (p : Context
   pub has_lefts : HasLefts boxes sizes p.lefts
   pub are_blocks : AreBlocksOf boxes sizes blocks
   pub are_shapes : AreShapesOf boxes sizes p.lefts p.inner_heights shapes
-  pub are_places : AreContextPlaces (box_parents boxes) blocks shapes (no_lines boxes) p.tops p.heights p.places
+  pub are_places : AreContextPlaces (box_parents boxes) blocks shapes p.tops p.heights p.places
 
 -- the corner of the border box of the box at k: a float stands with its margin box at its place, and a solid box with its
 -- border box

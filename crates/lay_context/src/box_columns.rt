@@ -10,7 +10,6 @@ ghost use Rattle.lay_context.specs.ContextBlocks.{margin_width};
 ghost use Rattle.lay_sizes.specs.SizeBounds.{SizeFits};
 ghost use Rattle.lay_context.specs.ContextSizes.{sizes_at};
 ghost use Rattle.lay_context.specs.ContextBlocks.{is_floating, is_float, is_inner};
-ghost use Rattle.lay_context.specs.ContextPlaces.{no_lines};
 ghost use Rattle.lay_context.specs.PlaceBounds.{IsNear};
 
 use lay_boxgen::{BoxNode, Flow, flow_of};
@@ -28,17 +27,6 @@ pub(crate) fn box_parents(alloc: Global, boxes: &[BoxNode]) -> Result<Vec<usize>
         parents.push(node.parent as usize)?;
     }
     Ok(parents)
-}
-
-/// The heights of the lines in each box: none holds any.
-pub(crate) fn no_lines(alloc: Global, boxes: &[BoxNode]) -> Result<Vec<Unit>, NoMemory>
-    ensures { IfOk result (λ v. v.items ≡ no_lines boxes.now) }
-{
-    let mut lines = Vec::with_capacity(alloc, boxes.len())?;
-    for _node in boxes {
-        lines.push(Unit(0))?;
-    }
-    Ok(lines)
 }
 
 pub(crate) fn parent_at(boxes: &[BoxNode], k: usize) -> usize

@@ -8,7 +8,7 @@ ghost use Rattle.lay_context.specs.ContextOrder.{AreContextBoxes};
 ghost use Rattle.lay_context.specs.ContextPlaces.{columns_of, HasPlaces};
 ghost use Rattle.lay_context.specs.PlaceBounds.{HaveBoxHeights};
 
-use crate::box_columns::{box_parents, no_lines};
+use crate::box_columns::box_parents;
 use crate::context_blocks::{blocks_of, lefts_of};
 use crate::context_shapes::shapes_of;
 use lay_boxgen::BoxNode;
@@ -61,8 +61,7 @@ pub(crate) fn context_places(
     let blocks = blocks_of(alloc, boxes, sizes)?;
     let lefts = lefts_of(alloc, boxes, sizes)?;
     let shapes = shapes_of(alloc, boxes, sizes, &lefts, &inner_heights)?;
-    let lines = no_lines(alloc, boxes)?;
-    let placed = place_blocks(alloc, &parents, &blocks, &shapes, &lines)?;
+    let placed = place_blocks(alloc, &parents, &blocks, &shapes)?;
     Ok(BoxPlaces {
         inner_heights,
         lefts,

@@ -8,10 +8,11 @@ use Rattle.lay_flow.specs.declared.block.Block.{Block}
 use Rattle.lay_flow.specs.Lengths.{length_at}
 use Rattle.lay_flow.specs.Children.{flag_at, last_child}
 use Rattle.lay_flow.specs.MarginRuns.{margins, has_top, is_barred, block_at, run_at, run_before, joins_bottom, may_join_bottoms, may_collapse_through}
-use Rattle.lay_flow.specs.BlockPositions.{start_before, start_below, content_bottom, content_height, border_height}
+use Rattle.lay_flow.specs.BlockPositions.{Extents, start_before, start_below, border_height}
 use Rattle.lay_flow.specs.BlockLayout.{BlockLayout, IsBlockLayout}
 use Rattle.lay_flow.specs.Gathered.{Gathered, IsAround}
 use Rattle.lay_flow.specs.MarginPlace.{IsPlace}
+use Rattle.lay_flow.proofs.ContentHeights.{content_bottom, content_inner}
 use Rattle.lay_flow.proofs.Truths.{true_false, true_or, low_yes, low_not}
 use Rattle.lay_flow.proofs.RunsAgree.{Same, Closed, last_there, inside_up}
 use Rattle.lay_flow.proofs.RunsUpTo.{runs_up_to}
@@ -23,8 +24,8 @@ use Rattle.lay_flow.proofs.HangingRuns.{stands_at_edge}
 use Rattle.lay_flow.proofs.LayoutsAlike.{IsHanging, ClosedAlike, EndsIn, same_runs, same_run, also_gathered, start_same, marks_same}
 use Rattle.lay_flow.proofs.AlikeSteps.{AlikeAt, IsClosed, StartsAlike, MarksTo}
 
-module _ (parents : List ℕ) (tree : IsTree parents) (blocks : List Block) (extents clear_edges : List Length) (y : BlockLayout) (is : IsBlockLayout parents blocks extents clear_edges y)
-    (others other_edges : List Length) (z : BlockLayout) (also : IsBlockLayout parents blocks others other_edges z)
+module _ (parents : List ℕ) (tree : IsTree parents) (blocks : List Block) (extents : Extents) (clear_edges : List Length) (y : BlockLayout) (is : IsBlockLayout parents blocks extents clear_edges y)
+    (others : Extents) (other_edges : List Length) (z : BlockLayout) (also : IsBlockLayout parents blocks others other_edges z)
     (first p m : ℕ) (positive : 0 < p) (was : AlikeAt parents tree blocks extents clear_edges y is others other_edges z also first p m) (ends : m < length parents → slice_index parents m < p) where
   lt : p < m
   lt = was.gathered.parent
@@ -116,13 +117,13 @@ module _ (parents : List ℕ) (tree : IsTree parents) (blocks : List Block) (ext
           let j = joins_same in
           rw (g, below, tail, j) refl
 
-  height_standing : start_before parents blocks y.runs y.places p m ≡ start_before parents blocks z.runs z.places p m → MarkSame → length_at extents p ≡ length_at others p → flag_at y.runs.through p ≡ false
+  height_standing : start_before parents blocks y.runs y.places p m ≡ start_before parents blocks z.runs z.places p m → MarkSame → length_at extents.solid p ≡ length_at others.solid p → flag_at y.runs.through p ≡ false
       → length_at y.places.heights p ≡ length_at z.places.heights p
   height_standing start mark extent stands =
       let also_stands : flag_at z.runs.through p ≡ false = sym closed_runs.pass ∙ stands in
       let b = bottom_same start mark in
-      let h : length_at y.places.heights p ≡ border_height (block_at blocks p) (length_at extents p) (content_height parents blocks y.runs y.places p) = is.has_positions.height p inner ∙ rw stands refl in
-      let k : length_at z.places.heights p ≡ border_height (block_at blocks p) (length_at others p) (content_height parents blocks z.runs z.places p) = also.has_positions.height p inner ∙ rw also_stands refl in
+      let h : length_at y.places.heights p ≡ border_height (block_at blocks p) (length_at extents.solid p) (content_bottom parents blocks y.runs y.places p -ℤ (length_at y.places.marks p +ℤ (block_at blocks p).edge_top.0)) = is.has_positions.height p inner ∙ (let e = content_inner parents blocks y.runs extents.floats y.places p positive in rw (stands, e) refl) in
+      let k : length_at z.places.heights p ≡ border_height (block_at blocks p) (length_at others.solid p) (content_bottom parents blocks z.runs z.places p -ℤ (length_at z.places.marks p +ℤ (block_at blocks p).edge_top.0)) = also.has_positions.height p inner ∙ (let e = content_inner parents blocks z.runs others.floats z.places p positive in rw (also_stands, e) refl) in
       h ∙ (λ i. border_height (block_at blocks p) (extent i) (b i -ℤ (mark i +ℤ (block_at blocks p).edge_top.0))) ∙ sym k
 
   -- what follows a box that isn't collapsed through starts below it
@@ -132,7 +133,7 @@ module _ (parents : List ℕ) (tree : IsTree parents) (blocks : List Block) (ext
   start_through : (r : BlockLayout) → flag_at r.runs.through p ≡ true → start_before parents blocks r.runs r.places (slice_index parents p) m ≡ length_at r.places.starts p
   start_through r through = let e = last_y in rw (e, through) refl
 
-  closed_standing : flag_at y.runs.through p ≡ false → start_before parents blocks y.runs y.places p m ≡ start_before parents blocks z.runs z.places p m → MarkSame → length_at extents p ≡ length_at others p
+  closed_standing : flag_at y.runs.through p ≡ false → start_before parents blocks y.runs y.places p m ≡ start_before parents blocks z.runs z.places p m → MarkSame → length_at extents.solid p ≡ length_at others.solid p
       → (next : ℕ) → Gathered parents blocks y.runs next (slice_index parents p) m → MarksTo parents tree blocks extents clear_edges y is others other_edges z also next
       → AlikeAt parents tree blocks extents clear_edges y is others other_edges z also next (slice_index parents p) m
   closed_standing stands start mark extent next g marks =
@@ -176,7 +177,7 @@ module _ (parents : List ℕ) (tree : IsTree parents) (blocks : List Block) (ext
     pub next : ℕ
     pub alike : AlikeAt parents tree blocks extents clear_edges y is others other_edges z also next (slice_index parents p) m
 
-  closed_parted : joins_bottom parents blocks y.runs p ≡ false → (MarksTo parents tree blocks extents clear_edges y is others other_edges z also m → length_at extents p ≡ length_at others p) → SomeClosed
+  closed_parted : joins_bottom parents blocks y.runs p ≡ false → (MarksTo parents tree blocks extents clear_edges y is others other_edges z also m → length_at extents.solid p ≡ length_at others.solid p) → SomeClosed
   closed_parted parted extent =
       let marks = marks_same parents tree blocks extents clear_edges y is others other_edges z also first p m at was (run_before parents blocks y.runs p m) (ended_here parted) in
       let start = start_same parents tree blocks extents clear_edges y is others other_edges z also first p m at was (run_before parents blocks y.runs p m) (ended_here parted) in
@@ -184,7 +185,7 @@ module _ (parents : List ℕ) (tree : IsTree parents) (blocks : List Block) (ext
       record { next = m; alike = closed_standing stands start (marks p lt) (extent marks) m (close_parted parents tree blocks y.runs is.has_runs p m positive lt within ends was.gathered.inside parted) marks }
 
   -- its bottom margin adjoins that of its last child, and its top margin is in an earlier run
-  closed_joined : joins_bottom parents blocks y.runs p ≡ true → p < first → (may_join_bottoms (block_at blocks p) ≡ true → length_at extents p ≡ length_at others p) → SomeClosed
+  closed_joined : joins_bottom parents blocks y.runs p ≡ true → p < first → (may_join_bottoms (block_at blocks p) ≡ true → length_at extents.solid p ≡ length_at others.solid p) → SomeClosed
   closed_joined joined before extent =
       let stands : flag_at y.runs.through p ≡ false = passes_here parents tree blocks y.runs is.has_runs p m positive lt within ends was.gathered.inside first was.gathered
       ∙ (let n = low_yes p first before in rw n (and_false (may_collapse_through (block_at blocks p)))) in
@@ -272,7 +273,7 @@ module _ (parents : List ℕ) (tree : IsTree parents) (blocks : List Block) (ext
       alike = closed_up first (close_joined parents tree blocks y.runs is.has_runs p m positive lt within ends was.gathered.inside first was.gathered joined) was.mark (record { height = no_height; kept = λ t top. mark_kept top }) start_up;
     }
 
-  pub closes_alike : (MarksTo parents tree blocks extents clear_edges y is others other_edges z also m → length_at extents p ≡ length_at others p) → (may_join_bottoms (block_at blocks p) ≡ true → length_at extents p ≡ length_at others p) → SomeClosed
+  pub closes_alike : (MarksTo parents tree blocks extents clear_edges y is others other_edges z also m → length_at extents.solid p ≡ length_at others.solid p) → (may_join_bottoms (block_at blocks p) ≡ true → length_at extents.solid p ≡ length_at others.solid p) → SomeClosed
   closes_alike by_marks by_kind = true_or (joins_bottom parents blocks y.runs p) SomeClosed
       (λ joined. elim (cases_lt p first) [
         | inl before ↦ closed_joined joined before by_kind

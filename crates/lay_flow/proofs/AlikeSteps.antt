@@ -8,7 +8,7 @@ use Rattle.lay_flow.specs.declared.block.Block.{Block}
 use Rattle.lay_flow.specs.Lengths.{length_at}
 use Rattle.lay_flow.specs.Children.{flag_at}
 use Rattle.lay_flow.specs.MarginRuns.{Entry, margin, mark, margins, block_at, run_at, parts_tops, to_top, run_before}
-use Rattle.lay_flow.specs.BlockPositions.{start_before}
+use Rattle.lay_flow.specs.BlockPositions.{Extents, start_before}
 use Rattle.lay_flow.specs.BlockLayout.{BlockLayout, IsBlockLayout}
 use Rattle.lay_flow.specs.Gathered.{Gathered, IsAround}
 use Rattle.lay_flow.specs.MarginPlace.{IsPlace}
@@ -21,8 +21,8 @@ use Rattle.lay_flow.proofs.LookAhead.{place_before}
 use Rattle.lay_flow.proofs.HangingRuns.{stands_at_edge}
 use Rattle.lay_flow.proofs.LayoutsAlike.{IsHanging, ClosedAlike, Alike, EndsIn, same_run, also_gathered, start_same, marks_same}
 
-module _ (parents : List ℕ) (tree : IsTree parents) (blocks : List Block) (extents clear_edges : List Length) (y : BlockLayout) (is : IsBlockLayout parents blocks extents clear_edges y)
-    (others other_edges : List Length) (z : BlockLayout) (also : IsBlockLayout parents blocks others other_edges z) where
+module _ (parents : List ℕ) (tree : IsTree parents) (blocks : List Block) (extents : Extents) (clear_edges : List Length) (y : BlockLayout) (is : IsBlockLayout parents blocks extents clear_edges y)
+    (others : Extents) (other_edges : List Length) (z : BlockLayout) (also : IsBlockLayout parents blocks others other_edges z) where
   abbrev pub AlikeAt : ℕ → ℕ → ℕ → Type 0
   AlikeAt = Alike parents tree blocks extents clear_edges y is others other_edges z also
 

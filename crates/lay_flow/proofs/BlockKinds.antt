@@ -4,7 +4,7 @@ use Rattle.lay_units.specs.declared.records.Len.{Len}
 use Rattle.lay_units.specs.declared.records.Len.TheVariants.{Auto as auto, Of as of}
 use Rattle.lay_flow.specs.declared.block.Block.{Block}
 use Rattle.lay_flow.specs.declared.block.Inside.{Inside}
-use Rattle.lay_flow.specs.declared.block.Inside.TheVariants.{Blocks as blocks_inside, Lines as lines_inside, Solid as solid_inside}
+use Rattle.lay_flow.specs.declared.block.Inside.TheVariants.{Blocks as blocks_inside, Solid as solid_inside}
 use Rattle.lay_flow.specs.MarginRuns.{block_at, is_zero, is_auto, is_auto_or_zero, is_blocks, parts_tops, may_join_bottoms, may_collapse_through}
 use Rattle.lay_flow.specs.BlockPositions.{is_solid}
 use Rattle.lay_flow.proofs.Truths.{true_false}
@@ -38,5 +38,4 @@ joins_flow b may = by_inside b.inside may
   where
     by_inside : (inside : Inside) → may_join_bottoms (record b { inside = inside }) ≡ true → is_solid inside ≡ false
     by_inside blocks_inside e = refl
-    by_inside lines_inside e = refl
     by_inside solid_inside e = absurd (true_false false e refl)

@@ -7,7 +7,7 @@ use Rattle.lay_flow.specs.declared.block.Block.{Block}
 use Rattle.lay_flow.specs.Lengths.{no_length, length_at}
 use Rattle.lay_flow.specs.Children.{flag_at}
 use Rattle.lay_flow.specs.MarginRuns.{Runs, HasRuns, through_of, before_top_of, to_bottom_of, top_run_of, bottom_run_of}
-use Rattle.lay_flow.specs.BlockPositions.{Positions, HasPositions, start_of, mark_of, height_of}
+use Rattle.lay_flow.specs.BlockPositions.{Extents, Positions, HasPositions, start_of, mark_of, height_of}
 use Rattle.lay_flow.specs.Laws.{OneBlockLayout, SomeBlockLayout}
 use Rattle.lay_flow.proofs.Lengths.{same_length}
 use Rattle.lay_flow.proofs.Tabulated.{tab, tab_length, tab_at}
@@ -36,13 +36,13 @@ one_runs parents blocks r x tree some c is also =
 pub same_lengths : (xs ys : List Length) → length xs ≡ length ys → ((k : ℕ) → k < length xs → length_at xs k ≡ length_at ys k) → xs ≡ ys
 same_lengths xs ys e each = same_list no_length xs ys e (λ k lt. same_length (slice_index_or xs k no_length) (slice_index_or ys k no_length) (each k lt))
 
-next_positions : (parents : List ℕ) (blocks : List Block) (r : Runs) (extents clear_edges : List Length) (s : Positions) → HasPositions parents blocks r extents clear_edges s → AreNextPositions parents blocks r extents clear_edges s s
+next_positions : (parents : List ℕ) (blocks : List Block) (r : Runs) (extents : Extents) (clear_edges : List Length) (s : Positions) → HasPositions parents blocks r extents clear_edges s → AreNextPositions parents blocks r extents clear_edges s s
 next_positions parents blocks r extents clear_edges s is = record { start = is.start; mark = is.mark; height = is.height }
 
 same_positions : (s t : Positions) → s.starts ≡ t.starts → s.marks ≡ t.marks → s.heights ≡ t.heights → s ≡ t
 same_positions s t e f g = λ i. record { starts = e i; marks = f i; heights = g i }
 
-pub one_positions : (parents : List ℕ) (blocks : List Block) (r : Runs) (extents clear_edges : List Length) (s t : Positions) → IsTree parents → 0 < length parents
+pub one_positions : (parents : List ℕ) (blocks : List Block) (r : Runs) (extents : Extents) (clear_edges : List Length) (s t : Positions) → IsTree parents → 0 < length parents
     → HasPositions parents blocks r extents clear_edges s → HasPositions parents blocks r extents clear_edges t → s ≡ t
 one_positions parents blocks r extents clear_edges s t tree some is also =
     let st = stands parents tree blocks r extents clear_edges (λ i. s) (λ i. t) (λ i. next_positions parents blocks r extents clear_edges s is) (λ i. next_positions parents blocks r extents clear_edges t also) some in
@@ -116,7 +116,7 @@ module _ (parents : List ℕ) (tree : IsTree parents) (some : 0 < length parents
 abbrev as_length : ℤ → Length
 as_length v = record { 0 = v }
 
-module _ (parents : List ℕ) (tree : IsTree parents) (some : 0 < length parents) (blocks : List Block) (r : Runs) (extents clear_edges : List Length) where
+module _ (parents : List ℕ) (tree : IsTree parents) (some : 0 < length parents) (blocks : List Block) (r : Runs) (extents : Extents) (clear_edges : List Length) where
   -- the positions worked out once more from these
   abbrev placed_again : Positions → Positions
   placed_again s = record {

@@ -15,7 +15,7 @@ use Rattle.lay_flow.specs.declared.shape.Shape.{Shape}
 use Rattle.lay_flow.specs.Lengths.{length_at}
 use Rattle.lay_flow.specs.Children.{flag_at}
 use Rattle.lay_flow.specs.MarginRuns.{margins, has_top, run_at, run_before}
-use Rattle.lay_flow.specs.BlockPositions.{start_before}
+use Rattle.lay_flow.specs.BlockPositions.{Extents, start_before}
 use Rattle.lay_flow.specs.BlockLayout.{BlockLayout, IsBlockLayout}
 use Rattle.lay_flow.specs.BlockFloats.{shape_at, floats_before}
 use Rattle.lay_flow.specs.Clearance.{IsHypothetical, HasClearedFloat, IsAbove, lower_of, HasClearance}
@@ -29,7 +29,7 @@ use Rattle.lay_flow.proofs.HangingRuns.{hangs_at_edge}
 use Rattle.lay_flow.proofs.Hypotheticals.{some_hypothetical_lem}
 use Rattle.lay_flow.proofs.Openings.{opened_cleared}
 use Rattle.lay_flow.proofs.PassFits.{fits_cleared, start_edge_near}
-use Rattle.lay_flow.proofs.PassSteps.{may_before, given_kept, places_before, decided_placed}
+use Rattle.lay_flow.proofs.PassSteps.{may_before, no_extents_kept, places_before, decided_placed}
 use Rattle.lay_flow.proofs.PlaceSteps.{floats_same}
 use Rattle.lay_flow.proofs.RunFacts.{lead_goes_on}
 use Rattle.lay_flow.proofs.RunReach.{RunEnds}
@@ -39,11 +39,11 @@ use Rattle.lay_flow.proofs.Truths.{true_false, low_not, low_yes}
 no_some : {A : Type 0} (v : A) → None ≡ Some v → ⊥
 no_some v e = grind (arith, e)
 
-module _ (parents : List ℕ) (blocks : List Block) (shapes : List Shape) (given : List Length) (tree : IsTree parents) (some : 0 < length parents) (now : PassState) (placing : Placing) (k : ℕ) (positive : 0 < k) (within : k < length parents)
-    (was : Knows parents blocks shapes given now placing (slice_index parents k) k) where
+module _ (parents : List ℕ) (blocks : List Block) (shapes : List Shape) (tree : IsTree parents) (some : 0 < length parents) (now : PassState) (placing : Placing) (k : ℕ) (positive : 0 < k) (within : k < length parents)
+    (was : Knows parents blocks shapes now placing (slice_index parents k) k) where
   -- the boxes before the run are placed
   pub knows_placed : (placing' : Placing) → PlacesTo parents blocks shapes now.marks placing' now.first → AreExtentsKept blocks (length placing.places) placing.extents placing'.extents → ArePlacesKept placing.places placing'.places
-      → Knows parents blocks shapes given now placing' (slice_index parents k) k
+      → Knows parents blocks shapes now placing' (slice_index parents k) k
   knows_placed placing' placed kept same =
       let l = placed.places_length in
       let early = was.early in
@@ -51,16 +51,16 @@ module _ (parents : List ℕ) (blocks : List Block) (shapes : List Shape) (given
       record {
         fits = was.fits;
         near = was.near;
-        is_at = λ extents clear_edges y may_be candidate. was.is_at extents clear_edges y (may_before parents blocks given placing placing' extents more kept may_be) candidate;
-        are_given = given_kept parents blocks given placing.extents placing'.extents (length placing.places) kept was.are_given;
+        is_at = λ extents clear_edges y may_be candidate. was.is_at extents clear_edges y (may_before blocks placing placing' extents more kept may_be) candidate;
+        no_extents = no_extents_kept blocks placing.extents placing'.extents (length placing.places) was.placed.some kept was.no_extents;
         placed = subst (λ (n : ℕ). PlacesTo parents blocks shapes now.marks placing' n) (sym l) placed;
         early = omega (arith, l);
         are_clears = was.are_clears;
-        decided = decided_placed parents blocks shapes given now.clears now.clear_edges placing placing' k more kept same was.decided;
+        decided = decided_placed parents blocks shapes now.clears now.clear_edges placing placing' k more kept same was.decided;
       }
 
   -- a layout that may be at last is one before the box at k, too
-  earlier : (extents clear_edges : List Length) (y : BlockLayout) (flags : List Bool) (edges : List Length) → ((j : ℕ) → j < k → flag_at flags j ≡ flag_at now.clears j) → ((j : ℕ) → j < k → length_at edges j ≡ length_at now.clear_edges j)
+  earlier : (extents : Extents) (clear_edges : List Length) (y : BlockLayout) (flags : List Bool) (edges : List Length) → ((j : ℕ) → j < k → flag_at flags j ≡ flag_at now.clears j) → ((j : ℕ) → j < k → length_at edges j ≡ length_at now.clear_edges j)
       → IsCandidate parents blocks extents clear_edges y flags edges (k + 1) → IsCandidate parents blocks extents clear_edges y now.clears now.clear_edges k
   earlier extents clear_edges y flags edges same_flags same_edges candidate = record {
     is_layout = candidate.is_layout;
@@ -69,7 +69,7 @@ module _ (parents : List ℕ) (blocks : List Block) (shapes : List Shape) (given
   }
 
   -- the hypothetical layout of the box at k
-  module _ (extents clear_edges : List Length) (y : BlockLayout) (may_be : MayBe parents blocks given placing extents) (candidate : IsCandidate parents blocks extents clear_edges y now.clears now.clear_edges k) where
+  module _ (extents : Extents) (clear_edges : List Length) (y : BlockLayout) (may_be : MayBe blocks placing extents) (candidate : IsCandidate parents blocks extents clear_edges y now.clears now.clear_edges k) where
     module _ (without : BlockLayout) (is : IsHypothetical parents blocks extents clear_edges y k without) where
       may_be_without : IsCandidate parents blocks extents clear_edges without now.clears now.clear_edges k
       may_be_without = record { is_layout = is.is_layout; clears = λ j lt. is.earlier j lt ∙ candidate.clears j lt; edge = candidate.edge }
@@ -98,7 +98,7 @@ module _ (parents : List ℕ) (blocks : List Block) (shapes : List Shape) (given
           (j, side.0, w.2, side.1, side.2, ap (has_top j) lead_without ∙ at_without.in_run.gathered.own j w.1 w.2)
 
   -- a run that hangs has the box at k at its clear edge
-  pub hanging_edge : now.hangs ≡ true → IsEdgeWithout parents blocks given now placing k now.start
+  pub hanging_edge : now.hangs ≡ true → IsEdgeWithout parents blocks now placing k now.start
   hanging_edge t extents clear_edges w may_be candidate later =
       let run = (was.is_at extents clear_edges w may_be candidate).in_run in
       let h = run.hanging t in
@@ -106,11 +106,11 @@ module _ (parents : List ℕ) (blocks : List Block) (shapes : List Shape) (given
 
   -- in another run the look ahead finds it
   pub flowing_edge : now.hangs ≡ false → (edge : ℤ)
-      → ((extents clear_edges : List Length) (w : BlockLayout) → IsBlockLayout parents blocks extents clear_edges w → ((j : ℕ) → k ≤ j → flag_at w.runs.clears j ≡ false)
+      → ((extents : Extents) (clear_edges : List Length) (w : BlockLayout) → IsBlockLayout parents blocks extents clear_edges w → ((j : ℕ) → k ≤ j → flag_at w.runs.clears j ≡ false)
       → Holds now.strut (margins (run_before parents blocks w.runs (slice_index parents k) k)) → now.start ≡ start_before parents blocks w.runs w.places (slice_index parents k) k
       → ((j : ℕ) → j < k → has_top j (run_before parents blocks w.runs (slice_index parents k) k) ≡ not (nat_lt j now.first))
       → edge ≡ length_at w.places.marks k)
-      → IsEdgeWithout parents blocks given now placing k edge
+      → IsEdgeWithout parents blocks now placing k edge
   flowing_edge f edge ahead extents clear_edges w may_be candidate later =
       let run = (was.is_at extents clear_edges w may_be candidate).in_run in
       ahead extents clear_edges w candidate.is_layout later run.strut_holds (run.start_is f) (λ j lt. elim (cases_lt j now.first) [
@@ -120,15 +120,15 @@ module _ (parents : List ℕ) (blocks : List Block) (shapes : List Shape) (given
 
   -- it is decided that the box at k has no clearance
   pub ready_unclear : ((shape_at shapes k).float ≡ None
-      → (extents clear_edges : List Length) (y : BlockLayout) (places : List Place) → MayBe parents blocks given placing extents → IsCandidate parents blocks extents clear_edges y now.clears now.clear_edges (k + 1) → ArePlacesKept placing.places places
-      → HasClearance parents blocks shapes extents clear_edges places y k) → IsReady parents blocks shapes given now placing k
+      → (extents : Extents) (clear_edges : List Length) (y : BlockLayout) (places : List Place) → MayBe blocks placing extents → IsCandidate parents blocks extents clear_edges y now.clears now.clear_edges (k + 1) → ArePlacesKept placing.places places
+      → HasClearance parents blocks shapes extents clear_edges places y k) → IsReady parents blocks shapes now placing k
   ready_unclear here = record {
     fits = was.fits;
     near = start_edge_near k now.start was.near;
     is_before = λ extents clear_edges y may_be candidate.
         let at = was.is_at extents clear_edges y may_be (earlier extents clear_edges y now.clears now.clear_edges (λ j lt. refl) (λ j lt. refl) candidate) in
         record { so_far = at.so_far; run = inl (candidate.clears k (omega arith) ∙ was.are_clears.later k (omega arith), at.in_run) };
-    are_given = was.are_given;
+    no_extents = was.no_extents;
     placed = was.placed;
     early = was.early;
     are_clears = record {
@@ -146,11 +146,11 @@ module _ (parents : List ℕ) (blocks : List Block) (shapes : List Shape) (given
     ];
   }
 
-  unclear_here : (extents clear_edges : List Length) (y : BlockLayout) → IsCandidate parents blocks extents clear_edges y now.clears now.clear_edges (k + 1) → flag_at y.runs.clears k ≡ false
+  unclear_here : (extents : Extents) (clear_edges : List Length) (y : BlockLayout) → IsCandidate parents blocks extents clear_edges y now.clears now.clear_edges (k + 1) → flag_at y.runs.clears k ≡ false
   unclear_here extents clear_edges y candidate = candidate.clears k (omega arith) ∙ was.are_clears.later k (omega arith)
 
   -- a box that goes past no floats
-  pub ready_unasked : ((shape_at shapes k).float ≡ None → (shape_at shapes k).clear ≡ clear_none) → IsReady parents blocks shapes given now placing k
+  pub ready_unasked : ((shape_at shapes k).float ≡ None → (shape_at shapes k).clear ≡ clear_none) → IsReady parents blocks shapes now placing k
   ready_unasked passes_none = ready_unclear (λ none extents clear_edges y places may_be candidate kept.
       let clear = passes_none none in
       let there = some_hypothetical_lem parents blocks extents clear_edges y k tree some candidate.is_layout in
@@ -165,8 +165,8 @@ module _ (parents : List ℕ) (blocks : List Block) (shapes : List Shape) (given
       })
 
   -- a box that stands below the floats that it goes past, none of which is in its run
-  pub ready_below : (edge : ℤ) (bottom : Option Length) → length placing.places ≡ now.first → IsEdgeWithout parents blocks given now placing k edge → IsClearEdge placing.floats (shape_at shapes k).clear bottom
-      → (HasWaitingFloat shapes now.first k → ⊥) → (IsAbove edge bottom → ⊥) → IsReady parents blocks shapes given now placing k
+  pub ready_below : (edge : ℤ) (bottom : Option Length) → length placing.places ≡ now.first → IsEdgeWithout parents blocks now placing k edge → IsClearEdge placing.floats (shape_at shapes k).clear bottom
+      → (HasWaitingFloat shapes now.first k → ⊥) → (IsAbove edge bottom → ⊥) → IsReady parents blocks shapes now placing k
   ready_below edge bottom settled edge_is is_bottom none_waits below = ready_unclear (λ none extents clear_edges y places may_be candidate kept.
       let before = earlier extents clear_edges y now.clears now.clear_edges (λ j lt. refl) (λ j lt. refl) candidate in
       let there = some_hypothetical_lem parents blocks extents clear_edges y k tree some candidate.is_layout in
@@ -191,7 +191,7 @@ module _ (parents : List ℕ) (blocks : List Block) (shapes : List Shape) (given
       })
 
   -- its clearance begins a run
-  module _ (hypothetical : ℤ) (flows : (shape_at shapes k).float ≡ None) (settled : length placing.places ≡ now.first) (edge_is : IsEdgeWithout parents blocks given now placing k hypothetical)
+  module _ (hypothetical : ℤ) (flows : (shape_at shapes k).float ≡ None) (settled : length placing.places ≡ now.first) (edge_is : IsEdgeWithout parents blocks now placing k hypothetical)
       (decides : HasWaitingFloat shapes now.first k ⊎ IsAboveFloats placing.floats (shape_at shapes k).clear hypothetical)
       (marks edges : List Length) (flags : List Bool) (placing' : Placing) (end edge : ℤ) (bottom' : Option Length) (strut' : StrutValue)
       (ends : RunEnds now.hangs now.start now.strut end) (ended : IsCollapseNear (end -ℤ now.start)) (settles : Settled parents now.through now.marks marks now.first k end)
@@ -207,9 +207,9 @@ module _ (parents : List ℕ) (blocks : List Block) (shapes : List Shape) (given
     same_edges : (j : ℕ) → j < k → length_at edges j ≡ length_at now.clear_edges j
     same_edges j lt = wrote_edge.other j (λ e. omega (arith, e, lt))
 
-    module _ (extents clear_edges : List Length) (y : BlockLayout) (may_be' : MayBe parents blocks given placing' extents) (candidate : IsCandidate parents blocks extents clear_edges y flags edges (k + 1)) where
-      may_be : MayBe parents blocks given placing extents
-      may_be = may_before parents blocks given placing placing' extents more kept may_be'
+    module _ (extents : Extents) (clear_edges : List Length) (y : BlockLayout) (may_be' : MayBe blocks placing' extents) (candidate : IsCandidate parents blocks extents clear_edges y flags edges (k + 1)) where
+      may_be : MayBe blocks placing extents
+      may_be = may_before blocks placing placing' extents more kept may_be'
 
       before : IsCandidate parents blocks extents clear_edges y now.clears now.clear_edges k
       before = earlier extents clear_edges y flags edges same_flags same_edges candidate
@@ -244,14 +244,14 @@ module _ (parents : List ℕ) (blocks : List Block) (shapes : List Shape) (given
             edge = λ t. edge_here ∙ lower ∙ ap (lower_of bottom') mark;
           }
 
-    pub ready_cleared : IsReady parents blocks shapes given (record now { marks = marks; clears = flags; clear_edges = edges; start = edge; strut = strut'; first = k; hangs = true }) placing' k
+    pub ready_cleared : IsReady parents blocks shapes (record now { marks = marks; clears = flags; clear_edges = edges; start = edge; strut = strut'; first = k; hangs = true }) placing' k
     ready_cleared = record {
       fits = fits_cleared parents tree blocks now k marks edges flags end edge strut' positive was.fits settles ended near fits';
       near = near;
       is_before = λ extents clear_edges y may_be' candidate.
           opened_cleared parents blocks extents clear_edges y candidate.is_layout tree k positive within now end (clears_here extents clear_edges y may_be' candidate) ends
           (was.is_at extents clear_edges y (may_be extents clear_edges y may_be' candidate) (before extents clear_edges y may_be' candidate)) marks edges flags strut' edge empty settles (sym (edge_here extents clear_edges y may_be' candidate));
-      are_given = given_kept parents blocks given placing.extents placing'.extents (length placing.places) kept was.are_given;
+      no_extents = no_extents_kept blocks placing.extents placing'.extents (length placing.places) was.placed.some kept was.no_extents;
       placed = let l = placed.places_length in subst (λ (n : ℕ). PlacesTo parents blocks shapes marks placing' n) (sym l) placed;
       early = let l = placed.places_length in omega (arith, l);
       are_clears = record {

@@ -9,7 +9,7 @@ use Rattle.lay_flow.specs.declared.block.Block.{Block}
 use Rattle.lay_flow.specs.Lengths.{length_at}
 use Rattle.lay_flow.specs.Children.{flag_at}
 use Rattle.lay_flow.specs.MarginRuns.{Entry, margin, margins, has_top, is_barred, block_at, run_at, run_before, run_across, joins_bottom, may_collapse_through, may_join_bottoms}
-use Rattle.lay_flow.specs.BlockPositions.{start_before, start_below}
+use Rattle.lay_flow.specs.BlockPositions.{Extents, start_before, start_below}
 use Rattle.lay_flow.specs.BlockLayout.{BlockLayout, IsBlockLayout}
 use Rattle.lay_flow.specs.BlockPass.{Settled, PassState, IsAt}
 use Rattle.lay_flow.proofs.CollapsedThrough.{through_inside}
@@ -23,7 +23,7 @@ use Rattle.lay_flow.proofs.RunReach.{RunEnds, sum_two, starts_here, mark_here, w
 use Rattle.lay_flow.proofs.SoFar.{Wrote, so_far_settled, so_far_closed, so_far_through}
 use Rattle.lay_flow.proofs.Truths.{true_false, true_or, low_not}
 
-module _ (parents : List ℕ) (blocks : List Block) (extents clear_edges : List Length) (y : BlockLayout) (is : IsBlockLayout parents blocks extents clear_edges y) (tree : IsTree parents)
+module _ (parents : List ℕ) (blocks : List Block) (extents : Extents) (clear_edges : List Length) (y : BlockLayout) (is : IsBlockLayout parents blocks extents clear_edges y) (tree : IsTree parents)
     (now : PassState) (p m : ℕ) (positive : 0 < p) (was : IsAt parents blocks clear_edges y now p m) (ends : m < length parents → slice_index parents m < p) where
   lt : p < m
   lt = was.in_run.gathered.parent

@@ -7,7 +7,7 @@ use Rattle.lay_flow.specs.declared.block.Block.{Block}
 use Rattle.lay_flow.specs.Lengths.{length_at}
 use Rattle.lay_flow.specs.Children.{flag_at}
 use Rattle.lay_flow.specs.MarginRuns.{Runs, HasRuns, block_at, parts_tops, joins_bottom, may_collapse_through}
-use Rattle.lay_flow.specs.BlockPositions.{Positions, HasPositions, start_before}
+use Rattle.lay_flow.specs.BlockPositions.{Extents, Positions, HasPositions, start_before}
 use Rattle.lay_flow.specs.MarginPlace.{IsPlace}
 use Rattle.lay_flow.proofs.MarginWalk.{walk_to}
 use Rattle.lay_flow.specs.Gathered.{IsAround, Gathered}
@@ -71,7 +71,7 @@ module _ (parents : List ℕ) (tree : IsTree parents) (blocks : List Block) (r :
         unparted = g.unparted k (omega (arith, own, lt)) low;
       }
 
-  module _ (extents clear_edges : List Length) (s : Positions) (has : HasPositions parents blocks r extents clear_edges s) where
+  module _ (extents : Extents) (clear_edges : List Length) (s : Positions) (has : HasPositions parents blocks r extents clear_edges s) where
     -- while one of the boxes of a run is open, the run hasn't moved
     record Started (p m : ℕ) : Type 0 where
       pub first : ℕ

@@ -9,11 +9,12 @@ use Rattle.lay_flow.specs.declared.block.Block.{Block}
 use Rattle.lay_flow.specs.Lengths.{length_at}
 use Rattle.lay_flow.specs.Children.{last_child, flag_at}
 use Rattle.lay_flow.specs.MarginRuns.{Entry, margins, has_top, block_at, run_at, parts_tops, to_top, run_before, joins_bottom}
-use Rattle.lay_flow.specs.BlockPositions.{content_bottom, content_height, border_height, start_below, start_before}
+use Rattle.lay_flow.specs.BlockPositions.{Extents, content_height, border_height, start_below, start_before}
 use Rattle.lay_flow.specs.BlockLayout.{BlockLayout, IsBlockLayout}
 use Rattle.lay_flow.specs.BlockPass.{PassState, IsAt}
 use Rattle.lay_flow.proofs.BlockKinds.{no_edge}
 use Rattle.lay_flow.proofs.Closings.{place_below, out_parted}
+use Rattle.lay_flow.proofs.ContentHeights.{content_bottom, content_inner}
 use Rattle.lay_flow.proofs.GatheredRuns.{last_over}
 use Rattle.lay_flow.proofs.LayoutFacts.{start_first, start_next}
 use Rattle.lay_flow.proofs.RunEntries.{top_here}
@@ -21,7 +22,7 @@ use Rattle.lay_flow.proofs.RunFacts.{first_comes, next_comes}
 use Rattle.lay_flow.proofs.RunReach.{mark_here}
 use Rattle.lay_flow.proofs.Truths.{true_false}
 
-module _ (parents : List ℕ) (blocks : List Block) (extents clear_edges : List Length) (y : BlockLayout) (is : IsBlockLayout parents blocks extents clear_edges y) (tree : IsTree parents)
+module _ (parents : List ℕ) (blocks : List Block) (extents : Extents) (clear_edges : List Length) (y : BlockLayout) (is : IsBlockLayout parents blocks extents clear_edges y) (tree : IsTree parents)
     (now : PassState) (p m : ℕ) (positive : 0 < p) (was : IsAt parents blocks clear_edges y now p m) (ends : m < length parents → slice_index parents m < p) where
   within_p : p < length parents
   within_p = let a = was.in_run.gathered.parent in let b = was.in_run.gathered.within in omega (arith, a, b)
@@ -87,7 +88,9 @@ module _ (parents : List ℕ) (blocks : List Block) (extents clear_edges : List 
           here f = rw (f, parted) refl
 
   pub height_there : (h mark bottom : ℤ) → flag_at y.runs.through p ≡ false → mark ≡ length_at y.places.marks p → bottom ≡ content_bottom parents blocks y.runs y.places p
-      → h ≡ border_height (block_at blocks p) (length_at extents p) (bottom -ℤ (mark +ℤ (block_at blocks p).edge_top.0)) → h ≡ length_at y.places.heights p
+      → h ≡ border_height (block_at blocks p) (length_at extents.solid p) (bottom -ℤ (mark +ℤ (block_at blocks p).edge_top.0)) → h ≡ length_at y.places.heights p
   height_there h mark bottom stands marked ended here =
-      let there : length_at y.places.heights p ≡ border_height (block_at blocks p) (length_at extents p) (content_height parents blocks y.runs y.places p) = is.has_positions.height p within_p ∙ rw stands refl in
-      here ∙ (λ i. border_height (block_at blocks p) (length_at extents p) (ended i -ℤ (marked i +ℤ (block_at blocks p).edge_top.0))) ∙ sym there
+      let there : length_at y.places.heights p ≡ border_height (block_at blocks p) (length_at extents.solid p) (content_height parents blocks y.runs extents.floats y.places p) = is.has_positions.height p within_p ∙ rw stands refl in
+      let content = content_inner parents blocks y.runs extents.floats y.places p positive in
+      here ∙ (λ i. border_height (block_at blocks p) (length_at extents.solid p) (ended i -ℤ (marked i +ℤ (block_at blocks p).edge_top.0)))
+      ∙ ap (λ (v : ℤ). border_height (block_at blocks p) (length_at extents.solid p) v) (sym content) ∙ sym there

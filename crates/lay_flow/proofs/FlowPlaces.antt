@@ -22,7 +22,7 @@ use Rattle.lay_flow.proofs.PlaceSteps.{floats_same}
 same_place : (a b : Place) → a.x.0 ≡ b.x.0 → a.y.0 ≡ b.y.0 → a ≡ b
 same_place a b e f = let g = same_length a.x b.x e in let h = same_length a.y b.y f in λ i. record { x = g i; y = h i }
 
-module _ (parents : List ℕ) (tree : IsTree parents) (blocks : List Block) (shapes : List Shape) (given : List Length) (f g : Flow) (is : IsContextFlow parents blocks shapes given f) (also : IsContextFlow parents blocks shapes given g) where
+module _ (parents : List ℕ) (tree : IsTree parents) (blocks : List Block) (shapes : List Shape) (f g : Flow) (is : IsContextFlow parents blocks shapes f) (also : IsContextFlow parents blocks shapes g) where
   -- floats and solid boxes stand by their marks
   abbrev pub SameMarks : ℕ → Type 0
   SameMarks n = (j : ℕ) → j < n → length_at f.layout.places.marks j ≡ length_at g.layout.places.marks j
@@ -70,11 +70,11 @@ module _ (parents : List ℕ) (tree : IsTree parents) (blocks : List Block) (sha
       ]
 
   -- and so their extents
-  pub extent_solid : (k : ℕ) → 0 < k → k < length parents → is_solid (block_at blocks k).inside ≡ true → SameMarks (k + 1) → length_at f.extents k ≡ length_at g.extents k
+  pub extent_solid : (k : ℕ) → 0 < k → k < length parents → is_solid (block_at blocks k).inside ≡ true → SameMarks (k + 1) → length_at f.extents.solid k ≡ length_at g.extents.solid k
   extent_solid k positive within solid marks =
       let place = places_to (k + 1) (omega (arith, within)) marks k (omega arith) in
       let mark = marks k (omega arith) in
       is.solid_extent k positive within solid ∙ (λ i. (place i).y.0 -ℤ mark i +ℤ (shape_at shapes k).height.0) ∙ sym (also.solid_extent k positive within solid)
 
-  pub extent_other : (k : ℕ) → 0 < k → k < length parents → is_solid (block_at blocks k).inside ≡ false → length_at f.extents k ≡ length_at g.extents k
-  extent_other k positive within flows = is.other_extent k positive within flows ∙ sym (also.other_extent k positive within flows)
+  pub extent_other : (k : ℕ) → 0 < k → k < length parents → is_solid (block_at blocks k).inside ≡ false → length_at f.extents.solid k ≡ length_at g.extents.solid k
+  extent_other k positive within flows = is.no_extent k positive within flows ∙ sym (also.no_extent k positive within flows)

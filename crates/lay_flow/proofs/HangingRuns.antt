@@ -9,7 +9,7 @@ use Rattle.lay_flow.specs.declared.block.Block.{Block}
 use Rattle.lay_flow.specs.Lengths.{length_at}
 use Rattle.lay_flow.specs.Children.{flag_at}
 use Rattle.lay_flow.specs.MarginRuns.{margins, has_top, run_at, run_before}
-use Rattle.lay_flow.specs.BlockPositions.{start_before}
+use Rattle.lay_flow.specs.BlockPositions.{Extents, start_before}
 use Rattle.lay_flow.specs.BlockLayout.{BlockLayout, IsBlockLayout}
 use Rattle.lay_flow.specs.Gathered.{Gathered, IsAround}
 use Rattle.lay_flow.proofs.Truths.{true_false, true_or, low_not}
@@ -19,7 +19,7 @@ use Rattle.lay_flow.proofs.GatheredRuns.{next_here}
 use Rattle.lay_flow.proofs.CollapsedThrough.{through_inside, one_start}
 use Rattle.lay_flow.proofs.LookAhead.{place_before}
 
-module _ (parents : List ℕ) (tree : IsTree parents) (blocks : List Block) (extents clear_edges : List Length) (w : BlockLayout) (is : IsBlockLayout parents blocks extents clear_edges w) where
+module _ (parents : List ℕ) (tree : IsTree parents) (blocks : List Block) (extents : Extents) (clear_edges : List Length) (w : BlockLayout) (is : IsBlockLayout parents blocks extents clear_edges w) where
   -- a box with clearance stands at its clear edge
   pub stands_at_edge : (d : ℕ) → 0 < d → d < length parents → flag_at w.runs.clears d ≡ true → length_at w.places.marks d ≡ length_at clear_edges d
   stands_at_edge d positive within cleared = true_or (flag_at w.runs.through d) (length_at w.places.marks d ≡ length_at clear_edges d)

@@ -6,7 +6,7 @@ use Rattle.lay_flow.specs.declared.block.Block.{Block}
 use Rattle.lay_flow.specs.Lengths.{length_at}
 use Rattle.lay_flow.specs.Children.{last_child, flag_at}
 use Rattle.lay_flow.specs.MarginRuns.{Runs, margins, has_top, block_at, run_at, parts_tops, run_before}
-use Rattle.lay_flow.specs.BlockPositions.{Positions, start_below, start_before}
+use Rattle.lay_flow.specs.BlockPositions.{Extents, Positions, start_below, start_before}
 use Rattle.lay_flow.specs.BlockLayout.{BlockLayout, IsBlockLayout}
 
 module _ (parents : List ℕ) (blocks : List Block) (r : Runs) (s : Positions) where
@@ -16,7 +16,7 @@ module _ (parents : List ℕ) (blocks : List Block) (r : Runs) (s : Positions) w
   pub start_next : (p m c : ℕ) → last_child parents p m ≡ Some c → start_before parents blocks r s p m ≡ start_below r s c
   start_next p m c e = rw e refl
 
-module _ (parents : List ℕ) (blocks : List Block) (extents clear_edges : List Length) (y : BlockLayout) (is : IsBlockLayout parents blocks extents clear_edges y) where
+module _ (parents : List ℕ) (blocks : List Block) (extents : Extents) (clear_edges : List Length) (y : BlockLayout) (is : IsBlockLayout parents blocks extents clear_edges y) where
   pub mark_standing : (j : ℕ) → 0 < j → j < length parents → flag_at y.runs.through j ≡ false → length_at y.places.marks j ≡ length_at y.places.starts j +ℤ collapse (margins (run_at y.runs.top_runs j))
   mark_standing zero lt within p = absurd (omega (arith, lt))
   mark_standing (suc j) lt within p = is.has_positions.mark (suc j) within ∙ rw p refl

@@ -8,7 +8,7 @@ use Rattle.lay_flow.specs.declared.block.Block.{Block}
 use Rattle.lay_flow.specs.Lengths.{length_at}
 use Rattle.lay_flow.specs.Children.{flag_at}
 use Rattle.lay_flow.specs.MarginRuns.{Entry, margins, has_top, run_at, run_before}
-use Rattle.lay_flow.specs.BlockPositions.{start_before}
+use Rattle.lay_flow.specs.BlockPositions.{Extents, start_before}
 use Rattle.lay_flow.specs.BlockLayout.{BlockLayout, IsBlockLayout}
 use Rattle.lay_flow.specs.Gathered.{Gathered, IsAround}
 use Rattle.lay_flow.specs.MarginPlace.{IsPlace}
@@ -48,8 +48,8 @@ pub record IsHanging (parents : List ℕ) (y : BlockLayout) (first p m : ℕ) : 
   pub above : first ≤ p
   pub contains : IsAround parents first m
 
-module _ (parents : List ℕ) (tree : IsTree parents) (blocks : List Block) (extents clear_edges : List Length) (y : BlockLayout) (is : IsBlockLayout parents blocks extents clear_edges y)
-    (others other_edges : List Length) (z : BlockLayout) (also : IsBlockLayout parents blocks others other_edges z) where
+module _ (parents : List ℕ) (tree : IsTree parents) (blocks : List Block) (extents : Extents) (clear_edges : List Length) (y : BlockLayout) (is : IsBlockLayout parents blocks extents clear_edges y)
+    (others : Extents) (other_edges : List Length) (z : BlockLayout) (also : IsBlockLayout parents blocks others other_edges z) where
   -- a box whose bottom margin was passed
   pub record ClosedAlike (j : ℕ) : Type 0 where
     pub height : length_at y.places.heights j ≡ length_at z.places.heights j

@@ -1,13 +1,14 @@
 pub mod ColumnWrites
 pub mod Lengths
+pub mod Truths
 pub mod ChildPlaces
 pub mod MarginWalk
 pub mod RunsAgree
 pub mod WholeRunsAgree
+pub mod ContentHeights
 pub mod PositionsAgree
 pub mod Tabulated
 pub mod BlockLayoutLaws
-pub mod Truths
 pub mod BlockKinds
 pub mod RunEntries
 pub mod RunFacts

@@ -9,7 +9,7 @@ use Rattle.lay_flow.specs.declared.block.Block.{Block}
 use Rattle.lay_flow.specs.Lengths.{length_at}
 use Rattle.lay_flow.specs.Children.{flag_at}
 use Rattle.lay_flow.specs.MarginRuns.{Entry, margin, mark, margins, has_top, block_at, run_at, parts_tops, to_top, run_before, joins_bottom, may_collapse_through}
-use Rattle.lay_flow.specs.BlockPositions.{start_before}
+use Rattle.lay_flow.specs.BlockPositions.{Extents, start_before}
 use Rattle.lay_flow.specs.BlockLayout.{BlockLayout, IsBlockLayout}
 use Rattle.lay_flow.specs.Gathered.{Gathered, IsAround}
 use Rattle.lay_flow.specs.MarginPlace.{IsPlace}
@@ -33,7 +33,7 @@ place_before parents tree k positive within = record {
   next = λ w. omega arith;
 }
 
-module _ (parents : List ℕ) (tree : IsTree parents) (blocks : List Block) (extents clear_edges : List Length) (w : BlockLayout) (is : IsBlockLayout parents blocks extents clear_edges w)
+module _ (parents : List ℕ) (tree : IsTree parents) (blocks : List Block) (extents : Extents) (clear_edges : List Length) (w : BlockLayout) (is : IsBlockLayout parents blocks extents clear_edges w)
     (before : StrutValue) (first k outermost : ℕ) (comes : ComesTo parents blocks w before first k) (positive : 0 < first) (order : first ≤ k) (within : k < length parents) (outer : IsOutermost parents first k outermost) where
   top_k : 0 < k
   top_k = omega (arith, positive, order)

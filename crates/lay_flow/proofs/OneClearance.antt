@@ -13,7 +13,7 @@ use Rattle.lay_floats.specs.ClearEdge.{Clears, IsClearEdge}
 use Rattle.lay_floats.proofs.Unique.{one_clear_edge_lem}
 use Rattle.lay_flow.specs.declared.block.Block.{Block}
 use Rattle.lay_flow.specs.declared.block.Inside.{Inside}
-use Rattle.lay_flow.specs.declared.block.Inside.TheVariants.{Blocks as blocks_inside, Lines as lines_inside, Solid as solid_inside}
+use Rattle.lay_flow.specs.declared.block.Inside.TheVariants.{Blocks as blocks_inside, Solid as solid_inside}
 use Rattle.lay_flow.specs.declared.shape.Shape.{Shape}
 use Rattle.lay_flow.specs.Lengths.{length_at}
 use Rattle.lay_flow.specs.Children.{flag_at}
@@ -81,14 +81,13 @@ some_waits shapes k run (suc n) le = elim (some_waits shapes k run n (omega (ari
 
 solid_or_blocks : (inside : Inside) → is_solid inside ≡ true → is_blocks inside ≡ true → ⊥
 solid_or_blocks blocks_inside s b = true_false false s refl
-solid_or_blocks lines_inside s b = true_false false s refl
 solid_or_blocks solid_inside s b = true_false false b refl
 
 passes_blocks : (b : Block) (more : Bool) → (may_collapse_through b && more) ≡ true → is_blocks b.inside ≡ true
 passes_blocks b more e = grind (arith, e)
 
-module _ (parents : List ℕ) (tree : IsTree parents) (some : 0 < length parents) (blocks : List Block) (shapes : List Shape) (are : AreShapes parents blocks shapes) (given : List Length)
-    (f g : Flow) (is : IsContextFlow parents blocks shapes given f) (also : IsContextFlow parents blocks shapes given g)
+module _ (parents : List ℕ) (tree : IsTree parents) (some : 0 < length parents) (blocks : List Block) (shapes : List Shape) (are : AreShapes parents blocks shapes)
+    (f g : Flow) (is : IsContextFlow parents blocks shapes f) (also : IsContextFlow parents blocks shapes g)
     (first k : ℕ) (positive : 0 < k) (within : k < length parents)
     (was : AlikeAt parents tree blocks f.extents f.clear_edges f.layout is.layout g.extents g.clear_edges g.layout also.layout first (slice_index parents k) k) where
   -- a solid box before that at k isn't in the run
@@ -120,10 +119,10 @@ module _ (parents : List ℕ) (tree : IsTree parents) (some : 0 < length parents
             ])
       ]
 
-  extents_before : (j : ℕ) → 0 < j → j < k → length_at f.extents j ≡ length_at g.extents j
-  extents_before j low lt = true_or (is_solid (block_at blocks j).inside) (length_at f.extents j ≡ length_at g.extents j)
-      (λ solid. let less = solid_before j low lt solid in extent_solid parents tree blocks shapes given f g is also j low (omega (arith, lt, within)) solid (λ i a. was.mark i (omega (arith, a, less))))
-      (λ flows. extent_other parents tree blocks shapes given f g is also j low (omega (arith, lt, within)) flows)
+  extents_before : (j : ℕ) → 0 < j → j < k → length_at f.extents.solid j ≡ length_at g.extents.solid j
+  extents_before j low lt = true_or (is_solid (block_at blocks j).inside) (length_at f.extents.solid j ≡ length_at g.extents.solid j)
+      (λ solid. let less = solid_before j low lt solid in extent_solid parents tree blocks shapes f g is also j low (omega (arith, lt, within)) solid (λ i a. was.mark i (omega (arith, a, less))))
+      (λ flows. extent_other parents tree blocks shapes f g is also j low (omega (arith, lt, within)) flows)
 
   module _ (none : (shape_at shapes k).float ≡ None) where
     here : HasClearance parents blocks shapes f.extents f.clear_edges f.places f.layout k
@@ -166,7 +165,7 @@ module _ (parents : List ℕ) (tree : IsTree parents) (some : 0 < length parents
 
     none_high : NoneWaits shapes (shape_at shapes k).clear (run_at here.without.runs.before_tops k) k → SameCleared shapes (shape_at shapes k).clear f.places g.places k
     none_high free j side lt e c = elim (cases_lt j first) [
-      | inl low ↦ (let most = was.gathered.most in places_to parents tree blocks shapes given f g is also first (omega (arith, most, within)) was.mark j low)
+      | inl low ↦ (let most = was.gathered.most in places_to parents tree blocks shapes f g is also first (omega (arith, most, within)) was.mark j low)
       | inr from ↦ absurd (true_false (has_top j (run_before parents blocks f.layout.runs (slice_index parents k) k)) (was.gathered.own j from lt) (ap (has_top j) (sym run_without) ∙ free j side lt e c))
     ]
 
@@ -209,7 +208,7 @@ module _ (parents : List ℕ) (tree : IsTree parents) (some : 0 < length parents
     edge_in_flow cleared =
         let also_cleared = sym clear_in_flow ∙ cleared in
         let marks = marks_above_clearance parents tree blocks f.extents f.clear_edges f.layout is.layout g.extents g.clear_edges g.layout also.layout first k positive within was cleared also_cleared in
-        let floats = floats_same shapes f.places g.places k (places_to parents tree blocks shapes given f g is also k (omega (arith, within)) marks) in
+        let floats = floats_same shapes f.places g.places k (places_to parents tree blocks shapes f g is also k (omega (arith, within)) marks) in
         let bottom = one_clear_edge_lem (floats_before shapes f.places k) (shape_at shapes k).clear here.bottom there.bottom here.is_bottom (subst (λ (fs : List Placed). IsClearEdge fs (shape_at shapes k).clear there.bottom) (sym floats) there.is_bottom) in
         let mark = mark_without in
         here.edge cleared ∙ (λ i. lower_of (bottom i) (mark i)) ∙ sym (there.edge also_cleared)

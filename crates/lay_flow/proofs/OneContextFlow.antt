@@ -13,10 +13,10 @@ use Rattle.lay_flow.specs.declared.shape.Shape.{Shape}
 use Rattle.lay_flow.specs.Lengths.{length_at}
 use Rattle.lay_flow.specs.Children.{flag_at}
 use Rattle.lay_flow.specs.MarginRuns.{block_at, run_before}
-use Rattle.lay_flow.specs.BlockPositions.{is_solid, start_before}
+use Rattle.lay_flow.specs.BlockPositions.{Extents, is_solid, start_before}
 use Rattle.lay_flow.specs.BlockLayout.{BlockLayout, IsBlockLayout}
 use Rattle.lay_flow.specs.BlockFloats.{AreShapes, no_place, floats_before}
-use Rattle.lay_flow.specs.ContextFlow.{Flow, IsContextFlow, reach_below}
+use Rattle.lay_flow.specs.ContextFlow.{Flow, IsContextFlow}
 use Rattle.lay_flow.specs.MarginPlace.{IsPlace}
 use Rattle.lay_flow.specs.Laws.{OneContextFlow, OneContextPlaces}
 use Rattle.lay_flow.proofs.Truths.{true_false, true_or}
@@ -30,8 +30,8 @@ use Rattle.lay_flow.proofs.AlikeClosings.{closes_alike}
 use Rattle.lay_flow.proofs.FlowPlaces.{places_to, extent_solid, extent_other}
 use Rattle.lay_flow.proofs.OneClearance.{one_clear, one_edge}
 
-module _ (parents : List ℕ) (tree : IsTree parents) (some : 0 < length parents) (blocks : List Block) (shapes : List Shape) (are : AreShapes parents blocks shapes) (given : List Length)
-    (f g : Flow) (is : IsContextFlow parents blocks shapes given f) (also : IsContextFlow parents blocks shapes given g) where
+module _ (parents : List ℕ) (tree : IsTree parents) (some : 0 < length parents) (blocks : List Block) (shapes : List Shape) (are : AreShapes parents blocks shapes)
+    (f g : Flow) (is : IsContextFlow parents blocks shapes f) (also : IsContextFlow parents blocks shapes g) where
   record AreAlike (p m : ℕ) : Type 0 where
     pub first : ℕ
     pub alike : AlikeAt parents tree blocks f.extents f.clear_edges f.layout is.layout g.extents g.clear_edges g.layout also.layout first p m
@@ -39,17 +39,17 @@ module _ (parents : List ℕ) (tree : IsTree parents) (some : 0 < length parents
   opens : (k : ℕ) → 0 < k → k < length parents → AreAlike (slice_index parents k) k → AreAlike k (k + 1)
   opens k positive within was =
       let next = opens_alike parents tree blocks f.extents f.clear_edges f.layout is.layout g.extents g.clear_edges g.layout also.layout was.first k positive within was.alike
-      (one_clear parents tree some blocks shapes are given f g is also was.first k positive within was.alike) (one_edge parents tree some blocks shapes are given f g is also was.first k positive within was.alike) in
+      (one_clear parents tree some blocks shapes are f g is also was.first k positive within was.alike) (one_edge parents tree some blocks shapes are f g is also was.first k positive within was.alike) in
       record { first = next.next; alike = next.alike }
 
   closes : (p m : ℕ) → 0 < p → p < m → m ≤ length parents → (m < length parents → slice_index parents m < p) → AreAlike p m → AreAlike (slice_index parents p) m
   closes p m positive lt within ends was =
       let inner : p < length parents = omega (arith, lt, within) in
       let next = closes_alike parents tree blocks f.extents f.clear_edges f.layout is.layout g.extents g.clear_edges g.layout also.layout was.first p m positive was.alike ends
-      (λ marks. true_or (is_solid (block_at blocks p).inside) (length_at f.extents p ≡ length_at g.extents p)
-      (λ solid. extent_solid parents tree blocks shapes given f g is also p positive inner solid (λ j low. marks j (omega (arith, low, lt))))
-      (λ flows. extent_other parents tree blocks shapes given f g is also p positive inner flows))
-      (λ may. extent_other parents tree blocks shapes given f g is also p positive inner (joins_flow (block_at blocks p) may)) in
+      (λ marks. true_or (is_solid (block_at blocks p).inside) (length_at f.extents.solid p ≡ length_at g.extents.solid p)
+      (λ solid. extent_solid parents tree blocks shapes f g is also p positive inner solid (λ j low. marks j (omega (arith, low, lt))))
+      (λ flows. extent_other parents tree blocks shapes f g is also p positive inner flows))
+      (λ may. extent_other parents tree blocks shapes f g is also p positive inner (joins_flow (block_at blocks p) may)) in
       record { first = next.next; alike = next.alike }
 
   start_root : (y : BlockLayout) → start_before parents blocks y.runs y.places 0 1 ≡ length_at y.places.marks 0 +ℤ (block_at blocks 0).edge_top.0
@@ -83,7 +83,7 @@ module _ (parents : List ℕ) (tree : IsTree parents) (some : 0 < length parents
 
   places_same : f.places ≡ g.places
   places_same = same_list no_place f.places g.places (is.places_length ∙ sym also.places_length)
-      (λ k lt. let l = is.places_length in places_to parents tree blocks shapes given f g is also (length parents) (omega arith) marks_all k (omega (arith, l, lt)))
+      (λ k lt. let l = is.places_length in places_to parents tree blocks shapes f g is also (length parents) (omega arith) marks_all k (omega (arith, l, lt)))
 
   clears_same : f.layout.runs.clears ≡ g.layout.runs.clears
   clears_same = same_list false f.layout.runs.clears g.layout.runs.clears (is.layout.has_runs.clears_length ∙ sym also.layout.has_runs.clears_length)
@@ -97,38 +97,38 @@ module _ (parents : List ℕ) (tree : IsTree parents) (some : 0 < length parents
       (λ cleared. at_last.alike.edges k there cleared)
       (λ unclear. is.no_edge k there unclear ∙ sym (also.no_edge k there (sym (at_last.alike.clears k there) ∙ unclear))))
 
-  extent_root : length_at f.extents 0 ≡ length_at g.extents 0
-  extent_root =
-      let bottom = one_clear_edge_lem (floats_before shapes f.places (length parents)) clear_both is.bottom also.bottom is.is_bottom
-      (subst (λ (ps : List Place). IsClearEdge (floats_before shapes ps (length parents)) clear_both also.bottom) (sym places_same) also.is_bottom) in
-      let mark = mark_root in
-      is.root_extent ∙ (λ i. reach_below (bottom i) (mark i +ℤ (block_at blocks 0).edge_top.0)) ∙ sym also.root_extent
+  floats_same : f.extents.floats ≡ g.extents.floats
+  floats_same = one_clear_edge_lem (floats_before shapes f.places (length parents)) clear_both f.extents.floats g.extents.floats is.bottom
+      (subst (λ (ps : List Place). IsClearEdge (floats_before shapes ps (length parents)) clear_both g.extents.floats) (sym places_same) also.bottom)
 
-  extents_same : f.extents ≡ g.extents
-  extents_same = same_lengths f.extents g.extents (is.extents_length ∙ sym also.extents_length) (λ k lt. elim (cases_eq k 0) [
-    | inl z ↦ subst (λ (k : ℕ). length_at f.extents k ≡ length_at g.extents k) (sym z) extent_root
+  solid_same : f.extents.solid ≡ g.extents.solid
+  solid_same = same_lengths f.extents.solid g.extents.solid (is.extents_length ∙ sym also.extents_length) (λ k lt. elim (cases_eq k 0) [
+    | inl z ↦ subst (λ (k : ℕ). length_at f.extents.solid k ≡ length_at g.extents.solid k) (sym z) (is.no_extent_root ∙ sym also.no_extent_root)
     | inr ne ↦ (let l = is.extents_length in
         let there : k < length parents = omega (arith, l, lt) in
-        true_or (is_solid (block_at blocks k).inside) (length_at f.extents k ≡ length_at g.extents k)
-        (λ solid. extent_solid parents tree blocks shapes given f g is also k (omega (arith, ne)) there solid (λ j low. marks_all j (omega (arith, low, there))))
-        (λ flows. extent_other parents tree blocks shapes given f g is also k (omega (arith, ne)) there flows))
+        true_or (is_solid (block_at blocks k).inside) (length_at f.extents.solid k ≡ length_at g.extents.solid k)
+        (λ solid. extent_solid parents tree blocks shapes f g is also k (omega (arith, ne)) there solid (λ j low. marks_all j (omega (arith, low, there))))
+        (λ flows. extent_other parents tree blocks shapes f g is also k (omega (arith, ne)) there flows))
   ])
+
+  extents_same : f.extents ≡ g.extents
+  extents_same = let s = solid_same in let b = floats_same in λ i. record { solid = s i; floats = b i }
 
   flows_same : f ≡ g
   flows_same =
       let e = extents_same in
       let c = edges_same in
       let p = places_same in
-      let there = subst (λ (x : List Length). IsBlockLayout parents blocks x f.clear_edges g.layout) (sym e) (subst (λ (x : List Length). IsBlockLayout parents blocks g.extents x g.layout) (sym c) also.layout) in
+      let there = subst (λ (x : Extents). IsBlockLayout parents blocks x f.clear_edges g.layout) (sym e) (subst (λ (x : List Length). IsBlockLayout parents blocks g.extents x g.layout) (sym c) also.layout) in
       let y = one_block_layout_lem parents blocks f.extents f.clear_edges f.layout g.layout tree some clears_same is.layout there in
       λ i. record { layout = y i; extents = e i; clear_edges = c i; places = p i }
 
 pub one_context_flow_lem : OneContextFlow
-one_context_flow_lem parents blocks shapes given f g tree some are is also = flows_same parents tree some blocks shapes are given f g is also
+one_context_flow_lem parents blocks shapes f g tree some are is also = flows_same parents tree some blocks shapes are f g is also
 
 pub one_context_places_lem : OneContextPlaces
-one_context_places_lem parents blocks shapes given tops heights tops' heights' places places' tree some are is also =
-    let e = one_context_flow_lem parents blocks shapes given is.flow also.flow tree some are is.is_flow also.is_flow in (
+one_context_places_lem parents blocks shapes tops heights tops' heights' places places' tree some are is also =
+    let e = one_context_flow_lem parents blocks shapes is.flow also.flow tree some are is.is_flow also.is_flow in (
       is.tops_are ∙ ap (λ (f : Flow). f.layout.places.marks) e ∙ sym also.tops_are,
       is.heights_are ∙ ap (λ (f : Flow). f.layout.places.heights) e ∙ sym also.heights_are,
       is.places_are ∙ ap (λ (f : Flow). f.places) e ∙ sym also.places_are,

@@ -11,7 +11,7 @@ use Rattle.lay_flow.specs.Lengths.{length_at}
 use Rattle.lay_flow.specs.Children.{flag_at}
 use Rattle.lay_flow.specs.MarginRuns.{Entry, margin, mark, margins, has_top, block_at, run_at, parts_tops, to_top, run_before, run_across}
 use Rattle.lay_flow.specs.Gathered.{Gathered, IsAround}
-use Rattle.lay_flow.specs.BlockPositions.{start_before}
+use Rattle.lay_flow.specs.BlockPositions.{Extents, start_before}
 use Rattle.lay_flow.specs.BlockLayout.{BlockLayout, IsBlockLayout}
 use Rattle.lay_flow.specs.BlockPass.{Settled, PassState, IsInRun, IsAt, BeginsRun, IsBefore}
 use Rattle.lay_flow.proofs.CollapsedThrough.{through_inside}
@@ -35,7 +35,7 @@ WithMargin old new v = (ms : List ℤ) → Holds old ms → Holds new (ms ++ v �
 pub place_above : (parents : List ℕ) (blocks : List Block) (clear_edges : List Length) (y : BlockLayout) (now : PassState) (k : ℕ) → IsInRun parents blocks clear_edges y now (slice_index parents k) k → IsPlace parents (slice_index parents k) k
 place_above parents blocks clear_edges y now k run = record { parent = run.gathered.parent; within = run.gathered.within; inside = run.gathered.inside; next = λ w. omega arith }
 
-module _ (parents : List ℕ) (blocks : List Block) (extents clear_edges : List Length) (y : BlockLayout) (is : IsBlockLayout parents blocks extents clear_edges y) (tree : IsTree parents)
+module _ (parents : List ℕ) (blocks : List Block) (extents : Extents) (clear_edges : List Length) (y : BlockLayout) (is : IsBlockLayout parents blocks extents clear_edges y) (tree : IsTree parents)
     (k : ℕ) (positive : 0 < k) (within : k < length parents) where
   abbrev c : List Entry
   c = run_before parents blocks y.runs (slice_index parents k) k

@@ -1,5 +1,6 @@
 -- The beginning and the end of the pass.
 use Rattle.std.proofs.Common.{◌≡◌, ℕ, zero, suc, ◌+◌, Bool, false, ℤ, pos, ◌+ℤ◌, ◌-ℤ◌, List, [], ◌∷◌, length, slice_index_or, replicate, All, refl, sym, ap, ◌∙◌, arith, inl, inr, Option, Some, None, subst}
+use Rattle.std.proofs.lemmas.List.{length-replicate}
 use Rattle.std.proofs.lemmas.Bool.{cases_eq}
 use Rattle.std.proofs.lemmas.Int.{ints}
 use Rattle.std.proofs.lemmas.List.Elements.{All-nil}
@@ -11,25 +12,27 @@ use Rattle.lay_floats.specs.declared.requests.Clear.TheVariants.{Both as clear_b
 use Rattle.lay_floats.specs.declared.requests.Place.{Place}
 use Rattle.lay_floats.specs.ClearEdge.{IsClearEdge}
 use Rattle.lay_floats.specs.Within.{BoxWithin}
+use Rattle.lay_heights.specs.AutoHeights.{root_height_of}
 use Rattle.lay_flow.specs.declared.block.Block.{Block}
 use Rattle.lay_flow.specs.declared.shape.Shape.{Shape}
 use Rattle.lay_flow.specs.Lengths.{length_at, no_length}
 use Rattle.lay_flow.specs.BlockSizes.{IsBoxHeight}
 use Rattle.lay_flow.specs.Children.{last_child, flag_at}
 use Rattle.lay_flow.specs.MarginRuns.{Entry, margins, block_at, run_at, run_before}
-use Rattle.lay_flow.specs.BlockPositions.{start_below, start_before, border_height, content_bottom, content_height, is_solid}
+use Rattle.lay_flow.specs.BlockPositions.{Extents, start_below, start_before, border_height, content_height, is_solid}
 use Rattle.lay_flow.specs.BlockLayout.{BlockLayout, IsBlockLayout}
 use Rattle.lay_flow.specs.BlockFloats.{AreShapes, shape_at, place_at, no_place, floats_before}
-use Rattle.lay_flow.specs.ContextFlow.{AreContextPlaces, reach_below}
+use Rattle.lay_flow.specs.ContextFlow.{AreContextPlaces}
 use Rattle.lay_flow.specs.BlockPass.{PassState, Settled}
 use Rattle.lay_flow.specs.BlockSizes.{AreBlocks}
 use Rattle.lay_flow.specs.PassBounds.{StrutFits, StateFits, IsMarkNear, IsCollapseNear, AreBoxHeights, reach}
 use Rattle.lay_flow.specs.PlacesTo.{Placing, PlacesTo}
 use Rattle.lay_flow.specs.PassKnows.{Knows, MayBe, IsCandidate, AreExtentsKept, ArePlacesKept}
+use Rattle.lay_flow.proofs.ContentHeights.{content_bottom, content_root}
 use Rattle.lay_flow.proofs.BlockLayoutLaws.{some_block_layout_lem, same_lengths}
 use Rattle.lay_flow.proofs.LayoutFacts.{start_first, start_next}
 use Rattle.lay_flow.proofs.PassFits.{settled_near, end_near}
-use Rattle.lay_flow.proofs.PassSteps.{given_kept}
+use Rattle.lay_flow.proofs.PassSteps.{no_extents_kept}
 use Rattle.lay_flow.proofs.RunFacts.{first_comes, next_comes}
 use Rattle.lay_flow.proofs.RunReach.{RunEnds}
 use Rattle.lay_flow.proofs.SoFar.{Wrote}
@@ -49,15 +52,15 @@ entry_at (suc n) (suc k) = entry_at n k
 pub lengths_at : (n k : ℕ) → length_at (replicate n no_length) k ≡ pos 0
 lengths_at n k = ap (λ (v : Length). v.0) (entry_at n k)
 
-module _ (parents : List ℕ) (blocks : List Block) (shapes : List Shape) (given : List Length) (input : AreBlocks parents blocks given) where
-  root_mark : (extents clear_edges : List Length) (y : BlockLayout) → IsBlockLayout parents blocks extents clear_edges y → length_at y.places.marks 0 ≡ pos 0
+module _ (parents : List ℕ) (blocks : List Block) (shapes : List Shape) (input : AreBlocks parents blocks) where
+  root_mark : (extents : Extents) (clear_edges : List Length) (y : BlockLayout) → IsBlockLayout parents blocks extents clear_edges y → length_at y.places.marks 0 ≡ pos 0
   root_mark extents clear_edges y is = is.has_positions.mark 0 input.some
 
-  pub knows_first : (now : PassState) (placing : Placing) → AreShapes parents blocks shapes → placing.extents ≡ given → placing.floats ≡ [] → placing.places ≡ no_place ∷ [] → length now.marks ≡ length parents → length now.heights ≡ length parents → length now.through ≡ length parents → length now.clears ≡ length parents → length now.clear_edges ≡ length parents → now.first ≡ 1 → now.hangs ≡ false
+  pub knows_first : (now : PassState) (placing : Placing) → AreShapes parents blocks shapes → placing.extents ≡ replicate (length parents) no_length → placing.floats ≡ [] → placing.places ≡ no_place ∷ [] → length now.marks ≡ length parents → length now.heights ≡ length parents → length now.through ≡ length parents → length now.clears ≡ length parents → length now.clear_edges ≡ length parents → now.first ≡ 1 → now.hangs ≡ false
       → Holds now.strut [] → StrutFits now.strut → now.start ≡ (block_at blocks 0).edge_top.0
       → ((j : ℕ) → length_at now.marks j ≡ pos 0) → ((j : ℕ) → length_at now.heights j ≡ pos 0) → ((j : ℕ) → flag_at now.through j ≡ false)
       → ((j : ℕ) → flag_at now.clears j ≡ false) → ((j : ℕ) → length_at now.clear_edges j ≡ pos 0)
-      → Knows parents blocks shapes given now placing 0 1
+      → Knows parents blocks shapes now placing 0 1
   knows_first now placing are extents_is floats_is places_is l1 l2 l3 l4 l5 first hangs holds fits start marks heights flags clears edges =
       let some = input.some in
       let inset = (input.block 0 some).edge_top in
@@ -85,7 +88,7 @@ module _ (parents : List ℕ) (blocks : List Block) (shapes : List Shape) (given
             (start ∙ zero_plus (length_at y.places.marks 0) (block_at blocks 0).edge_top.0 mark) (marks 0 ∙ sym mark) flags;
         are_clears = record { clears_length = l4; edges_length = l5; later = λ j le. clears j; root = clears 0; float = λ k side e. clears k; no_edge = λ k off. edges k };
         decided = λ k low lt. absurd (omega (arith, low, lt));
-        are_given = λ j some lt flow. ap (λ (xs : List Length). length_at xs j) extents_is;
+        no_extents = λ j flow. ap (λ (xs : List Length). length_at xs j) extents_is ∙ lengths_at (length parents) j;
         placed = let one : length placing.places ≡ 1 = ap (λ (ps : List Place). length ps) places_is in subst (λ (n : ℕ). PlacesTo parents blocks shapes now.marks placing n) (sym one) placed_first;
         early = let one : length placing.places ≡ 1 = ap (λ (ps : List Place). length ps) places_is in omega (arith, one, first);
       }
@@ -94,7 +97,7 @@ module _ (parents : List ℕ) (blocks : List Block) (shapes : List Shape) (given
       placed_first = record {
         some = omega arith;
         places_length = ap (λ (ps : List Place). length ps) places_is;
-        extents_length = ap (λ (xs : List Length). length xs) extents_is ∙ input.extent_count;
+        extents_length = ap (λ (xs : List Length). length xs) extents_is ∙ length-replicate (length parents) no_length;
         floats_are = floats_is ∙ sym (no_float (shape_at shapes 0).float are.root);
         within = let none : All (BoxWithin (reach 1)) [] = All-nil (BoxWithin (reach 1)) in subst (λ (fs : List Placed). All (BoxWithin (reach 1)) fs) (sym floats_is) none;
         root = ap (λ (ps : List Place). place_at ps 0) places_is;
@@ -133,17 +136,17 @@ module _ (parents : List ℕ) (blocks : List Block) (shapes : List Shape) (given
           let bottom : content_bottom parents blocks y.runs y.places 0 ≡ start_below y.runs y.places c +ℤ collapse (margins (run_at y.runs.to_bottoms c)) = rw e refl in
           bottom ∙ two (start_below y.runs y.places c) (start_before parents blocks y.runs y.places 0 (length parents)) (run_at y.runs.to_bottoms c) (run_before parents blocks y.runs 0 (length parents)) (sym start) (sym run)
 
-  pub all_places : (now : PassState) (placing placing' : Placing) (marks heights extents : List Length) (bottom : Option Length) (end mark height : ℤ)
-      → Knows parents blocks shapes given now placing 0 (length parents)
+  pub all_places : (now : PassState) (placing placing' : Placing) (marks heights : List Length) (bottom : Option Length) (end mark height : ℤ)
+      → Knows parents blocks shapes now placing 0 (length parents)
       → RunEnds now.hangs now.start now.strut end
       → Settled parents now.through now.marks marks now.first (length parents) end
       → PlacesTo parents blocks shapes marks placing' (length parents) → AreExtentsKept blocks (length placing.places) placing.extents placing'.extents → ArePlacesKept placing.places placing'.places
       → IsClearEdge placing'.floats clear_both bottom
-      → Wrote length_at placing'.extents extents 0 (reach_below bottom (mark +ℤ (block_at blocks 0).edge_top.0))
-      → mark ≡ length_at marks 0 → height ≡ border_height (block_at blocks 0) (length_at extents 0) (end -ℤ (mark +ℤ (block_at blocks 0).edge_top.0))
+      → mark ≡ length_at marks 0 → height ≡ border_height (block_at blocks 0) (pos 0) (root_height_of (record { 0 = mark +ℤ (block_at blocks 0).edge_top.0 }) (record { 0 = end }) bottom)
       → Wrote length_at now.heights heights 0 height
-      → AreContextPlaces parents blocks shapes given marks heights placing'.places
-  all_places now placing placing' marks heights extents bottom end mark height known ends settled placed kept same is_bottom wrote_extent marked is_height wrote =
+      → AreContextPlaces parents blocks shapes marks heights placing'.places
+  all_places now placing placing' marks heights bottom end mark height known ends settled placed kept same is_bottom marked is_height wrote =
+      let extents : Extents = record { solid = placing'.extents; floats = bottom } in
       let n : ℕ = length parents in
       let edges = now.clear_edges in
       let there = some_block_layout_lem parents blocks extents edges now.clears input.tree input.some known.are_clears.clears_length in
@@ -152,19 +155,19 @@ module _ (parents : List ℕ) (blocks : List Block) (shapes : List Shape) (given
       let clears : (k : ℕ) → flag_at y.runs.clears k ≡ flag_at now.clears k = λ k. ap (λ (flags : List Bool). flag_at flags k) there.1 in
       let candidate : IsCandidate parents blocks extents edges y now.clears edges n = record { is_layout = is; clears = λ j lt. clears j; edge = λ j lt t. refl } in
       let positive = known.fits.first_least in
-      let may_be : MayBe parents blocks given placing extents = record {
-        other = λ j low lt flow. wrote_extent.other j (λ z. omega (arith, z, low)) ∙ given_kept parents blocks given placing.extents placing'.extents (length placing.places) kept known.are_given j low lt flow;
-        solid = λ j low lt solid. wrote_extent.other j (λ z. omega (arith, z, low)) ∙ kept j (λ s. lt);
-      } in
+      let may_be : MayBe blocks placing extents = λ j low lt solid. kept j (λ s. lt) in
+      let no_extents = no_extents_kept blocks placing.extents placing'.extents (length placing.places) known.placed.some kept known.no_extents in
+      let no_root : length_at placing'.extents 0 ≡ pos 0 = no_extents 0 (λ low. absurd (omega (arith, low))) in
       let at = known.is_at extents edges y may_be candidate in
       let through : flag_at y.runs.through 0 ≡ false = is.has_runs.through 0 input.some in
       let root = at.so_far.marked.stands 0 positive (at.so_far.open_yet 0 (omega arith) at.in_run.gathered.inside) through in
       let each_mark = all_marks parents blocks extents edges y is input.tree now at end ends marks root settled in
-      let content : length_at y.places.heights 0 ≡ border_height (block_at blocks 0) (length_at extents 0) (content_height parents blocks y.runs y.places 0) = is.has_positions.height 0 input.some ∙ rw through refl in
+      let content : length_at y.places.heights 0 ≡ border_height (block_at blocks 0) (length_at placing'.extents 0) (content_height parents blocks y.runs bottom y.places 0) = is.has_positions.height 0 input.some ∙ rw through refl in
       let mark_is = marked ∙ each_mark 0 input.some in
       let end_is = reach_end parents blocks extents edges y is input.tree now at end ends ∙ sym (root_bottom y) in
       let height_is : height ≡ length_at y.places.heights 0 = is_height
-      ∙ (λ i. border_height (block_at blocks 0) (length_at extents 0) (end_is i -ℤ (mark_is i +ℤ (block_at blocks 0).edge_top.0))) ∙ sym content in
+      ∙ (λ i. border_height (block_at blocks 0) (sym no_root i) (root_height_of (record { 0 = mark_is i +ℤ (block_at blocks 0).edge_top.0 }) (record { 0 = end_is i }) bottom))
+      ∙ ap (λ (v : ℤ). border_height (block_at blocks 0) (length_at placing'.extents 0) v) (sym (content_root parents blocks y.runs bottom y.places)) ∙ sym content in
       let marks_length = settled.length_is ∙ known.fits.marks_length in
       let heights_length = wrote.length_is ∙ known.fits.heights_length in
       let tops_are = same_lengths marks y.places.marks (marks_length ∙ sym is.has_positions.marks_length) (λ k lt. each_mark k (omega (arith, lt, marks_length))) in
@@ -173,7 +176,7 @@ module _ (parents : List ℕ) (blocks : List Block) (shapes : List Shape) (given
         flow = record { layout = y; extents = extents; clear_edges = edges; places = placing'.places };
         is_flow = record {
           layout = is;
-          extents_length = wrote_extent.length_is ∙ placed.extents_length;
+          extents_length = placed.extents_length;
           clear_edges_length = known.are_clears.edges_length;
           places_length = placed.places_length;
           root_clear = clears 0 ∙ known.are_clears.root;
@@ -184,11 +187,10 @@ module _ (parents : List ℕ) (blocks : List Block) (shapes : List Shape) (given
           solid = λ k low lt solid. stands.solid k low lt solid;
           no_place_root = stands.root;
           no_place_else = λ k low lt none flow. stands.other k low lt none flow;
-          solid_extent = λ k low lt solid. wrote_extent.other k (λ z. omega (arith, z, low)) ∙ stands.extent k low lt solid;
-          other_extent = λ k low lt flow. may_be.other k low lt flow;
-          bottom = bottom;
-          is_bottom = subst (λ (fs : List Placed). IsClearEdge fs clear_both bottom) stands.floats_are is_bottom;
-          root_extent = wrote_extent.here ∙ ap (λ (v : ℤ). reach_below bottom (v +ℤ (block_at blocks 0).edge_top.0)) mark_is;
+          solid_extent = λ k low lt solid. stands.extent k low lt solid;
+          no_extent = λ k low lt flow. no_extents k (λ positive. flow);
+          no_extent_root = no_root;
+          bottom = subst (λ (fs : List Placed). IsClearEdge fs clear_both bottom) stands.floats_are is_bottom;
         };
         tops_are = tops_are;
         heights_are = same_lengths heights y.places.heights (heights_length ∙ sym is.has_positions.heights_length) (λ k lt. elim (cases_eq k 0) [

@@ -15,14 +15,15 @@ use Rattle.lay_flow.specs.Lengths.{length_at}
 use Rattle.lay_flow.specs.BlockSizes.{IsBoxHeight}
 use Rattle.lay_flow.specs.Children.{flag_at}
 use Rattle.lay_flow.specs.MarginRuns.{block_at, parts_tops, joins_bottom, may_collapse_through, may_join_bottoms}
-use Rattle.lay_flow.specs.BlockPositions.{border_height, is_solid}
+use Rattle.lay_flow.specs.BlockPositions.{Extents, border_height, is_solid}
 use Rattle.lay_flow.specs.BlockLayout.{BlockLayout}
 use Rattle.lay_flow.specs.BlockFloats.{shape_at, place_at, floats_before, float_request, solid_request, ceiling}
 use Rattle.lay_flow.specs.BlockPass.{PassState, IsAt, Settled}
 use Rattle.lay_flow.specs.BlockSizes.{AreBlocks}
 use Rattle.lay_flow.specs.PassBounds.{StrutFits, IsStartNear, IsMarkNear, IsCollapseNear, is_barred, reach}
 use Rattle.lay_flow.specs.PlacesTo.{Placing, PlacesTo}
-use Rattle.lay_flow.specs.PassKnows.{Knows, IsReady, MayBe, IsCandidate, AreGiven, AreClears, AreDecided, AreExtentsKept, ArePlacesKept}
+use Rattle.lay_flow.specs.PassKnows.{Knows, IsReady, MayBe, IsCandidate, HaveNoExtent, AreClears, AreDecided, AreExtentsKept, ArePlacesKept}
+use Rattle.lay_flow.proofs.ContentHeights.{same_border_height}
 use Rattle.lay_flow.proofs.BlockKinds.{joined_passes, joins_flow}
 use Rattle.lay_flow.proofs.Openings.{WithMargin, pushed, opened, opened_wall}
 use Rattle.lay_flow.proofs.Closings.{passes_is, joined_here, code_open, not_hanging, started, close_passing, close_joined, close_parted, mark_parted, reach_parted}
@@ -55,28 +56,31 @@ placed_kept parents blocks shapes old new now n tree within was same = record {
 }
 
 -- extents that may be at last when more boxes are placed
-pub may_before : (parents : List ℕ) (blocks : List Block) (given : List Length) (old new : Placing) (extents : List Length) → length old.places ≤ length new.places → AreExtentsKept blocks (length old.places) old.extents new.extents
-    → MayBe parents blocks given new extents → MayBe parents blocks given old extents
-may_before parents blocks given old new extents le kept may_be = record {
-  other = may_be.other;
-  solid = λ j some lt solid. may_be.solid j some (omega (arith, lt, le)) solid ∙ kept j (λ s. lt);
-}
+pub may_before : (blocks : List Block) (old new : Placing) (extents : Extents) → length old.places ≤ length new.places → AreExtentsKept blocks (length old.places) old.extents new.extents
+    → MayBe blocks new extents → MayBe blocks old extents
+may_before blocks old new extents le kept may_be j some lt solid = may_be j some (omega (arith, lt, le)) solid ∙ kept j (λ s. lt)
 
-pub given_kept : (parents : List ℕ) (blocks : List Block) (given old new : List Length) (n : ℕ) → AreExtentsKept blocks n old new → AreGiven parents blocks given old → AreGiven parents blocks given new
-given_kept parents blocks given old new n kept was j some lt flow = kept j (λ solid. absurd (true_false (is_solid (block_at blocks j).inside) solid flow)) ∙ was j some lt flow
+pub no_extents_kept : (blocks : List Block) (old new : List Length) (n : ℕ) → 0 < n → AreExtentsKept blocks n old new → HaveNoExtent blocks old → HaveNoExtent blocks new
+no_extents_kept blocks old new n some kept was j flow = kept j early ∙ was j flow
+  where
+    early : is_solid (block_at blocks j).inside ≡ true → j < n
+    early solid = elim (cases_lt 0 j) [
+      | inl positive ↦ absurd (true_false (is_solid (block_at blocks j).inside) solid (flow positive))
+      | inr ge ↦ omega (arith, ge, some)
+    ]
 
 pub places_before : (old new places : List Place) → length old ≤ length new → ArePlacesKept old new → ArePlacesKept new places → ArePlacesKept old places
 places_before old new places le kept are j lt = are j (omega (arith, lt, le)) ∙ kept j lt
 
 -- what was decided stays so when more boxes are placed
-pub decided_placed : (parents : List ℕ) (blocks : List Block) (shapes : List Shape) (given : List Length) (flags : List Bool) (edges : List Length) (old new : Placing) (m : ℕ)
+pub decided_placed : (parents : List ℕ) (blocks : List Block) (shapes : List Shape) (flags : List Bool) (edges : List Length) (old new : Placing) (m : ℕ)
     → length old.places ≤ length new.places → AreExtentsKept blocks (length old.places) old.extents new.extents → ArePlacesKept old.places new.places
-    → AreDecided parents blocks shapes given flags edges old m → AreDecided parents blocks shapes given flags edges new m
-decided_placed parents blocks shapes given flags edges old new m le kept same was k positive lt none extents clear_edges y places may_be candidate are =
-    was k positive lt none extents clear_edges y places (may_before parents blocks given old new extents le kept may_be) candidate (places_before old.places new.places places le same are)
+    → AreDecided parents blocks shapes flags edges old m → AreDecided parents blocks shapes flags edges new m
+decided_placed parents blocks shapes flags edges old new m le kept same was k positive lt none extents clear_edges y places may_be candidate are =
+    was k positive lt none extents clear_edges y places (may_before blocks old new extents le kept may_be) candidate (places_before old.places new.places places le same are)
 
 -- the run was begun by clearance of a child of p
-barred_same : (parents : List ℕ) (blocks : List Block) (shapes : List Shape) (extents clear_edges : List Length) (y : BlockLayout) (now : PassState) (p m : ℕ) → m ≤ length parents → AreClears parents shapes now.clears now.clear_edges m
+barred_same : (parents : List ℕ) (blocks : List Block) (shapes : List Shape) (extents : Extents) (clear_edges : List Length) (y : BlockLayout) (now : PassState) (p m : ℕ) → m ≤ length parents → AreClears parents shapes now.clears now.clear_edges m
     → IsCandidate parents blocks extents clear_edges y now.clears now.clear_edges m → (nat_lt now.first m && flag_at y.runs.clears now.first && slice_index parents now.first == p) ≡ is_barred parents now p
 barred_same parents blocks shapes extents clear_edges y now p m within are candidate = elim (cases_lt now.first m) [
   | inl lt ↦ (let a = candidate.clears now.first lt in let l = are.clears_length in
@@ -95,25 +99,25 @@ barred_same parents blocks shapes extents clear_edges y now p m within are candi
     nothing true c = refl
     nothing false c = refl
 
-module _ (parents : List ℕ) (blocks : List Block) (shapes : List Shape) (given : List Length) (tree : IsTree parents) (now : PassState) (placing : Placing) where
-  pub knows_opened : (k : ℕ) (strut : StrutValue) → 0 < k → k < length parents → parts_tops blocks k ≡ false → IsReady parents blocks shapes given now placing k → StrutFits strut
+module _ (parents : List ℕ) (blocks : List Block) (shapes : List Shape) (tree : IsTree parents) (now : PassState) (placing : Placing) where
+  pub knows_opened : (k : ℕ) (strut : StrutValue) → 0 < k → k < length parents → parts_tops blocks k ≡ false → IsReady parents blocks shapes now placing k → StrutFits strut
       → WithMargin now.strut strut (block_at blocks k).margin_top.0
-      → Knows parents blocks shapes given (pushed now strut) placing k (k + 1)
+      → Knows parents blocks shapes (pushed now strut) placing k (k + 1)
   knows_opened k strut positive within plain was fits holds = record {
     fits = fits_opened parents tree blocks now k strut within plain was.fits fits;
     near = edge_later_near k (k + 1) now.start (omega arith) was.near;
     is_at = λ extents clear_edges y may_be candidate. opened parents blocks extents clear_edges y candidate.is_layout tree k positive within now strut plain holds (was.is_before extents clear_edges y may_be candidate);
-    are_given = was.are_given;
+    no_extents = was.no_extents;
     placed = was.placed;
     early = was.early;
     are_clears = was.are_clears;
     decided = was.decided;
   }
 
-  pub knows_parting : (k : ℕ) (marks : List Length) (end start : ℤ) (strut strut' : StrutValue) → AreBlocks parents blocks given → 0 < k → k < length parents → parts_tops blocks k ≡ true → IsReady parents blocks shapes given now placing k
+  pub knows_parting : (k : ℕ) (marks : List Length) (end start : ℤ) (strut strut' : StrutValue) → AreBlocks parents blocks → 0 < k → k < length parents → parts_tops blocks k ≡ true → IsReady parents blocks shapes now placing k
       → WithMargin now.strut strut (block_at blocks k).margin_top.0 → RunEnds now.hangs now.start strut end → IsCollapseNear (end -ℤ now.start)
       → Settled parents now.through now.marks marks now.first (k + 1) end → start ≡ end +ℤ (block_at blocks k).edge_top.0 → StrutFits strut' → Holds strut' []
-      → Knows parents blocks shapes given (record now { marks = marks; start = start; strut = strut'; first = k + 1; hangs = false }) placing k (k + 1)
+      → Knows parents blocks shapes (record now { marks = marks; start = start; strut = strut'; first = k + 1; hangs = false }) placing k (k + 1)
   knows_parting k marks end start strut strut' input positive within parting was holds ends ended settled starts fits' empty =
       let f = was.fits.first_most in
       let near = below_near k (k + 1) end (block_at blocks k).edge_top.0 start (end_near now.first k now.start end was.fits.start_near ended f) (inset_height (block_at blocks k).edge_top.0 (input.block k within).edge_top) starts (omega arith) in
@@ -124,24 +128,24 @@ module _ (parents : List ℕ) (blocks : List Block) (shapes : List Shape) (given
             let before = was.is_before extents clear_edges y may_be candidate in
             opened_wall parents blocks extents clear_edges y candidate.is_layout tree k positive within now strut end parting holds ends before marks strut' start empty settled
             (starts ∙ ap (λ (v : ℤ). v +ℤ (block_at blocks k).edge_top.0) (sym (settled.stands k f (omega arith) (before.so_far.fresh k (omega arith)))));
-        are_given = was.are_given;
+        no_extents = was.no_extents;
         placed = let early = was.early in placed_kept parents blocks shapes now.marks marks placing (length placing.places) tree (omega (arith, f, early, within)) was.placed (λ j lt. settled.before j (omega (arith, lt, early)));
         early = let early = was.early in omega (arith, f, early);
         are_clears = was.are_clears;
         decided = was.decided;
       }
 
-  module _ (p m : ℕ) (input : AreBlocks parents blocks given) (positive : 0 < p) (ends : m < length parents → slice_index parents m < p) (was : Knows parents blocks shapes given now placing p m) where
+  module _ (p m : ℕ) (input : AreBlocks parents blocks) (positive : 0 < p) (ends : m < length parents → slice_index parents m < p) (was : Knows parents blocks shapes now placing p m) where
     places_within : length placing.places ≤ length parents
     places_within = let early = was.early in let few = was.fits.first_most in let within = was.fits.within in omega (arith, early, few, within)
 
     pub knows_started : (start : ℤ) → may_collapse_through (block_at blocks p) ≡ true → now.hangs ≡ true → now.first ≡ p → ((ms : List ℤ) → Holds now.strut ms → start ≡ now.start -ℤ collapse ms) → IsCollapseNear (now.start -ℤ start)
-        → Knows parents blocks shapes given (record now { start = start; hangs = false }) placing p m
+        → Knows parents blocks shapes (record now { start = start; hangs = false }) placing p m
     knows_started start may hangs first value collapsed = record {
       fits = fits_started parents tree blocks now p m positive was.fits start hangs collapsed;
       near = let lt = was.fits.parent in run_later_near now.first m start (omega (arith, first, lt)) (above_near now.first now.start start (was.fits.edge_near hangs) collapsed);
       is_at = λ extents clear_edges y may_be candidate. started parents blocks extents clear_edges y candidate.is_layout tree now p m positive (was.is_at extents clear_edges y may_be candidate) ends start may hangs first value;
-      are_given = was.are_given;
+      no_extents = was.no_extents;
       placed = was.placed;
       early = was.early;
       are_clears = was.are_clears;
@@ -152,12 +156,12 @@ module _ (parents : List ℕ) (blocks : List Block) (shapes : List Shape) (given
         → RunEnds now.hangs now.start now.strut end → IsCollapseNear (end -ℤ now.start)
         → Wrote length_at now.marks marks p end → Wrote length_at now.heights heights p (pos 0) → Wrote flag_at now.through flags p true
         → StrutFits strut' → WithMargin now.strut strut' (block_at blocks p).margin_bottom.0
-        → Knows parents blocks shapes given (record now { marks = marks; heights = heights; through = flags; strut = strut' }) placing (slice_index parents p) m
+        → Knows parents blocks shapes (record now { marks = marks; heights = heights; through = flags; strut = strut' }) placing (slice_index parents p) m
     knows_through marks heights flags end strut' may waits below reach ended wrote_mark wrote_height wrote_flag fits' holds = record {
       fits = fits_through parents tree blocks now p m positive was.fits marks heights flags end strut' waits wrote_mark wrote_height wrote_flag ended fits';
       near = was.near;
       is_at = λ extents clear_edges y may_be candidate. close_passing parents blocks extents clear_edges y candidate.is_layout tree now p m positive (was.is_at extents clear_edges y may_be candidate) ends marks heights flags strut' end may waits below reach wrote_mark wrote_height wrote_flag holds;
-      are_given = was.are_given;
+      no_extents = was.no_extents;
       placed = placed_kept parents blocks shapes now.marks marks placing (length placing.places) tree places_within was.placed (λ j lt. wrote_mark.other j (λ same. let early = was.early in omega (arith, lt, early, same, waits)));
       early = was.early;
       are_clears = was.are_clears;
@@ -174,7 +178,7 @@ module _ (parents : List ℕ) (blocks : List Block) (shapes : List Shape) (given
       | inr high ↦ settled (joined_passes blocks p (was.fits.unparted p high was.fits.parent) may)
     ]
 
-    module _ (extents clear_edges : List Length) (y : BlockLayout) (may_be : MayBe parents blocks given placing extents) (candidate : IsCandidate parents blocks extents clear_edges y now.clears now.clear_edges m) where
+    module _ (extents : Extents) (clear_edges : List Length) (y : BlockLayout) (may_be : MayBe blocks placing extents) (candidate : IsCandidate parents blocks extents clear_edges y now.clears now.clear_edges m) where
       at : IsAt parents blocks clear_edges y now p m
       at = was.is_at extents clear_edges y may_be candidate
 
@@ -192,12 +196,12 @@ module _ (parents : List ℕ) (blocks : List Block) (shapes : List Shape) (given
         → mark ≡ length_at now.marks p → IsBoxHeight height → height ≡ border_height (block_at blocks p) (length_at placing.extents p) (now.start -ℤ (mark +ℤ (block_at blocks p).edge_top.0))
         → start ≡ mark +ℤ height → Wrote length_at now.heights heights p height
         → StrutFits strut' → WithMargin now.strut strut' (block_at blocks p).margin_bottom.0
-        → Knows parents blocks shapes given (record now { heights = heights; start = start; strut = strut' }) placing (slice_index parents p) m
+        → Knows parents blocks shapes (record now { heights = heights; start = start; strut = strut' }) placing (slice_index parents p) m
     knows_joined heights mark height start strut' may unbarred settled marked size is_height starts wrote fits' holds = record {
       fits = fits_joined parents tree blocks now p m positive was.fits heights height start strut' near size wrote fits';
       near = later_near now.first m start was.fits.first_most near;
       is_at = there;
-      are_given = was.are_given;
+      no_extents = was.no_extents;
       placed = was.placed;
       early = was.early;
       are_clears = was.are_clears;
@@ -210,18 +214,18 @@ module _ (parents : List ℕ) (blocks : List Block) (shapes : List Shape) (given
         near : IsStartNear now.first start
         near = below_near p now.first mark height start (subst (IsMarkNear p) (sym marked) (was.fits.mark_near p)) size starts before
 
-        there : (extents clear_edges : List Length) (y : BlockLayout) → MayBe parents blocks given placing extents → IsCandidate parents blocks extents clear_edges y now.clears now.clear_edges m
+        there : (extents : Extents) (clear_edges : List Length) (y : BlockLayout) → MayBe blocks placing extents → IsCandidate parents blocks extents clear_edges y now.clears now.clear_edges m
             → IsAt parents blocks clear_edges y (record now { heights = heights; start = start; strut = strut' }) (slice_index parents p) m
         there extents clear_edges y may_be candidate =
             let is = candidate.is_layout in
             let at = was.is_at extents clear_edges y may_be candidate in
             let truth = stands extents clear_edges y may_be candidate settled in
-            let ext : length_at placing.extents p ≡ length_at extents p = was.are_given p positive inner (joins_flow (block_at blocks p) may) ∙ sym (may_be.other p positive inner (joins_flow (block_at blocks p) may)) in
+            let ext : is_solid (block_at blocks p).inside ≡ true → length_at placing.extents p ≡ length_at extents.solid p = λ solid. absurd (true_false (is_solid (block_at blocks p).inside) solid (joins_flow (block_at blocks p) may)) in
             let joined : joins_bottom parents blocks y.runs p ≡ true = joins_here extents clear_edges y may_be candidate ∙ rw (truth, may, unbarred) refl in
             let mark_is = marked ∙ at.so_far.marked.stands p before (code_open parents blocks extents clear_edges y is tree now p m positive at ends) truth in
             let bottom = bottom_joined parents blocks extents clear_edges y is tree now p m positive at ends joined before in
             let from = at.in_run.start_is (not_hanging parents blocks extents clear_edges y is tree now p m positive at ends before) in
-            let height_is = height_there parents blocks extents clear_edges y is tree now p m positive at ends height mark now.start truth mark_is (from ∙ sym bottom) (is_height ∙ ap (λ (v : ℤ). border_height (block_at blocks p) v (now.start -ℤ (mark +ℤ (block_at blocks p).edge_top.0))) ext) in
+            let height_is = height_there parents blocks extents clear_edges y is tree now p m positive at ends height mark now.start truth mark_is (from ∙ sym bottom) (is_height ∙ same_border_height (block_at blocks p) (length_at placing.extents p) (length_at extents.solid p) (now.start -ℤ (mark +ℤ (block_at blocks p).edge_top.0)) ext) in
             let wrote_height : Wrote length_at now.heights heights p (length_at y.places.heights p) = subst (λ (v : ℤ). Wrote length_at now.heights heights p v) height_is wrote in
             close_joined parents blocks extents clear_edges y is tree now p m positive at ends heights strut' start truth joined before wrote_height
             (starts ∙ (λ i. marked i +ℤ (sym wrote.here) i)) holds
@@ -233,16 +237,16 @@ module _ (parents : List ℕ) (blocks : List Block) (shapes : List Shape) (given
         → mark ≡ length_at marks p → (is_solid (block_at blocks p).inside ≡ false → IsBoxHeight height) → height ≡ border_height (block_at blocks p) (length_at placing'.extents p) (end -ℤ (mark +ℤ (block_at blocks p).edge_top.0))
         → start ≡ mark +ℤ height → Wrote length_at now.heights heights p height
         → StrutFits strut' → Holds strut' ((block_at blocks p).margin_bottom.0 ∷ [])
-        → Knows parents blocks shapes given (record now { marks = marks; heights = heights; start = start; strut = strut'; first = m; hangs = false }) placing' (slice_index parents p) m
+        → Knows parents blocks shapes (record now { marks = marks; heights = heights; start = start; strut = strut'; first = m; hangs = false }) placing' (slice_index parents p) m
     knows_parted marks heights placing' end mark height start strut' may settled reaches ended settles placed kept same marked size is_height starts wrote fits' holds = record {
       fits = fits_parted parents tree blocks now p m positive was.fits marks heights end height start strut' settles ended start_near size wrote fits';
       near = start_near;
       is_at = there;
-      are_given = given_kept parents blocks given placing.extents placing'.extents (length placing.places) kept was.are_given;
+      no_extents = no_extents_kept blocks placing.extents placing'.extents (length placing.places) was.placed.some kept was.no_extents;
       placed = let e = placed.places_length in subst (λ (n : ℕ). PlacesTo parents blocks shapes marks placing' n) (sym e) placed;
       early = let e = placed.places_length in omega (arith, e);
       are_clears = was.are_clears;
-      decided = decided_placed parents blocks shapes given now.clears now.clear_edges placing placing' m more kept same was.decided;
+      decided = decided_placed parents blocks shapes now.clears now.clear_edges placing placing' m more kept same was.decided;
     }
       where
         more : length placing.places ≤ length placing'.places
@@ -257,23 +261,21 @@ module _ (parents : List ℕ) (blocks : List Block) (shapes : List Shape) (given
             (λ flow. let near_mark = marks_settled parents tree blocks now p m positive was.fits marks end settles ended p in
             below_near p m mark height start (subst (IsMarkNear p) (sym marked) near_mark) (size flow) starts was.fits.parent)
 
-        ext_there : (extents : List Length) → MayBe parents blocks given placing' extents → length_at placing'.extents p ≡ length_at extents p
-        ext_there extents may_be = true_or (is_solid (block_at blocks p).inside) (length_at placing'.extents p ≡ length_at extents p)
-            (λ solid. let l = placed.places_length in let lt = was.fits.parent in sym (may_be.solid p positive (omega (arith, l, lt)) solid))
-            (λ flow. kept p (λ solid. absurd (true_false (is_solid (block_at blocks p).inside) solid flow)) ∙ was.are_given p positive inner flow ∙ sym (may_be.other p positive inner flow))
+        ext_there : (extents : Extents) → MayBe blocks placing' extents → is_solid (block_at blocks p).inside ≡ true → length_at placing'.extents p ≡ length_at extents.solid p
+        ext_there extents may_be solid = let l = placed.places_length in let lt = was.fits.parent in sym (may_be p positive (omega (arith, l, lt)) solid)
 
-        there : (extents clear_edges : List Length) (y : BlockLayout) → MayBe parents blocks given placing' extents → IsCandidate parents blocks extents clear_edges y now.clears now.clear_edges m
+        there : (extents : Extents) (clear_edges : List Length) (y : BlockLayout) → MayBe blocks placing' extents → IsCandidate parents blocks extents clear_edges y now.clears now.clear_edges m
             → IsAt parents blocks clear_edges y (record now { marks = marks; heights = heights; start = start; strut = strut'; first = m; hangs = false }) (slice_index parents p) m
         there extents clear_edges y may_be' candidate =
             let is = candidate.is_layout in
-            let may_be = may_before parents blocks given placing placing' extents more kept may_be' in
+            let may_be = may_before blocks placing placing' extents more kept may_be' in
             let ext = ext_there extents may_be' in
             let at = was.is_at extents clear_edges y may_be candidate in
             let truth = stands extents clear_edges y may_be candidate settled in
             let parted : joins_bottom parents blocks y.runs p ≡ false = joins_here extents clear_edges y may_be candidate ∙ rw (truth, may) refl in
             let mark_is = marked ∙ mark_parted parents blocks extents clear_edges y is tree now p m positive at ends truth parted end reaches marks settles in
             let bottom = reach_parted parents blocks extents clear_edges y is tree now p m positive at ends truth parted end reaches ∙ sym (bottom_parted parents blocks extents clear_edges y is tree now p m positive at ends parted truth) in
-            let height_is = height_there parents blocks extents clear_edges y is tree now p m positive at ends height mark end truth mark_is bottom (is_height ∙ ap (λ (v : ℤ). border_height (block_at blocks p) v (end -ℤ (mark +ℤ (block_at blocks p).edge_top.0))) ext) in
+            let height_is = height_there parents blocks extents clear_edges y is tree now p m positive at ends height mark end truth mark_is bottom (is_height ∙ same_border_height (block_at blocks p) (length_at placing'.extents p) (length_at extents.solid p) (end -ℤ (mark +ℤ (block_at blocks p).edge_top.0)) ext) in
             let wrote_height : Wrote length_at now.heights heights p (length_at y.places.heights p) = subst (λ (v : ℤ). Wrote length_at now.heights heights p v) height_is wrote in
             close_parted parents blocks extents clear_edges y is tree now p m positive at ends truth parted end reaches marks settles heights strut' start wrote_height
             (starts ∙ (λ i. marked i +ℤ (sym wrote.here) i)) holds

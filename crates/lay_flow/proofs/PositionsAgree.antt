@@ -1,19 +1,21 @@
 -- Positions and heights that are worked out again and again from one another come to agree with any others that are.
-use Rattle.std.proofs.Common.{◌≡◌, ℕ, zero, suc, ◌+◌, ◌<◌, ◌≤◌, List, length, slice_index, refl, sym, ◌∙◌, arith, inl, inr, Option, Some, None, subst}
+use Rattle.std.proofs.Common.{◌≡◌, ℕ, zero, suc, ◌+◌, ◌<◌, ◌+ℤ◌, ◌-ℤ◌, ℤ, ◌≤◌, List, length, slice_index, refl, sym, ap, ◌∙◌, arith, inl, inr, Option, Some, None, subst}
 use Rattle.std.proofs.lemmas.Bool.{cases_lt, cases_eq}
 use Rattle.lay_units.specs.declared.length.Unit.{Unit as Length}
 use Rattle.lay_doc.specs.Tree.{IsTree}
+use Rattle.lay_heights.specs.AutoHeights.{root_height_of}
 use Rattle.lay_flow.specs.declared.block.Block.{Block}
 use Rattle.lay_flow.specs.Lengths.{length_at}
 use Rattle.lay_flow.specs.Children.{last_child}
-use Rattle.lay_flow.specs.MarginRuns.{Runs}
-use Rattle.lay_flow.specs.BlockPositions.{Positions, start_below, start_before, start_of, mark_of, content_height, content_bottom, height_of}
+use Rattle.lay_flow.specs.MarginRuns.{Runs, block_at}
+use Rattle.lay_flow.specs.BlockPositions.{Extents, Positions, start_below, start_before, start_of, mark_of, content_height, height_of}
+use Rattle.lay_flow.proofs.ContentHeights.{content_bottom, content_inner, content_root}
 use Rattle.lay_flow.proofs.ChildPlaces.{last_same}
 use Rattle.lay_flow.proofs.MarginWalk.{walk}
 use Rattle.lay_flow.proofs.RunsAgree.{last_there, none_left, inside_up}
 
 -- the second columns are worked out from the first
-pub record AreNextPositions (parents : List ℕ) (blocks : List Block) (r : Runs) (extents clear_edges : List Length) (old new : Positions) : Type 0 where
+pub record AreNextPositions (parents : List ℕ) (blocks : List Block) (r : Runs) (extents : Extents) (clear_edges : List Length) (old new : Positions) : Type 0 where
   pub start : (k : ℕ) → k < length parents → length_at new.starts k ≡ start_of parents blocks r clear_edges old k
   pub mark : (k : ℕ) → k < length parents → length_at new.marks k ≡ mark_of parents blocks r old k
   pub height : (k : ℕ) → k < length parents → length_at new.heights k ≡ height_of parents blocks r extents old k
@@ -25,7 +27,7 @@ pub record SamePositions (parents : List ℕ) (s t : Positions) (p m : ℕ) : Ty
   pub closed : (j : ℕ) → p < j → j < m → length_at s.heights j ≡ length_at t.heights j
   pub gone : (j i : ℕ) → j < i → i < m → slice_index parents i < j → length_at s.heights j ≡ length_at t.heights j
 
-module _ (parents : List ℕ) (tree : IsTree parents) (blocks : List Block) (r : Runs) (extents clear_edges : List Length) (a b : ℕ → Positions)
+module _ (parents : List ℕ) (tree : IsTree parents) (blocks : List Block) (r : Runs) (extents : Extents) (clear_edges : List Length) (a b : ℕ → Positions)
     (a_next : (i : ℕ) → AreNextPositions parents blocks r extents clear_edges (a i) (a (suc i))) (b_next : (i : ℕ) → AreNextPositions parents blocks r extents clear_edges (b i) (b (suc i))) where
   -- from some time on they agree up to there
   pub record Stands (p m : ℕ) : Type 0 where
@@ -91,8 +93,10 @@ module _ (parents : List ℕ) (tree : IsTree parents) (blocks : List Block) (r :
             ];
           }
 
-  content_same : (s t : Positions) (p m : ℕ) → last_child parents p (length parents) ≡ last_child parents p m → p < m → SamePositions parents s t p m → content_height parents blocks r s p ≡ content_height parents blocks r t p
-  content_same s t p m last lt was = let e = bottom in let f = was.mark p lt in rw (e, f) refl
+  -- the heights of two boxes with the same ends of content
+  content_same : (s t : Positions) (p m : ℕ) → last_child parents p (length parents) ≡ last_child parents p m → p < m → SamePositions parents s t p m
+      → content_height parents blocks r extents.floats s p ≡ content_height parents blocks r extents.floats t p
+  content_same s t p m last lt was = by_place p refl
     where
       go : (o : Option ℕ) → last_child parents p m ≡ o → content_bottom parents blocks r s p ≡ content_bottom parents blocks r t p
       go None e = let g = last ∙ e in let f = was.mark p lt in rw (g, f) refl
@@ -101,7 +105,25 @@ module _ (parents : List ℕ) (tree : IsTree parents) (blocks : List Block) (r :
       bottom : content_bottom parents blocks r s p ≡ content_bottom parents blocks r t p
       bottom = go (last_child parents p m) refl
 
-  height_same : (s t : Positions) (p : ℕ) → content_height parents blocks r s p ≡ content_height parents blocks r t p → height_of parents blocks r extents s p ≡ height_of parents blocks r extents t p
+      between : content_bottom parents blocks r s p -ℤ (length_at s.marks p +ℤ (block_at blocks p).edge_top.0) ≡ content_bottom parents blocks r t p -ℤ (length_at t.marks p +ℤ (block_at blocks p).edge_top.0)
+      between = let e = bottom in let f = was.mark p lt in rw (e, f) refl
+
+      reaches : (u v d e : ℤ) → u ≡ v → d ≡ e → root_height_of (record { 0 = u }) (record { 0 = d }) extents.floats ≡ root_height_of (record { 0 = v }) (record { 0 = e }) extents.floats
+      reaches u v d e same ends = rw (same, ends) refl
+
+      at_root : length_at s.marks 0 ≡ length_at t.marks 0 → content_bottom parents blocks r s 0 ≡ content_bottom parents blocks r t 0 → content_height parents blocks r extents.floats s 0 ≡ content_height parents blocks r extents.floats t 0
+      at_root mark ends = content_root parents blocks r extents.floats s
+          ∙ reaches (length_at s.marks 0 +ℤ (block_at blocks 0).edge_top.0) (length_at t.marks 0 +ℤ (block_at blocks 0).edge_top.0) (content_bottom parents blocks r s 0) (content_bottom parents blocks r t 0)
+          (ap (λ (v : ℤ). v +ℤ (block_at blocks 0).edge_top.0) mark) ends
+          ∙ sym (content_root parents blocks r extents.floats t)
+
+      by_place : (q : ℕ) → p ≡ q → content_height parents blocks r extents.floats s p ≡ content_height parents blocks r extents.floats t p
+      by_place zero e = let z = sym e in
+          subst (λ (k : ℕ). content_height parents blocks r extents.floats s k ≡ content_height parents blocks r extents.floats t k) z
+          (at_root (subst (λ (k : ℕ). length_at s.marks k ≡ length_at t.marks k) e (was.mark p lt)) (subst (λ (k : ℕ). content_bottom parents blocks r s k ≡ content_bottom parents blocks r t k) e bottom))
+      by_place (suc k) e = content_inner parents blocks r extents.floats s p (omega (arith, e)) ∙ between ∙ sym (content_inner parents blocks r extents.floats t p (omega (arith, e)))
+
+  height_same : (s t : Positions) (p : ℕ) → content_height parents blocks r extents.floats s p ≡ content_height parents blocks r extents.floats t p → height_of parents blocks r extents s p ≡ height_of parents blocks r extents t p
   height_same s t p e = rw e refl
 
   close_stands : (p m : ℕ) → 0 < p → p < m → m ≤ length parents → (m < length parents → slice_index parents m < p) → Stands p m → Stands (slice_index parents p) m

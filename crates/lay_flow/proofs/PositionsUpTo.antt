@@ -1,21 +1,22 @@
 -- Positions up to a place don't depend on the extents of boxes from there on, nor on clear edges of boxes after it.
-use Rattle.std.proofs.Common.{◌≡◌, ◌⊎◌, ℕ, zero, suc, ◌+◌, ◌<◌, ◌≤◌, Bool, true, false, List, length, slice_index, refl, sym, ◌∙◌, arith, inl, inr, Option, Some, None, subst}
+use Rattle.std.proofs.Common.{◌≡◌, ◌⊎◌, ℕ, zero, suc, ◌+◌, ◌<◌, ◌≤◌, Bool, true, false, ◌+ℤ◌, ◌-ℤ◌, List, length, slice_index, refl, sym, ◌∙◌, arith, inl, inr, Option, Some, None, subst}
 use Rattle.std.proofs.lemmas.Bool.{cases_lt, cases_eq}
 use Rattle.lay_units.specs.declared.length.Unit.{Unit as Length}
 use Rattle.lay_doc.specs.Tree.{IsTree}
 use Rattle.lay_flow.specs.declared.block.Block.{Block}
 use Rattle.lay_flow.specs.Lengths.{length_at}
 use Rattle.lay_flow.specs.Children.{last_child, flag_at}
-use Rattle.lay_flow.specs.MarginRuns.{Runs}
-use Rattle.lay_flow.specs.BlockPositions.{Positions, HasPositions, start_below, start_before, start_of, mark_of, content_height, content_bottom, height_of}
+use Rattle.lay_flow.specs.MarginRuns.{Runs, block_at}
+use Rattle.lay_flow.specs.BlockPositions.{Extents, Positions, HasPositions, start_below, start_before, start_of, mark_of, content_height, height_of}
+use Rattle.lay_flow.proofs.ContentHeights.{content_bottom, content_inner}
 use Rattle.lay_flow.proofs.ChildPlaces.{last_same}
 use Rattle.lay_flow.proofs.MarginWalk.{opens}
 use Rattle.lay_flow.proofs.RunsAgree.{last_there, none_left, inside_up}
 use Rattle.lay_flow.proofs.PositionsAgree.{SamePositions}
 
-module _ (parents : List ℕ) (tree : IsTree parents) (blocks : List Block) (r : Runs) (extents others clear_edges other_edges : List Length) (s t : Positions)
+module _ (parents : List ℕ) (tree : IsTree parents) (blocks : List Block) (r : Runs) (extents others : Extents) (clear_edges other_edges : List Length) (s t : Positions)
     (is : HasPositions parents blocks r extents clear_edges s) (also : HasPositions parents blocks r others other_edges t)
-    (limit : ℕ) (same : (j : ℕ) → 0 < j → j < limit → length_at extents j ≡ length_at others j) (edges : (j : ℕ) → j ≤ limit → flag_at r.clears j ≡ true → length_at clear_edges j ≡ length_at other_edges j) where
+    (limit : ℕ) (same : (j : ℕ) → 0 < j → j < limit → length_at extents.solid j ≡ length_at others.solid j) (edges : (j : ℕ) → j ≤ limit → flag_at r.clears j ≡ true → length_at clear_edges j ≡ length_at other_edges j) where
   record Agrees (p m : ℕ) : Type 0 where
     pub parent : p < m
     pub within : m ≤ length parents
@@ -82,17 +83,18 @@ module _ (parents : List ℕ) (tree : IsTree parents) (blocks : List Block) (r :
       mark : length_at s.marks k ≡ length_at t.marks k
       mark = let w = was in is.mark k within ∙ mark_same k positive start (w.alike.mark (slice_index parents k) w.parent) ∙ sym (also.mark k within)
 
-  content_same : (p m : ℕ) → last_child parents p (length parents) ≡ last_child parents p m → p < m → SamePositions parents s t p m → content_height parents blocks r s p ≡ content_height parents blocks r t p
-  content_same p m last lt was = let e = bottom in let f = was.mark p lt in rw (e, f) refl
+  content_same : (p m : ℕ) → 0 < p → last_child parents p (length parents) ≡ last_child parents p m → p < m → SamePositions parents s t p m
+      → content_height parents blocks r extents.floats s p ≡ content_height parents blocks r others.floats t p
+  content_same p m positive last lt was = content_inner parents blocks r extents.floats s p positive ∙ between ∙ sym (content_inner parents blocks r others.floats t p positive)
     where
       go : (o : Option ℕ) → last_child parents p m ≡ o → content_bottom parents blocks r s p ≡ content_bottom parents blocks r t p
       go None e = let g = last ∙ e in let f = was.mark p lt in rw (g, f) refl
       go (Some c) e = let g = last ∙ e in let l = last_there parents p m c e in let u = below_same c (was.start c l.1) (was.mark c l.1) (was.closed c l.0 l.1) in rw (g, u) refl
 
-      bottom : content_bottom parents blocks r s p ≡ content_bottom parents blocks r t p
-      bottom = go (last_child parents p m) refl
+      between : content_bottom parents blocks r s p -ℤ (length_at s.marks p +ℤ (block_at blocks p).edge_top.0) ≡ content_bottom parents blocks r t p -ℤ (length_at t.marks p +ℤ (block_at blocks p).edge_top.0)
+      between = let e = go (last_child parents p m) refl in let f = was.mark p lt in rw (e, f) refl
 
-  height_same : (p : ℕ) → length_at extents p ≡ length_at others p → content_height parents blocks r s p ≡ content_height parents blocks r t p → height_of parents blocks r extents s p ≡ height_of parents blocks r others t p
+  height_same : (p : ℕ) → length_at extents.solid p ≡ length_at others.solid p → content_height parents blocks r extents.floats s p ≡ content_height parents blocks r others.floats t p → height_of parents blocks r extents s p ≡ height_of parents blocks r others t p
   height_same p e f = rw (e, f) refl
 
   close_agrees : (p m : ℕ) → 0 < p → p < m → m ≤ length parents → (m < length parents → slice_index parents m < p) → UpTo p m → UpTo (slice_index parents p) m
@@ -132,7 +134,7 @@ module _ (parents : List ℕ) (tree : IsTree parents) (blocks : List Block) (r :
           let w = was in
           let le = low_enough cond in
           let last = last_same parents p m (length parents) within (none_left parents tree p m lt ends) in
-          is.height p inner ∙ height_same p (same p positive (omega (arith, lt, le))) (content_same p m last lt w.alike) ∙ sym (also.height p inner)
+          is.height p inner ∙ height_same p (same p positive (omega (arith, lt, le))) (content_same p m positive last lt w.alike) ∙ sym (also.height p inner)
 
   -- the marks of the boxes up to the limit
   pub marks_up_to : 0 < length parents → limit < length parents → (j : ℕ) → j ≤ limit → length_at s.marks j ≡ length_at t.marks j

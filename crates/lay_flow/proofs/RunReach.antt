@@ -11,7 +11,7 @@ use Rattle.lay_flow.specs.Lengths.{length_at}
 use Rattle.lay_flow.specs.Children.{flag_at}
 use Rattle.lay_flow.specs.MarginRuns.{margins, has_top, run_at, run_across}
 use Rattle.lay_flow.specs.Gathered.{IsAround}
-use Rattle.lay_flow.specs.BlockPositions.{start_before}
+use Rattle.lay_flow.specs.BlockPositions.{Extents, start_before}
 use Rattle.lay_flow.specs.BlockLayout.{BlockLayout, IsBlockLayout}
 use Rattle.lay_flow.specs.BlockPass.{PassState, IsSoFar, IsInRun}
 use Rattle.lay_flow.proofs.CollapsedThrough.{one_start}
@@ -30,7 +30,7 @@ sum_two a b c d e f = rw (e, f) refl
 back : (s e c : ℤ) → s ≡ e -ℤ c → e ≡ s +ℤ c
 back s e c h = omega (arith, ints, h)
 
-module _ (parents : List ℕ) (blocks : List Block) (extents clear_edges : List Length) (y : BlockLayout) (is : IsBlockLayout parents blocks extents clear_edges y) (tree : IsTree parents)
+module _ (parents : List ℕ) (blocks : List Block) (extents : Extents) (clear_edges : List Length) (y : BlockLayout) (is : IsBlockLayout parents blocks extents clear_edges y) (tree : IsTree parents)
     (now : PassState) (p m : ℕ) (in_run : IsInRun parents blocks clear_edges y now p m) (at : IsPlace parents p m) where
   pub starts_here : (j : ℕ) → now.first ≤ j → j ≤ p → IsAround parents j m → length_at y.places.starts j ≡ start_before parents blocks y.runs y.places p m
   starts_here j a b holds = let lt = at.parent in one_start parents tree blocks y.runs is.has_runs extents clear_edges y.places is.has_positions now.first p m at in_run.gathered j j a b holds (omega arith) (omega (arith, b, lt))

@@ -7,7 +7,7 @@ use Rattle.lay_flow.specs.declared.block.Block.{Block}
 use Rattle.lay_flow.specs.Lengths.{length_at}
 use Rattle.lay_flow.specs.Children.{flag_at}
 use Rattle.lay_flow.specs.MarginRuns.{Entry, block_at, margins, has_top, run_at, run_before, run_across}
-use Rattle.lay_flow.specs.BlockPositions.{start_before}
+use Rattle.lay_flow.specs.BlockPositions.{Extents, start_before}
 use Rattle.lay_flow.specs.BlockLayout.{BlockLayout, IsBlockLayout}
 use Rattle.lay_flow.specs.BlockPass.{Marked, Settled, PassState, IsAt}
 use Rattle.lay_flow.proofs.ChildPlaces.{next_none}
@@ -19,7 +19,7 @@ use Rattle.lay_flow.proofs.RunReach.{RunEnds, mark_here, waiting_open, tops_here
 use Rattle.lay_flow.proofs.SoFar.{so_far_settled}
 use Rattle.lay_flow.proofs.Truths.{true_false, true_or}
 
-module _ (parents : List ℕ) (blocks : List Block) (extents clear_edges : List Length) (y : BlockLayout) (is : IsBlockLayout parents blocks extents clear_edges y) (tree : IsTree parents) where
+module _ (parents : List ℕ) (blocks : List Block) (extents : Extents) (clear_edges : List Length) (y : BlockLayout) (is : IsBlockLayout parents blocks extents clear_edges y) (tree : IsTree parents) where
   -- the marks, once every run has ended
   marks_to : (flags : List Bool) (marks : List Length) (n : ℕ) → n ≤ length parents → Marked parents y marks flags n
       → ((j : ℕ) → j < n → flag_at flags j ≡ true → has_top (slice_index parents j) (run_at y.runs.before_tops j) ≡ false → length_at marks j ≡ length_at y.places.marks j)

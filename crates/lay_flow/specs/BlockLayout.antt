@@ -4,12 +4,12 @@ use Rattle.std.specs.Prelude.{ℕ, List}
 use Rattle.lay_units.specs.declared.length.Unit.{Unit as Length}
 use Rattle.lay_flow.specs.declared.block.Block.{Block}
 use Rattle.lay_flow.specs.MarginRuns.{Runs, HasRuns}
-use Rattle.lay_flow.specs.BlockPositions.{Positions, HasPositions}
+use Rattle.lay_flow.specs.BlockPositions.{Extents, Positions, HasPositions}
 
 pub record BlockLayout : Type 0 where
   pub runs : Runs
   pub places : Positions
 
-pub record IsBlockLayout (parents : List ℕ) (blocks : List Block) (extents clear_edges : List Length) (y : BlockLayout) : Type 0 where
+pub record IsBlockLayout (parents : List ℕ) (blocks : List Block) (extents : Extents) (clear_edges : List Length) (y : BlockLayout) : Type 0 where
   pub has_runs : HasRuns parents blocks y.runs
   pub has_positions : HasPositions parents blocks y.runs extents clear_edges y.places

@@ -11,16 +11,17 @@
 -- at 10 px and ends at 10 + 20 - 30 = 0 px, and there the third child stands. The second stands at 10 + 20 = 30 px.
 -- The root reaches to the bottom of the third child: it is 10 px high.
 use Rattle.std.specs.Prelude.{ℕ, zero, suc, ◌≡◌, ◌<◌, ◌&&◌, Bool, true, false, ℤ, pos, ◌+ℤ◌, ◌-ℤ◌, List, length, slice_index, if◌then◌else◌, Option, Some, None}
-use Rattle.std.specs.Int.{int_max}
 use Rattle.lay_units.specs.Units.{clamp_size_of}
 use Rattle.lay_units.specs.declared.length.Unit.{Unit as Length}
 use Rattle.lay_units.specs.declared.records.Len.{Len}
 use Rattle.lay_units.specs.declared.records.Len.TheVariants.{Auto as auto, Of as of}
+use Rattle.lay_heights.specs.declared.auto_height.FlowEnds.{FlowEnds}
+use Rattle.lay_heights.specs.AutoHeights.{auto_height_of, root_height_of}
 use Rattle.lay_heights.specs.MinMax.{with_min_max_of}
 use Rattle.lay_margins.specs.Collapse.{collapse}
 use Rattle.lay_flow.specs.declared.block.Block.{Block}
 use Rattle.lay_flow.specs.declared.block.Inside.{Inside}
-use Rattle.lay_flow.specs.declared.block.Inside.TheVariants.{Blocks as blocks_inside, Lines as lines_inside, Solid as solid_inside}
+use Rattle.lay_flow.specs.declared.block.Inside.TheVariants.{Blocks as blocks_inside, Solid as solid_inside}
 use Rattle.lay_flow.specs.Lengths.{length_at}
 use Rattle.lay_flow.specs.Children.{last_child, flag_at}
 use Rattle.lay_flow.specs.MarginRuns.{Runs, margins, has_top, block_at, run_at, parts_tops, joins_bottom, run_before}
@@ -33,6 +34,13 @@ pub record Positions : Type 0 where
   pub marks : List Length
   -- the height of its border box
   pub heights : List Length
+
+-- What is in the boxes of a context beside their blocks.
+pub record Extents : Type 0 where
+  -- how far the bottom border edge of a solid box lies below its mark, and 0 for other boxes
+  pub solid : List Length
+  -- the lowest bottom of the context's floats, if it has any
+  pub floats : Option Length
 
 -- where a run starts that follows the box: at its bottom border edge, or, where the box is collapsed through,
 -- where the run of its margins starts
@@ -70,27 +78,40 @@ mark_of parents blocks r at (suc k) =
     if flag_at r.through (suc k) && meets_parents_top parents r (suc k) then length_at at.marks (slice_index parents (suc k))
     else length_at at.starts (suc k) +ℤ collapse (margins_above parents blocks r (suc k))
 
--- the bottom of the blocks in a box (10.6.3): the bottom border edge of the last one, where its bottom margin adjoins
--- the box's own, and else the bottom edge of that margin, collapsed. In the context's own box that is the end of
--- the last run (10.6.7).
-abbrev pub content_bottom : List ℕ → List Block → Runs → Positions → ℕ → ℤ
-content_bottom parents blocks r at k = below (last_child parents k (length parents))
+-- the top edge of the content of the box
+abbrev pub content_top : List Block → Positions → ℕ → Length
+content_top blocks at k = record { 0 = length_at at.marks k +ℤ (block_at blocks k).edge_top.0 }
+
+-- the bottom edge of the bottom margin of the box, collapsed with those that it adjoins
+abbrev pub margin_bottom : Runs → Positions → ℕ → Length
+margin_bottom r at c = record { 0 = start_below r at c +ℤ collapse (margins (run_at r.to_bottoms c)) }
+
+-- where the content of the box may end (10.6.3): with the bottom margin of its last child, where that doesn't adjoin
+-- the box's own, and with the border of that child. No box holds lines yet.
+abbrev pub ends_of : List ℕ → List Block → Runs → Positions → ℕ → FlowEnds
+ends_of parents blocks r at k = after (last_child parents k (length parents))
   where
-    below : Option ℕ → ℤ
-    below None = length_at at.marks k +ℤ (block_at blocks k).edge_top.0
-    below (Some c) =
-        if joins_bottom parents blocks r k then start_below r at c
-        else start_below r at c +ℤ collapse (margins (run_at r.to_bottoms c))
+    after : Option ℕ → FlowEnds
+    after None = record { top = content_top blocks at k; line = None; margin = None; border = None }
+    after (Some c) = record {
+      top = content_top blocks at k;
+      line = None;
+      margin = if joins_bottom parents blocks r k then None else Some (margin_bottom r at c);
+      border = Some (record { 0 = start_below r at c });
+    }
 
-abbrev pub content_height : List ℕ → List Block → Runs → Positions → ℕ → ℤ
-content_height parents blocks r at k = content_bottom parents blocks r at k -ℤ (length_at at.marks k +ℤ (block_at blocks k).edge_top.0)
+-- where the last margin in the context's own box ends
+abbrev pub root_end : List ℕ → List Block → Runs → Positions → Length
+root_end parents blocks r at = after (last_child parents 0 (length parents))
+  where
+    after : Option ℕ → Length
+    after None = content_top blocks at 0
+    after (Some c) = margin_bottom r at c
 
--- the auto height of a box by what is in it: blocks up to their height, or lines of some extent. With blocks in it there is
--- an extent in the context's own box: how far its floats reach below the top of its content (10.6.7).
-abbrev pub auto_height : Inside → ℤ → ℤ → ℤ
-auto_height blocks_inside extent height = clamp_size_of (int_max height extent)
-auto_height lines_inside extent height = clamp_size_of extent
-auto_height solid_inside extent height = clamp_size_of extent
+-- the auto height of the content of the box: that of the context's own box by 10.6.7, and of others by 10.6.3
+abbrev pub content_height : List ℕ → List Block → Runs → Option Length → Positions → ℕ → ℤ
+content_height parents blocks r floats at zero = root_height_of (content_top blocks at 0) (root_end parents blocks r at) floats
+content_height parents blocks r floats at (suc k) = auto_height_of (ends_of parents blocks r at (suc k))
 
 abbrev pub given_or_auto : Len → ℤ → ℤ
 given_or_auto auto height = height
@@ -98,23 +119,22 @@ given_or_auto (of given) height = given.0
 
 abbrev pub is_solid : Inside → Bool
 is_solid blocks_inside = false
-is_solid lines_inside = false
 is_solid solid_inside = true
 
--- the height of a border box. That of a solid box is its extent: how far its bottom border edge lies below its mark.
+-- the height of a border box, where that of its content is given if it is auto (10.7). That of a solid box is its extent:
+-- how far its bottom border edge lies below its mark.
 abbrev pub border_height : Block → ℤ → ℤ → ℤ
-border_height b extent height =
+border_height b extent content =
     if is_solid b.inside then extent
-    else b.edge_top.0 +ℤ with_min_max_of (given_or_auto b.height (auto_height b.inside extent height)) b.min_height.0 b.max_height +ℤ b.edge_bottom.0
+    else b.edge_top.0 +ℤ with_min_max_of (given_or_auto b.height (clamp_size_of content)) b.min_height.0 b.max_height +ℤ b.edge_bottom.0
 
-abbrev pub height_of : List ℕ → List Block → Runs → List Length → Positions → ℕ → ℤ
+abbrev pub height_of : List ℕ → List Block → Runs → Extents → Positions → ℕ → ℤ
 height_of parents blocks r extents at k =
     if flag_at r.through k then pos 0
-    else border_height (block_at blocks k) (length_at extents k) (content_height parents blocks r at k)
+    else border_height (block_at blocks k) (length_at extents.solid k) (content_height parents blocks r extents.floats at k)
 
--- these are the positions and the heights, where the runs, the extents of lines and solid boxes and the clear edges
--- are given
-pub record HasPositions (parents : List ℕ) (blocks : List Block) (r : Runs) (extents clear_edges : List Length) (at : Positions) : Type 0 where
+-- these are the positions and the heights, where the runs, the extents and the clear edges are given
+pub record HasPositions (parents : List ℕ) (blocks : List Block) (r : Runs) (extents : Extents) (clear_edges : List Length) (at : Positions) : Type 0 where
   pub starts_length : length at.starts ≡ length parents
   pub marks_length : length at.marks ≡ length parents
   pub heights_length : length at.heights ≡ length parents

@@ -24,11 +24,10 @@ pub record BlockFits (b : Block) : Type 0 where
   pub height : IsUsedSize (given_or_auto b.height (pos 0))
   pub min_height : IsUsedSize b.min_height.0
 
--- a tree of 1 to 16384 boxes, with a block and an extent for each
-pub record AreBlocks (parents : List ℕ) (blocks : List Block) (extents : List Length) : Type 0 where
+-- a tree of 1 to 16384 boxes, with a block for each
+pub record AreBlocks (parents : List ℕ) (blocks : List Block) : Type 0 where
   pub some : 0 < length parents
   pub few : length parents ≤ 16384
   pub tree : IsTree parents
   pub block_count : length blocks ≡ length parents
-  pub extent_count : length extents ≡ length parents
   pub block : (k : ℕ) → k < length parents → BlockFits (block_at blocks k)

@@ -11,6 +11,7 @@ use Rattle.lay_flow.specs.Lengths.{length_at}
 use Rattle.lay_flow.specs.Children.{flag_at}
 use Rattle.lay_flow.specs.BlockFloats.{shape_at}
 use Rattle.lay_flow.specs.Clearance.{IsAbove}
+use Rattle.lay_flow.specs.BlockPositions.{Extents}
 use Rattle.lay_flow.specs.BlockLayout.{BlockLayout}
 use Rattle.lay_flow.specs.BlockPass.{PassState}
 use Rattle.lay_flow.specs.PlacesTo.{Placing}
@@ -29,7 +30,7 @@ abbrev pub IsAboveFloats : List Placed → Clear → ℤ → Type 0
 IsAboveFloats floats clear hypothetical = (bottom : Option Length) × IsClearEdge floats clear bottom × IsAbove hypothetical bottom
 
 -- the mark of the box at k in each layout that the blocks may have, but without clearance from that box on
-abbrev pub IsEdgeWithout : List ℕ → List Block → List Length → PassState → Placing → ℕ → ℤ → Type 0
-IsEdgeWithout parents blocks given now placing k edge =
-    (extents clear_edges : List Length) (w : BlockLayout) → MayBe parents blocks given placing extents → IsCandidate parents blocks extents clear_edges w now.clears now.clear_edges k → ((j : ℕ) → k ≤ j → flag_at w.runs.clears j ≡ false)
+abbrev pub IsEdgeWithout : List ℕ → List Block → PassState → Placing → ℕ → ℤ → Type 0
+IsEdgeWithout parents blocks now placing k edge =
+    (extents : Extents) (clear_edges : List Length) (w : BlockLayout) → MayBe blocks placing extents → IsCandidate parents blocks extents clear_edges w now.clears now.clear_edges k → ((j : ℕ) → k ≤ j → flag_at w.runs.clears j ≡ false)
     → edge ≡ length_at w.places.marks k

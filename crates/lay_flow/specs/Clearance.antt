@@ -16,6 +16,7 @@ use Rattle.lay_units.specs.declared.length.Unit.{Unit as Length}
 use Rattle.lay_floats.specs.declared.requests.Side.{Side}
 use Rattle.lay_floats.specs.declared.requests.Place.{Place}
 use Rattle.lay_floats.specs.ClearEdge.{Clears, IsClearEdge}
+use Rattle.lay_flow.specs.BlockPositions.{Extents}
 use Rattle.lay_flow.specs.declared.block.Block.{Block}
 use Rattle.lay_flow.specs.declared.shape.Shape.{Shape}
 use Rattle.lay_flow.specs.Lengths.{length_at}
@@ -25,7 +26,7 @@ use Rattle.lay_flow.specs.BlockLayout.{BlockLayout, IsBlockLayout}
 use Rattle.lay_flow.specs.BlockFloats.{shape_at, floats_before}
 
 -- the hypothetical layout of the box at k
-pub record IsHypothetical (parents : List ℕ) (blocks : List Block) (extents clear_edges : List Length) (y : BlockLayout) (k : ℕ) (without : BlockLayout) : Type 0 where
+pub record IsHypothetical (parents : List ℕ) (blocks : List Block) (extents : Extents) (clear_edges : List Length) (y : BlockLayout) (k : ℕ) (without : BlockLayout) : Type 0 where
   pub is_layout : IsBlockLayout parents blocks extents clear_edges without
   pub earlier : (j : ℕ) → j < k → flag_at without.runs.clears j ≡ flag_at y.runs.clears j
   pub later : (j : ℕ) → k ≤ j → flag_at without.runs.clears j ≡ false
@@ -44,7 +45,7 @@ lower_of None hypothetical = hypothetical
 lower_of (Some bottom) hypothetical = int_max bottom.0 hypothetical
 
 -- whether the box at k has clearance, and its clear edge
-pub record HasClearance (parents : List ℕ) (blocks : List Block) (shapes : List Shape) (extents clear_edges : List Length) (places : List Place) (y : BlockLayout) (k : ℕ) : Type 0 where
+pub record HasClearance (parents : List ℕ) (blocks : List Block) (shapes : List Shape) (extents : Extents) (clear_edges : List Length) (places : List Place) (y : BlockLayout) (k : ℕ) : Type 0 where
   pub without : BlockLayout
   pub is_hypothetical : IsHypothetical parents blocks extents clear_edges y k without
   -- the lowest bottom of the floats to clear

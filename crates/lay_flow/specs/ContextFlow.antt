@@ -13,28 +13,22 @@ use Rattle.lay_flow.specs.declared.shape.Shape.{Shape}
 use Rattle.lay_flow.specs.Lengths.{length_at}
 use Rattle.lay_flow.specs.Children.{flag_at}
 use Rattle.lay_flow.specs.MarginRuns.{block_at}
-use Rattle.lay_flow.specs.BlockPositions.{is_solid}
+use Rattle.lay_flow.specs.BlockPositions.{Extents, is_solid}
 use Rattle.lay_flow.specs.BlockLayout.{BlockLayout, IsBlockLayout}
 use Rattle.lay_flow.specs.BlockFloats.{shape_at, place_at, no_place, floats_before, ceiling, float_request, solid_request}
 use Rattle.lay_flow.specs.Clearance.{HasClearance}
 
--- The columns of a flow: the layout of the blocks, the extents of lines, solid boxes and floats, the clear edges, and the
--- places of floats and solid boxes.
+-- The columns of a flow: the layout of the blocks, the extents of solid boxes and floats, the clear edges, and the places of
+-- floats and solid boxes.
 pub record Flow : Type 0 where
   pub layout : BlockLayout
-  pub extents : List Length
+  pub extents : Extents
   pub clear_edges : List Length
   pub places : List Place
 
--- how far floats down to a lowest bottom reach below the top of the content
-abbrev pub reach_below : Option Length → ℤ → ℤ
-reach_below None top = pos 0
-reach_below (Some bottom) top = bottom.0 -ℤ top
-
--- `given` has the extents of lines
-pub record IsContextFlow (parents : List ℕ) (blocks : List Block) (shapes : List Shape) (given : List Length) (f : Flow) : Type 0 where
+pub record IsContextFlow (parents : List ℕ) (blocks : List Block) (shapes : List Shape) (f : Flow) : Type 0 where
   pub layout : IsBlockLayout parents blocks f.extents f.clear_edges f.layout
-  pub extents_length : length f.extents ≡ length parents
+  pub extents_length : length f.extents.solid ≡ length parents
   pub clear_edges_length : length f.clear_edges ≡ length parents
   pub places_length : length f.places ≡ length parents
   -- the context's own box has no clearance, and a float has none that parts margins
@@ -51,17 +45,16 @@ pub record IsContextFlow (parents : List ℕ) (blocks : List Block) (shapes : Li
   pub no_place_else : (k : ℕ) → 0 < k → k < length parents → (shape_at shapes k).float ≡ None → is_solid (block_at blocks k).inside ≡ false → place_at f.places k ≡ no_place
   -- what follows a solid box starts at its bottom border edge
   pub solid_extent : (k : ℕ) → 0 < k → k < length parents → is_solid (block_at blocks k).inside ≡ true
-      → length_at f.extents k ≡ (place_at f.places k).y.0 -ℤ length_at f.layout.places.marks k +ℤ (shape_at shapes k).height.0
-  pub other_extent : (k : ℕ) → 0 < k → k < length parents → is_solid (block_at blocks k).inside ≡ false → length_at f.extents k ≡ length_at given k
+      → length_at f.extents.solid k ≡ (place_at f.places k).y.0 -ℤ length_at f.layout.places.marks k +ℤ (shape_at shapes k).height.0
+  pub no_extent : (k : ℕ) → 0 < k → k < length parents → is_solid (block_at blocks k).inside ≡ false → length_at f.extents.solid k ≡ pos 0
+  pub no_extent_root : length_at f.extents.solid 0 ≡ pos 0
   -- the context's own box reaches round all floats
-  pub bottom : Option Length
-  pub is_bottom : IsClearEdge (floats_before shapes f.places (length parents)) clear_both bottom
-  pub root_extent : length_at f.extents 0 ≡ reach_below bottom (length_at f.layout.places.marks 0 +ℤ (block_at blocks 0).edge_top.0)
+  pub bottom : IsClearEdge (floats_before shapes f.places (length parents)) clear_both f.extents.floats
 
 -- these are the top border edges and the heights of the border boxes, and the places of floats and solid boxes
-pub record AreContextPlaces (parents : List ℕ) (blocks : List Block) (shapes : List Shape) (given tops heights : List Length) (places : List Place) : Type 0 where
+pub record AreContextPlaces (parents : List ℕ) (blocks : List Block) (shapes : List Shape) (tops heights : List Length) (places : List Place) : Type 0 where
   pub flow : Flow
-  pub is_flow : IsContextFlow parents blocks shapes given flow
+  pub is_flow : IsContextFlow parents blocks shapes flow
   pub tops_are : tops ≡ flow.layout.places.marks
   pub heights_are : heights ≡ flow.layout.places.heights
   pub places_are : places ≡ flow.places

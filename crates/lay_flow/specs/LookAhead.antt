@@ -12,7 +12,7 @@ use Rattle.lay_flow.specs.Lengths.{length_at}
 use Rattle.lay_flow.specs.Gathered.{IsAround}
 use Rattle.lay_flow.specs.MarginPlace.{IsPlace}
 use Rattle.lay_flow.specs.MarginRuns.{margins, has_top, run_before}
-use Rattle.lay_flow.specs.BlockPositions.{start_before}
+use Rattle.lay_flow.specs.BlockPositions.{Extents, start_before}
 use Rattle.lay_flow.specs.BlockLayout.{BlockLayout, IsBlockLayout}
 use Rattle.lay_flow.specs.PassBounds.{StrutFits}
 
@@ -66,11 +66,11 @@ pub record IsReading (parents : List ℕ) (blocks : List Block) (from : Outset) 
   pub first_place : m ≡ from.k → p ≡ slice_index parents from.k
   pub above : from.outermost < m → from.outermost ≤ p
   pub inside : from.outermost < m → IsAround parents from.outermost m
-  pub reads : (extents clear_edges : List Length) (w : BlockLayout) → IsBlockLayout parents blocks extents clear_edges w → ComesTo parents blocks w from.strut from.first from.k
+  pub reads : (extents : Extents) (clear_edges : List Length) (w : BlockLayout) → IsBlockLayout parents blocks extents clear_edges w → ComesTo parents blocks w from.strut from.first from.k
       → Reads parents blocks w from.k from.outermost strut p m
 
 -- the look ahead came to its end
 pub record HasRead (parents : List ℕ) (blocks : List Block) (from : Outset) (strut : StrutValue) : Type 0 where
   pub fits : StrutFits strut
-  pub reads_all : (extents clear_edges : List Length) (w : BlockLayout) → IsBlockLayout parents blocks extents clear_edges w → ComesTo parents blocks w from.strut from.first from.k
+  pub reads_all : (extents : Extents) (clear_edges : List Length) (w : BlockLayout) → IsBlockLayout parents blocks extents clear_edges w → ComesTo parents blocks w from.strut from.first from.k
       → ReadsAll parents blocks w from.k strut

@@ -20,7 +20,7 @@ use Rattle.lay_units.specs.declared.records.Len.{Len}
 use Rattle.lay_units.specs.declared.records.Len.TheVariants.{Auto as auto, Of as of}
 use Rattle.lay_flow.specs.declared.block.Block.{Block}
 use Rattle.lay_flow.specs.declared.block.Inside.{Inside}
-use Rattle.lay_flow.specs.declared.block.Inside.TheVariants.{Blocks as blocks_inside, Lines as lines_inside, Solid as solid_inside}
+use Rattle.lay_flow.specs.declared.block.Inside.TheVariants.{Blocks as blocks_inside, Solid as solid_inside}
 use Rattle.lay_flow.specs.Children.{last_child, next_child, flag_at}
 use Rattle.lay_flow.specs.Lengths.{no_length}
 
@@ -67,7 +67,6 @@ is_zero (negsuc n) = false
 
 abbrev pub is_blocks : Inside → Bool
 is_blocks blocks_inside = true
-is_blocks lines_inside = false
 is_blocks solid_inside = false
 
 abbrev pub is_auto : Len → Bool
@@ -78,12 +77,12 @@ abbrev pub is_auto_or_zero : Len → Bool
 is_auto_or_zero auto = true
 is_auto_or_zero (of h) = is_zero h.0
 
--- no line, no border or padding, no height and no min-height parts the two margins of the box
+-- no border or padding, no height and no min-height parts the two margins of the box
 abbrev pub may_collapse_through : Block → Bool
 may_collapse_through b = is_blocks b.inside && is_zero b.edge_top.0 && is_zero b.edge_bottom.0 && is_zero b.min_height.0 && is_auto_or_zero b.height
 
 -- nothing of the box itself parts its bottom margin from that of its last child: it has an auto height, no
--- min-height, and no border, padding or line there
+-- min-height, and no border or padding there
 abbrev pub may_join_bottoms : Block → Bool
 may_join_bottoms b = is_blocks b.inside && is_zero b.edge_bottom.0 && is_zero b.min_height.0 && is_auto b.height
 

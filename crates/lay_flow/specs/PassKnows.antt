@@ -12,25 +12,23 @@ use Rattle.lay_flow.specs.BlockSizes.{IsInset}
 use Rattle.lay_flow.specs.Children.{flag_at}
 use Rattle.lay_flow.specs.MarginRuns.{block_at}
 use Rattle.lay_flow.specs.BlockFloats.{AreShapes, shape_at, place_at}
-use Rattle.lay_flow.specs.BlockPositions.{is_solid}
+use Rattle.lay_flow.specs.BlockPositions.{Extents, is_solid}
 use Rattle.lay_flow.specs.BlockLayout.{BlockLayout, IsBlockLayout}
 use Rattle.lay_flow.specs.Clearance.{HasClearance}
 use Rattle.lay_flow.specs.BlockPass.{PassState, IsAt, IsBefore}
 use Rattle.lay_flow.specs.PassBounds.{StateFits, IsStartNear, IsEdgeNear}
 use Rattle.lay_flow.specs.PlacesTo.{Placing, PlacesTo, HaveShapeSizes}
 
--- extents as they may be at last: of boxes that aren't solid they are the given ones, and of the solid boxes that are
--- placed they are known
-pub record MayBe (parents : List ℕ) (blocks : List Block) (given : List Length) (now : Placing) (extents : List Length) : Type 0 where
-  pub other : (j : ℕ) → 0 < j → j < length parents → is_solid (block_at blocks j).inside ≡ false → length_at extents j ≡ length_at given j
-  pub solid : (j : ℕ) → 0 < j → j < length now.places → is_solid (block_at blocks j).inside ≡ true → length_at extents j ≡ length_at now.extents j
+-- extents as they may be at last: those of the solid boxes that are placed are known
+abbrev pub MayBe : List Block → Placing → Extents → Type 0
+MayBe blocks now extents = (j : ℕ) → 0 < j → j < length now.places → is_solid (block_at blocks j).inside ≡ true → length_at extents.solid j ≡ length_at now.extents j
 
 abbrev pub placing_of : PlacingState → Placing
 placing_of p = record { extents = p.extents.items; floats = p.floats; places = p.places.items }
 
--- the extents of boxes that aren't solid are the given ones
-abbrev pub AreGiven : List ℕ → List Block → List Length → List Length → Type 0
-AreGiven parents blocks given extents = (j : ℕ) → 0 < j → j < length parents → is_solid (block_at blocks j).inside ≡ false → length_at extents j ≡ length_at given j
+-- the context's own box and boxes that aren't solid have no extent
+abbrev pub HaveNoExtent : List Block → List Length → Type 0
+HaveNoExtent blocks extents = (j : ℕ) → (0 < j → is_solid (block_at blocks j).inside ≡ false) → length_at extents j ≡ pos 0
 
 -- the extents but those of solid boxes from the place k on are the same
 abbrev pub AreExtentsKept : List Block → ℕ → List Length → List Length → Type 0
@@ -46,7 +44,7 @@ pub record ArePlaceable (parents : List ℕ) (blocks : List Block) (shapes : Lis
   pub sizes : HaveShapeSizes parents shapes
 
 -- a layout that the blocks may have at last: the boxes before m have the clearance that was decided
-pub record IsCandidate (parents : List ℕ) (blocks : List Block) (extents clear_edges : List Length) (y : BlockLayout) (flags : List Bool) (edges : List Length) (m : ℕ) : Type 0 where
+pub record IsCandidate (parents : List ℕ) (blocks : List Block) (extents : Extents) (clear_edges : List Length) (y : BlockLayout) (flags : List Bool) (edges : List Length) (m : ℕ) : Type 0 where
   pub is_layout : IsBlockLayout parents blocks extents clear_edges y
   pub clears : (j : ℕ) → j < m → flag_at y.runs.clears j ≡ flag_at flags j
   pub edge : (j : ℕ) → j < m → flag_at flags j ≡ true → length_at clear_edges j ≡ length_at edges j
@@ -56,10 +54,10 @@ abbrev pub ArePlacesKept : List Place → List Place → Type 0
 ArePlacesKept old new = (j : ℕ) → j < length old → place_at new j ≡ place_at old j
 
 -- the clearance of the boxes before m was decided as it is in every flow that the context may have at last
-abbrev pub AreDecided : List ℕ → List Block → List Shape → List Length → List Bool → List Length → Placing → ℕ → Type 0
-AreDecided parents blocks shapes given flags edges placing m =
+abbrev pub AreDecided : List ℕ → List Block → List Shape → List Bool → List Length → Placing → ℕ → Type 0
+AreDecided parents blocks shapes flags edges placing m =
     (k : ℕ) → 0 < k → k < m → (shape_at shapes k).float ≡ None
-    → (extents clear_edges : List Length) (y : BlockLayout) (places : List Place) → MayBe parents blocks given placing extents → IsCandidate parents blocks extents clear_edges y flags edges m → ArePlacesKept placing.places places
+    → (extents : Extents) (clear_edges : List Length) (y : BlockLayout) (places : List Place) → MayBe blocks placing extents → IsCandidate parents blocks extents clear_edges y flags edges m → ArePlacesKept placing.places places
     → HasClearance parents blocks shapes extents clear_edges places y k
 
 -- the columns of clearance, as far as the boxes before m are decided
@@ -72,23 +70,23 @@ pub record AreClears (parents : List ℕ) (shapes : List Shape) (flags : List Bo
   pub no_edge : (k : ℕ) → flag_at flags k ≡ false → length_at edges k ≡ pos 0
 
 -- the pass is at the place (p, m), and what it keeps is as in every layout that may be that of the context
-pub record Knows (parents : List ℕ) (blocks : List Block) (shapes : List Shape) (given : List Length) (now : PassState) (placing : Placing) (p m : ℕ) : Type 0 where
+pub record Knows (parents : List ℕ) (blocks : List Block) (shapes : List Shape) (now : PassState) (placing : Placing) (p m : ℕ) : Type 0 where
   pub fits : StateFits parents blocks now p m
   pub near : IsStartNear m now.start
-  pub is_at : (extents clear_edges : List Length) (y : BlockLayout) → MayBe parents blocks given placing extents → IsCandidate parents blocks extents clear_edges y now.clears now.clear_edges m → IsAt parents blocks clear_edges y now p m
-  pub are_given : AreGiven parents blocks given placing.extents
+  pub is_at : (extents : Extents) (clear_edges : List Length) (y : BlockLayout) → MayBe blocks placing extents → IsCandidate parents blocks extents clear_edges y now.clears now.clear_edges m → IsAt parents blocks clear_edges y now p m
+  pub no_extents : HaveNoExtent blocks placing.extents
   pub placed : PlacesTo parents blocks shapes now.marks placing (length placing.places)
   pub early : length placing.places ≤ now.first
   pub are_clears : AreClears parents shapes now.clears now.clear_edges m
-  pub decided : AreDecided parents blocks shapes given now.clears now.clear_edges placing m
+  pub decided : AreDecided parents blocks shapes now.clears now.clear_edges placing m
 
 -- the pass is before the top margin of the box at k, and it is decided whether that has clearance
-pub record IsReady (parents : List ℕ) (blocks : List Block) (shapes : List Shape) (given : List Length) (now : PassState) (placing : Placing) (k : ℕ) : Type 0 where
+pub record IsReady (parents : List ℕ) (blocks : List Block) (shapes : List Shape) (now : PassState) (placing : Placing) (k : ℕ) : Type 0 where
   pub fits : StateFits parents blocks now (slice_index parents k) k
   pub near : IsEdgeNear k now.start
-  pub is_before : (extents clear_edges : List Length) (y : BlockLayout) → MayBe parents blocks given placing extents → IsCandidate parents blocks extents clear_edges y now.clears now.clear_edges (k + 1) → IsBefore parents blocks clear_edges y now k
-  pub are_given : AreGiven parents blocks given placing.extents
+  pub is_before : (extents : Extents) (clear_edges : List Length) (y : BlockLayout) → MayBe blocks placing extents → IsCandidate parents blocks extents clear_edges y now.clears now.clear_edges (k + 1) → IsBefore parents blocks clear_edges y now k
+  pub no_extents : HaveNoExtent blocks placing.extents
   pub placed : PlacesTo parents blocks shapes now.marks placing (length placing.places)
   pub early : length placing.places ≤ now.first
   pub are_clears : AreClears parents shapes now.clears now.clear_edges (k + 1)
-  pub decided : AreDecided parents blocks shapes given now.clears now.clear_edges placing (k + 1)
+  pub decided : AreDecided parents blocks shapes now.clears now.clear_edges placing (k + 1)

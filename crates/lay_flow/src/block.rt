@@ -7,8 +7,6 @@ use lay_units::{Len, Unit};
 pub enum Inside {
     /// Block-level boxes, or nothing.
     Blocks,
-    /// Lines.
-    Lines,
     /// A formatting context of its own, or the content of a replaced element.
     Solid,
 }

@@ -1,17 +1,17 @@
 //! The places of the boxes of a context, in one pass over their margins in document order.
 
-ghost use Rattle.std.specs.Prelude.{◌≡◌, ℕ, ◌+◌, ◌-◌, ◌-ℤ◌, ◌<◌, ◌≤◌, ◌∷◌, [], length, slice_index, IfOk, OnOk, IfSome};
-ghost use Rattle.lay_units.specs.Units.{IsPosition};
+ghost use Rattle.std.specs.Prelude.{◌≡◌, ℕ, ◌+◌, ◌-◌, ◌<◌, ◌≤◌, ◌∷◌, [], length, slice_index, replicate, IfOk, OnOk};
+ghost use Rattle.lay_flow.specs.Lengths.{no_length};
 ghost use Rattle.lay_flow.specs.BlockFloats.{AreShapes, no_place};
 ghost use Rattle.lay_flow.specs.BlockSizes.{AreBlocks};
-ghost use Rattle.lay_flow.specs.ContextFlow.{AreContextPlaces, reach_below};
+ghost use Rattle.lay_flow.specs.ContextFlow.{AreContextPlaces};
 ghost use Rattle.lay_flow.specs.PassBounds.{AreBoxHeights, AreNear, state_of};
 ghost use Rattle.lay_flow.specs.PassKnows.{ArePlaceable, Knows, placing_of};
 ghost use Rattle.lay_flow.specs.PlacesTo.{HaveShapeSizes};
 
 use crate::block::Block;
 use crate::block_steps::{close, open};
-use crate::columns::{block_at, length_at, parent_at, sum_of, write_at};
+use crate::columns::{block_at, length_at, parent_at, write_at};
 use crate::pass_state::Pass;
 use crate::place_boxes::{nowhere, place_up_to, push_place};
 use crate::placing::Placing;
@@ -35,28 +35,26 @@ pub struct BlockPlaces {
     pub places: Vec<Place>,
 }
 
-/// The places of a context's boxes, from the places of their parents, their sizes, their shapes, and the
-/// heights of the lines of those that hold lines. The last are 0 for other boxes (CSS 2.2, 8.3.1, 9.4.1, 9.5,
-/// 9.5.2, 10.6.3, 10.6.7 and 10.7).
+/// The places of a context's boxes, from the places of their parents, their sizes and their shapes
+/// (CSS 2.2, 8.3.1, 9.4.1, 9.5, 9.5.2, 10.6.3, 10.6.7 and 10.7).
 pub fn place_blocks(
     alloc: Global,
     parents: &[usize],
     blocks: &[Block],
     shapes: &[Shape],
-    lines: &[Unit],
 ) -> Result<BlockPlaces, NoMemory>
-    requires blocks { AreBlocks parents.now blocks.now lines.now }
+    requires blocks { AreBlocks parents.now blocks.now }
     requires shapes { AreShapes parents.now blocks.now shapes.now }
     requires sizes { HaveShapeSizes parents.now shapes.now }
-    ensures places { IfOk result (λ r. AreContextPlaces parents.now blocks.now shapes.now lines.now r.tops.items r.heights.items r.places.items) }
+    ensures places { IfOk result (λ r. AreContextPlaces parents.now blocks.now shapes.now r.tops.items r.heights.items r.places.items) }
     ensures near { IfOk result (λ r. AreNear r.tops.items) }
     ensures sized { IfOk result (λ r. AreBoxHeights blocks.now r.heights.items) }
 {
-    let mut flow = begin(alloc, parents, blocks, shapes, lines)?;
+    let mut flow = begin(alloc, parents, blocks, shapes)?;
     for k in 1..parents.len() {
-        advance(parents, blocks, shapes, lines, &mut flow, k)?;
+        advance(parents, blocks, shapes, &mut flow, k)?;
     }
-    finish(parents, blocks, shapes, lines, &mut flow)?;
+    finish(parents, blocks, shapes, &mut flow)?;
     let placing = flow.placing;
     Ok(BlockPlaces {
         tops: flow.marks,
@@ -71,11 +69,10 @@ fn begin(
     parents: &[usize],
     blocks: &[Block],
     _shapes: &[Shape],
-    lines: &[Unit],
 ) -> Result<Pass, NoMemory>
-    requires input { AreBlocks parents.now blocks.now lines.now }
+    requires input { AreBlocks parents.now blocks.now }
     requires shapes { AreShapes parents.now blocks.now _shapes.now }
-    ensures { IfOk result (λ flow. Knows parents.now blocks.now _shapes.now lines.now (state_of flow) (placing_of flow.placing) 0 1) }
+    ensures { IfOk result (λ flow. Knows parents.now blocks.now _shapes.now (state_of flow) (placing_of flow.placing) 0 1) }
 {
     let count = parents.len();
     Ok(Pass {
@@ -88,22 +85,20 @@ fn begin(
         strut: no_margin(),
         first: 1,
         hangs: false,
-        placing: placing_of(alloc, lines)?,
+        placing: placing_of(alloc, count)?,
     })
 }
 
 // The context's own box is placed, and no other.
-fn placing_of(alloc: Global, lines: &[Unit]) -> Result<Placing, NoMemory>
-    ensures extents { IfOk result (λ placing. placing.extents.items ≡ lines.now) }
+fn placing_of(alloc: Global, count: usize) -> Result<Placing, NoMemory>
+    ensures extents { IfOk result (λ placing. placing.extents.items ≡ replicate count no_length) }
     ensures floats { IfOk result (λ placing. placing.floats ≡ []) }
     ensures places { IfOk result (λ placing. placing.places.items ≡ no_place ∷ []) }
 {
-    let mut extents = Vec::with_capacity(alloc, lines.len())?;
-    extents.extend_from_slice(lines)?;
     let mut places = Vec::new(alloc);
     push_place(&mut places, nowhere())?;
     Ok(Placing {
-        extents,
+        extents: vec![in alloc; Unit(0); count]?,
         floats: Floats::new(alloc),
         places,
     })
@@ -114,20 +109,19 @@ fn advance(
     parents: &[usize],
     blocks: &[Block],
     shapes: &[Shape],
-    lines: &[Unit],
     flow: &mut Pass,
     k: usize,
 ) -> Result<(), NoMemory>
-    requires input { AreBlocks parents.now blocks.now lines.now }
+    requires input { AreBlocks parents.now blocks.now }
     requires shapes { ArePlaceable parents.now blocks.now shapes.now }
     requires positive { 0 < k }
     requires within { k < length parents.now }
-    requires known { Knows parents.now blocks.now shapes.now lines.now (state_of flow.old) (placing_of flow.old.placing) (k - 1) k }
-    ensures { OnOk result (Knows parents.now blocks.now shapes.now lines.now (state_of flow.new) (placing_of flow.new.placing) k (k + 1)) }
+    requires known { Knows parents.now blocks.now shapes.now (state_of flow.old) (placing_of flow.old.placing) (k - 1) k }
+    ensures { OnOk result (Knows parents.now blocks.now shapes.now (state_of flow.new) (placing_of flow.new.placing) k (k + 1)) }
 {
     let parent = parent_at(parents, k);
-    close_to(parents, blocks, shapes, lines, flow, k - 1, parent, k)?;
-    open(parents, blocks, shapes, lines, flow, k)?;
+    close_to(parents, blocks, shapes, flow, k - 1, parent, k)?;
+    open(parents, blocks, shapes, flow, k)?;
     Ok(())
 }
 
@@ -136,23 +130,22 @@ fn close_to(
     parents: &[usize],
     blocks: &[Block],
     shapes: &[Shape],
-    lines: &[Unit],
     flow: &mut Pass,
     from: usize,
     to: usize,
     m: usize,
 ) -> Result<(), NoMemory>
-    requires input { AreBlocks parents.now blocks.now lines.now }
+    requires input { AreBlocks parents.now blocks.now }
     requires shapes { ArePlaceable parents.now blocks.now shapes.now }
     requires order { to ≤ from }
     requires next { m < length parents.now → slice_index parents.now m ≡ to }
     requires last { length parents.now ≤ m → to ≡ 0 }
-    requires known { Knows parents.now blocks.now shapes.now lines.now (state_of flow.old) (placing_of flow.old.placing) from m }
-    ensures { OnOk result (Knows parents.now blocks.now shapes.now lines.now (state_of flow.new) (placing_of flow.new.placing) to m) }
+    requires known { Knows parents.now blocks.now shapes.now (state_of flow.old) (placing_of flow.old.placing) from m }
+    ensures { OnOk result (Knows parents.now blocks.now shapes.now (state_of flow.new) (placing_of flow.new.placing) to m) }
 {
     let mut innermost = from;
     while innermost != to {
-        close(parents, blocks, shapes, lines, flow, innermost, m)?;
+        close(parents, blocks, shapes, flow, innermost, m)?;
         innermost = parent_at(parents, innermost);
     }
     Ok(())
@@ -163,19 +156,18 @@ fn finish(
     parents: &[usize],
     blocks: &[Block],
     shapes: &[Shape],
-    lines: &[Unit],
     flow: &mut Pass,
 ) -> Result<(), NoMemory>
-    requires input { AreBlocks parents.now blocks.now lines.now }
+    requires input { AreBlocks parents.now blocks.now }
     requires shapes { ArePlaceable parents.now blocks.now shapes.now }
-    requires known { Knows parents.now blocks.now shapes.now lines.now (state_of flow.old) (placing_of flow.old.placing) (length parents.now - 1) (length parents.now) }
-    ensures places { OnOk result (AreContextPlaces parents.now blocks.now shapes.now lines.now flow.new.marks.items flow.new.heights.items flow.new.placing.places.items) }
+    requires known { Knows parents.now blocks.now shapes.now (state_of flow.old) (placing_of flow.old.placing) (length parents.now - 1) (length parents.now) }
+    ensures places { OnOk result (AreContextPlaces parents.now blocks.now shapes.now flow.new.marks.items flow.new.heights.items flow.new.placing.places.items) }
     ensures near { OnOk result (AreNear flow.new.marks.items) }
     ensures sized { OnOk result (AreBoxHeights blocks.now flow.new.heights.items) }
 {
     let count = parents.len();
-    close_to(parents, blocks, shapes, lines, flow, count - 1, 0, count)?;
-    close_root(parents, blocks, shapes, lines, flow)?;
+    close_to(parents, blocks, shapes, flow, count - 1, 0, count)?;
+    close_root(parents, blocks, shapes, flow)?;
     Ok(())
 }
 
@@ -184,13 +176,12 @@ fn close_root(
     parents: &[usize],
     blocks: &[Block],
     shapes: &[Shape],
-    _lines: &[Unit],
     flow: &mut Pass,
 ) -> Result<(), NoMemory>
-    requires input { AreBlocks parents.now blocks.now _lines.now }
+    requires input { AreBlocks parents.now blocks.now }
     requires shapes { ArePlaceable parents.now blocks.now shapes.now }
-    requires known { Knows parents.now blocks.now shapes.now _lines.now (state_of flow.old) (placing_of flow.old.placing) 0 (length parents.now) }
-    ensures places { OnOk result (AreContextPlaces parents.now blocks.now shapes.now _lines.now flow.new.marks.items flow.new.heights.items flow.new.placing.places.items) }
+    requires known { Knows parents.now blocks.now shapes.now (state_of flow.old) (placing_of flow.old.placing) 0 (length parents.now) }
+    ensures places { OnOk result (AreContextPlaces parents.now blocks.now shapes.now flow.new.marks.items flow.new.heights.items flow.new.placing.places.items) }
     ensures near { OnOk result (AreNear flow.new.marks.items) }
     ensures sized { OnOk result (AreBoxHeights blocks.now flow.new.heights.items) }
 {
@@ -215,21 +206,7 @@ fn close_root(
     let block = block_at(blocks, 0);
     let mark = length_at(&flow.marks, 0);
     let bottom = flow.placing.floats.clear_edge(Clear::Both);
-    let extent = reach_below(bottom, sum_of(mark, block.edge_top));
-    write_at(&mut flow.placing.extents, 0, extent);
-    let height = block.border_height(extent, mark, end);
+    let height = block.root_height(mark, end, bottom);
     write_at(&mut flow.heights, 0, height);
     Ok(())
-}
-
-// How far floats down to a lowest bottom reach below the top of the content.
-fn reach_below(bottom: Option<Unit>, top: Unit) -> Unit
-    requires bottom { IfSome bottom (λ v. IsPosition v.0) }
-    requires top { IsPosition top.0 }
-    ensures { result.0 ≡ reach_below bottom top.0 }
-{
-    match bottom {
-        Some(bottom) => Unit(bottom.0 - top.0),
-        None => Unit(0),
-    }
 }

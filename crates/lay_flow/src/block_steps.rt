@@ -21,81 +21,59 @@ pub(crate) fn open(
     parents: &[usize],
     blocks: &[Block],
     shapes: &[Shape],
-    given: &[Unit],
     flow: &mut Pass,
     k: usize,
 ) -> Result<(), NoMemory>
-    requires input { AreBlocks parents.now blocks.now given.now }
+    requires input { AreBlocks parents.now blocks.now }
     requires shapes { ArePlaceable parents.now blocks.now shapes.now }
     requires positive { 0 < k }
     requires within { k < length parents.now }
-    requires known { Knows parents.now blocks.now shapes.now given.now (state_of flow.old) (placing_of flow.old.placing) (slice_index parents.now k) k }
-    ensures { OnOk result (Knows parents.now blocks.now shapes.now given.now (state_of flow.new) (placing_of flow.new.placing) k (k + 1)) }
+    requires known { Knows parents.now blocks.now shapes.now (state_of flow.old) (placing_of flow.old.placing) (slice_index parents.now k) k }
+    ensures { OnOk result (Knows parents.now blocks.now shapes.now (state_of flow.new) (placing_of flow.new.placing) k (k + 1)) }
 {
-    clear(parents, blocks, shapes, given, flow, k)?;
-    enter(parents, blocks, shapes, given, flow, k);
+    clear(parents, blocks, shapes, flow, k)?;
+    enter(parents, blocks, shapes, flow, k);
     Ok(())
 }
 
 // Reads the top margin.
-fn enter(
-    parents: &[usize],
-    blocks: &[Block],
-    shapes: &[Shape],
-    given: &[Unit],
-    flow: &mut Pass,
-    k: usize,
-)
-    requires input { AreBlocks parents.now blocks.now given.now }
+fn enter(parents: &[usize], blocks: &[Block], shapes: &[Shape], flow: &mut Pass, k: usize)
+    requires input { AreBlocks parents.now blocks.now }
     requires shapes { ArePlaceable parents.now blocks.now shapes.now }
     requires positive { 0 < k }
     requires within { k < length parents.now }
-    requires ready { IsReady parents.now blocks.now shapes.now given.now (state_of flow.old) (placing_of flow.old.placing) k }
-    ensures { Knows parents.now blocks.now shapes.now given.now (state_of flow.new) (placing_of flow.new.placing) k (k + 1) }
+    requires ready { IsReady parents.now blocks.now shapes.now (state_of flow.old) (placing_of flow.old.placing) k }
+    ensures { Knows parents.now blocks.now shapes.now (state_of flow.new) (placing_of flow.new.placing) k (k + 1) }
 {
     if block_at(blocks, k).has_edge_top() {
-        open_parting(parents, blocks, shapes, given, flow, k);
+        open_parting(parents, blocks, shapes, flow, k);
     } else {
-        open_plain(parents, blocks, shapes, given, flow, k);
+        open_plain(parents, blocks, shapes, flow, k);
     }
 }
 
 // The run goes on in the box.
-fn open_plain(
-    _parents: &[usize],
-    blocks: &[Block],
-    _shapes: &[Shape],
-    _given: &[Unit],
-    flow: &mut Pass,
-    k: usize,
-)
-    requires input { AreBlocks _parents.now blocks.now _given.now }
+fn open_plain(_parents: &[usize], blocks: &[Block], _shapes: &[Shape], flow: &mut Pass, k: usize)
+    requires input { AreBlocks _parents.now blocks.now }
     requires shapes { ArePlaceable _parents.now blocks.now _shapes.now }
     requires positive { 0 < k }
     requires within { k < length _parents.now }
     requires plain { parts_tops blocks.now k ≡ false }
-    requires ready { IsReady _parents.now blocks.now _shapes.now _given.now (state_of flow.old) (placing_of flow.old.placing) k }
-    ensures { Knows _parents.now blocks.now _shapes.now _given.now (state_of flow.new) (placing_of flow.new.placing) k (k + 1) }
+    requires ready { IsReady _parents.now blocks.now _shapes.now (state_of flow.old) (placing_of flow.old.placing) k }
+    ensures { Knows _parents.now blocks.now _shapes.now (state_of flow.new) (placing_of flow.new.placing) k (k + 1) }
 {
     flow.strut = with_margin(flow.strut, block_at(blocks, k).margin_top);
 }
 
 // A border or a padding ends the run.
-fn open_parting(
-    parents: &[usize],
-    blocks: &[Block],
-    _shapes: &[Shape],
-    _given: &[Unit],
-    flow: &mut Pass,
-    k: usize,
-)
-    requires input { AreBlocks parents.now blocks.now _given.now }
+fn open_parting(parents: &[usize], blocks: &[Block], _shapes: &[Shape], flow: &mut Pass, k: usize)
+    requires input { AreBlocks parents.now blocks.now }
     requires shapes { ArePlaceable parents.now blocks.now _shapes.now }
     requires positive { 0 < k }
     requires within { k < length parents.now }
     requires parting { parts_tops blocks.now k ≡ true }
-    requires ready { IsReady parents.now blocks.now _shapes.now _given.now (state_of flow.old) (placing_of flow.old.placing) k }
-    ensures { Knows parents.now blocks.now _shapes.now _given.now (state_of flow.new) (placing_of flow.new.placing) k (k + 1) }
+    requires ready { IsReady parents.now blocks.now _shapes.now (state_of flow.old) (placing_of flow.old.placing) k }
+    ensures { Knows parents.now blocks.now _shapes.now (state_of flow.new) (placing_of flow.new.placing) k (k + 1) }
 {
     let block = block_at(blocks, k);
     let strut = with_margin(flow.strut, block.margin_top);
@@ -119,25 +97,24 @@ pub(crate) fn close(
     parents: &[usize],
     blocks: &[Block],
     shapes: &[Shape],
-    given: &[Unit],
     flow: &mut Pass,
     p: usize,
     m: usize,
 ) -> Result<(), NoMemory>
-    requires input { AreBlocks parents.now blocks.now given.now }
+    requires input { AreBlocks parents.now blocks.now }
     requires shapes { ArePlaceable parents.now blocks.now shapes.now }
     requires positive { 0 < p }
     requires ends { m < length parents.now → slice_index parents.now m < p }
-    requires known { Knows parents.now blocks.now shapes.now given.now (state_of flow.old) (placing_of flow.old.placing) p m }
-    ensures { OnOk result (Knows parents.now blocks.now shapes.now given.now (state_of flow.new) (placing_of flow.new.placing) (slice_index parents.now p) m) }
+    requires known { Knows parents.now blocks.now shapes.now (state_of flow.old) (placing_of flow.old.placing) p m }
+    ensures { OnOk result (Knows parents.now blocks.now shapes.now (state_of flow.new) (placing_of flow.new.placing) (slice_index parents.now p) m) }
 {
     let block = block_at(blocks, p);
     if block.may_collapse_through() && flow.first <= p {
-        pass_through(parents, blocks, shapes, given, flow, p, m);
+        pass_through(parents, blocks, shapes, flow, p, m);
     } else if block.may_join_bottoms() && !is_barred(parents, flow, p) {
-        close_joined(parents, blocks, shapes, given, flow, p, m);
+        close_joined(parents, blocks, shapes, flow, p, m);
     } else {
-        close_parted(parents, blocks, shapes, given, flow, p, m)?;
+        close_parted(parents, blocks, shapes, flow, p, m)?;
     }
     Ok(())
 }
@@ -157,24 +134,23 @@ fn pass_through(
     parents: &[usize],
     blocks: &[Block],
     shapes: &[Shape],
-    given: &[Unit],
     flow: &mut Pass,
     p: usize,
     m: usize,
 )
-    requires input { AreBlocks parents.now blocks.now given.now }
+    requires input { AreBlocks parents.now blocks.now }
     requires shapes { ArePlaceable parents.now blocks.now shapes.now }
     requires positive { 0 < p }
     requires ends { m < length parents.now → slice_index parents.now m < p }
     requires through { may_collapse_through (block_at blocks.now p) ≡ true }
     requires waiting { flow.old.first ≤ p }
-    requires known { Knows parents.now blocks.now shapes.now given.now (state_of flow.old) (placing_of flow.old.placing) p m }
-    ensures { Knows parents.now blocks.now shapes.now given.now (state_of flow.new) (placing_of flow.new.placing) (slice_index parents.now p) m }
+    requires known { Knows parents.now blocks.now shapes.now (state_of flow.old) (placing_of flow.old.placing) p m }
+    ensures { Knows parents.now blocks.now shapes.now (state_of flow.new) (placing_of flow.new.placing) (slice_index parents.now p) m }
 {
     if flow.hangs && flow.first == p {
-        start_run(parents, blocks, shapes, given, flow, p, m);
+        start_run(parents, blocks, shapes, flow, p, m);
     }
-    close_through(parents, blocks, shapes, given, flow, p, m);
+    close_through(parents, blocks, shapes, flow, p, m);
 }
 
 // The run that its clearance began starts so far above its clear edge as the margins before its bottom margin
@@ -183,20 +159,19 @@ fn start_run(
     _parents: &[usize],
     _blocks: &[Block],
     _shapes: &[Shape],
-    _given: &[Unit],
     flow: &mut Pass,
     _p: usize,
     _m: usize,
 )
-    requires input { AreBlocks _parents.now _blocks.now _given.now }
+    requires input { AreBlocks _parents.now _blocks.now }
     requires shapes { ArePlaceable _parents.now _blocks.now _shapes.now }
     requires positive { 0 < _p }
     requires ends { _m < length _parents.now → slice_index _parents.now _m < _p }
     requires through { may_collapse_through (block_at _blocks.now _p) ≡ true }
     requires hangs { flow.old.hangs ≡ true }
     requires first { flow.old.first ≡ _p }
-    requires known { Knows _parents.now _blocks.now _shapes.now _given.now (state_of flow.old) (placing_of flow.old.placing) _p _m }
-    ensures known { Knows _parents.now _blocks.now _shapes.now _given.now (state_of flow.new) (placing_of flow.new.placing) _p _m }
+    requires known { Knows _parents.now _blocks.now _shapes.now (state_of flow.old) (placing_of flow.old.placing) _p _m }
+    ensures known { Knows _parents.now _blocks.now _shapes.now (state_of flow.new) (placing_of flow.new.placing) _p _m }
     ensures starts { flow.new.hangs ≡ false }
     ensures first { flow.new.first ≡ flow.old.first }
 {
@@ -209,20 +184,19 @@ fn close_through(
     _parents: &[usize],
     blocks: &[Block],
     _shapes: &[Shape],
-    _given: &[Unit],
     flow: &mut Pass,
     p: usize,
     _m: usize,
 )
-    requires input { AreBlocks _parents.now blocks.now _given.now }
+    requires input { AreBlocks _parents.now blocks.now }
     requires shapes { ArePlaceable _parents.now blocks.now _shapes.now }
     requires positive { 0 < p }
     requires ends { _m < length _parents.now → slice_index _parents.now _m < p }
     requires through { may_collapse_through (block_at blocks.now p) ≡ true }
     requires waiting { flow.old.first ≤ p }
     requires inside { flow.old.hangs ≡ true → flow.old.first < p }
-    requires known { Knows _parents.now blocks.now _shapes.now _given.now (state_of flow.old) (placing_of flow.old.placing) p _m }
-    ensures { Knows _parents.now blocks.now _shapes.now _given.now (state_of flow.new) (placing_of flow.new.placing) (slice_index _parents.now p) _m }
+    requires known { Knows _parents.now blocks.now _shapes.now (state_of flow.old) (placing_of flow.old.placing) p _m }
+    ensures { Knows _parents.now blocks.now _shapes.now (state_of flow.new) (placing_of flow.new.placing) (slice_index _parents.now p) _m }
 {
     let mark = end_of(flow.start, flow.hangs, flow.strut);
     write_at(&mut flow.marks, p, mark);
@@ -236,24 +210,23 @@ fn close_joined(
     _parents: &[usize],
     blocks: &[Block],
     _shapes: &[Shape],
-    _given: &[Unit],
     flow: &mut Pass,
     p: usize,
     _m: usize,
 )
-    requires input { AreBlocks _parents.now blocks.now _given.now }
+    requires input { AreBlocks _parents.now blocks.now }
     requires shapes { ArePlaceable _parents.now blocks.now _shapes.now }
     requires positive { 0 < p }
     requires ends { _m < length _parents.now → slice_index _parents.now _m < p }
     requires joined { may_join_bottoms (block_at blocks.now p) ≡ true }
     requires unbarred { is_barred _parents.now (state_of flow.old) p ≡ false }
     requires settled { may_collapse_through (block_at blocks.now p) ≡ true → p < flow.old.first }
-    requires known { Knows _parents.now blocks.now _shapes.now _given.now (state_of flow.old) (placing_of flow.old.placing) p _m }
-    ensures { Knows _parents.now blocks.now _shapes.now _given.now (state_of flow.new) (placing_of flow.new.placing) (slice_index _parents.now p) _m }
+    requires known { Knows _parents.now blocks.now _shapes.now (state_of flow.old) (placing_of flow.old.placing) p _m }
+    ensures { Knows _parents.now blocks.now _shapes.now (state_of flow.new) (placing_of flow.new.placing) (slice_index _parents.now p) _m }
 {
     let block = block_at(blocks, p);
     let mark = length_at(&flow.marks, p);
-    let height = block.border_height(length_at(&flow.placing.extents, p), mark, flow.start);
+    let height = block.height_to_border(length_at(&flow.placing.extents, p), mark, flow.start);
     write_at(&mut flow.heights, p, height);
     flow.start = sum_of(mark, height);
     flow.strut = with_margin(flow.strut, block.margin_bottom);
@@ -264,26 +237,25 @@ fn close_parted(
     parents: &[usize],
     blocks: &[Block],
     shapes: &[Shape],
-    _given: &[Unit],
     flow: &mut Pass,
     p: usize,
     m: usize,
 ) -> Result<(), NoMemory>
-    requires input { AreBlocks parents.now blocks.now _given.now }
+    requires input { AreBlocks parents.now blocks.now }
     requires shapes { ArePlaceable parents.now blocks.now shapes.now }
     requires positive { 0 < p }
     requires ends { m < length parents.now → slice_index parents.now m < p }
     requires parted { (may_join_bottoms (block_at blocks.now p) && not (is_barred parents.now (state_of flow.old) p)) ≡ false }
     requires settled { may_collapse_through (block_at blocks.now p) ≡ true → p < flow.old.first }
-    requires known { Knows parents.now blocks.now shapes.now _given.now (state_of flow.old) (placing_of flow.old.placing) p m }
-    ensures { OnOk result (Knows parents.now blocks.now shapes.now _given.now (state_of flow.new) (placing_of flow.new.placing) (slice_index parents.now p) m) }
+    requires known { Knows parents.now blocks.now shapes.now (state_of flow.old) (placing_of flow.old.placing) p m }
+    ensures { OnOk result (Knows parents.now blocks.now shapes.now (state_of flow.new) (placing_of flow.new.placing) (slice_index parents.now p) m) }
 {
     let block = block_at(blocks, p);
     let end = end_of(flow.start, flow.hangs, flow.strut);
     settle(parents, &flow.through, &mut flow.marks, flow.first, m, end);
     place_up_to(parents, blocks, shapes, &flow.marks, &mut flow.placing, m)?;
     let mark = length_at(&flow.marks, p);
-    let height = block.border_height(length_at(&flow.placing.extents, p), mark, end);
+    let height = block.height_to_margin(length_at(&flow.placing.extents, p), mark, end);
     write_at(&mut flow.heights, p, height);
     flow.start = sum_of(mark, height);
     flow.strut = lone_margin(block.margin_bottom);

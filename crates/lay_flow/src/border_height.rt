@@ -1,9 +1,10 @@
 //! The heights of blocks whose content is known (CSS 2.2, 10.6.3 and 10.7).
 
-ghost use Rattle.std.specs.Prelude.{◌≡◌, ◌-ℤ◌, ◌+ℤ◌, ◌&&◌, false, pos, not};
-ghost use Rattle.std.specs.Int.{int_max};
+ghost use Rattle.std.specs.Prelude.{◌≡◌, ◌-ℤ◌, ◌+ℤ◌, ◌&&◌, false, pos, not, IfSome};
 ghost use Rattle.lay_units.specs.Units.{IsPosition, IsUsedSize};
-ghost use Rattle.lay_flow.specs.BlockPositions.{auto_height, border_height, given_or_auto, is_solid};
+ghost use Rattle.lay_heights.specs.AutoHeights.{EndsFit, auto_height_of, root_height_of};
+ghost use Rattle.lay_heights.specs.MinMax.{with_min_max_of};
+ghost use Rattle.lay_flow.specs.BlockPositions.{border_height, given_or_auto, is_solid};
 ghost use Rattle.lay_flow.specs.BlockSizes.{BlockFits};
 ghost use Rattle.lay_flow.specs.BlockSizes.{IsInset, IsBoxHeight};
 ghost use Rattle.lay_flow.specs.PassBounds.{IsNear};
@@ -11,8 +12,8 @@ ghost use Rattle.lay_flow.specs.MarginRuns.{is_auto, is_auto_or_zero, is_blocks,
 
 use crate::block::{Block, Inside};
 use crate::columns::sum_of;
-use lay_heights::with_min_max;
-use lay_units::{Len, Unit, clamp_size};
+use lay_heights::{FlowEnds, auto_height_flow, auto_height_root, with_min_max};
+use lay_units::{Len, Unit};
 
 fn is_zero(v: Unit) -> bool
     ensures { result ≡ is_zero v.0 }
@@ -26,7 +27,7 @@ impl Inside {
     {
         match self {
             Inside::Blocks => true,
-            Inside::Lines | Inside::Solid => false,
+            Inside::Solid => false,
         }
     }
 
@@ -34,7 +35,7 @@ impl Inside {
         ensures { result ≡ is_solid self }
     {
         match self {
-            Inside::Blocks | Inside::Lines => false,
+            Inside::Blocks => false,
             Inside::Solid => true,
         }
     }
@@ -73,7 +74,7 @@ impl Block {
         self.is_open_below() && is_auto(self.height)
     }
 
-    // No line, no border, padding or min-height stands before its bottom margin.
+    // No border, padding or min-height stands before its bottom margin.
     fn is_open_below(&self) -> bool
         ensures { result ≡ (is_blocks self.now.inside && is_zero self.now.edge_bottom.0 && is_zero self.now.min_height.0) }
     {
@@ -87,50 +88,85 @@ impl Block {
         !is_zero(self.edge_top)
     }
 
-    /// The height of its border box, which stands at the mark, with blocks in it down to `bottom`, or with
-    /// lines or other content of the given extent.
-    pub(crate) fn border_height(&self, extent: Unit, mark: Unit, bottom: Unit) -> Unit
+    /// The height of its border box, which stands at the mark, where its content ends with the border of its last
+    /// child. That of a solid box is its extent.
+    pub(crate) fn height_to_border(&self, extent: Unit, mark: Unit, border: Unit) -> Unit
         requires block { BlockFits self.now }
         requires mark { IsNear mark.0 }
-        requires bottom { IsNear bottom.0 }
-        ensures value { result.0 ≡ border_height self.now extent.0 (bottom.0 -ℤ (mark.0 +ℤ self.now.edge_top.0)) }
+        requires border { IsNear border.0 }
+        ensures value { result.0 ≡ border_height self.now extent.0 (border.0 -ℤ (mark.0 +ℤ self.now.edge_top.0)) }
+        ensures size { is_solid self.now.inside ≡ false → IsBoxHeight result.0 }
+    {
+        self.height_to(
+            extent,
+            &FlowEnds {
+                top: sum_of(mark, self.edge_top),
+                line: None,
+                margin: None,
+                border: Some(border),
+            },
+        )
+    }
+
+    /// The height of its border box, which stands at the mark, where its content ends with the bottom margin of
+    /// its last child.
+    pub(crate) fn height_to_margin(&self, extent: Unit, mark: Unit, margin: Unit) -> Unit
+        requires block { BlockFits self.now }
+        requires mark { IsNear mark.0 }
+        requires margin { IsNear margin.0 }
+        ensures value { result.0 ≡ border_height self.now extent.0 (margin.0 -ℤ (mark.0 +ℤ self.now.edge_top.0)) }
+        ensures size { is_solid self.now.inside ≡ false → IsBoxHeight result.0 }
+    {
+        self.height_to(
+            extent,
+            &FlowEnds {
+                top: sum_of(mark, self.edge_top),
+                line: None,
+                margin: Some(margin),
+                border: None,
+            },
+        )
+    }
+
+    fn height_to(&self, extent: Unit, ends: &FlowEnds) -> Unit
+        requires block { BlockFits self.now }
+        requires ends { EndsFit ends.now }
+        ensures value { result.0 ≡ border_height self.now extent.0 (auto_height_of ends.now) }
         ensures size { is_solid self.now.inside ≡ false → IsBoxHeight result.0 }
     {
         if self.inside.is_solid() {
             return extent;
         }
-        let height = height_between(sum_of(mark, self.edge_top), bottom);
-        let content = given_or_auto(self.height, auto_height(self.inside, extent, height));
-        framed(
-            self.edge_top,
-            with_min_max(content, self.min_height, self.max_height),
-            self.edge_bottom,
-        )
+        self.framed(auto_height_flow(ends))
     }
-}
 
-fn height_between(top: Unit, bottom: Unit) -> Unit
-    requires top { IsPosition top.0 }
-    requires bottom { IsPosition bottom.0 }
-    ensures { result.0 ≡ bottom.0 -ℤ top.0 }
-{
-    Unit(bottom.0 - top.0)
-}
-
-fn auto_height(inside: Inside, extent: Unit, height: Unit) -> Unit
-    ensures value { result.0 ≡ auto_height inside extent.0 height.0 }
-    ensures size { IsUsedSize result.0 }
-{
-    match inside {
-        Inside::Blocks => clamp_size(i128::from(greater(height, extent).0)),
-        Inside::Lines | Inside::Solid => clamp_size(i128::from(extent.0)),
+    /// The height of the border box of the context's own box, whose margins end at `end`, and its floats at a lowest
+    /// bottom.
+    pub(crate) fn root_height(&self, mark: Unit, end: Unit, floats: Option<Unit>) -> Unit
+        requires block { BlockFits self.now }
+        requires mark { IsNear mark.0 }
+        requires end { IsNear end.0 }
+        requires floats { IfSome floats (λ v. IsPosition v.0) }
+        ensures value { result.0 ≡ border_height self.now (pos 0) (root_height_of (record { 0 = mark.0 +ℤ self.now.edge_top.0 }) end floats) }
+        ensures size { is_solid self.now.inside ≡ false → IsBoxHeight result.0 }
+    {
+        if self.inside.is_solid() {
+            return Unit(0);
+        }
+        self.framed(auto_height_root(sum_of(mark, self.edge_top), end, floats))
     }
-}
 
-fn greater(a: Unit, b: Unit) -> Unit
-    ensures { result.0 ≡ int_max a.0 b.0 }
-{
-    Unit(a.0.max(b.0))
+    // The height of its border box, for the auto height of its content.
+    fn framed(&self, auto: Unit) -> Unit
+        requires block { BlockFits self.now }
+        requires auto { IsUsedSize auto.0 }
+        ensures value { result.0 ≡ self.now.edge_top.0 +ℤ with_min_max_of (given_or_auto self.now.height auto.0) self.now.min_height.0 self.now.max_height +ℤ self.now.edge_bottom.0 }
+        ensures size { IsBoxHeight result.0 }
+    {
+        let content = given_or_auto(self.height, auto);
+        let height = with_min_max(content, self.min_height, self.max_height);
+        sum_of_three(self.edge_top, height, self.edge_bottom)
+    }
 }
 
 fn given_or_auto(given: Len, auto: Unit) -> Unit
@@ -145,8 +181,8 @@ fn given_or_auto(given: Len, auto: Unit) -> Unit
     }
 }
 
-/// A height of content, with the borders and paddings above and below it.
-fn framed(above: Unit, height: Unit, below: Unit) -> Unit
+// A height of content, with the borders and paddings above and below it.
+fn sum_of_three(above: Unit, height: Unit, below: Unit) -> Unit
     requires above { IsInset above.0 }
     requires height { IsUsedSize height.0 }
     requires below { IsInset below.0 }

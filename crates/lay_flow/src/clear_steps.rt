@@ -27,20 +27,19 @@ pub(crate) fn clear(
     parents: &[usize],
     blocks: &[Block],
     shapes: &[Shape],
-    given: &[Unit],
     flow: &mut Pass,
     k: usize,
 ) -> Result<(), NoMemory>
-    requires input { AreBlocks parents.now blocks.now given.now }
+    requires input { AreBlocks parents.now blocks.now }
     requires shapes { ArePlaceable parents.now blocks.now shapes.now }
     requires positive { 0 < k }
     requires within { k < length parents.now }
-    requires known { Knows parents.now blocks.now shapes.now given.now (state_of flow.old) (placing_of flow.old.placing) (slice_index parents.now k) k }
-    ensures { OnOk result (IsReady parents.now blocks.now shapes.now given.now (state_of flow.new) (placing_of flow.new.placing) k) }
+    requires known { Knows parents.now blocks.now shapes.now (state_of flow.old) (placing_of flow.old.placing) (slice_index parents.now k) k }
+    ensures { OnOk result (IsReady parents.now blocks.now shapes.now (state_of flow.new) (placing_of flow.new.placing) k) }
 {
     if asks_to_clear(&shape_at(shapes, k)) {
-        place_settled(parents, blocks, shapes, given, flow, k)?;
-        clear_floats(parents, blocks, shapes, given, flow, k)?;
+        place_settled(parents, blocks, shapes, flow, k)?;
+        clear_floats(parents, blocks, shapes, flow, k)?;
     }
     Ok(())
 }
@@ -57,16 +56,15 @@ fn place_settled(
     parents: &[usize],
     blocks: &[Block],
     shapes: &[Shape],
-    _given: &[Unit],
     flow: &mut Pass,
     _k: usize,
 ) -> Result<(), NoMemory>
-    requires input { AreBlocks parents.now blocks.now _given.now }
+    requires input { AreBlocks parents.now blocks.now }
     requires shapes { ArePlaceable parents.now blocks.now shapes.now }
     requires positive { 0 < _k }
     requires within { _k < length parents.now }
-    requires known { Knows parents.now blocks.now shapes.now _given.now (state_of flow.old) (placing_of flow.old.placing) (slice_index parents.now _k) _k }
-    ensures known { OnOk result (Knows parents.now blocks.now shapes.now _given.now (state_of flow.new) (placing_of flow.new.placing) (slice_index parents.now _k) _k) }
+    requires known { Knows parents.now blocks.now shapes.now (state_of flow.old) (placing_of flow.old.placing) (slice_index parents.now _k) _k }
+    ensures known { OnOk result (Knows parents.now blocks.now shapes.now (state_of flow.new) (placing_of flow.new.placing) (slice_index parents.now _k) _k) }
     ensures settled { OnOk result (length flow.new.placing.places.items ≡ flow.new.first) }
 {
     place_up_to(
@@ -86,23 +84,22 @@ fn clear_floats(
     parents: &[usize],
     blocks: &[Block],
     shapes: &[Shape],
-    given: &[Unit],
     flow: &mut Pass,
     k: usize,
 ) -> Result<(), NoMemory>
-    requires input { AreBlocks parents.now blocks.now given.now }
+    requires input { AreBlocks parents.now blocks.now }
     requires shapes { ArePlaceable parents.now blocks.now shapes.now }
     requires positive { 0 < k }
     requires within { k < length parents.now }
     requires flows { (shape_at shapes.now k).float ≡ None }
     requires settled { length flow.old.placing.places.items ≡ flow.old.first }
-    requires known { Knows parents.now blocks.now shapes.now given.now (state_of flow.old) (placing_of flow.old.placing) (slice_index parents.now k) k }
-    ensures { OnOk result (IsReady parents.now blocks.now shapes.now given.now (state_of flow.new) (placing_of flow.new.placing) k) }
+    requires known { Knows parents.now blocks.now shapes.now (state_of flow.old) (placing_of flow.old.placing) (slice_index parents.now k) k }
+    ensures { OnOk result (IsReady parents.now blocks.now shapes.now (state_of flow.new) (placing_of flow.new.placing) k) }
 {
     let bottom = flow.placing.floats.clear_edge(shape_at(shapes, k).clear);
-    let hypothetical = edge_without(parents, blocks, shapes, given, flow, k);
+    let hypothetical = edge_without(parents, blocks, shapes, flow, k);
     if has_waiting_float(shapes, flow.first, k) || is_above(hypothetical, bottom) {
-        begin_cleared(parents, blocks, shapes, given, flow, k, hypothetical)?;
+        begin_cleared(parents, blocks, shapes, flow, k, hypothetical)?;
     }
     Ok(())
 }
@@ -112,15 +109,14 @@ fn edge_without(
     parents: &[usize],
     blocks: &[Block],
     _shapes: &[Shape],
-    _given: &[Unit],
     flow: &Pass,
     k: usize,
 ) -> Unit
-    requires input { AreBlocks parents.now blocks.now _given.now }
+    requires input { AreBlocks parents.now blocks.now }
     requires positive { 0 < k }
     requires within { k < length parents.now }
-    requires known { Knows parents.now blocks.now _shapes.now _given.now (state_of flow.now) (placing_of flow.now.placing) (slice_index parents.now k) k }
-    ensures edge { IsEdgeWithout parents.now blocks.now _given.now (state_of flow.now) (placing_of flow.now.placing) k result.0 }
+    requires known { Knows parents.now blocks.now _shapes.now (state_of flow.now) (placing_of flow.now.placing) (slice_index parents.now k) k }
+    ensures edge { IsEdgeWithout parents.now blocks.now (state_of flow.now) (placing_of flow.now.placing) k result.0 }
     ensures near { IsEdgeNear k result.0 }
 {
     if flow.hangs {
@@ -191,22 +187,21 @@ fn begin_cleared(
     parents: &[usize],
     blocks: &[Block],
     shapes: &[Shape],
-    _given: &[Unit],
     flow: &mut Pass,
     k: usize,
     hypothetical: Unit,
 ) -> Result<(), NoMemory>
-    requires input { AreBlocks parents.now blocks.now _given.now }
+    requires input { AreBlocks parents.now blocks.now }
     requires shapes { ArePlaceable parents.now blocks.now shapes.now }
     requires positive { 0 < k }
     requires within { k < length parents.now }
     requires flows { (shape_at shapes.now k).float ≡ None }
     requires settled { length flow.old.placing.places.items ≡ flow.old.first }
-    requires known { Knows parents.now blocks.now shapes.now _given.now (state_of flow.old) (placing_of flow.old.placing) (slice_index parents.now k) k }
-    requires edge { IsEdgeWithout parents.now blocks.now _given.now (state_of flow.old) (placing_of flow.old.placing) k hypothetical.0 }
+    requires known { Knows parents.now blocks.now shapes.now (state_of flow.old) (placing_of flow.old.placing) (slice_index parents.now k) k }
+    requires edge { IsEdgeWithout parents.now blocks.now (state_of flow.old) (placing_of flow.old.placing) k hypothetical.0 }
     requires near { IsEdgeNear k hypothetical.0 }
     requires decides { HasWaitingFloat shapes.now flow.old.first k ⊎ IsAboveFloats flow.old.placing.floats (shape_at shapes.now k).clear hypothetical.0 }
-    ensures { OnOk result (IsReady parents.now blocks.now shapes.now _given.now (state_of flow.new) (placing_of flow.new.placing) k) }
+    ensures { OnOk result (IsReady parents.now blocks.now shapes.now (state_of flow.new) (placing_of flow.new.placing) k) }
 {
     let end = end_of(flow.start, flow.hangs, flow.strut);
     settle(parents, &flow.through, &mut flow.marks, flow.first, k, end);

@@ -7,7 +7,7 @@ ghost use Rattle.lay_doc.specs.Tree.{IsTree};
 ghost use Rattle.lay_flow.specs.Children.{flag_at};
 ghost use Rattle.lay_flow.specs.Lengths.{length_at};
 ghost use Rattle.lay_flow.specs.BlockLayout.{BlockLayout, IsBlockLayout};
-ghost use Rattle.lay_flow.specs.BlockPositions.{start_before};
+ghost use Rattle.lay_flow.specs.BlockPositions.{Extents, start_before};
 ghost use Rattle.lay_flow.specs.BlockSizes.{BlockFits};
 ghost use Rattle.lay_flow.specs.LookAhead.{HasRead, IsOutermost, IsOutset, IsReading};
 ghost use Rattle.lay_flow.specs.MarginRuns.{block_at, has_top, margins, may_collapse_through, run_before};
@@ -60,7 +60,7 @@ pub(crate) fn hypothetical_edge(
     requires order { first ≤ k }
     requires start { IsNear start.0 }
     requires strut { StrutFits strut }
-    ensures edge { (extents clear_edges : List Unit) (w : BlockLayout) → IsBlockLayout parents.now blocks.now extents clear_edges w → ((j : ℕ) → k ≤ j → flag_at w.runs.clears j ≡ false)
+    ensures edge { (extents : Extents) (clear_edges : List Unit) (w : BlockLayout) → IsBlockLayout parents.now blocks.now extents clear_edges w → ((j : ℕ) → k ≤ j → flag_at w.runs.clears j ≡ false)
         → Holds strut (margins (run_before parents.now blocks.now w.runs (slice_index parents.now k) k)) → start.0 ≡ start_before parents.now blocks.now w.runs w.places (slice_index parents.now k) k
         → ((j : ℕ) → j < k → has_top j (run_before parents.now blocks.now w.runs (slice_index parents.now k) k) ≡ not (nat_lt j first))
         → result.0 ≡ length_at w.places.marks k }

@@ -15,8 +15,6 @@ mod border_height;
 mod clear_steps;
 mod columns;
 mod hypothetical_edge;
-#[cfg(test)]
-mod hypothetical_edge_tests;
 mod laws;
 mod pass_state;
 mod place_boxes;
@@ -24,8 +22,6 @@ mod placing;
 mod run_ends;
 mod settling;
 mod shape;
-#[cfg(test)]
-mod tests;
 
 pub use block::{Block, Inside};
 pub use block_places::{BlockPlaces, place_blocks};

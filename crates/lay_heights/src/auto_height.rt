@@ -1,7 +1,7 @@
 //! Auto heights.
 
 ghost use Rattle.std.specs.Prelude.{◌≡◌, ◌-ℤ◌, IfSome};
-ghost use Rattle.lay_units.specs.Units.{clamp_size_of, IsPosition};
+ghost use Rattle.lay_units.specs.Units.{clamp_size_of, IsPosition, IsUsedSize};
 ghost use Rattle.lay_heights.specs.AutoHeights.{EndsFit, auto_height_of, root_height_of};
 
 use lay_units::{Unit, clamp_size};
@@ -27,7 +27,8 @@ pub struct FlowEnds {
 /// (CSS 2.2, 10.6.3).
 pub fn auto_height_flow(ends: &FlowEnds) -> Unit
     requires fit { EndsFit ends.now }
-    ensures { result.0 ≡ clamp_size_of (auto_height_of ends.now) }
+    ensures value { result.0 ≡ clamp_size_of (auto_height_of ends.now) }
+    ensures size { IsUsedSize result.0 }
 {
     match ends.line.or(ends.margin).or(ends.border) {
         Some(end) => height_between(ends.top, end),
@@ -42,7 +43,8 @@ pub fn auto_height_root(top: Unit, end: Unit, floats: Option<Unit>) -> Unit
     requires top { IsPosition top.0 }
     requires end { IsPosition end.0 }
     requires floats { IfSome floats (λ v. IsPosition v.0) }
-    ensures { result.0 ≡ clamp_size_of (root_height_of top end floats) }
+    ensures value { result.0 ≡ clamp_size_of (root_height_of top end floats) }
+    ensures size { IsUsedSize result.0 }
 {
     match floats {
         Some(floats) => height_between(top, end.max(floats)),
@@ -53,7 +55,8 @@ pub fn auto_height_root(top: Unit, end: Unit, floats: Option<Unit>) -> Unit
 fn height_between(top: Unit, bottom: Unit) -> Unit
     requires top { IsPosition top.0 }
     requires bottom { IsPosition bottom.0 }
-    ensures { result.0 ≡ clamp_size_of (bottom.0 -ℤ top.0) }
+    ensures value { result.0 ≡ clamp_size_of (bottom.0 -ℤ top.0) }
+    ensures size { IsUsedSize result.0 }
 {
     clamp_size(i128::from(distance(top, bottom)))
 }

@@ -4,7 +4,7 @@ use Rattle.lay_context.proofs.context_places.context_places.Goals as goal
 
 pub place_blocks-requires-clause-blocks : goal.place_blocks-requires-clause-blocks
 place_blocks-requires-clause-blocks c =
-    rw (c.deref-3.ensures.value, c.deref-4.ensures.value, c.deref-6.ensures.value, c.in_ok-parents.ensures, c.in_ok-lines.ensures)
+    rw (c.deref-3.ensures.value, c.deref-4.ensures.value, c.in_ok-parents.ensures)
     (are_blocks c.args.boxes.now c.args.sizes.now c.in_ok-blocks.blocks.items c.requires.boxes (omega arith) c.requires.sizes c.requires.bounds c.in_ok-blocks.ensures)
 
 pub place_blocks-requires-clause-shapes : goal.place_blocks-requires-clause-shapes
@@ -24,7 +24,7 @@ place_blocks-requires-clause-sizes c =
 pub returns-clause-own : goal.returns-clause-own
 returns-clause-own c =
     let placed = c.in_ok-placed.ensures {u = tt} in
-    let places = rw (c.deref-3.ensures.value, c.deref-4.ensures.value, c.deref-5.ensures.value, c.deref-6.ensures.value, c.in_ok-parents.ensures) at placed.places in
+    let places = rw (c.deref-3.ensures.value, c.deref-4.ensures.value, c.deref-5.ensures.value, c.in_ok-parents.ensures) at placed.places in
     let sized = rw c.deref-4.ensures.value at placed.sized in
-    own_height c.args.boxes.now c.args.sizes.now c.in_ok-blocks.blocks.items c.in_ok-shapes.shapes.items c.in_ok-lines.lines.items c.in_ok-placed.placed.tops.items c.in_ok-placed.placed.heights.items c.in_ok-placed.placed.places.items
+    own_height c.args.boxes.now c.args.sizes.now c.in_ok-blocks.blocks.items c.in_ok-shapes.shapes.items c.in_ok-placed.placed.tops.items c.in_ok-placed.placed.heights.items c.in_ok-placed.placed.places.items
     c.requires.boxes c.in_ok-blocks.ensures places sized

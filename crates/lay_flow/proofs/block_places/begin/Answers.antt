@@ -19,7 +19,7 @@ returns c =
     let edges : c.in_ok-vec-5.field-0.items ≡ replicate n no_length = c.in_ok-vec-5.ensures.items_if_clones_equal (λ y e. e) in
     let placing = c.in_ok-placing_of.field-0 in
     let made = c.in_ok-placing_of.ensures {u = tt} in
-    knows_first c.args.parents.now c.args.blocks.now c.args._shapes.now c.args.lines.now c.requires.input
+    knows_first c.args.parents.now c.args.blocks.now c.args._shapes.now c.requires.input
     (state_of (record { marks = c.in_ok-vec.field-0; heights = c.in_ok-vec-2.field-0; through = c.in_ok-vec-3.field-0; clears = c.in_ok-vec-4.field-0; clear_edges = c.in_ok-vec-5.field-0; start = c.block_at.result.edge_top; strut = c.no_margin.result; first = 1; hangs = false; placing = placing }))
     (placing_of placing) c.requires.shapes made.extents made.floats made.places
     (ap (λ (xs : List Length). length xs) marks ∙ grind (arith, elements))

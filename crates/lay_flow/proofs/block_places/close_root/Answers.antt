@@ -1,11 +1,11 @@
-use Rattle.std.proofs.Common.{◌≡◌, false, ℕ, ℤ, ◌+ℤ◌, ◌-ℤ◌, arith, subst, sym, List, ap, ◌∙◌, length}
+use Rattle.std.proofs.Common.{◌≡◌, false, ℕ, ℤ, ◌+ℤ◌, ◌-ℤ◌, pos, arith, subst, sym, List, ap, ◌∙◌, length}
 use Rattle.lay_units.specs.declared.length.Unit.{Unit as Length}
 use Rattle.lay_floats.specs.declared.requests.Clear.TheVariants.{Both as clear_both}
+use Rattle.lay_heights.specs.AutoHeights.{root_height_of}
 use Rattle.lay_flow.specs.declared.block.Block.{Block}
 use Rattle.lay_flow.specs.Lengths.{length_at}
 use Rattle.lay_flow.specs.MarginRuns.{block_at}
 use Rattle.lay_flow.specs.BlockPositions.{border_height, is_solid}
-use Rattle.lay_flow.specs.ContextFlow.{reach_below}
 use Rattle.lay_flow.specs.PassBounds.{state_of, IsMarkNear}
 use Rattle.lay_flow.specs.PlacesTo.{PlacesTo}
 use Rattle.lay_flow.specs.PassKnows.{placing_of}
@@ -27,7 +27,7 @@ pub place_up_to-requires-clause-near : goal.place_up_to-requires-clause-near
 place_up_to-requires-clause-near c =
     let f = c.requires.known.fits in
     let settles = rw c.deref.ensures.value at c.settle.ensures in
-    let near = near_tops c.args.parents.now c.args.blocks.now c.args.shapes.now c.args._lines.now c.requires.input (state_of c.args.flow.now) _ c.end_of-end.result.0 f c.end_of-end.ensures.near settles in
+    let near = near_tops c.args.parents.now c.args.blocks.now c.args.shapes.now c.requires.input (state_of c.args.flow.now) _ c.end_of-end.result.0 f c.end_of-end.ensures.near settles in
     subst (λ (xs : List Length). (j : ℕ) → IsMarkNear j (length_at xs j)) (sym c.deref-2.ensures.value) near
 
 pub place_up_to-requires-clause-known : goal.place_up_to-requires-clause-known
@@ -42,13 +42,13 @@ place_up_to-requires-clause-known c =
     (λ j lt. settles.before j (omega (arith, lt, early))) in
     subst (λ (xs : List Length). PlacesTo c.args.parents.now c.args.blocks.now c.args.shapes.now xs placing (length placing.places)) (sym c.deref-2.ensures.value) kept
 
-pub reach_below-extent-requires-clause-bottom : goal.reach_below-extent-requires-clause-bottom
-reach_below-extent-requires-clause-bottom c =
+pub root_height-height-requires-clause-floats : goal.root_height-height-requires-clause-floats
+root_height-height-requires-clause-floats c =
     let done = c.in_ok-place_up_to.ensures {u = tt} in
     clear_edge_position (length c.args.parents.now) _ clear_both c.clear_edge-bottom.result c.requires.input.few done.placed.within c.clear_edge-bottom.ensures
 
-pub border_height-height-requires-clause-bottom : goal.border_height-height-requires-clause-bottom
-border_height-height-requires-clause-bottom c =
+pub root_height-height-requires-clause-end : goal.root_height-height-requires-clause-end
+root_height-height-requires-clause-end c =
     let f = c.requires.known.fits in let few = c.requires.input.few in
     mark_is_near (length c.args.parents.now) c.end_of-end.result.0 (omega (arith, few)) (end_near c.args.flow.now.first (length c.args.parents.now) c.args.flow.now.start.0 c.end_of-end.result.0 f.start_near c.end_of-end.ensures.near f.first_most)
 
@@ -62,20 +62,14 @@ returns-clause-places c =
     let done = c.in_ok-place_up_to.ensures {u = tt} in
     let placed = rw c.deref-2.ensures.value at done.placed in
     let placing = placing_of c.place_up_to.new.placing in
-    let m = placed.extents_length in
-    let top = ap (λ (v : Length). v.0) c.sum_of.ensures ∙ ap (λ (b : Block). c.length_at-mark.result.0 +ℤ b.edge_top.0) block in
-    let reach = c.reach_below-extent.ensures ∙ ap (reach_below c.clear_edge-bottom.result) top in
-    let wrote : Wrote length_at placing.extents c.write_at.new.column.items 0 c.reach_below-extent.result.0 =
-    subst (λ (xs : List Length). Wrote length_at placing.extents xs 0 c.reach_below-extent.result.0) (sym c.write_at.ensures) (wrote_length placing.extents 0 c.reach_below-extent.result (omega (arith, some, m))) in
-    let wrote_extent = subst (λ (v : ℤ). Wrote length_at placing.extents c.write_at.new.column.items 0 v) reach wrote in
-    let height = rw block at c.border_height-height.ensures.value in
-    let is_height = height ∙ ap (λ (v : ℤ). border_height (block_at c.args.blocks.now 0) v (c.end_of-end.result.0 -ℤ (c.length_at-mark.result.0 +ℤ (block_at c.args.blocks.now 0).edge_top.0))) (sym wrote.here) in
-    let wrote_height : Wrote length_at old.heights.items c.write_at-2.new.column.items 0 c.border_height-height.result.0 =
-    subst (λ (xs : List Length). Wrote length_at old.heights.items xs 0 c.border_height-height.result.0) (sym c.write_at-2.ensures) (wrote_length old.heights.items 0 c.border_height-height.result (omega (arith, some, l))) in
+    let is_height = c.root_height-height.ensures.value
+    ∙ ap (λ (b : Block). border_height b (pos 0) (root_height_of (record { 0 = c.length_at-mark.result.0 +ℤ b.edge_top.0 }) c.end_of-end.result c.clear_edge-bottom.result)) block in
+    let wrote_height : Wrote length_at old.heights.items c.write_at.new.column.items 0 c.root_height-height.result.0 =
+    subst (λ (xs : List Length). Wrote length_at old.heights.items xs 0 c.root_height-height.result.0) (sym c.write_at.ensures) (wrote_length old.heights.items 0 c.root_height-height.result (omega (arith, some, l))) in
     let ends : RunEnds old.hangs old.start.0 old.strut c.end_of-end.result.0 = record { hanging = c.end_of-end.ensures.hanging; value = c.end_of-end.ensures.value } in
-    all_places c.args.parents.now c.args.blocks.now c.args.shapes.now c.args._lines.now c.requires.input (state_of old) (placing_of old.placing) placing _ _ c.write_at.new.column.items c.clear_edge-bottom.result
-    c.end_of-end.result.0 c.length_at-mark.result.0 c.border_height-height.result.0 c.requires.known ends settles placed done.kept done.same c.clear_edge-bottom.ensures
-    wrote_extent marked is_height wrote_height
+    all_places c.args.parents.now c.args.blocks.now c.args.shapes.now c.requires.input (state_of old) (placing_of old.placing) placing _ _ c.clear_edge-bottom.result
+    c.end_of-end.result.0 c.length_at-mark.result.0 c.root_height-height.result.0 c.requires.known ends settles placed done.kept done.same c.clear_edge-bottom.ensures
+    marked is_height wrote_height
 
 pub returns-clause-near : goal.returns-clause-near
 returns-clause-near c k lt =
@@ -83,13 +77,13 @@ returns-clause-near c k lt =
     let settles = rw c.deref.ensures.value at c.settle.ensures in
     let m = settles.length_is in
     mark_is_near k _ (omega (arith, few, l, m, lt))
-    (near_tops c.args.parents.now c.args.blocks.now c.args.shapes.now c.args._lines.now c.requires.input (state_of c.args.flow.now) _ c.end_of-end.result.0 f c.end_of-end.ensures.near settles k)
+    (near_tops c.args.parents.now c.args.blocks.now c.args.shapes.now c.requires.input (state_of c.args.flow.now) _ c.end_of-end.result.0 f c.end_of-end.ensures.near settles k)
 
 pub returns-clause-sized : goal.returns-clause-sized
 returns-clause-sized c =
     let f = c.requires.known.fits in let some = c.requires.input.some in let l = f.heights_length in
     let old = c.args.flow.now in
-    let wrote : Wrote length_at old.heights.items c.write_at-2.new.column.items 0 c.border_height-height.result.0 =
-    subst (λ (xs : List Length). Wrote length_at old.heights.items xs 0 c.border_height-height.result.0) (sym c.write_at-2.ensures) (wrote_length old.heights.items 0 c.border_height-height.result (omega (arith, some, l))) in
-    sized_boxes c.args.parents.now c.args.blocks.now c.args.shapes.now c.args._lines.now c.requires.input (state_of old) _ c.border_height-height.result.0 f
-    (λ flow. c.border_height-height.ensures.size (subst (λ (b : Block). is_solid b.inside ≡ false) (sym c.block_at-block.ensures) flow)) wrote
+    let wrote : Wrote length_at old.heights.items c.write_at.new.column.items 0 c.root_height-height.result.0 =
+    subst (λ (xs : List Length). Wrote length_at old.heights.items xs 0 c.root_height-height.result.0) (sym c.write_at.ensures) (wrote_length old.heights.items 0 c.root_height-height.result (omega (arith, some, l))) in
+    sized_boxes c.args.parents.now c.args.blocks.now c.args.shapes.now c.requires.input (state_of old) _ c.root_height-height.result.0 f
+    (λ flow. c.root_height-height.ensures.size (subst (λ (b : Block). is_solid b.inside ≡ false) (sym c.block_at-block.ensures) flow)) wrote

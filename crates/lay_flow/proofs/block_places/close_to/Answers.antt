@@ -22,5 +22,5 @@ loop-innermost-preserved c =
     let done = c.in_ok-close.ensures {u = tt} in (
       omega (arith, stays, is),
       omega (arith, up, is, less),
-      subst (λ (q : ℕ). Knows c.args.parents.now c.args.blocks.now c.args.shapes.now c.args.lines.now (state_of c.close.new.flow) (placing_of c.close.new.flow.placing) q c.args.m) (sym is) done,
+      subst (λ (q : ℕ). Knows c.args.parents.now c.args.blocks.now c.args.shapes.now (state_of c.close.new.flow) (placing_of c.close.new.flow.placing) q c.args.m) (sym is) done,
     )

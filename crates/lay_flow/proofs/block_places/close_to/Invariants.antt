@@ -4,7 +4,7 @@ use Rattle.lay_flow.specs.PassKnows.{Knows, placing_of}
 use Rattle.lay_flow.proofs.block_places.close_to.Given as goal
 
 abbrev pub invariant-loop-innermost : goal.invariant-loop-innermost
-invariant-loop-innermost l = (l.to ≤ l.innermost) × (l.innermost < l.m) × Knows l.parents l.blocks l.shapes l.lines (state_of l.flow) (placing_of l.flow.placing) l.innermost l.m
+invariant-loop-innermost l = (l.to ≤ l.innermost) × (l.innermost < l.m) × Knows l.parents l.blocks l.shapes (state_of l.flow) (placing_of l.flow.placing) l.innermost l.m
 
 abbrev pub decreases-loop-innermost : goal.decreases-loop-innermost
 decreases-loop-innermost l = l.innermost

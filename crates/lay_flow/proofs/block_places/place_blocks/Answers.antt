@@ -8,11 +8,11 @@ loop-k-preserved c =
     let k = c.loop-k.k in
     let e : k + 1 - 1 ≡ k = omega arith in
     let done = c.in_ok-advance.ensures {u = tt} in
-    (omega arith, subst (λ (p : ℕ). Knows c.args.parents.now c.args.blocks.now c.args.shapes.now c.args.lines.now (state_of c.advance.new.flow) (placing_of c.advance.new.flow.placing) p (k + 1)) (sym e) done)
+    (omega arith, subst (λ (p : ℕ). Knows c.args.parents.now c.args.blocks.now c.args.shapes.now (state_of c.advance.new.flow) (placing_of c.advance.new.flow.placing) p (k + 1)) (sym e) done)
 
 pub finish-requires-clause-known : goal.finish-requires-clause-known
 finish-requires-clause-known c =
     let some = c.requires.blocks.some in
     let inv = c.loop-k.invariant in
     let e : c.loop-k.k ≡ length c.args.parents.now = omega (arith, some) in
-    subst (λ (m : ℕ). Knows c.args.parents.now c.args.blocks.now c.args.shapes.now c.args.lines.now (state_of c.loop-k.flow) (placing_of c.loop-k.flow.placing) (m - 1) m) e inv.1
+    subst (λ (m : ℕ). Knows c.args.parents.now c.args.blocks.now c.args.shapes.now (state_of c.loop-k.flow) (placing_of c.loop-k.flow.placing) (m - 1) m) e inv.1

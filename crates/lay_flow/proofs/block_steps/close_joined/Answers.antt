@@ -14,14 +14,14 @@ use Rattle.lay_flow.proofs.PassSteps.{knows_joined}
 use Rattle.lay_flow.proofs.WroteColumns.{wrote_length}
 use Rattle.lay_flow.proofs.block_steps.close_joined.Goals as goal
 
-pub border_height-height-requires-clause-mark : goal.border_height-height-requires-clause-mark
-border_height-height-requires-clause-mark c =
+pub height_to_border-height-requires-clause-mark : goal.height_to_border-height-requires-clause-mark
+height_to_border-height-requires-clause-mark c =
     let f = c.requires.known.fits in let few = c.requires.input.few in let a = f.parent in let b = f.within in
     let e = rw c.deref.ensures.value at c.length_at-mark.ensures in
     subst IsNear (sym e) (mark_is_near c.args.p _ (omega (arith, few, a, b)) (f.mark_near c.args.p))
 
-pub border_height-height-requires-clause-bottom : goal.border_height-height-requires-clause-bottom
-border_height-height-requires-clause-bottom c =
+pub height_to_border-height-requires-clause-border : goal.height_to_border-height-requires-clause-border
+height_to_border-height-requires-clause-border c =
     let f = c.requires.known.fits in let few = c.requires.input.few in let a = f.first_most in let b = f.within in
     start_is_near c.args.flow.now.first c.args.flow.now.start.0 (omega (arith, few, a, b)) f.start_near
 
@@ -41,16 +41,16 @@ returns c =
     let old = c.args.flow.now in
     let e = rw c.deref-2.ensures.value at c.length_at.ensures in
     let marked = rw c.deref.ensures.value at c.length_at-mark.ensures in
-    let height = rw (block, e) at c.border_height-height.ensures.value in
+    let height = rw (block, e) at c.height_to_border-height.ensures.value in
     let flow = subst (λ (b : Block). is_solid b.inside ≡ false) (sym block) (joins_flow (block_at c.args.blocks.now p) c.requires.joined) in
     let starts = ap (λ (v : Length). v.0) c.sum_of-flow.ensures in
-    let wrote : Wrote length_at old.heights.items c.write_at.new.column.items p c.border_height-height.result.0 =
-    subst (λ (xs : List Length). Wrote length_at old.heights.items xs p c.border_height-height.result.0) (sym c.write_at.ensures) (wrote_length old.heights.items p c.border_height-height.result (omega (arith, a, b, l))) in
-    knows_joined c.args._parents.now c.args.blocks.now c.args._shapes.now c.args._given.now c.requires.input.tree (state_of old) (placing_of old.placing) p c.args._m c.requires.input c.requires.positive c.requires.ends c.requires.known
-    _ c.length_at-mark.result.0 c.border_height-height.result.0 c.sum_of-flow.result.0 c.with_margin-flow.result c.requires.joined c.requires.unbarred c.requires.settled marked (c.border_height-height.ensures.size flow) height starts wrote
+    let wrote : Wrote length_at old.heights.items c.write_at.new.column.items p c.height_to_border-height.result.0 =
+    subst (λ (xs : List Length). Wrote length_at old.heights.items xs p c.height_to_border-height.result.0) (sym c.write_at.ensures) (wrote_length old.heights.items p c.height_to_border-height.result (omega (arith, a, b, l))) in
+    knows_joined c.args._parents.now c.args.blocks.now c.args._shapes.now c.requires.input.tree (state_of old) (placing_of old.placing) p c.args._m c.requires.input c.requires.positive c.requires.ends c.requires.known
+    _ c.length_at-mark.result.0 c.height_to_border-height.result.0 c.sum_of-flow.result.0 c.with_margin-flow.result c.requires.joined c.requires.unbarred c.requires.settled marked (c.height_to_border-height.ensures.size flow) height starts wrote
     c.with_margin-flow.ensures.fits holds
 
 pub sum_of-flow-requires-clause-b : goal.sum_of-flow-requires-clause-b
 sum_of-flow-requires-clause-b c =
     let flow = subst (λ (b : Block). is_solid b.inside ≡ false) (sym c.block_at-block.ensures) (joins_flow (block_at c.args.blocks.now c.args.p) c.requires.joined) in
-    box_height_position c.border_height-height.result.0 (c.border_height-height.ensures.size flow)
+    box_height_position c.height_to_border-height.result.0 (c.height_to_border-height.ensures.size flow)

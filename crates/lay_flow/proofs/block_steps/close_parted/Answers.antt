@@ -42,16 +42,16 @@ place_up_to-requires-clause-known c =
     (λ j lt. settles.before j (omega (arith, lt, early))) in
     subst (λ (xs : List Length). PlacesTo c.args.parents.now c.args.blocks.now c.args.shapes.now xs placing (length placing.places)) (sym c.deref-2.ensures.value) kept
 
-pub border_height-height-requires-clause-mark : goal.border_height-height-requires-clause-mark
-border_height-height-requires-clause-mark c =
+pub height_to_margin-height-requires-clause-mark : goal.height_to_margin-height-requires-clause-mark
+height_to_margin-height-requires-clause-mark c =
     let f = c.requires.known.fits in let few = c.requires.input.few in let a = f.parent in let b = f.within in
     let e = rw c.deref-3.ensures.value at c.length_at-mark.ensures in
     let settles = rw c.deref.ensures.value at c.settle.ensures in
     let near = marks_settled c.args.parents.now c.requires.input.tree c.args.blocks.now (state_of c.args.flow.now) c.args.p c.args.m c.requires.positive f _ c.end_of-end.result.0 settles c.end_of-end.ensures.near c.args.p in
     subst IsNear (sym e) (mark_is_near c.args.p _ (omega (arith, few, a, b)) near)
 
-pub border_height-height-requires-clause-bottom : goal.border_height-height-requires-clause-bottom
-border_height-height-requires-clause-bottom c =
+pub height_to_margin-height-requires-clause-margin : goal.height_to_margin-height-requires-clause-margin
+height_to_margin-height-requires-clause-margin c =
     let f = c.requires.known.fits in let few = c.requires.input.few in let b = f.within in
     mark_is_near c.args.m c.end_of-end.result.0 (omega (arith, few, b)) (end_near c.args.flow.now.first c.args.m c.args.flow.now.start.0 c.end_of-end.result.0 f.start_near c.end_of-end.ensures.near f.first_most)
 
@@ -74,12 +74,12 @@ sum_of-flow-requires-clause-b c =
     let done = c.in_ok-place_up_to.ensures {u = tt} in
     let placed = rw c.deref-2.ensures.value at done.placed in
     let extent = rw c.deref-4.ensures.value at c.length_at.ensures in
-    let height = rw (block, extent) at c.border_height-height.ensures.value in
-    true_or (is_solid (block_at c.args.blocks.now p).inside) (IsPosition c.border_height-height.result.0)
+    let height = rw (block, extent) at c.height_to_margin-height.ensures.value in
+    true_or (is_solid (block_at c.args.blocks.now p).inside) (IsPosition c.height_to_margin-height.result.0)
     (λ solid. let low = placed.low p c.requires.positive f.parent solid in
-    let h : c.border_height-height.result.0 ≡ length_at c.place_up_to.new.placing.extents.items p = height ∙ rw solid refl in
+    let h : c.height_to_margin-height.result.0 ≡ length_at c.place_up_to.new.placing.extents.items p = height ∙ rw solid refl in
     subst IsPosition (sym h) (extent_position c.args.m _ _ (omega (arith, few, b)) (mark_is_near p _ (omega (arith, few, a, b)) near) low.0 low.1))
-    (λ flow. box_height_position c.border_height-height.result.0 (c.border_height-height.ensures.size (subst (λ (b : Block). is_solid b.inside ≡ false) (sym block) flow)))
+    (λ flow. box_height_position c.height_to_margin-height.result.0 (c.height_to_margin-height.ensures.size (subst (λ (b : Block). is_solid b.inside ≡ false) (sym block) flow)))
 
 pub returns : goal.returns
 returns c =
@@ -93,13 +93,13 @@ returns c =
     let done = c.in_ok-place_up_to.ensures {u = tt} in
     let placed = rw c.deref-2.ensures.value at done.placed in
     let extent = rw c.deref-4.ensures.value at c.length_at.ensures in
-    let height = rw (block, extent) at c.border_height-height.ensures.value in
-    let size : is_solid (block_at c.args.blocks.now p).inside ≡ false → IsBoxHeight c.border_height-height.result.0 = λ flow. c.border_height-height.ensures.size (subst (λ (b : Block). is_solid b.inside ≡ false) (sym block) flow) in
+    let height = rw (block, extent) at c.height_to_margin-height.ensures.value in
+    let size : is_solid (block_at c.args.blocks.now p).inside ≡ false → IsBoxHeight c.height_to_margin-height.result.0 = λ flow. c.height_to_margin-height.ensures.size (subst (λ (b : Block). is_solid b.inside ≡ false) (sym block) flow) in
     let starts = ap (λ (v : Length). v.0) c.sum_of-flow.ensures in
-    let wrote : Wrote length_at old.heights.items c.write_at.new.column.items p c.border_height-height.result.0 =
-    subst (λ (xs : List Length). Wrote length_at old.heights.items xs p c.border_height-height.result.0) (sym c.write_at.ensures) (wrote_length old.heights.items p c.border_height-height.result (omega (arith, a, b, l))) in
+    let wrote : Wrote length_at old.heights.items c.write_at.new.column.items p c.height_to_margin-height.result.0 =
+    subst (λ (xs : List Length). Wrote length_at old.heights.items xs p c.height_to_margin-height.result.0) (sym c.write_at.ensures) (wrote_length old.heights.items p c.height_to_margin-height.result (omega (arith, a, b, l))) in
     let ends : RunEnds old.hangs old.start.0 old.strut c.end_of-end.result.0 = record { hanging = c.end_of-end.ensures.hanging; value = c.end_of-end.ensures.value } in
-    knows_parted c.args.parents.now c.args.blocks.now c.args.shapes.now c.args._given.now c.requires.input.tree (state_of old) (placing_of old.placing) p c.args.m c.requires.input c.requires.positive c.requires.ends c.requires.known
-    _ _ (placing_of c.place_up_to.new.placing) c.end_of-end.result.0 c.length_at-mark.result.0 c.border_height-height.result.0 c.sum_of-flow.result.0 c.lone_margin-flow.result c.requires.parted c.requires.settled
+    knows_parted c.args.parents.now c.args.blocks.now c.args.shapes.now c.requires.input.tree (state_of old) (placing_of old.placing) p c.args.m c.requires.input c.requires.positive c.requires.ends c.requires.known
+    _ _ (placing_of c.place_up_to.new.placing) c.end_of-end.result.0 c.length_at-mark.result.0 c.height_to_margin-height.result.0 c.sum_of-flow.result.0 c.lone_margin-flow.result c.requires.parted c.requires.settled
     ends c.end_of-end.ensures.near settles placed done.kept done.same marked size height starts wrote
     c.lone_margin-flow.ensures.fits holds

@@ -31,5 +31,5 @@ returns c =
     let flag : Wrote flag_at old.through.items c.write_flag.new.flags.items p true =
     subst (λ (xs : List Bool). Wrote flag_at old.through.items xs p true) (sym c.write_flag.ensures) (wrote_flag old.through.items p true (omega (arith, a, b, l3))) in
     let ends : RunEnds old.hangs old.start.0 old.strut c.end_of-mark.result.0 = record { hanging = c.end_of-mark.ensures.hanging; value = c.end_of-mark.ensures.value } in
-    knows_through c.args._parents.now c.args.blocks.now c.args._shapes.now c.args._given.now c.requires.input.tree (state_of old) (placing_of old.placing) p c.args._m c.requires.input c.requires.positive c.requires.ends c.requires.known
+    knows_through c.args._parents.now c.args.blocks.now c.args._shapes.now c.requires.input.tree (state_of old) (placing_of old.placing) p c.args._m c.requires.input c.requires.positive c.requires.ends c.requires.known
     _ _ _ c.end_of-mark.result.0 c.with_margin-flow.result c.requires.through c.requires.waiting c.requires.inside ends c.end_of-mark.ensures.near mark height flag c.with_margin-flow.ensures.fits holds

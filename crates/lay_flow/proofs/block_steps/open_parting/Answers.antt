@@ -28,6 +28,6 @@ returns c =
     let starts = ap (λ (v : Length). v.0) c.sum_of-flow.ensures ∙ ap (λ (b : Block). c.end_of-mark.result.0 +ℤ b.edge_top.0) c.block_at-block.ensures in
     let old = c.args.flow.now in
     let ends : RunEnds old.hangs old.start.0 c.with_margin-strut.result c.end_of-mark.result.0 = record { hanging = c.end_of-mark.ensures.hanging; value = c.end_of-mark.ensures.value } in
-    knows_parting c.args.parents.now c.args.blocks.now c.args._shapes.now c.args._given.now c.requires.input.tree (state_of old) (placing_of old.placing) c.args.k _ c.end_of-mark.result.0 c.sum_of-flow.result.0 c.with_margin-strut.result c.no_margin-flow.result
+    knows_parting c.args.parents.now c.args.blocks.now c.args._shapes.now c.requires.input.tree (state_of old) (placing_of old.placing) c.args.k _ c.end_of-mark.result.0 c.sum_of-flow.result.0 c.with_margin-strut.result c.no_margin-flow.result
     c.requires.input c.requires.positive c.requires.within c.requires.parting c.requires.ready holds ends c.end_of-mark.ensures.near
     settles starts c.no_margin-flow.ensures.fits c.no_margin-flow.ensures.holds

@@ -12,5 +12,5 @@ run_start-flow-requires-clause-end c =
 
 pub returns-clause-known : goal.returns-clause-known
 returns-clause-known c =
-    knows_started c.args._parents.now c.args._blocks.now c.args._shapes.now c.args._given.now c.requires.input.tree (state_of c.args.flow.now) (placing_of c.args.flow.now.placing) c.args._p c.args._m c.requires.input c.requires.positive c.requires.ends c.requires.known
+    knows_started c.args._parents.now c.args._blocks.now c.args._shapes.now c.requires.input.tree (state_of c.args.flow.now) (placing_of c.args.flow.now.placing) c.args._p c.args._m c.requires.input c.requires.positive c.requires.ends c.requires.known
     c.run_start-flow.result.0 c.requires.through c.requires.hangs c.requires.first c.run_start-flow.ensures.value c.run_start-flow.ensures.near

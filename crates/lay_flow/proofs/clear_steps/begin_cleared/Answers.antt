@@ -60,7 +60,7 @@ returns c =
     subst (λ (xs : List Bool). Wrote flag_at old.clears.items xs k true) (sym c.write_flag.ensures) (wrote_flag old.clears.items k true (omega (arith, within, l1))) in
     let wrote : Wrote length_at old.clear_edges.items c.write_at.new.column.items k edge.0 =
     subst (λ (xs : List Length). Wrote length_at old.clear_edges.items xs k edge.0) (sym c.write_at.ensures) (wrote_length old.clear_edges.items k edge (omega (arith, within, l2))) in
-    ready_cleared c.args.parents.now c.args.blocks.now c.args.shapes.now c.args._given.now c.requires.input.tree c.requires.input.some (state_of old) (placing_of old.placing) k c.requires.positive within known
+    ready_cleared c.args.parents.now c.args.blocks.now c.args.shapes.now c.requires.input.tree c.requires.input.some (state_of old) (placing_of old.placing) k c.requires.positive within known
     c.args.hypothetical.0 c.requires.flows c.requires.settled c.requires.edge c.requires.decides
     _ _ _ (placing_of c.place_up_to.new.placing) c.end_of-end.result.0 edge.0 c.clear_edge-bottom.result c.no_margin-flow.result
     ends c.end_of-end.ensures.near settles placed done.kept done.same is_bottom c.lower_of-edge.ensures near flag wrote c.no_margin-flow.ensures.fits c.no_margin-flow.ensures.holds

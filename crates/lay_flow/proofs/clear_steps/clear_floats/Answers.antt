@@ -11,7 +11,7 @@ pub returns-else-is_above : goal.returns-else-is_above
 returns-else-is_above c =
     let old = c.args.flow.now in
     let is_bottom = subst (λ (s : Shape). IsClearEdge old.placing.floats s.clear c.clear_edge-bottom.result) c.shape_at.ensures c.clear_edge-bottom.ensures in
-    ready_below c.args.parents.now c.args.blocks.now c.args.shapes.now c.args.given.now c.requires.input.tree c.requires.input.some (state_of old) (placing_of old.placing) c.args.k c.requires.positive c.requires.within c.requires.known
+    ready_below c.args.parents.now c.args.blocks.now c.args.shapes.now c.requires.input.tree c.requires.input.some (state_of old) (placing_of old.placing) c.args.k c.requires.positive c.requires.within c.requires.known
     c.edge_without-hypothetical.result.0 c.clear_edge-bottom.result c.requires.settled c.edge_without-hypothetical.ensures.edge is_bottom (c.if-has_waiting_float.ensures.hasnt refl) (c.if-is_above.ensures.isnt refl)
 
 pub begin_cleared-requires-clause-decides : goal.begin_cleared-requires-clause-decides

@@ -7,7 +7,7 @@ use Rattle.lay_flow.proofs.clear_steps.edge_without.Goals as goal
 
 pub returns-then-flow-clause-edge : goal.returns-then-flow-clause-edge
 returns-then-flow-clause-edge c =
-    hanging_edge c.args.parents.now c.args.blocks.now c.args._shapes.now c.args._given.now c.requires.input.tree c.requires.input.some (state_of c.args.flow.now) (placing_of c.args.flow.now.placing) c.args.k c.requires.positive c.requires.within c.requires.known
+    hanging_edge c.args.parents.now c.args.blocks.now c.args._shapes.now c.requires.input.tree c.requires.input.some (state_of c.args.flow.now) (placing_of c.args.flow.now.placing) c.args.k c.requires.positive c.requires.within c.requires.known
     c.if-flow.true
 
 pub returns-then-flow-clause-near : goal.returns-then-flow-clause-near
@@ -20,7 +20,7 @@ hypothetical_edge-requires-clause-start c =
 
 pub returns-clause-edge : goal.returns-clause-edge
 returns-clause-edge c =
-    flowing_edge c.args.parents.now c.args.blocks.now c.args._shapes.now c.args._given.now c.requires.input.tree c.requires.input.some (state_of c.args.flow.now) (placing_of c.args.flow.now.placing) c.args.k c.requires.positive c.requires.within c.requires.known
+    flowing_edge c.args.parents.now c.args.blocks.now c.args._shapes.now c.requires.input.tree c.requires.input.some (state_of c.args.flow.now) (placing_of c.args.flow.now.placing) c.args.k c.requires.positive c.requires.within c.requires.known
     c.if-flow.false c.hypothetical_edge.result.0 c.hypothetical_edge.ensures.edge
 
 pub returns-clause-near : goal.returns-clause-near

@@ -7,5 +7,5 @@ pub returns-clause-known : goal.returns-clause-known
 returns-clause-known c =
     let done = c.in_ok-place_up_to.ensures {u = tt} in
     let placed = rw c.deref.ensures.value at done.placed in
-    knows_placed c.args.parents.now c.args.blocks.now c.args.shapes.now c.args._given.now c.requires.input.tree c.requires.input.some (state_of c.args.flow.now) (placing_of c.args.flow.now.placing) c.args._k c.requires.positive c.requires.within c.requires.known
+    knows_placed c.args.parents.now c.args.blocks.now c.args.shapes.now c.requires.input.tree c.requires.input.some (state_of c.args.flow.now) (placing_of c.args.flow.now.placing) c.args._k c.requires.positive c.requires.within c.requires.known
     (placing_of c.place_up_to.new.placing) placed done.kept done.same
