@@ -11,7 +11,8 @@ use Rattle.lay_widths.specs.Lengths.{across, together}
 use Rattle.lay_widths.specs.BlockWidths.{GivenMargin, SolvesBlock, IsHeld}
 use Rattle.lay_widths.specs.MinMax.{AtMost, AtLeast, IsBounded}
 use Rattle.lay_widths.specs.FloatWidths.{SolvesFloat}
-use Rattle.lay_widths.specs.Laws.{OneBlockWidth, OneFloatWidth}
+use Rattle.lay_widths.specs.declared.replaced.ReplacedSize.{ReplacedSize}
+use Rattle.lay_widths.specs.Laws.{OneBlockWidth, OneFloatWidth, OneReplacedSize}
 
 abbrev widths_of : ℤ → ℤ → ℤ → UsedWidths
 widths_of left width right = record { margin_left = left; width = width; margin_right = right }
@@ -89,3 +90,13 @@ float_solution_same b preferred_minimum preferred computed s t p q = same_widths
 pub one_float_width_lem : OneFloatWidth
 one_float_width_lem b preferred_minimum preferred x y p q =
     held_same p.used q.used x y (bounded_same (SolvesFloat b preferred_minimum preferred) (float_solution_same b preferred_minimum preferred) b.width b.min_width b.max_width p.used q.used p.bounded q.bounded) p.held q.held
+
+abbrev size_of : ℤ → ℤ → ReplacedSize
+size_of width height = record { width = record { 0 = width }; height = record { 0 = height } }
+
+pub one_replaced_size_lem : OneReplacedSize
+one_replaced_size_lem r x y p q =
+    let w = p.width ∙ sym q.width in
+    let h = p.height ∙ sym q.height in
+    let e : size_of x.width.0 x.height.0 ≡ size_of y.width.0 y.height.0 = rw (w, h) refl in
+    e

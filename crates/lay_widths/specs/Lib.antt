@@ -3,3 +3,5 @@ pub mod BlockWidths
 pub mod MinMax
 pub mod Laws
 pub mod FloatWidths
+pub mod ReplacedFits
+pub mod ReplacedSizes

@@ -1,6 +1,6 @@
 //! Laws of the definitions. The functions do nothing.
 
-ghost use Rattle.lay_widths.specs.Laws.{OneBlockWidth, OneFloatWidth};
+ghost use Rattle.lay_widths.specs.Laws.{OneBlockWidth, OneFloatWidth, OneReplacedSize};
 
 /// A block has one used width and one pair of used margins.
 pub fn one_block_width()
@@ -10,4 +10,9 @@ pub fn one_block_width()
 /// A float has one used width and one pair of used margins.
 pub fn one_float_width()
     ensures { OneFloatWidth }
+{}
+
+/// A replaced element has one used size.
+pub fn one_replaced_size()
+    ensures { OneReplacedSize }
 {}
