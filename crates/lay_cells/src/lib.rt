@@ -19,8 +19,6 @@ mod needs;
 mod reading;
 mod reshaping;
 mod shape;
-#[cfg(test)]
-mod tests;
 mod work;
 
 pub use answers::{Claimed, Finished, Look, Released};

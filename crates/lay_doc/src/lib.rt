@@ -28,8 +28,6 @@ mod removal;
 mod style;
 mod style_lengths;
 mod style_words;
-#[cfg(test)]
-mod tests;
 mod values;
 mod words;
 

@@ -11,8 +11,6 @@ mod face;
 mod laws;
 mod pairs;
 mod table;
-#[cfg(test)]
-mod tests;
 
 pub use face::Face;
 pub use laws::last_pair_wins;

@@ -14,8 +14,6 @@ mod lengths;
 mod own;
 mod style;
 mod styles;
-#[cfg(test)]
-mod tests;
 
 pub use laws::styles_fit;
 pub use styles::computed;

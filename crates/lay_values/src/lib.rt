@@ -11,8 +11,6 @@ mod lengths;
 mod names;
 mod numbers;
 mod reading;
-#[cfg(test)]
-mod tests;
 mod words;
 
 pub use laws::{name_fault, one_measure, one_name, one_word};

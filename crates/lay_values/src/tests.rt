@@ -1,2 +1,0 @@
-mod numbers;
-mod properties;
