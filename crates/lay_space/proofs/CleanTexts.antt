@@ -1,7 +1,7 @@
 -- Clean texts stay as they are.
-use Rattle.std.proofs.Common.{◌≡◌, ◌≢◌, ℕ, ◌<◌, ◌==◌, ◌&&◌, ◌||◌, Bool, true, false, if◌then◌else◌, List, [], ◌∷◌, ◌++◌, map, refl, sym, ap, ◌∙◌, chars, encode_utf8_all, inl, inr}
+use Rattle.std.proofs.Common.{◌≡◌, ◌≢◌, ℕ, ◌==◌, ◌&&◌, ◌||◌, Bool, true, false, if◌then◌else◌, List, [], ◌∷◌, ◌++◌, map, refl, sym, ap, ◌∙◌, chars, encode_utf8_all}
 use Rattle.std.specs.Str.{IsAscii}
-use Rattle.std.proofs.lemmas.Bool.{ne_eqb, eq-eqb, cases_eq}
+use Rattle.std.proofs.lemmas.Bool.{ne_eqb}
 use Rattle.std.proofs.lemmas.Str.{chars-nil, chars_past_char, IsUtf8-from_ascii, encode_ascii}
 use Rattle.std.proofs.lemmas.Str.Ascii.{encodes-IsAscii, IsAscii-nil, IsAscii-cons}
 use Rattle.lay_space.specs.declared.item.Mode.{Mode}
@@ -51,6 +51,6 @@ clean_chars before (b ∷ bs) is =
 pub clean_stays : (m : Mode) (before : Bool) (bs : List ℕ) → IsClean before bs → (bs ≡ encode_utf8_all (left_over m false before (chars bs))) × (ends_in_space before (left_over m false before (chars bs)) ≡ ends_in_space before bs)
 clean_stays m before bs is =
     let all : left_over m false before (chars bs) ≡ bs =
-        ap (left_over m false before) (clean_chars before bs is) ∙ ap (λ cs. squeeze before (map (as_space m) cs)) (stripped before bs is)
-        ∙ ap (squeeze before) (spaced m before bs is) ∙ squeezed before bs is in
+    ap (left_over m false before) (clean_chars before bs is) ∙ ap (λ cs. squeeze before (map (as_space m) cs)) (stripped before bs is)
+    ∙ ap (squeeze before) (spaced m before bs is) ∙ squeezed before bs is in
     (sym (ap encode_utf8_all all ∙ encodes-IsAscii bs (clean_ascii before bs is)), ap (ends_in_space before) all)

@@ -1,9 +1,9 @@
 -- No space is left after a space.
-use Rattle.std.proofs.Common.{◌≡◌, ◌≢◌, ℕ, ◌==◌, ◌&&◌, Bool, true, false, if◌then◌else◌, List, [], ◌∷◌, map, refl, sym, ap, ◌∙◌, subst, arith, inl, inr}
+use Rattle.std.proofs.Common.{◌≡◌, ◌≢◌, ℕ, ◌==◌, ◌&&◌, Bool, true, false, if◌then◌else◌, List, [], ◌∷◌, map, sym, ap, ◌∙◌, subst, arith, inl, inr}
 use Rattle.std.proofs.lemmas.Bool.{ne_eqb, eq-eqb, cases_eq}
 use Rattle.lay_space.specs.declared.item.Mode.{Mode}
 use Rattle.lay_space.specs.Modes.{joins_lines}
-use Rattle.lay_space.specs.WhiteSpace.{strip, as_space, squeeze, left_over}
+use Rattle.lay_space.specs.WhiteSpace.{strip, as_space, squeeze}
 use Rattle.lay_space.specs.Laws.{IsCollapsed, NoSpaceAfterSpace}
 
 not_tab : (j : Bool) (c : ℕ) → (if c == 9 then 32 else (if j && c == 10 then 32 else c)) ≢ 9
@@ -16,9 +16,9 @@ not_tab j c e =
     joined : (j : Bool) → (if j && c == 10 then 32 else c) ≡ 9 → c ≢ 9 → ⊥
     joined false is other = other is
     joined true is other = elim (cases_eq c 10) [
-        | inl ten ↦ absurd (omega (arith, sym (ap (λ b. if b then 32 else c) (eq-eqb c 10 ten)) ∙ is))
-        | inr no_ten ↦ other (sym (ap (λ b. if b then 32 else c) (ne_eqb c 10 no_ten)) ∙ is)
-      ]
+      | inl ten ↦ absurd (omega (arith, sym (ap (λ b. if b then 32 else c) (eq-eqb c 10 ten)) ∙ is))
+      | inr no_ten ↦ other (sym (ap (λ b. if b then 32 else c) (ne_eqb c 10 no_ten)) ∙ is)
+    ]
 
 one : (after_space : Bool) (d : ℕ) (ys : List ℕ) → d ≢ 9 → IsCollapsed after_space (squeeze after_space ys) → IsCollapsed (d == 32) (squeeze (d == 32) ys)
     → IsCollapsed after_space (if after_space && d == 32 then squeeze after_space ys else (d ∷ squeeze (d == 32) ys))

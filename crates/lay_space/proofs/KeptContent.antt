@@ -1,5 +1,5 @@
 -- Breaks leave the content as it is.
-use Rattle.std.proofs.Common.{◌≡◌, ◌++◌, Bool, true, false, cond, if◌then◌else◌, ◌&&◌, ◌||◌, not, List, [], ◌∷◌, Option, Some, None, refl, sym, ap, ◌∙◌, append_assoc, append-nil, subst}
+use Rattle.std.proofs.Common.{◌≡◌, ◌++◌, Bool, true, false, cond, if◌then◌else◌, ◌&&◌, ◌||◌, not, List, [], ◌∷◌, Option, Some, None, refl, sym, ap, ◌∙◌, append_assoc, append-nil}
 use Rattle.std.specs.List.{filter}
 use Rattle.std.proofs.lemmas.List.Elements.{filter-append}
 use Rattle.lay_space.specs.declared.tokens.Token.{Token}
@@ -7,7 +7,7 @@ use Rattle.lay_space.specs.declared.tokens.Token.TheVariants.{Cluster, TextEnd, 
 use Rattle.lay_space.specs.declared.breaks.Entry.{Entry}
 use Rattle.lay_space.specs.declared.breaks.Entry.TheVariants.{Content, Break}
 use Rattle.lay_space.specs.Breaks.{broken, front_break, back_break, break_after, breaks_before, solid_after, is_solid, settled, goes_back, waits, is_start, flushed, entries_of}
-use Rattle.lay_space.specs.Laws.{content_of, is_out_of_flow, KeepsContent, BreaksKeepContent}
+use Rattle.lay_space.specs.Laws.{content_of, is_out_of_flow, BreaksKeepContent}
 
 content_append : (a b : List Entry) → content_of (a ++ b) ≡ content_of a ++ content_of b
 content_append [] b = refl
@@ -46,7 +46,7 @@ one : (p : Token → Bool) (x : Token) (f started : Bool) (held xs : List Entry)
     → (b ≡ false → w ≡ true → passing p (settled (Some f) (started || is_start x) (held ++ Content x ∷ []) xs) ≡ passing p (held ++ Content x ∷ []) ++ passing p xs)
     → passing p (settled None false [] xs) ≡ passing p xs → (b ≡ true → p x ≡ true → passing p held ≡ [])
     → passing p (if b then Content x ∷ settled (Some f) started held xs
-      else (if w then settled (Some f) (started || is_start x) (held ++ Content x ∷ []) xs else flushed (Some f) held ++ Content x ∷ settled None false [] xs))
+    else (if w then settled (Some f) (started || is_start x) (held ++ Content x ∷ []) xs else flushed (Some f) held ++ Content x ∷ settled None false [] xs))
     ≡ passing p held ++ passing p (Content x ∷ xs)
 one p x f started held xs true w same more none stays =
     ap (λ a. cond (p x) (x ∷ a) a) same ∙ front_moved (p x) x (passing p held) (passing p xs) (stays refl)

@@ -1,5 +1,5 @@
 -- White space of one text.
-use Rattle.std.proofs.Common.{length, append_assoc, append-nil, subst, arith, ◌≡◌, ℕ, ◌==◌, List, [], ◌∷◌, ◌++◌, Bool, true, false, if◌then◌else◌, ◌∙◌, sym, refl, ap, chars, encode_utf8_all, string_bytes, String, Global, Option, option_to_list}
+use Rattle.std.proofs.Common.{length, append_assoc, append-nil, subst, arith, ◌≡◌, ℕ, ◌==◌, List, [], ◌∷◌, ◌++◌, Bool, true, false, if◌then◌else◌, ◌∙◌, sym, ap, chars, encode_utf8_all, string_bytes, String, Global, Option, option_to_list}
 use Rattle.std.specs.Option.{IfSome}
 use Rattle.std.specs.Str.{IsUtf8}
 use Rattle.std.proofs.lemmas.Str.{chars_past_char, IsUtf8-past_char, chars-nil, encodes-append}
@@ -49,9 +49,10 @@ row_next rest after c row utf8 e is = subst (λ cs. IfSome row (λ b. runs_to_li
 pub left_all : (m : Mode) (text : List ℕ) (before : Bool) (rest : List ℕ) (kept : String Global) (state : State) → IsLeft m text before rest kept state → length rest ≡ 0
     → (string_bytes kept ≡ encode_utf8_all (left_over m false before (chars text))) × (state.after_space ≡ ends_in_space before (left_over m false before (chars text)))
 left_all m text before rest kept state is e =
-    let none : chars rest ≡ [] = chars_none rest e in
-    (sym (append-nil (string_bytes kept)) ∙ ap (λ cs. string_bytes kept ++ encode_utf8_all (left_over m state.after_linefeed state.after_space cs)) (sym none) ∙ is.left,
-        ap (λ cs. ends_in_space state.after_space (left_over m state.after_linefeed state.after_space cs)) (sym none) ∙ is.space)
+    let none : chars rest ≡ [] = chars_none rest e in (
+      sym (append-nil (string_bytes kept)) ∙ ap (λ cs. string_bytes kept ++ encode_utf8_all (left_over m state.after_linefeed state.after_space cs)) (sym none) ∙ is.left,
+      ap (λ cs. ends_in_space state.after_space (left_over m state.after_linefeed state.after_space cs)) (sym none) ∙ is.space,
+    )
 
 pub runs_on : (all cs : List ℕ) (c : ℕ) (w : Bool) → all ≡ c ∷ cs → true ≡ is_blank c → runs_to_linefeed all ≡ w → runs_to_linefeed cs ≡ w
 runs_on all cs c w e t is = ap (λ b. if b then runs_to_linefeed cs else c == 10) t ∙ sym (ap runs_to_linefeed e) ∙ is

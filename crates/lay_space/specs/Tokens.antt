@@ -7,7 +7,6 @@ use Rattle.lay_space.specs.declared.item.Item.{Item}
 use Rattle.lay_space.specs.declared.item.Item.TheVariants as item
 use Rattle.lay_space.specs.declared.tokens.ClusterKind.{ClusterKind}
 use Rattle.lay_space.specs.declared.tokens.ClusterKind.TheVariants.{CollapsibleSpace, PreservedSpace, Linefeed, Tab, ZeroWidthSpace, Other}
-use Rattle.lay_space.specs.declared.tokens.Cluster.{Cluster}
 use Rattle.lay_space.specs.declared.tokens.Token.{Token}
 use Rattle.lay_space.specs.declared.tokens.Token.TheVariants as token
 use Rattle.lay_space.specs.Modes.{collapses, joins_lines}

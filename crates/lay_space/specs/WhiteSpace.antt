@@ -4,7 +4,7 @@
 --
 -- The texts "a \t\n b" and " c" of an inline box leave "a b" and " c" under `normal`, and "a\nb" and " c"
 -- under `pre-line`.
-use Rattle.std.specs.Prelude.{ℕ, ◌==◌, List, [], ◌∷◌, map, length, Bool, true, false, if◌then◌else◌, ◌&&◌, ◌||◌, chars, encode_utf8_all}
+use Rattle.std.specs.Prelude.{ℕ, ◌==◌, List, [], ◌∷◌, map, length, Bool, false, if◌then◌else◌, ◌&&◌, ◌||◌, chars, encode_utf8_all}
 use Rattle.lay_space.specs.declared.item.Mode.{Mode}
 use Rattle.lay_space.specs.declared.item.Item.{Item}
 use Rattle.lay_space.specs.declared.item.Item.TheVariants.{Text, Atomic, Start, End, Float, Anchor}

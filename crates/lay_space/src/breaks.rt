@@ -1,14 +1,43 @@
 //! Where lines may break.
 
 ghost use Rattle.std.specs.Prelude.{
-    ◌≡◌, IfSome, [], ◌∷◌, ◌++◌, List, None, Some, not, ◌&&◌, ◌||◌, IfOk, OnOk, true, false,
+  ◌≡◌,
+  IfSome,
+  [],
+  ◌∷◌,
+  ◌++◌,
+  List,
+  None,
+  Some,
+  not,
+  ◌&&◌,
+  ◌||◌,
+  IfOk,
+  OnOk,
+  true,
+  false,
 };
 ghost use Rattle.lay_space.specs.declared.breaks.Entry.{Entry};
 ghost use Rattle.lay_space.specs.declared.breaks.Entry.TheVariants.{Content, Break};
 ghost use Rattle.lay_space.specs.Breaks.{
-    is_solid, is_preserved_space, space_follows, break_after_cluster, break_after, leads_to_atomic,
-    passes_by, breaks_before, broken, front_break, back_break, solid_after, settled, goes_back, waits,
-    is_start, flushed, entries_of,
+  is_solid,
+  is_preserved_space,
+  space_follows,
+  break_after_cluster,
+  break_after,
+  leads_to_atomic,
+  passes_by,
+  breaks_before,
+  broken,
+  front_break,
+  back_break,
+  solid_after,
+  settled,
+  goes_back,
+  waits,
+  is_start,
+  flushed,
+  entries_of,
 };
 
 use crate::tokens::{ClusterKind, Token};
@@ -63,7 +92,12 @@ struct Settler {
 
 impl Settler {
     /// Puts a token with the breaks before and after it.
-    fn put_with_breaks(&mut self, token: Token, next: &[Token], seen: Seen) -> Result<Seen, NoMemory>
+    fn put_with_breaks(
+        &mut self,
+        token: Token,
+        next: &[Token],
+        seen: Seen,
+    ) -> Result<Seen, NoMemory>
         requires { IfSome seen.atomic (λ b. leads_to_atomic (token ∷ next.now) ≡ b) }
         ensures entries { IfOk result (λ s. self.old.out.items ++ settled self.old.at self.old.started self.old.held.items (broken seen.solid (token ∷ next.now)) ≡ self.new.out.items ++ settled self.new.at self.new.started self.new.held.items (broken s.solid next.now)) }
         ensures atomic { IfOk result (λ s. IfSome s.atomic (λ b. leads_to_atomic next.now ≡ b)) }
@@ -159,7 +193,11 @@ fn atomic_after(token: Token, next: &[Token], known: Option<bool>) -> Option<boo
     }
     match known {
         Some(atomic) => Some(atomic),
-        None => if is_start(token) { Some(leads_to_atomic(next)) } else { None },
+        None => if is_start(token) {
+            Some(leads_to_atomic(next))
+        } else {
+            None
+        },
     }
 }
 
@@ -215,7 +253,11 @@ fn break_after_cluster(kind: ClusterKind, wraps: bool, next: &[Token]) -> Option
 {
     match kind {
         ClusterKind::Linefeed => Some(true),
-        ClusterKind::CollapsibleSpace | ClusterKind::ZeroWidthSpace => if wraps { Some(false) } else { None },
+        ClusterKind::CollapsibleSpace | ClusterKind::ZeroWidthSpace => if wraps {
+            Some(false)
+        } else {
+            None
+        },
         ClusterKind::PreservedSpace => {
             let last = !space_follows(next);
             if wraps && last { Some(false) } else { None }

@@ -1,11 +1,29 @@
 //! White space of one text that collapses, character by character.
 
 ghost use Rattle.std.specs.Prelude.{
-    ◌≡◌, IfSome, ◌∷◌, ◌++◌, option_to_list, true, false, chars, encode_utf8_all, string_bytes, IfOk, OnOk, map,
+  ◌≡◌,
+  IfSome,
+  ◌∷◌,
+  ◌++◌,
+  option_to_list,
+  true,
+  false,
+  chars,
+  encode_utf8_all,
+  string_bytes,
+  IfOk,
+  OnOk,
+  map,
 };
 ghost use Rattle.lay_space.specs.CleanTexts.{IsClean};
 ghost use Rattle.lay_space.specs.WhiteSpace.{
-    is_blank, runs_to_linefeed, strip, as_space, squeeze, left_over, ends_in_space,
+  is_blank,
+  runs_to_linefeed,
+  strip,
+  as_space,
+  squeeze,
+  left_over,
+  ends_in_space,
 };
 
 use crate::item::Mode;
@@ -52,7 +70,12 @@ fn clean(text: &[u8], after_space: bool) -> Option<bool>
     Some(space)
 }
 
-fn collapsed_by_character(alloc: Global, mode: Mode, text: &str, after_space: bool) -> Result<Left, NoMemory>
+fn collapsed_by_character(
+    alloc: Global,
+    mode: Mode,
+    text: &str,
+    after_space: bool,
+) -> Result<Left, NoMemory>
     ensures text { IfOk result (λ l. string_bytes l.text ≡ encode_utf8_all (left_over mode false after_space (chars text.now))) }
     ensures space { IfOk result (λ l. l.after_space ≡ ends_in_space after_space (left_over mode false after_space (chars text.now))) }
 {
@@ -149,14 +172,20 @@ fn squeezed(mode: Mode, c: char, rest: &str, state: State) -> Turned
     let _ = rest;
     let c = as_space(mode, c);
     if state.after_space && c == ' ' {
-        return Turned { kept: None, next: state };
+        return Turned {
+            kept: None,
+            next: state,
+        };
     }
     let next = State {
         after_linefeed: state.after_linefeed,
         after_space: c == ' ',
         row: state.row,
     };
-    Turned { kept: Some(c), next }
+    Turned {
+        kept: Some(c),
+        next,
+    }
 }
 
 fn is_blank(c: char) -> bool

@@ -1,14 +1,36 @@
 //! Content, cut at its breaks.
 
 ghost use Rattle.std.specs.Prelude.{
-    ◌≡◌, IsTrue, [], ◌∷◌, ◌++◌, List, true, false, ◌&&◌, ◌||◌, IfOk, OnOk, length, slice_get, string_bytes,
+  ◌≡◌,
+  IsTrue,
+  [],
+  ◌∷◌,
+  ◌++◌,
+  List,
+  true,
+  false,
+  ◌&&◌,
+  ◌||◌,
+  IfOk,
+  OnOk,
+  length,
+  slice_get,
+  string_bytes,
 };
 ghost use Rattle.std.specs.Str.{IsCharBoundary};
 ghost use Rattle.lay_units.specs.declared.records.ClusterWidth.{ClusterWidth};
 ghost use Rattle.lay_space.specs.declared.breaks.Entry.{Entry};
 ghost use Rattle.lay_space.specs.declared.breaks.Entry.TheVariants as entry;
 ghost use Rattle.lay_space.specs.Segments.{
-    is_boundary, part_of, bytes_of, cluster_bytes, joined, placed, text_of, cut, segments_of,
+  is_boundary,
+  part_of,
+  bytes_of,
+  cluster_bytes,
+  joined,
+  placed,
+  text_of,
+  cut,
+  segments_of,
 };
 
 use crate::breaks::{Entry, entries_of};
@@ -49,7 +71,13 @@ struct Cutter {
 }
 
 impl Cutter {
-    fn put(&mut self, alloc: Global, items: &[Item], entry: Entry, rest: &[Entry]) -> Result<(), NoMemory>
+    fn put(
+        &mut self,
+        alloc: Global,
+        items: &[Item],
+        entry: Entry,
+        rest: &[Entry],
+    ) -> Result<(), NoMemory>
         ensures { OnOk result (self.old.done.items ++ cut items.now self.old.current.items self.old.held.items (entry ∷ rest.now) ≡ self.new.done.items ++ cut items.now self.new.current.items self.new.held.items rest.now) }
     {
         let _ = rest;
@@ -122,7 +150,12 @@ impl Cutter {
 }
 
 /// Puts the text that these clusters make, if there are any.
-fn put_text(alloc: Global, out: &mut Vec<Item>, items: &[Item], clusters: &[Cluster]) -> Result<(), NoMemory>
+fn put_text(
+    alloc: Global,
+    out: &mut Vec<Item>,
+    items: &[Item],
+    clusters: &[Cluster],
+) -> Result<(), NoMemory>
     ensures { OnOk result (out.new.items ≡ out.old.items ++ text_of items.now clusters.now) }
 {
     let Some(first) = clusters.first() else {
@@ -151,7 +184,13 @@ fn join(alloc: Global, items: &[Item], clusters: &[Cluster]) -> Result<Joined, N
     let mut text = String::new(alloc);
     let mut widths = Vec::with_capacity(alloc, clusters.len())?;
     for k in 0..clusters.len() {
-        put_cluster(&mut text, &mut widths, items, clusters[k], &clusters[k + 1..])?;
+        put_cluster(
+            &mut text,
+            &mut widths,
+            items,
+            clusters[k],
+            &clusters[k + 1..],
+        )?;
     }
     Ok(Joined { text, widths })
 }

@@ -7,14 +7,14 @@
 //! into the content without a change to it (`specs/Laws.antt`).
 #![tactic(auto)]
 
-mod item;
-mod collapsing;
-mod white_space;
-mod tokens;
 mod breaks;
-mod segment;
+mod collapsing;
 mod cutting;
+mod item;
 mod laws;
+mod segment;
+mod tokens;
+mod white_space;
 
 pub use cutting::segments;
 pub use item::{Item, ItemList, Mode};

@@ -2,8 +2,18 @@
 
 ghost use Rattle.std.specs.Prelude.{◌≡◌, ◌+◌, ◌≤◌, ◌==◌, ◌∷◌, ◌++◌, IfOk, OnOk, slice_index, true, false, []};
 ghost use Rattle.lay_space.specs.Tokens.{
-    is_byte, space_kind, is_linefeed, is_zero_width_space, kind_of, next_place, cluster_tokens, tokens_of_item,
-    tokens_of, is_collapsible, begins_line, without_leading_spaces,
+  is_byte,
+  space_kind,
+  is_linefeed,
+  is_zero_width_space,
+  kind_of,
+  next_place,
+  cluster_tokens,
+  tokens_of_item,
+  tokens_of,
+  is_collapsible,
+  begins_line,
+  without_leading_spaces,
 };
 
 use crate::item::{Item, Mode};
@@ -63,8 +73,20 @@ fn put_item(out: &mut Vec<Token>, place: usize, item: &Item) -> Result<(), NoMem
     ensures { OnOk result (out.new.items ≡ out.old.items ++ tokens_of_item place item.now) }
 {
     let token = match item {
-        Item::Text { node, text, mode, widths } => {
-            put_clusters(out, place, *node, *mode, text.as_str().as_bytes(), widths.as_slice())?;
+        Item::Text {
+            node,
+            text,
+            mode,
+            widths,
+        } => {
+            put_clusters(
+                out,
+                place,
+                *node,
+                *mode,
+                text.as_str().as_bytes(),
+                widths.as_slice(),
+            )?;
             Token::TextEnd
         }
         Item::Atomic(node, mode) => Token::Atomic(*node, *mode),
@@ -134,18 +156,34 @@ pub fn cluster_kind(mode: Mode, text: &[u8], from: usize, to: usize) -> ClusterK
         return space_kind(mode);
     }
     if is_linefeed(text, from, to) {
-        return if mode.joins_lines() { ClusterKind::Other } else { ClusterKind::Linefeed };
+        return if mode.joins_lines() {
+            ClusterKind::Other
+        } else {
+            ClusterKind::Linefeed
+        };
     }
     if is_byte(text, from, to, b'\t') {
-        return if mode.collapses() { ClusterKind::Other } else { ClusterKind::Tab };
+        return if mode.collapses() {
+            ClusterKind::Other
+        } else {
+            ClusterKind::Tab
+        };
     }
-    if is_zero_width_space(text, from, to) { ClusterKind::ZeroWidthSpace } else { ClusterKind::Other }
+    if is_zero_width_space(text, from, to) {
+        ClusterKind::ZeroWidthSpace
+    } else {
+        ClusterKind::Other
+    }
 }
 
 fn space_kind(mode: Mode) -> ClusterKind
     ensures { result ≡ space_kind mode }
 {
-    if mode.collapses() { ClusterKind::CollapsibleSpace } else { ClusterKind::PreservedSpace }
+    if mode.collapses() {
+        ClusterKind::CollapsibleSpace
+    } else {
+        ClusterKind::PreservedSpace
+    }
 }
 
 fn is_byte(text: &[u8], from: usize, to: usize, byte: u8) -> bool
@@ -207,7 +245,12 @@ pub fn without_leading_spaces(alloc: Global, tokens: &[Token]) -> Result<Vec<Tok
     Ok(out)
 }
 
-fn put_unless_leading(out: &mut Vec<Token>, first: bool, token: Token, rest: &[Token]) -> Result<bool, NoMemory>
+fn put_unless_leading(
+    out: &mut Vec<Token>,
+    first: bool,
+    token: Token,
+    rest: &[Token],
+) -> Result<bool, NoMemory>
     ensures { IfOk result (λ next. out.old.items ++ without_leading_spaces first (token ∷ rest.now) ≡ out.new.items ++ without_leading_spaces next rest.now) }
 {
     let _ = rest;

@@ -23,12 +23,23 @@ pub fn process(alloc: Global, items: &[Item]) -> Result<ItemList, NoMemory>
 }
 
 /// Puts what is left of one item, and says whether what follows stands after a collapsible space.
-fn put_processed(alloc: Global, out: &mut Vec<Item>, item: &Item, rest: &[Item], after_space: bool) -> Result<bool, NoMemory>
+fn put_processed(
+    alloc: Global,
+    out: &mut Vec<Item>,
+    item: &Item,
+    rest: &[Item],
+    after_space: bool,
+) -> Result<bool, NoMemory>
     ensures { IfOk result (λ space. out.old.items ++ processed after_space (item.now ∷ rest.now) ≡ out.new.items ++ processed space rest.now) }
 {
     let _ = rest;
     let (copy, space) = match item {
-        Item::Text { node, text, mode, .. } => {
+        Item::Text {
+            node,
+            text,
+            mode,
+            ..
+        } => {
             return put_text(alloc, out, *node, text.as_str(), *mode, after_space);
         }
         Item::Atomic(node, mode) => (Item::Atomic(*node, *mode), false),
@@ -41,7 +52,14 @@ fn put_processed(alloc: Global, out: &mut Vec<Item>, item: &Item, rest: &[Item],
     Ok(space)
 }
 
-fn put_text(alloc: Global, out: &mut Vec<Item>, node: u32, text: &str, mode: Mode, after_space: bool) -> Result<bool, NoMemory>
+fn put_text(
+    alloc: Global,
+    out: &mut Vec<Item>,
+    node: u32,
+    text: &str,
+    mode: Mode,
+    after_space: bool,
+) -> Result<bool, NoMemory>
     ensures { IfOk result (λ space. (out.new.items ≡ out.old.items ++ item.Text node (text_left after_space mode text.now) mode [] ∷ []) × (space ≡ space_after after_space mode text.now)) }
 {
     let left = left_of(alloc, mode, text, after_space)?;
