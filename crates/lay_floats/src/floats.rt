@@ -1,9 +1,10 @@
 //! The floats of a block formatting context.
 
-ghost use Rattle.std.specs.Prelude.{◌≡◌, ℤ, [], ◌∷◌, ◌++◌, IfOk, IfErr};
+ghost use Rattle.std.specs.Prelude.{◌≡◌, ℤ, [], ◌∷◌, ◌++◌, IfOk, IfErr, IfSome, None};
 ghost use Rattle.lay_units.specs.Units.{IsPosition};
 ghost use Rattle.lay_floats.specs.Fits.{AllFit, BoxFits, RequestFits, SolidFits};
 ghost use Rattle.lay_floats.specs.FloatPlace.{IsFloatPlace, placed_at};
+ghost use Rattle.lay_floats.specs.Beside.{IsNextBottom, NoneIsNext};
 ghost use Rattle.lay_floats.specs.ClearEdge.{IsClearEdge};
 ghost use Rattle.lay_floats.specs.Room.{IsRoom};
 ghost use Rattle.lay_floats.specs.SolidPlace.{IsSolidPlace};
@@ -74,9 +75,31 @@ impl Floats {
         requires height { IsPosition height.0 }
         requires left { IsPosition left.0 }
         requires right { IsPosition right.0 }
-        ensures { IsRoom self.now top.0 height.0 left.0 right.0 result.0.0 result.1.0 }
+        ensures room { IsRoom self.now top.0 height.0 left.0 right.0 result.0.0 result.1.0 }
+        ensures left_fits { IsPosition result.0.0 }
+        ensures right_fits { IsPosition result.1.0 }
     {
         beside::room(self.items.as_slice(), top, height, left, right)
+    }
+
+    /// Where `place` would put a float.
+    pub fn place_of(&self, request: &FloatReq) -> Place
+        requires { RequestFits request.now }
+        ensures { IsFloatPlace self.now request.now result.x.0 result.y.0 }
+    {
+        place_of(self.items.as_slice(), request)
+    }
+
+    /// The highest of the bottoms, below a top, of the floats that are next to a box of this height there;
+    /// None exactly where no float is.
+    pub fn next_bottom(&self, top: Unit, height: Unit) -> Option<Unit>
+        requires top { IsPosition top.0 }
+        requires height { IsPosition height.0 }
+        ensures none { result ≡ None → NoneIsNext self.now top.0 height.0 }
+        ensures some { IfSome result (λ v. IsNextBottom self.now top.0 height.0 v.0) }
+        ensures fits { IfSome result (λ v. IsPosition v.0) }
+    {
+        beside::next_bottom(self.items.as_slice(), top, height)
     }
 
     /// The lowest bottom of the floats of these sides (CSS 2.2, 9.5.2); None exactly where no such float

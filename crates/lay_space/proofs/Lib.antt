@@ -1,0 +1,4 @@
+pub mod CleanTexts
+pub mod Collapsed
+pub mod KeptContent
+pub mod Rows

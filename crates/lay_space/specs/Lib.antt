@@ -1,0 +1,7 @@
+pub mod Breaks
+pub mod CleanTexts
+pub mod Laws
+pub mod Modes
+pub mod Segments
+pub mod Tokens
+pub mod WhiteSpace

@@ -1,0 +1,254 @@
+//! Content, cut at its breaks.
+
+ghost use Rattle.std.specs.Prelude.{
+  ◌≡◌,
+  IsTrue,
+  [],
+  ◌∷◌,
+  ◌++◌,
+  List,
+  true,
+  false,
+  ◌&&◌,
+  ◌||◌,
+  IfOk,
+  OnOk,
+  length,
+  slice_get,
+  string_bytes,
+};
+ghost use Rattle.std.specs.Str.{IsCharBoundary};
+ghost use Rattle.lay_units.specs.declared.records.ClusterWidth.{ClusterWidth};
+ghost use Rattle.lay_space.specs.declared.breaks.Entry.{Entry};
+ghost use Rattle.lay_space.specs.declared.breaks.Entry.TheVariants as entry;
+ghost use Rattle.lay_space.specs.Segments.{
+  is_boundary,
+  part_of,
+  bytes_of,
+  cluster_bytes,
+  joined,
+  placed,
+  text_of,
+  cut,
+  segments_of,
+};
+
+use crate::breaks::{Entry, entries_of};
+use crate::item::{Item, ItemList};
+use crate::segment::{Segment, SegmentList};
+use crate::tokens::{Cluster, Token, tokens_of, without_leading_spaces};
+use crate::white_space::push_item;
+use lay_units::{ClusterWidth, NoMemory, Text, WidthList};
+use std::alloc::Global;
+use std::mem;
+
+/// The segments of inline content that white space processing left, with the widths of the clusters of
+/// its texts (CSS 2.2, 16.6 and 9.4.2).
+pub fn segments(alloc: Global, items: &[Item]) -> Result<SegmentList, NoMemory>
+    ensures { IfOk result (λ l. l ≡ segments_of items.now) }
+{
+    let tokens = tokens_of(alloc, items)?;
+    let tokens = without_leading_spaces(alloc, &tokens)?;
+    let entries = entries_of(alloc, &tokens)?;
+    let mut cutter = Cutter {
+        done: Vec::new(alloc),
+        current: Vec::new(alloc),
+        held: Vec::new(alloc),
+    };
+    for k in 0..entries.len() {
+        cutter.put(alloc, items, entries[k], &entries[k + 1..])?;
+    }
+    cutter.end(alloc, items)?;
+    Ok(SegmentList::new(cutter.done))
+}
+
+/// The segments so far, the items since the last break, and the clusters of a text that goes on.
+#[derive(Drop)]
+struct Cutter {
+    done: Vec<Segment>,
+    current: Vec<Item>,
+    held: Vec<Cluster>,
+}
+
+impl Cutter {
+    fn put(
+        &mut self,
+        alloc: Global,
+        items: &[Item],
+        entry: Entry,
+        rest: &[Entry],
+    ) -> Result<(), NoMemory>
+        ensures { OnOk result (self.old.done.items ++ cut items.now self.old.current.items self.old.held.items (entry ∷ rest.now) ≡ self.new.done.items ++ cut items.now self.new.current.items self.new.held.items rest.now) }
+    {
+        let _ = rest;
+        match entry {
+            Entry::Content(token) => self.put_token(alloc, items, token),
+            Entry::Break(forced) => self.put_break(alloc, items, forced),
+        }
+    }
+
+    fn put_token(&mut self, alloc: Global, items: &[Item], token: Token) -> Result<(), NoMemory>
+        ensures { OnOk result ((xs : List Entry) → self.old.done.items ++ cut items.now self.old.current.items self.old.held.items (entry.Content token ∷ xs) ≡ self.new.done.items ++ cut items.now self.new.current.items self.new.held.items xs) }
+    {
+        match token {
+            Token::Cluster(cluster) => {
+                self.held.push(cluster)?;
+                Ok(())
+            }
+            Token::TextEnd => self.close(alloc, items),
+            Token::Atomic(node, mode) => self.put_item(alloc, items, Item::Atomic(node, mode)),
+            Token::Start(node) => self.put_item(alloc, items, Item::Start(node)),
+            Token::End(node) => self.put_item(alloc, items, Item::End(node)),
+            Token::Float(node) => self.put_item(alloc, items, Item::Float(node)),
+            Token::Anchor(node) => self.put_item(alloc, items, Item::Anchor(node)),
+        }
+    }
+
+    fn put_break(&mut self, alloc: Global, items: &[Item], forced: bool) -> Result<(), NoMemory>
+        ensures done { OnOk result (self.new.done.items ≡ self.old.done.items ++ record { items = self.old.current.items ++ text_of items.now self.old.held.items; forced = forced } ∷ []) }
+        ensures current { OnOk result (self.new.current.items ≡ []) }
+        ensures held { OnOk result (self.new.held.items ≡ []) }
+    {
+        self.close(alloc, items)?;
+        let current = mem::replace(&mut self.current, Vec::new(alloc));
+        self.done.push(Segment {
+            items: ItemList::new(current),
+            forced,
+        })?;
+        Ok(())
+    }
+
+    fn put_item(&mut self, alloc: Global, items: &[Item], item: Item) -> Result<(), NoMemory>
+        ensures current { OnOk result (self.new.current.items ≡ self.old.current.items ++ text_of items.now self.old.held.items ++ item ∷ []) }
+        ensures held { OnOk result (self.new.held.items ≡ []) }
+        ensures done { OnOk result (self.new.done.items ≡ self.old.done.items) }
+    {
+        self.close(alloc, items)?;
+        push_item(&mut self.current, item)
+    }
+
+    /// Ends the text that goes on.
+    fn close(&mut self, alloc: Global, items: &[Item]) -> Result<(), NoMemory>
+        ensures current { OnOk result (self.new.current.items ≡ self.old.current.items ++ text_of items.now self.old.held.items) }
+        ensures held { OnOk result (self.new.held.items ≡ []) }
+        ensures done { OnOk result (self.new.done.items ≡ self.old.done.items) }
+    {
+        put_text(alloc, &mut self.current, items, &self.held)?;
+        self.held.clear();
+        Ok(())
+    }
+
+    fn end(&mut self, alloc: Global, items: &[Item]) -> Result<(), NoMemory>
+        ensures { OnOk result (self.new.done.items ≡ self.old.done.items ++ cut items.now self.old.current.items self.old.held.items []) }
+    {
+        self.close(alloc, items)?;
+        if !self.current.is_empty() {
+            self.put_break(alloc, items, false)?;
+        }
+        Ok(())
+    }
+}
+
+/// Puts the text that these clusters make, if there are any.
+fn put_text(
+    alloc: Global,
+    out: &mut Vec<Item>,
+    items: &[Item],
+    clusters: &[Cluster],
+) -> Result<(), NoMemory>
+    ensures { OnOk result (out.new.items ≡ out.old.items ++ text_of items.now clusters.now) }
+{
+    let Some(first) = clusters.first() else {
+        return Ok(());
+    };
+    let joined = join(alloc, items, clusters)?;
+    let text = Item::Text {
+        node: first.node,
+        text: Text::new(joined.text),
+        mode: first.mode,
+        widths: WidthList::new(joined.widths),
+    };
+    push_item(out, text)
+}
+
+#[derive(Drop)]
+struct Joined {
+    text: String,
+    widths: Vec<ClusterWidth>,
+}
+
+fn join(alloc: Global, items: &[Item], clusters: &[Cluster]) -> Result<Joined, NoMemory>
+    ensures text { IfOk result (λ j. string_bytes j.text ≡ joined items.now clusters.now) }
+    ensures widths { IfOk result (λ j. j.widths.items ≡ placed items.now 0 clusters.now) }
+{
+    let mut text = String::new(alloc);
+    let mut widths = Vec::with_capacity(alloc, clusters.len())?;
+    for k in 0..clusters.len() {
+        put_cluster(
+            &mut text,
+            &mut widths,
+            items,
+            clusters[k],
+            &clusters[k + 1..],
+        )?;
+    }
+    Ok(Joined { text, widths })
+}
+
+fn put_cluster(
+    text: &mut String,
+    widths: &mut Vec<ClusterWidth>,
+    items: &[Item],
+    cluster: Cluster,
+    rest: &[Cluster],
+) -> Result<(), NoMemory>
+    ensures text { OnOk result (string_bytes text.new ++ joined items.now rest.now ≡ string_bytes text.old ++ joined items.now (cluster ∷ rest.now)) }
+    ensures widths { OnOk result (widths.new.items ++ placed items.now (length (string_bytes text.new)) rest.now ≡ widths.old.items ++ placed items.now (length (string_bytes text.old)) (cluster ∷ rest.now)) }
+{
+    let _ = rest;
+    let place = text.len();
+    let width = cluster.width;
+    let bytes = cluster_text(items, cluster);
+    widths.push(ClusterWidth { place, width })?;
+    text.push_str(bytes)?;
+    Ok(())
+}
+
+fn cluster_text(items: &[Item], cluster: Cluster) -> &str
+    ensures { result.now ≡ cluster_bytes items.now cluster }
+{
+    part(text_at(items, cluster.item), cluster.from, cluster.to)
+}
+
+fn text_at(items: &[Item], at: usize) -> &str
+    ensures { result.now ≡ bytes_of (slice_get items.now at) }
+{
+    match items.get(at) {
+        Some(Item::Text { text, .. }) => text.as_str(),
+        _ => "",
+    }
+}
+
+fn part(text: &str, from: usize, to: usize) -> &str
+    ensures { result.now ≡ part_of text.now from to }
+{
+    if from <= to && is_boundary(text, from) && is_boundary(text, to) {
+        return &text[from..to];
+    }
+    ""
+}
+
+fn is_boundary(text: &str, at: usize) -> bool
+    ensures test { result ≡ is_boundary text.now at }
+    ensures means { IsTrue result → IsCharBoundary text.now at }
+{
+    let bytes = text.as_bytes();
+    if at == bytes.len() {
+        return true;
+    }
+    if at < bytes.len() {
+        let byte = bytes[at];
+        return byte < 128 || byte > 191;
+    }
+    false
+}

@@ -1,0 +1,96 @@
+//! Inline content of a block container.
+
+ghost use Rattle.std.specs.Prelude.{◌≡◌};
+ghost use Rattle.lay_space.specs.Modes.{collapses, joins_lines, wraps};
+
+use lay_units::{Text, WidthList};
+use std::marker::Model;
+
+/// The values of `white-space` (CSS 2.2, 16.6).
+#[derive(Clone, Copy)]
+pub enum Mode {
+    Normal,
+    Pre,
+    NoWrap,
+    PreWrap,
+    PreLine,
+}
+
+impl Mode {
+    pub fn collapses(self) -> bool
+        ensures { result ≡ collapses self }
+    {
+        match self {
+            Mode::Normal | Mode::NoWrap | Mode::PreLine => true,
+            Mode::Pre | Mode::PreWrap => false,
+        }
+    }
+
+    pub fn joins_lines(self) -> bool
+        ensures { result ≡ joins_lines self }
+    {
+        match self {
+            Mode::Normal | Mode::NoWrap => true,
+            Mode::Pre | Mode::PreWrap | Mode::PreLine => false,
+        }
+    }
+
+    pub fn wraps(self) -> bool
+        ensures { result ≡ wraps self }
+    {
+        match self {
+            Mode::Normal | Mode::PreWrap | Mode::PreLine => true,
+            Mode::Pre | Mode::NoWrap => false,
+        }
+    }
+}
+
+/// A text, an atomic inline-level box, the start or the end of an inline box, a float, or the place of an
+/// absolutely positioned box, each with its node's number. A text and an atomic have the mode of the box
+/// that holds them.
+#[derive(Drop)]
+pub enum Item {
+    /// The widths are those of its grapheme clusters, or none.
+    Text {
+        node: u32,
+        text: Text,
+        mode: Mode,
+        widths: WidthList,
+    },
+    Atomic(u32, Mode),
+    Start(u32),
+    End(u32),
+    Float(u32),
+    Anchor(u32),
+}
+
+/// Inline content, in document order.
+#[derive(Drop)]
+pub struct ItemList {
+    items: Vec<Item>,
+}
+
+impl Model for ItemList {
+    ghost use Rattle.std.specs.Prelude.{List};
+    ghost use Rattle.lay_space.specs.declared.item.Item.{Item};
+
+    ghost Value = { List Item };
+
+    ghost view = { λ l. l.items.items };
+}
+
+impl ItemList {
+    /// The list of these items, which is taken over without a copy.
+    pub fn new(items: Vec<Item>) -> ItemList
+        ensures { result ≡ items.items }
+    {
+        ItemList { items }
+    }
+
+    /// The items, in order.
+    pub fn as_slice(&self) -> &[Item]
+        ensures { result.now ≡ self.now }
+    {
+        self.items.as_slice()
+    }
+}

@@ -1,0 +1,24 @@
+//! Inline content: the white space that is left of it (CSS 2.2, 16.6.1), and its segments, which no line
+//! breaks inside (16.6 and 9.4.2).
+//!
+//! Contracts cite `processed` of `specs/WhiteSpace.antt` and `segments_of` of `specs/Segments.antt`,
+//! which stands on `specs/Tokens.antt` (clusters and what they are to a line) and `specs/Breaks.antt`
+//! (where lines may break). Laws: no space follows another where spaces collapse, and breaks are put
+//! into the content without a change to it (`specs/Laws.antt`).
+#![tactic(auto)]
+
+mod breaks;
+mod collapsing;
+mod cutting;
+mod item;
+mod laws;
+mod segment;
+mod tokens;
+mod white_space;
+
+pub use cutting::segments;
+pub use item::{Item, ItemList, Mode};
+pub use laws::{breaks_keep_content, no_space_after_space};
+pub use segment::{Segment, SegmentList};
+pub use tokens::{ClusterKind, cluster_kind};
+pub use white_space::process;
