@@ -81,7 +81,6 @@ impl Made {
         }
         Ok(
             boxes(alloc, &doc, &style, NodeId(1))?
-                .boxes
                 .as_slice()
                 .len(),
         )

@@ -7,7 +7,8 @@ use Rattle.lay_doc.specs.declared.style.Style.{Style}
 use Rattle.lay_doc.specs.Tree.{IsTree}
 use Rattle.lay_boxgen.specs.Boxes.{Tree, Trees, tree, no_trees, also, trees_of, facts_of}
 use Rattle.lay_boxgen.specs.Listing.{listed, all_listed}
-use Rattle.lay_boxgen.specs.BoxColumns.{box_parents, BoxesAreATree}
+use Rattle.lay_boxgen.specs.BoxColumns.{box_parents}
+use Rattle.lay_boxgen.specs.TreeLaws.{BoxesAreATree}
 use Rattle.lay_boxgen.specs.declared.box_tree.BoxNode.{BoxNode}
 use Rattle.lay_boxgen.specs.declared.facts.Facts.{Facts}
 

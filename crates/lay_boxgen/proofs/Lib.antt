@@ -9,7 +9,9 @@ pub mod InnerContexts
 pub mod InnerLeaves
 pub mod Inside
 pub mod ListedContexts
+pub mod ListedKinds
 pub mod ListedLeaves
+pub mod NearestContainers
 pub mod NodeColumns
 pub mod NodeForms
 pub mod Putting

@@ -5,13 +5,13 @@ use Rattle.std.proofs.lemmas.Option.{get_or_from_slice_get}
 use Rattle.lay_doc.specs.declared.node.Node.{Node}
 use Rattle.lay_doc.specs.declared.style.Style.{Style}
 use Rattle.lay_boxgen.specs.Boxes.{Tree, Trees, tree, no_trees, also, trees_of}
-use Rattle.lay_boxgen.specs.BoxColumns.{box_parents, box_inner}
-use Rattle.lay_boxgen.specs.InnerBoxes.{HasInnerLeaves, InnerBoxesAreLeaves}
+use Rattle.lay_boxgen.specs.BoxColumns.{box_parents, box_inner, HasInnerLeaves, IsBoxTree}
+use Rattle.lay_boxgen.specs.TreeLaws.{InnerBoxesAreLeaves}
 use Rattle.lay_boxgen.specs.Listing.{listed, all_listed, listed_part}
 use Rattle.lay_boxgen.specs.Parts.{part}
 use Rattle.lay_boxgen.specs.declared.box_tree.BoxNode.{BoxNode}
 use Rattle.lay_boxgen.specs.declared.facts.Facts.{Facts}
-use Rattle.lay_boxgen.proofs.BoxForests.{read_left, read_right, parents-append, length-parents}
+use Rattle.lay_boxgen.proofs.BoxForests.{read_left, read_right, parents-append, length-parents, boxes_are_a_tree_lem}
 use Rattle.lay_boxgen.proofs.FirstBoxes.{StartsOpen, part_starts_open}
 use Rattle.lay_boxgen.proofs.InnerLeaves.{IsOver, HasLeaves, AllHaveLeaves, part_has_leaves}
 
@@ -113,3 +113,6 @@ listed-leaves nodes styles (tree f us ∷ ts) h s =
 
 pub inner_boxes_are_leaves_lem : InnerBoxesAreLeaves
 inner_boxes_are_leaves_lem nodes styles k = listed-leaves nodes styles (part nodes styles k) (part_has_leaves nodes styles k) (part_starts_open nodes styles k)
+
+pub listed_box_tree : (nodes : List Node) (styles : List Style) (k : ℕ) → IsBoxTree (listed_part nodes styles (part nodes styles k))
+listed_box_tree nodes styles k = record { tree = boxes_are_a_tree_lem nodes styles (part nodes styles k); leaves = inner_boxes_are_leaves_lem nodes styles k }

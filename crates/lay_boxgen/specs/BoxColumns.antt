@@ -1,12 +1,9 @@
 -- The boxes of a context as columns: the place of each box's parent, its node's id, its style, and whether it is that
 -- of an inner context. The boxes stand in a tree: each parent before its children, and the boxes of each subtree
--- together.
-use Rattle.std.specs.Prelude.{ℕ, Bool, List, map}
-use Rattle.lay_doc.specs.declared.node.Node.{Node}
+-- together. In it the boxes of inner contexts and anchors, which are marked as inner, are leaves.
+use Rattle.std.specs.Prelude.{◌≡◌, ◌<◌, ℕ, Bool, false, List, length, map, slice_index, slice_index_or}
 use Rattle.lay_doc.specs.declared.style.Style.{Style}
 use Rattle.lay_doc.specs.Tree.{IsTree}
-use Rattle.lay_boxgen.specs.Boxes.{Tree}
-use Rattle.lay_boxgen.specs.Listing.{listed_part}
 use Rattle.lay_boxgen.specs.declared.box_tree.BoxNode.{BoxNode}
 
 abbrev pub box_parents : List BoxNode → List ℕ
@@ -21,5 +18,11 @@ box_styles boxes = map (λ b. b.style) boxes
 abbrev pub box_inner : List BoxNode → List Bool
 box_inner boxes = map (λ b. b.inner) boxes
 
-abbrev pub BoxesAreATree : Type 0
-BoxesAreATree = (nodes : List Node) (styles : List Style) (trees : List Tree) → IsTree (box_parents (listed_part nodes styles trees))
+-- the context's own box isn't that of an inner context, and no box is inside that of an inner context
+pub record HasInnerLeaves (boxes : List BoxNode) : Type 0 where
+  pub own : slice_index_or (box_inner boxes) 0 false ≡ false
+  pub parents : (j : ℕ) → 0 < j → j < length boxes → slice_index_or (box_inner boxes) (slice_index (box_parents boxes) j) false ≡ false
+
+pub record IsBoxTree (boxes : List BoxNode) : Type 0 where
+  pub tree : IsTree (box_parents boxes)
+  pub leaves : HasInnerLeaves boxes

@@ -1,5 +1,7 @@
 -- The used value of `display` (9.7, 9.2.4 and 17.2), and the form of box that it gives.
 use Rattle.std.specs.Prelude.{ℕ, Bool, true, false, ◌||◌, not, Option, None, Some, if◌then◌else◌}
+use Rattle.lay_doc.specs.declared.node.Kind.{Kind}
+use Rattle.lay_doc.specs.declared.node.Kind.TheVariants as kind
 use Rattle.lay_doc.specs.declared.style_words.Display.{Display}
 use Rattle.lay_doc.specs.declared.style_words.Display.TheVariants as display
 use Rattle.lay_doc.specs.declared.style_words.Position.{Position}
@@ -61,6 +63,12 @@ replaced_display display.TableRow = display.Inline
 replaced_display display.TableCell = display.Inline
 replaced_display display.TableCaption = display.Inline
 replaced_display d = d
+
+-- The used display of a node: a text is an anonymous inline box (9.2.2.1).
+abbrev pub used_display_of : Bool → Kind → Style → Display
+used_display_of is_root (kind.Element colspan rowspan) s = used_display is_root (flow_of s) s.display
+used_display_of is_root kind.Text s = display.Inline
+used_display_of is_root (kind.Replaced w h) s = used_display is_root (flow_of s) (replaced_display s.display)
 
 -- the box of an element of this used display with these spans; `none` gives none. There are no markers, so
 -- `list-item` is `block`.

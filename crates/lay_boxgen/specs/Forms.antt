@@ -99,12 +99,15 @@ is_inline_level InlineWrapper = true
 is_inline_level (Replaced w h inline) = inline
 is_inline_level _ = false
 
--- block containers (9.2.1), which hold blocks or lines
+-- Block containers (9.2.1), which hold blocks or lines. The wrapper of a table is a block box, and that of an
+-- inline-table an inline-block (17.4).
 abbrev pub is_block_container : Form → Bool
 is_block_container Block = true
 is_block_container InlineBlock = true
 is_block_container (Cell colspan rowspan) = true
 is_block_container Caption = true
+is_block_container Wrapper = true
+is_block_container InlineWrapper = true
 is_block_container _ = false
 
 abbrev pub is_in_flow : Flow → Bool

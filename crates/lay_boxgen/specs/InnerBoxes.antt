@@ -1,15 +1,14 @@
 -- The boxes of inner contexts among the boxes of a context are those of contexts again, further on in the
 -- document. So whoever goes from a context's part to the parts of its inner contexts meets contexts alone,
 -- and comes to an end. What is inside the boxes of inner contexts stands in their own lists alone.
-use Rattle.std.specs.Prelude.{◌≡◌, ◌<◌, ℕ, true, false, All, Option, Some, List, [], ◌∷◌, length, slice_index, slice_index_or}
+use Rattle.std.specs.Prelude.{◌≡◌, ◌<◌, ℕ, true, All, Option, Some, List, [], ◌∷◌, length, slice_index}
 use Rattle.lay_doc.specs.declared.node.Node.{Node}
 use Rattle.lay_doc.specs.declared.style.Style.{Style}
 use Rattle.lay_doc.specs.Document.{Document, IsDocument, ids_of, place_of}
 use Rattle.lay_boxgen.specs.Boxes.{Tree, Trees, tree, no_trees, also}
 use Rattle.lay_boxgen.specs.Contexts.{GeneratesBox, IsContextAt, IsContext}
-use Rattle.lay_boxgen.specs.BoxColumns.{box_parents, box_inner}
-use Rattle.lay_boxgen.specs.Listing.{listed_part, boxes_of}
-use Rattle.lay_boxgen.specs.Parts.{whole, part}
+use Rattle.lay_boxgen.specs.Listing.{boxes_of}
+use Rattle.lay_boxgen.specs.Parts.{whole}
 use Rattle.lay_boxgen.specs.declared.box_tree.BoxNode.{BoxNode}
 use Rattle.lay_boxgen.specs.declared.facts.Facts.{Facts}
 
@@ -52,11 +51,3 @@ LeadsOn d styles id b = b.inner ≡ true
 
 abbrev pub BoxesLeadOn : Type 0
 BoxesLeadOn = (d : Document) (styles : List Style) (id : ℕ) → IsDocument d → IsContext d styles id → All (LeadsOn d styles id) (boxes_of d styles id)
-
--- the context's own box isn't that of an inner context, and no box is inside that of an inner context
-pub record HasInnerLeaves (boxes : List BoxNode) : Type 0 where
-  pub own : slice_index_or (box_inner boxes) 0 false ≡ false
-  pub parents : (j : ℕ) → 0 < j → j < length boxes → slice_index_or (box_inner boxes) (slice_index (box_parents boxes) j) false ≡ false
-
-abbrev pub InnerBoxesAreLeaves : Type 0
-InnerBoxesAreLeaves = (nodes : List Node) (styles : List Style) (k : ℕ) → HasInnerLeaves (listed_part nodes styles (part nodes styles k))

@@ -17,9 +17,14 @@ pub mod Parts
 pub mod AnonymousStyle
 pub mod Listing
 pub mod BoxColumns
+pub mod Kinds
+pub mod Roles
+pub mod Containers
+pub mod KindLaws
 pub mod Contexts
 pub mod CutTrees
 pub mod Laws
 pub mod InnerBoxes
+pub mod TreeLaws
 pub mod RunLaws
 pub mod BreakLaws

@@ -13,7 +13,7 @@ use Rattle.lay_boxgen.specs.declared.facts.Flow.{Flow}
 use Rattle.lay_boxgen.specs.declared.facts.Flow.TheVariants.{InFlow}
 use Rattle.lay_boxgen.specs.declared.facts.Form.{Form}
 use Rattle.lay_boxgen.specs.declared.facts.Form.TheVariants.{Block, InlineBlock, Text, Replaced, Wrapper, InlineWrapper, Caption, Cell}
-use Rattle.lay_boxgen.specs.Display.{flow_of, used_display, replaced_display, element_form, is_inline_display, is_none}
+use Rattle.lay_boxgen.specs.Display.{flow_of, used_display_of, element_form, is_inline_display, is_none}
 use Rattle.lay_boxgen.specs.Forms.{is_in_flow}
 use Rattle.lay_boxgen.specs.WhiteSpace.{text_form}
 
@@ -28,9 +28,9 @@ form_of_text s (b ∷ bs) = Some (Text (text_form s.text.white_space (b ∷ bs))
 
 -- the form of a node's box, if it generates one
 abbrev pub form_of : Bool → Kind → List ℕ → Style → Option Form
-form_of is_root (kind.Element colspan rowspan) text s = element_form colspan rowspan (used_display is_root (flow_of s) s.display)
+form_of is_root (kind.Element colspan rowspan) text s = element_form colspan rowspan (used_display_of is_root (kind.Element colspan rowspan) s)
 form_of is_root kind.Text text s = form_of_text s text
-form_of is_root (kind.Replaced w h) text s = replaced_form w h (used_display is_root (flow_of s) (replaced_display s.display))
+form_of is_root (kind.Replaced w h) text s = replaced_form w h (used_display_of is_root (kind.Replaced w h) s)
 
 -- texts are always in flow
 abbrev pub node_flow : Kind → Style → Flow

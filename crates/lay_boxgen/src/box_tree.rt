@@ -2,6 +2,7 @@
 
 ghost use Rattle.std.specs.Prelude.{◌≡◌};
 
+use crate::facts::Flow;
 use lay_doc::{NodeId, Style};
 use lay_units::{Sides, Text, Unit};
 use std::marker::Model;
@@ -14,8 +15,8 @@ pub enum BoxKind {
     Inline,
     /// An anonymous inline box, or what is directly in an inline box.
     Text(Text),
-    /// A replaced element, with its natural size.
-    Replaced { w: Unit, h: Unit },
+    /// A replaced element with its natural size, which is inline-level or block-level.
+    Replaced { w: Unit, h: Unit, inline: bool },
     /// What holds the captions of a table and its table box (CSS 2.2, 17.4).
     Wrapper,
     /// The same for an inline-table.
@@ -41,6 +42,8 @@ pub struct BoxNode {
     /// The place of its parent box, which stands before it; 0 for the context's own box at place 0.
     pub parent: u32,
     pub kind: BoxKind,
+    /// Whether it is in flow (9.3). An anchor isn't; the table box in a wrapper is.
+    pub flow: Flow,
     pub anonymous: bool,
     /// It is the box of an inner context's element, or its anchor, and has no children here.
     pub inner: bool,
@@ -49,42 +52,43 @@ pub struct BoxNode {
     pub style: Style,
 }
 
-/// A list of boxes.
-#[derive(Drop, Debug)]
-pub struct BoxList {
-    items: Vec<BoxNode>,
-}
-
-impl Model for BoxList {
-    ghost use Rattle.std.specs.Prelude.{List};
-    ghost use Rattle.lay_boxgen.specs.declared.box_tree.BoxNode.{BoxNode};
-
-    ghost Value = { List BoxNode };
-
-    ghost view = { λ l. l.items.items };
-}
-
-impl BoxList {
-    /// The list of these boxes, which is taken over without a copy.
-    pub fn new(items: Vec<BoxNode>) -> BoxList
-        ensures { result ≡ items.items }
-    {
-        BoxList { items }
-    }
-
-    /// The boxes, in order.
-    pub fn as_slice(&self) -> &[BoxNode]
-        ensures { result.now ≡ self.now }
-    {
-        self.items.as_slice()
-    }
-}
-
 /// The boxes of a context in the order of the box tree, its own box first. Boxes of inner contexts stand
 /// alone, and anchors for absolute and fixed ones.
 #[derive(Drop, Debug)]
 pub struct BoxTree {
-    pub boxes: BoxList,
+    items: Vec<BoxNode>,
+}
+
+impl Model for BoxTree {
+    ghost use Rattle.std.specs.Prelude.{List};
+    ghost use Rattle.lay_boxgen.specs.BoxColumns.{IsBoxTree};
+    ghost use Rattle.lay_boxgen.specs.declared.box_tree.BoxNode.{BoxNode};
+
+    ghost Value = { List BoxNode };
+
+    ghost view = { λ t. t.items.items };
+
+    ghost invariant = { λ t. IsBoxTree t.items.items };
+}
+
+impl BoxTree {
+    ghost use Rattle.lay_boxgen.specs.BoxColumns.{IsBoxTree};
+
+    /// The tree of these boxes, which are taken over without a copy.
+    pub(crate) fn new(items: Vec<BoxNode>) -> BoxTree
+        requires { IsBoxTree items.items }
+        ensures { result ≡ items.items }
+    {
+        BoxTree { items }
+    }
+
+    /// The boxes, in order: a tree in which the boxes of inner contexts and anchors are leaves.
+    pub fn as_slice(&self) -> &[BoxNode]
+        ensures boxes { result.now ≡ self.now }
+        ensures tree { IsBoxTree self.now }
+    {
+        self.items.as_slice()
+    }
 }
 
 /// The preferred minimum and preferred content width of an inner context, whose box stands at a place of

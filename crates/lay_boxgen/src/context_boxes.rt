@@ -1,11 +1,12 @@
 //! The boxes of a context.
 
 ghost use Rattle.std.specs.Prelude.{◌≡◌, ◌<◌, ◌≤◌, [], IfOk, length};
+ghost use Rattle.lay_boxgen.specs.BoxColumns.{IsBoxTree};
 ghost use Rattle.lay_boxgen.specs.CutTrees.{generated_cut};
 ghost use Rattle.lay_boxgen.specs.Listing.{boxes_of, boxes_at, listed_part};
 ghost use Rattle.lay_boxgen.specs.Parts.{part, put_list, nothing};
 
-use crate::box_tree::{BoxList, BoxNode, BoxTree};
+use crate::box_tree::{BoxNode, BoxTree};
 use crate::generation::generate;
 use crate::listing::{Sources, listed_part};
 use crate::node_trees::context_tree;
@@ -19,15 +20,13 @@ use std::alloc::Global;
 /// node has the id.
 pub fn boxes(alloc: Global, doc: &Doc, style: &Computed, node: NodeId) -> Result<BoxTree, NoMemory>
     requires styles { length style.now ≡ length doc.now.nodes }
-    ensures { IfOk result (λ t. t.boxes ≡ boxes_of doc.now style.now node.0) }
+    ensures { IfOk result (λ t. t ≡ boxes_of doc.now style.now node.0) }
 {
     let boxes = match doc.find(node) {
         None => Vec::new(alloc),
         Some(place) => boxes_at(alloc, doc.nodes(), style.as_slice(), place)?,
     };
-    Ok(BoxTree {
-        boxes: BoxList::new(boxes),
-    })
+    Ok(BoxTree::new(boxes))
 }
 
 /// The boxes of the context of the node at a place.
@@ -40,7 +39,8 @@ fn boxes_at(
     requires place { place < length nodes.now }
     requires styles { length styles.now ≡ length nodes.now }
     requires few { length nodes.now ≤ 16384 }
-    ensures { IfOk result (λ v. v.items ≡ listed_part nodes.now styles.now (part nodes.now styles.now place)) }
+    ensures boxes { IfOk result (λ v. v.items ≡ listed_part nodes.now styles.now (part nodes.now styles.now place)) }
+    ensures tree { IfOk result (λ v. IsBoxTree v.items) }
 {
     let trees = part_trees(alloc, nodes, styles, place)?;
     listed_part(alloc, Sources { nodes, styles }, trees)

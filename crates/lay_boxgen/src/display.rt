@@ -1,11 +1,11 @@
 //! The used value of `display`, and the form of box that it gives (CSS 2.2, 9.7 and 17.2).
 
 ghost use Rattle.std.specs.Prelude.{◌≡◌};
-ghost use Rattle.lay_boxgen.specs.Display.{flow_of, as_block, used_display, replaced_display, element_form};
+ghost use Rattle.lay_boxgen.specs.Display.{flow_of, as_block, used_display, replaced_display, used_display_of, element_form};
 
 use crate::facts::{Flow, Form};
 use crate::forms::is_in_flow;
-use lay_doc::{Display, Float, Position, Style};
+use lay_doc::{Display, Float, Kind, Position, Style};
 
 /// Whether what has this style is in flow. `float` counts as `none` where `position` is absolute or fixed.
 pub fn flow_of(style: &Style) -> Flow
@@ -43,13 +43,26 @@ pub fn used_display(is_root: bool, flow: Flow, display: Display) -> Display
 }
 
 /// `display` as it is read on a replaced element, before 9.7.
-pub fn replaced_display(display: Display) -> Display
+fn replaced_display(display: Display) -> Display
     ensures { result ≡ replaced_display display }
 {
     match display {
         Display::Block | Display::ListItem | Display::Inline | Display::None => display,
         Display::Table => Display::Block,
         _ => Display::Inline,
+    }
+}
+
+/// The used `display` of a node of this kind; a text is inline.
+pub fn used_display_of(is_root: bool, kind: Kind, style: &Style) -> Display
+    ensures { result ≡ used_display_of is_root kind style.now }
+{
+    match kind {
+        Kind::Element { .. } => used_display(is_root, flow_of(style), style.display),
+        Kind::Text => Display::Inline,
+        Kind::Replaced { .. } => {
+            used_display(is_root, flow_of(style), replaced_display(style.display))
+        }
     }
 }
 

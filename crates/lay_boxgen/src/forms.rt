@@ -142,7 +142,12 @@ pub fn is_block_container(form: Form) -> bool
 {
     matches!(
         form,
-        Form::Block | Form::InlineBlock | Form::Cell { .. } | Form::Caption
+        Form::Block
+            | Form::InlineBlock
+            | Form::Cell { .. }
+            | Form::Caption
+            | Form::Wrapper
+            | Form::InlineWrapper
     )
 }
 

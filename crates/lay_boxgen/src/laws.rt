@@ -1,10 +1,12 @@
 //! Laws of the definitions. The functions do nothing.
 
-ghost use Rattle.lay_boxgen.specs.BoxColumns.{BoxesAreATree};
 ghost use Rattle.lay_boxgen.specs.BreakLaws.{InlinesAreBroken};
-ghost use Rattle.lay_boxgen.specs.InnerBoxes.{BoxesLeadOn, InnerBoxesAreLeaves};
+ghost use Rattle.lay_boxgen.specs.Containers.{ContainersAreATree, OneContainer};
+ghost use Rattle.lay_boxgen.specs.InnerBoxes.{BoxesLeadOn};
+ghost use Rattle.lay_boxgen.specs.KindLaws.{KindsSayForms};
 ghost use Rattle.lay_boxgen.specs.Laws.{AnchorsHoldBoxes, ContextIsOneBox, PartsAreWhole};
 ghost use Rattle.lay_boxgen.specs.RunLaws.{RunsAreReplaced};
+ghost use Rattle.lay_boxgen.specs.TreeLaws.{BoxesAreATree, InnerBoxesAreLeaves};
 
 /// Gathering runs of consecutive siblings replaces each longest run, and nothing else does.
 pub fn runs_are_replaced()
@@ -46,4 +48,19 @@ pub fn boxes_lead_on()
 /// In the list of a context's boxes the first isn't that of an inner context, and no box is inside one of those.
 pub fn inner_boxes_are_leaves()
     ensures { InnerBoxesAreLeaves }
+{}
+
+/// A box has one nearest block container.
+pub fn one_container()
+    ensures { OneContainer }
+{}
+
+/// With their nearest block containers for parents the boxes of a context are a tree again.
+pub fn containers_are_a_tree()
+    ensures { ContainersAreATree }
+{}
+
+/// The kind of a listed box says what its form said to box generation.
+pub fn kinds_say_forms()
+    ensures { KindsSayForms }
 {}

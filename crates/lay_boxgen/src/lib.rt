@@ -10,9 +10,11 @@
 #![tactic(auto)]
 
 mod anonymous_style;
+mod box_role;
 mod box_tree;
 mod broken_inlines;
 mod context_boxes;
+mod containers;
 mod contexts;
 mod display;
 mod facts;
@@ -33,12 +35,14 @@ mod table_wrappers;
 mod tests;
 mod white_space;
 
-pub use box_tree::{BoxKind, BoxList, BoxNode, BoxTree, InnerBox, Preferred};
+pub use box_role::Role;
+pub use box_tree::{BoxKind, BoxNode, BoxTree, InnerBox, Preferred};
 pub use context_boxes::boxes;
 pub use contexts::is_context;
-pub use display::{flow_of, used_display};
+pub use display::{flow_of, used_display, used_display_of};
 pub use facts::Flow;
 pub use laws::{
-    anchors_hold_boxes, boxes_are_a_tree, boxes_lead_on, context_is_one_box, inlines_are_broken,
-    inner_boxes_are_leaves, parts_are_whole, runs_are_replaced,
+    anchors_hold_boxes, boxes_are_a_tree, boxes_lead_on, containers_are_a_tree, context_is_one_box,
+    inlines_are_broken, inner_boxes_are_leaves, kinds_say_forms, one_container, parts_are_whole,
+    runs_are_replaced,
 };

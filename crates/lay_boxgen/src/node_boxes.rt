@@ -3,7 +3,7 @@
 ghost use Rattle.std.specs.Prelude.{◌≡◌};
 ghost use Rattle.lay_boxgen.specs.NodeBoxes.{replaced_form, form_of_text, form_of, node_flow, is_context_form, establishes_context, facts_with, node_box};
 
-use crate::display::{element_form, flow_of, replaced_display, used_display};
+use crate::display::{element_form, flow_of, used_display_of};
 use crate::facts::{Facts, Flow, Form};
 use crate::forms::is_in_flow;
 use crate::white_space::text_form;
@@ -39,16 +39,11 @@ fn form_of_text(style: &Style, text: &str) -> Option<Form>
 fn form_of(is_root: bool, node: &Node, style: &Style) -> Option<Form>
     ensures { result ≡ form_of is_root node.now.kind node.now.text style.now }
 {
+    let display = used_display_of(is_root, node.kind, style);
     match node.kind {
-        Kind::Element { colspan, rowspan } => {
-            let display = used_display(is_root, flow_of(style), style.display);
-            element_form(colspan, rowspan, display)
-        }
+        Kind::Element { colspan, rowspan } => element_form(colspan, rowspan, display),
         Kind::Text => form_of_text(style, node.text.as_str()),
-        Kind::Replaced { w, h } => {
-            let display = used_display(is_root, flow_of(style), replaced_display(style.display));
-            replaced_form(w, h, display)
-        }
+        Kind::Replaced { w, h } => replaced_form(w, h, display),
     }
 }
 

@@ -329,7 +329,7 @@ fn drawn(alloc: Global, doc: &Doc, style: &Computed) -> Result<String, NoMemory>
                 out.push(' ')?;
             }
             let tree = boxes(alloc, doc, style, node.id)?;
-            draw(alloc, &mut out, tree.boxes.as_slice())?;
+            draw(alloc, &mut out, tree.as_slice())?;
         }
     }
     Ok(out)
@@ -408,7 +408,7 @@ fn numbered(alloc: Global, text: &str) -> Result<Option<String>, NoMemory> {
     let Page { doc, styles, .. } = page;
     let tree = boxes(alloc, &doc, &Computed::new(styles), NodeId(1))?;
     let mut out = String::new(alloc);
-    for node in tree.boxes.as_slice() {
+    for node in tree.as_slice() {
         draw_box(&mut out, node)?;
         let id = node.node.0;
         let parent = node.parent;
@@ -460,7 +460,6 @@ fn count_of_many(alloc: Global, parent: &str, letter: char) -> Result<usize, NoM
     }
     Ok(
         boxes(alloc, &doc, &style, NodeId(1))?
-            .boxes
             .as_slice()
             .len(),
     )
@@ -498,7 +497,7 @@ fn anonymous_boxes_inherit_and_anchors_have_their_parents_style(
         margin: sides(LengthPercentageOrAuto::Length(Unit(0))),
         ..parent
     };
-    let boxes = tree.boxes.as_slice();
+    let boxes = tree.as_slice();
     let styles = boxes.iter().map(|node| node.style);
     let styles: Vec<Style> = styles.collect(alloc)?;
     assert_eq!(rt; styles.get(1).copied(), Some(parent));

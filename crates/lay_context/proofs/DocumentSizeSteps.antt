@@ -6,7 +6,6 @@ use Rattle.std.proofs.lemmas.Grind.{elements}
 use Rattle.lay_units.specs.Units.{IsPosition}
 use Rattle.lay_doc.specs.Tree.{IsTree}
 use Rattle.lay_boxgen.specs.declared.box_tree.BoxNode.{BoxNode}
-use Rattle.lay_boxgen.specs.declared.box_tree.BoxTree.{BoxTree}
 use Rattle.lay_boxgen.specs.BoxColumns.{box_parents}
 use Rattle.lay_sizes.specs.declared.sizing.BoxSizes.{BoxSizes}
 use Rattle.lay_sizes.specs.declared.sizing.ContainingBlock.{ContainingBlock}
@@ -24,9 +23,8 @@ pub record DocumentSizesTo (viewport : ContainingBlock) (spots : List ContextSpo
   pub count : length sizes ≡ n
   pub each : (i : ℕ) → i < n → HasSizes (outer_block viewport spots boxes sizes i) (boxes_in boxes i) (sizes_in sizes i)
 
-pub length-trees : (trees : List BoxTree) → length (boxes_of_trees trees) ≡ length trees
-length-trees [] = refl
-length-trees (t ∷ ts) = let e = length-trees ts in omega (arith, e)
+pub length-trees : (trees : List (List BoxNode)) → length (boxes_of_trees trees) ≡ length trees
+length-trees trees = refl
 
 read_before : (sizes : List (List BoxSizes)) (z : List BoxSizes) (i : ℕ) → i < length sizes → sizes_in (sizes ++ z ∷ []) i ≡ sizes_in sizes i
 read_before sizes z i lt = grind (arith, elements)

@@ -12,7 +12,6 @@ use Rattle.lay_doc.specs.declared.node.Node.{Node}
 use Rattle.lay_doc.specs.declared.style.Style.{Style}
 use Rattle.lay_doc.specs.Document.{ids_of, place_of}
 use Rattle.lay_boxgen.specs.declared.box_tree.BoxNode.{BoxNode}
-use Rattle.lay_boxgen.specs.declared.box_tree.BoxTree.{BoxTree}
 use Rattle.lay_boxgen.specs.Parts.{part}
 use Rattle.lay_boxgen.specs.Listing.{listed_part}
 use Rattle.lay_context.specs.declared.context_spot.ContextSpot.{ContextSpot}
@@ -65,5 +64,5 @@ abbrev pub boxes_in : List (List BoxNode) → ℕ → List BoxNode
 boxes_in contexts i = slice_index_or contexts i []
 
 -- the boxes in a list of trees of them
-abbrev pub boxes_of_trees : List BoxTree → List (List BoxNode)
-boxes_of_trees trees = map (λ t. t.boxes) trees
+abbrev pub boxes_of_trees : List (List BoxNode) → List (List BoxNode)
+boxes_of_trees trees = trees

@@ -20,5 +20,5 @@ pub(crate) fn boxes_in(list: &ContextList, i: usize) -> &[BoxNode]
     requires { i < length list.now.boxes.items }
     ensures { result.now ≡ boxes_in (boxes_of_trees list.now.boxes.items) i }
 {
-    list.boxes[i].boxes.as_slice()
+    list.boxes[i].as_slice()
 }

@@ -101,10 +101,10 @@ fn add_context(
         return Ok(());
     }
     let tree = boxes(alloc, doc, computed, node)?;
-    if tree.boxes.as_slice().is_empty() {
+    if tree.as_slice().is_empty() {
         return Ok(());
     }
-    let inner = inner_contexts(alloc, tree.boxes.as_slice())?;
+    let inner = inner_contexts(alloc, tree.as_slice())?;
     let number = list.spots.len();
     list.spots.push(spot)?;
     list.boxes.push(tree)?;

@@ -43,7 +43,7 @@ fn no_heights(alloc: Global, list: &ContextList) -> Result<Vec<HeightColumn>, No
 {
     let mut columns = Vec::with_capacity(alloc, list.boxes.len())?;
     for tree in &list.boxes {
-        columns.push(HeightColumn::new(alloc, tree.boxes.as_slice().len())?)?;
+        columns.push(HeightColumn::new(alloc, tree.as_slice().len())?)?;
     }
     Ok(columns)
 }
