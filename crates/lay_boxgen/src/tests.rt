@@ -458,11 +458,7 @@ fn count_of_many(alloc: Global, parent: &str, letter: char) -> Result<usize, NoM
     if style.as_slice().len() != doc.len() {
         return Ok(0);
     }
-    Ok(
-        boxes(alloc, &doc, &style, NodeId(1))?
-            .as_slice()
-            .len(),
-    )
+    Ok(boxes(alloc, &doc, &style, NodeId(1))?.as_slice().len())
 }
 
 #[test]
