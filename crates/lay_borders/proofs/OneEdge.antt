@@ -1,9 +1,9 @@
 -- Each edge has one border, or none.
-use Rattle.std.proofs.Common.{◌≡◌, ℕ, ◌+◌, ◌<◌, Option, Some, None, List, [], ◌∷◌, ◌++◌, length, get_or, slice_get, refl, sym, ap, ◌∙◌, subst, arith}
+use Rattle.std.proofs.Common.{◌≡◌, Option, Some, None, List, [], get_or, refl, sym, ap, ◌∙◌, arith}
 use Rattle.std.proofs.lemmas.List.{ext_get_or}
 use Rattle.std.proofs.lemmas.Option.{slice_get-get_or}
 use Rattle.lay_borders.specs.declared.candidate.Cand.{Cand}
-use Rattle.lay_borders.specs.Edges.{IsEdge, AreResolved}
+use Rattle.lay_borders.specs.Edges.{IsEdge}
 use Rattle.lay_borders.specs.Laws.{OneBorderEach}
 use Rattle.lay_borders.proofs.Order.{one_winner_lem}
 

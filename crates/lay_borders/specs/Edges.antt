@@ -1,5 +1,5 @@
--- The collapsed borders of a whole table (CSS 2.2, 17.6.2). At each edge of the grid some borders meet,
--- and one of them wins. Inside a cell none meet, and an edge there has no border.
+-- The collapsed borders of a whole table (CSS 2.2, 17.6.2). At each edge of the grid some borders
+-- meet, and one of them wins. Inside a cell none meet, and an edge there has no border.
 use Rattle.std.specs.Prelude.{ℕ, ◌≡◌, Option, Some, None, List, [], length, slice_get}
 use Rattle.lay_borders.specs.declared.candidate.Cand.{Cand}
 use Rattle.lay_borders.specs.Winner.{IsWinner}

@@ -1,4 +1,5 @@
--- The rules of a conflict put all borders in one order (CSS 2.2, 17.6.2.1), and so each edge has one winner.
+-- The rules of a conflict put all borders in one order (CSS 2.2, 17.6.2.1), and so each edge has
+-- one winner.
 use Rattle.std.specs.Prelude.{◌≡◌, ◌⊎◌, List, Option}
 use Rattle.lay_borders.specs.declared.candidate.Cand.{Cand}
 use Rattle.lay_borders.specs.Edges.{AreResolved}

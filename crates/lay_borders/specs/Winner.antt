@@ -1,27 +1,35 @@
--- Conflicts of collapsed borders (CSS 2.2, 17.6.2.1): which of the borders that meet at an edge wins.
+-- Conflicts of collapsed borders (CSS 2.2, 17.6.2.1): which of the borders that meet at an edge
+-- wins.
 --
 -- The rules are asked in turn, and the first that tells two borders apart decides:
 --   1. a border of the style `hidden` wins over all others;
 --   2. a border of the style `none` loses to all others;
---   3. the wider border wins; of equal widths the style decides, from the strongest on `double`, `solid`,
---      `dashed`, `dotted`, `ridge`, `outset`, `groove`, `inset`;
---   4. a border of a cell wins over one of a row, that over one of a row group, a column, a column group
---      and, last, of the table; of two elements of one kind the one further left wins, and then the one
---      further up.
--- Two borders of the style `hidden`, or of `none`, are told apart by rules 3 and 4 as well. None is drawn
--- then, so it can't be seen which of them won.
+--   3. the wider border wins; of equal widths the style decides, from the strongest on `double`,
+--      `solid`, `dashed`, `dotted`, `ridge`, `outset`, `groove`, `inset`;
+--   4. a border of a cell wins over one of a row, that over one of a row group, a column, a column
+--      group and, last, of the table; of two elements of one kind the one further left wins, and then
+--      the one further up.
+-- Two borders of the style `hidden`, or of `none`, are told apart by rules 3 and 4 as well. None is
+-- drawn then, so it can't be seen which of them won.
 use Rattle.std.specs.Prelude.{ℕ, ℤ, pos, ◌≡◌, ◌⊎◌, ◌<ℤ◌, List, slice_get, Some}
 use Rattle.lay_borders.specs.declared.candidate.BorderStyle.{BorderStyle}
-use Rattle.lay_borders.specs.declared.candidate.BorderStyle.TheVariants.{None as none, Hidden as hidden}
-use Rattle.lay_borders.specs.declared.candidate.BorderStyle.TheVariants.{Dotted as dotted, Dashed as dashed}
-use Rattle.lay_borders.specs.declared.candidate.BorderStyle.TheVariants.{Solid as solid, Double as double}
-use Rattle.lay_borders.specs.declared.candidate.BorderStyle.TheVariants.{Groove as groove, Ridge as ridge}
-use Rattle.lay_borders.specs.declared.candidate.BorderStyle.TheVariants.{Inset as inset, Outset as outset}
+use Rattle.lay_borders.specs.declared.candidate.BorderStyle.TheVariants.{None as none}
+use Rattle.lay_borders.specs.declared.candidate.BorderStyle.TheVariants.{Hidden as hidden}
+use Rattle.lay_borders.specs.declared.candidate.BorderStyle.TheVariants.{Dotted as dotted}
+use Rattle.lay_borders.specs.declared.candidate.BorderStyle.TheVariants.{Dashed as dashed}
+use Rattle.lay_borders.specs.declared.candidate.BorderStyle.TheVariants.{Solid as solid}
+use Rattle.lay_borders.specs.declared.candidate.BorderStyle.TheVariants.{Double as double}
+use Rattle.lay_borders.specs.declared.candidate.BorderStyle.TheVariants.{Groove as groove}
+use Rattle.lay_borders.specs.declared.candidate.BorderStyle.TheVariants.{Ridge as ridge}
+use Rattle.lay_borders.specs.declared.candidate.BorderStyle.TheVariants.{Inset as inset}
+use Rattle.lay_borders.specs.declared.candidate.BorderStyle.TheVariants.{Outset as outset}
 use Rattle.lay_borders.specs.declared.candidate.Origin.{Origin}
-use Rattle.lay_borders.specs.declared.candidate.Origin.TheVariants.{Cell as cell, Row as row_}
-use Rattle.lay_borders.specs.declared.candidate.Origin.TheVariants.{RowGroup as row_group, Table as table}
+use Rattle.lay_borders.specs.declared.candidate.Origin.TheVariants.{Cell as cell}
+use Rattle.lay_borders.specs.declared.candidate.Origin.TheVariants.{Row as row_}
+use Rattle.lay_borders.specs.declared.candidate.Origin.TheVariants.{RowGroup as row_group}
 use Rattle.lay_borders.specs.declared.candidate.Origin.TheVariants.{Column as column_}
 use Rattle.lay_borders.specs.declared.candidate.Origin.TheVariants.{ColumnGroup as column_group}
+use Rattle.lay_borders.specs.declared.candidate.Origin.TheVariants.{Table as table}
 use Rattle.lay_borders.specs.declared.candidate.Cand.{Cand}
 
 -- rule 1: 1 for `hidden` alone
@@ -74,4 +82,5 @@ Beats a b =
 -- the border that wins over all others that meet it
 pub record IsWinner (borders : List Cand) (w : Cand) : Type 0 where
   pub one_of : (k : ℕ) × (slice_get borders k ≡ Some w)
-  pub beats : (k : ℕ) (other : Cand) → slice_get borders k ≡ Some other → (other ≡ w) ⊎ Beats w other
+  pub beats : (k : ℕ) (other : Cand) → slice_get borders k ≡ Some other
+      → (other ≡ w) ⊎ Beats w other

@@ -31,8 +31,8 @@ pub enum Origin {
     Table,
 }
 
-/// A border that meets others at an edge: its style and width, the kind of element that it is of, and
-/// that element's first row and first column.
+/// A border that meets others at an edge: its style and width, the kind of element that it is of,
+/// and that element's first row and first column.
 #[derive(Clone, Copy)]
 pub struct Cand {
     pub style: BorderStyle,

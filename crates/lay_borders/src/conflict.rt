@@ -2,7 +2,8 @@
 
 ghost use Rattle.std.specs.Prelude.{◌≡◌, ◌⊎◌, ◌↔◌, IsTrue, ◌<◌, pos, length};
 ghost use Rattle.lay_borders.specs.Winner.{Beats, Decides, IsWinner};
-ghost use Rattle.lay_borders.specs.Winner.{hidden_rank as hidden_rank_of, seen_rank as seen_rank_of};
+ghost use Rattle.lay_borders.specs.Winner.{hidden_rank as hidden_rank_of};
+ghost use Rattle.lay_borders.specs.Winner.{seen_rank as seen_rank_of};
 
 use crate::candidate::{BorderStyle, Cand};
 

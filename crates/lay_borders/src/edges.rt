@@ -9,9 +9,10 @@ use crate::lists::{CandLists, CandOptions};
 use lay_units::NoMemory;
 use std::alloc::Global;
 
-/// The borders that meet at the edges of a grid of so many rows and columns. First come the horizontal
-/// edges row by row, from above the first row to below the last, and then the vertical ones row by row,
-/// from left of the first column to right of the last. At an edge inside a cell no borders meet.
+/// The borders that meet at the edges of a grid of so many rows and columns. First come the
+/// horizontal edges row by row, from above the first row to below the last, and then the vertical
+/// ones row by row, from left of the first column to right of the last. At an edge inside a cell no
+/// borders meet.
 #[derive(Drop)]
 pub struct GridBorders {
     pub rows: u32,
@@ -19,7 +20,8 @@ pub struct GridBorders {
     pub edges: CandLists,
 }
 
-/// The collapsed border of each edge of a grid, in the order of `GridBorders`; None where none is there.
+/// The collapsed border of each edge of a grid, in the order of `GridBorders`; None where none is
+/// there.
 #[derive(Drop)]
 pub struct EdgeGrid {
     pub edges: CandOptions,

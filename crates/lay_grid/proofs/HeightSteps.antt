@@ -1,5 +1,5 @@
 -- The heights of rows, from the first on, and that there are such heights.
-use Rattle.std.proofs.Common.{◌≡◌, ◌⊎◌, inl, inr, ℕ, zero, suc, ◌+◌, ◌-◌, ◌<◌, ◌≤◌, ℤ, pos, ◌+ℤ◌, ◌-ℤ◌, ◌≤ℤ◌, Option, None, Some, List, [], ◌∷◌, ◌++◌, length, get_or, slice_get, refl, sym, ap, ◌∙◌, subst, below_more, append-nil, append_assoc, arith}
+use Rattle.std.proofs.Common.{◌≡◌, ◌⊎◌, inl, inr, ℕ, zero, suc, ◌+◌, ◌-◌, ◌<◌, ◌≤◌, ℤ, pos, ◌+ℤ◌, ◌-ℤ◌, ◌≤ℤ◌, None, Some, List, [], ◌∷◌, ◌++◌, length, get_or, slice_get, refl, sym, ap, ◌∙◌, subst, below_more, append-nil, append_assoc, arith}
 use Rattle.std.specs.Int.{int_max}
 use Rattle.std.specs.List.{Contains}
 use Rattle.std.proofs.lemmas.Int.{ints, clamps}
@@ -142,11 +142,14 @@ lowest_exists r above = from (cells_exist r above (length r.cells) (omega arith)
     }
 
     from : ((height : ℤ) × CellsTo r above (length r.cells) height) → ((length above + 1 ≡ length r.own) ⊎ (length above + 1 ≡ length r.own → ⊥)) → (height : ℤ) × IsLowest r above height
-    from h (inl is) = (int_max h.0 (r.total.0 -ℤ sum_of above), whole h.0 _ h.1 (record {
-      up = omega (arith, ints, clamps);
-      total = λ e. omega (arith, ints, clamps);
-      least = λ u le enough. let t = enough is in omega (arith, ints, clamps, le, t);
-    }))
+    from h (inl is) = (
+      int_max h.0 (r.total.0 -ℤ sum_of above),
+      whole h.0 _ h.1 (record {
+        up = omega (arith, ints, clamps);
+        total = λ e. omega (arith, ints, clamps);
+        least = λ u le enough. let t = enough is in omega (arith, ints, clamps, le, t);
+      }),
+    )
     from h (inr other) = (h.0, whole h.0 h.0 h.1 (record { up = omega (arith, ints); total = λ e. absurd (other e); least = λ u le enough. le }))
 
 -- what is known of a need

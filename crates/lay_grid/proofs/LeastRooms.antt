@@ -1,5 +1,5 @@
 -- What cells need of the rows that they span.
-use Rattle.std.proofs.Common.{◌≡◌, ◌⊎◌, inl, inr, ℕ, ◌+◌, ◌-◌, ◌<◌, ◌≤◌, ℤ, pos, ◌+ℤ◌, ◌-ℤ◌, ◌≤ℤ◌, Option, Some, None, List, [], ◌∷◌, ◌++◌, length, get_or, slice_get, refl, sym, ap, ◌∙◌, subst, replicate, below_more, arith}
+use Rattle.std.proofs.Common.{◌≡◌, ◌⊎◌, inl, inr, ℕ, ◌+◌, ◌<◌, ◌≤◌, ℤ, ◌+ℤ◌, ◌-ℤ◌, ◌≤ℤ◌, Option, Some, None, List, [], ◌∷◌, ◌++◌, length, get_or, slice_get, refl, sym, ap, ◌∙◌, subst, replicate, below_more, arith}
 use Rattle.std.specs.List.{Contains}
 use Rattle.std.proofs.lemmas.Int.{ints}
 use Rattle.std.proofs.lemmas.Bool.{cases_eq}
@@ -12,7 +12,7 @@ use Rattle.lay_grid.specs.declared.needs.Need.{Need}
 use Rattle.lay_grid.specs.Lengths.{IsWithin}
 use Rattle.lay_grid.specs.Heights.{IsRowBaseline, IsEnough}
 use Rattle.lay_grid.specs.Pass.Baselines.{BaselineTo}
-use Rattle.lay_grid.specs.Pass.Needs.{IsNeed, IsOfSome, NeedsTo, AllNeedsTo, room_of, room_of_baselines}
+use Rattle.lay_grid.specs.Pass.Needs.{IsNeed, IsOfSome, NeedsTo, AllNeedsTo, Adds, last_row, room_of, room_of_baselines}
 use Rattle.lay_grid.proofs.RowBaselines.{some_baseline, baseline_exists, baseline_same}
 
 -- the least room that is enough
@@ -65,12 +65,6 @@ pub enough_more : (cells : List RowCell) (cell : RowCell) (o : Option Unit) (v w
 enough_more cells cell None v w le enough = omega (arith, ints, le, enough)
 enough_more cells cell (Some own) v w le enough = λ b at. let h = enough b at in omega (arith, ints, le, h)
 
--- a need that stands at the end of its list
-pub record Adds (row : ℕ) (need : Need) (old new : List (List Need)) : Type 0 where
-  pub here : get_or new row [] ≡ get_or old row [] ++ need ∷ []
-  pub others : (k : ℕ) → (k ≡ row → ⊥) → get_or new k [] ≡ get_or old k []
-  pub as_many : length new ≡ length old
-
 ends_there : (cells : List RowCell) (n row : ℕ) (d : RowCell) (needs : List Need) (need : Need) → n < length cells → need.row + need.span ≡ row + 1 → IsNeed cells (get_or cells n d) need
     → NeedsTo cells n row needs → NeedsTo cells (n + 1) row (needs ++ need ∷ [])
 ends_there cells n row d needs need lt end is to = record {
@@ -92,13 +86,19 @@ ends_elsewhere cells n row d needs other to = record {
   only = to.only;
 }
 
-pub needs_more : (cells : List RowCell) (n rows last : ℕ) (d : RowCell) (need : Need) (old new : List (List Need)) → n < length cells → need.row + need.span ≡ last + 1 → IsNeed cells (get_or cells n d) need
-    → Adds last need old new → AllNeedsTo cells n rows old → AllNeedsTo cells (n + 1) rows new
-needs_more cells n rows last d need old new lt end is adds to = record {
+pub needs_more : (cells : List RowCell) (n rows : ℕ) (d : RowCell) (need : Need) (old new : List (List Need)) → n < length cells → 1 ≤ need.span → IsNeed cells (get_or cells n d) need
+    → Adds need old new → AllNeedsTo cells n rows old → AllNeedsTo cells (n + 1) rows new
+needs_more cells n rows d need old new lt some is adds to = record {
   as_many = adds.as_many ∙ to.as_many;
   each = λ row less. from row less (cases_eq row last);
 }
   where
+    last : ℕ
+    last = last_row need
+
+    end : need.row + need.span ≡ last + 1
+    end = omega (arith, some)
+
     from : (row : ℕ) → row < rows → ((row ≡ last) ⊎ (row ≡ last → ⊥)) → NeedsTo cells (n + 1) row (get_or new row [])
     from row less (inl e) = subst (λ (m : ℕ). NeedsTo cells (n + 1) m (get_or new m [])) (sym e)
         (subst (λ (xs : List Need). NeedsTo cells (n + 1) last xs) (sym adds.here)

@@ -1,5 +1,5 @@
 -- Columns have one list of widths, and rows one list of heights.
-use Rattle.std.proofs.Common.{◌≡◌, ℤ, ◌≤ℤ◌, Option, None, List, [], ◌∷◌, ◌++◌, length, refl, sym, ap, ◌∙◌, subst, arith}
+use Rattle.std.proofs.Common.{◌≡◌, ℤ, Option, None, List, [], ◌∷◌, ◌++◌, length, refl, sym, ap, ◌∙◌, subst, arith}
 use Rattle.std.proofs.lemmas.Int.{ints}
 use Rattle.std.proofs.lemmas.List.{ext_get_or}
 use Rattle.lay_units.specs.declared.length.Unit.{Unit}
@@ -7,7 +7,7 @@ use Rattle.lay_grid.specs.declared.columns.ColumnsIn.{ColumnsIn}
 use Rattle.lay_grid.specs.declared.heights.RowsIn.{RowsIn}
 use Rattle.lay_grid.specs.Shares.{AreShared}
 use Rattle.lay_grid.specs.Columns.{AreOwn, width_of_columns}
-use Rattle.lay_grid.specs.Heights.{RowFits, IsLowest, AreLowest}
+use Rattle.lay_grid.specs.Heights.{IsLowest, AreLowest}
 use Rattle.lay_grid.specs.Laws.{OneColumns, OneHeights}
 use Rattle.lay_grid.proofs.OneSharing.{one_sharing_lem}
 

@@ -1,13 +1,10 @@
 -- The columns' own widths, cell by cell.
-use Rattle.std.proofs.Common.{◌≡◌, ℕ, ◌+◌, ◌*◌, ◌^◌, ◌<◌, ◌≤◌, ℤ, pos, ◌-ℤ◌, ◌*ℤ◌, ◌≤ℤ◌, ◌<ℤ◌, Option, Some, None, List, [], ◌∷◌, ◌++◌, length, take, get_or, refl, sym, ap, ◌∙◌, subst, arith}
-use lib.IntN.{negsuc}
-use Rattle.std.proofs.lemmas.Int.{ints, clamps}
-use Rattle.std.specs.Int.{int_max}
+use Rattle.std.proofs.Common.{◌≡◌, ℕ, ◌+◌, ◌<◌, ℤ, Option, Some, None, List, [], ◌∷◌, ◌++◌, length, take, get_or, refl, sym, ap, ◌∙◌, subst, arith}
 use Rattle.std.proofs.lemmas.List.{take_more}
 use Rattle.lay_units.specs.declared.length.Unit.{Unit}
 use Rattle.lay_grid.specs.declared.columns.FirstCell.{FirstCell}
 use Rattle.lay_grid.specs.Shares.{own_at}
-use Rattle.lay_grid.specs.Columns.{or_else, by_cells, given_by, from_zero}
+use Rattle.lay_grid.specs.Columns.{or_else, by_cells, given_by}
 use Rattle.lay_grid.specs.Pass.Sharing.{Gives}
 
 or_assoc : (a b c : Option Unit) → or_else (or_else a b) c ≡ or_else a (or_else b c)

@@ -39,11 +39,17 @@ here cells row n d found o lt same is old = from found o is old
 
     from : (f p : Option Unit) → (get_or cells n d).baseline ≡ p → BaselineTo cells row n f → BaselineTo cells row (n + 1) (lower_of f p)
     from None None e old = below_more _ n old (λ cell at of. sym (new None e cell at))
-    from None (Some b) e old = (has b e, below_more _ n (λ k less cell at of v i. let j = old k less cell at of in absurd (cc (i, j)))
-        (λ cell at of v i. within b.0 v b (omega (arith, ints)) (new (Some b) e cell at ∙ i)))
+    from None (Some b) e old = (
+      has b e,
+      below_more _ n (λ k less cell at of v i. let j = old k less cell at of in absurd (cc (i, j)))
+          (λ cell at of v i. within b.0 v b (omega (arith, ints)) (new (Some b) e cell at ∙ i)),
+    )
     from (Some a) None e old = (old.0, below_more _ n old.1 (λ cell at of v i. let j = new None e cell at in absurd (cc (i, j))))
-    from (Some a) (Some b) e old = (reached (one_of_two a.0 b.0), below_more _ n (λ k less cell at of v i. up a.0 _ v (old.1 k less cell at of v i) (first a.0 b.0))
-        (λ cell at of v i. within _ v b (second a.0 b.0) (new (Some b) e cell at ∙ i)))
+    from (Some a) (Some b) e old = (
+      reached (one_of_two a.0 b.0),
+      below_more _ n (λ k less cell at of v i. up a.0 _ v (old.1 k less cell at of v i) (first a.0 b.0))
+          (λ cell at of v i. within _ v b (second a.0 b.0) (new (Some b) e cell at ∙ i)),
+    )
       where
         reached : ((int_max a.0 b.0 ≡ a.0) ⊎ (int_max a.0 b.0 ≡ b.0)) → HasBaseline cells row (int_max a.0 b.0)
         reached (inl m) = subst (λ (z : ℤ). HasBaseline cells row z) (sym m) old.0

@@ -4,7 +4,7 @@ use Rattle.std.proofs.lemmas.Int.{ints}
 use Rattle.std.proofs.lemmas.Bool.{cases_lt}
 use Rattle.std.proofs.lemmas.List.{drop_more, get_or_append_left, get_or_push}
 use Rattle.lay_units.specs.declared.length.Unit.{Unit}
-use Rattle.lay_grid.specs.Shares.{AreShared, own_width, sum_own, sum_of, all_own, takes, width_at, own_at, share_at, takes_at}
+use Rattle.lay_grid.specs.Shares.{own_width, sum_own, sum_of, all_own, takes, width_at, own_at, share_at, takes_at}
 use Rattle.lay_grid.specs.Pass.Sharing.{SharedTo, count_takers}
 
 some_without : (all : Bool) (owns : List (Option Unit)) → all_own owns ≡ false → 0 < count_takers all owns

@@ -1,5 +1,5 @@
 -- Columns that share have widths, and each of these is a position where all are.
-use Rattle.std.proofs.Common.{◌≡◌, ◌⊎◌, inl, inr, ℕ, zero, suc, ◌+◌, ◌-◌, ◌*◌, ◌<◌, ◌≤◌, ℤ, pos, ◌+ℤ◌, ◌-ℤ◌, ◌≤ℤ◌, Bool, true, false, Option, Some, None, List, [], ◌∷◌, ◌++◌, length, drop, get_or, refl, sym, ap, ◌∙◌, subst, append-nil, append_assoc, arith}
+use Rattle.std.proofs.Common.{◌≡◌, ◌⊎◌, inl, inr, ℕ, zero, suc, ◌+◌, ◌-◌, ◌*◌, ◌<◌, ◌≤◌, ℤ, pos, ◌+ℤ◌, ◌-ℤ◌, ◌≤ℤ◌, Bool, Option, List, [], ◌∷◌, ◌++◌, length, drop, get_or, refl, sym, ap, ◌∙◌, subst, append-nil, append_assoc, arith}
 use Rattle.std.proofs.lemmas.Int.{ints, clamps}
 use Rattle.std.specs.Int.{int_max}
 use Rattle.std.proofs.lemmas.List.{drop_all, get_or_append_left, get_or_push}
@@ -7,7 +7,7 @@ use Rattle.std.proofs.Math.Nat.{zero-mul}
 use Rattle.lay_units.specs.declared.length.Unit.{Unit}
 use Rattle.lay_units.specs.Units.{IsPosition}
 use Rattle.lay_grid.specs.Lengths.{ArePositions}
-use Rattle.lay_grid.specs.Shares.{AreShared, own_width, sum_own, sum_of, all_own, takes, own_at, share_at, takes_at}
+use Rattle.lay_grid.specs.Shares.{AreShared, own_width, sum_own, sum_of, all_own, takes, own_at, takes_at}
 use Rattle.lay_grid.specs.Pass.Sharing.{SharedTo, count_takers}
 use Rattle.lay_grid.proofs.SharedSteps.{Step, Kind, kind, shared_more, length_push}
 

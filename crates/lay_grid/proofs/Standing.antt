@@ -1,10 +1,10 @@
 -- One more cell that stands.
-use Rattle.std.proofs.Common.{◌≡◌, ◌⊎◌, inl, inr, ℕ, ◌+◌, ◌<◌, ◌≤◌, List, [], ◌∷◌, ◌++◌, length, get_or, slice_get, Some, refl, sym, ap, ◌∙◌, subst, append_assoc, append-nil, arith}
+use Rattle.std.proofs.Common.{◌≡◌, ◌⊎◌, inl, inr, ℕ, ◌+◌, ◌<◌, ◌≤◌, List, [], ◌∷◌, ◌++◌, length, get_or, slice_get, Some, refl, sym, ap, subst, append_assoc, append-nil, arith}
 use Rattle.std.proofs.lemmas.Bool.{cases_lt}
 use Rattle.lay_grid.specs.declared.cells.Area.{Area}
 use Rattle.lay_grid.specs.declared.cells.Cell.{Cell}
-use Rattle.lay_grid.specs.Places.{areas_of, Each, OneOf, Covers, HasRoom, StandsLeft, StandAfter, right_edge}
-use Rattle.lay_grid.specs.Pass.Known.{Known, IsCovered, AreFree}
+use Rattle.lay_grid.specs.Places.{areas_of, OneOf, Covers, HasRoom, StandsLeft, StandAfter, right_edge}
+use Rattle.lay_grid.specs.Pass.Known.{Known, IsCovered, AreFree, Occupied}
 use Rattle.lay_grid.proofs.Places.{one_more, old_place, last_place}
 
 abbrev pub cell_at : Area → ℕ → Cell
@@ -19,13 +19,6 @@ pub record Fits (busy : List ℕ) (area : Area) (next left : ℕ) : Type 0 where
   pub from : next ≤ left
   pub free : AreFree busy area.row area.columns left
   pub least : (column : ℕ) → next ≤ column → AreFree busy area.row area.columns column → left ≤ column
-
--- and after that
-pub record Occupied (busy after : List ℕ) (area : Area) (left : ℕ) : Type 0 where
-  pub inside : (c : ℕ) → left ≤ c → c < left + area.columns → get_or after c 0 ≡ area.end
-  pub before : (c : ℕ) → c < left → get_or after c 0 ≡ get_or busy c 0
-  pub beyond : (c : ℕ) → left + area.columns ≤ c → get_or after c 0 ≡ get_or busy c 0
-  pub within : left + area.columns ≤ length after
 
 stands : (cells : List Cell) (busy : List ℕ) (area : Area) (next left : ℕ) → Known cells busy area.row next → area.row < area.end → Fits busy area next left → StandsLeft cells area left
 stands cells busy area next left k some fits = record {

@@ -1,8 +1,9 @@
--- The columns of the fixed table layout (CSS 2.2, 17.5.2.1). A column has the width of its column element,
--- else of the first cell of the first row that has a width and covers the column. A cell over more columns
--- than one divides its width, less the spacings that it covers, over them in equal parts, of which the first
--- are greater by a unit each where it doesn't divide. The columns together then take what the spacings leave
--- of the table's width, as they share it. Spacings stand before each column and after the last.
+-- The columns of the fixed table layout (CSS 2.2, 17.5.2.1). A column has the width of its column
+-- element, else of the first cell of the first row that has a width and covers the column. A cell
+-- over more columns than one divides its width, less the spacings that it covers, over them in
+-- equal parts, of which the first are greater by a unit each where it doesn't divide. The columns
+-- together then take what the spacings leave of the table's width, as they share it. Spacings stand
+-- before each column and after the last.
 --
 -- A cell of the width 3001 over two columns, with spacings of 100, gives them 1451 and 1450.
 use Rattle.std.specs.Prelude.{ℕ, ◌≡◌, ◌+◌, ◌-◌, ◌<◌, ◌/◌, ◌%◌, ℤ, pos, ◌-ℤ◌, ◌*ℤ◌}
@@ -37,7 +38,8 @@ part_for spacing cell width i =
 -- the width that a cell with this width gives to the column i, where it covers that
 abbrev pub given_by : ℤ → FirstCell → Option Unit → ℕ → Option Unit
 given_by spacing cell None i = None
-given_by spacing cell (Some width) i = cond (covers_column cell i) (Some (part_for spacing cell width.0 i)) None
+given_by spacing cell (Some width) i =
+    cond (covers_column cell i) (Some (part_for spacing cell width.0 i)) None
 
 abbrev pub or_else : Option Unit → Option Unit → Option Unit
 or_else None other = other
@@ -46,7 +48,8 @@ or_else (Some width) other = Some width
 -- the width that the first of the cells gives that gives one
 abbrev pub by_cells : ℤ → List FirstCell → ℕ → Option Unit
 by_cells spacing [] i = None
-by_cells spacing (cell ∷ cells) i = or_else (given_by spacing cell cell.width i) (by_cells spacing cells i)
+by_cells spacing (cell ∷ cells) i =
+    or_else (given_by spacing cell cell.width i) (by_cells spacing cells i)
 
 -- the columns' own widths
 pub record AreOwn (c : ColumnsIn) (owns : List (Option Unit)) : Type 0 where

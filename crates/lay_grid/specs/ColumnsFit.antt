@@ -1,5 +1,5 @@
--- Which columns the widths are asked of: lengths that are positions, cells over one column at least that lie
--- inside the columns, fewer than 2^32 columns, and widths that are positions.
+-- Which columns the widths are asked of: lengths that are positions, cells over one column at least
+-- that lie inside the columns, fewer than 2^32 columns, and widths that are positions.
 use Rattle.std.specs.Prelude.{ℕ, ◌+◌, ◌^◌, ◌<◌, ◌≤◌, List, length, All}
 use Rattle.lay_units.specs.declared.length.Unit.{Unit}
 use Rattle.lay_units.specs.Units.{IsPosition}

@@ -1,12 +1,13 @@
--- The heights of the rows of a table (CSS 2.2, 17.5.3), from the first on. A row is as low as it can be that
--- is no lower than its own height and has room for each cell whose last row it is. A cell needs its height,
--- and where it is on the baseline of its row, as much more as its own baseline is above that. It has the rows
--- that it spans with the spacings between them, so that what is missing comes to its last row. The last row is
--- no lower than the table's height asks for.
+-- The heights of the rows of a table (CSS 2.2, 17.5.3), from the first on. A row is as low as it
+-- can be that is no lower than its own height and has room for each cell whose last row it is. A
+-- cell needs its height, and where it is on the baseline of its row, as much more as its own
+-- baseline is above that. It has the rows that it spans with the spacings between them, so that
+-- what is missing comes to its last row. The last row is no lower than the table's height asks for.
 --
--- Three rows with the heights 640, 0 and 0 and a cell over all three that needs 1920: 640, 0 and 1280.
-use Rattle.std.specs.Prelude.{ℕ, ◌≡◌, ◌+◌, ◌-◌, ℤ, pos, ◌+ℤ◌, ◌-ℤ◌, ◌*ℤ◌, ◌≤ℤ◌, ⊤, Option, Some, None}
-use Rattle.std.specs.Prelude.{List, [], ◌∷◌, ◌++◌, length, drop, slice_get}
+-- Three rows with the heights 640, 0 and 0 and a cell over all three that needs 1920: 640, 0 and
+-- 1280.
+use Rattle.std.specs.Prelude.{ℕ, ◌≡◌, ◌+◌, ◌-◌, ℤ, pos, ◌+ℤ◌, ◌-ℤ◌, ◌*ℤ◌, ◌≤ℤ◌, ⊤}
+use Rattle.std.specs.Prelude.{Option, Some, None, List, [], ◌∷◌, ◌++◌, length, drop, slice_get}
 use Rattle.lay_units.specs.declared.length.Unit.{Unit}
 use Rattle.lay_grid.specs.declared.heights.RowCell.{RowCell}
 use Rattle.lay_grid.specs.declared.heights.RowsIn.{RowsIn}

@@ -1,5 +1,5 @@
--- Which rows the heights are asked of: lengths that are positions, cells over one row at least that lie inside
--- the rows, fewer than 2^32 rows, and heights that are positions.
+-- Which rows the heights are asked of: lengths that are positions, cells over one row at least that
+-- lie inside the rows, fewer than 2^32 rows, and heights that are positions.
 use Rattle.std.specs.Prelude.{ℕ, ◌+◌, ◌^◌, ◌<◌, ◌≤◌, List, length, All}
 use Rattle.lay_units.specs.declared.length.Unit.{Unit}
 use Rattle.lay_units.specs.Units.{IsPosition}

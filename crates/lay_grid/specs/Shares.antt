@@ -1,7 +1,8 @@
--- How columns share a width in the fixed table layout (CSS 2.2, 17.5.2.1), where some have a width of their
--- own. Together they are as wide as is asked, or as their own widths where those are wider. A column with a
--- width of its own keeps it, and the others share the rest. Where each has its own, all share what is left
--- over. Shares are equal, but that the first ones are greater by a unit each where the rest doesn't divide.
+-- How columns share a width in the fixed table layout (CSS 2.2, 17.5.2.1), where some have a width
+-- of their own. Together they are as wide as is asked, or as their own widths where those are
+-- wider. A column with a width of its own keeps it, and the others share the rest. Where each has
+-- its own, all share what is left over. Shares are equal, but that the first ones are greater by a
+-- unit each where the rest doesn't divide.
 --
 -- Three columns in 3301 units, the first with the width 3200: 3200, 51 and 50.
 use Rattle.std.specs.Prelude.{ℕ, ◌≡◌, ◌<◌, ℤ, pos, ◌+ℤ◌, ◌-ℤ◌, ◌≤ℤ◌, Bool, true, false}

@@ -1,9 +1,9 @@
 //! The baselines of rows (CSS 2.2, 17.5.3).
 
-ghost use Rattle.std.specs.Prelude.{◌≡◌, ◌<◌, ◌≢◌, ℕ, None, length, slice_index_or, IfOk, All};
+ghost use Rattle.std.specs.Prelude.{◌≡◌, ◌<◌, length, IfOk, All};
 ghost use Rattle.lay_grid.specs.Lengths.{MayBePosition};
 ghost use Rattle.lay_grid.specs.RowsFit.{RowCellFits};
-ghost use Rattle.lay_grid.specs.Pass.Baselines.{BaselinesTo, lower_of};
+ghost use Rattle.lay_grid.specs.Pass.Baselines.{BaselinesTo, Lowers, lower_of};
 
 use crate::heights::RowCell;
 use lay_units::{NoMemory, Unit};
@@ -16,7 +16,7 @@ pub fn row_baselines(
     rows: usize,
 ) -> Result<Vec<Option<Unit>>, NoMemory>
     requires { All (RowCellFits rows) cells.now }
-    ensures { IfOk result (λ baselines. BaselinesTo cells.now (length cells.now) rows baselines.items) }
+    ensures { IfOk result (λ found. BaselinesTo cells.now (length cells.now) rows found.items) }
 {
     let mut baselines = vec![in alloc; None; rows]?;
     for cell in cells {
@@ -29,10 +29,8 @@ fn lower_baseline(baselines: &mut Vec<Option<Unit>>, row: usize, baseline: Optio
     requires row { row < length baselines.old.items }
     requires baselines { All MayBePosition baselines.old.items }
     requires baseline { MayBePosition baseline }
-    ensures here { slice_index_or baselines.new.items row None ≡ lower_of (slice_index_or baselines.old.items row None) baseline }
-    ensures others { (k : ℕ) → k ≢ row → slice_index_or baselines.new.items k None ≡ slice_index_or baselines.old.items k None }
+    ensures lowers { Lowers row baseline baselines.old.items baselines.new.items }
     ensures fits { All MayBePosition baselines.new.items }
-    ensures as_many { length baselines.new.items ≡ length baselines.old.items }
 {
     baselines[row] = lower(baselines[row], baseline);
 }

@@ -31,7 +31,8 @@ pub struct Cell {
     pub left: usize,
 }
 
-/// A slot of the grid, and the cell that covers it, by its number from 0 among the cells of all rows.
+/// A slot of the grid, and the cell that covers it, by its number from 0 among the cells of all
+/// rows.
 #[derive(Clone, Copy)]
 pub struct Slot {
     pub row: u32,

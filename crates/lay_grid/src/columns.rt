@@ -14,8 +14,8 @@ use crate::spacing::spacings;
 use lay_units::{NoMemory, Unit, UnitList};
 use std::alloc::Global;
 
-/// A cell of the first row: its first column and how many it spans, from 1, and the width of its border
-/// box, None where that is `auto`.
+/// A cell of the first row: its first column and how many it spans, from 1, and the width of its
+/// border box, None where that is `auto`.
 #[derive(Clone, Copy)]
 pub struct FirstCell {
     pub column: u32,
@@ -23,8 +23,9 @@ pub struct FirstCell {
     pub width: Option<Unit>,
 }
 
-/// What the widths of columns depend on: for each column the width of its column element, the cells of the
-/// first row, the width of the table between its inner padding edges, and the spacing beside each column.
+/// What the widths of columns depend on: for each column the width of its column element, the cells
+/// of the first row, the width of the table between its inner padding edges, and the spacing beside
+/// each column.
 #[derive(Drop)]
 pub struct ColumnsIn {
     pub given: WidthOptions,

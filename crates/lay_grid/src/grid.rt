@@ -5,7 +5,8 @@ ghost use Rattle.lay_grid.specs.declared.cells.Cell.{Cell};
 ghost use Rattle.lay_grid.specs.declared.cells.Grid.{Grid};
 ghost use Rattle.lay_grid.specs.Areas.{areas_from};
 ghost use Rattle.lay_grid.specs.Places.{right_edge};
-ghost use Rattle.lay_grid.specs.Slots.{IsGrid, SpanRows, columns_of, slots_from, slots_of_cell, slots_of_row};
+ghost use Rattle.lay_grid.specs.Slots.{IsGrid, SpanRows, columns_of};
+ghost use Rattle.lay_grid.specs.Slots.{slots_from, slots_of_cell, slots_of_row};
 
 use crate::cells::{Cell, Grid, RowSpec, Slot};
 use crate::lists::SlotList;

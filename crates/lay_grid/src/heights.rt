@@ -15,8 +15,8 @@ use crate::spacing::spacings;
 use lay_units::{NoMemory, Unit, UnitList};
 use std::alloc::Global;
 
-/// A cell, by its first row and how many it spans, from 1: the height that it needs, and its baseline where it
-/// is on the baseline of its first row.
+/// A cell, by its first row and how many it spans, from 1: the height that it needs, and its
+/// baseline where it is on the baseline of its first row.
 #[derive(Clone, Copy)]
 pub struct RowCell {
     pub row: u32,
@@ -25,8 +25,8 @@ pub struct RowCell {
     pub baseline: Option<Unit>,
 }
 
-/// What the heights of rows depend on: the rows' own heights, the cells, the spacing between two rows, and the
-/// least sum of the heights.
+/// What the heights of rows depend on: the rows' own heights, the cells, the spacing between two
+/// rows, and the least sum of the heights.
 #[derive(Drop)]
 pub struct RowsIn {
     pub own: UnitList,
@@ -79,7 +79,8 @@ fn room_from_above(r: &RowsIn, above: &[Unit], need: &Need) -> i128
     sum_from(above, need.row as usize) + spacings(r.spacing, need.span as usize - 1)
 }
 
-/// A height of the last row with which the sum of all is the table's at least; that of another stays.
+/// A height of the last row with which the sum of all is the table's at least; that of another
+/// stays.
 fn with_total(r: &RowsIn, above: &[Unit], height: i128) -> i128
     requires total { IsPosition r.now.total.0 }
     requires fits { ArePositions above.now }

@@ -1,8 +1,9 @@
-//! The grid of a table: the slots that its cells cover (CSS 2.2, 17.5), the widths of its columns in the
-//! fixed table layout (17.5.2.1) and the heights of its rows (17.5.3).
+//! The grid of a table: the slots that its cells cover (CSS 2.2, 17.5), the widths of its columns
+//! in the fixed table layout (17.5.2.1) and the heights of its rows (17.5.3).
 //!
-//! Contracts cite `IsGrid` of `specs/Slots.antt`, `AreColumns` of `specs/Columns.antt` and `AreHeights` of
-//! `specs/Heights.antt`. They are relations, and have one value each (`specs/Laws.antt`).
+//! Contracts cite `IsGrid` of `specs/Slots.antt`, `AreColumns` of `specs/Columns.antt` and
+//! `AreHeights` of `specs/Heights.antt`. They are relations, and have one value each
+//! (`specs/Laws.antt`).
 #![tactic(auto)]
 
 mod baselines;

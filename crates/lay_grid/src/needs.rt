@@ -1,11 +1,11 @@
 //! What cells need of the rows that they span (CSS 2.2, 17.5.3), by their last rows.
 
-ghost use Rattle.std.specs.Prelude.{◌≡◌, ◌+◌, ◌-◌, ◌<◌, ◌≤◌, ◌≢◌, ◌++◌, ◌∷◌, ℕ, [], length, slice_index_or};
+ghost use Rattle.std.specs.Prelude.{◌≡◌, ◌+◌, ◌≤◌, ◌++◌, ◌∷◌, [], length, slice_index_or};
 ghost use Rattle.std.specs.Prelude.{None, IfOk, OnOk, All, replicate};
 ghost use Rattle.lay_units.specs.Units.{IsPosition};
 ghost use Rattle.lay_grid.specs.Lengths.{IsWithin, MayBePosition};
 ghost use Rattle.lay_grid.specs.RowsFit.{RowCellFits};
-ghost use Rattle.lay_grid.specs.Pass.Needs.{AllNeedsTo, room_of};
+ghost use Rattle.lay_grid.specs.Pass.Needs.{Adds, AllNeedsTo, room_of};
 
 use crate::baselines::row_baselines;
 use crate::heights::RowCell;
@@ -88,9 +88,7 @@ fn empty_lists(alloc: Global, count: usize) -> Result<Vec<NeedList>, NoMemory>
 fn add_need(needs: &mut Vec<NeedList>, need: Need) -> Result<(), NoMemory>
     requires some { 1 ≤ need.span }
     requires inside { need.row + need.span ≤ length needs.old.items }
-    ensures here { OnOk result (slice_index_or needs.new.items (need.row + need.span - 1) [] ≡ slice_index_or needs.old.items (need.row + need.span - 1) [] ++ need ∷ []) }
-    ensures others { OnOk result ((k : ℕ) → k ≢ need.row + need.span - 1 → slice_index_or needs.new.items k [] ≡ slice_index_or needs.old.items k []) }
-    ensures as_many { OnOk result (length needs.new.items ≡ length needs.old.items) }
+    ensures { OnOk result (Adds need needs.old.items needs.new.items) }
 {
     let last_row = need.row as usize + need.span as usize - 1;
     needs[last_row].push(need)

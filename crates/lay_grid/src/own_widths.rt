@@ -1,6 +1,8 @@
-//! The columns' own widths (CSS 2.2, 17.5.2.1): those of column elements and of the first row's cells.
+//! The columns' own widths (CSS 2.2, 17.5.2.1): those of column elements and of the first row's
+//! cells.
 
-ghost use Rattle.std.specs.Prelude.{◌≡◌, ℕ, ◌-◌, ◌*◌, ◌^◌, ◌<◌, ◌≤◌, ◌≢◌, pos, length, Some, IfOk, All};
+ghost use Rattle.std.specs.Prelude.{◌≡◌, ℕ, ◌-◌, ◌*◌, ◌^◌, ◌<◌, ◌≤◌, ◌≢◌, pos};
+ghost use Rattle.std.specs.Prelude.{length, Some, IfOk, All};
 ghost use Rattle.lay_units.specs.Units.{IsPosition};
 ghost use Rattle.lay_grid.specs.Lengths.{MayBePosition};
 ghost use Rattle.lay_grid.specs.Shares.{own_at};

@@ -1,12 +1,13 @@
 //! The cells of a table, placed row by row.
 
-ghost use Rattle.std.specs.Prelude.{◌≡◌, ℕ, ◌+◌, ◌-◌, ◌<◌, ◌≤◌, ◌++◌, ◌∷◌, [], length, drop, IfOk, OnOk, All};
+ghost use Rattle.std.specs.Prelude.{◌≡◌, ℕ, ◌+◌, ◌-◌, ◌<◌, ◌≤◌, ◌++◌, ◌∷◌, []};
+ghost use Rattle.std.specs.Prelude.{length, drop, IfOk, OnOk, All};
 ghost use Rattle.lay_grid.specs.declared.cells.Cell.{Cell};
 ghost use Rattle.lay_grid.specs.declared.cells.Span.{Span};
 ghost use Rattle.lay_grid.specs.Areas.{area_of, areas_in_row, areas_from, rows_left};
 ghost use Rattle.lay_grid.specs.Places.{StandAfter, areas_of};
 ghost use Rattle.lay_grid.specs.Slots.{SpanRows};
-ghost use Rattle.lay_grid.specs.Pass.Known.{Known};
+ghost use Rattle.lay_grid.specs.Pass.Known.{AddsAreas, Known};
 
 use crate::cells::{Area, Cell, RowSpec, Span};
 use crate::scan::{free_left, occupy};
@@ -66,7 +67,7 @@ fn place_row(
     requires spans { All (λ (span : Span). 1 ≤ span.rows) spans.now }
     requires known { Known cells.old.items busy.old.items row 0 }
     ensures known { OnOk result (Known cells.new.items busy.new.items (row + 1) 0) }
-    ensures areas { OnOk result (areas_of cells.new.items ≡ areas_of cells.old.items ++ areas_in_row row (end - row) spans.now) }
+    ensures areas { OnOk result (AddsAreas cells.old.items cells.new.items (areas_in_row row (end - row) spans.now)) }
 {
     let mut next = 0;
     for span in spans {
@@ -98,10 +99,10 @@ fn place_cell(
     requires covers { area.row < area.end }
     requires known { Known cells.old.items busy.old.items area.row next }
     ensures known { IfOk result (λ after. Known cells.new.items busy.new.items area.row after) }
-    ensures areas { OnOk result (areas_of cells.new.items ≡ areas_of cells.old.items ++ area ∷ []) }
+    ensures areas { OnOk result (AddsAreas cells.old.items cells.new.items (area ∷ [])) }
 {
     let left = free_left(busy.as_slice(), area.row, area.columns, next);
-    occupy(busy, left, area.columns, area.end)?;
+    occupy(busy, area, left)?;
     cells.push(Cell { area, left })?;
     Ok(left + area.columns as usize)
 }

@@ -1,8 +1,9 @@
 //! Which columns are free, and from which row on.
 
-ghost use Rattle.std.specs.Prelude.{◌≡◌, ◌+◌, ◌<◌, ◌≤◌, ◌≢◌, ℕ, length, slice_index, OnOk};
-ghost use Rattle.lay_grid.specs.Pass.Known.{AreFree};
+ghost use Rattle.std.specs.Prelude.{◌≤◌, ℕ, length, OnOk};
+ghost use Rattle.lay_grid.specs.Pass.Known.{AreFree, BusyAt, Occupied};
 
+use crate::cells::Area;
 use lay_units::NoMemory;
 
 /// The least column from `from` on at which so many columns are free in the row.
@@ -27,25 +28,20 @@ pub fn free_left(busy: &[usize], row: usize, columns: u32, from: usize) -> usize
     left
 }
 
-/// So many columns from `left` on are busy up to the row `end`.
-pub fn occupy(busy: &mut Vec<usize>, left: usize, columns: u32, end: usize) -> Result<(), NoMemory>
+/// The columns of a cell at `left` are busy up to its end.
+pub fn occupy(busy: &mut Vec<usize>, area: Area, left: usize) -> Result<(), NoMemory>
     requires { left ≤ length busy.old.items }
-    ensures inside { OnOk result ((c : ℕ) → left ≤ c → c < left + columns → slice_index busy.new.items c ≡ end) }
-    ensures before { OnOk result ((c : ℕ) → c < left → slice_index busy.new.items c ≡ slice_index busy.old.items c) }
-    ensures after { OnOk result ((c : ℕ) → left + columns ≤ c → slice_index busy.new.items c ≡ slice_index busy.old.items c) }
-    ensures within { OnOk result (left + columns ≤ length busy.new.items) }
+    ensures { OnOk result (Occupied busy.old.items busy.new.items area left) }
 {
-    for c in left..left + columns as usize {
-        occupy_column(busy, c, end)?;
+    for c in left..left + area.columns as usize {
+        occupy_column(busy, c, area.end)?;
     }
     Ok(())
 }
 
 fn occupy_column(busy: &mut Vec<usize>, c: usize, end: usize) -> Result<(), NoMemory>
     requires { c ≤ length busy.old.items }
-    ensures here { OnOk result (slice_index busy.new.items c ≡ end) }
-    ensures others { OnOk result ((k : ℕ) → k ≢ c → slice_index busy.new.items k ≡ slice_index busy.old.items k) }
-    ensures within { OnOk result (c < length busy.new.items) }
+    ensures { OnOk result (BusyAt c end busy.old.items busy.new.items) }
 {
     if c < busy.len() {
         busy[c] = end;

@@ -1,6 +1,7 @@
 -- What cells need of the rows that they span, by their last rows.
-use Rattle.std.specs.Prelude.{ℕ, ◌≡◌, ◌+◌, ◌-◌, ◌<◌, ℤ, ◌+ℤ◌, ◌-ℤ◌, ◌≤ℤ◌, List, [], length}
-use Rattle.std.specs.Prelude.{Option, None, Some, slice_get, slice_index_or}
+use Rattle.std.specs.Prelude.{ℕ, ◌≡◌, ◌≢◌, ◌+◌, ◌-◌, ◌<◌, ℤ, ◌+ℤ◌, ◌-ℤ◌, ◌≤ℤ◌}
+use Rattle.std.specs.Prelude.{List, [], ◌∷◌, ◌++◌, length}
+use Rattle.std.specs.Prelude.{Option, Some, slice_get, slice_index_or}
 use Rattle.std.specs.List.{Contains}
 use Rattle.lay_units.specs.declared.length.Unit.{Unit}
 use Rattle.lay_grid.specs.Lengths.{IsWithin}
@@ -26,13 +27,25 @@ room_of cell row_baseline = room_of_baselines cell.height.0 cell.baseline row_ba
 
 -- it is that of some cell
 abbrev pub IsOfSome : List RowCell → Need → Type 0
-IsOfSome cells need = (k : ℕ) × (cell : RowCell) × (slice_get cells k ≡ Some cell) × IsNeed cells cell need
+IsOfSome cells need =
+    (k : ℕ) × (cell : RowCell) × (slice_get cells k ≡ Some cell) × IsNeed cells cell need
+
+abbrev pub last_row : Need → ℕ
+last_row need = need.row + need.span - 1
 
 -- the needs of the first n cells that end in the row
 pub record NeedsTo (cells : List RowCell) (n row : ℕ) (needs : List Need) : Type 0 where
-  pub each : (k : ℕ) → k < n → (cell : RowCell) → slice_get cells k ≡ Some cell → cell.row + cell.span ≡ row + 1
+  pub each : (k : ℕ) → k < n → (cell : RowCell) → slice_get cells k ≡ Some cell
+      → cell.row + cell.span ≡ row + 1
       → (need : Need) × Contains needs need × IsNeed cells cell need
-  pub only : (need : Need) → Contains needs need → (need.row + need.span ≡ row + 1) × IsOfSome cells need
+  pub only : (need : Need) → Contains needs need
+      → (need.row + need.span ≡ row + 1) × IsOfSome cells need
+
+-- one more need stands at the end of those of its last row
+pub record Adds (need : Need) (before after : List (List Need)) : Type 0 where
+  pub here : slice_index_or after (last_row need) [] ≡ slice_index_or before (last_row need) [] ++ need ∷ []
+  pub others : (k : ℕ) → k ≢ last_row need → slice_index_or after k [] ≡ slice_index_or before k []
+  pub as_many : length after ≡ length before
 
 -- those of each of so many rows
 pub record AllNeedsTo (cells : List RowCell) (n rows : ℕ) (needs : List (List Need)) : Type 0 where

@@ -1,4 +1,5 @@
--- The columns' own widths while the cells of the first row give theirs, and what is counted while columns share.
+-- The columns' own widths while the cells of the first row give theirs, and what is counted while
+-- columns share.
 use Rattle.std.specs.Prelude.{ℕ, ◌+◌, ◌*◌, ◌≡◌, ◌<◌, ◌≤◌, ◌⊎◌, ℤ, pos, ◌+ℤ◌, ◌≤ℤ◌}
 use Rattle.std.specs.Prelude.{Bool, true, false, cond, Option, List, [], ◌∷◌, length, drop}
 use Rattle.lay_units.specs.declared.length.Unit.{Unit}
@@ -17,14 +18,18 @@ abbrev pub count_takers : Bool → List (Option Unit) → ℕ
 count_takers all [] = 0
 count_takers all (own ∷ owns) = cond (takes all own) 1 0 + count_takers all owns
 
--- the first n columns have their widths, and `more` of the further shares are greater by a unit than `each`
-pub record SharedTo (owns : List (Option Unit)) (rest each more n : ℕ) (widths : List Unit) : Type 0 where
+-- the first n columns have their widths, and `more` of the further shares are greater by a unit
+-- than `each`
+pub record SharedTo (owns : List (Option Unit)) (rest each more n : ℕ) (widths : List Unit)
+    : Type 0 where
   pub as_many : length widths ≡ n
-  pub sum : ((sum_of widths +ℤ sum_own (drop n owns)) +ℤ pos (count_takers (all_own owns) (drop n owns) * each + more))
+  pub sum : ((sum_of widths +ℤ sum_own (drop n owns))
+      +ℤ pos (count_takers (all_own owns) (drop n owns) * each + more))
       ≡ (sum_own owns +ℤ pos rest)
   pub enough : more ≤ count_takers (all_own owns) (drop n owns)
   pub kept : (i : ℕ) → i < n → takes_at owns i ≡ false → share_at owns widths i ≡ pos 0
   pub taken : (i : ℕ) → i < n → takes_at owns i ≡ true
-      → (share_at owns widths i ≡ pos (each + 1)) ⊎ ((share_at owns widths i ≡ pos each) × (more ≡ 0))
+      → (share_at owns widths i ≡ pos (each + 1))
+      ⊎ ((share_at owns widths i ≡ pos each) × (more ≡ 0))
   pub order : (i j : ℕ) → i < j → j < n → takes_at owns i ≡ true → takes_at owns j ≡ true
       → share_at owns widths j ≤ℤ share_at owns widths i

@@ -1,9 +1,8 @@
 use Rattle.std.specs.Int.{w64, w128}
-use Rattle.std.proofs.Common.{◌≡◌, ◌+◌, ◌-ℤ◌, ◌≤◌, ℤ, pos, get_or, length, to_z, of_z, arith, sym, subst}
-use Rattle.std.specs.Int.{int_max}
+use Rattle.std.proofs.Common.{◌≡◌, ◌+◌, ℤ, pos, to_z, of_z, arith, sym, subst}
 use Rattle.std.proofs.lemmas.Int.{ints, clamps}
 use Rattle.lay_grid.specs.declared.needs.Need.{Need}
-use Rattle.lay_grid.specs.Heights.{IsLowest, room_above}
+use Rattle.lay_grid.specs.Heights.{IsLowest}
 use Rattle.lay_grid.proofs.HeightSteps.{HeightTo, height_more, height_last, height_fits, need_fits}
 use Rattle.lay_grid.proofs.heights.row_height.Goals as goal
 

@@ -1,4 +1,4 @@
-use Rattle.std.proofs.Common.{◌≡◌, ◌+◌, ◌-◌, ℕ, Option, None, pos, get_or, length, List, arith, sym, subst}
+use Rattle.std.proofs.Common.{◌≡◌, ℕ, Option, None, pos, get_or, length, List, arith, sym, subst}
 use Rattle.lay_units.specs.declared.length.Unit.{Unit}
 use Rattle.lay_grid.specs.Pass.Baselines.{BaselinesTo}
 use Rattle.lay_grid.specs.Pass.Needs.{AllNeedsTo}
@@ -18,9 +18,9 @@ loop-cell-preserved c =
     let b = subst (λ (xs : List (Option Unit)). BaselinesTo c.args.cells.now (length c.args.cells.now) c.args.rows xs) (sym c.as_slice.ensures.value) c.in_ok-baselines.ensures in
     let a = c.in_ok-add_need.ensures {u = tt} in
     let r = n.row in let s = n.span in
-    needs_more _ _ _ (c.need_of.result.row + c.need_of.result.span - 1) _ c.need_of.result _ _ c.loop-cell-test.true (omega arith)
+    needs_more _ _ _ _ c.need_of.result _ _ c.loop-cell-test.true (omega arith)
     (is_need _ _ _ (get_or c.as_slice.result.now (get_or c.args.cells.now c.loop-cell.cell-index d).row None) _ c.loop-cell-test.true (b.each _ (omega arith)) n.row n.span n.room n.within)
-    (record { here = a.here; others = a.others; as_many = a.as_many }) c.loop-cell.invariant
+    a c.loop-cell.invariant
 
 pub returns : goal.returns
 returns c =

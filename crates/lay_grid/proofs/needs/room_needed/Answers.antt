@@ -1,6 +1,5 @@
-use Rattle.std.proofs.Common.{arith, subst, Option}
+use Rattle.std.proofs.Common.{arith, subst}
 use Rattle.std.proofs.lemmas.Int.{ints}
-use Rattle.lay_units.specs.declared.length.Unit.{Unit}
 use Rattle.lay_grid.specs.Lengths.{MayBePosition}
 use Rattle.lay_grid.proofs.LeastRooms.{room_at}
 use Rattle.lay_grid.proofs.needs.room_needed.Goals as goal

@@ -1,4 +1,4 @@
-use Rattle.std.proofs.Common.{◌∙◌, arith}
+use Rattle.std.proofs.Common.{◌∙◌}
 use Rattle.lay_grid.proofs.OwnSteps.{own_more}
 use Rattle.lay_grid.proofs.own_widths.own_widths.Goals as goal
 

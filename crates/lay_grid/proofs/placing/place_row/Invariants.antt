@@ -1,4 +1,4 @@
-use Rattle.std.proofs.Common.{◌≡◌, ℕ, ◌-◌, ◌++◌, drop}
+use Rattle.std.proofs.Common.{◌≡◌, ◌-◌, ◌++◌, drop}
 use Rattle.lay_grid.specs.Areas.{areas_in_row}
 use Rattle.lay_grid.specs.Places.{areas_of}
 use Rattle.lay_grid.specs.Pass.Known.{Known}

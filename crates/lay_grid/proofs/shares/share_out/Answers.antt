@@ -1,5 +1,5 @@
 use Rattle.std.specs.Int.{w64, w128, int_max}
-use Rattle.std.proofs.Common.{◌≡◌, ◌∙◌, arith, ap, sym, subst, List, Bool, get_or, None, ℤ, ◌++◌, ◌∷◌, [], pos, ◌+ℤ◌, ◌-ℤ◌, ◌+◌, ◌*◌, ◌/◌, to_z, of_z}
+use Rattle.std.proofs.Common.{◌≡◌, arith, sym, subst, List, Bool, get_or, None, ℤ, ◌++◌, ◌∷◌, [], pos, ◌-ℤ◌, ◌+◌, ◌/◌, to_z, of_z}
 use Rattle.std.proofs.lemmas.Int.{ints, clamps}
 use Rattle.lay_units.specs.declared.length.Unit.{Unit}
 use Rattle.lay_grid.specs.Shares.{AreShared, sum_own}
@@ -17,7 +17,7 @@ overflow_cast-width c =
     let b = c.left_over-more.ensures in
     let all = c.all_have_own-all.ensures in
     let step = subst (λ (x : Bool). Step x (get_or c.args.owns.now c.loop-own.own-index None) (c.rest_of-rest.result / c.takers_of-takers.result) c.loop-own.more c.left_over-more.result (unit c.widened-width.result)) all
-        (record { kept = λ t. (a.kept t, b.kept t); greater = λ t s. (a.greater t s, b.less t s); lesser = λ t z. (a.lesser t z, b.none t z) }) in
+    (record { kept = λ t. (a.kept t, b.kept t); greater = λ t s. (a.greater t s, b.less t s); lesser = λ t z. (a.lesser t z, b.none t z) }) in
     let w = c.rest_of-rest.ensures.value in let x = c.requires.asked.0 in let y = c.requires.asked.1 in
     let v : pos c.rest_of-rest.result ≡ int_max (pos 0) (c.args.asked -ℤ sum_own c.args.owns.now) = omega (arith, ints, clamps, w, x, y) in
     let at = width_fits c.args.owns.now c.args.asked c.rest_of-rest.result _ c.loop-own.more c.left_over-more.result c.loop-own.own-index c.loop-own.widths.items (unit c.widened-width.result) c.requires.widths v c.loop-own-test.true step c.loop-own.invariant in
@@ -30,7 +30,7 @@ loop-own-preserved c =
     let b = c.left_over-more.ensures in
     let all = c.all_have_own-all.ensures in
     let step = subst (λ (x : Bool). Step x (get_or c.args.owns.now c.loop-own.own-index None) (c.rest_of-rest.result / c.takers_of-takers.result) c.loop-own.more c.left_over-more.result (unit c.widened-width.result)) all
-        (record { kept = λ t. (a.kept t, b.kept t); greater = λ t s. (a.greater t s, b.less t s); lesser = λ t z. (a.lesser t z, b.none t z) }) in
+    (record { kept = λ t. (a.kept t, b.kept t); greater = λ t s. (a.greater t s, b.less t s); lesser = λ t z. (a.lesser t z, b.none t z) }) in
     let w = c.rest_of-rest.ensures.value in let x = c.requires.asked.0 in let y = c.requires.asked.1 in
     let v : pos c.rest_of-rest.result ≡ int_max (pos 0) (c.args.asked -ℤ sum_own c.args.owns.now) = omega (arith, ints, clamps, w, x, y) in
     let at = width_fits c.args.owns.now c.args.asked c.rest_of-rest.result _ c.loop-own.more c.left_over-more.result c.loop-own.own-index c.loop-own.widths.items (unit c.widened-width.result) c.requires.widths v c.loop-own-test.true step c.loop-own.invariant in

@@ -1,5 +1,3 @@
-use Rattle.std.proofs.Common.{◌≡◌, ◌<◌, ◌^◌, length}
-use Rattle.lay_grid.specs.Shares.{all_own}
 use Rattle.lay_grid.specs.Pass.Sharing.{SharedTo}
 use Rattle.lay_grid.proofs.shares.share_out.Given as goal
 

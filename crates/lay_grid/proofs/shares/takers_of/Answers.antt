@@ -1,4 +1,4 @@
-use Rattle.std.proofs.Common.{◌≡◌, ◌+◌, ap, drop, length, ◌≤◌, arith, ◌∙◌, sym, refl, []}
+use Rattle.std.proofs.Common.{ap, arith}
 use Rattle.std.proofs.lemmas.List.{drop_all}
 use Rattle.lay_grid.specs.Pass.Sharing.{count_takers}
 use Rattle.lay_grid.proofs.SharedSteps.{takers_some}
