@@ -26,11 +26,13 @@ pub record HeightTo (r : RowsIn) (above : List Unit) (needs : List Need) (n : �
   pub enough : (j : ℕ) → j < n → (need : Need) → slice_get needs j ≡ Some need → need.room ≤ℤ (room_above r above need.row need.span +ℤ height)
   pub least : (u : ℤ) → RowFits r above u → height ≤ℤ u
 
-above_same : (r : RowsIn) (above : List Unit) (row span other_row other_span : ℕ) → row ≡ other_row → span ≡ other_span → room_above r above row span ≡ room_above r above other_row other_span
+above_same : (r : RowsIn) (above : List Unit) (row span other_row other_span : ℕ) → row ≡ other_row → span ≡ other_span
+    → room_above r above row span ≡ room_above r above other_row other_span
 above_same r above row span other_row other_span e f = rw (e, f) refl
 
 -- what a height that fits has room for
-needed : (r : RowsIn) (above : List Unit) (needs : List Need) (need : Need) (u : ℤ) → NeedsTo r.cells (length r.cells) (length above) needs → Contains needs need → RowFits r above u
+needed : (r : RowsIn) (above : List Unit) (needs : List Need) (need : Need) (u : ℤ) → NeedsTo r.cells (length r.cells) (length above) needs
+    → Contains needs need → RowFits r above u
     → need.room ≤ℤ (room_above r above need.row need.span +ℤ u)
 needed r above needs need u to has fits =
     let h = to.only need has in
@@ -40,8 +42,10 @@ needed r above needs need u to has fits =
     let l = is.least _ (fits.cells h.1.0 h.1.1 h.1.2 (omega (arith, a, b, c))) in
     omega (arith, ints, l, same)
 
-pub height_more : (r : RowsIn) (above : List Unit) (needs : List Need) (n : ℕ) (d : Need) (height next : ℤ) → NeedsTo r.cells (length r.cells) (length above) needs → n < length needs
-    → next ≡ int_max height ((get_or needs n d).room -ℤ room_above r above (get_or needs n d).row (get_or needs n d).span) → HeightTo r above needs n height → HeightTo r above needs (n + 1) next
+pub height_more : (r : RowsIn) (above : List Unit) (needs : List Need) (n : ℕ) (d : Need) (height next : ℤ)
+    → NeedsTo r.cells (length r.cells) (length above) needs → n < length needs
+    → next ≡ int_max height ((get_or needs n d).room -ℤ room_above r above (get_or needs n d).row (get_or needs n d).span)
+    → HeightTo r above needs n height → HeightTo r above needs (n + 1) next
 height_more r above needs n d height next to lt e so = record {
   own = let a = so.own in omega (arith, ints, clamps, a, e);
   enough = below_more _ n (λ j less need at. let a = so.enough j less need at in omega (arith, ints, clamps, a, e))
@@ -58,7 +62,8 @@ pub record Totals (r : RowsIn) (above : List Unit) (before after : ℤ) : Type 0
   pub total : length above + 1 ≡ length r.own → r.total.0 ≤ℤ (sum_of above +ℤ after)
   pub least : (u : ℤ) → before ≤ℤ u → (length above + 1 ≡ length r.own → r.total.0 ≤ℤ (sum_of above +ℤ u)) → after ≤ℤ u
 
-pub height_last : (r : RowsIn) (above : List Unit) (needs : List Need) (n : ℕ) (height last : ℤ) → NeedsTo r.cells (length r.cells) (length above) needs → length needs ≤ n → HeightTo r above needs n height
+pub height_last : (r : RowsIn) (above : List Unit) (needs : List Need) (n : ℕ) (height last : ℤ)
+    → NeedsTo r.cells (length r.cells) (length above) needs → length needs ≤ n → HeightTo r above needs n height
     → Totals r above height last → IsLowest r above last
 height_last r above needs n height last to all so t = record {
   fits = record {
@@ -69,7 +74,8 @@ height_last r above needs n height last to all so t = record {
   least = λ u fits. t.least u (so.least u fits) fits.total;
 }
   where
-    has_room : (cell : RowCell) → ((need : Need) × Contains needs need × IsNeed r.cells cell need) → IsEnough r.cells cell cell.baseline (room_above r above cell.row cell.span +ℤ last)
+    has_room : (cell : RowCell) → ((need : Need) × Contains needs need × IsNeed r.cells cell need)
+        → IsEnough r.cells cell cell.baseline (room_above r above cell.row cell.span +ℤ last)
     has_room cell h =
         let need = h.0 in let has = h.1 in let is = h.2 in let lt = has.1 in
         let at : slice_get needs has.0 ≡ Some need = slice_get-get_or needs has.0 need lt ∙ ap (λ (x : Need). Some x) has.2 in
@@ -79,7 +85,8 @@ height_last r above needs n height last to all so t = record {
         enough_more r.cells cell cell.baseline need.room _ (omega (arith, ints, room, same, b)) is.enough
 
 -- one more row
-pub lowest_more : (r : RowsIn) (above heights : List Unit) (height : Unit) → AreLowest r above heights → IsLowest r (above ++ heights) height.0 → AreLowest r above (heights ++ height ∷ [])
+pub lowest_more : (r : RowsIn) (above heights : List Unit) (height : Unit) → AreLowest r above heights → IsLowest r (above ++ heights) height.0
+    → AreLowest r above (heights ++ height ∷ [])
 lowest_more r above [] height l here = (subst (λ (xs : List Unit). IsLowest r xs height.0) (append-nil above) here, tt)
 lowest_more r above (h ∷ heights) height l here =
     (l.0, lowest_more r (above ++ h ∷ []) heights height l.1 (subst (λ (xs : List Unit). IsLowest r xs height.0) (sym (append_assoc above (h ∷ []) heights)) here))
@@ -87,10 +94,12 @@ lowest_more r above (h ∷ heights) height l here =
 -- a row has a least height
 record CellsTo (r : RowsIn) (above : List Unit) (n : ℕ) (height : ℤ) : Type 0 where
   own : width_at r.own (length above) ≤ℤ height
-  cells : (k : ℕ) → k < n → (cell : RowCell) → slice_get r.cells k ≡ Some cell → cell.row + cell.span ≡ length above + 1 → IsEnough r.cells cell cell.baseline (room_above r above cell.row cell.span +ℤ height)
+  cells : (k : ℕ) → k < n → (cell : RowCell) → slice_get r.cells k ≡ Some cell → cell.row + cell.span ≡ length above + 1
+      → IsEnough r.cells cell cell.baseline (room_above r above cell.row cell.span +ℤ height)
   least : (u : ℤ) → RowFits r above u → height ≤ℤ u
 
-cell_more : (r : RowsIn) (above : List Unit) (n : ℕ) (d : RowCell) (height room : ℤ) → n < length r.cells → IsLeastRoom r.cells (get_or r.cells n d) room → (get_or r.cells n d).row + (get_or r.cells n d).span ≡ length above + 1
+cell_more : (r : RowsIn) (above : List Unit) (n : ℕ) (d : RowCell) (height room : ℤ) → n < length r.cells
+    → IsLeastRoom r.cells (get_or r.cells n d) room → (get_or r.cells n d).row + (get_or r.cells n d).span ≡ length above + 1
     → CellsTo r above n height → CellsTo r above (n + 1) (int_max height (room -ℤ room_above r above (get_or r.cells n d).row (get_or r.cells n d).span))
 cell_more r above n d height room lt is ends so = record {
   own = let a = so.own in omega (arith, ints, clamps, a);
@@ -103,7 +112,8 @@ cell_more r above n d height room lt is ends so = record {
     next : ℤ
     next = int_max height (room -ℤ room_above r above (get_or r.cells n d).row (get_or r.cells n d).span)
 
-cell_elsewhere : (r : RowsIn) (above : List Unit) (n : ℕ) (d : RowCell) (height : ℤ) → ((get_or r.cells n d).row + (get_or r.cells n d).span ≡ length above + 1 → ⊥) → CellsTo r above n height → CellsTo r above (n + 1) height
+cell_elsewhere : (r : RowsIn) (above : List Unit) (n : ℕ) (d : RowCell) (height : ℤ)
+    → ((get_or r.cells n d).row + (get_or r.cells n d).span ≡ length above + 1 → ⊥) → CellsTo r above n height → CellsTo r above (n + 1) height
 cell_elsewhere r above n d height other so = record {
   own = so.own;
   cells = below_more _ n so.cells (λ cell at same. absurd (other (subst (λ (x : RowCell). x.row + x.span ≡ length above + 1) (sym (get_or_from_slice_get r.cells n cell d at)) same)));
@@ -141,7 +151,8 @@ lowest_exists r above = from (cells_exist r above (length r.cells) (omega arith)
       least = λ u fits. t.least u (so.least u fits) fits.total;
     }
 
-    from : ((height : ℤ) × CellsTo r above (length r.cells) height) → ((length above + 1 ≡ length r.own) ⊎ (length above + 1 ≡ length r.own → ⊥)) → (height : ℤ) × IsLowest r above height
+    from : ((height : ℤ) × CellsTo r above (length r.cells) height) → ((length above + 1 ≡ length r.own) ⊎ (length above + 1 ≡ length r.own → ⊥))
+        → (height : ℤ) × IsLowest r above height
     from h (inl is) = (
       int_max h.0 (r.total.0 -ℤ sum_of above),
       whole h.0 _ h.1 (record {
@@ -153,7 +164,8 @@ lowest_exists r above = from (cells_exist r above (length r.cells) (omega arith)
     from h (inr other) = (h.0, whole h.0 h.0 h.1 (record { up = omega (arith, ints); total = λ e. absurd (other e); least = λ u le enough. le }))
 
 -- what is known of a need
-pub need_fits : (r : RowsIn) (above : List Unit) (needs : List Need) (n : ℕ) (d : Need) → RowsFit r → NeedsTo r.cells (length r.cells) (length above) needs → n < length needs → (1 ≤ (get_or needs n d).span) × IsWithin 64 (get_or needs n d).room
+pub need_fits : (r : RowsIn) (above : List Unit) (needs : List Need) (n : ℕ) (d : Need) → RowsFit r
+    → NeedsTo r.cells (length r.cells) (length above) needs → n < length needs → (1 ≤ (get_or needs n d).span) × IsWithin 64 (get_or needs n d).room
 need_fits r above needs n d fits to lt =
     let h = (to.only (get_or needs n d) (Contains-get_or needs n d lt)).1 in
     let cell = fits.cells h.0 h.1 (slice_get_within r.cells h.0 h.1 h.2) in
@@ -165,7 +177,8 @@ in_range : (all : List (List Need)) (row : ℕ) (d : List Need) → row < length
 in_range all row d less = let a = slice_get-get_or all row d less in let b = slice_get-get_or all row [] less in cc (a, b)
 
 -- the needs of the row below these
-pub needs_below : (cells items : List RowCell) (rows row : ℕ) (all : List (List Need)) (needs d : List Need) (above heights : List Unit) → items ≡ cells → AllNeedsTo items (length items) rows all → row < rows
+pub needs_below : (cells items : List RowCell) (rows row : ℕ) (all : List (List Need)) (needs d : List Need) (above heights : List Unit)
+    → items ≡ cells → AllNeedsTo items (length items) rows all → row < rows
     → needs ≡ get_or all row d → above ≡ heights → length heights ≡ row → NeedsTo cells (length cells) (length above) needs
 needs_below cells items rows row all needs d above heights e to less here a n =
     subst (λ (m : ℕ). NeedsTo cells (length cells) m needs) (sym (ap length a ∙ n))
@@ -187,7 +200,8 @@ lowest_append r above [] ys p q = subst (λ (a : List Unit). AreLowest r a ys) (
 lowest_append r above (x ∷ xs) ys p q = (p.0, lowest_append r (above ++ x ∷ []) xs ys p.1 (subst (λ (a : List Unit). AreLowest r a ys) (sym (append_assoc above (x ∷ []) xs)) q))
 
 -- so each of the heights is a position
-pub height_fits : (r : RowsIn) (above : List Unit) (height : ℤ) → RowsFit r → AreLowest r [] above → IsLowest r above height → length above < length r.own → IsPosition height
+pub height_fits : (r : RowsIn) (above : List Unit) (height : ℤ) → RowsFit r → AreLowest r [] above → IsLowest r above height
+    → length above < length r.own → IsPosition height
 height_fits r above height fits low here less = at
   where
     unit : Unit

@@ -20,35 +20,41 @@ pub record IsLeastRoom (cells : List RowCell) (cell : RowCell) (room : ℤ) : Ty
   pub enough : IsEnough cells cell cell.baseline room
   pub least : (other : ℤ) → IsEnough cells cell cell.baseline other → room ≤ℤ other
 
-least_for : (cells : List RowCell) (cell : RowCell) (o p : Option Unit) → cell.baseline ≡ o → BaselineTo cells cell.row (length cells) p → ((own : Unit) → o ≡ Some own → (b : Unit) × (p ≡ Some b) × IsRowBaseline cells cell.row b.0)
+least_for : (cells : List RowCell) (cell : RowCell) (o p : Option Unit) → cell.baseline ≡ o → BaselineTo cells cell.row (length cells) p
+    → ((own : Unit) → o ≡ Some own → (b : Unit) × (p ≡ Some b) × IsRowBaseline cells cell.row b.0)
     → IsLeastRoom cells cell (room_of_baselines cell.height.0 cell.baseline p)
 least_for cells cell o p is to has = record {
   enough = subst (λ (x : Option Unit). IsEnough cells cell x (room_of_baselines cell.height.0 x p)) (sym is) (enough o has);
   least = subst (λ (x : Option Unit). (other : ℤ) → IsEnough cells cell x other → room_of_baselines cell.height.0 x p ≤ℤ other) (sym is) (least o has);
 }
   where
-    enough : (x : Option Unit) → ((own : Unit) → x ≡ Some own → (b : Unit) × (p ≡ Some b) × IsRowBaseline cells cell.row b.0) → IsEnough cells cell x (room_of_baselines cell.height.0 x p)
+    enough : (x : Option Unit) → ((own : Unit) → x ≡ Some own → (b : Unit) × (p ≡ Some b) × IsRowBaseline cells cell.row b.0)
+        → IsEnough cells cell x (room_of_baselines cell.height.0 x p)
     enough None has = omega (arith, ints)
     enough (Some own) has =
         let h = has own refl in let value = ap (room_of_baselines cell.height.0 (Some own)) h.1 in
         λ b at. let s = baseline_same cells cell.row b h.0.0 at h.2 in omega (arith, ints, s, value)
 
-    least : (x : Option Unit) → ((own : Unit) → x ≡ Some own → (b : Unit) × (p ≡ Some b) × IsRowBaseline cells cell.row b.0) → (other : ℤ) → IsEnough cells cell x other → room_of_baselines cell.height.0 x p ≤ℤ other
+    least : (x : Option Unit) → ((own : Unit) → x ≡ Some own → (b : Unit) × (p ≡ Some b) × IsRowBaseline cells cell.row b.0) → (other : ℤ)
+        → IsEnough cells cell x other → room_of_baselines cell.height.0 x p ≤ℤ other
     least None has other en = en
     least (Some own) has other en =
         let h = has own refl in let value = ap (room_of_baselines cell.height.0 (Some own)) h.1 in let e = en h.0.0 h.2 in omega (arith, ints, e, value)
 
-pub room_at : (cell : RowCell) (p : Option Unit) (own lowest : Unit) → cell.baseline ≡ Some own → p ≡ Some lowest → room_of cell p ≡ (cell.height.0 +ℤ (lowest.0 -ℤ own.0))
+pub room_at : (cell : RowCell) (p : Option Unit) (own lowest : Unit) → cell.baseline ≡ Some own → p ≡ Some lowest
+    → room_of cell p ≡ (cell.height.0 +ℤ (lowest.0 -ℤ own.0))
 room_at cell p own lowest e f = ap (λ (o : Option Unit). room_of_baselines cell.height.0 o p) e ∙ ap (room_of_baselines cell.height.0 (Some own)) f
 
-pub least_room : (cells : List RowCell) (k : ℕ) (cell : RowCell) (p : Option Unit) → slice_get cells k ≡ Some cell → BaselineTo cells cell.row (length cells) p → IsLeastRoom cells cell (room_of cell p)
+pub least_room : (cells : List RowCell) (k : ℕ) (cell : RowCell) (p : Option Unit) → slice_get cells k ≡ Some cell
+    → BaselineTo cells cell.row (length cells) p → IsLeastRoom cells cell (room_of cell p)
 least_room cells k cell p at to = least_for cells cell cell.baseline p refl to (λ own is. some_baseline cells k cell own p at is to)
 
 pub room_exists : (cells : List RowCell) (k : ℕ) (cell : RowCell) → slice_get cells k ≡ Some cell → (room : ℤ) × IsLeastRoom cells cell room
 room_exists cells k cell at = let b = baseline_exists cells cell.row (length cells) (omega arith) in (room_of cell b.0, least_room cells k cell b.0 at b.1)
 
 -- the need of a cell where the row has this baseline
-pub is_need : (cells : List RowCell) (n : ℕ) (d : RowCell) (p : Option Unit) (need : Need) → n < length cells → BaselineTo cells (get_or cells n d).row (length cells) p → need.row ≡ (get_or cells n d).row → need.span ≡ (get_or cells n d).span
+pub is_need : (cells : List RowCell) (n : ℕ) (d : RowCell) (p : Option Unit) (need : Need) → n < length cells
+    → BaselineTo cells (get_or cells n d).row (length cells) p → need.row ≡ (get_or cells n d).row → need.span ≡ (get_or cells n d).span
     → need.room ≡ room_of (get_or cells n d) p → IsWithin 64 need.room → IsNeed cells (get_or cells n d) need
 is_need cells n d p need lt to row span is fits =
     let l = least_room cells n (get_or cells n d) p (slice_get-get_or cells n d lt) to in
@@ -65,14 +71,16 @@ pub enough_more : (cells : List RowCell) (cell : RowCell) (o : Option Unit) (v w
 enough_more cells cell None v w le enough = omega (arith, ints, le, enough)
 enough_more cells cell (Some own) v w le enough = λ b at. let h = enough b at in omega (arith, ints, le, h)
 
-ends_there : (cells : List RowCell) (n row : ℕ) (d : RowCell) (needs : List Need) (need : Need) → n < length cells → need.row + need.span ≡ row + 1 → IsNeed cells (get_or cells n d) need
+ends_there : (cells : List RowCell) (n row : ℕ) (d : RowCell) (needs : List Need) (need : Need) → n < length cells → need.row + need.span ≡ row + 1
+    → IsNeed cells (get_or cells n d) need
     → NeedsTo cells n row needs → NeedsTo cells (n + 1) row (needs ++ need ∷ [])
 ends_there cells n row d needs need lt end is to = record {
   each = below_more _ n (λ k less cell at same. old (to.each k less cell at same)) (λ cell at same. (need, Contains-push needs need, subst (λ (x : RowCell). IsNeed cells x need) (get_or_from_slice_get cells n cell d at) is));
   only = λ other has. from other (Contains-push_cases needs need other has);
 }
   where
-    old : {cell : RowCell} → ((other : Need) × Contains needs other × IsNeed cells cell other) → (other : Need) × Contains (needs ++ need ∷ []) other × IsNeed cells cell other
+    old : {cell : RowCell} → ((other : Need) × Contains needs other × IsNeed cells cell other)
+        → (other : Need) × Contains (needs ++ need ∷ []) other × IsNeed cells cell other
     old h = (h.0, Contains-append_left needs (need ∷ []) h.0 h.1, h.2)
 
     from : (other : Need) → (Contains needs other ⊎ (need ≡ other)) → (other.row + other.span ≡ row + 1) × IsOfSome cells other
@@ -86,7 +94,8 @@ ends_elsewhere cells n row d needs other to = record {
   only = to.only;
 }
 
-pub needs_more : (cells : List RowCell) (n rows : ℕ) (d : RowCell) (need : Need) (old new : List (List Need)) → n < length cells → 1 ≤ need.span → IsNeed cells (get_or cells n d) need
+pub needs_more : (cells : List RowCell) (n rows : ℕ) (d : RowCell) (need : Need) (old new : List (List Need)) → n < length cells → 1 ≤ need.span
+    → IsNeed cells (get_or cells n d) need
     → Adds need old new → AllNeedsTo cells n rows old → AllNeedsTo cells (n + 1) rows new
 needs_more cells n rows d need old new lt some is adds to = record {
   as_many = adds.as_many ∙ to.as_many;

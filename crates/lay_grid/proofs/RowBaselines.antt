@@ -27,7 +27,8 @@ up : (a b v : ℤ) → v ≤ℤ a → a ≤ℤ b → v ≤ℤ b
 up a b v p q = omega (arith, ints, p, q)
 
 -- a cell of the row
-here : (cells : List RowCell) (row n : ℕ) (d : RowCell) (found o : Option Unit) → n < length cells → (get_or cells n d).row ≡ row → (get_or cells n d).baseline ≡ o
+here : (cells : List RowCell) (row n : ℕ) (d : RowCell) (found o : Option Unit) → n < length cells → (get_or cells n d).row ≡ row
+    → (get_or cells n d).baseline ≡ o
     → BaselineTo cells row n found → BaselineTo cells row (n + 1) (lower_of found o)
 here cells row n d found o lt same is old = from found o is old
   where
@@ -56,7 +57,8 @@ here cells row n d found o lt same is old = from found o is old
         reached (inr m) = subst (λ (z : ℤ). HasBaseline cells row z) (sym m) (has b e)
 
 -- a cell of another row
-there : (cells : List RowCell) (row n : ℕ) (d : RowCell) (found : Option Unit) → ((get_or cells n d).row ≡ row → ⊥) → BaselineTo cells row n found → BaselineTo cells row (n + 1) found
+there : (cells : List RowCell) (row n : ℕ) (d : RowCell) (found : Option Unit) → ((get_or cells n d).row ≡ row → ⊥) → BaselineTo cells row n found
+    → BaselineTo cells row (n + 1) found
 there cells row n d None other old = below_more _ n old (λ cell at of. absurd (other (ap (λ (x : RowCell). x.row) (get_or_from_slice_get cells n cell d at) ∙ of)))
 there cells row n d (Some b) other old = (old.0, below_more _ n old.1 (λ cell at of. absurd (other (ap (λ (x : RowCell). x.row) (get_or_from_slice_get cells n cell d at) ∙ of))))
 
@@ -98,7 +100,8 @@ baseline_exists cells row (suc n) less = next (baseline_exists cells row n (omeg
     default : RowCell
     default = record { row = 0; span = 0; height = record { 0 = pos 0 }; baseline = None }
 
-    next : ((o : Option Unit) × BaselineTo cells row n o) → (((get_or cells n default).row ≡ row) ⊎ ((get_or cells n default).row ≡ row → ⊥)) → (o : Option Unit) × BaselineTo cells row (suc n) o
+    next : ((o : Option Unit) × BaselineTo cells row n o) → (((get_or cells n default).row ≡ row) ⊎ ((get_or cells n default).row ≡ row → ⊥))
+        → (o : Option Unit) × BaselineTo cells row (suc n) o
     next (o, to) (inl e) = (lower_of o (get_or cells n default).baseline, subst (λ (m : ℕ). BaselineTo cells row m (lower_of o (get_or cells n default).baseline)) (omega arith) (here cells row n default o _ (omega (arith, less)) e refl to))
     next (o, to) (inr other) = (o, subst (λ (m : ℕ). BaselineTo cells row m o) (omega arith) (there cells row n default o other to))
 

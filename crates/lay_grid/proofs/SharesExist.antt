@@ -31,7 +31,8 @@ shared_on owns rest each more n (suc m) widths e to =
     let h = shared_on owns rest each s.1 (n + 1) m (widths ++ s.0 ∷ []) (omega (arith, e)) (shared_more owns rest each more s.1 n widths s.0 to (omega (arith, e)) s.2) in
     (h.0, s.0 ∷ h.1, subst (λ (ws : List Unit). SharedTo owns rest each h.0 (length owns) ws) (append_assoc widths (s.0 ∷ []) h.1) h.2)
 
-equal_from : (each more : ℕ) (v z : ℤ) → ((v ≡ pos (each + 1)) ⊎ ((v ≡ pos each) × (more ≡ 0))) → ((z ≡ pos (each + 1)) ⊎ ((z ≡ pos each) × (more ≡ 0))) → v ≤ℤ (z +ℤ pos 1)
+equal_from : (each more : ℕ) (v z : ℤ) → ((v ≡ pos (each + 1)) ⊎ ((v ≡ pos each) × (more ≡ 0)))
+    → ((z ≡ pos (each + 1)) ⊎ ((z ≡ pos each) × (more ≡ 0))) → v ≤ℤ (z +ℤ pos 1)
 equal_from each more v z (inl e) (inl f) = omega (arith, ints, e, f)
 equal_from each more v z (inl e) (inr f) = let g = f.0 in omega (arith, ints, e, g)
 equal_from each more v z (inr e) (inl f) = let g = e.0 in omega (arith, ints, g, f)
@@ -41,7 +42,8 @@ product_zero : (c each more : ℕ) → c ≡ 0 → more ≡ 0 → pos (c * each 
 product_zero c each more e f = let p : c * each ≡ 0 = ap (λ (k : ℕ). k * each) e ∙ zero-mul each in omega (arith, ints, p, f)
 
 -- all columns have their widths
-pub shared_end : (owns : List (Option Unit)) (asked : ℤ) (rest each more n : ℕ) (widths : List Unit) → pos rest ≡ int_max (pos 0) (asked -ℤ sum_own owns) → length owns ≤ n → n ≤ length owns
+pub shared_end : (owns : List (Option Unit)) (asked : ℤ) (rest each more n : ℕ) (widths : List Unit)
+    → pos rest ≡ int_max (pos 0) (asked -ℤ sum_own owns) → length owns ≤ n → n ≤ length owns
     → SharedTo owns rest each more n widths → AreShared owns asked widths
 shared_end owns asked rest each more n widths is all few to = record {
   as_many = let m = to.as_many in omega (arith, m, all, few);
@@ -56,12 +58,15 @@ shared_end owns asked rest each more n widths is all few to = record {
     none : drop n owns ≡ []
     none = drop_all n owns all
 
-    whole : (s o t : ℤ) (c : ℕ) → ((s +ℤ o) +ℤ pos (c * each + more)) ≡ (t +ℤ pos rest) → o ≡ pos 0 → c ≡ 0 → more ≡ 0 → pos rest ≡ int_max (pos 0) (asked -ℤ t) → s ≡ int_max asked t
+    whole : (s o t : ℤ) (c : ℕ) → ((s +ℤ o) +ℤ pos (c * each + more)) ≡ (t +ℤ pos rest) → o ≡ pos 0 → c ≡ 0 → more ≡ 0
+        → pos rest ≡ int_max (pos 0) (asked -ℤ t) → s ≡ int_max asked t
     whole s o t c sum zo zc zm r = let f : pos (c * each + more) ≡ pos 0 = product_zero c each more zc zm in omega (arith, ints, clamps, sum, zo, f, r)
 
 -- so each of the widths is a position
-pub width_fits : (owns : List (Option Unit)) (asked : ℤ) (rest each more after n : ℕ) (widths : List Unit) (w : Unit) → ((ws : List Unit) → AreShared owns asked ws → ArePositions ws)
-    → pos rest ≡ int_max (pos 0) (asked -ℤ sum_own owns) → n < length owns → Step (all_own owns) (own_at owns n) each more after w → SharedTo owns rest each more n widths → IsPosition w.0
+pub width_fits : (owns : List (Option Unit)) (asked : ℤ) (rest each more after n : ℕ) (widths : List Unit) (w : Unit)
+    → ((ws : List Unit) → AreShared owns asked ws → ArePositions ws)
+    → pos rest ≡ int_max (pos 0) (asked -ℤ sum_own owns) → n < length owns → Step (all_own owns) (own_at owns n) each more after w
+    → SharedTo owns rest each more n widths → IsPosition w.0
 width_fits owns asked rest each more after n widths w fits is lt step to = subst (λ (u : Unit). IsPosition u.0) found (fits _ all n w inside)
   where
     next : SharedTo owns rest each after (n + 1) (widths ++ w ∷ [])
