@@ -9,8 +9,10 @@ mod length;
 mod memory;
 mod records;
 mod text;
+mod unit_list;
 
 pub use length::{Percent, Unit, clamp, clamp_size, half, percent_of};
 pub use memory::NoMemory;
 pub use records::{AbsOut, BlockIn, ClusterWidth, Len, Rect, Sides, WidthList};
 pub use text::Text;
+pub use unit_list::UnitList;

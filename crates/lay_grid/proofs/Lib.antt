@@ -1,0 +1,13 @@
+pub mod Places
+pub mod Standing
+pub mod OneGrid
+pub mod SlotSteps
+pub mod Products
+pub mod OwnSteps
+pub mod SharedSteps
+pub mod SharesExist
+pub mod OneSharing
+pub mod OneColumns
+pub mod RowBaselines
+pub mod LeastRooms
+pub mod HeightSteps

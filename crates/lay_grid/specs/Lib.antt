@@ -1,0 +1,11 @@
+pub mod Lengths
+pub mod Areas
+pub mod Places
+pub mod Slots
+pub mod Shares
+pub mod Columns
+pub mod ColumnsFit
+pub mod Heights
+pub mod RowsFit
+pub mod Laws
+pub mod Pass

@@ -1,0 +1,5 @@
+-- What is known while loops run.
+pub mod Known
+pub mod Sharing
+pub mod Baselines
+pub mod Needs

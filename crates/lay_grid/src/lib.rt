@@ -1,0 +1,28 @@
+//! The grid of a table: the slots that its cells cover (CSS 2.2, 17.5), the widths of its columns
+//! in the fixed table layout (17.5.2.1) and the heights of its rows (17.5.3).
+//!
+//! Contracts cite `IsGrid` of `specs/Slots.antt`, `AreColumns` of `specs/Columns.antt` and
+//! `AreHeights` of `specs/Heights.antt`. They are relations, and have one value each
+//! (`specs/Laws.antt`).
+#![tactic(auto)]
+
+mod baselines;
+mod cells;
+mod columns;
+mod grid;
+mod heights;
+mod laws;
+mod lists;
+mod needs;
+mod own_widths;
+mod placing;
+mod scan;
+mod shares;
+mod spacing;
+
+pub use cells::{Area, Cell, Grid, RowSpec, Slot, Span};
+pub use columns::{ColumnsIn, FirstCell, columns_fixed};
+pub use grid::slots;
+pub use heights::{RowCell, RowsIn, rows};
+pub use laws::{one_columns, one_grid, one_heights};
+pub use lists::{FirstCells, RowCells, SlotList, SpanList, WidthOptions};
