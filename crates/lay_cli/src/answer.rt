@@ -19,7 +19,7 @@ use lay_units::{NoMemory, Text};
 use std::alloc::Global;
 
 /// A text that answers bytes.
-#[derive(Drop, Debug)]
+#[derive(Drop)]
 pub enum Answer {
     /// The report of their document's layout.
     Report(Text),

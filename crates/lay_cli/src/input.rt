@@ -11,7 +11,7 @@ use std::alloc::Global;
 const MOST: usize = 16777216;
 
 /// Why the input isn't there.
-#[derive(Clone, Copy, Debug, PartialEq, Eq)]
+#[derive(Clone, Copy)]
 pub enum SourceFault {
     /// More than 16,777,216 bytes come.
     TooLong,

@@ -13,7 +13,5 @@ mod hidden;
 mod input;
 mod output;
 mod refusal;
-#[cfg(test)]
-mod tests;
 
 pub use call::{Status, top};

@@ -1,0 +1,59 @@
+//! Calls.
+
+use crate::answer::Answer;
+use crate::terms::{Steps, Terms};
+use anyhow::{Result, bail};
+use lay_cli::{Status, top};
+use lay_outside::{MemSink, MemSource, OpenGate};
+use std::alloc::{AllocError, Global};
+use std::sync::Wait;
+use std::thread::Threads;
+
+/// Makes the top call on these terms, over the bytes of a document.
+pub fn call<R: Threads + Wait + Sync>(
+    rt: &R,
+    alloc: Global,
+    terms: &Terms<'_>,
+    document: Vec<u8>,
+) -> Result<Answer> {
+    let words = words(alloc, terms.words())?;
+    let mut source = source(alloc, document, terms.reading())?;
+    let mut sink = sink(alloc, terms.room(), terms.writing())?;
+    let status = status(rt, alloc, &words, &mut source, &mut sink);
+    let status = format!(in alloc; "{status:?}")?;
+    Ok(Answer::new(status, sink))
+}
+
+fn status<R: Threads + Wait + Sync>(
+    rt: &R,
+    alloc: Global,
+    words: &[String],
+    source: &mut MemSource,
+    sink: &mut MemSink,
+) -> Status {
+    top(rt, alloc, words, source, sink, &OpenGate)
+}
+
+/// The words between blanks; none where the line is `-` alone.
+fn words(alloc: Global, line: &str) -> Result<Vec<String>, AllocError> {
+    let mut words = Vec::new(alloc);
+    if line != "-" {
+        for word in line.split(' ') {
+            words.push(String::from_str(alloc, word)?)?;
+        }
+    }
+    Ok(words)
+}
+
+fn source(alloc: Global, bytes: Vec<u8>, steps: Steps) -> Result<MemSource, AllocError> {
+    let failing = vec![in alloc; steps.failing]?;
+    Ok(MemSource::new(bytes, steps.most.max(1), failing))
+}
+
+fn sink(alloc: Global, room: usize, steps: Steps) -> Result<MemSink> {
+    let failing = vec![in alloc; steps.failing]?;
+    match MemSink::new(alloc, room, steps.most.max(1), failing) {
+        Ok(sink) => Ok(sink),
+        Err(_) => bail!("out of memory"),
+    }
+}

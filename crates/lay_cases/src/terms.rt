@@ -1,0 +1,100 @@
+//! The terms of a call: its words, and how its source and sink behave.
+
+ghost use Rattle.std.specs.Prelude.{◌≡◌};
+
+/// The terms of a call.
+#[derive(Clone, Copy)]
+pub struct Terms<'a> {
+    words: &'a str,
+    document: Option<&'a str>,
+    reading: Steps,
+    writing: Steps,
+    room: usize,
+    front: Option<usize>,
+}
+
+/// How many bytes a stream takes at most in a call, and the number of the call that fails, from 1; 0 where none does.
+#[derive(Clone, Copy)]
+pub struct Steps {
+    pub most: usize,
+    pub failing: u64,
+}
+
+const EASY: Steps = Steps {
+    most: 4096,
+    failing: 0,
+};
+
+/// The terms of a document that is laid out from scratch, between streams that don't fail.
+pub const PLAIN: Terms<'static> = Terms {
+    words: "scratch",
+    document: None,
+    reading: EASY,
+    writing: EASY,
+    room: 65536,
+    front: None,
+};
+
+impl<'a> Terms<'a> {
+    /// The terms of a line, `KEY VALUE, KEY VALUE ..`, and else the plain ones; None where a key is none.
+    pub fn read(line: &'a str) -> Option<Terms<'a>> {
+        let mut terms = PLAIN;
+        if !line.is_empty() {
+            for term in line.split(", ") {
+                terms.set(term)?;
+            }
+        }
+        Some(terms)
+    }
+
+    fn set(&mut self, term: &'a str) -> Option<()> {
+        let (key, value) = term.split_once(' ')?;
+        match key {
+            "words" => self.words = value,
+            "document" => self.document = Some(value),
+            _ => return self.set_number(key, value.parse::<usize>().ok()?),
+        }
+        Some(())
+    }
+
+    fn set_number(&mut self, key: &str, number: usize) -> Option<()> {
+        match key {
+            "room" => self.room = number,
+            "front" => self.front = Some(number),
+            "read-step" => self.reading.most = number,
+            "read-fails" => self.reading.failing = number as u64,
+            "write-step" => self.writing.most = number,
+            "write-fails" => self.writing.failing = number as u64,
+            _ => return None,
+        }
+        Some(())
+    }
+
+    /// The words of the command line, parted by blanks.
+    pub fn words(&self) -> &'a str {
+        self.words
+    }
+
+    /// The document's name from the data folder on, where the case has none of its own.
+    pub fn document(&self) -> Option<&'a str> {
+        self.document
+    }
+
+    pub fn reading(&self) -> Steps {
+        self.reading
+    }
+
+    pub fn writing(&self) -> Steps {
+        self.writing
+    }
+
+    /// How many bytes the sink takes.
+    pub fn room(&self) -> usize {
+        self.room
+    }
+
+    /// How many bytes of the answer are wanted, where it isn't all of them.
+    pub fn front(&self) -> Option<usize> {
+        self.front
+    }
+}
