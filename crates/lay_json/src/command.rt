@@ -5,9 +5,6 @@ ghost use Rattle.serde_json.specs.View.{view};
 ghost use Rattle.lay_json.specs.Fields.{Gives};
 ghost use Rattle.lay_json.specs.Commands.{action_named, action_of, named_node, set_command, clear_command, text_command, insert_command, remove_command, command_for, command_of};
 
-#[cfg(test)]
-mod tests;
-
 use crate::fault::{Field, InputFault, Spot};
 use crate::fields::{object_of, required_number, required_text};
 use crate::new_node::{declaration_of, new_node};
@@ -19,7 +16,7 @@ use serde_json::Value;
 use std::alloc::Global;
 
 /// What `do` names.
-#[derive(Clone, Copy, Debug, PartialEq, Eq)]
+#[derive(Clone, Copy)]
 pub(crate) enum Action {
     Set,
     Clear,

@@ -6,9 +6,6 @@ ghost use Rattle.lay_json.specs.Fields.{Gives, Changes};
 ghost use Rattle.lay_json.specs.Scripts.{is_read, reads_of, command_count, read_count};
 ghost use Rattle.lay_json.specs.Editors.{is_past, next_command, with_command, script_from, with_script, scripts_from, are_lists, scripts_of};
 
-#[cfg(test)]
-mod tests;
-
 use crate::command::command_of;
 use crate::fault::{Field, InputFault, Spot};
 use crate::fields::{has_at_most, list_of};
@@ -26,7 +23,7 @@ const MOST_COMMANDS: usize = 8192;
 const MOST_READS: usize = 256;
 
 /// The script of one editor, as far as it is read.
-#[derive(Drop, Debug)]
+#[derive(Drop)]
 struct Script {
     commands: CmdList,
     /// How many of them read.

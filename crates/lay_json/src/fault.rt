@@ -7,7 +7,7 @@ use lay_doc::EditFault;
 use lay_units::NoMemory;
 
 /// A field of a run document, of a face, of a node or of a command. `Run` is the run document itself.
-#[derive(Clone, Copy, Debug, PartialEq, Eq)]
+#[derive(Clone, Copy, PartialEq, Eq)]
 pub enum Field {
     Run,
     Viewport,
@@ -70,7 +70,7 @@ impl Field {
 }
 
 /// Where a field stands.
-#[derive(Clone, Copy, Debug, PartialEq, Eq)]
+#[derive(Clone, Copy, PartialEq, Eq)]
 pub enum Spot {
     /// In the run document itself, or in its face.
     Run,
@@ -81,7 +81,7 @@ pub enum Spot {
 }
 
 /// Why bytes give no run. A report says it as I1 to I9.
-#[derive(Clone, Copy, Debug, PartialEq, Eq)]
+#[derive(Clone, Copy, PartialEq, Eq)]
 pub enum InputFault {
     /// I1: more than 16,777,216 bytes.
     TooLong,

@@ -23,8 +23,6 @@ mod reading;
 mod run;
 mod run_doc;
 mod script_list;
-#[cfg(test)]
-mod tests;
 
 pub use fault::{Field, InputFault, Spot};
 pub use laws::{nodes_are_counted, one_reading};

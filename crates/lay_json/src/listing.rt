@@ -4,9 +4,6 @@ ghost use Rattle.std.specs.Prelude.{◌≡◌, ◌∷◌, ◌++◌, [], IfOk, On
 ghost use Rattle.serde_json.specs.View.{view, items_view};
 ghost use Rattle.lay_json.specs.Listing.{id_in, ids_in, IsListOf};
 
-#[cfg(test)]
-mod tests;
-
 use crate::fault::Field;
 use crate::fields::{value_in, whole_within};
 use crate::node_list::NodeList;

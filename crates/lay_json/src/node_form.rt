@@ -15,7 +15,7 @@ use lay_units::Unit;
 use serde_json::{Map, Value};
 
 /// What `kind` names.
-#[derive(Clone, Copy, Debug, PartialEq, Eq)]
+#[derive(Clone, Copy)]
 pub(crate) enum KindName {
     Element,
     Text,
@@ -23,7 +23,7 @@ pub(crate) enum KindName {
 }
 
 /// A node's fields but its style and its text. The parent is named by its id, 0 for none.
-#[derive(Clone, Copy, Debug, PartialEq, Eq)]
+#[derive(Clone, Copy)]
 pub(crate) struct NodeForm {
     pub id: NodeId,
     pub parent: NodeId,

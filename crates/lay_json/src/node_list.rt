@@ -8,7 +8,7 @@ use std::alloc::Global;
 use std::marker::Model;
 
 /// Ids of nodes, in order.
-#[derive(Drop, Debug)]
+#[derive(Drop)]
 pub struct NodeList {
     items: Vec<NodeId>,
 }

@@ -12,7 +12,7 @@ use std::sync::Arc;
 
 /// What a run document says: a document, its face, and the scripts of its editors. `listed` has the ids of
 /// the document's nodes in the order of the list `nodes`.
-#[derive(Drop, Debug)]
+#[derive(Drop)]
 pub struct RunDoc {
     doc: Doc,
     face: Arc<Face>,

@@ -3,9 +3,6 @@
 ghost use Rattle.std.specs.Prelude.{◌≡◌, ◌+◌, ◌<◌, ◌≤◌, ◌==◌, ◌++◌, ◌∷◌, [], length, OnOk, OnErr};
 ghost use Rattle.lay_json.specs.Scripts.{IsWithinLimits, is_read, reads_of, command_count, read_count};
 
-#[cfg(test)]
-mod tests;
-
 use lay_doc::{Cmd, CmdList};
 use lay_units::NoMemory;
 use std::alloc::Global;
@@ -13,7 +10,7 @@ use std::marker::Model;
 
 /// The scripts of editors, in the editors' order: at most 16, with at most 8,192 commands together, of
 /// which at most 256 read.
-#[derive(Drop, Debug)]
+#[derive(Drop)]
 pub struct ScriptList {
     items: Vec<CmdList>,
     /// How many commands there are in all.
