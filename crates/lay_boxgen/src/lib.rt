@@ -31,8 +31,6 @@ mod node_trees;
 mod runs;
 mod subtree;
 mod table_wrappers;
-#[cfg(test)]
-mod tests;
 mod white_space;
 
 pub use box_role::Role;

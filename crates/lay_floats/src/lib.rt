@@ -18,8 +18,6 @@ mod mirror;
 mod placed;
 mod requests;
 mod solid;
-#[cfg(test)]
-mod tests;
 
 pub use floats::Floats;
 pub use laws::{one_clear_edge, one_float_place, one_room, one_solid_place, place_within};

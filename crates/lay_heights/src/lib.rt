@@ -7,8 +7,6 @@
 
 mod auto_height;
 mod min_max;
-#[cfg(test)]
-mod tests;
 
 pub use auto_height::{FlowEnds, auto_height_flow, auto_height_root};
 pub use min_max::with_min_max;

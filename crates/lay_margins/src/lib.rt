@@ -9,8 +9,6 @@ mod adjoining;
 mod edge;
 mod laws;
 mod strut;
-#[cfg(test)]
-mod tests;
 
 pub use adjoining::runs;
 pub use edge::{Edge, Run, RunList};

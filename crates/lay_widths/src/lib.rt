@@ -13,8 +13,6 @@ mod laws;
 mod min_max;
 mod replaced;
 mod room;
-#[cfg(test)]
-mod tests;
 mod wide;
 mod widths;
 

@@ -6,7 +6,7 @@ use Rattle.lay_floats.specs.declared.requests.FloatReq.{FloatReq}
 use Rattle.lay_floats.specs.Fits.{BoxFits}
 use Rattle.lay_floats.specs.FloatPlace.{IsFloatPlace, placed_at}
 use Rattle.lay_floats.specs.Within.{BoxWithin, RequestWithin, PlaceWithin}
-use Rattle.lay_floats.proofs.tests.Page.put.Goals as goal
+use Rattle.lay_box_cases.proofs.floats.Page.put.Goals as goal
 
 abbrev reach : ℕ → ℤ
 reach n = pos ((n + 1) * 16777216)
