@@ -1,6 +1,6 @@
-//! Boxes of documents, written as the documents are. `w` is the wrapper of a table and `v` that of an
-//! inline-table, `m` a replaced element, `@` an anchor; `*` stands before an anonymous box and `'` behind that
-//! of an inner context.
+//! Boxes of documents, written as the documents are. `w` is the wrapper of a table and `v` that of
+//! an inline-table, `m` a replaced element, `@` an anchor; `*` stands before an anonymous box and
+//! `'` behind that of an inner context.
 
 ghost use Rattle.std.specs.Prelude.{◌≡◌, length};
 
@@ -60,8 +60,9 @@ pub fn with_nodes(alloc: Global, text: &str) -> Result<String> {
     trimmed(alloc, &out)
 }
 
-/// The boxes of the root's context, each with what its style has: `b` for `display: block` and `i` for
-/// inline, and the signs of documents for a font size and a margin that aren't the initial ones.
+/// The boxes of the root's context, each with what its style has: `b` for `display: block` and `i`
+/// for inline, and the signs of documents for a font size and a margin that aren't the initial
+/// ones.
 pub fn with_styles(alloc: Global, text: &str) -> Result<String> {
     let page = styled(alloc, text)?;
     let tree = ample(boxes(alloc, &page.doc, &page.style, NodeId(1)))?;

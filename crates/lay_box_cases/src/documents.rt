@@ -1,11 +1,12 @@
 //! Documents in a short notation: a letter a node, and its children in brackets.
 //!
-//! `b` block, `i` inline, `k` inline-block, `l` list-item, `t` table, `n` inline-table, `g` row group,
-//! `h` header group, `f` footer group, `r` row, `c` cell, `p` caption, `G` column group, `C` column, `x` with
-//! `display: none`. Texts are `.` a word, `_` a space, `^` a linefeed, `|` a carriage return, `;` no character.
-//! A sign says more of the element behind it: `<` a float, `@` absolute, `?` fixed, `!` hidden overflow,
-//! `=` pre, `-` pre-line, `+` a font size of 32 px, `~` a left margin of 10 px, `%` replaced. A number behind
-//! the signs says how many such nodes stand there.
+//! `b` block, `i` inline, `k` inline-block, `l` list-item, `t` table, `n` inline-table, `g` row
+//! group, `h` header group, `f` footer group, `r` row, `c` cell, `p` caption, `G` column group, `C`
+//! column, `x` with `display: none`. Texts are `.` a word, `_` a space, `^` a linefeed, `|` a
+//! carriage return, `;` no character. A sign says more of the element behind it: `<` a float, `@`
+//! absolute, `?` fixed, `!` hidden overflow, `=` pre, `-` pre-line, `+` a font size of 32 px, `~` a
+//! left margin of 10 px, `%` replaced. A number behind the signs says how many such nodes stand
+//! there.
 
 use crate::cells::ample;
 use anyhow::{Result, bail};

@@ -1,12 +1,13 @@
-//! Floats of a block formatting context, and what is asked of them, in px: terms with commas between them,
-//! and for each term its answer.
+//! Floats of a block formatting context, and what is asked of them, in px: terms with commas
+//! between them, and for each term its answer.
 //!
-//! - `left WIDTH HEIGHT` or `right WIDTH HEIGHT` is a float, and its answer is its corner. Behind it may stand
-//!   `in LEFT RIGHT`, the edges of its containing block (0 and 800), `from TOP`, the top that it keeps below
-//!   (0), and `clear SIDE`.
+//! - `left WIDTH HEIGHT` or `right WIDTH HEIGHT` is a float, and its answer is its corner. Behind
+//!   it may stand `in LEFT RIGHT`, the edges of its containing block (0 and 800), `from TOP`, the
+//!   top that it keeps below (0), and `clear SIDE`.
 //! - `line TOP HEIGHT` is answered with the edges of the room between 0 and 800.
-//! - `solid WIDTH HEIGHT TOP` is a box that may not overlap floats, between 0 and 800, with its mark at TOP; it
-//!   is answered with its corner.
+//! - `solid WIDTH HEIGHT TOP` is a box that may not overlap floats, between 0 and 800, with its
+//!   mark at TOP; it is answered with its corner.
+//! - `next TOP HEIGHT` is answered with the highest of the bottoms of the floats beside a box there.
 //! - `clear SIDE` is answered with the edge below the floats to clear, or `none`.
 
 ghost use Rattle.std.specs.Prelude.{pos, ◌+◌, ◌*◌, ◌^◌, All};
@@ -61,6 +62,7 @@ impl Page {
             Some("left") => push_place(out, self.put(&float_term(Side::Left, cells)?)?),
             Some("right") => push_place(out, self.put(&float_term(Side::Right, cells)?)?),
             Some("line") => self.push_room(out, cells),
+            Some("next") => self.push_next_bottom(out, cells),
             Some("solid") => self.push_solid(out, cells),
             Some("clear") => self.push_clear_edge(out, cells),
             _ => bail!("no term"),
@@ -103,17 +105,17 @@ impl Page {
         push_place(out, self.floats.fit_solid(&request))
     }
 
+    fn push_next_bottom(&self, out: &mut String, mut cells: Cells<'_>) -> Result<()> {
+        let top = cells.number()?;
+        let height = cells.number()?;
+        cells.end()?;
+        push_px_or_none(out, self.floats.next_bottom(px(top), px(height)))
+    }
+
     fn push_clear_edge(&self, out: &mut String, mut cells: Cells<'_>) -> Result<()> {
         let clear = clear(&mut cells)?;
         cells.end()?;
-        match self.floats.clear_edge(clear) {
-            Some(edge) => {
-                let edge = edge.0 / 64;
-                write!(out, "{edge}")?;
-            }
-            None => out.push_str("none")?,
-        }
-        Ok(())
+        push_px_or_none(out, self.floats.clear_edge(clear))
     }
 }
 
@@ -185,6 +187,17 @@ fn px(v: i16) -> Unit
 
 fn push_place(out: &mut String, place: Place) -> Result<()> {
     push_px(out, place.x, place.y)
+}
+
+fn push_px_or_none(out: &mut String, edge: Option<Unit>) -> Result<()> {
+    match edge {
+        Some(edge) => {
+            let edge = edge.0 / 64;
+            write!(out, "{edge}")?;
+        }
+        None => out.push_str("none")?,
+    }
+    Ok(())
 }
 
 fn push_px(out: &mut String, first: Unit, second: Unit) -> Result<()> {

@@ -1,8 +1,10 @@
-//! Asks the calls for boxes and their geometry what the tables of a folder say, and prints for each row
-//! whether its answer came: `lay_box_cases FOLDER`. `lay_box_cases CALL TEXT` prints the answer to one text.
+//! Asks the calls for boxes and their geometry what the tables of a folder say, and prints for each
+//! row whether its answer came: `lay_box_cases FOLDER`. `lay_box_cases CALL TEXT` prints the answer
+//! to one text.
 //!
-//! The ending of a table's name is the call, and the beginning of it is the section of CSS 2.2 whose rules
-//! are shown. Rows are lines `NAME: TEXT -> ANSWER`; lines that begin with `#` say what TEXT and ANSWER are.
+//! The ending of a table's name is the call, and the beginning of it is the section of CSS 2.2
+//! whose rules are shown. Rows are lines `NAME: TEXT -> ANSWER`; lines that begin with `#` say what
+//! TEXT and ANSWER are.
 #![tactic(auto)]
 
 mod boxes;
@@ -89,6 +91,7 @@ fn answer(alloc: Global, call: &str, text: &str) -> Result<String> {
         "box-counts" => boxes::count(alloc, text),
         "block-widths" => widths::of_block(alloc, text),
         "float-widths" => widths::of_float(alloc, text),
+        "replaced-sizes" => widths::of_replaced(alloc, text),
         "flow-heights" => heights::of_flow(alloc, text),
         "root-heights" => heights::of_root(alloc, text),
         "bounded-heights" => heights::bounded(alloc, text),

@@ -8,8 +8,8 @@ use lay_margins::{Edge, Strut, runs};
 use lay_units::Unit;
 use std::alloc::Global;
 
-/// What three margins collapse to, whether they are added one by one or the last two are joined with the
-/// first.
+/// What three margins collapse to, whether they are added one by one or the last two are joined
+/// with the first.
 pub fn collapsed(alloc: Global, text: &str) -> Result<String> {
     let mut cells = Cells::new(text);
     let first = px(cells.number()?);

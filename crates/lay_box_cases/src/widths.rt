@@ -1,11 +1,12 @@
-//! Used widths.
+//! Used widths, and sizes of replaced elements.
 
-ghost use Rattle.lay_widths.specs.Lengths.{BlockFits, LenFits, LenIsSize};
+ghost use Rattle.std.specs.Prelude.{pos, ◌≤ℤ◌, IfSome};
+ghost use Rattle.lay_widths.specs.Lengths.{BlockFits, IsSize, LenFits, LenIsSize};
 
 use crate::cells::Cells;
 use anyhow::Result;
 use lay_units::{BlockIn, Len, Unit};
-use lay_widths::{BlockOut, solve_block, solve_float};
+use lay_widths::{BlockOut, ReplacedIn, replaced_size, solve_block, solve_float};
 use std::alloc::Global;
 
 /// What a row says of a block, in units.
@@ -26,8 +27,8 @@ pub fn of_block(alloc: Global, text: &str) -> Result<String> {
     out(alloc, &solve_block(&block(&row)))
 }
 
-/// The used margins and width of a float, whose last two cells are its preferred minimum and its preferred
-/// width.
+/// The used margins and width of a float, whose last two cells are its preferred minimum and its
+/// preferred width.
 pub fn of_float(alloc: Global, text: &str) -> Result<String> {
     let mut cells = Cells::new(text);
     let row = block_row(&mut cells)?;
@@ -37,6 +38,33 @@ pub fn of_float(alloc: Global, text: &str) -> Result<String> {
     let minimum = Unit(i64::from(minimum));
     let preferred = Unit(i64::from(preferred));
     out(alloc, &solve_float(&block(&row), minimum, preferred))
+}
+
+/// The used width and height of a replaced element.
+pub fn of_replaced(alloc: Global, text: &str) -> Result<String> {
+    let mut cells = Cells::new(text);
+    let natural_width = cells.number()?;
+    let natural_height = cells.number()?;
+    let width = cells.number_or_none()?;
+    let height = cells.number_or_none()?;
+    let min_width = cells.number()?;
+    let max_width = cells.number_or_none()?;
+    let min_height = cells.number()?;
+    let max_height = cells.number_or_none()?;
+    cells.end()?;
+    let used = replaced_size(&ReplacedIn {
+        natural_width: natural(natural_width),
+        natural_height: natural(natural_height),
+        width: size(width),
+        height: size(height),
+        min_width: least(min_width),
+        max_width: greatest(max_width),
+        min_height: least(min_height),
+        max_height: greatest(max_height),
+    });
+    let width = used.width.0;
+    let height = used.height.0;
+    Ok(format!(in alloc; "{width} {height}")?)
 }
 
 fn block_row(cells: &mut Cells<'_>) -> Result<BlockRow> {
@@ -62,11 +90,31 @@ fn block(row: &BlockRow) -> BlockIn
         padding_right: Unit(8),
         border_right: Unit(2),
         margin_right: margin(row.margin_right),
-        min_width: Unit(i64::from(row.min_width)),
-        max_width: match row.max_width {
-            Some(v) => Some(Unit(i64::from(v))),
-            None => None,
-        },
+        min_width: least(row.min_width),
+        max_width: greatest(row.max_width),
+    }
+}
+
+/// A natural size, which is from 1.
+fn natural(v: u16) -> Unit
+    ensures size { IsSize result.0 }
+    ensures one { pos 1 ≤ℤ result.0 }
+{
+    Unit(i64::from(v.max(1)))
+}
+
+fn least(v: u16) -> Unit
+    ensures { IsSize result.0 }
+{
+    Unit(i64::from(v))
+}
+
+fn greatest(v: Option<u16>) -> Option<Unit>
+    ensures { IfSome result (λ u. IsSize u.0) }
+{
+    match v {
+        Some(v) => Some(least(v)),
+        None => None,
     }
 }
 
