@@ -1,5 +1,5 @@
 -- Edges in a line, and the widest of them.
-use Rattle.std.proofs.Common.{◌≡◌, ◌⊎◌, inl, inr, ℕ, zero, suc, ◌+◌, ◌*◌, ◌-◌, ◌<◌, ◌≤◌, ℤ, pos, ◌+ℤ◌, ◌-ℤ◌, ◌≤ℤ◌, Option, None, List, get_or, refl, sym, ap, ◌∙◌, subst, arith}
+use Rattle.std.proofs.Common.{◌≡◌, ◌⊎◌, inl, inr, ℕ, zero, suc, ◌+◌, ◌*◌, ◌-◌, ◌<◌, ◌≤◌, ℤ, ◌+ℤ◌, ◌-ℤ◌, ◌≤ℤ◌, Option, None, List, get_or, sym, ap, ◌∙◌, subst, arith}
 use Rattle.std.proofs.lemmas.Int.{ints}
 use Rattle.std.proofs.lemmas.Bool.{cases_lt}
 use Rattle.std.proofs.Math.Nat.{mul-le-mul_left}
@@ -21,7 +21,8 @@ pub record WidestTo (edges : List (Option Cand)) (place : ℕ → ℕ) (n : ℕ)
   pub one_of : (k : ℕ) × (k < n) × (width ≡ edge_width (get_or edges (place k) None))
   pub most : (k : ℕ) → k < n → edge_width (get_or edges (place k) None) ≤ℤ width
 
-pub widest_more : (edges : List (Option Cand)) (place : ℕ → ℕ) (n : ℕ) (widest next found : Unit) → found.0 ≡ edge_width (get_or edges (place n) None) → ((next ≡ widest) ⊎ (next ≡ found)) → widest.0 ≤ℤ next.0 → found.0 ≤ℤ next.0
+pub widest_more : (edges : List (Option Cand)) (place : ℕ → ℕ) (n : ℕ) (widest next found : Unit)
+    → found.0 ≡ edge_width (get_or edges (place n) None) → ((next ≡ widest) ⊎ (next ≡ found)) → widest.0 ≤ℤ next.0 → found.0 ≤ℤ next.0
     → WidestTo edges place n widest.0 → WidestTo edges place (n + 1) next.0
 widest_more edges place n widest next found is one up over to = record {
   one_of = from one;
@@ -39,12 +40,17 @@ widest_more edges place n widest next found is one up over to = record {
         subst (λ (m : ℕ). edge_width (get_or edges (place m) None) ≤ℤ next.0) e (omega (arith, ints, is, over))
 
 -- a half of the widest edge of a line
-pub half_of_line : (half : ℤ → ℤ) (items edges : List (Option Cand)) (line place : ℕ → ℕ) (n count : ℕ) (width border : ℤ) → items ≡ edges → ((k : ℕ) → line k ≡ place k) → n ≡ count
+pub half_of_line : (half : ℤ → ℤ) (items edges : List (Option Cand)) (line place : ℕ → ℕ) (n count : ℕ) (width border : ℤ) → items ≡ edges
+    → ((k : ℕ) → line k ≡ place k) → n ≡ count
     → IsWidest items line n width → border ≡ half width → IsHalf half edges place count border
-half_of_line half items edges line place n count width border e same c widest is = (width, record {
-  one_of = let h = widest.one_of in let lt = h.1 in (h.0, omega (arith, c, lt), h.2 ∙ at h.0);
-  most = λ k less. let h = widest.most k (omega (arith, c, less)) in let w = at k in omega (arith, ints, h, w);
-}, is)
+half_of_line half items edges line place n count width border e same c widest is = (
+  width,
+  record {
+    one_of = let h = widest.one_of in let lt = h.1 in (h.0, omega (arith, c, lt), h.2 ∙ at h.0);
+    most = λ k less. let h = widest.most k (omega (arith, c, less)) in let w = at k in omega (arith, ints, h, w);
+  },
+  is,
+)
   where
     at : (k : ℕ) → edge_width (get_or items (line k) None) ≡ edge_width (get_or edges (place k) None)
     at k = ap (λ (xs : List (Option Cand)). edge_width (get_or xs (line k) None)) e ∙ ap (λ (m : ℕ). edge_width (get_or edges m None)) (same k)
@@ -63,5 +69,6 @@ widest_same edges place n v w p q =
     let x = q.most a.0 a.1 in let y = p.most b.0 b.1 in
     omega (arith, ints, c, d, x, y)
 
-pub half_same : (half : ℤ → ℤ) (edges : List (Option Cand)) (place : ℕ → ℕ) (n : ℕ) (v w : ℤ) → IsHalf half edges place n v → IsHalf half edges place n w → v ≡ w
+pub half_same : (half : ℤ → ℤ) (edges : List (Option Cand)) (place : ℕ → ℕ) (n : ℕ) (v w : ℤ) → IsHalf half edges place n v
+    → IsHalf half edges place n w → v ≡ w
 half_same half edges place n v w p q = p.2 ∙ ap half (widest_same edges place n p.0 q.0 p.1 q.1) ∙ sym q.2

@@ -1,9 +1,9 @@
 -- A table and its cells have one border on each side.
-use Rattle.std.proofs.Common.{◌≡◌, ◌⊎◌, inl, inr, ℕ, zero, suc, ◌+◌, ◌<◌, ℤ, pos, ◌-ℤ◌, Option, List, refl, sym, ◌∙◌, arith}
+use Rattle.std.proofs.Common.{◌≡◌, ◌⊎◌, inl, inr, ℕ, zero, suc, ◌<◌, ℤ, Option, List, refl, sym, ◌∙◌, arith}
 use Rattle.lay_units.specs.declared.records.Sides.{Sides}
 use Rattle.lay_borders.specs.declared.candidate.Cand.{Cand}
 use Rattle.lay_borders.specs.declared.halves.GridSize.{GridSize}
-use Rattle.lay_borders.specs.Halves.{AreOuterHalves, AreNone, AreTableBorders}
+use Rattle.lay_borders.specs.Halves.{AreOuterHalves, AreNone}
 use Rattle.lay_borders.specs.Laws.{OneTableBorders, OneCellBorders}
 use Rattle.lay_borders.proofs.Lines.{half_same}
 

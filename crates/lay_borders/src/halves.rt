@@ -2,7 +2,8 @@
 
 ghost use Rattle.std.specs.Prelude.{◌≡◌, ◌⊎◌, ◌≤ℤ◌, ℕ, ◌+◌, ◌*◌, ◌-◌, ◌^◌, ◌<◌, ◌≤◌, length};
 ghost use Rattle.lay_borders.specs.Halves.{AreCellBorders, IsInside, AreTableBorders, IsWidest};
-ghost use Rattle.lay_borders.specs.Halves.{drawn_width, edge_above, edge_left_of, edge_width, edges_of};
+ghost use Rattle.lay_borders.specs.Halves.{drawn_width, edge_width, edges_of};
+ghost use Rattle.lay_borders.specs.Halves.{edge_above, edge_left_of};
 
 use crate::candidate::{BorderStyle, Cand};
 use crate::edges::EdgeGrid;
@@ -32,8 +33,8 @@ struct Line {
     count: u32,
 }
 
-/// The borders of a table with these edges: the halves of its outer edges that lie outside. 0 on all
-/// sides where it has no rows or no columns.
+/// The borders of a table with these edges: the halves of its outer edges that lie outside. 0 on
+/// all sides where it has no rows or no columns.
 pub fn table_borders(edges: &EdgeGrid, size: GridSize) -> Sides
     requires { length edges.now.edges ≡ edges_of size }
     ensures { AreTableBorders edges.now.edges size result }

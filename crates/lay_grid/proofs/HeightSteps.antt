@@ -17,6 +17,7 @@ use Rattle.lay_grid.specs.Heights.{IsEnough, RowFits, IsLowest, AreLowest, AreHe
 use Rattle.lay_grid.specs.Lengths.{IsWithin}
 use Rattle.lay_grid.specs.RowsFit.{RowsFit}
 use Rattle.lay_grid.specs.Pass.Needs.{IsNeed, NeedsTo, AllNeedsTo}
+use Rattle.lay_grid.specs.Pass.Totals.{Totals}
 use Rattle.lay_grid.proofs.LeastRooms.{IsLeastRoom, room_exists, enough_more}
 use Rattle.lay_grid.proofs.SharedSteps.{length_push}
 
@@ -57,11 +58,6 @@ height_more r above needs n d height next to lt e so = record {
     contained lt = Contains-get_or needs n d lt
 
 -- with the table's height
-pub record Totals (r : RowsIn) (above : List Unit) (before after : ℤ) : Type 0 where
-  pub up : before ≤ℤ after
-  pub total : length above + 1 ≡ length r.own → r.total.0 ≤ℤ (sum_of above +ℤ after)
-  pub least : (u : ℤ) → before ≤ℤ u → (length above + 1 ≡ length r.own → r.total.0 ≤ℤ (sum_of above +ℤ u)) → after ≤ℤ u
-
 pub height_last : (r : RowsIn) (above : List Unit) (needs : List Need) (n : ℕ) (height last : ℤ)
     → NeedsTo r.cells (length r.cells) (length above) needs → length needs ≤ n → HeightTo r above needs n height
     → Totals r above height last → IsLowest r above last

@@ -11,3 +11,6 @@ pub mod OneColumns
 pub mod RowBaselines
 pub mod LeastRooms
 pub mod HeightSteps
+pub mod ColumnsWithin
+pub mod HeightsWithin
+pub mod WidthsWithin

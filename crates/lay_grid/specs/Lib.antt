@@ -7,5 +7,6 @@ pub mod Columns
 pub mod ColumnsFit
 pub mod Heights
 pub mod RowsFit
+pub mod Within
 pub mod Laws
 pub mod Pass

@@ -3,3 +3,4 @@ pub mod Known
 pub mod Sharing
 pub mod Baselines
 pub mod Needs
+pub mod Totals

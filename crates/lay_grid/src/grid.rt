@@ -6,7 +6,7 @@ ghost use Rattle.lay_grid.specs.declared.cells.Grid.{Grid};
 ghost use Rattle.lay_grid.specs.Areas.{areas_from};
 ghost use Rattle.lay_grid.specs.Places.{right_edge};
 ghost use Rattle.lay_grid.specs.Slots.{IsGrid, SpanRows, columns_of};
-ghost use Rattle.lay_grid.specs.Slots.{slots_from, slots_of_cell, slots_of_row};
+ghost use Rattle.lay_grid.specs.Slots.{slots_from, slots_in_row, slots_of_cell};
 
 use crate::cells::{Cell, Grid, RowSpec, Slot};
 use crate::lists::SlotList;
@@ -72,7 +72,7 @@ fn add_row(slots: &mut Vec<Slot>, k: usize, row: usize, cell: Cell) -> Result<()
     requires place { k < 2 ^ 32 }
     requires row { row < 2 ^ 32 }
     requires columns { right_edge cell < 2 ^ 32 }
-    ensures { OnOk result (slots.new.items ≡ slots.old.items ++ slots_of_row k row cell.left cell.area.columns) }
+    ensures { OnOk result (slots.new.items ≡ slots.old.items ++ slots_in_row k row cell) }
 {
     for column in cell.left..cell.left + cell.area.columns as usize {
         slots.push(Slot {

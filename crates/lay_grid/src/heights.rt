@@ -8,6 +8,7 @@ ghost use Rattle.lay_grid.specs.Heights.{AreHeights, AreLowest, IsLowest, room_a
 ghost use Rattle.lay_grid.specs.Lengths.{ArePositions, IsWithin};
 ghost use Rattle.lay_grid.specs.RowsFit.{RowsFit};
 ghost use Rattle.lay_grid.specs.Pass.Needs.{NeedsTo};
+ghost use Rattle.lay_grid.specs.Pass.Totals.{Totals};
 
 use crate::lists::RowCells;
 use crate::needs::{Need, needs_by_last_row};
@@ -86,9 +87,7 @@ fn with_total(r: &RowsIn, above: &[Unit], height: i128) -> i128
     requires fits { ArePositions above.now }
     requires few { length above.now < 2 ^ 32 }
     requires height { IsWithin 104 height }
-    ensures up { height ≤ℤ result }
-    ensures total { length above.now + 1 ≡ length r.now.own → r.now.total.0 ≤ℤ (sum_of above.now +ℤ result) }
-    ensures least { (u : ℤ) → height ≤ℤ u → (length above.now + 1 ≡ length r.now.own → r.now.total.0 ≤ℤ (sum_of above.now +ℤ u)) → result ≤ℤ u }
+    ensures { Totals r.now above.now height result }
 {
     if above.len() + 1 != r.own.as_slice().len() {
         return height;

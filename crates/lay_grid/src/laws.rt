@@ -1,6 +1,7 @@
 //! Laws of the definitions. The functions do nothing.
 
 ghost use Rattle.lay_grid.specs.Laws.{OneColumns, OneGrid, OneHeights};
+ghost use Rattle.lay_grid.specs.Within.{ColumnsAreWithin, HeightsAreWithin, WidthsAreWithin};
 
 /// Rows have one grid.
 pub fn one_grid()
@@ -15,4 +16,19 @@ pub fn one_columns()
 /// Rows have one list of heights.
 pub fn one_heights()
     ensures { OneHeights }
+{}
+
+/// A grid has no more columns than its cells span together.
+pub fn columns_are_within()
+    ensures { ColumnsAreWithin }
+{}
+
+/// Rows that need no more than so much are no higher.
+pub fn heights_are_within()
+    ensures { HeightsAreWithin }
+{}
+
+/// Columns that are no wider than so much get no more than that for each, and once more.
+pub fn widths_are_within()
+    ensures { WidthsAreWithin }
 {}

@@ -24,5 +24,7 @@ pub use cells::{Area, Cell, Grid, RowSpec, Slot, Span};
 pub use columns::{ColumnsIn, FirstCell, columns_fixed};
 pub use grid::slots;
 pub use heights::{RowCell, RowsIn, rows};
-pub use laws::{one_columns, one_grid, one_heights};
+pub use laws::{
+    columns_are_within, heights_are_within, one_columns, one_grid, one_heights, widths_are_within,
+};
 pub use lists::{FirstCells, RowCells, SlotList, SpanList, WidthOptions};

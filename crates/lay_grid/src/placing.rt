@@ -7,7 +7,7 @@ ghost use Rattle.lay_grid.specs.declared.cells.Span.{Span};
 ghost use Rattle.lay_grid.specs.Areas.{area_of, areas_in_row, areas_from, rows_left};
 ghost use Rattle.lay_grid.specs.Places.{StandAfter, areas_of};
 ghost use Rattle.lay_grid.specs.Slots.{SpanRows};
-ghost use Rattle.lay_grid.specs.Pass.Known.{AddsAreas, Known};
+ghost use Rattle.lay_grid.specs.Pass.Known.{AddsAreas, AddsRow, Known};
 
 use crate::cells::{Area, Cell, RowSpec, Span};
 use crate::scan::{free_left, occupy};
@@ -67,7 +67,7 @@ fn place_row(
     requires spans { All (λ (span : Span). 1 ≤ span.rows) spans.now }
     requires known { Known cells.old.items busy.old.items row 0 }
     ensures known { OnOk result (Known cells.new.items busy.new.items (row + 1) 0) }
-    ensures areas { OnOk result (AddsAreas cells.old.items cells.new.items (areas_in_row row (end - row) spans.now)) }
+    ensures areas { OnOk result (AddsRow cells.old.items cells.new.items row end spans.now) }
 {
     let mut next = 0;
     for span in spans {

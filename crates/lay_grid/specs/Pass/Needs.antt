@@ -43,7 +43,8 @@ pub record NeedsTo (cells : List RowCell) (n row : ℕ) (needs : List Need) : Ty
 
 -- one more need stands at the end of those of its last row
 pub record Adds (need : Need) (before after : List (List Need)) : Type 0 where
-  pub here : slice_index_or after (last_row need) [] ≡ slice_index_or before (last_row need) [] ++ need ∷ []
+  pub here : slice_index_or after (last_row need) []
+      ≡ slice_index_or before (last_row need) [] ++ need ∷ []
   pub others : (k : ℕ) → k ≢ last_row need → slice_index_or after k [] ≡ slice_index_or before k []
   pub as_many : length after ≡ length before
 

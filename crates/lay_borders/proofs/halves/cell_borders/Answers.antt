@@ -1,4 +1,3 @@
-use Rattle.std.proofs.Common.{◌≡◌, refl}
 use Rattle.lay_borders.specs.Halves.{first_half, second_half}
 use Rattle.lay_borders.proofs.Lines.{half_of_line, second}
 use Rattle.lay_borders.proofs.halves.cell_borders.Goals as goal

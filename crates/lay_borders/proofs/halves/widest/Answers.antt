@@ -1,4 +1,4 @@
-use Rattle.std.proofs.Common.{ℕ, ◌+◌, ◌*◌, arith}
+use Rattle.std.proofs.Common.{ℕ, ◌+◌, ◌*◌}
 use Rattle.lay_borders.proofs.Lines.{widest_more}
 use Rattle.lay_borders.proofs.halves.widest.Goals as goal
 
