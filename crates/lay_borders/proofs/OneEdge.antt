@@ -19,4 +19,5 @@ one_border_each_lem meeting xs ys p q =
     ext_get_or None xs ys (p.as_many ∙ sym q.as_many) (λ k lt.
     edge_same (get_or meeting k []) (get_or xs k None) (get_or ys k None)
     (p.each k (get_or meeting k []) (get_or xs k None) (slice_get-get_or meeting k [] (omega (arith, a, lt))) (slice_get-get_or xs k None lt))
-    (q.each k (get_or meeting k []) (get_or ys k None) (slice_get-get_or meeting k [] (omega (arith, a, lt))) (slice_get-get_or ys k None (omega (arith, a, b, lt)))))
+    (q.each k (get_or meeting k []) (get_or ys k None) (slice_get-get_or meeting k [] (omega (arith, a, lt)))
+    (slice_get-get_or ys k None (omega (arith, a, b, lt)))))

@@ -16,7 +16,8 @@ sides_same v w t r b l =
 
 outer_same : (edges : List (Option Cand)) (size : GridSize) (v w : Sides) → AreOuterHalves edges size v → AreOuterHalves edges size w → v ≡ w
 outer_same edges size v w p q =
-    sides_same v w (half_same _ _ _ _ _ _ p.top q.top) (half_same _ _ _ _ _ _ p.right q.right) (half_same _ _ _ _ _ _ p.bottom q.bottom) (half_same _ _ _ _ _ _ p.left q.left)
+    sides_same v w (half_same _ _ _ _ _ _ p.top q.top) (half_same _ _ _ _ _ _ p.right q.right) (half_same _ _ _ _ _ _ p.bottom q.bottom)
+    (half_same _ _ _ _ _ _ p.left q.left)
 
 none_same : (v w : Sides) → AreNone v → AreNone w → v ≡ w
 none_same v w p q = sides_same v w (p.top ∙ sym q.top) (p.right ∙ sym q.right) (p.bottom ∙ sym q.bottom) (p.left ∙ sym q.left)
@@ -35,4 +36,5 @@ one_table_borders_lem edges size v w p q = from (some_or_zero size.rows) (some_o
 
 pub one_cell_borders_lem : OneCellBorders
 one_cell_borders_lem edges size cell v w p q =
-    sides_same v w (half_same _ _ _ _ _ _ p.top q.top) (half_same _ _ _ _ _ _ p.right q.right) (half_same _ _ _ _ _ _ p.bottom q.bottom) (half_same _ _ _ _ _ _ p.left q.left)
+    sides_same v w (half_same _ _ _ _ _ _ p.top q.top) (half_same _ _ _ _ _ _ p.right q.right) (half_same _ _ _ _ _ _ p.bottom q.bottom)
+    (half_same _ _ _ _ _ _ p.left q.left)

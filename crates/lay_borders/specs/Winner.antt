@@ -7,8 +7,8 @@
 --   3. the wider border wins; of equal widths the style decides, from the strongest on `double`,
 --      `solid`, `dashed`, `dotted`, `ridge`, `outset`, `groove`, `inset`;
 --   4. a border of a cell wins over one of a row, that over one of a row group, a column, a column
---      group and, last, of the table; of two elements of one kind the one further left wins, and then
---      the one further up.
+--      group and, last, of the table; of two elements of one kind the one further left wins, and
+--      then the one further up.
 -- Two borders of the style `hidden`, or of `none`, are told apart by rules 3 and 4 as well. None is
 -- drawn then, so it can't be seen which of them won.
 use Rattle.std.specs.Prelude.{ℕ, ℤ, pos, ◌≡◌, ◌⊎◌, ◌<ℤ◌, List, slice_get, Some}

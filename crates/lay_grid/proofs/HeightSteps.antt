@@ -50,7 +50,8 @@ pub height_more : (r : RowsIn) (above : List Unit) (needs : List Need) (n : ℕ)
 height_more r above needs n d height next to lt e so = record {
   own = let a = so.own in omega (arith, ints, clamps, a, e);
   enough = below_more _ n (λ j less need at. let a = so.enough j less need at in omega (arith, ints, clamps, a, e))
-      (λ need at. subst (λ (x : Need). x.room ≤ℤ (room_above r above x.row x.span +ℤ next)) (get_or_from_slice_get needs n need d at) (omega (arith, ints, clamps, e)));
+      (λ need at. subst (λ (x : Need). x.room ≤ℤ (room_above r above x.row x.span +ℤ next)) (get_or_from_slice_get needs n need d at)
+      (omega (arith, ints, clamps, e)));
   least = λ u fits. let a = so.least u fits in let b = needed r above needs (get_or needs n d) u to (contained lt) fits in omega (arith, ints, clamps, a, b, e);
 }
   where
@@ -84,8 +85,11 @@ height_last r above needs n height last to all so t = record {
 pub lowest_more : (r : RowsIn) (above heights : List Unit) (height : Unit) → AreLowest r above heights → IsLowest r (above ++ heights) height.0
     → AreLowest r above (heights ++ height ∷ [])
 lowest_more r above [] height l here = (subst (λ (xs : List Unit). IsLowest r xs height.0) (append-nil above) here, tt)
-lowest_more r above (h ∷ heights) height l here =
-    (l.0, lowest_more r (above ++ h ∷ []) heights height l.1 (subst (λ (xs : List Unit). IsLowest r xs height.0) (sym (append_assoc above (h ∷ []) heights)) here))
+lowest_more r above (h ∷ heights) height l here = (
+  l.0,
+  lowest_more r (above ++ h ∷ []) heights height l.1
+      (subst (λ (xs : List Unit). IsLowest r xs height.0) (sym (append_assoc above (h ∷ []) heights)) here),
+)
 
 -- a row has a least height
 record CellsTo (r : RowsIn) (above : List Unit) (n : ℕ) (height : ℤ) : Type 0 where
@@ -100,9 +104,11 @@ cell_more : (r : RowsIn) (above : List Unit) (n : ℕ) (d : RowCell) (height roo
 cell_more r above n d height room lt is ends so = record {
   own = let a = so.own in omega (arith, ints, clamps, a);
   cells = below_more _ n (λ k less cell at same. enough_more r.cells cell cell.baseline _ _ (omega (arith, ints, clamps)) (so.cells k less cell at same))
-      (λ cell at same. subst (λ (x : RowCell). IsEnough r.cells x x.baseline (room_above r above x.row x.span +ℤ next)) (get_or_from_slice_get r.cells n cell d at)
+      (λ cell at same. subst (λ (x : RowCell). IsEnough r.cells x x.baseline (room_above r above x.row x.span +ℤ next))
+      (get_or_from_slice_get r.cells n cell d at)
       (enough_more r.cells (get_or r.cells n d) (get_or r.cells n d).baseline room _ (omega (arith, ints, clamps)) is.enough));
-  least = λ u fits. let a = so.least u fits in let b = is.least _ (fits.cells n (get_or r.cells n d) (slice_get-get_or r.cells n d lt) ends) in omega (arith, ints, clamps, a, b);
+  least = λ u fits. let a = so.least u fits in let b = is.least _ (fits.cells n (get_or r.cells n d) (slice_get-get_or r.cells n d lt) ends) in omega
+      (arith, ints, clamps, a, b);
 }
   where
     next : ℤ
@@ -112,12 +118,20 @@ cell_elsewhere : (r : RowsIn) (above : List Unit) (n : ℕ) (d : RowCell) (heigh
     → ((get_or r.cells n d).row + (get_or r.cells n d).span ≡ length above + 1 → ⊥) → CellsTo r above n height → CellsTo r above (n + 1) height
 cell_elsewhere r above n d height other so = record {
   own = so.own;
-  cells = below_more _ n so.cells (λ cell at same. absurd (other (subst (λ (x : RowCell). x.row + x.span ≡ length above + 1) (sym (get_or_from_slice_get r.cells n cell d at)) same)));
+  cells = below_more _ n so.cells (λ cell at same. absurd
+      (other (subst (λ (x : RowCell). x.row + x.span ≡ length above + 1) (sym (get_or_from_slice_get r.cells n cell d at)) same)));
   least = so.least;
 }
 
 cells_exist : (r : RowsIn) (above : List Unit) (n : ℕ) → n ≤ length r.cells → (height : ℤ) × CellsTo r above n height
-cells_exist r above zero less = (width_at r.own (length above), record { own = omega (arith, ints); cells = λ k none. absurd (omega (arith, none)); least = λ u fits. fits.own })
+cells_exist r above zero less = (
+  width_at r.own (length above),
+  record {
+    own = omega (arith, ints);
+    cells = λ k none. absurd (omega (arith, none));
+    least = λ u fits. fits.own;
+  },
+)
 cells_exist r above (suc n) less =
     next (cells_exist r above n (omega (arith, less))) (cases_eq ((get_or r.cells n default).row + (get_or r.cells n default).span) (length above + 1))
   where
@@ -125,7 +139,8 @@ cells_exist r above (suc n) less =
     default = record { row = 0; span = 0; height = record { 0 = pos 0 }; baseline = None }
 
     next : ((height : ℤ) × CellsTo r above n height)
-        → (((get_or r.cells n default).row + (get_or r.cells n default).span ≡ length above + 1) ⊎ ((get_or r.cells n default).row + (get_or r.cells n default).span ≡ length above + 1 → ⊥))
+        → (((get_or r.cells n default).row + (get_or r.cells n default).span ≡ length above + 1) ⊎
+        ((get_or r.cells n default).row + (get_or r.cells n default).span ≡ length above + 1 → ⊥))
         → (height : ℤ) × CellsTo r above (suc n) height
     next h (inl ends) =
         let room = room_exists r.cells n (get_or r.cells n default) (slice_get-get_or r.cells n default (omega (arith, less))) in
@@ -141,7 +156,8 @@ lowest_exists r above = from (cells_exist r above (length r.cells) (omega arith)
     whole height last so t = record {
       fits = record {
         own = let a = so.own in let b = t.up in omega (arith, ints, a, b);
-        cells = λ k cell at same. let b = t.up in enough_more r.cells cell cell.baseline (room_above r above cell.row cell.span +ℤ height) (room_above r above cell.row cell.span +ℤ last) (omega (arith, ints, b)) (so.cells k (slice_get_within r.cells k cell at) cell at same);
+        cells = λ k cell at same. let b = t.up in enough_more r.cells cell cell.baseline (room_above r above cell.row cell.span +ℤ height)
+            (room_above r above cell.row cell.span +ℤ last) (omega (arith, ints, b)) (so.cells k (slice_get_within r.cells k cell at) cell at same);
         total = t.total;
       };
       least = λ u fits. t.least u (so.least u fits) fits.total;
@@ -178,7 +194,8 @@ pub needs_below : (cells items : List RowCell) (rows row : ℕ) (all : List (Lis
     → needs ≡ get_or all row d → above ≡ heights → length heights ≡ row → NeedsTo cells (length cells) (length above) needs
 needs_below cells items rows row all needs d above heights e to less here a n =
     subst (λ (m : ℕ). NeedsTo cells (length cells) m needs) (sym (ap length a ∙ n))
-    (subst (λ (xs : List Need). NeedsTo cells (length cells) row xs) (sym (here ∙ in_range all row d (let m = to.as_many in omega (arith, m, less)))) (subst (λ (cs : List RowCell). NeedsTo cs (length cs) row (get_or all row [])) e (to.each row less)))
+    (subst (λ (xs : List Need). NeedsTo cells (length cells) row xs) (sym (here ∙ in_range all row d (let m = to.as_many in omega (arith, m, less))))
+    (subst (λ (cs : List RowCell). NeedsTo cs (length cs) row (get_or all row [])) e (to.each row less)))
 
 -- so many rows more have heights
 pub heights_go_on : (r : RowsIn) (above : List Unit) (more : ℕ) → (heights : List Unit) × (length heights ≡ more) × AreLowest r above heights
@@ -193,7 +210,11 @@ heights_go_on r above (suc more) =
 -- heights after heights
 lowest_append : (r : RowsIn) (above xs ys : List Unit) → AreLowest r above xs → AreLowest r (above ++ xs) ys → AreLowest r above (xs ++ ys)
 lowest_append r above [] ys p q = subst (λ (a : List Unit). AreLowest r a ys) (append-nil above) q
-lowest_append r above (x ∷ xs) ys p q = (p.0, lowest_append r (above ++ x ∷ []) xs ys p.1 (subst (λ (a : List Unit). AreLowest r a ys) (sym (append_assoc above (x ∷ []) xs)) q))
+lowest_append r above (x ∷ xs) ys p q = (
+  p.0,
+  lowest_append r (above ++ x ∷ []) xs ys p.1
+      (subst (λ (a : List Unit). AreLowest r a ys) (sym (append_assoc above (x ∷ []) xs)) q),
+)
 
 -- so each of the heights is a position
 pub height_fits : (r : RowsIn) (above : List Unit) (height : ℤ) → RowsFit r → AreLowest r [] above → IsLowest r above height
@@ -216,7 +237,8 @@ height_fits r above height fits low here less = at
     }
 
     found : get_or ((above ++ unit ∷ []) ++ rest.0) (length above) unit ≡ unit
-    found = get_or_append_left (above ++ unit ∷ []) rest.0 unit (length above) (let n = length_push above unit in omega (arith, n)) ∙ get_or_push above unit unit (length above) refl
+    found = get_or_append_left (above ++ unit ∷ []) rest.0 unit (length above) (let n = length_push above unit in omega (arith, n)) ∙ get_or_push
+        above unit unit (length above) refl
 
     at : IsPosition height
     at = subst (λ (u : Unit). IsPosition u.0) found (fits.heights _ all (length above) unit (let m = all.as_many in omega (arith, m, less)))

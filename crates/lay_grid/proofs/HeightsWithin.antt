@@ -45,7 +45,8 @@ lowest_up r most above height need so low = (
     own = own.1;
     cells = λ k cell at same.
         let a = sum_up most above cell.row so in let b = product_up r.spacing.0 (cell.span - 1) need.spacing in
-        enough_more r.cells cell cell.baseline (pos most) (room_above r above cell.row cell.span +ℤ pos most) (omega (arith, ints, a, b)) (need.cells k cell at);
+        enough_more r.cells cell cell.baseline (pos most) (room_above r above cell.row cell.span +ℤ pos most) (omega (arith, ints, a, b))
+        (need.cells k cell at);
     total = λ last. let a = all_up most above so in let t = need.total in omega (arith, ints, a, t);
   },
 )

@@ -75,7 +75,8 @@ ends_there : (cells : List RowCell) (n row : ℕ) (d : RowCell) (needs : List Ne
     → IsNeed cells (get_or cells n d) need
     → NeedsTo cells n row needs → NeedsTo cells (n + 1) row (needs ++ need ∷ [])
 ends_there cells n row d needs need lt end is to = record {
-  each = below_more _ n (λ k less cell at same. old (to.each k less cell at same)) (λ cell at same. (need, Contains-push needs need, subst (λ (x : RowCell). IsNeed cells x need) (get_or_from_slice_get cells n cell d at) is));
+  each = below_more _ n (λ k less cell at same. old (to.each k less cell at same))
+      (λ cell at same. (need, Contains-push needs need, subst (λ (x : RowCell). IsNeed cells x need) (get_or_from_slice_get cells n cell d at) is));
   only = λ other has. from other (Contains-push_cases needs need other has);
 }
   where
@@ -90,7 +91,8 @@ ends_there cells n row d needs need lt end is to = record {
 ends_elsewhere : (cells : List RowCell) (n row : ℕ) (d : RowCell) (needs : List Need) → ((get_or cells n d).row + (get_or cells n d).span ≡ row + 1 → ⊥)
     → NeedsTo cells n row needs → NeedsTo cells (n + 1) row needs
 ends_elsewhere cells n row d needs other to = record {
-  each = below_more _ n to.each (λ cell at same. absurd (other (subst (λ (x : RowCell). x.row + x.span ≡ row + 1) (sym (get_or_from_slice_get cells n cell d at)) same)));
+  each = below_more _ n to.each (λ cell at same. absurd
+      (other (subst (λ (x : RowCell). x.row + x.span ≡ row + 1) (sym (get_or_from_slice_get cells n cell d at)) same)));
   only = to.only;
 }
 
@@ -113,13 +115,15 @@ needs_more cells n rows d need old new lt some is adds to = record {
         (subst (λ (xs : List Need). NeedsTo cells (n + 1) last xs) (sym adds.here)
         (ends_there cells n last d (get_or old last []) need lt end is (subst (λ (m : ℕ). NeedsTo cells n m (get_or old m [])) e (to.each row less))))
     from row less (inr other) = subst (λ (xs : List Need). NeedsTo cells (n + 1) row xs) (sym (adds.others row other))
-        (ends_elsewhere cells n row d (get_or old row []) (λ same. let a = is.row in let b = is.span in other (omega (arith, a, b, same, end))) (to.each row less))
+        (ends_elsewhere cells n row d (get_or old row []) (λ same. let a = is.row in let b = is.span in other (omega (arith, a, b, same, end)))
+        (to.each row less))
 
 -- no cell yet
 pub no_needs : (cells : List RowCell) (rows : ℕ) (needs : List (List Need)) → needs ≡ replicate rows [] → AllNeedsTo cells 0 rows needs
 no_needs cells rows needs e = record {
   as_many = ap length e ∙ length-replicate rows [];
-  each = λ row less. subst (λ (xs : List Need). NeedsTo cells 0 row xs) (sym (ap (λ (l : List (List Need)). get_or l row []) e ∙ get_or-replicate rows row [] [] less)) (nothing row);
+  each = λ row less. subst (λ (xs : List Need). NeedsTo cells 0 row xs)
+      (sym (ap (λ (l : List (List Need)). get_or l row []) e ∙ get_or-replicate rows row [] [] less)) (nothing row);
 }
   where
     nothing : (row : ℕ) → NeedsTo cells 0 row []

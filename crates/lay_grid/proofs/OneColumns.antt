@@ -18,7 +18,8 @@ own_same c xs ys p q =
 
 pub one_columns_lem : OneColumns
 one_columns_lem c v w p q =
-    one_sharing_lem q.owns (width_of_columns c) v w (subst (λ (xs : List (Option Unit)). AreShared xs (width_of_columns c) v) (own_same c p.owns q.owns p.own q.own) p.shared) q.shared
+    one_sharing_lem q.owns (width_of_columns c) v w (subst (λ (xs : List (Option Unit)). AreShared xs (width_of_columns c) v)
+    (own_same c p.owns q.owns p.own q.own) p.shared) q.shared
 
 height_same : (r : RowsIn) (above : List Unit) (x y : Unit) → IsLowest r above x.0 → IsLowest r above y.0 → x ≡ y
 height_same r above x y p q =

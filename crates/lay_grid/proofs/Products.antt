@@ -19,7 +19,8 @@ product_within z p n fits few e = let h = within z n fits few in let a = h.0 in 
 -- a product with a length that is at least -(2^62 - 1)
 pub product_least : (z : ℤ) (n : ℕ) → IsPosition z → neg_ℤ (pos ((2 ^ 62 - 1) * n)) ≤ℤ (z *ℤ pos n)
 product_least (pos m) n fits = omega (arith, ints)
-product_least (negsuc m) n fits = let a = fits.0 in let less : m + 1 ≤ 2 ^ 62 - 1 = omega (arith, ints, a) in let h = mul-le-mul_left n less in omega (arith, ints, h)
+product_least (negsuc m) n fits = let a = fits.0 in let less : m + 1 ≤ 2 ^ 62 - 1 = omega (arith, ints, a) in let h = mul-le-mul_left n less in omega
+    (arith, ints, h)
 
 -- a number, 0 where it is negative
 pub from_max : (z m : ℤ) → m ≡ int_max z (pos 0) → nat_abs m ≡ from_zero z

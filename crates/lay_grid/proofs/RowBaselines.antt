@@ -59,8 +59,13 @@ here cells row n d found o lt same is old = from found o is old
 -- a cell of another row
 there : (cells : List RowCell) (row n : ℕ) (d : RowCell) (found : Option Unit) → ((get_or cells n d).row ≡ row → ⊥) → BaselineTo cells row n found
     → BaselineTo cells row (n + 1) found
-there cells row n d None other old = below_more _ n old (λ cell at of. absurd (other (ap (λ (x : RowCell). x.row) (get_or_from_slice_get cells n cell d at) ∙ of)))
-there cells row n d (Some b) other old = (old.0, below_more _ n old.1 (λ cell at of. absurd (other (ap (λ (x : RowCell). x.row) (get_or_from_slice_get cells n cell d at) ∙ of))))
+there cells row n d None other old = below_more _ n old
+    (λ cell at of. absurd (other (ap (λ (x : RowCell). x.row) (get_or_from_slice_get cells n cell d at) ∙ of)))
+there cells row n d (Some b) other old = (
+  old.0,
+  below_more _ n old.1
+      (λ cell at of. absurd (other (ap (λ (x : RowCell). x.row) (get_or_from_slice_get cells n cell d at) ∙ of))),
+)
 
 none_yet : (cells : List RowCell) (row : ℕ) → BaselineTo cells row 0 None
 none_yet cells row k less = absurd (omega (arith, less))
@@ -77,14 +82,20 @@ baselines_more cells n rows d old new to lt at others same fits = record {
 }
   where
     from : (row : ℕ) → row < rows → (((get_or cells n d).row ≡ row) ⊎ ((get_or cells n d).row ≡ row → ⊥)) → BaselineTo cells row (n + 1) (get_or new row None)
-    from row less (inr other) = subst (λ (o : Option Unit). BaselineTo cells row (n + 1) o) (sym (others row (λ e. other (sym e)))) (there cells row n d _ other (to.each row less))
+    from row less (inr other) = subst (λ (o : Option Unit). BaselineTo cells row (n + 1) o) (sym (others row (λ e. other (sym e))))
+        (there cells row n d _ other (to.each row less))
     from row less (inl e) =
-        subst (λ (o : Option Unit). BaselineTo cells row (n + 1) o) (sym (subst (λ (m : ℕ). get_or new m None ≡ lower_of (get_or old m None) (get_or cells n d).baseline) e at))
+        subst (λ (o : Option Unit). BaselineTo cells row (n + 1) o)
+        (sym (subst (λ (m : ℕ). get_or new m None ≡ lower_of (get_or old m None) (get_or cells n d).baseline) e at))
         (here cells row n d _ _ lt e refl (to.each row less))
 
 -- the baseline of a row of which all cells are known
 pub row_baseline : (cells : List RowCell) (row : ℕ) (b : Unit) → BaselineTo cells row (length cells) (Some b) → IsRowBaseline cells row b.0
-row_baseline cells row b to = record { one_of = to.0; lowest = λ other has. to.1 has.0 (slice_get_within cells has.0 has.1 has.2) has.1 has.2 has.3 other has.4 }
+row_baseline cells row b to = record {
+  one_of = to.0;
+  lowest = λ other has. to.1 has.0 (slice_get_within cells has.0 has.1 has.2) has.1 has.2 has.3
+      other has.4;
+}
 
 -- there is one for each cell that has a baseline
 pub some_baseline : (cells : List RowCell) (k : ℕ) (cell : RowCell) (own : Unit) (o : Option Unit) → slice_get cells k ≡ Some cell → cell.baseline ≡ Some own
@@ -102,7 +113,12 @@ baseline_exists cells row (suc n) less = next (baseline_exists cells row n (omeg
 
     next : ((o : Option Unit) × BaselineTo cells row n o) → (((get_or cells n default).row ≡ row) ⊎ ((get_or cells n default).row ≡ row → ⊥))
         → (o : Option Unit) × BaselineTo cells row (suc n) o
-    next (o, to) (inl e) = (lower_of o (get_or cells n default).baseline, subst (λ (m : ℕ). BaselineTo cells row m (lower_of o (get_or cells n default).baseline)) (omega arith) (here cells row n default o _ (omega (arith, less)) e refl to))
+    next (o, to) (inl e) = (
+      lower_of o (get_or cells n default).baseline,
+      subst
+          (λ (m : ℕ). BaselineTo cells row m (lower_of o (get_or cells n default).baseline)) (omega arith)
+          (here cells row n default o _ (omega (arith, less)) e refl to),
+    )
     next (o, to) (inr other) = (o, subst (λ (m : ℕ). BaselineTo cells row m o) (omega arith) (there cells row n default o other to))
 
 pub baseline_same : (cells : List RowCell) (row : ℕ) (a b : ℤ) → IsRowBaseline cells row a → IsRowBaseline cells row b → a ≡ b

@@ -72,7 +72,8 @@ here owns widths w n v e is = let a = at_new widths w n e in omega (arith, ints,
 sum_more : (owns : List (Option Unit)) (rest each more after n : ℕ) (widths : List Unit) (w : Unit) → SharedTo owns rest each more n widths
     → n < length owns → Step (all_own owns) (own_at owns n) each more after w
     → Kind (takes_at owns n) more
-    → ((sum_of (widths ++ w ∷ []) +ℤ sum_own (drop (n + 1) owns)) +ℤ pos (count_takers (all_own owns) (drop (n + 1) owns) * each + after)) ≡ (sum_own owns +ℤ pos rest)
+    → ((sum_of (widths ++ w ∷ []) +ℤ sum_own (drop (n + 1) owns)) +ℤ pos (count_takers (all_own owns) (drop (n + 1) owns) * each + after)) ≡
+    (sum_own owns +ℤ pos rest)
 sum_more owns rest each more after n widths w to lt step kind =
     rw (sum_push widths w) (from kind)
   where
@@ -86,11 +87,13 @@ sum_more owns rest each more after n widths w to lt step kind =
     m = ap (count_takers (all_own owns)) d
 
     c : (b : Bool) → takes_at owns n ≡ b
-        → ((sum_of widths +ℤ (own_width (own_at owns n) +ℤ sum_own (drop (n + 1) owns))) +ℤ pos ((cond b 1 0 + count_takers (all_own owns) (drop (n + 1) owns)) * each + more)) ≡ (sum_own owns +ℤ pos rest)
+        → ((sum_of widths +ℤ (own_width (own_at owns n) +ℤ sum_own (drop (n + 1) owns))) +ℤ pos
+        ((cond b 1 0 + count_takers (all_own owns) (drop (n + 1) owns)) * each + more)) ≡ (sum_own owns +ℤ pos rest)
     c b e = rw (← e, ← m, ← s) to.sum
 
     from : Kind (takes_at owns n) more
-        → (((sum_of widths +ℤ w.0) +ℤ sum_own (drop (n + 1) owns)) +ℤ pos (count_takers (all_own owns) (drop (n + 1) owns) * each + after)) ≡ (sum_own owns +ℤ pos rest)
+        → (((sum_of widths +ℤ w.0) +ℤ sum_own (drop (n + 1) owns)) +ℤ pos (count_takers (all_own owns) (drop (n + 1) owns) * each + after)) ≡
+        (sum_own owns +ℤ pos rest)
     from (inl t) = let k = step.kept t in kept_sum _ _ _ _ _ _ each more after k.0 k.1 (c false t)
     from (inr (inl t)) = let k = step.greater t.0 t.1 in greater_sum _ _ _ _ _ _ each more after k.0 k.1 (c true t.0)
     from (inr (inr t)) = let k = step.lesser t.0 t.1 in lesser_sum _ _ _ _ _ _ each more after k.0 k.1 t.1 (c true t.0)
@@ -148,8 +151,10 @@ shared_more owns rest each more after n widths w to lt step =
       as_many = let e = length_push widths w in let m = to.as_many in omega (arith, e, m);
       sum = sum_more owns rest each more after n widths w to lt step k;
       enough = enough_more owns rest each more after n widths w to lt step k;
-      kept = below_more _ n (λ i less t. old i less ∙ to.kept i less t) (λ t. let e = (step.kept t).0 in here owns widths w n (pos 0) to.as_many (omega (arith, ints, e)));
-      taken = below_more _ n (λ i less t. subst (λ (v : ℤ). (v ≡ pos (each + 1)) ⊎ ((v ≡ pos each) × (after ≡ 0))) (sym (old i less)) (taken_before owns each more after n _ w step k (to.taken i less t)))
+      kept = below_more _ n (λ i less t. old i less ∙ to.kept i less t) (λ t. let e = (step.kept t).0 in here owns widths w n (pos 0) to.as_many
+          (omega (arith, ints, e)));
+      taken = below_more _ n (λ i less t. subst (λ (v : ℤ). (v ≡ pos (each + 1)) ⊎ ((v ≡ pos each) × (after ≡ 0))) (sym (old i less))
+          (taken_before owns each more after n _ w step k (to.taken i less t)))
           (λ t. taken_here owns each more after n widths w to.as_many step k t);
       order = λ i j before within ti tj. ordered i j before ti tj (cases_lt j n) within;
     }
@@ -165,7 +170,8 @@ shared_more owns rest each more after n widths w to lt step =
         let t : takes_at owns n ≡ true = subst (λ (m : ℕ). takes_at owns m ≡ true) (sym e) tj in
         let z = last_share owns each more after n widths w to.as_many step (kind (takes_at owns n) more) t in
         subst (λ (m : ℕ). share_at owns (widths ++ w ∷ []) m ≤ℤ share_at owns (widths ++ w ∷ []) i) e
-        (last_order each more after _ _ (subst (λ (v : ℤ). (v ≡ pos (each + 1)) ⊎ ((v ≡ pos each) × (more ≡ 0))) (sym (old i (omega arith))) (to.taken i (omega arith) ti)) z)
+        (last_order each more after _ _ (subst (λ (v : ℤ). (v ≡ pos (each + 1)) ⊎ ((v ≡ pos each) × (more ≡ 0))) (sym (old i (omega arith)))
+        (to.taken i (omega arith) ti)) z)
 
 -- what own widths leave
 pub rest_more : (owns : List (Option Unit)) (n : ℕ) (r m t : ℤ) → n < length owns → (r -ℤ sum_own (drop n owns)) ≡ t

@@ -13,22 +13,43 @@ use Rattle.lay_grid.proofs.SharedSteps.{Step, Kind, kind, shared_more, length_pu
 
 -- a column takes a step
 step_exists : (all : Bool) (own : Option Unit) (each more : ℕ) → Kind (takes all own) more → (w : Unit) × (after : ℕ) × Step all own each more after w
-step_exists all own each more (inl t) = (record { 0 = own_width own }, more, record { kept = λ e. (refl, refl); greater = λ e. absurd (cc (t, e)); lesser = λ e. absurd (cc (t, e)) })
+step_exists all own each more (inl t) = (
+  record { 0 = own_width own },
+  more,
+  record
+      { kept = λ e. (refl, refl); greater = λ e. absurd (cc (t, e)); lesser = λ e. absurd (cc (t, e)) },
+)
 step_exists all own each more (inr (inl g)) =
-    let t = g.0 in let h = g.1 in
-    (record { 0 = own_width own +ℤ pos (each + 1) }, more - 1, record { kept = λ e. absurd (cc (t, e)); greater = λ e some. (refl, omega (arith, some)); lesser = λ e none. absurd (omega (arith, h, none)) })
+    let t = g.0 in let h = g.1 in (
+      record { 0 = own_width own +ℤ pos (each + 1) },
+      more - 1,
+      record
+          { kept = λ e. absurd (cc (t, e)); greater = λ e some. (refl, omega (arith, some)); lesser = λ e none. absurd (omega (arith, h, none)) },
+    )
 step_exists all own each more (inr (inr l)) =
-    let t = l.0 in let h = l.1 in
-    (record { 0 = own_width own +ℤ pos each }, 0, record { kept = λ e. absurd (cc (t, e)); greater = λ e some. absurd (omega (arith, h, some)); lesser = λ e none. (refl, refl) })
+    let t = l.0 in let h = l.1 in (
+      record { 0 = own_width own +ℤ pos each },
+      0,
+      record {
+        kept = λ e. absurd (cc (t, e));
+        greater = λ e some. absurd (omega (arith, h, some));
+        lesser = λ e none. (refl, refl);
+      },
+    )
 
 -- the columns that are left have widths too
 shared_on : (owns : List (Option Unit)) (rest each more n m : ℕ) (widths : List Unit) → n + m ≡ length owns → SharedTo owns rest each more n widths
     → (after : ℕ) × (others : List Unit) × SharedTo owns rest each after (length owns) (widths ++ others)
-shared_on owns rest each more n zero widths e to =
-    (more, [], subst (λ (k : ℕ). SharedTo owns rest each more k (widths ++ [])) (let z = e in omega (arith, z)) (subst (λ (ws : List Unit). SharedTo owns rest each more n ws) (sym (append-nil widths)) to))
+shared_on owns rest each more n zero widths e to = (
+  more,
+  [],
+  subst (λ (k : ℕ). SharedTo owns rest each more k (widths ++ [])) (let z = e in omega (arith, z))
+      (subst (λ (ws : List Unit). SharedTo owns rest each more n ws) (sym (append-nil widths)) to),
+)
 shared_on owns rest each more n (suc m) widths e to =
     let s = step_exists (all_own owns) (own_at owns n) each more (kind (takes_at owns n) more) in
-    let h = shared_on owns rest each s.1 (n + 1) m (widths ++ s.0 ∷ []) (omega (arith, e)) (shared_more owns rest each more s.1 n widths s.0 to (omega (arith, e)) s.2) in
+    let h = shared_on owns rest each s.1 (n + 1) m (widths ++ s.0 ∷ []) (omega (arith, e))
+    (shared_more owns rest each more s.1 n widths s.0 to (omega (arith, e)) s.2) in
     (h.0, s.0 ∷ h.1, subst (λ (ws : List Unit). SharedTo owns rest each h.0 (length owns) ws) (append_assoc widths (s.0 ∷ []) h.1) h.2)
 
 equal_from : (each more : ℕ) (v z : ℤ) → ((v ≡ pos (each + 1)) ⊎ ((v ≡ pos each) × (more ≡ 0)))
@@ -51,8 +72,11 @@ shared_end owns asked rest each more n widths is all few to = record {
       let z : more ≡ 0 = omega (arith, b, d) in
       whole (sum_of widths) (sum_own (drop n owns)) (sum_own owns) (count_takers (all_own owns) (drop n owns)) a c d z is;
   kept = λ i less. to.kept i (omega (arith, less, all));
-  equal = λ i j before less ti tj.
-      (to.order i j before (omega (arith, less, all)) ti tj, equal_from each more _ _ (to.taken i (omega (arith, before, less, all)) ti) (to.taken j (omega (arith, less, all)) tj));
+  equal = λ i j before less ti tj. (
+    to.order i j before (omega (arith, less, all)) ti tj,
+    equal_from each more _ _ (to.taken i (omega (arith, before, less, all)) ti)
+        (to.taken j (omega (arith, less, all)) tj),
+  );
 }
   where
     none : drop n owns ≡ []
@@ -82,4 +106,5 @@ width_fits owns asked rest each more after n widths w fits is lt step to = subst
     inside = let m = all.as_many in omega (arith, m, lt)
 
     found : get_or ((widths ++ w ∷ []) ++ more_of.1) n w ≡ w
-    found = get_or_append_left (widths ++ w ∷ []) more_of.1 w n (let m = to.as_many in let k = length_push widths w in omega (arith, m, k)) ∙ get_or_push widths w w n to.as_many
+    found = get_or_append_left (widths ++ w ∷ []) more_of.1 w n (let m = to.as_many in let k = length_push widths w in omega (arith, m, k)) ∙
+        get_or_push widths w w n to.as_many

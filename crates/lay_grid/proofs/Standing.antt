@@ -13,7 +13,11 @@ cell_at area left = record { area = area; left = left }
 pub stand_more : (earlier cells : List Cell) (cell : Cell) → StandAfter earlier cells → StandsLeft (earlier ++ cells) cell.area cell.left
     → StandAfter earlier (cells ++ cell ∷ [])
 stand_more earlier [] cell s here = (subst (λ (es : List Cell). StandsLeft es cell.area cell.left) (append-nil earlier) here, tt)
-stand_more earlier (c ∷ cells) cell s here = (s.0, stand_more (earlier ++ c ∷ []) cells cell s.1 (subst (λ (es : List Cell). StandsLeft es cell.area cell.left) (sym (append_assoc earlier (c ∷ []) cells)) here))
+stand_more earlier (c ∷ cells) cell s here = (
+  s.0,
+  stand_more (earlier ++ c ∷ []) cells cell s.1
+      (subst (λ (es : List Cell). StandsLeft es cell.area cell.left) (sym (append_assoc earlier (c ∷ []) cells)) here),
+)
 
 -- what the columns say before a cell stands there
 pub record Fits (busy : List ℕ) (area : Area) (next left : ℕ) : Type 0 where
@@ -26,7 +30,8 @@ stands : (cells : List Cell) (busy : List ℕ) (area : Area) (next left : ℕ) �
 stands cells busy area next left k some fits = record {
   has_room = record {
     right_of_its_row = λ i cell at same. let r = k.right i cell at same in let f = fits.from in omega (arith, r, f);
-    all_free = λ r c cov i cell at covers. let b = k.free r c cov.first_row (i, cell, at, covers) in let f = fits.free c cov.first_column cov.last_column in let g = cov.first_row in absurd (omega (arith, b, f, g));
+    all_free = λ r c cov i cell at covers. let b = k.free r c cov.first_row (i, cell, at, covers) in let f = fits.free c cov.first_column
+        cov.last_column in let g = cov.first_row in absurd (omega (arith, b, f, g));
   };
   least = λ column room. fits.least column (after_next column room k.reached) (free_there column room);
 }
@@ -65,8 +70,13 @@ known_more cells busy after area next left k some fits now = record {
         → IsCovered (cells ++ cell_at area left ∷ []) r c
     covered r c ge lt (inl less) b = let e = now.before c less in old r c (k.covered r c ge (omega (arith, e, lt)))
     covered r c ge lt (inr from) (inl to) =
-        let e = now.inside c from to in
-        (length cells, cell_at area left, last_place cells (cell_at area left), record { first_row = ge; last_row = omega (arith, e, lt); first_column = from; last_column = to })
+        let e = now.inside c from to in (
+          length cells,
+          cell_at area left,
+          last_place cells (cell_at area left),
+          record
+              { first_row = ge; last_row = omega (arith, e, lt); first_column = from; last_column = to },
+        )
     covered r c ge lt (inr from) (inr past) = let e = now.beyond c past in old r c (k.covered r c ge (omega (arith, e, lt)))
 
     still : (r c : ℕ) → area.row ≤ r → r < get_or busy c 0 → ((c < left) ⊎ (left ≤ c)) → ((c < left + area.columns) ⊎ (left + area.columns ≤ c))

@@ -29,7 +29,8 @@ part_least : (width n k : ℕ) → 1 ≤ n → part_of width n k ≤ width
 part_least width n k some = from (cases_lt k (width % n))
   where
     from : ((k < width % n) ⊎ (width % n ≤ k)) → part_of width n k ≤ width
-    from (inl less) = let e = greater_part width n k less in let d = div-add-mod width n in let h = mul-le-mul_left (width / n) some in omega (arith, e, d, h, less)
+    from (inl less) = let e = greater_part width n k less in let d = div-add-mod width n in let h = mul-le-mul_left (width / n) some in omega
+        (arith, e, d, h, less)
     from (inr not) = let e = lesser_part width n k not in let d = div-add-mod width n in let h = mul-le-mul_left (width / n) some in omega (arith, e, d, h)
 
 part_up : (most : ℕ) (spacing : ℤ) (cell : FirstCell) (width : ℤ) (i : ℕ) → 1 ≤ cell.span → width ≤ℤ pos most → pos 0 ≤ℤ spacing
@@ -53,13 +54,15 @@ cells_up : (most : ℕ) (spacing : ℤ) (cells : List FirstCell) (i : ℕ) → A
 cells_up most spacing [] i fits up = none_up most
 cells_up most spacing (cell ∷ cells) i fits up =
     let h = All-head (CellUpTo most) cell cells fits in
-    or_up most (given_by spacing cell cell.width i) (by_cells spacing cells i) (given_up most spacing cell cell.width i h.some h.width up) (cells_up most spacing cells i (All-tail (CellUpTo most) cell cells fits) up)
+    or_up most (given_by spacing cell cell.width i) (by_cells spacing cells i) (given_up most spacing cell cell.width i h.some h.width up)
+    (cells_up most spacing cells i (All-tail (CellUpTo most) cell cells fits) up)
 
 owns_up : (c : ColumnsIn) (most : ℕ) (owns : List (Option Unit)) → TakeUpTo c most → AreOwn c owns → (i : ℕ) → i < length owns → Up most (own_at owns i)
 owns_up c most owns take are i less =
     let n = are.as_many in
     let lt : i < length c.given = omega (arith, n, less) in
-    subst (Up most) (sym (are.own i lt)) (or_up most (own_at c.given i) (by_cells c.spacing.0 c.first i) (take.given i None lt) (cells_up most c.spacing.0 c.first i take.first take.spacing))
+    subst (Up most) (sym (are.own i lt)) (or_up most (own_at c.given i) (by_cells c.spacing.0 c.first i) (take.given i None lt)
+    (cells_up most c.spacing.0 c.first i take.first take.spacing))
 
 sum_own_up : (most : ℕ) (owns : List (Option Unit)) → ((i : ℕ) → i < length owns → Up most (own_at owns i)) → IsUpTo (most * length owns) (sum_own owns)
 sum_own_up most [] up = (omega (arith, ints), omega (arith, ints))
@@ -108,7 +111,8 @@ no_less owns asked widths p i lt = by_lt_z (width_at widths i) (own_width (own_a
           | inl before ↦ (let x = (p.equal k i before lt t s).1 in omega (arith, ints, x, less))
           | inr not ↦ elim (cases_lt i k) [
             | inl after ↦ (let x = (p.equal i k after within s t).0 in omega (arith, ints, x, less))
-            | inr also ↦ (let e : i ≡ k = omega (arith, not, also) in subst (λ (m : ℕ). width_at widths m ≤ℤ own_width (own_at owns m)) e (omega (arith, ints, less)))
+            | inr also ↦ (let e : i ≡ k = omega (arith, not, also) in subst (λ (m : ℕ). width_at widths m ≤ℤ own_width (own_at owns m)) e
+                (omega (arith, ints, less)))
           ]
         ]
 
@@ -133,7 +137,11 @@ each_below (w ∷ widths) up =
     below h t (suc i) less = let s = t.1 i (omega (arith, less)) in omega (arith, ints, h, s)
 
 pub widths_are_within_lem : WidthsAreWithin
-widths_are_within_lem c most widths take are = λ i d less. (up i less d, subst (λ (v : ℤ). v ≤ℤ pos (most * (length c.given + 1))) (at i d less) (within i less))
+widths_are_within_lem c most widths take are = λ i d less. (
+  up i less d,
+  subst (λ (v : ℤ). v ≤ℤ pos (most * (length c.given + 1))) (at i d less)
+      (within i less),
+)
   where
     owns : List (Option Unit)
     owns = are.owns

@@ -24,7 +24,8 @@ BaselineTo cells row n (Some b) =
     → (a : ℤ) → cell.baseline ≡ Some (record { 0 = a }) → a ≤ℤ b.0)
 
 -- the row's baseline is lowered to that of one more cell
-pub record Lowers (row : ℕ) (baseline : Option Unit) (before after : List (Option Unit)) : Type 0 where
+pub record Lowers (row : ℕ) (baseline : Option Unit) (before after : List (Option Unit))
+    : Type 0 where
   pub here : slice_index_or after row None ≡ lower_of (slice_index_or before row None) baseline
   pub others : (k : ℕ) → k ≢ row → slice_index_or after k None ≡ slice_index_or before k None
   pub as_many : length after ≡ length before

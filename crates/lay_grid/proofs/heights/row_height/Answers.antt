@@ -27,7 +27,8 @@ loop-need-preserved c =
     let i = c.loop-need.invariant in
     let p = i.within.0 in let q = i.within.1 in
     let same : to_z w128 (of_z w128 c.max-height.result) ≡ c.max-height.result = omega (arith, ints) in
-    let next = height_more c.args.r.now c.args.above.now c.args.needs.now c.loop-need.need-index zero _ c.max-height.result c.requires.needs c.loop-need-test.true (omega (arith, ints, clamps, a, b, u, v, m, r)) i.known in
+    let next = height_more c.args.r.now c.args.above.now c.args.needs.now c.loop-need.need-index zero _ c.max-height.result c.requires.needs
+    c.loop-need-test.true (omega (arith, ints, clamps, a, b, u, v, m, r)) i.known in
     record {
       known = subst (λ (z : ℤ). HeightTo c.args.r.now c.args.above.now c.args.needs.now (c.loop-need.need-index + 1) z) (sym same) next;
       within = (omega (arith, ints, clamps, a, b, u, v, m, p, q), omega (arith, ints, clamps, a, b, u, v, m, p, q));
@@ -36,7 +37,8 @@ loop-need-preserved c =
 pub returns-clause-lowest : goal.returns-clause-lowest
 returns-clause-lowest c =
     let t = c.with_total.ensures in
-    let low = height_last c.args.r.now c.args.above.now c.args.needs.now c.loop-need.need-index _ c.with_total.result c.requires.needs c.loop-need-test.false c.loop-need.invariant.known t in
+    let low = height_last c.args.r.now c.args.above.now c.args.needs.now c.loop-need.need-index _ c.with_total.result c.requires.needs
+    c.loop-need-test.false c.loop-need.invariant.known t in
     let at = height_fits c.args.r.now c.args.above.now c.with_total.result c.requires.r c.requires.above low c.requires.row in
     let a = at.0 in let b = at.1 in
     let same : to_z w64 (of_z w64 (to_z w128 (of_z w128 c.with_total.result))) ≡ c.with_total.result = omega (arith, ints, a, b) in
@@ -45,7 +47,8 @@ returns-clause-lowest c =
 pub returns-clause-fits : goal.returns-clause-fits
 returns-clause-fits c =
     let t = c.with_total.ensures in
-    let low = height_last c.args.r.now c.args.above.now c.args.needs.now c.loop-need.need-index _ c.with_total.result c.requires.needs c.loop-need-test.false c.loop-need.invariant.known t in
+    let low = height_last c.args.r.now c.args.above.now c.args.needs.now c.loop-need.need-index _ c.with_total.result c.requires.needs
+    c.loop-need-test.false c.loop-need.invariant.known t in
     let at = height_fits c.args.r.now c.args.above.now c.with_total.result c.requires.r c.requires.above low c.requires.row in
     let a = at.0 in let b = at.1 in
     (omega (arith, ints, a, b), omega (arith, ints, a, b))
@@ -53,7 +56,8 @@ returns-clause-fits c =
 pub overflow_cast-result : goal.overflow_cast-result
 overflow_cast-result c =
     let t = c.with_total.ensures in
-    let low = height_last c.args.r.now c.args.above.now c.args.needs.now c.loop-need.need-index _ c.with_total.result c.requires.needs c.loop-need-test.false c.loop-need.invariant.known t in
+    let low = height_last c.args.r.now c.args.above.now c.args.needs.now c.loop-need.need-index _ c.with_total.result c.requires.needs
+    c.loop-need-test.false c.loop-need.invariant.known t in
     let at = height_fits c.args.r.now c.args.above.now c.with_total.result c.requires.r c.requires.above low c.requires.row in
     let a = at.0 in let b = at.1 in
     omega (arith, ints, a, b)

@@ -10,7 +10,8 @@ use Rattle.lay_grid.proofs.heights.rows.Goals as goal
 
 pub row_height-height-requires-clause-needs : goal.row_height-height-requires-clause-needs
 row_height-height-requires-clause-needs c =
-    needs_below _ _ _ _ _ _ _ _ _ c.as_slice.ensures c.in_ok-needs.ensures c.loop-row-test.true (c.as_slice-in-loop-row-2.ensures ∙ c.index.ensures) c.as_slice-in-loop-row.ensures.value c.loop-row.invariant.as_many
+    needs_below _ _ _ _ _ _ _ _ _ c.as_slice.ensures c.in_ok-needs.ensures c.loop-row-test.true (c.as_slice-in-loop-row-2.ensures ∙ c.index.ensures)
+    c.as_slice-in-loop-row.ensures.value c.loop-row.invariant.as_many
 
 pub loop-row-preserved : goal.loop-row-preserved
 loop-row-preserved c =

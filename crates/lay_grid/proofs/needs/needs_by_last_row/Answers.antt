@@ -15,11 +15,13 @@ loop-cell-preserved c =
     let f = c.requires c.loop-cell.cell-index d c.loop-cell-test.true in
     let some = f.some in let inside = f.inside in
     let n = c.need_of.ensures in
-    let b = subst (λ (xs : List (Option Unit)). BaselinesTo c.args.cells.now (length c.args.cells.now) c.args.rows xs) (sym c.as_slice.ensures.value) c.in_ok-baselines.ensures in
+    let b = subst (λ (xs : List (Option Unit)). BaselinesTo c.args.cells.now (length c.args.cells.now) c.args.rows xs) (sym c.as_slice.ensures.value)
+    c.in_ok-baselines.ensures in
     let a = c.in_ok-add_need.ensures {u = tt} in
     let r = n.row in let s = n.span in
     needs_more _ _ _ _ c.need_of.result _ _ c.loop-cell-test.true (omega arith)
-    (is_need _ _ _ (get_or c.as_slice.result.now (get_or c.args.cells.now c.loop-cell.cell-index d).row None) _ c.loop-cell-test.true (b.each _ (omega arith)) n.row n.span n.room n.within)
+    (is_need _ _ _ (get_or c.as_slice.result.now (get_or c.args.cells.now c.loop-cell.cell-index d).row None) _ c.loop-cell-test.true
+    (b.each _ (omega arith)) n.row n.span n.room n.within)
     a c.loop-cell.invariant
 
 pub returns : goal.returns

@@ -8,7 +8,8 @@ pub returns-clause-value : goal.returns-clause-value
 returns-clause-value c =
     let m = c.max.ensures.value in let v = c.spacings.ensures.value in let a = c.spacings.ensures.within.0 in let b = c.spacings.ensures.within.1 in
     let e = c.from.ensures in let p = c.requires.width.0 in let q = c.requires.width.1 in
-    from_max (c.args.width.0 -ℤ (c.args.spacing.0 *ℤ pos (c.args.span - 1))) (to_z w128 (of_z w128 c.max.result)) (omega (arith, ints, clamps, m, v, a, b, e, p, q))
+    from_max (c.args.width.0 -ℤ (c.args.spacing.0 *ℤ pos (c.args.span - 1))) (to_z w128 (of_z w128 c.max.result))
+    (omega (arith, ints, clamps, m, v, a, b, e, p, q))
 
 pub returns-clause-below : goal.returns-clause-below
 returns-clause-below c =

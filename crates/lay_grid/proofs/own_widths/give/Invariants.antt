@@ -9,7 +9,8 @@ abbrev pub invariant-loop-k : goal.invariant-loop-k
 invariant-loop-k l = record {
   as_many : length l.owns.items ≡ length l.initial.owns.items;
   inside : (j : ℕ) → j < l.k
-      → own_at l.owns.items (l.fn.cell.column + j) ≡ or_else (own_at l.initial.owns.items (l.fn.cell.column + j)) (Some (record { 0 = pos (part_of l.width l.fn.cell.span j) }));
+      → own_at l.owns.items (l.fn.cell.column + j) ≡ or_else (own_at l.initial.owns.items (l.fn.cell.column + j))
+      (Some (record { 0 = pos (part_of l.width l.fn.cell.span j) }));
   before : (i : ℕ) → i < l.fn.cell.column → own_at l.owns.items i ≡ own_at l.initial.owns.items i;
   after : (i : ℕ) → l.fn.cell.column + l.k ≤ i → own_at l.owns.items i ≡ own_at l.initial.owns.items i;
   fits : All MayBePosition l.owns.items;

@@ -14,7 +14,8 @@ returns-clause-known c =
     let fits : Fits c.as_slice.result.now c.args.area c.args.next c.free_left-left.result = record { from = f.from; free = f.free; least = f.least } in
     let fits2 = subst (λ (b : List ℕ). Fits b c.args.area c.args.next c.free_left-left.result) old fits in
     subst (λ (cells : List Cell). Known cells c.occupy.new.busy.items c.args.area.row (c.free_left-left.result + c.args.area.columns)) (sym push.items)
-    (known_more c.args.cells.now.items c.args.busy.now.items c.occupy.new.busy.items c.args.area c.args.next c.free_left-left.result c.requires.known c.requires.covers fits2 o)
+    (known_more c.args.cells.now.items c.args.busy.now.items c.occupy.new.busy.items c.args.area c.args.next c.free_left-left.result c.requires.known
+    c.requires.covers fits2 o)
 
 pub returns-clause-areas : goal.returns-clause-areas
 returns-clause-areas c =

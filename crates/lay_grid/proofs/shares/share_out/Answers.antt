@@ -16,11 +16,13 @@ overflow_cast-width c =
     let a = c.widened-width.ensures in
     let b = c.left_over-more.ensures in
     let all = c.all_have_own-all.ensures in
-    let step = subst (λ (x : Bool). Step x (get_or c.args.owns.now c.loop-own.own-index None) (c.rest_of-rest.result / c.takers_of-takers.result) c.loop-own.more c.left_over-more.result (unit c.widened-width.result)) all
+    let step = subst (λ (x : Bool). Step x (get_or c.args.owns.now c.loop-own.own-index None) (c.rest_of-rest.result / c.takers_of-takers.result)
+    c.loop-own.more c.left_over-more.result (unit c.widened-width.result)) all
     (record { kept = λ t. (a.kept t, b.kept t); greater = λ t s. (a.greater t s, b.less t s); lesser = λ t z. (a.lesser t z, b.none t z) }) in
     let w = c.rest_of-rest.ensures.value in let x = c.requires.asked.0 in let y = c.requires.asked.1 in
     let v : pos c.rest_of-rest.result ≡ int_max (pos 0) (c.args.asked -ℤ sum_own c.args.owns.now) = omega (arith, ints, clamps, w, x, y) in
-    let at = width_fits c.args.owns.now c.args.asked c.rest_of-rest.result _ c.loop-own.more c.left_over-more.result c.loop-own.own-index c.loop-own.widths.items (unit c.widened-width.result) c.requires.widths v c.loop-own-test.true step c.loop-own.invariant in
+    let at = width_fits c.args.owns.now c.args.asked c.rest_of-rest.result _ c.loop-own.more c.left_over-more.result c.loop-own.own-index
+    c.loop-own.widths.items (unit c.widened-width.result) c.requires.widths v c.loop-own-test.true step c.loop-own.invariant in
     let p = at.0 in let q = at.1 in
     omega (arith, ints, p, q)
 
@@ -29,20 +31,25 @@ loop-own-preserved c =
     let a = c.widened-width.ensures in
     let b = c.left_over-more.ensures in
     let all = c.all_have_own-all.ensures in
-    let step = subst (λ (x : Bool). Step x (get_or c.args.owns.now c.loop-own.own-index None) (c.rest_of-rest.result / c.takers_of-takers.result) c.loop-own.more c.left_over-more.result (unit c.widened-width.result)) all
+    let step = subst (λ (x : Bool). Step x (get_or c.args.owns.now c.loop-own.own-index None) (c.rest_of-rest.result / c.takers_of-takers.result)
+    c.loop-own.more c.left_over-more.result (unit c.widened-width.result)) all
     (record { kept = λ t. (a.kept t, b.kept t); greater = λ t s. (a.greater t s, b.less t s); lesser = λ t z. (a.lesser t z, b.none t z) }) in
     let w = c.rest_of-rest.ensures.value in let x = c.requires.asked.0 in let y = c.requires.asked.1 in
     let v : pos c.rest_of-rest.result ≡ int_max (pos 0) (c.args.asked -ℤ sum_own c.args.owns.now) = omega (arith, ints, clamps, w, x, y) in
-    let at = width_fits c.args.owns.now c.args.asked c.rest_of-rest.result _ c.loop-own.more c.left_over-more.result c.loop-own.own-index c.loop-own.widths.items (unit c.widened-width.result) c.requires.widths v c.loop-own-test.true step c.loop-own.invariant in
+    let at = width_fits c.args.owns.now c.args.asked c.rest_of-rest.result _ c.loop-own.more c.left_over-more.result c.loop-own.own-index
+    c.loop-own.widths.items (unit c.widened-width.result) c.requires.widths v c.loop-own-test.true step c.loop-own.invariant in
     let p = at.0 in let q = at.1 in
     let same : to_z w64 (of_z w64 (to_z w128 (of_z w128 c.widened-width.result))) ≡ c.widened-width.result = omega (arith, ints, p, q) in
-    subst (λ (ws : List Unit). SharedTo c.args.owns.now c.rest_of-rest.result (c.rest_of-rest.result / c.takers_of-takers.result) c.left_over-more.result (c.loop-own.own-index + 1) ws) (sym (c.in_ok-push.ensures {u = tt}).items)
-    (subst (λ (z : ℤ). SharedTo c.args.owns.now c.rest_of-rest.result (c.rest_of-rest.result / c.takers_of-takers.result) c.left_over-more.result (c.loop-own.own-index + 1) (c.loop-own.widths.items ++ unit z ∷ [])) (sym same)
+    subst (λ (ws : List Unit). SharedTo c.args.owns.now c.rest_of-rest.result (c.rest_of-rest.result / c.takers_of-takers.result)
+    c.left_over-more.result (c.loop-own.own-index + 1) ws) (sym (c.in_ok-push.ensures {u = tt}).items)
+    (subst (λ (z : ℤ). SharedTo c.args.owns.now c.rest_of-rest.result (c.rest_of-rest.result / c.takers_of-takers.result) c.left_over-more.result
+    (c.loop-own.own-index + 1) (c.loop-own.widths.items ++ unit z ∷ [])) (sym same)
     (shared_more c.args.owns.now c.rest_of-rest.result _ _ _ _ _ (unit c.widened-width.result) c.loop-own.invariant c.loop-own-test.true step))
 
 pub returns : goal.returns
 returns c =
     let w = c.rest_of-rest.ensures.value in let x = c.requires.asked.0 in let y = c.requires.asked.1 in
     let v : pos c.rest_of-rest.result ≡ int_max (pos 0) (c.args.asked -ℤ sum_own c.args.owns.now) = omega (arith, ints, clamps, w, x, y) in
-    let all = shared_end c.args.owns.now c.args.asked c.rest_of-rest.result _ _ c.loop-own.own-index _ v c.loop-own-test.false c.loop-own.auto.own-index-end c.loop-own.invariant in
+    let all = shared_end c.args.owns.now c.args.asked c.rest_of-rest.result _ _ c.loop-own.own-index _ v c.loop-own-test.false
+    c.loop-own.auto.own-index-end c.loop-own.invariant in
     subst (λ (ws : List Unit). AreShared c.args.owns.now c.args.asked ws) (sym c.new-2.ensures) all
