@@ -8,7 +8,7 @@ use Rattle.lay_units.specs.declared.records.BlockIn.{BlockIn}
 use Rattle.lay_widths.specs.declared.widths.BlockOut.{BlockOut}
 use Rattle.lay_widths.specs.declared.widths.UsedWidths.{UsedWidths}
 use Rattle.lay_widths.specs.Lengths.{across, together}
-use Rattle.lay_widths.specs.BlockWidths.{GivenMargin, SolvesBlock, IsHeld}
+use Rattle.lay_widths.specs.BlockWidths.{GivenMargin, SolvesBlock, IsHeld, width_in}
 use Rattle.lay_widths.specs.MinMax.{AtMost, AtLeast, IsBounded}
 use Rattle.lay_widths.specs.FloatWidths.{SolvesFloat}
 use Rattle.lay_widths.specs.declared.replaced.ReplacedSize.{ReplacedSize}
@@ -50,23 +50,23 @@ solution_same b (of width) s t p q =
     (λ fits. given_margin_same b b.margin_left b.margin_right _ s t p.equation q.equation w (p.cases.fits fits) (q.cases.fits fits))
 
 -- rules that give one solution for each computed width
-abbrev AreExact : (Len → UsedWidths → Type 0) → Type 0
-AreExact Rules = (computed : Len) (s t : UsedWidths) → Rules computed s → Rules computed t → s ≡ t
+abbrev pub AreExact : {U : Type 0} → (Len → U → Type 0) → Type 0
+AreExact Rules = (computed : Len) (s t : _) → Rules computed s → Rules computed t → s ≡ t
 
-at_most_same : (Rules : Len → UsedWidths → Type 0) → AreExact Rules → (max : Option Unit) (before s t : UsedWidths) → AtMost Rules max before s → AtMost Rules max before t → s ≡ t
-at_most_same Rules exact None before s t p q = p ∙ sym q
-at_most_same Rules exact (Some max) before s t p q =
-    by_lt_z max.0 before.width (λ over. exact (of max) s t (p.0 over) (q.0 over)) (λ within. p.1 within ∙ sym (q.1 within))
+at_most_same : {U : Type 0} (width : U → ℤ) (Rules : Len → U → Type 0) → AreExact Rules → (max : Option Unit) (before s t : U) → AtMost width Rules max before s → AtMost width Rules max before t → s ≡ t
+at_most_same width Rules exact None before s t p q = p ∙ sym q
+at_most_same width Rules exact (Some max) before s t p q =
+    by_lt_z max.0 (width before) (λ over. exact (of max) s t (p.0 over) (q.0 over)) (λ within. p.1 within ∙ sym (q.1 within))
 
-at_least_same : (Rules : Len → UsedWidths → Type 0) → AreExact Rules → (min : Unit) (before s t : UsedWidths) → AtLeast Rules min before s → AtLeast Rules min before t → s ≡ t
-at_least_same Rules exact min before s t p q =
-    by_lt_z before.width min.0 (λ under. exact (of min) s t (p.0 under) (q.0 under)) (λ within. p.1 within ∙ sym (q.1 within))
+at_least_same : {U : Type 0} (width : U → ℤ) (Rules : Len → U → Type 0) → AreExact Rules → (min : Unit) (before s t : U) → AtLeast width Rules min before s → AtLeast width Rules min before t → s ≡ t
+at_least_same width Rules exact min before s t p q =
+    by_lt_z (width before) min.0 (λ under. exact (of min) s t (p.0 under) (q.0 under)) (λ within. p.1 within ∙ sym (q.1 within))
 
-bounded_same : (Rules : Len → UsedWidths → Type 0) → AreExact Rules → (computed : Len) (min : Unit) (max : Option Unit) (s t : UsedWidths) → IsBounded Rules computed min max s → IsBounded Rules computed min max t → s ≡ t
-bounded_same Rules exact computed min max s t p q =
+pub bounded_same : {U : Type 0} (width : U → ℤ) (Rules : Len → U → Type 0) → AreExact Rules → (computed : Len) (min : Unit) (max : Option Unit) (s t : U) → IsBounded width Rules computed min max s → IsBounded width Rules computed min max t → s ≡ t
+bounded_same {U} width Rules exact computed min max s t p q =
     let first = exact computed p.tentative q.tentative p.first q.first in
-    let second = at_most_same Rules exact max p.tentative p.narrowed q.narrowed p.second (subst (λ (u : UsedWidths). AtMost Rules max u q.narrowed) (sym first) q.second) in
-    at_least_same Rules exact min p.narrowed s t p.third (subst (λ (u : UsedWidths). AtLeast Rules min u t) (sym second) q.third)
+    let second = at_most_same width Rules exact max p.tentative p.narrowed q.narrowed p.second (subst (λ (u : U). AtMost width Rules max u q.narrowed) (sym first) q.second) in
+    at_least_same width Rules exact min p.narrowed s t p.third (subst (λ (u : U). AtLeast width Rules min u t) (sym second) q.third)
 
 abbrev out_of : ℤ → ℤ → ℤ → BlockOut
 out_of left width right = record { margin_left = record { 0 = left }; width = record { 0 = width }; margin_right = record { 0 = right } }
@@ -82,14 +82,14 @@ held_same s t x y same p q =
 
 pub one_block_width_lem : OneBlockWidth
 one_block_width_lem b x y p q =
-    held_same p.used q.used x y (bounded_same (SolvesBlock b) (solution_same b) b.width b.min_width b.max_width p.used q.used p.bounded q.bounded) p.held q.held
+    held_same p.used q.used x y (bounded_same width_in (SolvesBlock b) (solution_same b) b.width b.min_width b.max_width p.used q.used p.bounded q.bounded) p.held q.held
 
 float_solution_same : (b : BlockIn) (preferred_minimum preferred : Unit) (computed : Len) (s t : UsedWidths) → SolvesFloat b preferred_minimum preferred computed s → SolvesFloat b preferred_minimum preferred computed t → s ≡ t
 float_solution_same b preferred_minimum preferred computed s t p q = same_widths s t (p.margin_left ∙ sym q.margin_left) (p.width ∙ sym q.width) (p.margin_right ∙ sym q.margin_right)
 
 pub one_float_width_lem : OneFloatWidth
 one_float_width_lem b preferred_minimum preferred x y p q =
-    held_same p.used q.used x y (bounded_same (SolvesFloat b preferred_minimum preferred) (float_solution_same b preferred_minimum preferred) b.width b.min_width b.max_width p.used q.used p.bounded q.bounded) p.held q.held
+    held_same p.used q.used x y (bounded_same width_in (SolvesFloat b preferred_minimum preferred) (float_solution_same b preferred_minimum preferred) b.width b.min_width b.max_width p.used q.used p.bounded q.bounded) p.held q.held
 
 abbrev size_of : ℤ → ℤ → ReplacedSize
 size_of width height = record { width = record { 0 = width }; height = record { 0 = height } }

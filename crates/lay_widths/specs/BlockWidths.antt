@@ -49,8 +49,11 @@ pub record IsHeld (used : UsedWidths) (out : BlockOut) : Type 0 where
   pub width : out.width.0 ≡ clamp_size_of used.width
   pub margin_right : out.margin_right.0 ≡ clamp_of used.margin_right
 
+abbrev pub width_in : UsedWidths → ℤ
+width_in used = used.width
+
 -- the used margins and width of a block
 pub record IsUsedBlock (b : BlockIn) (out : BlockOut) : Type 0 where
   pub used : UsedWidths
-  pub bounded : IsBounded (SolvesBlock b) b.width b.min_width b.max_width used
+  pub bounded : IsBounded width_in (SolvesBlock b) b.width b.min_width b.max_width used
   pub held : IsHeld used out

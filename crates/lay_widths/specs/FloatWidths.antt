@@ -10,7 +10,7 @@ use Rattle.lay_units.specs.declared.records.BlockIn.{BlockIn}
 use Rattle.lay_widths.specs.declared.widths.BlockOut.{BlockOut}
 use Rattle.lay_widths.specs.declared.widths.UsedWidths.{UsedWidths}
 use Rattle.lay_widths.specs.Lengths.{or_zero, together}
-use Rattle.lay_widths.specs.BlockWidths.{IsHeld}
+use Rattle.lay_widths.specs.BlockWidths.{IsHeld, width_in}
 use Rattle.lay_widths.specs.MinMax.{IsBounded}
 
 -- the containing width less margins, borders and paddings
@@ -34,5 +34,5 @@ pub record SolvesFloat (b : BlockIn) (preferred_minimum preferred : Unit) (compu
 -- the used margins and width of a float
 pub record IsUsedFloat (b : BlockIn) (preferred_minimum preferred : Unit) (out : BlockOut) : Type 0 where
   pub used : UsedWidths
-  pub bounded : IsBounded (SolvesFloat b preferred_minimum preferred) b.width b.min_width b.max_width used
+  pub bounded : IsBounded width_in (SolvesFloat b preferred_minimum preferred) b.width b.min_width b.max_width used
   pub held : IsHeld used out

@@ -3,7 +3,7 @@
 ghost use Rattle.std.specs.Prelude.{◌≡◌, ℤ, pos, ◌+ℤ◌, ◌-ℤ◌, ◌≤ℤ◌, ◌<ℤ◌};
 ghost use Rattle.lay_units.specs.Units.{IsPosition};
 ghost use Rattle.lay_widths.specs.Lengths.{BlockFits, IsBelow, LenFits, or_zero, edges_of, across, together};
-ghost use Rattle.lay_widths.specs.BlockWidths.{IsHeld, IsUsedBlock, SolvesBlock, AutoWidth, GivenWidth};
+ghost use Rattle.lay_widths.specs.BlockWidths.{IsHeld, IsUsedBlock, SolvesBlock, AutoWidth, GivenWidth, width_in};
 
 use crate::min_max::{WidthRules, bounded};
 use crate::room::{edges, room_beside};
@@ -27,9 +27,13 @@ struct BlockRules<'a> {
 }
 
 impl WidthRules for BlockRules<'_> {
+    type Used = UsedWidths;
+
     ghost fit = { λ r. BlockFits r.block.now };
 
     ghost give = { λ r. SolvesBlock r.block.now };
+
+    ghost width = { width_in };
 
     fn widths_for(&self, computed: Len) -> UsedWidths
         requires fit { BlockFits self.now.block.now }
@@ -40,6 +44,12 @@ impl WidthRules for BlockRules<'_> {
             Len::Auto => auto_width(self.block),
             Len::Of(width) => given_width(self.block, i128::from(width.0)),
         }
+    }
+
+    fn width_in(&self, used: UsedWidths) -> i128
+        ensures { result ≡ width_in used }
+    {
+        used.width
     }
 }
 

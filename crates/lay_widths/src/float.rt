@@ -1,7 +1,8 @@
 //! Floats (CSS 2.2, 10.3.5 and 10.4).
 
 ghost use Rattle.std.specs.Prelude.{◌≡◌};
-ghost use Rattle.lay_widths.specs.Lengths.{BlockFits, LenFits};
+ghost use Rattle.lay_widths.specs.Lengths.{BlockFits, IsBelow, LenFits};
+ghost use Rattle.lay_widths.specs.BlockWidths.{width_in};
 ghost use Rattle.lay_widths.specs.FloatWidths.{IsUsedFloat, SolvesFloat, float_width_of, shrink_to_fit_of};
 
 use crate::min_max::{WidthRules, bounded};
@@ -33,9 +34,13 @@ struct FloatRules<'a> {
 }
 
 impl WidthRules for FloatRules<'_> {
+    type Used = UsedWidths;
+
     ghost fit = { λ r. BlockFits r.block.now };
 
     ghost give = { λ r. SolvesFloat r.block.now r.preferred_minimum r.preferred };
+
+    ghost width = { width_in };
 
     // 1. Auto margins are zero.
     // 2. An auto width shrinks to fit; a given one is used as it is.
@@ -50,6 +55,12 @@ impl WidthRules for FloatRules<'_> {
             margin_right: length_or_zero(self.block.margin_right),
         }
     }
+
+    fn width_in(&self, used: UsedWidths) -> i128
+        ensures { result ≡ width_in used }
+    {
+        used.width
+    }
 }
 
 fn float_width(block: &BlockIn, preferred_minimum: Unit, preferred: Unit, computed: Len) -> i128
@@ -62,8 +73,10 @@ fn float_width(block: &BlockIn, preferred_minimum: Unit, preferred: Unit, comput
     }
 }
 
-fn shrink_to_fit(preferred_minimum: Unit, available: i128, preferred: Unit) -> i128
-    ensures { result ≡ shrink_to_fit_of preferred_minimum.0 available preferred.0 }
+/// An auto width that shrinks to fit the width that is available, in 1/64 px (10.3.5).
+pub fn shrink_to_fit(preferred_minimum: Unit, available: i128, preferred: Unit) -> i128
+    ensures value { result ≡ shrink_to_fit_of preferred_minimum.0 available preferred.0 }
+    ensures below { IsBelow 64 result }
 {
     i128::from(preferred_minimum.0)
         .max(available)

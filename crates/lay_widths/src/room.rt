@@ -6,6 +6,8 @@ ghost use Rattle.lay_widths.specs.Lengths.{BlockFits, IsBelow, edges_of, togethe
 use crate::wide::{difference, length_or_zero, sum};
 use lay_units::BlockIn;
 
+/// What a width leaves of the containing block beside borders, paddings and margins, auto margins counted as zero, in
+/// 1/64 px. It may be negative.
 pub fn room_beside(block: &BlockIn, width: i128) -> i128
     requires fits { BlockFits block.now }
     requires width { IsBelow 80 width }
@@ -31,6 +33,7 @@ fn width_together(block: &BlockIn, width: i128) -> i128
     sum(sum(edges(block), margins), width)
 }
 
+/// The borders and paddings of both sides, in 1/64 px.
 pub fn edges(block: &BlockIn) -> i128
     requires fits { BlockFits block.now }
     ensures value { result ≡ edges_of block.now }

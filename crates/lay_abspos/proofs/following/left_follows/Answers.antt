@@ -1,0 +1,6 @@
+use Rattle.std.proofs.Common.{arith}
+use Rattle.std.proofs.lemmas.Int.{ints}
+use Rattle.lay_abspos.proofs.following.left_follows.Goals as goal
+
+pub returns-clause-equation : goal.returns-clause-equation
+returns-clause-equation c = omega (arith, ints)

@@ -1,0 +1,8 @@
+-- An absolutely positioned box has one set of used offsets, margins and sizes.
+use Rattle.std.specs.Prelude.{◌≡◌}
+use Rattle.lay_units.specs.declared.records.AbsOut.{AbsOut}
+use Rattle.lay_abspos.specs.declared.axis.Axis.{Axis}
+use Rattle.lay_abspos.specs.AbsoluteAxis.{IsUsedAxis}
+
+abbrev pub OneUsedAxis : Type 0
+OneUsedAxis = (a : Axis) (x y : AbsOut) → IsUsedAxis a x → IsUsedAxis a y → x ≡ y

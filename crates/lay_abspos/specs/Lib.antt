@@ -1,0 +1,3 @@
+pub mod AbsoluteFits
+pub mod AbsoluteAxis
+pub mod Laws

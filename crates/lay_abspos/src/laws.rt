@@ -1,0 +1,8 @@
+//! Laws of the definitions. The functions do nothing.
+
+ghost use Rattle.lay_abspos.specs.Laws.{OneUsedAxis};
+
+/// An absolutely positioned box has one set of used offsets, margins and sizes along each axis.
+pub fn one_used_axis()
+    ensures { OneUsedAxis }
+{}
