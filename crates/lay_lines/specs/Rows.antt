@@ -6,10 +6,11 @@ use Rattle.lay_lines.specs.declared.content.Stretch.{Stretch}
 use Rattle.lay_lines.specs.declared.content.InlineStart.{InlineStart}
 use Rattle.lay_lines.specs.declared.frame.Extent.{Extent}
 use Rattle.lay_lines.specs.declared.frame.Frame.{Frame}
+use Rattle.lay_lines.specs.declared.reach.Reach.{Reach}
 use Rattle.lay_lines.specs.declared.row.Ended.{Ended}
-use Rattle.lay_lines.specs.Pens.{seen_to}
+use Rattle.lay_lines.specs.Pens.{pen_to, seen_to}
 use Rattle.lay_lines.specs.Extents.{any_shows, reading_to, height_of, ExtentFits}
-use Rattle.lay_lines.specs.Meeting.{State, Chain, Meets, CanMeetAll, RoomsFit, FrameFits}
+use Rattle.lay_lines.specs.Meeting.{State, Chain, IsLineRoom, Meets, CanMeetAll, RoomsFit, FrameFits}
 use Rattle.lay_lines.specs.Filling.{IsTop, Takes, Fills, CanFill}
 
 -- where a line begins: its frame, its highest top, the inline boxes that are open, the content that is left,
@@ -21,13 +22,14 @@ pub record Position : Type 0 where
   pub rest : List Stretch
   pub state : State
 
--- a line: the floats before its content, its top, how many stretches it takes, the floats then, whether it is
--- seen, where the next line begins, and the floats after those that waited
+-- a line: the floats before its content, its top, how far what it takes comes in its room, the floats then, its
+-- extent, whether it is seen, where the next line begins, and the floats after those that waited
 pub record Row : Type 0 where
   pub headed : State
   pub top : ℤ
-  pub count : ℕ
+  pub reach : Reach
   pub filled : State
+  pub extent : Extent
   pub seen : Bool
   pub to : ℤ
   pub after : State
@@ -47,10 +49,13 @@ pub record IsFilled (p : Position) (r : Row) : Type 0 where
   pub is : slice_get p.rest 0 ≡ Some first
   pub heads : Meets p.frame p.from p.rest 0 first.heads.items p.state r.headed
   pub top_is : IsTop p.frame p.from p.rest r.headed.floats r.top
-  pub count_is : Takes p.frame r.top p.rest r.headed r.count
-  pub filled_is : Fills p.frame r.top p.rest r.count r.headed r.filled
-  pub seen_is : r.seen ≡ is_seen p r.count
-  pub to_is : r.to ≡ (if r.seen then (r.top +ℤ height_of (extent_of p r.count)) else p.from)
+  pub count_is : Takes p.frame r.top p.rest r.headed r.reach.count
+  pub filled_is : Fills p.frame r.top p.rest r.reach.count r.headed r.filled
+  pub room_is : IsLineRoom p.frame r.top r.filled.floats r.reach.start.0 r.reach.end.0
+  pub pen_is : r.reach.pen ≡ pen_to p.frame r.reach.start.0 p.rest r.reach.count
+  pub extent_is : r.extent ≡ extent_of p r.reach.count
+  pub seen_is : r.seen ≡ is_seen p r.reach.count
+  pub to_is : r.to ≡ (if r.seen then (r.top +ℤ height_of r.extent) else p.from)
 
 pub record IsRow (p : Position) (r : Row) : Type 0 where
   pub filled : IsFilled p r
@@ -70,8 +75,8 @@ abbrev pub after_row : Position → Row → Position
 after_row p r = record {
   frame = next_frame p.frame r.seen;
   from = r.to;
-  open_boxes = (reading_to p.frame p.open_boxes p.rest r.count).open_boxes;
-  rest = drop r.count p.rest;
+  open_boxes = (reading_to p.frame p.open_boxes p.rest r.reach.count).open_boxes;
+  rest = drop r.reach.count p.rest;
   state = r.after;
 }
 
@@ -117,8 +122,17 @@ position_of fr from bs ss st = record { frame = fr; from = from; open_boxes = bs
 -- the line of which the code keeps this
 abbrev pub row_of : Ended → State → State → State → Row
 row_of e headed filled after =
-    record { headed = headed; top = e.top.0; count = e.count; filled = filled; seen = e.seen; to = e.to.0; after = after }
+    record {
+      headed = headed;
+      top = e.top.0;
+      reach = e.reach;
+      filled = filled;
+      extent = e.extent;
+      seen = e.seen;
+      to = e.to.0;
+      after = after;
+    }
 
 -- what the code answers of a line
 abbrev pub ended_of : Row → Ended
-ended_of r = record { top = record { 0 = r.top }; count = r.count; seen = r.seen; to = record { 0 = r.to } }
+ended_of r = record { top = record { 0 = r.top }; reach = r.reach; extent = r.extent; seen = r.seen; to = record { 0 = r.to } }

@@ -24,5 +24,7 @@ pub use content::{InlineEnd, InlineStart, LineFloat, Part, Stretch};
 pub use frame::{Extent, Frame, Line};
 pub use laws::one_list_of_lines;
 pub use met::Met;
+pub use pen::Pen;
+pub use reach::Reach;
 pub use row::Ended;
 pub use rows::{Rows, lay_rows};

@@ -17,16 +17,18 @@ use crate::met::Met;
 use crate::reach::Reach;
 use crate::taking::take;
 use crate::top::line_top;
-use lay_floats::{Floats, one_float_place};
+use lay_floats::{Floats, one_float_place, one_room};
 use lay_units::{NoMemory, Unit};
 use std::alloc::Global;
 use std::mem;
 
-/// A line that ended: its top, how many stretches it took, whether it is seen, and where what follows begins.
+/// A line that ended: its top, how far its content comes in its room, its extent, whether it is seen, and
+/// where what follows begins.
 #[derive(Clone, Copy)]
 pub struct Ended {
     pub top: Unit,
-    pub count: usize,
+    pub reach: Reach,
+    pub extent: Extent,
     pub seen: bool,
     pub to: Unit,
 }
@@ -43,12 +45,13 @@ pub fn put_row(
     requires some { 0 < length stretches.now }
     requires can { CanRow (position_of start.now.frame start.now.top.0 boxes.old.items stretches.now (state_of floats.old met.old)) }
     ensures row { IfOk result (λ e. (headed : State) × (filled : State) × IsRow (position_of start.now.frame start.now.top.0 boxes.old.items stretches.now (state_of floats.old met.old)) (row_of e headed filled (state_of floats.new met.new))) }
-    ensures boxes { IfOk result (λ e. boxes.new.items ≡ (reading_to start.now.frame boxes.old.items stretches.now e.count).open_boxes) }
-    ensures within { IfOk result (λ e. e.count ≤ length stretches.now) }
-    ensures some { IfOk result (λ e. 0 < e.count) }
+    ensures boxes { IfOk result (λ e. boxes.new.items ≡ (reading_to start.now.frame boxes.old.items stretches.now e.reach.count).open_boxes) }
+    ensures within { IfOk result (λ e. e.reach.count ≤ length stretches.now) }
+    ensures some { IfOk result (λ e. 0 < e.reach.count) }
     ensures stopped { IfErr result (λ _. (r : Row) → IsRow (position_of start.now.frame start.now.top.0 boxes.old.items stretches.now (state_of floats.old met.old)) r → IsFront floats.new r.after.floats) }
 {
     one_float_place();
+    one_room();
     let ended = fill_row(floats, met, start, boxes, stretches)?;
     let waiting = mem::replace(&mut met.put_off, Vec::new(alloc));
     let under = Line {
@@ -71,22 +74,24 @@ fn fill_row(
     requires some { 0 < length stretches.now }
     requires can { CanRow (position_of start.now.frame start.now.top.0 boxes.old.items stretches.now (state_of floats.old met.old)) }
     ensures filled { IfOk result (λ e. (headed : State) × ((after : State) → IsFilled (position_of start.now.frame start.now.top.0 boxes.old.items stretches.now (state_of floats.old met.old)) (row_of e headed (state_of floats.new met.new) after))) }
-    ensures boxes { IfOk result (λ e. boxes.new.items ≡ (reading_to start.now.frame boxes.old.items stretches.now e.count).open_boxes) }
+    ensures boxes { IfOk result (λ e. boxes.new.items ≡ (reading_to start.now.frame boxes.old.items stretches.now e.reach.count).open_boxes) }
     ensures stopped { IfErr result (λ _. (r : Row) → IsFilled (position_of start.now.frame start.now.top.0 boxes.old.items stretches.now (state_of floats.old met.old)) r → IsFront floats.new r.filled.floats) }
 {
     one_float_place();
+    one_room();
     let top = headed_top(floats, met, start, stretches)?;
     let line = Line {
         frame: start.frame,
         top,
     };
-    let taken = take(floats, met, &line, stretches)?;
-    let seen = is_seen(boxes, taken.seen);
-    let extent = line_extent(&start.frame, boxes, stretches, taken.count)?;
+    let reach = take(floats, met, &line, stretches)?;
+    let seen = is_seen(boxes, reach.is_seen(&start.frame, stretches));
+    let extent = line_extent(&start.frame, boxes, stretches, reach.count)?;
     let to = row_end(top, extent, seen, start.top);
     Ok(Ended {
         top,
-        count: taken.count,
+        reach,
+        extent,
         seen,
         to,
     })

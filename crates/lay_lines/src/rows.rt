@@ -9,7 +9,7 @@ use crate::content::Stretch;
 use crate::frame::{Frame, Line};
 use crate::met::Met;
 use crate::row::{Ended, put_row};
-use lay_floats::{Floats, one_float_place};
+use lay_floats::{Floats, one_float_place, one_room};
 use lay_units::{NoMemory, Unit};
 use std::alloc::Global;
 
@@ -34,6 +34,7 @@ pub fn lay_rows(
     ensures stopped { IfErr result (λ _. (laid : Laid) → AreRows (position_of start.now.frame start.now.top.0 [] stretches.now (state_of floats.old met.old)) laid → IsFront floats.new laid.position.state.floats) }
 {
     one_float_place();
+    one_room();
     let mut rows = Vec::new(alloc);
     let mut boxes = Vec::new(alloc);
     let mut here = *start;
@@ -42,7 +43,7 @@ pub fn lay_rows(
         let ended = put_row(alloc, floats, met, &here, &mut boxes, rest)?;
         rows.push(ended)?;
         here = next_line(&here, &ended);
-        rest = rest_of(rest, ended.count);
+        rest = rest_of(rest, ended.reach.count);
     }
     Ok(Rows {
         rows,

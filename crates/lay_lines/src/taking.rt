@@ -4,10 +4,10 @@ ghost use Rattle.std.specs.Prelude.{◌≡◌, ◌↔◌, ◌⊎◌, suc, ◌+�
 ghost use Rattle.lay_units.specs.Units.{IsPosition};
 ghost use Rattle.lay_floats.specs.SolidPlace.{IsAlone};
 ghost use Rattle.lay_lines.specs.declared.content.Stretch.{Stretch as StretchValue};
-ghost use Rattle.lay_lines.specs.Pens.{strut_height, seen_to};
+ghost use Rattle.lay_lines.specs.Pens.{strut_height};
 ghost use Rattle.lay_lines.specs.Meeting.{State, state_of, Meets, CanMeetAll, RoomsFit, FrameFits, IsFront};
 ghost use Rattle.lay_lines.specs.Filling.{HasFit, FitsNext, TakesNext, Fills, Takes, CanFill};
-ghost use Rattle.lay_lines.specs.Reaching.{IsPen, IsReach};
+ghost use Rattle.lay_lines.specs.Reaching.{IsReach};
 
 use crate::content::{LineFloat, Stretch};
 use crate::frame::Line;
@@ -17,46 +17,28 @@ use crate::reach::Reach;
 use lay_floats::{Floats, one_float_place};
 use lay_units::{NoMemory, Unit};
 
-/// How many stretches a line took, and whether something of them is seen.
-#[derive(Clone, Copy)]
-pub struct Taken {
-    pub count: usize,
-    pub seen: bool,
-}
-
-/// A line takes stretches as long as they fit.
-pub fn take(floats: &mut Floats, met: &mut Met, line: &Line, stretches: &[Stretch]) -> Result<Taken, NoMemory>
+/// A line takes stretches as long as they fit. The answer is how far they come.
+pub fn take(floats: &mut Floats, met: &mut Met, line: &Line, stretches: &[Stretch]) -> Result<Reach, NoMemory>
     requires frame { FrameFits line.now.frame }
     requires top { IsPosition line.now.top.0 }
     requires can { CanFill line.now.frame line.now.top.0 stretches.now (state_of floats.old met.old) }
     ensures takes { IfOk result (λ t. Takes line.now.frame line.now.top.0 stretches.now (state_of floats.old met.old) t.count) }
     ensures fills { IfOk result (λ t. Fills line.now.frame line.now.top.0 stretches.now t.count (state_of floats.old met.old) (state_of floats.new met.new)) }
-    ensures seen { IfOk result (λ t. t.seen ≡ seen_to line.now.frame stretches.now t.count) }
+    ensures reach { IfOk result (λ t. IsReach line.now.frame line.now.top.0 stretches.now floats.new t) }
     ensures stopped { IfErr result (λ _. (n : ℕ) (after : State) → Takes line.now.frame line.now.top.0 stretches.now (state_of floats.old met.old) n → Fills line.now.frame line.now.top.0 stretches.now n (state_of floats.old met.old) after → IsFront floats.new after.floats) }
 {
     one_float_place();
     let mut reach = Reach::first(floats, line, stretches);
     for k in 0..stretches.len() {
         match take_next(floats, met, line, stretches, &reach)? {
-            None => return Ok(so_far(&reach, line, stretches)),
+            None => return Ok(reach),
             Some(next) => reach = next,
         }
         if stretches[k].forced {
-            return Ok(so_far(&reach, line, stretches));
+            return Ok(reach);
         }
     }
-    Ok(so_far(&reach, line, stretches))
-}
-
-fn so_far(reach: &Reach, line: &Line, stretches: &[Stretch]) -> Taken
-    requires { IsPen line.now.frame stretches.now reach.now }
-    ensures count { result.count ≡ reach.now.count }
-    ensures seen { result.seen ≡ seen_to line.now.frame stretches.now reach.now.count }
-{
-    Taken {
-        count: reach.count,
-        seen: reach.is_seen(&line.frame, stretches),
-    }
+    Ok(reach)
 }
 
 /// Takes one more stretch where it fits.

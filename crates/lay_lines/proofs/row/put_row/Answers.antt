@@ -62,7 +62,7 @@ pub returns-clause-some : goal.returns-clause-some
 returns-clause-some c =
     let w = c.in_ok-ended.ensures.filled in
     let f = w.1 (state_of c.args.floats.now c.args.met.now) in
-    takes_some c.args.start.now.frame c.in_ok-ended.ended.top.0 c.args.stretches.now w.0 c.in_ok-ended.ended.count c.requires.some
+    takes_some c.args.start.now.frame c.in_ok-ended.ended.top.0 c.args.stretches.now w.0 c.in_ok-ended.ended.reach.count c.requires.some
         (top_fits c.args.start.now.frame c.in_ok-ended.ended.top.0 c.args.stretches.now w.0.floats f.top_is.begins) f.count_is
 
 pub returns-in_err-ended-clause-stopped : goal.returns-in_err-ended-clause-stopped
@@ -89,7 +89,7 @@ returns-in_err-meet_all-clause-stopped c =
     let list : c.as_slice.result.now ≡ filled.put_off = cc in
     let same = same_states filled.floats c.fill_row.new.floats filled.places c.fill_row.new.met.places.items [] c.replace-waiting.new.dest.items refl refl none in
     at_err c.from_residual-in_err-meet_all.result _ (λ r a.
-      (let e = one_filled c.one_float_place.ensures p r ours a.filled (w.1 st) in
+      (let e = one_filled (record { place = c.one_float_place.ensures; room = c.one_room.ensures }) p r ours a.filled (w.1 st) in
       let later = subst (λ (z : ℤ). Meets fr z ss 0 r.filled.put_off (emptied r.filled) r.after) e.to a.later in
       let at_ours = subst (λ (z : State). Meets fr y ss 0 z.put_off (emptied z) r.after) e.filled later in
       let with_list = heads_to fr y ss c.none-blank.result.count filled.put_off c.as_slice.result.now (emptied filled) r.after c.none-blank.ensures.count list at_ours in

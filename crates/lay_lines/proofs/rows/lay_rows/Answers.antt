@@ -34,7 +34,7 @@ returns-in_err-ended-clause-stopped c =
     let now = state_of c.loop-rest.floats c.loop-rest.met in
     let p = position_of here.frame here.top.0 c.loop-rest.boxes.items c.loop-rest.rest.now now in
     let some : 0 < length c.loop-rest.rest.now = search rules in
-    at_err c.from_residual.result _ (λ laid all. rows_stopped c.one_float_place.ensures start (laid_at so_far.1 here.frame here.top.0 c.loop-rest.boxes.items c.loop-rest.rest.now now) laid so_far.0 c.put_row.new.floats
+    at_err c.from_residual.result _ (λ laid all. rows_stopped (record { place = c.one_float_place.ensures; room = c.one_room.ensures }) start (laid_at so_far.1 here.frame here.top.0 c.loop-rest.boxes.items c.loop-rest.rest.now now) laid so_far.0 c.put_row.new.floats
         so_far.2 some c.in_err-ended.ensures.stopped all)
 
 pub returns-in_err-push-clause-stopped : goal.returns-in_err-push-clause-stopped
@@ -49,5 +49,5 @@ returns-in_err-push-clause-stopped c =
     let after = state_of c.put_row.new.floats c.put_row.new.met in
     let r = row_of c.in_ok-ended.ended w.0 w.1 after in
     let some : 0 < length c.loop-rest.rest.now = search rules in
-    at_err c.from_residual-in_err-push.result _ (λ laid all. rows_stopped c.one_float_place.ensures start (laid_at so_far.1 here.frame here.top.0 c.loop-rest.boxes.items c.loop-rest.rest.now now) laid so_far.0 c.put_row.new.floats
-        so_far.2 some (λ q is. all_front _ _ (ap (λ (x : Row). x.after.floats) (one_row c.one_float_place.ensures p r q w.2 is))) all)
+    at_err c.from_residual-in_err-push.result _ (λ laid all. rows_stopped (record { place = c.one_float_place.ensures; room = c.one_room.ensures }) start (laid_at so_far.1 here.frame here.top.0 c.loop-rest.boxes.items c.loop-rest.rest.now now) laid so_far.0 c.put_row.new.floats
+        so_far.2 some (λ q is. all_front _ _ (ap (λ (x : Row). x.after.floats) (one_row (record { place = c.one_float_place.ensures; room = c.one_room.ensures }) p r q w.2 is))) all)

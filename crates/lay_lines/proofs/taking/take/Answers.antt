@@ -44,7 +44,7 @@ returns-in-None-clause-takes c =
     let now = state_of c.loop-k.floats c.loop-k.met in
     let st = state_of c.args.floats.now c.args.met.now in
     let lt = c.loop-k-test.true in
-    subst (λ (n : ℕ). Takes fr y ss st n) (sym (c.so_far.ensures.count ∙ inv.count_is))
+    subst (λ (n : ℕ). Takes fr y ss st n) (sym inv.count_is)
         (stops fr y ss st now k (omega (arith, lt)) inv.unforced inv.fits inv.fills
           (λ fit. c.in_ok-take_next.ensures.full c.in-None.is (subst (λ (n : ℕ). FitsNext fr y ss n now.floats) (sym inv.count_is) fit)))
 
@@ -62,7 +62,7 @@ returns-then-stretches-k-clause-takes c =
     let step = c.in_ok-take_next.ensures in
     let reach = at_some (λ r. IsReach fr y ss c.take_next.new.floats r × (r.count ≡ c.loop-k.reach.count + 1)) _ c.in-Some.next c.in-Some.is step.reach in
     let fit = at_some (λ r. FitsNext fr y ss c.loop-k.reach.count now.floats) _ c.in-Some.next c.in-Some.is step.fits in
-    subst (λ (n : ℕ). Takes fr y ss st n) (sym (c.so_far-then-stretches-k.ensures.count ∙ reach.1 ∙ ap (λ n. n + 1) inv.count_is))
+    subst (λ (n : ℕ). Takes fr y ss st n) (sym (reach.1 ∙ ap (λ n. n + 1) inv.count_is))
         (ends fr y ss st k s inv.unforced is (ap (λ (u : Stretch). u.forced) c.index-stretches-k.is ∙ c.if-stretches-k.true) (all_fit c.one_float_place.ensures fr y ss st now k inv.fits inv.fills (subst (λ (n : ℕ). FitsNext fr y ss n now.floats) inv.count_is fit)))
 
 pub returns-then-stretches-k-clause-fills : goal.returns-then-stretches-k-clause-fills
@@ -78,7 +78,7 @@ returns-then-stretches-k-clause-fills c =
     let step = c.in_ok-take_next.ensures in
     let reach = at_some (λ r. IsReach fr y ss c.take_next.new.floats r × (r.count ≡ c.loop-k.reach.count + 1)) _ c.in-Some.next c.in-Some.is step.reach in
     let takes = at_some (λ r. TakesNext fr y ss c.loop-k.reach.count now after) _ c.in-Some.next c.in-Some.is step.takes in
-    subst (λ (n : ℕ). Fills fr y ss n st after) (sym (c.so_far-then-stretches-k.ensures.count ∙ reach.1 ∙ ap (λ n. n + 1) inv.count_is))
+    subst (λ (n : ℕ). Fills fr y ss n st after) (sym (reach.1 ∙ ap (λ n. n + 1) inv.count_is))
         (chain_more (TakesNext fr y ss) k st now after inv.fills (subst (λ (n : ℕ). TakesNext fr y ss n now after) inv.count_is takes))
 
 pub loop-k-preserved : goal.loop-k-preserved
