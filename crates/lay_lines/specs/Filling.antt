@@ -11,7 +11,8 @@ use Rattle.lay_lines.specs.Meeting.{State, Chain, IsLineRoom, Meets, CanMeetAll,
 
 -- the first k stretches fit the room at y, spaces at their end not counted
 abbrev pub HasFit : Frame → ℤ → List Stretch → ℕ → List Placed → Type 0
-HasFit fr y ss k floats = (a : ℤ) × (e : ℤ) × IsLineRoom fr y floats a e × ((pen_to fr a ss k).visible.0 ≤ℤ (e -ℤ fr.left.0))
+HasFit fr y ss k floats =
+    (a : ℤ) × (e : ℤ) × IsLineRoom fr y floats a e × ((pen_to fr a ss k).visible.0 ≤ℤ (e -ℤ fr.left.0))
 
 -- one more than the first k is taken: it fits, or it is the first of its line and no float is beside it
 abbrev pub FitsNext : Frame → ℤ → List Stretch → ℕ → List Placed → Type 0
@@ -58,4 +59,5 @@ pub record IsTop (fr : Frame) (from : ℤ) (ss : List Stretch) (floats : List Pl
 -- all that a line with the top y can meet is within bounds
 pub record CanFill (fr : Frame) (y : ℤ) (ss : List Stretch) (st : State) : Type 0 where
   pub rooms : RoomsFit fr st.floats ss
-  pub meets : (k : ℕ) (mid : State) (s : Stretch) → Fills fr y ss k st mid → slice_get ss k ≡ Some s → CanMeetAll fr y ss (suc k) s.floats.items mid
+  pub meets : (k : ℕ) (mid : State) (s : Stretch) → Fills fr y ss k st mid → slice_get ss k ≡ Some s
+      → CanMeetAll fr y ss (suc k) s.floats.items mid

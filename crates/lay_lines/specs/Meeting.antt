@@ -73,8 +73,10 @@ abbrev pub waited : State → LineFloat → State
 waited st f = record { floats = st.floats; places = st.places; put_off = st.put_off ++ f ∷ [] }
 
 pub data MeetsFloat (fr : Frame) (y : ℤ) (ss : List Stretch) (k : ℕ) (st : State) (f : LineFloat) (after : State) : Type 0 where
-  stands : (x z : ℤ) → MayStand fr y ss k st f.req x z → after ≡ stood st f x z → MeetsFloat fr y ss k st f after
-  waits : IsTrue (seen_to fr ss k) → ((x z : ℤ) → MayStand fr y ss k st f.req x z → ⊥) → after ≡ waited st f → MeetsFloat fr y ss k st f after
+  stands : (x z : ℤ) → MayStand fr y ss k st f.req x z → after ≡ stood st f x z
+      → MeetsFloat fr y ss k st f after
+  waits : IsTrue (seen_to fr ss k) → ((x z : ℤ) → MayStand fr y ss k st f.req x z → ⊥) → after ≡ waited st f
+      → MeetsFloat fr y ss k st f after
 
 abbrev pub MeetsAt : Frame → ℤ → List Stretch → ℕ → List LineFloat → ℕ → State → State → Type 0
 MeetsAt fr y ss k fs j st after = (f : LineFloat) × (slice_get fs j ≡ Some f) × MeetsFloat fr y ss k st f after
@@ -96,7 +98,8 @@ abbrev pub RoomsFit : Frame → List Placed → List Stretch → Type 0
 RoomsFit fr floats ss = (y a e : ℤ) → IsLineRoom fr y floats a e → ContentFits fr a ss
 
 pub record CanMeetAll (fr : Frame) (y : ℤ) (ss : List Stretch) (k : ℕ) (fs : List LineFloat) (st : State) : Type 0 where
-  pub meets : (j : ℕ) (mid : State) (f : LineFloat) → MeetsTo fr y ss k fs j st mid → slice_get fs j ≡ Some f → CanMeet y mid.floats f.req
+  pub meets : (j : ℕ) (mid : State) (f : LineFloat) → MeetsTo fr y ss k fs j st mid → slice_get fs j ≡ Some f
+      → CanMeet y mid.floats f.req
   pub rooms : (j : ℕ) (mid : State) → MeetsTo fr y ss k fs j st mid → RoomsFit fr mid.floats ss
 
 pub record FrameFits (fr : Frame) : Type 0 where

@@ -36,7 +36,7 @@ pub struct Line {
 
 impl Line {
     /// The edges of the room that these floats leave to it.
-    pub fn room(&self, floats: &Floats) -> (Unit, Unit)
+    pub(crate) fn room(&self, floats: &Floats) -> (Unit, Unit)
         requires frame { FrameFits self.now.frame }
         requires top { IsPosition self.now.top.0 }
         ensures room { IsLineRoom self.now.frame self.now.top.0 floats.now result.0.0 result.1.0 }
@@ -49,7 +49,7 @@ impl Line {
 }
 
 impl Frame {
-    pub fn strut_height(&self) -> Unit
+    pub(crate) fn strut_height(&self) -> Unit
         requires { IsPosition (strut_height self.now) }
         ensures { result.0 ≡ strut_height self.now }
     {

@@ -25,7 +25,7 @@ pub struct Pen {
 
 impl Pen {
     /// After the first stretches of a line, in a room with this left edge.
-    pub fn to(frame: &Frame, edge: Unit, stretches: &[Stretch], count: usize) -> Pen
+    pub(crate) fn to(frame: &Frame, edge: Unit, stretches: &[Stretch], count: usize) -> Pen
         requires left { IsPosition frame.now.left.0 }
         requires indent { IsPosition frame.now.indent.0 }
         requires edge { IsPosition edge.0 }
@@ -41,7 +41,7 @@ impl Pen {
     }
 
     /// Before the content of a line.
-    pub fn blank(frame: &Frame, edge: Unit) -> Pen
+    pub(crate) fn blank(frame: &Frame, edge: Unit) -> Pen
         requires left { IsPosition frame.now.left.0 }
         requires edge { IsPosition edge.0 }
         requires fits { PenFits (blank (start_of frame.now edge.0)) }
@@ -57,7 +57,7 @@ impl Pen {
         }
     }
 
-    pub fn past(self, frame: &Frame, stretch: &Stretch) -> Pen
+    pub(crate) fn past(self, frame: &Frame, stretch: &Stretch) -> Pen
         requires { PensFit frame.now self stretch.now.parts.items }
         ensures { result ≡ past frame.now self stretch.now }
     {

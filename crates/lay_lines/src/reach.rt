@@ -25,7 +25,7 @@ pub struct Reach {
 
 impl Reach {
     /// Before all content, in the whole width of the container.
-    pub fn none(floats: &Floats, frame: &Frame, stretches: &[Stretch]) -> Reach
+    pub(crate) fn none(floats: &Floats, frame: &Frame, stretches: &[Stretch]) -> Reach
         requires frame { FrameFits frame.now }
         ensures pen { IsPen frame.now stretches.now result }
         ensures count { result.count ≡ 0 }
@@ -42,7 +42,7 @@ impl Reach {
     }
 
     /// Before all content, in the room that these floats leave.
-    pub fn first(floats: &Floats, line: &Line, stretches: &[Stretch]) -> Reach
+    pub(crate) fn first(floats: &Floats, line: &Line, stretches: &[Stretch]) -> Reach
         requires frame { FrameFits line.now.frame }
         requires top { IsPosition line.now.top.0 }
         requires rooms { RoomsFit line.now.frame floats.now stretches.now }
@@ -60,7 +60,7 @@ impl Reach {
     }
 
     /// After one stretch more, in the same room.
-    pub fn next(self, floats: &Floats, line: &Line, stretches: &[Stretch]) -> Reach
+    pub(crate) fn next(self, floats: &Floats, line: &Line, stretches: &[Stretch]) -> Reach
         requires rooms { RoomsFit line.now.frame floats.now stretches.now }
         requires reach { IsReach line.now.frame line.now.top.0 stretches.now floats.now self }
         requires some { self.count < length stretches.now }
@@ -77,7 +77,7 @@ impl Reach {
     }
 
     /// The same stretches, in the room that these floats leave.
-    pub fn in_room(self, floats: &Floats, line: &Line, stretches: &[Stretch]) -> Reach
+    pub(crate) fn in_room(self, floats: &Floats, line: &Line, stretches: &[Stretch]) -> Reach
         requires frame { FrameFits line.now.frame }
         requires top { IsPosition line.now.top.0 }
         requires pen { IsPen line.now.frame stretches.now self }
@@ -101,7 +101,7 @@ impl Reach {
     }
 
     /// Whether the content fits, spaces at its end not counted.
-    pub fn fits(&self, floats: &Floats, line: &Line, stretches: &[Stretch]) -> bool
+    pub(crate) fn fits(&self, floats: &Floats, line: &Line, stretches: &[Stretch]) -> bool
         requires left { IsPosition line.now.frame.left.0 }
         requires reach { IsReach line.now.frame line.now.top.0 stretches.now floats.now self.now }
         ensures { IsTrue result ↔ HasFit line.now.frame line.now.top.0 stretches.now self.now.count floats.now }
@@ -113,7 +113,7 @@ impl Reach {
     }
 
     /// Whether a float of this width fits beside the content, in the room that these floats leave.
-    pub fn has_room(&self, floats: &Floats, line: &Line, stretches: &[Stretch], width: Unit) -> bool
+    pub(crate) fn has_room(&self, floats: &Floats, line: &Line, stretches: &[Stretch], width: Unit) -> bool
         requires frame { FrameFits line.now.frame }
         requires top { IsPosition line.now.top.0 }
         requires pen { IsPen line.now.frame stretches.now self.now }
@@ -139,7 +139,7 @@ impl Reach {
     }
 
     /// Whether something of the content is seen.
-    pub fn is_seen(&self, frame: &Frame, stretches: &[Stretch]) -> bool
+    pub(crate) fn is_seen(&self, frame: &Frame, stretches: &[Stretch]) -> bool
         requires { IsPen frame.now stretches.now self.now }
         ensures { result ≡ seen_to frame.now stretches.now self.now.count }
     {

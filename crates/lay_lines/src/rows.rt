@@ -21,7 +21,9 @@ pub struct Rows {
 }
 
 /// The lines of this content, from a top downward. The floats that they meet are added to `floats` and to
-/// `met`. After a NoMemory those in `floats` are the first ones of all that would have been there.
+/// `met`. After a NoMemory those in `floats` are the first ones of all that would have been there. All
+/// lengths and places that are given, and those that follow from them, are below 2^62 units of 1/64 px in
+/// absolute value.
 pub fn lay_rows(
     alloc: Global,
     floats: &mut Floats,
