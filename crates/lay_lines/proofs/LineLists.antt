@@ -1,5 +1,5 @@
 -- A container has one list of lines.
-use Rattle.std.proofs.Common.{◌≡◌, ◌∙◌, ◌⊎◌, inl, inr, ℕ, zero, suc, ◌+◌, ◌<◌, ◌≤◌, ℤ, ◌+ℤ◌, ◌≤ℤ◌, ◌<ℤ◌, List, [], ◌∷◌, ◌++◌, length, drop, map, slice_get, Some, Bool, if◌then◌else◌, refl, sym, ap, subst, arith}
+use Rattle.std.proofs.Common.{◌≡◌, ◌∙◌, inl, inr, ℕ, ◌+◌, ◌<◌, ℤ, ◌+ℤ◌, List, [], ◌∷◌, ◌++◌, length, map, slice_get, Some, Bool, if◌then◌else◌, refl, sym, ap, subst, arith}
 use Rattle.std.proofs.lemmas.Int.{ints}
 use Rattle.std.proofs.lemmas.Bool.{cases_lt}
 use Rattle.std.proofs.lemmas.Option.{same_Some, slice_get_within}
@@ -12,7 +12,7 @@ use Rattle.lay_lines.specs.declared.frame.Extent.{Extent}
 use Rattle.lay_lines.specs.declared.reach.Reach.{Reach}
 use Rattle.lay_lines.specs.declared.row.Ended.{Ended}
 use Rattle.lay_lines.specs.Extents.{height_of}
-use Rattle.lay_lines.specs.Meeting.{State, IsFront, Chain, Meets}
+use Rattle.lay_lines.specs.Meeting.{State, IsFront, Meets}
 use Rattle.lay_lines.specs.Filling.{TakesNext, Fills, IsLongest, Takes, IsTop}
 use Rattle.lay_lines.specs.Rows.{Position, Row, Laid, is_seen, extent_of, emptied, IsFilled, IsRow, after_row, AddsRow, RowsTo, AreRows, position_of, ended_of}
 use Rattle.lay_lines.specs.Laws.{OneListOfLines}
@@ -57,7 +57,7 @@ pub one_filled : FloatLaws → (p : Position) (r q : Row) → IsFilled p r → I
 one_filled one p r q f g =
     let es : g.first ≡ f.first = same_Some _ _ (sym g.is ∙ f.is) in
     let eh : r.headed ≡ q.headed = one_meets one.place p.frame p.from p.rest 0 f.first.heads.items p.state r.headed q.headed f.heads
-        (subst (λ (s : Stretch). Meets p.frame p.from p.rest 0 s.heads.items p.state q.headed) es g.heads) in
+    (subst (λ (s : Stretch). Meets p.frame p.from p.rest 0 s.heads.items p.state q.headed) es g.heads) in
     let et : r.top ≡ q.top = one_top p.frame p.from p.rest r.headed.floats r.top q.top f.top_is (subst (λ (s : State). IsTop p.frame p.from p.rest s.floats q.top) (sym eh) g.top_is) in
     let ec : r.reach.count ≡ q.reach.count = one_longest _ _ r.reach.count q.reach.count f.count_is (rw (et, eh) g.count_is) in
     let eg : r.filled ≡ q.filled = chain_one (TakesNext p.frame r.top p.rest) (one_takes_next one.place p.frame r.top p.rest) r.reach.count r.headed r.filled q.filled f.filled_is (rw (et, eh, ec) g.filled_is) in

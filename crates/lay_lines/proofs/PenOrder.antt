@@ -1,5 +1,5 @@
 -- Pens in rooms with different left edges.
-use Rattle.std.proofs.Common.{◌≡◌, ◌∙◌, ◌⊎◌, inl, inr, ℕ, zero, suc, ◌+◌, ◌*◌, ◌/◌, ◌<◌, ◌≤◌, ℤ, pos, negsuc, ◌+ℤ◌, ◌-ℤ◌, ◌*ℤ◌, ◌≤ℤ◌, ◌<ℤ◌, Bool, true, false, if◌then◌else◌, ◌||◌, List, [], ◌∷◌, length, slice_get, get_or, drop, Option, Some, None, refl, sym, ap, subst, arith}
+use Rattle.std.proofs.Common.{◌≡◌, ◌∙◌, inl, inr, ℕ, zero, suc, ◌+◌, ◌/◌, ◌<◌, ◌≤◌, ℤ, pos, negsuc, ◌+ℤ◌, ◌*ℤ◌, ◌≤ℤ◌, ◌<ℤ◌, Bool, true, false, if◌then◌else◌, ◌||◌, List, [], ◌∷◌, length, slice_get, get_or, drop, Option, Some, None, refl, sym, ap, subst, arith}
 use Rattle.std.specs.Int.{int_div_euclid}
 use Rattle.std.proofs.Math.Nat.{div-mul-le_self}
 use Rattle.std.proofs.lemmas.Nat.{le-div}
@@ -8,7 +8,7 @@ use Rattle.std.proofs.lemmas.Int.{ints, by_lt_z}
 use Rattle.std.proofs.lemmas.Option.{slice_get-get_or}
 use Rattle.std.proofs.lemmas.List.{drop_more}
 use Rattle.lay_floats.specs.declared.placed.Placed.{Placed}
-use Rattle.lay_floats.specs.Room.{IsRoom, LeftBounds, RightBounds}
+use Rattle.lay_floats.specs.Room.{LeftBounds, RightBounds}
 use Rattle.lay_floats.specs.Standing.{IsNext}
 use Rattle.lay_floats.specs.Beside.{IsNextBottom}
 use Rattle.lay_floats.proofs.FirstPlace.{next_further_down}
@@ -17,7 +17,7 @@ use Rattle.lay_lines.specs.declared.content.Part.TheVariants.{Space, PreservedSp
 use Rattle.lay_lines.specs.declared.content.Stretch.{Stretch}
 use Rattle.lay_lines.specs.declared.frame.Frame.{Frame}
 use Rattle.lay_lines.specs.declared.pen.Pen.{Pen}
-use Rattle.lay_lines.specs.Pens.{strut_height, next_stop, blank, went, moved, spaced, hung, over, over_all, past, past_at, start_of, pen_to, seen_to, PenFits, PensFit, ContentFits}
+use Rattle.lay_lines.specs.Pens.{strut_height, next_stop, went, moved, spaced, over, over_all, past, past_at, start_of, pen_to, seen_to, PenFits, PensFit, ContentFits}
 use Rattle.lay_lines.specs.Meeting.{IsLineRoom}
 use Rattle.lay_lines.specs.Filling.{HasFit, Begins}
 

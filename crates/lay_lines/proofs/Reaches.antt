@@ -1,6 +1,5 @@
 -- How far a line has come in its room.
-use Rattle.std.proofs.Common.{◌≡◌, ◌∙◌, ◌↔◌, inl, inr, ℕ, zero, suc, ◌+◌, ◌<◌, ◌≤◌, ℤ, ◌+ℤ◌, ◌-ℤ◌, ◌≤ℤ◌, List, length, slice_get, Some, IsTrue, Bool, refl, sym, ap, subst, arith, add-one}
-use Rattle.std.proofs.lemmas.Int.{ints}
+use Rattle.std.proofs.Common.{◌≡◌, ◌∙◌, ◌↔◌, ℕ, ◌+◌, ◌≤◌, ℤ, ◌+ℤ◌, ◌-ℤ◌, ◌≤ℤ◌, List, length, slice_get, Some, IsTrue, Bool, sym, ap, subst, arith, add-one}
 use Rattle.std.proofs.lemmas.Option.{slice_get_within}
 use Rattle.lay_units.specs.Units.{IsPosition}
 use Rattle.lay_units.specs.declared.length.Unit.{Unit}
@@ -10,7 +9,7 @@ use Rattle.lay_lines.specs.declared.content.Stretch.{Stretch}
 use Rattle.lay_lines.specs.declared.frame.Frame.{Frame}
 use Rattle.lay_lines.specs.declared.pen.Pen.{Pen}
 use Rattle.lay_lines.specs.declared.reach.Reach.{Reach}
-use Rattle.lay_lines.specs.Pens.{blank, past, start_of, pen_to, seen_to, PenFits, PensFit}
+use Rattle.lay_lines.specs.Pens.{past, pen_to, seen_to, PenFits, PensFit}
 use Rattle.lay_lines.specs.Meeting.{IsLineRoom, HasRoom, RoomsFit}
 use Rattle.lay_lines.specs.Filling.{HasFit}
 use Rattle.lay_lines.specs.Reaching.{IsPen, IsReach}
@@ -42,17 +41,17 @@ next_reach fr y ss floats r s pen rooms is at e =
     let within = slice_get_within ss r.count s at in
     let here = e ∙ pen_next fr r.start.0 ss r.count r.pen s is.pen_is.pen at in
     reach_is fr y ss floats (r.count + 1) r.start r.end pen rooms is.room is.start is.end (omega (arith, within))
-        (subst (λ (n : ℕ). pen ≡ pen_to fr r.start.0 ss n) (sym (add-one r.count)) here)
+    (subst (λ (n : ℕ). pen ≡ pen_to fr r.start.0 ss n) (sym (add-one r.count)) here)
 
 pub fits_means : OneRoom → (fr : Frame) (y : ℤ) (ss : List Stretch) (floats : List Placed) (r : Reach) (b : Bool) (d : ℤ) → IsReach fr y ss floats r → d ≡ r.end.0 -ℤ fr.left.0 → (IsTrue b ↔ r.pen.visible.0 ≤ℤ d)
     → (IsTrue b ↔ HasFit fr y ss r.count floats)
 fits_means one fr y ss floats r b d is e test = (
   (λ t. (r.start.0, r.end.0, is.room, subst (λ (p : Pen). p.visible.0 ≤ℤ (r.end.0 -ℤ fr.left.0)) is.pen_is.pen (subst (λ (n : ℤ). r.pen.visible.0 ≤ℤ n) e (test.0 t)))),
   (λ h.
-    (let same = one _ _ _ _ _ _ _ _ _ h.2 is.room in
-    let at_start = subst (λ (a : ℤ). (pen_to fr a ss r.count).visible.0 ≤ℤ (h.1 -ℤ fr.left.0)) same.0 h.3 in
-    let at_end = subst (λ (n : ℤ). (pen_to fr r.start.0 ss r.count).visible.0 ≤ℤ (n -ℤ fr.left.0)) same.1 at_start in
-    test.1 (subst (λ (n : ℤ). r.pen.visible.0 ≤ℤ n) (sym e) (subst (λ (p : Pen). p.visible.0 ≤ℤ (r.end.0 -ℤ fr.left.0)) (sym is.pen_is.pen) at_end)))),
+      (let same = one _ _ _ _ _ _ _ _ _ h.2 is.room in
+      let at_start = subst (λ (a : ℤ). (pen_to fr a ss r.count).visible.0 ≤ℤ (h.1 -ℤ fr.left.0)) same.0 h.3 in
+      let at_end = subst (λ (n : ℤ). (pen_to fr r.start.0 ss r.count).visible.0 ≤ℤ (n -ℤ fr.left.0)) same.1 at_start in
+      test.1 (subst (λ (n : ℤ). r.pen.visible.0 ≤ℤ n) (sym e) (subst (λ (p : Pen). p.visible.0 ≤ℤ (r.end.0 -ℤ fr.left.0)) (sym is.pen_is.pen) at_end)))),
 )
 
 pub room_means : OneRoom → (fr : Frame) (y : ℤ) (ss : List Stretch) (floats : List Placed) (r : Reach) (width : ℤ) (b : Bool) (sum d : ℤ) → IsReach fr y ss floats r → sum ≡ r.pen.solid.0 +ℤ width → d ≡ r.end.0 -ℤ fr.left.0
@@ -60,11 +59,11 @@ pub room_means : OneRoom → (fr : Frame) (y : ℤ) (ss : List Stretch) (floats 
 room_means one fr y ss floats r width b sum d is s e test = (
   (λ t. (r.start.0, r.end.0, is.room, subst (λ (p : Pen). (p.solid.0 +ℤ width) ≤ℤ (r.end.0 -ℤ fr.left.0)) is.pen_is.pen (subst (λ (n : ℤ). n ≤ℤ (r.end.0 -ℤ fr.left.0)) s (subst (λ (n : ℤ). sum ≤ℤ n) e (test.0 t))))),
   (λ h.
-    (let same = one _ _ _ _ _ _ _ _ _ h.2 is.room in
-    let at_start = subst (λ (a : ℤ). ((pen_to fr a ss r.count).solid.0 +ℤ width) ≤ℤ (h.1 -ℤ fr.left.0)) same.0 h.3 in
-    let at_end = subst (λ (n : ℤ). ((pen_to fr r.start.0 ss r.count).solid.0 +ℤ width) ≤ℤ (n -ℤ fr.left.0)) same.1 at_start in
-    let ours = subst (λ (p : Pen). (p.solid.0 +ℤ width) ≤ℤ (r.end.0 -ℤ fr.left.0)) (sym is.pen_is.pen) at_end in
-    test.1 (subst (λ (n : ℤ). sum ≤ℤ n) (sym e) (subst (λ (n : ℤ). n ≤ℤ (r.end.0 -ℤ fr.left.0)) (sym s) ours)))),
+      (let same = one _ _ _ _ _ _ _ _ _ h.2 is.room in
+      let at_start = subst (λ (a : ℤ). ((pen_to fr a ss r.count).solid.0 +ℤ width) ≤ℤ (h.1 -ℤ fr.left.0)) same.0 h.3 in
+      let at_end = subst (λ (n : ℤ). ((pen_to fr r.start.0 ss r.count).solid.0 +ℤ width) ≤ℤ (n -ℤ fr.left.0)) same.1 at_start in
+      let ours = subst (λ (p : Pen). (p.solid.0 +ℤ width) ≤ℤ (r.end.0 -ℤ fr.left.0)) (sym is.pen_is.pen) at_end in
+      test.1 (subst (λ (n : ℤ). sum ≤ℤ n) (sym e) (subst (λ (n : ℤ). n ≤ℤ (r.end.0 -ℤ fr.left.0)) (sym s) ours)))),
 )
 
 pub seen_is : (fr : Frame) (ss : List Stretch) (r : Reach) → IsPen fr ss r → r.pen.seen ≡ seen_to fr ss r.count

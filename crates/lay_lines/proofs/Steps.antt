@@ -1,20 +1,19 @@
 -- Steps of a line.
-use Rattle.std.proofs.Common.{◌≡◌, ◌∙◌, ◌⊎◌, inl, inr, ℕ, zero, suc, ◌+◌, ◌<◌, ◌≤◌, ℤ, List, [], ◌∷◌, ◌++◌, length, slice_get, get_or, Option, Some, None, IsTrue, IsFalse, Bool, true, false, refl, sym, ap, subst, arith, add-one}
+use Rattle.std.proofs.Common.{◌≡◌, ◌∙◌, ◌⊎◌, inl, inr, ℕ, zero, suc, ◌+◌, ◌<◌, ◌≤◌, ℤ, List, length, slice_get, get_or, Some, IsTrue, IsFalse, Bool, refl, sym, ap, subst, arith, add-one}
 use Rattle.std.proofs.lemmas.Bool.{cases_lt}
 use Rattle.std.proofs.lemmas.Option.{same_Some, slice_get_within, slice_get-get_or}
 use Rattle.lay_floats.specs.declared.placed.Placed.{Placed}
 use Rattle.lay_floats.specs.declared.requests.NodePlace.{NodePlace}
-use Rattle.lay_floats.specs.FloatPlace.{placed_at}
 use Rattle.lay_floats.specs.Laws.{OneFloatPlace}
 use Rattle.lay_floats.specs.SolidPlace.{IsAlone}
 use Rattle.lay_lines.specs.declared.frame.Frame.{Frame}
 use Rattle.lay_lines.specs.declared.content.LineFloat.{LineFloat}
 use Rattle.lay_lines.specs.declared.content.Stretch.{Stretch}
-use Rattle.lay_lines.specs.Pens.{strut_height, seen_to}
-use Rattle.lay_lines.specs.Meeting.{State, IsFront, Chain, below, MayStand, stood, waited, MeetsFloat, MeetsAt, MeetsTo, Meets, CanMeetAll, RoomsFit}
+use Rattle.lay_lines.specs.Pens.{strut_height}
+use Rattle.lay_lines.specs.Meeting.{State, below, stood, MeetsFloat, MeetsAt, Meets, CanMeetAll, RoomsFit}
 use Rattle.lay_lines.specs.Meeting.MeetsFloat.{stands, waits}
-use Rattle.lay_lines.specs.Filling.{HasFit, FitsNext, TakesNext, Fills, FitsAll, Reaches, IsLongest, Takes, Begins, CanFill}
-use Rattle.lay_lines.proofs.Chains.{not_both, chain_one, chain_cut, chain_keeps, all_front, front_trans}
+use Rattle.lay_lines.specs.Filling.{HasFit, FitsNext, TakesNext, Fills, FitsAll, Takes, Begins, CanFill}
+use Rattle.lay_lines.proofs.Chains.{not_both, chain_one}
 
 abbrev pub made : List Placed → List NodePlace → List LineFloat → State
 made floats places put_off = record { floats = floats; places = places; put_off = put_off }
@@ -60,37 +59,39 @@ none_fits fr y ss st = record { each = λ k mid lt fills. absurd (omega (arith, 
 
 -- one more fits
 pub all_fit : OneFloatPlace → (fr : Frame) (y : ℤ) (ss : List Stretch) (st now : State) (k : ℕ) → FitsAll fr y ss st k → Fills fr y ss k st now → FitsNext fr y ss k now.floats → FitsAll fr y ss st (k + 1)
-all_fit one fr y ss st now k so_far fills fit = record { each = λ j mid lt there. elim (cases_lt j k) [
-  | inl low ↦ so_far.each j mid low there
-  | inr high ↦ (let same : j ≡ k = omega arith in
-      let at_k = subst (λ (n : ℕ). Fills fr y ss n st mid) same there in
-      let e = chain_one (TakesNext fr y ss) (one_takes_next one fr y ss) k st now mid fills at_k in
-      subst (λ (n : ℕ). FitsNext fr y ss n mid.floats) (sym same) (subst (λ (s : State). FitsNext fr y ss k s.floats) e fit))
-] }
+all_fit one fr y ss st now k so_far fills fit = record {
+  each = λ j mid lt there. elim (cases_lt j k) [
+    | inl low ↦ so_far.each j mid low there
+    | inr high ↦ (let same : j ≡ k = omega arith in
+        let at_k = subst (λ (n : ℕ). Fills fr y ss n st mid) same there in
+        let e = chain_one (TakesNext fr y ss) (one_takes_next one fr y ss) k st now mid fills at_k in
+        subst (λ (n : ℕ). FitsNext fr y ss n mid.floats) (sym same) (subst (λ (s : State). FitsNext fr y ss k s.floats) e fit))
+  ];
+}
 
 -- a line ends before the first stretch that doesn't fit
 pub stops : (fr : Frame) (y : ℤ) (ss : List Stretch) (st now : State) (k : ℕ) → k ≤ length ss → Unforced ss k → FitsAll fr y ss st k → Fills fr y ss k st now → (FitsNext fr y ss k now.floats → ⊥) → Takes fr y ss st k
 stops fr y ss st now k le unforced fits fills not = record {
-    can = record { within = le; last = λ j s less is. unforced j s (omega arith) is };
-    fits = fits;
-    most = λ m less can all. not (all.each k now less fills);
-  }
+  can = record { within = le; last = λ j s less is. unforced j s (omega arith) is };
+  fits = fits;
+  most = λ m less can all. not (all.each k now less fills);
+}
 
 -- a forced stretch ends the line
 pub ends : (fr : Frame) (y : ℤ) (ss : List Stretch) (st : State) (k : ℕ) (s : Stretch) → Unforced ss k → slice_get ss k ≡ Some s → IsTrue s.forced → FitsAll fr y ss st (k + 1) → Takes fr y ss st (k + 1)
 ends fr y ss st k s unforced is forced fits = record {
-    can = record { within = (let w = slice_get_within ss k s is in omega (arith, w)); last = λ j t less e. unforced j t (omega arith) e };
-    fits = fits;
-    most = λ m less can all. not_both s.forced forced (can.last k s less is);
-  }
+  can = record { within = (let w = slice_get_within ss k s is in omega (arith, w)); last = λ j t less e. unforced j t (omega arith) e };
+  fits = fits;
+  most = λ m less can all. not_both s.forced forced (can.last k s less is);
+}
 
 -- nothing is left
 pub runs_out : (fr : Frame) (y : ℤ) (ss : List Stretch) (st : State) (k : ℕ) → k ≡ length ss → Unforced ss k → FitsAll fr y ss st k → Takes fr y ss st k
 runs_out fr y ss st k e unforced fits = record {
-    can = record { within = omega arith; last = λ j s less is. unforced j s (omega arith) is };
-    fits = fits;
-    most = λ m less can all. (let w = can.within in omega (arith, w));
-  }
+  can = record { within = omega arith; last = λ j s less is. unforced j s (omega arith) is };
+  fits = fits;
+  most = λ m less can all. (let w = can.within in omega (arith, w));
+}
 
 -- a line that can begin takes something
 pub takes_some : (fr : Frame) (y : ℤ) (ss : List Stretch) (st : State) (n : ℕ) → 0 < length ss → FitsNext fr y ss 0 st.floats → Takes fr y ss st n → 0 < n
@@ -135,7 +136,7 @@ pub takes_to : (fr : Frame) (y : ℤ) (ss : List Stretch) (k n : ℕ) (s : Stret
 takes_to fr y ss k n s list st after is e same t =
     let g : t.stretch ≡ s = same_Some _ _ (sym t.is ∙ is) in
     subst (λ (j : ℕ). Meets fr y ss j list st after) (sym (e ∙ add-one k))
-        (subst (λ (fs : List LineFloat). Meets fr y ss (suc k) fs st after) (sym same) (subst (λ (u : Stretch). Meets fr y ss (suc k) u.floats.items st after) g t.meets))
+    (subst (λ (fs : List LineFloat). Meets fr y ss (suc k) fs st after) (sym same) (subst (λ (u : Stretch). Meets fr y ss (suc k) u.floats.items st after) g t.meets))
 
 pub can_from : (fr : Frame) (y : ℤ) (ss : List Stretch) (k n : ℕ) (s : Stretch) (list : List LineFloat) (st : State) → n ≡ k + 1 → list ≡ s.floats.items
     → CanMeetAll fr y ss (suc k) s.floats.items st → CanMeetAll fr y ss n list st

@@ -1,7 +1,7 @@
 -- How high a line is (CSS 2.2, 10.8 and 10.8.1), with every inline box on the baseline of the strut: it reaches
 -- from the greatest extent above the baseline to the greatest below it, of the strut and of the inline boxes
 -- that have a part on the line. An inline box has one on each line from its start to its end.
-use Rattle.std.specs.Prelude.{ℕ, zero, suc, ℤ, ◌+ℤ◌, ◌-◌, Bool, true, false, ◌||◌, List, [], ◌∷◌, ◌++◌, length, take, Option, Some, None, slice_get, ◌≡◌, ◌≤◌}
+use Rattle.std.specs.Prelude.{ℕ, zero, suc, ℤ, ◌+ℤ◌, ◌-◌, Bool, false, ◌||◌, List, [], ◌∷◌, ◌++◌, length, take, Option, Some, None, slice_get}
 use Rattle.std.specs.Int.{int_max}
 use Rattle.lay_units.specs.Units.{IsPosition}
 use Rattle.lay_lines.specs.declared.content.Part.{Part}

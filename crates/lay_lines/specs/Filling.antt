@@ -1,7 +1,7 @@
 -- What a line takes, and where it stands (CSS 2.2, 9.4.2 and 9.5). A line takes stretches of content as long as
 -- each fits the room that floats leave at its top. Where no float is beside it, it takes at least one. Where
 -- a float is, and nothing fits, the line moves down until something fits or no float is beside it.
-use Rattle.std.specs.Prelude.{ℕ, zero, suc, ◌≡◌, ◌+◌, ◌<◌, ◌≤◌, ◌⊎◌, ℤ, ◌-ℤ◌, ◌≤ℤ◌, List, length, slice_get, Some, IsTrue, IsFalse}
+use Rattle.std.specs.Prelude.{ℕ, zero, suc, ◌≡◌, ◌+◌, ◌<◌, ◌≤◌, ◌⊎◌, ℤ, ◌-ℤ◌, ◌≤ℤ◌, List, length, slice_get, Some, IsFalse}
 use Rattle.lay_floats.specs.declared.placed.Placed.{Placed}
 use Rattle.lay_floats.specs.SolidPlace.{IsAlone}
 use Rattle.lay_lines.specs.declared.content.Stretch.{Stretch}

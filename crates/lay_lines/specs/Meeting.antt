@@ -1,7 +1,7 @@
 -- Floats that a line meets (CSS 2.2, 9.5 and 9.5.1). A float that stands before all content of its line that is
 -- seen is placed from the line's top downward. A later one stands beside the content where it fits there at
 -- the line's top. Otherwise it waits until the line is over, and all later floats of the line wait then.
-use Rattle.std.specs.Prelude.{ℕ, zero, suc, ◌≡◌, ℤ, pos, ◌+ℤ◌, ◌-ℤ◌, ◌≤ℤ◌, IsTrue, List, [], ◌∷◌, ◌++◌, length, slice_get, Some}
+use Rattle.std.specs.Prelude.{ℕ, zero, suc, ◌≡◌, ℤ, ◌+ℤ◌, ◌-ℤ◌, ◌≤ℤ◌, IsTrue, List, [], ◌∷◌, ◌++◌, length, slice_get, Some}
 use Rattle.lay_units.specs.Units.{IsPosition}
 use Rattle.lay_floats.specs.declared.placed.Placed.{Placed}
 use Rattle.lay_floats.specs.declared.requests.FloatReq.{FloatReq}

@@ -1,5 +1,5 @@
 -- What the code keeps of a line as it fills it: how far its first stretches come, in which room.
-use Rattle.std.specs.Prelude.{ℕ, ◌≡◌, ℤ, List}
+use Rattle.std.specs.Prelude.{◌≡◌, ℤ, List}
 use Rattle.lay_units.specs.Units.{IsPosition}
 use Rattle.lay_floats.specs.declared.placed.Placed.{Placed}
 use Rattle.lay_lines.specs.declared.content.Stretch.{Stretch}

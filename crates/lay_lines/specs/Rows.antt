@@ -1,6 +1,6 @@
 -- The lines of a block container, one under the other (CSS 2.2, 9.4.2). They divide its content. A line in which
 -- nothing is seen has no height, and isn't the first line, which `text-indent` is for (16.1).
-use Rattle.std.specs.Prelude.{ℕ, zero, suc, ◌≡◌, ◌+◌, ◌<◌, ℤ, pos, ◌+ℤ◌, Bool, true, false, ◌||◌, List, [], ◌∷◌, ◌++◌, length, drop, slice_get, Some, if◌then◌else◌}
+use Rattle.std.specs.Prelude.{ℕ, ◌≡◌, ◌<◌, ℤ, pos, ◌+ℤ◌, Bool, ◌||◌, List, [], ◌∷◌, ◌++◌, length, drop, slice_get, Some, if◌then◌else◌}
 use Rattle.lay_units.specs.Units.{IsPosition}
 use Rattle.lay_lines.specs.declared.content.Stretch.{Stretch}
 use Rattle.lay_lines.specs.declared.content.InlineStart.{InlineStart}

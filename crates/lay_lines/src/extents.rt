@@ -2,7 +2,13 @@
 
 ghost use Rattle.std.specs.Prelude.{◌≡◌, ◌≤◌, length, IfOk};
 ghost use Rattle.lay_lines.specs.Extents.{
-    raised, raised_by, any_shows, reading_of, read, read_all, reading_to,
+  raised,
+  raised_by,
+  any_shows,
+  reading_of,
+  read,
+  read_all,
+  reading_to,
 };
 
 use crate::arithmetic::greater;
@@ -58,7 +64,11 @@ fn raised(extent: Extent, by: Extent) -> Extent
     }
 }
 
-fn read_all(extent: Extent, boxes: &mut Vec<InlineStart>, parts: &[Part]) -> Result<Extent, NoMemory>
+fn read_all(
+    extent: Extent,
+    boxes: &mut Vec<InlineStart>,
+    parts: &[Part],
+) -> Result<Extent, NoMemory>
     ensures { IfOk result (λ e. reading_of boxes.new.items e ≡ read_all (reading_of boxes.old.items extent) parts.now) }
 {
     let mut extent = extent;

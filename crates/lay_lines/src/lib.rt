@@ -8,17 +8,17 @@
 
 mod arithmetic;
 mod content;
+mod extents;
 mod frame;
+mod laws;
+mod meeting;
+mod met;
 mod pen;
 mod reach;
-mod met;
-mod meeting;
-mod top;
-mod taking;
-mod extents;
 mod row;
 mod rows;
-mod laws;
+mod taking;
+mod top;
 
 pub use content::{InlineEnd, InlineStart, LineFloat, Part, Stretch};
 pub use frame::{Extent, Frame, Line};

@@ -4,7 +4,17 @@ ghost use Rattle.std.specs.Prelude.{◌≡◌, ◌≤◌, ℤ, IsTrue, IsFalse, 
 ghost use Rattle.lay_units.specs.Units.{IsPosition};
 ghost use Rattle.lay_floats.specs.FloatPlace.{IsFloatPlace};
 ghost use Rattle.lay_lines.specs.Meeting.{
-    State, state_of, below, MayStand, MeetsFloat, Meets, CanMeet, CanMeetAll, RoomsFit, FrameFits, IsFront,
+  State,
+  state_of,
+  below,
+  MayStand,
+  MeetsFloat,
+  Meets,
+  CanMeet,
+  CanMeetAll,
+  RoomsFit,
+  FrameFits,
+  IsFront,
 };
 ghost use Rattle.lay_lines.specs.Pens.{seen_to};
 ghost use Rattle.lay_lines.specs.Reaching.{IsPen};

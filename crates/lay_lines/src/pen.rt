@@ -3,7 +3,20 @@
 ghost use Rattle.std.specs.Prelude.{◌≡◌, ◌≤◌, ◌+ℤ◌, ◌∷◌, length, take, IsTrue};
 ghost use Rattle.lay_units.specs.Units.{IsPosition};
 ghost use Rattle.lay_lines.specs.Pens.{
-    next_stop, blank, went, moved, spaced, hung, over, over_all, past, start_of, pen_to, PenFits, PensFit, ContentFits,
+  next_stop,
+  blank,
+  went,
+  moved,
+  spaced,
+  hung,
+  over,
+  over_all,
+  past,
+  start_of,
+  pen_to,
+  PenFits,
+  PensFit,
+  ContentFits,
 };
 
 use crate::arithmetic::{plus, wide_minus};
@@ -83,7 +96,13 @@ impl Pen {
             Part::Space(width) => self.spaced(width),
             Part::PreservedSpace(width) => self.hung(width),
             Part::Tab => Pen::went(next_stop(frame.tab, self.at)),
-            Part::Linefeed => Pen { at: self.at, visible: self.visible, solid: self.solid, started: self.started, seen: true },
+            Part::Linefeed => Pen {
+                at: self.at,
+                visible: self.visible,
+                solid: self.solid,
+                started: self.started,
+                seen: true,
+            },
             Part::Text(width) => Pen::went(plus(self.at, width)),
             Part::Start(start) => self.moved(start.width, start.seen),
             Part::End(end) => self.moved(end.width, end.seen),

@@ -113,7 +113,13 @@ impl Reach {
     }
 
     /// Whether a float of this width fits beside the content, in the room that these floats leave.
-    pub(crate) fn has_room(&self, floats: &Floats, line: &Line, stretches: &[Stretch], width: Unit) -> bool
+    pub(crate) fn has_room(
+        &self,
+        floats: &Floats,
+        line: &Line,
+        stretches: &[Stretch],
+        width: Unit,
+    ) -> bool
         requires frame { FrameFits line.now.frame }
         requires top { IsPosition line.now.top.0 }
         requires pen { IsPen line.now.frame stretches.now self.now }
@@ -135,7 +141,10 @@ impl Reach {
         one_room();
         let _ = floats;
         let _ = stretches;
-        is_at_most(wide_plus(self.pen.solid, width), wide_minus(self.end, line.frame.left))
+        is_at_most(
+            wide_plus(self.pen.solid, width),
+            wide_minus(self.end, line.frame.left),
+        )
     }
 
     /// Whether something of the content is seen.

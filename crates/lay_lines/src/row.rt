@@ -117,7 +117,12 @@ fn row_end(top: Unit, extent: Extent, seen: bool, from: Unit) -> Unit
 }
 
 /// Meets the floats before the content, and finds the line's top.
-fn headed_top(floats: &mut Floats, met: &mut Met, start: &Line, stretches: &[Stretch]) -> Result<Unit, NoMemory>
+fn headed_top(
+    floats: &mut Floats,
+    met: &mut Met,
+    start: &Line,
+    stretches: &[Stretch],
+) -> Result<Unit, NoMemory>
     requires some { 0 < length stretches.now }
     requires frame { FrameFits start.now.frame }
     requires from { IsPosition start.now.top.0 }
@@ -129,7 +134,14 @@ fn headed_top(floats: &mut Floats, met: &mut Met, start: &Line, stretches: &[Str
     ensures stopped { IfErr result (λ _. (s : StretchValue) (headed : State) → slice_get stretches.now 0 ≡ Some s → Meets start.now.frame start.now.top.0 stretches.now 0 s.heads.items (state_of floats.old met.old) headed → IsFront floats.new headed.floats) }
 {
     let blank = Reach::none(floats, &start.frame, stretches);
-    meet_all(floats, met, start, stretches, &blank, stretches[0].heads.as_slice())?;
+    meet_all(
+        floats,
+        met,
+        start,
+        stretches,
+        &blank,
+        stretches[0].heads.as_slice(),
+    )?;
     Ok(line_top(floats, &start.frame, start.top, stretches))
 }
 

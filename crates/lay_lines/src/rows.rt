@@ -61,7 +61,11 @@ fn next_line(line: &Line, ended: &Ended) -> Line
         left: line.frame.left,
         right: line.frame.right,
         strut: line.frame.strut,
-        indent: if ended.seen { Unit(0) } else { line.frame.indent },
+        indent: if ended.seen {
+            Unit(0)
+        } else {
+            line.frame.indent
+        },
         tab: line.frame.tab,
     };
     Line {

@@ -18,7 +18,12 @@ use lay_floats::{Floats, one_float_place};
 use lay_units::{NoMemory, Unit};
 
 /// A line takes stretches as long as they fit. The answer is how far they come.
-pub fn take(floats: &mut Floats, met: &mut Met, line: &Line, stretches: &[Stretch]) -> Result<Reach, NoMemory>
+pub fn take(
+    floats: &mut Floats,
+    met: &mut Met,
+    line: &Line,
+    stretches: &[Stretch],
+) -> Result<Reach, NoMemory>
     requires frame { FrameFits line.now.frame }
     requires top { IsPosition line.now.top.0 }
     requires can { CanFill line.now.frame line.now.top.0 stretches.now (state_of floats.old met.old) }
@@ -68,13 +73,26 @@ fn take_next(
         return Ok(None);
     }
     let stretch = &stretches[reach.count];
-    let after = meet_after(floats, met, line, stretches, &next, stretch.floats.as_slice())?;
+    let after = meet_after(
+        floats,
+        met,
+        line,
+        stretches,
+        &next,
+        stretch.floats.as_slice(),
+    )?;
     Ok(Some(after))
 }
 
 /// Whether a stretch more is taken, with which the line comes this far: it fits, or it is the first and no
 /// float is beside the line.
-fn is_taken(floats: &Floats, line: &Line, stretches: &[Stretch], next: &Reach, is_first: bool) -> bool
+fn is_taken(
+    floats: &Floats,
+    line: &Line,
+    stretches: &[Stretch],
+    next: &Reach,
+    is_first: bool,
+) -> bool
     requires frame { FrameFits line.now.frame }
     requires top { IsPosition line.now.top.0 }
     requires reach { IsReach line.now.frame line.now.top.0 stretches.now floats.now next.now }
@@ -97,7 +115,9 @@ fn is_alone(floats: &Floats, line: &Line) -> bool
     requires top { IsPosition line.now.top.0 }
     ensures { IsTrue result ↔ IsAlone floats.now line.now.top.0 (strut_height line.now.frame) }
 {
-    floats.next_bottom(line.top, line.frame.strut_height()).is_none()
+    floats
+        .next_bottom(line.top, line.frame.strut_height())
+        .is_none()
 }
 
 /// The floats of a stretch are met after it, and may leave another room.

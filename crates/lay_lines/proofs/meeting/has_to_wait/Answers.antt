@@ -1,4 +1,4 @@
-use Rattle.std.proofs.Common.{◌≡◌, ◌∙◌, Bool, true, false, ℤ, IsTrue, IsFalse, rules, refl, ap, sym, subst}
+use Rattle.std.proofs.Common.{◌∙◌, Bool, true, false, IsTrue, IsFalse, rules, refl, subst}
 use Rattle.std.proofs.lemmas.List.{nil_from_length}
 use mathlib.Core.Bool.{not}
 use Rattle.lay_floats.specs.declared.requests.FloatReq.{FloatReq}

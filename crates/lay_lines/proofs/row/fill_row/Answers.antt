@@ -1,9 +1,9 @@
-use Rattle.std.proofs.Common.{◌≡◌, ◌∙◌, ◌||◌, ◌+ℤ◌, ℕ, ℤ, Bool, Some, if◌then◌else◌, slice_get, refl, ap, sym, subst}
+use Rattle.std.proofs.Common.{◌∙◌, ◌||◌, ◌+ℤ◌, if◌then◌else◌, refl, ap, sym, subst}
 use Rattle.lay_units.specs.Units.{IsPosition}
 use Rattle.lay_lines.specs.declared.frame.Extent.{Extent}
-use Rattle.lay_lines.specs.Extents.{Reading, any_shows, reading_to, height_of, ExtentFits}
+use Rattle.lay_lines.specs.Extents.{Reading, any_shows, height_of, ExtentFits}
 use Rattle.lay_lines.specs.Meeting.{State, state_of}
-use Rattle.lay_lines.specs.Rows.{Row, IsFilled, is_seen, extent_of, position_of}
+use Rattle.lay_lines.specs.Rows.{is_seen, extent_of, position_of}
 use Rattle.lay_lines.proofs.Chains.{at_err, all_front, front_trans}
 use Rattle.lay_lines.proofs.PenOrder.{some_at}
 use Rattle.lay_lines.proofs.LineLists.{filled_front, filled_by, taking_stopped, one_filled}

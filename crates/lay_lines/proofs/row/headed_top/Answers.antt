@@ -1,8 +1,7 @@
-use Rattle.std.proofs.Common.{◌≡◌, ◌∙◌, ℕ, Some, List, length, slice_get, sym, subst}
+use Rattle.std.proofs.Common.{◌≡◌, ◌∙◌, sym, subst}
 use Rattle.std.proofs.lemmas.Option.{same_Some}
-use Rattle.lay_lines.specs.declared.content.LineFloat.{LineFloat}
 use Rattle.lay_lines.specs.declared.content.Stretch.{Stretch}
-use Rattle.lay_lines.specs.Meeting.{State, state_of, Meets, CanMeetAll}
+use Rattle.lay_lines.specs.Meeting.{state_of, Meets}
 use Rattle.lay_lines.proofs.Chains.{at_err}
 use Rattle.lay_lines.proofs.Steps.{stretch_is, heads_to, heads_from, can_heads}
 use Rattle.lay_lines.proofs.row.headed_top.Goals as goal
@@ -20,8 +19,8 @@ line_top-requires-clause-rooms c =
     let is = stretch_is c.args.stretches.now 0 s c.requires.some c.index-stretches-0.is in
     let same : c.as_slice.result.now ≡ s.heads.items = cc in
     c.requires.rooms s (state_of c.meet_all.new.floats c.meet_all.new.met) is
-        (heads_from c.args.start.now.frame c.args.start.now.top.0 c.args.stretches.now c.none-blank.result.count s.heads.items c.as_slice.result.now (state_of c.args.floats.now c.args.met.now)
-          (state_of c.meet_all.new.floats c.meet_all.new.met) c.none-blank.ensures.count same c.in_ok-meet_all.ensures.meets)
+    (heads_from c.args.start.now.frame c.args.start.now.top.0 c.args.stretches.now c.none-blank.result.count s.heads.items c.as_slice.result.now (state_of c.args.floats.now c.args.met.now)
+    (state_of c.meet_all.new.floats c.meet_all.new.met) c.none-blank.ensures.count same c.in_ok-meet_all.ensures.meets)
 
 pub returns-clause-heads : goal.returns-clause-heads
 returns-clause-heads c t at =
@@ -40,5 +39,5 @@ returns-in_err-meet_all-clause-stopped c =
     let same : c.as_slice.result.now ≡ s.heads.items = cc in
     let st = state_of c.args.floats.now c.args.met.now in
     at_err c.from_residual.result _ (λ t headed at m. c.in_err-meet_all.ensures.stopped headed
-        (heads_to c.args.start.now.frame c.args.start.now.top.0 c.args.stretches.now c.none-blank.result.count s.heads.items c.as_slice.result.now st headed c.none-blank.ensures.count same
-          (subst (λ (u : Stretch). Meets c.args.start.now.frame c.args.start.now.top.0 c.args.stretches.now 0 u.heads.items st headed) (same_Some _ _ (sym at ∙ is)) m)))
+    (heads_to c.args.start.now.frame c.args.start.now.top.0 c.args.stretches.now c.none-blank.result.count s.heads.items c.as_slice.result.now st headed c.none-blank.ensures.count same
+    (subst (λ (u : Stretch). Meets c.args.start.now.frame c.args.start.now.top.0 c.args.stretches.now 0 u.heads.items st headed) (same_Some _ _ (sym at ∙ is)) m)))

@@ -1,5 +1,4 @@
-use Rattle.std.proofs.Common.{◌≡◌, ◌∙◌, ℕ, ℤ, List, [], refl, ap, sym, subst}
-use Rattle.lay_lines.specs.declared.content.LineFloat.{LineFloat}
+use Rattle.std.proofs.Common.{◌≡◌, ℤ, [], refl, sym, subst}
 use Rattle.lay_lines.specs.Meeting.{State, state_of, CanMeetAll, Meets}
 use Rattle.lay_lines.specs.Rows.{emptied, row_of, position_of}
 use Rattle.lay_lines.proofs.Chains.{at_err, front_trans}
@@ -35,7 +34,7 @@ meet_all-requires-clause-floats c =
     let list : c.as_slice.result.now ≡ filled.put_off = cc in
     let same = same_states filled.floats c.fill_row.new.floats filled.places c.fill_row.new.met.places.items [] c.replace-waiting.new.dest.items refl refl none in
     subst (λ (s : State). CanMeetAll fr y ss c.none-blank.result.count c.as_slice.result.now s) same
-        (can_heads fr y ss c.none-blank.result.count filled.put_off c.as_slice.result.now (emptied filled) c.none-blank.ensures.count list (c.requires.can.later ours (w.1 st)))
+    (can_heads fr y ss c.none-blank.result.count filled.put_off c.as_slice.result.now (emptied filled) c.none-blank.ensures.count list (c.requires.can.later ours (w.1 st)))
 
 pub returns-clause-row : goal.returns-clause-row
 returns-clause-row c =
@@ -63,7 +62,7 @@ returns-clause-some c =
     let w = c.in_ok-ended.ensures.filled in
     let f = w.1 (state_of c.args.floats.now c.args.met.now) in
     takes_some c.args.start.now.frame c.in_ok-ended.ended.top.0 c.args.stretches.now w.0 c.in_ok-ended.ended.reach.count c.requires.some
-        (top_fits c.args.start.now.frame c.in_ok-ended.ended.top.0 c.args.stretches.now w.0.floats f.top_is.begins) f.count_is
+    (top_fits c.args.start.now.frame c.in_ok-ended.ended.top.0 c.args.stretches.now w.0.floats f.top_is.begins) f.count_is
 
 pub returns-in_err-ended-clause-stopped : goal.returns-in_err-ended-clause-stopped
 returns-in_err-ended-clause-stopped c =
@@ -89,8 +88,8 @@ returns-in_err-meet_all-clause-stopped c =
     let list : c.as_slice.result.now ≡ filled.put_off = cc in
     let same = same_states filled.floats c.fill_row.new.floats filled.places c.fill_row.new.met.places.items [] c.replace-waiting.new.dest.items refl refl none in
     at_err c.from_residual-in_err-meet_all.result _ (λ r a.
-      (let e = one_filled (record { place = c.one_float_place.ensures; room = c.one_room.ensures }) p r ours a.filled (w.1 st) in
-      let later = subst (λ (z : ℤ). Meets fr z ss 0 r.filled.put_off (emptied r.filled) r.after) e.to a.later in
-      let at_ours = subst (λ (z : State). Meets fr y ss 0 z.put_off (emptied z) r.after) e.filled later in
-      let with_list = heads_to fr y ss c.none-blank.result.count filled.put_off c.as_slice.result.now (emptied filled) r.after c.none-blank.ensures.count list at_ours in
-      c.in_err-meet_all.ensures.stopped r.after (subst (λ (s : State). Meets fr y ss c.none-blank.result.count c.as_slice.result.now s r.after) same with_list)))
+    (let e = one_filled (record { place = c.one_float_place.ensures; room = c.one_room.ensures }) p r ours a.filled (w.1 st) in
+    let later = subst (λ (z : ℤ). Meets fr z ss 0 r.filled.put_off (emptied r.filled) r.after) e.to a.later in
+    let at_ours = subst (λ (z : State). Meets fr y ss 0 z.put_off (emptied z) r.after) e.filled later in
+    let with_list = heads_to fr y ss c.none-blank.result.count filled.put_off c.as_slice.result.now (emptied filled) r.after c.none-blank.ensures.count list at_ours in
+    c.in_err-meet_all.ensures.stopped r.after (subst (λ (s : State). Meets fr y ss c.none-blank.result.count c.as_slice.result.now s r.after) same with_list)))

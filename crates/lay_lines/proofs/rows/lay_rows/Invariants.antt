@@ -10,5 +10,5 @@ abbrev pub invariant-loop-rest : goal.invariant-loop-rest
 invariant-loop-rest l =
     (n : ℕ) × (rows : List Row)
     × RowsTo n (record { rows = []; position = position_of l.start.frame l.start.top.0 [] l.fn.stretches (state_of l.fn.floats l.fn.met) })
-        (record { rows = rows; position = position_of l.here.frame l.here.top.0 l.boxes.items l.rest (state_of l.floats l.met) })
+    (record { rows = rows; position = position_of l.here.frame l.here.top.0 l.boxes.items l.rest (state_of l.floats l.met) })
     × (map ended_of rows ≡ l.rows.items)

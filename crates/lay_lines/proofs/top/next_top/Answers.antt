@@ -12,6 +12,6 @@ returns-clause-none_higher c =
     let ss = c.args.stretches.now in
     let floats = c.args.floats.now in
     if_some_map (λ (v : Unit). IsNextBottom floats c.args.top.0 c.strut_height.result.0 v.0) (λ (v : Unit). (z : ℤ) → Begins fr z ss floats → c.args.top.0 ≤ℤ z → v.0 ≤ℤ z) c.next_bottom.result
-        c.next_bottom.ensures.some (λ v is z begins down. no_line_higher fr c.args.top.0 v.0 z ss floats c.first_fits.ensures.room
-        (λ fit. not_both c.first_fits.result (c.first_fits.ensures.fits.1 fit) c.if-first_fits.false)
-        (subst (λ h. IsNextBottom floats c.args.top.0 h v.0) c.strut_height.ensures is) begins down)
+    c.next_bottom.ensures.some (λ v is z begins down. no_line_higher fr c.args.top.0 v.0 z ss floats c.first_fits.ensures.room
+    (λ fit. not_both c.first_fits.result (c.first_fits.ensures.fits.1 fit) c.if-first_fits.false)
+    (subst (λ h. IsNextBottom floats c.args.top.0 h v.0) c.strut_height.ensures is) begins down)
