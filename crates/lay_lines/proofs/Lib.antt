@@ -1,0 +1,6 @@
+pub mod Chains
+pub mod Fronts
+pub mod LineLists
+pub mod PenOrder
+pub mod Steps
+pub mod Reaches

@@ -1,0 +1,161 @@
+-- Steps of a line.
+use Rattle.std.proofs.Common.{◌≡◌, ◌∙◌, ◌⊎◌, inl, inr, ℕ, zero, suc, ◌+◌, ◌<◌, ◌≤◌, ℤ, List, length, slice_get, get_or, Some, IsTrue, IsFalse, Bool, refl, sym, ap, subst, arith, add-one}
+use Rattle.std.proofs.lemmas.Bool.{cases_lt}
+use Rattle.std.proofs.lemmas.Option.{same_Some, slice_get_within, slice_get-get_or}
+use Rattle.lay_floats.specs.declared.placed.Placed.{Placed}
+use Rattle.lay_floats.specs.declared.requests.NodePlace.{NodePlace}
+use Rattle.lay_floats.specs.Laws.{OneFloatPlace}
+use Rattle.lay_floats.specs.SolidPlace.{IsAlone}
+use Rattle.lay_lines.specs.declared.frame.Frame.{Frame}
+use Rattle.lay_lines.specs.declared.content.LineFloat.{LineFloat}
+use Rattle.lay_lines.specs.declared.content.Stretch.{Stretch}
+use Rattle.lay_lines.specs.Pens.{strut_height}
+use Rattle.lay_lines.specs.Meeting.{State, below, stood, MeetsFloat, MeetsAt, Meets, CanMeetAll, RoomsFit}
+use Rattle.lay_lines.specs.Meeting.MeetsFloat.{stands, waits}
+use Rattle.lay_lines.specs.Filling.{HasFit, FitsNext, TakesNext, Fills, FitsAll, Takes, Begins, CanFill}
+use Rattle.lay_lines.proofs.Chains.{not_both, chain_one}
+
+abbrev pub made : List Placed → List NodePlace → List LineFloat → State
+made floats places put_off = record { floats = floats; places = places; put_off = put_off }
+
+pub same_states : (floats after : List Placed) (p q : List NodePlace) (m n : List LineFloat) → floats ≡ after → p ≡ q → m ≡ n → made floats p m ≡ made after q n
+same_states floats after p q m n a b c = λ i. record { floats = a i; places = b i; put_off = c i }
+
+pub one_met : OneFloatPlace → (fr : Frame) (y : ℤ) (ss : List Stretch) (k : ℕ) (st : State) (f : LineFloat) (a b : State) → MeetsFloat fr y ss k st f a → MeetsFloat fr y ss k st f b → a ≡ b
+one_met one fr y ss k st f a b (stands x z may e) (stands u v may' e') =
+    let same = one st.floats (below y f.req) x z u v may.place may'.place in
+    e ∙ ap (λ (s : ℤ). stood st f s z) same.0 ∙ ap (λ (s : ℤ). stood st f u s) same.1 ∙ sym e'
+one_met one fr y ss k st f a b (stands x z may e) (waits seen not e') = absurd (not x z may)
+one_met one fr y ss k st f a b (waits seen not e) (stands u v may' e') = absurd (not u v may')
+one_met one fr y ss k st f a b (waits seen not e) (waits seen' not' e') = e ∙ sym e'
+
+pub one_meets_at : OneFloatPlace → (fr : Frame) (y : ℤ) (ss : List Stretch) (k : ℕ) (fs : List LineFloat) (j : ℕ) (st a b : State) → MeetsAt fr y ss k fs j st a → MeetsAt fr y ss k fs j st b → a ≡ b
+one_meets_at one fr y ss k fs j st a b p q =
+    let e : q.0 ≡ p.0 = same_Some _ _ (sym q.1 ∙ p.1) in
+    one_met one fr y ss k st p.0 a b p.2 (subst (λ (f : LineFloat). MeetsFloat fr y ss k st f b) e q.2)
+
+pub one_meets : OneFloatPlace → (fr : Frame) (y : ℤ) (ss : List Stretch) (k : ℕ) (fs : List LineFloat) (st a b : State) → Meets fr y ss k fs st a → Meets fr y ss k fs st b → a ≡ b
+one_meets one fr y ss k fs st a b p q = chain_one (MeetsAt fr y ss k fs) (one_meets_at one fr y ss k fs) (length fs) st a b p q
+
+pub one_takes_next : OneFloatPlace → (fr : Frame) (y : ℤ) (ss : List Stretch) (k : ℕ) (st a b : State) → TakesNext fr y ss k st a → TakesNext fr y ss k st b → a ≡ b
+one_takes_next one fr y ss k st a b p q =
+    let e : q.stretch ≡ p.stretch = same_Some _ _ (sym q.is ∙ p.is) in
+    one_meets one fr y ss (suc k) p.stretch.floats.items st a b p.meets (subst (λ (s : Stretch). Meets fr y ss (suc k) s.floats.items st b) e q.meets)
+
+-- no stretch that a line took so far has to end it
+abbrev pub Unforced : List Stretch → ℕ → Type 0
+Unforced ss k = (j : ℕ) (s : Stretch) → j < k → slice_get ss j ≡ Some s → IsFalse s.forced
+
+pub unforced_more : (ss : List Stretch) (k : ℕ) (s : Stretch) → Unforced ss k → slice_get ss k ≡ Some s → IsFalse s.forced → Unforced ss (k + 1)
+unforced_more ss k s so_far is not j t lt e = elim (cases_lt j k) [
+  | inl low ↦ so_far j t low e
+  | inr high ↦ (let same : j ≡ k = omega arith in
+      let f : s ≡ t = same_Some _ _ (sym is ∙ subst (λ (n : ℕ). slice_get ss n ≡ Some t) same e) in
+      subst (λ (u : Stretch). IsFalse u.forced) f not)
+]
+
+pub none_fits : (fr : Frame) (y : ℤ) (ss : List Stretch) (st : State) → FitsAll fr y ss st 0
+none_fits fr y ss st = record { each = λ k mid lt fills. absurd (omega (arith, lt)) }
+
+-- one more fits
+pub all_fit : OneFloatPlace → (fr : Frame) (y : ℤ) (ss : List Stretch) (st now : State) (k : ℕ) → FitsAll fr y ss st k → Fills fr y ss k st now → FitsNext fr y ss k now.floats → FitsAll fr y ss st (k + 1)
+all_fit one fr y ss st now k so_far fills fit = record {
+  each = λ j mid lt there. elim (cases_lt j k) [
+    | inl low ↦ so_far.each j mid low there
+    | inr high ↦ (let same : j ≡ k = omega arith in
+        let at_k = subst (λ (n : ℕ). Fills fr y ss n st mid) same there in
+        let e = chain_one (TakesNext fr y ss) (one_takes_next one fr y ss) k st now mid fills at_k in
+        subst (λ (n : ℕ). FitsNext fr y ss n mid.floats) (sym same) (subst (λ (s : State). FitsNext fr y ss k s.floats) e fit))
+  ];
+}
+
+-- a line ends before the first stretch that doesn't fit
+pub stops : (fr : Frame) (y : ℤ) (ss : List Stretch) (st now : State) (k : ℕ) → k ≤ length ss → Unforced ss k → FitsAll fr y ss st k → Fills fr y ss k st now → (FitsNext fr y ss k now.floats → ⊥) → Takes fr y ss st k
+stops fr y ss st now k le unforced fits fills not = record {
+  can = record { within = le; last = λ j s less is. unforced j s (omega arith) is };
+  fits = fits;
+  most = λ m less can all. not (all.each k now less fills);
+}
+
+-- a forced stretch ends the line
+pub ends : (fr : Frame) (y : ℤ) (ss : List Stretch) (st : State) (k : ℕ) (s : Stretch) → Unforced ss k → slice_get ss k ≡ Some s → IsTrue s.forced → FitsAll fr y ss st (k + 1) → Takes fr y ss st (k + 1)
+ends fr y ss st k s unforced is forced fits = record {
+  can = record { within = (let w = slice_get_within ss k s is in omega (arith, w)); last = λ j t less e. unforced j t (omega arith) e };
+  fits = fits;
+  most = λ m less can all. not_both s.forced forced (can.last k s less is);
+}
+
+-- nothing is left
+pub runs_out : (fr : Frame) (y : ℤ) (ss : List Stretch) (st : State) (k : ℕ) → k ≡ length ss → Unforced ss k → FitsAll fr y ss st k → Takes fr y ss st k
+runs_out fr y ss st k e unforced fits = record {
+  can = record { within = omega arith; last = λ j s less is. unforced j s (omega arith) is };
+  fits = fits;
+  most = λ m less can all. (let w = can.within in omega (arith, w));
+}
+
+-- a line that can begin takes something
+pub takes_some : (fr : Frame) (y : ℤ) (ss : List Stretch) (st : State) (n : ℕ) → 0 < length ss → FitsNext fr y ss 0 st.floats → Takes fr y ss st n → 0 < n
+takes_some fr y ss st (suc n) some fit is = omega arith
+takes_some fr y ss st zero some fit is =
+    absurd (is.most 1 (omega arith) record { within = omega (arith, some); last = λ j s less e. absurd (omega (arith, less)) } record { each = λ k mid lt fills. first k mid lt fills })
+  where
+    first : (k : ℕ) (mid : State) → k < 1 → Fills fr y ss k st mid → FitsNext fr y ss k mid.floats
+    first zero mid lt fills = subst (λ (s : State). FitsNext fr y ss 0 s.floats) (sym fills) fit
+    first (suc k) mid lt fills = absurd (omega (arith, lt))
+
+-- where a line begins its first stretch is taken
+pub top_fits : (fr : Frame) (y : ℤ) (ss : List Stretch) (floats : List Placed) → Begins fr y ss floats → FitsNext fr y ss 0 floats
+top_fits fr y ss floats (inl fit) = inl fit
+top_fits fr y ss floats (inr alone) = inr (refl, alone)
+
+pub stretch_is : (ss : List Stretch) (k : ℕ) (s : Stretch) → k < length ss → s ≡ get_or ss k s → slice_get ss k ≡ Some s
+stretch_is ss k s lt e = slice_get-get_or ss k s lt ∙ ap (λ (t : Stretch). Some t) (sym e)
+
+-- the code's test says whether one stretch more is taken
+pub next_from : (fr : Frame) (y : ℤ) (ss : List Stretch) (k n : ℕ) (first : Bool) (floats : List Placed) → n ≡ k + 1 → (IsTrue first → k ≡ 0)
+    → HasFit fr y ss n floats ⊎ (IsTrue first × IsAlone floats y (strut_height fr)) → FitsNext fr y ss k floats
+next_from fr y ss k n first floats e zero_is (inl fit) = inl (subst (λ (m : ℕ). HasFit fr y ss m floats) (e ∙ add-one k) fit)
+next_from fr y ss k n first floats e zero_is (inr alone) = inr (zero_is alone.0, alone.1)
+
+pub next_to : (fr : Frame) (y : ℤ) (ss : List Stretch) (k n : ℕ) (first : Bool) (floats : List Placed) → n ≡ k + 1 → (k ≡ 0 → IsTrue first)
+    → FitsNext fr y ss k floats → HasFit fr y ss n floats ⊎ (IsTrue first × IsAlone floats y (strut_height fr))
+next_to fr y ss k n first floats e zero_is (inl fit) = inl (subst (λ (m : ℕ). HasFit fr y ss m floats) (sym (e ∙ add-one k)) fit)
+next_to fr y ss k n first floats e zero_is (inr alone) = inr (zero_is alone.0, alone.1)
+
+-- the floats of a stretch that is taken are met
+pub takes_from : (fr : Frame) (y : ℤ) (ss : List Stretch) (k n : ℕ) (s : Stretch) (list : List LineFloat) (st after : State) → slice_get ss k ≡ Some s → n ≡ k + 1 → list ≡ s.floats.items
+    → Meets fr y ss n list st after → TakesNext fr y ss k st after
+takes_from fr y ss k n s list st after is e same m = record {
+  stretch = s;
+  is = is;
+  meets = subst (λ (fs : List LineFloat). Meets fr y ss (suc k) fs st after) same (subst (λ (j : ℕ). Meets fr y ss j list st after) (e ∙ add-one k) m);
+}
+
+pub takes_to : (fr : Frame) (y : ℤ) (ss : List Stretch) (k n : ℕ) (s : Stretch) (list : List LineFloat) (st after : State) → slice_get ss k ≡ Some s → n ≡ k + 1 → list ≡ s.floats.items
+    → TakesNext fr y ss k st after → Meets fr y ss n list st after
+takes_to fr y ss k n s list st after is e same t =
+    let g : t.stretch ≡ s = same_Some _ _ (sym t.is ∙ is) in
+    subst (λ (j : ℕ). Meets fr y ss j list st after) (sym (e ∙ add-one k))
+    (subst (λ (fs : List LineFloat). Meets fr y ss (suc k) fs st after) (sym same) (subst (λ (u : Stretch). Meets fr y ss (suc k) u.floats.items st after) g t.meets))
+
+pub can_from : (fr : Frame) (y : ℤ) (ss : List Stretch) (k n : ℕ) (s : Stretch) (list : List LineFloat) (st : State) → n ≡ k + 1 → list ≡ s.floats.items
+    → CanMeetAll fr y ss (suc k) s.floats.items st → CanMeetAll fr y ss n list st
+can_from fr y ss k n s list st e same can =
+    subst (λ (j : ℕ). CanMeetAll fr y ss j list st) (sym (e ∙ add-one k)) (subst (λ (fs : List LineFloat). CanMeetAll fr y ss (suc k) fs st) (sym same) can)
+
+-- what one stretch more needs
+pub can_next : (fr : Frame) (y : ℤ) (ss : List Stretch) (st now : State) (k n : ℕ) → CanFill fr y ss st → Fills fr y ss k st now → n ≡ k → (s : Stretch) → slice_get ss n ≡ Some s → CanMeetAll fr y ss (suc n) s.floats.items now
+can_next fr y ss st now k n can fills e s is = can.meets n now s (subst (λ (j : ℕ). Fills fr y ss j st now) (sym e) fills) is
+
+pub rooms_next : (fr : Frame) (y : ℤ) (ss : List Stretch) (st now : State) (k : ℕ) (s : Stretch) → CanFill fr y ss st → Fills fr y ss k st now → slice_get ss k ≡ Some s → RoomsFit fr now.floats ss
+rooms_next fr y ss st now k s can fills is = (can.meets k now s fills is).rooms 0 now refl
+
+-- floats that are met before all content
+pub heads_from : (fr : Frame) (y : ℤ) (ss : List Stretch) (n : ℕ) (fs list : List LineFloat) (st after : State) → n ≡ 0 → list ≡ fs → Meets fr y ss n list st after → Meets fr y ss 0 fs st after
+heads_from fr y ss n fs list st after e same m = subst (λ (gs : List LineFloat). Meets fr y ss 0 gs st after) same (subst (λ (j : ℕ). Meets fr y ss j list st after) e m)
+
+pub heads_to : (fr : Frame) (y : ℤ) (ss : List Stretch) (n : ℕ) (fs list : List LineFloat) (st after : State) → n ≡ 0 → list ≡ fs → Meets fr y ss 0 fs st after → Meets fr y ss n list st after
+heads_to fr y ss n fs list st after e same m = subst (λ (j : ℕ). Meets fr y ss j list st after) (sym e) (subst (λ (gs : List LineFloat). Meets fr y ss 0 gs st after) (sym same) m)
+
+pub can_heads : (fr : Frame) (y : ℤ) (ss : List Stretch) (n : ℕ) (fs list : List LineFloat) (st : State) → n ≡ 0 → list ≡ fs → CanMeetAll fr y ss 0 fs st → CanMeetAll fr y ss n list st
+can_heads fr y ss n fs list st e same can = subst (λ (j : ℕ). CanMeetAll fr y ss j list st) (sym e) (subst (λ (gs : List LineFloat). CanMeetAll fr y ss 0 gs st) (sym same) can)

@@ -1,0 +1,30 @@
+//! Lines beside floats: what each line of a block container takes, where it stands, and the floats that it
+//! meets (CSS 2.2, 9.4.2, 9.5, 10.8.1, 16.1 and 16.6).
+//!
+//! Contracts cite `AreRows` of `specs/Rows.antt`, which stands on `specs/Pens.antt` (how far content comes),
+//! `specs/Meeting.antt` (the floats of a line), `specs/Filling.antt` (what a line takes, and its top) and
+//! `specs/Extents.antt` (how high it is). A container has one list of lines (`specs/Laws.antt`).
+#![tactic(auto)]
+
+mod arithmetic;
+mod content;
+mod extents;
+mod frame;
+mod laws;
+mod meeting;
+mod met;
+mod pen;
+mod reach;
+mod row;
+mod rows;
+mod taking;
+mod top;
+
+pub use content::{InlineEnd, InlineStart, LineFloat, Part, Stretch};
+pub use frame::{Extent, Frame, Line};
+pub use laws::one_list_of_lines;
+pub use met::Met;
+pub use pen::Pen;
+pub use reach::Reach;
+pub use row::Ended;
+pub use rows::{Rows, lay_rows};

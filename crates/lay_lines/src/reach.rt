@@ -1,0 +1,159 @@
+//! How far a line has come in its room.
+
+ghost use Rattle.std.specs.Prelude.{◌≡◌, ◌↔◌, ◌+◌, ◌<◌, ◌≤◌, ℤ, IsTrue, List, length};
+ghost use Rattle.lay_units.specs.Units.{IsPosition};
+ghost use Rattle.lay_lines.specs.Pens.{seen_to};
+ghost use Rattle.lay_lines.specs.Meeting.{HasRoom, RoomsFit, FrameFits, IsLineRoom};
+ghost use Rattle.lay_lines.specs.Filling.{HasFit};
+ghost use Rattle.lay_lines.specs.Reaching.{IsPen, IsReach};
+
+use crate::arithmetic::{are_same, is_at_most, wide_minus, wide_plus};
+use crate::content::Stretch;
+use crate::frame::{Frame, Line};
+use crate::pen::Pen;
+use lay_floats::{Floats, one_room};
+use lay_units::Unit;
+
+/// How far the first stretches of a line come, in the room between two edges.
+#[derive(Clone, Copy)]
+pub struct Reach {
+    pub count: usize,
+    pub start: Unit,
+    pub end: Unit,
+    pub pen: Pen,
+}
+
+impl Reach {
+    /// Before all content, in the whole width of the container.
+    pub(crate) fn none(floats: &Floats, frame: &Frame, stretches: &[Stretch]) -> Reach
+        requires frame { FrameFits frame.now }
+        ensures pen { IsPen frame.now stretches.now result }
+        ensures count { result.count ≡ 0 }
+    {
+        let _ = floats;
+        let _ = stretches;
+        let start = frame.left;
+        Reach {
+            count: 0,
+            start,
+            end: frame.right,
+            pen: Pen::blank(frame, start),
+        }
+    }
+
+    /// Before all content, in the room that these floats leave.
+    pub(crate) fn first(floats: &Floats, line: &Line, stretches: &[Stretch]) -> Reach
+        requires frame { FrameFits line.now.frame }
+        requires top { IsPosition line.now.top.0 }
+        requires rooms { RoomsFit line.now.frame floats.now stretches.now }
+        ensures reach { IsReach line.now.frame line.now.top.0 stretches.now floats.now result }
+        ensures count { result.count ≡ 0 }
+    {
+        let _ = stretches;
+        let (start, end) = line.room(floats);
+        Reach {
+            count: 0,
+            start,
+            end,
+            pen: Pen::blank(&line.frame, start),
+        }
+    }
+
+    /// After one stretch more, in the same room.
+    pub(crate) fn next(self, floats: &Floats, line: &Line, stretches: &[Stretch]) -> Reach
+        requires rooms { RoomsFit line.now.frame floats.now stretches.now }
+        requires reach { IsReach line.now.frame line.now.top.0 stretches.now floats.now self }
+        requires some { self.count < length stretches.now }
+        ensures reach { IsReach line.now.frame line.now.top.0 stretches.now floats.now result }
+        ensures count { result.count ≡ self.count + 1 }
+    {
+        let _ = floats;
+        Reach {
+            count: self.count + 1,
+            start: self.start,
+            end: self.end,
+            pen: self.pen.past(&line.frame, &stretches[self.count]),
+        }
+    }
+
+    /// The same stretches, in the room that these floats leave.
+    pub(crate) fn in_room(self, floats: &Floats, line: &Line, stretches: &[Stretch]) -> Reach
+        requires frame { FrameFits line.now.frame }
+        requires top { IsPosition line.now.top.0 }
+        requires pen { IsPen line.now.frame stretches.now self }
+        requires rooms { RoomsFit line.now.frame floats.now stretches.now }
+        requires count { self.count ≤ length stretches.now }
+        ensures reach { IsReach line.now.frame line.now.top.0 stretches.now floats.now result }
+        ensures count { result.count ≡ self.count }
+    {
+        let (start, end) = line.room(floats);
+        let pen = if are_same(start, self.start) {
+            self.pen
+        } else {
+            Pen::to(&line.frame, start, stretches, self.count)
+        };
+        Reach {
+            count: self.count,
+            start,
+            end,
+            pen,
+        }
+    }
+
+    /// Whether the content fits, spaces at its end not counted.
+    pub(crate) fn fits(&self, floats: &Floats, line: &Line, stretches: &[Stretch]) -> bool
+        requires left { IsPosition line.now.frame.left.0 }
+        requires reach { IsReach line.now.frame line.now.top.0 stretches.now floats.now self.now }
+        ensures { IsTrue result ↔ HasFit line.now.frame line.now.top.0 stretches.now self.now.count floats.now }
+    {
+        one_room();
+        let _ = floats;
+        let _ = stretches;
+        is_at_most(self.pen.visible, wide_minus(self.end, line.frame.left))
+    }
+
+    /// Whether a float of this width fits beside the content, in the room that these floats leave.
+    pub(crate) fn has_room(
+        &self,
+        floats: &Floats,
+        line: &Line,
+        stretches: &[Stretch],
+        width: Unit,
+    ) -> bool
+        requires frame { FrameFits line.now.frame }
+        requires top { IsPosition line.now.top.0 }
+        requires pen { IsPen line.now.frame stretches.now self.now }
+        requires rooms { RoomsFit line.now.frame floats.now stretches.now }
+        requires count { self.now.count ≤ length stretches.now }
+        requires width { IsPosition width.0 }
+        ensures { IsTrue result ↔ HasRoom line.now.frame line.now.top.0 stretches.now self.now.count floats.now width.0 }
+    {
+        let here = self.in_room(floats, line, stretches);
+        here.leaves_room(floats, line, stretches, width)
+    }
+
+    fn leaves_room(&self, floats: &Floats, line: &Line, stretches: &[Stretch], width: Unit) -> bool
+        requires left { IsPosition line.now.frame.left.0 }
+        requires width { IsPosition width.0 }
+        requires reach { IsReach line.now.frame line.now.top.0 stretches.now floats.now self.now }
+        ensures { IsTrue result ↔ HasRoom line.now.frame line.now.top.0 stretches.now self.now.count floats.now width.0 }
+    {
+        one_room();
+        let _ = floats;
+        let _ = stretches;
+        is_at_most(
+            wide_plus(self.pen.solid, width),
+            wide_minus(self.end, line.frame.left),
+        )
+    }
+
+    /// Whether something of the content is seen.
+    pub(crate) fn is_seen(&self, frame: &Frame, stretches: &[Stretch]) -> bool
+        requires { IsPen frame.now stretches.now self.now }
+        ensures { result ≡ seen_to frame.now stretches.now self.now.count }
+    {
+        let _ = frame;
+        let _ = stretches;
+        self.pen.seen
+    }
+}

@@ -1,0 +1,153 @@
+//! One line.
+
+ghost use Rattle.std.specs.Prelude.{◌≡◌, ◌<◌, ◌≤◌, ◌+ℤ◌, ◌||◌, true, if◌then◌else◌, List, length, slice_get, Some, IfOk, IfErr};
+ghost use Rattle.lay_units.specs.Units.{IsPosition};
+ghost use Rattle.lay_lines.specs.declared.content.Stretch.{Stretch as StretchValue};
+ghost use Rattle.lay_lines.specs.Extents.{any_shows, reading_to, height_of, ExtentFits};
+ghost use Rattle.lay_lines.specs.Filling.{IsTop};
+ghost use Rattle.lay_lines.specs.Meeting.{State, state_of, Meets, CanMeetAll, RoomsFit, FrameFits, IsFront};
+ghost use Rattle.lay_lines.specs.Rows.{Position, Row, IsFilled, IsRow, CanRow, position_of, row_of};
+
+use crate::arithmetic::plus;
+use crate::content::{InlineStart, Stretch};
+use crate::extents::{any_shows, line_extent};
+use crate::frame::{Extent, Line};
+use crate::meeting::meet_all;
+use crate::met::Met;
+use crate::reach::Reach;
+use crate::taking::take;
+use crate::top::line_top;
+use lay_floats::{Floats, one_float_place, one_room};
+use lay_units::{NoMemory, Unit};
+use std::alloc::Global;
+use std::mem;
+
+/// A line that ended: its top, how far its content comes in its room, its extent, whether it is seen, and
+/// where what follows begins.
+#[derive(Clone, Copy)]
+pub struct Ended {
+    pub top: Unit,
+    pub reach: Reach,
+    pub extent: Extent,
+    pub seen: bool,
+    pub to: Unit,
+}
+
+/// One line, and the floats that waited for its end. The open inline boxes are then those after it.
+pub fn put_row(
+    alloc: Global,
+    floats: &mut Floats,
+    met: &mut Met,
+    start: &Line,
+    boxes: &mut Vec<InlineStart>,
+    stretches: &[Stretch],
+) -> Result<Ended, NoMemory>
+    requires some { 0 < length stretches.now }
+    requires can { CanRow (position_of start.now.frame start.now.top.0 boxes.old.items stretches.now (state_of floats.old met.old)) }
+    ensures row { IfOk result (λ e. (headed : State) × (filled : State) × IsRow (position_of start.now.frame start.now.top.0 boxes.old.items stretches.now (state_of floats.old met.old)) (row_of e headed filled (state_of floats.new met.new))) }
+    ensures boxes { IfOk result (λ e. boxes.new.items ≡ (reading_to start.now.frame boxes.old.items stretches.now e.reach.count).open_boxes) }
+    ensures within { IfOk result (λ e. e.reach.count ≤ length stretches.now) }
+    ensures some { IfOk result (λ e. 0 < e.reach.count) }
+    ensures stopped { IfErr result (λ _. (r : Row) → IsRow (position_of start.now.frame start.now.top.0 boxes.old.items stretches.now (state_of floats.old met.old)) r → IsFront floats.new r.after.floats) }
+{
+    one_float_place();
+    one_room();
+    let ended = fill_row(floats, met, start, boxes, stretches)?;
+    let waiting = mem::replace(&mut met.put_off, Vec::new(alloc));
+    let under = Line {
+        frame: start.frame,
+        top: ended.to,
+    };
+    let blank = Reach::none(floats, &start.frame, stretches);
+    meet_all(floats, met, &under, stretches, &blank, waiting.as_slice())?;
+    Ok(ended)
+}
+
+/// A line until the floats that wait are placed.
+fn fill_row(
+    floats: &mut Floats,
+    met: &mut Met,
+    start: &Line,
+    boxes: &mut Vec<InlineStart>,
+    stretches: &[Stretch],
+) -> Result<Ended, NoMemory>
+    requires some { 0 < length stretches.now }
+    requires can { CanRow (position_of start.now.frame start.now.top.0 boxes.old.items stretches.now (state_of floats.old met.old)) }
+    ensures filled { IfOk result (λ e. (headed : State) × ((after : State) → IsFilled (position_of start.now.frame start.now.top.0 boxes.old.items stretches.now (state_of floats.old met.old)) (row_of e headed (state_of floats.new met.new) after))) }
+    ensures boxes { IfOk result (λ e. boxes.new.items ≡ (reading_to start.now.frame boxes.old.items stretches.now e.reach.count).open_boxes) }
+    ensures stopped { IfErr result (λ _. (r : Row) → IsFilled (position_of start.now.frame start.now.top.0 boxes.old.items stretches.now (state_of floats.old met.old)) r → IsFront floats.new r.filled.floats) }
+{
+    one_float_place();
+    one_room();
+    let top = headed_top(floats, met, start, stretches)?;
+    let line = Line {
+        frame: start.frame,
+        top,
+    };
+    let reach = take(floats, met, &line, stretches)?;
+    let seen = is_seen(boxes, reach.is_seen(&start.frame, stretches));
+    let extent = line_extent(&start.frame, boxes, stretches, reach.count)?;
+    let to = row_end(top, extent, seen, start.top);
+    Ok(Ended {
+        top,
+        reach,
+        extent,
+        seen,
+        to,
+    })
+}
+
+fn is_seen(boxes: &Vec<InlineStart>, taken: bool) -> bool
+    ensures { result ≡ (any_shows boxes.now.items || taken) }
+{
+    let shows = any_shows(boxes.as_slice());
+    shows || taken
+}
+
+/// Where what follows a line begins: an unseen one has no height, and doesn't move down.
+fn row_end(top: Unit, extent: Extent, seen: bool, from: Unit) -> Unit
+    requires extent { ExtentFits extent }
+    requires end { IsPosition (if seen then (top.0 +ℤ height_of extent) else from.0) }
+    ensures { result.0 ≡ (if seen then (top.0 +ℤ height_of extent) else from.0) }
+{
+    if seen {
+        return plus(top, height_of(extent));
+    }
+    from
+}
+
+/// Meets the floats before the content, and finds the line's top.
+fn headed_top(
+    floats: &mut Floats,
+    met: &mut Met,
+    start: &Line,
+    stretches: &[Stretch],
+) -> Result<Unit, NoMemory>
+    requires some { 0 < length stretches.now }
+    requires frame { FrameFits start.now.frame }
+    requires from { IsPosition start.now.top.0 }
+    requires heads { (s : StretchValue) → slice_get stretches.now 0 ≡ Some s → CanMeetAll start.now.frame start.now.top.0 stretches.now 0 s.heads.items (state_of floats.old met.old) }
+    requires rooms { (s : StretchValue) (headed : State) → slice_get stretches.now 0 ≡ Some s → Meets start.now.frame start.now.top.0 stretches.now 0 s.heads.items (state_of floats.old met.old) headed → RoomsFit start.now.frame headed.floats stretches.now }
+    ensures heads { IfOk result (λ _. (s : StretchValue) → slice_get stretches.now 0 ≡ Some s → Meets start.now.frame start.now.top.0 stretches.now 0 s.heads.items (state_of floats.old met.old) (state_of floats.new met.new)) }
+    ensures top { IfOk result (λ top. IsTop start.now.frame start.now.top.0 stretches.now floats.new top.0) }
+    ensures fits { IfOk result (λ top. IsPosition top.0) }
+    ensures stopped { IfErr result (λ _. (s : StretchValue) (headed : State) → slice_get stretches.now 0 ≡ Some s → Meets start.now.frame start.now.top.0 stretches.now 0 s.heads.items (state_of floats.old met.old) headed → IsFront floats.new headed.floats) }
+{
+    let blank = Reach::none(floats, &start.frame, stretches);
+    meet_all(
+        floats,
+        met,
+        start,
+        stretches,
+        &blank,
+        stretches[0].heads.as_slice(),
+    )?;
+    Ok(line_top(floats, &start.frame, start.top, stretches))
+}
+
+fn height_of(extent: Extent) -> Unit
+    requires { IsPosition (height_of extent) }
+    ensures { result.0 ≡ height_of extent }
+{
+    plus(extent.above, extent.below)
+}
