@@ -35,7 +35,7 @@ pub enum BoxKind {
 }
 
 /// A box of a context.
-#[derive(Drop, Debug)]
+#[derive(Drop)]
 pub struct BoxNode {
     /// Its node; of an anonymous box the nearest element's around it.
     pub node: NodeId,
@@ -54,7 +54,7 @@ pub struct BoxNode {
 
 /// The boxes of a context in the order of the box tree, its own box first. Boxes of inner contexts stand
 /// alone, and anchors for absolute and fixed ones.
-#[derive(Drop, Debug)]
+#[derive(Drop)]
 pub struct BoxTree {
     items: Vec<BoxNode>,
 }

@@ -3,7 +3,7 @@
 use std::sync::Arc;
 
 /// A claim that is open, of the input that was handed in last.
-#[derive(Clone, Copy, Debug)]
+#[derive(Clone, Copy)]
 pub struct Open {
     pub number: u64,
     /// The cell was marked after the claim.

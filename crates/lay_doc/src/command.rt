@@ -8,7 +8,7 @@ use std::alloc::Global;
 use std::marker::Model;
 
 /// What an editor asks for.
-#[derive(Drop, Debug)]
+#[derive(Drop)]
 pub enum Cmd {
     /// To change the document.
     Edit(Edit),
@@ -19,7 +19,7 @@ pub enum Cmd {
 }
 
 /// What a command is answered. A version is the number of accepted edits of its document.
-#[derive(Clone, Copy, Debug, PartialEq, Eq)]
+#[derive(Clone, Copy)]
 pub enum Reply {
     /// The edit was applied, and made this version.
     Accepted(u64),
@@ -32,7 +32,7 @@ pub enum Reply {
 }
 
 /// The commands of one editor, in order.
-#[derive(Drop, Debug)]
+#[derive(Drop)]
 pub struct CmdList {
     items: Vec<Cmd>,
 }

@@ -8,7 +8,7 @@ use std::alloc::Global;
 use std::marker::Model;
 
 /// The computed styles of a document's nodes, in document order.
-#[derive(Drop, Debug)]
+#[derive(Drop)]
 pub struct Computed {
     styles: Vec<Style>,
 }

@@ -13,7 +13,7 @@ use std::alloc::Global;
 use std::marker::Model;
 
 /// A property and the value that is given to it, which is one of that property's values.
-#[derive(Clone, Copy, Debug, PartialEq, Eq)]
+#[derive(Clone, Copy)]
 pub struct Decl {
     property: Property,
     value: Given,
@@ -60,7 +60,7 @@ impl Decl {
 }
 
 /// The declarations of a node: no property stands twice.
-#[derive(Drop, Debug)]
+#[derive(Drop)]
 pub struct Decls {
     items: Vec<Decl>,
 }

@@ -25,7 +25,7 @@ use std::alloc::Global;
 use std::marker::Model;
 
 /// A document: a viewport in px, and a tree of nodes in document order.
-#[derive(Drop, Debug)]
+#[derive(Drop)]
 pub struct Doc {
     width: u32,
     height: u32,
@@ -47,7 +47,7 @@ impl Model for Doc {
 }
 
 /// Why there is no document.
-#[derive(Clone, Copy, Debug, PartialEq, Eq)]
+#[derive(Clone, Copy)]
 pub enum NewFault {
     /// The root has this fault.
     Bad(EditFault),

@@ -9,7 +9,7 @@ use crate::property::Property;
 use lay_units::Text;
 
 /// A change of a document.
-#[derive(Drop, Debug)]
+#[derive(Drop)]
 pub enum Edit {
     /// Declares a value of a property on a node, in place of an earlier one.
     SetStyle {
@@ -44,7 +44,7 @@ pub enum Edit {
 }
 
 /// Why there is no such declaration.
-#[derive(Clone, Copy, Debug, PartialEq, Eq)]
+#[derive(Clone, Copy)]
 pub enum BadDeclaration {
     /// There is no such property.
     Property,

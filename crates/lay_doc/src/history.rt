@@ -5,7 +5,7 @@ use crate::edit::Edit;
 
 /// What a history records: the command `index` (from 0) of an editor (from 1) with its reply, or that a
 /// version is published. A version is the number of accepted edits of the document whose tree it is.
-#[derive(Drop, Debug)]
+#[derive(Drop)]
 pub enum Entry {
     /// An edit, with the reply Accepted, Refused or NoMemory.
     Edit {

@@ -16,7 +16,7 @@ use std::collections::BTreeMap;
 
 /// An id has the number of its insertion, which never changes, and each number the present place of its
 /// node. So a node that is put in the middle moves the places in one list, and touches the map once.
-#[derive(Drop, Debug)]
+#[derive(Drop)]
 pub struct IdIndex {
     numbers: BTreeMap<u32, usize>,
     places: Vec<usize>,

@@ -10,7 +10,7 @@ use std::alloc::Global;
 use std::marker::Model;
 
 /// The id of a node. That of a node of a document is from 1 on.
-#[derive(Clone, Copy, Debug, PartialEq, Eq, PartialOrd, Ord)]
+#[derive(Clone, Copy, Debug, PartialEq, Eq)]
 pub struct NodeId(pub u32);
 
 /// What a node is.
@@ -41,7 +41,7 @@ impl Kind {
 }
 
 /// A node that is to be put into a document.
-#[derive(Drop, Debug)]
+#[derive(Drop)]
 pub struct NewNode {
     id: NodeId,
     kind: Kind,
@@ -162,7 +162,7 @@ impl NewNode {
 }
 
 /// A node of a document, with the place of its parent (0 for the root) and its depth (1 for the root).
-#[derive(Drop, Debug)]
+#[derive(Drop)]
 pub struct Node {
     pub id: NodeId,
     pub parent: usize,

@@ -8,7 +8,7 @@ use lay_units::Text;
 use std::marker::Model;
 
 /// A node of a document, lent to a reader.
-#[derive(Drop, Debug)]
+#[derive(Drop)]
 pub struct NodeRef<'a> {
     node: &'a Node,
     parent: NodeId,

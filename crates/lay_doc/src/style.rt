@@ -11,7 +11,7 @@ use crate::style_words::{
 use lay_units::Unit;
 
 /// A value for each side of a box.
-#[derive(Clone, Copy, Debug, PartialEq, Eq)]
+#[derive(Clone, Copy)]
 pub struct Edges<T> {
     pub top: T,
     pub right: T,
@@ -20,7 +20,7 @@ pub struct Edges<T> {
 }
 
 /// Sizes and their bounds (CSS 2.2, 10.2, 10.4, 10.5 and 10.7).
-#[derive(Clone, Copy, Debug, PartialEq, Eq)]
+#[derive(Clone, Copy)]
 pub struct Sizing {
     pub width: LengthPercentageOrAuto,
     pub height: LengthPercentageOrAuto,
@@ -31,14 +31,14 @@ pub struct Sizing {
 }
 
 /// Borders (8.5). The width of a side without a border is 0.
-#[derive(Clone, Copy, Debug, PartialEq, Eq)]
+#[derive(Clone, Copy)]
 pub struct Borders {
     pub width: Edges<Unit>,
     pub style: Edges<BorderStyle>,
 }
 
 /// Fonts, lines and texts (10.8, 15.7 and chapter 16).
-#[derive(Clone, Copy, Debug, PartialEq, Eq)]
+#[derive(Clone, Copy)]
 pub struct TextStyle {
     pub font_size: Unit,
     pub line_height: LineHeight,
@@ -51,7 +51,7 @@ pub struct TextStyle {
 }
 
 /// Tables (chapter 17).
-#[derive(Clone, Copy, Debug, PartialEq, Eq)]
+#[derive(Clone, Copy)]
 pub struct TableStyle {
     pub layout: TableLayout,
     pub border_collapse: BorderCollapse,
@@ -61,7 +61,7 @@ pub struct TableStyle {
 }
 
 /// The computed style of a node.
-#[derive(Clone, Copy, Debug, PartialEq, Eq)]
+#[derive(Clone, Copy)]
 pub struct Style {
     /// As declared: what 9.7 changes, it changes when boxes are made.
     pub display: Display,

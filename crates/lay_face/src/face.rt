@@ -15,7 +15,7 @@ use std::marker::Model;
 
 /// A face: the advances of characters, and the measures of a line. Each number is in thousandths of the
 /// font size, and is at most 10,000.
-#[derive(Drop, Debug)]
+#[derive(Drop)]
 pub struct Face {
     table: BTreeMap<u32, u32>,
     default_advance: u32,

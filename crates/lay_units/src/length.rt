@@ -8,7 +8,7 @@ ghost use Rattle.lay_units.specs.Units.{clamp_of, clamp_size_of, percentage_of, 
 pub struct Unit(pub i64);
 
 /// A percentage, in hundredths of a percent.
-#[derive(Clone, Copy, Debug, PartialEq, Eq, PartialOrd, Ord)]
+#[derive(Clone, Copy, Debug, PartialEq, Eq)]
 pub struct Percent(pub i32);
 
 /// The greatest absolute value of a used length: 2^31 units.

@@ -32,7 +32,7 @@ pub enum Len {
 
 /// What the width of a box depends on (CSS 2.2, 10.3.3 and 10.4). For heights of absolutely
 /// positioned boxes the left and right sides stand for the top and the bottom ones (10.6.4).
-#[derive(Clone, Copy, Debug, PartialEq, Eq)]
+#[derive(Clone, Copy)]
 pub struct BlockIn {
     /// The width of the containing block.
     pub containing_width: Unit,
@@ -51,7 +51,7 @@ pub struct BlockIn {
 }
 
 /// Used offsets, margins and width of an absolutely positioned box (CSS 2.2, 10.3.7 and 10.3.8).
-#[derive(Clone, Copy, Debug, PartialEq, Eq)]
+#[derive(Clone, Copy)]
 pub struct AbsOut {
     pub left: Unit,
     pub margin_left: Unit,
@@ -61,14 +61,14 @@ pub struct AbsOut {
 }
 
 /// The byte place of a grapheme cluster in its text, and its width.
-#[derive(Clone, Copy, Debug, PartialEq, Eq)]
+#[derive(Clone, Copy)]
 pub struct ClusterWidth {
     pub place: usize,
     pub width: Unit,
 }
 
 /// The widths of the grapheme clusters of a text, in order.
-#[derive(Drop, Debug)]
+#[derive(Drop)]
 pub struct WidthList {
     items: Vec<ClusterWidth>,
 }

@@ -15,7 +15,7 @@ use std::array;
 const HUNDREDTHS: i128 = 1073741824;
 
 /// What stands behind a number.
-#[derive(Clone, Copy, Debug, PartialEq, Eq)]
+#[derive(Clone, Copy)]
 pub enum Suffix {
     Nothing,
     Percent,

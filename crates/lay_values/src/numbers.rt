@@ -6,7 +6,7 @@ ghost use Rattle.lay_units.specs.Units.{floor_div};
 ghost use Rattle.lay_values.specs.Numbers.{is_digit, leading, behind, value_after, decimal_of, unsigned_of, number_of, negated, IsShort, signed, scaled};
 
 /// A decimal number: `mantissa` over ten to the power `places`, below zero where `negative`.
-#[derive(Clone, Copy, Debug, PartialEq, Eq)]
+#[derive(Clone, Copy)]
 pub struct Decimal {
     pub negative: bool,
     /// Below 10^27.

@@ -13,7 +13,7 @@ use lay_doc::{Decl, Given, OneLength, Property};
 use std::alloc::Global;
 
 /// Why a name and a text give no declaration.
-#[derive(Clone, Copy, Debug, PartialEq, Eq)]
+#[derive(Clone, Copy, Debug)]
 pub enum ValueFault {
     /// No property has the name.
     BadProperty,
