@@ -8,9 +8,8 @@ pub mod TreeSteps
 pub mod SpotLists
 pub mod SpotOrder
 pub mod OneSizes
-pub mod BlockSteps
 pub mod LeftSteps
-pub mod ShapeSteps
+pub mod FlowBoxSteps
 pub mod FlowFacts
 pub mod PlaceSteps
 pub mod PieceSteps

@@ -8,14 +8,14 @@ use Rattle.lay_flow.specs.Lengths.{length_at, no_length}
 use Rattle.lay_sizes.specs.declared.sizing.BoxSizes.{BoxSizes}
 use Rattle.lay_context.specs.declared.context_spot.ContextSpot.{ContextSpot}
 use Rattle.lay_context.specs.ContextList.{boxes_in}
-use Rattle.lay_context.specs.ContextPlaces.{ContextPlaces}
+use Rattle.lay_context.specs.ContextPlaces.{own_height, ContextPlaces}
 use Rattle.lay_context.specs.ContextOrder.{AreInOrder}
 use Rattle.lay_context.specs.DocumentLayout.{HasDocumentPlaces, HasInnerHeights, height_inside, no_places, own_heights, places_in, sizes_in}
 use Rattle.lay_context.specs.Laws.{OneDocumentPlaces}
 use Rattle.lay_context.proofs.OnePlaces.{one_context_places_lem}
 
 own_behind : (x : List ContextPlaces) (i : ℕ) → drop i (own_heights x) ≡ own_heights (drop i x)
-own_behind x i = drop-map (λ (p : ContextPlaces). record { 0 = length_at p.heights 0 }) i x
+own_behind x i = drop-map own_height i x
 
 -- the heights of inner contexts are the same where those behind are
 inner_same : (spots : List ContextSpot) (boxes : List (List BoxNode)) (x y : List ContextPlaces) (i : ℕ) (hs gs : List Length) → drop (i + 1) x ≡ drop (i + 1) y

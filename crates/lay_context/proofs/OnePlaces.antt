@@ -6,19 +6,17 @@ use Rattle.lay_doc.specs.Tree.{IsTree}
 use Rattle.lay_doc.proofs.OneStyles.{same_list}
 use Rattle.lay_boxgen.specs.declared.box_tree.BoxNode.{BoxNode}
 use Rattle.lay_boxgen.specs.BoxColumns.{box_parents}
-use Rattle.lay_flow.specs.declared.block.Block.{Block}
-use Rattle.lay_flow.specs.declared.shape.Shape.{Shape}
-use Rattle.lay_flow.specs.BlockFloats.{no_shape}
-use Rattle.lay_flow.specs.ContextFlow.{AreContextPlaces}
-use Rattle.lay_flow.specs.MarginRuns.{no_block}
+use Rattle.lay_flow.specs.declared.flow_box.FlowBox.{FlowBox}
+use Rattle.lay_flow.specs.Boxes.{no_box}
+use Rattle.lay_flow.specs.FlowPlaces.{IsFlowOf}
 use Rattle.lay_flow.specs.Lengths.{length_at, no_length}
 use Rattle.lay_sizes.specs.declared.sizing.BoxSizes.{BoxSizes}
 use Rattle.lay_context.specs.ContextSizes.{sizes_at}
-use Rattle.lay_context.specs.ContextBlocks.{left_of_box, AreBlocksOf, HasLefts, AreShapesOf}
-use Rattle.lay_flow.proofs.OneContextFlow.{one_context_places_lem as flow_places_lem}
+use Rattle.lay_context.specs.ContextBlocks.{left_of_box, HasLefts, AreFlowBoxesOf}
+use Rattle.lay_flow.proofs.OneContextFlow.{one_flow_of_lem}
 use Rattle.lay_context.specs.Laws.{OneContextPlaces}
 use Rattle.lay_context.proofs.LeftSteps.{length-parents}
-use Rattle.lay_context.proofs.FlowFacts.{are_shapes}
+use Rattle.lay_context.proofs.FlowFacts.{is_flow_tree}
 
 left_same : (boxes : List BoxNode) (sizes : List BoxSizes) (ls ms : List Length) → IsTree (box_parents boxes) → (k : ℕ) → k < length boxes → ((j : ℕ) → j < k → length_at ls j ≡ length_at ms j)
     → (left_of_box boxes sizes ls k).0 ≡ (left_of_box boxes sizes ms k).0
@@ -39,21 +37,16 @@ one_left_column : (boxes : List BoxNode) (sizes : List BoxSizes) (ls ms : List L
 one_left_column boxes sizes ls ms tree a b =
     same_list no_length ls ms (a.count ∙ sym b.count) (λ k lt. ap (λ (v : ℤ). let l : Length = record { 0 = v } in l) (lefts_to boxes sizes ls ms tree a b (length boxes) (omega arith) k (omega (arith, a.count))))
 
-one_block_column : (boxes : List BoxNode) (sizes : List BoxSizes) (bs cs : List Block) → AreBlocksOf boxes sizes bs → AreBlocksOf boxes sizes cs → bs ≡ cs
-one_block_column boxes sizes bs cs a b =
-    same_list no_block bs cs (a.count ∙ sym b.count) (λ k lt. (let within : k < length boxes = omega (arith, a.count) in a.each k within ∙ sym (b.each k within)))
-
-one_shape_column : (boxes : List BoxNode) (sizes : List BoxSizes) (lefts heights : List Length) (ss ts : List Shape) → AreShapesOf boxes sizes lefts heights ss → AreShapesOf boxes sizes lefts heights ts → ss ≡ ts
-one_shape_column boxes sizes lefts heights ss ts a b =
-    same_list no_shape ss ts (a.count ∙ sym b.count) (λ k lt. (let within : k < length boxes = omega (arith, a.count) in a.each k within ∙ sym (b.each k within)))
+one_box_list : (boxes : List BoxNode) (sizes : List BoxSizes) (lefts heights : List Length) (bs cs : List FlowBox) → AreFlowBoxesOf boxes sizes lefts heights bs → AreFlowBoxesOf boxes sizes lefts heights cs → bs ≡ cs
+one_box_list boxes sizes lefts heights bs cs a b =
+    same_list no_box bs cs (a.count ∙ sym b.count) (λ k lt. (let within : k < length boxes = omega (arith, a.count) in a.each k within ∙ sym (b.each k within)))
 
 pub one_context_places_lem : OneContextPlaces
 one_context_places_lem boxes sizes p q are a b inner =
     let lefts = one_left_column boxes sizes p.lefts q.lefts are.tree a.has_lefts b.has_lefts in
-    let blocks = one_block_column boxes sizes a.blocks b.blocks a.are_blocks b.are_blocks in
-    let shaped : AreShapesOf boxes sizes p.lefts p.inner_heights b.shapes = rw (lefts, inner) b.are_shapes in
-    let shapes = one_shape_column boxes sizes p.lefts p.inner_heights a.shapes b.shapes a.are_shapes shaped in
-    let placed : AreContextPlaces (box_parents boxes) a.blocks a.shapes q.tops q.heights q.places = rw (blocks, shapes) b.are_places in
-    let there = are_shapes boxes sizes a.blocks p.lefts p.inner_heights a.shapes are a.are_blocks a.are_shapes in
-    let same = flow_places_lem (box_parents boxes) a.blocks a.shapes p.tops p.heights q.tops q.heights p.places q.places are.tree (omega (arith, are.some, length-parents boxes)) there a.are_places placed in
-    λ i. record { inner_heights = inner i; lefts = lefts i; tops = same.0 i; heights = same.1 i; places = same.2 i }
+    let there : AreFlowBoxesOf boxes sizes p.lefts p.inner_heights b.flow_boxes = rw (lefts, inner) b.are_flow_boxes in
+    let same = one_box_list boxes sizes p.lefts p.inner_heights a.flow_boxes b.flow_boxes a.are_flow_boxes there in
+    let flows : IsFlowOf a.flow_boxes q.places = rw same b.is_flow in
+    let tree = is_flow_tree boxes sizes p.lefts p.inner_heights a.flow_boxes are a.are_flow_boxes in
+    let places = one_flow_of_lem a.flow_boxes p.places q.places tree a.is_flow flows in
+    λ i. record { inner_heights = inner i; lefts = lefts i; places = places i }

@@ -5,7 +5,7 @@ use Rattle.std.proofs.lemmas.Int.{ints}
 use Rattle.std.proofs.lemmas.List.{drop-map, drop_all, drop_more, get_or-map, length-map, length-replicate, length-set, length_push, reverse-append}
 use Rattle.lay_units.specs.declared.length.Unit.{Unit as Length}
 use Rattle.lay_boxgen.specs.declared.box_tree.BoxNode.{BoxNode}
-use Rattle.lay_flow.specs.BlockSizes.{IsBoxHeight}
+use Rattle.lay_flow.specs.BlockSizes.{IsBoxSize}
 use Rattle.lay_flow.specs.Lengths.{length_at, no_length}
 use Rattle.lay_sizes.specs.declared.sizing.BoxSizes.{BoxSizes}
 use Rattle.lay_sizes.specs.declared.sizing.ContainingBlock.{ContainingBlock}
@@ -13,7 +13,7 @@ use Rattle.lay_context.specs.declared.context_places.BoxPlaces.{BoxPlaces}
 use Rattle.lay_context.specs.declared.context_spot.ContextSpot.{ContextSpot}
 use Rattle.lay_context.specs.ContextList.{boxes_in, no_spot, spot_at}
 use Rattle.lay_context.specs.ContextOrder.{AreInOrder}
-use Rattle.lay_context.specs.ContextPlaces.{ContextPlaces, HasPlaces, columns_of}
+use Rattle.lay_context.specs.ContextPlaces.{own_height, ContextPlaces, HasPlaces, columns_of}
 use Rattle.lay_context.specs.DocumentLayout.{HasDocumentPlaces, HasDocumentSizes, height_inside, outer_block, own_heights, places_in, sizes_in}
 use Rattle.lay_context.specs.SizeBounds.{HaveSizeBounds}
 use Rattle.lay_context.specs.PlaceBounds.{HaveBoxHeights}
@@ -98,7 +98,7 @@ module _ (spots : List ContextSpot) (boxes : List (List BoxNode)) (sizes : List 
       let r = read_last columns column (length columns) refl in
       subst HaveBoxHeights r (so_far.sized (length columns) (omega (arith, counted)))
 
-  own_more : (p : ContextPlaces) (behind : List ContextPlaces) → IsBoxHeight (length_at p.heights 0) → HaveOwnHeights behind → HaveOwnHeights (p ∷ behind)
+  own_more : (p : ContextPlaces) (behind : List ContextPlaces) → IsBoxSize (own_height p).0 → HaveOwnHeights behind → HaveOwnHeights (p ∷ behind)
   own_more p behind high own zero lt = high
   own_more p behind high own (suc i) lt = own i (omega (arith, lt))
 
@@ -122,20 +122,20 @@ module _ (spots : List ContextSpot) (boxes : List (List BoxNode)) (sizes : List 
       go true e = simp e refl
       go false e = simp e so_far
 
-  height_sized : (columns : List (List Length)) (s : ContextSpot) (h : Length) (j k : ℕ) → IsBoxHeight h.0 → IsBoxHeight (length_at (heights_in columns j) k) → IsBoxHeight (height_after columns s h j k).0
+  height_sized : (columns : List (List Length)) (s : ContextSpot) (h : Length) (j k : ℕ) → IsBoxSize h.0 → IsBoxSize (length_at (heights_in columns j) k) → IsBoxSize (height_after columns s h j k).0
   height_sized columns s h j k high so_far = go (s.around == j && s.at == k) refl
     where
-      go : (b : Bool) → (s.around == j && s.at == k) ≡ b → IsBoxHeight (height_after columns s h j k).0
+      go : (b : Bool) → (s.around == j && s.at == k) ≡ b → IsBoxSize (height_after columns s h j k).0
       go true e = simp e high
       go false e = simp e so_far
 
   -- with the places in one more context, and its height in the column of the one around it
   pub one_placed : (columns : List (List Length)) (column : List Length) (p : ContextPlaces) (behind : List ContextPlaces) → AreInOrder spots boxes
-      → HavePlacesFrom spots boxes sizes (columns ++ column ∷ []) behind → HasPlaces (boxes_in boxes (length columns)) (sizes_in sizes (length columns)) p → p.inner_heights ≡ column → IsBoxHeight (length_at p.heights 0)
-      → HavePlacesFrom spots boxes sizes (with_height columns (spot_at spots (length columns)) (record { 0 = length_at p.heights 0 })) (p ∷ behind)
+      → HavePlacesFrom spots boxes sizes (columns ++ column ∷ []) behind → HasPlaces (boxes_in boxes (length columns)) (sizes_in sizes (length columns)) p → p.inner_heights ≡ column → IsBoxSize (own_height p).0
+      → HavePlacesFrom spots boxes sizes (with_height columns (spot_at spots (length columns)) (own_height p)) (p ∷ behind)
   one_placed columns column p behind order so_far has inner high =
       let s : ContextSpot = spot_at spots (length columns) in
-      let h : Length = record { 0 = length_at p.heights 0 } in
+      let h : Length = own_height p in
       let counted = length_push columns column in
       let there = next_is_there columns column behind so_far in
       let here : drop (length columns) spots ≡ s ∷ drop (length columns + 1) spots = drop_more spots (length columns) no_spot (omega (arith, there, order.count)) in
@@ -176,7 +176,7 @@ module _ (spots : List ContextSpot) (boxes : List (List BoxNode)) (sizes : List 
       λ i lt. (let e : 0 + i ≡ i = omega arith in subst (λ (m : ℕ). IsPlaced spots boxes sizes m (places_in behind i) (drop (i + 1) behind)) e (placed_at 0 behind so_far.placed i (omega (arith, counted, lt)))) in
       record {
         count = counted;
-        inner = λ i lt. (let e : drop (i + 1) (own_heights behind) ≡ own_heights (drop (i + 1) behind) = drop-map (λ (p : ContextPlaces). record { 0 = length_at p.heights 0 }) (i + 1) behind in
+        inner = λ i lt. (let e : drop (i + 1) (own_heights behind) ≡ own_heights (drop (i + 1) behind) = drop-map own_height (i + 1) behind in
             record { count = (here i lt).count; each = λ k within. rw e ((here i lt).inner k within) });
         each = λ i lt. (here i lt).places;
       }

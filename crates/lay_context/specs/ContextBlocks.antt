@@ -1,11 +1,10 @@
 -- The boxes of one context as its block formatting context takes them (CSS 2.2, 9.4.1 and 9.5). The box of an inner context
--- floats, or is solid: no float of this context overlaps it. The others are plain blocks, and the context's own box is one.
+-- floats, or is solid: no float of this context overlaps it. The others are blocks, and the context's own box is one.
 -- Horizontal positions are counted from the left border edge of the context's own box.
-use Rattle.std.specs.Prelude.{ℕ, ℤ, zero, suc, ◌≡◌, ◌<◌, ◌+ℤ◌, ◌&&◌, Bool, true, false, List, length, map, slice_index, Option, Some, None, if◌then◌else◌}
+use Rattle.std.specs.Prelude.{ℕ, zero, suc, ◌≡◌, ◌<◌, ◌+ℤ◌, ◌&&◌, Bool, true, false, List, length, map, slice_index, Option, Some, None, if◌then◌else◌}
 use Rattle.lay_units.specs.declared.length.Unit.{Unit as Length}
-use Rattle.lay_units.specs.declared.records.Len.TheVariants.{Auto as auto}
 use Rattle.lay_doc.specs.declared.style_words.Float.{Float}
-use Rattle.lay_doc.specs.declared.style_words.Float.TheVariants as float
+use Rattle.lay_doc.specs.declared.style_words.Float.TheVariants as floating
 use Rattle.lay_doc.specs.declared.style_words.Clear.{Clear as ClearStyle}
 use Rattle.lay_doc.specs.declared.style_words.Clear.TheVariants as clear
 use Rattle.lay_doc.specs.ComputedStyle.{style_at}
@@ -18,20 +17,16 @@ use Rattle.lay_floats.specs.declared.requests.Side.{Side}
 use Rattle.lay_floats.specs.declared.requests.Side.TheVariants as side
 use Rattle.lay_floats.specs.declared.requests.Clear.{Clear as Cleared}
 use Rattle.lay_floats.specs.declared.requests.Clear.TheVariants as sides
-use Rattle.lay_flow.specs.declared.block.Block.{Block}
-use Rattle.lay_flow.specs.declared.block.Inside.TheVariants.{Blocks as blocks_inside, Solid as solid_inside}
-use Rattle.lay_flow.specs.declared.shape.Shape.{Shape}
+use Rattle.lay_flow.specs.declared.flow_box.FlowBox.{FlowBox}
+use Rattle.lay_flow.specs.declared.flow_box.FlowKind.{FlowKind}
+use Rattle.lay_flow.specs.declared.flow_box.FlowKind.TheVariants.{Block as block, Solid as solid, Float as float}
+use Rattle.lay_flow.specs.declared.flow_box.Vertical.{Vertical}
 use Rattle.lay_flow.specs.Lengths.{length_at, no_length}
 use Rattle.lay_flow.specs.Children.{flag_at}
-use Rattle.lay_flow.specs.MarginRuns.{no_block, block_at}
-use Rattle.lay_flow.specs.BlockFloats.{no_shape, shape_at}
+use Rattle.lay_flow.specs.Boxes.{box_at}
 use Rattle.lay_sizes.specs.declared.sizing.BoxSizes.{BoxSizes}
 use Rattle.lay_sizes.specs.BoxSizes.{border_width}
 use Rattle.lay_context.specs.ContextSizes.{sizes_at}
-
--- the width of a margin box
-abbrev pub margin_width : BoxSizes → ℤ
-margin_width z = z.widths.margin_left.0 +ℤ border_width z +ℤ z.widths.margin_right.0
 
 -- the box at k is that of an inner context
 abbrev pub is_inner : List BoxNode → ℕ → Bool
@@ -45,40 +40,6 @@ is_floating Absolute = false
 -- the box at k is that of an inner context which floats
 abbrev pub is_float : List BoxNode → ℕ → Bool
 is_float boxes k = is_inner boxes k && is_floating (flow_of (style_at (box_styles boxes) k))
-
-abbrev pub plain_block : BoxSizes → Block
-plain_block z = record {
-  margin_top = z.margin_top;
-  margin_bottom = z.margin_bottom;
-  edge_top = z.edges.top;
-  edge_bottom = z.edges.bottom;
-  height = z.height;
-  min_height = z.min_height;
-  max_height = z.max_height;
-  inside = blocks_inside;
-}
-
--- a solid box: what is between its margins is its own
-abbrev pub solid_block : BoxSizes → Block
-solid_block z = record {
-  margin_top = z.margin_top;
-  margin_bottom = z.margin_bottom;
-  edge_top = no_length;
-  edge_bottom = no_length;
-  height = auto;
-  min_height = no_length;
-  max_height = None;
-  inside = solid_inside;
-}
-
-abbrev pub block_of_box : List BoxNode → List BoxSizes → ℕ → Block
-block_of_box boxes sizes k =
-    if is_float boxes k then no_block
-    else (if is_inner boxes k then solid_block (sizes_at sizes k) else plain_block (sizes_at sizes k))
-
-pub record AreBlocksOf (boxes : List BoxNode) (sizes : List BoxSizes) (blocks : List Block) : Type 0 where
-  pub count : length blocks ≡ length boxes
-  pub each : (k : ℕ) → k < length boxes → block_at blocks k ≡ block_of_box boxes sizes k
 
 -- the left content edge of the box at k
 abbrev pub content_left : List Length → List BoxSizes → ℕ → Length
@@ -95,9 +56,9 @@ pub record HasLefts (boxes : List BoxNode) (sizes : List BoxSizes) (lefts : List
   pub each : (k : ℕ) → k < length boxes → length_at lefts k ≡ (left_of_box boxes sizes lefts k).0
 
 abbrev pub side_of : Float → Option Side
-side_of float.None = None
-side_of float.Left = Some side.Left
-side_of float.Right = Some side.Right
+side_of floating.None = None
+side_of floating.Left = Some side.Left
+side_of floating.Right = Some side.Right
 
 abbrev pub cleared_sides : ClearStyle → Cleared
 cleared_sides clear.None = sides.None
@@ -105,28 +66,48 @@ cleared_sides clear.Left = sides.Left
 cleared_sides clear.Right = sides.Right
 cleared_sides clear.Both = sides.Both
 
--- Around the box at k in its parent box at p there are the content edges of that. Of a float the size of its margin box counts,
--- and of a solid box that of its border box. Its border box is `height` high.
-abbrev pub shape_beside : List BoxNode → List BoxSizes → List Length → Length → ℕ → ℕ → Shape
-shape_beside boxes sizes lefts height p k =
-    let s = style_at (box_styles boxes) k in
-    let z = sizes_at sizes k in
-    record {
-      float = if is_float boxes k then side_of s.float else None;
-      clear = cleared_sides s.clear;
-      left = content_left lefts sizes p;
-      right = record { 0 = (content_left lefts sizes p).0 +ℤ (sizes_at sizes p).widths.width.0 };
-      x = record { 0 = length_at lefts k };
-      width = record { 0 = if is_float boxes k then margin_width z else border_width z };
-      height = record { 0 = if is_float boxes k then z.margin_top.0 +ℤ height.0 +ℤ z.margin_bottom.0 else height.0 };
-    }
+-- the side to which the box at k floats
+abbrev pub float_side : List BoxNode → ℕ → Option Side
+float_side boxes k = if is_float boxes k then side_of (style_at (box_styles boxes) k).float else None
 
--- `heights` has the heights of the border boxes of inner contexts. The context's own box has no shape in it.
-abbrev pub shape_of_box : List BoxNode → List BoxSizes → List Length → List Length → ℕ → Shape
-shape_of_box boxes sizes lefts heights zero = no_shape
-shape_of_box boxes sizes lefts heights (suc k) =
-    shape_beside boxes sizes lefts (record { 0 = length_at heights (suc k) }) (slice_index (box_parents boxes) (suc k)) (suc k)
+abbrev pub vertical_margins : BoxSizes → Vertical
+vertical_margins z = record { top = z.margin_top; bottom = z.margin_bottom }
 
-pub record AreShapesOf (boxes : List BoxNode) (sizes : List BoxSizes) (lefts heights : List Length) (shapes : List Shape) : Type 0 where
-  pub count : length shapes ≡ length boxes
-  pub each : (k : ℕ) → k < length boxes → shape_at shapes k ≡ shape_of_box boxes sizes lefts heights k
+-- a block whose border box begins at `left`
+abbrev pub block_box : Cleared → BoxSizes → Length → FlowKind
+block_box clear z left = block (record {
+  clear = clear;
+  x = left;
+  margin = vertical_margins z;
+  inset = record { top = z.edges.top; bottom = z.edges.bottom };
+  content = record { left = record { 0 = left.0 +ℤ z.edges.left.0 }; right = record { 0 = left.0 +ℤ z.edges.left.0 +ℤ z.widths.width.0 } };
+  height = record { given = z.height; min = z.min_height; max = z.max_height };
+})
+
+-- the own box of an inner context, whose border box is `height` high: it floats to a side, or is solid
+abbrev pub inner_box : Option Side → Cleared → BoxSizes → Length → Length → FlowKind
+inner_box None clear z left height = solid (record { clear = clear; x = left; margin = vertical_margins z; width = record { 0 = border_width z }; height = height })
+inner_box (Some side) clear z left height = float (record {
+  side = side;
+  clear = clear;
+  margin = record { top = z.margin_top; right = z.widths.margin_right; bottom = z.margin_bottom; left = z.widths.margin_left };
+  width = record { 0 = border_width z };
+  height = height;
+})
+
+-- `heights` has the heights of the border boxes of inner contexts. The context's own box clears no floats.
+abbrev pub cleared_by : List BoxNode → ℕ → Cleared
+cleared_by boxes zero = sides.None
+cleared_by boxes (suc k) = cleared_sides (style_at (box_styles boxes) (suc k)).clear
+
+abbrev pub flow_box_of : List BoxNode → List BoxSizes → List Length → List Length → ℕ → FlowBox
+flow_box_of boxes sizes lefts heights k = record {
+  parent = slice_index (box_parents boxes) k;
+  kind =
+      if is_inner boxes k then inner_box (float_side boxes k) (cleared_by boxes k) (sizes_at sizes k) (record { 0 = length_at lefts k }) (record { 0 = length_at heights k })
+      else block_box (cleared_by boxes k) (sizes_at sizes k) (record { 0 = length_at lefts k });
+}
+
+pub record AreFlowBoxesOf (boxes : List BoxNode) (sizes : List BoxSizes) (lefts heights : List Length) (flow_boxes : List FlowBox) : Type 0 where
+  pub count : length flow_boxes ≡ length boxes
+  pub each : (k : ℕ) → k < length boxes → box_at flow_boxes k ≡ flow_box_of boxes sizes lefts heights k

@@ -6,53 +6,42 @@ use Rattle.lay_frag.specs.declared.frag.Frag.{Frag}
 use Rattle.lay_frag.specs.declared.frag.FragKind.TheVariants.{Box}
 use Rattle.lay_boxgen.specs.declared.box_tree.BoxNode.{BoxNode}
 use Rattle.lay_boxgen.specs.BoxColumns.{box_parents, box_ids}
-use Rattle.lay_floats.specs.declared.requests.Place.{Place}
-use Rattle.lay_flow.specs.declared.block.Block.{Block}
-use Rattle.lay_flow.specs.declared.shape.Shape.{Shape}
-use Rattle.lay_flow.specs.Lengths.{length_at}
-use Rattle.lay_flow.specs.BlockFloats.{place_at}
-use Rattle.lay_flow.specs.ContextFlow.{AreContextPlaces}
+use Rattle.lay_flow.specs.declared.flow_box.FlowBox.{FlowBox}
+use Rattle.lay_flow.specs.declared.flow_places.BoxPlace.{BoxPlace}
+use Rattle.lay_flow.specs.FlowPlaces.{IsFlowOf, box_place_at}
 use Rattle.lay_sizes.specs.declared.sizing.BoxSizes.{BoxSizes}
 use Rattle.lay_context.specs.declared.context_places.BoxPlaces.{BoxPlaces}
 use Rattle.lay_context.specs.declared.corner.Corner.{Corner}
 use Rattle.lay_sizes.specs.BoxSizes.{border_width}
 use Rattle.lay_context.specs.ContextSizes.{sizes_at}
-use Rattle.lay_context.specs.ContextBlocks.{is_inner, is_float, AreBlocksOf, HasLefts, AreShapesOf}
+use Rattle.lay_context.specs.ContextBlocks.{is_inner, HasLefts, AreFlowBoxesOf}
 
 pub record ContextPlaces : Type 0 where
   -- the heights of the border boxes of inner contexts, and 0 for other boxes
   pub inner_heights : List Length
   -- the left border edges of boxes in flow, where no float is beside them
   pub lefts : List Length
-  -- the top border edges, and the heights of border boxes
-  pub tops : List Length
-  pub heights : List Length
-  -- the places of floats and solid boxes
-  pub places : List Place
+  -- the corners and the heights of border boxes
+  pub places : List BoxPlace
 
 -- the columns of these places
 abbrev pub columns_of : BoxPlaces → ContextPlaces
-columns_of p = record { inner_heights = p.inner_heights.items; lefts = p.lefts.items; tops = p.tops.items; heights = p.heights.items; places = p.places.items }
+columns_of p = record { inner_heights = p.inner_heights.items; lefts = p.lefts.items; places = p.places.items }
 
 -- these are the places beside the heights of inner contexts
 pub record HasPlaces (boxes : List BoxNode) (sizes : List BoxSizes) (p : ContextPlaces) : Type 0 where
-  pub blocks : List Block
-  pub shapes : List Shape
+  pub flow_boxes : List FlowBox
   pub has_lefts : HasLefts boxes sizes p.lefts
-  pub are_blocks : AreBlocksOf boxes sizes blocks
-  pub are_shapes : AreShapesOf boxes sizes p.lefts p.inner_heights shapes
-  pub are_places : AreContextPlaces (box_parents boxes) blocks shapes p.tops p.heights p.places
+  pub are_flow_boxes : AreFlowBoxesOf boxes sizes p.lefts p.inner_heights flow_boxes
+  pub is_flow : IsFlowOf flow_boxes p.places
 
--- the corner of the border box of the box at k: a float stands with its margin box at its place, and a solid box with its
--- border box
-abbrev pub corner_of_box : List BoxNode → List BoxSizes → ContextPlaces → ℕ → Corner
-corner_of_box boxes sizes p k =
-    if is_float boxes k then record {
-      x = record { 0 = (place_at p.places k).x.0 +ℤ (sizes_at sizes k).widths.margin_left.0 };
-      y = record { 0 = (place_at p.places k).y.0 +ℤ (sizes_at sizes k).margin_top.0 };
-    }
-    else (if is_inner boxes k then record { x = (place_at p.places k).x; y = (place_at p.places k).y }
-    else record { x = record { 0 = length_at p.lefts k }; y = record { 0 = length_at p.tops k } })
+-- the corner of the border box of the box at k
+abbrev pub corner_of_box : ContextPlaces → ℕ → Corner
+corner_of_box p k = record { x = (box_place_at p.places k).corner.x; y = (box_place_at p.places k).corner.y }
+
+-- the height of the border box of the context's own box
+abbrev pub own_height : ContextPlaces → Length
+own_height p = (box_place_at p.places 0).height
 
 -- the piece of the box at k, its border box
 abbrev pub piece_of_box : List BoxNode → List BoxSizes → ContextPlaces → ℕ → Frag
@@ -61,10 +50,10 @@ piece_of_box boxes sizes p k = record {
   node = record { 0 = slice_index (box_ids boxes) k };
   part = 0;
   rect = record {
-    x = (corner_of_box boxes sizes p k).x;
-    y = (corner_of_box boxes sizes p k).y;
+    x = (corner_of_box p k).x;
+    y = (corner_of_box p k).y;
     w = record { 0 = border_width (sizes_at sizes k) };
-    h = record { 0 = length_at p.heights k };
+    h = (box_place_at p.places k).height;
   };
 }
 

@@ -19,7 +19,7 @@ use Rattle.lay_context.specs.declared.corner.Corner.{Corner}
 use Rattle.lay_sizes.specs.BoxSizes.{border_width, content_block}
 use Rattle.lay_context.specs.ContextSizes.{HasSizes, sizes_at}
 use Rattle.lay_context.specs.ContextList.{spot_at, boxes_in}
-use Rattle.lay_context.specs.ContextPlaces.{ContextPlaces, HasPlaces, corner_of_box}
+use Rattle.lay_context.specs.ContextPlaces.{own_height, ContextPlaces, HasPlaces, corner_of_box}
 
 -- the used sizes of the boxes of the context with this number
 abbrev pub sizes_in : List (List BoxSizes) → ℕ → List BoxSizes
@@ -38,7 +38,7 @@ pub record HasDocumentSizes (viewport : ContainingBlock) (spots : List ContextSp
   pub each : (i : ℕ) → i < length boxes → HasSizes (outer_block viewport spots boxes sizes i) (boxes_in boxes i) (sizes_in sizes i)
 
 abbrev pub no_places : ContextPlaces
-no_places = record { inner_heights = []; lefts = []; tops = []; heights = []; places = [] }
+no_places = record { inner_heights = []; lefts = []; places = [] }
 
 -- the places in the context with this number
 abbrev pub places_in : List ContextPlaces → ℕ → ContextPlaces
@@ -46,7 +46,7 @@ places_in places i = slice_index_or places i no_places
 
 -- the heights of the contexts' own border boxes
 abbrev pub own_heights : List ContextPlaces → List Length
-own_heights places = map (λ p. record { 0 = length_at p.heights 0 }) places
+own_heights places = map own_height places
 
 -- the height of the context, one of these, whose box stands in the context `around` at the place k
 abbrev pub height_inside : (around k : ℕ) → List ContextSpot → List Length → Length
@@ -92,7 +92,7 @@ page_corner viewport spots boxes sizes places corners zero =
     root_corner viewport (style_at (box_styles (boxes_in boxes 0)) 0) (sizes_at (sizes_in sizes 0) 0)
 page_corner viewport spots boxes sizes places corners (suc i) =
     let s = spot_at spots (suc i) in
-    beside (corner_at corners s.around) (corner_of_box (boxes_in boxes s.around) (sizes_in sizes s.around) (places_in places s.around) s.at)
+    beside (corner_at corners s.around) (corner_of_box (places_in places s.around) s.at)
 
 pub record HasPageCorners (viewport : ContainingBlock) (spots : List ContextSpot) (boxes : List (List BoxNode)) (sizes : List (List BoxSizes)) (places : List ContextPlaces) (corners : List Corner) : Type 0 where
   pub count : length corners ≡ length boxes

@@ -5,7 +5,7 @@ use Rattle.lay_units.specs.declared.records.Rect.{Rect}
 use Rattle.lay_boxgen.specs.declared.box_tree.BoxNode.{BoxNode}
 use Rattle.lay_frag.specs.declared.frag.Frag.{Frag}
 use Rattle.lay_floats.specs.Within.{IsWithin}
-use Rattle.lay_flow.specs.BlockSizes.{IsBoxHeight}
+use Rattle.lay_flow.specs.BlockSizes.{IsBoxSize}
 use Rattle.lay_flow.specs.Lengths.{length_at}
 use Rattle.lay_sizes.specs.declared.sizing.BoxSizes.{BoxSizes}
 use Rattle.lay_context.specs.declared.corner.Corner.{Corner}
@@ -17,8 +17,6 @@ use Rattle.lay_context.specs.DocumentLayout.{sizes_in, places_in, corner_at}
 pub record HaveCounts (boxes : List BoxNode) (sizes : List BoxSizes) (p : ContextPlaces) : Type 0 where
   pub size_count : length sizes ≡ length boxes
   pub left_count : length p.lefts ≡ length boxes
-  pub top_count : length p.tops ≡ length boxes
-  pub height_count : length p.heights ≡ length boxes
   pub place_count : length p.places ≡ length boxes
 
 -- the left border edges are at most 2^49 units away
@@ -27,7 +25,7 @@ AreNearLefts lefts = (k : ℕ) → k < length lefts → IsWithin (pos 5629499534
 
 -- the heights are those of border boxes
 abbrev pub HaveBoxHeights : List Length → Type 0
-HaveBoxHeights heights = (k : ℕ) → k < length heights → IsBoxHeight (length_at heights k)
+HaveBoxHeights heights = (k : ℕ) → k < length heights → IsBoxSize (length_at heights k)
 
 -- at most 2^60 units from 0
 abbrev pub IsNear : ℤ → Type 0

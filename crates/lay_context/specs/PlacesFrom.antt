@@ -3,13 +3,13 @@
 use Rattle.std.specs.Prelude.{ℕ, ◌≡◌, ◌+◌, ◌<◌, List, [], ◌∷◌, length, map, drop, replicate, slice_index_or, slice_set}
 use Rattle.lay_units.specs.declared.length.Unit.{Unit as Length}
 use Rattle.lay_boxgen.specs.declared.box_tree.BoxNode.{BoxNode}
-use Rattle.lay_flow.specs.BlockSizes.{IsBoxHeight}
+use Rattle.lay_flow.specs.BlockSizes.{IsBoxSize}
 use Rattle.lay_flow.specs.Lengths.{length_at, no_length}
 use Rattle.lay_sizes.specs.declared.sizing.BoxSizes.{BoxSizes}
 use Rattle.lay_context.specs.declared.context_places.BoxPlaces.{BoxPlaces}
 use Rattle.lay_context.specs.declared.context_spot.ContextSpot.{ContextSpot}
 use Rattle.lay_context.specs.ContextList.{boxes_in}
-use Rattle.lay_context.specs.ContextPlaces.{ContextPlaces, HasPlaces, columns_of}
+use Rattle.lay_context.specs.ContextPlaces.{ContextPlaces, HasPlaces, columns_of, own_height}
 use Rattle.lay_context.specs.DocumentLayout.{height_inside, own_heights, places_in, sizes_in}
 use Rattle.lay_context.specs.PlaceBounds.{HaveBoxHeights}
 
@@ -30,7 +30,7 @@ ArePlacedFrom spots boxes sizes i (p ∷ behind) = IsPlaced spots boxes sizes i 
 
 -- the own box of each of these contexts has the height of a border box
 abbrev pub HaveOwnHeights : List ContextPlaces → Type 0
-HaveOwnHeights places = (i : ℕ) → i < length places → IsBoxHeight (length_at (places_in places i).heights 0)
+HaveOwnHeights places = (i : ℕ) → i < length places → IsBoxSize (own_height (places_in places i)).0
 
 -- the heights of inner contexts in the context with this number
 abbrev pub heights_in : List (List Length) → ℕ → List Length

@@ -21,7 +21,7 @@ use Rattle.lay_context.specs.declared.corner.Corner.{Corner}
 use Rattle.lay_sizes.specs.BoxSizes.{border_width}
 use Rattle.lay_context.specs.ContextSizes.{sizes_at}
 use Rattle.lay_context.specs.ContextList.{document_spots, boxes_of_spots, boxes_in}
-use Rattle.lay_context.specs.ContextPlaces.{ContextPlaces, pieces_of}
+use Rattle.lay_context.specs.ContextPlaces.{ContextPlaces, own_height, pieces_of}
 use Rattle.lay_context.specs.DocumentLayout.{HasDocumentSizes, HasDocumentPlaces, HasPageCorners, sizes_in, places_in, corner_at}
 
 -- the border box of a context whose corner on the page this is
@@ -30,7 +30,7 @@ own_rect sizes places corner = record {
   x = corner.x;
   y = corner.y;
   w = record { 0 = border_width (sizes_at sizes 0) };
-  h = record { 0 = length_at places.heights 0 };
+  h = own_height places;
 }
 
 -- a context of a tree: its own border box on the page, and its pieces

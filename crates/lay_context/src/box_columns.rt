@@ -6,7 +6,6 @@ ghost use Rattle.lay_doc.specs.ComputedStyle.{style_at};
 ghost use Rattle.lay_boxgen.specs.BoxColumns.{box_parents, box_styles};
 ghost use Rattle.lay_flow.specs.Lengths.{length_at};
 ghost use Rattle.lay_sizes.specs.BoxSizes.{border_width};
-ghost use Rattle.lay_context.specs.ContextBlocks.{margin_width};
 ghost use Rattle.lay_sizes.specs.SizeBounds.{SizeFits};
 ghost use Rattle.lay_context.specs.ContextSizes.{sizes_at};
 ghost use Rattle.lay_context.specs.ContextBlocks.{is_floating, is_float, is_inner};
@@ -17,17 +16,6 @@ use lay_doc::Style;
 use lay_sizes::BoxSizes;
 use lay_units::{NoMemory, Unit};
 use std::alloc::Global;
-
-/// The place of each box's parent.
-pub(crate) fn box_parents(alloc: Global, boxes: &[BoxNode]) -> Result<Vec<usize>, NoMemory>
-    ensures { IfOk result (λ v. v.items ≡ box_parents boxes.now) }
-{
-    let mut parents = Vec::with_capacity(alloc, boxes.len())?;
-    for node in boxes {
-        parents.push(node.parent as usize)?;
-    }
-    Ok(parents)
-}
 
 pub(crate) fn parent_at(boxes: &[BoxNode], k: usize) -> usize
     requires { k < length boxes.now }
@@ -91,17 +79,6 @@ pub(crate) fn border_width(sizes: BoxSizes) -> Unit
     ensures near { IsNear result.0 }
 {
     lay_sizes::border_width(&sizes)
-}
-
-/// The width of a margin box.
-pub(crate) fn margin_width(sizes: BoxSizes) -> Unit
-    requires { SizeFits sizes }
-    ensures { result ≡ record { 0 = margin_width sizes } }
-{
-    sum_of(
-        sum_of(sizes.widths.margin_left, border_width(sizes)),
-        sizes.widths.margin_right,
-    )
 }
 
 /// The sum of two positions.

@@ -1,4 +1,4 @@
-//! The boxes of one context as its block formatting context takes them.
+//! The left edges of the boxes of one context.
 
 ghost use Rattle.std.specs.Prelude.{◌≡◌, ◌<◌, ◌≤◌, ◌+ℤ◌, pos, length, IfOk};
 ghost use Rattle.lay_units.specs.Units.{IsPosition};
@@ -7,84 +7,14 @@ ghost use Rattle.lay_boxgen.specs.BoxColumns.{box_parents};
 ghost use Rattle.lay_floats.specs.Within.{IsWithin};
 ghost use Rattle.lay_sizes.specs.SizeBounds.{SizeFits};
 ghost use Rattle.lay_context.specs.SizeBounds.{HaveSizeBounds};
-ghost use Rattle.lay_context.specs.ContextBlocks.{plain_block, solid_block, block_of_box, content_left, left_of_box, AreBlocksOf, HasLefts};
+ghost use Rattle.lay_context.specs.ContextBlocks.{content_left, left_of_box, HasLefts};
 ghost use Rattle.lay_context.specs.PlaceBounds.{AreNearLefts};
 
-use crate::box_columns::{is_float, is_inner, length_at, parent_at, sizes_at, sum_of};
+use crate::box_columns::{length_at, parent_at, sizes_at, sum_of};
 use lay_boxgen::BoxNode;
-use lay_flow::{Block, Inside};
 use lay_sizes::BoxSizes;
-use lay_units::{Len, NoMemory, Unit};
+use lay_units::{NoMemory, Unit};
 use std::alloc::Global;
-
-/// The block of each box.
-pub(crate) fn blocks_of(
-    alloc: Global,
-    boxes: &[BoxNode],
-    sizes: &[BoxSizes],
-) -> Result<Vec<Block>, NoMemory>
-    requires { length sizes.now ≡ length boxes.now }
-    ensures { IfOk result (λ v. AreBlocksOf boxes.now sizes.now v.items) }
-{
-    let mut blocks = Vec::with_capacity(alloc, boxes.len())?;
-    for k in 0..boxes.len() {
-        blocks.push(block_of_box(boxes, sizes, k))?;
-    }
-    Ok(blocks)
-}
-
-fn block_of_box(boxes: &[BoxNode], sizes: &[BoxSizes], k: usize) -> Block
-    requires boxes { k < length boxes.now }
-    requires sizes { k < length sizes.now }
-    ensures { result ≡ block_of_box boxes.now sizes.now k }
-{
-    if is_float(boxes, k) {
-        return NO_BLOCK;
-    }
-    if is_inner(boxes, k) {
-        return solid_block(sizes_at(sizes, k));
-    }
-    plain_block(sizes_at(sizes, k))
-}
-
-/// An empty block.
-const NO_BLOCK: Block = Block {
-    margin_top: Unit(0),
-    margin_bottom: Unit(0),
-    edge_top: Unit(0),
-    edge_bottom: Unit(0),
-    height: Len::Auto,
-    min_height: Unit(0),
-    max_height: None,
-    inside: Inside::Blocks,
-};
-
-fn plain_block(sizes: BoxSizes) -> Block
-    ensures { result ≡ plain_block sizes }
-{
-    Block {
-        margin_top: sizes.margin_top,
-        margin_bottom: sizes.margin_bottom,
-        edge_top: sizes.edges.top,
-        edge_bottom: sizes.edges.bottom,
-        height: sizes.height,
-        min_height: sizes.min_height,
-        max_height: sizes.max_height,
-        inside: Inside::Blocks,
-    }
-}
-
-/// What is between the margins of a solid block is its own.
-fn solid_block(sizes: BoxSizes) -> Block
-    ensures { result ≡ solid_block sizes }
-{
-    Block {
-        margin_top: sizes.margin_top,
-        margin_bottom: sizes.margin_bottom,
-        inside: Inside::Solid,
-        ..NO_BLOCK
-    }
-}
 
 /// The left border edges of boxes in flow, where no float is beside them, from outer to inner boxes.
 pub(crate) fn lefts_of(
@@ -134,7 +64,7 @@ fn with_margin(content: Unit, sizes: BoxSizes) -> Unit
 }
 
 /// The left content edge of the box at k.
-pub(crate) fn content_left(lefts: &[Unit], sizes: &[BoxSizes], k: usize) -> Unit
+fn content_left(lefts: &[Unit], sizes: &[BoxSizes], k: usize) -> Unit
     requires lefts { k < length lefts.now }
     requires sizes { k < length sizes.now }
     requires bounds { HaveSizeBounds sizes.now }
@@ -145,7 +75,8 @@ pub(crate) fn content_left(lefts: &[Unit], sizes: &[BoxSizes], k: usize) -> Unit
     inside_edge(length_at(lefts, k), sizes_at(sizes, k))
 }
 
-fn inside_edge(left: Unit, sizes: BoxSizes) -> Unit
+/// The content edge of a box whose border box begins there.
+pub(crate) fn inside_edge(left: Unit, sizes: BoxSizes) -> Unit
     requires left { IsWithin (pos 562949953421312) left.0 }
     requires sizes { SizeFits sizes }
     ensures value { result ≡ record { 0 = left.0 +ℤ sizes.edges.left.0 } }

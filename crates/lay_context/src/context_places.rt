@@ -1,19 +1,16 @@
 //! Where the boxes of one context stand.
 
 ghost use Rattle.std.specs.Prelude.{◌≡◌, length, IfOk};
-ghost use Rattle.lay_flow.specs.BlockSizes.{IsBoxHeight};
-ghost use Rattle.lay_flow.specs.Lengths.{length_at};
+ghost use Rattle.lay_flow.specs.BlockSizes.{IsBoxSize};
 ghost use Rattle.lay_context.specs.SizeBounds.{HaveSizeBounds};
 ghost use Rattle.lay_context.specs.ContextOrder.{AreContextBoxes};
-ghost use Rattle.lay_context.specs.ContextPlaces.{columns_of, HasPlaces};
+ghost use Rattle.lay_context.specs.ContextPlaces.{columns_of, own_height, HasPlaces};
 ghost use Rattle.lay_context.specs.PlaceBounds.{HaveBoxHeights};
 
-use crate::box_columns::box_parents;
-use crate::context_blocks::{blocks_of, lefts_of};
-use crate::context_shapes::shapes_of;
+use crate::context_blocks::lefts_of;
+use crate::context_shapes::flow_boxes_of;
 use lay_boxgen::BoxNode;
-use lay_floats::Place;
-use lay_flow::place_blocks;
+use lay_flow::{BoxPlace, FlowBoxes, flow};
 use lay_sizes::BoxSizes;
 use lay_units::{NoMemory, Unit};
 use std::alloc::Global;
@@ -29,12 +26,8 @@ pub(crate) struct BoxPlaces {
     pub inner_heights: Vec<Unit>,
     /// The left border edges of boxes in flow, where no float is beside them.
     pub lefts: Vec<Unit>,
-    /// The top border edges.
-    pub tops: Vec<Unit>,
-    /// The heights of the border boxes.
-    pub heights: Vec<Unit>,
-    /// The corners of the margin boxes of floats and of the border boxes of solid boxes.
-    pub places: Vec<Place>,
+    /// The corners and the heights of border boxes.
+    pub places: Vec<BoxPlace>,
 }
 
 /// Where the boxes of one context stand, for their used sizes and the heights of the border boxes of inner
@@ -52,21 +45,17 @@ pub(crate) fn context_places(
     requires sized { HaveBoxHeights inner_heights.items }
     ensures places { IfOk result (λ p. HasPlaces boxes.now sizes.now (columns_of p)) }
     ensures inner { IfOk result (λ p. p.inner_heights.items ≡ inner_heights.items) }
-    ensures own { IfOk result (λ p. IsBoxHeight (length_at p.heights.items 0)) }
+    ensures own { IfOk result (λ p. IsBoxSize (own_height (columns_of p)).0) }
 {
     if boxes.len() > MOST_BOXES {
         return Err(NoMemory);
     }
-    let parents = box_parents(alloc, boxes)?;
-    let blocks = blocks_of(alloc, boxes, sizes)?;
     let lefts = lefts_of(alloc, boxes, sizes)?;
-    let shapes = shapes_of(alloc, boxes, sizes, &lefts, &inner_heights)?;
-    let placed = place_blocks(alloc, &parents, &blocks, &shapes)?;
+    let flow_boxes = flow_boxes_of(alloc, boxes, sizes, &lefts, &inner_heights)?;
+    let placed = flow(alloc, &FlowBoxes::new(flow_boxes))?;
     Ok(BoxPlaces {
         inner_heights,
         lefts,
-        tops: placed.tops,
-        heights: placed.heights,
-        places: placed.places,
+        places: placed.into_vec(),
     })
 }

@@ -1,118 +1,106 @@
-//! The boxes of one context as its floats see them.
+//! The boxes of one context as its block formatting context takes them.
 
-ghost use Rattle.std.specs.Prelude.{◌≡◌, ◌<◌, ◌≤◌, ◌+ℤ◌, pos, length, IfOk, None, if◌then◌else◌};
+ghost use Rattle.std.specs.Prelude.{◌≡◌, ◌<◌, ◌+ℤ◌, pos, length, IfOk, None, if◌then◌else◌};
 ghost use Rattle.lay_units.specs.Units.{IsPosition};
-ghost use Rattle.lay_doc.specs.Tree.{IsTree};
-ghost use Rattle.lay_boxgen.specs.BoxColumns.{box_parents};
-ghost use Rattle.lay_flow.specs.BlockSizes.{IsBoxHeight};
+ghost use Rattle.lay_floats.specs.Within.{IsWithin};
 ghost use Rattle.lay_sizes.specs.SizeBounds.{SizeFits};
 ghost use Rattle.lay_context.specs.SizeBounds.{HaveSizeBounds};
-ghost use Rattle.lay_sizes.specs.BoxSizes.{border_width};
-ghost use Rattle.lay_context.specs.ContextBlocks.{margin_width};
-ghost use Rattle.lay_context.specs.ContextBlocks.{side_of, cleared_sides, shape_beside, shape_of_box, AreShapesOf};
-ghost use Rattle.lay_context.specs.PlaceBounds.{AreNearLefts, HaveBoxHeights};
+ghost use Rattle.lay_context.specs.ContextBlocks.{AreFlowBoxesOf, block_box, cleared_by, cleared_sides, float_side, flow_box_of, inner_box, side_of, vertical_margins};
+ghost use Rattle.lay_context.specs.PlaceBounds.{AreNearLefts};
 
 use crate::box_columns::{
-    border_width, is_float, length_at, margin_width, parent_at, sizes_at, style_at, sum_of,
+    border_width, is_float, is_inner, length_at, parent_at, sizes_at, style_at, sum_of,
 };
-use crate::context_blocks::content_left;
+use crate::context_blocks::inside_edge;
 use lay_boxgen::BoxNode;
 use lay_doc::Float;
 use lay_floats::{Clear, Side};
-use lay_flow::Shape;
+use lay_flow::{Across, BlockBox, FloatBox, FlowBox, FlowKind, HeightRule, SolidBox, Vertical};
 use lay_sizes::BoxSizes;
-use lay_units::{NoMemory, Unit};
+use lay_units::{NoMemory, Sides, Unit};
 use std::alloc::Global;
 
-/// The shape of each box, for the left border edges of boxes and the heights of inner contexts.
-pub(crate) fn shapes_of(
+/// The boxes of a flow, for the left border edges of boxes and the heights of inner contexts.
+pub(crate) fn flow_boxes_of(
     alloc: Global,
     boxes: &[BoxNode],
     sizes: &[BoxSizes],
     lefts: &[Unit],
     heights: &[Unit],
-) -> Result<Vec<Shape>, NoMemory>
-    requires tree { IsTree (box_parents boxes.now) }
+) -> Result<Vec<FlowBox>, NoMemory>
     requires sizes { length sizes.now ≡ length boxes.now }
     requires bounds { HaveSizeBounds sizes.now }
     requires lefts { length lefts.now ≡ length boxes.now }
     requires near { AreNearLefts lefts.now }
     requires heights { length heights.now ≡ length boxes.now }
-    requires sized { HaveBoxHeights heights.now }
-    ensures { IfOk result (λ v. AreShapesOf boxes.now sizes.now lefts.now heights.now v.items) }
+    ensures { IfOk result (λ v. AreFlowBoxesOf boxes.now sizes.now lefts.now heights.now v.items) }
 {
-    let mut shapes = Vec::with_capacity(alloc, boxes.len())?;
+    let mut flow_boxes = Vec::with_capacity(alloc, boxes.len())?;
     for k in 0..boxes.len() {
-        shapes.push(shape_of_box(boxes, sizes, lefts, heights, k))?;
+        flow_boxes.push(flow_box_of(boxes, sizes, lefts, heights, k))?;
     }
-    Ok(shapes)
+    Ok(flow_boxes)
 }
 
-fn shape_of_box(
+fn flow_box_of(
     boxes: &[BoxNode],
     sizes: &[BoxSizes],
     lefts: &[Unit],
     heights: &[Unit],
     k: usize,
-) -> Shape
+) -> FlowBox
     requires place { k < length boxes.now }
-    requires tree { IsTree (box_parents boxes.now) }
     requires sizes { length sizes.now ≡ length boxes.now }
     requires bounds { HaveSizeBounds sizes.now }
     requires lefts { length lefts.now ≡ length boxes.now }
     requires near { AreNearLefts lefts.now }
     requires heights { length heights.now ≡ length boxes.now }
-    requires sized { HaveBoxHeights heights.now }
-    ensures { result ≡ shape_of_box boxes.now sizes.now lefts.now heights.now k }
+    ensures { result ≡ flow_box_of boxes.now sizes.now lefts.now heights.now k }
 {
-    if k == 0 {
-        return NO_SHAPE;
+    let clear = cleared_by(boxes, k);
+    let own = sizes_at(sizes, k);
+    let left = length_at(lefts, k);
+    let kind = if is_inner(boxes, k) {
+        inner_box(
+            float_side(boxes, k),
+            clear,
+            own,
+            left,
+            length_at(heights, k),
+        )
+    } else {
+        block_box(clear, own, left)
+    };
+    FlowBox {
+        parent: parent_at(boxes, k),
+        kind,
     }
-    let parent = parent_at(boxes, k);
-    shape_beside(boxes, sizes, lefts, length_at(heights, k), parent, k)
 }
 
-const NO_SHAPE: Shape = Shape {
-    float: None,
-    clear: Clear::None,
-    left: Unit(0),
-    right: Unit(0),
-    x: Unit(0),
-    width: Unit(0),
-    height: Unit(0),
-};
-
-/// The shape of the box at k, whose parent box stands at a place and whose border box has a height.
-fn shape_beside(
-    boxes: &[BoxNode],
-    sizes: &[BoxSizes],
-    lefts: &[Unit],
-    height: Unit,
-    parent: usize,
-    k: usize,
-) -> Shape
-    requires place { k < length boxes.now }
-    requires parent { parent < length boxes.now }
-    requires sizes { length sizes.now ≡ length boxes.now }
-    requires bounds { HaveSizeBounds sizes.now }
-    requires lefts { length lefts.now ≡ length boxes.now }
-    requires near { AreNearLefts lefts.now }
-    requires sized { IsBoxHeight height.0 }
-    ensures { result ≡ shape_beside boxes.now sizes.now lefts.now height parent k }
+fn block_box(clear: Clear, sizes: BoxSizes, left: Unit) -> FlowKind
+    requires sizes { SizeFits sizes }
+    requires left { IsWithin (pos 562949953421312) left.0 }
+    ensures { result ≡ block_box clear sizes left }
 {
-    let floats = is_float(boxes, k);
-    let style = style_at(boxes, k);
-    let own = sizes_at(sizes, k);
-    let left = content_left(lefts, sizes, parent);
-    Shape {
-        float: float_side(floats, style.float),
-        clear: cleared_sides(style.clear),
-        left,
-        right: content_right(left, sizes_at(sizes, parent)),
-        x: length_at(lefts, k),
-        width: width_of(floats, own),
-        height: height_of(floats, own, height),
-    }
+    let content = inside_edge(left, sizes);
+    FlowKind::Block(BlockBox {
+        clear,
+        x: left,
+        margin: vertical_margins(sizes),
+        inset: Vertical {
+            top: sizes.edges.top,
+            bottom: sizes.edges.bottom,
+        },
+        content: Across {
+            left: content,
+            right: content_right(content, sizes),
+        },
+        height: HeightRule {
+            given: sizes.height,
+            min: sizes.min_height,
+            max: sizes.max_height,
+        },
+    })
 }
 
 fn content_right(left: Unit, sizes: BoxSizes) -> Unit
@@ -123,34 +111,57 @@ fn content_right(left: Unit, sizes: BoxSizes) -> Unit
     sum_of(left, sizes.widths.width)
 }
 
-/// The width of a margin box, where the box floats, and else of a border box.
-fn width_of(floats: bool, sizes: BoxSizes) -> Unit
+/// The own box of an inner context, whose border box is this high.
+fn inner_box(
+    float: Option<Side>,
+    clear: Clear,
+    sizes: BoxSizes,
+    left: Unit,
+    height: Unit,
+) -> FlowKind
     requires { SizeFits sizes }
-    ensures { result ≡ record { 0 = if floats then margin_width sizes else border_width sizes } }
+    ensures { result ≡ inner_box float clear sizes left height }
 {
-    if floats {
-        return margin_width(sizes);
+    let width = border_width(sizes);
+    match float {
+        None => FlowKind::Solid(SolidBox {
+            clear,
+            x: left,
+            margin: vertical_margins(sizes),
+            width,
+            height,
+        }),
+        Some(side) => FlowKind::Float(FloatBox {
+            side,
+            clear,
+            margin: Sides {
+                top: sizes.margin_top,
+                right: sizes.widths.margin_right,
+                bottom: sizes.margin_bottom,
+                left: sizes.widths.margin_left,
+            },
+            width,
+            height,
+        }),
     }
-    border_width(sizes)
 }
 
-/// The height of a margin box, where the box floats, and else of a border box.
-fn height_of(floats: bool, sizes: BoxSizes, height: Unit) -> Unit
-    requires sizes { SizeFits sizes }
-    requires height { IsBoxHeight height.0 }
-    ensures { result ≡ record { 0 = if floats then sizes.margin_top.0 +ℤ height.0 +ℤ sizes.margin_bottom.0 else height.0 } }
+fn vertical_margins(sizes: BoxSizes) -> Vertical
+    ensures { result ≡ vertical_margins sizes }
 {
-    if floats {
-        return sum_of(sum_of(sizes.margin_top, height), sizes.margin_bottom);
+    Vertical {
+        top: sizes.margin_top,
+        bottom: sizes.margin_bottom,
     }
-    height
 }
 
-fn float_side(floats: bool, float: Float) -> Option<Side>
-    ensures { result ≡ if floats then side_of float else None }
+/// The side to which the box at k floats.
+fn float_side(boxes: &[BoxNode], k: usize) -> Option<Side>
+    requires { k < length boxes.now }
+    ensures { result ≡ float_side boxes.now k }
 {
-    if floats {
-        return side_of(float);
+    if is_float(boxes, k) {
+        return side_of(style_at(boxes, k).float);
     }
     None
 }
@@ -163,6 +174,17 @@ fn side_of(float: Float) -> Option<Side>
         Float::Left => Some(Side::Left),
         Float::Right => Some(Side::Right),
     }
+}
+
+/// The sides whose floats the box at k goes past: none for the context's own box.
+fn cleared_by(boxes: &[BoxNode], k: usize) -> Clear
+    requires { k < length boxes.now }
+    ensures { result ≡ cleared_by boxes.now k }
+{
+    if k == 0 {
+        return Clear::None;
+    }
+    cleared_sides(style_at(boxes, k).clear)
 }
 
 fn cleared_sides(clear: lay_doc::Clear) -> Clear

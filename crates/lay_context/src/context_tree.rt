@@ -89,7 +89,7 @@ fn placed(
 /// The border box of a context on the page.
 fn own_rect(sizes: &[BoxSizes], places: &BoxPlaces, corner: Corner) -> Result<Rect, NoMemory>
     requires some { 0 < length sizes.now }
-    requires heights { 0 < length places.now.heights.items }
+    requires places { 0 < length places.now.places.items }
     requires bounds { HaveSizeBounds sizes.now }
     requires near { IsCornerNear corner }
     ensures rect { IfOk result (λ r. r ≡ own_rect sizes.now (columns_of places.now) corner) }
@@ -99,6 +99,6 @@ fn own_rect(sizes: &[BoxSizes], places: &BoxPlaces, corner: Corner) -> Result<Re
         x: corner.x,
         y: corner.y,
         w: border_width(sizes[0]),
-        h: near_position(places.heights[0])?,
+        h: near_position(places.places[0].height)?,
     })
 }

@@ -1,17 +1,13 @@
 //! The corners of the boxes of one context.
 
 ghost use Rattle.std.specs.Prelude.{◌≡◌, ◌<◌, ◌+ℤ◌, length, IfOk};
-ghost use Rattle.lay_units.specs.Units.{IsUsed};
-ghost use Rattle.lay_flow.specs.BlockFloats.{place_at};
+ghost use Rattle.lay_flow.specs.FlowPlaces.{box_place_at};
 ghost use Rattle.lay_context.specs.ContextPlaces.{columns_of, corner_of_box};
-ghost use Rattle.lay_context.specs.PlaceBounds.{HaveCounts, IsCornerNear, IsNear};
+ghost use Rattle.lay_context.specs.PlaceBounds.{IsCornerNear, IsNear};
 
-use crate::box_columns::{is_float, is_inner, length_at, sizes_at};
 use crate::context_places::BoxPlaces;
 use crate::corner::Corner;
-use lay_boxgen::BoxNode;
-use lay_floats::Place;
-use lay_sizes::BoxSizes;
+use lay_flow::BoxPlace;
 use lay_units::{NoMemory, Unit};
 
 /// The greatest distance of an edge from the origin.
@@ -19,35 +15,13 @@ const FAR: i64 = 1152921504606846976;
 
 /// The corner of the border box of the box at k, counted from that of the context's own. NoMemory is the
 /// answer where it is more than 2^60 units away, which it is in no document within the limits.
-pub(crate) fn corner_of_box(
-    boxes: &[BoxNode],
-    sizes: &[BoxSizes],
-    places: &BoxPlaces,
-    k: usize,
-) -> Result<Corner, NoMemory>
-    requires place { k < length boxes.now }
-    requires counts { HaveCounts boxes.now sizes.now (columns_of places.now) }
-    ensures corner { IfOk result (λ c. c ≡ corner_of_box boxes.now sizes.now (columns_of places.now) k) }
+pub(crate) fn corner_of_box(places: &BoxPlaces, k: usize) -> Result<Corner, NoMemory>
+    requires { k < length places.now.places.items }
+    ensures corner { IfOk result (λ c. c ≡ corner_of_box (columns_of places.now) k) }
     ensures near { IfOk result IsCornerNear }
 {
-    if is_float(boxes, k) {
-        return float_corner(place_at(&places.places, k), sizes_at(sizes, k));
-    }
-    if is_inner(boxes, k) {
-        let place = place_at(&places.places, k);
-        return near_corner(place.x, place.y);
-    }
-    near_corner(length_at(&places.lefts, k), length_at(&places.tops, k))
-}
-
-/// The corner of the border box of a float, whose margin box stands at this place.
-fn float_corner(place: Place, sizes: BoxSizes) -> Result<Corner, NoMemory>
-    ensures corner { IfOk result (λ c. c ≡ record { x = record { 0 = place.x.0 +ℤ sizes.widths.margin_left.0 }; y = record { 0 = place.y.0 +ℤ sizes.margin_top.0 } }) }
-    ensures near { IfOk result IsCornerNear }
-{
-    let x = position_sum(place.x, sizes.widths.margin_left)?;
-    let y = position_sum(place.y, sizes.margin_top)?;
-    Ok(Corner { x, y })
+    let corner = place_at(&places.places, k).corner;
+    near_corner(corner.x, corner.y)
 }
 
 /// A corner. NoMemory is the answer where it is more than 2^60 units away.
@@ -83,9 +57,9 @@ pub(crate) fn near_position(v: Unit) -> Result<Unit, NoMemory>
     Ok(v)
 }
 
-fn place_at(places: &[Place], k: usize) -> Place
+pub(crate) fn place_at(places: &[BoxPlace], k: usize) -> BoxPlace
     requires { k < length places.now }
-    ensures { result ≡ place_at places.now k }
+    ensures { result ≡ box_place_at places.now k }
 {
     places[k]
 }

@@ -1,7 +1,7 @@
 //! Where the boxes of a document's contexts stand, from inner to outer contexts.
 
 ghost use Rattle.std.specs.Prelude.{ℕ, ◌≡◌, ◌∷◌, ◌++◌, ◌<◌, [], IfOk, OnOk, length, reverse};
-ghost use Rattle.lay_flow.specs.Lengths.{length_at};
+ghost use Rattle.lay_flow.specs.FlowPlaces.{box_place_at};
 ghost use Rattle.lay_sizes.specs.declared.sizing.ContainingBlock.{ContainingBlock};
 ghost use Rattle.lay_context.specs.ContextList.{boxes_in, boxes_of_trees, spot_at};
 ghost use Rattle.lay_context.specs.ContextOrder.{AreInOrder};
@@ -13,6 +13,7 @@ use crate::context_list::ContextList;
 use crate::context_places::{BoxPlaces, context_places};
 use crate::height_column::HeightColumn;
 use crate::size_column::{SizeColumn, sizes_in};
+use lay_flow::BoxPlace;
 use lay_units::{NoMemory, Unit};
 use std::alloc::Global;
 
@@ -71,18 +72,18 @@ fn place_last(
         sizes_in(sizes, i),
         column.into_vec(),
     )?;
-    set_inner_height(list, columns, own_height(&placed.heights));
+    set_inner_height(list, columns, own_height(&placed.places));
     places.push(placed)?;
     Ok(())
 }
 
 /// The height of a context's own box.
-fn own_height(heights: &[Unit]) -> Unit
-    ensures { result ≡ record { 0 = length_at heights.now 0 } }
+fn own_height(places: &[BoxPlace]) -> Unit
+    ensures { result ≡ (box_place_at places.now 0).height }
 {
-    match heights.first() {
+    match places.first() {
         None => Unit(0),
-        Some(height) => *height,
+        Some(place) => place.height,
     }
 }
 

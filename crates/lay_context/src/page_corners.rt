@@ -70,9 +70,7 @@ fn page_corner(
         return root_corner(viewport, style_at(boxes, 0), own);
     }
     let spot = spot_at(list, i);
-    let boxes = boxes_in(list, spot.around);
-    let sizes = sizes_in(sizes, spot.around);
-    let inside = corner_of_box(boxes, sizes, places_in(places, spot.around), spot.at)?;
+    let inside = corner_of_box(places_in(places, spot.around), spot.at)?;
     beside(corner_at(corners, spot.around), inside)
 }
 

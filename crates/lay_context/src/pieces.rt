@@ -6,9 +6,9 @@ ghost use Rattle.lay_context.specs.SizeBounds.{HaveSizeBounds};
 ghost use Rattle.lay_context.specs.ContextPlaces.{columns_of, piece_of_box, pieces_of};
 ghost use Rattle.lay_context.specs.PlaceBounds.{AreNearPieces, HaveCounts, IsRectNear};
 
-use crate::box_columns::{border_width, is_inner, length_at, sizes_at};
+use crate::box_columns::{border_width, is_inner, sizes_at};
 use crate::context_places::BoxPlaces;
-use crate::corners::{corner_of_box, near_position};
+use crate::corners::{corner_of_box, near_position, place_at};
 use lay_boxgen::BoxNode;
 use lay_frag::{Frag, FragKind};
 use lay_sizes::BoxSizes;
@@ -54,8 +54,8 @@ fn piece_of_box(
     ensures piece { IfOk result (λ f. f ≡ piece_of_box boxes.now sizes.now (columns_of places.now) k) }
     ensures near { IfOk result (λ f. IsRectNear f.rect) }
 {
-    let corner = corner_of_box(boxes, sizes, places, k)?;
-    let height = near_position(length_at(&places.heights, k))?;
+    let corner = corner_of_box(places, k)?;
+    let height = near_position(place_at(&places.places, k).height)?;
     Ok(Frag {
         kind: FragKind::Box,
         node: boxes[k].node,

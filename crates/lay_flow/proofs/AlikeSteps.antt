@@ -1,17 +1,18 @@
 -- Two layouts stay alike where a box is opened or closed.
-use Rattle.std.proofs.Common.{◌≡◌, ◌⊎◌, ℕ, ◌+◌, ◌<◌, ◌≤◌, true, false, ℤ, ◌+ℤ◌, List, [], ◌∷◌, ◌++◌, length, slice_index, refl, sym, ap, ◌∙◌, arith, inl, inr}
+use Rattle.std.proofs.Common.{◌≡◌, ◌⊎◌, ℕ, ◌+◌, ◌<◌, ◌≤◌, true, false, ℤ, ◌+ℤ◌, List, [], ◌∷◌, ◌++◌, length, refl, sym, ap, ◌∙◌, arith, inl, inr}
 use Rattle.std.proofs.lemmas.Bool.{cases_lt}
+use Rattle.lay_flow.specs.declared.flow_box.FlowBox.{FlowBox}
+use Rattle.lay_flow.specs.Boxes.{parent_at, parents_of}
 use Rattle.lay_units.specs.declared.length.Unit.{Unit as Length}
 use Rattle.lay_doc.specs.Tree.{IsTree}
 use Rattle.lay_margins.specs.Collapse.{collapse}
-use Rattle.lay_flow.specs.declared.block.Block.{Block}
 use Rattle.lay_flow.specs.Lengths.{length_at}
 use Rattle.lay_flow.specs.Children.{flag_at}
 use Rattle.lay_flow.specs.MarginRuns.{Entry, margin, mark, margins, block_at, run_at, parts_tops, to_top, run_before}
 use Rattle.lay_flow.specs.BlockPositions.{Extents, start_before}
 use Rattle.lay_flow.specs.BlockLayout.{BlockLayout, IsBlockLayout}
-use Rattle.lay_flow.specs.Gathered.{Gathered, IsAround}
-use Rattle.lay_flow.specs.MarginPlace.{IsPlace}
+use Rattle.lay_flow.specs.Pass.Gathered.{Gathered, IsAround}
+use Rattle.lay_flow.specs.Pass.MarginPlace.{IsPlace}
 use Rattle.lay_flow.proofs.Truths.{true_false, true_or}
 use Rattle.lay_flow.proofs.RunFacts.{goes_in, ends_above, lead_goes_on, top_run_is, parting_stands}
 use Rattle.lay_flow.proofs.LayoutFacts.{mark_standing, start_flows}
@@ -21,63 +22,63 @@ use Rattle.lay_flow.proofs.LookAhead.{place_before}
 use Rattle.lay_flow.proofs.HangingRuns.{stands_at_edge}
 use Rattle.lay_flow.proofs.LayoutsAlike.{IsHanging, ClosedAlike, Alike, EndsIn, same_run, also_gathered, start_same, marks_same}
 
-module _ (parents : List ℕ) (tree : IsTree parents) (blocks : List Block) (extents : Extents) (clear_edges : List Length) (y : BlockLayout) (is : IsBlockLayout parents blocks extents clear_edges y)
-    (others : Extents) (other_edges : List Length) (z : BlockLayout) (also : IsBlockLayout parents blocks others other_edges z) where
+module _ (boxes : List FlowBox) (tree : IsTree (parents_of boxes)) (extents : Extents) (clear_edges : List Length) (y : BlockLayout) (is : IsBlockLayout boxes extents clear_edges y)
+    (others : Extents) (other_edges : List Length) (z : BlockLayout) (also : IsBlockLayout boxes others other_edges z) where
   abbrev pub AlikeAt : ℕ → ℕ → ℕ → Type 0
-  AlikeAt = Alike parents tree blocks extents clear_edges y is others other_edges z also
+  AlikeAt = Alike boxes tree extents clear_edges y is others other_edges z also
 
   abbrev pub IsClosed : ℕ → Type 0
-  IsClosed = ClosedAlike parents tree blocks extents clear_edges y is others other_edges z also
+  IsClosed = ClosedAlike boxes tree extents clear_edges y is others other_edges z also
 
   abbrev pub StartsAlike : ℕ → ℕ → ℕ → Type 0
-  StartsAlike first p m = (start_before parents blocks y.runs y.places p m ≡ start_before parents blocks z.runs z.places p m) ⊎ IsHanging parents y first p m
+  StartsAlike first p m = (start_before boxes y.runs y.places p m ≡ start_before boxes z.runs z.places p m) ⊎ IsHanging boxes y first p m
 
   abbrev pub MarksTo : ℕ → Type 0
   MarksTo m = (j : ℕ) → j < m → length_at y.places.marks j ≡ length_at z.places.marks j
 
-  module _ (first k : ℕ) (positive : 0 < k) (within : k < length parents) (was : AlikeAt first (slice_index parents k) k) where
-    pub at : IsPlace parents (slice_index parents k) k
-    at = place_before parents tree k positive within
+  module _ (first k : ℕ) (positive : 0 < k) (within : k < length boxes) (was : AlikeAt first (parent_at boxes k) k) where
+    pub at : IsPlace boxes (parent_at boxes k) k
+    at = place_before boxes tree k positive within
 
     abbrev run_up : List Entry
-    run_up = run_before parents blocks y.runs (slice_index parents k) k
+    run_up = run_before boxes y.runs (parent_at boxes k) k
 
-    run_is : run_before parents blocks y.runs (slice_index parents k) k ≡ run_before parents blocks z.runs (slice_index parents k) k
-    run_is = same_run parents tree blocks extents clear_edges y is others other_edges z also first (slice_index parents k) k at was
+    run_is : run_before boxes y.runs (parent_at boxes k) k ≡ run_before boxes z.runs (parent_at boxes k) k
+    run_is = same_run boxes tree extents clear_edges y is others other_edges z also first (parent_at boxes k) k at was
 
-    gathered_z : Gathered parents blocks z.runs first (slice_index parents k) k
-    gathered_z = also_gathered parents tree blocks extents clear_edges y is others other_edges z also first (slice_index parents k) k at was
+    gathered_z : Gathered boxes z.runs first (parent_at boxes k) k
+    gathered_z = also_gathered boxes tree extents clear_edges y is others other_edges z also first (parent_at boxes k) k at was
 
-    wider : (c : ℕ) → c ≤ slice_index parents k → IsAround parents c k → IsAround parents c (k + 1)
+    wider : (c : ℕ) → c ≤ parent_at boxes k → IsAround boxes c k → IsAround boxes c (k + 1)
     wider c above inside i low high = elim (cases_lt i k) [
       | inl before ↦ inside i low before
       | inr here ↦ (let e : i ≡ k = omega (arith, here, high) in rw e above)
     ]
 
     abbrev EndsBeforeTop : List Entry → ℕ → Type 0
-    EndsBeforeTop = EndsIn parents tree blocks extents clear_edges y is others other_edges z also first (slice_index parents k) k at was
+    EndsBeforeTop = EndsIn boxes tree extents clear_edges y is others other_edges z also first (parent_at boxes k) k at was
 
     -- clearance of the box at k ends the run
-    pub ended_by_clearance : flag_at y.runs.clears k ≡ true → flag_at z.runs.clears k ≡ true → (c : ℕ) → first ≤ c → c ≤ slice_index parents k → IsAround parents c k → EndsBeforeTop run_up c
+    pub ended_by_clearance : flag_at y.runs.clears k ≡ true → flag_at z.runs.clears k ≡ true → (c : ℕ) → first ≤ c → c ≤ parent_at boxes k → IsAround boxes c k → EndsBeforeTop run_up c
     ended_by_clearance cleared also_cleared c from above inside =
         let lt = at.parent in
         let least = was.gathered.least in
         let there : 0 < c = omega (arith, least, from) in
         let e = run_is in
         record {
-          rise = was.gathered.rise c from above inside ∙ ends_above parents blocks y.runs (slice_index parents k) k k (next_here parents tree blocks y.runs is.has_runs k positive within) cleared;
-          also_rise = gathered_z.rise c from above inside ∙ ends_above parents blocks z.runs (slice_index parents k) k k (next_here parents tree blocks z.runs also.has_runs k positive within) also_cleared ∙ sym e;
+          rise = was.gathered.rise c from above inside ∙ ends_above boxes y.runs (parent_at boxes k) k k (next_here boxes tree y.runs is.has_runs k positive within) cleared;
+          also_rise = gathered_z.rise c from above inside ∙ ends_above boxes z.runs (parent_at boxes k) k k (next_here boxes tree z.runs also.has_runs k positive within) also_cleared ∙ sym e;
           stands = true_or (flag_at y.runs.through c) (flag_at y.runs.through c ≡ false)
-              (λ t. absurd (true_false (flag_at y.runs.clears k) cleared (through_inside parents tree blocks y.runs is.has_runs c k there (omega (arith, above, lt)) within (wider c above inside) t).unclear)) (λ f. f);
+              (λ t. absurd (true_false (flag_at y.runs.clears k) cleared (through_inside boxes tree y.runs is.has_runs c k there (omega (arith, above, lt)) within (wider c above inside) t).unclear)) (λ f. f);
           also_stands = true_or (flag_at z.runs.through c) (flag_at z.runs.through c ≡ false)
-              (λ t. absurd (true_false (flag_at z.runs.clears k) also_cleared (through_inside parents tree blocks z.runs also.has_runs c k there (omega (arith, above, lt)) within (wider c above inside) t).unclear)) (λ f. f);
+              (λ t. absurd (true_false (flag_at z.runs.clears k) also_cleared (through_inside boxes tree z.runs also.has_runs c k there (omega (arith, above, lt)) within (wider c above inside) t).unclear)) (λ f. f);
         }
 
     pub marks_above_clearance : flag_at y.runs.clears k ≡ true → flag_at z.runs.clears k ≡ true → MarksTo k
-    marks_above_clearance cleared also_cleared = marks_same parents tree blocks extents clear_edges y is others other_edges z also first (slice_index parents k) k at was run_up (ended_by_clearance cleared also_cleared)
+    marks_above_clearance cleared also_cleared = marks_same boxes tree extents clear_edges y is others other_edges z also first (parent_at boxes k) k at was run_up (ended_by_clearance cleared also_cleared)
 
     module _ (clear_same : flag_at y.runs.clears k ≡ flag_at z.runs.clears k) (edge_same : flag_at y.runs.clears k ≡ true → length_at clear_edges k ≡ length_at other_edges k) where
-      opened : (next : ℕ) → Gathered parents blocks y.runs next k (k + 1) → MarksTo next → StartsAlike next k (k + 1) → AlikeAt next k (k + 1)
+      opened : (next : ℕ) → Gathered boxes y.runs next k (k + 1) → MarksTo next → StartsAlike next k (k + 1) → AlikeAt next k (k + 1)
       opened next g marks start = record {
         gathered = g;
         clears = λ j lt. elim (cases_lt j k) [
@@ -97,14 +98,14 @@ module _ (parents : List ℕ) (tree : IsTree parents) (blocks : List Block) (ext
         start = start;
       }
 
-      opened_plain : parts_tops blocks k ≡ false → flag_at y.runs.clears k ≡ false → AlikeAt first k (k + 1)
-      opened_plain plain unclear = opened first (open_plain parents tree blocks y.runs is.has_runs k positive within first was.gathered plain unclear) was.mark start
+      opened_plain : parts_tops boxes k ≡ false → flag_at y.runs.clears k ≡ false → AlikeAt first k (k + 1)
+      opened_plain plain unclear = opened first (open_plain boxes tree y.runs is.has_runs k positive within first was.gathered plain unclear) was.mark start
         where
-          inside_y : start_before parents blocks y.runs y.places k (k + 1) ≡ start_before parents blocks y.runs y.places (slice_index parents k) k
-          inside_y = sym (start_inside parents tree blocks y.runs is.has_runs extents clear_edges y.places is.has_positions k positive within plain) ∙ start_flows parents blocks extents clear_edges y is k positive within unclear
+          inside_y : start_before boxes y.runs y.places k (k + 1) ≡ start_before boxes y.runs y.places (parent_at boxes k) k
+          inside_y = sym (start_inside boxes tree y.runs is.has_runs extents clear_edges y.places is.has_positions k positive within plain) ∙ start_flows boxes extents clear_edges y is k positive within unclear
 
-          inside_z : start_before parents blocks z.runs z.places k (k + 1) ≡ start_before parents blocks z.runs z.places (slice_index parents k) k
-          inside_z = sym (start_inside parents tree blocks z.runs also.has_runs others other_edges z.places also.has_positions k positive within plain) ∙ start_flows parents blocks others other_edges z also k positive within (sym clear_same ∙ unclear)
+          inside_z : start_before boxes z.runs z.places k (k + 1) ≡ start_before boxes z.runs z.places (parent_at boxes k) k
+          inside_z = sym (start_inside boxes tree z.runs also.has_runs others other_edges z.places also.has_positions k positive within plain) ∙ start_flows boxes others other_edges z also k positive within (sym clear_same ∙ unclear)
 
           start : StartsAlike first k (k + 1)
           start = elim was.start [
@@ -112,72 +113,72 @@ module _ (parents : List ℕ) (tree : IsTree parents) (blocks : List Block) (ext
             | inr h ↦ inr (let u = h.above in let lt = at.parent in record { clears = h.clears; above = omega (arith, u, lt); contains = wider first u h.contains })
           ]
 
-      opened_cleared : parts_tops blocks k ≡ false → flag_at y.runs.clears k ≡ true → AlikeAt k k (k + 1)
-      opened_cleared plain cleared = opened k (open_cleared parents tree blocks y.runs is.has_runs k positive within plain cleared) (marks_above_clearance cleared (sym clear_same ∙ cleared))
+      opened_cleared : parts_tops boxes k ≡ false → flag_at y.runs.clears k ≡ true → AlikeAt k k (k + 1)
+      opened_cleared plain cleared = opened k (open_cleared boxes tree y.runs is.has_runs k positive within plain cleared) (marks_above_clearance cleared (sym clear_same ∙ cleared))
           (inr (record { clears = cleared; above = omega arith; contains = λ i low high. absurd (omega (arith, low, high)) }))
 
       -- a border or a padding of the box ends the run below its top margin
-      ended_by_edge : parts_tops blocks k ≡ true → flag_at y.runs.clears k ≡ false → (c : ℕ) → first ≤ c → c ≤ slice_index parents k → IsAround parents c k → EndsBeforeTop (to_top blocks y.runs k) c
+      ended_by_edge : parts_tops boxes k ≡ true → flag_at y.runs.clears k ≡ false → (c : ℕ) → first ≤ c → c ≤ parent_at boxes k → IsAround boxes c k → EndsBeforeTop (to_top boxes y.runs k) c
       ended_by_edge parts unclear c from above inside =
           let lt = at.parent in
           let least = was.gathered.least in
           let there : 0 < c = omega (arith, least, from) in
           record {
-            rise = was.gathered.rise c from above inside ∙ goes_in parents blocks y.runs (slice_index parents k) k k (next_here parents tree blocks y.runs is.has_runs k positive within) unclear ∙ rise_y;
-            also_rise = gathered_z.rise c from above inside ∙ goes_in parents blocks z.runs (slice_index parents k) k k (next_here parents tree blocks z.runs also.has_runs k positive within) (sym clear_same ∙ unclear) ∙ rise_z ∙ sym tops_same;
+            rise = was.gathered.rise c from above inside ∙ goes_in boxes y.runs (parent_at boxes k) k k (next_here boxes tree y.runs is.has_runs k positive within) unclear ∙ rise_y;
+            also_rise = gathered_z.rise c from above inside ∙ goes_in boxes z.runs (parent_at boxes k) k k (next_here boxes tree z.runs also.has_runs k positive within) (sym clear_same ∙ unclear) ∙ rise_z ∙ sym tops_same;
             stands = true_or (flag_at y.runs.through c) (flag_at y.runs.through c ≡ false)
-                (λ t. absurd (true_false (parts_tops blocks k) parts (through_inside parents tree blocks y.runs is.has_runs c k there (omega (arith, above, lt)) within (wider c above inside) t).unparted)) (λ f. f);
+                (λ t. absurd (true_false (parts_tops boxes k) parts (through_inside boxes tree y.runs is.has_runs c k there (omega (arith, above, lt)) within (wider c above inside) t).unparted)) (λ f. f);
             also_stands = true_or (flag_at z.runs.through c) (flag_at z.runs.through c ≡ false)
-                (λ t. absurd (true_false (parts_tops blocks k) parts (through_inside parents tree blocks z.runs also.has_runs c k there (omega (arith, above, lt)) within (wider c above inside) t).unparted)) (λ f. f);
+                (λ t. absurd (true_false (parts_tops boxes k) parts (through_inside boxes tree z.runs also.has_runs c k there (omega (arith, above, lt)) within (wider c above inside) t).unparted)) (λ f. f);
           }
         where
-          rise_y : run_at y.runs.top_runs k ≡ to_top blocks y.runs k
-          rise_y = top_run_is parents blocks y.runs is.has_runs k positive within ∙ rw parts refl
+          rise_y : run_at y.runs.top_runs k ≡ to_top boxes y.runs k
+          rise_y = top_run_is boxes y.runs is.has_runs k positive within ∙ rw parts refl
 
-          rise_z : run_at z.runs.top_runs k ≡ to_top blocks z.runs k
-          rise_z = top_run_is parents blocks z.runs also.has_runs k positive within ∙ rw parts refl
+          rise_z : run_at z.runs.top_runs k ≡ to_top boxes z.runs k
+          rise_z = top_run_is boxes z.runs also.has_runs k positive within ∙ rw parts refl
 
-          tops_same : to_top blocks y.runs k ≡ to_top blocks z.runs k
-          tops_same = let e = lead_goes_on parents blocks y.runs is.has_runs k positive within unclear ∙ run_is ∙ sym (lead_goes_on parents blocks z.runs also.has_runs k positive within (sym clear_same ∙ unclear)) in rw e refl
+          tops_same : to_top boxes y.runs k ≡ to_top boxes z.runs k
+          tops_same = let e = lead_goes_on boxes y.runs is.has_runs k positive within unclear ∙ run_is ∙ sym (lead_goes_on boxes z.runs also.has_runs k positive within (sym clear_same ∙ unclear)) in rw e refl
 
-      module _ (parts : parts_tops blocks k ≡ true) where
-        start_y : start_before parents blocks y.runs y.places k (k + 1) ≡ length_at y.places.marks k +ℤ (block_at blocks k).edge_top.0
-        start_y = let e = childless parents tree blocks y.runs is.has_runs k positive within in rw (e, parts) refl
+      module _ (parts : parts_tops boxes k ≡ true) where
+        start_y : start_before boxes y.runs y.places k (k + 1) ≡ length_at y.places.marks k +ℤ (block_at boxes k).edge_top.0
+        start_y = let e = childless boxes tree y.runs is.has_runs k positive within in rw (e, parts) refl
 
-        start_z : start_before parents blocks z.runs z.places k (k + 1) ≡ length_at z.places.marks k +ℤ (block_at blocks k).edge_top.0
-        start_z = let e = childless parents tree blocks z.runs also.has_runs k positive within in rw (e, parts) refl
+        start_z : start_before boxes z.runs z.places k (k + 1) ≡ length_at z.places.marks k +ℤ (block_at boxes k).edge_top.0
+        start_z = let e = childless boxes tree z.runs also.has_runs k positive within in rw (e, parts) refl
 
         opened_parting : MarksTo k → length_at y.places.marks k ≡ length_at z.places.marks k → AlikeAt (k + 1) k (k + 1)
-        opened_parting marks here = opened (k + 1) (open_parting parents tree blocks y.runs is.has_runs k positive within parts) (λ j lt. elim (cases_lt j k) [
+        opened_parting marks here = opened (k + 1) (open_parting boxes tree y.runs is.has_runs k positive within parts) (λ j lt. elim (cases_lt j k) [
           | inl low ↦ marks j low
           | inr ge ↦ (let e : j ≡ k = omega (arith, lt, ge) in ap (length_at y.places.marks) e ∙ here ∙ ap (length_at z.places.marks) (sym e))
-        ]) (inl (start_y ∙ ap (λ (v : ℤ). v +ℤ (block_at blocks k).edge_top.0) here ∙ sym start_z))
+        ]) (inl (start_y ∙ ap (λ (v : ℤ). v +ℤ (block_at boxes k).edge_top.0) here ∙ sym start_z))
 
         parting_clear : flag_at y.runs.clears k ≡ true → AlikeAt (k + 1) k (k + 1)
         parting_clear cleared = opened_parting (marks_above_clearance cleared (sym clear_same ∙ cleared))
-            (stands_at_edge parents tree blocks extents clear_edges y is k positive within cleared ∙ edge_same cleared ∙ sym (stands_at_edge parents tree blocks others other_edges z also k positive within (sym clear_same ∙ cleared)))
+            (stands_at_edge boxes tree extents clear_edges y is k positive within cleared ∙ edge_same cleared ∙ sym (stands_at_edge boxes tree others other_edges z also k positive within (sym clear_same ∙ cleared)))
 
         parting_plain : flag_at y.runs.clears k ≡ false → AlikeAt (k + 1) k (k + 1)
         parting_plain unclear =
-            let run : List Entry = to_top blocks y.runs k in
-            let start = start_same parents tree blocks extents clear_edges y is others other_edges z also first (slice_index parents k) k at was run (ended_by_edge parts unclear) in
+            let run : List Entry = to_top boxes y.runs k in
+            let start = start_same boxes tree extents clear_edges y is others other_edges z also first (parent_at boxes k) k at was run (ended_by_edge parts unclear) in
             let also_unclear : flag_at z.runs.clears k ≡ false = sym clear_same ∙ unclear in
-            let rise : run_at y.runs.top_runs k ≡ to_top blocks y.runs k = top_run_is parents blocks y.runs is.has_runs k positive within ∙ rw parts refl in
-            let also_rise : run_at z.runs.top_runs k ≡ to_top blocks z.runs k = top_run_is parents blocks z.runs also.has_runs k positive within ∙ rw parts refl in
-            let lead = lead_goes_on parents blocks y.runs is.has_runs k positive within unclear ∙ run_is ∙ sym (lead_goes_on parents blocks z.runs also.has_runs k positive within also_unclear) in
-            let tops = rise ∙ ap (λ (xs : List Entry). xs ++ mark k ∷ margin (block_at blocks k).margin_top.0 ∷ []) lead ∙ sym also_rise in
-            let starts = start_flows parents blocks extents clear_edges y is k positive within unclear ∙ start ∙ sym (start_flows parents blocks others other_edges z also k positive within also_unclear) in
-            opened_parting (marks_same parents tree blocks extents clear_edges y is others other_edges z also first (slice_index parents k) k at was run (ended_by_edge parts unclear))
-            (mark_standing parents blocks extents clear_edges y is k positive within (parting_stands parents blocks y.runs is.has_runs k positive within parts)
+            let rise : run_at y.runs.top_runs k ≡ to_top boxes y.runs k = top_run_is boxes y.runs is.has_runs k positive within ∙ rw parts refl in
+            let also_rise : run_at z.runs.top_runs k ≡ to_top boxes z.runs k = top_run_is boxes z.runs also.has_runs k positive within ∙ rw parts refl in
+            let lead = lead_goes_on boxes y.runs is.has_runs k positive within unclear ∙ run_is ∙ sym (lead_goes_on boxes z.runs also.has_runs k positive within also_unclear) in
+            let tops = rise ∙ ap (λ (xs : List Entry). xs ++ mark k ∷ margin (block_at boxes k).margin_top.0 ∷ []) lead ∙ sym also_rise in
+            let starts = start_flows boxes extents clear_edges y is k positive within unclear ∙ start ∙ sym (start_flows boxes others other_edges z also k positive within also_unclear) in
+            opened_parting (marks_same boxes tree extents clear_edges y is others other_edges z also first (parent_at boxes k) k at was run (ended_by_edge parts unclear))
+            (mark_standing boxes extents clear_edges y is k positive within (parting_stands boxes y.runs is.has_runs k positive within parts)
             ∙ (λ i. starts i +ℤ collapse (margins (tops i)))
-            ∙ sym (mark_standing parents blocks others other_edges z also k positive within (parting_stands parents blocks z.runs also.has_runs k positive within parts)))
+            ∙ sym (mark_standing boxes others other_edges z also k positive within (parting_stands boxes z.runs also.has_runs k positive within parts)))
 
       pub record SomeOpened : Type 0 where
         pub next : ℕ
         pub alike : AlikeAt next k (k + 1)
 
       pub opens_alike : SomeOpened
-      opens_alike = true_or (parts_tops blocks k) SomeOpened
+      opens_alike = true_or (parts_tops boxes k) SomeOpened
           (λ parts. true_or (flag_at y.runs.clears k) SomeOpened
           (λ cleared. record { next = k + 1; alike = parting_clear parts cleared })
           (λ unclear. record { next = k + 1; alike = parting_plain parts unclear }))

@@ -1,5 +1,6 @@
 -- What follows from the kinds of blocks.
 use Rattle.std.proofs.Common.{◌≡◌, ℕ, zero, suc, ◌&&◌, not, Bool, true, false, ℤ, pos, negsuc, List, refl, ap, arith}
+use Rattle.lay_flow.specs.declared.flow_box.FlowBox.{FlowBox}
 use Rattle.lay_units.specs.declared.records.Len.{Len}
 use Rattle.lay_units.specs.declared.records.Len.TheVariants.{Auto as auto, Of as of}
 use Rattle.lay_flow.specs.declared.block.Block.{Block}
@@ -13,9 +14,9 @@ zero_is : (v : ℤ) → is_zero v ≡ true → v ≡ pos 0
 zero_is (pos n) e = let h : n ≡ 0 = grind (arith, e) in ap pos h
 zero_is (negsuc n) e = absurd (true_false false e refl)
 
-pub no_edge : (blocks : List Block) (p : ℕ) → parts_tops blocks p ≡ false → (block_at blocks p).edge_top.0 ≡ pos 0
-no_edge blocks zero e = absurd (true_false true refl e)
-no_edge blocks (suc p) e = zero_is (block_at blocks (suc p)).edge_top.0 (not_not (is_zero (block_at blocks (suc p)).edge_top.0) e)
+pub no_edge : (boxes : List FlowBox) (p : ℕ) → parts_tops boxes p ≡ false → (block_at boxes p).edge_top.0 ≡ pos 0
+no_edge boxes zero e = absurd (true_false true refl e)
+no_edge boxes (suc p) e = zero_is (block_at boxes (suc p)).edge_top.0 (not_not (is_zero (block_at boxes (suc p)).edge_top.0) e)
   where
     not_not : (b : Bool) → not b ≡ false → b ≡ true
     not_not true e = refl
@@ -23,9 +24,9 @@ no_edge blocks (suc p) e = zero_is (block_at blocks (suc p)).edge_top.0 (not_not
 
 -- a box of auto height without an edge above its content may be collapsed through where its bottom margin may adjoin
 -- that of its last child
-pub joined_passes : (blocks : List Block) (p : ℕ) → parts_tops blocks p ≡ false → may_join_bottoms (block_at blocks p) ≡ true → may_collapse_through (block_at blocks p) ≡ true
-joined_passes blocks zero e j = absurd (true_false true refl e)
-joined_passes blocks (suc p) e j = let b : Block = block_at blocks (suc p) in
+pub joined_passes : (boxes : List FlowBox) (p : ℕ) → parts_tops boxes p ≡ false → may_join_bottoms (block_at boxes p) ≡ true → may_collapse_through (block_at boxes p) ≡ true
+joined_passes boxes zero e j = absurd (true_false true refl e)
+joined_passes boxes (suc p) e j = let b : Block = block_at boxes (suc p) in
     all_true (is_blocks b.inside) (is_zero b.edge_top.0) (is_zero b.edge_bottom.0) (is_zero b.min_height.0) b.height e j
   where
     all_true : (a b c d : Bool) (h : Len) → not b ≡ false → (a && c && d && is_auto h) ≡ true → (a && b && c && d && is_auto_or_zero h) ≡ true

@@ -1,6 +1,8 @@
 -- What is known once it is decided whether a box has clearance.
-use Rattle.std.proofs.Common.{◌≡◌, ◌⊎◌, ℕ, ◌+◌, ◌<◌, ◌≤◌, not, nat_lt, Bool, true, false, ℤ, ◌-ℤ◌, List, [], length, slice_index, refl, sym, ap, ◌∙◌, arith, inl, inr, Option, Some, None, subst}
+use Rattle.std.proofs.Common.{◌≡◌, ◌⊎◌, ℕ, ◌+◌, ◌<◌, ◌≤◌, not, nat_lt, Bool, true, false, ℤ, ◌-ℤ◌, List, [], length, refl, sym, ap, ◌∙◌, arith, inl, inr, Option, Some, None, subst}
 use Rattle.std.proofs.lemmas.Bool.{cases_lt, cases_eq}
+use Rattle.lay_flow.specs.declared.flow_box.FlowBox.{FlowBox}
+use Rattle.lay_flow.specs.Boxes.{parent_at, parents_of}
 use Rattle.lay_units.specs.declared.length.Unit.{Unit as Length}
 use Rattle.lay_margins.specs.StrutValue.{StrutValue}
 use Rattle.lay_margins.specs.Collapse.{Holds}
@@ -10,8 +12,6 @@ use Rattle.lay_floats.specs.declared.requests.Clear.TheVariants.{None as clear_n
 use Rattle.lay_floats.specs.declared.requests.Place.{Place}
 use Rattle.lay_floats.specs.ClearEdge.{Clears, IsClearEdge}
 use Rattle.lay_doc.specs.Tree.{IsTree}
-use Rattle.lay_flow.specs.declared.block.Block.{Block}
-use Rattle.lay_flow.specs.declared.shape.Shape.{Shape}
 use Rattle.lay_flow.specs.Lengths.{length_at}
 use Rattle.lay_flow.specs.Children.{flag_at}
 use Rattle.lay_flow.specs.MarginRuns.{margins, has_top, run_at, run_before}
@@ -19,11 +19,11 @@ use Rattle.lay_flow.specs.BlockPositions.{Extents, start_before}
 use Rattle.lay_flow.specs.BlockLayout.{BlockLayout, IsBlockLayout}
 use Rattle.lay_flow.specs.BlockFloats.{shape_at, floats_before}
 use Rattle.lay_flow.specs.Clearance.{IsHypothetical, HasClearedFloat, IsAbove, lower_of, HasClearance}
-use Rattle.lay_flow.specs.BlockPass.{PassState, IsAt, Settled}
-use Rattle.lay_flow.specs.PassBounds.{StrutFits, IsEdgeNear, IsCollapseNear}
-use Rattle.lay_flow.specs.PlacesTo.{Placing, PlacesTo}
-use Rattle.lay_flow.specs.PassKnows.{Knows, IsReady, MayBe, IsCandidate, AreExtentsKept, ArePlacesKept}
-use Rattle.lay_flow.specs.ClearSteps.{HasWaitingFloat, IsAboveFloats, IsEdgeWithout}
+use Rattle.lay_flow.specs.Pass.State.{PassState, IsAt, Settled}
+use Rattle.lay_flow.specs.Pass.Bounds.{StrutFits, IsEdgeNear, IsCollapseNear}
+use Rattle.lay_flow.specs.Pass.Placed.{Placing, PlacesTo}
+use Rattle.lay_flow.specs.Pass.Knows.{Knows, IsReady, MayBe, IsCandidate, AreExtentsKept, ArePlacesKept}
+use Rattle.lay_flow.specs.Pass.Clears.{HasWaitingFloat, IsAboveFloats, IsEdgeWithout}
 use Rattle.lay_flow.proofs.ClearedFloats.{edge_of_more, higher_with_more}
 use Rattle.lay_flow.proofs.HangingRuns.{hangs_at_edge}
 use Rattle.lay_flow.proofs.Hypotheticals.{some_hypothetical_lem}
@@ -39,11 +39,11 @@ use Rattle.lay_flow.proofs.Truths.{true_false, low_not, low_yes}
 no_some : {A : Type 0} (v : A) → None ≡ Some v → ⊥
 no_some v e = grind (arith, e)
 
-module _ (parents : List ℕ) (blocks : List Block) (shapes : List Shape) (tree : IsTree parents) (some : 0 < length parents) (now : PassState) (placing : Placing) (k : ℕ) (positive : 0 < k) (within : k < length parents)
-    (was : Knows parents blocks shapes now placing (slice_index parents k) k) where
+module _ (boxes : List FlowBox) (tree : IsTree (parents_of boxes)) (some : 0 < length boxes) (now : PassState) (placing : Placing) (k : ℕ) (positive : 0 < k) (within : k < length boxes)
+    (was : Knows boxes now placing (parent_at boxes k) k) where
   -- the boxes before the run are placed
-  pub knows_placed : (placing' : Placing) → PlacesTo parents blocks shapes now.marks placing' now.first → AreExtentsKept blocks (length placing.places) placing.extents placing'.extents → ArePlacesKept placing.places placing'.places
-      → Knows parents blocks shapes now placing' (slice_index parents k) k
+  pub knows_placed : (placing' : Placing) → PlacesTo boxes now.marks placing' now.first → AreExtentsKept boxes (length placing.places) placing.extents placing'.extents → ArePlacesKept placing.places placing'.places
+      → Knows boxes now placing' (parent_at boxes k) k
   knows_placed placing' placed kept same =
       let l = placed.places_length in
       let early = was.early in
@@ -51,17 +51,17 @@ module _ (parents : List ℕ) (blocks : List Block) (shapes : List Shape) (tree 
       record {
         fits = was.fits;
         near = was.near;
-        is_at = λ extents clear_edges y may_be candidate. was.is_at extents clear_edges y (may_before blocks placing placing' extents more kept may_be) candidate;
-        no_extents = no_extents_kept blocks placing.extents placing'.extents (length placing.places) was.placed.some kept was.no_extents;
-        placed = subst (λ (n : ℕ). PlacesTo parents blocks shapes now.marks placing' n) (sym l) placed;
+        is_at = λ extents clear_edges y may_be candidate. was.is_at extents clear_edges y (may_before boxes placing placing' extents more kept may_be) candidate;
+        no_extents = no_extents_kept boxes placing.extents placing'.extents (length placing.places) was.placed.some kept was.no_extents;
+        placed = subst (λ (n : ℕ). PlacesTo boxes now.marks placing' n) (sym l) placed;
         early = omega (arith, l);
         are_clears = was.are_clears;
-        decided = decided_placed parents blocks shapes now.clears now.clear_edges placing placing' k more kept same was.decided;
+        decided = decided_placed boxes now.clears now.clear_edges placing placing' k more kept same was.decided;
       }
 
   -- a layout that may be at last is one before the box at k, too
   earlier : (extents : Extents) (clear_edges : List Length) (y : BlockLayout) (flags : List Bool) (edges : List Length) → ((j : ℕ) → j < k → flag_at flags j ≡ flag_at now.clears j) → ((j : ℕ) → j < k → length_at edges j ≡ length_at now.clear_edges j)
-      → IsCandidate parents blocks extents clear_edges y flags edges (k + 1) → IsCandidate parents blocks extents clear_edges y now.clears now.clear_edges k
+      → IsCandidate boxes extents clear_edges y flags edges (k + 1) → IsCandidate boxes extents clear_edges y now.clears now.clear_edges k
   earlier extents clear_edges y flags edges same_flags same_edges candidate = record {
     is_layout = candidate.is_layout;
     clears = λ j lt. candidate.clears j (omega (arith, lt)) ∙ same_flags j lt;
@@ -69,48 +69,48 @@ module _ (parents : List ℕ) (blocks : List Block) (shapes : List Shape) (tree 
   }
 
   -- the hypothetical layout of the box at k
-  module _ (extents : Extents) (clear_edges : List Length) (y : BlockLayout) (may_be : MayBe blocks placing extents) (candidate : IsCandidate parents blocks extents clear_edges y now.clears now.clear_edges k) where
-    module _ (without : BlockLayout) (is : IsHypothetical parents blocks extents clear_edges y k without) where
-      may_be_without : IsCandidate parents blocks extents clear_edges without now.clears now.clear_edges k
+  module _ (extents : Extents) (clear_edges : List Length) (y : BlockLayout) (may_be : MayBe boxes placing extents) (candidate : IsCandidate boxes extents clear_edges y now.clears now.clear_edges k) where
+    module _ (without : BlockLayout) (is : IsHypothetical boxes extents clear_edges y k without) where
+      may_be_without : IsCandidate boxes extents clear_edges without now.clears now.clear_edges k
       may_be_without = record { is_layout = is.is_layout; clears = λ j lt. is.earlier j lt ∙ candidate.clears j lt; edge = candidate.edge }
 
-      at_without : IsAt parents blocks clear_edges without now (slice_index parents k) k
+      at_without : IsAt boxes clear_edges without now (parent_at boxes k) k
       at_without = was.is_at extents clear_edges without may_be may_be_without
 
-      lead_without : run_at without.runs.before_tops k ≡ run_before parents blocks without.runs (slice_index parents k) k
-      lead_without = lead_goes_on parents blocks without.runs is.is_layout.has_runs k positive within (is.later k (omega arith))
+      lead_without : run_at without.runs.before_tops k ≡ run_before boxes without.runs (parent_at boxes k) k
+      lead_without = lead_goes_on boxes without.runs is.is_layout.has_runs k positive within (is.later k (omega arith))
 
       -- the floats that it goes past and that are in its run are those that wait
-      waits_cleared : HasClearedFloat shapes k (run_at without.runs.before_tops k) → HasWaitingFloat shapes now.first k
+      waits_cleared : HasClearedFloat boxes k (run_at without.runs.before_tops k) → HasWaitingFloat boxes now.first k
       waits_cleared w =
           let j : ℕ = w.0 in
-          let top : has_top j (run_before parents blocks without.runs (slice_index parents k) k) ≡ true = sym (ap (has_top j) lead_without) ∙ w.5 in
+          let top : has_top j (run_before boxes without.runs (parent_at boxes k) k) ≡ true = sym (ap (has_top j) lead_without) ∙ w.5 in
           let from : now.first ≤ j = elim (cases_lt j now.first) [
-            | inl low ↦ absurd (true_false (has_top j (run_before parents blocks without.runs (slice_index parents k) k)) top (at_without.in_run.gathered.older j low))
+            | inl low ↦ absurd (true_false (has_top j (run_before boxes without.runs (parent_at boxes k) k)) top (at_without.in_run.gathered.older j low))
             | inr high ↦ high
           ] in
           (j, from, w.2, (w.1, w.3, w.4))
 
-      cleared_waits : HasWaitingFloat shapes now.first k → HasClearedFloat shapes k (run_at without.runs.before_tops k)
+      cleared_waits : HasWaitingFloat boxes now.first k → HasClearedFloat boxes k (run_at without.runs.before_tops k)
       cleared_waits w =
           let j : ℕ = w.0 in
           let side = w.3 in
           (j, side.0, w.2, side.1, side.2, ap (has_top j) lead_without ∙ at_without.in_run.gathered.own j w.1 w.2)
 
   -- a run that hangs has the box at k at its clear edge
-  pub hanging_edge : now.hangs ≡ true → IsEdgeWithout parents blocks now placing k now.start
+  pub hanging_edge : now.hangs ≡ true → IsEdgeWithout boxes now placing k now.start
   hanging_edge t extents clear_edges w may_be candidate later =
       let run = (was.is_at extents clear_edges w may_be candidate).in_run in
       let h = run.hanging t in
-      h.edge ∙ sym (hangs_at_edge parents tree blocks extents clear_edges w candidate.is_layout now.first k within run.gathered h.clears (later k (omega arith)) h.open_yet h.contains)
+      h.edge ∙ sym (hangs_at_edge boxes tree extents clear_edges w candidate.is_layout now.first k within run.gathered h.clears (later k (omega arith)) h.open_yet h.contains)
 
   -- in another run the look ahead finds it
   pub flowing_edge : now.hangs ≡ false → (edge : ℤ)
-      → ((extents : Extents) (clear_edges : List Length) (w : BlockLayout) → IsBlockLayout parents blocks extents clear_edges w → ((j : ℕ) → k ≤ j → flag_at w.runs.clears j ≡ false)
-      → Holds now.strut (margins (run_before parents blocks w.runs (slice_index parents k) k)) → now.start ≡ start_before parents blocks w.runs w.places (slice_index parents k) k
-      → ((j : ℕ) → j < k → has_top j (run_before parents blocks w.runs (slice_index parents k) k) ≡ not (nat_lt j now.first))
+      → ((extents : Extents) (clear_edges : List Length) (w : BlockLayout) → IsBlockLayout boxes extents clear_edges w → ((j : ℕ) → k ≤ j → flag_at w.runs.clears j ≡ false)
+      → Holds now.strut (margins (run_before boxes w.runs (parent_at boxes k) k)) → now.start ≡ start_before boxes w.runs w.places (parent_at boxes k) k
+      → ((j : ℕ) → j < k → has_top j (run_before boxes w.runs (parent_at boxes k) k) ≡ not (nat_lt j now.first))
       → edge ≡ length_at w.places.marks k)
-      → IsEdgeWithout parents blocks now placing k edge
+      → IsEdgeWithout boxes now placing k edge
   flowing_edge f edge ahead extents clear_edges w may_be candidate later =
       let run = (was.is_at extents clear_edges w may_be candidate).in_run in
       ahead extents clear_edges w candidate.is_layout later run.strut_holds (run.start_is f) (λ j lt. elim (cases_lt j now.first) [
@@ -119,9 +119,9 @@ module _ (parents : List ℕ) (blocks : List Block) (shapes : List Shape) (tree 
       ])
 
   -- it is decided that the box at k has no clearance
-  pub ready_unclear : ((shape_at shapes k).float ≡ None
-      → (extents : Extents) (clear_edges : List Length) (y : BlockLayout) (places : List Place) → MayBe blocks placing extents → IsCandidate parents blocks extents clear_edges y now.clears now.clear_edges (k + 1) → ArePlacesKept placing.places places
-      → HasClearance parents blocks shapes extents clear_edges places y k) → IsReady parents blocks shapes now placing k
+  pub ready_unclear : ((shape_at boxes k).float ≡ None
+      → (extents : Extents) (clear_edges : List Length) (y : BlockLayout) (places : List Place) → MayBe boxes placing extents → IsCandidate boxes extents clear_edges y now.clears now.clear_edges (k + 1) → ArePlacesKept placing.places places
+      → HasClearance boxes extents clear_edges places y k) → IsReady boxes now placing k
   ready_unclear here = record {
     fits = was.fits;
     near = start_edge_near k now.start was.near;
@@ -142,44 +142,44 @@ module _ (parents : List ℕ) (blocks : List Block) (shapes : List Shape) (tree 
     decided = λ j low lt none extents clear_edges y places may_be candidate kept. elim (cases_lt j k) [
       | inl before ↦ was.decided j low before none extents clear_edges y places may_be (earlier extents clear_edges y now.clears now.clear_edges (λ j lt. refl) (λ j lt. refl) candidate) kept
       | inr from ↦ (let e : j ≡ k = omega (arith, from, lt) in
-          subst (λ (j : ℕ). HasClearance parents blocks shapes extents clear_edges places y j) (sym e) (here (ap (λ (j : ℕ). (shape_at shapes j).float) (sym e) ∙ none) extents clear_edges y places may_be candidate kept))
+          subst (λ (j : ℕ). HasClearance boxes extents clear_edges places y j) (sym e) (here (ap (λ (j : ℕ). (shape_at boxes j).float) (sym e) ∙ none) extents clear_edges y places may_be candidate kept))
     ];
   }
 
-  unclear_here : (extents : Extents) (clear_edges : List Length) (y : BlockLayout) → IsCandidate parents blocks extents clear_edges y now.clears now.clear_edges (k + 1) → flag_at y.runs.clears k ≡ false
+  unclear_here : (extents : Extents) (clear_edges : List Length) (y : BlockLayout) → IsCandidate boxes extents clear_edges y now.clears now.clear_edges (k + 1) → flag_at y.runs.clears k ≡ false
   unclear_here extents clear_edges y candidate = candidate.clears k (omega arith) ∙ was.are_clears.later k (omega arith)
 
   -- a box that goes past no floats
-  pub ready_unasked : ((shape_at shapes k).float ≡ None → (shape_at shapes k).clear ≡ clear_none) → IsReady parents blocks shapes now placing k
+  pub ready_unasked : ((shape_at boxes k).float ≡ None → (shape_at boxes k).clear ≡ clear_none) → IsReady boxes now placing k
   ready_unasked passes_none = ready_unclear (λ none extents clear_edges y places may_be candidate kept.
       let clear = passes_none none in
-      let there = some_hypothetical_lem parents blocks extents clear_edges y k tree some candidate.is_layout in
+      let there = some_hypothetical_lem boxes extents clear_edges y k tree some candidate.is_layout in
       let unclear = unclear_here extents clear_edges y candidate in
       record {
         without = there.0;
         is_hypothetical = there.1;
         bottom = None;
-        is_bottom = subst (λ (c : Clear). IsClearEdge (floats_before shapes places k) c None) (sym clear) (λ i f at_i c. c);
+        is_bottom = subst (λ (c : Clear). IsClearEdge (floats_before boxes places k) c None) (sym clear) (λ i f at_i c. c);
         decides = (λ t. absurd (true_false (flag_at y.runs.clears k) t unclear), λ o. absurd (elim o [ inl w ↦ subst (λ (c : Clear). Clears c w.1) clear w.4 | inr above ↦ no_some above.0 above.1 ]));
         edge = λ t. absurd (true_false (flag_at y.runs.clears k) t unclear);
       })
 
   -- a box that stands below the floats that it goes past, none of which is in its run
-  pub ready_below : (edge : ℤ) (bottom : Option Length) → length placing.places ≡ now.first → IsEdgeWithout parents blocks now placing k edge → IsClearEdge placing.floats (shape_at shapes k).clear bottom
-      → (HasWaitingFloat shapes now.first k → ⊥) → (IsAbove edge bottom → ⊥) → IsReady parents blocks shapes now placing k
+  pub ready_below : (edge : ℤ) (bottom : Option Length) → length placing.places ≡ now.first → IsEdgeWithout boxes now placing k edge → IsClearEdge placing.floats (shape_at boxes k).clear bottom
+      → (HasWaitingFloat boxes now.first k → ⊥) → (IsAbove edge bottom → ⊥) → IsReady boxes now placing k
   ready_below edge bottom settled edge_is is_bottom none_waits below = ready_unclear (λ none extents clear_edges y places may_be candidate kept.
       let before = earlier extents clear_edges y now.clears now.clear_edges (λ j lt. refl) (λ j lt. refl) candidate in
-      let there = some_hypothetical_lem parents blocks extents clear_edges y k tree some candidate.is_layout in
+      let there = some_hypothetical_lem boxes extents clear_edges y k tree some candidate.is_layout in
       let unclear = unclear_here extents clear_edges y candidate in
       let mark = edge_is extents clear_edges there.0 may_be (may_be_without extents clear_edges y may_be before there.0 there.1) there.1.later in
-      let floats : placing.floats ≡ floats_before shapes places now.first = was.placed.floats_are ∙ ap (floats_before shapes placing.places) settled
-      ∙ sym (floats_same shapes places placing.places now.first (λ j lt. kept j (omega (arith, lt, settled)))) in
+      let floats : placing.floats ≡ floats_before boxes places now.first = was.placed.floats_are ∙ ap (floats_before boxes placing.places) settled
+      ∙ sym (floats_same boxes places placing.places now.first (λ j lt. kept j (omega (arith, lt, settled)))) in
       record {
         without = there.0;
         is_hypothetical = there.1;
         bottom = bottom;
-        is_bottom = edge_of_more shapes places (shape_at shapes k).clear bottom now.first k was.fits.first_most (λ j low high side float clears. none_waits (j, low, high, (side, float, clears)))
-            (subst (λ (fs : List Placed). IsClearEdge fs (shape_at shapes k).clear bottom) floats is_bottom);
+        is_bottom = edge_of_more boxes places (shape_at boxes k).clear bottom now.first k was.fits.first_most (λ j low high side float clears. none_waits (j, low, high, (side, float, clears)))
+            (subst (λ (fs : List Placed). IsClearEdge fs (shape_at boxes k).clear bottom) floats is_bottom);
         decides = (
           λ t. absurd (true_false (flag_at y.runs.clears k) t unclear),
           λ o. absurd (elim o [
@@ -191,12 +191,12 @@ module _ (parents : List ℕ) (blocks : List Block) (shapes : List Shape) (tree 
       })
 
   -- its clearance begins a run
-  module _ (hypothetical : ℤ) (flows : (shape_at shapes k).float ≡ None) (settled : length placing.places ≡ now.first) (edge_is : IsEdgeWithout parents blocks now placing k hypothetical)
-      (decides : HasWaitingFloat shapes now.first k ⊎ IsAboveFloats placing.floats (shape_at shapes k).clear hypothetical)
+  module _ (hypothetical : ℤ) (flows : (shape_at boxes k).float ≡ None) (settled : length placing.places ≡ now.first) (edge_is : IsEdgeWithout boxes now placing k hypothetical)
+      (decides : HasWaitingFloat boxes now.first k ⊎ IsAboveFloats placing.floats (shape_at boxes k).clear hypothetical)
       (marks edges : List Length) (flags : List Bool) (placing' : Placing) (end edge : ℤ) (bottom' : Option Length) (strut' : StrutValue)
-      (ends : RunEnds now.hangs now.start now.strut end) (ended : IsCollapseNear (end -ℤ now.start)) (settles : Settled parents now.through now.marks marks now.first k end)
-      (placed : PlacesTo parents blocks shapes marks placing' k) (kept : AreExtentsKept blocks (length placing.places) placing.extents placing'.extents) (same : ArePlacesKept placing.places placing'.places)
-      (is_bottom' : IsClearEdge placing'.floats (shape_at shapes k).clear bottom') (lower : edge ≡ lower_of bottom' hypothetical) (near : IsEdgeNear k edge)
+      (ends : RunEnds now.hangs now.start now.strut end) (ended : IsCollapseNear (end -ℤ now.start)) (settles : Settled boxes now.through now.marks marks now.first k end)
+      (placed : PlacesTo boxes marks placing' k) (kept : AreExtentsKept boxes (length placing.places) placing.extents placing'.extents) (same : ArePlacesKept placing.places placing'.places)
+      (is_bottom' : IsClearEdge placing'.floats (shape_at boxes k).clear bottom') (lower : edge ≡ lower_of bottom' hypothetical) (near : IsEdgeNear k edge)
       (wrote_flag : Wrote flag_at now.clears flags k true) (wrote_edge : Wrote length_at now.clear_edges edges k edge) (fits' : StrutFits strut') (empty : Holds strut' []) where
     more : length placing.places ≤ length placing'.places
     more = let l = placed.places_length in let f = was.fits.first_most in omega (arith, l, f, settled)
@@ -207,11 +207,11 @@ module _ (parents : List ℕ) (blocks : List Block) (shapes : List Shape) (tree 
     same_edges : (j : ℕ) → j < k → length_at edges j ≡ length_at now.clear_edges j
     same_edges j lt = wrote_edge.other j (λ e. omega (arith, e, lt))
 
-    module _ (extents : Extents) (clear_edges : List Length) (y : BlockLayout) (may_be' : MayBe blocks placing' extents) (candidate : IsCandidate parents blocks extents clear_edges y flags edges (k + 1)) where
-      may_be : MayBe blocks placing extents
-      may_be = may_before blocks placing placing' extents more kept may_be'
+    module _ (extents : Extents) (clear_edges : List Length) (y : BlockLayout) (may_be' : MayBe boxes placing' extents) (candidate : IsCandidate boxes extents clear_edges y flags edges (k + 1)) where
+      may_be : MayBe boxes placing extents
+      may_be = may_before boxes placing placing' extents more kept may_be'
 
-      before : IsCandidate parents blocks extents clear_edges y now.clears now.clear_edges k
+      before : IsCandidate boxes extents clear_edges y now.clears now.clear_edges k
       before = earlier extents clear_edges y flags edges same_flags same_edges candidate
 
       clears_here : flag_at y.runs.clears k ≡ true
@@ -220,20 +220,20 @@ module _ (parents : List ℕ) (blocks : List Block) (shapes : List Shape) (tree 
       edge_here : length_at clear_edges k ≡ edge
       edge_here = candidate.edge k (omega arith) wrote_flag.here ∙ wrote_edge.here
 
-      cleared : (places : List Place) → ArePlacesKept placing'.places places → HasClearance parents blocks shapes extents clear_edges places y k
+      cleared : (places : List Place) → ArePlacesKept placing'.places places → HasClearance boxes extents clear_edges places y k
       cleared places are =
-          let there = some_hypothetical_lem parents blocks extents clear_edges y k tree some candidate.is_layout in
+          let there = some_hypothetical_lem boxes extents clear_edges y k tree some candidate.is_layout in
           let mark = edge_is extents clear_edges there.0 may_be (may_be_without extents clear_edges y may_be before there.0 there.1) there.1.later in
           let l = placed.places_length in
-          let floats' : placing'.floats ≡ floats_before shapes places k = placed.floats_are ∙ sym (floats_same shapes places placing'.places k (λ j lt. are j (omega (arith, lt, l)))) in
+          let floats' : placing'.floats ≡ floats_before boxes places k = placed.floats_are ∙ sym (floats_same boxes places placing'.places k (λ j lt. are j (omega (arith, lt, l)))) in
           let f = was.fits.first_most in
-          let floats : placing.floats ≡ floats_before shapes places now.first = was.placed.floats_are ∙ ap (floats_before shapes placing.places) settled
-          ∙ sym (floats_same shapes places placing.places now.first (λ j lt. are j (omega (arith, lt, l, f)) ∙ same j (omega (arith, lt, settled)))) in
-          let at_last = subst (λ (fs : List Placed). IsClearEdge fs (shape_at shapes k).clear bottom') floats' is_bottom' in
-          let has : HasClearedFloat shapes k (run_at there.0.runs.before_tops k) ⊎ IsAbove (length_at there.0.places.marks k) bottom' = elim decides [
+          let floats : placing.floats ≡ floats_before boxes places now.first = was.placed.floats_are ∙ ap (floats_before boxes placing.places) settled
+          ∙ sym (floats_same boxes places placing.places now.first (λ j lt. are j (omega (arith, lt, l, f)) ∙ same j (omega (arith, lt, settled)))) in
+          let at_last = subst (λ (fs : List Placed). IsClearEdge fs (shape_at boxes k).clear bottom') floats' is_bottom' in
+          let has : HasClearedFloat boxes k (run_at there.0.runs.before_tops k) ⊎ IsAbove (length_at there.0.places.marks k) bottom' = elim decides [
             | inl waits ↦ inl (cleared_waits extents clear_edges y may_be before there.0 there.1 waits)
-            | inr above ↦ inr (let at_first = subst (λ (fs : List Placed). IsClearEdge fs (shape_at shapes k).clear above.0) floats above.1 in
-                subst (λ (v : ℤ). IsAbove v bottom') mark (higher_with_more shapes places (shape_at shapes k).clear above.0 bottom' now.first k f at_first at_last hypothetical above.2))
+            | inr above ↦ inr (let at_first = subst (λ (fs : List Placed). IsClearEdge fs (shape_at boxes k).clear above.0) floats above.1 in
+                subst (λ (v : ℤ). IsAbove v bottom') mark (higher_with_more boxes places (shape_at boxes k).clear above.0 bottom' now.first k f at_first at_last hypothetical above.2))
           ] in
           record {
             without = there.0;
@@ -244,22 +244,22 @@ module _ (parents : List ℕ) (blocks : List Block) (shapes : List Shape) (tree 
             edge = λ t. edge_here ∙ lower ∙ ap (lower_of bottom') mark;
           }
 
-    pub ready_cleared : IsReady parents blocks shapes (record now { marks = marks; clears = flags; clear_edges = edges; start = edge; strut = strut'; first = k; hangs = true }) placing' k
+    pub ready_cleared : IsReady boxes (record now { marks = marks; clears = flags; clear_edges = edges; start = edge; strut = strut'; first = k; hangs = true }) placing' k
     ready_cleared = record {
-      fits = fits_cleared parents tree blocks now k marks edges flags end edge strut' positive was.fits settles ended near fits';
+      fits = fits_cleared boxes tree now k marks edges flags end edge strut' positive was.fits settles ended near fits';
       near = near;
       is_before = λ extents clear_edges y may_be' candidate.
-          opened_cleared parents blocks extents clear_edges y candidate.is_layout tree k positive within now end (clears_here extents clear_edges y may_be' candidate) ends
+          opened_cleared boxes extents clear_edges y candidate.is_layout tree k positive within now end (clears_here extents clear_edges y may_be' candidate) ends
           (was.is_at extents clear_edges y (may_be extents clear_edges y may_be' candidate) (before extents clear_edges y may_be' candidate)) marks edges flags strut' edge empty settles (sym (edge_here extents clear_edges y may_be' candidate));
-      no_extents = no_extents_kept blocks placing.extents placing'.extents (length placing.places) was.placed.some kept was.no_extents;
-      placed = let l = placed.places_length in subst (λ (n : ℕ). PlacesTo parents blocks shapes marks placing' n) (sym l) placed;
+      no_extents = no_extents_kept boxes placing.extents placing'.extents (length placing.places) was.placed.some kept was.no_extents;
+      placed = let l = placed.places_length in subst (λ (n : ℕ). PlacesTo boxes marks placing' n) (sym l) placed;
       early = let l = placed.places_length in omega (arith, l);
       are_clears = record {
         clears_length = wrote_flag.length_is ∙ was.are_clears.clears_length;
         edges_length = wrote_edge.length_is ∙ was.are_clears.edges_length;
         later = λ j le. wrote_flag.other j (λ e. omega (arith, e, le)) ∙ was.are_clears.later j (omega (arith, le));
         root = wrote_flag.other 0 (λ e. omega (arith, e, positive)) ∙ was.are_clears.root;
-        float = λ j side is. wrote_flag.other j (λ e. no_some side (sym (ap (λ (j : ℕ). (shape_at shapes j).float) e ∙ flows) ∙ is)) ∙ was.are_clears.float j side is;
+        float = λ j side is. wrote_flag.other j (λ e. no_some side (sym (ap (λ (j : ℕ). (shape_at boxes j).float) e ∙ flows) ∙ is)) ∙ was.are_clears.float j side is;
         no_edge = λ j off. elim (cases_eq j k) [
           | inl e ↦ absurd (true_false (flag_at flags k) wrote_flag.here (sym (ap (flag_at flags) e) ∙ off))
           | inr ne ↦ wrote_edge.other j ne ∙ was.are_clears.no_edge j (sym (wrote_flag.other j ne) ∙ off)
@@ -268,6 +268,6 @@ module _ (parents : List ℕ) (blocks : List Block) (shapes : List Shape) (tree 
       decided = λ j low lt none extents clear_edges y places may_be' candidate are. elim (cases_lt j k) [
         | inl earlier_one ↦ was.decided j low earlier_one none extents clear_edges y places (may_be extents clear_edges y may_be' candidate) (before extents clear_edges y may_be' candidate) (places_before placing.places placing'.places places more same are)
         | inr from ↦ (let e : j ≡ k = omega (arith, from, lt) in
-            subst (λ (j : ℕ). HasClearance parents blocks shapes extents clear_edges places y j) (sym e) (cleared extents clear_edges y may_be' candidate places are))
+            subst (λ (j : ℕ). HasClearance boxes extents clear_edges places y j) (sym e) (cleared extents clear_edges y may_be' candidate places are))
       ];
     }

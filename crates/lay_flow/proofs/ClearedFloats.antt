@@ -2,13 +2,13 @@
 use Rattle.std.proofs.Common.{◌≡◌, ℕ, zero, suc, ◌<◌, ◌≤◌, ℤ, List, [], ◌++◌, refl, sym, ap, arith, inl, inr, Option, Some, None, subst}
 use Rattle.std.proofs.lemmas.Bool.{cases_lt}
 use Rattle.std.proofs.lemmas.Int.{ints}
+use Rattle.lay_flow.specs.declared.flow_box.FlowBox.{FlowBox}
 use Rattle.lay_units.specs.declared.length.Unit.{Unit as Length}
 use Rattle.lay_floats.specs.declared.placed.Placed.{Placed}
 use Rattle.lay_floats.specs.declared.requests.Side.{Side}
 use Rattle.lay_floats.specs.declared.requests.Clear.{Clear}
 use Rattle.lay_floats.specs.declared.requests.Place.{Place}
 use Rattle.lay_floats.specs.ClearEdge.{Clears, IsClearEdge}
-use Rattle.lay_flow.specs.declared.shape.Shape.{Shape}
 use Rattle.lay_flow.specs.BlockFloats.{shape_at, floats_before}
 use Rattle.lay_flow.specs.Clearance.{IsAbove}
 use Rattle.lay_flow.proofs.PlaceSteps.{nothing_more}
@@ -20,42 +20,42 @@ has_nothing xs f w = subst (λ (zs : List Placed). Has zs f) (nothing_more xs) w
 nothing_has : (xs : List Placed) (f : Placed) → Has xs f → Has (xs ++ []) f
 nothing_has xs f w = subst (λ (zs : List Placed). Has zs f) (sym (nothing_more xs)) w
 
-module _ (shapes : List Shape) (places : List Place) where
+module _ (boxes : List FlowBox) (places : List Place) where
   -- floats stay in the list
-  stays : (n m : ℕ) → n ≤ m → (f : Placed) → Has (floats_before shapes places n) f → Has (floats_before shapes places m) f
+  stays : (n m : ℕ) → n ≤ m → (f : Placed) → Has (floats_before boxes places n) f → Has (floats_before boxes places m) f
   stays n zero le f w = let e : n ≡ 0 = omega (arith, le) in rw e at w
   stays n (suc m) le f w = elim (cases_lt m n) [
     | inl lt ↦ (let e : n ≡ suc m = omega (arith, lt, le) in rw e at w)
-    | inr ge ↦ go (shape_at shapes m).float refl (stays n m ge f w)
+    | inr ge ↦ go (shape_at boxes m).float refl (stays n m ge f w)
   ]
     where
-      go : (o : Option Side) → (shape_at shapes m).float ≡ o → Has (floats_before shapes places m) f → Has (floats_before shapes places (suc m)) f
-      go None e h = rw e (nothing_has (floats_before shapes places m) f h)
-      go (Some side) e h = rw e (has_there (floats_before shapes places m) _ f h)
+      go : (o : Option Side) → (shape_at boxes m).float ≡ o → Has (floats_before boxes places m) f → Has (floats_before boxes places (suc m)) f
+      go None e h = rw e (nothing_has (floats_before boxes places m) f h)
+      go (Some side) e h = rw e (has_there (floats_before boxes places m) _ f h)
 
   -- of the sides to clear none is added
-  from_earlier : (clear : Clear) (n m : ℕ) → n ≤ m → ((j : ℕ) → n ≤ j → j < m → (side : Side) → (shape_at shapes j).float ≡ Some side → Clears clear side → ⊥)
-      → (f : Placed) → Clears clear f.side → Has (floats_before shapes places m) f → Has (floats_before shapes places n) f
+  from_earlier : (clear : Clear) (n m : ℕ) → n ≤ m → ((j : ℕ) → n ≤ j → j < m → (side : Side) → (shape_at boxes j).float ≡ Some side → Clears clear side → ⊥)
+      → (f : Placed) → Clears clear f.side → Has (floats_before boxes places m) f → Has (floats_before boxes places n) f
   from_earlier clear n zero le none f clears w = let e : n ≡ 0 = omega (arith, le) in rw e w
   from_earlier clear n (suc m) le none f clears w = elim (cases_lt m n) [
     | inl lt ↦ (let e : n ≡ suc m = omega (arith, lt, le) in rw e w)
-    | inr ge ↦ from_earlier clear n m ge (λ j low high. none j low (omega (arith, high))) f clears (go (shape_at shapes m).float refl ge w)
+    | inr ge ↦ from_earlier clear n m ge (λ j low high. none j low (omega (arith, high))) f clears (go (shape_at boxes m).float refl ge w)
   ]
     where
-      go : (o : Option Side) → (shape_at shapes m).float ≡ o → n ≤ m → Has (floats_before shapes places (suc m)) f → Has (floats_before shapes places m) f
-      go None e ge h = has_nothing (floats_before shapes places m) f (rw e at h)
-      go (Some side) e ge h = has_back (floats_before shapes places m) _ f (Has (floats_before shapes places m) f) (λ w. w)
+      go : (o : Option Side) → (shape_at boxes m).float ≡ o → n ≤ m → Has (floats_before boxes places (suc m)) f → Has (floats_before boxes places m) f
+      go None e ge h = has_nothing (floats_before boxes places m) f (rw e at h)
+      go (Some side) e ge h = has_back (floats_before boxes places m) _ f (Has (floats_before boxes places m) f) (λ w. w)
           (λ same. absurd (none m ge (omega arith) side e (subst (Clears clear) (ap (λ (f : Placed). f.side) same) clears))) (rw e at h)
 
-  pub edge_of_more : (clear : Clear) (bottom : Option Length) (n m : ℕ) → n ≤ m → ((j : ℕ) → n ≤ j → j < m → (side : Side) → (shape_at shapes j).float ≡ Some side → Clears clear side → ⊥)
-      → IsClearEdge (floats_before shapes places n) clear bottom → IsClearEdge (floats_before shapes places m) clear bottom
+  pub edge_of_more : (clear : Clear) (bottom : Option Length) (n m : ℕ) → n ≤ m → ((j : ℕ) → n ≤ j → j < m → (side : Side) → (shape_at boxes j).float ≡ Some side → Clears clear side → ⊥)
+      → IsClearEdge (floats_before boxes places n) clear bottom → IsClearEdge (floats_before boxes places m) clear bottom
   edge_of_more clear None n m le none is = λ i f at_i clears. let w = from_earlier clear n m le none f clears (i, at_i) in is w.0 f w.1 clears
   edge_of_more clear (Some v) n m le none is = record {
     one_of = let w = is.one_of in let h = stays n m le w.1 (w.0, w.2) in (h.0, w.1, h.1, w.3);
     most = λ u w. let h = from_earlier clear n m le none w.1 w.3.0 (w.0, w.2) in is.most u (h.0, w.1, h.1, w.3);
   }
 
-  pub higher_with_more : (clear : Clear) (bottom bottom' : Option Length) (n m : ℕ) → n ≤ m → IsClearEdge (floats_before shapes places n) clear bottom → IsClearEdge (floats_before shapes places m) clear bottom'
+  pub higher_with_more : (clear : Clear) (bottom bottom' : Option Length) (n m : ℕ) → n ≤ m → IsClearEdge (floats_before boxes places n) clear bottom → IsClearEdge (floats_before boxes places m) clear bottom'
       → (v : ℤ) → IsAbove v bottom → IsAbove v bottom'
   higher_with_more clear None bottom' n m le is is' v above = absurd (no_some above.0 above.1)
     where

@@ -2,6 +2,7 @@
 use Rattle.std.proofs.Common.{◌≡◌, ℕ, zero, suc, ◌<◌, ◌≤◌, List, [], ◌∷◌, ◌++◌, length, slice_get, refl, sym, ap, ◌∙◌, arith, inl, inr, Option, Some, None, subst}
 use Rattle.std.proofs.lemmas.Bool.{cases_lt}
 use Rattle.std.proofs.lemmas.Grind.{elements}
+use Rattle.lay_flow.specs.declared.flow_box.FlowBox.{FlowBox}
 use Rattle.lay_units.specs.declared.length.Unit.{Unit as Length}
 use Rattle.lay_floats.specs.declared.placed.Placed.{Placed}
 use Rattle.lay_floats.specs.declared.requests.Side.{Side}
@@ -9,7 +10,6 @@ use Rattle.lay_floats.specs.declared.requests.Clear.{Clear}
 use Rattle.lay_floats.specs.declared.requests.Place.{Place}
 use Rattle.lay_floats.specs.ClearEdge.{Clears, IsClearEdge}
 use Rattle.lay_floats.proofs.Unique.{one_clear_edge_lem}
-use Rattle.lay_flow.specs.declared.shape.Shape.{Shape}
 use Rattle.lay_flow.specs.BlockFloats.{shape_at, place_at, floats_before}
 use Rattle.lay_flow.proofs.PlaceSteps.{nothing_more}
 
@@ -42,33 +42,33 @@ has_back xs x f P old new w = elim (cases_lt w.0 (length xs)) [
     last xs x f i ge e = grind (arith, elements, e, ge)
 
 -- the places of the floats of the sides to clear are the same
-abbrev pub SameCleared : List Shape → Clear → List Place → List Place → ℕ → Type 0
-SameCleared shapes clear places others n = (j : ℕ) (side : Side) → j < n → (shape_at shapes j).float ≡ Some side → Clears clear side → place_at places j ≡ place_at others j
+abbrev pub SameCleared : List FlowBox → Clear → List Place → List Place → ℕ → Type 0
+SameCleared boxes clear places others n = (j : ℕ) (side : Side) → j < n → (shape_at boxes j).float ≡ Some side → Clears clear side → place_at places j ≡ place_at others j
 
-module _ (shapes : List Shape) (clear : Clear) where
-  has_too : (places others : List Place) (n : ℕ) → SameCleared shapes clear places others n → (f : Placed) → Clears clear f.side → Has (floats_before shapes places n) f → Has (floats_before shapes others n) f
+module _ (boxes : List FlowBox) (clear : Clear) where
+  has_too : (places others : List Place) (n : ℕ) → SameCleared boxes clear places others n → (f : Placed) → Clears clear f.side → Has (floats_before boxes places n) f → Has (floats_before boxes others n) f
   has_too places others zero same f clears w = w
-  has_too places others (suc n) same f clears w = go (shape_at shapes n).float refl (has_too places others n (λ j side lt. same j side (omega (arith, lt))) f clears)
+  has_too places others (suc n) same f clears w = go (shape_at boxes n).float refl (has_too places others n (λ j side lt. same j side (omega (arith, lt))) f clears)
     where
-      go : (o : Option Side) → (shape_at shapes n).float ≡ o → (Has (floats_before shapes places n) f → Has (floats_before shapes others n) f) → Has (floats_before shapes others (suc n)) f
+      go : (o : Option Side) → (shape_at boxes n).float ≡ o → (Has (floats_before boxes places n) f → Has (floats_before boxes others n) f) → Has (floats_before boxes others (suc n)) f
       go None e earlier =
-          let w' : Has (floats_before shapes places n ++ []) f = rw e at w in
-          let back = earlier (subst (λ (xs : List Placed). Has xs f) (nothing_more (floats_before shapes places n)) w') in
-          rw e (subst (λ (xs : List Placed). Has xs f) (sym (nothing_more (floats_before shapes others n))) back)
+          let w' : Has (floats_before boxes places n ++ []) f = rw e at w in
+          let back = earlier (subst (λ (xs : List Placed). Has xs f) (nothing_more (floats_before boxes places n)) w') in
+          rw e (subst (λ (xs : List Placed). Has xs f) (sym (nothing_more (floats_before boxes others n))) back)
       go (Some side) e earlier =
-          let mine : Placed = record { side = side; x = (place_at places n).x; y = (place_at places n).y; width = (shape_at shapes n).width; height = (shape_at shapes n).height } in
-          let other : Placed = record { side = side; x = (place_at others n).x; y = (place_at others n).y; width = (shape_at shapes n).width; height = (shape_at shapes n).height } in
-          let w' : Has (floats_before shapes places n ++ mine ∷ []) f = rw e at w in
-          let there : Has (floats_before shapes others n ++ other ∷ []) f = has_back (floats_before shapes places n) mine f (Has (floats_before shapes others n ++ other ∷ []) f)
-          (λ old. has_there (floats_before shapes others n) other f (earlier old))
+          let mine : Placed = record { side = side; x = (place_at places n).x; y = (place_at places n).y; width = (shape_at boxes n).width; height = (shape_at boxes n).height } in
+          let other : Placed = record { side = side; x = (place_at others n).x; y = (place_at others n).y; width = (shape_at boxes n).width; height = (shape_at boxes n).height } in
+          let w' : Has (floats_before boxes places n ++ mine ∷ []) f = rw e at w in
+          let there : Has (floats_before boxes others n ++ other ∷ []) f = has_back (floats_before boxes places n) mine f (Has (floats_before boxes others n ++ other ∷ []) f)
+          (λ old. has_there (floats_before boxes others n) other f (earlier old))
           (λ new. let clears_it : Clears clear side = subst (Clears clear) (ap (λ (f : Placed). f.side) new) clears in
           let p = same n side (omega arith) e clears_it in
-          let is_other : f ≡ other = new ∙ (λ i. record { side = side; x = (p i).x; y = (p i).y; width = (shape_at shapes n).width; height = (shape_at shapes n).height }) in
-          subst (Has (floats_before shapes others n ++ other ∷ [])) (sym is_other) (has_last (floats_before shapes others n) other)) w' in
+          let is_other : f ≡ other = new ∙ (λ i. record { side = side; x = (p i).x; y = (p i).y; width = (shape_at boxes n).width; height = (shape_at boxes n).height }) in
+          subst (Has (floats_before boxes others n ++ other ∷ [])) (sym is_other) (has_last (floats_before boxes others n) other)) w' in
           rw e there
 
-  moved : (places others : List Place) (n : ℕ) → SameCleared shapes clear places others n → SameCleared shapes clear others places n → (bottom : Option Length)
-      → IsClearEdge (floats_before shapes others n) clear bottom → IsClearEdge (floats_before shapes places n) clear bottom
+  moved : (places others : List Place) (n : ℕ) → SameCleared boxes clear places others n → SameCleared boxes clear others places n → (bottom : Option Length)
+      → IsClearEdge (floats_before boxes others n) clear bottom → IsClearEdge (floats_before boxes places n) clear bottom
   moved places others n same back None is = λ i f there clears. let w = has_too places others n same f clears (i, there) in is w.0 f w.1 clears
   moved places others n same back (Some v) is = record {
     one_of = let w = is.one_of in let h = has_too others places n back w.1 w.3.0 (w.0, w.2) in (h.0, w.1, h.1, w.3);
@@ -76,7 +76,7 @@ module _ (shapes : List Shape) (clear : Clear) where
   }
 
   -- other floats don't matter
-  pub one_edge_to_clear : (places others : List Place) (n : ℕ) → SameCleared shapes clear places others n → (bottom other : Option Length)
-      → IsClearEdge (floats_before shapes places n) clear bottom → IsClearEdge (floats_before shapes others n) clear other → bottom ≡ other
+  pub one_edge_to_clear : (places others : List Place) (n : ℕ) → SameCleared boxes clear places others n → (bottom other : Option Length)
+      → IsClearEdge (floats_before boxes places n) clear bottom → IsClearEdge (floats_before boxes others n) clear other → bottom ≡ other
   one_edge_to_clear places others n same bottom other is also =
-      one_clear_edge_lem (floats_before shapes places n) clear bottom other is (moved places others n same (λ j side lt e c. sym (same j side lt e c)) other also)
+      one_clear_edge_lem (floats_before boxes places n) clear bottom other is (moved places others n same (λ j side lt e c. sym (same j side lt e c)) other also)

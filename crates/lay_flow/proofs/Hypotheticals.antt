@@ -8,12 +8,12 @@ use Rattle.lay_flow.proofs.Tabulated.{tab, tab_length, tab_at}
 use Rattle.lay_flow.proofs.BlockLayoutLaws.{one_block_layout_lem, some_block_layout_lem}
 
 pub one_hypothetical_lem : OneHypothetical
-one_hypothetical_lem parents blocks extents clear_edges y without other k tree some is also =
+one_hypothetical_lem boxes extents clear_edges y without other k tree some is also =
     let clears = same_list false without.runs.clears other.runs.clears (is.is_layout.has_runs.clears_length ∙ sym also.is_layout.has_runs.clears_length) (λ j lt. elim (cases_lt j k) [
       | inl low ↦ is.earlier j low ∙ sym (also.earlier j low)
       | inr high ↦ is.later j high ∙ sym (also.later j high)
     ]) in
-    one_block_layout_lem parents blocks extents clear_edges without other tree some clears is.is_layout also.is_layout
+    one_block_layout_lem boxes extents clear_edges without other tree some clears is.is_layout also.is_layout
 
 -- the flags before the place k
 abbrev cut : List Bool → ℕ → ℕ → Bool
@@ -31,10 +31,10 @@ beyond (b ∷ flags) zero le = absurd (omega (arith, le))
 beyond (b ∷ flags) (suc j) le = beyond flags j (omega (arith, le))
 
 pub some_hypothetical_lem : SomeHypothetical
-some_hypothetical_lem parents blocks extents clear_edges y k tree some is =
-    let n : ℕ = length parents in
+some_hypothetical_lem boxes extents clear_edges y k tree some is =
+    let n : ℕ = length boxes in
     let flags = y.runs.clears in
-    let there = some_block_layout_lem parents blocks extents clear_edges (tab (cut flags k) n) tree some (tab_length (cut flags k) n) in
+    let there = some_block_layout_lem boxes extents clear_edges (tab (cut flags k) n) tree some (tab_length (cut flags k) n) in
     let read : (j : ℕ) → flag_at (there.0).runs.clears j ≡ flag_at (tab (cut flags k) n) j = λ j. ap (λ (fs : List Bool). flag_at fs j) there.1 in
     let l = is.has_runs.clears_length in
     let m = tab_length (cut flags k) n in (

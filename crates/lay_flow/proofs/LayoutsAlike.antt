@@ -1,17 +1,19 @@
 -- Two layouts in which the same boxes before a place have clearance are alike as far as runs have ended there.
-use Rattle.std.proofs.Common.{◌≡◌, ◌⊎◌, ℕ, zero, suc, ◌<◌, ◌≤◌, true, false, ◌+ℤ◌, ◌-ℤ◌, List, length, slice_index, sym, ap, ◌∙◌, arith, inl, inr, subst}
+use Rattle.std.proofs.Common.{◌≡◌, ◌⊎◌, ℕ, zero, suc, ◌<◌, ◌≤◌, true, false, ◌+ℤ◌, ◌-ℤ◌, List, length, sym, ap, ◌∙◌, arith, inl, inr, subst}
 use Rattle.std.proofs.lemmas.Bool.{cases_lt}
+use Rattle.lay_flow.specs.declared.flow_box.FlowBox.{FlowBox}
+use Rattle.lay_flow.specs.Boxes.{parent_at, parents_of}
+use Rattle.lay_flow.proofs.BoxTrees.{parent_before}
 use Rattle.lay_units.specs.declared.length.Unit.{Unit as Length}
 use Rattle.lay_doc.specs.Tree.{IsTree}
 use Rattle.lay_margins.specs.Collapse.{collapse}
-use Rattle.lay_flow.specs.declared.block.Block.{Block}
 use Rattle.lay_flow.specs.Lengths.{length_at}
 use Rattle.lay_flow.specs.Children.{flag_at}
 use Rattle.lay_flow.specs.MarginRuns.{Entry, margins, has_top, run_at, run_before}
 use Rattle.lay_flow.specs.BlockPositions.{Extents, start_before}
 use Rattle.lay_flow.specs.BlockLayout.{BlockLayout, IsBlockLayout}
-use Rattle.lay_flow.specs.Gathered.{Gathered, IsAround}
-use Rattle.lay_flow.specs.MarginPlace.{IsPlace}
+use Rattle.lay_flow.specs.Pass.Gathered.{Gathered, IsAround}
+use Rattle.lay_flow.specs.Pass.MarginPlace.{IsPlace}
 use Rattle.lay_flow.proofs.Truths.{true_or}
 use Rattle.lay_flow.proofs.RunsAgree.{Same}
 use Rattle.lay_flow.proofs.RunsUpTo.{runs_up_to, run_up_to}
@@ -20,19 +22,19 @@ use Rattle.lay_flow.proofs.GatheredRuns.{gathers, one_first}
 use Rattle.lay_flow.proofs.CollapsedThrough.{one_start}
 
 -- the box at i stands outside the one at j, which ended before it
-pub record EndedBefore (parents : List ℕ) (j m : ℕ) : Type 0 where
+pub record EndedBefore (boxes : List FlowBox) (j m : ℕ) : Type 0 where
   pub place : ℕ
   pub after : j < place
   pub before : place < m
-  pub outside : slice_index parents place < j
+  pub outside : parent_at boxes place < j
 
-pub open_or_ended : (parents : List ℕ) (j m : ℕ) → IsAround parents j m ⊎ EndedBefore parents j m
-open_or_ended parents j zero = inl (λ i low high. absurd (omega (arith, high)))
-open_or_ended parents j (suc m) = elim (open_or_ended parents j m) [
+pub open_or_ended : (boxes : List FlowBox) (j m : ℕ) → IsAround boxes j m ⊎ EndedBefore boxes j m
+open_or_ended boxes j zero = inl (λ i low high. absurd (omega (arith, high)))
+open_or_ended boxes j (suc m) = elim (open_or_ended boxes j m) [
   | inr e ↦ inr (record { place = e.place; after = e.after; before = let b = e.before in omega (arith, b); outside = e.outside })
   | inl inside ↦ elim (cases_lt j m) [
     | inr le ↦ inl (λ i low high. absurd (omega (arith, low, high, le)))
-    | inl lt ↦ elim (cases_lt (slice_index parents m) j) [
+    | inl lt ↦ elim (cases_lt (parent_at boxes m) j) [
       | inl out ↦ inr (record { place = m; after = lt; before = omega arith; outside = out })
       | inr in_it ↦ inl (λ i low high. elim (cases_lt i m) [
         | inl before ↦ inside i low before
@@ -43,42 +45,42 @@ open_or_ended parents j (suc m) = elim (open_or_ended parents j m) [
 ]
 
 -- the run that comes to the place (p, m) was begun by clearance of the box at `first`, which is open
-pub record IsHanging (parents : List ℕ) (y : BlockLayout) (first p m : ℕ) : Type 0 where
+pub record IsHanging (boxes : List FlowBox) (y : BlockLayout) (first p m : ℕ) : Type 0 where
   pub clears : flag_at y.runs.clears first ≡ true
   pub above : first ≤ p
-  pub contains : IsAround parents first m
+  pub contains : IsAround boxes first m
 
-module _ (parents : List ℕ) (tree : IsTree parents) (blocks : List Block) (extents : Extents) (clear_edges : List Length) (y : BlockLayout) (is : IsBlockLayout parents blocks extents clear_edges y)
-    (others : Extents) (other_edges : List Length) (z : BlockLayout) (also : IsBlockLayout parents blocks others other_edges z) where
+module _ (boxes : List FlowBox) (tree : IsTree (parents_of boxes)) (extents : Extents) (clear_edges : List Length) (y : BlockLayout) (is : IsBlockLayout boxes extents clear_edges y)
+    (others : Extents) (other_edges : List Length) (z : BlockLayout) (also : IsBlockLayout boxes others other_edges z) where
   -- a box whose bottom margin was passed
   pub record ClosedAlike (j : ℕ) : Type 0 where
     pub height : length_at y.places.heights j ≡ length_at z.places.heights j
-    pub kept : flag_at y.runs.through j ≡ true → has_top (slice_index parents j) (run_at y.runs.before_tops j) ≡ false → length_at y.places.marks j ≡ length_at z.places.marks j
+    pub kept : flag_at y.runs.through j ≡ true → has_top (parent_at boxes j) (run_at y.runs.before_tops j) ≡ false → length_at y.places.marks j ≡ length_at z.places.marks j
 
   -- the layouts are alike at the place (p, m): the boxes before `first` have their marks
   pub record Alike (first p m : ℕ) : Type 0 where
-    pub gathered : Gathered parents blocks y.runs first p m
+    pub gathered : Gathered boxes y.runs first p m
     pub clears : (j : ℕ) → j < m → flag_at y.runs.clears j ≡ flag_at z.runs.clears j
     pub edges : (j : ℕ) → j < m → flag_at y.runs.clears j ≡ true → length_at clear_edges j ≡ length_at other_edges j
     pub mark : (j : ℕ) → j < first → length_at y.places.marks j ≡ length_at z.places.marks j
     pub closed : (j : ℕ) → p < j → j < m → ClosedAlike j
-    pub gone : (j i : ℕ) → j < i → i < m → slice_index parents i < j → ClosedAlike j
-    pub start : (start_before parents blocks y.runs y.places p m ≡ start_before parents blocks z.runs z.places p m) ⊎ IsHanging parents y first p m
+    pub gone : (j i : ℕ) → j < i → i < m → parent_at boxes i < j → ClosedAlike j
+    pub start : (start_before boxes y.runs y.places p m ≡ start_before boxes z.runs z.places p m) ⊎ IsHanging boxes y first p m
 
-  module _ (first p m : ℕ) (at : IsPlace parents p m) (was : Alike first p m) where
-    pub same_runs : Same parents y.runs z.runs p m
-    same_runs = runs_up_to parents tree blocks y.runs z.runs is.has_runs also.has_runs m was.clears p m at (omega arith)
+  module _ (first p m : ℕ) (at : IsPlace boxes p m) (was : Alike first p m) where
+    pub same_runs : Same boxes y.runs z.runs p m
+    same_runs = runs_up_to boxes tree y.runs z.runs is.has_runs also.has_runs m was.clears p m at (omega arith)
 
-    pub same_run : run_before parents blocks y.runs p m ≡ run_before parents blocks z.runs p m
-    same_run = run_up_to parents tree blocks y.runs z.runs is.has_runs also.has_runs m was.clears p m at (omega arith)
+    pub same_run : run_before boxes y.runs p m ≡ run_before boxes z.runs p m
+    same_run = run_up_to boxes tree y.runs z.runs is.has_runs also.has_runs m was.clears p m at (omega arith)
 
-    pub also_gathered : Gathered parents blocks z.runs first p m
+    pub also_gathered : Gathered boxes z.runs first p m
     also_gathered =
-        let there = gathers parents tree blocks z.runs also.has_runs p m at in
+        let there = gathers boxes tree z.runs also.has_runs p m at in
         let e = same_run in
-        let same = one_first parents blocks z.runs there.first first p m there.is_gathered was.gathered.most
+        let same = one_first boxes z.runs there.first first p m there.is_gathered was.gathered.most
         (λ j lt le. ap (has_top j) (sym e) ∙ was.gathered.own j le lt) (λ j lt low. ap (has_top j) (sym e) ∙ was.gathered.older j low) in
-        subst (λ (f : ℕ). Gathered parents blocks z.runs f p m) same there.is_gathered
+        subst (λ (f : ℕ). Gathered boxes z.runs f p m) same there.is_gathered
 
     -- the run ended: this is the whole run of the top margin of an open box in it
     pub record EndsIn (run : List Entry) (c : ℕ) : Type 0 where
@@ -87,65 +89,65 @@ module _ (parents : List ℕ) (tree : IsTree parents) (blocks : List Block) (ext
       pub stands : flag_at y.runs.through c ≡ false
       pub also_stands : flag_at z.runs.through c ≡ false
 
-    module _ (run : List Entry) (ended : (c : ℕ) → first ≤ c → c ≤ p → IsAround parents c m → EndsIn run c) where
-      some : 0 < length parents
+    module _ (run : List Entry) (ended : (c : ℕ) → first ≤ c → c ≤ p → IsAround boxes c m → EndsIn run c) where
+      some : 0 < length boxes
       some = let a = at.parent in let b = at.within in omega (arith, a, b)
 
-      starts_there : (c : ℕ) → first ≤ c → c ≤ p → IsAround parents c m → length_at y.places.starts c ≡ start_before parents blocks y.runs y.places p m
+      starts_there : (c : ℕ) → first ≤ c → c ≤ p → IsAround boxes c m → length_at y.places.starts c ≡ start_before boxes y.runs y.places p m
       starts_there c from above inside = let a = at.parent in
-          one_start parents tree blocks y.runs is.has_runs extents clear_edges y.places is.has_positions first p m at was.gathered c c from above inside (omega arith) (omega (arith, above, a))
+          one_start boxes tree y.runs is.has_runs extents clear_edges y.places is.has_positions first p m at was.gathered c c from above inside (omega arith) (omega (arith, above, a))
 
-      also_starts : (c : ℕ) → first ≤ c → c ≤ p → IsAround parents c m → length_at z.places.starts c ≡ start_before parents blocks z.runs z.places p m
+      also_starts : (c : ℕ) → first ≤ c → c ≤ p → IsAround boxes c m → length_at z.places.starts c ≡ start_before boxes z.runs z.places p m
       also_starts c from above inside = let a = at.parent in
-          one_start parents tree blocks z.runs also.has_runs others other_edges z.places also.has_positions first p m at also_gathered c c from above inside (omega arith) (omega (arith, above, a))
+          one_start boxes tree z.runs also.has_runs others other_edges z.places also.has_positions first p m at also_gathered c c from above inside (omega arith) (omega (arith, above, a))
 
-      pub start_same : start_before parents blocks y.runs y.places p m ≡ start_before parents blocks z.runs z.places p m
+      pub start_same : start_before boxes y.runs y.places p m ≡ start_before boxes z.runs z.places p m
       start_same = elim was.start [
         | inl e ↦ e
         | inr h ↦ (let pos = was.gathered.least in let up = h.above in let a = at.parent in let b = at.within in
-            let there : first < length parents = omega (arith, up, a, b) in
+            let there : first < length boxes = omega (arith, up, a, b) in
             let before : first < m = omega (arith, up, a) in
             let e = ended first (omega arith) up h.contains in
             let edge = was.edges first before h.clears in
             sym (starts_there first (omega arith) up h.contains)
-            ∙ start_clears parents blocks extents clear_edges y is first pos there h.clears e.stands
+            ∙ start_clears boxes extents clear_edges y is first pos there h.clears e.stands
             ∙ (λ i. edge i -ℤ collapse (margins (e.rise i))) ∙ (λ i. length_at other_edges first -ℤ collapse (margins (sym e.also_rise i)))
-            ∙ sym (start_clears parents blocks others other_edges z also first pos there (sym (was.clears first before) ∙ h.clears) e.also_stands)
+            ∙ sym (start_clears boxes others other_edges z also first pos there (sym (was.clears first before) ∙ h.clears) e.also_stands)
             ∙ also_starts first (omega arith) up h.contains)
       ]
 
-      open_mark : (j : ℕ) → first ≤ j → j ≤ p → IsAround parents j m → length_at y.places.marks j ≡ length_at z.places.marks j
+      open_mark : (j : ℕ) → first ≤ j → j ≤ p → IsAround boxes j m → length_at y.places.marks j ≡ length_at z.places.marks j
       open_mark j from above inside =
           let pos = was.gathered.least in let a = at.parent in let b = at.within in
           let e = ended j from above inside in
-          mark_standing parents blocks extents clear_edges y is j (omega (arith, pos, from)) (omega (arith, above, a, b)) e.stands
+          mark_standing boxes extents clear_edges y is j (omega (arith, pos, from)) (omega (arith, above, a, b)) e.stands
           ∙ (λ i. starts_there j from above inside i +ℤ collapse (margins (e.rise i)))
           ∙ (λ i. start_same i +ℤ collapse (margins run))
           ∙ (λ i. sym (also_starts j from above inside) i +ℤ collapse (margins (sym e.also_rise i)))
-          ∙ sym (mark_standing parents blocks others other_edges z also j (omega (arith, pos, from)) (omega (arith, above, a, b)) e.also_stands)
+          ∙ sym (mark_standing boxes others other_edges z also j (omega (arith, pos, from)) (omega (arith, above, a, b)) e.also_stands)
 
       closed_mark : (j : ℕ) → first ≤ j → j < m → flag_at y.runs.through j ≡ true → flag_at z.runs.through j ≡ true → ClosedAlike j
-          → (slice_index parents j < j → length_at y.places.marks (slice_index parents j) ≡ length_at z.places.marks (slice_index parents j)) → length_at y.places.marks j ≡ length_at z.places.marks j
+          → (parent_at boxes j < j → length_at y.places.marks (parent_at boxes j) ≡ length_at z.places.marks (parent_at boxes j)) → length_at y.places.marks j ≡ length_at z.places.marks j
       closed_mark j from lt through also_through closed up =
           let pos = was.gathered.least in let b = at.within in
-          let there : j < length parents = omega (arith, lt, b) in
+          let there : j < length boxes = omega (arith, lt, b) in
           let positive : 0 < j = omega (arith, pos, from) in
           let lead = same_runs.lead j lt in
-          true_or (has_top (slice_index parents j) (run_at y.runs.before_tops j)) (length_at y.places.marks j ≡ length_at z.places.marks j)
-          (λ t. mark_inherits parents blocks extents clear_edges y is j positive there through t
-          ∙ up (tree.before j positive there)
-          ∙ sym (mark_inherits parents blocks others other_edges z also j positive there also_through (ap (has_top (slice_index parents j)) (sym lead) ∙ t)))
+          true_or (has_top (parent_at boxes j) (run_at y.runs.before_tops j)) (length_at y.places.marks j ≡ length_at z.places.marks j)
+          (λ t. mark_inherits boxes extents clear_edges y is j positive there through t
+          ∙ up (parent_before boxes tree j positive there)
+          ∙ sym (mark_inherits boxes others other_edges z also j positive there also_through (ap (has_top (parent_at boxes j)) (sym lead) ∙ t)))
           (closed.kept through)
 
       marks_to : (fuel j : ℕ) → j < fuel → j < m → length_at y.places.marks j ≡ length_at z.places.marks j
       marks_to zero j small lt = absurd (omega (arith, small))
       marks_to (suc fuel) j small lt =
-          let up : slice_index parents j < j → length_at y.places.marks (slice_index parents j) ≡ length_at z.places.marks (slice_index parents j) = λ b. marks_to fuel (slice_index parents j) (omega (arith, b, small)) (omega (arith, b, lt)) in
+          let up : parent_at boxes j < j → length_at y.places.marks (parent_at boxes j) ≡ length_at z.places.marks (parent_at boxes j) = λ b. marks_to fuel (parent_at boxes j) (omega (arith, b, small)) (omega (arith, b, lt)) in
           elim (cases_lt j first) [
             | inl low ↦ was.mark j low
             | inr from ↦ elim (cases_lt p j) [
               | inl after ↦ closed_mark j from lt (was.gathered.closed j from after lt) (also_gathered.closed j from after lt) (was.closed j after lt) up
-              | inr above ↦ elim (open_or_ended parents j m) [
+              | inr above ↦ elim (open_or_ended boxes j m) [
                 | inl inside ↦ open_mark j from above inside
                 | inr e ↦ closed_mark j from lt (was.gathered.gone j e.place from e.after e.before e.outside) (also_gathered.gone j e.place from e.after e.before e.outside) (was.gone j e.place e.after e.before e.outside) up
               ]

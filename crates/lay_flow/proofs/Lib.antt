@@ -1,7 +1,10 @@
 pub mod ColumnWrites
 pub mod Lengths
 pub mod Truths
+pub mod BoxTrees
+pub mod FlowBoxFacts
 pub mod ChildPlaces
+pub mod Siblings
 pub mod MarginWalk
 pub mod RunsAgree
 pub mod WholeRunsAgree
@@ -16,6 +19,7 @@ pub mod GatheredRuns
 pub mod CollapsedThrough
 pub mod LayoutFacts
 pub mod SoFar
+pub mod SettleSteps
 pub mod RunReach
 pub mod Openings
 pub mod Closings
@@ -32,7 +36,7 @@ pub mod AlikeClosings
 pub mod PassFits
 pub mod PlaceSteps
 pub mod FloatLists
-pub mod FlowPlaces
+pub mod PlacesAgree
 pub mod WroteColumns
 pub mod PassSteps
 pub mod ClearedFloats
@@ -41,4 +45,8 @@ pub mod PassEnds
 pub mod PositionsUpTo
 pub mod OneClearance
 pub mod OneContextFlow
+pub mod OneTest
+pub mod RunsAdjoin
+pub mod ThroughChildren
+pub mod BorderBoxSteps
 pub mod Hypotheticals

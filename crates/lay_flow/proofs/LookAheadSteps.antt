@@ -1,29 +1,32 @@
 -- The steps of a look ahead.
-use Rattle.std.proofs.Common.{◌≡◌, ℕ, zero, suc, ◌+◌, ◌<◌, ◌≤◌, ◌==◌, ◌||◌, not, ap, Bool, true, false, List, length, slice_index, refl, sym, ◌∙◌, arith, inl, inr}
+use Rattle.std.proofs.Common.{◌≡◌, ℕ, zero, suc, ◌+◌, ◌<◌, ◌≤◌, ◌==◌, ◌||◌, not, ap, Bool, true, false, List, length, refl, sym, ◌∙◌, arith, inl, inr}
 use Rattle.std.proofs.lemmas.Bool.{cases_lt, ne_eqb}
+use Rattle.lay_flow.specs.declared.flow_box.FlowBox.{FlowBox}
+use Rattle.lay_flow.specs.Boxes.{parent_at, parents_of}
+use Rattle.lay_flow.proofs.BoxTrees.{parent_before, parents_together}
 use Rattle.lay_doc.specs.Tree.{IsTree}
 use Rattle.lay_margins.specs.StrutValue.{StrutValue}
-use Rattle.lay_flow.specs.declared.block.Block.{Block}
 use Rattle.lay_flow.specs.declared.hypothetical_edge.Outset.{Outset}
 use Rattle.lay_flow.specs.MarginRuns.{block_at, is_zero, parts_tops, may_collapse_through}
-use Rattle.lay_flow.specs.Gathered.{IsAround}
-use Rattle.lay_flow.specs.PassBounds.{StrutFits}
-use Rattle.lay_flow.specs.LookAhead.{IsOutset, IsReading, HasRead}
-use Rattle.lay_flow.proofs.Truths.{true_or}
+use Rattle.lay_flow.specs.Pass.Gathered.{IsAround}
+use Rattle.lay_flow.specs.Pass.MarginPlace.{IsPlace}
+use Rattle.lay_flow.specs.Pass.Bounds.{StrutFits}
+use Rattle.lay_flow.specs.Pass.LookAhead.{IsOutset, IsReading, HasRead}
+use Rattle.lay_flow.proofs.Truths.{true_or, low_not}
 use Rattle.lay_flow.proofs.RunsAgree.{inside_up}
 use Rattle.lay_flow.proofs.Openings.{WithMargin}
 use Rattle.lay_flow.proofs.LookAhead.{reads_top, ends_below_top, ends_inside_box, ends_before_bottom, reads_bottom}
 
-module _ (parents : List ℕ) (tree : IsTree parents) (blocks : List Block) (from : Outset) (out : IsOutset parents from) where
-  module _ (m : ℕ) (within : m < length parents) (strut next : StrutValue) (was : IsReading parents blocks from strut (slice_index parents m) m) (fits : StrutFits next) (adds : WithMargin strut next (block_at blocks m).margin_top.0) where
-    pub opened_reading : parts_tops blocks m ≡ false → IsReading parents blocks from next m (m + 1)
+module _ (boxes : List FlowBox) (tree : IsTree (parents_of boxes)) (from : Outset) (out : IsOutset boxes from) where
+  module _ (m : ℕ) (within : m < length boxes) (strut next : StrutValue) (was : IsReading boxes from strut (parent_at boxes m) m) (fits : StrutFits next) (adds : WithMargin strut next (block_at boxes m).margin_top.0) where
+    pub opened_reading : parts_tops boxes m ≡ false → IsReading boxes from next m (m + 1)
     opened_reading plain =
         let begun = was.begun in
         let o = out.is_outermost.most in
         let lt_parent = was.place.parent in
         record {
           fits = fits;
-          place = record { parent = omega arith; within = omega (arith, within); inside = λ i a b. absurd (omega (arith, a, b)); next = λ w. let t = tree.before (m + 1) (omega arith) w in omega (arith, t) };
+          place = record { parent = omega arith; within = omega (arith, within); inside = λ i a b. absurd (omega (arith, a, b)); next = λ w. let t = parent_before boxes tree (m + 1) (omega arith) w in omega (arith, t) };
           begun = omega (arith, begun);
           first_place = λ e. absurd (omega (arith, e, begun));
           above = λ lt. omega (arith, o, begun);
@@ -31,65 +34,65 @@ module _ (parents : List ℕ) (tree : IsTree parents) (blocks : List Block) (fro
             | inl before ↦ was.inside (omega (arith, a, before)) i a before
             | inr here ↦ (let e : i ≡ m = omega (arith, here, b) in let u = was.above (omega (arith, a, e)) in rw e u)
           ];
-          reads = λ extents clear_edges w is comes. reads_top parents tree blocks extents clear_edges w is from.strut from.first from.k from.outermost comes out.least out.most out.within out.is_outermost m begun within strut
+          reads = λ extents clear_edges w is comes. reads_top boxes tree extents clear_edges w is from.strut from.first from.k from.outermost comes out.least out.most out.within out.is_outermost m begun within strut
               (was.reads extents clear_edges w is comes) next (adds _ (was.reads extents clear_edges w is comes).strut_holds) plain;
         }
 
-    pub opened_read : parts_tops blocks m ≡ true → HasRead parents blocks from next
+    pub opened_read : parts_tops boxes m ≡ true → HasRead boxes from next
     opened_read parts = record {
       fits = fits;
-      reads_all = λ extents clear_edges w is comes. ends_below_top parents tree blocks extents clear_edges w is from.strut from.first from.k from.outermost comes out.least out.most out.within out.is_outermost m was.begun within strut
+      reads_all = λ extents clear_edges w is comes. ends_below_top boxes tree extents clear_edges w is from.strut from.first from.k from.outermost comes out.least out.most out.within out.is_outermost m was.begun within strut
           (was.reads extents clear_edges w is comes) next (adds _ (was.reads extents clear_edges w is comes).strut_holds) parts was.place;
     }
 
-  module _ (p m : ℕ) (strut : StrutValue) (was : IsReading parents blocks from strut p m) (after : from.k < m) (ends : m < length parents → slice_index parents m < p) where
+  module _ (p m : ℕ) (strut : StrutValue) (was : IsReading boxes from strut p m) (after : from.k < m) (ends : m < length boxes → parent_at boxes m < p) where
     least : from.outermost ≤ p
     least = let o = out.is_outermost.most in was.above (omega (arith, o, after))
 
-    pub closed_read : may_collapse_through (block_at blocks p) ≡ false → HasRead parents blocks from strut
+    pub closed_read : may_collapse_through (block_at boxes p) ≡ false → HasRead boxes from strut
     closed_read parts = record {
       fits = was.fits;
-      reads_all = λ extents clear_edges w is comes. ends_inside_box parents tree blocks extents clear_edges w is from.strut from.first from.k from.outermost comes out.least out.most out.within out.is_outermost p m was.place least after ends strut
+      reads_all = λ extents clear_edges w is comes. ends_inside_box boxes tree extents clear_edges w is from.strut from.first from.k from.outermost comes out.least out.most out.within out.is_outermost p m was.place least after ends strut
           (was.reads extents clear_edges w is comes) parts;
     }
 
-    pub closed_last : p ≡ from.outermost → HasRead parents blocks from strut
+    pub closed_last : p ≡ from.outermost → HasRead boxes from strut
     closed_last last = record {
       fits = was.fits;
-      reads_all = λ extents clear_edges w is comes. true_or (may_collapse_through (block_at blocks p)) _
-          (λ passes. ends_before_bottom parents tree blocks extents clear_edges w is from.strut from.first from.k from.outermost comes out.least out.most out.within out.is_outermost p m was.place least after ends strut
+      reads_all = λ extents clear_edges w is comes. true_or (may_collapse_through (block_at boxes p)) _
+          (λ passes. ends_before_bottom boxes tree extents clear_edges w is from.strut from.first from.k from.outermost comes out.least out.most out.within out.is_outermost p m was.place least after ends strut
           (was.reads extents clear_edges w is comes) last passes)
-          (λ parts. ends_inside_box parents tree blocks extents clear_edges w is from.strut from.first from.k from.outermost comes out.least out.most out.within out.is_outermost p m was.place least after ends strut
+          (λ parts. ends_inside_box boxes tree extents clear_edges w is from.strut from.first from.k from.outermost comes out.least out.most out.within out.is_outermost p m was.place least after ends strut
           (was.reads extents clear_edges w is comes) parts);
     }
 
-    pub closed_reading : (next : StrutValue) → StrutFits next → WithMargin strut next (block_at blocks p).margin_bottom.0 → (p ≡ from.outermost → ⊥) → may_collapse_through (block_at blocks p) ≡ true → IsReading parents blocks from next (slice_index parents p) m
+    pub closed_reading : (next : StrutValue) → StrutFits next → WithMargin strut next (block_at boxes p).margin_bottom.0 → (p ≡ from.outermost → ⊥) → may_collapse_through (block_at boxes p) ≡ true → IsReading boxes from next (parent_at boxes p) m
     closed_reading next fits adds other passes =
         let a = was.place.parent in let b = was.place.within in
         let o = out.is_outermost.most in let pos = out.is_outermost.positive in
         let l = least in
-        let inner : p < length parents = omega (arith, a, b) in
-        let up = tree.before p (omega (arith, l, pos)) inner in
-        let round : IsAround parents from.outermost m = was.inside (omega (arith, o, after)) in
+        let inner : p < length boxes = omega (arith, a, b) in
+        let up = parent_before boxes tree p (omega (arith, l, pos)) inner in
+        let round : IsAround boxes from.outermost m = was.inside (omega (arith, o, after)) in
         record {
           fits = fits;
           place = record {
             parent = omega (arith, up, a);
             within = b;
-            inside = inside_up parents tree p m inner up was.place.inside;
-            next = λ w. let e = ends w in tree.together p m a w e;
+            inside = inside_up boxes tree p m inner up was.place.inside;
+            next = λ w. let e = ends w in parents_together boxes tree p m a w e;
           };
           begun = was.begun;
           first_place = λ e. absurd (omega (arith, e, after));
           above = λ lt. round p (omega (arith, l, λ (e : p ≡ from.outermost). other e)) a;
           inside = λ lt. round;
-          reads = λ extents clear_edges w is comes. reads_bottom parents tree blocks extents clear_edges w is from.strut from.first from.k from.outermost comes out.least out.most out.within out.is_outermost p m was.place least after ends strut
+          reads = λ extents clear_edges w is comes. reads_bottom boxes tree extents clear_edges w is from.strut from.first from.k from.outermost comes out.least out.most out.within out.is_outermost p m was.place least after ends strut
               (was.reads extents clear_edges w is comes) other passes next (adds _ (was.reads extents clear_edges w is comes).strut_holds) round;
         }
 
-pub parts_is : (blocks : List Block) (m : ℕ) → 0 < m → parts_tops blocks m ≡ not (is_zero (block_at blocks m).edge_top.0)
-parts_is blocks zero positive = absurd (omega (arith, positive))
-parts_is blocks (suc m) positive = refl
+pub parts_is : (boxes : List FlowBox) (m : ℕ) → 0 < m → parts_tops boxes m ≡ not (is_zero (block_at boxes m).edge_top.0)
+parts_is boxes zero positive = absurd (omega (arith, positive))
+parts_is boxes (suc m) positive = refl
 
 -- the look ahead goes on past the bottom margin of the box at p
 pub record GoesPast (p outermost : ℕ) (may : Bool) : Type 0 where
@@ -106,15 +109,34 @@ pub ends_parted : (p outermost : ℕ) (passes : Bool) → (p ≡ outermost → �
 ends_parted p outermost passes other e = let f : (p == outermost) ≡ false = ne_eqb p outermost other in let g = rw f at e in grind (arith, g)
 
 -- boxes are closed after the look ahead has opened the first
-pub after_outset : (parents : List ℕ) (from : Outset) → IsOutset parents from → (p to m : ℕ) → from.k ≤ m → (m ≡ from.k → p ≡ slice_index parents from.k) → (m < length parents → slice_index parents m ≡ to) → (p ≡ to → ⊥) → from.k < m
-after_outset parents from out p to m begun first next other = elim (cases_lt from.k m) [
+pub after_outset : (boxes : List FlowBox) (from : Outset) → IsOutset boxes from → (p to m : ℕ) → from.k ≤ m → (m ≡ from.k → p ≡ parent_at boxes from.k) → (m < length boxes → parent_at boxes m ≡ to) → (p ≡ to → ⊥) → from.k < m
+after_outset boxes from out p to m begun first next other = elim (cases_lt from.k m) [
   | inl lt ↦ lt
-  | inr ge ↦ (let e : m ≡ from.k = omega (arith, ge, begun) in let w = out.within in let a = first e in let b = next (omega (arith, e, w)) in absurd (other (a ∙ sym (ap (slice_index parents) e) ∙ b)))
+  | inr ge ↦ (let e : m ≡ from.k = omega (arith, ge, begun) in let w = out.within in let a = first e in let b = next (omega (arith, e, w)) in absurd (other (a ∙ sym (ap (parent_at boxes) e) ∙ b)))
 ]
 
 -- a look ahead ends before all boxes are closed
-pub ends_before_root : (parents : List ℕ) (blocks : List Block) (from : Outset) → IsOutset parents from → (strut : StrutValue) → IsReading parents blocks from strut 0 (length parents) → ⊥
-ends_before_root parents blocks from out strut was =
+pub ends_before_root : (boxes : List FlowBox) (from : Outset) → IsOutset boxes from → (strut : StrutValue) → IsReading boxes from strut 0 (length boxes) → ⊥
+ends_before_root boxes from out strut was =
     let o = out.is_outermost.most in let pos = out.is_outermost.positive in let w = out.within in
     let a = was.above (omega (arith, o, w)) in
     omega (arith, a, pos)
+
+-- the look ahead begins
+pub begins_reading : (boxes : List FlowBox) (from : Outset) → IsOutset boxes from → StrutFits from.strut → IsPlace boxes (parent_at boxes from.k) from.k → IsReading boxes from from.strut (parent_at boxes from.k) from.k
+begins_reading boxes from begins fits place =
+    let outer = begins.is_outermost in
+    let most = outer.most in
+    record {
+      fits = fits;
+      place = place;
+      begun = omega arith;
+      first_place = λ e. refl;
+      above = λ lt. outer.inside from.k lt (omega arith);
+      inside = λ lt i low high. outer.inside i low (omega (arith, high));
+      reads = λ extents clear_edges w is comes. record {
+        strut_holds = comes.strut_holds;
+        own = λ lt. comes.tops from.outermost lt ∙ low_not from.outermost from.first (outer.from lt);
+        holder = λ lt. absurd (omega (arith, lt));
+      };
+    }

@@ -1,6 +1,10 @@
 -- Two flows of a context that are alike before a box give it the same clearance.
-use Rattle.std.proofs.Common.{◌≡◌, ◌⊎◌, ℕ, zero, suc, ◌+◌, ◌<◌, ◌≤◌, ◌&&◌, Bool, true, false, ℤ, List, length, slice_index, refl, sym, ap, ◌∙◌, arith, inl, inr, Option, Some, None, subst}
+use Rattle.std.proofs.Common.{◌≡◌, ◌⊎◌, ℕ, zero, suc, ◌+◌, ◌<◌, ◌≤◌, ◌&&◌, Bool, true, false, ℤ, List, length, refl, sym, ap, ◌∙◌, arith, inl, inr, Option, Some, None, subst}
 use Rattle.std.proofs.lemmas.Bool.{cases_lt, cases_eq}
+use Rattle.lay_flow.specs.FlowBoxes.{IsFlowTree}
+use Rattle.lay_flow.specs.declared.flow_box.FlowBox.{FlowBox}
+use Rattle.lay_flow.specs.Boxes.{parent_at, parents_of}
+use Rattle.lay_flow.proofs.BoxTrees.{parent_before}
 use Rattle.lay_units.specs.declared.length.Unit.{Unit as Length}
 use Rattle.lay_doc.specs.Tree.{IsTree}
 use Rattle.lay_doc.proofs.OneStyles.{same_list}
@@ -14,14 +18,14 @@ use Rattle.lay_floats.proofs.Unique.{one_clear_edge_lem}
 use Rattle.lay_flow.specs.declared.block.Block.{Block}
 use Rattle.lay_flow.specs.declared.block.Inside.{Inside}
 use Rattle.lay_flow.specs.declared.block.Inside.TheVariants.{Blocks as blocks_inside, Solid as solid_inside}
-use Rattle.lay_flow.specs.declared.shape.Shape.{Shape}
 use Rattle.lay_flow.specs.Lengths.{length_at}
 use Rattle.lay_flow.specs.Children.{flag_at}
 use Rattle.lay_flow.specs.MarginRuns.{Runs, Entry, has_top, block_at, is_blocks, run_at, run_before, may_collapse_through}
 use Rattle.lay_flow.specs.BlockPositions.{HasPositions, is_solid}
-use Rattle.lay_flow.specs.BlockFloats.{AreShapes, shape_at, floats_before}
+use Rattle.lay_flow.specs.BlockFloats.{shape_at, floats_before}
 use Rattle.lay_flow.specs.Clearance.{HasClearedFloat, IsAbove, HasClearance, lower_of}
 use Rattle.lay_flow.specs.ContextFlow.{Flow, IsContextFlow}
+use Rattle.lay_flow.proofs.FlowBoxFacts.{parent_holds}
 use Rattle.lay_flow.proofs.Truths.{true_false, true_or}
 use Rattle.lay_flow.proofs.BlockLayoutLaws.{one_runs}
 use Rattle.lay_flow.proofs.PositionsUpTo.{marks_up_to}
@@ -31,7 +35,7 @@ use Rattle.lay_flow.proofs.PlaceSteps.{floats_same}
 use Rattle.lay_flow.proofs.LookAhead.{place_before}
 use Rattle.lay_flow.proofs.AlikeSteps.{AlikeAt, marks_above_clearance}
 use Rattle.lay_flow.proofs.FloatLists.{SameCleared, one_edge_to_clear}
-use Rattle.lay_flow.proofs.FlowPlaces.{places_to, extent_solid, extent_other}
+use Rattle.lay_flow.proofs.PlacesAgree.{places_to, extent_solid, extent_other}
 
 clears_or : (c : Clear) (s : Side) → Clears c s ⊎ (Clears c s → ⊥)
 clears_or clear_none s = inr (λ w. w)
@@ -48,20 +52,20 @@ clears_or clear_both s = inl tt
 clears_or clear_right right = inl refl
 
 -- no float of a side to clear before the box at n has its mark in the run
-abbrev pub NoneWaits : List Shape → Clear → List Entry → ℕ → Type 0
-NoneWaits shapes clear run n = (j : ℕ) (side : Side) → j < n → (shape_at shapes j).float ≡ Some side → Clears clear side → has_top j run ≡ false
+abbrev pub NoneWaits : List FlowBox → Clear → List Entry → ℕ → Type 0
+NoneWaits boxes clear run n = (j : ℕ) (side : Side) → j < n → (shape_at boxes j).float ≡ Some side → Clears clear side → has_top j run ≡ false
 
-some_waits : (shapes : List Shape) (k : ℕ) (run : List Entry) (n : ℕ) → n ≤ k → HasClearedFloat shapes k run ⊎ NoneWaits shapes (shape_at shapes k).clear run n
-some_waits shapes k run zero le = inr (λ j side lt. absurd (omega (arith, lt)))
-some_waits shapes k run (suc n) le = elim (some_waits shapes k run n (omega (arith, le))) [
+pub some_waits : (boxes : List FlowBox) (k : ℕ) (run : List Entry) (n : ℕ) → n ≤ k → HasClearedFloat boxes k run ⊎ NoneWaits boxes (shape_at boxes k).clear run n
+some_waits boxes k run zero le = inr (λ j side lt. absurd (omega (arith, lt)))
+some_waits boxes k run (suc n) le = elim (some_waits boxes k run n (omega (arith, le))) [
   | inl w ↦ inl w
-  | inr before ↦ at_float (shape_at shapes n).float refl before
+  | inr before ↦ at_float (shape_at boxes n).float refl before
 ]
   where
-    none_here : NoneWaits shapes (shape_at shapes k).clear run n → ((side : Side) → (shape_at shapes n).float ≡ Some side → Clears (shape_at shapes k).clear side → has_top n run ≡ false) → NoneWaits shapes (shape_at shapes k).clear run (suc n)
+    none_here : NoneWaits boxes (shape_at boxes k).clear run n → ((side : Side) → (shape_at boxes n).float ≡ Some side → Clears (shape_at boxes k).clear side → has_top n run ≡ false) → NoneWaits boxes (shape_at boxes k).clear run (suc n)
     none_here before here j side lt e c = elim (cases_lt j n) [
       | inl low ↦ before j side low e c
-      | inr ge ↦ (let same : j ≡ n = omega (arith, lt, ge) in ap (λ (j : ℕ). has_top j run) same ∙ here side (ap (λ (j : ℕ). (shape_at shapes j).float) (sym same) ∙ e) c)
+      | inr ge ↦ (let same : j ≡ n = omega (arith, lt, ge) in ap (λ (j : ℕ). has_top j run) same ∙ here side (ap (λ (j : ℕ). (shape_at boxes j).float) (sym same) ∙ e) c)
     ]
 
     one_side : (s t : Side) → Some s ≡ Some t → s ≡ t
@@ -70,11 +74,11 @@ some_waits shapes k run (suc n) le = elim (some_waits shapes k run n (omega (ari
     none_some : (t : Side) → None ≡ Some t → ⊥
     none_some t e = grind (arith, e)
 
-    at_float : (o : Option Side) → (shape_at shapes n).float ≡ o → NoneWaits shapes (shape_at shapes k).clear run n → HasClearedFloat shapes k run ⊎ NoneWaits shapes (shape_at shapes k).clear run (suc n)
+    at_float : (o : Option Side) → (shape_at boxes n).float ≡ o → NoneWaits boxes (shape_at boxes k).clear run n → HasClearedFloat boxes k run ⊎ NoneWaits boxes (shape_at boxes k).clear run (suc n)
     at_float None e before = inr (none_here before (λ side f c. absurd (none_some side (sym e ∙ f))))
-    at_float (Some s) e before = elim (clears_or (shape_at shapes k).clear s) [
-      | inr not_it ↦ inr (none_here before (λ side f c. absurd (not_it (subst (Clears (shape_at shapes k).clear) (sym (one_side s side (sym e ∙ f))) c))))
-      | inl it ↦ true_or (has_top n run) (HasClearedFloat shapes k run ⊎ NoneWaits shapes (shape_at shapes k).clear run (suc n))
+    at_float (Some s) e before = elim (clears_or (shape_at boxes k).clear s) [
+      | inr not_it ↦ inr (none_here before (λ side f c. absurd (not_it (subst (Clears (shape_at boxes k).clear) (sym (one_side s side (sym e ∙ f))) c))))
+      | inl it ↦ true_or (has_top n run) (HasClearedFloat boxes k run ⊎ NoneWaits boxes (shape_at boxes k).clear run (suc n))
           (λ t. inl (n, s, omega (arith, le), e, it, t))
           (λ f. inr (none_here before (λ side g c. f)))
     ]
@@ -86,49 +90,49 @@ solid_or_blocks solid_inside s b = true_false false b refl
 passes_blocks : (b : Block) (more : Bool) → (may_collapse_through b && more) ≡ true → is_blocks b.inside ≡ true
 passes_blocks b more e = grind (arith, e)
 
-module _ (parents : List ℕ) (tree : IsTree parents) (some : 0 < length parents) (blocks : List Block) (shapes : List Shape) (are : AreShapes parents blocks shapes)
-    (f g : Flow) (is : IsContextFlow parents blocks shapes f) (also : IsContextFlow parents blocks shapes g)
-    (first k : ℕ) (positive : 0 < k) (within : k < length parents)
-    (was : AlikeAt parents tree blocks f.extents f.clear_edges f.layout is.layout g.extents g.clear_edges g.layout also.layout first (slice_index parents k) k) where
+module _ (boxes : List FlowBox) (tree : IsTree (parents_of boxes)) (some : 0 < length boxes) (are : IsFlowTree boxes)
+    (f g : Flow) (is : IsContextFlow boxes f) (also : IsContextFlow boxes g)
+    (first k : ℕ) (positive : 0 < k) (within : k < length boxes)
+    (was : AlikeAt boxes tree f.extents f.clear_edges f.layout is.layout g.extents g.clear_edges g.layout also.layout first (parent_at boxes k) k) where
   -- a solid box before that at k isn't in the run
-  solid_before : (j : ℕ) → 0 < j → j < k → is_solid (block_at blocks j).inside ≡ true → j < first
+  solid_before : (j : ℕ) → 0 < j → j < k → is_solid (block_at boxes j).inside ≡ true → j < first
   solid_before j low lt solid = elim (cases_lt j first) [
     | inl less ↦ less
-    | inr from ↦ absurd (solid_or_blocks (block_at blocks j).inside solid (blocks_through (through from)))
+    | inr from ↦ absurd (solid_or_blocks (block_at boxes j).inside solid (blocks_through (through from)))
   ]
     where
-      there : j < length parents
+      there : j < length boxes
       there = omega (arith, lt, within)
 
-      childless : (c : ℕ) → c < length parents → 0 < c → slice_index parents c ≡ j → ⊥
-      childless c inner above e = solid_or_blocks (block_at blocks j).inside solid (ap (λ (p : ℕ). is_blocks (block_at blocks p).inside) (sym e) ∙ are.parent c above inner)
+      childless : (c : ℕ) → c < length boxes → 0 < c → parent_at boxes c ≡ j → ⊥
+      childless c inner above e = solid_or_blocks (block_at boxes j).inside solid (ap (λ (p : ℕ). is_blocks (block_at boxes p).inside) (sym e) ∙ parent_holds boxes are c above inner)
 
-      blocks_through : flag_at f.layout.runs.through j ≡ true → is_blocks (block_at blocks j).inside ≡ true
-      blocks_through t = passes_blocks (block_at blocks j) _ (sym (passes_is parents blocks f.layout.runs is.layout.has_runs j low there) ∙ t)
+      blocks_through : flag_at f.layout.runs.through j ≡ true → is_blocks (block_at boxes j).inside ≡ true
+      blocks_through t = passes_blocks (block_at boxes j) _ (sym (passes_is boxes f.layout.runs is.layout.has_runs j low there) ∙ t)
 
       through : first ≤ j → flag_at f.layout.runs.through j ≡ true
       through from = elim (cases_eq (j + 1) k) [
-        | inl e ↦ (let up = tree.before k positive within in elim (cases_lt (slice_index parents k) j) [
+        | inl e ↦ (let up = parent_before boxes tree k positive within in elim (cases_lt (parent_at boxes k) j) [
           | inl less ↦ was.gathered.closed j from less lt
           | inr ge ↦ absurd (childless k within positive (omega (arith, up, ge, e)))
         ])
-        | inr ne ↦ (let inner : j + 1 < length parents = omega (arith, lt, ne, within) in
-            let up = tree.before (j + 1) (omega arith) inner in elim (cases_lt (slice_index parents (j + 1)) j) [
+        | inr ne ↦ (let inner : j + 1 < length boxes = omega (arith, lt, ne, within) in
+            let up = parent_before boxes tree (j + 1) (omega arith) inner in elim (cases_lt (parent_at boxes (j + 1)) j) [
               | inl less ↦ was.gathered.gone j (j + 1) from (omega arith) (omega (arith, lt, ne)) less
               | inr ge ↦ absurd (childless (j + 1) inner (omega arith) (omega (arith, up, ge)))
             ])
       ]
 
   extents_before : (j : ℕ) → 0 < j → j < k → length_at f.extents.solid j ≡ length_at g.extents.solid j
-  extents_before j low lt = true_or (is_solid (block_at blocks j).inside) (length_at f.extents.solid j ≡ length_at g.extents.solid j)
-      (λ solid. let less = solid_before j low lt solid in extent_solid parents tree blocks shapes f g is also j low (omega (arith, lt, within)) solid (λ i a. was.mark i (omega (arith, a, less))))
-      (λ flows. extent_other parents tree blocks shapes f g is also j low (omega (arith, lt, within)) flows)
+  extents_before j low lt = true_or (is_solid (block_at boxes j).inside) (length_at f.extents.solid j ≡ length_at g.extents.solid j)
+      (λ solid. let less = solid_before j low lt solid in extent_solid boxes tree f g is also j low (omega (arith, lt, within)) solid (λ i a. was.mark i (omega (arith, a, less))))
+      (λ flows. extent_other boxes tree f g is also j low (omega (arith, lt, within)) flows)
 
-  module _ (none : (shape_at shapes k).float ≡ None) where
-    here : HasClearance parents blocks shapes f.extents f.clear_edges f.places f.layout k
+  module _ (none : (shape_at boxes k).float ≡ None) where
+    here : HasClearance boxes f.extents f.clear_edges f.places f.layout k
     here = is.clearance k positive within none
 
-    there : HasClearance parents blocks shapes g.extents g.clear_edges g.places g.layout k
+    there : HasClearance boxes g.extents g.clear_edges g.places g.layout k
     there = also.clearance k positive within none
 
     -- the hypothetical layouts have the same runs
@@ -136,7 +140,7 @@ module _ (parents : List ℕ) (tree : IsTree parents) (some : 0 < length parents
     runs_without =
         let h = here.is_hypothetical in
         let t = there.is_hypothetical in
-        one_runs parents blocks here.without.runs there.without.runs tree some
+        one_runs boxes here.without.runs there.without.runs tree some
         (same_list false here.without.runs.clears there.without.runs.clears (h.is_layout.has_runs.clears_length ∙ sym t.is_layout.has_runs.clears_length) (λ j lt. elim (cases_lt j k) [
           | inl low ↦ h.earlier j low ∙ was.clears j low ∙ sym (t.earlier j low)
           | inr high ↦ h.later j high ∙ sym (t.later j high)
@@ -149,40 +153,40 @@ module _ (parents : List ℕ) (tree : IsTree parents) (some : 0 < length parents
     mark_without =
         let h = here.is_hypothetical in
         let t = there.is_hypothetical in
-        let positions : HasPositions parents blocks here.without.runs g.extents g.clear_edges there.without.places = subst (λ (r : Runs). HasPositions parents blocks r g.extents g.clear_edges there.without.places) (sym runs_without) t.is_layout.has_positions in
+        let positions : HasPositions boxes here.without.runs g.extents g.clear_edges there.without.places = subst (λ (r : Runs). HasPositions boxes r g.extents g.clear_edges there.without.places) (sym runs_without) t.is_layout.has_positions in
         let edges : (j : ℕ) → j ≤ k → flag_at here.without.runs.clears j ≡ true → length_at f.clear_edges j ≡ length_at g.clear_edges j = λ j le cleared. elim (cases_lt j k) [
           | inl low ↦ was.edges j low (sym (h.earlier j low) ∙ cleared)
           | inr high ↦ absurd (true_false (flag_at here.without.runs.clears j) cleared (h.later j high))
         ] in
-        marks_up_to parents tree blocks here.without.runs f.extents g.extents f.clear_edges g.clear_edges here.without.places there.without.places h.is_layout.has_positions positions k extents_before edges some within k (omega arith)
+        marks_up_to boxes tree here.without.runs f.extents g.extents f.clear_edges g.clear_edges here.without.places there.without.places h.is_layout.has_positions positions k extents_before edges some within k (omega arith)
 
     -- the run before the box is that of the flow
-    run_without : run_at here.without.runs.before_tops k ≡ run_before parents blocks f.layout.runs (slice_index parents k) k
+    run_without : run_at here.without.runs.before_tops k ≡ run_before boxes f.layout.runs (parent_at boxes k) k
     run_without =
         let h = here.is_hypothetical in
-        lead_goes_on parents blocks here.without.runs h.is_layout.has_runs k positive within (h.later k (omega arith))
-        ∙ run_up_to parents tree blocks here.without.runs f.layout.runs h.is_layout.has_runs is.layout.has_runs k h.earlier (slice_index parents k) k (place_before parents tree k positive within) (omega arith)
+        lead_goes_on boxes here.without.runs h.is_layout.has_runs k positive within (h.later k (omega arith))
+        ∙ run_up_to boxes tree here.without.runs f.layout.runs h.is_layout.has_runs is.layout.has_runs k h.earlier (parent_at boxes k) k (place_before boxes tree k positive within) (omega arith)
 
-    none_high : NoneWaits shapes (shape_at shapes k).clear (run_at here.without.runs.before_tops k) k → SameCleared shapes (shape_at shapes k).clear f.places g.places k
+    none_high : NoneWaits boxes (shape_at boxes k).clear (run_at here.without.runs.before_tops k) k → SameCleared boxes (shape_at boxes k).clear f.places g.places k
     none_high free j side lt e c = elim (cases_lt j first) [
-      | inl low ↦ (let most = was.gathered.most in places_to parents tree blocks shapes f g is also first (omega (arith, most, within)) was.mark j low)
-      | inr from ↦ absurd (true_false (has_top j (run_before parents blocks f.layout.runs (slice_index parents k) k)) (was.gathered.own j from lt) (ap (has_top j) (sym run_without) ∙ free j side lt e c))
+      | inl low ↦ (let most = was.gathered.most in places_to boxes tree f g is also first (omega (arith, most, within)) was.mark j low)
+      | inr from ↦ absurd (true_false (has_top j (run_before boxes f.layout.runs (parent_at boxes k) k)) (was.gathered.own j from lt) (ap (has_top j) (sym run_without) ∙ free j side lt e c))
     ]
 
-    waits_too : HasClearedFloat shapes k (run_at here.without.runs.before_tops k) → HasClearedFloat shapes k (run_at there.without.runs.before_tops k)
-    waits_too w = subst (HasClearedFloat shapes k) lead_without w
+    waits_too : HasClearedFloat boxes k (run_at here.without.runs.before_tops k) → HasClearedFloat boxes k (run_at there.without.runs.before_tops k)
+    waits_too w = subst (HasClearedFloat boxes k) lead_without w
 
-    none_waits_too : (run : List Entry) → NoneWaits shapes (shape_at shapes k).clear run k → HasClearedFloat shapes k run → ⊥
+    none_waits_too : (run : List Entry) → NoneWaits boxes (shape_at boxes k).clear run k → HasClearedFloat boxes k run → ⊥
     none_waits_too run free w = true_false (has_top w.0 run) w.5 (free w.0 w.1 w.2 w.3 w.4)
 
     above_too : (a b : ℤ) (u v : Option Length) → a ≡ b → u ≡ v → IsAbove a u → IsAbove b v
     above_too a b u v e d w = subst (λ (o : Option Length). IsAbove b o) d (subst (λ (n : ℤ). IsAbove n u) e w)
 
-    clear_by_edge : NoneWaits shapes (shape_at shapes k).clear (run_at here.without.runs.before_tops k) k → flag_at f.layout.runs.clears k ≡ flag_at g.layout.runs.clears k
+    clear_by_edge : NoneWaits boxes (shape_at boxes k).clear (run_at here.without.runs.before_tops k) k → flag_at f.layout.runs.clears k ≡ flag_at g.layout.runs.clears k
     clear_by_edge free =
-        let bottom = one_edge_to_clear shapes (shape_at shapes k).clear f.places g.places k (none_high free) here.bottom there.bottom here.is_bottom there.is_bottom in
+        let bottom = one_edge_to_clear boxes (shape_at boxes k).clear f.places g.places k (none_high free) here.bottom there.bottom here.is_bottom there.is_bottom in
         let mark = mark_without in
-        let also_free = subst (λ (run : List Entry). NoneWaits shapes (shape_at shapes k).clear run k) lead_without free in
+        let also_free = subst (λ (run : List Entry). NoneWaits boxes (shape_at boxes k).clear run k) lead_without free in
         let on : flag_at f.layout.runs.clears k ≡ true → flag_at g.layout.runs.clears k ≡ true = λ t. there.decides.1 (elim (here.decides.0 t) [
           | inl w ↦ absurd (none_waits_too (run_at here.without.runs.before_tops k) free w)
           | inr a ↦ inr (above_too (length_at here.without.places.marks k) (length_at there.without.places.marks k) here.bottom there.bottom mark bottom a)
@@ -199,7 +203,7 @@ module _ (parents : List ℕ) (tree : IsTree parents) (some : 0 < length parents
         both_ways false false on back = refl
 
     clear_in_flow : flag_at f.layout.runs.clears k ≡ flag_at g.layout.runs.clears k
-    clear_in_flow = elim (some_waits shapes k (run_at here.without.runs.before_tops k) k (omega arith)) [
+    clear_in_flow = elim (some_waits boxes k (run_at here.without.runs.before_tops k) k (omega arith)) [
       | inl w ↦ here.decides.1 (inl w) ∙ sym (there.decides.1 (inl (waits_too w)))
       | inr free ↦ clear_by_edge free
     ]
@@ -207,22 +211,22 @@ module _ (parents : List ℕ) (tree : IsTree parents) (some : 0 < length parents
     edge_in_flow : flag_at f.layout.runs.clears k ≡ true → length_at f.clear_edges k ≡ length_at g.clear_edges k
     edge_in_flow cleared =
         let also_cleared = sym clear_in_flow ∙ cleared in
-        let marks = marks_above_clearance parents tree blocks f.extents f.clear_edges f.layout is.layout g.extents g.clear_edges g.layout also.layout first k positive within was cleared also_cleared in
-        let floats = floats_same shapes f.places g.places k (places_to parents tree blocks shapes f g is also k (omega (arith, within)) marks) in
-        let bottom = one_clear_edge_lem (floats_before shapes f.places k) (shape_at shapes k).clear here.bottom there.bottom here.is_bottom (subst (λ (fs : List Placed). IsClearEdge fs (shape_at shapes k).clear there.bottom) (sym floats) there.is_bottom) in
+        let marks = marks_above_clearance boxes tree f.extents f.clear_edges f.layout is.layout g.extents g.clear_edges g.layout also.layout first k positive within was cleared also_cleared in
+        let floats = floats_same boxes f.places g.places k (places_to boxes tree f g is also k (omega (arith, within)) marks) in
+        let bottom = one_clear_edge_lem (floats_before boxes f.places k) (shape_at boxes k).clear here.bottom there.bottom here.is_bottom (subst (λ (fs : List Placed). IsClearEdge fs (shape_at boxes k).clear there.bottom) (sym floats) there.is_bottom) in
         let mark = mark_without in
         here.edge cleared ∙ (λ i. lower_of (bottom i) (mark i)) ∙ sym (there.edge also_cleared)
 
   pub one_clear : flag_at f.layout.runs.clears k ≡ flag_at g.layout.runs.clears k
-  one_clear = go (shape_at shapes k).float refl
+  one_clear = go (shape_at boxes k).float refl
     where
-      go : (o : Option Side) → (shape_at shapes k).float ≡ o → flag_at f.layout.runs.clears k ≡ flag_at g.layout.runs.clears k
+      go : (o : Option Side) → (shape_at boxes k).float ≡ o → flag_at f.layout.runs.clears k ≡ flag_at g.layout.runs.clears k
       go None e = clear_in_flow e
       go (Some side) e = is.float_clear k side within e ∙ sym (also.float_clear k side within e)
 
   pub one_edge : flag_at f.layout.runs.clears k ≡ true → length_at f.clear_edges k ≡ length_at g.clear_edges k
-  one_edge cleared = go (shape_at shapes k).float refl
+  one_edge cleared = go (shape_at boxes k).float refl
     where
-      go : (o : Option Side) → (shape_at shapes k).float ≡ o → length_at f.clear_edges k ≡ length_at g.clear_edges k
+      go : (o : Option Side) → (shape_at boxes k).float ≡ o → length_at f.clear_edges k ≡ length_at g.clear_edges k
       go None e = edge_in_flow e cleared
       go (Some side) e = absurd (true_false (flag_at f.layout.runs.clears k) cleared (is.float_clear k side within e))

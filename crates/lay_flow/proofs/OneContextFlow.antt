@@ -1,6 +1,9 @@
 -- A context has one flow.
-use Rattle.std.proofs.Common.{◌≡◌, ℕ, ◌+◌, ◌<◌, ◌≤◌, false, ℤ, ◌+ℤ◌, List, length, slice_index, refl, sym, ap, ◌∙◌, arith, inl, inr, subst}
+use Rattle.std.proofs.Common.{◌≡◌, ℕ, ◌+◌, ◌<◌, ◌≤◌, false, ℤ, ◌+ℤ◌, List, length, refl, sym, ap, ◌∙◌, arith, inl, inr, subst}
 use Rattle.std.proofs.lemmas.Bool.{cases_eq}
+use Rattle.lay_flow.specs.FlowBoxes.{IsFlowTree}
+use Rattle.lay_flow.specs.declared.flow_box.FlowBox.{FlowBox}
+use Rattle.lay_flow.specs.Boxes.{parent_at, parents_of}
 use Rattle.lay_units.specs.declared.length.Unit.{Unit as Length}
 use Rattle.lay_doc.specs.Tree.{IsTree}
 use Rattle.lay_doc.proofs.OneStyles.{same_list}
@@ -8,17 +11,17 @@ use Rattle.lay_floats.specs.declared.requests.Clear.TheVariants.{Both as clear_b
 use Rattle.lay_floats.specs.declared.requests.Place.{Place}
 use Rattle.lay_floats.specs.ClearEdge.{IsClearEdge}
 use Rattle.lay_floats.proofs.Unique.{one_clear_edge_lem}
-use Rattle.lay_flow.specs.declared.block.Block.{Block}
-use Rattle.lay_flow.specs.declared.shape.Shape.{Shape}
 use Rattle.lay_flow.specs.Lengths.{length_at}
 use Rattle.lay_flow.specs.Children.{flag_at}
 use Rattle.lay_flow.specs.MarginRuns.{block_at, run_before}
 use Rattle.lay_flow.specs.BlockPositions.{Extents, is_solid, start_before}
 use Rattle.lay_flow.specs.BlockLayout.{BlockLayout, IsBlockLayout}
-use Rattle.lay_flow.specs.BlockFloats.{AreShapes, no_place, floats_before}
+use Rattle.lay_flow.specs.BlockFloats.{no_place, place_at, floats_before}
 use Rattle.lay_flow.specs.ContextFlow.{Flow, IsContextFlow}
-use Rattle.lay_flow.specs.MarginPlace.{IsPlace}
-use Rattle.lay_flow.specs.Laws.{OneContextFlow, OneContextPlaces}
+use Rattle.lay_flow.specs.Pass.MarginPlace.{IsPlace}
+use Rattle.lay_flow.specs.Laws.{OneContextFlow, OneFlowOf}
+use Rattle.lay_flow.specs.FlowPlaces.{no_box_place, border_box}
+use Rattle.lay_flow.specs.Boxes.{box_at}
 use Rattle.lay_flow.proofs.Truths.{true_false, true_or}
 use Rattle.lay_flow.proofs.BlockKinds.{joins_flow}
 use Rattle.lay_flow.proofs.BlockLayoutLaws.{one_block_layout_lem, same_lengths}
@@ -27,32 +30,32 @@ use Rattle.lay_flow.proofs.GatheredRuns.{begins}
 use Rattle.lay_flow.proofs.LayoutsAlike.{marks_same}
 use Rattle.lay_flow.proofs.AlikeSteps.{AlikeAt, opens_alike}
 use Rattle.lay_flow.proofs.AlikeClosings.{closes_alike}
-use Rattle.lay_flow.proofs.FlowPlaces.{places_to, extent_solid, extent_other}
+use Rattle.lay_flow.proofs.PlacesAgree.{places_to, extent_solid, extent_other}
 use Rattle.lay_flow.proofs.OneClearance.{one_clear, one_edge}
 
-module _ (parents : List ℕ) (tree : IsTree parents) (some : 0 < length parents) (blocks : List Block) (shapes : List Shape) (are : AreShapes parents blocks shapes)
-    (f g : Flow) (is : IsContextFlow parents blocks shapes f) (also : IsContextFlow parents blocks shapes g) where
+module _ (boxes : List FlowBox) (tree : IsTree (parents_of boxes)) (some : 0 < length boxes) (are : IsFlowTree boxes)
+    (f g : Flow) (is : IsContextFlow boxes f) (also : IsContextFlow boxes g) where
   record AreAlike (p m : ℕ) : Type 0 where
     pub first : ℕ
-    pub alike : AlikeAt parents tree blocks f.extents f.clear_edges f.layout is.layout g.extents g.clear_edges g.layout also.layout first p m
+    pub alike : AlikeAt boxes tree f.extents f.clear_edges f.layout is.layout g.extents g.clear_edges g.layout also.layout first p m
 
-  opens : (k : ℕ) → 0 < k → k < length parents → AreAlike (slice_index parents k) k → AreAlike k (k + 1)
+  opens : (k : ℕ) → 0 < k → k < length boxes → AreAlike (parent_at boxes k) k → AreAlike k (k + 1)
   opens k positive within was =
-      let next = opens_alike parents tree blocks f.extents f.clear_edges f.layout is.layout g.extents g.clear_edges g.layout also.layout was.first k positive within was.alike
-      (one_clear parents tree some blocks shapes are f g is also was.first k positive within was.alike) (one_edge parents tree some blocks shapes are f g is also was.first k positive within was.alike) in
+      let next = opens_alike boxes tree f.extents f.clear_edges f.layout is.layout g.extents g.clear_edges g.layout also.layout was.first k positive within was.alike
+      (one_clear boxes tree some are f g is also was.first k positive within was.alike) (one_edge boxes tree some are f g is also was.first k positive within was.alike) in
       record { first = next.next; alike = next.alike }
 
-  closes : (p m : ℕ) → 0 < p → p < m → m ≤ length parents → (m < length parents → slice_index parents m < p) → AreAlike p m → AreAlike (slice_index parents p) m
+  closes : (p m : ℕ) → 0 < p → p < m → m ≤ length boxes → (m < length boxes → parent_at boxes m < p) → AreAlike p m → AreAlike (parent_at boxes p) m
   closes p m positive lt within ends was =
-      let inner : p < length parents = omega (arith, lt, within) in
-      let next = closes_alike parents tree blocks f.extents f.clear_edges f.layout is.layout g.extents g.clear_edges g.layout also.layout was.first p m positive was.alike ends
-      (λ marks. true_or (is_solid (block_at blocks p).inside) (length_at f.extents.solid p ≡ length_at g.extents.solid p)
-      (λ solid. extent_solid parents tree blocks shapes f g is also p positive inner solid (λ j low. marks j (omega (arith, low, lt))))
-      (λ flows. extent_other parents tree blocks shapes f g is also p positive inner flows))
-      (λ may. extent_other parents tree blocks shapes f g is also p positive inner (joins_flow (block_at blocks p) may)) in
+      let inner : p < length boxes = omega (arith, lt, within) in
+      let next = closes_alike boxes tree f.extents f.clear_edges f.layout is.layout g.extents g.clear_edges g.layout also.layout was.first p m positive was.alike ends
+      (λ marks. true_or (is_solid (block_at boxes p).inside) (length_at f.extents.solid p ≡ length_at g.extents.solid p)
+      (λ solid. extent_solid boxes tree f g is also p positive inner solid (λ j low. marks j (omega (arith, low, lt))))
+      (λ flows. extent_other boxes tree f g is also p positive inner flows))
+      (λ may. extent_other boxes tree f g is also p positive inner (joins_flow (block_at boxes p) may)) in
       record { first = next.next; alike = next.alike }
 
-  start_root : (y : BlockLayout) → start_before parents blocks y.runs y.places 0 1 ≡ length_at y.places.marks 0 +ℤ (block_at blocks 0).edge_top.0
+  start_root : (y : BlockLayout) → start_before boxes y.runs y.places 0 1 ≡ length_at y.places.marks 0 +ℤ (block_at boxes 0).edge_top.0
   start_root y = refl
 
   mark_root : length_at f.layout.places.marks 0 ≡ length_at g.layout.places.marks 0
@@ -62,28 +65,28 @@ module _ (parents : List ℕ) (tree : IsTree parents) (some : 0 < length parents
   at_first = record {
     first = 1;
     alike = record {
-      gathered = begins parents tree blocks f.layout.runs is.layout.has_runs some;
+      gathered = begins boxes tree f.layout.runs is.layout.has_runs some;
       clears = λ j lt. let e : j ≡ 0 = omega (arith, lt) in subst (λ (j : ℕ). flag_at f.layout.runs.clears j ≡ flag_at g.layout.runs.clears j) (sym e) (is.root_clear ∙ sym also.root_clear);
       edges = λ j lt c. let e : j ≡ 0 = omega (arith, lt) in absurd (true_false (flag_at f.layout.runs.clears 0) (ap (flag_at f.layout.runs.clears) (sym e) ∙ c) is.root_clear);
       mark = λ j lt. let e : j ≡ 0 = omega (arith, lt) in subst (λ (j : ℕ). length_at f.layout.places.marks j ≡ length_at g.layout.places.marks j) (sym e) mark_root;
       closed = λ j low high. absurd (omega (arith, low, high));
       gone = λ j i low high lower. absurd (omega (arith, low, high));
-      start = inl (start_root f.layout ∙ ap (λ (v : ℤ). v +ℤ (block_at blocks 0).edge_top.0) mark_root ∙ sym (start_root g.layout));
+      start = inl (start_root f.layout ∙ ap (λ (v : ℤ). v +ℤ (block_at boxes 0).edge_top.0) mark_root ∙ sym (start_root g.layout));
     };
   }
 
-  at_last : AreAlike 0 (length parents)
-  at_last = walk parents tree AreAlike closes opens at_first some
+  at_last : AreAlike 0 (length boxes)
+  at_last = walk boxes tree AreAlike closes opens at_first some
 
-  marks_all : (j : ℕ) → j < length parents → length_at f.layout.places.marks j ≡ length_at g.layout.places.marks j
+  marks_all : (j : ℕ) → j < length boxes → length_at f.layout.places.marks j ≡ length_at g.layout.places.marks j
   marks_all =
-      let at : IsPlace parents 0 (length parents) = record { parent = some; within = omega arith; inside = λ i low high. omega arith; next = λ w. absurd (omega (arith, w)) } in
-      marks_same parents tree blocks f.extents f.clear_edges f.layout is.layout g.extents g.clear_edges g.layout also.layout at_last.first 0 (length parents) at at_last.alike
-      (run_before parents blocks f.layout.runs 0 (length parents)) (λ c from above inside. let least = at_last.alike.gathered.least in absurd (omega (arith, from, above, least)))
+      let at : IsPlace boxes 0 (length boxes) = record { parent = some; within = omega arith; inside = λ i low high. omega arith; next = λ w. absurd (omega (arith, w)) } in
+      marks_same boxes tree f.extents f.clear_edges f.layout is.layout g.extents g.clear_edges g.layout also.layout at_last.first 0 (length boxes) at at_last.alike
+      (run_before boxes f.layout.runs 0 (length boxes)) (λ c from above inside. let least = at_last.alike.gathered.least in absurd (omega (arith, from, above, least)))
 
   places_same : f.places ≡ g.places
   places_same = same_list no_place f.places g.places (is.places_length ∙ sym also.places_length)
-      (λ k lt. let l = is.places_length in places_to parents tree blocks shapes f g is also (length parents) (omega arith) marks_all k (omega (arith, l, lt)))
+      (λ k lt. let l = is.places_length in places_to boxes tree f g is also (length boxes) (omega arith) marks_all k (omega (arith, l, lt)))
 
   clears_same : f.layout.runs.clears ≡ g.layout.runs.clears
   clears_same = same_list false f.layout.runs.clears g.layout.runs.clears (is.layout.has_runs.clears_length ∙ sym also.layout.has_runs.clears_length)
@@ -92,23 +95,23 @@ module _ (parents : List ℕ) (tree : IsTree parents) (some : 0 < length parents
   edges_same : f.clear_edges ≡ g.clear_edges
   edges_same = same_lengths f.clear_edges g.clear_edges (is.clear_edges_length ∙ sym also.clear_edges_length) (λ k lt.
       let l = is.clear_edges_length in
-      let there : k < length parents = omega (arith, l, lt) in
+      let there : k < length boxes = omega (arith, l, lt) in
       true_or (flag_at f.layout.runs.clears k) (length_at f.clear_edges k ≡ length_at g.clear_edges k)
       (λ cleared. at_last.alike.edges k there cleared)
       (λ unclear. is.no_edge k there unclear ∙ sym (also.no_edge k there (sym (at_last.alike.clears k there) ∙ unclear))))
 
   floats_same : f.extents.floats ≡ g.extents.floats
-  floats_same = one_clear_edge_lem (floats_before shapes f.places (length parents)) clear_both f.extents.floats g.extents.floats is.bottom
-      (subst (λ (ps : List Place). IsClearEdge (floats_before shapes ps (length parents)) clear_both g.extents.floats) (sym places_same) also.bottom)
+  floats_same = one_clear_edge_lem (floats_before boxes f.places (length boxes)) clear_both f.extents.floats g.extents.floats is.bottom
+      (subst (λ (ps : List Place). IsClearEdge (floats_before boxes ps (length boxes)) clear_both g.extents.floats) (sym places_same) also.bottom)
 
   solid_same : f.extents.solid ≡ g.extents.solid
   solid_same = same_lengths f.extents.solid g.extents.solid (is.extents_length ∙ sym also.extents_length) (λ k lt. elim (cases_eq k 0) [
     | inl z ↦ subst (λ (k : ℕ). length_at f.extents.solid k ≡ length_at g.extents.solid k) (sym z) (is.no_extent_root ∙ sym also.no_extent_root)
     | inr ne ↦ (let l = is.extents_length in
-        let there : k < length parents = omega (arith, l, lt) in
-        true_or (is_solid (block_at blocks k).inside) (length_at f.extents.solid k ≡ length_at g.extents.solid k)
-        (λ solid. extent_solid parents tree blocks shapes f g is also k (omega (arith, ne)) there solid (λ j low. marks_all j (omega (arith, low, there))))
-        (λ flows. extent_other parents tree blocks shapes f g is also k (omega (arith, ne)) there flows))
+        let there : k < length boxes = omega (arith, l, lt) in
+        true_or (is_solid (block_at boxes k).inside) (length_at f.extents.solid k ≡ length_at g.extents.solid k)
+        (λ solid. extent_solid boxes tree f g is also k (omega (arith, ne)) there solid (λ j low. marks_all j (omega (arith, low, there))))
+        (λ flows. extent_other boxes tree f g is also k (omega (arith, ne)) there flows))
   ])
 
   extents_same : f.extents ≡ g.extents
@@ -119,17 +122,17 @@ module _ (parents : List ℕ) (tree : IsTree parents) (some : 0 < length parents
       let e = extents_same in
       let c = edges_same in
       let p = places_same in
-      let there = subst (λ (x : Extents). IsBlockLayout parents blocks x f.clear_edges g.layout) (sym e) (subst (λ (x : List Length). IsBlockLayout parents blocks g.extents x g.layout) (sym c) also.layout) in
-      let y = one_block_layout_lem parents blocks f.extents f.clear_edges f.layout g.layout tree some clears_same is.layout there in
+      let there = subst (λ (x : Extents). IsBlockLayout boxes x f.clear_edges g.layout) (sym e) (subst (λ (x : List Length). IsBlockLayout boxes g.extents x g.layout) (sym c) also.layout) in
+      let y = one_block_layout_lem boxes f.extents f.clear_edges f.layout g.layout tree some clears_same is.layout there in
       λ i. record { layout = y i; extents = e i; clear_edges = c i; places = p i }
 
 pub one_context_flow_lem : OneContextFlow
-one_context_flow_lem parents blocks shapes f g tree some are is also = flows_same parents tree some blocks shapes are f g is also
+one_context_flow_lem boxes f g are is also = flows_same boxes are.tree are.some are f g is also
 
-pub one_context_places_lem : OneContextPlaces
-one_context_places_lem parents blocks shapes tops heights tops' heights' places places' tree some are is also =
-    let e = one_context_flow_lem parents blocks shapes is.flow also.flow tree some are is.is_flow also.is_flow in (
-      is.tops_are ∙ ap (λ (f : Flow). f.layout.places.marks) e ∙ sym also.tops_are,
-      is.heights_are ∙ ap (λ (f : Flow). f.layout.places.heights) e ∙ sym also.heights_are,
-      is.places_are ∙ ap (λ (f : Flow). f.places) e ∙ sym also.places_are,
-    )
+pub one_flow_of_lem : OneFlowOf
+one_flow_of_lem boxes out others are is also =
+    let e = one_context_flow_lem boxes is.flow also.flow are is.is_flow also.is_flow in
+    same_list no_box_place out others (is.places.count ∙ sym also.places.count) (λ k lt. let l = is.places.count in
+    is.places.each k (omega (arith, lt, l))
+    ∙ ap (λ (f : Flow). border_box (box_at boxes k).kind (record { 0 = length_at f.layout.places.marks k }) (record { 0 = length_at f.layout.places.heights k }) (place_at f.places k)) e
+    ∙ sym (also.places.each k (omega (arith, lt, l))))

@@ -4,6 +4,7 @@ use Rattle.std.proofs.lemmas.List.{length-replicate}
 use Rattle.std.proofs.lemmas.Bool.{cases_eq}
 use Rattle.std.proofs.lemmas.Int.{ints}
 use Rattle.std.proofs.lemmas.List.Elements.{All-nil}
+use Rattle.lay_flow.specs.declared.flow_box.FlowBox.{FlowBox}
 use Rattle.lay_units.specs.declared.length.Unit.{Unit as Length}
 use Rattle.lay_margins.specs.Collapse.{Holds, collapse}
 use Rattle.lay_floats.specs.declared.placed.Placed.{Placed}
@@ -13,21 +14,20 @@ use Rattle.lay_floats.specs.declared.requests.Place.{Place}
 use Rattle.lay_floats.specs.ClearEdge.{IsClearEdge}
 use Rattle.lay_floats.specs.Within.{BoxWithin}
 use Rattle.lay_heights.specs.AutoHeights.{root_height_of}
-use Rattle.lay_flow.specs.declared.block.Block.{Block}
-use Rattle.lay_flow.specs.declared.shape.Shape.{Shape}
 use Rattle.lay_flow.specs.Lengths.{length_at, no_length}
-use Rattle.lay_flow.specs.BlockSizes.{IsBoxHeight}
+use Rattle.lay_flow.specs.BlockSizes.{IsBoxSize}
 use Rattle.lay_flow.specs.Children.{last_child, flag_at}
 use Rattle.lay_flow.specs.MarginRuns.{Entry, margins, block_at, run_at, run_before}
 use Rattle.lay_flow.specs.BlockPositions.{Extents, start_below, start_before, border_height, content_height, is_solid}
 use Rattle.lay_flow.specs.BlockLayout.{BlockLayout, IsBlockLayout}
-use Rattle.lay_flow.specs.BlockFloats.{AreShapes, shape_at, place_at, no_place, floats_before}
+use Rattle.lay_flow.specs.BlockFloats.{shape_at, place_at, no_place, floats_before}
 use Rattle.lay_flow.specs.ContextFlow.{AreContextPlaces}
-use Rattle.lay_flow.specs.BlockPass.{PassState, Settled}
-use Rattle.lay_flow.specs.BlockSizes.{AreBlocks}
-use Rattle.lay_flow.specs.PassBounds.{StrutFits, StateFits, IsMarkNear, IsCollapseNear, AreBoxHeights, reach}
-use Rattle.lay_flow.specs.PlacesTo.{Placing, PlacesTo}
-use Rattle.lay_flow.specs.PassKnows.{Knows, MayBe, IsCandidate, AreExtentsKept, ArePlacesKept}
+use Rattle.lay_flow.specs.Pass.State.{PassState, Settled}
+use Rattle.lay_flow.specs.FlowBoxes.{AreFlowBoxes}
+use Rattle.lay_flow.specs.Pass.Bounds.{StrutFits, StateFits, IsMarkNear, IsCollapseNear, AreBoxHeights, reach}
+use Rattle.lay_flow.specs.Pass.Placed.{Placing, PlacesTo, IsPlaceNear}
+use Rattle.lay_flow.specs.Pass.Knows.{Knows, MayBe, IsCandidate, AreExtentsKept, ArePlacesKept}
+use Rattle.lay_flow.proofs.FlowBoxFacts.{block_fits, root_flows}
 use Rattle.lay_flow.proofs.ContentHeights.{content_bottom, content_root}
 use Rattle.lay_flow.proofs.BlockLayoutLaws.{some_block_layout_lem, same_lengths}
 use Rattle.lay_flow.proofs.LayoutFacts.{start_first, start_next}
@@ -52,18 +52,18 @@ entry_at (suc n) (suc k) = entry_at n k
 pub lengths_at : (n k : ℕ) → length_at (replicate n no_length) k ≡ pos 0
 lengths_at n k = ap (λ (v : Length). v.0) (entry_at n k)
 
-module _ (parents : List ℕ) (blocks : List Block) (shapes : List Shape) (input : AreBlocks parents blocks) where
-  root_mark : (extents : Extents) (clear_edges : List Length) (y : BlockLayout) → IsBlockLayout parents blocks extents clear_edges y → length_at y.places.marks 0 ≡ pos 0
-  root_mark extents clear_edges y is = is.has_positions.mark 0 input.some
+module _ (boxes : List FlowBox) (input : AreFlowBoxes boxes) where
+  root_mark : (extents : Extents) (clear_edges : List Length) (y : BlockLayout) → IsBlockLayout boxes extents clear_edges y → length_at y.places.marks 0 ≡ pos 0
+  root_mark extents clear_edges y is = is.has_positions.mark 0 input.is_tree.some
 
-  pub knows_first : (now : PassState) (placing : Placing) → AreShapes parents blocks shapes → placing.extents ≡ replicate (length parents) no_length → placing.floats ≡ [] → placing.places ≡ no_place ∷ [] → length now.marks ≡ length parents → length now.heights ≡ length parents → length now.through ≡ length parents → length now.clears ≡ length parents → length now.clear_edges ≡ length parents → now.first ≡ 1 → now.hangs ≡ false
-      → Holds now.strut [] → StrutFits now.strut → now.start ≡ (block_at blocks 0).edge_top.0
+  pub knows_first : (now : PassState) (placing : Placing) → placing.extents ≡ replicate (length boxes) no_length → placing.floats ≡ [] → placing.places ≡ no_place ∷ [] → length now.marks ≡ length boxes → length now.heights ≡ length boxes → length now.through ≡ length boxes → length now.clears ≡ length boxes → length now.clear_edges ≡ length boxes → now.first ≡ 1 → now.hangs ≡ false
+      → Holds now.strut [] → StrutFits now.strut → now.start ≡ (block_at boxes 0).edge_top.0
       → ((j : ℕ) → length_at now.marks j ≡ pos 0) → ((j : ℕ) → length_at now.heights j ≡ pos 0) → ((j : ℕ) → flag_at now.through j ≡ false)
       → ((j : ℕ) → flag_at now.clears j ≡ false) → ((j : ℕ) → length_at now.clear_edges j ≡ pos 0)
-      → Knows parents blocks shapes now placing 0 1
-  knows_first now placing are extents_is floats_is places_is l1 l2 l3 l4 l5 first hangs holds fits start marks heights flags clears edges =
-      let some = input.some in
-      let inset = (input.block 0 some).edge_top in
+      → Knows boxes now placing 0 1
+  knows_first now placing extents_is floats_is places_is l1 l2 l3 l4 l5 first hangs holds fits start marks heights flags clears edges =
+      let some = input.is_tree.some in
+      let inset = (block_fits boxes input 0 some).edge_top in
       let a = inset.0 in let b = inset.1 in
       record {
         fits = record {
@@ -84,22 +84,24 @@ module _ (parents : List ℕ) (blocks : List Block) (shapes : List Shape) (input
         near = (omega (arith, ints, a, b, start), omega (arith, ints, a, b, start));
         is_at = λ extents clear_edges y may_be candidate.
             let mark = root_mark extents clear_edges y candidate.is_layout in
-            begins parents blocks extents clear_edges y candidate.is_layout input.tree now some first hangs holds
-            (start ∙ zero_plus (length_at y.places.marks 0) (block_at blocks 0).edge_top.0 mark) (marks 0 ∙ sym mark) flags;
+            begins boxes extents clear_edges y candidate.is_layout input.is_tree.tree now some first hangs holds
+            (start ∙ zero_plus (length_at y.places.marks 0) (block_at boxes 0).edge_top.0 mark) (marks 0 ∙ sym mark) flags;
         are_clears = record { clears_length = l4; edges_length = l5; later = λ j le. clears j; root = clears 0; float = λ k side e. clears k; no_edge = λ k off. edges k };
         decided = λ k low lt. absurd (omega (arith, low, lt));
-        no_extents = λ j flow. ap (λ (xs : List Length). length_at xs j) extents_is ∙ lengths_at (length parents) j;
-        placed = let one : length placing.places ≡ 1 = ap (λ (ps : List Place). length ps) places_is in subst (λ (n : ℕ). PlacesTo parents blocks shapes now.marks placing n) (sym one) placed_first;
+        no_extents = λ j flow. ap (λ (xs : List Length). length_at xs j) extents_is ∙ lengths_at (length boxes) j;
+        placed = let one : length placing.places ≡ 1 = ap (λ (ps : List Place). length ps) places_is in subst (λ (n : ℕ). PlacesTo boxes now.marks placing n) (sym one) placed_first;
         early = let one : length placing.places ≡ 1 = ap (λ (ps : List Place). length ps) places_is in omega (arith, one, first);
       }
     where
-      placed_first : PlacesTo parents blocks shapes now.marks placing 1
+      placed_first : PlacesTo boxes now.marks placing 1
       placed_first = record {
         some = omega arith;
         places_length = ap (λ (ps : List Place). length ps) places_is;
-        extents_length = ap (λ (xs : List Length). length xs) extents_is ∙ length-replicate (length parents) no_length;
-        floats_are = floats_is ∙ sym (no_float (shape_at shapes 0).float are.root);
+        extents_length = ap (λ (xs : List Length). length xs) extents_is ∙ length-replicate (length boxes) no_length;
+        floats_are = floats_is ∙ sym (no_float (shape_at boxes 0).float (root_flows boxes input.is_tree));
         within = let none : All (BoxWithin (reach 1)) [] = All-nil (BoxWithin (reach 1)) in subst (λ (fs : List Placed). All (BoxWithin (reach 1)) fs) (sym floats_is) none;
+        near = λ k lt. let e : k ≡ 0 = omega (arith, lt) in let none : place_at placing.places k ≡ no_place = ap (place_at placing.places) e ∙ ap (λ (ps : List Place). place_at ps 0) places_is in
+            subst (IsPlaceNear 1) (sym none) (record { x = (omega (arith, ints), omega (arith, ints)); y = (omega (arith, ints), omega (arith, ints)) });
         root = ap (λ (ps : List Place). place_at ps 0) places_is;
         float = λ k side some lt e. absurd (omega (arith, some, lt));
         solid = λ k some lt e. absurd (omega (arith, some, lt));
@@ -108,15 +110,15 @@ module _ (parents : List ℕ) (blocks : List Block) (shapes : List Shape) (input
         other = λ k some lt e s. absurd (omega (arith, some, lt));
       }
         where
-          no_float : (o : Option Side) → (shape_at shapes 0).float ≡ None → floats_before shapes placing.places 1 ≡ []
+          no_float : (o : Option Side) → (shape_at boxes 0).float ≡ None → floats_before boxes placing.places 1 ≡ []
           no_float o e = rw e refl
 
       zero_plus : (m e : ℤ) → m ≡ pos 0 → e ≡ m +ℤ e
       zero_plus m e z = omega (arith, ints, z)
 
   -- where the content of the context's own box ends
-  root_bottom : (y : BlockLayout) → content_bottom parents blocks y.runs y.places 0 ≡ start_before parents blocks y.runs y.places 0 (length parents) +ℤ collapse (margins (run_before parents blocks y.runs 0 (length parents)))
-  root_bottom y = go (last_child parents 0 (length parents)) refl
+  root_bottom : (y : BlockLayout) → content_bottom boxes y.runs y.places 0 ≡ start_before boxes y.runs y.places 0 (length boxes) +ℤ collapse (margins (run_before boxes y.runs 0 (length boxes)))
+  root_bottom y = go (last_child boxes 0 (length boxes)) refl
     where
       plus_none : (v : ℤ) → v ≡ v +ℤ collapse []
       plus_none v = omega (arith, ints)
@@ -124,54 +126,54 @@ module _ (parents : List ℕ) (blocks : List Block) (shapes : List Shape) (input
       two : (a b : ℤ) (xs zs : List Entry) → a ≡ b → xs ≡ zs → a +ℤ collapse (margins xs) ≡ b +ℤ collapse (margins zs)
       two a b xs zs e f = rw (e, f) refl
 
-      go : (o : Option ℕ) → last_child parents 0 (length parents) ≡ o → content_bottom parents blocks y.runs y.places 0 ≡ start_before parents blocks y.runs y.places 0 (length parents) +ℤ collapse (margins (run_before parents blocks y.runs 0 (length parents)))
+      go : (o : Option ℕ) → last_child boxes 0 (length boxes) ≡ o → content_bottom boxes y.runs y.places 0 ≡ start_before boxes y.runs y.places 0 (length boxes) +ℤ collapse (margins (run_before boxes y.runs 0 (length boxes)))
       go None e =
-          let run : run_before parents blocks y.runs 0 (length parents) ≡ [] = first_comes parents blocks y.runs 0 (length parents) e in
-          let start : start_before parents blocks y.runs y.places 0 (length parents) ≡ length_at y.places.marks 0 +ℤ (block_at blocks 0).edge_top.0 = start_first parents blocks y.runs y.places 0 (length parents) e in
-          let bottom : content_bottom parents blocks y.runs y.places 0 ≡ length_at y.places.marks 0 +ℤ (block_at blocks 0).edge_top.0 = rw e refl in
-          bottom ∙ sym start ∙ plus_none (start_before parents blocks y.runs y.places 0 (length parents)) ∙ sym (ap (λ (run : List Entry). start_before parents blocks y.runs y.places 0 (length parents) +ℤ collapse (margins run)) run)
+          let run : run_before boxes y.runs 0 (length boxes) ≡ [] = first_comes boxes y.runs 0 (length boxes) e in
+          let start : start_before boxes y.runs y.places 0 (length boxes) ≡ length_at y.places.marks 0 +ℤ (block_at boxes 0).edge_top.0 = start_first boxes y.runs y.places 0 (length boxes) e in
+          let bottom : content_bottom boxes y.runs y.places 0 ≡ length_at y.places.marks 0 +ℤ (block_at boxes 0).edge_top.0 = rw e refl in
+          bottom ∙ sym start ∙ plus_none (start_before boxes y.runs y.places 0 (length boxes)) ∙ sym (ap (λ (run : List Entry). start_before boxes y.runs y.places 0 (length boxes) +ℤ collapse (margins run)) run)
       go (Some c) e =
-          let run = next_comes parents blocks y.runs 0 (length parents) c e in
-          let start = start_next parents blocks y.runs y.places 0 (length parents) c e in
-          let bottom : content_bottom parents blocks y.runs y.places 0 ≡ start_below y.runs y.places c +ℤ collapse (margins (run_at y.runs.to_bottoms c)) = rw e refl in
-          bottom ∙ two (start_below y.runs y.places c) (start_before parents blocks y.runs y.places 0 (length parents)) (run_at y.runs.to_bottoms c) (run_before parents blocks y.runs 0 (length parents)) (sym start) (sym run)
+          let run = next_comes boxes y.runs 0 (length boxes) c e in
+          let start = start_next boxes y.runs y.places 0 (length boxes) c e in
+          let bottom : content_bottom boxes y.runs y.places 0 ≡ start_below y.runs y.places c +ℤ collapse (margins (run_at y.runs.to_bottoms c)) = rw e refl in
+          bottom ∙ two (start_below y.runs y.places c) (start_before boxes y.runs y.places 0 (length boxes)) (run_at y.runs.to_bottoms c) (run_before boxes y.runs 0 (length boxes)) (sym start) (sym run)
 
   pub all_places : (now : PassState) (placing placing' : Placing) (marks heights : List Length) (bottom : Option Length) (end mark height : ℤ)
-      → Knows parents blocks shapes now placing 0 (length parents)
+      → Knows boxes now placing 0 (length boxes)
       → RunEnds now.hangs now.start now.strut end
-      → Settled parents now.through now.marks marks now.first (length parents) end
-      → PlacesTo parents blocks shapes marks placing' (length parents) → AreExtentsKept blocks (length placing.places) placing.extents placing'.extents → ArePlacesKept placing.places placing'.places
+      → Settled boxes now.through now.marks marks now.first (length boxes) end
+      → PlacesTo boxes marks placing' (length boxes) → AreExtentsKept boxes (length placing.places) placing.extents placing'.extents → ArePlacesKept placing.places placing'.places
       → IsClearEdge placing'.floats clear_both bottom
-      → mark ≡ length_at marks 0 → height ≡ border_height (block_at blocks 0) (pos 0) (root_height_of (record { 0 = mark +ℤ (block_at blocks 0).edge_top.0 }) (record { 0 = end }) bottom)
+      → mark ≡ length_at marks 0 → height ≡ border_height (block_at boxes 0) (pos 0) (root_height_of (record { 0 = mark +ℤ (block_at boxes 0).edge_top.0 }) (record { 0 = end }) bottom)
       → Wrote length_at now.heights heights 0 height
-      → AreContextPlaces parents blocks shapes marks heights placing'.places
+      → AreContextPlaces boxes marks heights placing'.places
   all_places now placing placing' marks heights bottom end mark height known ends settled placed kept same is_bottom marked is_height wrote =
       let extents : Extents = record { solid = placing'.extents; floats = bottom } in
-      let n : ℕ = length parents in
+      let n : ℕ = length boxes in
       let edges = now.clear_edges in
-      let there = some_block_layout_lem parents blocks extents edges now.clears input.tree input.some known.are_clears.clears_length in
+      let there = some_block_layout_lem boxes extents edges now.clears input.is_tree.tree input.is_tree.some known.are_clears.clears_length in
       let y : BlockLayout = there.0 in
       let is = there.2 in
       let clears : (k : ℕ) → flag_at y.runs.clears k ≡ flag_at now.clears k = λ k. ap (λ (flags : List Bool). flag_at flags k) there.1 in
-      let candidate : IsCandidate parents blocks extents edges y now.clears edges n = record { is_layout = is; clears = λ j lt. clears j; edge = λ j lt t. refl } in
+      let candidate : IsCandidate boxes extents edges y now.clears edges n = record { is_layout = is; clears = λ j lt. clears j; edge = λ j lt t. refl } in
       let positive = known.fits.first_least in
-      let may_be : MayBe blocks placing extents = λ j low lt solid. kept j (λ s. lt) in
-      let no_extents = no_extents_kept blocks placing.extents placing'.extents (length placing.places) known.placed.some kept known.no_extents in
+      let may_be : MayBe boxes placing extents = λ j low lt solid. kept j (λ s. lt) in
+      let no_extents = no_extents_kept boxes placing.extents placing'.extents (length placing.places) known.placed.some kept known.no_extents in
       let no_root : length_at placing'.extents 0 ≡ pos 0 = no_extents 0 (λ low. absurd (omega (arith, low))) in
       let at = known.is_at extents edges y may_be candidate in
-      let through : flag_at y.runs.through 0 ≡ false = is.has_runs.through 0 input.some in
+      let through : flag_at y.runs.through 0 ≡ false = is.has_runs.through 0 input.is_tree.some in
       let root = at.so_far.marked.stands 0 positive (at.so_far.open_yet 0 (omega arith) at.in_run.gathered.inside) through in
-      let each_mark = all_marks parents blocks extents edges y is input.tree now at end ends marks root settled in
-      let content : length_at y.places.heights 0 ≡ border_height (block_at blocks 0) (length_at placing'.extents 0) (content_height parents blocks y.runs bottom y.places 0) = is.has_positions.height 0 input.some ∙ rw through refl in
-      let mark_is = marked ∙ each_mark 0 input.some in
-      let end_is = reach_end parents blocks extents edges y is input.tree now at end ends ∙ sym (root_bottom y) in
+      let each_mark = all_marks boxes extents edges y is input.is_tree.tree now at end ends marks root settled in
+      let content : length_at y.places.heights 0 ≡ border_height (block_at boxes 0) (length_at placing'.extents 0) (content_height boxes y.runs bottom y.places 0) = is.has_positions.height 0 input.is_tree.some ∙ rw through refl in
+      let mark_is = marked ∙ each_mark 0 input.is_tree.some in
+      let end_is = reach_end boxes extents edges y is input.is_tree.tree now at end ends ∙ sym (root_bottom y) in
       let height_is : height ≡ length_at y.places.heights 0 = is_height
-      ∙ (λ i. border_height (block_at blocks 0) (sym no_root i) (root_height_of (record { 0 = mark_is i +ℤ (block_at blocks 0).edge_top.0 }) (record { 0 = end_is i }) bottom))
-      ∙ ap (λ (v : ℤ). border_height (block_at blocks 0) (length_at placing'.extents 0) v) (sym (content_root parents blocks y.runs bottom y.places)) ∙ sym content in
+      ∙ (λ i. border_height (block_at boxes 0) (sym no_root i) (root_height_of (record { 0 = mark_is i +ℤ (block_at boxes 0).edge_top.0 }) (record { 0 = end_is i }) bottom))
+      ∙ ap (λ (v : ℤ). border_height (block_at boxes 0) (length_at placing'.extents 0) v) (sym (content_root boxes y.runs bottom y.places)) ∙ sym content in
       let marks_length = settled.length_is ∙ known.fits.marks_length in
       let heights_length = wrote.length_is ∙ known.fits.heights_length in
       let tops_are = same_lengths marks y.places.marks (marks_length ∙ sym is.has_positions.marks_length) (λ k lt. each_mark k (omega (arith, lt, marks_length))) in
-      let stands = subst (λ (ms : List Length). PlacesTo parents blocks shapes ms placing' n) tops_are placed in
+      let stands = subst (λ (ms : List Length). PlacesTo boxes ms placing' n) tops_are placed in
       record {
         flow = record { layout = y; extents = extents; clear_edges = edges; places = placing'.places };
         is_flow = record {
@@ -195,22 +197,22 @@ module _ (parents : List ℕ) (blocks : List Block) (shapes : List Shape) (input
         tops_are = tops_are;
         heights_are = same_lengths heights y.places.heights (heights_length ∙ sym is.has_positions.heights_length) (λ k lt. elim (cases_eq k 0) [
           | inl z ↦ subst (λ (k : ℕ). length_at heights k ≡ length_at y.places.heights k) (sym z) (wrote.here ∙ height_is)
-          | inr ne ↦ wrote.other k ne ∙ all_heights parents blocks extents edges y is input.tree now at end ends k (omega (arith, ne)) (omega (arith, lt, heights_length))
+          | inr ne ↦ wrote.other k ne ∙ all_heights boxes extents edges y is input.is_tree.tree now at end ends k (omega (arith, ne)) (omega (arith, lt, heights_length))
         ]);
         places_are = refl;
       }
 
-  pub near_tops : (now : PassState) (marks : List Length) (end : ℤ) → StateFits parents blocks now 0 (length parents)
+  pub near_tops : (now : PassState) (marks : List Length) (end : ℤ) → StateFits boxes now 0 (length boxes)
       → IsCollapseNear (end -ℤ now.start)
-      → Settled parents now.through now.marks marks now.first (length parents) end
+      → Settled boxes now.through now.marks marks now.first (length boxes) end
       → (k : ℕ) → IsMarkNear k (length_at marks k)
   near_tops now marks end fits ended settled k =
-      settled_near parents now.through now.marks marks now.first (length parents) end input.tree fits.first_least (omega arith) fits.mark_near
+      settled_near boxes now.through now.marks marks now.first (length boxes) end input.is_tree.tree fits.first_least (omega arith) fits.mark_near
       (λ i le. end_near now.first i now.start end fits.start_near ended le) settled (k + 1) k (omega arith)
 
-  pub sized_boxes : (now : PassState) (heights : List Length) (height : ℤ) → StateFits parents blocks now 0 (length parents) → (is_solid (block_at blocks 0).inside ≡ false → IsBoxHeight height) → Wrote length_at now.heights heights 0 height
-      → AreBoxHeights blocks heights
+  pub sized_boxes : (now : PassState) (heights : List Length) (height : ℤ) → StateFits boxes now 0 (length boxes) → (is_solid (block_at boxes 0).inside ≡ false → IsBoxSize height) → Wrote length_at now.heights heights 0 height
+      → AreBoxHeights boxes heights
   sized_boxes now heights height fits size wrote k lt flow = elim (cases_eq k 0) [
-    | inl e ↦ (let h = wrote.here in subst (λ (k : ℕ). IsBoxHeight (length_at heights k)) (sym e) (subst IsBoxHeight (sym h) (size (sym (ap (λ (k : ℕ). is_solid (block_at blocks k).inside) e) ∙ flow))))
-    | inr ne ↦ subst IsBoxHeight (sym (wrote.other k ne)) (fits.sized k flow)
+    | inl e ↦ (let h = wrote.here in subst (λ (k : ℕ). IsBoxSize (length_at heights k)) (sym e) (subst IsBoxSize (sym h) (size (sym (ap (λ (k : ℕ). is_solid (block_at boxes k).inside) e) ∙ flow))))
+    | inr ne ↦ subst IsBoxSize (sym (wrote.other k ne)) (fits.sized k flow)
   ]

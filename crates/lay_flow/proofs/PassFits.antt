@@ -1,19 +1,21 @@
 -- The numbers of a pass stay within their bounds.
-use Rattle.std.proofs.Common.{◌≡◌, ℕ, zero, suc, ◌+◌, ◌<◌, ◌≤◌, Bool, true, false, ℤ, pos, neg_ℤ, ◌≤ℤ◌, ◌+ℤ◌, ◌-ℤ◌, List, length, slice_index, refl, sym, ◌∙◌, arith, inl, inr, subst}
+use Rattle.std.proofs.Common.{◌≡◌, ℕ, zero, suc, ◌+◌, ◌<◌, ◌≤◌, Bool, true, false, ℤ, pos, neg_ℤ, ◌≤ℤ◌, ◌+ℤ◌, ◌-ℤ◌, List, length, refl, sym, ◌∙◌, arith, inl, inr, subst}
 use Rattle.std.proofs.lemmas.Bool.{cases_lt, cases_eq}
 use Rattle.std.proofs.lemmas.Int.{ints}
+use Rattle.lay_flow.specs.declared.flow_box.FlowBox.{FlowBox}
+use Rattle.lay_flow.specs.Boxes.{parent_at, parents_of}
+use Rattle.lay_flow.proofs.BoxTrees.{parent_before}
 use Rattle.lay_units.specs.Units.{IsPosition}
 use Rattle.lay_units.specs.declared.length.Unit.{Unit as Length}
 use Rattle.lay_margins.specs.StrutValue.{StrutValue}
 use Rattle.lay_doc.specs.Tree.{IsTree}
-use Rattle.lay_flow.specs.declared.block.Block.{Block}
 use Rattle.lay_flow.specs.Lengths.{length_at}
-use Rattle.lay_flow.specs.BlockSizes.{IsInset, IsBoxHeight}
+use Rattle.lay_flow.specs.BlockSizes.{IsInset, IsBoxSize, IsNear}
 use Rattle.lay_flow.specs.Children.{flag_at}
 use Rattle.lay_flow.specs.MarginRuns.{block_at, parts_tops}
 use Rattle.lay_flow.specs.BlockPositions.{is_solid}
-use Rattle.lay_flow.specs.BlockPass.{PassState, Settled}
-use Rattle.lay_flow.specs.PassBounds.{StrutFits, StateFits, IsStartNear, IsRunNear, IsEdgeNear, IsMarkNear, IsCollapseNear, IsNear, reach}
+use Rattle.lay_flow.specs.Pass.State.{PassState, Settled}
+use Rattle.lay_flow.specs.Pass.Bounds.{StrutFits, StateFits, IsStartNear, IsRunNear, IsEdgeNear, IsMarkNear, IsCollapseNear, reach}
 use Rattle.lay_flow.proofs.Openings.{pushed}
 use Rattle.lay_flow.proofs.SoFar.{Wrote}
 use Rattle.lay_flow.proofs.Truths.{true_false, true_or}
@@ -31,7 +33,7 @@ end_near f k start end near collapsed le =
     (omega (arith, ints, a, c, le), omega (arith, ints, b, d, le))
 
 -- the start of a run under a box, or at the top of its content
-pub below_near : (k f : ℕ) (mark height start : ℤ) → IsMarkNear k mark → IsBoxHeight height → start ≡ mark +ℤ height → k < f → IsStartNear f start
+pub below_near : (k f : ℕ) (mark height start : ℤ) → IsMarkNear k mark → IsBoxSize height → start ≡ mark +ℤ height → k < f → IsStartNear f start
 below_near k f mark height start near size e lt =
     let a = near.0 in let b = near.1 in let c = size.0 in let d = size.1 in
     (omega (arith, ints, a, c, d, e, lt), omega (arith, ints, b, c, d, e, lt))
@@ -62,35 +64,35 @@ above_near k edge start near collapsed = let a = near.0 in let b = near.1 in let
 pub run_later_near : (j k : ℕ) (v : ℤ) → j < k → IsRunNear j v → IsStartNear k v
 run_later_near j k v lt near = let a = near.0 in let b = near.1 in (omega (arith, ints, a, lt), omega (arith, ints, b, lt))
 
-pub inset_height : (v : ℤ) → IsInset v → IsBoxHeight v
+pub inset_height : (v : ℤ) → IsInset v → IsBoxSize v
 inset_height v i = let a = i.0 in let b = i.1 in (a, omega (arith, ints, b))
 
 higher_near : (j k : ℕ) (v : ℤ) → j ≤ k → IsMarkNear j v → IsMarkNear k v
 higher_near j k v le near = let a = near.0 in let b = near.1 in (omega (arith, ints, a, le), omega (arith, ints, b, le))
 
 -- the marks once a run has ended
-pub settled_near : (parents : List ℕ) (flags : List Bool) (old new : List Length) (f m : ℕ) (end : ℤ) → IsTree parents → 0 < f → m ≤ length parents
-    → ((j : ℕ) → IsMarkNear j (length_at old j)) → ((j : ℕ) → f ≤ j → IsMarkNear j end) → Settled parents flags old new f m end
+pub settled_near : (boxes : List FlowBox) (flags : List Bool) (old new : List Length) (f m : ℕ) (end : ℤ) → IsTree (parents_of boxes) → 0 < f → m ≤ length boxes
+    → ((j : ℕ) → IsMarkNear j (length_at old j)) → ((j : ℕ) → f ≤ j → IsMarkNear j end) → Settled boxes flags old new f m end
     → (n j : ℕ) → j < n → IsMarkNear j (length_at new j)
-settled_near parents flags old new f m end tree positive within was ended settled zero j lt = absurd (omega (arith, lt))
-settled_near parents flags old new f m end tree positive within was ended settled (suc n) j lt = elim (cases_lt j f) [
+settled_near boxes flags old new f m end tree positive within was ended settled zero j lt = absurd (omega (arith, lt))
+settled_near boxes flags old new f m end tree positive within was ended settled (suc n) j lt = elim (cases_lt j f) [
   | inl low ↦ subst (IsMarkNear j) (sym (settled.before j low)) (was j)
   | inr high ↦ elim (cases_lt j m) [
     | inl inside ↦ true_or (flag_at flags j) (IsMarkNear j (length_at new j))
-        (λ code. elim (cases_lt (slice_index parents j) f) [
+        (λ code. elim (cases_lt (parent_at boxes j) f) [
           | inl low ↦ subst (IsMarkNear j) (sym (settled.keeps j high inside code low)) (was j)
-          | inr up ↦ (let b = tree.before j (omega (arith, positive, high)) (omega (arith, inside, within)) in
+          | inr up ↦ (let b = parent_before boxes tree j (omega (arith, positive, high)) (omega (arith, inside, within)) in
               subst (IsMarkNear j) (sym (settled.inherits j high inside code up))
-              (higher_near (slice_index parents j) j (length_at new (slice_index parents j)) (omega (arith, b))
-              (settled_near parents flags old new f m end tree positive within was ended settled n (slice_index parents j) (omega (arith, b, lt)))))
+              (higher_near (parent_at boxes j) j (length_at new (parent_at boxes j)) (omega (arith, b))
+              (settled_near boxes flags old new f m end tree positive within was ended settled n (parent_at boxes j) (omega (arith, b, lt)))))
         ])
         (λ code. subst (IsMarkNear j) (sym (settled.stands j high inside code)) (ended j high))
     | inr after ↦ subst (IsMarkNear j) (sym (settled.after j after)) (was j)
   ]
 ]
 
-module _ (parents : List ℕ) (tree : IsTree parents) (blocks : List Block) (now : PassState) where
-  pub fits_opened : (k : ℕ) (strut : StrutValue) → k < length parents → parts_tops blocks k ≡ false → StateFits parents blocks now (slice_index parents k) k → StrutFits strut → StateFits parents blocks (pushed now strut) k (k + 1)
+module _ (boxes : List FlowBox) (tree : IsTree (parents_of boxes)) (now : PassState) where
+  pub fits_opened : (k : ℕ) (strut : StrutValue) → k < length boxes → parts_tops boxes k ≡ false → StateFits boxes now (parent_at boxes k) k → StrutFits strut → StateFits boxes (pushed now strut) k (k + 1)
   fits_opened k strut within plain was fits = record {
     parent = omega arith;
     within = omega (arith, within);
@@ -106,13 +108,13 @@ module _ (parents : List ℕ) (tree : IsTree parents) (blocks : List Block) (now
     sized = was.sized;
     unparted = λ j low high. elim (cases_lt j k) [
       | inl lt ↦ was.unparted j low lt
-      | inr ge ↦ (let e : j ≡ k = omega (arith, ge, high) in subst (λ (j : ℕ). parts_tops blocks j ≡ false) (sym e) plain)
+      | inr ge ↦ (let e : j ≡ k = omega (arith, ge, high) in subst (λ (j : ℕ). parts_tops boxes j ≡ false) (sym e) plain)
     ];
   }
 
-  pub fits_parting : (k : ℕ) (marks : List Length) (end start : ℤ) (strut' : StrutValue) → k < length parents → StateFits parents blocks now (slice_index parents k) k
-      → Settled parents now.through now.marks marks now.first (k + 1) end → IsCollapseNear (end -ℤ now.start) → IsStartNear (k + 1) start → StrutFits strut'
-      → StateFits parents blocks (record now { marks = marks; start = start; strut = strut'; first = k + 1; hangs = false }) k (k + 1)
+  pub fits_parting : (k : ℕ) (marks : List Length) (end start : ℤ) (strut' : StrutValue) → k < length boxes → StateFits boxes now (parent_at boxes k) k
+      → Settled boxes now.through now.marks marks now.first (k + 1) end → IsCollapseNear (end -ℤ now.start) → IsStartNear (k + 1) start → StrutFits strut'
+      → StateFits boxes (record now { marks = marks; start = start; strut = strut'; first = k + 1; hangs = false }) k (k + 1)
   fits_parting k marks end start strut' within was settled ended near fits' = record {
     parent = omega arith;
     within = omega (arith, within);
@@ -123,16 +125,16 @@ module _ (parents : List ℕ) (tree : IsTree parents) (blocks : List Block) (now
     through_length = was.through_length;
     start_near = run_near (k + 1) start near;
     edge_near = λ t. absurd (true_false false t refl);
-    mark_near = λ j. settled_near parents now.through now.marks marks now.first (k + 1) end tree was.first_least (omega (arith, within)) was.mark_near
+    mark_near = λ j. settled_near boxes now.through now.marks marks now.first (k + 1) end tree was.first_least (omega (arith, within)) was.mark_near
         (λ i le. end_near now.first i now.start end was.start_near ended le) settled (j + 1) j (omega arith);
     strut_fits = fits';
     sized = was.sized;
     unparted = λ j low high. absurd (omega (arith, low, high));
   }
 
-  pub fits_cleared : (k : ℕ) (marks edges : List Length) (flags : List Bool) (end edge : ℤ) (strut' : StrutValue) → 0 < k → StateFits parents blocks now (slice_index parents k) k
-      → Settled parents now.through now.marks marks now.first k end → IsCollapseNear (end -ℤ now.start) → IsEdgeNear k edge → StrutFits strut'
-      → StateFits parents blocks (record now { marks = marks; clears = flags; clear_edges = edges; start = edge; strut = strut'; first = k; hangs = true }) (slice_index parents k) k
+  pub fits_cleared : (k : ℕ) (marks edges : List Length) (flags : List Bool) (end edge : ℤ) (strut' : StrutValue) → 0 < k → StateFits boxes now (parent_at boxes k) k
+      → Settled boxes now.through now.marks marks now.first k end → IsCollapseNear (end -ℤ now.start) → IsEdgeNear k edge → StrutFits strut'
+      → StateFits boxes (record now { marks = marks; clears = flags; clear_edges = edges; start = edge; strut = strut'; first = k; hangs = true }) (parent_at boxes k) k
   fits_cleared k marks edges flags end edge strut' positive was settled ended near fits' = record {
     parent = was.parent;
     within = was.within;
@@ -143,18 +145,18 @@ module _ (parents : List ℕ) (tree : IsTree parents) (blocks : List Block) (now
     through_length = was.through_length;
     start_near = edge_run_near k edge near;
     edge_near = λ t. near;
-    mark_near = λ j. settled_near parents now.through now.marks marks now.first k end tree was.first_least was.within was.mark_near
+    mark_near = λ j. settled_near boxes now.through now.marks marks now.first k end tree was.first_least was.within was.mark_near
         (λ i le. end_near now.first i now.start end was.start_near ended le) settled (j + 1) j (omega arith);
     strut_fits = fits';
     sized = was.sized;
     unparted = λ j low high. absurd (omega (arith, low, high));
   }
 
-  module _ (p m : ℕ) (positive : 0 < p) (was : StateFits parents blocks now p m) where
-    up_less : slice_index parents p < p
-    up_less = let a = was.parent in let b = was.within in tree.before p positive (omega (arith, a, b))
+  module _ (p m : ℕ) (positive : 0 < p) (was : StateFits boxes now p m) where
+    up_less : parent_at boxes p < p
+    up_less = let a = was.parent in let b = was.within in parent_before boxes tree p positive (omega (arith, a, b))
 
-    up_parent : slice_index parents p < m
+    up_parent : parent_at boxes p < m
     up_parent = let a = was.parent in let b = up_less in omega (arith, a, b)
 
     written : {A : Type 0} (P : ℕ → A → Type 0) (read : List Length → ℕ → A) (old new : List Length) (v : A) → Wrote read old new p v → P p v → ((j : ℕ) → P j (read old j)) → (j : ℕ) → P j (read new j)
@@ -163,7 +165,7 @@ module _ (parents : List ℕ) (tree : IsTree parents) (blocks : List Block) (now
       | inr ne ↦ subst (P j) (sym (wrote.other j ne)) (each j)
     ]
 
-    pub fits_started : (start : ℤ) → now.hangs ≡ true → IsCollapseNear (now.start -ℤ start) → StateFits parents blocks (record now { start = start; hangs = false }) p m
+    pub fits_started : (start : ℤ) → now.hangs ≡ true → IsCollapseNear (now.start -ℤ start) → StateFits boxes (record now { start = start; hangs = false }) p m
     fits_started start hangs collapsed = record {
       parent = was.parent;
       within = was.within;
@@ -183,7 +185,7 @@ module _ (parents : List ℕ) (tree : IsTree parents) (blocks : List Block) (now
     pub fits_through : (marks heights : List Length) (flags : List Bool) (end : ℤ) (strut' : StrutValue) → now.first ≤ p
         → Wrote length_at now.marks marks p end → Wrote length_at now.heights heights p (pos 0) → Wrote flag_at now.through flags p true
         → IsCollapseNear (end -ℤ now.start) → StrutFits strut'
-        → StateFits parents blocks (record now { marks = marks; heights = heights; through = flags; strut = strut' }) (slice_index parents p) m
+        → StateFits boxes (record now { marks = marks; heights = heights; through = flags; strut = strut' }) (parent_at boxes p) m
     fits_through marks heights flags end strut' waits wrote_mark wrote_height wrote_flag ended fits' = record {
       parent = up_parent;
       within = was.within;
@@ -196,12 +198,12 @@ module _ (parents : List ℕ) (tree : IsTree parents) (blocks : List Block) (now
       edge_near = was.edge_near;
       mark_near = written IsMarkNear length_at now.marks marks end wrote_mark (end_near now.first p now.start end was.start_near ended waits) was.mark_near;
       strut_fits = fits';
-      sized = written (λ (j : ℕ) (v : ℤ). is_solid (block_at blocks j).inside ≡ false → IsBoxHeight v) length_at now.heights heights (pos 0) wrote_height (λ flow. (omega (arith, ints), omega (arith, ints))) was.sized;
+      sized = written (λ (j : ℕ) (v : ℤ). is_solid (block_at boxes j).inside ≡ false → IsBoxSize v) length_at now.heights heights (pos 0) wrote_height (λ flow. (omega (arith, ints), omega (arith, ints))) was.sized;
       unparted = was.unparted;
     }
 
-    pub fits_joined : (heights : List Length) (height start : ℤ) (strut' : StrutValue) → IsStartNear now.first start → IsBoxHeight height → Wrote length_at now.heights heights p height → StrutFits strut'
-        → StateFits parents blocks (record now { heights = heights; start = start; strut = strut' }) (slice_index parents p) m
+    pub fits_joined : (heights : List Length) (height start : ℤ) (strut' : StrutValue) → IsStartNear now.first start → IsBoxSize height → Wrote length_at now.heights heights p height → StrutFits strut'
+        → StateFits boxes (record now { heights = heights; start = start; strut = strut' }) (parent_at boxes p) m
     fits_joined heights height start strut' near size wrote fits' = record {
       parent = up_parent;
       within = was.within;
@@ -214,19 +216,19 @@ module _ (parents : List ℕ) (tree : IsTree parents) (blocks : List Block) (now
       edge_near = λ t. start_edge_near now.first start near;
       mark_near = was.mark_near;
       strut_fits = fits';
-      sized = written (λ (j : ℕ) (v : ℤ). is_solid (block_at blocks j).inside ≡ false → IsBoxHeight v) length_at now.heights heights height wrote (λ flow. size) was.sized;
+      sized = written (λ (j : ℕ) (v : ℤ). is_solid (block_at boxes j).inside ≡ false → IsBoxSize v) length_at now.heights heights height wrote (λ flow. size) was.sized;
       unparted = was.unparted;
     }
 
-    pub marks_settled : (marks : List Length) (end : ℤ) → Settled parents now.through now.marks marks now.first m end → IsCollapseNear (end -ℤ now.start)
+    pub marks_settled : (marks : List Length) (end : ℤ) → Settled boxes now.through now.marks marks now.first m end → IsCollapseNear (end -ℤ now.start)
         → (j : ℕ) → IsMarkNear j (length_at marks j)
-    marks_settled marks end settled ended j = settled_near parents now.through now.marks marks now.first m end tree was.first_least was.within was.mark_near
+    marks_settled marks end settled ended j = settled_near boxes now.through now.marks marks now.first m end tree was.first_least was.within was.mark_near
         (λ i le. end_near now.first i now.start end was.start_near ended le) settled (j + 1) j (omega arith)
 
     pub fits_parted : (marks heights : List Length) (end height start : ℤ) (strut' : StrutValue)
-        → Settled parents now.through now.marks marks now.first m end → IsCollapseNear (end -ℤ now.start)
-        → IsStartNear m start → (is_solid (block_at blocks p).inside ≡ false → IsBoxHeight height) → Wrote length_at now.heights heights p height → StrutFits strut'
-        → StateFits parents blocks (record now { marks = marks; heights = heights; start = start; strut = strut'; first = m; hangs = false }) (slice_index parents p) m
+        → Settled boxes now.through now.marks marks now.first m end → IsCollapseNear (end -ℤ now.start)
+        → IsStartNear m start → (is_solid (block_at boxes p).inside ≡ false → IsBoxSize height) → Wrote length_at now.heights heights p height → StrutFits strut'
+        → StateFits boxes (record now { marks = marks; heights = heights; start = start; strut = strut'; first = m; hangs = false }) (parent_at boxes p) m
     fits_parted marks heights end height start strut' settled ended near size wrote fits' =
         let lt = was.parent in
         record {
@@ -241,11 +243,11 @@ module _ (parents : List ℕ) (tree : IsTree parents) (blocks : List Block) (now
           edge_near = λ t. absurd (true_false false t refl);
           mark_near = marks_settled marks end settled ended;
           strut_fits = fits';
-          sized = written (λ (j : ℕ) (v : ℤ). is_solid (block_at blocks j).inside ≡ false → IsBoxHeight v) length_at now.heights heights height wrote size was.sized;
+          sized = written (λ (j : ℕ) (v : ℤ). is_solid (block_at boxes j).inside ≡ false → IsBoxSize v) length_at now.heights heights height wrote size was.sized;
           unparted = λ j low high. absurd (omega (arith, low, high));
         }
 
-pub box_height_position : (h : ℤ) → IsBoxHeight h → IsPosition h
+pub box_height_position : (h : ℤ) → IsBoxSize h → IsPosition h
 box_height_position h size = let a = size.0 in let b = size.1 in (omega (arith, ints, a), omega (arith, ints, b))
 
 -- what is added to a mark to come to a bottom edge

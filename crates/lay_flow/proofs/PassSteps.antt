@@ -1,6 +1,9 @@
 -- What is known after each step of the pass.
-use Rattle.std.proofs.Common.{◌≡◌, ℕ, ◌+◌, ◌<◌, ◌≤◌, ◌==◌, ◌&&◌, ◌||◌, not, nat_lt, Bool, true, false, ℤ, pos, ◌+ℤ◌, ◌-ℤ◌, List, [], ◌∷◌, length, slice_index, refl, sym, ap, ◌∙◌, arith, inl, inr, subst}
+use Rattle.std.proofs.Common.{◌≡◌, ℕ, ◌+◌, ◌<◌, ◌≤◌, ◌==◌, ◌&&◌, ◌||◌, not, nat_lt, Bool, true, false, ℤ, pos, ◌+ℤ◌, ◌-ℤ◌, List, [], ◌∷◌, length, refl, sym, ap, ◌∙◌, arith, inl, inr, subst}
 use Rattle.std.proofs.lemmas.Bool.{cases_lt}
+use Rattle.lay_flow.specs.declared.flow_box.FlowBox.{FlowBox}
+use Rattle.lay_flow.specs.Boxes.{parent_at, parents_of}
+use Rattle.lay_flow.proofs.BoxTrees.{parent_before}
 use Rattle.lay_units.specs.declared.length.Unit.{Unit as Length}
 use Rattle.lay_margins.specs.StrutValue.{StrutValue}
 use Rattle.lay_margins.specs.Collapse.{Holds, collapse}
@@ -9,20 +12,19 @@ use Rattle.lay_floats.specs.FloatPlace.{IsFloatPlace}
 use Rattle.lay_floats.specs.SolidPlace.{IsSolidPlace}
 use Rattle.lay_floats.specs.Within.{IsWithin}
 use Rattle.lay_doc.specs.Tree.{IsTree}
-use Rattle.lay_flow.specs.declared.block.Block.{Block}
-use Rattle.lay_flow.specs.declared.shape.Shape.{Shape}
 use Rattle.lay_flow.specs.Lengths.{length_at}
-use Rattle.lay_flow.specs.BlockSizes.{IsBoxHeight}
+use Rattle.lay_flow.specs.BlockSizes.{IsBoxSize}
 use Rattle.lay_flow.specs.Children.{flag_at}
 use Rattle.lay_flow.specs.MarginRuns.{block_at, parts_tops, joins_bottom, may_collapse_through, may_join_bottoms}
 use Rattle.lay_flow.specs.BlockPositions.{Extents, border_height, is_solid}
 use Rattle.lay_flow.specs.BlockLayout.{BlockLayout}
 use Rattle.lay_flow.specs.BlockFloats.{shape_at, place_at, floats_before, float_request, solid_request, ceiling}
-use Rattle.lay_flow.specs.BlockPass.{PassState, IsAt, Settled}
-use Rattle.lay_flow.specs.BlockSizes.{AreBlocks}
-use Rattle.lay_flow.specs.PassBounds.{StrutFits, IsStartNear, IsMarkNear, IsCollapseNear, is_barred, reach}
-use Rattle.lay_flow.specs.PlacesTo.{Placing, PlacesTo}
-use Rattle.lay_flow.specs.PassKnows.{Knows, IsReady, MayBe, IsCandidate, HaveNoExtent, AreClears, AreDecided, AreExtentsKept, ArePlacesKept}
+use Rattle.lay_flow.specs.Pass.State.{PassState, IsAt, Settled}
+use Rattle.lay_flow.specs.FlowBoxes.{AreFlowBoxes}
+use Rattle.lay_flow.specs.Pass.Bounds.{StrutFits, IsStartNear, IsMarkNear, IsCollapseNear, is_barred, reach}
+use Rattle.lay_flow.specs.Pass.Placed.{Placing, PlacesTo}
+use Rattle.lay_flow.specs.Pass.Knows.{Knows, IsReady, MayBe, IsCandidate, HaveNoExtent, AreClears, AreDecided, AreExtentsKept, ArePlacesKept}
+use Rattle.lay_flow.proofs.FlowBoxFacts.{block_fits}
 use Rattle.lay_flow.proofs.ContentHeights.{same_border_height}
 use Rattle.lay_flow.proofs.BlockKinds.{joined_passes, joins_flow}
 use Rattle.lay_flow.proofs.Openings.{WithMargin, pushed, opened, opened_wall}
@@ -34,38 +36,39 @@ use Rattle.lay_flow.proofs.SoFar.{Wrote}
 use Rattle.lay_flow.proofs.Truths.{true_false, true_or, low_yes}
 
 -- boxes stay placed where the marks before them are the same
-pub placed_kept : (parents : List ℕ) (blocks : List Block) (shapes : List Shape) (old new : List Length) (now : Placing) (n : ℕ) → IsTree parents → n ≤ length parents
-    → PlacesTo parents blocks shapes old now n → ((j : ℕ) → j < n → length_at new j ≡ length_at old j) → PlacesTo parents blocks shapes new now n
-placed_kept parents blocks shapes old new now n tree within was same = record {
+pub placed_kept : (boxes : List FlowBox) (old new : List Length) (now : Placing) (n : ℕ) → IsTree (parents_of boxes) → n ≤ length boxes
+    → PlacesTo boxes old now n → ((j : ℕ) → j < n → length_at new j ≡ length_at old j) → PlacesTo boxes new now n
+placed_kept boxes old new now n tree within was same = record {
   some = was.some;
   places_length = was.places_length;
   extents_length = was.extents_length;
   floats_are = was.floats_are;
   within = was.within;
+  near = was.near;
   root = was.root;
   float = λ k side positive lt e.
       let mine = same k lt in
-      let up = tree.before k positive (omega (arith, lt, within)) in
-      let over = same (slice_index parents k) (omega (arith, up, lt)) in
-      let top : ceiling parents blocks new k ≡ ceiling parents blocks old k = rw (mine, over) refl in
-      subst (λ (v : ℤ). IsFloatPlace (floats_before shapes now.places k) (float_request (shape_at shapes k) side v) (place_at now.places k).x.0 (place_at now.places k).y.0) (sym top) (was.float k side positive lt e);
-  solid = λ k positive lt e. subst (λ (v : ℤ). IsSolidPlace (floats_before shapes now.places k) (solid_request (shape_at shapes k) v) (place_at now.places k).x.0 (place_at now.places k).y.0) (sym (same k lt)) (was.solid k positive lt e);
-  extent = λ k positive lt e. subst (λ (v : ℤ). length_at now.extents k ≡ (place_at now.places k).y.0 -ℤ v +ℤ (shape_at shapes k).height.0) (sym (same k lt)) (was.extent k positive lt e);
+      let up = parent_before boxes tree k positive (omega (arith, lt, within)) in
+      let over = same (parent_at boxes k) (omega (arith, up, lt)) in
+      let top : ceiling boxes new k ≡ ceiling boxes old k = rw (mine, over) refl in
+      subst (λ (v : ℤ). IsFloatPlace (floats_before boxes now.places k) (float_request (shape_at boxes k) side v) (place_at now.places k).x.0 (place_at now.places k).y.0) (sym top) (was.float k side positive lt e);
+  solid = λ k positive lt e. subst (λ (v : ℤ). IsSolidPlace (floats_before boxes now.places k) (solid_request (shape_at boxes k) v) (place_at now.places k).x.0 (place_at now.places k).y.0) (sym (same k lt)) (was.solid k positive lt e);
+  extent = λ k positive lt e. subst (λ (v : ℤ). length_at now.extents k ≡ (place_at now.places k).y.0 -ℤ v +ℤ (shape_at boxes k).height.0) (sym (same k lt)) (was.extent k positive lt e);
   low = λ k positive lt e. subst (λ (v : ℤ). IsWithin (reach n) (v +ℤ length_at now.extents k)) (sym (same k lt)) (was.low k positive lt e);
   other = was.other;
 }
 
 -- extents that may be at last when more boxes are placed
-pub may_before : (blocks : List Block) (old new : Placing) (extents : Extents) → length old.places ≤ length new.places → AreExtentsKept blocks (length old.places) old.extents new.extents
-    → MayBe blocks new extents → MayBe blocks old extents
-may_before blocks old new extents le kept may_be j some lt solid = may_be j some (omega (arith, lt, le)) solid ∙ kept j (λ s. lt)
+pub may_before : (boxes : List FlowBox) (old new : Placing) (extents : Extents) → length old.places ≤ length new.places → AreExtentsKept boxes (length old.places) old.extents new.extents
+    → MayBe boxes new extents → MayBe boxes old extents
+may_before boxes old new extents le kept may_be j some lt solid = may_be j some (omega (arith, lt, le)) solid ∙ kept j (λ s. lt)
 
-pub no_extents_kept : (blocks : List Block) (old new : List Length) (n : ℕ) → 0 < n → AreExtentsKept blocks n old new → HaveNoExtent blocks old → HaveNoExtent blocks new
-no_extents_kept blocks old new n some kept was j flow = kept j early ∙ was j flow
+pub no_extents_kept : (boxes : List FlowBox) (old new : List Length) (n : ℕ) → 0 < n → AreExtentsKept boxes n old new → HaveNoExtent boxes old → HaveNoExtent boxes new
+no_extents_kept boxes old new n some kept was j flow = kept j early ∙ was j flow
   where
-    early : is_solid (block_at blocks j).inside ≡ true → j < n
+    early : is_solid (block_at boxes j).inside ≡ true → j < n
     early solid = elim (cases_lt 0 j) [
-      | inl positive ↦ absurd (true_false (is_solid (block_at blocks j).inside) solid (flow positive))
+      | inl positive ↦ absurd (true_false (is_solid (block_at boxes j).inside) solid (flow positive))
       | inr ge ↦ omega (arith, ge, some)
     ]
 
@@ -73,23 +76,23 @@ pub places_before : (old new places : List Place) → length old ≤ length new 
 places_before old new places le kept are j lt = are j (omega (arith, lt, le)) ∙ kept j lt
 
 -- what was decided stays so when more boxes are placed
-pub decided_placed : (parents : List ℕ) (blocks : List Block) (shapes : List Shape) (flags : List Bool) (edges : List Length) (old new : Placing) (m : ℕ)
-    → length old.places ≤ length new.places → AreExtentsKept blocks (length old.places) old.extents new.extents → ArePlacesKept old.places new.places
-    → AreDecided parents blocks shapes flags edges old m → AreDecided parents blocks shapes flags edges new m
-decided_placed parents blocks shapes flags edges old new m le kept same was k positive lt none extents clear_edges y places may_be candidate are =
-    was k positive lt none extents clear_edges y places (may_before blocks old new extents le kept may_be) candidate (places_before old.places new.places places le same are)
+pub decided_placed : (boxes : List FlowBox) (flags : List Bool) (edges : List Length) (old new : Placing) (m : ℕ)
+    → length old.places ≤ length new.places → AreExtentsKept boxes (length old.places) old.extents new.extents → ArePlacesKept old.places new.places
+    → AreDecided boxes flags edges old m → AreDecided boxes flags edges new m
+decided_placed boxes flags edges old new m le kept same was k positive lt none extents clear_edges y places may_be candidate are =
+    was k positive lt none extents clear_edges y places (may_before boxes old new extents le kept may_be) candidate (places_before old.places new.places places le same are)
 
 -- the run was begun by clearance of a child of p
-barred_same : (parents : List ℕ) (blocks : List Block) (shapes : List Shape) (extents : Extents) (clear_edges : List Length) (y : BlockLayout) (now : PassState) (p m : ℕ) → m ≤ length parents → AreClears parents shapes now.clears now.clear_edges m
-    → IsCandidate parents blocks extents clear_edges y now.clears now.clear_edges m → (nat_lt now.first m && flag_at y.runs.clears now.first && slice_index parents now.first == p) ≡ is_barred parents now p
-barred_same parents blocks shapes extents clear_edges y now p m within are candidate = elim (cases_lt now.first m) [
+barred_same : (boxes : List FlowBox) (extents : Extents) (clear_edges : List Length) (y : BlockLayout) (now : PassState) (p m : ℕ) → m ≤ length boxes → AreClears boxes now.clears now.clear_edges m
+    → IsCandidate boxes extents clear_edges y now.clears now.clear_edges m → (nat_lt now.first m && flag_at y.runs.clears now.first && parent_at boxes now.first == p) ≡ is_barred boxes now p
+barred_same boxes extents clear_edges y now p m within are candidate = elim (cases_lt now.first m) [
   | inl lt ↦ (let a = candidate.clears now.first lt in let l = are.clears_length in
       let t : nat_lt now.first m ≡ true = grind (arith, lt) in
       let u : nat_lt now.first (length now.clears) ≡ true = lower now.first (length now.clears) (omega (arith, lt, within, l)) in
       rw (t, u, a) refl)
   | inr ge ↦ (let f = are.later now.first ge in
       let t : nat_lt now.first m ≡ false = grind (arith, ge) in
-      rw (t, f) (sym (nothing (nat_lt now.first (length now.clears)) (slice_index parents now.first == p))))
+      rw (t, f) (sym (nothing (nat_lt now.first (length now.clears)) (parent_at boxes now.first == p))))
 ]
   where
     lower : (a b : ℕ) → a < b → nat_lt a b ≡ true
@@ -99,14 +102,14 @@ barred_same parents blocks shapes extents clear_edges y now p m within are candi
     nothing true c = refl
     nothing false c = refl
 
-module _ (parents : List ℕ) (blocks : List Block) (shapes : List Shape) (tree : IsTree parents) (now : PassState) (placing : Placing) where
-  pub knows_opened : (k : ℕ) (strut : StrutValue) → 0 < k → k < length parents → parts_tops blocks k ≡ false → IsReady parents blocks shapes now placing k → StrutFits strut
-      → WithMargin now.strut strut (block_at blocks k).margin_top.0
-      → Knows parents blocks shapes (pushed now strut) placing k (k + 1)
+module _ (boxes : List FlowBox) (tree : IsTree (parents_of boxes)) (now : PassState) (placing : Placing) where
+  pub knows_opened : (k : ℕ) (strut : StrutValue) → 0 < k → k < length boxes → parts_tops boxes k ≡ false → IsReady boxes now placing k → StrutFits strut
+      → WithMargin now.strut strut (block_at boxes k).margin_top.0
+      → Knows boxes (pushed now strut) placing k (k + 1)
   knows_opened k strut positive within plain was fits holds = record {
-    fits = fits_opened parents tree blocks now k strut within plain was.fits fits;
+    fits = fits_opened boxes tree now k strut within plain was.fits fits;
     near = edge_later_near k (k + 1) now.start (omega arith) was.near;
-    is_at = λ extents clear_edges y may_be candidate. opened parents blocks extents clear_edges y candidate.is_layout tree k positive within now strut plain holds (was.is_before extents clear_edges y may_be candidate);
+    is_at = λ extents clear_edges y may_be candidate. opened boxes extents clear_edges y candidate.is_layout tree k positive within now strut plain holds (was.is_before extents clear_edges y may_be candidate);
     no_extents = was.no_extents;
     placed = was.placed;
     early = was.early;
@@ -114,37 +117,37 @@ module _ (parents : List ℕ) (blocks : List Block) (shapes : List Shape) (tree 
     decided = was.decided;
   }
 
-  pub knows_parting : (k : ℕ) (marks : List Length) (end start : ℤ) (strut strut' : StrutValue) → AreBlocks parents blocks → 0 < k → k < length parents → parts_tops blocks k ≡ true → IsReady parents blocks shapes now placing k
-      → WithMargin now.strut strut (block_at blocks k).margin_top.0 → RunEnds now.hangs now.start strut end → IsCollapseNear (end -ℤ now.start)
-      → Settled parents now.through now.marks marks now.first (k + 1) end → start ≡ end +ℤ (block_at blocks k).edge_top.0 → StrutFits strut' → Holds strut' []
-      → Knows parents blocks shapes (record now { marks = marks; start = start; strut = strut'; first = k + 1; hangs = false }) placing k (k + 1)
+  pub knows_parting : (k : ℕ) (marks : List Length) (end start : ℤ) (strut strut' : StrutValue) → AreFlowBoxes boxes → 0 < k → k < length boxes → parts_tops boxes k ≡ true → IsReady boxes now placing k
+      → WithMargin now.strut strut (block_at boxes k).margin_top.0 → RunEnds now.hangs now.start strut end → IsCollapseNear (end -ℤ now.start)
+      → Settled boxes now.through now.marks marks now.first (k + 1) end → start ≡ end +ℤ (block_at boxes k).edge_top.0 → StrutFits strut' → Holds strut' []
+      → Knows boxes (record now { marks = marks; start = start; strut = strut'; first = k + 1; hangs = false }) placing k (k + 1)
   knows_parting k marks end start strut strut' input positive within parting was holds ends ended settled starts fits' empty =
       let f = was.fits.first_most in
-      let near = below_near k (k + 1) end (block_at blocks k).edge_top.0 start (end_near now.first k now.start end was.fits.start_near ended f) (inset_height (block_at blocks k).edge_top.0 (input.block k within).edge_top) starts (omega arith) in
+      let near = below_near k (k + 1) end (block_at boxes k).edge_top.0 start (end_near now.first k now.start end was.fits.start_near ended f) (inset_height (block_at boxes k).edge_top.0 (block_fits boxes input k within).edge_top) starts (omega arith) in
       record {
-        fits = fits_parting parents tree blocks now k marks end start strut' within was.fits settled ended near fits';
+        fits = fits_parting boxes tree now k marks end start strut' within was.fits settled ended near fits';
         near = near;
         is_at = λ extents clear_edges y may_be candidate.
             let before = was.is_before extents clear_edges y may_be candidate in
-            opened_wall parents blocks extents clear_edges y candidate.is_layout tree k positive within now strut end parting holds ends before marks strut' start empty settled
-            (starts ∙ ap (λ (v : ℤ). v +ℤ (block_at blocks k).edge_top.0) (sym (settled.stands k f (omega arith) (before.so_far.fresh k (omega arith)))));
+            opened_wall boxes extents clear_edges y candidate.is_layout tree k positive within now strut end parting holds ends before marks strut' start empty settled
+            (starts ∙ ap (λ (v : ℤ). v +ℤ (block_at boxes k).edge_top.0) (sym (settled.stands k f (omega arith) (before.so_far.fresh k (omega arith)))));
         no_extents = was.no_extents;
-        placed = let early = was.early in placed_kept parents blocks shapes now.marks marks placing (length placing.places) tree (omega (arith, f, early, within)) was.placed (λ j lt. settled.before j (omega (arith, lt, early)));
+        placed = let early = was.early in placed_kept boxes now.marks marks placing (length placing.places) tree (omega (arith, f, early, within)) was.placed (λ j lt. settled.before j (omega (arith, lt, early)));
         early = let early = was.early in omega (arith, f, early);
         are_clears = was.are_clears;
         decided = was.decided;
       }
 
-  module _ (p m : ℕ) (input : AreBlocks parents blocks) (positive : 0 < p) (ends : m < length parents → slice_index parents m < p) (was : Knows parents blocks shapes now placing p m) where
-    places_within : length placing.places ≤ length parents
+  module _ (p m : ℕ) (input : AreFlowBoxes boxes) (positive : 0 < p) (ends : m < length boxes → parent_at boxes m < p) (was : Knows boxes now placing p m) where
+    places_within : length placing.places ≤ length boxes
     places_within = let early = was.early in let few = was.fits.first_most in let within = was.fits.within in omega (arith, early, few, within)
 
-    pub knows_started : (start : ℤ) → may_collapse_through (block_at blocks p) ≡ true → now.hangs ≡ true → now.first ≡ p → ((ms : List ℤ) → Holds now.strut ms → start ≡ now.start -ℤ collapse ms) → IsCollapseNear (now.start -ℤ start)
-        → Knows parents blocks shapes (record now { start = start; hangs = false }) placing p m
+    pub knows_started : (start : ℤ) → may_collapse_through (block_at boxes p) ≡ true → now.hangs ≡ true → now.first ≡ p → ((ms : List ℤ) → Holds now.strut ms → start ≡ now.start -ℤ collapse ms) → IsCollapseNear (now.start -ℤ start)
+        → Knows boxes (record now { start = start; hangs = false }) placing p m
     knows_started start may hangs first value collapsed = record {
-      fits = fits_started parents tree blocks now p m positive was.fits start hangs collapsed;
+      fits = fits_started boxes tree now p m positive was.fits start hangs collapsed;
       near = let lt = was.fits.parent in run_later_near now.first m start (omega (arith, first, lt)) (above_near now.first now.start start (was.fits.edge_near hangs) collapsed);
-      is_at = λ extents clear_edges y may_be candidate. started parents blocks extents clear_edges y candidate.is_layout tree now p m positive (was.is_at extents clear_edges y may_be candidate) ends start may hangs first value;
+      is_at = λ extents clear_edges y may_be candidate. started boxes extents clear_edges y candidate.is_layout tree now p m positive (was.is_at extents clear_edges y may_be candidate) ends start may hangs first value;
       no_extents = was.no_extents;
       placed = was.placed;
       early = was.early;
@@ -152,53 +155,53 @@ module _ (parents : List ℕ) (blocks : List Block) (shapes : List Shape) (tree 
       decided = was.decided;
     }
 
-    pub knows_through : (marks heights : List Length) (flags : List Bool) (end : ℤ) (strut' : StrutValue) → may_collapse_through (block_at blocks p) ≡ true → now.first ≤ p → (now.hangs ≡ true → now.first < p)
+    pub knows_through : (marks heights : List Length) (flags : List Bool) (end : ℤ) (strut' : StrutValue) → may_collapse_through (block_at boxes p) ≡ true → now.first ≤ p → (now.hangs ≡ true → now.first < p)
         → RunEnds now.hangs now.start now.strut end → IsCollapseNear (end -ℤ now.start)
         → Wrote length_at now.marks marks p end → Wrote length_at now.heights heights p (pos 0) → Wrote flag_at now.through flags p true
-        → StrutFits strut' → WithMargin now.strut strut' (block_at blocks p).margin_bottom.0
-        → Knows parents blocks shapes (record now { marks = marks; heights = heights; through = flags; strut = strut' }) placing (slice_index parents p) m
+        → StrutFits strut' → WithMargin now.strut strut' (block_at boxes p).margin_bottom.0
+        → Knows boxes (record now { marks = marks; heights = heights; through = flags; strut = strut' }) placing (parent_at boxes p) m
     knows_through marks heights flags end strut' may waits below reach ended wrote_mark wrote_height wrote_flag fits' holds = record {
-      fits = fits_through parents tree blocks now p m positive was.fits marks heights flags end strut' waits wrote_mark wrote_height wrote_flag ended fits';
+      fits = fits_through boxes tree now p m positive was.fits marks heights flags end strut' waits wrote_mark wrote_height wrote_flag ended fits';
       near = was.near;
-      is_at = λ extents clear_edges y may_be candidate. close_passing parents blocks extents clear_edges y candidate.is_layout tree now p m positive (was.is_at extents clear_edges y may_be candidate) ends marks heights flags strut' end may waits below reach wrote_mark wrote_height wrote_flag holds;
+      is_at = λ extents clear_edges y may_be candidate. close_passing boxes extents clear_edges y candidate.is_layout tree now p m positive (was.is_at extents clear_edges y may_be candidate) ends marks heights flags strut' end may waits below reach wrote_mark wrote_height wrote_flag holds;
       no_extents = was.no_extents;
-      placed = placed_kept parents blocks shapes now.marks marks placing (length placing.places) tree places_within was.placed (λ j lt. wrote_mark.other j (λ same. let early = was.early in omega (arith, lt, early, same, waits)));
+      placed = placed_kept boxes now.marks marks placing (length placing.places) tree places_within was.placed (λ j lt. wrote_mark.other j (λ same. let early = was.early in omega (arith, lt, early, same, waits)));
       early = was.early;
       are_clears = was.are_clears;
       decided = was.decided;
     }
 
-    inner : p < length parents
+    inner : p < length boxes
     inner = let a = was.fits.parent in let b = was.fits.within in omega (arith, a, b)
 
     -- a box that isn't collapsed through, and whose bottom margin may adjoin that of its last child, has its mark
-    joined_before : may_join_bottoms (block_at blocks p) ≡ true → (may_collapse_through (block_at blocks p) ≡ true → p < now.first) → p < now.first
+    joined_before : may_join_bottoms (block_at boxes p) ≡ true → (may_collapse_through (block_at boxes p) ≡ true → p < now.first) → p < now.first
     joined_before may settled = elim (cases_lt p now.first) [
       | inl low ↦ low
-      | inr high ↦ settled (joined_passes blocks p (was.fits.unparted p high was.fits.parent) may)
+      | inr high ↦ settled (joined_passes boxes p (was.fits.unparted p high was.fits.parent) may)
     ]
 
-    module _ (extents : Extents) (clear_edges : List Length) (y : BlockLayout) (may_be : MayBe blocks placing extents) (candidate : IsCandidate parents blocks extents clear_edges y now.clears now.clear_edges m) where
-      at : IsAt parents blocks clear_edges y now p m
+    module _ (extents : Extents) (clear_edges : List Length) (y : BlockLayout) (may_be : MayBe boxes placing extents) (candidate : IsCandidate boxes extents clear_edges y now.clears now.clear_edges m) where
+      at : IsAt boxes clear_edges y now p m
       at = was.is_at extents clear_edges y may_be candidate
 
-      stands : (may_collapse_through (block_at blocks p) ≡ true → p < now.first) → flag_at y.runs.through p ≡ false
-      stands settled = passes_is parents blocks extents clear_edges y candidate.is_layout tree now p m positive at ends
-          ∙ true_or (may_collapse_through (block_at blocks p)) ((may_collapse_through (block_at blocks p) && not (nat_lt p now.first)) ≡ false)
+      stands : (may_collapse_through (block_at boxes p) ≡ true → p < now.first) → flag_at y.runs.through p ≡ false
+      stands settled = passes_is boxes extents clear_edges y candidate.is_layout tree now p m positive at ends
+          ∙ true_or (may_collapse_through (block_at boxes p)) ((may_collapse_through (block_at boxes p) && not (nat_lt p now.first)) ≡ false)
           (λ t. let low = low_yes p now.first (settled t) in rw (t, low) refl)
           (λ f. rw f refl)
 
-      joins_here : joins_bottom parents blocks y.runs p ≡ (flag_at y.runs.through p || (may_join_bottoms (block_at blocks p) && not (is_barred parents now p)))
-      joins_here = joined_here parents blocks extents clear_edges y candidate.is_layout tree now p m positive at ends
-          ∙ ap (λ (b : Bool). flag_at y.runs.through p || (may_join_bottoms (block_at blocks p) && not b)) (barred_same parents blocks shapes extents clear_edges y now p m was.fits.within was.are_clears candidate)
+      joins_here : joins_bottom boxes y.runs p ≡ (flag_at y.runs.through p || (may_join_bottoms (block_at boxes p) && not (is_barred boxes now p)))
+      joins_here = joined_here boxes extents clear_edges y candidate.is_layout tree now p m positive at ends
+          ∙ ap (λ (b : Bool). flag_at y.runs.through p || (may_join_bottoms (block_at boxes p) && not b)) (barred_same boxes extents clear_edges y now p m was.fits.within was.are_clears candidate)
 
-    pub knows_joined : (heights : List Length) (mark height start : ℤ) (strut' : StrutValue) → may_join_bottoms (block_at blocks p) ≡ true → is_barred parents now p ≡ false → (may_collapse_through (block_at blocks p) ≡ true → p < now.first)
-        → mark ≡ length_at now.marks p → IsBoxHeight height → height ≡ border_height (block_at blocks p) (length_at placing.extents p) (now.start -ℤ (mark +ℤ (block_at blocks p).edge_top.0))
+    pub knows_joined : (heights : List Length) (mark height start : ℤ) (strut' : StrutValue) → may_join_bottoms (block_at boxes p) ≡ true → is_barred boxes now p ≡ false → (may_collapse_through (block_at boxes p) ≡ true → p < now.first)
+        → mark ≡ length_at now.marks p → IsBoxSize height → height ≡ border_height (block_at boxes p) (length_at placing.extents p) (now.start -ℤ (mark +ℤ (block_at boxes p).edge_top.0))
         → start ≡ mark +ℤ height → Wrote length_at now.heights heights p height
-        → StrutFits strut' → WithMargin now.strut strut' (block_at blocks p).margin_bottom.0
-        → Knows parents blocks shapes (record now { heights = heights; start = start; strut = strut' }) placing (slice_index parents p) m
+        → StrutFits strut' → WithMargin now.strut strut' (block_at boxes p).margin_bottom.0
+        → Knows boxes (record now { heights = heights; start = start; strut = strut' }) placing (parent_at boxes p) m
     knows_joined heights mark height start strut' may unbarred settled marked size is_height starts wrote fits' holds = record {
-      fits = fits_joined parents tree blocks now p m positive was.fits heights height start strut' near size wrote fits';
+      fits = fits_joined boxes tree now p m positive was.fits heights height start strut' near size wrote fits';
       near = later_near now.first m start was.fits.first_most near;
       is_at = there;
       no_extents = was.no_extents;
@@ -214,39 +217,39 @@ module _ (parents : List ℕ) (blocks : List Block) (shapes : List Shape) (tree 
         near : IsStartNear now.first start
         near = below_near p now.first mark height start (subst (IsMarkNear p) (sym marked) (was.fits.mark_near p)) size starts before
 
-        there : (extents : Extents) (clear_edges : List Length) (y : BlockLayout) → MayBe blocks placing extents → IsCandidate parents blocks extents clear_edges y now.clears now.clear_edges m
-            → IsAt parents blocks clear_edges y (record now { heights = heights; start = start; strut = strut' }) (slice_index parents p) m
+        there : (extents : Extents) (clear_edges : List Length) (y : BlockLayout) → MayBe boxes placing extents → IsCandidate boxes extents clear_edges y now.clears now.clear_edges m
+            → IsAt boxes clear_edges y (record now { heights = heights; start = start; strut = strut' }) (parent_at boxes p) m
         there extents clear_edges y may_be candidate =
             let is = candidate.is_layout in
             let at = was.is_at extents clear_edges y may_be candidate in
             let truth = stands extents clear_edges y may_be candidate settled in
-            let ext : is_solid (block_at blocks p).inside ≡ true → length_at placing.extents p ≡ length_at extents.solid p = λ solid. absurd (true_false (is_solid (block_at blocks p).inside) solid (joins_flow (block_at blocks p) may)) in
-            let joined : joins_bottom parents blocks y.runs p ≡ true = joins_here extents clear_edges y may_be candidate ∙ rw (truth, may, unbarred) refl in
-            let mark_is = marked ∙ at.so_far.marked.stands p before (code_open parents blocks extents clear_edges y is tree now p m positive at ends) truth in
-            let bottom = bottom_joined parents blocks extents clear_edges y is tree now p m positive at ends joined before in
-            let from = at.in_run.start_is (not_hanging parents blocks extents clear_edges y is tree now p m positive at ends before) in
-            let height_is = height_there parents blocks extents clear_edges y is tree now p m positive at ends height mark now.start truth mark_is (from ∙ sym bottom) (is_height ∙ same_border_height (block_at blocks p) (length_at placing.extents p) (length_at extents.solid p) (now.start -ℤ (mark +ℤ (block_at blocks p).edge_top.0)) ext) in
+            let ext : is_solid (block_at boxes p).inside ≡ true → length_at placing.extents p ≡ length_at extents.solid p = λ solid. absurd (true_false (is_solid (block_at boxes p).inside) solid (joins_flow (block_at boxes p) may)) in
+            let joined : joins_bottom boxes y.runs p ≡ true = joins_here extents clear_edges y may_be candidate ∙ rw (truth, may, unbarred) refl in
+            let mark_is = marked ∙ at.so_far.marked.stands p before (code_open boxes extents clear_edges y is tree now p m positive at ends) truth in
+            let bottom = bottom_joined boxes extents clear_edges y is tree now p m positive at ends joined before in
+            let from = at.in_run.start_is (not_hanging boxes extents clear_edges y is tree now p m positive at ends before) in
+            let height_is = height_there boxes extents clear_edges y is tree now p m positive at ends height mark now.start truth mark_is (from ∙ sym bottom) (is_height ∙ same_border_height (block_at boxes p) (length_at placing.extents p) (length_at extents.solid p) (now.start -ℤ (mark +ℤ (block_at boxes p).edge_top.0)) ext) in
             let wrote_height : Wrote length_at now.heights heights p (length_at y.places.heights p) = subst (λ (v : ℤ). Wrote length_at now.heights heights p v) height_is wrote in
-            close_joined parents blocks extents clear_edges y is tree now p m positive at ends heights strut' start truth joined before wrote_height
+            close_joined boxes extents clear_edges y is tree now p m positive at ends heights strut' start truth joined before wrote_height
             (starts ∙ (λ i. marked i +ℤ (sym wrote.here) i)) holds
 
-    pub knows_parted : (marks heights : List Length) (placing' : Placing) (end mark height start : ℤ) (strut' : StrutValue) → (may_join_bottoms (block_at blocks p) && not (is_barred parents now p)) ≡ false → (may_collapse_through (block_at blocks p) ≡ true → p < now.first)
+    pub knows_parted : (marks heights : List Length) (placing' : Placing) (end mark height start : ℤ) (strut' : StrutValue) → (may_join_bottoms (block_at boxes p) && not (is_barred boxes now p)) ≡ false → (may_collapse_through (block_at boxes p) ≡ true → p < now.first)
         → RunEnds now.hangs now.start now.strut end → IsCollapseNear (end -ℤ now.start)
-        → Settled parents now.through now.marks marks now.first m end
-        → PlacesTo parents blocks shapes marks placing' m → AreExtentsKept blocks (length placing.places) placing.extents placing'.extents → ArePlacesKept placing.places placing'.places
-        → mark ≡ length_at marks p → (is_solid (block_at blocks p).inside ≡ false → IsBoxHeight height) → height ≡ border_height (block_at blocks p) (length_at placing'.extents p) (end -ℤ (mark +ℤ (block_at blocks p).edge_top.0))
+        → Settled boxes now.through now.marks marks now.first m end
+        → PlacesTo boxes marks placing' m → AreExtentsKept boxes (length placing.places) placing.extents placing'.extents → ArePlacesKept placing.places placing'.places
+        → mark ≡ length_at marks p → (is_solid (block_at boxes p).inside ≡ false → IsBoxSize height) → height ≡ border_height (block_at boxes p) (length_at placing'.extents p) (end -ℤ (mark +ℤ (block_at boxes p).edge_top.0))
         → start ≡ mark +ℤ height → Wrote length_at now.heights heights p height
-        → StrutFits strut' → Holds strut' ((block_at blocks p).margin_bottom.0 ∷ [])
-        → Knows parents blocks shapes (record now { marks = marks; heights = heights; start = start; strut = strut'; first = m; hangs = false }) placing' (slice_index parents p) m
+        → StrutFits strut' → Holds strut' ((block_at boxes p).margin_bottom.0 ∷ [])
+        → Knows boxes (record now { marks = marks; heights = heights; start = start; strut = strut'; first = m; hangs = false }) placing' (parent_at boxes p) m
     knows_parted marks heights placing' end mark height start strut' may settled reaches ended settles placed kept same marked size is_height starts wrote fits' holds = record {
-      fits = fits_parted parents tree blocks now p m positive was.fits marks heights end height start strut' settles ended start_near size wrote fits';
+      fits = fits_parted boxes tree now p m positive was.fits marks heights end height start strut' settles ended start_near size wrote fits';
       near = start_near;
       is_at = there;
-      no_extents = no_extents_kept blocks placing.extents placing'.extents (length placing.places) was.placed.some kept was.no_extents;
-      placed = let e = placed.places_length in subst (λ (n : ℕ). PlacesTo parents blocks shapes marks placing' n) (sym e) placed;
+      no_extents = no_extents_kept boxes placing.extents placing'.extents (length placing.places) was.placed.some kept was.no_extents;
+      placed = let e = placed.places_length in subst (λ (n : ℕ). PlacesTo boxes marks placing' n) (sym e) placed;
       early = let e = placed.places_length in omega (arith, e);
       are_clears = was.are_clears;
-      decided = decided_placed parents blocks shapes now.clears now.clear_edges placing placing' m more kept same was.decided;
+      decided = decided_placed boxes now.clears now.clear_edges placing placing' m more kept same was.decided;
     }
       where
         more : length placing.places ≤ length placing'.places
@@ -254,28 +257,28 @@ module _ (parents : List ℕ) (blocks : List Block) (shapes : List Shape) (tree 
 
         -- the bottom border edge of the box
         start_near : IsStartNear m start
-        start_near = true_or (is_solid (block_at blocks p).inside) (IsStartNear m start)
+        start_near = true_or (is_solid (block_at boxes p).inside) (IsStartNear m start)
             (λ solid. let low = placed.low p positive was.fits.parent solid in
             let h : height ≡ length_at placing'.extents p = is_height ∙ rw solid refl in
             subst (λ (v : ℤ). IsWithin (reach m) v) (sym (starts ∙ (λ i. marked i +ℤ h i))) low)
-            (λ flow. let near_mark = marks_settled parents tree blocks now p m positive was.fits marks end settles ended p in
+            (λ flow. let near_mark = marks_settled boxes tree now p m positive was.fits marks end settles ended p in
             below_near p m mark height start (subst (IsMarkNear p) (sym marked) near_mark) (size flow) starts was.fits.parent)
 
-        ext_there : (extents : Extents) → MayBe blocks placing' extents → is_solid (block_at blocks p).inside ≡ true → length_at placing'.extents p ≡ length_at extents.solid p
+        ext_there : (extents : Extents) → MayBe boxes placing' extents → is_solid (block_at boxes p).inside ≡ true → length_at placing'.extents p ≡ length_at extents.solid p
         ext_there extents may_be solid = let l = placed.places_length in let lt = was.fits.parent in sym (may_be p positive (omega (arith, l, lt)) solid)
 
-        there : (extents : Extents) (clear_edges : List Length) (y : BlockLayout) → MayBe blocks placing' extents → IsCandidate parents blocks extents clear_edges y now.clears now.clear_edges m
-            → IsAt parents blocks clear_edges y (record now { marks = marks; heights = heights; start = start; strut = strut'; first = m; hangs = false }) (slice_index parents p) m
+        there : (extents : Extents) (clear_edges : List Length) (y : BlockLayout) → MayBe boxes placing' extents → IsCandidate boxes extents clear_edges y now.clears now.clear_edges m
+            → IsAt boxes clear_edges y (record now { marks = marks; heights = heights; start = start; strut = strut'; first = m; hangs = false }) (parent_at boxes p) m
         there extents clear_edges y may_be' candidate =
             let is = candidate.is_layout in
-            let may_be = may_before blocks placing placing' extents more kept may_be' in
+            let may_be = may_before boxes placing placing' extents more kept may_be' in
             let ext = ext_there extents may_be' in
             let at = was.is_at extents clear_edges y may_be candidate in
             let truth = stands extents clear_edges y may_be candidate settled in
-            let parted : joins_bottom parents blocks y.runs p ≡ false = joins_here extents clear_edges y may_be candidate ∙ rw (truth, may) refl in
-            let mark_is = marked ∙ mark_parted parents blocks extents clear_edges y is tree now p m positive at ends truth parted end reaches marks settles in
-            let bottom = reach_parted parents blocks extents clear_edges y is tree now p m positive at ends truth parted end reaches ∙ sym (bottom_parted parents blocks extents clear_edges y is tree now p m positive at ends parted truth) in
-            let height_is = height_there parents blocks extents clear_edges y is tree now p m positive at ends height mark end truth mark_is bottom (is_height ∙ same_border_height (block_at blocks p) (length_at placing'.extents p) (length_at extents.solid p) (end -ℤ (mark +ℤ (block_at blocks p).edge_top.0)) ext) in
+            let parted : joins_bottom boxes y.runs p ≡ false = joins_here extents clear_edges y may_be candidate ∙ rw (truth, may) refl in
+            let mark_is = marked ∙ mark_parted boxes extents clear_edges y is tree now p m positive at ends truth parted end reaches marks settles in
+            let bottom = reach_parted boxes extents clear_edges y is tree now p m positive at ends truth parted end reaches ∙ sym (bottom_parted boxes extents clear_edges y is tree now p m positive at ends parted truth) in
+            let height_is = height_there boxes extents clear_edges y is tree now p m positive at ends height mark end truth mark_is bottom (is_height ∙ same_border_height (block_at boxes p) (length_at placing'.extents p) (length_at extents.solid p) (end -ℤ (mark +ℤ (block_at boxes p).edge_top.0)) ext) in
             let wrote_height : Wrote length_at now.heights heights p (length_at y.places.heights p) = subst (λ (v : ℤ). Wrote length_at now.heights heights p v) height_is wrote in
-            close_parted parents blocks extents clear_edges y is tree now p m positive at ends truth parted end reaches marks settles heights strut' start wrote_height
+            close_parted boxes extents clear_edges y is tree now p m positive at ends truth parted end reaches marks settles heights strut' start wrote_height
             (starts ∙ (λ i. marked i +ℤ (sym wrote.here) i)) holds

@@ -1,10 +1,12 @@
 -- Positions and heights that are worked out again and again from one another come to agree with any others that are.
-use Rattle.std.proofs.Common.{◌≡◌, ℕ, zero, suc, ◌+◌, ◌<◌, ◌+ℤ◌, ◌-ℤ◌, ℤ, ◌≤◌, List, length, slice_index, refl, sym, ap, ◌∙◌, arith, inl, inr, Option, Some, None, subst}
+use Rattle.std.proofs.Common.{◌≡◌, ℕ, zero, suc, ◌+◌, ◌<◌, ◌+ℤ◌, ◌-ℤ◌, ℤ, ◌≤◌, List, length, refl, sym, ap, ◌∙◌, arith, inl, inr, Option, Some, None, subst}
 use Rattle.std.proofs.lemmas.Bool.{cases_lt, cases_eq}
+use Rattle.lay_flow.specs.declared.flow_box.FlowBox.{FlowBox}
+use Rattle.lay_flow.specs.Boxes.{parent_at, parents_of}
+use Rattle.lay_flow.proofs.BoxTrees.{parent_before}
 use Rattle.lay_units.specs.declared.length.Unit.{Unit as Length}
 use Rattle.lay_doc.specs.Tree.{IsTree}
 use Rattle.lay_heights.specs.AutoHeights.{root_height_of}
-use Rattle.lay_flow.specs.declared.block.Block.{Block}
 use Rattle.lay_flow.specs.Lengths.{length_at}
 use Rattle.lay_flow.specs.Children.{last_child}
 use Rattle.lay_flow.specs.MarginRuns.{Runs, block_at}
@@ -15,47 +17,47 @@ use Rattle.lay_flow.proofs.MarginWalk.{walk}
 use Rattle.lay_flow.proofs.RunsAgree.{last_there, none_left, inside_up}
 
 -- the second columns are worked out from the first
-pub record AreNextPositions (parents : List ℕ) (blocks : List Block) (r : Runs) (extents : Extents) (clear_edges : List Length) (old new : Positions) : Type 0 where
-  pub start : (k : ℕ) → k < length parents → length_at new.starts k ≡ start_of parents blocks r clear_edges old k
-  pub mark : (k : ℕ) → k < length parents → length_at new.marks k ≡ mark_of parents blocks r old k
-  pub height : (k : ℕ) → k < length parents → length_at new.heights k ≡ height_of parents blocks r extents old k
+pub record AreNextPositions (boxes : List FlowBox) (r : Runs) (extents : Extents) (clear_edges : List Length) (old new : Positions) : Type 0 where
+  pub start : (k : ℕ) → k < length boxes → length_at new.starts k ≡ start_of boxes r clear_edges old k
+  pub mark : (k : ℕ) → k < length boxes → length_at new.marks k ≡ mark_of boxes r old k
+  pub height : (k : ℕ) → k < length boxes → length_at new.heights k ≡ height_of boxes r extents old k
 
 -- the columns agree up to the place (p, m)
-pub record SamePositions (parents : List ℕ) (s t : Positions) (p m : ℕ) : Type 0 where
+pub record SamePositions (boxes : List FlowBox) (s t : Positions) (p m : ℕ) : Type 0 where
   pub start : (j : ℕ) → j < m → length_at s.starts j ≡ length_at t.starts j
   pub mark : (j : ℕ) → j < m → length_at s.marks j ≡ length_at t.marks j
   pub closed : (j : ℕ) → p < j → j < m → length_at s.heights j ≡ length_at t.heights j
-  pub gone : (j i : ℕ) → j < i → i < m → slice_index parents i < j → length_at s.heights j ≡ length_at t.heights j
+  pub gone : (j i : ℕ) → j < i → i < m → parent_at boxes i < j → length_at s.heights j ≡ length_at t.heights j
 
-module _ (parents : List ℕ) (tree : IsTree parents) (blocks : List Block) (r : Runs) (extents : Extents) (clear_edges : List Length) (a b : ℕ → Positions)
-    (a_next : (i : ℕ) → AreNextPositions parents blocks r extents clear_edges (a i) (a (suc i))) (b_next : (i : ℕ) → AreNextPositions parents blocks r extents clear_edges (b i) (b (suc i))) where
+module _ (boxes : List FlowBox) (tree : IsTree (parents_of boxes)) (r : Runs) (extents : Extents) (clear_edges : List Length) (a b : ℕ → Positions)
+    (a_next : (i : ℕ) → AreNextPositions boxes r extents clear_edges (a i) (a (suc i))) (b_next : (i : ℕ) → AreNextPositions boxes r extents clear_edges (b i) (b (suc i))) where
   -- from some time on they agree up to there
   pub record Stands (p m : ℕ) : Type 0 where
     pub parent : p < m
-    pub within : m ≤ length parents
-    pub inside : (i : ℕ) → p < i → i < m → p ≤ slice_index parents i
+    pub within : m ≤ length boxes
+    pub inside : (i : ℕ) → p < i → i < m → p ≤ parent_at boxes i
     pub after : ℕ
-    pub same : (i : ℕ) → after ≤ i → SamePositions parents (a i) (b i) p m
+    pub same : (i : ℕ) → after ≤ i → SamePositions boxes (a i) (b i) p m
 
   below_same : (s t : Positions) (c : ℕ) → length_at s.starts c ≡ length_at t.starts c → length_at s.marks c ≡ length_at t.marks c → length_at s.heights c ≡ length_at t.heights c → start_below r s c ≡ start_below r t c
   below_same s t c e f g = rw (e, f, g) refl
 
-  before_same : (s t : Positions) (p m : ℕ) → p < m → SamePositions parents s t p m → start_before parents blocks r s p m ≡ start_before parents blocks r t p m
-  before_same s t p m lt was = go (last_child parents p m) refl
+  before_same : (s t : Positions) (p m : ℕ) → p < m → SamePositions boxes s t p m → start_before boxes r s p m ≡ start_before boxes r t p m
+  before_same s t p m lt was = go (last_child boxes p m) refl
     where
-      go : (o : Option ℕ) → last_child parents p m ≡ o → start_before parents blocks r s p m ≡ start_before parents blocks r t p m
+      go : (o : Option ℕ) → last_child boxes p m ≡ o → start_before boxes r s p m ≡ start_before boxes r t p m
       go None e = let f = was.mark p lt in let g = was.start p lt in rw (e, f, g) refl
-      go (Some c) e = let l = last_there parents p m c e in rw e (below_same s t c (was.start c l.1) (was.mark c l.1) (was.closed c l.0 l.1))
+      go (Some c) e = let l = last_there boxes p m c e in rw e (below_same s t c (was.start c l.1) (was.mark c l.1) (was.closed c l.0 l.1))
 
-  start_same : (s t : Positions) (k : ℕ) → 0 < k → start_before parents blocks r s (slice_index parents k) k ≡ start_before parents blocks r t (slice_index parents k) k → start_of parents blocks r clear_edges s k ≡ start_of parents blocks r clear_edges t k
+  start_same : (s t : Positions) (k : ℕ) → 0 < k → start_before boxes r s (parent_at boxes k) k ≡ start_before boxes r t (parent_at boxes k) k → start_of boxes r clear_edges s k ≡ start_of boxes r clear_edges t k
   start_same s t zero positive e = absurd (omega (arith, positive))
   start_same s t (suc k) positive e = rw e refl
 
-  mark_same : (s t : Positions) (k : ℕ) → 0 < k → length_at s.starts k ≡ length_at t.starts k → length_at s.marks (slice_index parents k) ≡ length_at t.marks (slice_index parents k) → mark_of parents blocks r s k ≡ mark_of parents blocks r t k
+  mark_same : (s t : Positions) (k : ℕ) → 0 < k → length_at s.starts k ≡ length_at t.starts k → length_at s.marks (parent_at boxes k) ≡ length_at t.marks (parent_at boxes k) → mark_of boxes r s k ≡ mark_of boxes r t k
   mark_same s t zero positive e f = absurd (omega (arith, positive))
   mark_same s t (suc k) positive e f = rw (e, f) refl
 
-  open_stands : (k : ℕ) → 0 < k → k < length parents → Stands (slice_index parents k) k → Stands k (k + 1)
+  open_stands : (k : ℕ) → 0 < k → k < length boxes → Stands (parent_at boxes k) k → Stands k (k + 1)
   open_stands k positive within was = record {
     parent = omega arith;
     within = omega (arith, within);
@@ -65,12 +67,12 @@ module _ (parents : List ℕ) (tree : IsTree parents) (blocks : List Block) (r :
   }
     where
       start : (i : ℕ) → was.after ≤ i → length_at (a (suc i)).starts k ≡ length_at (b (suc i)).starts k
-      start i le = (a_next i).start k within ∙ start_same (a i) (b i) k positive (before_same (a i) (b i) (slice_index parents k) k was.parent (was.same i le)) ∙ sym ((b_next i).start k within)
+      start i le = (a_next i).start k within ∙ start_same (a i) (b i) k positive (before_same (a i) (b i) (parent_at boxes k) k was.parent (was.same i le)) ∙ sym ((b_next i).start k within)
 
       mark : (i : ℕ) → was.after ≤ i → length_at (a (suc (suc i))).marks k ≡ length_at (b (suc (suc i))).marks k
-      mark i le = (a_next (suc i)).mark k within ∙ mark_same (a (suc i)) (b (suc i)) k positive (start i le) ((was.same (suc i) (omega (arith, le))).mark (slice_index parents k) was.parent) ∙ sym ((b_next (suc i)).mark k within)
+      mark i le = (a_next (suc i)).mark k within ∙ mark_same (a (suc i)) (b (suc i)) k positive (start i le) ((was.same (suc i) (omega (arith, le))).mark (parent_at boxes k) was.parent) ∙ sym ((b_next (suc i)).mark k within)
 
-      later : (i : ℕ) → suc (suc was.after) ≤ i → SamePositions parents (a i) (b i) k (k + 1)
+      later : (i : ℕ) → suc (suc was.after) ≤ i → SamePositions boxes (a i) (b i) k (k + 1)
       later zero le = absurd (omega (arith, le))
       later (suc zero) le = absurd (omega (arith, le))
       later (suc (suc i)) le =
@@ -94,57 +96,57 @@ module _ (parents : List ℕ) (tree : IsTree parents) (blocks : List Block) (r :
           }
 
   -- the heights of two boxes with the same ends of content
-  content_same : (s t : Positions) (p m : ℕ) → last_child parents p (length parents) ≡ last_child parents p m → p < m → SamePositions parents s t p m
-      → content_height parents blocks r extents.floats s p ≡ content_height parents blocks r extents.floats t p
+  content_same : (s t : Positions) (p m : ℕ) → last_child boxes p (length boxes) ≡ last_child boxes p m → p < m → SamePositions boxes s t p m
+      → content_height boxes r extents.floats s p ≡ content_height boxes r extents.floats t p
   content_same s t p m last lt was = by_place p refl
     where
-      go : (o : Option ℕ) → last_child parents p m ≡ o → content_bottom parents blocks r s p ≡ content_bottom parents blocks r t p
+      go : (o : Option ℕ) → last_child boxes p m ≡ o → content_bottom boxes r s p ≡ content_bottom boxes r t p
       go None e = let g = last ∙ e in let f = was.mark p lt in rw (g, f) refl
-      go (Some c) e = let g = last ∙ e in let l = last_there parents p m c e in let u = below_same s t c (was.start c l.1) (was.mark c l.1) (was.closed c l.0 l.1) in rw (g, u) refl
+      go (Some c) e = let g = last ∙ e in let l = last_there boxes p m c e in let u = below_same s t c (was.start c l.1) (was.mark c l.1) (was.closed c l.0 l.1) in rw (g, u) refl
 
-      bottom : content_bottom parents blocks r s p ≡ content_bottom parents blocks r t p
-      bottom = go (last_child parents p m) refl
+      bottom : content_bottom boxes r s p ≡ content_bottom boxes r t p
+      bottom = go (last_child boxes p m) refl
 
-      between : content_bottom parents blocks r s p -ℤ (length_at s.marks p +ℤ (block_at blocks p).edge_top.0) ≡ content_bottom parents blocks r t p -ℤ (length_at t.marks p +ℤ (block_at blocks p).edge_top.0)
+      between : content_bottom boxes r s p -ℤ (length_at s.marks p +ℤ (block_at boxes p).edge_top.0) ≡ content_bottom boxes r t p -ℤ (length_at t.marks p +ℤ (block_at boxes p).edge_top.0)
       between = let e = bottom in let f = was.mark p lt in rw (e, f) refl
 
       reaches : (u v d e : ℤ) → u ≡ v → d ≡ e → root_height_of (record { 0 = u }) (record { 0 = d }) extents.floats ≡ root_height_of (record { 0 = v }) (record { 0 = e }) extents.floats
       reaches u v d e same ends = rw (same, ends) refl
 
-      at_root : length_at s.marks 0 ≡ length_at t.marks 0 → content_bottom parents blocks r s 0 ≡ content_bottom parents blocks r t 0 → content_height parents blocks r extents.floats s 0 ≡ content_height parents blocks r extents.floats t 0
-      at_root mark ends = content_root parents blocks r extents.floats s
-          ∙ reaches (length_at s.marks 0 +ℤ (block_at blocks 0).edge_top.0) (length_at t.marks 0 +ℤ (block_at blocks 0).edge_top.0) (content_bottom parents blocks r s 0) (content_bottom parents blocks r t 0)
-          (ap (λ (v : ℤ). v +ℤ (block_at blocks 0).edge_top.0) mark) ends
-          ∙ sym (content_root parents blocks r extents.floats t)
+      at_root : length_at s.marks 0 ≡ length_at t.marks 0 → content_bottom boxes r s 0 ≡ content_bottom boxes r t 0 → content_height boxes r extents.floats s 0 ≡ content_height boxes r extents.floats t 0
+      at_root mark ends = content_root boxes r extents.floats s
+          ∙ reaches (length_at s.marks 0 +ℤ (block_at boxes 0).edge_top.0) (length_at t.marks 0 +ℤ (block_at boxes 0).edge_top.0) (content_bottom boxes r s 0) (content_bottom boxes r t 0)
+          (ap (λ (v : ℤ). v +ℤ (block_at boxes 0).edge_top.0) mark) ends
+          ∙ sym (content_root boxes r extents.floats t)
 
-      by_place : (q : ℕ) → p ≡ q → content_height parents blocks r extents.floats s p ≡ content_height parents blocks r extents.floats t p
+      by_place : (q : ℕ) → p ≡ q → content_height boxes r extents.floats s p ≡ content_height boxes r extents.floats t p
       by_place zero e = let z = sym e in
-          subst (λ (k : ℕ). content_height parents blocks r extents.floats s k ≡ content_height parents blocks r extents.floats t k) z
-          (at_root (subst (λ (k : ℕ). length_at s.marks k ≡ length_at t.marks k) e (was.mark p lt)) (subst (λ (k : ℕ). content_bottom parents blocks r s k ≡ content_bottom parents blocks r t k) e bottom))
-      by_place (suc k) e = content_inner parents blocks r extents.floats s p (omega (arith, e)) ∙ between ∙ sym (content_inner parents blocks r extents.floats t p (omega (arith, e)))
+          subst (λ (k : ℕ). content_height boxes r extents.floats s k ≡ content_height boxes r extents.floats t k) z
+          (at_root (subst (λ (k : ℕ). length_at s.marks k ≡ length_at t.marks k) e (was.mark p lt)) (subst (λ (k : ℕ). content_bottom boxes r s k ≡ content_bottom boxes r t k) e bottom))
+      by_place (suc k) e = content_inner boxes r extents.floats s p (omega (arith, e)) ∙ between ∙ sym (content_inner boxes r extents.floats t p (omega (arith, e)))
 
-  height_same : (s t : Positions) (p : ℕ) → content_height parents blocks r extents.floats s p ≡ content_height parents blocks r extents.floats t p → height_of parents blocks r extents s p ≡ height_of parents blocks r extents t p
+  height_same : (s t : Positions) (p : ℕ) → content_height boxes r extents.floats s p ≡ content_height boxes r extents.floats t p → height_of boxes r extents s p ≡ height_of boxes r extents t p
   height_same s t p e = rw e refl
 
-  close_stands : (p m : ℕ) → 0 < p → p < m → m ≤ length parents → (m < length parents → slice_index parents m < p) → Stands p m → Stands (slice_index parents p) m
+  close_stands : (p m : ℕ) → 0 < p → p < m → m ≤ length boxes → (m < length boxes → parent_at boxes m < p) → Stands p m → Stands (parent_at boxes p) m
   close_stands p m positive lt within ends was = record {
     parent = omega (arith, up, lt);
     within = within;
-    inside = inside_up parents tree p m inner up was.inside;
+    inside = inside_up boxes tree p m inner up was.inside;
     after = suc was.after;
     same = later;
   }
     where
-      inner : p < length parents
+      inner : p < length boxes
       inner = omega (arith, lt, within)
 
-      up : slice_index parents p < p
-      up = tree.before p positive inner
+      up : parent_at boxes p < p
+      up = parent_before boxes tree p positive inner
 
-      later : (i : ℕ) → suc was.after ≤ i → SamePositions parents (a i) (b i) (slice_index parents p) m
+      later : (i : ℕ) → suc was.after ≤ i → SamePositions boxes (a i) (b i) (parent_at boxes p) m
       later zero le = absurd (omega (arith, le))
       later (suc i) le =
-          let last = last_same parents p m (length parents) within (none_left parents tree p m lt ends) in
+          let last = last_same boxes p m (length boxes) within (none_left boxes tree p m lt ends) in
           let now = was.same (suc i) (omega (arith, le)) in
           let mine : length_at (a (suc i)).heights p ≡ length_at (b (suc i)).heights p =
           (a_next i).height p inner ∙ height_same (a i) (b i) p (content_same (a i) (b i) p m last lt (was.same i (omega (arith, le)))) ∙ sym ((b_next i).height p inner) in
@@ -161,8 +163,8 @@ module _ (parents : List ℕ) (tree : IsTree parents) (blocks : List Block) (r :
             gone = now.gone;
           }
 
-  pub stands : 0 < length parents → Stands 0 (length parents)
-  stands some = walk parents tree Stands close_stands open_stands (record {
+  pub stands : 0 < length boxes → Stands 0 (length boxes)
+  stands some = walk boxes tree Stands close_stands open_stands (record {
     parent = omega arith;
     within = omega (arith, some);
     inside = λ i low high. absurd (omega (arith, low, high));
@@ -170,7 +172,7 @@ module _ (parents : List ℕ) (tree : IsTree parents) (blocks : List Block) (r :
     same = start;
   }) some
     where
-      start : (i : ℕ) → 1 ≤ i → SamePositions parents (a i) (b i) 0 1
+      start : (i : ℕ) → 1 ≤ i → SamePositions boxes (a i) (b i) 0 1
       start zero le = absurd (omega (arith, le))
       start (suc i) le = record {
         start = λ j high. let e : j ≡ 0 = omega (arith, high) in subst (λ (j : ℕ). length_at (a (suc i)).starts j ≡ length_at (b (suc i)).starts j) (sym e) ((a_next i).start 0 some ∙ sym ((b_next i).start 0 some));
@@ -181,21 +183,21 @@ module _ (parents : List ℕ) (tree : IsTree parents) (blocks : List Block) (r :
 
   -- all columns agree
   pub record AllSamePositions (s t : Positions) : Type 0 where
-    pub start : (j : ℕ) → j < length parents → length_at s.starts j ≡ length_at t.starts j
-    pub mark : (j : ℕ) → j < length parents → length_at s.marks j ≡ length_at t.marks j
-    pub height : (j : ℕ) → j < length parents → length_at s.heights j ≡ length_at t.heights j
+    pub start : (j : ℕ) → j < length boxes → length_at s.starts j ≡ length_at t.starts j
+    pub mark : (j : ℕ) → j < length boxes → length_at s.marks j ≡ length_at t.marks j
+    pub height : (j : ℕ) → j < length boxes → length_at s.heights j ≡ length_at t.heights j
 
-  pub all_positions : (some : 0 < length parents) (i : ℕ) → (stands some).after ≤ i → AllSamePositions (a (suc i)) (b (suc i))
+  pub all_positions : (some : 0 < length boxes) (i : ℕ) → (stands some).after ≤ i → AllSamePositions (a (suc i)) (b (suc i))
   all_positions some i le =
       let was = (stands some).same i le in
       let now = (stands some).same (suc i) (omega (arith, le)) in
-      let last : last_child parents 0 (length parents) ≡ last_child parents 0 (length parents) = refl in
+      let last : last_child boxes 0 (length boxes) ≡ last_child boxes 0 (length boxes) = refl in
       record {
         start = now.start;
         mark = now.mark;
         height = λ j within. elim (cases_lt 0 j) [
           | inl positive ↦ now.closed j positive within
           | inr ge ↦ (let e : j ≡ 0 = omega (arith, ge) in subst (λ (j : ℕ). length_at (a (suc i)).heights j ≡ length_at (b (suc i)).heights j) (sym e)
-              ((a_next i).height 0 some ∙ height_same (a i) (b i) 0 (content_same (a i) (b i) 0 (length parents) last some was) ∙ sym ((b_next i).height 0 some)))
+              ((a_next i).height 0 some ∙ height_same (a i) (b i) 0 (content_same (a i) (b i) 0 (length boxes) last some was) ∙ sym ((b_next i).height 0 some)))
         ];
       }

@@ -1,9 +1,11 @@
 -- Positions up to a place don't depend on the extents of boxes from there on, nor on clear edges of boxes after it.
-use Rattle.std.proofs.Common.{◌≡◌, ◌⊎◌, ℕ, zero, suc, ◌+◌, ◌<◌, ◌≤◌, Bool, true, false, ◌+ℤ◌, ◌-ℤ◌, List, length, slice_index, refl, sym, ◌∙◌, arith, inl, inr, Option, Some, None, subst}
+use Rattle.std.proofs.Common.{◌≡◌, ◌⊎◌, ℕ, zero, suc, ◌+◌, ◌<◌, ◌≤◌, Bool, true, false, ◌+ℤ◌, ◌-ℤ◌, List, length, refl, sym, ◌∙◌, arith, inl, inr, Option, Some, None, subst}
 use Rattle.std.proofs.lemmas.Bool.{cases_lt, cases_eq}
+use Rattle.lay_flow.specs.declared.flow_box.FlowBox.{FlowBox}
+use Rattle.lay_flow.specs.Boxes.{parent_at, parents_of}
+use Rattle.lay_flow.proofs.BoxTrees.{parent_before}
 use Rattle.lay_units.specs.declared.length.Unit.{Unit as Length}
 use Rattle.lay_doc.specs.Tree.{IsTree}
-use Rattle.lay_flow.specs.declared.block.Block.{Block}
 use Rattle.lay_flow.specs.Lengths.{length_at}
 use Rattle.lay_flow.specs.Children.{last_child, flag_at}
 use Rattle.lay_flow.specs.MarginRuns.{Runs, block_at}
@@ -14,14 +16,14 @@ use Rattle.lay_flow.proofs.MarginWalk.{opens}
 use Rattle.lay_flow.proofs.RunsAgree.{last_there, none_left, inside_up}
 use Rattle.lay_flow.proofs.PositionsAgree.{SamePositions}
 
-module _ (parents : List ℕ) (tree : IsTree parents) (blocks : List Block) (r : Runs) (extents others : Extents) (clear_edges other_edges : List Length) (s t : Positions)
-    (is : HasPositions parents blocks r extents clear_edges s) (also : HasPositions parents blocks r others other_edges t)
+module _ (boxes : List FlowBox) (tree : IsTree (parents_of boxes)) (r : Runs) (extents others : Extents) (clear_edges other_edges : List Length) (s t : Positions)
+    (is : HasPositions boxes r extents clear_edges s) (also : HasPositions boxes r others other_edges t)
     (limit : ℕ) (same : (j : ℕ) → 0 < j → j < limit → length_at extents.solid j ≡ length_at others.solid j) (edges : (j : ℕ) → j ≤ limit → flag_at r.clears j ≡ true → length_at clear_edges j ≡ length_at other_edges j) where
   record Agrees (p m : ℕ) : Type 0 where
     pub parent : p < m
-    pub within : m ≤ length parents
-    pub inside : (i : ℕ) → p < i → i < m → p ≤ slice_index parents i
-    pub alike : SamePositions parents s t p m
+    pub within : m ≤ length boxes
+    pub inside : (i : ℕ) → p < i → i < m → p ≤ parent_at boxes i
+    pub alike : SamePositions boxes s t p m
 
   abbrev UpTo : ℕ → ℕ → Type 0
   UpTo p m = (m ≤ limit ⊎ ((p ≡ limit) × (m ≡ limit + 1))) → Agrees p m
@@ -29,26 +31,26 @@ module _ (parents : List ℕ) (tree : IsTree parents) (blocks : List Block) (r :
   below_same : (c : ℕ) → length_at s.starts c ≡ length_at t.starts c → length_at s.marks c ≡ length_at t.marks c → length_at s.heights c ≡ length_at t.heights c → start_below r s c ≡ start_below r t c
   below_same c e f g = rw (e, f, g) refl
 
-  before_same : (p m : ℕ) → p < m → SamePositions parents s t p m → start_before parents blocks r s p m ≡ start_before parents blocks r t p m
-  before_same p m lt was = go (last_child parents p m) refl
+  before_same : (p m : ℕ) → p < m → SamePositions boxes s t p m → start_before boxes r s p m ≡ start_before boxes r t p m
+  before_same p m lt was = go (last_child boxes p m) refl
     where
-      go : (o : Option ℕ) → last_child parents p m ≡ o → start_before parents blocks r s p m ≡ start_before parents blocks r t p m
+      go : (o : Option ℕ) → last_child boxes p m ≡ o → start_before boxes r s p m ≡ start_before boxes r t p m
       go None e = let f = was.mark p lt in let g = was.start p lt in rw (e, f, g) refl
-      go (Some c) e = let l = last_there parents p m c e in rw e (below_same c (was.start c l.1) (was.mark c l.1) (was.closed c l.0 l.1))
+      go (Some c) e = let l = last_there boxes p m c e in rw e (below_same c (was.start c l.1) (was.mark c l.1) (was.closed c l.0 l.1))
 
-  start_same : (k : ℕ) → 0 < k → k ≤ limit → start_before parents blocks r s (slice_index parents k) k ≡ start_before parents blocks r t (slice_index parents k) k → start_of parents blocks r clear_edges s k ≡ start_of parents blocks r other_edges t k
+  start_same : (k : ℕ) → 0 < k → k ≤ limit → start_before boxes r s (parent_at boxes k) k ≡ start_before boxes r t (parent_at boxes k) k → start_of boxes r clear_edges s k ≡ start_of boxes r other_edges t k
   start_same zero positive le e = absurd (omega (arith, positive))
   start_same (suc k) positive le e = go (flag_at r.clears (suc k)) refl
     where
-      go : (b : Bool) → flag_at r.clears (suc k) ≡ b → start_of parents blocks r clear_edges s (suc k) ≡ start_of parents blocks r other_edges t (suc k)
+      go : (b : Bool) → flag_at r.clears (suc k) ≡ b → start_of boxes r clear_edges s (suc k) ≡ start_of boxes r other_edges t (suc k)
       go true cleared = let d = edges (suc k) le cleared in rw (cleared, d) refl
       go false unclear = rw (unclear, e) refl
 
-  mark_same : (k : ℕ) → 0 < k → length_at s.starts k ≡ length_at t.starts k → length_at s.marks (slice_index parents k) ≡ length_at t.marks (slice_index parents k) → mark_of parents blocks r s k ≡ mark_of parents blocks r t k
+  mark_same : (k : ℕ) → 0 < k → length_at s.starts k ≡ length_at t.starts k → length_at s.marks (parent_at boxes k) ≡ length_at t.marks (parent_at boxes k) → mark_of boxes r s k ≡ mark_of boxes r t k
   mark_same zero positive e f = absurd (omega (arith, positive))
   mark_same (suc k) positive e f = rw (e, f) refl
 
-  open_agrees : (k : ℕ) → 0 < k → k < length parents → UpTo (slice_index parents k) k → UpTo k (k + 1)
+  open_agrees : (k : ℕ) → 0 < k → k < length boxes → UpTo (parent_at boxes k) k → UpTo k (k + 1)
   open_agrees k positive within before cond = record {
     parent = omega arith;
     within = omega (arith, within);
@@ -74,34 +76,34 @@ module _ (parents : List ℕ) (tree : IsTree parents) (blocks : List Block) (r :
       low_enough (inl le) = omega (arith, le)
       low_enough (inr e) = let f = e.0 in omega (arith, f)
 
-      was : Agrees (slice_index parents k) k
+      was : Agrees (parent_at boxes k) k
       was = before (inl (low_enough cond))
 
       start : length_at s.starts k ≡ length_at t.starts k
-      start = let w = was in is.start k within ∙ start_same k positive (low_enough cond) (before_same (slice_index parents k) k w.parent w.alike) ∙ sym (also.start k within)
+      start = let w = was in is.start k within ∙ start_same k positive (low_enough cond) (before_same (parent_at boxes k) k w.parent w.alike) ∙ sym (also.start k within)
 
       mark : length_at s.marks k ≡ length_at t.marks k
-      mark = let w = was in is.mark k within ∙ mark_same k positive start (w.alike.mark (slice_index parents k) w.parent) ∙ sym (also.mark k within)
+      mark = let w = was in is.mark k within ∙ mark_same k positive start (w.alike.mark (parent_at boxes k) w.parent) ∙ sym (also.mark k within)
 
-  content_same : (p m : ℕ) → 0 < p → last_child parents p (length parents) ≡ last_child parents p m → p < m → SamePositions parents s t p m
-      → content_height parents blocks r extents.floats s p ≡ content_height parents blocks r others.floats t p
-  content_same p m positive last lt was = content_inner parents blocks r extents.floats s p positive ∙ between ∙ sym (content_inner parents blocks r others.floats t p positive)
+  content_same : (p m : ℕ) → 0 < p → last_child boxes p (length boxes) ≡ last_child boxes p m → p < m → SamePositions boxes s t p m
+      → content_height boxes r extents.floats s p ≡ content_height boxes r others.floats t p
+  content_same p m positive last lt was = content_inner boxes r extents.floats s p positive ∙ between ∙ sym (content_inner boxes r others.floats t p positive)
     where
-      go : (o : Option ℕ) → last_child parents p m ≡ o → content_bottom parents blocks r s p ≡ content_bottom parents blocks r t p
+      go : (o : Option ℕ) → last_child boxes p m ≡ o → content_bottom boxes r s p ≡ content_bottom boxes r t p
       go None e = let g = last ∙ e in let f = was.mark p lt in rw (g, f) refl
-      go (Some c) e = let g = last ∙ e in let l = last_there parents p m c e in let u = below_same c (was.start c l.1) (was.mark c l.1) (was.closed c l.0 l.1) in rw (g, u) refl
+      go (Some c) e = let g = last ∙ e in let l = last_there boxes p m c e in let u = below_same c (was.start c l.1) (was.mark c l.1) (was.closed c l.0 l.1) in rw (g, u) refl
 
-      between : content_bottom parents blocks r s p -ℤ (length_at s.marks p +ℤ (block_at blocks p).edge_top.0) ≡ content_bottom parents blocks r t p -ℤ (length_at t.marks p +ℤ (block_at blocks p).edge_top.0)
-      between = let e = go (last_child parents p m) refl in let f = was.mark p lt in rw (e, f) refl
+      between : content_bottom boxes r s p -ℤ (length_at s.marks p +ℤ (block_at boxes p).edge_top.0) ≡ content_bottom boxes r t p -ℤ (length_at t.marks p +ℤ (block_at boxes p).edge_top.0)
+      between = let e = go (last_child boxes p m) refl in let f = was.mark p lt in rw (e, f) refl
 
-  height_same : (p : ℕ) → length_at extents.solid p ≡ length_at others.solid p → content_height parents blocks r extents.floats s p ≡ content_height parents blocks r others.floats t p → height_of parents blocks r extents s p ≡ height_of parents blocks r others t p
+  height_same : (p : ℕ) → length_at extents.solid p ≡ length_at others.solid p → content_height boxes r extents.floats s p ≡ content_height boxes r others.floats t p → height_of boxes r extents s p ≡ height_of boxes r others t p
   height_same p e f = rw (e, f) refl
 
-  close_agrees : (p m : ℕ) → 0 < p → p < m → m ≤ length parents → (m < length parents → slice_index parents m < p) → UpTo p m → UpTo (slice_index parents p) m
+  close_agrees : (p m : ℕ) → 0 < p → p < m → m ≤ length boxes → (m < length boxes → parent_at boxes m < p) → UpTo p m → UpTo (parent_at boxes p) m
   close_agrees p m positive lt within ends before cond = record {
     parent = omega (arith, up, lt);
     within = within;
-    inside = inside_up parents tree p m inner up was.inside;
+    inside = inside_up boxes tree p m inner up was.inside;
     alike = record {
       start = was.alike.start;
       mark = was.alike.mark;
@@ -116,13 +118,13 @@ module _ (parents : List ℕ) (tree : IsTree parents) (blocks : List Block) (r :
     };
   }
     where
-      inner : p < length parents
+      inner : p < length boxes
       inner = omega (arith, lt, within)
 
-      up : slice_index parents p < p
-      up = tree.before p positive inner
+      up : parent_at boxes p < p
+      up = parent_before boxes tree p positive inner
 
-      low_enough : (m ≤ limit ⊎ ((slice_index parents p ≡ limit) × (m ≡ limit + 1))) → m ≤ limit
+      low_enough : (m ≤ limit ⊎ ((parent_at boxes p ≡ limit) × (m ≡ limit + 1))) → m ≤ limit
       low_enough (inl le) = le
       low_enough (inr e) = let f = e.0 in let g = e.1 in let u = up in absurd (omega (arith, f, g, u, lt))
 
@@ -133,13 +135,13 @@ module _ (parents : List ℕ) (tree : IsTree parents) (blocks : List Block) (r :
       mine =
           let w = was in
           let le = low_enough cond in
-          let last = last_same parents p m (length parents) within (none_left parents tree p m lt ends) in
+          let last = last_same boxes p m (length boxes) within (none_left boxes tree p m lt ends) in
           is.height p inner ∙ height_same p (same p positive (omega (arith, lt, le))) (content_same p m positive last lt w.alike) ∙ sym (also.height p inner)
 
   -- the marks of the boxes up to the limit
-  pub marks_up_to : 0 < length parents → limit < length parents → (j : ℕ) → j ≤ limit → length_at s.marks j ≡ length_at t.marks j
+  pub marks_up_to : 0 < length boxes → limit < length boxes → (j : ℕ) → j ≤ limit → length_at s.marks j ≡ length_at t.marks j
   marks_up_to some within j le =
-      (opens parents tree UpTo close_agrees open_agrees limit begins within (inr (refl, refl))).alike.mark j (omega (arith, le))
+      (opens boxes tree UpTo close_agrees open_agrees limit begins within (inr (refl, refl))).alike.mark j (omega (arith, le))
     where
       begins : UpTo 0 1
       begins cond = record {

@@ -1,14 +1,17 @@
 -- The columns of a pass at the next place of the sequence of margins.
-use Rattle.std.proofs.Common.{◌≡◌, ◌≢◌, ℕ, zero, suc, ◌+◌, ◌<◌, ◌≤◌, not, nat_lt, Bool, true, false, ℤ, pos, List, length, slice_index, refl, sym, ap, ◌∙◌, arith, inl, inr, subst}
+use Rattle.std.proofs.Common.{◌≡◌, ◌≢◌, ℕ, zero, suc, ◌+◌, ◌<◌, ◌≤◌, not, nat_lt, Bool, true, false, ℤ, pos, List, length, refl, sym, ap, ◌∙◌, arith, inl, inr, subst}
 use Rattle.std.proofs.lemmas.Bool.{cases_lt, cases_eq}
+use Rattle.lay_flow.specs.declared.flow_box.FlowBox.{FlowBox}
+use Rattle.lay_flow.specs.Boxes.{parent_at, parents_of}
+use Rattle.lay_flow.proofs.BoxTrees.{root_parent, parent_before}
 use Rattle.lay_units.specs.declared.length.Unit.{Unit as Length}
 use Rattle.lay_doc.specs.Tree.{IsTree}
 use Rattle.lay_flow.specs.Lengths.{length_at}
 use Rattle.lay_flow.specs.Children.{flag_at}
 use Rattle.lay_flow.specs.MarginRuns.{has_top, run_at}
-use Rattle.lay_flow.specs.Gathered.{IsAround}
+use Rattle.lay_flow.specs.Pass.Gathered.{IsAround}
 use Rattle.lay_flow.specs.BlockLayout.{BlockLayout}
-use Rattle.lay_flow.specs.BlockPass.{Settled, IsDone, IsSoFar}
+use Rattle.lay_flow.specs.Pass.State.{Settled, IsDone, IsSoFar}
 use Rattle.lay_flow.proofs.Truths.{true_false, not_low, low_not}
 
 -- one entry was changed
@@ -17,13 +20,13 @@ pub record Wrote {A B : Type 0} (read : List A → ℕ → B) (old new : List A)
   pub here : read new k ≡ v
   pub other : (j : ℕ) → j ≢ k → read new j ≡ read old j
 
-module _ (parents : List ℕ) (tree : IsTree parents) (y : BlockLayout) where
-  parent_low : (f m : ℕ) → 0 < f → f ≤ m → m ≤ length parents → (j : ℕ) → j < f → slice_index parents j < f
-  parent_low f m positive order within zero low = let r = tree.root in omega (arith, r, positive)
-  parent_low f m positive order within (suc j) low = let b = tree.before (suc j) (omega arith) (omega (arith, low, order, within)) in omega (arith, b, low)
+module _ (boxes : List FlowBox) (tree : IsTree (parents_of boxes)) (y : BlockLayout) where
+  parent_low : (f m : ℕ) → 0 < f → f ≤ m → m ≤ length boxes → (j : ℕ) → j < f → parent_at boxes j < f
+  parent_low f m positive order within zero low = let r = root_parent boxes tree in omega (arith, r, positive)
+  parent_low f m positive order within (suc j) low = let b = parent_before boxes tree (suc j) (omega arith) (omega (arith, low, order, within)) in omega (arith, b, low)
 
   -- a box is opened
-  pub so_far_opened : (flags : List Bool) (heights marks : List Length) (first k : ℕ) → 0 < k → k < length parents → IsSoFar parents y flags heights marks first (slice_index parents k) k → IsSoFar parents y flags heights marks first k (k + 1)
+  pub so_far_opened : (flags : List Bool) (heights marks : List Length) (first k : ℕ) → 0 < k → k < length boxes → IsSoFar boxes y flags heights marks first (parent_at boxes k) k → IsSoFar boxes y flags heights marks first k (k + 1)
   so_far_opened flags heights marks first k positive within was = record {
     passed = λ j b code. elim (cases_lt j k) [
       | inl lt ↦ was.passed j lt code
@@ -47,10 +50,10 @@ module _ (parents : List ℕ) (tree : IsTree parents) (y : BlockLayout) where
   }
 
   -- the run ends
-  pub so_far_settled : (flags : List Bool) (heights old new : List Length) (first p m : ℕ) (end : ℤ) → 0 < first → first ≤ m → m ≤ length parents
-      → ((j : ℕ) → first ≤ j → j < m → has_top (slice_index parents j) (run_at y.runs.before_tops j) ≡ not (nat_lt (slice_index parents j) first))
+  pub so_far_settled : (flags : List Bool) (heights old new : List Length) (first p m : ℕ) (end : ℤ) → 0 < first → first ≤ m → m ≤ length boxes
+      → ((j : ℕ) → first ≤ j → j < m → has_top (parent_at boxes j) (run_at y.runs.before_tops j) ≡ not (nat_lt (parent_at boxes j) first))
       → ((j : ℕ) → first ≤ j → j < m → flag_at flags j ≡ false → flag_at y.runs.through j ≡ false → length_at y.places.marks j ≡ end)
-      → Settled parents flags old new first m end → IsSoFar parents y flags heights old first p m → IsSoFar parents y flags heights new m p m
+      → Settled boxes flags old new first m end → IsSoFar boxes y flags heights old first p m → IsSoFar boxes y flags heights new m p m
   so_far_settled flags heights old new first p m end positive order within tops ends settled was = record {
     passed = was.passed;
     closed = was.closed;
@@ -61,28 +64,28 @@ module _ (parents : List ℕ) (tree : IsTree parents) (y : BlockLayout) where
         | inr high ↦ settled.stands j high lt code ∙ sym (ends j high lt code truth)
       ];
       inherits = λ j lt code top. elim (cases_lt j first) [
-        | inl low ↦ settled.before j low ∙ was.marked.inherits j low code top ∙ sym (settled.before (slice_index parents j) (parent_low first m positive order within j low))
-        | inr high ↦ settled.inherits j high lt code (not_low (slice_index parents j) first (sym (tops j high lt) ∙ top))
+        | inl low ↦ settled.before j low ∙ was.marked.inherits j low code top ∙ sym (settled.before (parent_at boxes j) (parent_low first m positive order within j low))
+        | inr high ↦ settled.inherits j high lt code (not_low (parent_at boxes j) first (sym (tops j high lt) ∙ top))
       ];
     };
     kept = λ j lt code top. elim (cases_lt j first) [
       | inl low ↦ settled.before j low ∙ was.kept j lt code top
-      | inr high ↦ elim (cases_lt (slice_index parents j) first) [
+      | inr high ↦ elim (cases_lt (parent_at boxes j) first) [
         | inl earlier ↦ settled.keeps j high lt code earlier ∙ was.kept j lt code top
-        | inr over ↦ absurd (true_false (not (nat_lt (slice_index parents j) first)) (low_not (slice_index parents j) first over) (sym (tops j high lt) ∙ top))
+        | inr over ↦ absurd (true_false (not (nat_lt (parent_at boxes j) first)) (low_not (parent_at boxes j) first over) (sym (tops j high lt) ∙ top))
       ]
     ];
     fresh = was.fresh;
     open_yet = was.open_yet;
   }
 
-  module _ (p m : ℕ) (positive : 0 < p) (lt : p < m) (within : m ≤ length parents) (inside : IsAround parents p m) where
-    less : slice_index parents p < p
-    less = tree.before p positive (omega (arith, lt, within))
+  module _ (p m : ℕ) (positive : 0 < p) (lt : p < m) (within : m ≤ length boxes) (inside : IsAround boxes p m) where
+    less : parent_at boxes p < p
+    less = parent_before boxes tree p positive (omega (arith, lt, within))
 
     closed_up : (old new : List Bool) (heights heights' : List Length) → IsDone y new heights' p → ((j : ℕ) → j ≢ p → flag_at new j ≡ flag_at old j) → ((j : ℕ) → j ≢ p → length_at heights' j ≡ length_at heights j)
-        → ((j : ℕ) → p < j → j < m → IsDone y old heights j) → ((j i : ℕ) → j < i → i < m → slice_index parents i < j → IsDone y old heights j)
-        → (j : ℕ) → slice_index parents p < j → j < m → IsDone y new heights' j
+        → ((j : ℕ) → p < j → j < m → IsDone y old heights j) → ((j i : ℕ) → j < i → i < m → parent_at boxes i < j → IsDone y old heights j)
+        → (j : ℕ) → parent_at boxes p < j → j < m → IsDone y new heights' j
     closed_up old new heights heights' here same_flags same_heights closed gone j low high = elim (cases_lt j p) [
       | inl before ↦ moved j (λ e. omega (arith, e, before)) (gone j p before lt low)
       | inr from ↦ elim (cases_eq j p) [
@@ -95,8 +98,8 @@ module _ (parents : List ℕ) (tree : IsTree parents) (y : BlockLayout) where
         moved j ne d = record { pass = same_flags j ne ∙ d.pass; height = same_heights j ne ∙ d.height }
 
     gone_up : (old new : List Bool) (heights heights' : List Length) → ((j : ℕ) → j ≢ p → flag_at new j ≡ flag_at old j) → ((j : ℕ) → j ≢ p → length_at heights' j ≡ length_at heights j)
-        → ((j i : ℕ) → j < i → i < m → slice_index parents i < j → IsDone y old heights j)
-        → (j i : ℕ) → j < i → i < m → slice_index parents i < j → IsDone y new heights' j
+        → ((j i : ℕ) → j < i → i < m → parent_at boxes i < j → IsDone y old heights j)
+        → (j i : ℕ) → j < i → i < m → parent_at boxes i < j → IsDone y new heights' j
     gone_up old new heights heights' same_flags same_heights gone j i low high lower =
         let d = gone j i low high lower in
         let ne : j ≢ p = λ e. (let b = inside i (omega (arith, low, e)) high in omega (arith, b, e, lower)) in
@@ -104,7 +107,7 @@ module _ (parents : List ℕ) (tree : IsTree parents) (y : BlockLayout) where
 
     -- a box is closed that isn't collapsed through
     pub so_far_closed : (flags : List Bool) (heights heights' marks : List Length) (first : ℕ) → flag_at y.runs.through p ≡ false → Wrote length_at heights heights' p (length_at y.places.heights p)
-        → IsSoFar parents y flags heights marks first p m → IsSoFar parents y flags heights' marks first (slice_index parents p) m
+        → IsSoFar boxes y flags heights marks first p m → IsSoFar boxes y flags heights' marks first (parent_at boxes p) m
     so_far_closed flags heights heights' marks first truth wrote was = record {
       passed = was.passed;
       closed = closed_up flags flags heights heights' (record { pass = was.open_yet p (omega arith) inside ∙ sym truth; height = wrote.here }) (λ j ne. refl) wrote.other was.closed was.gone;
@@ -118,8 +121,8 @@ module _ (parents : List ℕ) (tree : IsTree parents) (y : BlockLayout) where
     -- a box is closed that is collapsed through
     pub so_far_through : (flags flags' : List Bool) (heights heights' marks marks' : List Length) (first : ℕ) (mark : ℤ) → 0 < first → first ≤ p → flag_at y.runs.through p ≡ true → length_at y.places.heights p ≡ pos 0
         → Wrote length_at marks marks' p mark → Wrote length_at heights heights' p (pos 0) → Wrote flag_at flags flags' p true
-        → (has_top (slice_index parents p) (run_at y.runs.before_tops p) ≡ false → mark ≡ length_at y.places.marks p)
-        → IsSoFar parents y flags heights marks first p m → IsSoFar parents y flags' heights' marks' first (slice_index parents p) m
+        → (has_top (parent_at boxes p) (run_at y.runs.before_tops p) ≡ false → mark ≡ length_at y.places.marks p)
+        → IsSoFar boxes y flags heights marks first p m → IsSoFar boxes y flags' heights' marks' first (parent_at boxes p) m
     so_far_through flags flags' heights heights' marks marks' first mark least waits truth zero_high wrote_mark wrote_height wrote_flag mark_is was = record {
       passed = λ j b code. elim (cases_eq j p) [
         | inl e ↦ rw e truth
@@ -132,8 +135,8 @@ module _ (parents : List ℕ) (tree : IsTree parents) (y : BlockLayout) where
             wrote_mark.other j ne ∙ was.marked.stands j a (sym (wrote_flag.other j ne) ∙ code) t;
         inherits = λ j a code top. let ne : j ≢ p = λ e. omega (arith, e, a, waits) in
             let u = parent_low first m least (omega (arith, waits, lt)) within j a in
-            let ne' : slice_index parents j ≢ p = λ e. omega (arith, e, u, waits) in
-            wrote_mark.other j ne ∙ was.marked.inherits j a (sym (wrote_flag.other j ne) ∙ code) top ∙ sym (wrote_mark.other (slice_index parents j) ne');
+            let ne' : parent_at boxes j ≢ p = λ e. omega (arith, e, u, waits) in
+            wrote_mark.other j ne ∙ was.marked.inherits j a (sym (wrote_flag.other j ne) ∙ code) top ∙ sym (wrote_mark.other (parent_at boxes j) ne');
       };
       kept = λ j b code top. elim (cases_eq j p) [
         | inl e ↦ ap (length_at marks') e ∙ wrote_mark.here ∙ mark_is (rw e at top) ∙ ap (length_at y.places.marks) (sym e)

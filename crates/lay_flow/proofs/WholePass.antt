@@ -1,28 +1,30 @@
 -- All boxes are closed.
-use Rattle.std.proofs.Common.{◌≡◌, ℕ, zero, suc, ◌<◌, ◌≤◌, Bool, true, false, ℤ, ◌+ℤ◌, List, [], length, slice_index, refl, sym, ap, ◌∙◌, arith}
+use Rattle.std.proofs.Common.{◌≡◌, ℕ, zero, suc, ◌<◌, ◌≤◌, Bool, true, false, ℤ, ◌+ℤ◌, List, [], length, refl, sym, ap, ◌∙◌, arith}
+use Rattle.lay_flow.specs.declared.flow_box.FlowBox.{FlowBox}
+use Rattle.lay_flow.specs.Boxes.{parent_at, parents_of}
+use Rattle.lay_flow.proofs.BoxTrees.{parent_before}
 use Rattle.lay_units.specs.declared.length.Unit.{Unit as Length}
 use Rattle.lay_margins.specs.Collapse.{Holds, collapse}
 use Rattle.lay_doc.specs.Tree.{IsTree}
-use Rattle.lay_flow.specs.declared.block.Block.{Block}
 use Rattle.lay_flow.specs.Lengths.{length_at}
 use Rattle.lay_flow.specs.Children.{flag_at}
 use Rattle.lay_flow.specs.MarginRuns.{Entry, block_at, margins, has_top, run_at, run_before, run_across}
 use Rattle.lay_flow.specs.BlockPositions.{Extents, start_before}
 use Rattle.lay_flow.specs.BlockLayout.{BlockLayout, IsBlockLayout}
-use Rattle.lay_flow.specs.BlockPass.{Marked, Settled, PassState, IsAt}
+use Rattle.lay_flow.specs.Pass.State.{Marked, Settled, PassState, IsAt}
 use Rattle.lay_flow.proofs.ChildPlaces.{next_none}
 use Rattle.lay_flow.proofs.GatheredRuns.{begins as gathered_begins}
 use Rattle.lay_flow.proofs.LayoutFacts.{mark_inherits}
-use Rattle.lay_flow.specs.MarginPlace.{IsPlace}
+use Rattle.lay_flow.specs.Pass.MarginPlace.{IsPlace}
 use Rattle.lay_flow.proofs.RunFacts.{ends_inside}
 use Rattle.lay_flow.proofs.RunReach.{RunEnds, mark_here, waiting_open, tops_here, reach_is}
 use Rattle.lay_flow.proofs.SoFar.{so_far_settled}
 use Rattle.lay_flow.proofs.Truths.{true_false, true_or}
 
-module _ (parents : List ℕ) (blocks : List Block) (extents : Extents) (clear_edges : List Length) (y : BlockLayout) (is : IsBlockLayout parents blocks extents clear_edges y) (tree : IsTree parents) where
+module _ (boxes : List FlowBox) (extents : Extents) (clear_edges : List Length) (y : BlockLayout) (is : IsBlockLayout boxes extents clear_edges y) (tree : IsTree (parents_of boxes)) where
   -- the marks, once every run has ended
-  marks_to : (flags : List Bool) (marks : List Length) (n : ℕ) → n ≤ length parents → Marked parents y marks flags n
-      → ((j : ℕ) → j < n → flag_at flags j ≡ true → has_top (slice_index parents j) (run_at y.runs.before_tops j) ≡ false → length_at marks j ≡ length_at y.places.marks j)
+  marks_to : (flags : List Bool) (marks : List Length) (n : ℕ) → n ≤ length boxes → Marked boxes y marks flags n
+      → ((j : ℕ) → j < n → flag_at flags j ≡ true → has_top (parent_at boxes j) (run_at y.runs.before_tops j) ≡ false → length_at marks j ≡ length_at y.places.marks j)
       → ((j : ℕ) → 0 < j → j < n → flag_at flags j ≡ flag_at y.runs.through j)
       → length_at marks 0 ≡ length_at y.places.marks 0
       → (m : ℕ) → m ≤ n → (j : ℕ) → j < m → length_at marks j ≡ length_at y.places.marks j
@@ -32,50 +34,50 @@ module _ (parents : List ℕ) (blocks : List Block) (extents : Extents) (clear_e
       let k : ℕ = suc j in
       let less : k < n = omega (arith, lt, le) in
       let same = known k (omega arith) less in
-      let b = tree.before k (omega arith) (omega (arith, less, within)) in
+      let b = parent_before boxes tree k (omega arith) (omega (arith, less, within)) in
       true_or (flag_at flags k) (length_at marks k ≡ length_at y.places.marks k)
-      (λ t. true_or (has_top (slice_index parents k) (run_at y.runs.before_tops k)) (length_at marks k ≡ length_at y.places.marks k)
+      (λ t. true_or (has_top (parent_at boxes k) (run_at y.runs.before_tops k)) (length_at marks k ≡ length_at y.places.marks k)
       (λ top. marked.inherits k less t top
-      ∙ marks_to flags marks n within marked kept known root m (omega (arith, le)) (slice_index parents k) (omega (arith, b, lt))
-      ∙ sym (mark_inherits parents blocks extents clear_edges y is k (omega arith) (omega (arith, less, within)) (sym same ∙ t) top))
+      ∙ marks_to flags marks n within marked kept known root m (omega (arith, le)) (parent_at boxes k) (omega (arith, b, lt))
+      ∙ sym (mark_inherits boxes extents clear_edges y is k (omega arith) (omega (arith, less, within)) (sym same ∙ t) top))
       (λ top. kept k less t top))
       (λ f. marked.stands k less f (sym same ∙ f))
 
-  module _ (now : PassState) (was : IsAt parents blocks clear_edges y now 0 (length parents)) (end : ℤ) (reach : RunEnds now.hangs now.start now.strut end) where
-    at_end : IsPlace parents 0 (length parents)
+  module _ (now : PassState) (was : IsAt boxes clear_edges y now 0 (length boxes)) (end : ℤ) (reach : RunEnds now.hangs now.start now.strut end) where
+    at_end : IsPlace boxes 0 (length boxes)
     at_end = record { parent = was.in_run.gathered.parent; within = omega arith; inside = was.in_run.gathered.inside; next = λ w. absurd (omega (arith, w)) }
 
-    across : run_across parents blocks y.runs 0 (length parents) ≡ run_before parents blocks y.runs 0 (length parents)
-    across = ends_inside parents blocks y.runs 0 (length parents) (next_none parents 0 (length parents) (length parents) (λ k low high. absurd (omega (arith, low, high)))) refl
+    across : run_across boxes y.runs 0 (length boxes) ≡ run_before boxes y.runs 0 (length boxes)
+    across = ends_inside boxes y.runs 0 (length boxes) (next_none boxes 0 (length boxes) (length boxes) (λ k low high. absurd (omega (arith, low, high)))) refl
 
     -- no box is open
     flows : now.hangs ≡ true → flag_at y.runs.through now.first ≡ false
     flows t = let h = was.in_run.hanging t in let o = h.open_yet in let l = was.in_run.gathered.least in absurd (omega (arith, o, l))
 
-    pub reach_end : end ≡ start_before parents blocks y.runs y.places 0 (length parents) +ℤ collapse (margins (run_before parents blocks y.runs 0 (length parents)))
+    pub reach_end : end ≡ start_before boxes y.runs y.places 0 (length boxes) +ℤ collapse (margins (run_before boxes y.runs 0 (length boxes)))
     reach_end =
         let whole = ap margins across in
-        reach_is parents blocks extents clear_edges y is tree now 0 (length parents) was.in_run at_end now.strut end reach (rw whole was.in_run.strut_holds) flows
-        ∙ ap (λ (run : List Entry). start_before parents blocks y.runs y.places 0 (length parents) +ℤ collapse (margins run)) across
+        reach_is boxes extents clear_edges y is tree now 0 (length boxes) was.in_run at_end now.strut end reach (rw whole was.in_run.strut_holds) flows
+        ∙ ap (λ (run : List Entry). start_before boxes y.runs y.places 0 (length boxes) +ℤ collapse (margins run)) across
 
     -- at the end all boxes have the marks and the heights of the layout
-    pub all_marks : (marks : List Length) → length_at now.marks 0 ≡ length_at y.places.marks 0 → Settled parents now.through now.marks marks now.first (length parents) end
-        → (j : ℕ) → j < length parents → length_at marks j ≡ length_at y.places.marks j
+    pub all_marks : (marks : List Length) → length_at now.marks 0 ≡ length_at y.places.marks 0 → Settled boxes now.through now.marks marks now.first (length boxes) end
+        → (j : ℕ) → j < length boxes → length_at marks j ≡ length_at y.places.marks j
     all_marks marks root settled =
-        let so_far = so_far_settled parents tree y now.through now.heights now.marks marks now.first 0 (length parents) end was.in_run.gathered.least was.in_run.gathered.most (omega arith)
-        (tops_here parents blocks extents clear_edges y is tree now 0 (length parents) was.in_run at_end)
-        (λ j a b code truth. let open_yet = waiting_open parents blocks extents clear_edges y is tree now 0 (length parents) was.in_run at_end was.so_far j a b code in
-        mark_here parents blocks extents clear_edges y is tree now 0 (length parents) was.in_run at_end j a open_yet.0 open_yet.1 truth
-        ∙ ap (λ (run : List Entry). start_before parents blocks y.runs y.places 0 (length parents) +ℤ collapse (margins run)) across ∙ sym reach_end) settled was.so_far in
-        marks_to now.through marks (length parents) (omega arith) so_far.marked so_far.kept (λ j a b. (was.so_far.closed j a b).pass)
-        (let l = was.in_run.gathered.least in settled.before 0 l ∙ root) (length parents) (omega arith)
+        let so_far = so_far_settled boxes tree y now.through now.heights now.marks marks now.first 0 (length boxes) end was.in_run.gathered.least was.in_run.gathered.most (omega arith)
+        (tops_here boxes extents clear_edges y is tree now 0 (length boxes) was.in_run at_end)
+        (λ j a b code truth. let open_yet = waiting_open boxes extents clear_edges y is tree now 0 (length boxes) was.in_run at_end was.so_far j a b code in
+        mark_here boxes extents clear_edges y is tree now 0 (length boxes) was.in_run at_end j a open_yet.0 open_yet.1 truth
+        ∙ ap (λ (run : List Entry). start_before boxes y.runs y.places 0 (length boxes) +ℤ collapse (margins run)) across ∙ sym reach_end) settled was.so_far in
+        marks_to now.through marks (length boxes) (omega arith) so_far.marked so_far.kept (λ j a b. (was.so_far.closed j a b).pass)
+        (let l = was.in_run.gathered.least in settled.before 0 l ∙ root) (length boxes) (omega arith)
 
-    pub all_heights : (j : ℕ) → 0 < j → j < length parents → length_at now.heights j ≡ length_at y.places.heights j
+    pub all_heights : (j : ℕ) → 0 < j → j < length boxes → length_at now.heights j ≡ length_at y.places.heights j
     all_heights j a b = (was.so_far.closed j a b).height
 
   -- before the first box
-  pub begins : (now : PassState) → 0 < length parents → now.first ≡ 1 → now.hangs ≡ false
-      → Holds now.strut [] → now.start ≡ length_at y.places.marks 0 +ℤ (block_at blocks 0).edge_top.0 → length_at now.marks 0 ≡ length_at y.places.marks 0 → ((j : ℕ) → flag_at now.through j ≡ false) → IsAt parents blocks clear_edges y now 0 1
+  pub begins : (now : PassState) → 0 < length boxes → now.first ≡ 1 → now.hangs ≡ false
+      → Holds now.strut [] → now.start ≡ length_at y.places.marks 0 +ℤ (block_at boxes 0).edge_top.0 → length_at now.marks 0 ≡ length_at y.places.marks 0 → ((j : ℕ) → flag_at now.through j ≡ false) → IsAt boxes clear_edges y now 0 1
   begins now some first hangs holds start root fresh = record {
     so_far = record {
       passed = λ j b c. absurd (true_false (flag_at now.through j) c (fresh j));
@@ -90,7 +92,7 @@ module _ (parents : List ℕ) (blocks : List Block) (extents : Extents) (clear_e
       open_yet = λ j a within. fresh j;
     };
     in_run = record {
-      gathered = rw first (gathered_begins parents tree blocks y.runs is.has_runs some);
+      gathered = rw first (gathered_begins boxes tree y.runs is.has_runs some);
       strut_holds = holds;
       start_is = λ f. start;
       hanging = λ t. absurd (true_false now.hangs t hangs);

@@ -10,7 +10,9 @@
 -- a top margin of 10 px and a bottom margin of -30 px, and the third is 10 px high. The run of 20, 10 and -30 starts
 -- at 10 px and ends at 10 + 20 - 30 = 0 px, and there the third child stands. The second stands at 10 + 20 = 30 px.
 -- The root reaches to the bottom of the third child: it is 10 px high.
-use Rattle.std.specs.Prelude.{ℕ, zero, suc, ◌≡◌, ◌<◌, ◌&&◌, Bool, true, false, ℤ, pos, ◌+ℤ◌, ◌-ℤ◌, List, length, slice_index, if◌then◌else◌, Option, Some, None}
+use Rattle.std.specs.Prelude.{ℕ, zero, suc, ◌≡◌, ◌<◌, ◌&&◌, Bool, true, false, ℤ, pos, ◌+ℤ◌, ◌-ℤ◌, List, length, if◌then◌else◌, Option, Some, None}
+use Rattle.lay_flow.specs.declared.flow_box.FlowBox.{FlowBox}
+use Rattle.lay_flow.specs.Boxes.{parent_at}
 use Rattle.lay_units.specs.Units.{clamp_size_of}
 use Rattle.lay_units.specs.declared.length.Unit.{Unit as Length}
 use Rattle.lay_units.specs.declared.records.Len.{Len}
@@ -48,39 +50,39 @@ abbrev pub start_below : Runs → Positions → ℕ → ℤ
 start_below r at s = if flag_at r.through s then length_at at.starts s else (length_at at.marks s +ℤ length_at at.heights s)
 
 -- where the run starts that ends at the place (p, m) of the sequence of margins
-abbrev pub start_before : List ℕ → List Block → Runs → Positions → ℕ → ℕ → ℤ
-start_before parents blocks r at p m = after (last_child parents p m)
+abbrev pub start_before : List FlowBox → Runs → Positions → ℕ → ℕ → ℤ
+start_before boxes r at p m = after (last_child boxes p m)
   where
     after : Option ℕ → ℤ
-    after None = if parts_tops blocks p then (length_at at.marks p +ℤ (block_at blocks p).edge_top.0) else length_at at.starts p
+    after None = if parts_tops boxes p then (length_at at.marks p +ℤ (block_at boxes p).edge_top.0) else length_at at.starts p
     after (Some s) = start_below r at s
 
 -- the margins between the start of its run and its top border edge: those before its bottom margin, where the box is
 -- collapsed through, and else all
-abbrev pub margins_above : List ℕ → List Block → Runs → ℕ → List ℤ
-margins_above parents blocks r k = margins (if flag_at r.through k then run_before parents blocks r k (length parents) else run_at r.top_runs k)
+abbrev pub margins_above : List FlowBox → Runs → ℕ → List ℤ
+margins_above boxes r k = margins (if flag_at r.through k then run_before boxes r k (length boxes) else run_at r.top_runs k)
 
 -- A box with clearance begins a run. That starts where it has to so that the box stands at its clear edge, of
 -- which there is a column with an entry for each box.
-abbrev pub start_of : List ℕ → List Block → Runs → List Length → Positions → ℕ → ℤ
-start_of parents blocks r clear_edges at zero = pos 0
-start_of parents blocks r clear_edges at (suc k) =
-    if flag_at r.clears (suc k) then length_at clear_edges (suc k) -ℤ collapse (margins_above parents blocks r (suc k))
-    else start_before parents blocks r at (slice_index parents (suc k)) (suc k)
+abbrev pub start_of : List FlowBox → Runs → List Length → Positions → ℕ → ℤ
+start_of boxes r clear_edges at zero = pos 0
+start_of boxes r clear_edges at (suc k) =
+    if flag_at r.clears (suc k) then length_at clear_edges (suc k) -ℤ collapse (margins_above boxes r (suc k))
+    else start_before boxes r at (parent_at boxes (suc k)) (suc k)
 
 -- the run of the box's top margin has its parent's top margin
-abbrev pub meets_parents_top : List ℕ → Runs → ℕ → Bool
-meets_parents_top parents r k = has_top (slice_index parents k) (run_at r.before_tops k)
+abbrev pub meets_parents_top : List FlowBox → Runs → ℕ → Bool
+meets_parents_top boxes r k = has_top (parent_at boxes k) (run_at r.before_tops k)
 
-abbrev pub mark_of : List ℕ → List Block → Runs → Positions → ℕ → ℤ
-mark_of parents blocks r at zero = pos 0
-mark_of parents blocks r at (suc k) =
-    if flag_at r.through (suc k) && meets_parents_top parents r (suc k) then length_at at.marks (slice_index parents (suc k))
-    else length_at at.starts (suc k) +ℤ collapse (margins_above parents blocks r (suc k))
+abbrev pub mark_of : List FlowBox → Runs → Positions → ℕ → ℤ
+mark_of boxes r at zero = pos 0
+mark_of boxes r at (suc k) =
+    if flag_at r.through (suc k) && meets_parents_top boxes r (suc k) then length_at at.marks (parent_at boxes (suc k))
+    else length_at at.starts (suc k) +ℤ collapse (margins_above boxes r (suc k))
 
 -- the top edge of the content of the box
-abbrev pub content_top : List Block → Positions → ℕ → Length
-content_top blocks at k = record { 0 = length_at at.marks k +ℤ (block_at blocks k).edge_top.0 }
+abbrev pub content_top : List FlowBox → Positions → ℕ → Length
+content_top boxes at k = record { 0 = length_at at.marks k +ℤ (block_at boxes k).edge_top.0 }
 
 -- the bottom edge of the bottom margin of the box, collapsed with those that it adjoins
 abbrev pub margin_bottom : Runs → Positions → ℕ → Length
@@ -88,30 +90,30 @@ margin_bottom r at c = record { 0 = start_below r at c +ℤ collapse (margins (r
 
 -- where the content of the box may end (10.6.3): with the bottom margin of its last child, where that doesn't adjoin
 -- the box's own, and with the border of that child. No box holds lines yet.
-abbrev pub ends_of : List ℕ → List Block → Runs → Positions → ℕ → FlowEnds
-ends_of parents blocks r at k = after (last_child parents k (length parents))
+abbrev pub ends_of : List FlowBox → Runs → Positions → ℕ → FlowEnds
+ends_of boxes r at k = after (last_child boxes k (length boxes))
   where
     after : Option ℕ → FlowEnds
-    after None = record { top = content_top blocks at k; line = None; margin = None; border = None }
+    after None = record { top = content_top boxes at k; line = None; margin = None; border = None }
     after (Some c) = record {
-      top = content_top blocks at k;
+      top = content_top boxes at k;
       line = None;
-      margin = if joins_bottom parents blocks r k then None else Some (margin_bottom r at c);
+      margin = if joins_bottom boxes r k then None else Some (margin_bottom r at c);
       border = Some (record { 0 = start_below r at c });
     }
 
 -- where the last margin in the context's own box ends
-abbrev pub root_end : List ℕ → List Block → Runs → Positions → Length
-root_end parents blocks r at = after (last_child parents 0 (length parents))
+abbrev pub root_end : List FlowBox → Runs → Positions → Length
+root_end boxes r at = after (last_child boxes 0 (length boxes))
   where
     after : Option ℕ → Length
-    after None = content_top blocks at 0
+    after None = content_top boxes at 0
     after (Some c) = margin_bottom r at c
 
 -- the auto height of the content of the box: that of the context's own box by 10.6.7, and of others by 10.6.3
-abbrev pub content_height : List ℕ → List Block → Runs → Option Length → Positions → ℕ → ℤ
-content_height parents blocks r floats at zero = root_height_of (content_top blocks at 0) (root_end parents blocks r at) floats
-content_height parents blocks r floats at (suc k) = auto_height_of (ends_of parents blocks r at (suc k))
+abbrev pub content_height : List FlowBox → Runs → Option Length → Positions → ℕ → ℤ
+content_height boxes r floats at zero = root_height_of (content_top boxes at 0) (root_end boxes r at) floats
+content_height boxes r floats at (suc k) = auto_height_of (ends_of boxes r at (suc k))
 
 abbrev pub given_or_auto : Len → ℤ → ℤ
 given_or_auto auto height = height
@@ -128,16 +130,16 @@ border_height b extent content =
     if is_solid b.inside then extent
     else b.edge_top.0 +ℤ with_min_max_of (given_or_auto b.height (clamp_size_of content)) b.min_height.0 b.max_height +ℤ b.edge_bottom.0
 
-abbrev pub height_of : List ℕ → List Block → Runs → Extents → Positions → ℕ → ℤ
-height_of parents blocks r extents at k =
+abbrev pub height_of : List FlowBox → Runs → Extents → Positions → ℕ → ℤ
+height_of boxes r extents at k =
     if flag_at r.through k then pos 0
-    else border_height (block_at blocks k) (length_at extents.solid k) (content_height parents blocks r extents.floats at k)
+    else border_height (block_at boxes k) (length_at extents.solid k) (content_height boxes r extents.floats at k)
 
 -- these are the positions and the heights, where the runs, the extents and the clear edges are given
-pub record HasPositions (parents : List ℕ) (blocks : List Block) (r : Runs) (extents : Extents) (clear_edges : List Length) (at : Positions) : Type 0 where
-  pub starts_length : length at.starts ≡ length parents
-  pub marks_length : length at.marks ≡ length parents
-  pub heights_length : length at.heights ≡ length parents
-  pub start : (k : ℕ) → k < length parents → length_at at.starts k ≡ start_of parents blocks r clear_edges at k
-  pub mark : (k : ℕ) → k < length parents → length_at at.marks k ≡ mark_of parents blocks r at k
-  pub height : (k : ℕ) → k < length parents → length_at at.heights k ≡ height_of parents blocks r extents at k
+pub record HasPositions (boxes : List FlowBox) (r : Runs) (extents : Extents) (clear_edges : List Length) (at : Positions) : Type 0 where
+  pub starts_length : length at.starts ≡ length boxes
+  pub marks_length : length at.marks ≡ length boxes
+  pub heights_length : length at.heights ≡ length boxes
+  pub start : (k : ℕ) → k < length boxes → length_at at.starts k ≡ start_of boxes r clear_edges at k
+  pub mark : (k : ℕ) → k < length boxes → length_at at.marks k ≡ mark_of boxes r at k
+  pub height : (k : ℕ) → k < length boxes → length_at at.heights k ≡ height_of boxes r extents at k

@@ -10,46 +10,57 @@
 -- of 20 px. Without clearance all of them have their marks at 20 px: the margin is the child's too. The float is in
 -- the run of that margin, so the block has clearance. The run before it now ends at 0, where the float stands, with its
 -- bottom at 10 px. The clear edge is 20 px, the lower of 10 and 20 px.
+--
+-- The floats that are tested against are those of the flow. Those of the hypothetical layout decide alike (Laws).
 use Rattle.std.specs.Prelude.{ℕ, ◌≡◌, ◌<◌, ◌≤◌, ◌⊎◌, ◌↔◌, true, false, ℤ, ◌<ℤ◌, List, Option, Some, None}
 use Rattle.std.specs.Int.{int_max}
+use Rattle.lay_flow.specs.declared.flow_box.FlowBox.{FlowBox}
 use Rattle.lay_units.specs.declared.length.Unit.{Unit as Length}
 use Rattle.lay_floats.specs.declared.requests.Side.{Side}
 use Rattle.lay_floats.specs.declared.requests.Place.{Place}
 use Rattle.lay_floats.specs.ClearEdge.{Clears, IsClearEdge}
+use Rattle.lay_floats.specs.FloatPlace.{IsFloatPlace}
 use Rattle.lay_flow.specs.BlockPositions.{Extents}
-use Rattle.lay_flow.specs.declared.block.Block.{Block}
-use Rattle.lay_flow.specs.declared.shape.Shape.{Shape}
 use Rattle.lay_flow.specs.Lengths.{length_at}
 use Rattle.lay_flow.specs.Children.{flag_at}
 use Rattle.lay_flow.specs.MarginRuns.{Entry, has_top, run_at}
 use Rattle.lay_flow.specs.BlockLayout.{BlockLayout, IsBlockLayout}
-use Rattle.lay_flow.specs.BlockFloats.{shape_at, floats_before}
+use Rattle.lay_flow.specs.BlockFloats.{ceiling, float_request, floats_before, place_at, shape_at}
 
 -- the hypothetical layout of the box at k
-pub record IsHypothetical (parents : List ℕ) (blocks : List Block) (extents : Extents) (clear_edges : List Length) (y : BlockLayout) (k : ℕ) (without : BlockLayout) : Type 0 where
-  pub is_layout : IsBlockLayout parents blocks extents clear_edges without
+pub record IsHypothetical (boxes : List FlowBox) (extents : Extents) (clear_edges : List Length) (y : BlockLayout) (k : ℕ) (without : BlockLayout) : Type 0 where
+  pub is_layout : IsBlockLayout boxes extents clear_edges without
   pub earlier : (j : ℕ) → j < k → flag_at without.runs.clears j ≡ flag_at y.runs.clears j
   pub later : (j : ℕ) → k ≤ j → flag_at without.runs.clears j ≡ false
 
 -- an earlier float of a side to clear has its mark in the run
-abbrev pub HasClearedFloat : List Shape → ℕ → List Entry → Type 0
-HasClearedFloat shapes k run =
-    (j : ℕ) × (side : Side) × (j < k) × ((shape_at shapes j).float ≡ Some side) × Clears (shape_at shapes k).clear side × (has_top j run ≡ true)
+abbrev pub HasClearedFloat : List FlowBox → ℕ → List Entry → Type 0
+HasClearedFloat boxes k run =
+    (j : ℕ) × (side : Side) × (j < k) × ((shape_at boxes j).float ≡ Some side) × Clears (shape_at boxes k).clear side × (has_top j run ≡ true)
 
 -- the hypothetical edge is above the bottom that is to be cleared
 abbrev pub IsAbove : ℤ → Option Length → Type 0
 IsAbove hypothetical bottom = (v : Length) × (bottom ≡ Some v) × (hypothetical <ℤ v.0)
+
+-- the box at k needs clearance, beside this lowest bottom of the floats to clear
+abbrev pub NeedsClearance : List FlowBox → BlockLayout → ℕ → Option Length → Type 0
+NeedsClearance boxes without k bottom = HasClearedFloat boxes k (run_at without.runs.before_tops k) ⊎ IsAbove (length_at without.places.marks k) bottom
+
+-- the floats before the box at k stand by these marks. By those of its hypothetical layout, it is where they stand in that.
+abbrev pub AreFloatPlaces : List FlowBox → List Length → List Place → ℕ → Type 0
+AreFloatPlaces boxes marks places k = (j : ℕ) (side : Side) → 0 < j → j < k → (shape_at boxes j).float ≡ Some side
+    → IsFloatPlace (floats_before boxes places j) (float_request (shape_at boxes j) side (ceiling boxes marks j)) (place_at places j).x.0 (place_at places j).y.0
 
 abbrev pub lower_of : Option Length → ℤ → ℤ
 lower_of None hypothetical = hypothetical
 lower_of (Some bottom) hypothetical = int_max bottom.0 hypothetical
 
 -- whether the box at k has clearance, and its clear edge
-pub record HasClearance (parents : List ℕ) (blocks : List Block) (shapes : List Shape) (extents : Extents) (clear_edges : List Length) (places : List Place) (y : BlockLayout) (k : ℕ) : Type 0 where
+pub record HasClearance (boxes : List FlowBox) (extents : Extents) (clear_edges : List Length) (places : List Place) (y : BlockLayout) (k : ℕ) : Type 0 where
   pub without : BlockLayout
-  pub is_hypothetical : IsHypothetical parents blocks extents clear_edges y k without
+  pub is_hypothetical : IsHypothetical boxes extents clear_edges y k without
   -- the lowest bottom of the floats to clear
   pub bottom : Option Length
-  pub is_bottom : IsClearEdge (floats_before shapes places k) (shape_at shapes k).clear bottom
-  pub decides : (flag_at y.runs.clears k ≡ true) ↔ (HasClearedFloat shapes k (run_at without.runs.before_tops k) ⊎ IsAbove (length_at without.places.marks k) bottom)
+  pub is_bottom : IsClearEdge (floats_before boxes places k) (shape_at boxes k).clear bottom
+  pub decides : (flag_at y.runs.clears k ≡ true) ↔ NeedsClearance boxes without k bottom
   pub edge : flag_at y.runs.clears k ≡ true → length_at clear_edges k ≡ lower_of bottom (length_at without.places.marks k)

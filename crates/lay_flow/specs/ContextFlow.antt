@@ -1,6 +1,7 @@
 -- The flow of a block formatting context: its blocks with their runs of margins, positions, heights and clearance, its floats
 -- and its solid boxes (CSS 2.2, 8.3.1, 9.4.1, 9.5, 10.6.3 and 10.6.7).
-use Rattle.std.specs.Prelude.{ℕ, ◌≡◌, ◌<◌, ◌+ℤ◌, ◌-ℤ◌, true, false, pos, ℤ, List, length, Option, Some, None}
+use Rattle.std.specs.Prelude.{ℕ, ◌≡◌, ◌<◌, ◌+ℤ◌, ◌-ℤ◌, true, false, pos, List, length, Some, None}
+use Rattle.lay_flow.specs.declared.flow_box.FlowBox.{FlowBox}
 use Rattle.lay_units.specs.declared.length.Unit.{Unit as Length}
 use Rattle.lay_floats.specs.declared.requests.Side.{Side}
 use Rattle.lay_floats.specs.declared.requests.Clear.TheVariants.{Both as clear_both}
@@ -8,8 +9,6 @@ use Rattle.lay_floats.specs.declared.requests.Place.{Place}
 use Rattle.lay_floats.specs.ClearEdge.{IsClearEdge}
 use Rattle.lay_floats.specs.FloatPlace.{IsFloatPlace}
 use Rattle.lay_floats.specs.SolidPlace.{IsSolidPlace}
-use Rattle.lay_flow.specs.declared.block.Block.{Block}
-use Rattle.lay_flow.specs.declared.shape.Shape.{Shape}
 use Rattle.lay_flow.specs.Lengths.{length_at}
 use Rattle.lay_flow.specs.Children.{flag_at}
 use Rattle.lay_flow.specs.MarginRuns.{block_at}
@@ -26,35 +25,35 @@ pub record Flow : Type 0 where
   pub clear_edges : List Length
   pub places : List Place
 
-pub record IsContextFlow (parents : List ℕ) (blocks : List Block) (shapes : List Shape) (f : Flow) : Type 0 where
-  pub layout : IsBlockLayout parents blocks f.extents f.clear_edges f.layout
-  pub extents_length : length f.extents.solid ≡ length parents
-  pub clear_edges_length : length f.clear_edges ≡ length parents
-  pub places_length : length f.places ≡ length parents
+pub record IsContextFlow (boxes : List FlowBox) (f : Flow) : Type 0 where
+  pub layout : IsBlockLayout boxes f.extents f.clear_edges f.layout
+  pub extents_length : length f.extents.solid ≡ length boxes
+  pub clear_edges_length : length f.clear_edges ≡ length boxes
+  pub places_length : length f.places ≡ length boxes
   -- the context's own box has no clearance, and a float has none that parts margins
   pub root_clear : flag_at f.layout.runs.clears 0 ≡ false
-  pub float_clear : (k : ℕ) (side : Side) → k < length parents → (shape_at shapes k).float ≡ Some side → flag_at f.layout.runs.clears k ≡ false
-  pub clearance : (k : ℕ) → 0 < k → k < length parents → (shape_at shapes k).float ≡ None → HasClearance parents blocks shapes f.extents f.clear_edges f.places f.layout k
-  pub no_edge : (k : ℕ) → k < length parents → flag_at f.layout.runs.clears k ≡ false → length_at f.clear_edges k ≡ pos 0
+  pub float_clear : (k : ℕ) (side : Side) → k < length boxes → (shape_at boxes k).float ≡ Some side → flag_at f.layout.runs.clears k ≡ false
+  pub clearance : (k : ℕ) → 0 < k → k < length boxes → (shape_at boxes k).float ≡ None → HasClearance boxes f.extents f.clear_edges f.places f.layout k
+  pub no_edge : (k : ℕ) → k < length boxes → flag_at f.layout.runs.clears k ≡ false → length_at f.clear_edges k ≡ pos 0
   -- the places of floats and of solid boxes
-  pub float : (k : ℕ) (side : Side) → 0 < k → k < length parents → (shape_at shapes k).float ≡ Some side
-      → IsFloatPlace (floats_before shapes f.places k) (float_request (shape_at shapes k) side (ceiling parents blocks f.layout.places.marks k)) (place_at f.places k).x.0 (place_at f.places k).y.0
-  pub solid : (k : ℕ) → 0 < k → k < length parents → is_solid (block_at blocks k).inside ≡ true
-      → IsSolidPlace (floats_before shapes f.places k) (solid_request (shape_at shapes k) (length_at f.layout.places.marks k)) (place_at f.places k).x.0 (place_at f.places k).y.0
+  pub float : (k : ℕ) (side : Side) → 0 < k → k < length boxes → (shape_at boxes k).float ≡ Some side
+      → IsFloatPlace (floats_before boxes f.places k) (float_request (shape_at boxes k) side (ceiling boxes f.layout.places.marks k)) (place_at f.places k).x.0 (place_at f.places k).y.0
+  pub solid : (k : ℕ) → 0 < k → k < length boxes → is_solid (block_at boxes k).inside ≡ true
+      → IsSolidPlace (floats_before boxes f.places k) (solid_request (shape_at boxes k) (length_at f.layout.places.marks k)) (place_at f.places k).x.0 (place_at f.places k).y.0
   pub no_place_root : place_at f.places 0 ≡ no_place
-  pub no_place_else : (k : ℕ) → 0 < k → k < length parents → (shape_at shapes k).float ≡ None → is_solid (block_at blocks k).inside ≡ false → place_at f.places k ≡ no_place
+  pub no_place_else : (k : ℕ) → 0 < k → k < length boxes → (shape_at boxes k).float ≡ None → is_solid (block_at boxes k).inside ≡ false → place_at f.places k ≡ no_place
   -- what follows a solid box starts at its bottom border edge
-  pub solid_extent : (k : ℕ) → 0 < k → k < length parents → is_solid (block_at blocks k).inside ≡ true
-      → length_at f.extents.solid k ≡ (place_at f.places k).y.0 -ℤ length_at f.layout.places.marks k +ℤ (shape_at shapes k).height.0
-  pub no_extent : (k : ℕ) → 0 < k → k < length parents → is_solid (block_at blocks k).inside ≡ false → length_at f.extents.solid k ≡ pos 0
+  pub solid_extent : (k : ℕ) → 0 < k → k < length boxes → is_solid (block_at boxes k).inside ≡ true
+      → length_at f.extents.solid k ≡ (place_at f.places k).y.0 -ℤ length_at f.layout.places.marks k +ℤ (shape_at boxes k).height.0
+  pub no_extent : (k : ℕ) → 0 < k → k < length boxes → is_solid (block_at boxes k).inside ≡ false → length_at f.extents.solid k ≡ pos 0
   pub no_extent_root : length_at f.extents.solid 0 ≡ pos 0
   -- the context's own box reaches round all floats
-  pub bottom : IsClearEdge (floats_before shapes f.places (length parents)) clear_both f.extents.floats
+  pub bottom : IsClearEdge (floats_before boxes f.places (length boxes)) clear_both f.extents.floats
 
 -- these are the top border edges and the heights of the border boxes, and the places of floats and solid boxes
-pub record AreContextPlaces (parents : List ℕ) (blocks : List Block) (shapes : List Shape) (tops heights : List Length) (places : List Place) : Type 0 where
+pub record AreContextPlaces (boxes : List FlowBox) (tops heights : List Length) (places : List Place) : Type 0 where
   pub flow : Flow
-  pub is_flow : IsContextFlow parents blocks shapes flow
+  pub is_flow : IsContextFlow boxes flow
   pub tops_are : tops ≡ flow.layout.places.marks
   pub heights_are : heights ≡ flow.layout.places.heights
   pub places_are : places ≡ flow.places

@@ -1,41 +1,63 @@
 -- The blocks of a context have one layout, and it has one flow.
-use Rattle.std.specs.Prelude.{ℕ, ◌≡◌, ◌<◌, Bool, List, length}
+use Rattle.std.specs.Prelude.{ℕ, ◌≡◌, ◌<◌, ◌↔◌, Bool, true, false, List, length, Option}
+use Rattle.lay_flow.specs.Adjoining.{RunsAdjoin}
+use Rattle.lay_flow.specs.MarginRuns.{Runs, HasRuns, block_at, may_collapse_through}
+use Rattle.lay_flow.specs.Children.{flag_at, is_child}
+use Rattle.lay_flow.specs.declared.flow_box.FlowBox.{FlowBox}
+use Rattle.lay_flow.specs.Boxes.{parents_of}
 use Rattle.lay_units.specs.declared.length.Unit.{Unit as Length}
 use Rattle.lay_doc.specs.Tree.{IsTree}
 use Rattle.lay_floats.specs.declared.requests.Place.{Place}
-use Rattle.lay_flow.specs.declared.block.Block.{Block}
-use Rattle.lay_flow.specs.declared.shape.Shape.{Shape}
-use Rattle.lay_flow.specs.BlockFloats.{AreShapes}
-use Rattle.lay_flow.specs.Clearance.{IsHypothetical}
-use Rattle.lay_flow.specs.ContextFlow.{Flow, IsContextFlow, AreContextPlaces}
+use Rattle.lay_floats.specs.ClearEdge.{IsClearEdge}
+use Rattle.lay_flow.specs.FlowBoxes.{IsFlowTree}
+use Rattle.lay_flow.specs.Clearance.{AreFloatPlaces, IsHypothetical, NeedsClearance}
+use Rattle.lay_flow.specs.BlockFloats.{floats_before, shape_at}
+use Rattle.lay_flow.specs.ContextFlow.{Flow, IsContextFlow}
+use Rattle.lay_flow.specs.declared.flow_places.BoxPlace.{BoxPlace}
+use Rattle.lay_flow.specs.FlowPlaces.{IsFlowOf}
 use Rattle.lay_flow.specs.BlockPositions.{Extents}
 use Rattle.lay_flow.specs.BlockLayout.{BlockLayout, IsBlockLayout}
 
 -- where the boxes with clearance and their clear edges are given, the blocks of a context have one layout and no other
 abbrev pub OneBlockLayout : Type 0
-OneBlockLayout = (parents : List ℕ) (blocks : List Block) (extents : Extents) (clear_edges : List Length) (y z : BlockLayout) → IsTree parents → 0 < length parents → y.runs.clears ≡ z.runs.clears
-    → IsBlockLayout parents blocks extents clear_edges y → IsBlockLayout parents blocks extents clear_edges z → y ≡ z
+OneBlockLayout = (boxes : List FlowBox) (extents : Extents) (clear_edges : List Length) (y z : BlockLayout) → IsTree (parents_of boxes) → 0 < length boxes → y.runs.clears ≡ z.runs.clears
+    → IsBlockLayout boxes extents clear_edges y → IsBlockLayout boxes extents clear_edges z → y ≡ z
 
 abbrev pub SomeBlockLayout : Type 0
-SomeBlockLayout = (parents : List ℕ) (blocks : List Block) (extents : Extents) (clear_edges : List Length) (clears : List Bool) → IsTree parents → 0 < length parents → length clears ≡ length parents
-    → (y : BlockLayout) × (y.runs.clears ≡ clears) × IsBlockLayout parents blocks extents clear_edges y
+SomeBlockLayout = (boxes : List FlowBox) (extents : Extents) (clear_edges : List Length) (clears : List Bool) → IsTree (parents_of boxes) → 0 < length boxes → length clears ≡ length boxes
+    → (y : BlockLayout) × (y.runs.clears ≡ clears) × IsBlockLayout boxes extents clear_edges y
 
 -- a context has one flow
 abbrev pub OneContextFlow : Type 0
-OneContextFlow = (parents : List ℕ) (blocks : List Block) (shapes : List Shape) (f g : Flow) → IsTree parents → 0 < length parents → AreShapes parents blocks shapes
-    → IsContextFlow parents blocks shapes f → IsContextFlow parents blocks shapes g → f ≡ g
+OneContextFlow = (boxes : List FlowBox) (f g : Flow) → IsFlowTree boxes → IsContextFlow boxes f → IsContextFlow boxes g → f ≡ g
 
 -- and its boxes have one place each
-abbrev pub OneContextPlaces : Type 0
-OneContextPlaces = (parents : List ℕ) (blocks : List Block) (shapes : List Shape) (tops heights other_tops other_heights : List Length) (places other_places : List Place) → IsTree parents → 0 < length parents → AreShapes parents blocks shapes
-    → AreContextPlaces parents blocks shapes tops heights places → AreContextPlaces parents blocks shapes other_tops other_heights other_places
-    → (tops ≡ other_tops) × (heights ≡ other_heights) × (places ≡ other_places)
+abbrev pub OneFlowOf : Type 0
+OneFlowOf = (boxes : List FlowBox) (places others : List BoxPlace) → IsFlowTree boxes → IsFlowOf boxes places → IsFlowOf boxes others → places ≡ others
 
 -- a box has one hypothetical layout and no other
 abbrev pub OneHypothetical : Type 0
-OneHypothetical = (parents : List ℕ) (blocks : List Block) (extents : Extents) (clear_edges : List Length) (y without other : BlockLayout) (k : ℕ) → IsTree parents → 0 < length parents
-    → IsHypothetical parents blocks extents clear_edges y k without → IsHypothetical parents blocks extents clear_edges y k other → without ≡ other
+OneHypothetical = (boxes : List FlowBox) (extents : Extents) (clear_edges : List Length) (y without other : BlockLayout) (k : ℕ) → IsTree (parents_of boxes) → 0 < length boxes
+    → IsHypothetical boxes extents clear_edges y k without → IsHypothetical boxes extents clear_edges y k other → without ≡ other
 
 abbrev pub SomeHypothetical : Type 0
-SomeHypothetical = (parents : List ℕ) (blocks : List Block) (extents : Extents) (clear_edges : List Length) (y : BlockLayout) (k : ℕ) → IsTree parents → 0 < length parents
-    → IsBlockLayout parents blocks extents clear_edges y → (without : BlockLayout) × IsHypothetical parents blocks extents clear_edges y k without
+SomeHypothetical = (boxes : List FlowBox) (extents : Extents) (clear_edges : List Length) (y : BlockLayout) (k : ℕ) → IsTree (parents_of boxes) → 0 < length boxes
+    → IsBlockLayout boxes extents clear_edges y → (without : BlockLayout) × IsHypothetical boxes extents clear_edges y k without
+
+-- the floats as they stand in the hypothetical layout of a box and those of the flow decide alike whether the box has clearance
+abbrev pub OneTest : Type 0
+OneTest = (boxes : List FlowBox) (f : Flow) (k : ℕ) (without : BlockLayout) (places : List Place) (bottom other : Option Length) → IsFlowTree boxes → IsContextFlow boxes f → 0 < k → k < length boxes
+    → IsHypothetical boxes f.extents f.clear_edges f.layout k without → AreFloatPlaces boxes without.places.marks places k
+    → IsClearEdge (floats_before boxes places k) (shape_at boxes k).clear bottom → IsClearEdge (floats_before boxes f.places k) (shape_at boxes k).clear other
+    → NeedsClearance boxes without k bottom ↔ NeedsClearance boxes without k other
+
+-- the runs of a layout are the longest chains of margins of which each adjoins the next
+abbrev pub AdjoiningRuns : Type 0
+AdjoiningRuns = (boxes : List FlowBox) (r : Runs) → IsTree (parents_of boxes) → HasRuns boxes r → RunsAdjoin boxes r
+
+-- a box is collapsed through just where it has no border or padding, no min-height and a height of auto or 0, and each of its
+-- children is collapsed through and has no clearance
+abbrev pub CollapsedThrough : Type 0
+CollapsedThrough = (boxes : List FlowBox) (r : Runs) → IsTree (parents_of boxes) → HasRuns boxes r → (p : ℕ) → 0 < p → p < length boxes
+    → (flag_at r.through p ≡ true) ↔ ((may_collapse_through (block_at boxes p) ≡ true)
+    × ((c : ℕ) → c < length boxes → is_child boxes p c ≡ true → (flag_at r.through c ≡ true) × (flag_at r.clears c ≡ false)))

@@ -12,12 +12,16 @@
 -- since nothing stands between the margins of the second box: it is collapsed through. The first box's top
 -- margin of 0 is a run of its own.
 --
--- The boxes are read as the list of the place of each one's parent. A place (p, m) in the sequence is the one
+-- A place (p, m) in the sequence is the one
 -- before the top margin of the child of p at m, or, where no child of p stands at m or later, the one before
 -- p's bottom margin: the boxes before m are passed, and p is open.
-use Rattle.std.specs.Prelude.{ℕ, zero, suc, ◌≡◌, ◌+◌, ◌<◌, ◌==◌, ◌&&◌, ◌||◌, not, Bool, true, false, ℤ, pos, negsuc, List, [], ◌∷◌, ◌++◌, length, slice_index, slice_index_or, if◌then◌else◌, Option, Some, None}
+use Rattle.std.specs.Prelude.{ℕ, zero, suc, ◌≡◌, ◌+◌, ◌<◌, ◌==◌, ◌&&◌, ◌||◌, not, Bool, true, false, ℤ, pos, negsuc, List, [], ◌∷◌, ◌++◌, length, slice_index_or, if◌then◌else◌, Option, Some, None}
+use Rattle.lay_flow.specs.declared.flow_box.FlowBox.{FlowBox}
+use Rattle.lay_flow.specs.Boxes.{box_at, parent_at}
 use Rattle.lay_units.specs.declared.records.Len.{Len}
 use Rattle.lay_units.specs.declared.records.Len.TheVariants.{Auto as auto, Of as of}
+use Rattle.lay_flow.specs.declared.flow_box.FlowKind.{FlowKind}
+use Rattle.lay_flow.specs.declared.flow_box.FlowKind.TheVariants.{Block as block, Solid as solid, Float as float}
 use Rattle.lay_flow.specs.declared.block.Block.{Block}
 use Rattle.lay_flow.specs.declared.block.Inside.{Inside}
 use Rattle.lay_flow.specs.declared.block.Inside.TheVariants.{Blocks as blocks_inside, Solid as solid_inside}
@@ -27,8 +31,15 @@ use Rattle.lay_flow.specs.Lengths.{no_length}
 abbrev pub no_block : Block
 no_block = record { margin_top = no_length; margin_bottom = no_length; edge_top = no_length; edge_bottom = no_length; height = auto; min_height = no_length; max_height = None; inside = blocks_inside }
 
-abbrev pub block_at : List Block → ℕ → Block
-block_at blocks k = slice_index_or blocks k no_block
+-- a box as margins and heights see it. A float stands among the blocks as an empty one: its mark is that which such a block
+-- has there.
+abbrev pub block_of : FlowKind → Block
+block_of (block b) = record { margin_top = b.margin.top; margin_bottom = b.margin.bottom; edge_top = b.inset.top; edge_bottom = b.inset.bottom; height = b.height.given; min_height = b.height.min; max_height = b.height.max; inside = blocks_inside }
+block_of (solid b) = record { margin_top = b.margin.top; margin_bottom = b.margin.bottom; edge_top = no_length; edge_bottom = no_length; height = auto; min_height = no_length; max_height = None; inside = solid_inside }
+block_of (float b) = no_block
+
+abbrev pub block_at : List FlowBox → ℕ → Block
+block_at boxes k = block_of (box_at boxes k).kind
 
 -- what a run is made of: margins, before each top margin the mark of its box, and at its beginning the
 -- clearance of a box, where it begins with that
@@ -51,11 +62,11 @@ has_top k (mark j ∷ run) = j == k || has_top k run
 has_top k (clear j ∷ run) = has_top k run
 
 -- the run begins with clearance of a child of p
-abbrev pub is_barred : List ℕ → ℕ → List Entry → Bool
-is_barred parents p [] = false
-is_barred parents p (margin v ∷ run) = false
-is_barred parents p (mark j ∷ run) = false
-is_barred parents p (clear j ∷ run) = slice_index parents j == p
+abbrev pub is_barred : List FlowBox → ℕ → List Entry → Bool
+is_barred boxes p [] = false
+is_barred boxes p (margin v ∷ run) = false
+is_barred boxes p (mark j ∷ run) = false
+is_barred boxes p (clear j ∷ run) = parent_at boxes j == p
 
 -- a run in a column of such
 abbrev pub run_at : List (List Entry) → ℕ → List Entry
@@ -88,9 +99,9 @@ may_join_bottoms b = is_blocks b.inside && is_zero b.edge_bottom.0 && is_zero b.
 
 -- the box parts its top margin from those of its children: it is the context's own, or has a border or a
 -- padding there
-abbrev pub parts_tops : List Block → ℕ → Bool
-parts_tops blocks zero = true
-parts_tops blocks (suc k) = not (is_zero (block_at blocks (suc k)).edge_top.0)
+abbrev pub parts_tops : List FlowBox → ℕ → Bool
+parts_tops boxes zero = true
+parts_tops boxes (suc k) = not (is_zero (block_at boxes (suc k)).edge_top.0)
 
 -- The runs, by columns with an entry for each box.
 pub record Runs : Type 0 where
@@ -108,67 +119,67 @@ pub record Runs : Type 0 where
   pub bottom_runs : List (List Entry)
 
 -- the run of the top margin of the box, up to and with that margin
-abbrev pub to_top : List Block → Runs → ℕ → List Entry
-to_top blocks r k = run_at r.before_tops k ++ mark k ∷ margin (block_at blocks k).margin_top.0 ∷ []
+abbrev pub to_top : List FlowBox → Runs → ℕ → List Entry
+to_top boxes r k = run_at r.before_tops k ++ mark k ∷ margin (block_at boxes k).margin_top.0 ∷ []
 
 -- the run that ends at the place (p, m) of the sequence, so far: it has the bottom margin of the last child before
 -- m, or, where there is none, p's own top margin, unless p parts that from what is in it
-abbrev pub run_before : List ℕ → List Block → Runs → ℕ → ℕ → List Entry
-run_before parents blocks r p m = after (last_child parents p m)
+abbrev pub run_before : List FlowBox → Runs → ℕ → ℕ → List Entry
+run_before boxes r p m = after (last_child boxes p m)
   where
     after : Option ℕ → List Entry
-    after None = if parts_tops blocks p then [] else to_top blocks r p
+    after None = if parts_tops boxes p then [] else to_top boxes r p
     after (Some s) = run_at r.to_bottoms s
 
 -- nothing parts the two margins of the box, and none of the boxes in it: the run that comes to its bottom
 -- margin still has its top margin
-abbrev pub through_of : List ℕ → List Block → Runs → ℕ → Bool
-through_of parents blocks r zero = false
-through_of parents blocks r (suc k) = may_collapse_through (block_at blocks (suc k)) && has_top (suc k) (run_before parents blocks r (suc k) (length parents))
+abbrev pub through_of : List FlowBox → Runs → ℕ → Bool
+through_of boxes r zero = false
+through_of boxes r (suc k) = may_collapse_through (block_at boxes (suc k)) && has_top (suc k) (run_before boxes r (suc k) (length boxes))
 
 -- the bottom margin of the box adjoins the margin before it; it doesn't where that one's run was begun by
 -- clearance of a child
-abbrev pub joins_bottom : List ℕ → List Block → Runs → ℕ → Bool
-joins_bottom parents blocks r zero = false
-joins_bottom parents blocks r (suc k) =
-    flag_at r.through (suc k) || (may_join_bottoms (block_at blocks (suc k)) && not (is_barred parents (suc k) (run_before parents blocks r (suc k) (length parents))))
+abbrev pub joins_bottom : List FlowBox → Runs → ℕ → Bool
+joins_bottom boxes r zero = false
+joins_bottom boxes r (suc k) =
+    flag_at r.through (suc k) || (may_join_bottoms (block_at boxes (suc k)) && not (is_barred boxes (suc k) (run_before boxes r (suc k) (length boxes))))
 
 -- the whole run that ends at or goes through the place (p, m): it goes on where the next margin adjoins
-abbrev pub run_across : List ℕ → List Block → Runs → ℕ → ℕ → List Entry
-run_across parents blocks r p m = before (next_child parents p m (length parents))
+abbrev pub run_across : List FlowBox → Runs → ℕ → ℕ → List Entry
+run_across boxes r p m = before (next_child boxes p m (length boxes))
   where
     before : Option ℕ → List Entry
-    before None = if joins_bottom parents blocks r p then run_at r.bottom_runs p else run_before parents blocks r p m
-    before (Some c) = if flag_at r.clears c then run_before parents blocks r p m else run_at r.top_runs c
+    before None = if joins_bottom boxes r p then run_at r.bottom_runs p else run_before boxes r p m
+    before (Some c) = if flag_at r.clears c then run_before boxes r p m else run_at r.top_runs c
 
 -- clearance parts the top margin of its box from the margins before it
-abbrev pub before_top_of : List ℕ → List Block → Runs → ℕ → List Entry
-before_top_of parents blocks r zero = []
-before_top_of parents blocks r (suc k) = if flag_at r.clears (suc k) then clear (suc k) ∷ [] else run_before parents blocks r (slice_index parents (suc k)) (suc k)
+abbrev pub before_top_of : List FlowBox → Runs → ℕ → List Entry
+before_top_of boxes r zero = []
+before_top_of boxes r (suc k) = if flag_at r.clears (suc k) then clear (suc k) ∷ [] else run_before boxes r (parent_at boxes (suc k)) (suc k)
 
-abbrev pub to_bottom_of : List ℕ → List Block → Runs → ℕ → List Entry
-to_bottom_of parents blocks r zero = []
-to_bottom_of parents blocks r (suc k) =
-    (if joins_bottom parents blocks r (suc k) then run_before parents blocks r (suc k) (length parents) else []) ++ margin (block_at blocks (suc k)).margin_bottom.0 ∷ []
+abbrev pub to_bottom_of : List FlowBox → Runs → ℕ → List Entry
+to_bottom_of boxes r zero = []
+to_bottom_of boxes r (suc k) =
+    (if joins_bottom boxes r (suc k) then run_before boxes r (suc k) (length boxes) else []) ++ margin (block_at boxes (suc k)).margin_bottom.0 ∷ []
 
-abbrev pub top_run_of : List ℕ → List Block → Runs → ℕ → List Entry
-top_run_of parents blocks r zero = []
-top_run_of parents blocks r (suc k) = if parts_tops blocks (suc k) then to_top blocks r (suc k) else run_across parents blocks r (suc k) (suc k + 1)
+abbrev pub top_run_of : List FlowBox → Runs → ℕ → List Entry
+top_run_of boxes r zero = []
+top_run_of boxes r (suc k) = if parts_tops boxes (suc k) then to_top boxes r (suc k) else run_across boxes r (suc k) (suc k + 1)
 
-abbrev pub bottom_run_of : List ℕ → List Block → Runs → ℕ → List Entry
-bottom_run_of parents blocks r zero = []
-bottom_run_of parents blocks r (suc k) = run_across parents blocks r (slice_index parents (suc k)) (suc k + 1)
+abbrev pub bottom_run_of : List FlowBox → Runs → ℕ → List Entry
+bottom_run_of boxes r zero = []
+bottom_run_of boxes r (suc k) = run_across boxes r (parent_at boxes (suc k)) (suc k + 1)
 
 -- these are the runs of a context, in which the boxes of the column `clears` have clearance
-pub record HasRuns (parents : List ℕ) (blocks : List Block) (r : Runs) : Type 0 where
-  pub clears_length : length r.clears ≡ length parents
-  pub through_length : length r.through ≡ length parents
-  pub before_tops_length : length r.before_tops ≡ length parents
-  pub to_bottoms_length : length r.to_bottoms ≡ length parents
-  pub top_runs_length : length r.top_runs ≡ length parents
-  pub bottom_runs_length : length r.bottom_runs ≡ length parents
-  pub through : (k : ℕ) → k < length parents → flag_at r.through k ≡ through_of parents blocks r k
-  pub before_top : (k : ℕ) → k < length parents → run_at r.before_tops k ≡ before_top_of parents blocks r k
-  pub to_bottom : (k : ℕ) → k < length parents → run_at r.to_bottoms k ≡ to_bottom_of parents blocks r k
-  pub top_run : (k : ℕ) → k < length parents → run_at r.top_runs k ≡ top_run_of parents blocks r k
-  pub bottom_run : (k : ℕ) → k < length parents → run_at r.bottom_runs k ≡ bottom_run_of parents blocks r k
+pub record HasRuns (boxes : List FlowBox) (r : Runs) : Type 0 where
+  pub clears_length : length r.clears ≡ length boxes
+  pub through_length : length r.through ≡ length boxes
+  pub before_tops_length : length r.before_tops ≡ length boxes
+  pub to_bottoms_length : length r.to_bottoms ≡ length boxes
+  pub top_runs_length : length r.top_runs ≡ length boxes
+  pub bottom_runs_length : length r.bottom_runs ≡ length boxes
+  pub through : (k : ℕ) → k < length boxes → flag_at r.through k ≡ through_of boxes r k
+  pub before_top : (k : ℕ) → k < length boxes → run_at r.before_tops k ≡ before_top_of boxes r k
+  pub to_bottom : (k : ℕ) → k < length boxes → run_at r.to_bottoms k ≡ to_bottom_of boxes r k
+  pub top_run : (k : ℕ) → k < length boxes → run_at r.top_runs k ≡ top_run_of boxes r k
+  pub bottom_run : (k : ℕ) → k < length boxes → run_at r.bottom_runs k ≡ bottom_run_of boxes r k

@@ -1,19 +1,23 @@
-//! Blocks as their block formatting context sees them.
+//! Boxes as margins and heights see them.
 
+ghost use Rattle.std.specs.Prelude.{◌≡◌};
+ghost use Rattle.lay_flow.specs.MarginRuns.{block_of, no_block};
+
+use crate::flow_box::{BlockBox, FlowBox, FlowKind, SolidBox};
 use lay_units::{Len, Unit};
 
-/// What stands inside a block.
-#[derive(Clone, Copy, Debug, PartialEq, Eq)]
-pub enum Inside {
-    /// Block-level boxes, or nothing.
+/// What stands between the margins of a box.
+#[derive(Clone, Copy)]
+pub(crate) enum Inside {
+    /// Boxes of the context, or nothing.
     Blocks,
-    /// A formatting context of its own, or the content of a replaced element.
+    /// What is no part of the context.
     Solid,
 }
 
-/// The vertical sizes of a block-level box in flow, with percentages resolved. All are in 1/64 px.
-#[derive(Clone, Copy, Debug, PartialEq, Eq)]
-pub struct Block {
+/// The vertical sizes of a box, with percentages resolved. All are in 1/64 px.
+#[derive(Clone, Copy)]
+pub(crate) struct Block {
     /// Its used margins, which may be negative.
     pub margin_top: Unit,
     pub margin_bottom: Unit,
@@ -25,4 +29,43 @@ pub struct Block {
     pub min_height: Unit,
     pub max_height: Option<Unit>,
     pub inside: Inside,
+}
+
+/// An empty block.
+const NO_BLOCK: Block = Block {
+    margin_top: Unit(0),
+    margin_bottom: Unit(0),
+    edge_top: Unit(0),
+    edge_bottom: Unit(0),
+    height: Len::Auto,
+    min_height: Unit(0),
+    max_height: None,
+    inside: Inside::Blocks,
+};
+
+impl FlowBox {
+    /// The box as margins and heights see it.
+    pub(crate) fn block(&self) -> Block
+        ensures { result ≡ block_of self.now.kind }
+    {
+        match self.kind {
+            FlowKind::Block(b) => Block {
+                margin_top: b.margin.top,
+                margin_bottom: b.margin.bottom,
+                edge_top: b.inset.top,
+                edge_bottom: b.inset.bottom,
+                height: b.height.given,
+                min_height: b.height.min,
+                max_height: b.height.max,
+                inside: Inside::Blocks,
+            },
+            FlowKind::Solid(b) => Block {
+                margin_top: b.margin.top,
+                margin_bottom: b.margin.bottom,
+                inside: Inside::Solid,
+                ..NO_BLOCK
+            },
+            FlowKind::Float(_) => NO_BLOCK,
+        }
+    }
 }

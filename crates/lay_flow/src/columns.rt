@@ -2,18 +2,29 @@
 
 ghost use Rattle.std.specs.Prelude.{◌≡◌, ◌<◌, ◌+ℤ◌, length, slice_index, slice_set};
 ghost use Rattle.lay_units.specs.Units.{IsPosition};
+ghost use Rattle.lay_flow.specs.Boxes.{parent_at, parents_of};
+ghost use Rattle.lay_doc.specs.Tree.{IsTree};
+ghost use Rattle.lay_flow.specs.BlockFloats.{place_at};
+ghost use Rattle.lay_flow.specs.FlowBoxes.{AreFlowBoxes};
+ghost use Rattle.lay_flow.specs.BlockSizes.{BlockFits};
 ghost use Rattle.lay_flow.specs.Lengths.{length_at};
 ghost use Rattle.lay_flow.specs.Children.{flag_at};
 ghost use Rattle.lay_flow.specs.MarginRuns.{block_at};
 
 use crate::block::Block;
+use crate::flow_box::FlowBox;
+use lay_floats::Place;
 use lay_units::Unit;
 
-pub(crate) fn parent_at(parents: &[usize], k: usize) -> usize
-    requires { k < length parents.now }
-    ensures { result ≡ slice_index parents.now k }
+/// The place of the parent of the box at k.
+pub(crate) fn parent_at(boxes: &[FlowBox], k: usize) -> usize
+    requires tree { IsTree (parents_of boxes.now) }
+    requires within { k < length boxes.now }
+    ensures value { result ≡ parent_at boxes.now k }
+    ensures before { 0 < k → result < k }
+    ensures within { result < length boxes.now }
 {
-    parents[k]
+    boxes[k].parent
 }
 
 pub(crate) fn length_at(column: &[Unit], k: usize) -> Unit
@@ -39,11 +50,14 @@ pub(crate) fn sum_of(a: Unit, b: Unit) -> Unit
     Unit(a.0 + b.0)
 }
 
-pub(crate) fn block_at(blocks: &[Block], k: usize) -> Block
-    requires { k < length blocks.now }
-    ensures { result ≡ block_at blocks.now k }
+/// The box at k as margins and heights see it.
+pub(crate) fn block_at(boxes: &[FlowBox], k: usize) -> Block
+    requires input { AreFlowBoxes boxes.now }
+    requires within { k < length boxes.now }
+    ensures value { result ≡ block_at boxes.now k }
+    ensures fits { BlockFits result }
 {
-    blocks[k]
+    boxes[k].block()
 }
 
 pub(crate) fn flag_at(flags: &[bool], k: usize) -> bool
@@ -58,4 +72,11 @@ pub(crate) fn write_flag(flags: &mut Vec<bool>, k: usize, v: bool)
     ensures { flags.new.items ≡ slice_set flags.old.items k v }
 {
     flags[k] = v;
+}
+
+pub(crate) fn place_at(places: &[Place], k: usize) -> Place
+    requires { k < length places.now }
+    ensures { result ≡ place_at places.now k }
+{
+    places[k]
 }

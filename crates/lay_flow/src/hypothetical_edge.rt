@@ -3,24 +3,25 @@
 ghost use Rattle.std.specs.Prelude.{◌≡◌, ℕ, ◌+◌, ◌<◌, ◌≤◌, ◌==◌, ◌||◌, ◌-ℤ◌, not, nat_lt, List, length, slice_index, true, false};
 ghost use Rattle.lay_units.specs.declared.length.Unit.{Unit};
 ghost use Rattle.lay_margins.specs.Collapse.{Holds};
-ghost use Rattle.lay_doc.specs.Tree.{IsTree};
+ghost use Rattle.lay_flow.specs.Boxes.{parent_at};
 ghost use Rattle.lay_flow.specs.Children.{flag_at};
 ghost use Rattle.lay_flow.specs.Lengths.{length_at};
 ghost use Rattle.lay_flow.specs.BlockLayout.{BlockLayout, IsBlockLayout};
 ghost use Rattle.lay_flow.specs.BlockPositions.{Extents, start_before};
-ghost use Rattle.lay_flow.specs.BlockSizes.{BlockFits};
-ghost use Rattle.lay_flow.specs.LookAhead.{HasRead, IsOutermost, IsOutset, IsReading};
+ghost use Rattle.lay_flow.specs.FlowBoxes.{AreFlowBoxes};
+ghost use Rattle.lay_flow.specs.Pass.LookAhead.{HasRead, IsOutermost, IsOutset, IsReading};
 ghost use Rattle.lay_flow.specs.MarginRuns.{block_at, has_top, margins, may_collapse_through, run_before};
-ghost use Rattle.lay_flow.specs.PassBounds.{IsCollapseNear, IsNear, StrutFits};
+ghost use Rattle.lay_flow.specs.BlockSizes.{IsNear};
+ghost use Rattle.lay_flow.specs.Pass.Bounds.{IsCollapseNear, StrutFits};
 
-use crate::block::Block;
 use crate::columns::{block_at, parent_at};
-use crate::run_ends::{run_end, with_margin};
+use crate::flow_box::FlowBox;
+use crate::margin_run::{run_end, with_margin};
 use lay_margins::Strut;
 use lay_units::Unit;
 
 /// Where a look ahead begins: before the top margin of the box at `k`.
-#[derive(Clone, Copy, Debug)]
+#[derive(Clone, Copy)]
 struct Outset {
     k: usize,
     /// The margins of the run there, and the first box whose top margin is in it.
@@ -31,7 +32,7 @@ struct Outset {
 }
 
 /// How far a look ahead came.
-#[derive(Clone, Copy, Debug)]
+#[derive(Clone, Copy)]
 struct Ahead {
     /// The margins that it read.
     strut: Strut,
@@ -45,106 +46,97 @@ struct Ahead {
 /// before its top margin, in a run that starts at `start`, with the margins of `strut` and the top margins of the
 /// boxes from `first` on.
 pub(crate) fn hypothetical_edge(
-    parents: &[usize],
-    blocks: &[Block],
+    boxes: &[FlowBox],
     start: Unit,
     strut: Strut,
     first: usize,
     k: usize,
 ) -> Unit
-    requires tree { IsTree parents.now }
-    requires blocks { length blocks.now ≡ length parents.now }
-    requires sizes { (j : ℕ) → j < length parents.now → BlockFits (block_at blocks.now j) }
-    requires within { k < length parents.now }
+    requires input { AreFlowBoxes boxes.now }
+    requires within { k < length boxes.now }
     requires positive { 0 < first }
     requires order { first ≤ k }
     requires start { IsNear start.0 }
     requires strut { StrutFits strut }
-    ensures edge { (extents : Extents) (clear_edges : List Unit) (w : BlockLayout) → IsBlockLayout parents.now blocks.now extents clear_edges w → ((j : ℕ) → k ≤ j → flag_at w.runs.clears j ≡ false)
-        → Holds strut (margins (run_before parents.now blocks.now w.runs (slice_index parents.now k) k)) → start.0 ≡ start_before parents.now blocks.now w.runs w.places (slice_index parents.now k) k
-        → ((j : ℕ) → j < k → has_top j (run_before parents.now blocks.now w.runs (slice_index parents.now k) k) ≡ not (nat_lt j first))
+    ensures edge { (extents : Extents) (clear_edges : List Unit) (w : BlockLayout) → IsBlockLayout boxes.now extents clear_edges w → ((j : ℕ) → k ≤ j → flag_at w.runs.clears j ≡ false)
+        → Holds strut (margins (run_before boxes.now w.runs (parent_at boxes.now k) k)) → start.0 ≡ start_before boxes.now w.runs w.places (parent_at boxes.now k) k
+        → ((j : ℕ) → j < k → has_top j (run_before boxes.now w.runs (parent_at boxes.now k) k) ≡ not (nat_lt j first))
         → result.0 ≡ length_at w.places.marks k }
     ensures near { IsCollapseNear (result.0 -ℤ start.0) }
 {
-    let outermost = outermost_from(parents, first, k);
+    let outermost = outermost_from(boxes, first, k);
     let from = Outset {
         k,
         strut,
         first,
         outermost,
     };
-    run_end(start, strut_ahead(parents, blocks, &from))
+    run_end(start, strut_ahead(boxes, &from))
 }
 
 // The outermost box round the one at k that stands at `first` or after it, or that one itself.
-fn outermost_from(parents: &[usize], first: usize, k: usize) -> usize
-    requires tree { IsTree parents.now }
+fn outermost_from(boxes: &[FlowBox], first: usize, k: usize) -> usize
+    requires input { AreFlowBoxes boxes.now }
     requires positive { 0 < first }
     requires order { first ≤ k }
-    requires within { k < length parents.now }
-    ensures { IsOutermost parents.now first k result }
+    requires within { k < length boxes.now }
+    ensures { IsOutermost boxes.now first k result }
 {
     let mut outermost = k;
-    while parent_at(parents, outermost) >= first {
-        outermost = parent_at(parents, outermost);
+    while parent_at(boxes, outermost) >= first {
+        outermost = parent_at(boxes, outermost);
     }
     outermost
 }
 
 // The margins between the start of the run and the top border edge of the box.
-fn strut_ahead(parents: &[usize], blocks: &[Block], from: &Outset) -> Strut
-    requires tree { IsTree parents.now }
-    requires blocks { length blocks.now ≡ length parents.now }
-    requires sizes { (j : ℕ) → j < length parents.now → BlockFits (block_at blocks.now j) }
+fn strut_ahead(boxes: &[FlowBox], from: &Outset) -> Strut
+    requires input { AreFlowBoxes boxes.now }
     requires strut { StrutFits from.now.strut }
-    requires from { IsOutset parents.now from.now }
-    ensures { HasRead parents.now blocks.now from.now result }
+    requires from { IsOutset boxes.now from.now }
+    ensures { HasRead boxes.now from.now result }
 {
     let mut ahead = Ahead {
         strut: from.strut,
-        innermost: parent_at(parents, from.k),
+        innermost: parent_at(boxes, from.k),
         ended: false,
     };
-    for m in from.k..parents.len() {
-        ahead = advance(parents, blocks, from, ahead, m);
+    for m in from.k..boxes.len() {
+        ahead = advance(boxes, from, ahead, m);
         if ahead.ended {
             return ahead.strut;
         }
     }
-    close_to(parents, blocks, from, ahead, 0, parents.len()).strut
+    close_to(boxes, from, ahead, 0, boxes.len()).strut
 }
 
 // Closes the open boxes that the box at m isn't in, and opens that one.
-fn advance(parents: &[usize], blocks: &[Block], from: &Outset, ahead: Ahead, m: usize) -> Ahead
-    requires tree { IsTree parents.now }
-    requires blocks { length blocks.now ≡ length parents.now }
-    requires sizes { (j : ℕ) → j < length parents.now → BlockFits (block_at blocks.now j) }
-    requires from { IsOutset parents.now from.now }
-    requires within { m < length parents.now }
-    requires reading { IsReading parents.now blocks.now from.now ahead.strut ahead.innermost m }
-    ensures going { result.ended ≡ false → IsReading parents.now blocks.now from.now result.strut result.innermost (m + 1) }
-    ensures ended { result.ended ≡ true → HasRead parents.now blocks.now from.now result.strut }
+fn advance(boxes: &[FlowBox], from: &Outset, ahead: Ahead, m: usize) -> Ahead
+    requires input { AreFlowBoxes boxes.now }
+    requires from { IsOutset boxes.now from.now }
+    requires within { m < length boxes.now }
+    requires reading { IsReading boxes.now from.now ahead.strut ahead.innermost m }
+    ensures going { result.ended ≡ false → IsReading boxes.now from.now result.strut result.innermost (m + 1) }
+    ensures ended { result.ended ≡ true → HasRead boxes.now from.now result.strut }
 {
-    let parent = parent_at(parents, m);
-    let closed = close_to(parents, blocks, from, ahead, parent, m);
+    let parent = parent_at(boxes, m);
+    let closed = close_to(boxes, from, ahead, parent, m);
     if closed.ended {
         return closed;
     }
-    open(parents, blocks, from, closed.strut, m)
+    open(boxes, from, closed.strut, m)
 }
 
 // Reads the top margin of the box at m. An edge above its content ends the run.
-fn open(_parents: &[usize], blocks: &[Block], _from: &Outset, strut: Strut, m: usize) -> Ahead
-    requires tree { IsTree _parents.now }
-    requires blocks { length blocks.now ≡ length _parents.now }
-    requires sizes { (j : ℕ) → j < length _parents.now → BlockFits (block_at blocks.now j) }
-    requires from { IsOutset _parents.now _from.now }
-    requires within { m < length _parents.now }
-    requires reading { IsReading _parents.now blocks.now _from.now strut (slice_index _parents.now m) m }
-    ensures going { result.ended ≡ false → IsReading _parents.now blocks.now _from.now result.strut result.innermost (m + 1) }
-    ensures ended { result.ended ≡ true → HasRead _parents.now blocks.now _from.now result.strut }
+fn open(boxes: &[FlowBox], _from: &Outset, strut: Strut, m: usize) -> Ahead
+    requires input { AreFlowBoxes boxes.now }
+    requires from { IsOutset boxes.now _from.now }
+    requires within { m < length boxes.now }
+    requires reading { IsReading boxes.now _from.now strut (parent_at boxes.now m) m }
+    ensures going { result.ended ≡ false → IsReading boxes.now _from.now result.strut result.innermost (m + 1) }
+    ensures ended { result.ended ≡ true → HasRead boxes.now _from.now result.strut }
 {
-    let block = block_at(blocks, m);
+    let block = block_at(boxes, m);
     Ahead {
         strut: with_margin(strut, block.margin_top),
         innermost: m,
@@ -153,36 +145,27 @@ fn open(_parents: &[usize], blocks: &[Block], _from: &Outset, strut: Strut, m: u
 }
 
 // Reads the bottom margins of the open boxes up to those in the box `to`, in which the box at m stands.
-fn close_to(
-    parents: &[usize],
-    blocks: &[Block],
-    from: &Outset,
-    ahead: Ahead,
-    to: usize,
-    m: usize,
-) -> Ahead
-    requires tree { IsTree parents.now }
-    requires blocks { length blocks.now ≡ length parents.now }
-    requires sizes { (j : ℕ) → j < length parents.now → BlockFits (block_at blocks.now j) }
-    requires from { IsOutset parents.now from.now }
-    requires next { m < length parents.now → slice_index parents.now m ≡ to }
-    requires last { length parents.now ≤ m → to ≡ 0 }
-    requires reading { IsReading parents.now blocks.now from.now ahead.strut ahead.innermost m }
-    ensures going { result.ended ≡ false → IsReading parents.now blocks.now from.now result.strut to m }
-    ensures ended { result.ended ≡ true → HasRead parents.now blocks.now from.now result.strut }
+fn close_to(boxes: &[FlowBox], from: &Outset, ahead: Ahead, to: usize, m: usize) -> Ahead
+    requires input { AreFlowBoxes boxes.now }
+    requires from { IsOutset boxes.now from.now }
+    requires next { m < length boxes.now → parent_at boxes.now m ≡ to }
+    requires last { length boxes.now ≤ m → to ≡ 0 }
+    requires reading { IsReading boxes.now from.now ahead.strut ahead.innermost m }
+    ensures going { result.ended ≡ false → IsReading boxes.now from.now result.strut to m }
+    ensures ended { result.ended ≡ true → HasRead boxes.now from.now result.strut }
 {
     let mut strut = ahead.strut;
     let mut innermost = ahead.innermost;
     while innermost != to {
-        if ends_at(parents, blocks, from, innermost) {
+        if ends_at(boxes, from, innermost) {
             return Ahead {
                 strut,
                 innermost,
                 ended: true,
             };
         }
-        strut = with_margin(strut, block_at(blocks, innermost).margin_bottom);
-        innermost = parent_at(parents, innermost);
+        strut = with_margin(strut, block_at(boxes, innermost).margin_bottom);
+        innermost = parent_at(boxes, innermost);
     }
     Ahead {
         strut,
@@ -192,11 +175,10 @@ fn close_to(
 }
 
 // No more margins count once the outermost box ends, or one with something between its margins.
-fn ends_at(_parents: &[usize], blocks: &[Block], from: &Outset, p: usize) -> bool
-    requires blocks { length blocks.now ≡ length _parents.now }
-    requires sizes { (j : ℕ) → j < length _parents.now → BlockFits (block_at blocks.now j) }
-    requires within { p < length _parents.now }
-    ensures { result ≡ (p == from.now.outermost || not (may_collapse_through (block_at blocks.now p))) }
+fn ends_at(boxes: &[FlowBox], from: &Outset, p: usize) -> bool
+    requires input { AreFlowBoxes boxes.now }
+    requires within { p < length boxes.now }
+    ensures { result ≡ (p == from.now.outermost || not (may_collapse_through (block_at boxes.now p))) }
 {
-    p == from.outermost || !block_at(blocks, p).may_collapse_through()
+    p == from.outermost || !block_at(boxes, p).may_collapse_through()
 }

@@ -1,13 +1,21 @@
-//! Block-level boxes as the floats of their block formatting context see them.
+//! Boxes as the floats of their block formatting context see them.
 
+ghost use Rattle.std.specs.Prelude.{◌≡◌, ◌<◌, ◌+ℤ◌, length};
+ghost use Rattle.lay_units.specs.Units.{IsUsed};
+ghost use Rattle.lay_flow.specs.BlockFloats.{content_of, shape_of, shape_at};
+ghost use Rattle.lay_flow.specs.BlockSizes.{IsBoxSize};
+ghost use Rattle.lay_flow.specs.declared.flow_box.Across.{Across};
+ghost use Rattle.lay_flow.specs.Boxes.{box_at};
+ghost use Rattle.lay_flow.specs.FlowBoxes.{AreFlowBoxes, KindFits};
+
+use crate::columns::parent_at;
+use crate::flow_box::{Across, FlowBox, FlowKind};
 use lay_floats::{Clear, Side};
 use lay_units::Unit;
 
-/// What is known of a block-level box beside its vertical sizes. All are in 1/64 px, and horizontal
-/// positions have one origin in a context. A float stands among the boxes in flow as an empty block without
-/// margins, edges and sizes, since that has the mark of the float.
-#[derive(Clone, Copy, Debug, PartialEq, Eq)]
-pub struct Shape {
+/// What floats see of a box beside its mark. All is in 1/64 px.
+#[derive(Clone, Copy)]
+pub(crate) struct Shape {
     /// The side that it floats to. A box in flow has none.
     pub float: Option<Side>,
     /// The sides whose floats it goes past.
@@ -20,4 +28,109 @@ pub struct Shape {
     /// The size of a float's margin box, or of the border box of a solid one.
     pub width: Unit,
     pub height: Unit,
+}
+
+/// The box at k as floats see it.
+pub(crate) fn shape_at(boxes: &[FlowBox], k: usize) -> Shape
+    requires input { AreFlowBoxes boxes.now }
+    requires within { k < length boxes.now }
+    ensures { result ≡ shape_at boxes.now k }
+{
+    let around = boxes[parent_at(boxes, k)].content();
+    boxes[k].shape(around)
+}
+
+/// The sides whose floats the box at k goes past.
+pub(crate) fn clear_at(boxes: &[FlowBox], k: usize) -> Clear
+    requires { k < length boxes.now }
+    ensures { result ≡ (shape_at boxes.now k).clear }
+{
+    boxes[k].clear()
+}
+
+/// The side that the box at k floats to.
+pub(crate) fn side_at(boxes: &[FlowBox], k: usize) -> Option<Side>
+    requires { k < length boxes.now }
+    ensures { result ≡ (shape_at boxes.now k).float }
+{
+    boxes[k].side()
+}
+
+impl FlowBox {
+    // Its content edges.
+    fn content(&self) -> Across
+        ensures { result ≡ content_of self.now.kind }
+    {
+        match self.kind {
+            FlowKind::Block(b) => b.content,
+            FlowKind::Solid(_) | FlowKind::Float(_) => Across {
+                left: Unit(0),
+                right: Unit(0),
+            },
+        }
+    }
+
+    fn clear(&self) -> Clear
+        ensures { (around : Across) → result ≡ (shape_of around self.now.kind).clear }
+    {
+        match self.kind {
+            FlowKind::Block(b) => b.clear,
+            FlowKind::Solid(b) => b.clear,
+            FlowKind::Float(b) => b.clear,
+        }
+    }
+
+    fn side(&self) -> Option<Side>
+        ensures { (around : Across) → result ≡ (shape_of around self.now.kind).float }
+    {
+        match self.kind {
+            FlowKind::Block(_) | FlowKind::Solid(_) => None,
+            FlowKind::Float(b) => Some(b.side),
+        }
+    }
+
+    fn shape(&self, around: Across) -> Shape
+        requires { KindFits self.now.kind }
+        ensures { result ≡ shape_of around self.now.kind }
+    {
+        match self.kind {
+            FlowKind::Block(b) => Shape {
+                float: None,
+                clear: b.clear,
+                left: around.left,
+                right: around.right,
+                x: b.x,
+                width: Unit(0),
+                height: Unit(0),
+            },
+            FlowKind::Solid(b) => Shape {
+                float: None,
+                clear: b.clear,
+                left: around.left,
+                right: around.right,
+                x: b.x,
+                width: b.width,
+                height: b.height,
+            },
+            FlowKind::Float(b) => Shape {
+                float: Some(b.side),
+                clear: b.clear,
+                left: around.left,
+                right: around.right,
+                x: Unit(0),
+                width: with_margins(b.margin.left, b.width, b.margin.right),
+                height: with_margins(b.margin.top, b.height, b.margin.bottom),
+            },
+        }
+    }
+}
+
+// The size of a margin box.
+fn with_margins(before: Unit, size: Unit, after: Unit) -> Unit
+    requires before { IsUsed before.0 }
+    requires size { IsBoxSize size.0 }
+    requires after { IsUsed after.0 }
+    ensures { result ≡ record { 0 = before.0 +ℤ size.0 +ℤ after.0 } }
+{
+    Unit(before.0 + size.0 + after.0)
 }

@@ -4,16 +4,16 @@ use Rattle.lay_flow.proofs.hypothetical_edge.open.Goals as goal
 
 pub returns-clause-going : goal.returns-clause-going
 returns-clause-going c plain =
-    let adds = rw c.block_at-block.ensures at c.with_margin.ensures.holds in
+    let adds = rw c.block_at-block.ensures.value at c.with_margin.ensures.holds in
     let a = c.requires.from.least in let b = c.requires.from.most in let d = c.requires.reading.begun in
-    let edge = rw c.block_at-block.ensures at c.has_edge_top.ensures in
-    opened_reading c.args._parents.now c.requires.tree c.args.blocks.now c.args._from.now c.requires.from c.args.m c.requires.within c.args.strut c.with_margin.result c.requires.reading c.with_margin.ensures.fits adds
-    (parts_is c.args.blocks.now c.args.m (omega (arith, a, b, d)) ∙ sym edge ∙ plain)
+    let edge = rw c.block_at-block.ensures.value at c.has_edge_top.ensures in
+    opened_reading c.args.boxes.now c.requires.input.is_tree.tree c.args._from.now c.requires.from c.args.m c.requires.within c.args.strut c.with_margin.result c.requires.reading c.with_margin.ensures.fits adds
+    (parts_is c.args.boxes.now c.args.m (omega (arith, a, b, d)) ∙ sym edge ∙ plain)
 
 pub returns-clause-ended : goal.returns-clause-ended
 returns-clause-ended c parts =
-    let adds = rw c.block_at-block.ensures at c.with_margin.ensures.holds in
+    let adds = rw c.block_at-block.ensures.value at c.with_margin.ensures.holds in
     let a = c.requires.from.least in let b = c.requires.from.most in let d = c.requires.reading.begun in
-    let edge = rw c.block_at-block.ensures at c.has_edge_top.ensures in
-    opened_read c.args._parents.now c.requires.tree c.args.blocks.now c.args._from.now c.requires.from c.args.m c.requires.within c.args.strut c.with_margin.result c.requires.reading c.with_margin.ensures.fits adds
-    (parts_is c.args.blocks.now c.args.m (omega (arith, a, b, d)) ∙ sym edge ∙ parts)
+    let edge = rw c.block_at-block.ensures.value at c.has_edge_top.ensures in
+    opened_read c.args.boxes.now c.requires.input.is_tree.tree c.args._from.now c.requires.from c.args.m c.requires.within c.args.strut c.with_margin.result c.requires.reading c.with_margin.ensures.fits adds
+    (parts_is c.args.boxes.now c.args.m (omega (arith, a, b, d)) ∙ sym edge ∙ parts)

@@ -1,0 +1,13 @@
+use Rattle.std.proofs.Common.{arith}
+use Rattle.std.proofs.lemmas.Grind.{elements}
+use Rattle.lay_context.specs.ContextBlocks.{flow_box_of}
+use Rattle.lay_context.proofs.FlowBoxSteps.{one_more}
+use Rattle.lay_context.proofs.context_shapes.flow_boxes_of.Goals as goal
+
+pub loop-k-preserved : goal.loop-k-preserved
+loop-k-preserved c =
+    let ok = c.in_ok-push.ensures {u = tt} in
+    record {
+      count = rw ok.items (grind (arith, elements, c.loop-k.invariant.count));
+      each = rw ok.items (one_more (flow_box_of c.args.boxes.now c.args.sizes.now c.args.lefts.now c.args.heights.now) c.loop-k.flow_boxes.items c.loop-k.k c.flow_box_of.result c.loop-k.invariant.count c.loop-k.invariant.each c.flow_box_of.ensures);
+    }

@@ -1,0 +1,31 @@
+use Rattle.std.proofs.Common.{◌≡◌, ◌<◌, arith, sym, ap, ◌∙◌, subst, ◌+ℤ◌}
+use Rattle.std.specs.Int.{int_max}
+use Rattle.lay_flow.specs.Boxes.{parent_at}
+use Rattle.lay_flow.proofs.BoxTrees.{parent_before}
+use Rattle.lay_units.specs.Units.{IsPosition}
+use Rattle.lay_units.specs.declared.length.Unit.{Unit as Length}
+use Rattle.lay_flow.specs.Lengths.{length_at}
+use Rattle.lay_flow.specs.MarginRuns.{block_at}
+use Rattle.lay_flow.proofs.FlowBoxFacts.{block_fits}
+use Rattle.lay_flow.proofs.PlaceSteps.{ceiling_near, mark_is_position}
+use Rattle.lay_flow.proofs.placement.ceiling.Goals as goal
+
+pub sum_of-content-requires-clause-a : goal.sum_of-content-requires-clause-a
+sum_of-content-requires-clause-a c =
+    let few = c.requires.input.few in let within = c.requires.within in
+    let parent : parent_at c.args.boxes.now c.args.k < c.args.k = parent_before c.args.boxes.now c.requires.input.is_tree.tree c.args.k c.requires.positive within in
+    let is = c.parent_at-parent.ensures.value in
+    subst IsPosition (sym c.length_at.ensures) (mark_is_position c.parent_at-parent.result _ (omega (arith, few, within, parent, is)) (c.requires.near c.parent_at-parent.result))
+
+pub returns-clause-near : goal.returns-clause-near
+returns-clause-near c =
+    let within = c.requires.within in
+    let up : parent_at c.args.boxes.now c.args.k < c.args.k = parent_before c.args.boxes.now c.requires.input.is_tree.tree c.args.k c.requires.positive within in
+    let is = c.parent_at-parent.ensures.value in
+    let p = c.parent_at-parent.result in
+    let less : p < c.args.k = omega (arith, up, is) in
+    let edge = (block_fits c.args.boxes.now c.requires.input p (omega (arith, less, within))).edge_top in
+    let sum = ap (λ (v : Length). v.0) c.sum_of-content.ensures in
+    let top : c.lower.result.0 ≡ int_max (length_at c.args.marks.now c.args.k) (length_at c.args.marks.now p +ℤ (block_at c.args.boxes.now p).edge_top.0) =
+    c.lower.ensures ∙ (λ i. int_max (c.length_at-2.ensures i) (sum i)) ∙ (λ i. int_max (length_at c.args.marks.now c.args.k) (c.length_at.ensures i +ℤ (c.block_at.ensures.value i).edge_top.0)) in
+    ceiling_near c.args.k p _ _ _ _ (omega (arith, less)) (c.requires.near c.args.k) (c.requires.near p) edge.0 edge.1 top

@@ -1,0 +1,77 @@
+-- How large the numbers of a pass become. Between a mark and the next lie at most a height and what a run's margins
+-- collapse to, or a float, which together are less than 2^36 units; and the first float lies within 2^51 units.
+use Rattle.std.specs.Prelude.{ℕ, ◌≡◌, ◌+◌, ◌*◌, ◌<◌, ◌≤◌, ℤ, pos, neg_ℤ, ◌≤ℤ◌, ◌==◌, ◌&&◌, nat_lt, Bool, true, false, List, length}
+use Rattle.lay_flow.specs.declared.flow_box.FlowBox.{FlowBox}
+use Rattle.lay_flow.specs.Boxes.{parent_at}
+use Rattle.lay_units.specs.Units.{limit}
+use Rattle.lay_units.specs.declared.length.Unit.{Unit as Length}
+use Rattle.lay_margins.specs.StrutValue.{StrutValue}
+use Rattle.lay_flow.specs.declared.pass.Pass.{Pass}
+use Rattle.lay_flow.specs.Lengths.{length_at}
+use Rattle.lay_flow.specs.BlockSizes.{IsBoxSize, IsNear}
+use Rattle.lay_flow.specs.Children.{flag_at}
+use Rattle.lay_flow.specs.MarginRuns.{block_at, parts_tops}
+use Rattle.lay_flow.specs.BlockPositions.{is_solid}
+use Rattle.lay_flow.specs.Pass.State.{PassState}
+
+-- the strut holds used margins
+pub record StrutFits (s : StrutValue) : Type 0 where
+  pub positive_least : pos 0 ≤ℤ s.positive
+  pub positive_most : s.positive ≤ℤ limit
+  pub negative_least : neg_ℤ limit ≤ℤ s.negative
+  pub negative_most : s.negative ≤ℤ pos 0
+
+-- how far from the origin the boxes before the one at k reach
+abbrev pub reach : ℕ → ℤ
+reach k = pos (2251799813685248 + 68719476736 * k)
+
+-- where a box without clearance may begin a run
+abbrev pub IsStartNear : ℕ → ℤ → Type 0
+IsStartNear k v = (neg_ℤ (reach k) ≤ℤ v) × (v ≤ℤ reach k)
+
+-- a clear edge of the box at k
+abbrev pub IsEdgeNear : ℕ → ℤ → Type 0
+IsEdgeNear k v = (neg_ℤ (pos (2251799813685248 + 68719476736 * k + 2147483648)) ≤ℤ v) × (v ≤ℤ pos (2251799813685248 + 68719476736 * k + 2147483648))
+
+-- a start of a run whose first top margin is that of the box at k
+abbrev pub IsRunNear : ℕ → ℤ → Type 0
+IsRunNear k v = (neg_ℤ (pos (2251799813685248 + 68719476736 * k + 4294967296)) ≤ℤ v) × (v ≤ℤ pos (2251799813685248 + 68719476736 * k + 4294967296))
+
+-- a mark of the box at k
+abbrev pub IsMarkNear : ℕ → ℤ → Type 0
+IsMarkNear k v = (neg_ℤ (pos (2251799813685248 + 68719476736 * k + 6442450944)) ≤ℤ v) × (v ≤ℤ pos (2251799813685248 + 68719476736 * k + 6442450944))
+
+-- what margins collapse to
+abbrev pub IsCollapseNear : ℤ → Type 0
+IsCollapseNear v = (neg_ℤ limit ≤ℤ v) × (v ≤ℤ limit)
+
+pub record StateFits (boxes : List FlowBox) (now : PassState) (p m : ℕ) : Type 0 where
+  pub parent : p < m
+  pub within : m ≤ length boxes
+  pub first_least : 0 < now.first
+  pub first_most : now.first ≤ m
+  pub marks_length : length now.marks ≡ length boxes
+  pub heights_length : length now.heights ≡ length boxes
+  pub through_length : length now.through ≡ length boxes
+  pub start_near : IsRunNear now.first now.start
+  pub edge_near : now.hangs ≡ true → IsEdgeNear now.first now.start
+  pub mark_near : (j : ℕ) → IsMarkNear j (length_at now.marks j)
+  pub strut_fits : StrutFits now.strut
+  -- the boxes that wait for their marks have no border or padding above their content
+  pub unparted : (j : ℕ) → now.first ≤ j → j < m → parts_tops boxes j ≡ false
+  pub sized : (j : ℕ) → is_solid (block_at boxes j).inside ≡ false → IsBoxSize (length_at now.heights j)
+
+abbrev pub state_of : Pass → PassState
+state_of f = record { marks = f.marks.items; heights = f.heights.items; through = f.through.items; clears = f.clears.items; clear_edges = f.clear_edges.items; start = f.start.0; strut = f.strut; first = f.first; hangs = f.hangs }
+
+-- the run was begun by clearance of a child of p
+abbrev pub is_barred : List FlowBox → PassState → ℕ → Bool
+is_barred boxes now p = nat_lt now.first (length now.clears) && flag_at now.clears now.first && parent_at boxes now.first == p
+
+-- the tops of border boxes are near
+abbrev pub AreNear : List Length → Type 0
+AreNear tops = (k : ℕ) → k < length tops → IsNear (length_at tops k)
+
+-- the heights of border boxes lie within their bounds. That of a solid box, which may be of any extent, is left open.
+abbrev pub AreBoxHeights : List FlowBox → List Length → Type 0
+AreBoxHeights boxes heights = (k : ℕ) → k < length heights → is_solid (block_at boxes k).inside ≡ false → IsBoxSize (length_at heights k)

@@ -1,0 +1,35 @@
+-- What a pass over a context decides before it reads the top margin of a box with `clear`.
+use Rattle.std.specs.Prelude.{ℕ, ◌≡◌, ◌<◌, ◌≤◌, ℤ, false, List, Option, Some}
+use Rattle.lay_flow.specs.declared.flow_box.FlowBox.{FlowBox}
+use Rattle.lay_units.specs.declared.length.Unit.{Unit as Length}
+use Rattle.lay_floats.specs.declared.placed.Placed.{Placed}
+use Rattle.lay_floats.specs.declared.requests.Side.{Side}
+use Rattle.lay_floats.specs.declared.requests.Clear.{Clear}
+use Rattle.lay_floats.specs.ClearEdge.{Clears, IsClearEdge}
+use Rattle.lay_flow.specs.Lengths.{length_at}
+use Rattle.lay_flow.specs.Children.{flag_at}
+use Rattle.lay_flow.specs.BlockFloats.{shape_at}
+use Rattle.lay_flow.specs.Clearance.{IsAbove}
+use Rattle.lay_flow.specs.BlockPositions.{Extents}
+use Rattle.lay_flow.specs.BlockLayout.{BlockLayout}
+use Rattle.lay_flow.specs.Pass.State.{PassState}
+use Rattle.lay_flow.specs.Pass.Placed.{Placing}
+use Rattle.lay_flow.specs.Pass.Knows.{MayBe, IsCandidate}
+
+-- a float of a side to clear
+abbrev pub IsSideToClear : Clear → Option Side → Type 0
+IsSideToClear clear float = (side : Side) × (float ≡ Some side) × Clears clear side
+
+-- a float that the box at k goes past stands among the boxes from `first` on
+abbrev pub HasWaitingFloat : List FlowBox → ℕ → ℕ → Type 0
+HasWaitingFloat boxes first k = (j : ℕ) × (first ≤ j) × (j < k) × IsSideToClear (shape_at boxes k).clear (shape_at boxes j).float
+
+-- a hypothetical edge is above the lowest bottom of the floats to clear
+abbrev pub IsAboveFloats : List Placed → Clear → ℤ → Type 0
+IsAboveFloats floats clear hypothetical = (bottom : Option Length) × IsClearEdge floats clear bottom × IsAbove hypothetical bottom
+
+-- the mark of the box at k in each layout that the blocks may have, but without clearance from that box on
+abbrev pub IsEdgeWithout : List FlowBox → PassState → Placing → ℕ → ℤ → Type 0
+IsEdgeWithout boxes now placing k edge =
+    (extents : Extents) (clear_edges : List Length) (w : BlockLayout) → MayBe boxes placing extents → IsCandidate boxes extents clear_edges w now.clears now.clear_edges k → ((j : ℕ) → k ≤ j → flag_at w.runs.clears j ≡ false)
+    → edge ≡ length_at w.places.marks k

@@ -1,0 +1,183 @@
+//! Clearance: it is decided before the top margin of a box is read, and begins a run (CSS 2.2, 9.5.2).
+
+ghost use Rattle.std.specs.Prelude.{◌≡◌, ◌+◌, ◌<◌, ◌≤◌, ◌⊎◌, true, false, length, slice_index, None, Option, OnOk};
+ghost use Rattle.lay_units.specs.declared.length.Unit.{Unit};
+ghost use Rattle.lay_floats.specs.ClearEdge.{Clears};
+ghost use Rattle.lay_floats.specs.declared.requests.Clear.TheVariants.{None as clear_none};
+ghost use Rattle.lay_flow.specs.Boxes.{parent_at};
+ghost use Rattle.lay_flow.specs.BlockFloats.{shape_at};
+ghost use Rattle.lay_flow.specs.FlowBoxes.{AreFlowBoxes};
+ghost use Rattle.lay_flow.specs.Clearance.{IsAbove, lower_of};
+ghost use Rattle.lay_flow.specs.Pass.Clears.{HasWaitingFloat, IsAboveFloats, IsEdgeWithout, IsSideToClear};
+ghost use Rattle.lay_flow.specs.Pass.Bounds.{IsEdgeNear, state_of};
+ghost use Rattle.lay_flow.specs.Pass.Knows.{IsReady, Knows, placing_of};
+
+use crate::columns::{write_at, write_flag};
+use crate::flow_box::FlowBox;
+use crate::hypothetical_edge::hypothetical_edge;
+use crate::margin_run::{end_of, no_margin};
+use crate::pass::Pass;
+use crate::placement::place_up_to;
+use crate::settling::settle;
+use crate::shape::{clear_at, side_at};
+use lay_floats::{Clear, Side};
+use lay_units::{NoMemory, Unit};
+
+/// Decides whether the box at k has clearance. If so, the run ends, and the clearance begins a new one.
+pub(crate) fn clear(boxes: &[FlowBox], flow: &mut Pass, k: usize) -> Result<(), NoMemory>
+    requires input { AreFlowBoxes boxes.now }
+    requires positive { 0 < k }
+    requires within { k < length boxes.now }
+    requires known { Knows boxes.now (state_of flow.old) (placing_of flow.old.placing) (parent_at boxes.now k) k }
+    ensures { OnOk result (IsReady boxes.now (state_of flow.new) (placing_of flow.new.placing) k) }
+{
+    if asks_to_clear(boxes, k) {
+        place_settled(boxes, flow, k)?;
+        clear_floats(boxes, flow, k)?;
+    }
+    Ok(())
+}
+
+fn asks_to_clear(boxes: &[FlowBox], k: usize) -> bool
+    requires { k < length boxes.now }
+    ensures flows { result ≡ true → (shape_at boxes.now k).float ≡ None }
+    ensures passes_none { result ≡ false → (shape_at boxes.now k).float ≡ None → (shape_at boxes.now k).clear ≡ clear_none }
+{
+    side_at(boxes, k).is_none() && clear_at(boxes, k) != Clear::None
+}
+
+// Places the boxes before the run, since their marks are known.
+fn place_settled(boxes: &[FlowBox], flow: &mut Pass, _k: usize) -> Result<(), NoMemory>
+    requires input { AreFlowBoxes boxes.now }
+    requires positive { 0 < _k }
+    requires within { _k < length boxes.now }
+    requires known { Knows boxes.now (state_of flow.old) (placing_of flow.old.placing) (parent_at boxes.now _k) _k }
+    ensures known { OnOk result (Knows boxes.now (state_of flow.new) (placing_of flow.new.placing) (parent_at boxes.now _k) _k) }
+    ensures settled { OnOk result (length flow.new.placing.places.items ≡ flow.new.first) }
+{
+    place_up_to(boxes, &flow.marks, &mut flow.placing, flow.first)?;
+    Ok(())
+}
+
+// The box at k has clearance where a float that it goes past is in the run, or where it would stand above the
+// lowest bottom of such floats.
+fn clear_floats(boxes: &[FlowBox], flow: &mut Pass, k: usize) -> Result<(), NoMemory>
+    requires input { AreFlowBoxes boxes.now }
+    requires positive { 0 < k }
+    requires within { k < length boxes.now }
+    requires flows { (shape_at boxes.now k).float ≡ None }
+    requires settled { length flow.old.placing.places.items ≡ flow.old.first }
+    requires known { Knows boxes.now (state_of flow.old) (placing_of flow.old.placing) (parent_at boxes.now k) k }
+    ensures { OnOk result (IsReady boxes.now (state_of flow.new) (placing_of flow.new.placing) k) }
+{
+    let bottom = flow.placing.floats.clear_edge(clear_at(boxes, k));
+    let hypothetical = edge_without(boxes, flow, k);
+    if has_waiting_float(boxes, flow.first, k) || is_above(hypothetical, bottom) {
+        begin_cleared(boxes, flow, k, hypothetical)?;
+    }
+    Ok(())
+}
+
+// The hypothetical edge of the box at k.
+fn edge_without(boxes: &[FlowBox], flow: &Pass, k: usize) -> Unit
+    requires input { AreFlowBoxes boxes.now }
+    requires positive { 0 < k }
+    requires within { k < length boxes.now }
+    requires known { Knows boxes.now (state_of flow.now) (placing_of flow.now.placing) (parent_at boxes.now k) k }
+    ensures edge { IsEdgeWithout boxes.now (state_of flow.now) (placing_of flow.now.placing) k result.0 }
+    ensures near { IsEdgeNear k result.0 }
+{
+    if flow.hangs {
+        return flow.start;
+    }
+    hypothetical_edge(boxes, flow.start, flow.strut, flow.first, k)
+}
+
+// A float that the box at k goes past has its mark in the run.
+fn has_waiting_float(boxes: &[FlowBox], first: usize, k: usize) -> bool
+    requires within { k < length boxes.now }
+    requires order { first ≤ k }
+    ensures has { result ≡ true → HasWaitingFloat boxes.now first k }
+    ensures hasnt { result ≡ false → ¬ HasWaitingFloat boxes.now first k }
+{
+    let clear = clear_at(boxes, k);
+    for j in first..k {
+        if is_cleared_float(side_at(boxes, j), clear) {
+            return true;
+        }
+    }
+    false
+}
+
+fn is_cleared_float(float: Option<Side>, clear: Clear) -> bool
+    ensures is { result ≡ true → IsSideToClear clear float }
+    ensures isnt { result ≡ false → ¬ IsSideToClear clear float }
+{
+    match float {
+        Some(side) => clears(clear, side),
+        None => false,
+    }
+}
+
+fn clears(clear: Clear, side: Side) -> bool
+    ensures is { result ≡ true → Clears clear side }
+    ensures isnt { result ≡ false → ¬ Clears clear side }
+{
+    match clear {
+        Clear::None => false,
+        Clear::Left => side == Side::Left,
+        Clear::Right => side == Side::Right,
+        Clear::Both => true,
+    }
+}
+
+fn is_above(hypothetical: Unit, bottom: Option<Unit>) -> bool
+    ensures is { result ≡ true → IsAbove hypothetical.0 bottom }
+    ensures isnt { result ≡ false → ¬ IsAbove hypothetical.0 bottom }
+{
+    match bottom {
+        Some(bottom) => hypothetical.0 < bottom.0,
+        None => false,
+    }
+}
+
+fn lower_of(bottom: Option<Unit>, hypothetical: Unit) -> Unit
+    ensures { result.0 ≡ lower_of bottom hypothetical.0 }
+{
+    match bottom {
+        Some(bottom) => Unit(bottom.0.max(hypothetical.0)),
+        None => hypothetical,
+    }
+}
+
+// The run ends, so that the floats in it stand, and the clearance begins one that hangs from its clear edge.
+fn begin_cleared(
+    boxes: &[FlowBox],
+    flow: &mut Pass,
+    k: usize,
+    hypothetical: Unit,
+) -> Result<(), NoMemory>
+    requires input { AreFlowBoxes boxes.now }
+    requires positive { 0 < k }
+    requires within { k < length boxes.now }
+    requires flows { (shape_at boxes.now k).float ≡ None }
+    requires settled { length flow.old.placing.places.items ≡ flow.old.first }
+    requires known { Knows boxes.now (state_of flow.old) (placing_of flow.old.placing) (parent_at boxes.now k) k }
+    requires edge { IsEdgeWithout boxes.now (state_of flow.old) (placing_of flow.old.placing) k hypothetical.0 }
+    requires near { IsEdgeNear k hypothetical.0 }
+    requires decides { HasWaitingFloat boxes.now flow.old.first k ⊎ IsAboveFloats flow.old.placing.floats (shape_at boxes.now k).clear hypothetical.0 }
+    ensures { OnOk result (IsReady boxes.now (state_of flow.new) (placing_of flow.new.placing) k) }
+{
+    let end = end_of(flow.start, flow.hangs, flow.strut);
+    settle(boxes, &flow.through, &mut flow.marks, flow.first, k, end);
+    place_up_to(boxes, &flow.marks, &mut flow.placing, k)?;
+    let bottom = flow.placing.floats.clear_edge(clear_at(boxes, k));
+    let edge = lower_of(bottom, hypothetical);
+    write_flag(&mut flow.clears, k, true);
+    write_at(&mut flow.clear_edges, k, edge);
+    flow.start = edge;
+    flow.strut = no_margin();
+    flow.first = k;
+    flow.hangs = true;
+    Ok(())
+}

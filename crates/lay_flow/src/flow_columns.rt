@@ -1,0 +1,170 @@
+//! The places of the boxes of a context, in one pass over their margins in document order.
+
+ghost use Rattle.std.specs.Prelude.{◌≡◌, ℕ, ◌+◌, ◌-◌, ◌<◌, ◌≤◌, ◌∷◌, [], length, slice_index, replicate, IfOk, OnOk};
+ghost use Rattle.lay_flow.specs.Boxes.{parent_at};
+ghost use Rattle.lay_flow.specs.Lengths.{no_length};
+ghost use Rattle.lay_flow.specs.BlockFloats.{no_place};
+ghost use Rattle.lay_flow.specs.FlowBoxes.{AreFlowBoxes};
+ghost use Rattle.lay_flow.specs.ContextFlow.{AreContextPlaces};
+ghost use Rattle.lay_flow.specs.Pass.Bounds.{AreBoxHeights, AreNear, state_of};
+ghost use Rattle.lay_flow.specs.Pass.Placed.{AreCornersNear};
+ghost use Rattle.lay_flow.specs.Pass.Knows.{Knows, placing_of};
+
+use crate::columns::{block_at, length_at, parent_at, write_at};
+use crate::flow_box::FlowBox;
+use crate::margin_run::{end_of, no_margin};
+use crate::margin_steps::{close, open};
+use crate::pass::Pass;
+use crate::placement::{Placing, nowhere, place_up_to, push_place};
+use crate::settling::settle;
+use lay_floats::{Clear, Floats, Place};
+use lay_units::{NoMemory, Unit};
+use std::alloc::Global;
+
+/// The columns of a flow that its pass leaves, in 1/64 px. Positions are counted downward from the top border
+/// edge of the context's own box.
+#[derive(Drop)]
+pub(crate) struct FlowColumns {
+    /// The marks of the boxes.
+    pub tops: Vec<Unit>,
+    /// The heights of their border boxes, and of solid boxes how far they reach below their marks.
+    pub heights: Vec<Unit>,
+    /// The corners of the margin boxes of floats and of the border boxes of solid boxes, and (0, 0) for others.
+    pub places: Vec<Place>,
+}
+
+/// The columns of a context's flow.
+pub(crate) fn flow_columns(alloc: Global, boxes: &[FlowBox]) -> Result<FlowColumns, NoMemory>
+    requires input { AreFlowBoxes boxes.now }
+    ensures places { IfOk result (λ r. AreContextPlaces boxes.now r.tops.items r.heights.items r.places.items) }
+    ensures near { IfOk result (λ r. AreNear r.tops.items) }
+    ensures sized { IfOk result (λ r. AreBoxHeights boxes.now r.heights.items) }
+    ensures corners { IfOk result (λ r. AreCornersNear boxes.now r.places.items) }
+{
+    let mut flow = begin(alloc, boxes)?;
+    for k in 1..boxes.len() {
+        advance(boxes, &mut flow, k)?;
+    }
+    finish(boxes, &mut flow)?;
+    let placing = flow.placing;
+    Ok(FlowColumns {
+        tops: flow.marks,
+        heights: flow.heights,
+        places: placing.places,
+    })
+}
+
+// The top of the content of the context's own box: the pass is before its first child.
+fn begin(alloc: Global, boxes: &[FlowBox]) -> Result<Pass, NoMemory>
+    requires input { AreFlowBoxes boxes.now }
+    ensures { IfOk result (λ flow. Knows boxes.now (state_of flow) (placing_of flow.placing) 0 1) }
+{
+    let count = boxes.len();
+    Ok(Pass {
+        marks: vec![in alloc; Unit(0); count]?,
+        heights: vec![in alloc; Unit(0); count]?,
+        through: vec![in alloc; false; count]?,
+        clears: vec![in alloc; false; count]?,
+        clear_edges: vec![in alloc; Unit(0); count]?,
+        start: block_at(boxes, 0).edge_top,
+        strut: no_margin(),
+        first: 1,
+        hangs: false,
+        placing: placing_of(alloc, count)?,
+    })
+}
+
+// The context's own box is placed, and no other.
+fn placing_of(alloc: Global, count: usize) -> Result<Placing, NoMemory>
+    ensures extents { IfOk result (λ placing. placing.extents.items ≡ replicate count no_length) }
+    ensures floats { IfOk result (λ placing. placing.floats ≡ []) }
+    ensures places { IfOk result (λ placing. placing.places.items ≡ no_place ∷ []) }
+{
+    let mut places = Vec::new(alloc);
+    push_place(&mut places, nowhere())?;
+    Ok(Placing {
+        extents: vec![in alloc; Unit(0); count]?,
+        floats: Floats::new(alloc),
+        places,
+    })
+}
+
+// Closes the open boxes that the box at k isn't in, and opens that one.
+fn advance(boxes: &[FlowBox], flow: &mut Pass, k: usize) -> Result<(), NoMemory>
+    requires input { AreFlowBoxes boxes.now }
+    requires positive { 0 < k }
+    requires within { k < length boxes.now }
+    requires known { Knows boxes.now (state_of flow.old) (placing_of flow.old.placing) (k - 1) k }
+    ensures { OnOk result (Knows boxes.now (state_of flow.new) (placing_of flow.new.placing) k (k + 1)) }
+{
+    let parent = parent_at(boxes, k);
+    close_to(boxes, flow, k - 1, parent, k)?;
+    open(boxes, flow, k)?;
+    Ok(())
+}
+
+// Closes the open boxes from the innermost one up to those in the box `to`, in which the box at m stands.
+fn close_to(
+    boxes: &[FlowBox],
+    flow: &mut Pass,
+    from: usize,
+    to: usize,
+    m: usize,
+) -> Result<(), NoMemory>
+    requires input { AreFlowBoxes boxes.now }
+    requires order { to ≤ from }
+    requires next { m < length boxes.now → parent_at boxes.now m ≡ to }
+    requires last { length boxes.now ≤ m → to ≡ 0 }
+    requires known { Knows boxes.now (state_of flow.old) (placing_of flow.old.placing) from m }
+    ensures { OnOk result (Knows boxes.now (state_of flow.new) (placing_of flow.new.placing) to m) }
+{
+    let mut innermost = from;
+    while innermost != to {
+        close(boxes, flow, innermost, m)?;
+        innermost = parent_at(boxes, innermost);
+    }
+    Ok(())
+}
+
+// Closes all boxes, the context's own one last.
+fn finish(boxes: &[FlowBox], flow: &mut Pass) -> Result<(), NoMemory>
+    requires input { AreFlowBoxes boxes.now }
+    requires known { Knows boxes.now (state_of flow.old) (placing_of flow.old.placing) (length boxes.now - 1) (length boxes.now) }
+    ensures places { OnOk result (AreContextPlaces boxes.now flow.new.marks.items flow.new.heights.items flow.new.placing.places.items) }
+    ensures near { OnOk result (AreNear flow.new.marks.items) }
+    ensures sized { OnOk result (AreBoxHeights boxes.now flow.new.heights.items) }
+    ensures corners { OnOk result (AreCornersNear boxes.now flow.new.placing.places.items) }
+{
+    let count = boxes.len();
+    close_to(boxes, flow, count - 1, 0, count)?;
+    close_root(boxes, flow)?;
+    Ok(())
+}
+
+// The last run ends, and with it the content of the context's own box, which reaches round its floats.
+fn close_root(boxes: &[FlowBox], flow: &mut Pass) -> Result<(), NoMemory>
+    requires input { AreFlowBoxes boxes.now }
+    requires known { Knows boxes.now (state_of flow.old) (placing_of flow.old.placing) 0 (length boxes.now) }
+    ensures places { OnOk result (AreContextPlaces boxes.now flow.new.marks.items flow.new.heights.items flow.new.placing.places.items) }
+    ensures near { OnOk result (AreNear flow.new.marks.items) }
+    ensures sized { OnOk result (AreBoxHeights boxes.now flow.new.heights.items) }
+    ensures corners { OnOk result (AreCornersNear boxes.now flow.new.placing.places.items) }
+{
+    let count = boxes.len();
+    let end = end_of(flow.start, flow.hangs, flow.strut);
+    settle(
+        boxes,
+        &flow.through,
+        &mut flow.marks,
+        flow.first,
+        count,
+        end,
+    );
+    place_up_to(boxes, &flow.marks, &mut flow.placing, count)?;
+    let block = block_at(boxes, 0);
+    let mark = length_at(&flow.marks, 0);
+    let bottom = flow.placing.floats.clear_edge(Clear::Both);
+    let height = block.root_height(mark, end, bottom);
+    write_at(&mut flow.heights, 0, height);
+    Ok(())
+}

@@ -1,0 +1,207 @@
+//! The steps of the pass: a box is opened or closed, and its top or bottom margin is read.
+
+ghost use Rattle.std.specs.Prelude.{◌≡◌, ◌+◌, ◌<◌, ◌≤◌, ◌&&◌, not, true, false, length, slice_index, OnOk};
+ghost use Rattle.lay_flow.specs.Boxes.{parent_at};
+ghost use Rattle.lay_flow.specs.FlowBoxes.{AreFlowBoxes};
+ghost use Rattle.lay_flow.specs.MarginRuns.{block_at, may_collapse_through, may_join_bottoms, parts_tops};
+ghost use Rattle.lay_flow.specs.Pass.Bounds.{is_barred, state_of};
+ghost use Rattle.lay_flow.specs.Pass.Knows.{IsReady, Knows, placing_of};
+
+use crate::clearance::clear;
+use crate::columns::{block_at, flag_at, length_at, parent_at, sum_of, write_at, write_flag};
+use crate::flow_box::FlowBox;
+use crate::margin_run::{end_of, lone_margin, no_margin, run_start, with_margin};
+use crate::pass::Pass;
+use crate::placement::place_up_to;
+use crate::settling::settle;
+use lay_units::{NoMemory, Unit};
+
+/// Reads the clearance and the top margin of the box at k, which is then the innermost open one.
+pub(crate) fn open(boxes: &[FlowBox], flow: &mut Pass, k: usize) -> Result<(), NoMemory>
+    requires input { AreFlowBoxes boxes.now }
+    requires positive { 0 < k }
+    requires within { k < length boxes.now }
+    requires known { Knows boxes.now (state_of flow.old) (placing_of flow.old.placing) (parent_at boxes.now k) k }
+    ensures { OnOk result (Knows boxes.now (state_of flow.new) (placing_of flow.new.placing) k (k + 1)) }
+{
+    clear(boxes, flow, k)?;
+    enter(boxes, flow, k);
+    Ok(())
+}
+
+// Reads the top margin.
+fn enter(boxes: &[FlowBox], flow: &mut Pass, k: usize)
+    requires input { AreFlowBoxes boxes.now }
+    requires positive { 0 < k }
+    requires within { k < length boxes.now }
+    requires ready { IsReady boxes.now (state_of flow.old) (placing_of flow.old.placing) k }
+    ensures { Knows boxes.now (state_of flow.new) (placing_of flow.new.placing) k (k + 1) }
+{
+    if block_at(boxes, k).has_edge_top() {
+        open_parting(boxes, flow, k);
+    } else {
+        open_plain(boxes, flow, k);
+    }
+}
+
+// The run goes on in the box.
+fn open_plain(boxes: &[FlowBox], flow: &mut Pass, k: usize)
+    requires input { AreFlowBoxes boxes.now }
+    requires positive { 0 < k }
+    requires within { k < length boxes.now }
+    requires plain { parts_tops boxes.now k ≡ false }
+    requires ready { IsReady boxes.now (state_of flow.old) (placing_of flow.old.placing) k }
+    ensures { Knows boxes.now (state_of flow.new) (placing_of flow.new.placing) k (k + 1) }
+{
+    flow.strut = with_margin(flow.strut, block_at(boxes, k).margin_top);
+}
+
+// A border or a padding ends the run.
+fn open_parting(boxes: &[FlowBox], flow: &mut Pass, k: usize)
+    requires input { AreFlowBoxes boxes.now }
+    requires positive { 0 < k }
+    requires within { k < length boxes.now }
+    requires parting { parts_tops boxes.now k ≡ true }
+    requires ready { IsReady boxes.now (state_of flow.old) (placing_of flow.old.placing) k }
+    ensures { Knows boxes.now (state_of flow.new) (placing_of flow.new.placing) k (k + 1) }
+{
+    let block = block_at(boxes, k);
+    let strut = with_margin(flow.strut, block.margin_top);
+    let mark = end_of(flow.start, flow.hangs, strut);
+    settle(
+        boxes,
+        &flow.through,
+        &mut flow.marks,
+        flow.first,
+        k + 1,
+        mark,
+    );
+    flow.start = sum_of(mark, block.edge_top);
+    flow.strut = no_margin();
+    flow.first = k + 1;
+    flow.hangs = false;
+}
+
+/// Reads the bottom margin of the box at p, the innermost open one, whose boxes all stand before m.
+pub(crate) fn close(boxes: &[FlowBox], flow: &mut Pass, p: usize, m: usize) -> Result<(), NoMemory>
+    requires input { AreFlowBoxes boxes.now }
+    requires positive { 0 < p }
+    requires ends { m < length boxes.now → parent_at boxes.now m < p }
+    requires known { Knows boxes.now (state_of flow.old) (placing_of flow.old.placing) p m }
+    ensures { OnOk result (Knows boxes.now (state_of flow.new) (placing_of flow.new.placing) (parent_at boxes.now p) m) }
+{
+    let block = block_at(boxes, p);
+    if block.may_collapse_through() && flow.first <= p {
+        pass_through(boxes, flow, p, m);
+    } else if block.may_join_bottoms() && !is_barred(boxes, flow, p) {
+        close_joined(boxes, flow, p, m);
+    } else {
+        close_parted(boxes, flow, p, m)?;
+    }
+    Ok(())
+}
+
+// The run was begun by clearance of a child of the box at p.
+fn is_barred(boxes: &[FlowBox], flow: &Pass, p: usize) -> bool
+    requires { length flow.now.clears.items ≡ length boxes.now }
+    ensures { result ≡ is_barred boxes.now (state_of flow.now) p }
+{
+    flow.first < flow.clears.len()
+        && flag_at(&flow.clears, flow.first)
+        && boxes[flow.first].parent == p
+}
+
+// It is collapsed through.
+fn pass_through(boxes: &[FlowBox], flow: &mut Pass, p: usize, m: usize)
+    requires input { AreFlowBoxes boxes.now }
+    requires positive { 0 < p }
+    requires ends { m < length boxes.now → parent_at boxes.now m < p }
+    requires through { may_collapse_through (block_at boxes.now p) ≡ true }
+    requires waiting { flow.old.first ≤ p }
+    requires known { Knows boxes.now (state_of flow.old) (placing_of flow.old.placing) p m }
+    ensures { Knows boxes.now (state_of flow.new) (placing_of flow.new.placing) (parent_at boxes.now p) m }
+{
+    if flow.hangs && flow.first == p {
+        start_run(boxes, flow, p, m);
+    }
+    close_through(boxes, flow, p, m);
+}
+
+// The run that its clearance began starts so far above its clear edge as the margins before its bottom margin
+// collapse to.
+fn start_run(boxes: &[FlowBox], flow: &mut Pass, _p: usize, _m: usize)
+    requires input { AreFlowBoxes boxes.now }
+    requires positive { 0 < _p }
+    requires ends { _m < length boxes.now → parent_at boxes.now _m < _p }
+    requires through { may_collapse_through (block_at boxes.now _p) ≡ true }
+    requires hangs { flow.old.hangs ≡ true }
+    requires first { flow.old.first ≡ _p }
+    requires known { Knows boxes.now (state_of flow.old) (placing_of flow.old.placing) _p _m }
+    ensures known { Knows boxes.now (state_of flow.new) (placing_of flow.new.placing) _p _m }
+    ensures starts { flow.new.hangs ≡ false }
+    ensures first { flow.new.first ≡ flow.old.first }
+{
+    flow.start = run_start(flow.start, flow.strut);
+    flow.hangs = false;
+}
+
+// The run of its top margin goes on past its bottom margin.
+fn close_through(boxes: &[FlowBox], flow: &mut Pass, p: usize, _m: usize)
+    requires input { AreFlowBoxes boxes.now }
+    requires positive { 0 < p }
+    requires ends { _m < length boxes.now → parent_at boxes.now _m < p }
+    requires through { may_collapse_through (block_at boxes.now p) ≡ true }
+    requires waiting { flow.old.first ≤ p }
+    requires inside { flow.old.hangs ≡ true → flow.old.first < p }
+    requires known { Knows boxes.now (state_of flow.old) (placing_of flow.old.placing) p _m }
+    ensures { Knows boxes.now (state_of flow.new) (placing_of flow.new.placing) (parent_at boxes.now p) _m }
+{
+    let mark = end_of(flow.start, flow.hangs, flow.strut);
+    write_at(&mut flow.marks, p, mark);
+    write_at(&mut flow.heights, p, Unit(0));
+    write_flag(&mut flow.through, p, true);
+    flow.strut = with_margin(flow.strut, block_at(boxes, p).margin_bottom);
+}
+
+// Its bottom margin adjoins that of its last child.
+fn close_joined(boxes: &[FlowBox], flow: &mut Pass, p: usize, _m: usize)
+    requires input { AreFlowBoxes boxes.now }
+    requires positive { 0 < p }
+    requires ends { _m < length boxes.now → parent_at boxes.now _m < p }
+    requires joined { may_join_bottoms (block_at boxes.now p) ≡ true }
+    requires unbarred { is_barred boxes.now (state_of flow.old) p ≡ false }
+    requires settled { may_collapse_through (block_at boxes.now p) ≡ true → p < flow.old.first }
+    requires known { Knows boxes.now (state_of flow.old) (placing_of flow.old.placing) p _m }
+    ensures { Knows boxes.now (state_of flow.new) (placing_of flow.new.placing) (parent_at boxes.now p) _m }
+{
+    let block = block_at(boxes, p);
+    let mark = length_at(&flow.marks, p);
+    let height = block.height_to_border(length_at(&flow.placing.extents, p), mark, flow.start);
+    write_at(&mut flow.heights, p, height);
+    flow.start = sum_of(mark, height);
+    flow.strut = with_margin(flow.strut, block.margin_bottom);
+}
+
+// Its bottom margin begins a run.
+fn close_parted(boxes: &[FlowBox], flow: &mut Pass, p: usize, m: usize) -> Result<(), NoMemory>
+    requires input { AreFlowBoxes boxes.now }
+    requires positive { 0 < p }
+    requires ends { m < length boxes.now → parent_at boxes.now m < p }
+    requires parted { (may_join_bottoms (block_at boxes.now p) && not (is_barred boxes.now (state_of flow.old) p)) ≡ false }
+    requires settled { may_collapse_through (block_at boxes.now p) ≡ true → p < flow.old.first }
+    requires known { Knows boxes.now (state_of flow.old) (placing_of flow.old.placing) p m }
+    ensures { OnOk result (Knows boxes.now (state_of flow.new) (placing_of flow.new.placing) (parent_at boxes.now p) m) }
+{
+    let block = block_at(boxes, p);
+    let end = end_of(flow.start, flow.hangs, flow.strut);
+    settle(boxes, &flow.through, &mut flow.marks, flow.first, m, end);
+    place_up_to(boxes, &flow.marks, &mut flow.placing, m)?;
+    let mark = length_at(&flow.marks, p);
+    let height = block.height_to_margin(length_at(&flow.placing.extents, p), mark, end);
+    write_at(&mut flow.heights, p, height);
+    flow.start = sum_of(mark, height);
+    flow.strut = lone_margin(block.margin_bottom);
+    flow.first = m;
+    flow.hangs = false;
+    Ok(())
+}
