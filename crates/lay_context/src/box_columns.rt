@@ -5,15 +5,14 @@ ghost use Rattle.lay_units.specs.Units.{IsPosition};
 ghost use Rattle.lay_doc.specs.ComputedStyle.{style_at};
 ghost use Rattle.lay_boxgen.specs.BoxColumns.{box_parents, box_styles};
 ghost use Rattle.lay_flow.specs.Lengths.{length_at};
-ghost use Rattle.lay_sizes.specs.BoxSizes.{border_width};
-ghost use Rattle.lay_context.specs.ContextBlocks.{margin_width};
-ghost use Rattle.lay_sizes.specs.SizeBounds.{SizeFits};
-ghost use Rattle.lay_context.specs.ContextSizes.{sizes_at};
-ghost use Rattle.lay_context.specs.ContextBlocks.{is_floating, is_float, is_inner};
-ghost use Rattle.lay_context.specs.PlaceBounds.{IsNear};
+ghost use Rattle.lay_context.specs.ContextSizes.{HaveSizeBounds, sizes_at};
+ghost use Rattle.lay_context.specs.OwnBoxes.{OwnBoxFits, OwnBoxesFit, outside, own_box_at};
+ghost use Rattle.lay_context.specs.ContextBoxes.{is_floating, is_float, is_inner};
+ghost use Rattle.lay_context.specs.ContextPlaces.{no_lines};
 
 use lay_boxgen::{BoxNode, Flow, flow_of};
 use lay_doc::Style;
+use crate::outside::{OwnBox, own_box};
 use lay_sizes::BoxSizes;
 use lay_units::{NoMemory, Unit};
 use std::alloc::Global;
@@ -84,24 +83,32 @@ pub(crate) fn length_at(column: &[Unit], k: usize) -> Unit
     column[k]
 }
 
-/// The width of a border box.
-pub(crate) fn border_width(sizes: BoxSizes) -> Unit
-    requires { SizeFits sizes }
-    ensures value { result ≡ record { 0 = border_width sizes } }
-    ensures near { IsNear result.0 }
+/// The box at k from outside, where these are the boxes of inner contexts.
+pub(crate) fn outside(
+    boxes: &[BoxNode],
+    sizes: &[BoxSizes],
+    inner: &[OwnBox],
+    k: usize,
+) -> OwnBox
+    requires boxes { k < length boxes.now }
+    requires sizes { k < length sizes.now }
+    requires inner { k < length inner.now }
+    requires size_bounds { HaveSizeBounds sizes.now }
+    requires inner_bounds { OwnBoxesFit inner.now }
+    ensures value { result ≡ outside boxes.now sizes.now inner.now k }
+    ensures fits { OwnBoxFits result }
 {
-    lay_sizes::border_width(&sizes)
+    if is_inner(boxes, k) {
+        return own_box_at(inner, k);
+    }
+    own_box(sizes_at(sizes, k), Unit(0))
 }
 
-/// The width of a margin box.
-pub(crate) fn margin_width(sizes: BoxSizes) -> Unit
-    requires { SizeFits sizes }
-    ensures { result ≡ record { 0 = margin_width sizes } }
+pub(crate) fn own_box_at(inner: &[OwnBox], k: usize) -> OwnBox
+    requires { k < length inner.now }
+    ensures { result ≡ own_box_at inner.now k }
 {
-    sum_of(
-        sum_of(sizes.widths.margin_left, border_width(sizes)),
-        sizes.widths.margin_right,
-    )
+    inner[k]
 }
 
 /// The sum of two positions.

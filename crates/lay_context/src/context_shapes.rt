@@ -1,22 +1,18 @@
 //! The boxes of one context as its floats see them.
 
-ghost use Rattle.std.specs.Prelude.{◌≡◌, ◌<◌, ◌≤◌, ◌+ℤ◌, pos, length, IfOk, None, if◌then◌else◌};
+ghost use Rattle.std.specs.Prelude.{◌≡◌, ◌<◌, ◌+ℤ◌, length, IfOk, None, if◌then◌else◌};
 ghost use Rattle.lay_units.specs.Units.{IsPosition};
-ghost use Rattle.lay_doc.specs.Tree.{IsTree};
-ghost use Rattle.lay_boxgen.specs.BoxColumns.{box_parents};
-ghost use Rattle.lay_flow.specs.BlockSizes.{IsBoxHeight};
 ghost use Rattle.lay_sizes.specs.SizeBounds.{SizeFits};
-ghost use Rattle.lay_context.specs.SizeBounds.{HaveSizeBounds};
-ghost use Rattle.lay_sizes.specs.BoxSizes.{border_width};
-ghost use Rattle.lay_context.specs.ContextBlocks.{margin_width};
-ghost use Rattle.lay_context.specs.ContextBlocks.{side_of, cleared_sides, shape_beside, shape_of_box, AreShapesOf};
-ghost use Rattle.lay_context.specs.PlaceBounds.{AreNearLefts, HaveBoxHeights};
+ghost use Rattle.lay_context.specs.OwnBoxes.{OwnBoxFits};
+ghost use Rattle.lay_context.specs.ContextBlocks.{AreShapesOf, cleared_sides, margin_height, margin_width, shape_beside, shape_of_box, side_of};
+ghost use Rattle.lay_context.specs.PlaceBounds.{AreNearLefts};
 
 use crate::box_columns::{
-    border_width, is_float, length_at, margin_width, parent_at, sizes_at, style_at, sum_of,
+    is_float, length_at, outside, parent_at, sizes_at, style_at, sum_of,
 };
 use crate::context_blocks::content_left;
-use lay_boxgen::BoxNode;
+use crate::input::PlaceInput;
+use crate::outside::OwnBox;
 use lay_doc::Float;
 use lay_floats::{Clear, Side};
 use lay_flow::Shape;
@@ -24,52 +20,34 @@ use lay_sizes::BoxSizes;
 use lay_units::{NoMemory, Unit};
 use std::alloc::Global;
 
-/// The shape of each box, for the left border edges of boxes and the heights of inner contexts.
+/// The shape of each box, for the left border edges of boxes.
 pub(crate) fn shapes_of(
     alloc: Global,
-    boxes: &[BoxNode],
-    sizes: &[BoxSizes],
+    input: &PlaceInput,
     lefts: &[Unit],
-    heights: &[Unit],
 ) -> Result<Vec<Shape>, NoMemory>
-    requires tree { IsTree (box_parents boxes.now) }
-    requires sizes { length sizes.now ≡ length boxes.now }
-    requires bounds { HaveSizeBounds sizes.now }
-    requires lefts { length lefts.now ≡ length boxes.now }
+    requires lefts { length lefts.now ≡ length input.now.boxes }
     requires near { AreNearLefts lefts.now }
-    requires heights { length heights.now ≡ length boxes.now }
-    requires sized { HaveBoxHeights heights.now }
-    ensures { IfOk result (λ v. AreShapesOf boxes.now sizes.now lefts.now heights.now v.items) }
+    ensures { IfOk result (λ v. AreShapesOf input.now.boxes input.now.sizes input.now.inner lefts.now v.items) }
 {
-    let mut shapes = Vec::with_capacity(alloc, boxes.len())?;
-    for k in 0..boxes.len() {
-        shapes.push(shape_of_box(boxes, sizes, lefts, heights, k))?;
+    let count = input.boxes().len();
+    let mut shapes = Vec::with_capacity(alloc, count)?;
+    for k in 0..count {
+        shapes.push(shape_of_box(input, lefts, k))?;
     }
     Ok(shapes)
 }
 
-fn shape_of_box(
-    boxes: &[BoxNode],
-    sizes: &[BoxSizes],
-    lefts: &[Unit],
-    heights: &[Unit],
-    k: usize,
-) -> Shape
-    requires place { k < length boxes.now }
-    requires tree { IsTree (box_parents boxes.now) }
-    requires sizes { length sizes.now ≡ length boxes.now }
-    requires bounds { HaveSizeBounds sizes.now }
-    requires lefts { length lefts.now ≡ length boxes.now }
+fn shape_of_box(input: &PlaceInput, lefts: &[Unit], k: usize) -> Shape
+    requires place { k < length input.now.boxes }
+    requires lefts { length lefts.now ≡ length input.now.boxes }
     requires near { AreNearLefts lefts.now }
-    requires heights { length heights.now ≡ length boxes.now }
-    requires sized { HaveBoxHeights heights.now }
-    ensures { result ≡ shape_of_box boxes.now sizes.now lefts.now heights.now k }
+    ensures { result ≡ shape_of_box input.now.boxes input.now.sizes input.now.inner lefts.now k }
 {
     if k == 0 {
         return NO_SHAPE;
     }
-    let parent = parent_at(boxes, k);
-    shape_beside(boxes, sizes, lefts, length_at(heights, k), parent, k)
+    shape_beside(input, lefts, parent_at(input.boxes(), k), k)
 }
 
 const NO_SHAPE: Shape = Shape {
@@ -82,36 +60,27 @@ const NO_SHAPE: Shape = Shape {
     height: Unit(0),
 };
 
-/// The shape of the box at k, whose parent box stands at a place and whose border box has a height.
-fn shape_beside(
-    boxes: &[BoxNode],
-    sizes: &[BoxSizes],
-    lefts: &[Unit],
-    height: Unit,
-    parent: usize,
-    k: usize,
-) -> Shape
-    requires place { k < length boxes.now }
-    requires parent { parent < length boxes.now }
-    requires sizes { length sizes.now ≡ length boxes.now }
-    requires bounds { HaveSizeBounds sizes.now }
-    requires lefts { length lefts.now ≡ length boxes.now }
+/// The shape of the box at k, whose parent box stands at a place.
+fn shape_beside(input: &PlaceInput, lefts: &[Unit], parent: usize, k: usize) -> Shape
+    requires place { k < length input.now.boxes }
+    requires parent { parent < length input.now.boxes }
+    requires lefts { length lefts.now ≡ length input.now.boxes }
     requires near { AreNearLefts lefts.now }
-    requires sized { IsBoxHeight height.0 }
-    ensures { result ≡ shape_beside boxes.now sizes.now lefts.now height parent k }
+    ensures { result ≡ shape_beside input.now.boxes input.now.sizes input.now.inner lefts.now parent k }
 {
+    let boxes = input.boxes();
     let floats = is_float(boxes, k);
     let style = style_at(boxes, k);
-    let own = sizes_at(sizes, k);
-    let left = content_left(lefts, sizes, parent);
+    let own = outside(boxes, input.sizes(), input.inner(), k);
+    let left = content_left(input, lefts, parent);
     Shape {
         float: float_side(floats, style.float),
         clear: cleared_sides(style.clear),
         left,
-        right: content_right(left, sizes_at(sizes, parent)),
+        right: content_right(left, sizes_at(input.sizes(), parent)),
         x: length_at(lefts, k),
         width: width_of(floats, own),
-        height: height_of(floats, own, height),
+        height: height_of(floats, own),
     }
 }
 
@@ -124,26 +93,25 @@ fn content_right(left: Unit, sizes: BoxSizes) -> Unit
 }
 
 /// The width of a margin box, where the box floats, and else of a border box.
-fn width_of(floats: bool, sizes: BoxSizes) -> Unit
-    requires { SizeFits sizes }
-    ensures { result ≡ record { 0 = if floats then margin_width sizes else border_width sizes } }
+fn width_of(floats: bool, own: OwnBox) -> Unit
+    requires { OwnBoxFits own }
+    ensures { result ≡ if floats then margin_width own else own.width }
 {
     if floats {
-        return margin_width(sizes);
+        return sum_of(sum_of(own.margin.left, own.width), own.margin.right);
     }
-    border_width(sizes)
+    own.width
 }
 
 /// The height of a margin box, where the box floats, and else of a border box.
-fn height_of(floats: bool, sizes: BoxSizes, height: Unit) -> Unit
-    requires sizes { SizeFits sizes }
-    requires height { IsBoxHeight height.0 }
-    ensures { result ≡ record { 0 = if floats then sizes.margin_top.0 +ℤ height.0 +ℤ sizes.margin_bottom.0 else height.0 } }
+fn height_of(floats: bool, own: OwnBox) -> Unit
+    requires { OwnBoxFits own }
+    ensures { result ≡ if floats then margin_height own else own.height }
 {
     if floats {
-        return sum_of(sum_of(sizes.margin_top, height), sizes.margin_bottom);
+        return sum_of(sum_of(own.margin.top, own.height), own.margin.bottom);
     }
-    height
+    own.height
 }
 
 fn float_side(floats: bool, float: Float) -> Option<Side>

@@ -1,37 +1,56 @@
 //! The corners of the boxes of one context.
 
 ghost use Rattle.std.specs.Prelude.{◌≡◌, ◌<◌, ◌+ℤ◌, length, IfOk};
-ghost use Rattle.lay_units.specs.Units.{IsUsed};
 ghost use Rattle.lay_flow.specs.BlockFloats.{place_at};
-ghost use Rattle.lay_context.specs.ContextPlaces.{columns_of, corner_of_box};
-ghost use Rattle.lay_context.specs.PlaceBounds.{HaveCounts, IsCornerNear, IsNear};
+ghost use Rattle.lay_context.specs.ContextPlaces.{corner_of_box, corners_to};
+ghost use Rattle.lay_context.specs.PlaceBounds.{AreNearCorners, HaveCounts, IsCornerNear, IsNear};
 
-use crate::box_columns::{is_float, is_inner, length_at, sizes_at};
+use crate::box_columns::{is_float, is_inner, length_at, own_box_at};
 use crate::context_places::BoxPlaces;
 use crate::corner::Corner;
-use lay_boxgen::BoxNode;
+use crate::input::PlaceInput;
+use crate::outside::OwnBox;
 use lay_floats::Place;
-use lay_sizes::BoxSizes;
 use lay_units::{NoMemory, Unit};
+use std::alloc::Global;
 
 /// The greatest distance of an edge from the origin.
 const FAR: i64 = 1152921504606846976;
 
+/// The corners of the border boxes of all boxes, in order.
+pub(crate) fn corners_of(
+    alloc: Global,
+    input: &PlaceInput,
+    places: &BoxPlaces,
+) -> Result<Vec<Corner>, NoMemory>
+    requires counts { HaveCounts input.now.boxes places.now }
+    ensures corners { IfOk result (λ v. v.items ≡ corners_to input.now.boxes input.now.inner places.now (length input.now.boxes)) }
+    ensures near { IfOk result (λ v. AreNearCorners v.items) }
+{
+    let boxes = input.boxes();
+    let mut corners = Vec::with_capacity(alloc, boxes.len())?;
+    for k in 0..boxes.len() {
+        let corner = corner_of_box(input, places, k)?;
+        corners.push(corner)?;
+    }
+    Ok(corners)
+}
+
 /// The corner of the border box of the box at k, counted from that of the context's own. NoMemory is the
 /// answer where it is more than 2^60 units away, which it is in no document within the limits.
 pub(crate) fn corner_of_box(
-    boxes: &[BoxNode],
-    sizes: &[BoxSizes],
+    input: &PlaceInput,
     places: &BoxPlaces,
     k: usize,
 ) -> Result<Corner, NoMemory>
-    requires place { k < length boxes.now }
-    requires counts { HaveCounts boxes.now sizes.now (columns_of places.now) }
-    ensures corner { IfOk result (λ c. c ≡ corner_of_box boxes.now sizes.now (columns_of places.now) k) }
+    requires place { k < length input.now.boxes }
+    requires counts { HaveCounts input.now.boxes places.now }
+    ensures corner { IfOk result (λ c. c ≡ corner_of_box input.now.boxes input.now.inner places.now k) }
     ensures near { IfOk result IsCornerNear }
 {
+    let boxes = input.boxes();
     if is_float(boxes, k) {
-        return float_corner(place_at(&places.places, k), sizes_at(sizes, k));
+        return float_corner(place_at(&places.places, k), own_box_at(input.inner(), k));
     }
     if is_inner(boxes, k) {
         let place = place_at(&places.places, k);
@@ -41,12 +60,12 @@ pub(crate) fn corner_of_box(
 }
 
 /// The corner of the border box of a float, whose margin box stands at this place.
-fn float_corner(place: Place, sizes: BoxSizes) -> Result<Corner, NoMemory>
-    ensures corner { IfOk result (λ c. c ≡ record { x = record { 0 = place.x.0 +ℤ sizes.widths.margin_left.0 }; y = record { 0 = place.y.0 +ℤ sizes.margin_top.0 } }) }
+fn float_corner(place: Place, own: OwnBox) -> Result<Corner, NoMemory>
+    ensures corner { IfOk result (λ c. c ≡ record { x = record { 0 = place.x.0 +ℤ own.margin.left.0 }; y = record { 0 = place.y.0 +ℤ own.margin.top.0 } }) }
     ensures near { IfOk result IsCornerNear }
 {
-    let x = position_sum(place.x, sizes.widths.margin_left)?;
-    let y = position_sum(place.y, sizes.margin_top)?;
+    let x = position_sum(place.x, own.margin.left)?;
+    let y = position_sum(place.y, own.margin.top)?;
     Ok(Corner { x, y })
 }
 

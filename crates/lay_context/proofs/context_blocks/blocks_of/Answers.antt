@@ -9,5 +9,5 @@ loop-k-preserved c =
     let ok = c.in_ok-push.ensures {u = tt} in
     record {
       count = rw ok.items (grind (arith, elements, c.loop-k.invariant.count));
-      each = rw ok.items (one_more (block_of_box c.args.boxes.now c.args.sizes.now) c.loop-k.blocks.items c.loop-k.k c.block_of_box.result c.loop-k.invariant.count c.loop-k.invariant.each c.block_of_box.ensures);
+      each = rw ok.items (one_more (block_of_box c.args.input.now.boxes c.args.input.now.sizes c.args.input.now.inner) c.loop-k.blocks.items c.loop-k.k c.block_of_box.result c.loop-k.invariant.count c.loop-k.invariant.each c.block_of_box.ensures);
     }

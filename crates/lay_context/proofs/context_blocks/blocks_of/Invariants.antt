@@ -6,5 +6,5 @@ use Rattle.lay_context.proofs.context_blocks.blocks_of.Given as goal
 abbrev pub invariant-loop-k : goal.invariant-loop-k
 invariant-loop-k l = record {
   count : length l.blocks.items ≡ l.k;
-  each : (k : ℕ) → k < l.k → block_at l.blocks.items k ≡ block_of_box l.boxes l.sizes k;
+  each : (k : ℕ) → k < l.k → block_at l.blocks.items k ≡ block_of_box l.input.boxes l.input.sizes l.input.inner k;
 }

@@ -6,5 +6,5 @@ use Rattle.lay_context.proofs.context_shapes.shapes_of.Given as goal
 abbrev pub invariant-loop-k : goal.invariant-loop-k
 invariant-loop-k l = record {
   count : length l.shapes.items ≡ l.k;
-  each : (k : ℕ) → k < l.k → shape_at l.shapes.items k ≡ shape_of_box l.boxes l.sizes l.lefts l.heights k;
+  each : (k : ℕ) → k < l.k → shape_at l.shapes.items k ≡ shape_of_box l.input.boxes l.input.sizes l.input.inner l.lefts k;
 }
