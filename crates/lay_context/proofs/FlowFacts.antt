@@ -31,7 +31,6 @@ use Rattle.lay_context.specs.ContextBoxes.{AreContextBoxes, is_inner, is_float}
 use Rattle.lay_context.specs.ContextSizes.{sizes_at}
 use Rattle.lay_context.specs.OwnBoxes.{OwnBoxFits, own_box_at, outside}
 use Rattle.lay_context.specs.ContextBlocks.{side_of, plain_block, solid_block, block_of_box, margin_height, margin_width, shape_beside, shape_of_box, AreBlocksOf, AreShapesOf}
-use Rattle.lay_context.specs.ContextPlaces.{no_lines}
 use Rattle.lay_context.specs.Inputs.{PlaceInput, PlaceInputFits}
 use Rattle.lay_context.specs.PlaceBounds.{AreNearLefts}
 use Rattle.lay_context.proofs.LeftSteps.{length-parents}
@@ -68,13 +67,12 @@ block_fits false false o z own fits = record {
   min_height = fits.min_height;
 }
 
-pub are_blocks : (i : PlaceInput) (blocks : List Block) → PlaceInputFits i → length i.boxes ≤ 16384 → AreBlocksOf i.boxes i.sizes i.inner blocks → AreBlocks (box_parents i.boxes) blocks (no_lines i.boxes)
+pub are_blocks : (i : PlaceInput) (blocks : List Block) → PlaceInputFits i → length i.boxes ≤ 16384 → AreBlocksOf i.boxes i.sizes i.inner blocks → AreBlocks (box_parents i.boxes) blocks
 are_blocks i blocks fits few made = record {
   some = omega (arith, fits.boxes.some, length-parents i.boxes);
   few = omega (arith, few, length-parents i.boxes);
   tree = fits.boxes.tree;
   block_count = made.count ∙ sym (length-parents i.boxes);
-  extent_count = length-no_lines i.boxes ∙ sym (length-parents i.boxes);
   block = λ k lt.
       let within : k < length i.boxes = omega (arith, length-parents i.boxes) in
       rw (made.each k within) (block_fits (is_float i.boxes k) (is_inner i.boxes k) (own_box_at i.inner k) (sizes_at i.sizes k)
@@ -172,9 +170,9 @@ shape_sizes i lefts shapes fits counted near made k lt =
         shape_fits i.boxes i.sizes i.inner lefts p (suc k) (fits.size_bounds p (omega (arith, fits.size_count))) own (near p (omega (arith, counted))) (near (suc k) (omega (arith, counted)))
 
 -- the height of the context's own border box is within its bounds
-pub own_height : (i : PlaceInput) (blocks : List Block) (shapes : List Shape) (given tops heights : List Length) (places : List Place) → PlaceInputFits i → AreBlocksOf i.boxes i.sizes i.inner blocks
-    → AreContextPlaces (box_parents i.boxes) blocks shapes given tops heights places → AreBoxHeights blocks heights → IsBoxHeight (length_at heights 0)
-own_height i blocks shapes given tops heights places fits made placed sized =
+pub own_height : (i : PlaceInput) (blocks : List Block) (shapes : List Shape) (tops heights : List Length) (places : List Place) → PlaceInputFits i → AreBlocksOf i.boxes i.sizes i.inner blocks
+    → AreContextPlaces (box_parents i.boxes) blocks shapes tops heights places → AreBoxHeights blocks heights → IsBoxHeight (length_at heights 0)
+own_height i blocks shapes tops heights places fits made placed sized =
     let counted : length heights ≡ length i.boxes = ap length placed.heights_are ∙ placed.is_flow.layout.has_positions.heights_length ∙ length-parents i.boxes in
     let plain : is_solid (block_at blocks 0).inside ≡ false = rw (made.each 0 fits.boxes.some, plain_inside i.boxes i.sizes i.inner 0 fits.boxes.own) refl in
     sized 0 (omega (arith, counted, fits.boxes.some)) plain

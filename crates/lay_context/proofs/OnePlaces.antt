@@ -19,7 +19,7 @@ use Rattle.lay_context.specs.ContextBoxes.{AreContextBoxes}
 use Rattle.lay_context.specs.ContextSizes.{sizes_at}
 use Rattle.lay_context.specs.OwnBoxes.{outside}
 use Rattle.lay_context.specs.ContextBlocks.{left_of_box, AreBlocksOf, HasLefts, AreShapesOf}
-use Rattle.lay_context.specs.ContextPlaces.{ContextPlaces, HasPlaces, no_lines, placement_of}
+use Rattle.lay_context.specs.ContextPlaces.{ContextPlaces, HasPlaces, placement_of}
 use Rattle.lay_context.specs.Laws.{OnePlacement}
 use Rattle.lay_context.proofs.LeftSteps.{length-parents}
 use Rattle.lay_context.proofs.FlowFacts.{are_shapes}
@@ -57,9 +57,9 @@ one_places boxes sizes inner p q are a b =
     let blocks = one_block_column boxes sizes inner a.blocks b.blocks a.are_blocks b.are_blocks in
     let shaped : AreShapesOf boxes sizes inner p.lefts b.shapes = rw lefts b.are_shapes in
     let shapes = one_shape_column boxes sizes inner p.lefts a.shapes b.shapes a.are_shapes shaped in
-    let placed : AreContextPlaces (box_parents boxes) a.blocks a.shapes (no_lines boxes) q.tops q.heights q.places = rw (blocks, shapes) b.are_places in
+    let placed : AreContextPlaces (box_parents boxes) a.blocks a.shapes q.tops q.heights q.places = rw (blocks, shapes) b.are_places in
     let there = are_shapes boxes sizes inner a.blocks p.lefts a.shapes are a.are_blocks a.are_shapes in
-    let same = flow_places_lem (box_parents boxes) a.blocks a.shapes (no_lines boxes) p.tops p.heights q.tops q.heights p.places q.places are.tree (omega (arith, are.some, length-parents boxes)) there a.are_places placed in
+    let same = flow_places_lem (box_parents boxes) a.blocks a.shapes p.tops p.heights q.tops q.heights p.places q.places are.tree (omega (arith, are.some, length-parents boxes)) there a.are_places placed in
     λ i. record { lefts = lefts i; tops = same.0 i; heights = same.1 i; places = same.2 i }
 
 pub one_placement_lem : OnePlacement

@@ -11,6 +11,7 @@ use Rattle.lay_doc.specs.declared.style_words.Clear.TheVariants as clear
 use Rattle.lay_doc.specs.ComputedStyle.{style_at}
 use Rattle.lay_boxgen.specs.declared.box_tree.BoxNode.{BoxNode}
 use Rattle.lay_boxgen.specs.BoxColumns.{box_parents, box_styles}
+use Rattle.lay_boxgen.specs.Roles.{clear_at}
 use Rattle.lay_floats.specs.declared.requests.Side.{Side}
 use Rattle.lay_floats.specs.declared.requests.Side.TheVariants as side
 use Rattle.lay_floats.specs.declared.requests.Clear.{Clear as Cleared}
@@ -103,7 +104,7 @@ shape_beside boxes sizes inner lefts p k =
     let o = outside boxes sizes inner k in
     record {
       float = if is_float boxes k then side_of s.float else None;
-      clear = cleared_sides s.clear;
+      clear = cleared_sides (clear_at boxes k);
       left = content_left lefts sizes p;
       right = record { 0 = (content_left lefts sizes p).0 +ℤ (sizes_at sizes p).widths.width.0 };
       x = record { 0 = length_at lefts k };

@@ -1,6 +1,6 @@
 -- Where the boxes of one context stand, counted from the corner of its own border box (CSS 2.2, 9.4.1 and 9.5), beside their
 -- used sizes and the boxes of inner contexts: the workings, and the answer that the context gives of them.
-use Rattle.std.specs.Prelude.{ℕ, zero, suc, ◌≡◌, ◌+ℤ◌, List, [], ◌∷◌, ◌++◌, length, map, slice_index, if◌then◌else◌}
+use Rattle.std.specs.Prelude.{ℕ, zero, suc, ◌≡◌, ◌+ℤ◌, List, [], ◌∷◌, ◌++◌, length, slice_index, if◌then◌else◌}
 use Rattle.lay_units.specs.declared.length.Unit.{Unit as Length}
 use Rattle.lay_frag.specs.declared.frag.Frag.{Frag}
 use Rattle.lay_frag.specs.declared.frag.FragKind.TheVariants.{Box}
@@ -30,10 +30,6 @@ pub record ContextPlaces : Type 0 where
   -- the places of floats and solid boxes
   pub places : List Place
 
--- no box holds lines yet
-abbrev pub no_lines : List BoxNode → List Length
-no_lines boxes = map (λ b. no_length) boxes
-
 -- these are the places beside the used sizes and the boxes of inner contexts
 pub record HasPlaces (boxes : List BoxNode) (sizes : List BoxSizes) (inner : List OwnBox) (p : ContextPlaces) : Type 0 where
   pub blocks : List Block
@@ -41,7 +37,7 @@ pub record HasPlaces (boxes : List BoxNode) (sizes : List BoxSizes) (inner : Lis
   pub has_lefts : HasLefts boxes sizes inner p.lefts
   pub are_blocks : AreBlocksOf boxes sizes inner blocks
   pub are_shapes : AreShapesOf boxes sizes inner p.lefts shapes
-  pub are_places : AreContextPlaces (box_parents boxes) blocks shapes (no_lines boxes) p.tops p.heights p.places
+  pub are_places : AreContextPlaces (box_parents boxes) blocks shapes p.tops p.heights p.places
 
 -- the corner of the border box of the box at k: a float stands with its margin box at its place, and a solid box with its
 -- border box

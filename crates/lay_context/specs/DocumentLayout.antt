@@ -57,7 +57,9 @@ is_right Floating float.Right = true
 is_right _ _ = false
 
 abbrev pub root_left : ContainingBlock → Style → BoxSizes → Length
-root_left viewport s z = if is_right (flow_of s) s.float then record { 0 = viewport.width.0 -ℤ z.widths.margin_right.0 -ℤ border_width z } else z.widths.margin_left
+root_left viewport s z =
+    if is_right (flow_of s) s.float then record { 0 = viewport.width.0 -ℤ z.widths.margin_right.0 -ℤ border_width z }
+    else z.widths.margin_left
 
 abbrev pub root_corner : ContainingBlock → Style → BoxSizes → Corner
 root_corner viewport s z = record { x = root_left viewport s z; y = z.margin_top }

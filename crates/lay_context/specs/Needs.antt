@@ -20,4 +20,6 @@ Needs contexts task needed = needs_by contexts task.phase task.context needed.ph
 -- the order in which tasks take their turns, of which there are two for each of n contexts: sizes from the first context to
 -- the last one, and then placements from the last to the first
 abbrev pub task_at : (n turn : ℕ) → Task
-task_at n turn = if nat_lt turn n then record { context = turn; phase = Size } else record { context = n + n - 1 - turn; phase = Place }
+task_at n turn =
+    if nat_lt turn n then record { context = turn; phase = Size }
+    else record { context = n + n - 1 - turn; phase = Place }

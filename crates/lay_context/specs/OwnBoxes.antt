@@ -14,14 +14,23 @@ use Rattle.lay_context.specs.ContextSizes.{sizes_at}
 
 -- the margins of a box
 abbrev pub margins_of : BoxSizes → Sides
-margins_of z = record { top = z.margin_top; right = z.widths.margin_right; bottom = z.margin_bottom; left = z.widths.margin_left }
+margins_of z = record {
+  top = z.margin_top;
+  right = z.widths.margin_right;
+  bottom = z.margin_bottom;
+  left = z.widths.margin_left;
+}
 
 -- a box of these used sizes and of this height
 abbrev pub own_box : BoxSizes → Length → OwnBox
 own_box z height = record { margin = margins_of z; width = record { 0 = border_width z }; height = height }
 
 abbrev pub no_own_box : OwnBox
-no_own_box = record { margin = record { top = no_length; right = no_length; bottom = no_length; left = no_length }; width = no_length; height = no_length }
+no_own_box = record {
+  margin = record { top = no_length; right = no_length; bottom = no_length; left = no_length };
+  width = no_length;
+  height = no_length;
+}
 
 abbrev pub own_box_at : List OwnBox → ℕ → OwnBox
 own_box_at inner k = slice_index_or inner k no_own_box

@@ -18,7 +18,8 @@ pub record HasCounts (contexts : List Context) (w : Workings) : Type 0 where
 pub record IsReady (contexts : List Context) (w : Workings) (task : Task) : Type 0 where
   pub within : task.context < length contexts
   pub counts : HasCounts contexts w
-  pub sized : (j : ℕ) → Needs contexts task (record { context = j; phase = Size }) → length (sizes_in w.sizes j) ≡ length (boxes_in contexts j)
+  pub sized : (j : ℕ) → Needs contexts task (record { context = j; phase = Size })
+      → length (sizes_in w.sizes j) ≡ length (boxes_in contexts j)
 
 -- the tasks before this turn are done
 pub record AreDoneTo (viewport : ContainingBlock) (contexts : List Context) (w : Workings) (turn : ℕ) : Type 0 where

@@ -39,7 +39,8 @@ context_of boxes p corner = record {
 -- the tree has these contexts, in their order
 pub record IsTreeOf (contexts : List Context) (places : List Placement) (corners : List Corner) (tree : List PageContext) : Type 0 where
   pub count : length tree ≡ length contexts
-  pub each : (i : ℕ) → i < length contexts → slice_get tree i ≡ Some (context_of (boxes_in contexts i) (placement_in places i) (corner_at corners i))
+  pub each : (i : ℕ) → i < length contexts
+      → slice_get tree i ≡ Some (context_of (boxes_in contexts i) (placement_in places i) (corner_at corners i))
 
 -- the tree is put together of the values of these contexts, each where it stands on the page
 pub record IsAssembled (viewport : ContainingBlock) (contexts : List Context) (sizes : List (List BoxSizes)) (places : List Placement) (tree : List PageContext) : Type 0 where
@@ -53,7 +54,8 @@ pub record SolvesContexts (viewport : ContainingBlock) (contexts : List Context)
   pub places : List Placement
   pub size_count : length sizes ≡ length contexts
   pub place_count : length places ≡ length contexts
-  pub has_sizes : (i : ℕ) → i < length contexts → HasSizes (outer_block viewport contexts sizes i) (boxes_in contexts i) (sizes_in sizes i)
+  pub has_sizes : (i : ℕ) → i < length contexts
+      → HasSizes (outer_block viewport contexts sizes i) (boxes_in contexts i) (sizes_in sizes i)
   pub has_places : (i : ℕ) → i < length contexts
       → IsPlacement (boxes_in contexts i) (sizes_in sizes i) (inner_boxes contexts places i) (placement_in places i)
   pub assembled : IsAssembled viewport contexts sizes places tree

@@ -7,12 +7,11 @@ ghost use Rattle.lay_boxgen.specs.BoxColumns.{box_parents, box_styles};
 ghost use Rattle.lay_flow.specs.Lengths.{length_at};
 ghost use Rattle.lay_context.specs.ContextSizes.{HaveSizeBounds, sizes_at};
 ghost use Rattle.lay_context.specs.OwnBoxes.{OwnBoxFits, OwnBoxesFit, outside, own_box_at};
-ghost use Rattle.lay_context.specs.ContextBoxes.{is_floating, is_float, is_inner};
-ghost use Rattle.lay_context.specs.ContextPlaces.{no_lines};
+ghost use Rattle.lay_context.specs.ContextBoxes.{is_inner};
 
-use lay_boxgen::{BoxNode, Flow, flow_of};
-use lay_doc::Style;
 use crate::outside::{OwnBox, own_box};
+use lay_boxgen::BoxNode;
+use lay_doc::Style;
 use lay_sizes::BoxSizes;
 use lay_units::{NoMemory, Unit};
 use std::alloc::Global;
@@ -50,25 +49,6 @@ pub(crate) fn is_inner(boxes: &[BoxNode], k: usize) -> bool
     boxes[k].inner
 }
 
-/// The box at k is that of an inner context which floats.
-pub(crate) fn is_float(boxes: &[BoxNode], k: usize) -> bool
-    requires { k < length boxes.now }
-    ensures { result ≡ is_float boxes.now k }
-{
-    let floats = is_floating(flow_of(style_at(boxes, k)));
-    is_inner(boxes, k) && floats
-}
-
-fn is_floating(flow: Flow) -> bool
-    ensures { result ≡ is_floating flow }
-{
-    match flow {
-        Flow::InFlow => false,
-        Flow::Floating => true,
-        Flow::Absolute => false,
-    }
-}
-
 pub(crate) fn sizes_at(sizes: &[BoxSizes], k: usize) -> BoxSizes
     requires { k < length sizes.now }
     ensures { result ≡ sizes_at sizes.now k }
@@ -84,12 +64,7 @@ pub(crate) fn length_at(column: &[Unit], k: usize) -> Unit
 }
 
 /// The box at k from outside, where these are the boxes of inner contexts.
-pub(crate) fn outside(
-    boxes: &[BoxNode],
-    sizes: &[BoxSizes],
-    inner: &[OwnBox],
-    k: usize,
-) -> OwnBox
+pub(crate) fn outside(boxes: &[BoxNode], sizes: &[BoxSizes], inner: &[OwnBox], k: usize) -> OwnBox
     requires boxes { k < length boxes.now }
     requires sizes { k < length sizes.now }
     requires inner { k < length inner.now }

@@ -8,9 +8,7 @@ ghost use Rattle.lay_context.specs.OwnBoxes.{OwnBoxFits};
 ghost use Rattle.lay_context.specs.ContextBlocks.{plain_block, solid_block, block_of_box, content_left, left_of_box, AreBlocksOf, HasLefts};
 ghost use Rattle.lay_context.specs.PlaceBounds.{AreNearLefts};
 
-use crate::box_columns::{
-    is_float, is_inner, length_at, outside, own_box_at, parent_at, sizes_at, sum_of,
-};
+use crate::box_columns::{is_inner, length_at, outside, own_box_at, parent_at, sizes_at, sum_of};
 use crate::input::PlaceInput;
 use crate::outside::OwnBox;
 use lay_flow::{Block, Inside};
@@ -34,11 +32,10 @@ fn block_of_box(input: &PlaceInput, k: usize) -> Block
     requires { k < length input.now.boxes }
     ensures { result ≡ block_of_box input.now.boxes input.now.sizes input.now.inner k }
 {
-    let boxes = input.boxes();
-    if is_float(boxes, k) {
+    if input.is_float(k) {
         return NO_BLOCK;
     }
-    if is_inner(boxes, k) {
+    if is_inner(input.boxes(), k) {
         return solid_block(own_box_at(input.inner(), k));
     }
     plain_block(sizes_at(input.sizes(), k))

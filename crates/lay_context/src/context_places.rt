@@ -56,8 +56,7 @@ pub(crate) fn context_places(alloc: Global, input: &PlaceInput) -> Result<BoxPla
     let blocks = blocks_of(alloc, input)?;
     let lefts = lefts_of(alloc, input)?;
     let shapes = shapes_of(alloc, input, &lefts)?;
-    let lines = no_lines(alloc, boxes)?;
-    let placed = place_blocks(alloc, &parents, &blocks, &shapes, &lines)?;
+    let placed = place_blocks(alloc, &parents, &blocks, &shapes)?;
     Ok(BoxPlaces {
         lefts,
         tops: placed.tops,

@@ -7,9 +7,7 @@ ghost use Rattle.lay_context.specs.OwnBoxes.{OwnBoxFits};
 ghost use Rattle.lay_context.specs.ContextBlocks.{AreShapesOf, cleared_sides, margin_height, margin_width, shape_beside, shape_of_box, side_of};
 ghost use Rattle.lay_context.specs.PlaceBounds.{AreNearLefts};
 
-use crate::box_columns::{
-    is_float, length_at, outside, parent_at, sizes_at, style_at, sum_of,
-};
+use crate::box_columns::{length_at, outside, parent_at, sizes_at, style_at, sum_of};
 use crate::context_blocks::content_left;
 use crate::input::PlaceInput;
 use crate::outside::OwnBox;
@@ -69,13 +67,13 @@ fn shape_beside(input: &PlaceInput, lefts: &[Unit], parent: usize, k: usize) -> 
     ensures { result ≡ shape_beside input.now.boxes input.now.sizes input.now.inner lefts.now parent k }
 {
     let boxes = input.boxes();
-    let floats = is_float(boxes, k);
+    let floats = input.is_float(k);
     let style = style_at(boxes, k);
     let own = outside(boxes, input.sizes(), input.inner(), k);
     let left = content_left(input, lefts, parent);
     Shape {
         float: float_side(floats, style.float),
-        clear: cleared_sides(style.clear),
+        clear: cleared_sides(input.clear(k)),
         left,
         right: content_right(left, sizes_at(input.sizes(), parent)),
         x: length_at(lefts, k),

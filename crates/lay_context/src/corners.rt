@@ -5,7 +5,7 @@ ghost use Rattle.lay_flow.specs.BlockFloats.{place_at};
 ghost use Rattle.lay_context.specs.ContextPlaces.{corner_of_box, corners_to};
 ghost use Rattle.lay_context.specs.PlaceBounds.{AreNearCorners, HaveCounts, IsCornerNear, IsNear};
 
-use crate::box_columns::{is_float, is_inner, length_at, own_box_at};
+use crate::box_columns::{is_inner, length_at, own_box_at};
 use crate::context_places::BoxPlaces;
 use crate::corner::Corner;
 use crate::input::PlaceInput;
@@ -48,11 +48,10 @@ pub(crate) fn corner_of_box(
     ensures corner { IfOk result (λ c. c ≡ corner_of_box input.now.boxes input.now.inner places.now k) }
     ensures near { IfOk result IsCornerNear }
 {
-    let boxes = input.boxes();
-    if is_float(boxes, k) {
+    if input.is_float(k) {
         return float_corner(place_at(&places.places, k), own_box_at(input.inner(), k));
     }
-    if is_inner(boxes, k) {
+    if is_inner(input.boxes(), k) {
         let place = place_at(&places.places, k);
         return near_corner(place.x, place.y);
     }

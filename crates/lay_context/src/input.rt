@@ -1,6 +1,8 @@
 //! What a task of a layout is given.
 
-ghost use Rattle.std.specs.Prelude.{◌≡◌};
+ghost use Rattle.std.specs.Prelude.{◌≡◌, ◌<◌, length};
+ghost use Rattle.lay_boxgen.specs.Roles.{clear_at};
+ghost use Rattle.lay_context.specs.ContextBoxes.{is_float};
 ghost use Rattle.lay_units.specs.Units.{IsPosition};
 ghost use Rattle.lay_context.specs.Inputs.{SizeInputFits, PlaceInputFits};
 
@@ -8,6 +10,7 @@ use crate::context_boxes::ContextBoxes;
 use crate::context_sizes::ContextSizes;
 use crate::outside::{OwnBox, OwnBoxes};
 use lay_boxgen::BoxNode;
+use lay_doc::Clear;
 use lay_sizes::{BoxSizes, ContainingBlock};
 use std::marker::Model;
 
@@ -92,6 +95,20 @@ impl PlaceInput {
         ensures fits { PlaceInputFits self.now }
     {
         self.boxes.as_slice()
+    }
+
+    pub(crate) fn is_float(&self, k: usize) -> bool
+        requires { k < length self.now.boxes }
+        ensures { result ≡ is_float self.now.boxes k }
+    {
+        self.boxes.is_float(k)
+    }
+
+    pub(crate) fn clear(&self, k: usize) -> Clear
+        requires { k < length self.now.boxes }
+        ensures { result ≡ clear_at self.now.boxes k }
+    {
+        self.boxes.clear(k)
     }
 
     pub(crate) fn sizes(&self) -> &[BoxSizes]

@@ -8,29 +8,29 @@
 //! a document has one tree.
 #![tactic(auto)]
 
-mod context_spot;
-mod context_boxes;
-mod contexts;
-mod context_list;
-mod task;
-mod input;
-mod outside;
-mod value;
+mod assembling;
 mod box_columns;
-mod context_sizes;
 mod context_blocks;
-mod context_shapes;
+mod context_boxes;
+mod context_list;
 mod context_places;
+mod context_shapes;
+mod context_sizes;
+mod context_spot;
+mod contexts;
 mod corner;
 mod corners;
+mod given;
+mod input;
+mod known;
+mod laws;
+mod layout;
+mod outside;
+mod page_corners;
 mod pieces;
 mod placing;
-mod known;
-mod given;
-mod page_corners;
-mod assembling;
-mod layout;
-mod laws;
+mod task;
+mod value;
 
 pub use laws::{
     enough_turns, inputs_come_of_needs, needs_come_first, one_context_sizes, one_placement,

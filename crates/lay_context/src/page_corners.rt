@@ -96,11 +96,7 @@ fn root_left(viewport: ContainingBlock, style: &Style, sizes: BoxSizes) -> Unit
     ensures { result ≡ root_left viewport style.now sizes }
 {
     if is_right(flow_of(style), style.float) {
-        return left_of_right(
-            viewport.width,
-            sizes.widths.margin_right,
-            near_width(sizes),
-        );
+        return left_of_right(viewport.width, sizes.widths.margin_right, near_width(sizes));
     }
     sizes.widths.margin_left
 }

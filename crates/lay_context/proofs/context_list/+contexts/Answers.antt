@@ -25,7 +25,7 @@ pub add_context-new-requires : goal.add_context-new-requires
 add_context-new-requires t c =
     let nodes = c.args.doc.now.nodes in
     let styles = c.args.computed.now in
-    let boxes = c.in_ok-tree.tree.boxes in
+    let boxes = c.in_ok-tree.tree in
     let are : boxes ≡ boxes_of_place nodes styles c.args.spot.place = search rules in
     let some : 0 < length boxes = search rules in
     rw are (context_boxes nodes styles c.args.spot.place (rw are at some))

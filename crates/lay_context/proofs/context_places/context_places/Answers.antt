@@ -6,7 +6,7 @@ pub place_blocks-requires-clause-blocks : goal.place_blocks-requires-clause-bloc
 place_blocks-requires-clause-blocks c =
     let counted = ap length c.boxes-boxes.ensures.boxes in
     let few : length c.args.input.now.boxes ≤ 16384 = omega (arith, counted) in
-    rw (c.deref-2.ensures.value, c.deref-3.ensures.value, c.deref-5.ensures.value, c.in_ok-parents.ensures, c.in_ok-lines.ensures, c.boxes-boxes.ensures.boxes)
+    rw (c.deref-2.ensures.value, c.deref-3.ensures.value, c.in_ok-parents.ensures, c.boxes-boxes.ensures.boxes)
     (are_blocks c.args.input.now c.in_ok-blocks.blocks.items c.boxes-boxes.ensures.fits few c.in_ok-blocks.ensures)
 
 pub place_blocks-requires-clause-shapes : goal.place_blocks-requires-clause-shapes
@@ -25,7 +25,7 @@ place_blocks-requires-clause-sizes c =
 pub returns-clause-own : goal.returns-clause-own
 returns-clause-own c =
     let placed = c.in_ok-placed.ensures {u = tt} in
-    let places = rw (c.deref-2.ensures.value, c.deref-3.ensures.value, c.deref-4.ensures.value, c.deref-5.ensures.value, c.in_ok-parents.ensures, c.boxes-boxes.ensures.boxes) at placed.places in
+    let places = rw (c.deref-2.ensures.value, c.deref-3.ensures.value, c.deref-4.ensures.value, c.in_ok-parents.ensures, c.boxes-boxes.ensures.boxes) at placed.places in
     let sized = rw c.deref-3.ensures.value at placed.sized in
-    own_height c.args.input.now c.in_ok-blocks.blocks.items c.in_ok-shapes.shapes.items c.in_ok-lines.lines.items c.in_ok-placed.placed.tops.items c.in_ok-placed.placed.heights.items c.in_ok-placed.placed.places.items
+    own_height c.args.input.now c.in_ok-blocks.blocks.items c.in_ok-shapes.shapes.items c.in_ok-placed.placed.tops.items c.in_ok-placed.placed.heights.items c.in_ok-placed.placed.places.items
     c.boxes-boxes.ensures.fits c.in_ok-blocks.ensures places sized
