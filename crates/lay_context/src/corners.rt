@@ -48,10 +48,11 @@ pub(crate) fn corner_of_box(
     ensures corner { IfOk result (λ c. c ≡ corner_of_box input.now.boxes input.now.inner places.now k) }
     ensures near { IfOk result IsCornerNear }
 {
+    let boxes = input.boxes();
     if input.is_float(k) {
         return float_corner(place_at(&places.places, k), own_box_at(input.inner(), k));
     }
-    if is_inner(input.boxes(), k) {
+    if is_inner(boxes, k) {
         let place = place_at(&places.places, k);
         return near_corner(place.x, place.y);
     }
