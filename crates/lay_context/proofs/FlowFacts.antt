@@ -17,16 +17,17 @@ use Rattle.lay_flow.specs.FlowPlaces.{AreNearPlaces, IsFlowOf, box_place_at}
 use Rattle.lay_flow.specs.Lengths.{length_at}
 use Rattle.lay_flow.proofs.BoxTrees.{parent_is, parents_length}
 use Rattle.lay_sizes.specs.declared.sizing.BoxSizes.{BoxSizes}
-use Rattle.lay_context.specs.ContextSizes.{sizes_at}
+use Rattle.lay_context.specs.declared.outside.OwnBox.{OwnBox}
+use Rattle.lay_context.specs.ContextBoxes.{AreContextBoxes, is_inner}
+use Rattle.lay_context.specs.ContextSizes.{HaveSizeBounds, sizes_at}
+use Rattle.lay_context.specs.OwnBoxes.{OwnBoxFits, OwnBoxesFit, own_box_at}
 use Rattle.lay_units.specs.Units.{IsUsedSize}
 use Rattle.lay_units.specs.declared.records.Len.{Len}
 use Rattle.lay_units.specs.declared.records.Len.TheVariants as len
 use Rattle.lay_flow.specs.BlockPositions.{given_or_auto}
 use Rattle.lay_sizes.specs.SizeBounds.{SizeFits, IsUsedSizeOrAuto}
-use Rattle.lay_context.specs.SizeBounds.{HaveSizeBounds}
-use Rattle.lay_context.specs.ContextBlocks.{AreFlowBoxesOf, block_box, cleared_by, float_side, flow_box_of, inner_box, is_inner}
-use Rattle.lay_context.specs.ContextOrder.{AreContextBoxes}
-use Rattle.lay_context.specs.PlaceBounds.{AreNearLefts, HaveBoxHeights}
+use Rattle.lay_context.specs.ContextBlocks.{AreFlowBoxesOf, block_box, cleared_by, float_side, flow_box_of, inner_box}
+use Rattle.lay_context.specs.PlaceBounds.{AreNearLefts}
 use Rattle.lay_context.proofs.LeftSteps.{length-parents}
 
 -- a height that is given is a used size
@@ -34,26 +35,26 @@ given_fits : (height : Len) → IsUsedSizeOrAuto height → IsUsedSize (given_or
 given_fits len.Auto fits = (omega (arith, ints), omega (arith, ints))
 given_fits (len.Of v) fits = fits
 
-inner_fits : (side : Option Side) (clear : Cleared) (z : BoxSizes) (left height : Length) → SizeFits z → IsWithin (pos 562949953421312) left.0 → IsBoxSize height.0 → KindFits (inner_box side clear z left height)
-inner_fits None clear z left height fits near sized = record {
+inner_fits : (side : Option Side) (clear : Cleared) (o : OwnBox) (left : Length) → OwnBoxFits o → IsWithin (pos 562949953421312) left.0 → KindFits (inner_box side clear o left)
+inner_fits None clear o left own near = record {
   x = near;
-  margin = record { top = fits.margin_top; bottom = fits.margin_bottom };
-  width = (omega (arith, ints, fits.width.0, fits.left.0, fits.right.0), omega (arith, ints, fits.width.1, fits.left.1, fits.right.1));
-  height = sized;
+  margin = record { top = own.margin_top; bottom = own.margin_bottom };
+  width = own.width;
+  height = own.height;
 }
-inner_fits (Some side) clear z left height fits near sized = record {
-  margin_top = fits.margin_top;
-  margin_right = fits.margin_right;
-  margin_bottom = fits.margin_bottom;
-  margin_left = fits.margin_left;
-  width = (omega (arith, ints, fits.width.0, fits.left.0, fits.right.0), omega (arith, ints, fits.width.1, fits.left.1, fits.right.1));
-  height = sized;
+inner_fits (Some side) clear o left own near = record {
+  margin_top = own.margin_top;
+  margin_right = own.margin_right;
+  margin_bottom = own.margin_bottom;
+  margin_left = own.margin_left;
+  width = own.width;
+  height = own.height;
 }
 
-kind_fits : (inner : Bool) (side : Option Side) (clear : Cleared) (z : BoxSizes) (left height : Length) → SizeFits z → IsWithin (pos 562949953421312) left.0 → IsBoxSize height.0
-    → KindFits (if inner then inner_box side clear z left height else block_box clear z left)
-kind_fits true side clear z left height fits near sized = inner_fits side clear z left height fits near sized
-kind_fits false side clear z left height fits near sized = record {
+kind_fits : (inner : Bool) (side : Option Side) (clear : Cleared) (o : OwnBox) (z : BoxSizes) (left : Length) → OwnBoxFits o → SizeFits z → IsWithin (pos 562949953421312) left.0
+    → KindFits (if inner then inner_box side clear o left else block_box clear z left)
+kind_fits true side clear o z left own fits near = inner_fits side clear o left own near
+kind_fits false side clear o z left own fits near = record {
   x = near;
   margin = record { top = fits.margin_top; bottom = fits.margin_bottom };
   inset_top = fits.top;
@@ -64,7 +65,7 @@ kind_fits false side clear z left height fits near sized = record {
   min_height = fits.min_height;
 }
 
-module _ (boxes : List BoxNode) (sizes : List BoxSizes) (lefts heights : List Length) (flow_boxes : List FlowBox) (are : AreContextBoxes boxes) (of : AreFlowBoxesOf boxes sizes lefts heights flow_boxes) where
+module _ (boxes : List BoxNode) (sizes : List BoxSizes) (inner : List OwnBox) (lefts : List Length) (flow_boxes : List FlowBox) (are : AreContextBoxes boxes) (of : AreFlowBoxesOf boxes sizes inner lefts flow_boxes) where
   within : (k : ℕ) → k < length flow_boxes → k < length boxes
   within k lt = omega (arith, lt, of.count)
 
@@ -103,15 +104,15 @@ module _ (boxes : List BoxNode) (sizes : List BoxSizes) (lefts heights : List Le
         (own_block (slice_index (box_parents boxes) k) (omega (arith, less, lt)) (are.parents k positive (within k lt)));
   }
 
-  pub are_flow_boxes : length boxes ≤ 16384 → length sizes ≡ length boxes → HaveSizeBounds sizes → length lefts ≡ length boxes → AreNearLefts lefts → length heights ≡ length boxes → HaveBoxHeights heights → AreFlowBoxes flow_boxes
-  are_flow_boxes few sizes_counted bounds lefts_counted near heights_counted sized = record {
+  pub are_flow_boxes : length boxes ≤ 16384 → length sizes ≡ length boxes → HaveSizeBounds sizes → length inner ≡ length boxes → OwnBoxesFit inner → length lefts ≡ length boxes → AreNearLefts lefts → AreFlowBoxes flow_boxes
+  are_flow_boxes few sizes_counted bounds inner_counted inner_bounds lefts_counted near = record {
     is_tree = is_flow_tree;
     few = omega (arith, few, of.count);
     fits = λ k lt.
         let there = within k lt in
         subst (λ (b : FlowBox). KindFits b.kind) (sym (of.each k there))
-        (kind_fits (is_inner boxes k) (float_side boxes k) (cleared_by boxes k) (sizes_at sizes k) (record { 0 = length_at lefts k }) (record { 0 = length_at heights k })
-        (bounds k (omega (arith, there, sizes_counted))) (near k (omega (arith, there, lefts_counted))) (sized k (omega (arith, there, heights_counted))));
+        (kind_fits (is_inner boxes k) (float_side boxes k) (cleared_by boxes k) (own_box_at inner k) (sizes_at sizes k) (record { 0 = length_at lefts k })
+        (inner_bounds k (omega (arith, there, inner_counted))) (bounds k (omega (arith, there, sizes_counted))) (near k (omega (arith, there, lefts_counted))));
   }
 
 -- the height of the context's own border box is within its bounds

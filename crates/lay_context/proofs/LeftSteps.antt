@@ -10,9 +10,11 @@ use Rattle.lay_boxgen.specs.BoxColumns.{box_parents}
 use Rattle.lay_floats.specs.Within.{IsWithin}
 use Rattle.lay_flow.specs.Lengths.{length_at}
 use Rattle.lay_sizes.specs.declared.sizing.BoxSizes.{BoxSizes}
-use Rattle.lay_context.specs.ContextSizes.{sizes_at}
+use Rattle.lay_context.specs.declared.outside.OwnBox.{OwnBox}
+use Rattle.lay_context.specs.ContextSizes.{HaveSizeBounds, sizes_at}
+use Rattle.lay_context.specs.OwnBoxes.{OwnBoxFits, OwnBoxesFit, outside}
+use Rattle.lay_context.proofs.OutsideFacts.{outside_fits}
 use Rattle.lay_sizes.specs.SizeBounds.{SizeFits}
-use Rattle.lay_context.specs.SizeBounds.{HaveSizeBounds}
 use Rattle.lay_context.specs.ContextBlocks.{left_of_box, HasLefts}
 use Rattle.lay_context.specs.PlaceBounds.{AreNearLefts}
 
@@ -21,9 +23,9 @@ abbrev pub IsLeftNear : ℕ → ℤ → Type 0
 IsLeftNear k v = IsWithin (pos (6442450944 * k)) v
 
 -- the boxes before n have their left border edges
-pub record LeftsTo (boxes : List BoxNode) (sizes : List BoxSizes) (lefts : List Length) (n : ℕ) : Type 0 where
+pub record LeftsTo (boxes : List BoxNode) (sizes : List BoxSizes) (inner : List OwnBox) (lefts : List Length) (n : ℕ) : Type 0 where
   pub count : length lefts ≡ n
-  pub each : (k : ℕ) → k < n → length_at lefts k ≡ (left_of_box boxes sizes lefts k).0
+  pub each : (k : ℕ) → k < n → length_at lefts k ≡ (left_of_box boxes sizes inner lefts k).0
   pub near : (k : ℕ) → k < n → IsLeftNear k (length_at lefts k)
 
 pub length-parents : (boxes : List BoxNode) → length (box_parents boxes) ≡ length boxes
@@ -42,40 +44,40 @@ parent_before boxes k tree within =
     omega arith
 
 -- the left border edge of a box rests on those before it alone
-left_before : (boxes : List BoxNode) (sizes : List BoxSizes) (ls : List Length) (l : Length) (k : ℕ) → IsTree (box_parents boxes) → k < length boxes → k ≤ length ls
-    → (left_of_box boxes sizes (ls ++ l ∷ []) k).0 ≡ (left_of_box boxes sizes ls k).0
-left_before boxes sizes ls l zero tree within known = refl
-left_before boxes sizes ls l (suc k) tree within known =
+left_before : (boxes : List BoxNode) (sizes : List BoxSizes) (inner : List OwnBox) (ls : List Length) (l : Length) (k : ℕ) → IsTree (box_parents boxes) → k < length boxes → k ≤ length ls
+    → (left_of_box boxes sizes inner (ls ++ l ∷ []) k).0 ≡ (left_of_box boxes sizes inner ls k).0
+left_before boxes sizes inner ls l zero tree within known = refl
+left_before boxes sizes inner ls l (suc k) tree within known =
     let p : ℕ = slice_index (box_parents boxes) (suc k) in
     let before = parent_before boxes k tree within in
     let same = read_before ls l p (omega arith) in
-    ap (λ (v : ℤ). v +ℤ (sizes_at sizes p).edges.left.0 +ℤ (sizes_at sizes (suc k)).widths.margin_left.0) same
+    ap (λ (v : ℤ). v +ℤ (sizes_at sizes p).edges.left.0 +ℤ (outside boxes sizes inner (suc k)).margin.left.0) same
 
 step_near : (p k : ℕ) (left edge margin : ℤ) → p ≤ k → IsLeftNear p left → IsWithin (pos 4294967296) edge → IsWithin (pos 2147483648) margin → IsLeftNear (suc k) (left +ℤ edge +ℤ margin)
 step_near p k left edge margin before near inset used = (omega (arith, ints, near.0, inset.0, used.0), omega (arith, ints, near.1, inset.1, used.1))
 
-pub left_near : (boxes : List BoxNode) (sizes : List BoxSizes) (ls : List Length) (n : ℕ) → IsTree (box_parents boxes) → length sizes ≡ length boxes → HaveSizeBounds sizes → n < length boxes → LeftsTo boxes sizes ls n
-    → IsLeftNear n (left_of_box boxes sizes ls n).0
-left_near boxes sizes ls zero tree counted bounds within so_far = (omega (arith, ints), omega (arith, ints))
-left_near boxes sizes ls (suc k) tree counted bounds within so_far =
+pub left_near : (boxes : List BoxNode) (sizes : List BoxSizes) (inner : List OwnBox) (ls : List Length) (n : ℕ) → IsTree (box_parents boxes) → length sizes ≡ length boxes → length inner ≡ length boxes → HaveSizeBounds sizes → OwnBoxesFit inner → n < length boxes → LeftsTo boxes sizes inner ls n
+    → IsLeftNear n (left_of_box boxes sizes inner ls n).0
+left_near boxes sizes inner ls zero tree counted inner_counted bounds inner_bounds within so_far = (omega (arith, ints), omega (arith, ints))
+left_near boxes sizes inner ls (suc k) tree counted inner_counted bounds inner_bounds within so_far =
     let p : ℕ = slice_index (box_parents boxes) (suc k) in
     let before = parent_before boxes k tree within in
     let outer : SizeFits (sizes_at sizes p) = bounds p (omega (arith, counted)) in
-    let own : SizeFits (sizes_at sizes (suc k)) = bounds (suc k) (omega (arith, counted)) in
-    step_near p k (length_at ls p) (sizes_at sizes p).edges.left.0 (sizes_at sizes (suc k)).widths.margin_left.0 before (so_far.near p (omega arith))
+    let own = outside_fits boxes sizes inner (suc k) (bounds (suc k) (omega (arith, counted))) (inner_bounds (suc k) (omega (arith, inner_counted))) in
+    step_near p k (length_at ls p) (sizes_at sizes p).edges.left.0 (outside boxes sizes inner (suc k)).margin.left.0 before (so_far.near p (omega arith))
     (omega (arith, ints, outer.left.0), omega (arith, ints, outer.left.1)) own.margin_left
 
 -- with one more the boxes before n + 1 have their left border edges
-pub one_more : (boxes : List BoxNode) (sizes : List BoxSizes) (ls : List Length) (n : ℕ) (l : Length) → IsTree (box_parents boxes) → length sizes ≡ length boxes → HaveSizeBounds sizes → n < length boxes
-    → LeftsTo boxes sizes ls n → l ≡ left_of_box boxes sizes ls n → LeftsTo boxes sizes (ls ++ l ∷ []) (n + 1)
-one_more boxes sizes ls n l tree counted bounds within so_far is =
-    let near = left_near boxes sizes ls n tree counted bounds within so_far in
+pub one_more : (boxes : List BoxNode) (sizes : List BoxSizes) (inner : List OwnBox) (ls : List Length) (n : ℕ) (l : Length) → IsTree (box_parents boxes) → length sizes ≡ length boxes → length inner ≡ length boxes → HaveSizeBounds sizes → OwnBoxesFit inner → n < length boxes
+    → LeftsTo boxes sizes inner ls n → l ≡ left_of_box boxes sizes inner ls n → LeftsTo boxes sizes inner (ls ++ l ∷ []) (n + 1)
+one_more boxes sizes inner ls n l tree counted inner_counted bounds inner_bounds within so_far is =
+    let near = left_near boxes sizes inner ls n tree counted inner_counted bounds inner_bounds within so_far in
     record {
       count = grind (arith, elements, so_far.count);
       each = λ k lt. elim (cases_lt k n) [
-        | inl low ↦ read_before ls l k (omega (arith, so_far.count)) ∙ so_far.each k low ∙ sym (left_before boxes sizes ls l k tree (omega arith) (omega (arith, so_far.count)))
+        | inl low ↦ read_before ls l k (omega (arith, so_far.count)) ∙ so_far.each k low ∙ sym (left_before boxes sizes inner ls l k tree (omega arith) (omega (arith, so_far.count)))
         | inr high ↦ (let q : k ≡ n = omega arith in
-            rw q (read_last ls l n (sym so_far.count) ∙ ap (λ (x : Length). x.0) is ∙ sym (left_before boxes sizes ls l n tree within (omega (arith, so_far.count)))))
+            rw q (read_last ls l n (sym so_far.count) ∙ ap (λ (x : Length). x.0) is ∙ sym (left_before boxes sizes inner ls l n tree within (omega (arith, so_far.count)))))
       ];
       near = λ k lt. elim (cases_lt k n) [
         | inl low ↦ (let r = read_before ls l k (omega (arith, so_far.count)) in rw r (so_far.near k low))
@@ -84,10 +86,10 @@ one_more boxes sizes ls n l tree counted bounds within so_far is =
     }
 
 -- all of at most 16384 are near
-pub near_lefts : (boxes : List BoxNode) (sizes : List BoxSizes) (ls : List Length) (n : ℕ) → n ≤ 16384 → LeftsTo boxes sizes ls n → AreNearLefts ls
-near_lefts boxes sizes ls n few so_far k lt =
+pub near_lefts : (boxes : List BoxNode) (sizes : List BoxSizes) (inner : List OwnBox) (ls : List Length) (n : ℕ) → n ≤ 16384 → LeftsTo boxes sizes inner ls n → AreNearLefts ls
+near_lefts boxes sizes inner ls n few so_far k lt =
     let near = so_far.near k (omega (arith, so_far.count)) in
     (omega (arith, ints, near.0, so_far.count), omega (arith, ints, near.1, so_far.count))
 
-pub all_lefts : (boxes : List BoxNode) (sizes : List BoxSizes) (ls : List Length) (n : ℕ) → n ≡ length boxes → LeftsTo boxes sizes ls n → HasLefts boxes sizes ls
-all_lefts boxes sizes ls n e so_far = record { count = so_far.count ∙ e; each = λ k lt. so_far.each k (omega arith) }
+pub all_lefts : (boxes : List BoxNode) (sizes : List BoxSizes) (inner : List OwnBox) (ls : List Length) (n : ℕ) → n ≡ length boxes → LeftsTo boxes sizes inner ls n → HasLefts boxes sizes inner ls
+all_lefts boxes sizes inner ls n e so_far = record { count = so_far.count ∙ e; each = λ k lt. so_far.each k (omega arith) }

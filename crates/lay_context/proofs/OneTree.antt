@@ -1,21 +1,31 @@
--- Two workings that meet the equations of a document are equal, column by column, and so are their trees.
-use Rattle.std.proofs.Common.{◌≡◌, ℕ, suc, ◌<◌, List, [], ◌∷◌, length, refl, sym, ◌∙◌, arith, slice_get}
+-- Two workings that meet the equations of a document are equal, task by task in their order, and so are their trees.
+use Rattle.std.proofs.Common.{◌≡◌, ℕ, zero, suc, ◌+◌, ◌<◌, ◌≤◌, List, [], ◌∷◌, length, refl, sym, ap, subst, ◌∙◌, arith, slice_get, inl, inr}
+use Rattle.std.proofs.lemmas.Bool.{cases_lt}
 use Rattle.lay_doc.specs.Document.{parents_of}
 use Rattle.lay_doc.specs.ComputedStyle.{declarations_of}
-use Rattle.lay_doc.proofs.OneStyles.{one_style_column_lem}
-use Rattle.lay_frag.specs.Pieces.{Context}
-use Rattle.lay_boxgen.specs.declared.box_tree.BoxNode.{BoxNode}
+use Rattle.lay_doc.proofs.OneStyles.{one_style_column_lem, same_list}
+use Rattle.lay_frag.specs.Pieces.{Context as PageContext}
+use Rattle.lay_sizes.specs.declared.sizing.BoxSizes.{BoxSizes}
 use Rattle.lay_sizes.specs.declared.sizing.ContainingBlock.{ContainingBlock}
-use Rattle.lay_context.specs.declared.context_spot.ContextSpot.{ContextSpot}
-use Rattle.lay_context.specs.ContextList.{document_spots, boxes_of_spots}
-use Rattle.lay_context.specs.ContextOrder.{AreInOrder}
-use Rattle.lay_context.specs.DocumentLayout.{HasDocumentPlaces, HasPageCorners}
+use Rattle.lay_context.specs.declared.task.Phase.{Phase}
+use Rattle.lay_context.specs.declared.task.Phase.TheVariants.{Size, Place}
+use Rattle.lay_context.specs.declared.task.Task.{Task}
+use Rattle.lay_context.specs.declared.input.Input.{Input}
+use Rattle.lay_context.specs.declared.value.Value.TheVariants as value
+use Rattle.lay_context.specs.Contexts.{Context, AreContexts, boxes_in}
+use Rattle.lay_context.specs.ContextList.{AreContextsOf}
+use Rattle.lay_context.specs.ContextPlaces.{Placement}
+use Rattle.lay_context.specs.DocumentLayout.{HasPageCorners, inner_boxes, no_placement, outer_block, placement_in, sizes_in}
+use Rattle.lay_context.specs.Needs.{task_at}
+use Rattle.lay_context.specs.Local.{Workings, IsLocal, IsTaskDone, input_by, input_of, value_by, value_of}
 use Rattle.lay_context.specs.Solves.{SolvesContexts, viewport_of}
-use Rattle.lay_context.specs.Laws.{OneSolution}
-use Rattle.lay_context.proofs.OneSizes.{one_document_sizes_lem}
-use Rattle.lay_context.proofs.OneDocument.{one_document_places_lem}
-use Rattle.lay_context.proofs.SpotOrder.{are_in_order}
-use Rattle.lay_context.proofs.OneCorners.{one_page_corners_lem}
+use Rattle.lay_context.specs.Laws.{HadTurn, OneSolution}
+use Rattle.lay_context.proofs.ContextNumbers.{are_contexts, one_context_list}
+use Rattle.lay_context.proofs.OneCorners.{one_corner_column}
+use Rattle.lay_context.proofs.OnePlaces.{one_placement_lem}
+use Rattle.lay_context.proofs.OneSizes.{one_context_sizes_lem}
+use Rattle.lay_context.proofs.TaskInputs.{inputs_come_of_needs_lem, place_value, size_value}
+use Rattle.lay_context.proofs.TaskOrder.{had_place_turn, had_size_turn, needs_come_first_lem, task_within}
 
 same_members : {X : Type 0} (xs ys : List X) → length xs ≡ length ys → ((k : ℕ) → k < length xs → slice_get xs k ≡ slice_get ys k) → xs ≡ ys
 same_members [] [] e same = refl
@@ -27,21 +37,70 @@ same_members (x ∷ xs) (y ∷ ys) e same =
     let tail : xs ≡ ys = same_members xs ys (omega arith) (λ k lt. same (suc k) (omega arith)) in
     rw (head, tail) refl
 
--- two trees of the same contexts are equal
-one_tree : (viewport : ContainingBlock) (spots : List ContextSpot) (boxes : List (List BoxNode)) (s t : List Context) → AreInOrder spots boxes → SolvesContexts viewport spots boxes s → SolvesContexts viewport spots boxes t → s ≡ t
-one_tree viewport spots boxes s t order a b =
-    let sizes = one_document_sizes_lem viewport spots boxes a.sizes b.sizes order a.has_sizes b.has_sizes in
-    let placed : HasDocumentPlaces spots boxes a.sizes b.places = rw sizes b.has_places in
-    let places = one_document_places_lem spots boxes a.sizes a.places b.places order a.has_places placed in
-    let cornered : HasPageCorners viewport spots boxes a.sizes a.places b.corners = rw (sizes, places) b.has_corners in
-    let corners = one_page_corners_lem viewport spots boxes a.sizes a.places a.corners b.corners order a.has_corners cornered in
-    same_members s t (a.tree_is.count ∙ sym b.tree_is.count) (λ i lt. (let x = a.tree_is.each i (omega (arith, a.tree_is.count)) in let y = b.tree_is.each i (omega (arith, a.tree_is.count)) in
-    x ∙ (rw (sizes, places, corners) refl) ∙ sym y))
+abbrev workings_of : List (List BoxSizes) → List Placement → Workings
+workings_of sizes places = record { sizes = sizes; places = places }
+
+module _ (viewport : ContainingBlock) (contexts : List Context) (are : AreContexts contexts) where
+  -- all tasks are done with these values
+  abbrev AllDone : Workings → Type 0
+  AllDone w = (task : Task) → task.context < length contexts → IsTaskDone viewport contexts w task
+
+  all_done : (tree : List PageContext) (s : SolvesContexts viewport contexts tree) → AllDone (workings_of s.sizes s.places)
+  all_done tree s task lt = by task.phase task.context lt
+    where
+      by : (phase : Phase) (i : ℕ) → i < length contexts → IsTaskDone viewport contexts (workings_of s.sizes s.places) (record { context = i; phase = phase })
+      by Size i lt = s.has_sizes i lt
+      by Place i lt = s.has_places i lt
+
+  -- a task has one value, where it is given the same
+  by_phase : (v w : Workings) (phase : Phase) (i : ℕ) → i < length contexts → IsLocal (input_by viewport contexts v phase i) (value_by v phase i) → IsLocal (input_by viewport contexts v phase i) (value_by w phase i)
+      → value_by v phase i ≡ value_by w phase i
+  by_phase v w Size i lt a b = ap value.Size (one_context_sizes_lem (outer_block viewport contexts v.sizes i) (boxes_in contexts i) (sizes_in v.sizes i) (sizes_in w.sizes i) (are.boxes i lt) a b)
+  by_phase v w Place i lt a b =
+      ap value.Place (one_placement_lem (boxes_in contexts i) (sizes_in v.sizes i) (inner_boxes contexts v.places i) (placement_in v.places i) (placement_in w.places i) (are.boxes i lt) a b)
+
+  one_value : (v w : Workings) (task : Task) → task.context < length contexts → IsTaskDone viewport contexts v task → IsTaskDone viewport contexts w task
+      → input_of viewport contexts v task ≡ input_of viewport contexts w task → value_of v task ≡ value_of w task
+  one_value v w task lt a b same = by_phase v w task.phase task.context lt a (subst (λ (i : Input). IsLocal i (value_of w task)) (sym same) b)
+
+  -- values agree turn by turn, since what a task needs had its turn before
+  agree : (v w : Workings) → AllDone v → AllDone w → (m : ℕ) → m ≤ length contexts + length contexts → (turn : ℕ) → turn < m → value_of v (task_at (length contexts) turn) ≡ value_of w (task_at (length contexts) turn)
+  agree v w a b zero le turn lt = absurd (omega arith)
+  agree v w a b (suc m) le turn lt = elim (cases_lt turn m) [
+    | inl low ↦ agree v w a b m (omega arith) turn low
+    | inr high ↦ (let t : Task = task_at (length contexts) turn in
+        let there = task_within (length contexts) turn (omega arith) in
+        let given = inputs_come_of_needs_lem viewport contexts v w t (λ needed needs.
+        (let had = needs_come_first_lem contexts turn needed are (omega arith) needs in
+        subst (λ (u : Task). value_of v u ≡ value_of w u) had.is (agree v w a b m (omega arith) had.turn (omega (arith, had.earlier, lt))))) in
+        one_value v w t there (a t there) (b t there) given)
+  ]
+
+  agree_at : (v w : Workings) → AllDone v → AllDone w → (task : Task) → HadTurn (length contexts) (length contexts + length contexts) task → value_of v task ≡ value_of w task
+  agree_at v w a b task had = subst (λ (u : Task). value_of v u ≡ value_of w u) had.is (agree v w a b (length contexts + length contexts) (omega arith) had.turn had.earlier)
+
+  -- two trees of the same contexts are equal
+  pub one_tree : (s t : List PageContext) → SolvesContexts viewport contexts s → SolvesContexts viewport contexts t → s ≡ t
+  one_tree s t a b =
+      let v : Workings = workings_of a.sizes a.places in
+      let w : Workings = workings_of b.sizes b.places in
+      let sizes : a.sizes ≡ b.sizes = same_list [] a.sizes b.sizes (a.size_count ∙ sym b.size_count) (λ i lt.
+      (let there : i < length contexts = omega (arith, a.size_count) in
+      size_value (sizes_in a.sizes i) (sizes_in b.sizes i) (agree_at v w (all_done s a) (all_done t b) (record { context = i; phase = Size }) (had_size_turn (length contexts) i there)))) in
+      let places : a.places ≡ b.places = same_list no_placement a.places b.places (a.place_count ∙ sym b.place_count) (λ i lt.
+      (let there : i < length contexts = omega (arith, a.place_count) in
+      place_value (placement_in a.places i) (placement_in b.places i) (agree_at v w (all_done s a) (all_done t b) (record { context = i; phase = Place }) (had_place_turn (length contexts) i there)))) in
+      let x = a.assembled in
+      let y = b.assembled in
+      let cornered : HasPageCorners viewport contexts a.sizes a.places y.corners = rw (sizes, places) y.has_corners in
+      let corners = one_corner_column viewport contexts a.sizes a.places are x.corners y.corners x.has_corners cornered in
+      same_members s t (x.tree_is.count ∙ sym y.tree_is.count) (λ i lt.
+      (let p = x.tree_is.each i (omega (arith, x.tree_is.count)) in let q = y.tree_is.each i (omega (arith, x.tree_is.count)) in p ∙ (rw (places, corners) refl) ∙ sym q))
 
 pub one_solution_lem : OneSolution
 one_solution_lem d s t is a b =
     let styles = one_style_column_lem (parents_of d.nodes) (declarations_of d.nodes) a.styles b.styles is.tree a.has_styles b.has_styles in
-    let spots : List ContextSpot = document_spots d.nodes a.styles in
-    let boxes : List (List BoxNode) = boxes_of_spots d.nodes a.styles spots in
-    let other : SolvesContexts (viewport_of d) spots boxes t = rw styles b.solves_contexts in
-    one_tree (viewport_of d) spots boxes s t (are_in_order d.nodes a.styles) a.solves_contexts other
+    let listed : AreContextsOf d.nodes a.styles b.contexts = rw styles b.are_contexts in
+    let contexts = one_context_list d.nodes a.styles a.contexts b.contexts a.are_contexts listed in
+    let other : SolvesContexts (viewport_of d) a.contexts t = rw contexts b.solves_contexts in
+    one_tree (viewport_of d) a.contexts (are_contexts d.nodes a.styles a.contexts a.are_contexts) s t a.solves_contexts other

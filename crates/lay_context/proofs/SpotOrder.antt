@@ -11,24 +11,25 @@ use Rattle.lay_boxgen.specs.Parts.{part}
 use Rattle.lay_boxgen.proofs.BoxForests.{boxes_are_a_tree_lem}
 use Rattle.lay_boxgen.proofs.ListedLeaves.{inner_boxes_are_leaves_lem}
 use Rattle.lay_context.specs.declared.context_spot.ContextSpot.{ContextSpot}
-use Rattle.lay_context.specs.ContextList.{boxes_in, boxes_of_place, boxes_of_spots, context_spots, document_spots, if_found, inner_spots, no_spot, spot_at, with_inner}
-use Rattle.lay_context.specs.ContextOrder.{AreContextBoxes, AreInOrder}
+use Rattle.lay_context.specs.ContextList.{boxes_at, boxes_of_place, boxes_of_spots, context_spots, document_spots, if_found, inner_spots, no_spot, spot_at, with_inner}
+use Rattle.lay_context.specs.ContextOrder.{AreInOrder}
+use Rattle.lay_context.specs.ContextBoxes.{AreContextBoxes}
 
 module _ (nodes : List Node) (styles : List Style) where
   -- the boxes of the context with this number
-  abbrev boxes_at : List ContextSpot → ℕ → List BoxNode
-  boxes_at spots i = boxes_of_place nodes styles (spot_at spots i).place
+  abbrev boxes_here : List ContextSpot → ℕ → List BoxNode
+  boxes_here spots i = boxes_of_place nodes styles (spot_at spots i).place
 
   -- each context but the first has its box in one before it, and each has boxes
   record SpotsInOrder (spots : List ContextSpot) : Type 0 where
     around : (i : ℕ) → 0 < i → i < length spots → (spot_at spots i).around < i
-    within : (i : ℕ) → 0 < i → i < length spots → (spot_at spots i).at < length (boxes_at spots (spot_at spots i).around)
-    some : (i : ℕ) → i < length spots → 0 < length (boxes_at spots i)
+    within : (i : ℕ) → 0 < i → i < length spots → (spot_at spots i).at < length (boxes_here spots (spot_at spots i).around)
+    some : (i : ℕ) → i < length spots → 0 < length (boxes_here spots i)
 
   -- behind these contexts there is one with a box at this place, unless there is none yet
   record HasBoxAt (spots : List ContextSpot) (around at : ℕ) : Type 0 where
     before : 0 < length spots → around < length spots
-    within : 0 < length spots → at < length (boxes_at spots around)
+    within : 0 < length spots → at < length (boxes_here spots around)
 
   read_before : (ss ts : List ContextSpot) (k : ℕ) → k < length ss → spot_at (ss ++ ts) k ≡ spot_at ss k
   read_before ss ts k lt = grind (arith, elements)
@@ -69,7 +70,7 @@ module _ (nodes : List Node) (styles : List Style) where
   own_in_order spots around keeps false o at ss so_far there = subst SpotsInOrder (sym (append-nil ss)) so_far
 
   inner_in_order : (spots : (place at number : ℕ) → List ContextSpot) (around : ℕ) → KeepsOrder spots around → (boxes : List BoxNode) (at : ℕ) (ss : List ContextSpot) → SpotsInOrder ss
-      → around < length ss → at + length boxes ≤ length (boxes_at ss around) → SpotsInOrder (ss ++ inner_spots spots (ids_of nodes) at (length ss) boxes)
+      → around < length ss → at + length boxes ≤ length (boxes_here ss around) → SpotsInOrder (ss ++ inner_spots spots (ids_of nodes) at (length ss) boxes)
   inner_in_order spots around keeps [] at ss so_far before fits = subst SpotsInOrder (sym (append-nil ss)) so_far
   inner_in_order spots around keeps (b ∷ boxes) at ss so_far before fits =
       let own : List ContextSpot = if b.inner then if_found (place_of b.node.0 (ids_of nodes)) (λ place. spots place at (length ss)) else [] in
@@ -77,7 +78,7 @@ module _ (nodes : List Node) (styles : List Style) where
       let with_own : SpotsInOrder (ss ++ own) = own_in_order spots around keeps b.inner (place_of b.node.0 (ids_of nodes)) at ss so_far there in
       let counted = length-append ss own in
       let same = read_before ss own around before in
-      let fits_on : (at + 1) + length boxes ≤ length (boxes_at (ss ++ own) around) = rw same (omega (arith, fits)) in
+      let fits_on : (at + 1) + length boxes ≤ length (boxes_here (ss ++ own) around) = rw same (omega (arith, fits)) in
       let all = inner_in_order spots around keeps boxes (at + 1) (ss ++ own) with_own (omega (arith, counted, before)) fits_on in
       rw (← append_assoc ss own (inner_spots spots (ids_of nodes) (at + 1) (length ss + length own) boxes), ← counted) all
 
@@ -99,7 +100,7 @@ module _ (nodes : List Node) (styles : List Style) where
           let with_spot = one_more ss spot so_far there has_boxes in
           let counted = length_push ss spot in
           let same = read_last ss spot (length ss) refl in
-          let fits : 0 + length (boxes_of_place nodes styles place) ≤ length (boxes_at (ss ++ spot ∷ []) (length ss)) = rw same (omega arith) in
+          let fits : 0 + length (boxes_of_place nodes styles place) ≤ length (boxes_here (ss ++ spot ∷ []) (length ss)) = rw same (omega arith) in
           let all = inner_in_order (λ p a n. context_spots nodes styles turns p (length ss) a n) (length ss) keeps (boxes_of_place nodes styles place) 0 (ss ++ spot ∷ []) with_spot (omega (arith, counted)) fits in
           rw (← append_assoc ss (spot ∷ []) inner, ← counted) all
 
@@ -109,12 +110,12 @@ module _ (nodes : List Node) (styles : List Style) where
   document_in_order : SpotsInOrder (document_spots nodes styles)
   document_in_order = context_in_order (length nodes) 0 0 0 [] none_in_order (record { before = λ lt. absurd (omega arith); within = λ lt. absurd (omega arith) })
 
-  context_boxes : (place : ℕ) → 0 < length (boxes_of_place nodes styles place) → AreContextBoxes (boxes_of_place nodes styles place)
+  pub context_boxes : (place : ℕ) → 0 < length (boxes_of_place nodes styles place) → AreContextBoxes (boxes_of_place nodes styles place)
   context_boxes place some =
       let leaves = inner_boxes_are_leaves_lem nodes styles place in
       record { some = some; tree = boxes_are_a_tree_lem nodes styles (part nodes styles place); own = leaves.own; parents = leaves.parents }
 
-  boxes_there : (spots : List ContextSpot) (i : ℕ) → i < length spots → boxes_in (boxes_of_spots nodes styles spots) i ≡ boxes_at spots i
+  boxes_there : (spots : List ContextSpot) (i : ℕ) → i < length spots → boxes_at (boxes_of_spots nodes styles spots) i ≡ boxes_here spots i
   boxes_there spots i lt = get_or-map (λ (s : ContextSpot). boxes_of_place nodes styles s.place) spots i no_spot [] lt
 
   pub are_in_order : AreInOrder (document_spots nodes styles) (boxes_of_spots nodes styles (document_spots nodes styles))

@@ -2,36 +2,34 @@
 use Rattle.std.proofs.Common.{◌≡◌, ℕ, ◌+◌, ◌*◌, ◌<◌, ◌≤◌, List, [], ◌∷◌, ◌++◌, length, sym, ◌∙◌, ap, arith, inl, inr, subst, Some, slice_get, IfSome, length-append}
 use Rattle.std.proofs.lemmas.Bool.{cases_lt}
 use Rattle.std.proofs.lemmas.Grind.{elements}
-use Rattle.lay_frag.specs.Pieces.{Context, frags_of, page_pieces, IsContextInRange, IsTreeInRange}
+use Rattle.lay_frag.specs.Pieces.{Context as PageContext, frags_of, page_pieces, IsContextInRange, IsTreeInRange}
 use Rattle.lay_frag.proofs.PieceLemmas.{length-page_pieces}
-use Rattle.lay_boxgen.specs.declared.box_tree.BoxNode.{BoxNode}
-use Rattle.lay_sizes.specs.declared.sizing.BoxSizes.{BoxSizes}
 use Rattle.lay_context.specs.declared.corner.Corner.{Corner}
-use Rattle.lay_context.specs.ContextList.{boxes_in}
-use Rattle.lay_context.specs.ContextPlaces.{ContextPlaces}
-use Rattle.lay_context.specs.DocumentLayout.{sizes_in, places_in, corner_at}
+use Rattle.lay_context.specs.Contexts.{Context, boxes_in}
+use Rattle.lay_context.specs.ContextPlaces.{Placement}
+use Rattle.lay_context.specs.DocumentLayout.{placement_in, corner_at}
 use Rattle.lay_context.specs.Solves.{context_of, IsTreeOf}
 
 -- the first n contexts are these, are in range, and have at most 16384 pieces each
-pub record TreeTo (of : ℕ → Context) (tree : List Context) (n : ℕ) : Type 0 where
+pub record TreeTo (of : ℕ → PageContext) (tree : List PageContext) (n : ℕ) : Type 0 where
   pub count : length tree ≡ n
   pub each : (i : ℕ) → i < n → slice_get tree i ≡ Some (of i)
   pub range : (i : ℕ) → i < n → IfSome (slice_get tree i) IsContextInRange
   pub few : length (frags_of tree) ≤ 16384 * n
 
-read_before : (cs : List Context) (c : Context) (k : ℕ) → k < length cs → slice_get (cs ++ c ∷ []) k ≡ slice_get cs k
+read_before : (cs : List PageContext) (c : PageContext) (k : ℕ) → k < length cs → slice_get (cs ++ c ∷ []) k ≡ slice_get cs k
 read_before cs c k lt = grind (arith, elements)
 
-read_last : (cs : List Context) (c : Context) (k : ℕ) → k ≡ length cs → slice_get (cs ++ c ∷ []) k ≡ Some c
+read_last : (cs : List PageContext) (c : PageContext) (k : ℕ) → k ≡ length cs → slice_get (cs ++ c ∷ []) k ≡ Some c
 read_last cs c k is = grind (arith, elements)
 
-frags-append : (cs : List Context) (c : Context) → length (frags_of (cs ++ c ∷ [])) ≡ length (frags_of cs) + length c.pieces
+frags-append : (cs : List PageContext) (c : PageContext) → length (frags_of (cs ++ c ∷ [])) ≡ length (frags_of cs) + length c.pieces
 frags-append [] c = omega (arith, length-page_pieces c, length-append (page_pieces c) [])
 frags-append (x ∷ xs) c =
     let rest = frags-append xs c in
     omega (arith, rest, length-append (page_pieces x) (frags_of (xs ++ c ∷ [])), length-append (page_pieces x) (frags_of xs))
 
-pub one_more : (of : ℕ → Context) (cs : List Context) (n : ℕ) (c : Context) → TreeTo of cs n → c ≡ of n → IsContextInRange c → length c.pieces ≤ 16384 → TreeTo of (cs ++ c ∷ []) (n + 1)
+pub one_more : (of : ℕ → PageContext) (cs : List PageContext) (n : ℕ) (c : PageContext) → TreeTo of cs n → c ≡ of n → IsContextInRange c → length c.pieces ≤ 16384 → TreeTo of (cs ++ c ∷ []) (n + 1)
 one_more of cs n c so_far is range few = record {
   count = grind (arith, elements, so_far.count);
   each = λ i lt. elim (cases_lt i n) [
@@ -45,12 +43,12 @@ one_more of cs n c so_far is range few = record {
   few = omega (arith, so_far.few, frags-append cs c, few);
 }
 
-pub tree_in_range : (of : ℕ → Context) (tree : List Context) (n : ℕ) → n ≤ 16384 → TreeTo of tree n → IsTreeInRange tree
+pub tree_in_range : (of : ℕ → PageContext) (tree : List PageContext) (n : ℕ) → n ≤ 16384 → TreeTo of tree n → IsTreeInRange tree
 tree_in_range of tree n few so_far = record {
   contexts = λ j lt. so_far.range j (omega (arith, lt, so_far.count));
   few = omega (arith, so_far.few, few);
 }
 
-pub all_contexts : (boxes : List (List BoxNode)) (sizes : List (List BoxSizes)) (places : List ContextPlaces) (corners : List Corner) (tree : List Context) (n : ℕ) → n ≡ length boxes
-    → TreeTo (λ i. context_of (boxes_in boxes i) (sizes_in sizes i) (places_in places i) (corner_at corners i)) tree n → IsTreeOf boxes sizes places corners tree
-all_contexts boxes sizes places corners tree n e so_far = record { count = so_far.count ∙ e; each = λ i lt. so_far.each i (omega (arith, e, lt)) }
+pub all_contexts : (contexts : List Context) (places : List Placement) (corners : List Corner) (tree : List PageContext) (n : ℕ) → n ≡ length contexts
+    → TreeTo (λ i. context_of (boxes_in contexts i) (placement_in places i) (corner_at corners i)) tree n → IsTreeOf contexts places corners tree
+all_contexts contexts places corners tree n e so_far = record { count = so_far.count ∙ e; each = λ i lt. so_far.each i (omega (arith, e, lt)) }

@@ -7,7 +7,7 @@
 -- For example, a root has two floats, and in the first one is another. There are four contexts: the root's with the number 0,
 -- those of the first float and of the float in it with 1 and 2, and that of the second float with 3. The second float's box is
 -- at the place 2 in the context 0, behind the root's own box and that of the first float.
-use Rattle.std.specs.Prelude.{ℕ, zero, suc, ◌+◌, List, [], ◌∷◌, ◌++◌, length, map, slice_index_or, Option, Some, None, if◌then◌else◌}
+use Rattle.std.specs.Prelude.{ℕ, zero, suc, ◌≡◌, ◌+◌, ◌<◌, ◌==◌, ◌&&◌, List, [], ◌∷◌, ◌++◌, length, map, slice_index, slice_index_or, Option, Some, None, if◌then◌else◌}
 use Rattle.lay_doc.specs.declared.node.Node.{Node}
 use Rattle.lay_doc.specs.declared.style.Style.{Style}
 use Rattle.lay_doc.specs.Document.{ids_of, place_of}
@@ -15,6 +15,7 @@ use Rattle.lay_boxgen.specs.declared.box_tree.BoxNode.{BoxNode}
 use Rattle.lay_boxgen.specs.Parts.{part}
 use Rattle.lay_boxgen.specs.Listing.{listed_part}
 use Rattle.lay_context.specs.declared.context_spot.ContextSpot.{ContextSpot}
+use Rattle.lay_context.specs.Contexts.{Context, context_at}
 
 -- the boxes of the context of the node at a place
 abbrev pub boxes_of_place : List Node → List Style → ℕ → List BoxNode
@@ -60,9 +61,32 @@ spot_at spots i = slice_index_or spots i no_spot
 abbrev pub boxes_of_spots : List Node → List Style → List ContextSpot → List (List BoxNode)
 boxes_of_spots nodes styles spots = map (λ s. boxes_of_place nodes styles s.place) spots
 
-abbrev pub boxes_in : List (List BoxNode) → ℕ → List BoxNode
-boxes_in contexts i = slice_index_or contexts i []
+abbrev pub boxes_at : List (List BoxNode) → ℕ → List BoxNode
+boxes_at boxes i = slice_index_or boxes i []
 
--- the boxes in a list of trees of them
-abbrev pub boxes_of_trees : List (List BoxNode) → List (List BoxNode)
-boxes_of_trees trees = trees
+-- where the box of a context stands
+abbrev pub spot_of : Context → ContextSpot
+spot_of c = record { place = c.place; around = c.outer; at = c.outer_box }
+
+-- the number of the context, one of the first n, whose box stands in the context `outer` at this place, and 0 where none does
+abbrev pub number_before : List ContextSpot → (n outer box : ℕ) → ℕ
+number_before spots zero outer box = 0
+number_before spots (suc n) outer box =
+    if (spot_at spots n).around == outer && (spot_at spots n).at == box then n else number_before spots n outer box
+
+-- this is the context with the number i, in which the numbers of inner contexts below n are noted
+pub record IsNumberedTo (spots : List ContextSpot) (boxes : List (List BoxNode)) (c : Context) (n i : ℕ) : Type 0 where
+  pub spot : spot_of c ≡ spot_at spots i
+  pub boxes_are : c.boxes ≡ boxes_at boxes i
+  pub count : length c.inner ≡ length c.boxes
+  pub inner : (k : ℕ) → k < length c.boxes → slice_index c.inner k ≡ number_before spots n i k
+
+pub record AreNumberedTo (spots : List ContextSpot) (boxes : List (List BoxNode)) (contexts : List Context) (n : ℕ) : Type 0 where
+  pub count : length contexts ≡ length spots
+  pub each : (i : ℕ) → i < length contexts → IsNumberedTo spots boxes (context_at contexts i) n i
+
+-- these are the contexts of a document, with their boxes
+abbrev pub AreContextsOf : List Node → List Style → List Context → Type 0
+AreContextsOf nodes styles contexts =
+    let spots = document_spots nodes styles in
+    AreNumberedTo spots (boxes_of_spots nodes styles spots) contexts (length spots)

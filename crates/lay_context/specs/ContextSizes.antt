@@ -1,6 +1,6 @@
 -- The used sizes of the boxes of one context, from outer to inner ones (CSS 2.2, 10.1): the containing block of a box is
--- the content box of its parent box. That of the context's own box is given.
-use Rattle.std.specs.Prelude.{ℕ, zero, suc, ◌≡◌, ◌<◌, List, length, slice_index, slice_index_or, None}
+-- the content box of its parent box. That of the context's own box is given. The boxes of inner contexts are sized there.
+use Rattle.std.specs.Prelude.{ℕ, zero, suc, ◌≡◌, ◌<◌, true, false, List, length, slice_index, slice_index_or, None}
 use Rattle.lay_units.specs.declared.records.Len.TheVariants.{Auto as auto}
 use Rattle.lay_units.specs.declared.records.Sides.{Sides}
 use Rattle.lay_widths.specs.declared.widths.BlockOut.{BlockOut}
@@ -16,6 +16,8 @@ use Rattle.lay_sizes.specs.declared.sizing.ContainingBlock.{ContainingBlock}
 use Rattle.lay_sizes.specs.declared.sizing.WidthRule.{WidthRule}
 use Rattle.lay_sizes.specs.declared.sizing.WidthRule.TheVariants.{Fills, ShrinksToFit}
 use Rattle.lay_sizes.specs.BoxSizes.{IsSized, content_block}
+use Rattle.lay_sizes.specs.SizeBounds.{SizeFits}
+use Rattle.lay_context.specs.ContextBoxes.{is_inner}
 
 -- Which rule gives a box its width (10.3.3 and 10.3.5). Of a float the preferred widths of its content aren't known yet, and
 -- count as 0.
@@ -31,7 +33,15 @@ abbrev pub no_edges : Sides
 no_edges = record { top = no_length; right = no_length; bottom = no_length; left = no_length }
 
 abbrev pub no_sizes : BoxSizes
-no_sizes = record { widths = no_widths; edges = no_edges; margin_top = no_length; margin_bottom = no_length; height = auto; min_height = no_length; max_height = None }
+no_sizes = record {
+  widths = no_widths;
+  edges = no_edges;
+  margin_top = no_length;
+  margin_bottom = no_length;
+  height = auto;
+  min_height = no_length;
+  max_height = None;
+}
 
 abbrev pub sizes_at : List BoxSizes → ℕ → BoxSizes
 sizes_at sizes k = slice_index_or sizes k no_sizes
@@ -40,7 +50,16 @@ abbrev pub containing_block : ContainingBlock → List ℕ → List BoxSizes →
 containing_block outer parents sizes zero = outer
 containing_block outer parents sizes (suc k) = content_block (sizes_at sizes (slice_index parents (suc k)))
 
--- each box has its used sizes
+-- these are the used sizes of the box at k, beside its containing block
+abbrev pub IsBoxSized : ContainingBlock → List BoxNode → ℕ → BoxSizes → Type 0
+IsBoxSized containing boxes k z = let s = style_at (box_styles boxes) k in IsSized containing (width_rule (flow_of s)) s z
+
+-- each box has its used sizes, and those of inner contexts have none here
 pub record HasSizes (outer : ContainingBlock) (boxes : List BoxNode) (sizes : List BoxSizes) : Type 0 where
   pub count : length sizes ≡ length boxes
-  pub each : (k : ℕ) → k < length boxes → IsSized (containing_block outer (box_parents boxes) sizes k) (width_rule (flow_of (style_at (box_styles boxes) k))) (style_at (box_styles boxes) k) (sizes_at sizes k)
+  pub each : (k : ℕ) → k < length boxes → is_inner boxes k ≡ false
+      → IsBoxSized (containing_block outer (box_parents boxes) sizes k) boxes k (sizes_at sizes k)
+  pub inner : (k : ℕ) → k < length boxes → is_inner boxes k ≡ true → sizes_at sizes k ≡ no_sizes
+
+abbrev pub HaveSizeBounds : List BoxSizes → Type 0
+HaveSizeBounds sizes = (k : ℕ) → k < length sizes → SizeFits (sizes_at sizes k)

@@ -1,31 +1,24 @@
 -- Within which bounds the places in one context are, and how long its columns are.
-use Rattle.std.specs.Prelude.{ℕ, ◌<◌, ◌≡◌, ℤ, pos, List, length, slice_get, IfSome}
+use Rattle.std.specs.Prelude.{ℕ, ◌^◌, ◌<◌, ◌≤◌, ◌≡◌, ℤ, pos, List, length, slice_get, IfSome}
 use Rattle.lay_units.specs.declared.length.Unit.{Unit as Length}
 use Rattle.lay_units.specs.declared.records.Rect.{Rect}
 use Rattle.lay_boxgen.specs.declared.box_tree.BoxNode.{BoxNode}
 use Rattle.lay_frag.specs.declared.frag.Frag.{Frag}
 use Rattle.lay_floats.specs.Within.{IsWithin}
-use Rattle.lay_flow.specs.BlockSizes.{IsBoxSize}
 use Rattle.lay_flow.specs.Lengths.{length_at}
-use Rattle.lay_sizes.specs.declared.sizing.BoxSizes.{BoxSizes}
 use Rattle.lay_context.specs.declared.corner.Corner.{Corner}
-use Rattle.lay_context.specs.ContextList.{boxes_in}
-use Rattle.lay_context.specs.ContextPlaces.{ContextPlaces}
-use Rattle.lay_context.specs.DocumentLayout.{sizes_in, places_in, corner_at}
+use Rattle.lay_context.specs.OwnBoxes.{OwnBoxFits}
+use Rattle.lay_context.specs.ContextPlaces.{ContextPlaces, Placement}
+use Rattle.lay_context.specs.DocumentLayout.{corner_at}
 
 -- each column has an entry for each box
-pub record HaveCounts (boxes : List BoxNode) (sizes : List BoxSizes) (p : ContextPlaces) : Type 0 where
-  pub size_count : length sizes ≡ length boxes
+pub record HaveCounts (boxes : List BoxNode) (p : ContextPlaces) : Type 0 where
   pub left_count : length p.lefts ≡ length boxes
   pub place_count : length p.places ≡ length boxes
 
 -- the left border edges are at most 2^49 units away
 abbrev pub AreNearLefts : List Length → Type 0
 AreNearLefts lefts = (k : ℕ) → k < length lefts → IsWithin (pos 562949953421312) (length_at lefts k)
-
--- the heights are those of border boxes
-abbrev pub HaveBoxHeights : List Length → Type 0
-HaveBoxHeights heights = (k : ℕ) → k < length heights → IsBoxSize (length_at heights k)
 
 -- at most 2^60 units from 0
 abbrev pub IsNear : ℤ → Type 0
@@ -47,8 +40,9 @@ AreNearPieces pieces = (k : ℕ) → k < length pieces → IfSome (slice_get pie
 abbrev pub AreNearCorners : List Corner → Type 0
 AreNearCorners corners = (i : ℕ) → i < length corners → IsCornerNear (corner_at corners i)
 
--- each context has columns with an entry for each of its boxes
-pub record HaveDocumentCounts (boxes : List (List BoxNode)) (sizes : List (List BoxSizes)) (places : List ContextPlaces) : Type 0 where
-  pub size_count : length sizes ≡ length boxes
-  pub place_count : length places ≡ length boxes
-  pub each : (i : ℕ) → i < length boxes → HaveCounts (boxes_in boxes i) (sizes_in sizes i) (places_in places i)
+-- what a context answers is near
+pub record PlacementFits (p : Placement) : Type 0 where
+  pub own : OwnBoxFits p.own
+  pub pieces : AreNearPieces p.pieces
+  pub few : length p.pieces ≤ 16384
+  pub corners : AreNearCorners p.corners

@@ -1,21 +1,19 @@
 //! Reading the columns of one context's boxes.
 
-ghost use Rattle.std.specs.Prelude.{◌≡◌, ◌+ℤ◌, ◌<◌, length, slice_index, IfOk};
+ghost use Rattle.std.specs.Prelude.{◌≡◌, ◌+ℤ◌, ◌<◌, length, slice_index};
 ghost use Rattle.lay_units.specs.Units.{IsPosition};
 ghost use Rattle.lay_doc.specs.ComputedStyle.{style_at};
 ghost use Rattle.lay_boxgen.specs.BoxColumns.{box_parents, box_styles};
 ghost use Rattle.lay_flow.specs.Lengths.{length_at};
-ghost use Rattle.lay_sizes.specs.BoxSizes.{border_width};
-ghost use Rattle.lay_sizes.specs.SizeBounds.{SizeFits};
-ghost use Rattle.lay_context.specs.ContextSizes.{sizes_at};
-ghost use Rattle.lay_context.specs.ContextBlocks.{is_floating, is_float, is_inner};
-ghost use Rattle.lay_context.specs.PlaceBounds.{IsNear};
+ghost use Rattle.lay_context.specs.ContextSizes.{HaveSizeBounds, sizes_at};
+ghost use Rattle.lay_context.specs.OwnBoxes.{OwnBoxFits, OwnBoxesFit, outside, own_box_at};
+ghost use Rattle.lay_context.specs.ContextBoxes.{is_inner};
 
-use lay_boxgen::{BoxNode, Flow, flow_of};
+use crate::outside::{OwnBox, own_box};
+use lay_boxgen::BoxNode;
 use lay_doc::Style;
 use lay_sizes::BoxSizes;
-use lay_units::{NoMemory, Unit};
-use std::alloc::Global;
+use lay_units::Unit;
 
 pub(crate) fn parent_at(boxes: &[BoxNode], k: usize) -> usize
     requires { k < length boxes.now }
@@ -39,25 +37,6 @@ pub(crate) fn is_inner(boxes: &[BoxNode], k: usize) -> bool
     boxes[k].inner
 }
 
-/// The box at k is that of an inner context which floats.
-pub(crate) fn is_float(boxes: &[BoxNode], k: usize) -> bool
-    requires { k < length boxes.now }
-    ensures { result ≡ is_float boxes.now k }
-{
-    let floats = is_floating(flow_of(style_at(boxes, k)));
-    is_inner(boxes, k) && floats
-}
-
-fn is_floating(flow: Flow) -> bool
-    ensures { result ≡ is_floating flow }
-{
-    match flow {
-        Flow::InFlow => false,
-        Flow::Floating => true,
-        Flow::Absolute => false,
-    }
-}
-
 pub(crate) fn sizes_at(sizes: &[BoxSizes], k: usize) -> BoxSizes
     requires { k < length sizes.now }
     ensures { result ≡ sizes_at sizes.now k }
@@ -72,13 +51,27 @@ pub(crate) fn length_at(column: &[Unit], k: usize) -> Unit
     column[k]
 }
 
-/// The width of a border box.
-pub(crate) fn border_width(sizes: BoxSizes) -> Unit
-    requires { SizeFits sizes }
-    ensures value { result ≡ record { 0 = border_width sizes } }
-    ensures near { IsNear result.0 }
+/// The box at k from outside, where these are the boxes of inner contexts.
+pub(crate) fn outside(boxes: &[BoxNode], sizes: &[BoxSizes], inner: &[OwnBox], k: usize) -> OwnBox
+    requires boxes { k < length boxes.now }
+    requires sizes { k < length sizes.now }
+    requires inner { k < length inner.now }
+    requires size_bounds { HaveSizeBounds sizes.now }
+    requires inner_bounds { OwnBoxesFit inner.now }
+    ensures value { result ≡ outside boxes.now sizes.now inner.now k }
+    ensures fits { OwnBoxFits result }
 {
-    lay_sizes::border_width(&sizes)
+    if is_inner(boxes, k) {
+        return own_box_at(inner, k);
+    }
+    own_box(sizes_at(sizes, k), Unit(0))
+}
+
+pub(crate) fn own_box_at(inner: &[OwnBox], k: usize) -> OwnBox
+    requires { k < length inner.now }
+    ensures { result ≡ own_box_at inner.now k }
+{
+    inner[k]
 }
 
 /// The sum of two positions.

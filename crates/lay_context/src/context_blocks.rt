@@ -2,77 +2,68 @@
 
 ghost use Rattle.std.specs.Prelude.{◌≡◌, ◌<◌, ◌≤◌, ◌+ℤ◌, pos, length, IfOk};
 ghost use Rattle.lay_units.specs.Units.{IsPosition};
-ghost use Rattle.lay_doc.specs.Tree.{IsTree};
-ghost use Rattle.lay_boxgen.specs.BoxColumns.{box_parents};
 ghost use Rattle.lay_floats.specs.Within.{IsWithin};
 ghost use Rattle.lay_sizes.specs.SizeBounds.{SizeFits};
-ghost use Rattle.lay_context.specs.SizeBounds.{HaveSizeBounds};
+ghost use Rattle.lay_context.specs.OwnBoxes.{OwnBoxFits};
 ghost use Rattle.lay_context.specs.ContextBlocks.{content_left, left_of_box, HasLefts};
 ghost use Rattle.lay_context.specs.PlaceBounds.{AreNearLefts};
 
-use crate::box_columns::{length_at, parent_at, sizes_at, sum_of};
-use lay_boxgen::BoxNode;
+use crate::box_columns::{length_at, outside, parent_at, sizes_at, sum_of};
+use crate::input::PlaceInput;
+use crate::outside::OwnBox;
 use lay_sizes::BoxSizes;
 use lay_units::{NoMemory, Unit};
 use std::alloc::Global;
 
 /// The left border edges of boxes in flow, where no float is beside them, from outer to inner boxes.
-pub(crate) fn lefts_of(
-    alloc: Global,
-    boxes: &[BoxNode],
-    sizes: &[BoxSizes],
-) -> Result<Vec<Unit>, NoMemory>
-    requires few { length boxes.now ≤ 16384 }
-    requires tree { IsTree (box_parents boxes.now) }
-    requires sizes { length sizes.now ≡ length boxes.now }
-    requires bounds { HaveSizeBounds sizes.now }
-    ensures lefts { IfOk result (λ v. HasLefts boxes.now sizes.now v.items) }
+pub(crate) fn lefts_of(alloc: Global, input: &PlaceInput) -> Result<Vec<Unit>, NoMemory>
+    requires few { length input.now.boxes ≤ 16384 }
+    ensures lefts { IfOk result (λ v. HasLefts input.now.boxes input.now.sizes input.now.inner v.items) }
     ensures near { IfOk result (λ v. AreNearLefts v.items) }
 {
+    let boxes = input.boxes();
     let mut lefts = Vec::with_capacity(alloc, boxes.len())?;
     for k in 0..boxes.len() {
-        let left = left_of_box(boxes, sizes, &lefts, k);
+        let left = left_of_box(input, &lefts, k);
         lefts.push(left)?;
     }
     Ok(lefts)
 }
 
 /// The left border edge of the box at k, where those before it are known.
-fn left_of_box(boxes: &[BoxNode], sizes: &[BoxSizes], lefts: &[Unit], k: usize) -> Unit
-    requires boxes { k < length boxes.now }
-    requires tree { IsTree (box_parents boxes.now) }
-    requires sizes { length sizes.now ≡ length boxes.now }
-    requires bounds { HaveSizeBounds sizes.now }
+fn left_of_box(input: &PlaceInput, lefts: &[Unit], k: usize) -> Unit
+    requires place { k < length input.now.boxes }
     requires known { length lefts.now ≡ k }
     requires near { AreNearLefts lefts.now }
-    ensures { result ≡ left_of_box boxes.now sizes.now lefts.now k }
+    ensures { result ≡ left_of_box input.now.boxes input.now.sizes input.now.inner lefts.now k }
 {
     if k == 0 {
         return Unit(0);
     }
-    let content = content_left(lefts, sizes, parent_at(boxes, k));
-    with_margin(content, sizes_at(sizes, k))
+    let boxes = input.boxes();
+    let own = outside(boxes, input.sizes(), input.inner(), k);
+    with_margin(content_left(input, lefts, parent_at(boxes, k)), own)
 }
 
 /// The border edge that is a box's left margin right of a content edge.
-fn with_margin(content: Unit, sizes: BoxSizes) -> Unit
+fn with_margin(content: Unit, own: OwnBox) -> Unit
     requires content { IsPosition content.0 }
-    requires sizes { SizeFits sizes }
-    ensures { result ≡ record { 0 = content.0 +ℤ sizes.widths.margin_left.0 } }
+    requires own { OwnBoxFits own }
+    ensures { result ≡ record { 0 = content.0 +ℤ own.margin.left.0 } }
 {
-    sum_of(content, sizes.widths.margin_left)
+    sum_of(content, own.margin.left)
 }
 
 /// The left content edge of the box at k.
-fn content_left(lefts: &[Unit], sizes: &[BoxSizes], k: usize) -> Unit
+fn content_left(input: &PlaceInput, lefts: &[Unit], k: usize) -> Unit
     requires lefts { k < length lefts.now }
-    requires sizes { k < length sizes.now }
-    requires bounds { HaveSizeBounds sizes.now }
+    requires boxes { k < length input.now.boxes }
     requires near { AreNearLefts lefts.now }
-    ensures value { result ≡ content_left lefts.now sizes.now k }
+    ensures value { result ≡ content_left lefts.now input.now.sizes k }
     ensures near { IsPosition result.0 }
 {
-    inside_edge(length_at(lefts, k), sizes_at(sizes, k))
+    let _ = input.boxes();
+    inside_edge(length_at(lefts, k), sizes_at(input.sizes(), k))
 }
 
 /// The content edge of a box whose border box begins there.

@@ -1,75 +1,54 @@
 //! The boxes of one context as its block formatting context takes them.
 
-ghost use Rattle.std.specs.Prelude.{◌≡◌, ◌<◌, ◌+ℤ◌, pos, length, IfOk, None, if◌then◌else◌};
+ghost use Rattle.std.specs.Prelude.{◌≡◌, ◌<◌, ◌+ℤ◌, pos, length, IfOk};
 ghost use Rattle.lay_units.specs.Units.{IsPosition};
 ghost use Rattle.lay_floats.specs.Within.{IsWithin};
 ghost use Rattle.lay_sizes.specs.SizeBounds.{SizeFits};
-ghost use Rattle.lay_context.specs.SizeBounds.{HaveSizeBounds};
-ghost use Rattle.lay_context.specs.ContextBlocks.{AreFlowBoxesOf, block_box, cleared_by, cleared_sides, float_side, flow_box_of, inner_box, side_of, vertical_margins};
+ghost use Rattle.lay_context.specs.ContextBlocks.{AreFlowBoxesOf, block_box, cleared_by, cleared_sides, float_side, flow_box_of, inner_box, side_of};
 ghost use Rattle.lay_context.specs.PlaceBounds.{AreNearLefts};
 
-use crate::box_columns::{
-    border_width, is_float, is_inner, length_at, parent_at, sizes_at, style_at, sum_of,
-};
+use crate::box_columns::{is_inner, length_at, own_box_at, parent_at, sizes_at, style_at, sum_of};
 use crate::context_blocks::inside_edge;
-use lay_boxgen::BoxNode;
+use crate::input::PlaceInput;
+use crate::outside::OwnBox;
 use lay_doc::Float;
 use lay_floats::{Clear, Side};
 use lay_flow::{Across, BlockBox, FloatBox, FlowBox, FlowKind, HeightRule, SolidBox, Vertical};
 use lay_sizes::BoxSizes;
-use lay_units::{NoMemory, Sides, Unit};
+use lay_units::{NoMemory, Unit};
 use std::alloc::Global;
 
-/// The boxes of a flow, for the left border edges of boxes and the heights of inner contexts.
+/// The boxes of a flow, for the left border edges of boxes.
 pub(crate) fn flow_boxes_of(
     alloc: Global,
-    boxes: &[BoxNode],
-    sizes: &[BoxSizes],
+    input: &PlaceInput,
     lefts: &[Unit],
-    heights: &[Unit],
 ) -> Result<Vec<FlowBox>, NoMemory>
-    requires sizes { length sizes.now ≡ length boxes.now }
-    requires bounds { HaveSizeBounds sizes.now }
-    requires lefts { length lefts.now ≡ length boxes.now }
+    requires lefts { length lefts.now ≡ length input.now.boxes }
     requires near { AreNearLefts lefts.now }
-    requires heights { length heights.now ≡ length boxes.now }
-    ensures { IfOk result (λ v. AreFlowBoxesOf boxes.now sizes.now lefts.now heights.now v.items) }
+    ensures { IfOk result (λ v. AreFlowBoxesOf input.now.boxes input.now.sizes input.now.inner lefts.now v.items) }
 {
-    let mut flow_boxes = Vec::with_capacity(alloc, boxes.len())?;
-    for k in 0..boxes.len() {
-        flow_boxes.push(flow_box_of(boxes, sizes, lefts, heights, k))?;
+    let count = input.boxes().len();
+    let mut flow_boxes = Vec::with_capacity(alloc, count)?;
+    for k in 0..count {
+        flow_boxes.push(flow_box_of(input, lefts, k))?;
     }
     Ok(flow_boxes)
 }
 
-fn flow_box_of(
-    boxes: &[BoxNode],
-    sizes: &[BoxSizes],
-    lefts: &[Unit],
-    heights: &[Unit],
-    k: usize,
-) -> FlowBox
-    requires place { k < length boxes.now }
-    requires sizes { length sizes.now ≡ length boxes.now }
-    requires bounds { HaveSizeBounds sizes.now }
-    requires lefts { length lefts.now ≡ length boxes.now }
+fn flow_box_of(input: &PlaceInput, lefts: &[Unit], k: usize) -> FlowBox
+    requires place { k < length input.now.boxes }
+    requires lefts { length lefts.now ≡ length input.now.boxes }
     requires near { AreNearLefts lefts.now }
-    requires heights { length heights.now ≡ length boxes.now }
-    ensures { result ≡ flow_box_of boxes.now sizes.now lefts.now heights.now k }
+    ensures { result ≡ flow_box_of input.now.boxes input.now.sizes input.now.inner lefts.now k }
 {
-    let clear = cleared_by(boxes, k);
-    let own = sizes_at(sizes, k);
+    let boxes = input.boxes();
+    let clear = cleared_by(input, k);
     let left = length_at(lefts, k);
     let kind = if is_inner(boxes, k) {
-        inner_box(
-            float_side(boxes, k),
-            clear,
-            own,
-            left,
-            length_at(heights, k),
-        )
+        inner_box(float_side(input, k), clear, own_box_at(input.inner(), k), left)
     } else {
-        block_box(clear, own, left)
+        block_box(clear, sizes_at(input.sizes(), k), left)
     };
     FlowBox {
         parent: parent_at(boxes, k),
@@ -86,7 +65,10 @@ fn block_box(clear: Clear, sizes: BoxSizes, left: Unit) -> FlowKind
     FlowKind::Block(BlockBox {
         clear,
         x: left,
-        margin: vertical_margins(sizes),
+        margin: Vertical {
+            top: sizes.margin_top,
+            bottom: sizes.margin_bottom,
+        },
         inset: Vertical {
             top: sizes.edges.top,
             bottom: sizes.edges.bottom,
@@ -111,57 +93,38 @@ fn content_right(left: Unit, sizes: BoxSizes) -> Unit
     sum_of(left, sizes.widths.width)
 }
 
-/// The own box of an inner context, whose border box is this high.
-fn inner_box(
-    float: Option<Side>,
-    clear: Clear,
-    sizes: BoxSizes,
-    left: Unit,
-    height: Unit,
-) -> FlowKind
-    requires { SizeFits sizes }
-    ensures { result ≡ inner_box float clear sizes left height }
+/// The box of an inner context.
+fn inner_box(float: Option<Side>, clear: Clear, own: OwnBox, left: Unit) -> FlowKind
+    ensures { result ≡ inner_box float clear own left }
 {
-    let width = border_width(sizes);
     match float {
         None => FlowKind::Solid(SolidBox {
             clear,
             x: left,
-            margin: vertical_margins(sizes),
-            width,
-            height,
+            margin: Vertical {
+                top: own.margin.top,
+                bottom: own.margin.bottom,
+            },
+            width: own.width,
+            height: own.height,
         }),
         Some(side) => FlowKind::Float(FloatBox {
             side,
             clear,
-            margin: Sides {
-                top: sizes.margin_top,
-                right: sizes.widths.margin_right,
-                bottom: sizes.margin_bottom,
-                left: sizes.widths.margin_left,
-            },
-            width,
-            height,
+            margin: own.margin,
+            width: own.width,
+            height: own.height,
         }),
     }
 }
 
-fn vertical_margins(sizes: BoxSizes) -> Vertical
-    ensures { result ≡ vertical_margins sizes }
-{
-    Vertical {
-        top: sizes.margin_top,
-        bottom: sizes.margin_bottom,
-    }
-}
-
 /// The side to which the box at k floats.
-fn float_side(boxes: &[BoxNode], k: usize) -> Option<Side>
-    requires { k < length boxes.now }
-    ensures { result ≡ float_side boxes.now k }
+fn float_side(input: &PlaceInput, k: usize) -> Option<Side>
+    requires { k < length input.now.boxes }
+    ensures { result ≡ float_side input.now.boxes k }
 {
-    if is_float(boxes, k) {
-        return side_of(style_at(boxes, k).float);
+    if input.is_float(k) {
+        return side_of(style_at(input.boxes(), k).float);
     }
     None
 }
@@ -177,14 +140,14 @@ fn side_of(float: Float) -> Option<Side>
 }
 
 /// The sides whose floats the box at k goes past: none for the context's own box.
-fn cleared_by(boxes: &[BoxNode], k: usize) -> Clear
-    requires { k < length boxes.now }
-    ensures { result ≡ cleared_by boxes.now k }
+fn cleared_by(input: &PlaceInput, k: usize) -> Clear
+    requires { k < length input.now.boxes }
+    ensures { result ≡ cleared_by input.now.boxes k }
 {
     if k == 0 {
         return Clear::None;
     }
-    cleared_sides(style_at(boxes, k).clear)
+    cleared_sides(input.clear(k))
 }
 
 fn cleared_sides(clear: lay_doc::Clear) -> Clear

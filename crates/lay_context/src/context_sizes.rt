@@ -1,36 +1,126 @@
 //! The used sizes of the boxes of one context, from outer to inner boxes.
 
-ghost use Rattle.std.specs.Prelude.{◌≡◌, ◌<◌, ◌≤◌, length, IfOk};
+ghost use Rattle.std.specs.Prelude.{◌≡◌, ◌<◌, ◌≤◌, true, false, length, IfOk};
 ghost use Rattle.lay_units.specs.Units.{IsPosition};
-ghost use Rattle.lay_doc.specs.Tree.{IsTree};
 ghost use Rattle.lay_boxgen.specs.BoxColumns.{box_parents};
-ghost use Rattle.lay_context.specs.ContextSizes.{HasSizes, containing_block, width_rule};
+ghost use Rattle.lay_sizes.specs.SizeBounds.{SizeFits};
+ghost use Rattle.lay_context.specs.ContextBoxes.{AreContextBoxes, is_inner};
+ghost use Rattle.lay_context.specs.ContextSizes.{HasSizes, HaveSizeBounds, IsBoxSized, containing_block, no_sizes, width_rule};
 
-use crate::box_columns::{parent_at, sizes_at, style_at};
+use crate::box_columns::{is_inner, parent_at, sizes_at, style_at};
+use crate::input::SizeInput;
 use lay_boxgen::{BoxNode, Flow, flow_of};
 use lay_sizes::{BoxSizes, ContainingBlock, WidthRule, box_sizes, content_block};
-use lay_units::{NoMemory, Unit};
+use lay_units::{Len, NoMemory, Sides, Unit};
+use lay_widths::BlockOut;
 use std::alloc::Global;
+use std::marker::Model;
+use std::sync::Arc;
 
-/// The used sizes of the boxes of a context, in their order, for the containing block of the first one, which is
-/// the context's own.
-pub(crate) fn context_sizes(
+/// The used sizes of the boxes of a context, in their order. Whoever is given them shares them.
+#[derive(Drop)]
+pub struct ContextSizes {
+    items: Arc<Vec<BoxSizes>>,
+}
+
+impl Model for ContextSizes {
+    ghost use Rattle.std.specs.Prelude.{List};
+    ghost use Rattle.lay_sizes.specs.declared.sizing.BoxSizes.{BoxSizes};
+    ghost use Rattle.lay_context.specs.ContextSizes.{HaveSizeBounds};
+
+    ghost Value = { List BoxSizes };
+
+    ghost view = { λ s. s.items.value.items };
+
+    ghost invariant = { λ s. HaveSizeBounds s.items.value.items };
+}
+
+impl ContextSizes {
+    pub(crate) fn new(alloc: Global, items: Vec<BoxSizes>) -> Result<ContextSizes, NoMemory>
+        requires { HaveSizeBounds items.items }
+        ensures { IfOk result (λ s. s ≡ items.items) }
+    {
+        let items = Arc::new(alloc, items)?;
+        Ok(ContextSizes { items })
+    }
+
+    pub(crate) fn as_slice(&self) -> &[BoxSizes]
+        ensures sizes { result.now ≡ self.now }
+        ensures bounds { HaveSizeBounds self.now }
+    {
+        self.items.as_slice()
+    }
+
+    /// The same sizes, shared.
+    pub(crate) fn share(&self) -> Result<ContextSizes, NoMemory>
+        ensures { IfOk result (λ s. s ≡ self.now) }
+    {
+        let items = self.items.clone()?;
+        Ok(ContextSizes { items })
+    }
+}
+
+/// The used sizes of the boxes of a context.
+pub(crate) fn context_sizes(alloc: Global, input: &SizeInput) -> Result<ContextSizes, NoMemory>
+    ensures { IfOk result (HasSizes input.now.containing input.now.boxes) }
+{
+    let sizes = sizes_of(alloc, input.containing(), input.boxes())?;
+    ContextSizes::new(alloc, sizes)
+}
+
+/// The used sizes of these boxes, for the containing block of the first one, which is the context's own.
+fn sizes_of(
     alloc: Global,
     outer: ContainingBlock,
     boxes: &[BoxNode],
 ) -> Result<Vec<BoxSizes>, NoMemory>
     requires outer { IsPosition outer.width.0 }
-    requires tree { IsTree (box_parents boxes.now) }
-    ensures { IfOk result (λ v. HasSizes outer boxes.now v.items) }
+    requires are { AreContextBoxes boxes.now }
+    ensures sizes { IfOk result (λ v. HasSizes outer boxes.now v.items) }
+    ensures bounds { IfOk result (λ v. HaveSizeBounds v.items) }
 {
     let mut sizes = Vec::with_capacity(alloc, boxes.len())?;
     for k in 0..boxes.len() {
         let containing = containing_block(outer, boxes, &sizes, k);
-        let style = style_at(boxes, k);
-        sizes.push(box_sizes(containing, width_rule(flow_of(style)), style))?;
+        sizes.push(sizes_beside(containing, boxes, k))?;
     }
     Ok(sizes)
 }
+
+/// The used sizes of the box at k beside its containing block.
+fn sizes_beside(containing: ContainingBlock, boxes: &[BoxNode], k: usize) -> BoxSizes
+    requires place { k < length boxes.now }
+    requires containing { IsPosition containing.width.0 }
+    ensures each { is_inner boxes.now k ≡ false → IsBoxSized containing boxes.now k result }
+    ensures inner { is_inner boxes.now k ≡ true → result ≡ no_sizes }
+    ensures fits { SizeFits result }
+{
+    if is_inner(boxes, k) {
+        return NO_SIZES;
+    }
+    let style = style_at(boxes, k);
+    box_sizes(containing, width_rule(flow_of(style)), style)
+}
+
+/// No sizes.
+const NO_SIZES: BoxSizes = BoxSizes {
+    widths: BlockOut {
+        margin_left: Unit(0),
+        width: Unit(0),
+        margin_right: Unit(0),
+    },
+    edges: Sides {
+        top: Unit(0),
+        right: Unit(0),
+        bottom: Unit(0),
+        left: Unit(0),
+    },
+    margin_top: Unit(0),
+    margin_bottom: Unit(0),
+    height: Len::Auto,
+    min_height: Unit(0),
+    max_height: None,
+};
 
 /// The containing block of the box at k, where the sizes of those before it are known.
 fn containing_block(
@@ -40,7 +130,7 @@ fn containing_block(
     k: usize,
 ) -> ContainingBlock
     requires place { k < length boxes.now }
-    requires tree { IsTree (box_parents boxes.now) }
+    requires are { AreContextBoxes boxes.now }
     requires known { k ≤ length sizes.now }
     ensures { result ≡ containing_block outer (box_parents boxes.now) sizes.now k }
 {

@@ -1,41 +1,36 @@
-//! The laws of the definitions: the equations of a document have one solution, and the nodes in the list of
-//! its contexts are contexts.
+//! The laws of the definitions: a task has one value and needs what the table says, so that a document has one
+//! layout, and the nodes in the list of its contexts are contexts.
 
-ghost use Rattle.lay_context.specs.Laws.{EnoughTurns, OneContextPlaces, OneContextSizes, OneDocumentPlaces, OneDocumentSizes, OnePageCorners, OneSolution, SpotsAreContexts};
+ghost use Rattle.lay_context.specs.Laws.{EnoughTurns, InputsComeOfNeeds, NeedsComeFirst, OneContextSizes, OnePlacement, OneSolution, SpotsAreContexts};
 
-/// The used sizes of the boxes of a context are the only ones that meet their equations.
+/// The used sizes of the boxes of a context are the only ones beside its containing block.
 pub fn one_context_sizes()
     ensures { OneContextSizes }
 {}
 
-/// So are those of the contexts of a document.
-pub fn one_document_sizes()
-    ensures { OneDocumentSizes }
+/// The placement of a context is the only one beside its used sizes and the boxes of inner contexts.
+pub fn one_placement()
+    ensures { OnePlacement }
 {}
 
-/// More turns than a document has nodes reach no further context.
-pub fn enough_turns()
-    ensures { EnoughTurns }
+/// A task is given nothing but what the tasks that it needs give it.
+pub fn inputs_come_of_needs()
+    ensures { InputsComeOfNeeds }
 {}
 
-/// The places in a context are the only ones beside its used sizes and the heights of inner contexts.
-pub fn one_context_places()
-    ensures { OneContextPlaces }
-{}
-
-/// So are those in the contexts of a document beside their used sizes.
-pub fn one_document_places()
-    ensures { OneDocumentPlaces }
-{}
-
-/// The corners of contexts on the page are the only ones beside their used sizes and places.
-pub fn one_page_corners()
-    ensures { OnePageCorners }
+/// What a task needs has its turn before it.
+pub fn needs_come_first()
+    ensures { NeedsComeFirst }
 {}
 
 /// Two trees that solve one document are equal.
 pub fn one_solution()
     ensures { OneSolution }
+{}
+
+/// More turns than a document has nodes reach no further context.
+pub fn enough_turns()
+    ensures { EnoughTurns }
 {}
 
 /// Each node in the list of a document's contexts is a context.

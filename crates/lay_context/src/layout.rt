@@ -1,18 +1,23 @@
 //! Layout of a document from scratch.
 
-ghost use Rattle.std.specs.Prelude.{◌≡◌, IfOk};
+ghost use Rattle.std.specs.Prelude.{◌≡◌, IfOk, OnOk};
 ghost use Rattle.lay_units.specs.Units.{IsUsedSize};
 ghost use Rattle.lay_doc.specs.ComputedStyle.{HasStyles, declarations_of};
 ghost use Rattle.lay_doc.specs.Document.{parents_of};
-ghost use Rattle.lay_context.specs.ContextList.{boxes_of_trees};
-ghost use Rattle.lay_context.specs.ContextOrder.{AreInOrder};
+ghost use Rattle.lay_context.specs.Local.{IsLocal};
+ghost use Rattle.lay_context.specs.Settling.{IsReady, IsSettled};
 ghost use Rattle.lay_context.specs.Solves.{Solves, SolvesContexts, viewport_of};
 
-use crate::context_list::{ContextList, context_list};
-use crate::context_tree::context_tree;
-use crate::document_places::document_places;
-use crate::document_sizes::document_sizes;
-use crate::page_corners::page_corners;
+use crate::assembling::assemble;
+use crate::context_list::contexts_of;
+use crate::context_sizes::context_sizes;
+use crate::contexts::Contexts;
+use crate::given::input;
+use crate::input::Input;
+use crate::known::Known;
+use crate::placing::placement;
+use crate::task::{Task, task_at};
+use crate::value::Value;
 use lay_doc::{Computed, Doc};
 use lay_frag::Tree;
 use lay_inherit::computed;
@@ -33,8 +38,8 @@ pub fn scratch_styled(alloc: Global, doc: &Doc, computed: &Computed) -> Result<T
     requires styles { HasStyles (parents_of doc.now.nodes) (declarations_of doc.now.nodes) computed.now }
     ensures { IfOk result (Solves doc.now) }
 {
-    let list = context_list(alloc, doc, computed)?;
-    lay_contexts(alloc, viewport_of(doc), &list)
+    let contexts = contexts_of(alloc, doc, computed)?;
+    lay_contexts(alloc, viewport_of(doc), &contexts)
 }
 
 /// The viewport as the root's containing block.
@@ -49,18 +54,48 @@ fn viewport_of(doc: &Doc) -> ContainingBlock
     }
 }
 
-/// The layout of these contexts.
+/// The layout of these contexts: each task in its turn, and the tree put together of the values.
 fn lay_contexts(
     alloc: Global,
     viewport: ContainingBlock,
-    list: &ContextList,
+    contexts: &Contexts,
 ) -> Result<Tree, NoMemory>
     requires viewport { IsUsedSize viewport.width.0 }
-    requires order { AreInOrder list.now.spots.items (boxes_of_trees list.now.boxes.items) }
-    ensures { IfOk result (SolvesContexts viewport list.now.spots.items (boxes_of_trees list.now.boxes.items)) }
+    ensures { IfOk result (SolvesContexts viewport contexts.now) }
 {
-    let sizes = document_sizes(alloc, viewport, list)?;
-    let places = document_places(alloc, list, &sizes)?;
-    let corners = page_corners(alloc, viewport, list, &sizes, &places)?;
-    context_tree(alloc, list, &sizes, &places, &corners)
+    let count = contexts.len();
+    let mut known = Known::new(alloc, count)?;
+    for turn in 0..count + count {
+        settle(alloc, viewport, contexts, &mut known, task_at(count, turn))?;
+    }
+    let tree = assemble(alloc, viewport, contexts, &known)?;
+    Ok(tree)
+}
+
+/// Computes the value of a task, where the values that it needs are known.
+fn settle(
+    alloc: Global,
+    viewport: ContainingBlock,
+    contexts: &Contexts,
+    known: &mut Known,
+    task: Task,
+) -> Result<(), NoMemory>
+    requires viewport { IsUsedSize viewport.width.0 }
+    requires ready { IsReady contexts.now known.old task }
+    ensures { OnOk result (IsSettled viewport contexts.now known.old task known.new) }
+{
+    let input = input(alloc, viewport, contexts, known, task)?;
+    let value = compute(alloc, &input)?;
+    known.set(task.context, value);
+    Ok(())
+}
+
+/// The value of a task that is given this.
+fn compute(alloc: Global, input: &Input) -> Result<Value, NoMemory>
+    ensures { IfOk result (IsLocal input.now) }
+{
+    match input {
+        Input::Size(input) => Ok(Value::Size(context_sizes(alloc, input)?)),
+        Input::Place(input) => Ok(Value::Place(placement(alloc, input)?)),
+    }
 }

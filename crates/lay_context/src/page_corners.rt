@@ -1,22 +1,18 @@
 //! Where contexts stand on the page.
 
-ghost use Rattle.std.specs.Prelude.{◌≡◌, ◌<◌, ◌≤◌, ◌-ℤ◌, length, map, IfOk};
+ghost use Rattle.std.specs.Prelude.{◌≡◌, ◌<◌, ◌≤◌, ◌-ℤ◌, length, IfOk};
 ghost use Rattle.lay_units.specs.Units.{IsUsed, IsUsedSize};
-ghost use Rattle.lay_context.specs.ContextList.{boxes_of_trees};
-ghost use Rattle.lay_context.specs.ContextOrder.{AreInOrder};
-ghost use Rattle.lay_context.specs.ContextPlaces.{columns_of};
-ghost use Rattle.lay_context.specs.DocumentLayout.{HasPageCorners, beside, corner_at, is_right, page_corner, places_in, root_corner, root_left};
-ghost use Rattle.lay_context.specs.PlaceBounds.{AreNearCorners, HaveDocumentCounts, IsCornerNear, IsNear};
 ghost use Rattle.lay_sizes.specs.SizeBounds.{SizeFits};
-ghost use Rattle.lay_context.specs.SizeBounds.{HaveDocumentSizeBounds};
+ghost use Rattle.lay_context.specs.DocumentLayout.{HasPageCorners, beside, corner_at, is_right, page_corner, root_corner, root_left};
+ghost use Rattle.lay_context.specs.PlaceBounds.{AreNearCorners, IsCornerNear, IsNear};
+ghost use Rattle.lay_context.specs.Settling.{AreKnown};
 
-use crate::box_columns::{border_width, sizes_at, style_at};
-use crate::context_columns::{boxes_in, spot_at};
-use crate::context_list::ContextList;
-use crate::context_places::BoxPlaces;
+use crate::box_columns::{sizes_at, style_at};
+use crate::contexts::Contexts;
 use crate::corner::Corner;
-use crate::corners::{corner_of_box, near_corner, position_sum};
-use crate::size_column::{SizeColumn, sizes_in};
+use crate::corners::{near_corner, position_sum};
+use crate::known::Known;
+use crate::pieces::near_width;
 use lay_boxgen::{Flow, flow_of};
 use lay_doc::{Float, Style};
 use lay_sizes::{BoxSizes, ContainingBlock};
@@ -27,20 +23,18 @@ use std::alloc::Global;
 pub(crate) fn page_corners(
     alloc: Global,
     viewport: ContainingBlock,
-    list: &ContextList,
-    sizes: &[SizeColumn],
-    places: &[BoxPlaces],
+    contexts: &Contexts,
+    known: &Known,
 ) -> Result<Vec<Corner>, NoMemory>
     requires viewport { IsUsedSize viewport.width.0 }
-    requires order { AreInOrder list.now.spots.items (boxes_of_trees list.now.boxes.items) }
-    requires counts { HaveDocumentCounts (boxes_of_trees list.now.boxes.items) sizes.now (map columns_of places.now) }
-    requires bounds { HaveDocumentSizeBounds sizes.now }
-    ensures corners { IfOk result (λ v. HasPageCorners viewport list.now.spots.items (boxes_of_trees list.now.boxes.items) sizes.now (map columns_of places.now) v.items) }
+    requires known { AreKnown contexts.now known.now }
+    ensures corners { IfOk result (λ v. HasPageCorners viewport contexts.now known.now.sizes known.now.places v.items) }
     ensures near { IfOk result (λ v. AreNearCorners v.items) }
 {
-    let mut corners = Vec::with_capacity(alloc, list.boxes.len())?;
-    for i in 0..list.boxes.len() {
-        let corner = page_corner(viewport, list, sizes, places, &corners, i)?;
+    let count = contexts.len();
+    let mut corners = Vec::with_capacity(alloc, count)?;
+    for i in 0..count {
+        let corner = page_corner(viewport, contexts, known, &corners, i)?;
         corners.push(corner)?;
     }
     Ok(corners)
@@ -49,29 +43,26 @@ pub(crate) fn page_corners(
 /// The corner of the context with this number on the page, where those of the contexts before it are known.
 fn page_corner(
     viewport: ContainingBlock,
-    list: &ContextList,
-    sizes: &[SizeColumn],
-    places: &[BoxPlaces],
+    contexts: &Contexts,
+    known: &Known,
     corners: &[Corner],
     i: usize,
 ) -> Result<Corner, NoMemory>
     requires viewport { IsUsedSize viewport.width.0 }
-    requires order { AreInOrder list.now.spots.items (boxes_of_trees list.now.boxes.items) }
-    requires counts { HaveDocumentCounts (boxes_of_trees list.now.boxes.items) sizes.now (map columns_of places.now) }
-    requires bounds { HaveDocumentSizeBounds sizes.now }
-    requires within { i < length list.now.boxes.items }
-    requires known { i ≤ length corners.now }
-    ensures corner { IfOk result (λ c. c ≡ page_corner viewport list.now.spots.items (boxes_of_trees list.now.boxes.items) sizes.now (map columns_of places.now) corners.now i) }
+    requires known { AreKnown contexts.now known.now }
+    requires within { i < length contexts.now }
+    requires before { i ≤ length corners.now }
+    ensures corner { IfOk result (λ c. c ≡ page_corner viewport contexts.now known.now.sizes known.now.places corners.now i) }
     ensures near { IfOk result IsCornerNear }
 {
+    let context = contexts.at(i);
     if i == 0 {
-        let boxes = boxes_in(list, 0);
-        let own = sizes_at(sizes_in(sizes, 0), 0);
-        return root_corner(viewport, style_at(boxes, 0), own);
+        let style = style_at(context.boxes().as_slice(), 0);
+        return root_corner(viewport, style, sizes_at(known.sizes(0).as_slice(), 0));
     }
-    let spot = spot_at(list, i);
-    let inside = corner_of_box(places_in(places, spot.around), spot.at)?;
-    beside(corner_at(corners, spot.around), inside)
+    let outer = context.outer();
+    let inside = corner_at(known.placement(outer).corners(), context.outer_box());
+    beside(corner_at(corners, outer), inside)
 }
 
 /// A corner that is counted from another one.
@@ -105,11 +96,7 @@ fn root_left(viewport: ContainingBlock, style: &Style, sizes: BoxSizes) -> Unit
     ensures { result ≡ root_left viewport style.now sizes }
 {
     if is_right(flow_of(style), style.float) {
-        return left_of_right(
-            viewport.width,
-            sizes.widths.margin_right,
-            border_width(sizes),
-        );
+        return left_of_right(viewport.width, sizes.widths.margin_right, near_width(sizes));
     }
     sizes.widths.margin_left
 }
@@ -128,14 +115,6 @@ fn is_right(flow: Flow, float: Float) -> bool
     ensures { result ≡ is_right flow float }
 {
     matches!((flow, float), (Flow::Floating, Float::Right))
-}
-
-/// The places in the context with this number.
-pub(crate) fn places_in(places: &[BoxPlaces], i: usize) -> &BoxPlaces
-    requires { i < length places.now }
-    ensures { columns_of result.now ≡ places_in (map columns_of places.now) i }
-{
-    &places[i]
 }
 
 pub(crate) fn corner_at(corners: &[Corner], i: usize) -> Corner

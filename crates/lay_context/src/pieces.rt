@@ -1,18 +1,18 @@
 //! The pieces of the boxes of one context.
 
 ghost use Rattle.std.specs.Prelude.{◌≡◌, ◌<◌, ◌≤◌, length, IfOk};
-ghost use Rattle.lay_frag.specs.Pieces.{AreInRange};
-ghost use Rattle.lay_context.specs.SizeBounds.{HaveSizeBounds};
-ghost use Rattle.lay_context.specs.ContextPlaces.{columns_of, piece_of_box, pieces_of};
-ghost use Rattle.lay_context.specs.PlaceBounds.{AreNearPieces, HaveCounts, IsRectNear};
+ghost use Rattle.lay_sizes.specs.BoxSizes.{border_width};
+ghost use Rattle.lay_sizes.specs.SizeBounds.{SizeFits};
+ghost use Rattle.lay_context.specs.ContextPlaces.{piece_of_box, pieces_to};
+ghost use Rattle.lay_context.specs.PlaceBounds.{AreNearPieces, HaveCounts, IsNear, IsRectNear};
 
-use crate::box_columns::{border_width, is_inner, sizes_at};
+use crate::box_columns::{is_inner, sizes_at};
 use crate::context_places::BoxPlaces;
 use crate::corners::{corner_of_box, near_position, place_at};
-use lay_boxgen::BoxNode;
+use crate::input::PlaceInput;
 use lay_frag::{Frag, FragKind};
-use lay_sizes::BoxSizes;
-use lay_units::{NoMemory, Rect};
+use lay_sizes::{BoxSizes, border_width};
+use lay_units::{NoMemory, Rect, Unit};
 use std::alloc::Global;
 
 /// The border boxes of the boxes of one context in order, counted from the context's own. Boxes of inner
@@ -20,21 +20,19 @@ use std::alloc::Global;
 /// than 2^60 units away, which it does in no document within the limits.
 pub(crate) fn pieces_of(
     alloc: Global,
-    boxes: &[BoxNode],
-    sizes: &[BoxSizes],
+    input: &PlaceInput,
     places: &BoxPlaces,
 ) -> Result<Vec<Frag>, NoMemory>
-    requires counts { HaveCounts boxes.now sizes.now (columns_of places.now) }
-    requires bounds { HaveSizeBounds sizes.now }
-    ensures pieces { IfOk result (λ v. v.items ≡ pieces_of boxes.now sizes.now (columns_of places.now)) }
+    requires counts { HaveCounts input.now.boxes places.now }
+    ensures pieces { IfOk result (λ v. v.items ≡ pieces_to input.now.boxes input.now.sizes places.now (length input.now.boxes)) }
     ensures near { IfOk result (λ v. AreNearPieces v.items) }
-    ensures range { IfOk result (λ v. AreInRange v.items) }
-    ensures few { IfOk result (λ v. length v.items ≤ length boxes.now) }
+    ensures few { IfOk result (λ v. length v.items ≤ length input.now.boxes) }
 {
+    let boxes = input.boxes();
     let mut pieces = Vec::with_capacity(alloc, boxes.len())?;
     for k in 0..boxes.len() {
         if !is_inner(boxes, k) {
-            let piece = piece_of_box(boxes, sizes, places, k)?;
+            let piece = piece_of_box(input, places, k)?;
             pieces.push(piece)?;
         }
     }
@@ -42,29 +40,32 @@ pub(crate) fn pieces_of(
 }
 
 /// The border box of the box at k.
-fn piece_of_box(
-    boxes: &[BoxNode],
-    sizes: &[BoxSizes],
-    places: &BoxPlaces,
-    k: usize,
-) -> Result<Frag, NoMemory>
-    requires place { k < length boxes.now }
-    requires counts { HaveCounts boxes.now sizes.now (columns_of places.now) }
-    requires bounds { HaveSizeBounds sizes.now }
-    ensures piece { IfOk result (λ f. f ≡ piece_of_box boxes.now sizes.now (columns_of places.now) k) }
+fn piece_of_box(input: &PlaceInput, places: &BoxPlaces, k: usize) -> Result<Frag, NoMemory>
+    requires place { k < length input.now.boxes }
+    requires counts { HaveCounts input.now.boxes places.now }
+    ensures piece { IfOk result (λ f. f ≡ piece_of_box input.now.boxes input.now.sizes places.now k) }
     ensures near { IfOk result (λ f. IsRectNear f.rect) }
 {
     let corner = corner_of_box(places, k)?;
     let height = near_position(place_at(&places.places, k).height)?;
     Ok(Frag {
         kind: FragKind::Box,
-        node: boxes[k].node,
+        node: input.boxes()[k].node,
         part: 0,
         rect: Rect {
             x: corner.x,
             y: corner.y,
-            w: border_width(sizes_at(sizes, k)),
+            w: near_width(sizes_at(input.sizes(), k)),
             h: height,
         },
     })
+}
+
+/// The width of a border box.
+pub(crate) fn near_width(sizes: BoxSizes) -> Unit
+    requires { SizeFits sizes }
+    ensures value { result ≡ record { 0 = border_width sizes } }
+    ensures near { IsNear result.0 }
+{
+    border_width(&sizes)
 }

@@ -1,5 +1,5 @@
 use Rattle.std.proofs.Common.{◌≡◌, ◌++◌, ◌*◌, ◌+◌, length, drop}
-use Rattle.lay_context.specs.ContextList.{boxes_of_spots, boxes_of_trees}
+use Rattle.lay_context.specs.ContextList.{boxes_of_spots}
 use Rattle.lay_context.specs.InnerContexts.{spots_of_inner}
 use Rattle.lay_context.proofs.context_list.+contexts.Given as goal
 
@@ -17,5 +17,5 @@ abbrev pub invariant-add_inner-loop-context : goal.invariant-add_inner-loop-cont
 invariant-add_inner-loop-context l = record {
   spots : l.list.spots.items ++ spots_of_inner l.doc.nodes l.computed l.turns l.around (length l.list.spots.items) (drop l.context-index l.inner)
       ≡ l.fn.list.spots.items ++ spots_of_inner l.doc.nodes l.computed l.turns l.around (length l.fn.list.spots.items) l.inner;
-  boxes : boxes_of_trees l.list.boxes.items ≡ boxes_of_spots l.doc.nodes l.computed l.list.spots.items;
+  boxes : l.list.boxes.items ≡ boxes_of_spots l.doc.nodes l.computed l.list.spots.items;
 }

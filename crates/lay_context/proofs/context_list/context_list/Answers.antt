@@ -1,5 +1,5 @@
 use Rattle.std.proofs.Common.{rules, ◌≡◌}
-use Rattle.lay_context.specs.ContextList.{boxes_of_spots, boxes_of_trees, document_spots}
+use Rattle.lay_context.specs.ContextList.{boxes_of_spots, document_spots}
 use Rattle.lay_context.proofs.SpotOrder.{are_in_order}
 use Rattle.lay_context.proofs.context_list.context_list.Goals as goal
 
@@ -9,5 +9,5 @@ returns-clause-order c =
     let styles = c.args.computed.now in
     let list = c.add_context.new.list in
     let spots : list.spots.items ≡ document_spots nodes styles = search rules in
-    let boxes : boxes_of_trees list.boxes.items ≡ boxes_of_spots nodes styles list.spots.items = search rules in
+    let boxes : list.boxes.items ≡ boxes_of_spots nodes styles list.spots.items = search rules in
     rw (boxes, spots) (are_in_order nodes styles)

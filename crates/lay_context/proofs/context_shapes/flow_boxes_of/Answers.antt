@@ -9,5 +9,5 @@ loop-k-preserved c =
     let ok = c.in_ok-push.ensures {u = tt} in
     record {
       count = rw ok.items (grind (arith, elements, c.loop-k.invariant.count));
-      each = rw ok.items (one_more (flow_box_of c.args.boxes.now c.args.sizes.now c.args.lefts.now c.args.heights.now) c.loop-k.flow_boxes.items c.loop-k.k c.flow_box_of.result c.loop-k.invariant.count c.loop-k.invariant.each c.flow_box_of.ensures);
+      each = rw ok.items (one_more (flow_box_of c.args.input.now.boxes c.args.input.now.sizes c.args.input.now.inner c.args.lefts.now) c.loop-k.flow_boxes.items c.loop-k.k c.flow_box_of.result c.loop-k.invariant.count c.loop-k.invariant.each c.flow_box_of.ensures);
     }

@@ -6,5 +6,5 @@ use Rattle.lay_context.proofs.context_shapes.flow_boxes_of.Given as goal
 abbrev pub invariant-loop-k : goal.invariant-loop-k
 invariant-loop-k l = record {
   count : length l.flow_boxes.items ≡ l.k;
-  each : (k : ℕ) → k < l.k → box_at l.flow_boxes.items k ≡ flow_box_of l.boxes l.sizes l.lefts l.heights k;
+  each : (k : ℕ) → k < l.k → box_at l.flow_boxes.items k ≡ flow_box_of l.input.boxes l.input.sizes l.input.inner l.lefts k;
 }

@@ -1,0 +1,62 @@
+-- What a task is given comes of what it needs, so the value of another task changes nothing of it.
+use Rattle.std.proofs.Common.{◌≡◌, ◌<◌, ℕ, zero, suc, ◌+◌, List, [], ◌∷◌, length, map, slice_index, refl, ap, sym, ◌∙◌, arith}
+use Rattle.lay_boxgen.specs.BoxColumns.{box_parents}
+use Rattle.lay_sizes.specs.declared.sizing.BoxSizes.{BoxSizes}
+use Rattle.lay_sizes.specs.declared.sizing.ContainingBlock.{ContainingBlock}
+use Rattle.lay_sizes.specs.BoxSizes.{content_block}
+use Rattle.lay_context.specs.declared.outside.OwnBox.{OwnBox}
+use Rattle.lay_context.specs.declared.task.Phase.{Phase}
+use Rattle.lay_context.specs.declared.task.Phase.TheVariants.{Size, Place}
+use Rattle.lay_context.specs.declared.task.Task.{Task}
+use Rattle.lay_context.specs.declared.input.Input.{Input}
+use Rattle.lay_context.specs.declared.input.Input.TheVariants as input
+use Rattle.lay_context.specs.declared.value.Value.{Value}
+use Rattle.lay_context.specs.declared.value.Value.TheVariants as value
+use Rattle.lay_context.specs.Contexts.{Context, IsInside, context_at, boxes_in}
+use Rattle.lay_context.specs.ContextSizes.{sizes_at}
+use Rattle.lay_context.specs.ContextPlaces.{Placement}
+use Rattle.lay_context.specs.DocumentLayout.{inner_boxes, outer_block, own_box_in, placement_in, sizes_in}
+use Rattle.lay_context.specs.Needs.{Needs, needs_by}
+use Rattle.lay_context.specs.Local.{Workings, input_by, input_of, value_by, value_of}
+use Rattle.lay_context.specs.Laws.{InputsComeOfNeeds}
+
+pub size_value : (x y : List BoxSizes) → value.Size x ≡ value.Size y → x ≡ y
+size_value x y e = cc
+
+pub place_value : (x y : Placement) → value.Place x ≡ value.Place y → x ≡ y
+place_value x y e = cc
+
+-- the boxes of equal placements are equal
+own_box_same : (x y : List Placement) (j : ℕ) → (0 < j → placement_in x j ≡ placement_in y j) → own_box_in x j ≡ own_box_in y j
+own_box_same x y zero same = refl
+own_box_same x y (suc j) same = ap (λ (p : Placement). p.own) (same (omega arith))
+
+boxes_same : (x y : List Placement) (numbers : List ℕ) → ((k : ℕ) → k < length numbers → 0 < slice_index numbers k → placement_in x (slice_index numbers k) ≡ placement_in y (slice_index numbers k))
+    → map (own_box_in x) numbers ≡ map (own_box_in y) numbers
+boxes_same x y [] same = refl
+boxes_same x y (j ∷ numbers) same =
+    let own : own_box_in x j ≡ own_box_in y j = own_box_same x y j (same 0 (omega arith)) in
+    let rest : map (own_box_in x) numbers ≡ map (own_box_in y) numbers = boxes_same x y numbers (λ k lt. same (suc k) (omega arith)) in
+    rw (own, rest) refl
+
+module _ (viewport : ContainingBlock) (contexts : List Context) (v w : Workings) where
+  block_same : (i : ℕ) → ((j : ℕ) → needs_by contexts Size i Size j → sizes_in v.sizes j ≡ sizes_in w.sizes j) → outer_block viewport contexts v.sizes i ≡ outer_block viewport contexts w.sizes i
+  block_same zero same = refl
+  block_same (suc i) same =
+      let outer : ℕ = (context_at contexts (suc i)).outer in
+      ap (λ (column : List BoxSizes). content_block (sizes_at column (slice_index (box_parents (boxes_in contexts outer)) (context_at contexts (suc i)).outer_box))) (same outer (omega arith, refl))
+
+  input_same : (phase : Phase) (i : ℕ) → ((needed : Phase) (j : ℕ) → needs_by contexts phase i needed j → value_by v needed j ≡ value_by w needed j) → input_by viewport contexts v phase i ≡ input_by viewport contexts w phase i
+  input_same Size i same =
+      let block = block_same i (λ j needs. size_value (sizes_in v.sizes j) (sizes_in w.sizes j) (same Size j needs)) in
+      ap (λ (b : ContainingBlock). input.Size (record { boxes = boxes_in contexts i; containing = b })) block
+  input_same Place i same =
+      let sizes = size_value (sizes_in v.sizes i) (sizes_in w.sizes i) (same Size i refl) in
+      let inner : inner_boxes contexts v.places i ≡ inner_boxes contexts w.places i =
+      boxes_same v.places w.places (context_at contexts i).inner (λ k lt some. (let j : ℕ = slice_index (context_at contexts i).inner k in
+      place_value (placement_in v.places j) (placement_in w.places j) (same Place j (record { box = k; within = lt; number = refl; some = some })))) in
+      rw (sizes, inner) refl
+
+pub inputs_come_of_needs_lem : InputsComeOfNeeds
+inputs_come_of_needs_lem viewport contexts v w task same =
+    input_same viewport contexts v w task.phase task.context (λ phase j needs. same (record { context = j; phase = phase }) needs)

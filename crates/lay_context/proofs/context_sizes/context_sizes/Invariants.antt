@@ -1,5 +1,0 @@
-use Rattle.lay_context.proofs.SizeSteps.{SizesTo}
-use Rattle.lay_context.proofs.context_sizes.context_sizes.Given as goal
-
-abbrev pub invariant-loop-k : goal.invariant-loop-k
-invariant-loop-k l = SizesTo l.outer l.boxes l.sizes.items l.k

@@ -1,0 +1,8 @@
+use Rattle.std.proofs.Common.{◌≡◌, length}
+use Rattle.lay_context.proofs.known.Known.new.Given as goal
+
+abbrev pub invariant-loop-known : goal.invariant-loop-known
+invariant-loop-known l = record {
+  sizes : length l.sizes.items ≡ l._known;
+  places : length l.places.items ≡ l._known;
+}

@@ -1,0 +1,31 @@
+-- What the tasks of one context are given: its boxes with its containing block for sizes (CSS 2.2, 10.1), and its boxes with
+-- their used sizes and the boxes of inner contexts for its placement.
+use Rattle.std.specs.Prelude.{◌≡◌, List, length}
+use Rattle.lay_units.specs.Units.{IsPosition}
+use Rattle.lay_boxgen.specs.declared.box_tree.BoxNode.{BoxNode}
+use Rattle.lay_sizes.specs.declared.sizing.BoxSizes.{BoxSizes}
+use Rattle.lay_sizes.specs.declared.sizing.ContainingBlock.{ContainingBlock}
+use Rattle.lay_context.specs.declared.outside.OwnBox.{OwnBox}
+use Rattle.lay_context.specs.ContextBoxes.{AreContextBoxes}
+use Rattle.lay_context.specs.ContextSizes.{HaveSizeBounds}
+use Rattle.lay_context.specs.OwnBoxes.{OwnBoxesFit}
+
+pub record SizeInput : Type 0 where
+  pub boxes : List BoxNode
+  pub containing : ContainingBlock
+
+pub record PlaceInput : Type 0 where
+  pub boxes : List BoxNode
+  pub sizes : List BoxSizes
+  pub inner : List OwnBox
+
+pub record SizeInputFits (i : SizeInput) : Type 0 where
+  pub boxes : AreContextBoxes i.boxes
+  pub containing : IsPosition i.containing.width.0
+
+pub record PlaceInputFits (i : PlaceInput) : Type 0 where
+  pub boxes : AreContextBoxes i.boxes
+  pub size_count : length i.sizes ≡ length i.boxes
+  pub inner_count : length i.inner ≡ length i.boxes
+  pub size_bounds : HaveSizeBounds i.sizes
+  pub inner_bounds : OwnBoxesFit i.inner

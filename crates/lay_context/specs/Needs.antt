@@ -1,0 +1,25 @@
+-- The work of a layout, a task for each context and phase, and which task needs the value of which: the only place that says
+-- what depends on what. Sizes go from the context around to the one inside it (CSS 2.2, 10.1), and placements from inner
+-- contexts to the one around them (10.6.7).
+use Rattle.std.specs.Prelude.{ℕ, ◌≡◌, ◌+◌, ◌-◌, ◌*◌, ◌<◌, List, length, if◌then◌else◌, nat_lt}
+use Rattle.lay_context.specs.declared.task.Phase.{Phase}
+use Rattle.lay_context.specs.declared.task.Phase.TheVariants.{Size, Place}
+use Rattle.lay_context.specs.declared.task.Task.{Task}
+use Rattle.lay_context.specs.Contexts.{Context, IsInside, context_at}
+
+abbrev pub needs_by : List Context → Phase → ℕ → Phase → ℕ → Type 0
+needs_by contexts Size i Size j = (0 < i) × (j ≡ (context_at contexts i).outer)
+needs_by contexts Size i Place j = ⊥
+needs_by contexts Place i Size j = j ≡ i
+needs_by contexts Place i Place j = IsInside contexts i j
+
+-- the first task needs the value of the second
+abbrev pub Needs : List Context → Task → Task → Type 0
+Needs contexts task needed = needs_by contexts task.phase task.context needed.phase needed.context
+
+-- the order in which tasks take their turns, of which there are two for each of n contexts: sizes from the first context to
+-- the last one, and then placements from the last to the first
+abbrev pub task_at : (n turn : ℕ) → Task
+task_at n turn =
+    if nat_lt turn n then record { context = turn; phase = Size }
+    else record { context = n + n - 1 - turn; phase = Place }

@@ -1,0 +1,55 @@
+-- The own box of a context, as the context around it takes it: its used margins, and the size of its border box (CSS 2.2, 8.1).
+-- The context around knows nothing else of what is inside.
+use Rattle.std.specs.Prelude.{ℕ, ◌<◌, ℤ, pos, ◌≤ℤ◌, List, length, slice_index_or, if◌then◌else◌}
+use Rattle.lay_units.specs.Units.{IsUsed}
+use Rattle.lay_units.specs.declared.length.Unit.{Unit as Length}
+use Rattle.lay_units.specs.declared.records.Sides.{Sides}
+use Rattle.lay_boxgen.specs.declared.box_tree.BoxNode.{BoxNode}
+use Rattle.lay_sizes.specs.declared.sizing.BoxSizes.{BoxSizes}
+use Rattle.lay_sizes.specs.BoxSizes.{border_width}
+use Rattle.lay_flow.specs.Lengths.{no_length}
+use Rattle.lay_context.specs.declared.outside.OwnBox.{OwnBox}
+use Rattle.lay_context.specs.ContextBoxes.{is_inner}
+use Rattle.lay_context.specs.ContextSizes.{sizes_at}
+
+-- the margins of a box
+abbrev pub margins_of : BoxSizes → Sides
+margins_of z = record {
+  top = z.margin_top;
+  right = z.widths.margin_right;
+  bottom = z.margin_bottom;
+  left = z.widths.margin_left;
+}
+
+-- a box of these used sizes and of this height
+abbrev pub own_box : BoxSizes → Length → OwnBox
+own_box z height = record { margin = margins_of z; width = record { 0 = border_width z }; height = height }
+
+abbrev pub no_own_box : OwnBox
+no_own_box = record {
+  margin = record { top = no_length; right = no_length; bottom = no_length; left = no_length };
+  width = no_length;
+  height = no_length;
+}
+
+abbrev pub own_box_at : List OwnBox → ℕ → OwnBox
+own_box_at inner k = slice_index_or inner k no_own_box
+
+-- the box at k from outside: that of an inner context is as this says, and the height of another isn't known yet
+abbrev pub outside : List BoxNode → List BoxSizes → List OwnBox → ℕ → OwnBox
+outside boxes sizes inner k = if is_inner boxes k then own_box_at inner k else own_box (sizes_at sizes k) no_length
+
+-- the width or the height of a border box: a used size and two insets
+abbrev pub IsBoxSize : ℤ → Type 0
+IsBoxSize v = (pos 0 ≤ℤ v) × (v ≤ℤ pos 10737418240)
+
+pub record OwnBoxFits (o : OwnBox) : Type 0 where
+  pub margin_top : IsUsed o.margin.top.0
+  pub margin_right : IsUsed o.margin.right.0
+  pub margin_bottom : IsUsed o.margin.bottom.0
+  pub margin_left : IsUsed o.margin.left.0
+  pub width : IsBoxSize o.width.0
+  pub height : IsBoxSize o.height.0
+
+abbrev pub OwnBoxesFit : List OwnBox → Type 0
+OwnBoxesFit inner = (k : ℕ) → k < length inner → OwnBoxFits (own_box_at inner k)

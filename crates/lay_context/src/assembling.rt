@@ -1,0 +1,84 @@
+//! The tree of a document, put together of the values of its contexts.
+
+ghost use Rattle.std.specs.Prelude.{◌≡◌, ◌<◌, ◌≤◌, length, IfOk};
+ghost use Rattle.lay_units.specs.Units.{IsUsedSize};
+ghost use Rattle.lay_frag.specs.Pieces.{IsContextInRange};
+ghost use Rattle.lay_context.specs.Contexts.{boxes_in};
+ghost use Rattle.lay_context.specs.DocumentLayout.{corner_at, placement_in};
+ghost use Rattle.lay_context.specs.PlaceBounds.{AreNearCorners, IsCornerNear};
+ghost use Rattle.lay_context.specs.Settling.{AreKnown};
+ghost use Rattle.lay_context.specs.Solves.{IsAssembled, IsTreeOf, context_of, own_rect};
+
+use crate::contexts::Contexts;
+use crate::corner::Corner;
+use crate::known::Known;
+use crate::page_corners::{corner_at, page_corners};
+use crate::value::Placement;
+use lay_boxgen::BoxNode;
+use lay_frag::{Placed, Tree};
+use lay_sizes::ContainingBlock;
+use lay_units::{NoMemory, Rect, Unit};
+use std::alloc::Global;
+
+/// The tree of these contexts, whose values are known.
+pub(crate) fn assemble(
+    alloc: Global,
+    viewport: ContainingBlock,
+    contexts: &Contexts,
+    known: &Known,
+) -> Result<Tree, NoMemory>
+    requires viewport { IsUsedSize viewport.width.0 }
+    requires known { AreKnown contexts.now known.now }
+    ensures { IfOk result (IsAssembled viewport contexts.now known.now.sizes known.now.places) }
+{
+    let corners = page_corners(alloc, viewport, contexts, known)?;
+    tree_of(alloc, contexts, known, &corners)
+}
+
+/// The tree of these contexts, whose corners on the page are known.
+fn tree_of(
+    alloc: Global,
+    contexts: &Contexts,
+    known: &Known,
+    corners: &[Corner],
+) -> Result<Tree, NoMemory>
+    requires places { length known.now.places ≡ length contexts.now }
+    requires corners { length corners.now ≡ length contexts.now }
+    requires near { AreNearCorners corners.now }
+    ensures { IfOk result (IsTreeOf contexts.now known.now.places corners.now) }
+{
+    let count = contexts.len();
+    let mut tree = Vec::with_capacity(alloc, count)?;
+    for i in 0..count {
+        let boxes = contexts.at(i).boxes().as_slice();
+        let context = placed(boxes, known.placement(i), corner_at(corners, i))?;
+        tree.push(context)?;
+    }
+    Ok(Tree::new(tree))
+}
+
+/// A context on the page, whose border box has this corner.
+fn placed(boxes: &[BoxNode], placement: &Placement, corner: Corner) -> Result<Placed, NoMemory>
+    requires some { 0 < length boxes.now }
+    requires near { IsCornerNear corner }
+    ensures value { IfOk result (λ c. c ≡ context_of boxes.now placement.now corner) }
+    ensures range { IfOk result IsContextInRange }
+    ensures few { IfOk result (λ c. length c.pieces ≤ 16384) }
+{
+    let rect = own_rect(placement, corner);
+    let pieces = placement.pieces()?;
+    Ok(Placed::new(boxes[0].node, rect, Unit(0), pieces))
+}
+
+/// The border box of a context on the page.
+fn own_rect(placement: &Placement, corner: Corner) -> Rect
+    ensures { result ≡ own_rect placement.now corner }
+{
+    let own = placement.own();
+    Rect {
+        x: corner.x,
+        y: corner.y,
+        w: own.width,
+        h: own.height,
+    }
+}

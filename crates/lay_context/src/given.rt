@@ -1,0 +1,109 @@
+//! What a task is given, from the values of the tasks that it needs.
+
+ghost use Rattle.std.specs.Prelude.{◌≡◌, ◌<◌, IfOk, length};
+ghost use Rattle.lay_units.specs.Units.{IsPosition, IsUsedSize};
+ghost use Rattle.lay_sizes.specs.BoxSizes.{content_block};
+ghost use Rattle.lay_context.specs.ContextSizes.{sizes_at};
+ghost use Rattle.lay_context.specs.DocumentLayout.{inner_boxes, outer_block, own_box_in};
+ghost use Rattle.lay_context.specs.Local.{input_of};
+ghost use Rattle.lay_context.specs.Settling.{IsReady};
+ghost use Rattle.lay_context.specs.declared.task.Phase.TheVariants.{Size};
+ghost use Rattle.lay_context.specs.OwnBoxes.{OwnBoxFits};
+
+use crate::box_columns::{parent_at, sizes_at};
+use crate::context_sizes::ContextSizes;
+use crate::contexts::Contexts;
+use crate::input::{Input, PlaceInput, SizeInput};
+use crate::known::Known;
+use crate::outside::{NO_OWN_BOX, OwnBox, OwnBoxes};
+use crate::task::{Phase, Task};
+use lay_sizes::{ContainingBlock, content_block};
+use lay_units::NoMemory;
+use std::alloc::Global;
+
+/// What a task is given, where the values that it needs are known.
+pub(crate) fn input(
+    alloc: Global,
+    viewport: ContainingBlock,
+    contexts: &Contexts,
+    known: &Known,
+    task: Task,
+) -> Result<Input, NoMemory>
+    requires viewport { IsUsedSize viewport.width.0 }
+    requires ready { IsReady contexts.now known.now task }
+    ensures { IfOk result (λ i. i ≡ input_of viewport contexts.now known.now task) }
+{
+    let boxes = contexts.at(task.context).boxes().share()?;
+    match task.phase {
+        Phase::Size => {
+            let containing = outer_block(viewport, contexts, known, task.context);
+            Ok(Input::Size(SizeInput::new(boxes, containing)))
+        }
+        Phase::Place => {
+            let sizes = known.sizes(task.context).share()?;
+            let inner = inner_boxes(alloc, contexts, known, task.context)?;
+            Ok(Input::Place(PlaceInput::new(boxes, sizes, inner)))
+        }
+    }
+}
+
+/// The containing block of the own box of the context with this number.
+fn outer_block(
+    viewport: ContainingBlock,
+    contexts: &Contexts,
+    known: &Known,
+    i: usize,
+) -> ContainingBlock
+    requires viewport { IsUsedSize viewport.width.0 }
+    requires ready { IsReady contexts.now known.now (record { context = i; phase = Size }) }
+    ensures block { result ≡ outer_block viewport contexts.now known.now.sizes i }
+    ensures fits { IsPosition result.width.0 }
+{
+    if i == 0 {
+        return viewport;
+    }
+    let context = contexts.at(i);
+    let outer = context.outer();
+    let boxes = contexts.at(outer).boxes().as_slice();
+    content_of(known.sizes(outer), parent_at(boxes, context.outer_box()))
+}
+
+/// The content box of the box at k, of these used sizes.
+fn content_of(sizes: &ContextSizes, k: usize) -> ContainingBlock
+    requires { k < length sizes.now }
+    ensures block { result ≡ content_block (sizes_at sizes.now k) }
+    ensures fits { IsPosition result.width.0 }
+{
+    content_block(&sizes_at(sizes.as_slice(), k))
+}
+
+/// The boxes of the contexts inside the one with this number, among its boxes.
+fn inner_boxes(
+    alloc: Global,
+    contexts: &Contexts,
+    known: &Known,
+    i: usize,
+) -> Result<OwnBoxes, NoMemory>
+    requires within { i < length contexts.now }
+    requires places { length known.now.places ≡ length contexts.now }
+    ensures { IfOk result (λ b. b ≡ inner_boxes contexts.now known.now.places i) }
+{
+    let numbers = contexts.at(i).inner();
+    let mut boxes = Vec::with_capacity(alloc, numbers.len())?;
+    for k in 0..numbers.len() {
+        boxes.push(own_box_in(known, numbers[k]))?;
+    }
+    Ok(OwnBoxes::new(boxes))
+}
+
+/// The own box of the context with this number, where 0 stands for none.
+fn own_box_in(known: &Known, number: usize) -> OwnBox
+    requires { number < length known.now.places }
+    ensures value { result ≡ own_box_in known.now.places number }
+    ensures fits { OwnBoxFits result }
+{
+    if number == 0 {
+        return NO_OWN_BOX;
+    }
+    known.placement(number).own()
+}

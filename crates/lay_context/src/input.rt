@@ -1,0 +1,125 @@
+//! What a task of a layout is given.
+
+ghost use Rattle.std.specs.Prelude.{◌≡◌, ◌<◌, length};
+ghost use Rattle.lay_boxgen.specs.Roles.{clear_at};
+ghost use Rattle.lay_context.specs.ContextBoxes.{is_float};
+ghost use Rattle.lay_units.specs.Units.{IsPosition};
+ghost use Rattle.lay_context.specs.Inputs.{SizeInputFits, PlaceInputFits};
+
+use crate::context_boxes::ContextBoxes;
+use crate::context_sizes::ContextSizes;
+use crate::outside::{OwnBox, OwnBoxes};
+use lay_boxgen::BoxNode;
+use lay_doc::Clear;
+use lay_sizes::{BoxSizes, ContainingBlock};
+use std::marker::Model;
+
+/// What a task is given.
+#[derive(Drop)]
+pub enum Input {
+    Size(SizeInput),
+    Place(PlaceInput),
+}
+
+/// The boxes of a context, and the containing block of its own one.
+#[derive(Drop)]
+pub struct SizeInput {
+    boxes: ContextBoxes,
+    containing: ContainingBlock,
+}
+
+impl Model for SizeInput {
+    ghost use Rattle.lay_context.specs.Inputs.{SizeInput as Plain, SizeInputFits};
+
+    ghost Value = { Plain };
+
+    ghost view = { λ i. record { boxes = i.boxes; containing = i.containing } };
+
+    ghost invariant = { λ i. SizeInputFits (record { boxes = i.boxes; containing = i.containing }) };
+}
+
+impl SizeInput {
+    pub(crate) fn new(boxes: ContextBoxes, containing: ContainingBlock) -> SizeInput
+        requires { SizeInputFits (record { boxes = boxes; containing = containing }) }
+        ensures { result ≡ record { boxes = boxes; containing = containing } }
+    {
+        SizeInput { boxes, containing }
+    }
+
+    pub(crate) fn boxes(&self) -> &[BoxNode]
+        ensures boxes { result.now ≡ self.now.boxes }
+        ensures fits { SizeInputFits self.now }
+    {
+        self.boxes.as_slice()
+    }
+
+    pub(crate) fn containing(&self) -> ContainingBlock
+        ensures { result ≡ self.now.containing }
+    {
+        self.containing
+    }
+}
+
+/// The boxes of a context, their used sizes, and the boxes of inner contexts among them.
+#[derive(Drop)]
+pub struct PlaceInput {
+    boxes: ContextBoxes,
+    sizes: ContextSizes,
+    inner: OwnBoxes,
+}
+
+impl Model for PlaceInput {
+    ghost use Rattle.lay_context.specs.Inputs.{PlaceInput as Plain, PlaceInputFits};
+
+    ghost Value = { Plain };
+
+    ghost view = { λ i. record { boxes = i.boxes; sizes = i.sizes; inner = i.inner } };
+
+    ghost invariant = { λ i. PlaceInputFits (record { boxes = i.boxes; sizes = i.sizes; inner = i.inner }) };
+}
+
+impl PlaceInput {
+    pub(crate) fn new(boxes: ContextBoxes, sizes: ContextSizes, inner: OwnBoxes) -> PlaceInput
+        requires { PlaceInputFits (record { boxes = boxes; sizes = sizes; inner = inner }) }
+        ensures { result ≡ record { boxes = boxes; sizes = sizes; inner = inner } }
+    {
+        PlaceInput {
+            boxes,
+            sizes,
+            inner,
+        }
+    }
+
+    pub(crate) fn boxes(&self) -> &[BoxNode]
+        ensures boxes { result.now ≡ self.now.boxes }
+        ensures fits { PlaceInputFits self.now }
+    {
+        self.boxes.as_slice()
+    }
+
+    pub(crate) fn is_float(&self, k: usize) -> bool
+        requires { k < length self.now.boxes }
+        ensures { result ≡ is_float self.now.boxes k }
+    {
+        self.boxes.is_float(k)
+    }
+
+    pub(crate) fn clear(&self, k: usize) -> Clear
+        requires { k < length self.now.boxes }
+        ensures { result ≡ clear_at self.now.boxes k }
+    {
+        self.boxes.clear(k)
+    }
+
+    pub(crate) fn sizes(&self) -> &[BoxSizes]
+        ensures { result.now ≡ self.now.sizes }
+    {
+        self.sizes.as_slice()
+    }
+
+    pub(crate) fn inner(&self) -> &[OwnBox]
+        ensures { result.now ≡ self.now.inner }
+    {
+        self.inner.as_slice()
+    }
+}

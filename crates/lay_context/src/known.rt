@@ -1,0 +1,74 @@
+//! The values of a layout's tasks, as far as they are known.
+
+ghost use Rattle.std.specs.Prelude.{◌≡◌, ◌<◌, [], length, replicate, IfOk};
+ghost use Rattle.lay_context.specs.DocumentLayout.{no_placement, placement_in, sizes_in};
+ghost use Rattle.lay_context.specs.Local.{with_value};
+
+use crate::context_sizes::ContextSizes;
+use crate::value::{Placement, Value};
+use lay_frag::Pieces;
+use lay_units::NoMemory;
+use std::alloc::Global;
+use std::marker::Model;
+use std::sync::Arc;
+
+/// A value for each context and phase; those that aren't known yet are empty.
+#[derive(Drop)]
+pub(crate) struct Known {
+    sizes: Vec<ContextSizes>,
+    places: Vec<Placement>,
+}
+
+impl Model for Known {
+    ghost use Rattle.lay_context.specs.Local.{Workings};
+
+    ghost Value = { Workings };
+
+    ghost view = { λ k. record { sizes = k.sizes.items; places = k.places.items } };
+}
+
+impl Known {
+    /// Nothing is known of so many contexts.
+    pub(crate) fn new(alloc: Global, count: usize) -> Result<Known, NoMemory>
+        ensures sizes { IfOk result (λ k. length k.sizes ≡ count) }
+        ensures places { IfOk result (λ k. length k.places ≡ count) }
+    {
+        let mut sizes = Vec::with_capacity(alloc, count)?;
+        let mut places = Vec::with_capacity(alloc, count)?;
+        let no_sizes = ContextSizes::new(alloc, Vec::new(alloc))?;
+        let no_pieces = Arc::new(alloc, Pieces::new(Vec::new(alloc)))?;
+        for _known in 0..count {
+            sizes.push(no_sizes.share()?)?;
+            places.push(Placement::none(alloc, no_pieces.clone()?))?;
+        }
+        Ok(Known { sizes, places })
+    }
+
+    /// The used sizes of the boxes of the context with this number.
+    pub(crate) fn sizes(&self, i: usize) -> &ContextSizes
+        requires { i < length self.now.sizes }
+        ensures { result.now ≡ sizes_in self.now.sizes i }
+    {
+        &self.sizes[i]
+    }
+
+    /// The placement of the context with this number.
+    pub(crate) fn placement(&self, i: usize) -> &Placement
+        requires { i < length self.now.places }
+        ensures { result.now ≡ placement_in self.now.places i }
+    {
+        &self.places[i]
+    }
+
+    /// Notes a value of the context with this number.
+    pub(crate) fn set(&mut self, i: usize, value: Value)
+        requires sizes { i < length self.old.sizes }
+        requires places { i < length self.old.places }
+        ensures { self.new ≡ with_value self.old i value }
+    {
+        match value {
+            Value::Size(sizes) => self.sizes[i] = sizes,
+            Value::Place(placement) => self.places[i] = placement,
+        }
+    }
+}

@@ -1,0 +1,29 @@
+//! The placement of one context.
+
+ghost use Rattle.std.specs.Prelude.{IfOk};
+ghost use Rattle.lay_context.specs.ContextPlaces.{IsPlacement};
+
+use crate::box_columns::sizes_at;
+use crate::context_places::context_places;
+use crate::corners::{corners_of, place_at};
+use crate::input::PlaceInput;
+use crate::outside::own_box;
+use crate::pieces::pieces_of;
+use crate::value::Placement;
+use lay_frag::Pieces;
+use lay_units::NoMemory;
+use std::alloc::Global;
+use std::sync::Arc;
+
+/// Where the boxes of a context stand, beside their used sizes and the boxes of inner contexts.
+pub(crate) fn placement(alloc: Global, input: &PlaceInput) -> Result<Placement, NoMemory>
+    ensures { IfOk result (IsPlacement input.now.boxes input.now.sizes input.now.inner) }
+{
+    let _ = input.boxes();
+    let places = context_places(alloc, input)?;
+    let pieces = pieces_of(alloc, input, &places)?;
+    let corners = corners_of(alloc, input, &places)?;
+    let own = own_box(sizes_at(input.sizes(), 0), place_at(&places.places, 0).height);
+    let pieces = Arc::new(alloc, Pieces::new(pieces))?;
+    Ok(Placement::new(own, pieces, corners))
+}

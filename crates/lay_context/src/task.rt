@@ -1,0 +1,39 @@
+//! The tasks of a layout and their order.
+
+ghost use Rattle.std.specs.Prelude.{◌≡◌, ◌+◌, ◌<◌, ◌≤◌};
+ghost use Rattle.lay_context.specs.Needs.{task_at};
+
+/// What a context is to be given.
+#[derive(Clone, Copy)]
+pub enum Phase {
+    /// The used sizes of its boxes.
+    Size,
+    /// Where its boxes stand.
+    Place,
+}
+
+/// One phase of the context with this number.
+#[derive(Clone, Copy)]
+pub struct Task {
+    pub context: usize,
+    pub phase: Phase,
+}
+
+/// The task whose turn it is, of two for each of n contexts: sizes from outer to inner contexts, and then
+/// placements from inner to outer ones.
+pub(crate) fn task_at(n: usize, turn: usize) -> Task
+    requires few { n ≤ 16384 }
+    requires within { turn < n + n }
+    ensures { result ≡ task_at n turn }
+{
+    if turn < n {
+        return Task {
+            context: turn,
+            phase: Phase::Size,
+        };
+    }
+    Task {
+        context: n + n - 1 - turn,
+        phase: Phase::Place,
+    }
+}
