@@ -31,9 +31,16 @@ pub fn lay_rows(
     start: &Line,
     stretches: &[Stretch],
 ) -> Result<Rows, NoMemory>
-    requires can { CanLay (position_of start.now.frame start.now.top.0 [] stretches.now (none_met floats.old)) }
-    ensures rows { IfOk result (λ out. (laid : Laid) × AreRows (position_of start.now.frame start.now.top.0 [] stretches.now (none_met floats.old)) laid × (map ended_of laid.rows ≡ out.rows.items) × (laid.position.from ≡ out.end.0) × (laid.position.state.places ≡ out.places.items) × (laid.position.state.floats ≡ floats.new)) }
-    ensures stopped { IfErr result (λ _. (laid : Laid) → AreRows (position_of start.now.frame start.now.top.0 [] stretches.now (none_met floats.old)) laid → IsFront floats.new laid.position.state.floats) }
+    requires can { CanLay (position_of start.now.frame start.now.top.0 [] stretches.now
+        (none_met floats.old)) }
+    ensures rows { IfOk result (λ out. (laid : Laid)
+        × AreRows (position_of start.now.frame start.now.top.0 [] stretches.now
+        (none_met floats.old)) laid × (map ended_of laid.rows ≡ out.rows.items) × (laid.position.from
+        ≡ out.end.0) × (laid.position.state.places ≡ out.places.items) × (laid.position.state.floats
+        ≡ floats.new)) }
+    ensures stopped { IfErr result (λ _. (laid : Laid)
+        → AreRows (position_of start.now.frame start.now.top.0 [] stretches.now
+        (none_met floats.old)) laid → IsFront floats.new laid.position.state.floats) }
 {
     one_float_place();
     one_room();
