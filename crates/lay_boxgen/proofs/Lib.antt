@@ -1,9 +1,12 @@
 pub mod Above
 pub mod BoxForests
+pub mod BoxMeasures
+pub mod BoxStages
 pub mod Broken
 pub mod CutNodes
 pub mod CutParts
 pub mod EveryBox
+pub mod FewBoxes
 pub mod FirstBoxes
 pub mod InnerContexts
 pub mod InnerLeaves

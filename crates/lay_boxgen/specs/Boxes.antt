@@ -27,8 +27,9 @@ abbrev mutual
   weights (also t ts) = weight t + weights ts
 
 -- All boxes made anew, from the inside out: `make` says which boxes stand for a box, of what its children
--- became. Every rule of box generation is such a `make`. Since a rule looks at the children of a box alone,
--- and not below them, the order in which boxes are taken makes no difference.
+-- became. Every rule of box generation is such a `make`. Most of them leave one box of each and look at its children
+-- alone, and for these the order in which boxes are taken makes no difference. The breaking of inline boxes makes
+-- several boxes of one, and there an inner box must be taken first, so that a block in it breaks the outer one too.
 abbrev mutual
   pub remade : (Facts → List Tree → List Tree) → Tree → List Tree
   remade make (tree f children) = make f (all_remade make children)

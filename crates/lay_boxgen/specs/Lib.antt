@@ -17,6 +17,7 @@ pub mod Parts
 pub mod AnonymousStyle
 pub mod Listing
 pub mod BoxColumns
+pub mod BoxBounds
 pub mod Kinds
 pub mod Roles
 pub mod Containers

@@ -1,6 +1,7 @@
 //! The boxes of a context.
 
 ghost use Rattle.std.specs.Prelude.{◌≡◌, ◌<◌, ◌≤◌, [], IfOk, length};
+ghost use Rattle.lay_units.specs.Limits.{most_nodes};
 ghost use Rattle.lay_boxgen.specs.BoxColumns.{IsBoxTree};
 ghost use Rattle.lay_boxgen.specs.CutTrees.{generated_cut};
 ghost use Rattle.lay_boxgen.specs.Listing.{boxes_of, boxes_at, listed_part};
@@ -38,7 +39,7 @@ fn boxes_at(
 ) -> Result<Vec<BoxNode>, NoMemory>
     requires place { place < length nodes.now }
     requires styles { length styles.now ≡ length nodes.now }
-    requires few { length nodes.now ≤ 16384 }
+    requires few { length nodes.now ≤ most_nodes }
     ensures boxes { IfOk result (λ v. v.items ≡ listed_part nodes.now styles.now (part nodes.now styles.now place)) }
     ensures tree { IfOk result (λ v. IsBoxTree v.items) }
 {
@@ -55,7 +56,7 @@ fn part_trees(
 ) -> Result<Vec<Subtree>, NoMemory>
     requires place { place < length nodes.now }
     requires styles { length styles.now ≡ length nodes.now }
-    requires few { length nodes.now ≤ 16384 }
+    requires few { length nodes.now ≤ most_nodes }
     ensures { IfOk result (λ v. put_list nothing v.items ≡ part nodes.now styles.now place) }
 {
     let tree = context_tree(alloc, nodes, styles, place)?;

@@ -1,6 +1,6 @@
 //! Which nodes are contexts (CSS 2.2, 9.4.1).
 
-ghost use Rattle.std.specs.Prelude.{◌≡◌, ◌<◌, ◌↔◌, IsTrue, length, slice_index};
+ghost use Rattle.std.specs.Prelude.{◌≡◌, ◌<◌, ◌↔◌, IsTrue, length};
 ghost use Rattle.lay_doc.specs.Document.{parents_of};
 ghost use Rattle.lay_doc.specs.Tree.{IsTree};
 ghost use Rattle.lay_boxgen.specs.Contexts.{box_at, has_box, keeps_form, keeps, GeneratesBox, is_marked, IsContextAt, IsContext};
@@ -8,7 +8,7 @@ ghost use Rattle.lay_boxgen.specs.Contexts.{box_at, has_box, keeps_form, keeps, 
 use crate::facts::{Facts, Form};
 use crate::forms::{is_column, is_column_group};
 use crate::node_boxes::node_box;
-use lay_doc::{Computed, Doc, Node, NodeId, Style};
+use lay_doc::{Computed, Doc, Node, NodeId, Style, parent_at};
 
 /// Whether the node with this id is a context: an element that generates a box and establishes a new block
 /// formatting context, or a replaced element that generates a box. A style is given for each node.
@@ -39,14 +39,6 @@ fn box_at(nodes: &[Node], styles: &[Style], place: usize) -> Option<Facts>
     ensures { result ≡ box_at nodes.now styles.now place }
 {
     node_box(place, &nodes[place], &styles[place])
-}
-
-/// The place of the parent of the node at a place.
-fn parent_at(nodes: &[Node], place: usize) -> usize
-    requires { place < length nodes.now }
-    ensures { result ≡ slice_index (parents_of nodes.now) place }
-{
-    nodes[place].parent
 }
 
 fn is_marked(facts: Option<Facts>) -> bool

@@ -1,5 +1,6 @@
 //! Laws of the definitions. The functions do nothing.
 
+ghost use Rattle.lay_boxgen.specs.BoxBounds.{BoxesAreFew};
 ghost use Rattle.lay_boxgen.specs.BreakLaws.{InlinesAreBroken};
 ghost use Rattle.lay_boxgen.specs.Containers.{ContainersAreATree, OneContainer};
 ghost use Rattle.lay_boxgen.specs.InnerBoxes.{BoxesLeadOn};
@@ -63,4 +64,9 @@ pub fn containers_are_a_tree()
 /// The kind of a listed box says what its form said to box generation.
 pub fn kinds_say_forms()
     ensures { KindsSayForms }
+{}
+
+/// A context has few boxes beside the document's nodes and its depth.
+pub fn boxes_are_few()
+    ensures { BoxesAreFew }
 {}

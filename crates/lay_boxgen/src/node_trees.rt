@@ -1,6 +1,7 @@
 //! From the nodes of a document to trees of boxes.
 
 ghost use Rattle.std.specs.Prelude.{◌≡◌, ◌<◌, ◌≤◌, ◌+◌, ℕ, List, OnOk, IfOk, drop, length, option_map, reverse, slice_index};
+ghost use Rattle.lay_units.specs.Limits.{most_nodes};
 ghost use Rattle.lay_doc.specs.Document.{parents_of};
 ghost use Rattle.lay_boxgen.specs.Boxes.{tree, no_trees};
 ghost use Rattle.lay_boxgen.specs.CutTrees.{as_leaf, cut_tree_at};
@@ -115,7 +116,7 @@ fn grow(
     styles: &[Style],
 ) -> Result<Vec<NodeTree>, NoMemory>
     requires styles { length styles.now ≡ length nodes.now }
-    requires few { first + length nodes.now ≤ 16384 }
+    requires few { first + length nodes.now ≤ most_nodes }
     ensures { IfOk result (λ v. reverse v.items ≡ node_trees as_leaf first nodes.now styles.now) }
 {
     let mut stack = Vec::new(alloc);
@@ -182,7 +183,7 @@ pub fn context_tree(
 ) -> Result<Option<Subtree>, NoMemory>
     requires place { place < length nodes.now }
     requires styles { length styles.now ≡ length nodes.now }
-    requires few { length nodes.now ≤ 16384 }
+    requires few { length nodes.now ≤ most_nodes }
     ensures { IfOk result (λ t. t ≡ cut_tree_at nodes.now styles.now place) }
 {
     let end = subtree_end(nodes, place);

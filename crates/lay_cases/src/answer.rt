@@ -2,22 +2,20 @@
 
 ghost use Rattle.std.specs.Prelude.{◌≡◌, ◌↔◌, IsTrue, string_bytes};
 
-use lay_outside::MemSink;
-
 /// What a call gave.
 #[derive(Drop)]
 pub struct Answer {
     status: String,
-    sink: MemSink,
+    bytes: Vec<u8>,
 }
 
 impl Answer {
-    /// A call's status, by its name, and the sink that it wrote to.
-    pub fn new(status: String, sink: MemSink) -> Answer
+    /// A call's status, by its name, and the bytes that it wrote.
+    pub fn new(status: String, bytes: Vec<u8>) -> Answer
         ensures status { result.status ≡ status }
-        ensures sink { result.sink ≡ sink }
+        ensures bytes { result.bytes ≡ bytes }
     {
-        Answer { status, sink }
+        Answer { status, bytes }
     }
 
     /// The status, by its name.
@@ -27,11 +25,11 @@ impl Answer {
         self.status.as_str()
     }
 
-    /// The bytes that were taken.
+    /// The bytes that it wrote.
     pub fn bytes(&self) -> &[u8]
-        ensures { result.now ≡ self.now.sink.bytes }
+        ensures { result.now ≡ self.now.bytes.items }
     {
-        self.sink.bytes()
+        self.bytes.as_slice()
     }
 }
 
@@ -55,7 +53,7 @@ impl<'a> Wanted<'a> {
 
     /// Whether an answer is the wanted one.
     pub fn is(&self, answer: &Answer) -> bool
-        ensures { IsTrue result ↔ ((string_bytes answer.now.status ≡ self.now.status.now) × (answer.now.sink.bytes ≡ self.now.text.now)) }
+        ensures { IsTrue result ↔ ((string_bytes answer.now.status ≡ self.now.status.now) × (answer.now.bytes.items ≡ self.now.text.now)) }
     {
         answer.status() == self.status && answer.bytes() == self.text.as_bytes()
     }

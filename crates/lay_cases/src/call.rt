@@ -21,7 +21,7 @@ pub fn call<R: Threads + Wait + Sync>(
     let mut sink = sink(alloc, terms.room(), terms.writing())?;
     let status = status(rt, alloc, &words, &mut source, &mut sink);
     let status = format!(in alloc; "{status:?}")?;
-    Ok(Answer::new(status, sink))
+    Ok(Answer::new(status, sink.bytes().to_vec(alloc)?))
 }
 
 fn status<R: Threads + Wait + Sync>(

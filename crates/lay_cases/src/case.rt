@@ -12,7 +12,8 @@
 //! ```
 //!
 //! Between two cases stands an empty line. The line `with ..` has the terms that aren't plain (`terms.rt`), and is left
-//! out where all are. A document may have lines that stand for copies (`copies.rt`).
+//! out where all are. A document may have lines that stand for copies (`copies.rt`). Under `answer Read` stands what the
+//! document is read as (`reading.rt`).
 
 use crate::answer::Wanted;
 use crate::terms::Terms;

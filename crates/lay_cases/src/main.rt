@@ -12,6 +12,7 @@ mod call;
 mod case;
 mod copies;
 mod folder;
+mod reading;
 mod terms;
 
 use crate::answer::Wanted;
@@ -19,6 +20,7 @@ use crate::call::call;
 use crate::case::Case;
 use crate::copies::with_copies;
 use crate::folder::names;
+use crate::reading::reading;
 use crate::terms::{PLAIN, Terms};
 use anyhow::{Context, Result, bail};
 use std::rt::Files;
@@ -122,7 +124,8 @@ fn read_document(rt: &(impl Files + AllocGlobal), data: &str, name: &str) -> Res
     fs::read(rt, path.as_str()).context("reading a run document")
 }
 
-/// Makes a call, and prints whether its answer is the wanted one, and else what it is.
+/// Makes a call, or reads a document where that is wanted, and prints whether the answer is the wanted one, and else
+/// what it is.
 fn try_case<R: Threads + Wait + Sync + Print + AllocGlobal>(
     rt: &R,
     name: &str,
@@ -130,7 +133,11 @@ fn try_case<R: Threads + Wait + Sync + Print + AllocGlobal>(
     terms: &Terms<'_>,
     wanted: &Wanted<'_>,
 ) -> Result<()> {
-    let answer = call(rt, rt.alloc(), terms, document)?;
+    let answer = if wanted.status == "Read" {
+        reading(rt.alloc(), &document)?
+    } else {
+        call(rt, rt.alloc(), terms, document)?
+    };
     if wanted.is(&answer) {
         println!(rt; "{name}: ok")?;
     } else {

@@ -61,7 +61,7 @@ abbrev pub is_built_at : List Node → List Style → List Bool → ℕ → Bool
 is_built_at nodes styles hidden k = hidden_at hidden k || (is_element_at nodes k && is_built_style (k == 0) (style_at styles k))
 
 abbrev pub is_built_place : List Node → List Style → List Bool → Option ℕ → Bool
-is_built_place nodes styles hidden None = true
+is_built_place nodes styles hidden None = false
 is_built_place nodes styles hidden (Some k) = is_built_at nodes styles hidden k
 
 -- the same of the node with an id

@@ -1,14 +1,15 @@
 //! Which nodes are laid out so far.
 
 ghost use Rattle.std.specs.Prelude.{◌≡◌, ◌<◌, List, Bool, length, IfOk};
-ghost use Rattle.lay_doc.specs.Document.{IsDocument, is_element_at, parents_of};
-ghost use Rattle.lay_doc.specs.ComputedStyle.{style_at};
+ghost use Rattle.lay_doc.specs.Document.{IsDocument, parents_of};
 ghost use Rattle.lay_boxgen.specs.Display.{is_floated};
 ghost use Rattle.lay_cli.specs.Built.{AreHidden, is_block, is_static, is_auto, shrinks_to_fit, is_built_style, is_built_at, is_built_place, is_built, first_unbuilt};
 
 use crate::hidden::{hidden, hidden_at};
 use lay_boxgen::{flow_of, used_display};
-use lay_doc::{Display, Doc, Float, LengthPercentageOrAuto, Node, NodeId, Position, Style};
+use lay_doc::{
+    Display, Doc, Float, LengthPercentageOrAuto, Node, NodeId, Position, Style, is_element_at, style_at,
+};
 use lay_units::NoMemory;
 use std::alloc::Global;
 
@@ -57,7 +58,7 @@ fn is_built(doc: &Doc, nodes: &[Node], styles: &[Style], hidden: &[bool], id: No
 {
     match doc.find(id) {
         Some(place) => is_built_at(nodes, styles, hidden, place),
-        None => true,
+        None => false,
     }
 }
 
@@ -69,20 +70,6 @@ fn is_built_at(nodes: &[Node], styles: &[Style], hidden: &[bool], place: usize) 
 {
     hidden_at(hidden, place)
         || is_element_at(nodes, place) && is_built_style(place == 0, style_at(styles, place))
-}
-
-fn is_element_at(nodes: &[Node], place: usize) -> bool
-    requires { place < length nodes.now }
-    ensures { result ≡ is_element_at nodes.now place }
-{
-    nodes[place].kind.is_element()
-}
-
-pub(crate) fn style_at(styles: &[Style], place: usize) -> &Style
-    requires { place < length styles.now }
-    ensures { result.now ≡ style_at styles.now place }
-{
-    &styles[place]
 }
 
 fn is_built_style(is_root: bool, style: &Style) -> bool

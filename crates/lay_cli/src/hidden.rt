@@ -1,13 +1,12 @@
 //! Which nodes are under `display: none`.
 
-ghost use Rattle.std.specs.Prelude.{◌≡◌, ◌+◌, ◌<◌, ◌∷◌, [], ◌++◌, length, slice_index, IfOk, OnOk};
+ghost use Rattle.std.specs.Prelude.{◌≡◌, ◌+◌, ◌<◌, ◌∷◌, [], ◌++◌, length, IfOk, OnOk};
 ghost use Rattle.lay_doc.specs.Tree.{IsTree};
 ghost use Rattle.lay_doc.specs.Document.{parents_of};
 ghost use Rattle.lay_boxgen.specs.Display.{is_none};
 ghost use Rattle.lay_cli.specs.Built.{AreHidden, hidden_at, is_hidden_above, is_hidden};
 
-use crate::built::style_at;
-use lay_doc::{Display, Node, Style};
+use lay_doc::{Display, Node, Style, parent_at, style_at};
 use lay_units::NoMemory;
 use std::alloc::Global;
 
@@ -52,13 +51,6 @@ fn is_none(display: Display) -> bool
     ensures { result ≡ is_none display }
 {
     matches!(display, Display::None)
-}
-
-fn parent_at(nodes: &[Node], k: usize) -> usize
-    requires { k < length nodes.now }
-    ensures { result ≡ slice_index (parents_of nodes.now) k }
-{
-    nodes[k].parent
 }
 
 pub(crate) fn hidden_at(hidden: &[bool], k: usize) -> bool

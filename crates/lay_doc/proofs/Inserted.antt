@@ -1,16 +1,18 @@
 -- The columns of a list of nodes after one was put into it, and the document that it then is.
 use Rattle.std.proofs.Common.{set, ◌≡◌, ℕ, ◌+◌, ◌-◌, ◌<◌, ◌≤◌, List, [], ◌∷◌, ◌++◌, length, get_or, refl, sym, ap, ◌∙◌, arith, Bool, true, false, inl, inr, take, drop, map, subst, None, suc, zero}
-use Rattle.std.specs.List.{insert}
+use Rattle.std.specs.List.{All, insert}
 use Rattle.std.specs.Prelude.{sum}
 use Rattle.std.proofs.lemmas.Bool.{cases_lt}
 use Rattle.std.proofs.lemmas.List.{get_or_default, get_or-map, map-append, take-map, drop-map}
+use Rattle.std.proofs.lemmas.List.Elements.{All-append, All-cons, All-take, All-drop, All-map}
 use Rattle.std.proofs.lemmas.List.Edits.{map_over_more, length-insert, get_or-insert_below, get_or-insert_at, get_or-insert_above}
 use Rattle.std.proofs.lemmas.List.Sums.{sum-map, sum_by-insert}
 use Rattle.std.proofs.lemmas.Grind.{common_steps}
+use Rattle.lay_units.specs.Limits.{longest_text, most_depth, most_nodes, most_text}
 use Rattle.lay_doc.specs.declared.node.Node.{Node}
 use Rattle.lay_doc.specs.NewNodes.{is_element}
 use Rattle.lay_doc.specs.Tree.{IsSlot, IsTree, children_before, shifted}
-use Rattle.lay_doc.specs.Document.{Document, IsDocument, parents_of, ids_of, depths_of, text_lengths_of, text_size, is_element_at, place_of, moved, inserted}
+use Rattle.lay_doc.specs.Document.{Document, IsDocument, IsNode, parents_of, ids_of, depths_of, text_lengths_of, text_size, is_element_at, place_of, moved, inserted}
 use Rattle.lay_doc.proofs.PutTrees.{Puts, puts_tree, shifted_low, shifted_high}
 use Rattle.lay_doc.proofs.NodeColumns.{length-column, length-parents, length-ids, length-depths, length-texts, length-elements, elements_of, element_column}
 use Rattle.lay_doc.proofs.Places.{place_none}
@@ -175,11 +177,17 @@ pub record HasRoom (d : Document) (at : ℕ) (node : Node) : Type 0 where
   pub of_element : is_element_at d.nodes node.parent ≡ true
   pub fresh : place_of node.id.0 (ids_of d.nodes) ≡ None
   pub has_name : 0 < node.id.0
-  pub room : length d.nodes < 16384
+  pub room : length d.nodes < most_nodes
   pub deeper : node.depth ≡ get_or (depths_of d.nodes) node.parent 0 + 1
-  pub not_deep : get_or (depths_of d.nodes) node.parent 0 < 128
-  pub not_long : length node.text ≤ 65536
-  pub texts_fit : text_size d.nodes + length node.text ≤ 1048576
+  pub not_deep : get_or (depths_of d.nodes) node.parent 0 < most_depth
+  pub not_long : length node.text ≤ longest_text
+  pub form : IsNode node
+  pub texts_fit : text_size d.nodes + length node.text ≤ most_text
+
+-- what holds of each node holds of each with one put in
+forms_inserted : (nodes : List Node) (at : ℕ) (node : Node) → All IsNode nodes → IsNode node → All IsNode (inserted nodes at node)
+forms_inserted nodes at node all one =
+    All-map IsNode (moved at) (insert nodes at node) (All-append IsNode (take at nodes) (node ∷ drop at nodes) (All-take IsNode at nodes all) (All-cons IsNode node (drop at nodes) one (All-drop IsNode at nodes all)))
 
 -- a document stays one when a node is put at a slot
 pub put_document : (d : Document) → IsDocument d → (at : ℕ) (node : Node) → HasRoom d at node → IsDocument (record d { nodes = inserted d.nodes at node })
@@ -201,6 +209,7 @@ put_document d is at node fits =
       some = omega (arith, count);
       few = omega (arith, count, fits.room);
       tree = puts_tree (parents_of d.nodes) (parents_of nodes) node.parent (children_before (parents_of d.nodes) node.parent at) at is.tree (omega (arith, fits.has_parent)) slot puts;
+      forms = forms_inserted d.nodes at node is.forms fits.form;
       root_element = root_insert d.nodes at node (omega (arith, slot.after)) within is.root_element;
       parent_elements = λ k positive lt. parents_insert d.nodes at node within slot.after is.parent_elements fits.of_element k positive (omega (arith, count));
       ids = λ j k less lt same. distinct_insert (ids_of d.nodes) at node.id.0 (omega arith) (λ a b ab bl. is.ids a b ab (omega arith))
@@ -209,8 +218,8 @@ put_document d is at node fits =
       named = λ k lt. rw (ids_inserted d.nodes at node) (each_insert (λ (v : ℕ). 0 < v) (ids_of d.nodes) at node.id.0 (omega arith) (λ a al. is.named a (omega arith)) fits.has_name k (omega (arith, count)));
       depth_root = rw (depths_inserted d.nodes at node) (get_or-insert_below (depths_of d.nodes) at node.depth 0 0 (omega (arith, slot.after)) (omega arith) ∙ is.depth_root);
       depth = λ k positive lt. depth_insert d.nodes at node within slot.after is.depth fits.deeper k positive (omega (arith, count));
-      shallow = λ k lt. rw (depths_inserted d.nodes at node) (each_insert (λ (v : ℕ). v ≤ 128) (depths_of d.nodes) at node.depth (omega arith) (λ a al. is.shallow a (omega arith)) (omega (arith, fits.deeper, fits.not_deep)) k (omega (arith, count)));
-      short = λ k lt. rw (texts_inserted d.nodes at node) (each_insert (λ (v : ℕ). v ≤ 65536) (text_lengths_of d.nodes) at (length node.text) (omega arith) (λ a al. is.short a (omega arith)) fits.not_long k (omega (arith, count)));
+      shallow = λ k lt. rw (depths_inserted d.nodes at node) (each_insert (λ (v : ℕ). v ≤ most_depth) (depths_of d.nodes) at node.depth (omega arith) (λ a al. is.shallow a (omega arith)) (omega (arith, fits.deeper, fits.not_deep)) k (omega (arith, count)));
+      short = λ k lt. rw (texts_inserted d.nodes at node) (each_insert (λ (v : ℕ). v ≤ longest_text) (text_lengths_of d.nodes) at (length node.text) (omega arith) (λ a al. is.short a (omega arith)) fits.not_long k (omega (arith, count)));
       small = omega (arith, text_size_inserted d.nodes at node, fits.texts_fit);
     }
 

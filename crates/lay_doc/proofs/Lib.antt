@@ -11,3 +11,5 @@ pub mod Subtrees
 pub mod Cut
 pub mod Removed
 pub mod OneStyles
+pub mod FoundSlots
+pub mod EditedDocuments

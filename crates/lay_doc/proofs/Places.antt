@@ -36,3 +36,10 @@ place_fresh n [] fresh = refl
 place_fresh n (x ∷ xs) fresh =
     let rest = place_fresh n xs (λ k lt. fresh (suc k) (omega arith)) in
     place_later n x xs (fresh 0 (omega arith)) ∙ ap (option_map suc) rest
+
+pub place_within : (id : ℕ) (ids : List ℕ) (k : ℕ) → place_of id ids ≡ Some k → k < length ids
+place_within id [] k e = absurd cc
+place_within id (x ∷ xs) k e = elim (cases_eq x id) [
+  | inl same ↦ (let h = sym (place_here id x xs same) ∙ e in let z : 0 ≡ k = cc in omega (arith, z))
+  | inr other ↦ (let n = map_some (place_of id xs) k (sym (place_later id x xs other) ∙ e) in let within = place_within id xs n.before n.is in omega (arith, within, n.next))
+]

@@ -4,11 +4,13 @@ use Rattle.std.specs.Prelude.{sum}
 use Rattle.std.specs.List.{remove_range}
 use Rattle.std.proofs.lemmas.Bool.{cases_lt, lt-ltb, le-ltb}
 use Rattle.std.proofs.lemmas.List.{get_or-map}
+use Rattle.std.proofs.lemmas.List.Elements.{All-append, All-take, All-drop, All-map}
 use Rattle.std.proofs.lemmas.List.Sums.{sum-map, sum_by-append, sum_by-drop_more}
+use Rattle.lay_units.specs.Limits.{longest_text, most_depth, most_text}
 use Rattle.lay_doc.specs.declared.node.Node.{Node}
 use Rattle.lay_doc.specs.NewNodes.{is_element}
 use Rattle.lay_doc.specs.Tree.{IsTree, IsSlot, child_count}
-use Rattle.lay_doc.specs.Document.{Document, IsDocument, parents_of, ids_of, depths_of, text_lengths_of, text_size}
+use Rattle.lay_doc.specs.Document.{Document, IsDocument, IsNode, parents_of, ids_of, depths_of, text_lengths_of, text_size}
 use Rattle.lay_doc.specs.Removal.{closed_up, moved_back, removed_between}
 use Rattle.lay_doc.proofs.NodeColumns.{length-column, length-parents, length-ids, length-depths, length-texts, length-elements, elements_of, element_column}
 use Rattle.lay_doc.proofs.Inserted.{map-map}
@@ -123,7 +125,7 @@ each_cut : (P : ℕ → Type 0) (xs : List ℕ) (p e : ℕ) → p ≤ e → e �
 each_cut P xs p e le within all k lt = subst P (sym (cut_read xs p e k 0 le within)) (all (old_place p e k) (old_inside p e k (length xs) lt))
 
 -- a document stays one when a subtree is taken out
-pub removed_document : (d : Document) (p e : ℕ) → IsDocument d → CutsSubtree (parents_of d.nodes) p e → text_size (remove_range d.nodes p e) ≤ 1048576 → IsDocument (record d { nodes = removed_between d.nodes p e })
+pub removed_document : (d : Document) (p e : ℕ) → IsDocument d → CutsSubtree (parents_of d.nodes) p e → text_size (remove_range d.nodes p e) ≤ most_text → IsDocument (record d { nodes = removed_between d.nodes p e })
 removed_document d p e is cuts small =
     let nodes : List Node = removed_between d.nodes p e in
     let le : p ≤ e = omega (arith, cuts.slot.after) in
@@ -148,6 +150,7 @@ removed_document d p e is cuts small =
       some = omega (arith, cuts.not_root, cuts.slot.after);
       few = omega (arith, is.few);
       tree = closes_tree (parents_of d.nodes) (parents_of nodes) p e cuts closes;
+      forms = All-map IsNode (moved_back p e) (remove_range d.nodes p e) (All-append IsNode (take p d.nodes) (drop e d.nodes) (All-take IsNode p d.nodes is.forms) (All-drop IsNode e d.nodes is.forms));
       root_element = element_column nodes 0 ∙ rw (elements_removed d.nodes p e) (cut_read (elements_of d.nodes) p e 0 false le (omega arith)
           ∙ ap (λ (m : ℕ). get_or (elements_of d.nodes) m false) first ∙ sym (element_column d.nodes 0) ∙ is.root_element);
       parent_elements = λ k positive lt. element_column nodes (get_or (parents_of nodes) k 0) ∙ rw (elements_removed d.nodes p e) (cut_read (elements_of d.nodes) p e (get_or (parents_of nodes) k 0) false le (omega arith)
@@ -159,8 +162,8 @@ removed_document d p e is cuts small =
       depth_root = rw (depths_removed d.nodes p e) (depth_read 0 ∙ ap (λ (m : ℕ). get_or (depths_of d.nodes) m 0) first ∙ is.depth_root);
       depth = λ k positive lt. rw (depths_removed d.nodes p e) (depth_read k ∙ is.depth (old_place p e k) (omega (arith, old_more p e k)) (inside k lt)
           ∙ ap (λ (m : ℕ). get_or (depths_of d.nodes) m 0 + 1) (sym (same k lt)) ∙ ap (λ (m : ℕ). m + 1) (sym (depth_read (get_or (parents_of nodes) k 0))));
-      shallow = λ k lt. rw (depths_removed d.nodes p e) (each_cut (λ (v : ℕ). v ≤ 128) (depths_of d.nodes) p e le (omega arith) (λ a al. is.shallow a (omega arith)) k (omega arith));
-      short = λ k lt. rw (texts_removed d.nodes p e) (each_cut (λ (v : ℕ). v ≤ 65536) (text_lengths_of d.nodes) p e le (omega arith) (λ a al. is.short a (omega arith)) k (omega arith));
+      shallow = λ k lt. rw (depths_removed d.nodes p e) (each_cut (λ (v : ℕ). v ≤ most_depth) (depths_of d.nodes) p e le (omega arith) (λ a al. is.shallow a (omega arith)) k (omega arith));
+      short = λ k lt. rw (texts_removed d.nodes p e) (each_cut (λ (v : ℕ). v ≤ longest_text) (text_lengths_of d.nodes) p e le (omega arith) (λ a al. is.short a (omega arith)) k (omega arith));
       small = omega (arith, text_size_removed d.nodes p e);
     }
 

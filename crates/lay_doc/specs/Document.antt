@@ -1,8 +1,9 @@
 -- A document: a viewport in px, and its nodes in document order, each with the place of its parent.
 use Rattle.std.specs.Prelude.{ℕ, zero, ◌≡◌, ◌+◌, ◌<◌, ◌≤◌, List, [], ◌∷◌, map, length, sum_by, slice_index, Option, Some, None, option_map, suc, ◌==◌, ◌||◌, nat_lt, Bool, true, false, if◌then◌else◌}
-use Rattle.std.specs.List.{insert}
+use Rattle.std.specs.List.{All, insert}
+use Rattle.lay_units.specs.Limits.{longest_text, most_depth, most_nodes, most_text}
 use Rattle.lay_doc.specs.declared.node.Node.{Node}
-use Rattle.lay_doc.specs.NewNodes.{NewNodeValue, is_element, is_text}
+use Rattle.lay_doc.specs.NewNodes.{NewNodeValue, IsNodeForm, is_element, is_text}
 use Rattle.lay_doc.specs.Tree.{IsTree, shifted}
 
 pub record Document : Type 0 where
@@ -28,7 +29,7 @@ text_size nodes = sum_by (λ n. length n.text) nodes
 
 -- a text of this many bytes is too long beside others of so many bytes
 abbrev pub is_too_long : ℕ → ℕ → Bool
-is_too_long others bytes = nat_lt 65536 bytes || nat_lt 1048576 (others + bytes)
+is_too_long others bytes = nat_lt longest_text bytes || nat_lt most_text (others + bytes)
 
 -- whether the node at a place is an element
 abbrev pub is_element_at : List Node → ℕ → Bool
@@ -47,7 +48,11 @@ abbrev pub place_of : ℕ → List ℕ → Option ℕ
 place_of id [] = None
 place_of id (x ∷ xs) = if x == id then Some 0 else option_map suc (place_of id xs)
 
--- ids differ and aren't 0, the first node is an element without parent, each other node's parent is an
+-- the node is what one of its kind may be
+abbrev pub IsNode : Node → Type 0
+IsNode n = IsNodeForm n.kind n.decls n.text
+
+-- ids differ and aren't 0, each node is what one of its kind may be, the first node is an element without parent, each other node's parent is an
 -- element before it, the nodes of each subtree stand together, and the limits hold
 pub record IsDocument (d : Document) : Type 0 where
   pub wide : 1 ≤ d.width
@@ -55,17 +60,18 @@ pub record IsDocument (d : Document) : Type 0 where
   pub high : 1 ≤ d.height
   pub low : d.height ≤ 1000000
   pub some : 0 < length d.nodes
-  pub few : length d.nodes ≤ 16384
+  pub few : length d.nodes ≤ most_nodes
   pub tree : IsTree (parents_of d.nodes)
+  pub forms : All IsNode d.nodes
   pub root_element : is_element_at d.nodes 0 ≡ true
   pub parent_elements : (k : ℕ) → 0 < k → k < length d.nodes → is_element_at d.nodes (slice_index (parents_of d.nodes) k) ≡ true
   pub ids : (j k : ℕ) → j < k → k < length d.nodes → slice_index (ids_of d.nodes) j ≡ slice_index (ids_of d.nodes) k → ⊥
   pub named : (k : ℕ) → k < length d.nodes → 0 < slice_index (ids_of d.nodes) k
   pub depth_root : slice_index (depths_of d.nodes) 0 ≡ 1
   pub depth : (k : ℕ) → 0 < k → k < length d.nodes → slice_index (depths_of d.nodes) k ≡ slice_index (depths_of d.nodes) (slice_index (parents_of d.nodes) k) + 1
-  pub shallow : (k : ℕ) → k < length d.nodes → slice_index (depths_of d.nodes) k ≤ 128
-  pub short : (k : ℕ) → k < length d.nodes → slice_index (text_lengths_of d.nodes) k ≤ 65536
-  pub small : text_size d.nodes ≤ 1048576
+  pub shallow : (k : ℕ) → k < length d.nodes → slice_index (depths_of d.nodes) k ≤ most_depth
+  pub short : (k : ℕ) → k < length d.nodes → slice_index (text_lengths_of d.nodes) k ≤ longest_text
+  pub small : text_size d.nodes ≤ most_text
 
 -- a node whose parent's place is moved by a node put before the place `at`
 abbrev pub moved : ℕ → Node → Node

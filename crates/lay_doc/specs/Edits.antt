@@ -1,5 +1,6 @@
 -- The first fault of an edit, and the document after an edit that has none.
 use Rattle.std.specs.Prelude.{ℕ, ◌+◌, ◌==◌, ◌||◌, not, List, length, slice_index, Option, Some, None, nat_lt, nat_le, is_some, if◌then◌else◌}
+use Rattle.lay_units.specs.Limits.{most_depth, most_nodes}
 use Rattle.lay_doc.specs.declared.node.Node.{Node}
 use Rattle.lay_doc.specs.declared.edit.Edit.{Edit}
 use Rattle.lay_doc.specs.declared.edit.Edit.TheVariants.{SetStyle, ClearStyle, SetText, Insert, Remove, Bad}
@@ -19,8 +20,8 @@ fault_below nodes p index new =
     if not (is_element_at nodes p) then Some NotElement
     else (if (new.id.0 == 0) || is_some (place_of new.id.0 (ids_of nodes)) then Some IdTaken
     else (if nat_lt (child_count (parents_of nodes) p) index then Some BadIndex
-    else (if nat_le 16384 (length nodes) then Some TooManyNodes
-    else (if nat_le 128 (slice_index (depths_of nodes) p) then Some TooDeep
+    else (if nat_le most_nodes (length nodes) then Some TooManyNodes
+    else (if nat_le most_depth (slice_index (depths_of nodes) p) then Some TooDeep
     else (if is_too_long (text_size nodes) (length new.text) then Some TextTooLong
     else None)))))
 

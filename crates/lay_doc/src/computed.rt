@@ -1,6 +1,7 @@
 //! The computed styles of a document.
 
-ghost use Rattle.std.specs.Prelude.{◌≡◌, IfOk};
+ghost use Rattle.std.specs.Prelude.{◌≡◌, ◌<◌, length, IfOk};
+ghost use Rattle.lay_doc.specs.ComputedStyle.{style_at};
 
 use crate::style::Style;
 use lay_units::NoMemory;
@@ -22,6 +23,14 @@ impl Model for Computed {
     ghost view = { λ c. c.styles.items };
 }
 
+/// The style at a place of a list of styles.
+pub fn style_at(styles: &[Style], place: usize) -> &Style
+    requires { place < length styles.now }
+    ensures { result.now ≡ style_at styles.now place }
+{
+    &styles[place]
+}
+
 impl Computed {
     /// The list of these styles, which is taken over without a copy.
     pub fn new(styles: Vec<Style>) -> Computed
@@ -35,6 +44,14 @@ impl Computed {
         ensures { result.now ≡ self.now }
     {
         self.styles.as_slice()
+    }
+
+    /// The style of the node at a place.
+    pub fn at(&self, place: usize) -> &Style
+        requires { place < length self.now }
+        ensures { result.now ≡ style_at self.now place }
+    {
+        style_at(self.as_slice(), place)
     }
 
     /// An equal list.

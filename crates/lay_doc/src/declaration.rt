@@ -33,6 +33,9 @@ impl Model for Decl {
 }
 
 impl Decl {
+    ghost use Rattle.std.specs.Prelude.{IsTrue};
+    ghost use Rattle.lay_doc.specs.Values.{is_value_of};
+
     /// The declaration, or None where the value isn't one of the property's.
     pub fn new(property: Property, value: Given) -> Option<Decl>
         ensures { result ≡ declaration_of property value }
@@ -51,9 +54,10 @@ impl Decl {
         self.property
     }
 
-    /// Its value.
+    /// Its value, which is one of the property's.
     pub fn value(&self) -> Given
-        ensures { result ≡ self.now.value }
+        ensures value { result ≡ self.now.value }
+        ensures fits { IsTrue (is_value_of self.now.property self.now.value) }
     {
         self.value
     }
@@ -78,6 +82,8 @@ impl Model for Decls {
 }
 
 impl Decls {
+    ghost use Rattle.lay_doc.specs.Declarations.{AreDistinct};
+
     /// No declarations; nothing is allocated.
     pub fn new(alloc: Global) -> Decls
         ensures { result ≡ [] }
@@ -126,9 +132,10 @@ impl Decls {
         self.items.is_empty()
     }
 
-    /// The declarations, in the order in which their properties were first set.
+    /// The declarations, in the order in which their properties were first set. None is for the property of another.
     pub fn as_slice(&self) -> &[Decl]
-        ensures { result.now ≡ self.now }
+        ensures declarations { result.now ≡ self.now }
+        ensures distinct { AreDistinct self.now }
     {
         self.items.as_slice()
     }

@@ -1,15 +1,16 @@
 //! A document.
 
-ghost use Rattle.std.specs.Prelude.{◌≡◌, ◌↔◌, ◌+◌, ◌<◌, ◌≤◌, ◌==◌, length, slice_index, true, Some, None, Err, IfOk, IfErr, IfSome, OnOk, OnErr};
-ghost use Rattle.lay_doc.specs.Document.{IsDocument, ids_of, parents_of, depths_of, text_size, is_element_at, place_of, inserted, becomes, root_document};
+ghost use Rattle.std.specs.Prelude.{◌≡◌, ◌↔◌, ◌+◌, ◌<◌, ◌≤◌, ◌==◌, length, slice_index, true, false, Some, None, Err, IfOk, IfErr, IfSome, OnOk, OnErr};
+ghost use Rattle.lay_units.specs.Limits.{longest_text, most_depth, most_nodes, most_text};
+ghost use Rattle.lay_doc.specs.Document.{IsDocument, ids_of, parents_of, depths_of, text_size, is_element_at, is_text_at, place_of, inserted, becomes, root_document};
 ghost use Rattle.lay_doc.specs.NodeRefs.{node_at, parent_id};
-ghost use Rattle.lay_doc.specs.Tree.{IsSlot, children_before, child_count};
+ghost use Rattle.lay_doc.specs.Tree.{IsSlot, children_before, child_count, end_of};
 ghost use Rattle.lay_doc.specs.Changes.{style_fault, text_fault, text_fault_at, with_style, without_style, with_text, changed_at, after_change};
 ghost use Rattle.lay_doc.specs.Removal.{remove_fault, removed, after_remove};
 ghost use Rattle.lay_doc.specs.Edits.{root_fault, fault, after, insert_fault, fault_below, last_index, after_insert, inserted_below};
 
 use crate::changing::{clear_style, set_style, set_text};
-use crate::columns::{depth_at, id_at, is_text_at, parent_at, text_bytes_at};
+use crate::columns::{depth_at, id_at, is_element_at, is_text_at, parent_at, text_bytes_at};
 use crate::declaration::Decl;
 use crate::edit::{Edit, EditFault};
 use crate::faults::{limit_fault, parent_or_id_fault, text_fault_at};
@@ -143,6 +144,30 @@ impl Doc {
         ensures valid { IsDocument self.now }
     {
         &self.nodes
+    }
+
+    /// The place of the parent of the node at a place; 0 for the root.
+    pub fn parent_place(&self, place: usize) -> usize
+        requires { place < length self.now.nodes }
+        ensures { result ≡ slice_index (parents_of self.now.nodes) place }
+    {
+        parent_at(&self.nodes, place)
+    }
+
+    /// Whether the node at a place is an element.
+    pub fn is_element(&self, place: usize) -> bool
+        requires { place < length self.now.nodes }
+        ensures { result ≡ is_element_at self.now.nodes place }
+    {
+        is_element_at(&self.nodes, place)
+    }
+
+    /// The place behind the node at a place and its descendants.
+    pub fn end_of(&self, place: usize) -> usize
+        requires { place < length self.now.nodes }
+        ensures { result ≡ end_of (parents_of self.now.nodes) place }
+    {
+        last_slot(&self.nodes, place)
     }
 
     /// Err with the first fault of an edit (E1 to E11, in their order). It takes no memory.
@@ -315,7 +340,8 @@ impl Doc {
 
     /// Sets a declaration of the node at a place.
     fn set_style_at(&mut self, place: usize, decl: Decl) -> Result<(), NoMemory>
-        requires { place < length self.old.nodes }
+        requires place { place < length self.old.nodes }
+        requires no_text { is_text_at self.old.nodes place ≡ false }
         ensures ok { OnOk result (self.new ≡ record self.old { nodes = changed_at place (with_style decl) self.old.nodes }) }
         ensures err { OnErr result (self.new ≡ self.old) }
     {
@@ -325,7 +351,8 @@ impl Doc {
 
     /// Takes away what the node at a place declares for a property.
     fn clear_style_at(&mut self, place: usize, property: Property)
-        requires { place < length self.old.nodes }
+        requires place { place < length self.old.nodes }
+        requires no_text { is_text_at self.old.nodes place ≡ false }
         ensures { self.new ≡ record self.old { nodes = changed_at place (without_style property) self.old.nodes } }
     {
         clear_style(&mut self.nodes, place, property);
@@ -419,10 +446,10 @@ impl Doc {
         requires element { is_element_at self.old.nodes place ≡ true }
         requires fresh { place_of new.id.0 (ids_of self.old.nodes) ≡ None }
         requires named { 0 < new.id.0 }
-        requires few { length self.old.nodes < 16384 }
-        requires shallow { slice_index (depths_of self.old.nodes) place < 128 }
-        requires short { length new.text ≤ 65536 }
-        requires small { text_size self.old.nodes + length new.text ≤ 1048576 }
+        requires few { length self.old.nodes < most_nodes }
+        requires shallow { slice_index (depths_of self.old.nodes) place < most_depth }
+        requires short { length new.text ≤ longest_text }
+        requires small { text_size self.old.nodes + length new.text ≤ most_text }
         ensures ok { OnOk result (self.new ≡ record self.old { nodes = inserted self.old.nodes at (becomes new place (slice_index (depths_of self.old.nodes) place + 1)) }) }
         ensures err { OnErr result (self.new ≡ self.old) }
     {

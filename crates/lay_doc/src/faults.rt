@@ -1,6 +1,7 @@
 //! The faults of putting a node below a parent that is there.
 
 ghost use Rattle.std.specs.Prelude.{◌≡◌, ◌<◌, ◌≤◌, length};
+ghost use Rattle.lay_units.specs.Limits.{most_text};
 ghost use Rattle.lay_doc.specs.Document.{ids_of, is_too_long, text_size};
 ghost use Rattle.lay_doc.specs.Changes.{text_fault_at};
 ghost use Rattle.lay_doc.specs.Index.{IsIndexOf};
@@ -10,18 +11,7 @@ use crate::columns::{depth_at, is_element_at, is_text_at, text_bytes_at};
 use crate::edit::EditFault;
 use crate::index::IdIndex;
 use crate::node::Node;
-
-/// The most nodes that a document has.
-const NODES: usize = 16384;
-
-/// The greatest depth of a node.
-const DEPTH: u32 = 128;
-
-/// The most bytes of a text.
-const TEXT_BYTES: usize = 65536;
-
-/// The most bytes of all texts together.
-const ALL_TEXT_BYTES: usize = 1048576;
+use lay_units::{LONGEST_TEXT, MOST_DEPTH, MOST_NODES, MOST_TEXT};
 
 /// The first fault of the parent's place and the new node's id: E2, E4.
 pub fn parent_or_id_fault(
@@ -47,13 +37,13 @@ pub fn parent_or_id_fault(
 /// bytes of all texts so far.
 pub fn limit_fault(nodes: &[Node], others: usize, parent: usize, bytes: usize) -> Option<EditFault>
     requires parent { parent < length nodes.now }
-    requires others { others ≤ 1048576 }
+    requires others { others ≤ most_text }
     ensures { result ≡ limit_fault nodes.now others parent bytes }
 {
-    if nodes.len() >= NODES {
+    if nodes.len() >= MOST_NODES {
         return Some(EditFault::TooManyNodes);
     }
-    if depth_at(nodes, parent) >= DEPTH {
+    if depth_at(nodes, parent) >= MOST_DEPTH {
         return Some(EditFault::TooDeep);
     }
     if is_too_long(others, bytes) {
@@ -67,7 +57,7 @@ pub fn limit_fault(nodes: &[Node], others: usize, parent: usize, bytes: usize) -
 pub fn text_fault_at(nodes: &[Node], all: usize, place: usize, bytes: usize) -> Option<EditFault>
     requires place { place < length nodes.now }
     requires all { all ≡ text_size nodes.now }
-    requires small { all ≤ 1048576 }
+    requires small { all ≤ most_text }
     ensures { result ≡ text_fault_at nodes.now place bytes }
 {
     if !is_text_at(nodes, place) {
@@ -81,8 +71,8 @@ pub fn text_fault_at(nodes: &[Node], all: usize, place: usize, bytes: usize) -> 
 
 /// Whether a text of so many bytes is too long beside others.
 fn is_too_long(others: usize, bytes: usize) -> bool
-    requires { others ≤ 1048576 }
+    requires { others ≤ most_text }
     ensures { result ≡ is_too_long others bytes }
 {
-    bytes > TEXT_BYTES || others + bytes > ALL_TEXT_BYTES
+    bytes > LONGEST_TEXT || others + bytes > MOST_TEXT
 }

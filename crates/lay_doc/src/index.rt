@@ -3,6 +3,7 @@
 ghost use Rattle.std.specs.Prelude.{◌≡◌, ◌==◌, ◌<◌, ◌≤◌, ◌+◌, ◌-◌, ◌++◌, ◌∷◌, ℕ, [], None, Some, length, map, slice_index, vec_capacity, if◌then◌else◌, IfOk, OnOk, OnErr};
 ghost use Rattle.std.specs.BTreeMap.{get};
 ghost use Rattle.std.specs.Ordering.{nat_cmp};
+ghost use Rattle.lay_units.specs.Limits.{most_nodes};
 ghost use Rattle.lay_doc.specs.Tree.{shifted};
 ghost use Rattle.lay_doc.specs.Index.{number_in, place_in, HasPlaces, IsIndexOf};
 ghost use Rattle.lay_doc.specs.Document.{ids_of};
@@ -41,7 +42,7 @@ impl IdIndex {
         from: usize,
         to: usize,
     ) -> Result<IdIndex, NoMemory>
-        requires few { length nodes.now ≤ 16384 }
+        requires few { length nodes.now ≤ most_nodes }
         requires from { from ≤ to }
         requires to { to ≤ length nodes.now }
         requires apart { (j k : ℕ) → j < k → k < length nodes.now → slice_index (ids_of nodes.now) j ≡ slice_index (ids_of nodes.now) k → ⊥ }
@@ -66,7 +67,7 @@ impl IdIndex {
     /// Notes that a node with this id was put before the place `at`. On an error all is as before.
     pub fn add(&mut self, id: u32, at: usize) -> Result<(), NoMemory>
         requires fresh { number_in self.old id ≡ None }
-        requires few { length self.old.places.items ≤ 16384 }
+        requires few { length self.old.places.items ≤ most_nodes }
         requires within { (n : ℕ) → n < length self.old.places.items → slice_index self.old.places.items n < length self.old.places.items }
         ensures numbers { OnOk result ((x : ℕ) → number_in self.new x ≡ (if x == id then Some (length self.old.places.items) else number_in self.old x)) }
         ensures places { OnOk result (self.new.places.items ≡ map (shifted at) self.old.places.items ++ at ∷ []) }
@@ -110,7 +111,7 @@ fn add_number(numbers: &mut BTreeMap<u32, usize>, id: u32, number: usize) -> Res
 
 /// Moves the places for a node that is put before the place `at`: none, where that is behind them all.
 fn shift(places: &mut Vec<usize>, at: usize)
-    requires few { length places.old.items ≤ 16384 }
+    requires few { length places.old.items ≤ most_nodes }
     requires within { (n : ℕ) → n < length places.old.items → slice_index places.old.items n < length places.old.items }
     ensures items { places.new.items ≡ map (shifted at) places.old.items }
     ensures capacity { vec_capacity places.new ≡ vec_capacity places.old }
@@ -125,7 +126,7 @@ fn shift(places: &mut Vec<usize>, at: usize)
 
 /// A place, after one node was put before the place `at`.
 pub fn place_after(place: usize, at: usize) -> usize
-    requires { place < 16384 }
+    requires { place < most_nodes }
     ensures { result ≡ shifted at place }
 {
     if place < at { place } else { place + 1 }

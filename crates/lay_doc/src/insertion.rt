@@ -2,6 +2,7 @@
 
 ghost use Rattle.std.specs.Prelude.{◌≡◌, ◌<◌, ◌≤◌, ℕ, None, length, map, slice_index, slice_index_or, slice_set, vec_capacity, vec_len, OnOk, OnErr};
 ghost use Rattle.std.specs.List.{insert};
+ghost use Rattle.lay_units.specs.Limits.{most_nodes};
 ghost use Rattle.lay_doc.specs.Document.{ids_of, parents_of, place_of, moved, inserted};
 ghost use Rattle.lay_doc.specs.Tree.{IsTree};
 ghost use Rattle.lay_doc.specs.declared.node.Node.{Node};
@@ -20,7 +21,7 @@ pub fn put_node(
     node: Node,
 ) -> Result<(), NoMemory>
     requires at { at ≤ length nodes.old.items }
-    requires few { length nodes.old.items < 16384 }
+    requires few { length nodes.old.items < most_nodes }
     requires tree { IsTree (parents_of nodes.old.items) }
     requires parent { node.parent < at }
     requires fresh { place_of node.id.0 (ids_of nodes.old.items) ≡ None }
@@ -51,7 +52,7 @@ fn insert_within(nodes: &mut Vec<Node>, at: usize, node: Node)
 /// it stand before it too, so nothing is done where it is the last one.
 fn shift_parents(nodes: &mut Vec<Node>, at: usize)
     requires at { at ≤ length nodes.old.items }
-    requires small { (k : ℕ) → k < length nodes.old.items → slice_index (parents_of nodes.old.items) k < 16384 }
+    requires small { (k : ℕ) → k < length nodes.old.items → slice_index (parents_of nodes.old.items) k < most_nodes }
     requires before { (k : ℕ) → k < at → slice_index (parents_of nodes.old.items) k < at }
     ensures { nodes.new.items ≡ map (moved at) nodes.old.items }
 {
@@ -63,7 +64,7 @@ fn shift_parents(nodes: &mut Vec<Node>, at: usize)
 /// Moves the place of the parent of the node at `k`.
 fn shift_parent(nodes: &mut Vec<Node>, k: usize, at: usize)
     requires k { k < length nodes.old.items }
-    requires small { slice_index (parents_of nodes.old.items) k < 16384 }
+    requires small { slice_index (parents_of nodes.old.items) k < most_nodes }
     ensures { (d : Node) → nodes.new.items ≡ slice_set nodes.old.items k (moved at (slice_index_or nodes.old.items k d)) }
 {
     nodes[k].parent = place_after(nodes[k].parent, at);

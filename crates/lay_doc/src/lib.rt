@@ -32,12 +32,15 @@ mod values;
 mod words;
 
 pub use command::{Cmd, CmdList, Reply};
-pub use computed::Computed;
+pub use columns::{is_element_at, parent_at};
+pub use computed::{Computed, style_at};
 pub use declaration::{Decl, Decls};
 pub use doc::{Doc, NewFault};
 pub use edit::{BadDeclaration, Edit, EditFault};
 pub use history::Entry;
-pub use laws::{clears_one, has_subtree, one_slot, one_style_column, sets_one};
+pub use laws::{
+    clears_one, edits_leave_documents, has_subtree, one_slot, one_style_column, sets_one,
+};
 pub use node::{Kind, NewNode, Node, NodeId};
 pub use node_ref::NodeRef;
 pub use property::{Given, OneLength, Property, Word};

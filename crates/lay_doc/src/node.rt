@@ -60,6 +60,8 @@ impl Model for NewNode {
 }
 
 impl NewNode {
+    ghost use Rattle.lay_doc.specs.NewNodes.{IsNodeForm};
+
     /// An element, with spans of 1 to 64. Nothing is allocated.
     pub fn element(alloc: Global, id: NodeId, colspan: u32, rowspan: u32, decls: Decls) -> NewNode
         requires colspan_low { 1 ≤ colspan }
@@ -111,9 +113,10 @@ impl NewNode {
         self.id
     }
 
-    /// What it is.
+    /// What it is. With its declarations and its text it is what a node of this kind may be.
     pub fn kind(&self) -> Kind
-        ensures { result ≡ self.now.kind }
+        ensures kind { result ≡ self.now.kind }
+        ensures form { IsNodeForm self.now.kind self.now.decls self.now.text }
     {
         self.kind
     }
@@ -148,7 +151,8 @@ impl NewNode {
 
     /// The node that it becomes below the node at the place `parent`, at a depth.
     pub(crate) fn into_node(self, parent: usize, depth: u32) -> Node
-        ensures { result ≡ becomes self parent depth }
+        ensures node { result ≡ becomes self parent depth }
+        ensures form { IsNodeForm self.kind self.decls self.text }
     {
         Node {
             id: self.id,

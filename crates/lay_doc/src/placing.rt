@@ -1,6 +1,7 @@
 //! Where a node is put below its parent.
 
 ghost use Rattle.std.specs.Prelude.{◌≡◌, ◌<◌, ◌≤◌, ℕ, IsTrue, length, slice_index};
+ghost use Rattle.lay_units.specs.Limits.{most_nodes};
 ghost use Rattle.lay_doc.specs.Document.{parents_of};
 ghost use Rattle.lay_doc.specs.Tree.{IsTree, IsSlot, child_count};
 
@@ -9,7 +10,7 @@ use crate::node::Node;
 
 /// How many children the node at a place has.
 pub fn child_count(nodes: &[Node], place: usize) -> u32
-    requires few { length nodes.now ≤ 16384 }
+    requires few { length nodes.now ≤ most_nodes }
     requires place { place < length nodes.now }
     ensures { result ≡ child_count (parents_of nodes.now) place }
 {

@@ -2,6 +2,7 @@
 
 ghost use Rattle.std.specs.Prelude.{◌≡◌, ◌+◌, ◌<◌, ◌≤◌, ℕ, length, map, slice_index, slice_index_or, slice_set};
 ghost use Rattle.std.specs.List.{remove_range};
+ghost use Rattle.lay_units.specs.Limits.{most_text};
 ghost use Rattle.lay_doc.specs.declared.node.Node.{Node};
 ghost use Rattle.lay_doc.specs.Document.{parents_of, text_size};
 ghost use Rattle.lay_doc.specs.Tree.{IsTree, IsSlot, child_count};
@@ -27,7 +28,7 @@ pub fn remove_between(nodes: &mut Vec<Node>, from: usize, to: usize)
 pub fn text_bytes_between(nodes: &[Node], from: usize, to: usize) -> usize
     requires from { from ≤ to }
     requires to { to ≤ length nodes.now }
-    requires small { text_size nodes.now ≤ 1048576 }
+    requires small { text_size nodes.now ≤ most_text }
     ensures { result + text_size (remove_range nodes.now from to) ≡ text_size nodes.now }
 {
     let mut bytes = 0;

@@ -52,7 +52,8 @@ impl Face {
         word: Unit,
     ) -> Result<WidthList, NoMemory>
         requires { WidthsFit self.now (record { size = size; letter = letter; word = word }) text.now }
-        ensures { IfOk result (λ l. l ≡ widths_of self.now (record { size = size; letter = letter; word = word }) text.now) }
+        ensures { IfOk result (λ l. l ≡ widths_of self.now
+            (record { size = size; letter = letter; word = word }) text.now) }
     {
         let setting = Setting { size, letter, word };
         let bytes = text.as_bytes();
@@ -185,7 +186,8 @@ fn plain(text: &[u8]) -> bool
 }
 
 fn put_width(widths: &mut Vec<ClusterWidth>, place: usize, width: Unit) -> Result<(), NoMemory>
-    ensures { OnOk result (widths.new.items ≡ widths.old.items ++ record { place = place; width = width } ∷ []) }
+    ensures { OnOk result (widths.new.items ≡ widths.old.items ++ record { place = place; width = width
+        } ∷ []) }
 {
     widths.push(ClusterWidth { place, width })?;
     Ok(())

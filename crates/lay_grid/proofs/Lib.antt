@@ -11,6 +11,7 @@ pub mod OneColumns
 pub mod RowBaselines
 pub mod LeastRooms
 pub mod HeightSteps
+pub mod Exists
 pub mod ColumnsWithin
 pub mod HeightsWithin
 pub mod WidthsWithin

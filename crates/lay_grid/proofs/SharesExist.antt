@@ -38,7 +38,7 @@ step_exists all own each more (inr (inr l)) =
     )
 
 -- the columns that are left have widths too
-shared_on : (owns : List (Option Unit)) (rest each more n m : ℕ) (widths : List Unit) → n + m ≡ length owns → SharedTo owns rest each more n widths
+pub shared_on : (owns : List (Option Unit)) (rest each more n m : ℕ) (widths : List Unit) → n + m ≡ length owns → SharedTo owns rest each more n widths
     → (after : ℕ) × (others : List Unit) × SharedTo owns rest each after (length owns) (widths ++ others)
 shared_on owns rest each more n zero widths e to = (
   more,

@@ -1,6 +1,7 @@
 //! Laws of the definitions. The functions do nothing.
 
-ghost use Rattle.lay_grid.specs.Laws.{OneColumns, OneGrid, OneHeights};
+ghost use Rattle.lay_grid.specs.Laws.{ColumnsHaveWidths, OneColumns, OneGrid, OneHeights};
+ghost use Rattle.lay_grid.specs.Laws.{RowsHaveHeights};
 ghost use Rattle.lay_grid.specs.Within.{ColumnsAreWithin, HeightsAreWithin, WidthsAreWithin};
 
 /// Rows have one grid.
@@ -16,6 +17,16 @@ pub fn one_columns()
 /// Rows have one list of heights.
 pub fn one_heights()
     ensures { OneHeights }
+{}
+
+/// Columns have widths, whatever is asked of them.
+pub fn columns_have_widths()
+    ensures { ColumnsHaveWidths }
+{}
+
+/// Rows have heights, whatever is asked of them.
+pub fn rows_have_heights()
+    ensures { RowsHaveHeights }
 {}
 
 /// A grid has no more columns than its cells span together.

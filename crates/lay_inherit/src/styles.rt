@@ -1,14 +1,14 @@
 //! The styles of a document's nodes, from outer to inner ones.
 
-ghost use Rattle.std.specs.Prelude.{◌≡◌, ◌+◌, ◌<◌, ◌∷◌, [], ◌++◌, length, slice_index, IfOk, OnOk};
+ghost use Rattle.std.specs.Prelude.{◌≡◌, ◌+◌, ◌<◌, ◌∷◌, [], ◌++◌, length, IfOk, OnOk};
 ghost use Rattle.lay_doc.specs.Tree.{IsTree};
 ghost use Rattle.lay_doc.specs.Document.{parents_of};
-ghost use Rattle.lay_doc.specs.ComputedStyle.{HasStyles, computed_style, style_at, parent_style, declarations_of, declarations_at};
+ghost use Rattle.lay_doc.specs.ComputedStyle.{HasStyles, computed_style, parent_style, declarations_of, declarations_at};
 ghost use Rattle.lay_inherit.specs.StylesTo.{StylesTo};
 
 use crate::initial::initial_style;
 use crate::style::computed_style;
-use lay_doc::{Computed, Decls, Doc, Node, Style};
+use lay_doc::{Computed, Decls, Doc, Node, Style, parent_at, style_at};
 use lay_units::NoMemory;
 use std::alloc::Global;
 
@@ -50,25 +50,11 @@ fn style_of(nodes: &[Node], styles: &[Style], k: usize) -> Style
     computed_style(style_at(styles, parent), decls_at(nodes, k))
 }
 
-fn parent_at(nodes: &[Node], k: usize) -> usize
-    requires { k < length nodes.now }
-    ensures { result ≡ slice_index (parents_of nodes.now) k }
-{
-    nodes[k].parent
-}
-
 fn decls_at(nodes: &[Node], k: usize) -> &Decls
     requires { k < length nodes.now }
     ensures { result.now ≡ declarations_at (declarations_of nodes.now) k }
 {
     &nodes[k].decls
-}
-
-fn style_at(styles: &[Style], k: usize) -> &Style
-    requires { k < length styles.now }
-    ensures { result.now ≡ style_at styles.now k }
-{
-    &styles[k]
 }
 
 fn push(styles: &mut Vec<Style>, style: Style) -> Result<(), NoMemory>

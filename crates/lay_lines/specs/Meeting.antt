@@ -24,6 +24,10 @@ pub record State : Type 0 where
 abbrev pub state_of : List Placed → Met → State
 state_of floats met = record { floats = floats; places = met.places.items; put_off = met.put_off.items }
 
+-- before the first line
+abbrev pub none_met : List Placed → State
+none_met floats = record { floats = floats; places = []; put_off = [] }
+
 -- n steps, each from one state to another
 abbrev pub Chain : {S : Type 0} → (ℕ → S → S → Type 0) → ℕ → S → S → Type 0
 Chain Step zero a b = b ≡ a

@@ -36,7 +36,8 @@ pub fn line_extent(
     count: usize,
 ) -> Result<Extent, NoMemory>
     requires count { count ≤ length stretches.now }
-    ensures { IfOk result (λ e. reading_of boxes.new.items e ≡ reading_to frame.now boxes.old.items stretches.now count) }
+    ensures { IfOk result (λ e. reading_of boxes.new.items e
+        ≡ reading_to frame.now boxes.old.items stretches.now count) }
 {
     let mut extent = raised_by(frame.strut, boxes.as_slice());
     for k in 0..count {
@@ -69,7 +70,8 @@ fn read_all(
     boxes: &mut Vec<InlineStart>,
     parts: &[Part],
 ) -> Result<Extent, NoMemory>
-    ensures { IfOk result (λ e. reading_of boxes.new.items e ≡ read_all (reading_of boxes.old.items extent) parts.now) }
+    ensures { IfOk result (λ e. reading_of boxes.new.items e
+        ≡ read_all (reading_of boxes.old.items extent) parts.now) }
 {
     let mut extent = extent;
     for k in 0..parts.len() {
@@ -79,7 +81,8 @@ fn read_all(
 }
 
 fn read(extent: Extent, boxes: &mut Vec<InlineStart>, part: Part) -> Result<Extent, NoMemory>
-    ensures { IfOk result (λ e. reading_of boxes.new.items e ≡ read (reading_of boxes.old.items extent) part) }
+    ensures { IfOk result (λ e. reading_of boxes.new.items e
+        ≡ read (reading_of boxes.old.items extent) part) }
 {
     match part {
         Part::Start(start) => {

@@ -23,7 +23,6 @@ mod top;
 pub use content::{InlineEnd, InlineStart, LineFloat, Part, Stretch};
 pub use frame::{Extent, Frame, Line};
 pub use laws::one_list_of_lines;
-pub use met::Met;
 pub use pen::Pen;
 pub use reach::Reach;
 pub use row::Ended;

@@ -40,9 +40,13 @@ pub fn meet_all(
     requires top { IsPosition line.now.top.0 }
     requires pen { IsPen line.now.frame stretches.now reach.now }
     requires count { reach.now.count ≤ length stretches.now }
-    requires floats { CanMeetAll line.now.frame line.now.top.0 stretches.now reach.now.count list.now (state_of floats.old met.old) }
-    ensures meets { IfOk result (λ _. Meets line.now.frame line.now.top.0 stretches.now reach.now.count list.now (state_of floats.old met.old) (state_of floats.new met.new)) }
-    ensures stopped { IfErr result (λ _. (after : State) → Meets line.now.frame line.now.top.0 stretches.now reach.now.count list.now (state_of floats.old met.old) after → IsFront floats.new after.floats) }
+    requires floats { CanMeetAll line.now.frame line.now.top.0 stretches.now reach.now.count list.now
+        (state_of floats.old met.old) }
+    ensures meets { IfOk result (λ _. Meets line.now.frame line.now.top.0 stretches.now reach.now.count
+        list.now (state_of floats.old met.old) (state_of floats.new met.new)) }
+    ensures stopped { IfErr result (λ _. (after : State)
+        → Meets line.now.frame line.now.top.0 stretches.now reach.now.count list.now
+        (state_of floats.old met.old) after → IsFront floats.new after.floats) }
 {
     one_float_place();
     for float in list {
@@ -65,8 +69,12 @@ fn meet(
     requires count { reach.now.count ≤ length stretches.now }
     requires rooms { RoomsFit line.now.frame floats.old stretches.now }
     requires float { CanMeet line.now.top.0 floats.old float.now.req }
-    ensures meets { IfOk result (λ _. MeetsFloat line.now.frame line.now.top.0 stretches.now reach.now.count (state_of floats.old met.old) float.now (state_of floats.new met.new)) }
-    ensures stopped { IfErr result (λ _. (after : State) → MeetsFloat line.now.frame line.now.top.0 stretches.now reach.now.count (state_of floats.old met.old) float.now after → IsFront floats.new after.floats) }
+    ensures meets { IfOk result
+        (λ _. MeetsFloat line.now.frame line.now.top.0 stretches.now reach.now.count
+        (state_of floats.old met.old) float.now (state_of floats.new met.new)) }
+    ensures stopped { IfErr result (λ _. (after : State)
+        → MeetsFloat line.now.frame line.now.top.0 stretches.now reach.now.count
+        (state_of floats.old met.old) float.now after → IsFront floats.new after.floats) }
 {
     one_float_place();
     if has_to_wait(floats, met, line, stretches, reach, &float.req) {
@@ -96,9 +104,14 @@ fn has_to_wait(
     requires count { reach.now.count ≤ length stretches.now }
     requires rooms { RoomsFit line.now.frame floats.now stretches.now }
     requires float { CanMeet line.now.top.0 floats.now req.now }
-    ensures stands { IsFalse result → (x z : ℤ) → IsFloatPlace floats.now (below line.now.top.0 req.now) x z → MayStand line.now.frame line.now.top.0 stretches.now reach.now.count (state_of floats.now met.now) req.now x z }
+    ensures stands { IsFalse result → (x z : ℤ)
+        → IsFloatPlace floats.now (below line.now.top.0 req.now) x z
+        → MayStand line.now.frame line.now.top.0 stretches.now reach.now.count
+        (state_of floats.now met.now) req.now x z }
     ensures seen { IsTrue result → IsTrue (seen_to line.now.frame stretches.now reach.now.count) }
-    ensures waits { IsTrue result → (x z : ℤ) → MayStand line.now.frame line.now.top.0 stretches.now reach.now.count (state_of floats.now met.now) req.now x z → ⊥ }
+    ensures waits { IsTrue result → (x z : ℤ)
+        → MayStand line.now.frame line.now.top.0 stretches.now reach.now.count
+        (state_of floats.now met.now) req.now x z → ⊥ }
 {
     one_float_place();
     if !reach.is_seen(&line.frame, stretches) {

@@ -104,7 +104,8 @@ impl Reach {
     pub(crate) fn fits(&self, floats: &Floats, line: &Line, stretches: &[Stretch]) -> bool
         requires left { IsPosition line.now.frame.left.0 }
         requires reach { IsReach line.now.frame line.now.top.0 stretches.now floats.now self.now }
-        ensures { IsTrue result ↔ HasFit line.now.frame line.now.top.0 stretches.now self.now.count floats.now }
+        ensures { IsTrue result ↔ HasFit line.now.frame line.now.top.0 stretches.now self.now.count
+            floats.now }
     {
         one_room();
         let _ = floats;
@@ -126,7 +127,8 @@ impl Reach {
         requires rooms { RoomsFit line.now.frame floats.now stretches.now }
         requires count { self.now.count ≤ length stretches.now }
         requires width { IsPosition width.0 }
-        ensures { IsTrue result ↔ HasRoom line.now.frame line.now.top.0 stretches.now self.now.count floats.now width.0 }
+        ensures { IsTrue result ↔ HasRoom line.now.frame line.now.top.0 stretches.now self.now.count
+            floats.now width.0 }
     {
         let here = self.in_room(floats, line, stretches);
         here.leaves_room(floats, line, stretches, width)
@@ -136,7 +138,8 @@ impl Reach {
         requires left { IsPosition line.now.frame.left.0 }
         requires width { IsPosition width.0 }
         requires reach { IsReach line.now.frame line.now.top.0 stretches.now floats.now self.now }
-        ensures { IsTrue result ↔ HasRoom line.now.frame line.now.top.0 stretches.now self.now.count floats.now width.0 }
+        ensures { IsTrue result ↔ HasRoom line.now.frame line.now.top.0 stretches.now self.now.count
+            floats.now width.0 }
     {
         one_room();
         let _ = floats;

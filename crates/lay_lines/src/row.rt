@@ -43,12 +43,19 @@ pub fn put_row(
     stretches: &[Stretch],
 ) -> Result<Ended, NoMemory>
     requires some { 0 < length stretches.now }
-    requires can { CanRow (position_of start.now.frame start.now.top.0 boxes.old.items stretches.now (state_of floats.old met.old)) }
-    ensures row { IfOk result (λ e. (headed : State) × (filled : State) × IsRow (position_of start.now.frame start.now.top.0 boxes.old.items stretches.now (state_of floats.old met.old)) (row_of e headed filled (state_of floats.new met.new))) }
-    ensures boxes { IfOk result (λ e. boxes.new.items ≡ (reading_to start.now.frame boxes.old.items stretches.now e.reach.count).open_boxes) }
+    requires can { CanRow
+        (position_of start.now.frame start.now.top.0 boxes.old.items stretches.now
+        (state_of floats.old met.old)) }
+    ensures row { IfOk result (λ e. (headed : State) × (filled : State)
+        × IsRow (position_of start.now.frame start.now.top.0 boxes.old.items stretches.now
+        (state_of floats.old met.old)) (row_of e headed filled (state_of floats.new met.new))) }
+    ensures boxes { IfOk result (λ e. boxes.new.items
+        ≡ (reading_to start.now.frame boxes.old.items stretches.now e.reach.count).open_boxes) }
     ensures within { IfOk result (λ e. e.reach.count ≤ length stretches.now) }
     ensures some { IfOk result (λ e. 0 < e.reach.count) }
-    ensures stopped { IfErr result (λ _. (r : Row) → IsRow (position_of start.now.frame start.now.top.0 boxes.old.items stretches.now (state_of floats.old met.old)) r → IsFront floats.new r.after.floats) }
+    ensures stopped { IfErr result (λ _. (r : Row)
+        → IsRow (position_of start.now.frame start.now.top.0 boxes.old.items stretches.now
+        (state_of floats.old met.old)) r → IsFront floats.new r.after.floats) }
 {
     one_float_place();
     one_room();
@@ -72,10 +79,17 @@ fn fill_row(
     stretches: &[Stretch],
 ) -> Result<Ended, NoMemory>
     requires some { 0 < length stretches.now }
-    requires can { CanRow (position_of start.now.frame start.now.top.0 boxes.old.items stretches.now (state_of floats.old met.old)) }
-    ensures filled { IfOk result (λ e. (headed : State) × ((after : State) → IsFilled (position_of start.now.frame start.now.top.0 boxes.old.items stretches.now (state_of floats.old met.old)) (row_of e headed (state_of floats.new met.new) after))) }
-    ensures boxes { IfOk result (λ e. boxes.new.items ≡ (reading_to start.now.frame boxes.old.items stretches.now e.reach.count).open_boxes) }
-    ensures stopped { IfErr result (λ _. (r : Row) → IsFilled (position_of start.now.frame start.now.top.0 boxes.old.items stretches.now (state_of floats.old met.old)) r → IsFront floats.new r.filled.floats) }
+    requires can { CanRow
+        (position_of start.now.frame start.now.top.0 boxes.old.items stretches.now
+        (state_of floats.old met.old)) }
+    ensures filled { IfOk result (λ e. (headed : State) × ((after : State)
+        → IsFilled (position_of start.now.frame start.now.top.0 boxes.old.items stretches.now
+        (state_of floats.old met.old)) (row_of e headed (state_of floats.new met.new) after))) }
+    ensures boxes { IfOk result (λ e. boxes.new.items
+        ≡ (reading_to start.now.frame boxes.old.items stretches.now e.reach.count).open_boxes) }
+    ensures stopped { IfErr result (λ _. (r : Row)
+        → IsFilled (position_of start.now.frame start.now.top.0 boxes.old.items stretches.now
+        (state_of floats.old met.old)) r → IsFront floats.new r.filled.floats) }
 {
     one_float_place();
     one_room();
@@ -126,12 +140,22 @@ fn headed_top(
     requires some { 0 < length stretches.now }
     requires frame { FrameFits start.now.frame }
     requires from { IsPosition start.now.top.0 }
-    requires heads { (s : StretchValue) → slice_get stretches.now 0 ≡ Some s → CanMeetAll start.now.frame start.now.top.0 stretches.now 0 s.heads.items (state_of floats.old met.old) }
-    requires rooms { (s : StretchValue) (headed : State) → slice_get stretches.now 0 ≡ Some s → Meets start.now.frame start.now.top.0 stretches.now 0 s.heads.items (state_of floats.old met.old) headed → RoomsFit start.now.frame headed.floats stretches.now }
-    ensures heads { IfOk result (λ _. (s : StretchValue) → slice_get stretches.now 0 ≡ Some s → Meets start.now.frame start.now.top.0 stretches.now 0 s.heads.items (state_of floats.old met.old) (state_of floats.new met.new)) }
-    ensures top { IfOk result (λ top. IsTop start.now.frame start.now.top.0 stretches.now floats.new top.0) }
+    requires heads { (s : StretchValue) → slice_get stretches.now 0 ≡ Some s
+        → CanMeetAll start.now.frame start.now.top.0 stretches.now 0 s.heads.items
+        (state_of floats.old met.old) }
+    requires rooms { (s : StretchValue) (headed : State) → slice_get stretches.now 0 ≡ Some s
+        → Meets start.now.frame start.now.top.0 stretches.now 0 s.heads.items
+        (state_of floats.old met.old) headed → RoomsFit start.now.frame headed.floats stretches.now }
+    ensures heads { IfOk result (λ _. (s : StretchValue) → slice_get stretches.now 0 ≡ Some s
+        → Meets start.now.frame start.now.top.0 stretches.now 0 s.heads.items
+        (state_of floats.old met.old) (state_of floats.new met.new)) }
+    ensures top { IfOk result (λ top. IsTop start.now.frame start.now.top.0 stretches.now floats.new
+        top.0) }
     ensures fits { IfOk result (λ top. IsPosition top.0) }
-    ensures stopped { IfErr result (λ _. (s : StretchValue) (headed : State) → slice_get stretches.now 0 ≡ Some s → Meets start.now.frame start.now.top.0 stretches.now 0 s.heads.items (state_of floats.old met.old) headed → IsFront floats.new headed.floats) }
+    ensures stopped { IfErr result (λ _. (s : StretchValue) (headed : State)
+        → slice_get stretches.now 0 ≡ Some s
+        → Meets start.now.frame start.now.top.0 stretches.now 0 s.heads.items
+        (state_of floats.old met.old) headed → IsFront floats.new headed.floats) }
 {
     let blank = Reach::none(floats, &start.frame, stretches);
     meet_all(

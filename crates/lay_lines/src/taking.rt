@@ -27,10 +27,16 @@ pub fn take(
     requires frame { FrameFits line.now.frame }
     requires top { IsPosition line.now.top.0 }
     requires can { CanFill line.now.frame line.now.top.0 stretches.now (state_of floats.old met.old) }
-    ensures takes { IfOk result (λ t. Takes line.now.frame line.now.top.0 stretches.now (state_of floats.old met.old) t.count) }
-    ensures fills { IfOk result (λ t. Fills line.now.frame line.now.top.0 stretches.now t.count (state_of floats.old met.old) (state_of floats.new met.new)) }
-    ensures reach { IfOk result (λ t. IsReach line.now.frame line.now.top.0 stretches.now floats.new t) }
-    ensures stopped { IfErr result (λ _. (n : ℕ) (after : State) → Takes line.now.frame line.now.top.0 stretches.now (state_of floats.old met.old) n → Fills line.now.frame line.now.top.0 stretches.now n (state_of floats.old met.old) after → IsFront floats.new after.floats) }
+    ensures takes { IfOk result (λ t. Takes line.now.frame line.now.top.0 stretches.now
+        (state_of floats.old met.old) t.count) }
+    ensures fills { IfOk result (λ t. Fills line.now.frame line.now.top.0 stretches.now t.count
+        (state_of floats.old met.old) (state_of floats.new met.new)) }
+    ensures reach { IfOk result (λ t. IsReach line.now.frame line.now.top.0 stretches.now floats.new t)
+        }
+    ensures stopped { IfErr result (λ _. (n : ℕ) (after : State)
+        → Takes line.now.frame line.now.top.0 stretches.now (state_of floats.old met.old) n
+        → Fills line.now.frame line.now.top.0 stretches.now n (state_of floats.old met.old) after
+        → IsFront floats.new after.floats) }
 {
     one_float_place();
     let mut reach = Reach::first(floats, line, stretches);
@@ -59,14 +65,26 @@ fn take_next(
     requires reach { IsReach line.now.frame line.now.top.0 stretches.now floats.old reach.now }
     requires some { reach.now.count < length stretches.now }
     requires rooms { RoomsFit line.now.frame floats.old stretches.now }
-    requires floats { (s : StretchValue) → slice_get stretches.now reach.now.count ≡ Some s → CanMeetAll line.now.frame line.now.top.0 stretches.now (suc reach.now.count) s.floats.items (state_of floats.old met.old) }
-    ensures takes { IfOk result (λ next. IfSome next (λ r. TakesNext line.now.frame line.now.top.0 stretches.now reach.now.count (state_of floats.old met.old) (state_of floats.new met.new))) }
-    ensures reach { IfOk result (λ next. IfSome next (λ r. IsReach line.now.frame line.now.top.0 stretches.now floats.new r × (r.count ≡ reach.now.count + 1))) }
-    ensures fits { IfOk result (λ next. IfSome next (λ r. FitsNext line.now.frame line.now.top.0 stretches.now reach.now.count floats.old)) }
-    ensures full { IfOk result (λ next. next ≡ None → FitsNext line.now.frame line.now.top.0 stretches.now reach.now.count floats.old → ⊥) }
-    ensures same { IfOk result (λ next. next ≡ None → state_of floats.new met.new ≡ state_of floats.old met.old) }
-    ensures stopped { IfErr result (λ _. (after : State) → TakesNext line.now.frame line.now.top.0 stretches.now reach.now.count (state_of floats.old met.old) after → IsFront floats.new after.floats) }
-    ensures stopped_in { IfErr result (λ _. FitsNext line.now.frame line.now.top.0 stretches.now reach.now.count floats.old) }
+    requires floats { (s : StretchValue) → slice_get stretches.now reach.now.count ≡ Some s
+        → CanMeetAll line.now.frame line.now.top.0 stretches.now
+        (suc reach.now.count) s.floats.items (state_of floats.old met.old) }
+    ensures takes { IfOk result (λ next. IfSome next
+        (λ r. TakesNext line.now.frame line.now.top.0 stretches.now reach.now.count
+        (state_of floats.old met.old) (state_of floats.new met.new))) }
+    ensures reach { IfOk result (λ next. IfSome next
+        (λ r. IsReach line.now.frame line.now.top.0 stretches.now floats.new r × (r.count
+        ≡ reach.now.count + 1))) }
+    ensures fits { IfOk result (λ next. IfSome next
+        (λ r. FitsNext line.now.frame line.now.top.0 stretches.now reach.now.count floats.old)) }
+    ensures full { IfOk result (λ next. next ≡ None
+        → FitsNext line.now.frame line.now.top.0 stretches.now reach.now.count floats.old → ⊥) }
+    ensures same { IfOk result (λ next. next ≡ None → state_of floats.new met.new
+        ≡ state_of floats.old met.old) }
+    ensures stopped { IfErr result (λ _. (after : State)
+        → TakesNext line.now.frame line.now.top.0 stretches.now reach.now.count
+        (state_of floats.old met.old) after → IsFront floats.new after.floats) }
+    ensures stopped_in { IfErr result
+        (λ _. FitsNext line.now.frame line.now.top.0 stretches.now reach.now.count floats.old) }
 {
     let next = reach.next(floats, line, stretches);
     if !is_taken(floats, line, stretches, &next, is_zero(reach.count)) {
@@ -96,7 +114,9 @@ fn is_taken(
     requires frame { FrameFits line.now.frame }
     requires top { IsPosition line.now.top.0 }
     requires reach { IsReach line.now.frame line.now.top.0 stretches.now floats.now next.now }
-    ensures { IsTrue result ↔ HasFit line.now.frame line.now.top.0 stretches.now next.now.count floats.now ⊎ (IsTrue is_first × IsAlone floats.now line.now.top.0 (strut_height line.now.frame)) }
+    ensures { IsTrue result ↔ HasFit line.now.frame line.now.top.0 stretches.now next.now.count
+        floats.now ⊎ (IsTrue is_first × IsAlone floats.now line.now.top.0
+        (strut_height line.now.frame)) }
 {
     if next.fits(floats, line, stretches) {
         return true;
@@ -133,11 +153,16 @@ fn meet_after(
     requires top { IsPosition line.now.top.0 }
     requires reach { IsReach line.now.frame line.now.top.0 stretches.now floats.old reach.now }
     requires count { reach.now.count ≤ length stretches.now }
-    requires floats { CanMeetAll line.now.frame line.now.top.0 stretches.now reach.now.count list.now (state_of floats.old met.old) }
-    ensures meets { IfOk result (λ _. Meets line.now.frame line.now.top.0 stretches.now reach.now.count list.now (state_of floats.old met.old) (state_of floats.new met.new)) }
-    ensures reach { IfOk result (λ r. IsReach line.now.frame line.now.top.0 stretches.now floats.new r) }
+    requires floats { CanMeetAll line.now.frame line.now.top.0 stretches.now reach.now.count list.now
+        (state_of floats.old met.old) }
+    ensures meets { IfOk result (λ _. Meets line.now.frame line.now.top.0 stretches.now reach.now.count
+        list.now (state_of floats.old met.old) (state_of floats.new met.new)) }
+    ensures reach { IfOk result (λ r. IsReach line.now.frame line.now.top.0 stretches.now floats.new r)
+        }
     ensures count { IfOk result (λ r. r.count ≡ reach.now.count) }
-    ensures stopped { IfErr result (λ _. (after : State) → Meets line.now.frame line.now.top.0 stretches.now reach.now.count list.now (state_of floats.old met.old) after → IsFront floats.new after.floats) }
+    ensures stopped { IfErr result (λ _. (after : State)
+        → Meets line.now.frame line.now.top.0 stretches.now reach.now.count list.now
+        (state_of floats.old met.old) after → IsFront floats.new after.floats) }
 {
     if list.is_empty() {
         return Ok(*reach);

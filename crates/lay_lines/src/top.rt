@@ -39,7 +39,8 @@ fn next_top(floats: &Floats, frame: &Frame, top: Unit, stretches: &[Stretch]) ->
     requires some { 0 < length stretches.now }
     ensures begins { result ≡ None → Begins frame.now top.0 stretches.now floats.now }
     ensures lower { IfSome result (λ next. top.0 <ℤ next.0) }
-    ensures none_higher { IfSome result (λ next. (z : ℤ) → Begins frame.now z stretches.now floats.now → top.0 ≤ℤ z → next.0 ≤ℤ z) }
+    ensures none_higher { IfSome result (λ next. (z : ℤ) → Begins frame.now z stretches.now floats.now
+        → top.0 ≤ℤ z → next.0 ≤ℤ z) }
     ensures fits { IfSome result (λ next. IsPosition next.0) }
 {
     let line = Line { frame: *frame, top };

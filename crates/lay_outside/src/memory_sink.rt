@@ -66,6 +66,8 @@ impl Sink for FixedSink {
         ensures fails_where_full { IsErr result ↔ ((self.old.room ≡ 0) × (0 < length piece.now)) }
         ensures amount { IfOk result (λ n. n ≡ min (length piece.now) self.old.room) }
         ensures room { IfOk result (λ n. self.new.room ≡ self.old.room - n) }
+        ensures room_kept { OnErr result (self.new.room ≡ self.old.room) }
+        ensures risen { OnErr result (self.old.faults < 2 ^ 64 - 1 → self.new.faults ≡ self.old.faults + 1) }
         ensures quiet { OnOk result (self.new.faults ≡ self.old.faults) }
     {
         let n = piece.len().min(self.room - self.bytes.len());
@@ -146,6 +148,8 @@ impl Sink for MemSink {
         ensures fails_where_full { self.old.room ≡ 0 → 0 < length piece.now → IsErr result }
         ensures amount { IfOk result (λ n. n ≡ min (length piece.now) (min self.old.step self.old.room)) }
         ensures room { IfOk result (λ n. self.new.room ≡ self.old.room - n) }
+        ensures room_kept { OnErr result (self.new.room ≡ self.old.room) }
+        ensures risen { OnErr result (self.old.faults < 2 ^ 64 - 1 → self.new.faults ≡ self.old.faults + 1) }
         ensures quiet { OnOk result (self.new.faults ≡ self.old.faults) }
         ensures counted { self.old.calls < 2 ^ 64 - 1 → self.new.calls ≡ self.old.calls + 1 }
         ensures step { self.new.step ≡ self.old.step }

@@ -99,7 +99,10 @@ impl Settler {
         seen: Seen,
     ) -> Result<Seen, NoMemory>
         requires { IfSome seen.atomic (λ b. leads_to_atomic (token ∷ next.now) ≡ b) }
-        ensures entries { IfOk result (λ s. self.old.out.items ++ settled self.old.at self.old.started self.old.held.items (broken seen.solid (token ∷ next.now)) ≡ self.new.out.items ++ settled self.new.at self.new.started self.new.held.items (broken s.solid next.now)) }
+        ensures entries { IfOk result (λ s. self.old.out.items ++ settled self.old.at self.old.started
+            self.old.held.items (broken seen.solid (token ∷ next.now))
+            ≡ self.new.out.items ++ settled self.new.at self.new.started self.new.held.items
+            (broken s.solid next.now)) }
         ensures atomic { IfOk result (λ s. IfSome s.atomic (λ b. leads_to_atomic next.now ≡ b)) }
     {
         let atomic = atomic_after(token, next, seen.atomic);
@@ -113,7 +116,10 @@ impl Settler {
     }
 
     fn put_front(&mut self, here: bool) -> Result<(), NoMemory>
-        ensures { OnOk result ((xs : List Entry) → self.old.out.items ++ settled self.old.at self.old.started self.old.held.items (front_break here ++ xs) ≡ self.new.out.items ++ settled self.new.at self.new.started self.new.held.items xs) }
+        ensures { OnOk result ((xs : List Entry)
+            → self.old.out.items ++ settled self.old.at self.old.started self.old.held.items
+            (front_break here ++ xs) ≡ self.new.out.items ++ settled self.new.at self.new.started
+            self.new.held.items xs) }
     {
         if here {
             self.put_break(false)?;
@@ -122,7 +128,10 @@ impl Settler {
     }
 
     fn put_back(&mut self, here: Option<bool>) -> Result<(), NoMemory>
-        ensures { OnOk result ((xs : List Entry) → self.old.out.items ++ settled self.old.at self.old.started self.old.held.items (back_break here ++ xs) ≡ self.new.out.items ++ settled self.new.at self.new.started self.new.held.items xs) }
+        ensures { OnOk result ((xs : List Entry)
+            → self.old.out.items ++ settled self.old.at self.old.started self.old.held.items
+            (back_break here ++ xs) ≡ self.new.out.items ++ settled self.new.at self.new.started
+            self.new.held.items xs) }
     {
         if let Some(forced) = here {
             self.put_break(forced)?;
@@ -131,7 +140,10 @@ impl Settler {
     }
 
     fn put_break(&mut self, forced: bool) -> Result<(), NoMemory>
-        ensures { OnOk result ((xs : List Entry) → self.old.out.items ++ settled self.old.at self.old.started self.old.held.items (Break forced ∷ xs) ≡ self.new.out.items ++ settled self.new.at self.new.started self.new.held.items xs) }
+        ensures { OnOk result ((xs : List Entry)
+            → self.old.out.items ++ settled self.old.at self.old.started self.old.held.items
+            (Break forced ∷ xs) ≡ self.new.out.items ++ settled self.new.at self.new.started
+            self.new.held.items xs) }
     {
         self.flush()?;
         self.at = Some(forced);
@@ -140,7 +152,10 @@ impl Settler {
     }
 
     fn put_content(&mut self, token: Token) -> Result<(), NoMemory>
-        ensures { OnOk result ((xs : List Entry) → self.old.out.items ++ settled self.old.at self.old.started self.old.held.items (Content token ∷ xs) ≡ self.new.out.items ++ settled self.new.at self.new.started self.new.held.items xs) }
+        ensures { OnOk result ((xs : List Entry)
+            → self.old.out.items ++ settled self.old.at self.old.started self.old.held.items
+            (Content token ∷ xs) ≡ self.new.out.items ++ settled self.new.at self.new.started
+            self.new.held.items xs) }
     {
         if let Some(forced) = self.at {
             if goes_back(token, forced, self.started) {
@@ -161,7 +176,8 @@ impl Settler {
 
     /// Puts the break that things may go back behind, and what waits there.
     fn flush(&mut self) -> Result<(), NoMemory>
-        ensures out { OnOk result (self.new.out.items ≡ self.old.out.items ++ flushed self.old.at self.old.held.items) }
+        ensures out { OnOk result (self.new.out.items
+            ≡ self.old.out.items ++ flushed self.old.at self.old.held.items) }
         ensures held { OnOk result (self.new.held.items ≡ []) }
     {
         if let Some(forced) = self.at {

@@ -40,8 +40,10 @@ pub struct Left {
 /// What is left of a text that collapses, of which `after_space` says whether it stands after a
 /// collapsible space.
 pub fn collapsed(alloc: Global, mode: Mode, text: &str, after_space: bool) -> Result<Left, NoMemory>
-    ensures text { IfOk result (λ l. string_bytes l.text ≡ encode_utf8_all (left_over mode false after_space (chars text.now))) }
-    ensures space { IfOk result (λ l. l.after_space ≡ ends_in_space after_space (left_over mode false after_space (chars text.now))) }
+    ensures text { IfOk result (λ l. string_bytes l.text
+        ≡ encode_utf8_all (left_over mode false after_space (chars text.now))) }
+    ensures space { IfOk result (λ l. l.after_space
+        ≡ ends_in_space after_space (left_over mode false after_space (chars text.now))) }
 {
     match clean(text.as_bytes(), after_space) {
         Some(after_space) => Ok(Left {
@@ -54,7 +56,8 @@ pub fn collapsed(alloc: Global, mode: Mode, text: &str, after_space: bool) -> Re
 
 /// Where white space processing leaves the text as it is, whether what follows stands after a space.
 fn clean(text: &[u8], after_space: bool) -> Option<bool>
-    ensures { IfSome result (λ space. IsClean after_space text.now × (space ≡ ends_in_space after_space text.now)) }
+    ensures { IfSome result (λ space. IsClean after_space text.now × (space
+        ≡ ends_in_space after_space text.now)) }
 {
     let mut space = after_space;
     for k in 0..text.len() {
@@ -76,8 +79,10 @@ fn collapsed_by_character(
     text: &str,
     after_space: bool,
 ) -> Result<Left, NoMemory>
-    ensures text { IfOk result (λ l. string_bytes l.text ≡ encode_utf8_all (left_over mode false after_space (chars text.now))) }
-    ensures space { IfOk result (λ l. l.after_space ≡ ends_in_space after_space (left_over mode false after_space (chars text.now))) }
+    ensures text { IfOk result (λ l. string_bytes l.text
+        ≡ encode_utf8_all (left_over mode false after_space (chars text.now))) }
+    ensures space { IfOk result (λ l. l.after_space
+        ≡ ends_in_space after_space (left_over mode false after_space (chars text.now))) }
 {
     let mut kept = String::new(alloc);
     let mut state = State {
@@ -115,8 +120,13 @@ struct Turned {
 
 fn next_turn(mode: Mode, c: char, rest: &str, state: State) -> Turned
     requires row { IfSome state.row (λ b. runs_to_linefeed (c ∷ chars rest.now) ≡ b) }
-    ensures left { left_over mode state.after_linefeed state.after_space (c ∷ chars rest.now) ≡ option_to_list result.kept ++ left_over mode result.next.after_linefeed result.next.after_space (chars rest.now) }
-    ensures space { ends_in_space state.after_space (left_over mode state.after_linefeed state.after_space (c ∷ chars rest.now)) ≡ ends_in_space result.next.after_space (left_over mode result.next.after_linefeed result.next.after_space (chars rest.now)) }
+    ensures left { left_over mode state.after_linefeed state.after_space (c ∷ chars rest.now)
+        ≡ option_to_list result.kept ++ left_over mode result.next.after_linefeed
+        result.next.after_space (chars rest.now) }
+    ensures space { ends_in_space state.after_space
+        (left_over mode state.after_linefeed state.after_space (c ∷ chars rest.now))
+        ≡ ends_in_space result.next.after_space
+        (left_over mode result.next.after_linefeed result.next.after_space (chars rest.now)) }
     ensures row { IfSome result.next.row (λ b. runs_to_linefeed (chars rest.now) ≡ b) }
 {
     if !is_blank(c) {
@@ -165,8 +175,13 @@ fn runs_to_linefeed(text: &str) -> bool
 /// A character that isn't removed next to a linefeed.
 fn squeezed(mode: Mode, c: char, rest: &str, state: State) -> Turned
     requires row { IfSome state.row (λ b. runs_to_linefeed (chars rest.now) ≡ b) }
-    ensures left { squeeze state.after_space (as_space mode c ∷ map (as_space mode) (strip state.after_linefeed (chars rest.now))) ≡ option_to_list result.kept ++ left_over mode result.next.after_linefeed result.next.after_space (chars rest.now) }
-    ensures space { ends_in_space state.after_space (squeeze state.after_space (as_space mode c ∷ map (as_space mode) (strip state.after_linefeed (chars rest.now)))) ≡ ends_in_space result.next.after_space (left_over mode result.next.after_linefeed result.next.after_space (chars rest.now)) }
+    ensures left { squeeze state.after_space (as_space mode c ∷ map (as_space mode)
+        (strip state.after_linefeed (chars rest.now))) ≡ option_to_list result.kept ++ left_over mode
+        result.next.after_linefeed result.next.after_space (chars rest.now) }
+    ensures space { ends_in_space state.after_space (squeeze state.after_space
+        (as_space mode c ∷ map (as_space mode) (strip state.after_linefeed (chars rest.now))))
+        ≡ ends_in_space result.next.after_space
+        (left_over mode result.next.after_linefeed result.next.after_space (chars rest.now)) }
     ensures row { IfSome result.next.row (λ b. runs_to_linefeed (chars rest.now) ≡ b) }
 {
     let _ = rest;
@@ -207,7 +222,8 @@ fn as_space(mode: Mode, c: char) -> char
 }
 
 fn keep(text: &mut String, kept: Option<char>) -> Result<(), NoMemory>
-    ensures { OnOk result (string_bytes text.new ≡ string_bytes text.old ++ encode_utf8_all (option_to_list kept)) }
+    ensures { OnOk result (string_bytes text.new
+        ≡ string_bytes text.old ++ encode_utf8_all (option_to_list kept)) }
 {
     if let Some(c) = kept {
         text.push(c)?;

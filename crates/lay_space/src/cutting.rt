@@ -78,7 +78,10 @@ impl Cutter {
         entry: Entry,
         rest: &[Entry],
     ) -> Result<(), NoMemory>
-        ensures { OnOk result (self.old.done.items ++ cut items.now self.old.current.items self.old.held.items (entry ∷ rest.now) ≡ self.new.done.items ++ cut items.now self.new.current.items self.new.held.items rest.now) }
+        ensures { OnOk result
+            (self.old.done.items ++ cut items.now self.old.current.items self.old.held.items
+            (entry ∷ rest.now) ≡ self.new.done.items ++ cut items.now self.new.current.items
+            self.new.held.items rest.now) }
     {
         let _ = rest;
         match entry {
@@ -88,7 +91,10 @@ impl Cutter {
     }
 
     fn put_token(&mut self, alloc: Global, items: &[Item], token: Token) -> Result<(), NoMemory>
-        ensures { OnOk result ((xs : List Entry) → self.old.done.items ++ cut items.now self.old.current.items self.old.held.items (entry.Content token ∷ xs) ≡ self.new.done.items ++ cut items.now self.new.current.items self.new.held.items xs) }
+        ensures { OnOk result ((xs : List Entry)
+            → self.old.done.items ++ cut items.now self.old.current.items self.old.held.items
+            (entry.Content token ∷ xs) ≡ self.new.done.items ++ cut items.now self.new.current.items
+            self.new.held.items xs) }
     {
         match token {
             Token::Cluster(cluster) => {
@@ -105,7 +111,9 @@ impl Cutter {
     }
 
     fn put_break(&mut self, alloc: Global, items: &[Item], forced: bool) -> Result<(), NoMemory>
-        ensures done { OnOk result (self.new.done.items ≡ self.old.done.items ++ record { items = self.old.current.items ++ text_of items.now self.old.held.items; forced = forced } ∷ []) }
+        ensures done { OnOk result (self.new.done.items
+            ≡ self.old.done.items ++ record { items = self.old.current.items ++ text_of items.now
+            self.old.held.items; forced = forced } ∷ []) }
         ensures current { OnOk result (self.new.current.items ≡ []) }
         ensures held { OnOk result (self.new.held.items ≡ []) }
     {
@@ -119,7 +127,8 @@ impl Cutter {
     }
 
     fn put_item(&mut self, alloc: Global, items: &[Item], item: Item) -> Result<(), NoMemory>
-        ensures current { OnOk result (self.new.current.items ≡ self.old.current.items ++ text_of items.now self.old.held.items ++ item ∷ []) }
+        ensures current { OnOk result (self.new.current.items
+            ≡ self.old.current.items ++ text_of items.now self.old.held.items ++ item ∷ []) }
         ensures held { OnOk result (self.new.held.items ≡ []) }
         ensures done { OnOk result (self.new.done.items ≡ self.old.done.items) }
     {
@@ -129,7 +138,8 @@ impl Cutter {
 
     /// Ends the text that goes on.
     fn close(&mut self, alloc: Global, items: &[Item]) -> Result<(), NoMemory>
-        ensures current { OnOk result (self.new.current.items ≡ self.old.current.items ++ text_of items.now self.old.held.items) }
+        ensures current { OnOk result (self.new.current.items
+            ≡ self.old.current.items ++ text_of items.now self.old.held.items) }
         ensures held { OnOk result (self.new.held.items ≡ []) }
         ensures done { OnOk result (self.new.done.items ≡ self.old.done.items) }
     {
@@ -139,7 +149,8 @@ impl Cutter {
     }
 
     fn end(&mut self, alloc: Global, items: &[Item]) -> Result<(), NoMemory>
-        ensures { OnOk result (self.new.done.items ≡ self.old.done.items ++ cut items.now self.old.current.items self.old.held.items []) }
+        ensures { OnOk result (self.new.done.items
+            ≡ self.old.done.items ++ cut items.now self.old.current.items self.old.held.items []) }
     {
         self.close(alloc, items)?;
         if !self.current.is_empty() {
@@ -202,8 +213,11 @@ fn put_cluster(
     cluster: Cluster,
     rest: &[Cluster],
 ) -> Result<(), NoMemory>
-    ensures text { OnOk result (string_bytes text.new ++ joined items.now rest.now ≡ string_bytes text.old ++ joined items.now (cluster ∷ rest.now)) }
-    ensures widths { OnOk result (widths.new.items ++ placed items.now (length (string_bytes text.new)) rest.now ≡ widths.old.items ++ placed items.now (length (string_bytes text.old)) (cluster ∷ rest.now)) }
+    ensures text { OnOk result (string_bytes text.new ++ joined items.now rest.now
+        ≡ string_bytes text.old ++ joined items.now (cluster ∷ rest.now)) }
+    ensures widths { OnOk result (widths.new.items ++ placed items.now (length
+        (string_bytes text.new)) rest.now ≡ widths.old.items ++ placed items.now (length
+        (string_bytes text.old)) (cluster ∷ rest.now)) }
 {
     let _ = rest;
     let place = text.len();

@@ -106,7 +106,8 @@ fn put_clusters(
     text: &[u8],
     widths: &[ClusterWidth],
 ) -> Result<(), NoMemory>
-    ensures { OnOk result (out.new.items ≡ out.old.items ++ cluster_tokens item node mode text.now widths.now) }
+    ensures { OnOk result (out.new.items ≡ out.old.items ++ cluster_tokens item node mode text.now
+        widths.now) }
 {
     for k in 0..widths.len() {
         let token = cluster_token(item, node, mode, text, widths[k], &widths[k + 1..]);
@@ -123,7 +124,8 @@ fn cluster_token(
     width: ClusterWidth,
     rest: &[ClusterWidth],
 ) -> Token
-    ensures { result ∷ cluster_tokens item node mode text.now rest.now ≡ cluster_tokens item node mode text.now (width ∷ rest.now) }
+    ensures { result ∷ cluster_tokens item node mode text.now rest.now
+        ≡ cluster_tokens item node mode text.now (width ∷ rest.now) }
 {
     let from = width.place;
     let to = next_place(text, rest);
@@ -251,7 +253,8 @@ fn put_unless_leading(
     token: Token,
     rest: &[Token],
 ) -> Result<bool, NoMemory>
-    ensures { IfOk result (λ next. out.old.items ++ without_leading_spaces first (token ∷ rest.now) ≡ out.new.items ++ without_leading_spaces next rest.now) }
+    ensures { IfOk result (λ next. out.old.items ++ without_leading_spaces first (token ∷ rest.now)
+        ≡ out.new.items ++ without_leading_spaces next rest.now) }
 {
     let _ = rest;
     if first && is_collapsible(token) {

@@ -30,7 +30,8 @@ fn put_processed(
     rest: &[Item],
     after_space: bool,
 ) -> Result<bool, NoMemory>
-    ensures { IfOk result (λ space. out.old.items ++ processed after_space (item.now ∷ rest.now) ≡ out.new.items ++ processed space rest.now) }
+    ensures { IfOk result (λ space. out.old.items ++ processed after_space (item.now ∷ rest.now)
+        ≡ out.new.items ++ processed space rest.now) }
 {
     let _ = rest;
     let (copy, space) = match item {
@@ -60,7 +61,9 @@ fn put_text(
     mode: Mode,
     after_space: bool,
 ) -> Result<bool, NoMemory>
-    ensures { IfOk result (λ space. (out.new.items ≡ out.old.items ++ item.Text node (text_left after_space mode text.now) mode [] ∷ []) × (space ≡ space_after after_space mode text.now)) }
+    ensures { IfOk result (λ space. (out.new.items
+        ≡ out.old.items ++ item.Text node (text_left after_space mode text.now) mode [] ∷ []) × (space
+        ≡ space_after after_space mode text.now)) }
 {
     let left = left_of(alloc, mode, text, after_space)?;
     let item = Item::Text {

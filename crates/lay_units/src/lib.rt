@@ -6,12 +6,14 @@
 #![tactic(auto)]
 
 mod length;
+mod limits;
 mod memory;
 mod records;
 mod text;
 mod unit_list;
 
 pub use length::{Percent, Unit, clamp, clamp_size, half, percent_of};
+pub use limits::{LONGEST_TEXT, MOST_DEPTH, MOST_NODES, MOST_TEXT};
 pub use memory::NoMemory;
 pub use records::{AbsOut, BlockIn, ClusterWidth, Len, Rect, Sides, WidthList};
 pub use text::Text;

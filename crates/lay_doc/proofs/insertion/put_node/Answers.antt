@@ -1,6 +1,7 @@
 use Rattle.std.proofs.Common.{◌≡◌, List, arith, ap, ◌∙◌}
 use Rattle.std.specs.Prelude.{map}
 use Rattle.std.specs.List.{insert}
+use Rattle.lay_units.specs.Limits.{most_nodes}
 use Rattle.lay_doc.specs.declared.node.Node.{Node}
 use Rattle.lay_doc.specs.Document.{ids_of, parents_of, moved, inserted}
 use Rattle.lay_doc.proofs.NodeColumns.{length-ids, length-parents}
@@ -13,7 +14,7 @@ shift_parents-requires-clause-small c =
     let nodes = c.args.nodes.now.items in
     let items : c.insert_within.new.nodes.items ≡ insert nodes c.args.at c.args.node = c.insert_within.ensures ∙ ap (λ (xs : List Node). insert xs c.args.at c.args.node) c.reserve.ensures.items in
     let len = length-parents nodes in
-    rw items (small_parents nodes c.args.at 16384 c.args.node c.requires.at (λ k lt. omega (arith, parents_within (parents_of nodes) c.requires.tree k (omega arith))) (omega (arith, c.requires.at, c.requires.parent)))
+    rw items (small_parents nodes c.args.at most_nodes c.args.node c.requires.at (λ k lt. omega (arith, parents_within (parents_of nodes) c.requires.tree k (omega arith))) (omega (arith, c.requires.at, c.requires.parent)))
 
 pub shift_parents-requires-clause-before : goal.shift_parents-requires-clause-before
 shift_parents-requires-clause-before c =

@@ -1,6 +1,6 @@
 use Rattle.std.proofs.Common.{◌∙◌, ◌++◌, ◌∷◌, ◌+◌, ◌<◌, [], length, refl, ap, sym, subst, rules}
 use Rattle.lay_units.specs.declared.length.Unit.{Unit}
-use Rattle.lay_lines.specs.Meeting.{state_of}
+use Rattle.lay_lines.specs.Meeting.{none_met, state_of}
 use Rattle.lay_lines.specs.Rows.{Row, Laid, RowsTo, position_of, row_of}
 use Rattle.lay_lines.proofs.Chains.{at_err, all_front}
 use Rattle.lay_lines.proofs.LineLists.{rows_stopped, row_more, laid_at, same_laid, one_row, listed_more}
@@ -8,8 +8,8 @@ use Rattle.lay_lines.proofs.rows.lay_rows.Goals as goal
 
 pub loop-rest-preserved : goal.loop-rest-preserved
 loop-rest-preserved c =
-    let start = position_of c.args.start.now.frame c.args.start.now.top.0 [] c.args.stretches.now (state_of c.args.floats.now c.args.met.now) in
-    let first = laid_at [] c.args.start.now.frame c.args.start.now.top.0 [] c.args.stretches.now (state_of c.args.floats.now c.args.met.now) in
+    let start = position_of c.args.start.now.frame c.args.start.now.top.0 [] c.args.stretches.now (none_met c.args.floats.now) in
+    let first = laid_at [] c.args.start.now.frame c.args.start.now.top.0 [] c.args.stretches.now (none_met c.args.floats.now) in
     let so_far = c.loop-rest.invariant in
     let here = c.loop-rest.here in
     let now = state_of c.loop-rest.floats c.loop-rest.met in
@@ -27,8 +27,8 @@ loop-rest-preserved c =
 
 pub returns-in_err-ended-clause-stopped : goal.returns-in_err-ended-clause-stopped
 returns-in_err-ended-clause-stopped c =
-    let start = position_of c.args.start.now.frame c.args.start.now.top.0 [] c.args.stretches.now (state_of c.args.floats.now c.args.met.now) in
-    let first = laid_at [] c.args.start.now.frame c.args.start.now.top.0 [] c.args.stretches.now (state_of c.args.floats.now c.args.met.now) in
+    let start = position_of c.args.start.now.frame c.args.start.now.top.0 [] c.args.stretches.now (none_met c.args.floats.now) in
+    let first = laid_at [] c.args.start.now.frame c.args.start.now.top.0 [] c.args.stretches.now (none_met c.args.floats.now) in
     let so_far = c.loop-rest.invariant in
     let here = c.loop-rest.here in
     let now = state_of c.loop-rest.floats c.loop-rest.met in
@@ -39,8 +39,8 @@ returns-in_err-ended-clause-stopped c =
 
 pub returns-in_err-push-clause-stopped : goal.returns-in_err-push-clause-stopped
 returns-in_err-push-clause-stopped c =
-    let start = position_of c.args.start.now.frame c.args.start.now.top.0 [] c.args.stretches.now (state_of c.args.floats.now c.args.met.now) in
-    let first = laid_at [] c.args.start.now.frame c.args.start.now.top.0 [] c.args.stretches.now (state_of c.args.floats.now c.args.met.now) in
+    let start = position_of c.args.start.now.frame c.args.start.now.top.0 [] c.args.stretches.now (none_met c.args.floats.now) in
+    let first = laid_at [] c.args.start.now.frame c.args.start.now.top.0 [] c.args.stretches.now (none_met c.args.floats.now) in
     let so_far = c.loop-rest.invariant in
     let here = c.loop-rest.here in
     let now = state_of c.loop-rest.floats c.loop-rest.met in

@@ -15,4 +15,4 @@ returns c =
     let some = sym c.place_of_property.ensures.value ∙ c.in_ok-k.was {u = tt} in
     let value = declared_some c.args.property c.args.self.now c.in_ok-k.k c.index.result.now (rw items at some) in
     let read = rw c.self.view_is at c.index.ensures in
-    rw value (ap (λ v. Some v) (c.value.ensures ∙ ap (λ (d : Declaration). d.value) read))
+    rw value (ap (λ v. Some v) (c.value.ensures.value ∙ ap (λ (d : Declaration). d.value) read))

@@ -9,7 +9,7 @@ invariant_of-self-2 c =
     let d : Document = record { width = c.self.inside.width; height = c.self.inside.height; nodes = c.self.inside.nodes.items } in
     let node : Node = becomes c.args.new c.args.place (get_or (depths_of d.nodes) c.args.place 0 + 1) in
     let depth : c.depth_at.result ≡ get_or (depths_of d.nodes) c.args.place 0 = rw c.deref.ensures.value at c.depth_at.ensures in
-    let made : c.into_node-node.result ≡ node = c.into_node-node.ensures ∙ ap (λ (m : ℕ). becomes c.args.new c.args.place (m + 1)) depth in
+    let made : c.into_node-node.result ≡ node = c.into_node-node.ensures.node ∙ ap (λ (m : ℕ). becomes c.args.new c.args.place (m + 1)) depth in
     let ok = c.in_ok-put_node.ensures {u = tt} in
     let nodes : c.put_node.new.nodes.items ≡ inserted d.nodes c.args.at node = ok.ok ∙ ap (inserted d.nodes c.args.at) made in
     let bytes : c.len-bytes.result ≡ length c.args.new.text = c.len-bytes.ensures ∙ ap length c.content.ensures in
@@ -23,6 +23,7 @@ invariant_of-self-2 c =
       deeper = refl;
       not_deep = rw (← c.self.view_is) at c.requires.shallow;
       not_long = c.requires.short;
+      form = c.into_node-node.ensures.form;
       texts_fit = rw (← c.self.view_is) at c.requires.small;
     } in
     let text = text_size_inserted d.nodes c.args.at node in
