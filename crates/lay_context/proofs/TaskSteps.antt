@@ -42,9 +42,9 @@ sizes_length xs i x = grind (arith, elements)
 places_length : (xs : List Placement) (i : ℕ) (x : Placement) → length (slice_set xs i x) ≡ length xs
 places_length xs i x = grind (arith, elements)
 
-length-corners : (boxes : List BoxNode) (inner : List OwnBox) (p : ContextPlaces) (n : ℕ) → length (corners_to p n) ≡ n
-length-corners boxes inner p zero = refl
-length-corners boxes inner p (suc n) = omega (arith, length-corners boxes inner p n, length-append (corners_to p n) (corner_of_box p n ∷ []))
+length-corners : (p : ContextPlaces) (n : ℕ) → length (corners_to p n) ≡ n
+length-corners p zero = refl
+length-corners p (suc n) = omega (arith, length-corners p n, length-append (corners_to p n) (corner_of_box p n ∷ []))
 
 module _ (viewport : ContainingBlock) (contexts : List Context) (w : Workings) where
   -- the value of the task itself
@@ -125,7 +125,7 @@ module _ (viewport : ContainingBlock) (contexts : List Context) (are : AreContex
     known = record {
       counts = all.counts;
       sized = λ i lt. (sizes_done i lt).count;
-      cornered = λ i lt. (let is = places_done i lt in ap (λ (p : Placement). length p.corners) is.answer_is ∙ length-corners (boxes_in contexts i) _ is.places (length (boxes_in contexts i)));
+      cornered = λ i lt. (let is = places_done i lt in ap (λ (p : Placement). length p.corners) is.answer_is ∙ length-corners is.places (length (boxes_in contexts i)));
     }
 
     pub solved : (tree : List PageContext) → IsAssembled viewport contexts w.sizes w.places tree → SolvesContexts viewport contexts tree
