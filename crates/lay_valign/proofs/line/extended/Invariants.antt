@@ -1,0 +1,8 @@
+use Rattle.std.specs.Prelude.{◌≤ℤ◌, ◌-ℤ◌, pos}
+use Rattle.std.specs.Int.{int_max}
+use Rattle.lay_valign.specs.LineShape.{beyond}
+use Rattle.lay_valign.specs.Pass.Reaches.{IsRaisedTo}
+use Rattle.lay_valign.proofs.line.extended.Given as goal
+
+abbrev pub invariant-loop-k : goal.invariant-loop-k
+invariant-loop-k l = IsRaisedTo l.edge l.parts (beyond l.subtrees l.other) l.least l.k l.reach
