@@ -1,14 +1,14 @@
 -- One more root and rise, and where and how far they are.
-use Rattle.std.proofs.Common.{◌≡◌, ℕ, zero, suc, ◌+◌, ◌*◌, ◌^◌, ◌<◌, ◌≤◌, ℤ, pos, neg_ℤ, ◌+ℤ◌, ◌≤ℤ◌, List, [], ◌∷◌, ◌++◌, inl, inr, length, refl, sym, ap, ◌∙◌}
+use Rattle.std.proofs.Common.{◌≡◌, ℕ, zero, suc, ◌+◌, ◌^◌, ◌<◌, ◌≤◌, ℤ, pos, ◌+ℤ◌, List, [], ◌∷◌, ◌++◌, inl, inr, length, refl, sym, ap, ◌∙◌}
 use Rattle.std.proofs.Common.{arith, Bool, true, false, get_or, if◌then◌else◌}
-use Rattle.std.specs.Prelude.{All, IsTrue}
+use Rattle.std.specs.Prelude.{All}
 use Rattle.std.proofs.lemmas.Int.{ints}
 use Rattle.std.proofs.lemmas.Grind.{elements}
 use Rattle.std.proofs.lemmas.Bool.{cases_lt}
 use Rattle.lay_valign.specs.declared.parts.Part.{Part}
 use Rattle.lay_valign.specs.Parts.{part_at, at, begins, AreParts}
 use Rattle.lay_valign.specs.Raises.{raise_of}
-use Rattle.lay_valign.specs.Subtrees.{Subtrees, root_of, rise_of, above_of, below_of, HasRoots, HasRises, HasReaches, InSubtree}
+use Rattle.lay_valign.specs.Subtrees.{Subtrees, root_of, rise_of, above_of, below_of, HasRoots, HasRises, HasReaches}
 use Rattle.lay_valign.specs.Pass.Columns.{IsRise, IsWithin, RootsTo, RisesTo, StandFirst, SubtreesFit}
 use Rattle.lay_valign.specs.Pass.Reaches.{ReachesTo}
 
@@ -30,18 +30,18 @@ rise_before ps are rs r (suc k) within le =
 
 pub rise_more : (ps : List Part) → AreParts ps → (rs : List ℤ) (r : ℤ) (k : ℕ) → k < length ps → RisesTo ps k rs → r ≡ rise_of ps rs k → IsRise k r → RisesTo ps (k + 1) (rs ++ r ∷ [])
 rise_more ps are rs r k within to is fits = record {
-    as_many = grind (arith, elements, to.as_many);
-    each = λ j lt. elim (cases_lt j k) [
-      | inl low ↦ read_before rs r j (omega (arith, to.as_many)) ∙ to.each j low ∙ sym (rise_before ps are rs r j (omega arith) (omega (arith, to.as_many)))
-      | inr high ↦ (let q : j ≡ k = omega arith in
-          ap (at (rs ++ r ∷ [])) q ∙ read_last rs r k (sym to.as_many) ∙ is
-          ∙ sym (rise_before ps are rs r k within (omega (arith, to.as_many))) ∙ ap (rise_of ps (rs ++ r ∷ [])) (sym q))
-    ];
-    fits = λ j lt. elim (cases_lt j k) [
-      | inl low ↦ (let e = read_before rs r j (omega (arith, to.as_many)) in rw e (to.fits j low))
-      | inr high ↦ (let q : j ≡ k = omega arith in let e : at (rs ++ r ∷ []) j ≡ r = ap (at (rs ++ r ∷ [])) q ∙ read_last rs r k (sym to.as_many) in rw (e, q) fits)
-    ];
-  }
+  as_many = grind (arith, elements, to.as_many);
+  each = λ j lt. elim (cases_lt j k) [
+    | inl low ↦ read_before rs r j (omega (arith, to.as_many)) ∙ to.each j low ∙ sym (rise_before ps are rs r j (omega arith) (omega (arith, to.as_many)))
+    | inr high ↦ (let q : j ≡ k = omega arith in
+        ap (at (rs ++ r ∷ [])) q ∙ read_last rs r k (sym to.as_many) ∙ is
+        ∙ sym (rise_before ps are rs r k within (omega (arith, to.as_many))) ∙ ap (rise_of ps (rs ++ r ∷ [])) (sym q))
+  ];
+  fits = λ j lt. elim (cases_lt j k) [
+    | inl low ↦ (let e = read_before rs r j (omega (arith, to.as_many)) in rw e (to.fits j low))
+    | inr high ↦ (let q : j ≡ k = omega arith in let e : at (rs ++ r ∷ []) j ≡ r = ap (at (rs ++ r ∷ [])) q ∙ read_last rs r k (sym to.as_many) in rw (e, q) fits)
+  ];
+}
 
 -- a root stands first in its subtree, and is its own root
 first_by : (ps : List Part) (roots : List ℕ) (k : ℕ) (b : Bool) → begins (part_at ps (suc k)).shift ≡ b → get_or roots (suc k) 0 ≡ root_of ps roots (suc k)
@@ -107,16 +107,16 @@ reaches_all ps roots value reaches e to root lt own =
 pub subtrees_fit : (ps : List Part) (s : Subtrees) → AreParts ps → length ps < 2 ^ 32 → RootsTo ps (length ps) s.roots → RisesTo ps (length ps) s.rises
     → ReachesTo s.roots (above_of ps s.rises) (length ps) s.aboves → ReachesTo s.roots (below_of ps s.rises) (length ps) s.belows → SubtreesFit ps s
 subtrees_fit ps s are few roots rises aboves belows = record {
-    are_subtrees = record {
-      roots = has_roots ps s.roots roots;
-      rises = has_rises ps s.rises rises;
-      aboves = reaches_all ps s.roots _ s.aboves roots.as_many aboves;
-      belows = reaches_all ps s.roots _ s.belows roots.as_many belows;
-    };
-    first = stand_first ps s.roots are roots;
-    rises = rises_within ps s.rises few rises;
-    as_many_aboves = aboves.as_many;
-    as_many_belows = belows.as_many;
-    aboves = aboves.fits;
-    belows = belows.fits;
-  }
+  are_subtrees = record {
+    roots = has_roots ps s.roots roots;
+    rises = has_rises ps s.rises rises;
+    aboves = reaches_all ps s.roots _ s.aboves roots.as_many aboves;
+    belows = reaches_all ps s.roots _ s.belows roots.as_many belows;
+  };
+  first = stand_first ps s.roots are roots;
+  rises = rises_within ps s.rises few rises;
+  as_many_aboves = aboves.as_many;
+  as_many_belows = belows.as_many;
+  aboves = aboves.fits;
+  belows = belows.fits;
+}

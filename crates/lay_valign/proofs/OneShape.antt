@@ -1,6 +1,6 @@
 -- A line has one shape.
-use Rattle.std.proofs.Common.{◌≡◌, ℕ, zero, suc, ◌+◌, ◌<◌, ◌≤◌, ℤ, pos, ◌+ℤ◌, ◌-ℤ◌, ◌≤ℤ◌, List, inl, inr, length, refl, sym, ap, ◌∙◌, arith, subst, get_or}
-use Rattle.std.proofs.Common.{Bool, true, false, if◌then◌else◌, rules}
+use Rattle.std.proofs.Common.{◌≡◌, ℕ, zero, suc, ◌+◌, ◌<◌, ℤ, pos, ◌+ℤ◌, ◌≤ℤ◌, List, inl, inr, length, refl, sym, ap, ◌∙◌, arith, subst, get_or}
+use Rattle.std.proofs.Common.{true, if◌then◌else◌, rules}
 use Rattle.std.proofs.lemmas.Int.{ints}
 use Rattle.std.proofs.lemmas.List.{ext_get_or}
 use Rattle.lay_units.specs.declared.length.Unit.{Unit}
@@ -12,8 +12,8 @@ use Rattle.lay_valign.specs.declared.parts.Shift.{Shift}
 use Rattle.lay_valign.specs.declared.parts.Shift.TheVariants.{By, Middle, TextTop, TextBottom, Top, Bottom}
 use Rattle.lay_valign.specs.Parts.{part_at, at, shift_at, no_length, begins, is_aligned, AreParts}
 use Rattle.lay_valign.specs.Raises.{raise_of}
-use Rattle.lay_valign.specs.Subtrees.{Subtrees, AreSubtrees, HasRoots, HasRises, HasReaches, IsGreatest, root_of, rise_of, above_of, below_of}
-use Rattle.lay_valign.specs.LineShape.{IsAligned, IsLine, IsRaised, IsShape, beyond, base_by, base_of, shift_of}
+use Rattle.lay_valign.specs.Subtrees.{Subtrees, AreSubtrees, HasRoots, HasRises, HasReaches, IsGreatest, above_of, below_of}
+use Rattle.lay_valign.specs.LineShape.{IsAligned, IsLine, IsRaised, beyond, base_by, base_of, shift_of}
 use Rattle.lay_valign.specs.Laws.{OneShape}
 use Rattle.lay_valign.proofs.Columns.{root_own, root_first, own_root}
 
@@ -76,14 +76,16 @@ record SameAt (s t : Subtrees) (k : ℕ) : Type 0 where
 
 same_at : (ps : List Part) (s t : Subtrees) → AreParts ps → AreSubtrees ps s → AreSubtrees ps t → (k : ℕ) → k < length ps → get_or s.roots k 0 ≡ k → SameAt s t k
 same_at ps s t are p q k lt own = record {
-    above = greatest_same _ _ _ _ (p.aboves k within own) (subst (λ (r : List ℕ). HasReaches r (above_of ps s.rises) t.aboves) (sym roots) (subst (λ (r : List ℤ). HasReaches t.roots (above_of ps r) t.aboves) (sym rises) q.aboves) k within own);
-    below = greatest_same _ _ _ _ (p.belows k within own) (subst (λ (r : List ℕ). HasReaches r (below_of ps s.rises) t.belows) (sym roots) (subst (λ (r : List ℤ). HasReaches t.roots (below_of ps r) t.belows) (sym rises) q.belows) k within own);
-  }
+  above = greatest_same _ _ _ _ (p.aboves k within own) (subst (λ (r : List ℕ). HasReaches r (above_of ps s.rises) t.aboves) (sym roots) (subst (λ (r : List ℤ). HasReaches t.roots (above_of ps r) t.aboves) (sym rises) q.aboves) k within own);
+  below = greatest_same _ _ _ _ (p.belows k within own) (subst (λ (r : List ℕ). HasReaches r (below_of ps s.rises) t.belows) (sym roots) (subst (λ (r : List ℤ). HasReaches t.roots (below_of ps r) t.belows) (sym rises) q.belows) k within own);
+}
   where
     roots : s.roots ≡ t.roots
     roots = same_roots ps s.roots t.roots are p.roots q.roots
+
     rises : s.rises ≡ t.rises
     rises = same_rises ps s.rises t.rises are p.rises q.rises
+
     within : k < length s.roots
     within = (let e = p.roots.as_many in omega (arith, e, lt))
 
@@ -130,8 +132,10 @@ one_shape_lem ps s t are p q = ap (λ (xs : List Unit). shape xs s.above s.below
   where
     above : s.above.0 ≡ t.above.0
     above = above_same ps p.subtrees q.subtrees _ _ _ _ are p.are_subtrees q.are_subtrees p.line q.line
+
     below : s.below.0 ≡ t.below.0
     below = below_same ps p.subtrees q.subtrees _ _ _ _ are p.are_subtrees q.are_subtrees p.line q.line
+
     each : (k : ℕ) → k < length ps → shift_at s.shifts k ≡ shift_at t.shifts k
     each k lt =
         p.each k lt
@@ -139,5 +143,6 @@ one_shape_lem ps s t are p q = ap (λ (xs : List Unit). shape xs s.above s.below
         ∙ ap (λ (z : ℤ). shift_of ps q.subtrees z s.below.0 k) above
         ∙ ap (λ (z : ℤ). shift_of ps q.subtrees t.above.0 z k) below
         ∙ sym (q.each k lt)
+
     shifts : s.shifts ≡ t.shifts
     shifts = ext_get_or no_length s.shifts t.shifts (p.as_many ∙ sym q.as_many) (λ k lt. (let e = p.as_many in ap unit (each k (omega (arith, e, lt)))))

@@ -1,5 +1,5 @@
 -- The greatest values of the subtrees, one more place.
-use Rattle.std.proofs.Common.{◌≡◌, ◌≢◌, ℕ, zero, suc, ◌+◌, ◌-◌, ◌<◌, ◌≤◌, ℤ, pos, ◌≤ℤ◌, List, [], ◌∷◌, ◌++◌, inl, inr, length, refl, sym, ap, ◌∙◌, arith, subst}
+use Rattle.std.proofs.Common.{◌≡◌, ℕ, ◌+◌, ◌<◌, ◌≤◌, ℤ, pos, List, [], ◌∷◌, ◌++◌, inl, inr, length, refl, sym, ap, ◌∙◌, arith, subst}
 use Rattle.std.proofs.Common.{get_or, set}
 use Rattle.std.specs.Prelude.{All}
 use Rattle.std.specs.Int.{int_max}
@@ -28,48 +28,53 @@ last xs x k e = grind (arith, elements)
 
 joined : (roots : List ℕ) (value : ℕ → ℤ) (n q : ℕ) (old : ℤ) → get_or roots n 0 ≡ q → IsGreatestTo roots value n q old → IsGreatestTo roots value (n + 1) q (int_max old (value n))
 joined roots value n q old here is = record {
-    one_of = by_lt_z old (value n)
+  one_of = by_lt_z old (value n)
       (λ less. (n, omega arith, here, omega (arith, ints, clamps, less)))
       (λ more. (is.one_of.0, (let l = is.one_of.1 in omega (arith, l)), is.one_of.2, (let e = is.one_of.3 in omega (arith, ints, clamps, more, e))));
-    most = λ k lt root. elim (cases_lt k n) [
-      | inl low ↦ (let m = is.most k low root in omega (arith, ints, clamps, m))
-      | inr high ↦ (let e : k ≡ n = omega arith in rw e (omega (arith, ints, clamps)))
-    ];
-  }
+  most = λ k lt root. elim (cases_lt k n) [
+    | inl low ↦ (let m = is.most k low root in omega (arith, ints, clamps, m))
+    | inr high ↦ (let e : k ≡ n = omega arith in rw e (omega (arith, ints, clamps)))
+  ];
+}
 
 alone : (roots : List ℕ) (value : ℕ → ℤ) (n : ℕ) → StandFirst roots → n < length roots → get_or roots n 0 ≡ n → IsGreatestTo roots value (n + 1) n (value n)
 alone roots value n first within here = record {
-    one_of = (n, omega arith, here, refl);
-    most = λ k lt root. (let l = first k (omega arith) in let e : k ≡ n = omega (arith, l, root) in rw e (omega (arith, ints)));
-  }
+  one_of = (n, omega arith, here, refl);
+  most = λ k lt root. (let l = first k (omega arith) in let e : k ≡ n = omega (arith, l, root) in rw e (omega (arith, ints)));
+}
 
 kept : (roots : List ℕ) (value : ℕ → ℤ) (n q : ℕ) (v : ℤ) → (q ≡ get_or roots n 0 → ⊥) → IsGreatestTo roots value n q v → IsGreatestTo roots value (n + 1) q v
 kept roots value n q v other is = record {
-    one_of = (is.one_of.0, (let l = is.one_of.1 in omega (arith, l)), is.one_of.2, is.one_of.3);
-    most = λ k lt root. elim (cases_lt k n) [
-      | inl low ↦ is.most k low root
-      | inr high ↦ (let e : k ≡ n = omega arith in absurd (other (sym root ∙ ap (λ (m : ℕ). get_or roots m 0) e)))
-    ];
-  }
+  one_of = (is.one_of.0, (let l = is.one_of.1 in omega (arith, l)), is.one_of.2, is.one_of.3);
+  most = λ k lt root. elim (cases_lt k n) [
+    | inl low ↦ is.most k low root
+    | inr high ↦ (let e : k ≡ n = omega arith in absurd (other (sym root ∙ ap (λ (m : ℕ). get_or roots m 0) e)))
+  ];
+}
 
 pub reaches_more : (roots : List ℕ) (value : ℕ → ℤ) (out : List ℤ) (n : ℕ) → StandFirst roots → n < length roots → ReachesTo roots value n out → IsWithin 96 (value n)
     → ReachesTo roots value (n + 1) (widened out (get_or roots n 0) (value n))
 reaches_more roots value out n first within to fits = record {
-    as_many = length_set _ _ _ ∙ grind (arith, elements, to.as_many);
-    each = each;
-    fits = all_fit;
-  }
+  as_many = length_set _ _ _ ∙ grind (arith, elements, to.as_many);
+  each = each;
+  fits = all_fit;
+}
   where
     r : ℕ
     r = get_or roots n 0
+
     v : ℤ
     v = value n
+
     wide : List ℤ
     wide = out ++ v ∷ []
+
     below : get_or roots n 0 ≤ n
     below = first n within
+
     here : at (set wide r (int_max (at wide r) v)) r ≡ int_max (at wide r) v
     here = set_same wide r (int_max (at wide r) v) (grind (arith, elements, to.as_many, below))
+
     each : (q : ℕ) → q < n + 1 → get_or roots q 0 ≡ q → IsGreatestTo roots value (n + 1) q (at (set wide r (int_max (at wide r) v)) q)
     each q lt root = elim (cases_eq q r) [
       | inl same ↦ elim (cases_lt q n) [
@@ -92,12 +97,15 @@ reaches_more roots value out n first within to fits = record {
           let e : at (set wide r (int_max (at wide r) v)) q ≡ at out q = set_other wide r q _ other ∙ before out v q (omega (arith, to.as_many)) in
           subst (λ (z : ℤ). IsGreatestTo roots value (n + 1) q z) (sym e) (kept roots value n q (at out q) other (to.each q low root)))
     ]
+
     wide_fits : All (IsWithin 96) wide
     wide_fits = All-push (IsWithin 96) out v to.fits fits
+
     more_fits : IsWithin 96 (int_max (at wide r) v)
     more_fits =
         let a = wide_fits r (pos 0) (grind (arith, elements, to.as_many, below)) in
         let p = a.0 in let q = a.1 in let f = fits.0 in let g = fits.1 in
         (omega (arith, ints, clamps, p, q, f, g), omega (arith, ints, clamps, p, q, f, g))
+
     all_fit : All (IsWithin 96) (set wide r (int_max (at wide r) v))
     all_fit = All-set (IsWithin 96) wide r (int_max (at wide r) v) more_fits wide_fits

@@ -33,7 +33,7 @@ beyond s other k = at s.aboves k +ℤ at s.belows k -ℤ other
 
 pub record IsLine (parts : List Part) (s : Subtrees) (above below : ℤ) : Type 0 where
   pub downward :
-    IsRaised (IsAligned TopEdge parts) (beyond s (at s.aboves 0)) (at s.belows 0) below
+      IsRaised (IsAligned TopEdge parts) (beyond s (at s.aboves 0)) (at s.belows 0) below
   pub upward : IsRaised (IsAligned BottomEdge parts) (beyond s below) (at s.aboves 0) above
 
 -- how far a root's baseline stands above the strut's

@@ -5,14 +5,14 @@
 //! `specs/Subtrees.antt`. A line has one shape (`specs/Laws.antt`).
 #![tactic(auto)]
 
-mod parts;
-mod sums;
-mod roots;
-mod rises;
-mod reaches;
-mod subtrees;
-mod line;
 mod laws;
+mod line;
+mod parts;
+mod reaches;
+mod rises;
+mod roots;
+mod subtrees;
+mod sums;
 
 pub use laws::one_shape;
 pub use line::align;

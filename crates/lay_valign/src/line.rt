@@ -38,7 +38,13 @@ fn extent(parts: &[Part], subtrees: &Subtrees) -> (Unit, Unit)
     ensures { IsLine parts.now subtrees.now result.0.0 result.1.0 }
 {
     let strut_above = subtrees.above(0);
-    let below = extended(parts, subtrees, LineEdge::TopEdge, subtrees.below(0), strut_above);
+    let below = extended(
+        parts,
+        subtrees,
+        LineEdge::TopEdge,
+        subtrees.below(0),
+        strut_above,
+    );
     let above = extended(parts, subtrees, LineEdge::BottomEdge, strut_above, below);
     let line_above = narrow(above);
     let line_below = narrow(below);
@@ -47,13 +53,7 @@ fn extent(parts: &[Part], subtrees: &Subtrees) -> (Unit, Unit)
 
 /// How far the line reaches beyond one edge, at least so far, if the subtrees that stand at the
 /// other edge, which is so far from the baseline, lie within it.
-fn extended(
-    parts: &[Part],
-    subtrees: &Subtrees,
-    edge: LineEdge,
-    least: i128,
-    other: i128,
-) -> i128
+fn extended(parts: &[Part], subtrees: &Subtrees, edge: LineEdge, least: i128, other: i128) -> i128
     requires subtrees { SubtreesFit parts.now subtrees.now }
     requires other { IsWithin 100 other }
     ensures value { IsRaised (IsAligned edge parts.now) (beyond subtrees.now other) least result }
@@ -113,7 +113,13 @@ fn base(parts: &[Part], subtrees: &Subtrees, above: Unit, below: Unit, root: usi
         return 0;
     }
     let shift = part_of(parts, root).shift;
-    base_by(shift, subtrees.above(root), subtrees.below(root), above, below)
+    base_by(
+        shift,
+        subtrees.above(root),
+        subtrees.below(root),
+        above,
+        below,
+    )
 }
 
 fn base_by(shift: Shift, above: i128, below: i128, line_above: Unit, line_below: Unit) -> i128

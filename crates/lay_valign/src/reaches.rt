@@ -27,7 +27,11 @@ pub fn aboves_of(
 {
     let mut aboves = Vec::new(alloc);
     for k in 0..parts.len() {
-        widen(&mut aboves, roots[k], sum(rises[k], part_of(parts, k).above))?;
+        widen(
+            &mut aboves,
+            roots[k],
+            sum(rises[k], part_of(parts, k).above),
+        )?;
     }
     Ok(aboves)
 }
@@ -48,7 +52,11 @@ pub fn belows_of(
 {
     let mut belows = Vec::new(alloc);
     for k in 0..parts.len() {
-        widen(&mut belows, roots[k], difference(part_of(parts, k).below, rises[k]))?;
+        widen(
+            &mut belows,
+            roots[k],
+            difference(part_of(parts, k).below, rises[k]),
+        )?;
     }
     Ok(belows)
 }

@@ -1,5 +1,3 @@
-use Rattle.std.specs.Prelude.{◌≤ℤ◌, ◌-ℤ◌, pos}
-use Rattle.std.specs.Int.{int_max}
 use Rattle.lay_valign.specs.LineShape.{beyond}
 use Rattle.lay_valign.specs.Pass.Reaches.{IsRaisedTo}
 use Rattle.lay_valign.proofs.line.extended.Given as goal

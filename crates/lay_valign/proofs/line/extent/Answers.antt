@@ -1,5 +1,5 @@
 use Rattle.std.specs.Int.{w128}
-use Rattle.std.proofs.Common.{◌≡◌, ℤ, to_z, of_z, arith, ◌∙◌, sym}
+use Rattle.std.proofs.Common.{◌≡◌, to_z, of_z, arith, ◌∙◌}
 use Rattle.std.proofs.lemmas.Int.{ints, clamps}
 use Rattle.lay_valign.specs.Parts.{at}
 use Rattle.lay_valign.specs.LineShape.{IsLine}

@@ -1,8 +1,7 @@
 use Rattle.std.specs.Int.{w128}
-use Rattle.std.proofs.Common.{◌≡◌, ℕ, ℤ, pos, ◌+ℤ◌, to_z, of_z, ap, ◌∙◌, arith, sym, subst}
+use Rattle.std.proofs.Common.{◌≡◌, ℤ, pos, ◌+ℤ◌, to_z, of_z, ap, ◌∙◌, arith}
 use Rattle.std.specs.Prelude.{slice_index}
 use Rattle.std.proofs.lemmas.Int.{ints}
-use Rattle.lay_valign.specs.Parts.{at}
 use Rattle.lay_valign.specs.LineShape.{base_of, shift_of}
 use Rattle.lay_valign.proofs.Extents.{above_fits, below_fits, shift_fits}
 use Rattle.lay_valign.proofs.line.shift.Goals as goal
@@ -27,7 +26,7 @@ summed c =
     let sr : to_z w128 (of_z w128 c.rise.result) ≡ c.rise.result = omega (arith, ints) in
     let v : c.sum.result ≡ c.base-base.result +ℤ c.rise.result = omega (arith, ints, s, sb, sr) in
     v ∙ ap (λ (z : ℤ). z +ℤ c.rise.result) (c.base-base.ensures.value ∙ ap (base_of c.args.parts.now c.args.subtrees.now c.args.above.0 c.args.below.0) c.root.ensures)
-      ∙ ap (λ (z : ℤ). base_of c.args.parts.now c.args.subtrees.now c.args.above.0 c.args.below.0 (slice_index c.args.subtrees.now.roots c.args.k) +ℤ z) c.rise.ensures
+    ∙ ap (λ (z : ℤ). base_of c.args.parts.now c.args.subtrees.now c.args.above.0 c.args.below.0 (slice_index c.args.subtrees.now.roots c.args.k) +ℤ z) c.rise.ensures
 
 pub narrow-requires : goal.narrow-requires
 narrow-requires c =

@@ -1,8 +1,8 @@
 use Rattle.std.specs.Int.{w128}
-use Rattle.std.proofs.Common.{◌≡◌, ℕ, ◌+◌, ℤ, ◌-ℤ◌, List, ap, sym, subst, ◌∙◌, arith, get_or, pos, to_z, of_z}
+use Rattle.std.proofs.Common.{◌≡◌, ◌+◌, ◌-ℤ◌, ap, sym, subst, ◌∙◌, arith, get_or, pos, to_z, of_z}
 use Rattle.std.proofs.lemmas.Int.{ints}
 use Rattle.lay_valign.specs.declared.parts.Part.{Part}
-use Rattle.lay_valign.specs.Parts.{at, part_at}
+use Rattle.lay_valign.specs.Parts.{at}
 use Rattle.lay_valign.specs.Subtrees.{below_of}
 use Rattle.lay_valign.specs.Pass.Columns.{IsWithin}
 use Rattle.lay_valign.specs.Pass.Reaches.{ReachesTo, widened}

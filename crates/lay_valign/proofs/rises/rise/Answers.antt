@@ -1,11 +1,9 @@
 use Rattle.std.specs.Int.{w128}
-use Rattle.std.proofs.Common.{◌≡◌, ◌+◌, ◌*◌, ◌<◌, ap, ◌∙◌, arith, ℕ, ℤ, pos, ◌+ℤ◌, rules, sym, to_z, of_z}
+use Rattle.std.proofs.Common.{◌≡◌, ap, ◌∙◌, arith, ℤ, ◌+ℤ◌, rules, sym, to_z, of_z}
 use Rattle.std.proofs.lemmas.Int.{ints}
 use Rattle.lay_valign.specs.declared.parts.Part.{Part}
-use Rattle.lay_valign.specs.Parts.{part_at, at}
+use Rattle.lay_valign.specs.Parts.{at}
 use Rattle.lay_valign.specs.Raises.{raise_of}
-use Rattle.lay_valign.specs.Subtrees.{rise_of}
-use Rattle.lay_valign.specs.Pass.Columns.{IsRise}
 use Rattle.lay_valign.proofs.Columns.{rise_inner}
 use Rattle.lay_valign.proofs.rises.rise.Goals as goal
 
