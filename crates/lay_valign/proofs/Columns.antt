@@ -12,7 +12,8 @@ use Rattle.lay_valign.specs.Subtrees.{Subtrees, root_of, rise_of, above_of, belo
 use Rattle.lay_valign.specs.Pass.Columns.{IsRise, IsWithin, RootsTo, RisesTo, StandFirst, SubtreesFit}
 use Rattle.lay_valign.specs.Pass.Reaches.{ReachesTo}
 
-pub rise_inner : (ps : List Part) (rises : List ℤ) (k : ℕ) → 0 < k → begins (part_at ps k).shift ≡ false → rise_of ps rises k ≡ at rises (part_at ps k).parent +ℤ raise_of (part_at ps k)
+pub rise_inner : (ps : List Part) (rises : List ℤ) (k : ℕ) → 0 < k → begins (part_at ps k).shift ≡ false
+    → rise_of ps rises k ≡ at rises (part_at ps k).parent +ℤ raise_of (part_at ps k)
 rise_inner ps rises zero some not = absurd (omega arith)
 rise_inner ps rises (suc k) some not = rw not refl
 
@@ -26,9 +27,11 @@ rise_before : (ps : List Part) → AreParts ps → (rs : List ℤ) (r : ℤ) (k 
 rise_before ps are rs r zero within le = refl
 rise_before ps are rs r (suc k) within le =
     let b = are.before (suc k) (omega arith) within in
-    ap (λ (z : ℤ). if begins (part_at ps (suc k)).shift then pos 0 else z +ℤ raise_of (part_at ps (suc k))) (read_before rs r (part_at ps (suc k)).parent (omega arith))
+    ap (λ (z : ℤ). if begins (part_at ps (suc k)).shift then pos 0 else z +ℤ raise_of (part_at ps (suc k)))
+    (read_before rs r (part_at ps (suc k)).parent (omega arith))
 
-pub rise_more : (ps : List Part) → AreParts ps → (rs : List ℤ) (r : ℤ) (k : ℕ) → k < length ps → RisesTo ps k rs → r ≡ rise_of ps rs k → IsRise k r → RisesTo ps (k + 1) (rs ++ r ∷ [])
+pub rise_more : (ps : List Part) → AreParts ps → (rs : List ℤ) (r : ℤ) (k : ℕ) → k < length ps → RisesTo ps k rs → r ≡ rise_of ps rs k → IsRise k r
+    → RisesTo ps (k + 1) (rs ++ r ∷ [])
 rise_more ps are rs r k within to is fits = record {
   as_many = grind (arith, elements, to.as_many);
   each = λ j lt. elim (cases_lt j k) [
@@ -39,7 +42,8 @@ rise_more ps are rs r k within to is fits = record {
   ];
   fits = λ j lt. elim (cases_lt j k) [
     | inl low ↦ (let e = read_before rs r j (omega (arith, to.as_many)) in rw e (to.fits j low))
-    | inr high ↦ (let q : j ≡ k = omega arith in let e : at (rs ++ r ∷ []) j ≡ r = ap (at (rs ++ r ∷ [])) q ∙ read_last rs r k (sym to.as_many) in rw (e, q) fits)
+    | inr high ↦ (let q : j ≡ k = omega arith in let e : at (rs ++ r ∷ []) j ≡ r = ap (at (rs ++ r ∷ [])) q ∙ read_last rs r k (sym to.as_many) in rw
+        (e, q) fits)
   ];
 }
 
@@ -54,16 +58,19 @@ first_to ps roots are has zero k lt within = absurd (omega arith)
 first_to ps roots are has (suc n) zero lt within = (let e = has.each zero within in omega (arith, e))
 first_to ps roots are has (suc n) (suc k) lt within =
     let b = are.before (suc k) (omega arith) within in
-    first_by ps roots k _ refl (has.each (suc k) within) b (first_to ps roots are has n (part_at ps (suc k)).parent (omega (arith, b, lt)) (omega (arith, b, within)))
+    first_by ps roots k _ refl (has.each (suc k) within) b
+    (first_to ps roots are has n (part_at ps (suc k)).parent (omega (arith, b, lt)) (omega (arith, b, within)))
 
 own_by : (ps : List Part) (roots : List ℕ) (k : ℕ) (b : Bool) → begins (part_at ps (suc k)).shift ≡ b → get_or roots (suc k) 0 ≡ root_of ps roots (suc k)
-    → get_or roots (get_or roots (part_at ps (suc k)).parent 0) 0 ≡ get_or roots (part_at ps (suc k)).parent 0 → get_or roots (get_or roots (suc k) 0) 0 ≡ get_or roots (suc k) 0
+    → get_or roots (get_or roots (part_at ps (suc k)).parent 0) 0 ≡ get_or roots (part_at ps (suc k)).parent 0
+    → get_or roots (get_or roots (suc k) 0) 0 ≡ get_or roots (suc k) 0
 own_by ps roots k true is e i = (let f : get_or roots (suc k) 0 ≡ suc k = e ∙ rw is refl in ap (λ (m : ℕ). get_or roots m 0) f)
 own_by ps roots k false is e i =
     let f : get_or roots (suc k) 0 ≡ get_or roots (part_at ps (suc k)).parent 0 = e ∙ rw is refl in
     ap (λ (m : ℕ). get_or roots m 0) f ∙ i ∙ sym f
 
-own_to : (ps : List Part) (roots : List ℕ) → AreParts ps → HasRoots ps roots → (n k : ℕ) → k < n → k < length ps → get_or roots (get_or roots k 0) 0 ≡ get_or roots k 0
+own_to : (ps : List Part) (roots : List ℕ) → AreParts ps → HasRoots ps roots → (n k : ℕ) → k < n → k < length ps
+    → get_or roots (get_or roots k 0) 0 ≡ get_or roots k 0
 own_to ps roots are has zero k lt within = absurd (omega arith)
 own_to ps roots are has (suc n) zero lt within = (let e : get_or roots zero 0 ≡ 0 = has.each zero within in ap (λ (m : ℕ). get_or roots m 0) e)
 own_to ps roots are has (suc n) (suc k) lt within =
@@ -73,7 +80,8 @@ own_to ps roots are has (suc n) (suc k) lt within =
 pub root_first : (ps : List Part) (roots : List ℕ) (k : ℕ) → AreParts ps → HasRoots ps roots → k < length ps → get_or roots k 0 ≤ k
 root_first ps roots k are has lt = first_to ps roots are has (k + 1) k (omega arith) lt
 
-pub root_own : (ps : List Part) (roots : List ℕ) (k : ℕ) → AreParts ps → HasRoots ps roots → k < length ps → get_or roots (get_or roots k 0) 0 ≡ get_or roots k 0
+pub root_own : (ps : List Part) (roots : List ℕ) (k : ℕ) → AreParts ps → HasRoots ps roots → k < length ps
+    → get_or roots (get_or roots k 0) 0 ≡ get_or roots k 0
 root_own ps roots k are has lt = own_to ps roots are has (k + 1) k (omega arith) lt
 
 pub own_root : (ps : List Part) (roots : List ℕ) (k : ℕ) → HasRoots ps roots → k < length ps → 0 < k → begins (part_at ps k).shift ≡ true → get_or roots k 0 ≡ k
@@ -96,7 +104,8 @@ rises_within ps rises few to k d lt =
     let same : get_or rises k d ≡ at rises k = grind (arith, elements, lt) in
     rw same (omega (arith, ints, low, high, within, few), omega (arith, ints, low, high, within, few))
 
-reaches_all : (ps : List Part) (roots : List ℕ) (value : ℕ → ℤ) (reaches : List ℤ) → length roots ≡ length ps → ReachesTo roots value (length ps) reaches → HasReaches roots value reaches
+reaches_all : (ps : List Part) (roots : List ℕ) (value : ℕ → ℤ) (reaches : List ℤ) → length roots ≡ length ps
+    → ReachesTo roots value (length ps) reaches → HasReaches roots value reaches
 reaches_all ps roots value reaches e to root lt own =
     let is = to.each root (omega (arith, e, lt)) own in
     record {

@@ -80,7 +80,8 @@ unit_shift ps s above below k = unit (shift_of ps s above below k)
 abbrev shape_with : List Part → Subtrees → ℤ → ℤ → LineShape
 shape_with ps s above below = record { shifts = map (unit_shift ps s above below) (range_with_len 0 (length ps)); above = unit above; below = unit below }
 
-pub shape_fits : (ps : List Part) (s : Subtrees) (above below : ℤ) → PartsFit ps → AreSubtrees ps s → IsLine ps s above below → ShapeFits (shape_with ps s above below)
+pub shape_fits : (ps : List Part) (s : Subtrees) (above below : ℤ) → PartsFit ps → AreSubtrees ps s → IsLine ps s above below
+    → ShapeFits (shape_with ps s above below)
 shape_fits ps s above below fits are line = fits.shape (shape_with ps s above below) (record {
   subtrees = s;
   are_subtrees = are;
@@ -95,20 +96,25 @@ above_fits ps s above below fits are line = (shape_fits ps s above below fits ar
 pub below_fits : (ps : List Part) (s : Subtrees) (above below : ℤ) → PartsFit ps → AreSubtrees ps s → IsLine ps s above below → IsPosition below
 below_fits ps s above below fits are line = (shape_fits ps s above below fits are line).below
 
-pub shift_fits : (ps : List Part) (s : Subtrees) (above below : ℤ) (k : ℕ) → PartsFit ps → AreSubtrees ps s → IsLine ps s above below → k < length ps → IsPosition (shift_of ps s above below k)
+pub shift_fits : (ps : List Part) (s : Subtrees) (above below : ℤ) (k : ℕ) → PartsFit ps → AreSubtrees ps s → IsLine ps s above below
+    → k < length ps → IsPosition (shift_of ps s above below k)
 shift_fits ps s above below k fits are line lt =
-    let f = (shape_fits ps s above below fits are line).shifts k no_length (let e = length-map-range_with_len (unit_shift ps s above below) 0 (length ps) in omega (arith, e, lt)) in
+    let f = (shape_fits ps s above below fits are line).shifts k no_length
+    (let e = length-map-range_with_len (unit_shift ps s above below) 0 (length ps) in omega (arith, e, lt)) in
     subst (λ (u : Unit). IsPosition u.0) (get_or-map-range_with_len (unit_shift ps s above below) 0 (length ps) k k no_length lt (omega arith)) f
 
-pub base_at : (ps : List Part) (s : Subtrees) (above below : ℤ) (root : ℕ) → 0 < root → base_of ps s above below root ≡ base_by (part_at ps root).shift (at s.aboves root) (at s.belows root) above below
+pub base_at : (ps : List Part) (s : Subtrees) (above below : ℤ) (root : ℕ) → 0 < root
+    → base_of ps s above below root ≡ base_by (part_at ps root).shift (at s.aboves root) (at s.belows root) above below
 base_at ps s above below zero some = absurd (omega arith)
 base_at ps s above below (suc k) some = refl
 
 pub line_of : (ps : List Part) (s : Subtrees) (a b other above below : ℤ) → a ≡ at s.aboves 0 → b ≡ at s.belows 0 → other ≡ below
     → IsRaised (IsAligned TopEdge ps) (beyond s a) b below → IsRaised (IsAligned BottomEdge ps) (beyond s other) a above → IsLine ps s above below
 line_of ps s a b other above below ea eb eo down up = record {
-  downward = subst (λ (z : ℤ). IsRaised (IsAligned TopEdge ps) (beyond s (at s.aboves 0)) z below) eb (subst (λ (z : ℤ). IsRaised (IsAligned TopEdge ps) (beyond s z) b below) ea down);
-  upward = subst (λ (z : ℤ). IsRaised (IsAligned BottomEdge ps) (beyond s z) (at s.aboves 0) above) eo (subst (λ (z : ℤ). IsRaised (IsAligned BottomEdge ps) (beyond s other) z above) ea up);
+  downward = subst (λ (z : ℤ). IsRaised (IsAligned TopEdge ps) (beyond s (at s.aboves 0)) z below) eb
+      (subst (λ (z : ℤ). IsRaised (IsAligned TopEdge ps) (beyond s z) b below) ea down);
+  upward = subst (λ (z : ℤ). IsRaised (IsAligned BottomEdge ps) (beyond s z) (at s.aboves 0) above) eo
+      (subst (λ (z : ℤ). IsRaised (IsAligned BottomEdge ps) (beyond s other) z above) ea up);
 }
 
 pub line_at : (ps : List Part) (s : Subtrees) (a b c d : ℤ) → c ≡ a → d ≡ b → IsLine ps s a b → IsLine ps s c d

@@ -26,7 +26,8 @@ roots_to ps v w are p q (suc n) (suc k) lt within =
     p.each (suc k) within ∙ ap (λ (m : ℕ). if begins (part_at ps (suc k)).shift then suc k else m) i ∙ sym (q.each (suc k) within)
 
 same_roots : (ps : List Part) (v w : List ℕ) → AreParts ps → HasRoots ps v → HasRoots ps w → v ≡ w
-same_roots ps v w are p q = ext_get_or 0 v w (p.as_many ∙ sym q.as_many) (λ k lt. (let e = p.as_many in roots_to ps v w are p q (k + 1) k (omega arith) (omega (arith, e, lt))))
+same_roots ps v w are p q = ext_get_or 0 v w (p.as_many ∙ sym q.as_many)
+    (λ k lt. (let e = p.as_many in roots_to ps v w are p q (k + 1) k (omega arith) (omega (arith, e, lt))))
 
 rises_to : (ps : List Part) (v w : List ℤ) → AreParts ps → HasRises ps v → HasRises ps w → (n k : ℕ) → k < n → k < length ps → at v k ≡ at w k
 rises_to ps v w are p q zero k lt within = absurd (omega arith)
@@ -34,10 +35,12 @@ rises_to ps v w are p q (suc n) zero lt within = p.each zero within ∙ sym (q.e
 rises_to ps v w are p q (suc n) (suc k) lt within =
     let b = are.before (suc k) (omega arith) within in
     let i = rises_to ps v w are p q n (part_at ps (suc k)).parent (omega (arith, b, lt)) (omega (arith, b, within)) in
-    p.each (suc k) within ∙ ap (λ (z : ℤ). if begins (part_at ps (suc k)).shift then pos 0 else z +ℤ raise_of (part_at ps (suc k))) i ∙ sym (q.each (suc k) within)
+    p.each (suc k) within ∙ ap (λ (z : ℤ). if begins (part_at ps (suc k)).shift then pos 0 else z +ℤ raise_of (part_at ps (suc k))) i ∙ sym
+    (q.each (suc k) within)
 
 same_rises : (ps : List Part) (v w : List ℤ) → AreParts ps → HasRises ps v → HasRises ps w → v ≡ w
-same_rises ps v w are p q = ext_get_or (pos 0) v w (p.as_many ∙ sym q.as_many) (λ k lt. (let e = p.as_many in rises_to ps v w are p q (k + 1) k (omega arith) (omega (arith, e, lt))))
+same_rises ps v w are p q = ext_get_or (pos 0) v w (p.as_many ∙ sym q.as_many)
+    (λ k lt. (let e = p.as_many in rises_to ps v w are p q (k + 1) k (omega arith) (omega (arith, e, lt))))
 
 greatest_same : (Of : ℕ → Type 0) (value : ℕ → ℤ) (v w : ℤ) → IsGreatest Of value v → IsGreatest Of value w → v ≡ w
 greatest_same Of value v w p q =
@@ -74,10 +77,15 @@ record SameAt (s t : Subtrees) (k : ℕ) : Type 0 where
   pub above : at s.aboves k ≡ at t.aboves k
   pub below : at s.belows k ≡ at t.belows k
 
-same_at : (ps : List Part) (s t : Subtrees) → AreParts ps → AreSubtrees ps s → AreSubtrees ps t → (k : ℕ) → k < length ps → get_or s.roots k 0 ≡ k → SameAt s t k
+same_at : (ps : List Part) (s t : Subtrees) → AreParts ps → AreSubtrees ps s → AreSubtrees ps t → (k : ℕ) → k < length ps → get_or s.roots k 0 ≡ k
+    → SameAt s t k
 same_at ps s t are p q k lt own = record {
-  above = greatest_same _ _ _ _ (p.aboves k within own) (subst (λ (r : List ℕ). HasReaches r (above_of ps s.rises) t.aboves) (sym roots) (subst (λ (r : List ℤ). HasReaches t.roots (above_of ps r) t.aboves) (sym rises) q.aboves) k within own);
-  below = greatest_same _ _ _ _ (p.belows k within own) (subst (λ (r : List ℕ). HasReaches r (below_of ps s.rises) t.belows) (sym roots) (subst (λ (r : List ℤ). HasReaches t.roots (below_of ps r) t.belows) (sym rises) q.belows) k within own);
+  above = greatest_same _ _ _ _ (p.aboves k within own)
+      (subst (λ (r : List ℕ). HasReaches r (above_of ps s.rises) t.aboves) (sym roots)
+      (subst (λ (r : List ℤ). HasReaches t.roots (above_of ps r) t.aboves) (sym rises) q.aboves) k within own);
+  below = greatest_same _ _ _ _ (p.belows k within own)
+      (subst (λ (r : List ℕ). HasReaches r (below_of ps s.rises) t.belows) (sym roots)
+      (subst (λ (r : List ℤ). HasReaches t.roots (below_of ps r) t.belows) (sym rises) q.belows) k within own);
 }
   where
     roots : s.roots ≡ t.roots
@@ -89,7 +97,8 @@ same_at ps s t are p q k lt own = record {
     within : k < length s.roots
     within = (let e = p.roots.as_many in omega (arith, e, lt))
 
-beyond_same : (edge : LineEdge) (ps : List Part) (s t : Subtrees) (c d : ℤ) → AreParts ps → AreSubtrees ps s → AreSubtrees ps t → c ≡ d → (k : ℕ) → IsAligned edge ps k → beyond s c k ≡ beyond t d k
+beyond_same : (edge : LineEdge) (ps : List Part) (s t : Subtrees) (c d : ℤ) → AreParts ps → AreSubtrees ps s → AreSubtrees ps t → c ≡ d → (k : ℕ)
+    → IsAligned edge ps k → beyond s c k ≡ beyond t d k
 beyond_same edge ps s t c d are p q e k al =
     let same = same_at ps s t are p q k al.within (own_root ps s.roots k p.roots al.within al.no_strut (aligned_begins edge (part_at ps k).shift al.aligned)) in
     let a = same.above in let b = same.below in
@@ -110,9 +119,11 @@ above_same ps s t a b c d are p q l m =
 
 base_same : (ps : List Part) (s t : Subtrees) (a b : ℤ) (root : ℕ) → SameAt s t root → base_of ps s a b root ≡ base_of ps t a b root
 base_same ps s t a b zero same = refl
-base_same ps s t a b (suc k) same = ap (λ (z : ℤ). base_by (part_at ps (suc k)).shift z (at s.belows (suc k)) a b) same.above ∙ ap (λ (z : ℤ). base_by (part_at ps (suc k)).shift (at t.aboves (suc k)) z a b) same.below
+base_same ps s t a b (suc k) same = ap (λ (z : ℤ). base_by (part_at ps (suc k)).shift z (at s.belows (suc k)) a b) same.above ∙ ap
+    (λ (z : ℤ). base_by (part_at ps (suc k)).shift (at t.aboves (suc k)) z a b) same.below
 
-shift_same : (ps : List Part) (s t : Subtrees) (a b : ℤ) → AreParts ps → AreSubtrees ps s → AreSubtrees ps t → (k : ℕ) → k < length ps → shift_of ps s a b k ≡ shift_of ps t a b k
+shift_same : (ps : List Part) (s t : Subtrees) (a b : ℤ) → AreParts ps → AreSubtrees ps s → AreSubtrees ps t → (k : ℕ) → k < length ps
+    → shift_of ps s a b k ≡ shift_of ps t a b k
 shift_same ps s t a b are p q k lt =
     let f = root_first ps s.roots k are p.roots lt in
     let same = same_at ps s t are p q (get_or s.roots k 0) (omega (arith, f, lt)) (root_own ps s.roots k are p.roots lt) in
@@ -128,7 +139,8 @@ abbrev shape : List Unit → Unit → Unit → LineShape
 shape shifts above below = record { shifts = shifts; above = above; below = below }
 
 pub one_shape_lem : OneShape
-one_shape_lem ps s t are p q = ap (λ (xs : List Unit). shape xs s.above s.below) shifts ∙ ap (λ (u : Unit). shape t.shifts u s.below) (ap unit above) ∙ ap (shape t.shifts t.above) (ap unit below)
+one_shape_lem ps s t are p q = ap (λ (xs : List Unit). shape xs s.above s.below) shifts ∙ ap (λ (u : Unit). shape t.shifts u s.below)
+    (ap unit above) ∙ ap (shape t.shifts t.above) (ap unit below)
   where
     above : s.above.0 ≡ t.above.0
     above = above_same ps p.subtrees q.subtrees _ _ _ _ are p.are_subtrees q.are_subtrees p.line q.line

@@ -26,7 +26,8 @@ before xs x k lt = grind (arith, elements)
 last : (xs : List ℤ) (x : ℤ) (k : ℕ) → k ≡ length xs → at (xs ++ x ∷ []) k ≡ x
 last xs x k e = grind (arith, elements)
 
-joined : (roots : List ℕ) (value : ℕ → ℤ) (n q : ℕ) (old : ℤ) → get_or roots n 0 ≡ q → IsGreatestTo roots value n q old → IsGreatestTo roots value (n + 1) q (int_max old (value n))
+joined : (roots : List ℕ) (value : ℕ → ℤ) (n q : ℕ) (old : ℤ) → get_or roots n 0 ≡ q → IsGreatestTo roots value n q old
+    → IsGreatestTo roots value (n + 1) q (int_max old (value n))
 joined roots value n q old here is = record {
   one_of = by_lt_z old (value n)
       (λ less. (n, omega arith, here, omega (arith, ints, clamps, less)))
@@ -52,7 +53,8 @@ kept roots value n q v other is = record {
   ];
 }
 
-pub reaches_more : (roots : List ℕ) (value : ℕ → ℤ) (out : List ℤ) (n : ℕ) → StandFirst roots → n < length roots → ReachesTo roots value n out → IsWithin 96 (value n)
+pub reaches_more : (roots : List ℕ) (value : ℕ → ℤ) (out : List ℤ) (n : ℕ) → StandFirst roots → n < length roots → ReachesTo roots value n out
+    → IsWithin 96 (value n)
     → ReachesTo roots value (n + 1) (widened out (get_or roots n 0) (value n))
 reaches_more roots value out n first within to fits = record {
   as_many = length_set _ _ _ ∙ grind (arith, elements, to.as_many);
@@ -79,7 +81,9 @@ reaches_more roots value out n first within to fits = record {
     each q lt root = elim (cases_eq q r) [
       | inl same ↦ elim (cases_lt q n) [
         | inl low ↦ (
-            let e : at (set wide r (int_max (at wide r) v)) q ≡ int_max (at out q) v = ap (at (set wide r (int_max (at wide r) v))) same ∙ here ∙ ap (λ (z : ℤ). int_max z v) (ap (at wide) (sym same) ∙ before out v q (omega (arith, to.as_many))) in
+            let e : at (set wide r (int_max (at wide r) v)) q ≡ int_max (at out q) v =
+            ap (at (set wide r (int_max (at wide r) v))) same ∙ here ∙ ap (λ (z : ℤ). int_max z v)
+            (ap (at wide) (sym same) ∙ before out v q (omega (arith, to.as_many))) in
             subst (λ (z : ℤ). IsGreatestTo roots value (n + 1) q z) (sym e) (joined roots value n q (at out q) (sym same) (to.each q low root)))
         | inr high ↦ (
             let at_n : q ≡ n = omega arith in
@@ -87,7 +91,8 @@ reaches_more roots value out n first within to fits = record {
             let w : at wide r ≡ v = ap (at wide) g ∙ last out v n (sym to.as_many) in
             let m : int_max (at wide r) v ≡ v = omega (arith, ints, clamps, w) in
             let e : at (set wide r (int_max (at wide r) v)) q ≡ v = ap (at (set wide r (int_max (at wide r) v))) same ∙ here ∙ m in
-            subst (λ (z : ℤ). IsGreatestTo roots value (n + 1) q z) (sym e) (subst (λ (p : ℕ). IsGreatestTo roots value (n + 1) p v) (sym at_n) (alone roots value n first within g)))
+            subst (λ (z : ℤ). IsGreatestTo roots value (n + 1) q z) (sym e)
+            (subst (λ (p : ℕ). IsGreatestTo roots value (n + 1) p v) (sym at_n) (alone roots value n first within g)))
       ]
       | inr other ↦ (
           let low : q < n = elim (cases_lt q n) [

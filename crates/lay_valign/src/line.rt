@@ -38,13 +38,8 @@ fn extent(parts: &[Part], subtrees: &Subtrees) -> (Unit, Unit)
     ensures { IsLine parts.now subtrees.now result.0.0 result.1.0 }
 {
     let strut_above = subtrees.above(0);
-    let below = extended(
-        parts,
-        subtrees,
-        LineEdge::TopEdge,
-        subtrees.below(0),
-        strut_above,
-    );
+    let strut_below = subtrees.below(0);
+    let below = extended(parts, subtrees, LineEdge::TopEdge, strut_below, strut_above);
     let above = extended(parts, subtrees, LineEdge::BottomEdge, strut_above, below);
     let line_above = narrow(above);
     let line_below = narrow(below);

@@ -21,19 +21,29 @@ loop-k-preserved c =
           let sd : to_z w128 (of_z w128 w.difference.result) ≡ w.difference.result = omega (arith, ints) in
           let sm : to_z w128 (of_z w128 w.max-reach.result) ≡ w.max-reach.result = omega (arith, ints) in
           let m = w.reach-is ∙ sm ∙ w.max-reach.ensures.value ∙ ap (int_max (to_z w128 c.loop-k.reach-bits)) (sd ∙ v) in
-          subst (λ (z : ℤ). IsRaisedTo c.args.edge c.args.parts.now (beyond s (to_z w128 (of_z w128 c.args.other))) (to_z w128 (of_z w128 c.args.least)) (c.loop-k.k + 1) z) (sym m)
-          (raised_by _ _ _ _ _ _ (record { within = c.loop-k-test.true; no_strut = (let k = c.loop-k.auto.k in omega (arith, k)); aligned = kind ∙ w.if-is_aligned.true }) c.loop-k.invariant))
+          subst (λ (z : ℤ). IsRaisedTo c.args.edge c.args.parts.now (beyond s (to_z w128 (of_z w128 c.args.other)))
+          (to_z w128 (of_z w128 c.args.least)) (c.loop-k.k + 1) z) (sym m)
+          (raised_by _ _ _ _ _ _
+          (record {
+            within = c.loop-k-test.true;
+            no_strut =
+                (let k = c.loop-k.auto.k in omega (arith, k));
+            aligned = kind ∙ w.if-is_aligned.true;
+          }) c.loop-k.invariant))
       | else-is_aligned w ↦
-          subst (λ (z : ℤ). IsRaisedTo c.args.edge c.args.parts.now (beyond s (to_z w128 (of_z w128 c.args.other))) (to_z w128 (of_z w128 c.args.least)) (c.loop-k.k + 1) z) (sym w.reach-is)
+          subst (λ (z : ℤ). IsRaisedTo c.args.edge c.args.parts.now (beyond s (to_z w128 (of_z w128 c.args.other)))
+          (to_z w128 (of_z w128 c.args.least)) (c.loop-k.k + 1) z) (sym w.reach-is)
           (raised_past _ _ _ _ _ _ (kind ∙ w.if-is_aligned.false) c.loop-k.invariant)
     ]
 
-raised : (c : goal.After-loop-k) → IsRaised (IsAligned c.args.edge c.args.parts.now) (beyond c.args.subtrees.now c.args.other) c.args.least (to_z w128 c.loop-k.reach-bits)
+raised : (c : goal.After-loop-k)
+    → IsRaised (IsAligned c.args.edge c.args.parts.now) (beyond c.args.subtrees.now c.args.other) c.args.least (to_z w128 c.loop-k.reach-bits)
 raised c =
     let so : to_z w128 (of_z w128 c.args.other) ≡ c.args.other = (let f : FitsSigned w128 c.args.other = c.ranges.other in simp (to_z-of_z, f) refl) in
     let sl : to_z w128 (of_z w128 c.args.least) ≡ c.args.least = (let f : FitsSigned w128 c.args.least = c.ranges.least in simp (to_z-of_z, f) refl) in
     subst (λ (z : ℤ). IsRaised (IsAligned c.args.edge c.args.parts.now) (beyond c.args.subtrees.now c.args.other) z (to_z w128 c.loop-k.reach-bits)) sl
-    (subst (λ (z : ℤ). IsRaised (IsAligned c.args.edge c.args.parts.now) (beyond c.args.subtrees.now z) (to_z w128 (of_z w128 c.args.least)) (to_z w128 c.loop-k.reach-bits)) so
+    (subst (λ (z : ℤ). IsRaised (IsAligned c.args.edge c.args.parts.now) (beyond c.args.subtrees.now z) (to_z w128 (of_z w128 c.args.least))
+    (to_z w128 c.loop-k.reach-bits)) so
     (raised_all _ _ _ _ _ _ c.loop-k-test.false c.loop-k.invariant))
 
 pub returns-clause-value : goal.returns-clause-value

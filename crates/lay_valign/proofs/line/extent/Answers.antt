@@ -10,15 +10,15 @@ pub extended-above-requires-clause-other : goal.extended-above-requires-clause-o
 extended-above-requires-clause-other c =
     let m = c.extended-below.ensures.most in let f = c.extended-below.ensures.value.from in
     let a = c.above-strut_above.ensures.within.0 in let b = c.above-strut_above.ensures.within.1 in
-    let p = c.below.ensures.within.0 in let q = c.below.ensures.within.1 in
+    let p = c.below-strut_below.ensures.within.0 in let q = c.below-strut_below.ensures.within.1 in
     (omega (arith, ints, clamps, m, f, a, b, p, q), omega (arith, ints, clamps, m, f, a, b, p, q))
 
 is_line : (c : goal.After-extended-above) → IsLine c.args.parts.now c.args.subtrees.now c.extended-above.result c.extended-below.result
 is_line c =
     let a = c.above-strut_above.ensures.within.0 in let b = c.above-strut_above.ensures.within.1 in let v = c.above-strut_above.ensures.value in
-    let p = c.below.ensures.within.0 in let q = c.below.ensures.within.1 in let w = c.below.ensures.value in
+    let p = c.below-strut_below.ensures.within.0 in let q = c.below-strut_below.ensures.within.1 in let w = c.below-strut_below.ensures.value in
     let sa : to_z w128 (of_z w128 c.above-strut_above.result) ≡ at c.args.subtrees.now.aboves 0 = omega (arith, ints, a, b, v) in
-    let sb : to_z w128 (of_z w128 c.below.result) ≡ at c.args.subtrees.now.belows 0 = omega (arith, ints, p, q, w) in
+    let sb : to_z w128 (of_z w128 c.below-strut_below.result) ≡ at c.args.subtrees.now.belows 0 = omega (arith, ints, p, q, w) in
     let so : to_z w128 (of_z w128 c.extended-below.result) ≡ c.extended-below.result = omega (arith, ints) in
     line_of c.args.parts.now c.args.subtrees.now _ _ _ _ _ sa sb so c.extended-below.ensures.value c.extended-above.ensures.value
 

@@ -25,8 +25,10 @@ summed c =
     let sb : to_z w128 (of_z w128 c.base-base.result) ≡ c.base-base.result = omega (arith, ints) in
     let sr : to_z w128 (of_z w128 c.rise.result) ≡ c.rise.result = omega (arith, ints) in
     let v : c.sum.result ≡ c.base-base.result +ℤ c.rise.result = omega (arith, ints, s, sb, sr) in
-    v ∙ ap (λ (z : ℤ). z +ℤ c.rise.result) (c.base-base.ensures.value ∙ ap (base_of c.args.parts.now c.args.subtrees.now c.args.above.0 c.args.below.0) c.root.ensures)
-    ∙ ap (λ (z : ℤ). base_of c.args.parts.now c.args.subtrees.now c.args.above.0 c.args.below.0 (slice_index c.args.subtrees.now.roots c.args.k) +ℤ z) c.rise.ensures
+    v ∙ ap (λ (z : ℤ). z +ℤ c.rise.result)
+    (c.base-base.ensures.value ∙ ap (base_of c.args.parts.now c.args.subtrees.now c.args.above.0 c.args.below.0) c.root.ensures)
+    ∙ ap (λ (z : ℤ). base_of c.args.parts.now c.args.subtrees.now c.args.above.0 c.args.below.0
+    (slice_index c.args.subtrees.now.roots c.args.k) +ℤ z) c.rise.ensures
 
 pub narrow-requires : goal.narrow-requires
 narrow-requires c =

@@ -19,6 +19,8 @@ loop-k-preserved c =
     let v : c.difference.result ≡ c.part_of.result.below.0 -ℤ at c.args.rises.now c.loop-k.k = omega (arith, ints, s, low, high) in
     let e : c.difference.result ≡ value c.loop-k.k = v ∙ ap (λ (p : Part). p.below.0 -ℤ at c.args.rises.now c.loop-k.k) c.part_of.ensures in
     let w : to_z w128 (of_z w128 c.difference.result) ≡ c.difference.result = omega (arith, ints) in
-    let new : c.widen.new.reaches.items ≡ widened c.loop-k.belows.items (get_or c.args.roots.now c.loop-k.k 0) (value c.loop-k.k) = c.in_ok-widen.ensures ∙ ap (widened c.loop-k.belows.items (get_or c.args.roots.now c.loop-k.k 0)) (w ∙ e) in
-    let more = reaches_more c.args.roots.now value c.loop-k.belows.items c.loop-k.k c.requires.first (omega (arith, few, lt)) c.loop-k.invariant (subst (IsWithin 96) e c.difference.ensures.within) in
+    let new : c.widen.new.reaches.items ≡ widened c.loop-k.belows.items (get_or c.args.roots.now c.loop-k.k 0) (value c.loop-k.k) =
+    c.in_ok-widen.ensures ∙ ap (widened c.loop-k.belows.items (get_or c.args.roots.now c.loop-k.k 0)) (w ∙ e) in
+    let more = reaches_more c.args.roots.now value c.loop-k.belows.items c.loop-k.k c.requires.first (omega (arith, few, lt)) c.loop-k.invariant
+    (subst (IsWithin 96) e c.difference.ensures.within) in
     subst (ReachesTo c.args.roots.now value (c.loop-k.k + 1)) (sym new) more

@@ -12,4 +12,5 @@ loop-k-preserved c =
     let value = c.rise-rise.ensures.value ∙ ap (λ (xs : List ℤ). rise_of c.args.parts.now xs c.loop-k.k) c.as_slice.ensures.value in
     let pushed = (c.in_ok-push.ensures {u = tt}).items in
     subst (RisesTo c.args.parts.now (c.loop-k.k + 1)) (sym pushed)
-    (rise_more c.args.parts.now c.requires.are_parts _ (to_z w128 (of_z w128 c.rise-rise.result)) c.loop-k.k c.loop-k-test.true c.loop-k.invariant (w ∙ value) (subst (IsRise c.loop-k.k) (sym w) c.rise-rise.ensures.fits))
+    (rise_more c.args.parts.now c.requires.are_parts _ (to_z w128 (of_z w128 c.rise-rise.result)) c.loop-k.k c.loop-k-test.true c.loop-k.invariant
+    (w ∙ value) (subst (IsRise c.loop-k.k) (sym w) c.rise-rise.ensures.fits))

@@ -21,7 +21,11 @@ belows_of-requires-clause-rises c = subst (All (IsWithin 95)) (sym c.as_slice-4.
 pub returns : goal.returns
 returns c =
     subtrees_fit _ _ c.requires.are_parts c.requires.few c.in_ok-roots.ensures c.in_ok-rises.ensures
-    (subst (λ (r : List ℕ). ReachesTo r (above_of c.args.parts.now c.in_ok-rises.rises.items) (length c.args.parts.now) c.in_ok-aboves.aboves.items) c.as_slice.ensures.value
-    (subst (λ (r : List ℤ). ReachesTo c.as_slice.result.now (above_of c.args.parts.now r) (length c.args.parts.now) c.in_ok-aboves.aboves.items) c.as_slice-2.ensures.value c.in_ok-aboves.ensures))
-    (subst (λ (r : List ℕ). ReachesTo r (below_of c.args.parts.now c.in_ok-rises.rises.items) (length c.args.parts.now) c.in_ok-belows.belows.items) c.as_slice-3.ensures.value
-    (subst (λ (r : List ℤ). ReachesTo c.as_slice-3.result.now (below_of c.args.parts.now r) (length c.args.parts.now) c.in_ok-belows.belows.items) c.as_slice-4.ensures.value c.in_ok-belows.ensures))
+    (subst (λ (r : List ℕ). ReachesTo r (above_of c.args.parts.now c.in_ok-rises.rises.items)
+    (length c.args.parts.now) c.in_ok-aboves.aboves.items) c.as_slice.ensures.value
+    (subst (λ (r : List ℤ). ReachesTo c.as_slice.result.now (above_of c.args.parts.now r)
+    (length c.args.parts.now) c.in_ok-aboves.aboves.items) c.as_slice-2.ensures.value c.in_ok-aboves.ensures))
+    (subst (λ (r : List ℕ). ReachesTo r (below_of c.args.parts.now c.in_ok-rises.rises.items)
+    (length c.args.parts.now) c.in_ok-belows.belows.items) c.as_slice-3.ensures.value
+    (subst (λ (r : List ℤ). ReachesTo c.as_slice-3.result.now (below_of c.args.parts.now r)
+    (length c.args.parts.now) c.in_ok-belows.belows.items) c.as_slice-4.ensures.value c.in_ok-belows.ensures))
