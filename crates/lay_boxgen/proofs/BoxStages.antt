@@ -57,7 +57,7 @@ count_remade change (also (tree f vs) ts) = let h = count_remade change ts in om
 module _ (change : Facts → List Tree → List Tree)
     (shorter : (f : Facts) (ts : List Tree) → is_inline f.form ≡ true → length (change f ts) ≤ length ts)
     (keeps : (own : Facts → Trees → ℕ) → ((f : Facts) (form : Form) (us : Trees) → is_inline form ≡ false → own (anonymous_facts f form) us ≤ 0) → ((f : Facts) (us : Trees) → own (table_facts f) us ≤ 0)
-        → (f : Facts) (ts : List Tree) → sum_with own 0 (change f ts) ≤ sum_with own 0 ts + 0) where
+    → (f : Facts) (ts : List Tree) → sum_with own 0 (change f ts) ≤ sum_with own 0 ts + 0) where
   in_light : (f : Facts) (form : Form) (us : Trees) → is_inline form ≡ false → in_inline (anonymous_facts f form) us ≤ 0
   in_light f form us h = rw h (omega arith)
 

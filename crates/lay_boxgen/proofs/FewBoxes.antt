@@ -207,9 +207,11 @@ module _ (dep : ℕ → ℕ) where
       let rest = low_after (k + 1) ns ss (omega arith) deep.3 in
       let m : ℕ = 128 - dep k in
       let e : m + dep k ≡ 128 = omega (arith, deep.1) in
-      let under = deep.2 positive in
-      (low_below n.parent (m + 1) (box_with (node_box k n s) (children_of as_child k after)) (omega (arith, e, under))
-      (low_boxed m (node_box k n s) (children_of as_child k after) (low_children k m e after rest)), low_others k after rest)
+      let under = deep.2 positive in (
+        low_below n.parent (m + 1) (box_with (node_box k n s) (children_of as_child k after)) (omega (arith, e, under))
+            (low_boxed m (node_box k n s) (children_of as_child k after) (low_children k m e after rest)),
+        low_others k after rest,
+      )
 
   pub low_first : (k : ℕ) (ns : List Node) (ss : List Style) → Deep k ns → LowOwn 128 (first_tree (node_trees as_child k ns ss))
   low_first k [] ss deep = tt

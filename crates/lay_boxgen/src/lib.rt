@@ -40,7 +40,7 @@ pub use contexts::is_context;
 pub use display::{flow_of, used_display, used_display_of};
 pub use facts::Flow;
 pub use laws::{
-    anchors_hold_boxes, boxes_are_a_tree, boxes_are_few, boxes_lead_on, containers_are_a_tree, context_is_one_box,
-    inlines_are_broken, inner_boxes_are_leaves, kinds_say_forms, one_container, parts_are_whole,
-    runs_are_replaced,
+    anchors_hold_boxes, boxes_are_a_tree, boxes_are_few, boxes_lead_on, containers_are_a_tree,
+    context_is_one_box, inlines_are_broken, inner_boxes_are_leaves, kinds_say_forms, one_container,
+    parts_are_whole, runs_are_replaced,
 };

@@ -8,7 +8,8 @@ ghost use Rattle.lay_cli.specs.Built.{AreHidden, is_block, is_static, is_auto, s
 use crate::hidden::{hidden, hidden_at};
 use lay_boxgen::{flow_of, used_display};
 use lay_doc::{
-    Display, Doc, Float, LengthPercentageOrAuto, Node, NodeId, Position, Style, is_element_at, style_at,
+    Display, Doc, Float, LengthPercentageOrAuto, Node, NodeId, Position, Style, is_element_at,
+    style_at,
 };
 use lay_units::NoMemory;
 use std::alloc::Global;

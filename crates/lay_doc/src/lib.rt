@@ -31,8 +31,8 @@ mod style_words;
 mod values;
 mod words;
 
-pub use command::{Cmd, CmdList, Reply};
 pub use columns::{is_element_at, parent_at};
+pub use command::{Cmd, CmdList, Reply};
 pub use computed::{Computed, style_at};
 pub use declaration::{Decl, Decls};
 pub use doc::{Doc, NewFault};

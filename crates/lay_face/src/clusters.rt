@@ -186,8 +186,10 @@ fn plain(text: &[u8]) -> bool
 }
 
 fn put_width(widths: &mut Vec<ClusterWidth>, place: usize, width: Unit) -> Result<(), NoMemory>
-    ensures { OnOk result (widths.new.items ≡ widths.old.items ++ record { place = place; width = width
-        } ∷ []) }
+    ensures { OnOk result (widths.new.items ≡ widths.old.items ++ record {
+      place = place;
+      width = width;
+    } ∷ []) }
 {
     widths.push(ClusterWidth { place, width })?;
     Ok(())

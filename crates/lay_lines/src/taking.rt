@@ -31,8 +31,7 @@ pub fn take(
         (state_of floats.old met.old) t.count) }
     ensures fills { IfOk result (λ t. Fills line.now.frame line.now.top.0 stretches.now t.count
         (state_of floats.old met.old) (state_of floats.new met.new)) }
-    ensures reach { IfOk result (λ t. IsReach line.now.frame line.now.top.0 stretches.now floats.new t)
-        }
+    ensures reach { IfOk result (λ t. IsReach line.now.frame line.now.top.0 stretches.now floats.new t) }
     ensures stopped { IfErr result (λ _. (n : ℕ) (after : State)
         → Takes line.now.frame line.now.top.0 stretches.now (state_of floats.old met.old) n
         → Fills line.now.frame line.now.top.0 stretches.now n (state_of floats.old met.old) after
@@ -157,8 +156,7 @@ fn meet_after(
         (state_of floats.old met.old) }
     ensures meets { IfOk result (λ _. Meets line.now.frame line.now.top.0 stretches.now reach.now.count
         list.now (state_of floats.old met.old) (state_of floats.new met.new)) }
-    ensures reach { IfOk result (λ r. IsReach line.now.frame line.now.top.0 stretches.now floats.new r)
-        }
+    ensures reach { IfOk result (λ r. IsReach line.now.frame line.now.top.0 stretches.now floats.new r) }
     ensures count { IfOk result (λ r. r.count ≡ reach.now.count) }
     ensures stopped { IfErr result (λ _. (after : State)
         → Meets line.now.frame line.now.top.0 stretches.now reach.now.count list.now

@@ -112,8 +112,11 @@ impl Cutter {
 
     fn put_break(&mut self, alloc: Global, items: &[Item], forced: bool) -> Result<(), NoMemory>
         ensures done { OnOk result (self.new.done.items
-            ≡ self.old.done.items ++ record { items = self.old.current.items ++ text_of items.now
-            self.old.held.items; forced = forced } ∷ []) }
+            ≡ self.old.done.items ++ record {
+              items = self.old.current.items ++ text_of items.now
+                  self.old.held.items;
+              forced = forced;
+            } ∷ []) }
         ensures current { OnOk result (self.new.current.items ≡ []) }
         ensures held { OnOk result (self.new.held.items ≡ []) }
     {

@@ -54,7 +54,9 @@ fn at_most_max<R: WidthRules>(rules: &R, max: Option<Unit>, tentative: R::Used) 
     ensures { AtMost R.width (R.give rules.now) max tentative result }
 {
     match max {
-        Some(max) if rules.width_in(tentative) > i128::from(max.0) => rules.widths_for(Len::Of(max)),
+        Some(max) if rules.width_in(tentative) > i128::from(max.0) => rules.widths_for(Len::Of(
+            max,
+        )),
         _ => tentative,
     }
 }

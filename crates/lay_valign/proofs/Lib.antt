@@ -1,0 +1,4 @@
+pub mod Columns
+pub mod Widened
+pub mod Extents
+pub mod OneShape

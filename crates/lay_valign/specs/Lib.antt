@@ -1,0 +1,7 @@
+pub mod Parts
+pub mod Raises
+pub mod Subtrees
+pub mod LineShape
+pub mod PartsFit
+pub mod Laws
+pub mod Pass

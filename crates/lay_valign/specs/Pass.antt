@@ -1,0 +1,4 @@
+-- What is known while loops run.
+pub mod Columns
+pub mod Reaches
+pub mod Shifts
