@@ -46,7 +46,12 @@ fn flow_box_of(input: &PlaceInput, lefts: &[Unit], k: usize) -> FlowBox
     let clear = cleared_by(input, k);
     let left = length_at(lefts, k);
     let kind = if is_inner(boxes, k) {
-        inner_box(float_side(input, k), clear, own_box_at(input.inner(), k), left)
+        inner_box(
+            float_side(input, k),
+            clear,
+            own_box_at(input.inner(), k),
+            left,
+        )
     } else {
         block_box(clear, sizes_at(input.sizes(), k), left)
     };

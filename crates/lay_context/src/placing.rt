@@ -23,7 +23,10 @@ pub(crate) fn placement(alloc: Global, input: &PlaceInput) -> Result<Placement, 
     let places = context_places(alloc, input)?;
     let pieces = pieces_of(alloc, input, &places)?;
     let corners = corners_of(alloc, input, &places)?;
-    let own = own_box(sizes_at(input.sizes(), 0), place_at(&places.places, 0).height);
+    let own = own_box(
+        sizes_at(input.sizes(), 0),
+        place_at(&places.places, 0).height,
+    );
     let pieces = Arc::new(alloc, Pieces::new(pieces))?;
     Ok(Placement::new(own, pieces, corners))
 }
