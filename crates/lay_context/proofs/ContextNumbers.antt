@@ -1,14 +1,13 @@
 -- The contexts of a document, with the numbers of those inside each.
-use Rattle.std.proofs.Common.{◌≡◌, ◌≢◌, ◌<◌, ◌≤◌, ◌==◌, ◌&&◌, ℕ, zero, suc, ◌+◌, Bool, true, false, List, [], ◌∷◌, ◌++◌, add-one, length, slice_index, slice_set, get_or, replicate, refl, ap, sym, subst, ◌∙◌, arith, inl, inr, if◌then◌else◌}
+use Rattle.std.proofs.Common.{◌≡◌, ◌≢◌, ◌<◌, ◌==◌, ◌&&◌, ℕ, zero, suc, ◌+◌, Bool, true, false, List, [], ◌∷◌, ◌++◌, add-one, length, slice_index, slice_set, replicate, refl, ap, sym, ◌∙◌, arith, inl, inr, if◌then◌else◌}
 use Rattle.std.proofs.lemmas.Bool.{cases_eq, cases_lt}
 use Rattle.std.proofs.lemmas.Grind.{elements}
-use Rattle.std.proofs.lemmas.List.{length-map}
 use Rattle.lay_doc.specs.declared.node.Node.{Node}
 use Rattle.lay_doc.specs.declared.style.Style.{Style}
 use Rattle.lay_doc.proofs.OneStyles.{same_list}
 use Rattle.lay_boxgen.specs.declared.box_tree.BoxNode.{BoxNode}
 use Rattle.lay_context.specs.declared.context_spot.ContextSpot.{ContextSpot}
-use Rattle.lay_context.specs.Contexts.{Context, AreContexts, IsInside, boxes_in, context_at, no_context}
+use Rattle.lay_context.specs.Contexts.{Context, AreContexts, IsInside, context_at, no_context}
 use Rattle.lay_context.specs.ContextList.{AreContextsOf, AreNumberedTo, IsNumberedTo, boxes_at, boxes_of_spots, document_spots, number_before, spot_at, spot_of}
 use Rattle.lay_context.specs.ContextOrder.{AreInOrder}
 use Rattle.lay_context.proofs.SpotOrder.{are_in_order}

@@ -1,5 +1,5 @@
 -- The boxes of one context are as block flow takes them.
-use Rattle.std.proofs.Common.{◌≡◌, ℕ, zero, suc, ◌<◌, ◌≤◌, ℤ, pos, ◌+ℤ◌, Bool, true, false, List, length, slice_index, refl, sym, ap, ◌∙◌, arith, subst, Option, Some, None, if◌then◌else◌}
+use Rattle.std.proofs.Common.{◌≡◌, ℕ, ◌<◌, ◌≤◌, pos, Bool, true, false, List, length, slice_index, refl, sym, ap, ◌∙◌, arith, subst, Option, Some, None, if◌then◌else◌}
 use Rattle.std.proofs.lemmas.Int.{ints}
 use Rattle.lay_units.specs.declared.length.Unit.{Unit as Length}
 use Rattle.lay_doc.specs.Tree.{IsTree}
@@ -26,7 +26,7 @@ use Rattle.lay_units.specs.declared.records.Len.{Len}
 use Rattle.lay_units.specs.declared.records.Len.TheVariants as len
 use Rattle.lay_flow.specs.BlockPositions.{given_or_auto}
 use Rattle.lay_sizes.specs.SizeBounds.{SizeFits, IsUsedSizeOrAuto}
-use Rattle.lay_context.specs.ContextBlocks.{AreFlowBoxesOf, block_box, cleared_by, float_side, flow_box_of, inner_box}
+use Rattle.lay_context.specs.ContextBlocks.{AreFlowBoxesOf, block_box, cleared_by, float_side, inner_box}
 use Rattle.lay_context.specs.PlaceBounds.{AreNearLefts}
 use Rattle.lay_context.proofs.LeftSteps.{length-parents}
 

@@ -12,7 +12,7 @@ use Rattle.lay_flow.specs.Lengths.{length_at}
 use Rattle.lay_sizes.specs.declared.sizing.BoxSizes.{BoxSizes}
 use Rattle.lay_context.specs.declared.outside.OwnBox.{OwnBox}
 use Rattle.lay_context.specs.ContextSizes.{HaveSizeBounds, sizes_at}
-use Rattle.lay_context.specs.OwnBoxes.{OwnBoxFits, OwnBoxesFit, outside}
+use Rattle.lay_context.specs.OwnBoxes.{OwnBoxesFit, outside}
 use Rattle.lay_context.proofs.OutsideFacts.{outside_fits}
 use Rattle.lay_sizes.specs.SizeBounds.{SizeFits}
 use Rattle.lay_context.specs.ContextBlocks.{left_of_box, HasLefts}

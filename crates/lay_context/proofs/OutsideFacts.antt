@@ -1,5 +1,5 @@
 -- A box from outside is within its bounds.
-use Rattle.std.proofs.Common.{ℕ, Bool, true, false, ◌≡◌, List, arith, if◌then◌else◌, refl}
+use Rattle.std.proofs.Common.{ℕ, Bool, true, false, List, arith, if◌then◌else◌}
 use Rattle.std.proofs.lemmas.Int.{ints}
 use Rattle.lay_units.specs.declared.length.Unit.{Unit as Length}
 use Rattle.lay_boxgen.specs.declared.box_tree.BoxNode.{BoxNode}

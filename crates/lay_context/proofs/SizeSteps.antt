@@ -11,7 +11,7 @@ use Rattle.lay_sizes.specs.declared.sizing.BoxSizes.{BoxSizes}
 use Rattle.lay_sizes.specs.declared.sizing.ContainingBlock.{ContainingBlock}
 use Rattle.lay_sizes.specs.BoxSizes.{content_block}
 use Rattle.lay_sizes.specs.SizeBounds.{SizeFits}
-use Rattle.lay_context.specs.ContextBoxes.{AreContextBoxes, is_inner}
+use Rattle.lay_context.specs.ContextBoxes.{is_inner}
 use Rattle.lay_context.specs.ContextSizes.{HasSizes, HaveSizeBounds, IsBoxSized, containing_block, no_sizes, sizes_at}
 
 -- the boxes before n have their sizes

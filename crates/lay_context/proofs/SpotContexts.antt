@@ -1,5 +1,5 @@
 -- Each context in the list of a document's contexts is one, since the boxes of inner contexts are of contexts.
-use Rattle.std.proofs.Common.{All, inl, inr, ◌≡◌, ◌<◌, ◌≤◌, ℕ, zero, suc, ◌+◌, Bool, true, false, List, [], ◌∷◌, ◌++◌, length, get_or, refl, sym, ap, ◌∙◌, subst, arith, if◌then◌else◌, Option, Some, None}
+use Rattle.std.proofs.Common.{All, inl, inr, ◌≡◌, ◌<◌, ℕ, zero, suc, ◌+◌, Bool, true, false, List, [], ◌∷◌, ◌++◌, length, get_or, refl, sym, ap, subst, arith, if◌then◌else◌, Option, Some, None}
 use Rattle.lay_doc.specs.declared.style.Style.{Style}
 use Rattle.lay_doc.specs.Document.{Document, IsDocument, ids_of, place_of}
 use Rattle.lay_boxgen.specs.declared.box_tree.BoxNode.{BoxNode}

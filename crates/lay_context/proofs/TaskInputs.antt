@@ -1,23 +1,19 @@
 -- What a task is given comes of what it needs, so the value of another task changes nothing of it.
-use Rattle.std.proofs.Common.{◌≡◌, ◌<◌, ℕ, zero, suc, ◌+◌, List, [], ◌∷◌, length, map, slice_index, refl, ap, sym, ◌∙◌, arith}
+use Rattle.std.proofs.Common.{◌≡◌, ◌<◌, ℕ, zero, suc, List, [], ◌∷◌, length, map, slice_index, refl, ap, arith}
 use Rattle.lay_boxgen.specs.BoxColumns.{box_parents}
 use Rattle.lay_sizes.specs.declared.sizing.BoxSizes.{BoxSizes}
 use Rattle.lay_sizes.specs.declared.sizing.ContainingBlock.{ContainingBlock}
 use Rattle.lay_sizes.specs.BoxSizes.{content_block}
-use Rattle.lay_context.specs.declared.outside.OwnBox.{OwnBox}
 use Rattle.lay_context.specs.declared.task.Phase.{Phase}
 use Rattle.lay_context.specs.declared.task.Phase.TheVariants.{Size, Place}
-use Rattle.lay_context.specs.declared.task.Task.{Task}
-use Rattle.lay_context.specs.declared.input.Input.{Input}
 use Rattle.lay_context.specs.declared.input.Input.TheVariants as input
-use Rattle.lay_context.specs.declared.value.Value.{Value}
 use Rattle.lay_context.specs.declared.value.Value.TheVariants as value
-use Rattle.lay_context.specs.Contexts.{Context, IsInside, context_at, boxes_in}
+use Rattle.lay_context.specs.Contexts.{Context, context_at, boxes_in}
 use Rattle.lay_context.specs.ContextSizes.{sizes_at}
 use Rattle.lay_context.specs.ContextPlaces.{Placement}
 use Rattle.lay_context.specs.DocumentLayout.{inner_boxes, outer_block, own_box_in, placement_in, sizes_in}
-use Rattle.lay_context.specs.Needs.{Needs, needs_by}
-use Rattle.lay_context.specs.Local.{Workings, input_by, input_of, value_by, value_of}
+use Rattle.lay_context.specs.Needs.{needs_by}
+use Rattle.lay_context.specs.Local.{Workings, input_by, value_by}
 use Rattle.lay_context.specs.Laws.{InputsComeOfNeeds}
 
 pub size_value : (x y : List BoxSizes) → value.Size x ≡ value.Size y → x ≡ y

@@ -1,5 +1,5 @@
 -- What a task needs has its turn before it, and no two turns are of one task.
-use Rattle.std.proofs.Common.{◌≡◌, ◌<◌, ◌≤◌, ℕ, ◌+◌, ◌-◌, Bool, true, false, List, length, refl, ap, sym, ◌∙◌, arith, inl, inr, if◌then◌else◌, nat_lt}
+use Rattle.std.proofs.Common.{◌≡◌, ◌<◌, ◌≤◌, ℕ, ◌+◌, ◌-◌, true, false, List, length, refl, ap, sym, ◌∙◌, arith, inl, inr, nat_lt}
 use Rattle.std.proofs.lemmas.Bool.{cases_lt}
 use Rattle.lay_context.specs.declared.task.Phase.{Phase}
 use Rattle.lay_context.specs.declared.task.Phase.TheVariants.{Size, Place}

@@ -1,13 +1,10 @@
 -- The loop over tasks: each is given a value in its turn, and those that had theirs stay done.
-use Rattle.std.proofs.Common.{◌≡◌, ◌≢◌, ◌<◌, ◌≤◌, ℕ, zero, suc, ◌+◌, List, [], ◌∷◌, ◌++◌, length, length-append, slice_set, refl, ap, sym, subst, ◌∙◌, arith, inl, inr}
+use Rattle.std.proofs.Common.{◌≡◌, ◌≢◌, ◌<◌, ◌≤◌, ℕ, zero, suc, ◌+◌, List, [], ◌∷◌, length, length-append, slice_set, refl, ap, sym, subst, ◌∙◌, arith, inl, inr}
 use Rattle.std.proofs.lemmas.Bool.{cases_lt}
 use Rattle.std.proofs.lemmas.Grind.{elements}
-use Rattle.lay_boxgen.specs.declared.box_tree.BoxNode.{BoxNode}
 use Rattle.lay_sizes.specs.declared.sizing.BoxSizes.{BoxSizes}
 use Rattle.lay_sizes.specs.declared.sizing.ContainingBlock.{ContainingBlock}
 use Rattle.lay_frag.specs.Pieces.{Context as PageContext}
-use Rattle.lay_context.specs.declared.corner.Corner.{Corner}
-use Rattle.lay_context.specs.declared.outside.OwnBox.{OwnBox}
 use Rattle.lay_context.specs.declared.task.Phase.{Phase}
 use Rattle.lay_context.specs.declared.task.Phase.TheVariants.{Size, Place}
 use Rattle.lay_context.specs.declared.task.Task.{Task}
@@ -16,9 +13,8 @@ use Rattle.lay_context.specs.declared.value.Value.TheVariants as value
 use Rattle.lay_context.specs.Contexts.{Context, AreContexts, boxes_in}
 use Rattle.lay_context.specs.ContextPlaces.{ContextPlaces, Placement, corners_to, corner_of_box}
 use Rattle.lay_context.specs.DocumentLayout.{placement_in, sizes_in}
-use Rattle.lay_context.specs.Needs.{Needs, task_at}
+use Rattle.lay_context.specs.Needs.{task_at}
 use Rattle.lay_context.specs.Local.{Workings, IsLocal, IsTaskDone, input_by, input_of, value_by, value_of, with_value}
-use Rattle.lay_context.specs.Laws.{HadTurn}
 use Rattle.lay_context.specs.Settling.{HasCounts, IsReady, AreDoneTo, AreKnown, IsSettled}
 use Rattle.lay_context.specs.Solves.{IsAssembled, SolvesContexts}
 use Rattle.lay_context.proofs.TaskInputs.{inputs_come_of_needs_lem}

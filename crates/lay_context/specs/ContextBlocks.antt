@@ -1,7 +1,7 @@
 -- The boxes of one context as its block formatting context takes them (CSS 2.2, 9.4.1 and 9.5). The box of an inner context
 -- floats, or is solid: no float of this context overlaps it. The others are blocks, and the context's own box is one.
 -- Horizontal positions are counted from the left border edge of the context's own box.
-use Rattle.std.specs.Prelude.{ℕ, zero, suc, ◌≡◌, ◌<◌, ◌+ℤ◌, true, false, List, length, slice_index, Option, Some, None, if◌then◌else◌}
+use Rattle.std.specs.Prelude.{ℕ, zero, suc, ◌≡◌, ◌<◌, ◌+ℤ◌, List, length, slice_index, Option, Some, None, if◌then◌else◌}
 use Rattle.lay_units.specs.declared.length.Unit.{Unit as Length}
 use Rattle.lay_doc.specs.declared.style_words.Float.{Float}
 use Rattle.lay_doc.specs.declared.style_words.Float.TheVariants as floating

@@ -6,7 +6,6 @@ use Rattle.lay_doc.specs.declared.style.Style.{Style}
 use Rattle.lay_doc.specs.declared.style_words.Float.{Float}
 use Rattle.lay_doc.specs.declared.style_words.Float.TheVariants as float
 use Rattle.lay_doc.specs.ComputedStyle.{style_at}
-use Rattle.lay_boxgen.specs.declared.box_tree.BoxNode.{BoxNode}
 use Rattle.lay_boxgen.specs.declared.facts.Flow.{Flow}
 use Rattle.lay_boxgen.specs.declared.facts.Flow.TheVariants.{Floating}
 use Rattle.lay_boxgen.specs.Display.{flow_of}

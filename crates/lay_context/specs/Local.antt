@@ -1,11 +1,8 @@
 -- One task of a layout by itself: what it is given, and which values are right beside that (CSS 2.2, chapters 8 to 10). What is
 -- given is plain data, in which no document and no number of a context stands, and the value is its answer to that alone.
-use Rattle.std.specs.Prelude.{ℕ, ◌≡◌, ◌<◌, List, length, slice_set}
-use Rattle.lay_units.specs.Units.{IsPosition}
-use Rattle.lay_boxgen.specs.declared.box_tree.BoxNode.{BoxNode}
+use Rattle.std.specs.Prelude.{ℕ, List, slice_set}
 use Rattle.lay_sizes.specs.declared.sizing.BoxSizes.{BoxSizes}
 use Rattle.lay_sizes.specs.declared.sizing.ContainingBlock.{ContainingBlock}
-use Rattle.lay_context.specs.declared.outside.OwnBox.{OwnBox}
 use Rattle.lay_context.specs.declared.task.Phase.{Phase}
 use Rattle.lay_context.specs.declared.task.Phase.TheVariants as phase
 use Rattle.lay_context.specs.declared.task.Task.{Task}
@@ -14,7 +11,6 @@ use Rattle.lay_context.specs.declared.input.Input.TheVariants as input
 use Rattle.lay_context.specs.declared.value.Value.{Value}
 use Rattle.lay_context.specs.declared.value.Value.TheVariants as value
 use Rattle.lay_context.specs.Contexts.{Context, boxes_in}
-use Rattle.lay_context.specs.Inputs.{SizeInput, PlaceInput}
 use Rattle.lay_context.specs.ContextSizes.{HasSizes}
 use Rattle.lay_context.specs.ContextPlaces.{Placement, IsPlacement}
 use Rattle.lay_context.specs.DocumentLayout.{inner_boxes, outer_block, placement_in, sizes_in}

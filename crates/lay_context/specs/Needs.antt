@@ -1,7 +1,7 @@
 -- The work of a layout, a task for each context and phase, and which task needs the value of which: the only place that says
 -- what depends on what. Sizes go from the context around to the one inside it (CSS 2.2, 10.1), and placements from inner
 -- contexts to the one around them (10.6.7).
-use Rattle.std.specs.Prelude.{ℕ, ◌≡◌, ◌+◌, ◌-◌, ◌*◌, ◌<◌, List, length, if◌then◌else◌, nat_lt}
+use Rattle.std.specs.Prelude.{ℕ, ◌≡◌, ◌+◌, ◌-◌, ◌<◌, List, if◌then◌else◌, nat_lt}
 use Rattle.lay_context.specs.declared.task.Phase.{Phase}
 use Rattle.lay_context.specs.declared.task.Phase.TheVariants.{Size, Place}
 use Rattle.lay_context.specs.declared.task.Task.{Task}

@@ -1,5 +1,5 @@
 -- Within which bounds the places in one context are, and how long its columns are.
-use Rattle.std.specs.Prelude.{ℕ, ◌^◌, ◌<◌, ◌≤◌, ◌≡◌, ℤ, pos, List, length, slice_get, IfSome}
+use Rattle.std.specs.Prelude.{ℕ, ◌<◌, ◌≤◌, ◌≡◌, ℤ, pos, List, length, slice_get, IfSome}
 use Rattle.lay_units.specs.declared.length.Unit.{Unit as Length}
 use Rattle.lay_units.specs.declared.records.Rect.{Rect}
 use Rattle.lay_boxgen.specs.declared.box_tree.BoxNode.{BoxNode}

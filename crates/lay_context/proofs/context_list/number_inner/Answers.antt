@@ -1,5 +1,5 @@
 use Rattle.std.proofs.Common.{arith}
-use Rattle.lay_context.proofs.ContextNumbers.{one_number, all_numbered}
+use Rattle.lay_context.proofs.ContextNumbers.{all_numbered}
 use Rattle.lay_context.proofs.context_list.number_inner.Goals as goal
 
 pub returns : goal.returns

@@ -1,5 +1,5 @@
 use Rattle.std.proofs.Common.{◌≤◌, arith, ap, length}
-use Rattle.lay_context.proofs.FlowFacts.{are_flow_boxes, own_height_fits}
+use Rattle.lay_context.proofs.FlowFacts.{are_flow_boxes}
 use Rattle.lay_context.proofs.context_places.context_places.Goals as goal
 
 pub new-requires : goal.new-requires
