@@ -1,7 +1,7 @@
 -- The content of the lines of a block container (CSS 2.2, 9.4.2, 10.8.1, 16.1 and 16.6.1): its stretches, its strut, its
 -- `text-indent`, of which a percentage is one of the width of its containing block, and the distance of its tab stops,
 -- eight times the width of a space in its font.
-use Rattle.std.specs.Prelude.{ℕ, ℤ, pos, ◌*ℤ◌, true, List, Option, Some, None, slice_get}
+use Rattle.std.specs.Prelude.{ℤ, pos, ◌*ℤ◌, true, List, Option, Some, None, slice_get}
 use Rattle.lay_units.specs.Units.{percentage_of}
 use Rattle.lay_units.specs.declared.length.Unit.{Unit as Length}
 use Rattle.lay_doc.specs.LengthValues.{length_of}
@@ -35,4 +35,4 @@ tab_in face (Some b) = pos 8 *ℤ thousandths_of (entry_of face 32) (font_size b
 abbrev pub content_in : BoxMeasuresValue → Container → List Segment → LineContentValue
 content_in m c segments =
     content_of (extent_at m c.place) (indent_in c.containing (slice_get m.boxes c.place))
-      (record { 0 = tab_in m.face (slice_get m.boxes c.place) }) (stretches_of m c true segments)
+    (record { 0 = tab_in m.face (slice_get m.boxes c.place) }) (stretches_of m c true segments)

@@ -2,7 +2,7 @@
 -- margin, border and padding where it starts, and of its right ones where it ends. Where blocks broke it into parts, its
 -- left edges stand on the first part and its right ones on the last. 9.4.2 speaks of inline elements "with non-zero
 -- margins, padding, or borders": such an edge makes its line seen, one above or below each line that the box is on.
-use Rattle.std.specs.Prelude.{ℕ, ◌==◌, ℤ, pos, negsuc, ◌+ℤ◌, Bool, false, true, not, ◌&&◌, ◌||◌, List, [], ◌∷◌, ◌++◌, zero, suc, length, Option, Some, None, slice_get, if◌then◌else◌}
+use Rattle.std.specs.Prelude.{ℕ, ◌==◌, ℤ, pos, negsuc, ◌+ℤ◌, Bool, true, not, ◌&&◌, ◌||◌, List, [], ◌∷◌, ◌++◌, zero, suc, length, Option, Some, None, slice_get, if◌then◌else◌}
 use Rattle.lay_units.specs.declared.length.Unit.{Unit as Length}
 use Rattle.lay_doc.specs.declared.style.TextStyle.{TextStyle}
 use Rattle.lay_boxgen.specs.Roles.{role_of}
@@ -75,19 +75,25 @@ no_area = record { above = no_length; below = no_length; margin_left = no_length
 
 -- What is painted of a box on a line: the content area of a text, and the border box of an inline box, which is beside its
 -- margins.
-abbrev pub area_as : FaceValue → Role → TextStyle → BoxSizes → InlinePart → InlineArea
-area_as face role.Text s z part = record {
+abbrev pub text_area : FaceValue → TextStyle → InlineArea
+text_area face s = record {
   above = record { 0 = ascent face s };
   below = record { 0 = descent face s };
   margin_left = no_length;
   margin_right = no_length;
 }
-area_as face role.Inline s z part = record {
+
+abbrev pub inline_area : FaceValue → TextStyle → BoxSizes → InlinePart → InlineArea
+inline_area face s z part = record {
   above = record { 0 = ascent face s +ℤ z.edges.top.0 };
   below = record { 0 = descent face s +ℤ z.edges.bottom.0 };
   margin_left = if part.first then z.widths.margin_left else no_length;
   margin_right = if part.last then z.widths.margin_right else no_length;
 }
+
+abbrev pub area_as : FaceValue → Role → TextStyle → BoxSizes → InlinePart → InlineArea
+area_as face role.Text s z part = text_area face s
+area_as face role.Inline s z part = inline_area face s z part
 area_as face _ s z part = no_area
 
 abbrev pub area_in : BoxMeasuresValue → ℕ → Option BoxNode → InlineArea

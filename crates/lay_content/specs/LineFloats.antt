@@ -1,6 +1,6 @@
 -- Floats that stand in the content of lines (CSS 2.2, 9.5 and 9.5.1): a float is as large as its margin box and stands
 -- between the content edges of the container.
-use Rattle.std.specs.Prelude.{ℕ, pos, ◌+ℤ◌, Option, Some, None, slice_get, if◌then◌else◌}
+use Rattle.std.specs.Prelude.{ℕ, ◌+ℤ◌, Option, Some, None, slice_get}
 use Rattle.lay_doc.specs.declared.style_words.Clear.{Clear as ClearStyle}
 use Rattle.lay_doc.specs.declared.style_words.Clear.TheVariants as clear
 use Rattle.lay_boxgen.specs.Roles.{role_of, clear_of}

@@ -1,8 +1,7 @@
 -- Segments of content, measured (CSS 2.2, 9.4.2 and 9.5). A float in a segment is met at the segment's end. Where a segment
 -- surely begins a line, as the first of its container does and one after a preserved linefeed, the floats before its
 -- content are met before it.
-use Rattle.std.specs.Prelude.{ℕ, Bool, true, false, ◌&&◌, not, List, [], ◌∷◌, ◌++◌, if◌then◌else◌}
-use Rattle.lay_units.specs.declared.records.ClusterWidth.{ClusterWidth}
+use Rattle.std.specs.Prelude.{Bool, true, false, ◌&&◌, not, List, [], ◌∷◌, ◌++◌, if◌then◌else◌}
 use Rattle.lay_space.specs.declared.item.Item.{Item}
 use Rattle.lay_space.specs.declared.item.Item.TheVariants as item
 use Rattle.lay_space.specs.declared.segment.Segment.{Segment}

@@ -1,18 +1,15 @@
 //! What is painted of texts and inline boxes.
 
-ghost use Rattle.std.specs.Prelude.{◌≡◌, IfOk, if◌then◌else◌};
-ghost use Rattle.lay_boxgen.specs.declared.box_role.Role.TheVariants as role;
-ghost use Rattle.lay_box_parts.specs.declared.inline_part.InlinePart.{InlinePart};
-ghost use Rattle.lay_sizes.specs.declared.sizing.BoxSizes.{BoxSizes};
+ghost use Rattle.std.specs.Prelude.{◌≡◌, Some, IfOk, if◌then◌else◌};
 ghost use Rattle.lay_sizes.specs.UsedLengths.{no_length};
-ghost use Rattle.lay_content.specs.InlineBoxes.{area_as, area_at, areas_of};
+ghost use Rattle.lay_content.specs.InlineBoxes.{area_at, area_in, areas_of, inline_area, text_area};
 ghost use Rattle.lay_sizes.specs.SizeBounds.{SizeFits};
 
 use crate::box_measures::BoxMeasures;
 use crate::line_heights::{ascent, descent};
 use crate::sums::sum_of;
 use lay_box_parts::InlinePart;
-use lay_boxgen::Role;
+use lay_boxgen::{BoxNode, Role};
 use lay_doc::TextStyle;
 use lay_face::Face;
 use lay_lines::InlineArea;
@@ -22,10 +19,7 @@ use std::alloc::Global;
 
 /// What is painted of each box of a context on its lines, by the place of the box (CSS 2.2, 10.6.1): the content area of
 /// a text, the border box of an inline box, and nothing of others. All lengths are in 1/64 px.
-pub fn inline_areas(
-    alloc: Global,
-    measures: &BoxMeasures<'_>,
-) -> Result<Vec<InlineArea>, NoMemory>
+pub fn inline_areas(alloc: Global, measures: &BoxMeasures<'_>) -> Result<Vec<InlineArea>, NoMemory>
     ensures { IfOk result (λ v. v.items ≡ areas_of measures.now) }
 {
     let count = measures.boxes().len();
@@ -41,17 +35,25 @@ fn area_at(measures: &BoxMeasures<'_>, k: usize) -> InlineArea
     ensures { result ≡ area_at measures.now k }
 {
     match measures.boxes().get(k) {
-        Some(node) => match node.role() {
-            Role::Text => text_area(measures.face(), &node.style.text),
-            Role::Inline => inline_area(
-                measures.face(),
-                &node.style.text,
-                measures.sizes_at(k),
-                measures.part_at(k),
-            ),
-            _ => NO_AREA,
-        },
+        Some(node) => area_of(measures, k, node),
         None => NO_AREA,
+    }
+}
+
+/// The area of this box, which is that at k.
+fn area_of(measures: &BoxMeasures<'_>, k: usize, node: &BoxNode) -> InlineArea
+    ensures { result ≡ area_in measures.now k (Some node.now) }
+{
+    let style = &node.style.text;
+    match node.role() {
+        Role::Text => text_area(measures.face(), style),
+        Role::Inline => inline_area(
+            measures.face(),
+            style,
+            measures.sizes_at(k),
+            measures.part_at(k),
+        ),
+        _ => NO_AREA,
     }
 }
 
@@ -64,7 +66,7 @@ const NO_AREA: InlineArea = InlineArea {
 
 /// The content area of a text.
 fn text_area(face: &Face, style: &TextStyle) -> InlineArea
-    ensures { (z : BoxSizes) (part : InlinePart) → result ≡ area_as face.now role.Text style.now z part }
+    ensures { result ≡ text_area face.now style.now }
 {
     InlineArea {
         above: ascent(face, style),
@@ -77,7 +79,7 @@ fn text_area(face: &Face, style: &TextStyle) -> InlineArea
 /// The border box of an inline box, beside its margins.
 fn inline_area(face: &Face, style: &TextStyle, sizes: BoxSizes, part: InlinePart) -> InlineArea
     requires { SizeFits sizes }
-    ensures { result ≡ area_as face.now role.Inline style.now sizes part }
+    ensures { result ≡ inline_area face.now style.now sizes part }
 {
     InlineArea {
         above: sum_of(ascent(face, style), sizes.edges.top),

@@ -38,12 +38,7 @@ pub fn line_content(
     let strut = extent_at(measures, container.place);
     let indent = indent_at(measures.boxes(), container);
     let stretches = stretches_of(alloc, measures, container, segments)?;
-    Ok(LineContent::new(
-        strut,
-        indent,
-        tab,
-        StretchList::new(stretches),
-    ))
+    Ok(LineContent::new(strut, indent, tab, StretchList::new(stretches)))
 }
 
 /// `text-indent` of a container.

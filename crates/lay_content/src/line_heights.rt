@@ -1,7 +1,7 @@
 //! Line heights and leading.
 
-ghost use Rattle.std.specs.Prelude.{◌≡◌, ◌*ℤ◌};
-ghost use Rattle.lay_units.specs.Units.{IsPosition, IsUsed, IsUsedSize};
+ghost use Rattle.std.specs.Prelude.{◌≡◌, pos, ◌+ℤ◌, ◌-ℤ◌, ◌*ℤ◌, ◌≤ℤ◌};
+ghost use Rattle.lay_units.specs.Units.{IsPosition, IsSum, IsUsed, IsUsedSize, half_of};
 ghost use Rattle.lay_content.specs.LineHeights.{ascent, descent, extent_of, font_size, leading, line_height, line_height_in, with_leading};
 
 use lay_doc::{LineHeight, TextStyle};
@@ -88,15 +88,52 @@ fn with_leading(ascent: Unit, descent: Unit, height: Unit) -> Extent
     ensures { result ≡ with_leading ascent.0 descent.0 height.0 }
 {
     let leading = leading(ascent, descent, height);
-    let half = leading.div_euclid(2);
+    let half = half_of(leading);
     Extent {
-        above: Unit((i128::from(ascent.0) + half) as i64),
-        below: Unit((i128::from(descent.0) + (leading - half)) as i64),
+        above: moved(ascent, half),
+        below: moved(descent, rest_of(leading, half)),
     }
 }
 
 fn leading(ascent: Unit, descent: Unit, height: Unit) -> i128
+    requires ascent { IsPosition ascent.0 }
+    requires descent { IsPosition descent.0 }
+    requires height { IsUsedSize height.0 }
     ensures { result ≡ leading ascent.0 descent.0 height.0 }
 {
-    i128::from(height.0) - (i128::from(ascent.0) + i128::from(descent.0))
+    i128::from(height.0) - both(ascent, descent)
+}
+
+fn both(a: Unit, b: Unit) -> i128
+    requires a { IsPosition a.0 }
+    requires b { IsPosition b.0 }
+    ensures value { result ≡ a.0 +ℤ b.0 }
+    ensures fits { IsSum result }
+{
+    i128::from(a.0 + b.0)
+}
+
+/// The floor of a half.
+fn half_of(leading: i128) -> i128
+    ensures value { result ≡ half_of leading }
+    ensures low { (pos 2 *ℤ result) ≤ℤ leading }
+    ensures high { leading ≤ℤ (pos 2 *ℤ result +ℤ pos 1) }
+{
+    leading.div_euclid(2)
+}
+
+fn rest_of(leading: i128, half: i128) -> i128
+    requires low { (pos 2 *ℤ half) ≤ℤ leading }
+    requires high { leading ≤ℤ (pos 2 *ℤ half +ℤ pos 1) }
+    ensures { result ≡ leading -ℤ half }
+{
+    leading - half
+}
+
+/// A length and some more, which comes to a length again.
+fn moved(length: Unit, by: i128) -> Unit
+    requires { IsSum (length.0 +ℤ by) }
+    ensures { result ≡ record { 0 = length.0 +ℤ by } }
+{
+    Unit((i128::from(length.0) + by) as i64)
 }

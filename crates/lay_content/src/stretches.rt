@@ -112,11 +112,7 @@ impl Measured {
 }
 
 /// Puts what an item is in a line. An atomic box would be a part; none is laid out yet.
-fn put_parts(
-    parts: &mut Vec<Part>,
-    measures: &BoxMeasures<'_>,
-    item: &Item,
-) -> Result<(), NoMemory>
+fn put_parts(parts: &mut Vec<Part>, measures: &BoxMeasures<'_>, item: &Item) -> Result<(), NoMemory>
     ensures { OnOk result (parts.new.items ≡ parts.old.items ++ parts_at measures.now item.now) }
 {
     match item {

@@ -22,7 +22,7 @@ pub(crate) fn put_text(
     run: TextRun<'_>,
     widths: &[ClusterWidth],
 ) -> Result<(), NoMemory>
-    ensures { OnOk result (parts.new.items ≡ parts.old.items ++ text_parts run.text run.mode run.bytes.now widths.now) }
+    ensures { OnOk result (parts.new.items ≡ parts.old.items ++ text_parts run.entry.text run.entry.mode run.entry.bytes.now widths.now) }
 {
     for k in 0..widths.len() {
         let to = next_place(run.bytes, &widths[k + 1..]);
@@ -38,11 +38,20 @@ fn put_between(
     width: ClusterWidth,
     to: usize,
 ) -> Result<(), NoMemory>
-    ensures { OnOk result (parts.new.items ≡ parts.old.items ++ parts_between run.text run.mode run.bytes.now width to) }
+    ensures { OnOk result (parts.new.items ≡ parts.old.items ++ parts_between run.entry.text run.entry.mode run.entry.bytes.now width to) }
 {
     let kind = cluster_kind(run.mode, run.bytes, width.place, to);
     let lone = to > width.place && to - width.place == 1;
-    put_cluster(parts, run.mode, kind, lone, Advance { text: run.text, width: width.width })
+    put_cluster(
+        parts,
+        run.mode,
+        kind,
+        lone,
+        Advance {
+            text: run.text,
+            width: width.width,
+        },
+    )
 }
 
 fn put_cluster(
