@@ -1,1 +1,2 @@
-pub mod ContextTree
+pub mod NodeTreeLaws
+pub mod WhiteSpaceLaws

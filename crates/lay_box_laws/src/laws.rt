@@ -1,8 +1,14 @@
 //! Laws of the definitions. The functions do nothing.
 
-ghost use Rattle.lay_box_laws.specs.ContextTree.{ContextsStandOnce};
+ghost use Rattle.lay_box_laws.specs.NodeTreeLaws.{ChildrenStandInOrder};
+ghost use Rattle.lay_box_laws.specs.WhiteSpaceLaws.{WhiteSpaceGoesByItself};
 
-/// Each context but the first stands once, among the boxes of the context around it.
-pub fn contexts_stand_once()
-    ensures { ContextsStandOnce }
+/// The tree of a node is its box with the trees of its children in it, in document order.
+pub fn children_stand_in_order()
+    ensures { ChildrenStandInOrder }
+{}
+
+/// Whether a child of a box is irrelevant white space is said by the child and the siblings next to it.
+pub fn white_space_goes_by_itself()
+    ensures { WhiteSpaceGoesByItself }
 {}

@@ -1,8 +1,9 @@
-//! Laws of box generation over whole documents (CSS 2.2, 9.2, 9.4.1 and 17.2.1).
+//! Laws of box generation (CSS 2.2, 9.2 and 17.2.1): what its definitions come to, said in other words.
 //!
-//! `specs/ContextTree.antt` says in which context the box of each context stands, and that it stands there once.
+//! `specs/NodeTreeLaws.antt` says what the tree of boxes is that generation starts from, and
+//! `specs/WhiteSpaceLaws.antt` of each child by itself whether it is irrelevant.
 #![tactic(auto)]
 
 mod laws;
 
-pub use laws::contexts_stand_once;
+pub use laws::{children_stand_in_order, white_space_goes_by_itself};

@@ -13,11 +13,11 @@ use Rattle.lay_boxgen.specs.NodeTrees.{as_child, box_with, children_of, tree_at}
 use Rattle.lay_boxgen.specs.declared.facts.Facts.{Facts}
 use Rattle.lay_boxgen.specs.declared.facts.Form.{Form}
 use Rattle.lay_boxgen.proofs.NodeColumns.{length-parents}
-use Rattle.lay_box_laws.specs.ContextTree.{ContextsStandOnce, IsAround, StandsIn, StandsOnce, boxes_of_place, further, parent, parent_of}
-use Rattle.lay_box_laws.proofs.Apart.{Below, IsBelow, child, cut-below, deeper, inner-below}
-use Rattle.lay_box_laws.proofs.Counted.{IsThere, count, find, least, most, named-once, two}
-use Rattle.lay_box_laws.proofs.Members.{forest, node-at, tree-is}
-use Rattle.lay_box_laws.proofs.Reached.{generated-inside, reached}
+use Rattle.lay_context_tree.specs.ContextTree.{ContextsStandOnce, IsAround, StandsIn, StandsOnce, boxes_of_place, further, parent, parent_of}
+use Rattle.lay_context_tree.proofs.Apart.{Below, IsBelow, child, cut-below, deeper, inner-below}
+use Rattle.lay_context_tree.proofs.Counted.{IsThere, count, find, least, most, named-once, two}
+use Rattle.lay_context_tree.proofs.Members.{forest, node-at, tree-is}
+use Rattle.lay_context_tree.proofs.Reached.{generated-inside, reached}
 
 bool-cases : (b : Bool) → (b ≡ true) ⊎ (b ≡ false)
 bool-cases true = inl refl
@@ -27,7 +27,7 @@ never : (b : Bool) → b ≡ true → b ≡ false → ⊥
 never true e h = cc
 never false e h = cc
 
-marked-true : (b : Bool) → IsTrue b → b ≡ true
+pub marked-true : (b : Bool) → IsTrue b → b ≡ true
 marked-true true t = refl
 marked-true false t = absurd cc
 

@@ -13,7 +13,7 @@ use Rattle.lay_boxgen.specs.Parts.{is_closed}
 use Rattle.lay_boxgen.specs.TableWrappers.{in_wrapper}
 use Rattle.lay_boxgen.specs.declared.facts.Facts.{Facts}
 use Rattle.lay_boxgen.proofs.BoxMeasures.{total, totals, sum_with, sum_is, append, filter_less, relevant_less, child_wrapped_less, parented_less, in_wrapper_less, run_wrapped_less, remade_less, stage_less}
-use Rattle.lay_box_laws.proofs.Kept.{one_if}
+use Rattle.lay_context_tree.proofs.Kept.{one_if}
 
 -- the box of the inner context of the node with this id
 abbrev pub closed : ℕ → Facts → Trees → ℕ

@@ -19,8 +19,8 @@ use Rattle.lay_boxgen.specs.declared.node_trees.NodeTree.{NodeTree}
 use Rattle.lay_boxgen.proofs.BoxMeasures.{sum_is, sum_with, total, totals}
 use Rattle.lay_boxgen.proofs.CutParts.{part-cut}
 use Rattle.lay_boxgen.proofs.NodeForms.{IsNodeBox, is-node_box}
-use Rattle.lay_box_laws.proofs.Kept.{all_held, held, inside_of, mark, one_if, sum_held}
-use Rattle.lay_box_laws.proofs.KeptOnce.{closed, generated_less}
+use Rattle.lay_context_tree.proofs.Kept.{all_held, held, inside_of, mark, one_if, sum_held}
+use Rattle.lay_context_tree.proofs.KeptOnce.{closed, generated_less}
 
 module _ (id : ℕ) where
   -- in a list of boxes

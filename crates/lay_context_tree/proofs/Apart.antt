@@ -25,8 +25,8 @@ use Rattle.lay_boxgen.proofs.CutNodes.{tree-cut}
 use Rattle.lay_boxgen.proofs.CutParts.{part-cut}
 use Rattle.lay_boxgen.proofs.EveryBox.{every-generated, every-in_box, every-kept, every-relevant, every-remade}
 use Rattle.lay_boxgen.proofs.NodeForms.{IsNodeBox, is-node_box}
-use Rattle.lay_box_laws.specs.ContextTree.{parent_of}
-use Rattle.lay_box_laws.proofs.Members.{NodeAt, node-at}
+use Rattle.lay_context_tree.specs.ContextTree.{parent_of}
+use Rattle.lay_context_tree.proofs.Members.{NodeAt, node-at}
 
 module _ (nodes : List Node) (styles : List Style) where
   -- the node at k is below the one at a, and those between are no contexts

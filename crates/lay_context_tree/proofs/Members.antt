@@ -12,7 +12,7 @@ use Rattle.lay_boxgen.specs.Contexts.{box_at, box_of_node}
 use Rattle.lay_boxgen.specs.NodeBoxes.{node_box}
 use Rattle.lay_boxgen.specs.NodeTrees.{as_child, and_child, children_of, others_than_children, box_with, node_trees, first_tree, tree_at}
 use Rattle.lay_boxgen.specs.declared.node_trees.NodeTree.{NodeTree}
-use Rattle.lay_box_laws.specs.ContextTree.{parent_of}
+use Rattle.lay_context_tree.specs.ContextTree.{parent_of}
 
 -- What stands at a place of a list.
 pub record IsAt {X : Type 0} (xs : List X) (k : ℕ) : Type 0 where

@@ -18,10 +18,10 @@ use Rattle.lay_boxgen.specs.declared.facts.Form.TheVariants.{Anchor, Text}
 use Rattle.lay_boxgen.proofs.Above.{kept_by, parent_generates}
 use Rattle.lay_boxgen.proofs.NodeForms.{IsBoxOf, IsNodeBox, is-node_box}
 use Rattle.lay_boxgen.proofs.NodeColumns.{length-parents}
-use Rattle.lay_box_laws.specs.ContextTree.{IsAround, parent, further, parent_of}
-use Rattle.lay_box_laws.proofs.Kept.{append, generated_holds, held, no_text_tree, sum_held, sum_is}
-use Rattle.lay_box_laws.proofs.Members.{InTrees, NodeAt, forest, in-trees, is-child, node-at, tree-is}
-use Rattle.lay_box_laws.proofs.NodeKinds.{IsNoColumnWhereAbsolute, IsNoTextBox, IsNoTextWhereInner, absolute-box, element-box, element-there, inner-box}
+use Rattle.lay_context_tree.specs.ContextTree.{IsAround, parent, further, parent_of}
+use Rattle.lay_context_tree.proofs.Kept.{append, generated_holds, held, no_text_tree, sum_held, sum_is}
+use Rattle.lay_context_tree.proofs.Members.{InTrees, NodeAt, forest, in-trees, is-child, node-at, tree-is}
+use Rattle.lay_context_tree.proofs.NodeKinds.{IsNoColumnWhereAbsolute, IsNoTextBox, IsNoTextWhereInner, absolute-box, element-box, element-there, inner-box}
 
 module _ (id : ℕ) where
   -- The first stage leaves what a parent of some form keeps.
