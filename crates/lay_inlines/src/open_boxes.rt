@@ -1,0 +1,42 @@
+//! The inline boxes that are open, line after line.
+
+ghost use Rattle.std.specs.Prelude.{◌≡◌, OnOk};
+ghost use Rattle.lay_inlines.specs.OpenBoxes.{open_after, open_after_part};
+ghost use Rattle.lay_inlines.specs.Strokes.{parts_of};
+
+use lay_lines::{Part, Stretch};
+use lay_units::NoMemory;
+
+/// Goes over content: the open boxes are then those after it, outermost first.
+pub fn pass(open: &mut Vec<u32>, stretches: &[Stretch]) -> Result<(), NoMemory>
+    ensures { OnOk result (open.new.items ≡ open_after open.old.items (parts_of stretches.now)) }
+{
+    for k in 0..stretches.len() {
+        pass_parts(open, stretches[k].parts.as_slice())?;
+    }
+    Ok(())
+}
+
+fn pass_parts(open: &mut Vec<u32>, parts: &[Part]) -> Result<(), NoMemory>
+    ensures { OnOk result (open.new.items ≡ open_after open.old.items parts.now) }
+{
+    for k in 0..parts.len() {
+        pass_part(open, parts[k])?;
+    }
+    Ok(())
+}
+
+fn pass_part(open: &mut Vec<u32>, part: Part) -> Result<(), NoMemory>
+    ensures { OnOk result (open.new.items ≡ open_after_part open.old.items part) }
+{
+    match part {
+        Part::Start(start) => {
+            open.push(start.node)?;
+        }
+        Part::End(_) => {
+            let _ = open.pop();
+        }
+        _ => {}
+    }
+    Ok(())
+}
