@@ -25,10 +25,10 @@ pub record AreaWithin (a : InlineArea) : Type 0 where
   pub margin_left : IsWithin (pos (2 ^ 36)) a.margin_left.0
   pub margin_right : IsWithin (pos (2 ^ 36)) a.margin_right.0
 
-pub record LinesWithin (c : Container) (rows : List Ended) (areas : List InlineArea) : Type 0 where
+pub record LinesWithin (c : Container) (rs : List Ended) (bs : List InlineArea) : Type 0 where
   pub left : IsWithin (pos (2 ^ 50)) c.left.0
-  pub rows : All RowWithin rows
-  pub areas : All AreaWithin areas
+  pub rows : All RowWithin rs
+  pub areas : All AreaWithin bs
 
 -- places of the pen, and then those of edges
 abbrev pub IsPlace : ℤ → Type 0
@@ -62,8 +62,8 @@ IsOrigin v = IsWithin (pos (2 ^ 62 + 2 ^ 59 + 2 ^ 52)) v
 abbrev pub IsBaseline : ℤ → Type 0
 IsBaseline v = IsWithin (pos (2 ^ 61 + 2 ^ 36)) v
 
-pub record LineWithin (c : Container) (fr : Frame) (row : Ended) (areas : List InlineArea) : Type 0 where
+pub record LineWithin (c : Container) (fr : Frame) (r : Ended) (bs : List InlineArea) : Type 0 where
   pub left : IsWithin (pos (2 ^ 50)) c.left.0
   pub same_left : fr.left ≡ c.left
-  pub row : RowWithin row
-  pub areas : All AreaWithin areas
+  pub row : RowWithin r
+  pub areas : All AreaWithin bs

@@ -1,7 +1,7 @@
 //! The content of a line, with the pen.
 
 ghost use Rattle.std.specs.Prelude.{◌≡◌, ◌++◌, ◌||◌, IfOk, OnOk};
-ghost use Rattle.lay_inlines.specs.Bounds.{PensWithin, PlaceWithin};
+ghost use Rattle.lay_inlines.specs.Bounds.{PensWithin};
 ghost use Rattle.lay_inlines.specs.Strokes.{is_content, shown_of, place, strokes, parts_of};
 ghost use Rattle.lay_lines.specs.Pens.{over_all};
 
