@@ -36,13 +36,13 @@ pub fn put_line(
     alloc: Global,
     out: &mut Vec<LinePiece>,
     line: &Line,
-    open: &[u32],
+    open_boxes: &[u32],
     taken: &[Stretch],
 ) -> Result<(), NoMemory>
     requires line { LineWithin line.now.container line.now.frame line.now.row line.now.areas.now }
     requires pens { PensWithin line.now.frame (blank_of line.now.frame line.now.row) (parts_of taken.now) }
     ensures { OnOk result (out.new.items
-        ≡ out.old.items ++ line_pieces_of line.now.container line.now.areas.now line.now.frame line.now.row open.now
+        ≡ out.old.items ++ line_pieces_of line.now.container line.now.areas.now line.now.frame line.now.row open_boxes.now
         (parts_of taken.now)) }
 {
     let blank = Pen::blank(&line.frame, line.row.reach.start);
@@ -52,7 +52,7 @@ pub fn put_line(
         start: blank.at,
         end: last.solid,
     };
-    let spans = line_spans(alloc, line.areas, strokes.as_slice(), open, ends)?;
+    let spans = line_spans(alloc, line.areas, strokes.as_slice(), open_boxes, ends)?;
     out.push(line_box(line.container.node, &line.row))?;
     write(out, spans, line.areas, line.origin(last.solid))
 }

@@ -43,7 +43,7 @@ pub fn line_pieces(alloc: Global, lines: &LinesGeometry) -> Result<LinePieceList
         ≡ pieces_of lines.now.container lines.now.content.now lines.now.rows.now lines.now.areas.now) }
 {
     let mut pieces = Vec::new(alloc);
-    let mut open = Vec::new(alloc);
+    let mut open_boxes = Vec::new(alloc);
     let mut frame = first_frame(lines);
     let mut rest = lines.content.stretches();
     for k in 0..lines.rows.len() {
@@ -57,9 +57,9 @@ pub fn line_pieces(alloc: Global, lines: &LinesGeometry) -> Result<LinePieceList
                 row,
                 areas: lines.areas,
             };
-            put_line(alloc, &mut pieces, &line, open.as_slice(), taken)?;
+            put_line(alloc, &mut pieces, &line, open_boxes.as_slice(), taken)?;
         }
-        pass(&mut open, taken)?;
+        pass(&mut open_boxes, taken)?;
         frame = next_frame(frame, row.seen);
         rest = &rest[count..];
     }

@@ -44,7 +44,7 @@ pub fn line_spans(
     alloc: Global,
     areas: &[InlineArea],
     strokes: &[Stroke],
-    open: &[u32],
+    open_boxes: &[u32],
     ends: Ends,
 ) -> Result<Vec<Span>, NoMemory>
     requires areas { All AreaWithin areas.now }
@@ -52,7 +52,7 @@ pub fn line_spans(
     requires start { IsPlace ends.start.0 }
     requires end { IsPlace ends.end.0 }
     ensures spans { IfOk result (λ v. reverse v.items
-        ≡ open_spans ends.start.0 ends.end.0 (right_edges areas.now strokes.now) open.now
+        ≡ open_spans ends.start.0 ends.end.0 (right_edges areas.now strokes.now) open_boxes.now
         ++ spans_of areas.now ends.end.0 strokes.now) }
     ensures within { IfOk result (λ v. All SpanWithin v.items) }
 {
@@ -62,7 +62,7 @@ pub fn line_spans(
         followed: false,
     };
     behind.put_all(areas, strokes, ends.end)?;
-    behind.put_open(open, ends)?;
+    behind.put_open(open_boxes, ends)?;
     Ok(behind.into_spans())
 }
 
@@ -234,21 +234,21 @@ impl Behind {
     }
 
     /// Puts the inline boxes that are open where the line's content begins.
-    fn put_open(&mut self, open: &[u32], ends: Ends) -> Result<(), NoMemory>
+    fn put_open(&mut self, open_boxes: &[u32], ends: Ends) -> Result<(), NoMemory>
         requires within { BehindWithin self.old }
         requires start { IsPlace ends.start.0 }
         requires end { IsPlace ends.end.0 }
         ensures spans { OnOk result (reverse self.new.spans.items
-            ≡ open_spans ends.start.0 ends.end.0 (reverse self.old.edges.items) open.now
+            ≡ open_spans ends.start.0 ends.end.0 (reverse self.old.edges.items) open_boxes.now
             ++ reverse self.old.spans.items) }
         ensures within { OnOk result (BehindWithin self.new) }
     {
-        let count = open.len();
+        let count = open_boxes.len();
         for done in 0..count {
             let to = self.next_edge(ends.end);
             self.spans.push(Span {
                 kind: LinePieceKind::Inline,
-                node: open[count - 1 - done],
+                node: open_boxes[count - 1 - done],
                 from: ends.start,
                 to,
             })?;

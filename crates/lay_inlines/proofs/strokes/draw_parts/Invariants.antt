@@ -6,7 +6,7 @@ use Rattle.lay_inlines.proofs.strokes.draw_parts.Given as goal
 
 abbrev pub invariant-loop-k : goal.invariant-loop-k
 invariant-loop-k l = record {
-  strokes : l.out.items ++ strokes l.frame l.before (drop l.k l.parts) ≡ l.initial.out.items ++ strokes l.frame l.pen l.parts;
-  pen : over_all l.frame l.before (drop l.k l.parts) ≡ over_all l.frame l.pen l.parts;
+  strokes : l.out.items ++ strokes l.frame l.before (drop l.k l.parts) ≡ l.initial.out.items ++ strokes l.frame l.initial.before l.parts;
+  pen : over_all l.frame l.before (drop l.k l.parts) ≡ over_all l.frame l.initial.before l.parts;
   fits : PensWithin l.frame l.before (drop l.k l.parts);
 }
