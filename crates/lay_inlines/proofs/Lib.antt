@@ -1,1 +1,4 @@
+mod Backward
+mod Content
 mod OpenBoxSteps
+mod PenPlaces

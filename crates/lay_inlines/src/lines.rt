@@ -3,7 +3,7 @@
 ghost use Rattle.std.specs.Prelude.{◌≡◌, ◌≤◌, ◌^◌, ℕ, [], List, take, drop, IfOk};
 ghost use Rattle.lay_lines.specs.Lines.{frame_of};
 ghost use Rattle.lay_lines.specs.Rows.{next_frame};
-ghost use Rattle.lay_inlines.specs.Bounds.{LinesWithin};
+ghost use Rattle.lay_inlines.specs.Bounds.{GeometryWithin};
 ghost use Rattle.lay_inlines.specs.LinePieces.{pieces_of};
 
 use crate::align::Align;
@@ -38,7 +38,7 @@ pub struct LinesGeometry<'a> {
 /// of 0, tops and rooms of lines within 2^61, and heights and margins within 2^36. It gives NoMemory where memory
 /// runs out.
 pub fn line_pieces(alloc: Global, lines: &LinesGeometry) -> Result<LinePieceList, NoMemory>
-    requires { LinesWithin lines.now.container lines.now.rows.now lines.now.areas.now }
+    requires { GeometryWithin lines.now.container lines.now.rows.now lines.now.areas.now }
     ensures { IfOk result (λ l. l
         ≡ pieces_of lines.now.container lines.now.content.now lines.now.rows.now lines.now.areas.now) }
 {

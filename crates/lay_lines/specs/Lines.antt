@@ -9,7 +9,7 @@ use Rattle.lay_floats.specs.Within.{IsWithin, BoxWithin}
 use Rattle.lay_lines.specs.declared.frame.Frame.{Frame}
 use Rattle.lay_lines.specs.declared.row.Ended.{Ended}
 use Rattle.lay_lines.specs.declared.laying.Lines.{Lines}
-use Rattle.lay_lines.specs.LineContents.{LineContentValue, lines_weight}
+use Rattle.lay_lines.specs.LineContents.{LineContentValue, ExtentWithin, lines_weight}
 use Rattle.lay_lines.specs.Meeting.{none_met}
 use Rattle.lay_lines.specs.Rows.{Position, Laid, AreRows, position_of, ended_of}
 
@@ -43,6 +43,9 @@ growth c = pos (2 ^ 38 * lines_weight c)
 
 pub record RowWithin (m : ℤ) (e : Ended) : Type 0 where
   pub top : IsWithin m e.top.0
+  pub start : IsWithin m e.reach.start.0
+  pub end : IsWithin m e.reach.end.0
+  pub extent : ExtentWithin e.extent
   pub to : IsWithin m e.to.0
 
 pub record PlaceWithin (m : ℤ) (p : NodePlace) : Type 0 where
