@@ -2,3 +2,5 @@ mod Backward
 mod Content
 mod OpenBoxSteps
 mod PenPlaces
+mod RowSteps
+mod Spreads
