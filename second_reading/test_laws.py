@@ -4,6 +4,7 @@ import unittest
 from blocks import lay_out_page
 from boxes import boxes_of_context, read_nodes
 from documents import document
+from face import Face
 from margins import top_margin
 
 SEED, DOCUMENTS = 99, 400
@@ -22,7 +23,7 @@ class Laws(unittest.TestCase):
     def setUpClass(cls):
         runs = [document(SEED, number) for number in range(DOCUMENTS)]
         roots = [(read_nodes(run)[0], run['viewport']) for run in runs]
-        pages = [lay_out_page(root, viewport)[0] for root, viewport in roots if not root.is_hidden]
+        pages = [lay_out_page(root, viewport, Face({}))[0] for root, viewport in roots if not root.is_hidden]
         cls.flows = [box.flow for root in pages for box in contexts(root)]
 
     def test_run_is_a_stretch_of_the_sequence_of_margins(self):
