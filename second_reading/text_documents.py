@@ -1,9 +1,14 @@
+#!/usr/bin/env python3
 """Random run documents with texts, inline boxes, blocks in these, and floats in lines and beside them.
+
+usage: text_documents.py COUNT SEED      prints the documents 0 .. COUNT - 1 of a seed, one a line
 
 They are small, and most values are from short lists that are near the widths of a few characters, so that what just
 fits and what just doesn't are common. Each is a document that `blocks` lays out.
 """
+import json
 import random
+import sys
 from collections import namedtuple
 
 from boxes import first_not_built, read_nodes
@@ -244,3 +249,13 @@ class TextDocument:
 def text_document(seed, number):
     """The run document of a seed and a number."""
     return TextDocument(random.Random('texts %d/%d' % (seed, number))).draw()
+
+
+def main():
+    count, seed = int(sys.argv[1]), int(sys.argv[2])
+    for number in range(count):
+        print(json.dumps(text_document(seed, number)))
+
+
+if __name__ == '__main__':
+    main()
