@@ -129,7 +129,7 @@ class TextDocument:
             self.add_float_style(style)
         else:
             self.add_block_style(style)
-        if self.hit(100 if kind == 'block' else 40):
+        if self.hit(100 if kind == 'block' else 60):
             self.add_text_style(style)
         ident = self.add_element(parent, style)
         if depth < GREATEST_DEPTH and (kind != 'float' or self.hit(35)):
@@ -139,9 +139,9 @@ class TextDocument:
 
     def text(self):
         """Words and blanks; some texts are blank."""
-        if self.hit(12):
+        if self.hit(18):
             return self.choice(BLANKS + ODD_BLANKS if self.hit(self.profile.odd_text) else BLANKS)
-        parts = [self.blank()] if self.hit(25) else []
+        parts = [self.blank()] if self.hit(35) else []
         for _ in range(self.choice([1, 1, 2, 3, 4, 6, 8])):
             parts += [self.choice(ODD_WORDS) if self.hit(self.profile.odd_text / 3) else self.choice(WORDS), self.blank()]
         return ''.join(parts if self.hit(40) else parts[:-1])
@@ -229,7 +229,7 @@ class TextDocument:
 
     def face(self):
         """A face with advances and heights of its own."""
-        characters = 'abcdefg \t\u00a0\u200b\u0301\r'
+        characters = 'abcdefg \t\u00a0\u200b\u0301\raa b'
         face = {'advance': [[ord(character), self.choice([0, 1, 250, 333, 500, 777, 1000, 2000])]
                             for character in characters if self.hit(40)]}
         for name, numbers in (('default', [0, 250, 500, 600, 1000]), ('ascent', [0, 750, 800, 333, 2000]),
