@@ -38,6 +38,7 @@ WORDS = ['a', 'bb', 'ccc', 'dddd', 'eeeee', 'aaaa', 'bbbb', 'ffffffff', 'ggggggg
 BLANKS = [' ', ' ', ' ', ' ', ' ', '  ', '\n', '\n ', ' \n', '\t']
 ODD_BLANKS = ['   ', '\t', '\t\t', ' \t ', '\n', '\n\n', ' \n \n ', '\r\n', '\r', ' \r ', '\r\n\r\n', '\t\n', '\n\t', '\x0c',
               '\u200b', '\u200b\u200b', ' \u200b', '\u200b ', '\u00a0', ' \u00a0 ', '\u2003', '\u3000', '', ' \u0301']
+BLANKS_BESIDE_BLOCKS = [' ', '\n', '\n', ' \n ', '\t', '\r', ' \r ', '\r\n', '']
 ODD_WORDS = ['e\u0301', 'e\u0301\u0302x', '\u0301', '\U0001f468\u200d\U0001f469\u200d\U0001f467', '\U0001f1e9\U0001f1ea',
              '\U0001f44d\U0001f3fd', '\ufeff', '\u00ad', '\u200d', '\u1100\u1161\u11a8', '\uac00\u11a8', '\u0e01\u0e33',
              '\x01', 'w' * 40, '-', 'a-b', '\u4e2d\u6587', '\u200c', '\u0915\u0903', '\u2028', '\x85', 'i\u200bj']
@@ -99,8 +100,12 @@ class TextDocument:
         """The children of a block, a float or an inline box."""
         count = self.choice([1, 2, 2, 3, 3, 4, 5, 6]) if kind != 'float' or self.hit(60) else 0
         for _ in range(count):
+            place = len(self.nodes)
             if self.left > 0:
                 self.add_child(parent, kind, depth)
+            is_block = self.nodes[place:] and self.nodes[place].get('style', {}).get('display') == 'block'
+            if self.left > 0 and is_block and self.hit(20):
+                self.add_text(parent, self.choice(BLANKS_BESIDE_BLOCKS))
 
     def add_child(self, parent, kind, depth):
         """One child: a text, an inline box, a float, a block, or what isn't shown."""
@@ -116,8 +121,11 @@ class TextDocument:
             return self.add_box(parent, 'block', depth)
         if number < 1.5:
             return self.add_element(parent, {'display': 'none'})
+        self.add_text(parent, self.text())
+
+    def add_text(self, parent, text):
         self.left -= 1
-        self.nodes.append({'id': len(self.nodes) + 1, 'parent': parent, 'kind': 'text', 'text': self.text()})
+        self.nodes.append({'id': len(self.nodes) + 1, 'parent': parent, 'kind': 'text', 'text': text})
 
     def add_box(self, parent, kind, depth):
         """An element that makes an inline box, a float or a block, with what is in it."""
