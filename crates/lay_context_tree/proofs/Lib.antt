@@ -7,3 +7,4 @@ pub mod NodeKinds
 pub mod OneStand
 pub mod Reached
 pub mod OneList
+pub mod Relabeled

@@ -10,6 +10,7 @@ use Rattle.lay_boxgen.proofs.NodeColumns.{length-parents}
 use Rattle.lay_context_tree.specs.ContextTree.{IsAround, StandsIn, StandsOnce, further, parent, parent_of}
 use Rattle.lay_context_tree.specs.DocumentContexts.{AreDocumentContexts, ContextsStandInOrder, OneListOfContexts, spot_at}
 use Rattle.lay_context_tree.specs.declared.context_spot.ContextSpot.{ContextSpot}
+use Rattle.lay_context_tree.proofs.Relabeled.{generated_along}
 use Rattle.lay_context_tree.proofs.OneStand.{contexts_stand_once, marked-true, within}
 
 -- Rising lists with the same members are equal.
