@@ -150,7 +150,7 @@ module _ (nodes : List Node) (styles : List Style) (is_tree : IsTree (parents_of
       ∙ (ap (λ ns. entry m ∷ others_than_children m ns) rest
       ∙ (ap (λ ns. entry m ∷ ns) sp.0 ∙ sym (simp kept refl))))
 
-  in-order : (k : ℕ) → k < length nodes → tree_at nodes styles k ≡ box_with (box_at nodes styles k) (child_trees nodes styles (children_places nodes k))
+  pub in-order : (k : ℕ) → k < length nodes → tree_at nodes styles k ≡ box_with (box_at nodes styles k) (child_trees nodes styles (children_places nodes k))
   unfolding forest
   in-order k lt =
       let n = at nodes k lt in

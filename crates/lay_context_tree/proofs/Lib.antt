@@ -8,3 +8,7 @@ pub mod OneStand
 pub mod Reached
 pub mod OneList
 pub mod Relabeled
+pub mod OwnBoxes
+pub mod OwnChildren
+pub mod RelabeledLists
+pub mod RisingLists
