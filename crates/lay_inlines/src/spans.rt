@@ -122,7 +122,15 @@ impl Behind {
         let shown = shown_of(stroke.part, stroke.before.started && self.followed);
         let from = place(stroke.before, has_content);
         let to = place(stroke.after, self.followed);
-        self.put_shown(areas, shown, Ends { start: from, end: to }, end)?;
+        self.put_shown(
+            areas,
+            shown,
+            Ends {
+                start: from,
+                end: to,
+            },
+            end,
+        )?;
         self.followed = has_content;
         Ok(())
     }

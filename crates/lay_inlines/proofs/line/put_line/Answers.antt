@@ -1,8 +1,8 @@
-use Rattle.std.proofs.Common.{◌≡◌, ◌∙◌, ◌++◌, ap, sym, subst}
+use Rattle.std.proofs.Common.{◌∙◌, ◌++◌, ap, sym, subst}
 use Rattle.std.proofs.lemmas.List.Elements.{All-same}
 use Rattle.lay_lines.specs.declared.pen.Pen.{Pen}
 use Rattle.lay_lines.specs.Pens.{over_all}
-use Rattle.lay_inlines.specs.Bounds.{PensWithin, PenWithin, StrokeWithin}
+use Rattle.lay_inlines.specs.Bounds.{PenWithin, StrokeWithin}
 use Rattle.lay_inlines.specs.LinePieces.{blank_of}
 use Rattle.lay_inlines.specs.Strokes.{parts_of, strokes}
 use Rattle.lay_inlines.proofs.PenPlaces.{pen_fits, first_within, last_within, strokes_within}
