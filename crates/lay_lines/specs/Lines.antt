@@ -1,7 +1,7 @@
 -- The lines of a block container, from a top downward between two content edges, beside the floats that stand already
 -- (CSS 2.2, 9.4.2 and 9.5): the rows, the places of the floats that they met, in order, where what follows begins, and
 -- all floats that stand afterwards.
-use Rattle.std.specs.Prelude.{◌≡◌, ◌*◌, ◌^◌, ℤ, pos, List, [], map, All}
+use Rattle.std.specs.Prelude.{◌≡◌, ◌*◌, ◌^◌, ℕ, ℤ, List, [], map, All}
 use Rattle.lay_units.specs.declared.length.Unit.{Unit}
 use Rattle.lay_floats.specs.declared.placed.Placed.{Placed}
 use Rattle.lay_floats.specs.declared.requests.NodePlace.{NodePlace}
@@ -38,20 +38,20 @@ pub record AreLines (c : LineContentValue) (left right : Unit) (top : ℤ) (befo
   pub floats : laid.position.state.floats ≡ v.floats
 
 -- how much further than what is given lines reach at most: 2^38 units for each stretch and each float, and once more
-abbrev pub growth : LineContentValue → ℤ
-growth c = pos (2 ^ 38 * lines_weight c)
+abbrev pub growth : LineContentValue → ℕ
+growth c = 2 ^ 38 * lines_weight c
 
 pub record RowWithin (m : ℤ) (e : Ended) : Type 0 where
   pub top : IsWithin m e.top.0
   pub to : IsWithin m e.to.0
 
-pub record PlaceWithin (m : ℤ) (p : NodePlace) : Type 0 where
+pub record NodePlaceWithin (m : ℤ) (p : NodePlace) : Type 0 where
   pub x : IsWithin m p.place.x.0
   pub y : IsWithin m p.place.y.0
 
 -- all that stands is at most m units from the origin
 pub record LinesWithin (m : ℤ) (v : LinesValue) : Type 0 where
   pub rows : All (RowWithin m) v.rows
-  pub places : All (PlaceWithin m) v.places
+  pub places : All (NodePlaceWithin m) v.places
   pub end : IsWithin m v.end.0
   pub floats : All (BoxWithin m) v.floats
