@@ -82,4 +82,4 @@ AreNearPlaces places = (k : ℕ) → k < length places → IsNearPlace (box_plac
 
 -- the tops of lines and where they end are at most 2^60 units away
 abbrev pub AreNearRows : List (List Ended) → Type 0
-AreNearRows lines = All (λ rows. All (RowWithin (pos 1152921504606846976)) rows) lines
+AreNearRows all = All (λ rows. All (RowWithin (pos 1152921504606846976)) rows) all
