@@ -83,7 +83,7 @@ all_rows w (p ∷ ps) light near = All-cons (λ (rows : List Ended). All (RowWit
 
 module _ (boxes : List FlowBox) (flow : Pass) (corners : List Place) (is : IsFinished boxes flow) (put : AreCorners (length boxes) flow.placing.met.items corners) where
   corners_put : AreCorners (length boxes) (map (λ p. p.lines.places) is.places) corners
-  corners_put = subst (λ (met : List (List NodePlace)). AreCorners (length boxes) met corners) (sym is.are.met) put
+  corners_put = subst (λ (met : List (List NodePlace)). AreCorners (length boxes) met corners) (sym is.are.met_are) put
 
   counted : length is.places ≡ length boxes
   counted = ap length is.context.places_are ∙ is.context.is_flow.places_length
@@ -104,10 +104,10 @@ module _ (boxes : List FlowBox) (flow : Pass) (corners : List Place) (is : IsFin
   corner_far input k lt = subst IsFarPlace (sym (corner_is k lt)) (chosen IsFarPlace no_place k (line_places is.places) far_nowhere (met_far input))
 
   place_far : AreFlowBoxes boxes → (k : ℕ) → k < length boxes → IsFarPlace (corner_at flow.placing.places.items k)
-  place_far input k lt = subst (λ (ps : List Place). IsFarPlace (corner_at ps k)) is.are.places (subst IsFarPlace (sym (column_at is.places k)) (far_at input k lt))
+  place_far input k lt = subst (λ (ps : List Place). IsFarPlace (corner_at ps k)) is.are.places_are (subst IsFarPlace (sym (column_at is.places k)) (far_at input k lt))
 
   rows_near : AreFlowBoxes boxes → AreNearRows flow.placing.rows.items
-  rows_near input = subst AreNearRows is.are.rows (all_rows (weight boxes (length boxes)) is.places input.light (λ k lt. is.near k (let c = counted in omega (arith, c, lt))))
+  rows_near input = subst AreNearRows is.are.rows_are (all_rows (weight boxes (length boxes)) is.places input.light (λ k lt. is.near k (let c = counted in omega (arith, c, lt))))
 
 module _ (boxes : List FlowBox) (flow : Pass) (out : FlowColumns) (corners : List Place) (is : IsFinished boxes flow) (put : AreCorners (length boxes) flow.placing.met.items corners)
     (tops : out.tops.items ≡ flow.marks.items) (heights : out.heights.items ≡ flow.heights.items) (places : out.places.items ≡ flow.placing.places.items) (rows : out.rows.items ≡ flow.placing.rows.items) (corner : out.corners.items ≡ corners) where
@@ -115,8 +115,8 @@ module _ (boxes : List FlowBox) (flow : Pass) (out : FlowColumns) (corners : Lis
   columns_of = record {
     places = is.places;
     are = rw (tops, heights) is.context;
-    places_are = is.are.places ∙ sym places;
-    rows_are = is.are.rows ∙ sym rows;
+    places_are = is.are.places_are ∙ sym places;
+    rows_are = is.are.rows_are ∙ sym rows;
     corners_are = rw corner (corners_put boxes flow corners is put);
   }
 
@@ -127,7 +127,7 @@ module _ (boxes : List FlowBox) (flow : Pass) (out : FlowColumns) (corners : Lis
       record {
         tops_length = rw tops mine;
         heights_length = rw heights high;
-        places_length = rw places (sym (ap length is.are.places) ∙ map_length (λ (p : Placement). p.place) is.places ∙ counted boxes flow corners is put);
+        places_length = rw places (sym (ap length is.are.places_are) ∙ map_length (λ (p : Placement). p.place) is.places ∙ counted boxes flow corners is put);
         corners_length = rw corner put.length_is;
         top = λ k lt. rw tops (near k (omega (arith, lt, mine)));
         height = λ k lt flow. rw heights (sized k (omega (arith, lt, high)) flow);

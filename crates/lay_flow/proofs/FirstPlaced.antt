@@ -34,7 +34,7 @@ mark_near_none w v e = (omega (arith, ints, e), omega (arith, ints, e))
 
 module _ (boxes : List FlowBox) (marks : List Length) (now : PlacingState) (is : IsEmpty now (length boxes)) where
   are_none : ArePlacements now []
-  are_none = record { places = sym is.places; rows = sym is.rows; met = sym is.met }
+  are_none = record { places_are = sym is.places; rows_are = sym is.rows; met_are = sym is.met }
 
   to_none : PlacesTo boxes marks (placing_of now []) 0
   to_none = record {

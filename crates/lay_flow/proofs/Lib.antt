@@ -3,6 +3,7 @@ pub mod Lengths
 pub mod Truths
 pub mod BoxTrees
 pub mod FlowBoxFacts
+pub mod IndexedBoxes
 pub mod OneLineList
 pub mod WeightFacts
 pub mod PlacedInRuns
@@ -46,6 +47,8 @@ pub mod ClearedFloats
 pub mod ClearSteps
 pub mod PassEnds
 pub mod PlacedOn
+pub mod ChosenCorners
+pub mod LaidLines
 pub mod FirstPlaced
 pub mod PositionsUpTo
 pub mod OneClearance

@@ -17,7 +17,7 @@ use Rattle.lay_flow.specs.Lengths.{length_at, no_length}
 use Rattle.lay_flow.specs.BlockSizes.{IsBoxSize}
 use Rattle.lay_flow.specs.Children.{last_child, flag_at}
 use Rattle.lay_flow.specs.MarginRuns.{Entry, margins, block_at, run_at, run_before}
-use Rattle.lay_flow.specs.BlockPositions.{Extents, start_below, start_before, border_height, content_height, is_solid}
+use Rattle.lay_flow.specs.BlockPositions.{Extents, content_top, start_below, start_before, border_height, content_height, is_solid}
 use Rattle.lay_flow.specs.BlockLayout.{BlockLayout, IsBlockLayout}
 use Rattle.lay_flow.specs.BlockFloats.{shape_at, place_at, no_place, floats_before}
 use Rattle.lay_flow.specs.ContextFlow.{AreContextPlaces}
@@ -29,7 +29,7 @@ use Rattle.lay_flow.proofs.WeightFacts.{weight_up}
 use Rattle.lay_flow.specs.Pass.Placed.{Placing, PlacesTo}
 use Rattle.lay_flow.specs.Pass.Knows.{Knows, MayBe, HaveNoExtent, IsCandidate, AreExtentsKept, ArePlacesKept}
 use Rattle.lay_flow.proofs.FlowBoxFacts.{block_fits, root_not_solid}
-use Rattle.lay_flow.proofs.ContentHeights.{content_root, held_same, margin_end, same_border_height}
+use Rattle.lay_flow.proofs.ContentHeights.{content_bottom, content_root, held_same, margin_end, same_border_height}
 use Rattle.lay_flow.proofs.BlockLayoutLaws.{some_block_layout_lem, same_lengths}
 use Rattle.lay_flow.proofs.LayoutFacts.{start_first, start_next}
 use Rattle.lay_flow.proofs.PassFits.{settled_near, end_near}
@@ -149,11 +149,11 @@ module _ (boxes : List FlowBox) (input : AreFlowBoxes boxes) where
       let mark_is = marked ∙ each_mark 0 input.is_tree.some in
       let end_is = reach_end boxes extents edges y is input.is_tree.tree now at end ends ∙ sym (root_bottom y) in
       let inside = (block_at boxes 0).inside in
-      let bottom_is = over_is ∙ held_same inside (mark +ℤ (block_at boxes 0).edge_top.0) (length_at y.places.marks 0 +ℤ (block_at boxes 0).edge_top.0) (length_at placing'.extents 0) (length_at placing'.extents 0) end _
+      let bottom_is = over_is ∙ held_same inside (mark +ℤ (block_at boxes 0).edge_top.0) (length_at y.places.marks 0 +ℤ (block_at boxes 0).edge_top.0) (length_at placing'.extents 0) (length_at placing'.extents 0) end (margin_end boxes y.runs y.places 0)
       (ap (λ (v : ℤ). v +ℤ (block_at boxes 0).edge_top.0) mark_is) (λ t. refl) end_is in
       let height_is : height ≡ length_at y.places.heights 0 = is_height
       ∙ (λ i. border_height (block_at boxes 0) (pos 0) (root_height_of (record { 0 = mark_is i +ℤ (block_at boxes 0).edge_top.0 }) (record { 0 = bottom_is i }) bottom))
-      ∙ same_border_height (block_at boxes 0) (pos 0) (length_at placing'.extents 0) _ (λ solid. absurd (true_false (is_solid inside) solid (root_not_solid boxes input.is_tree)))
+      ∙ same_border_height (block_at boxes 0) (pos 0) (length_at placing'.extents 0) (root_height_of (content_top boxes y.places 0) (record { 0 = content_bottom boxes y.runs extents y.places 0 }) bottom) (λ solid. absurd (true_false (is_solid inside) solid (root_not_solid boxes input.is_tree)))
       ∙ ap (λ (v : ℤ). border_height (block_at boxes 0) (length_at placing'.extents 0) v) (sym (content_root boxes y.runs extents y.places)) ∙ sym content in
       let marks_length = settled.length_is ∙ known.fits.marks_length in
       let heights_length = wrote.length_is ∙ known.fits.heights_length in

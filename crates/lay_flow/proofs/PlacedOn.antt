@@ -1,5 +1,5 @@
 -- The columns of the code beside the placements that they are of.
-use Rattle.std.proofs.Common.{◌≡◌, ℕ, ◌<◌, ◌≤◌, ℤ, List, [], ◌∷◌, ◌++◌, length, map, true, arith, refl, sym, ap, ◌∙◌, subst}
+use Rattle.std.proofs.Common.{◌≡◌, ◌+◌, suc, ◌+ℤ◌, ℕ, ◌<◌, ◌≤◌, ℤ, List, [], ◌∷◌, ◌++◌, length, map, true, arith, refl, sym, ap, ◌∙◌, subst}
 use Rattle.std.proofs.lemmas.Int.{ints}
 use Rattle.lay_doc.specs.Tree.{IsTree}
 use Rattle.lay_units.specs.declared.length.Unit.{Unit as Length}
@@ -22,14 +22,14 @@ use Rattle.lay_flow.proofs.PlaceSteps.{old_place}
 
 pub map_length : {A B : Type 0} (f : A → B) (xs : List A) → length (map f xs) ≡ length xs
 map_length f [] = refl
-map_length f (x ∷ xs) = ap (λ (n : ℕ). 1 + n) (map_length f xs)
+map_length f (x ∷ xs) = ap suc (map_length f xs)
 
 pub map_push : {A B : Type 0} (f : A → B) (xs : List A) (x : A) → map f (xs ++ x ∷ []) ≡ map f xs ++ f x ∷ []
 map_push f [] x = refl
 map_push f (y ∷ xs) x = ap (λ (ys : List _). f y ∷ ys) (map_push f xs x)
 
 pub places_count : (now : PlacingState) (places : List Placement) → ArePlacements now places → length places ≡ length now.places.items
-places_count now places are = sym (map_length (λ (p : Placement). p.place) places) ∙ ap length are.places
+places_count now places are = sym (map_length (λ (p : Placement). p.place) places) ∙ ap length are.places_are
 
 module _ (boxes : List FlowBox) (old new : List Length) (now : PlacingState) (places : List Placement) (tree : IsTree (parents_of boxes)) (are : ArePlacements now places)
     (few : length places ≤ length boxes) (placed : PlacesTo boxes old (placing_of now places) (length places)) (same : (j : ℕ) → j < length places → length_at new j ≡ length_at old j) where
@@ -75,9 +75,9 @@ module _ (boxes : List FlowBox) (marks : List Length) (old new : PlacingState) (
   pushed_on to = record {
     places = places ++ p ∷ [];
     are = record {
-      places = map_push (λ (q : Placement). q.place) places p ∙ (λ i. are.places i ++ p.place ∷ []) ∙ sym pushed;
-      rows = map_push (λ (q : Placement). q.lines.rows) places p ∙ (λ i. are.rows i ++ p.lines.rows ∷ []) ∙ sym rows;
-      met = map_push (λ (q : Placement). q.lines.places) places p ∙ (λ i. are.met i ++ p.lines.places ∷ []) ∙ sym met;
+      places_are = map_push (λ (q : Placement). q.place) places p ∙ (λ i. are.places_are i ++ p.place ∷ []) ∙ sym pushed;
+      rows_are = map_push (λ (q : Placement). q.lines.rows) places p ∙ (λ i. are.rows_are i ++ p.lines.rows ∷ []) ∙ sym rows;
+      met_are = map_push (λ (q : Placement). q.lines.places) places p ∙ (λ i. are.met_are i ++ p.lines.places ∷ []) ∙ sym met;
     };
     to = to;
     same = λ j lt. old_place places p j lt;

@@ -1,6 +1,6 @@
 //! Floats, solid boxes and lines find their places, in document order, once their marks are known.
 
-ghost use Rattle.std.specs.Prelude.{◌≡◌, ℕ, ℤ, ◌+◌, ◌-ℤ◌, ◌+ℤ◌, ◌<◌, ◌≤◌, ◌≤ℤ◌, ◌++◌, ◌∷◌, [], All, length, pos, true, false, IfOk, OnOk, Some, None};
+ghost use Rattle.std.specs.Prelude.{◌≡◌, ℕ, ◌+◌, ◌-ℤ◌, ◌+ℤ◌, ◌<◌, ◌≤◌, ◌++◌, ◌∷◌, [], All, length, pos, true, false, IfOk, OnOk, Some, None};
 ghost use Rattle.std.specs.Int.{int_max};
 ghost use Rattle.lay_floats.specs.Within.{BoxWithin, IsWithin};
 ghost use Rattle.lay_lines.specs.Lines.{AreLines, LinesWithin, growth, lines_of};
@@ -188,8 +188,8 @@ impl FlowBox {
         requires top { IsNear top.0 }
         requires floats { All (BoxWithin (pos 1152921504606846976)) floats.old }
         ensures lines { IfOk result (λ out. AreLines (line_content_of self.now.kind) (content_of self.now.kind).left (content_of self.now.kind).right top.0 floats.old (lines_of out floats.new)) }
-        ensures near { (r : ℤ) → r ≤ℤ pos 1152921504606846976 → IsWithin r top.0 → All (BoxWithin r) floats.old
-            → IfOk result (λ out. LinesWithin (r +ℤ growth (line_content_of self.now.kind)) (lines_of out floats.new)) }
+        ensures near { IfOk result (λ out. (r : ℕ) → 1125899906842624 ≤ r → r ≤ 1152921504606846976 → IsWithin (pos r) top.0 → All (BoxWithin (pos r)) floats.old
+            → LinesWithin (pos (r + growth (line_content_of self.now.kind))) (lines_of out floats.new)) }
     {
         match &self.kind {
             FlowKind::Lines(l) => {

@@ -15,9 +15,9 @@ placing_of p places = record { extents = p.extents.items; floats = p.floats; pla
 
 -- the columns are those of these placements
 pub record ArePlacements (now : PlacingState) (places : List Placement) : Type 0 where
-  pub places : map (λ p. p.place) places ≡ now.places.items
-  pub rows : map (λ p. p.lines.rows) places ≡ now.rows.items
-  pub met : map (λ p. p.lines.places) places ≡ now.met.items
+  pub places_are : map (λ p. p.place) places ≡ now.places.items
+  pub rows_are : map (λ p. p.lines.rows) places ≡ now.rows.items
+  pub met_are : map (λ p. p.lines.places) places ≡ now.met.items
 
 -- the boxes before the one at n are placed
 pub record ArePlaced (boxes : List FlowBox) (marks : List Length) (now : PlacingState) (n : ℕ) : Type 0 where

@@ -52,10 +52,10 @@ returns c =
     let settles = rw c.deref.ensures.value at c.settle.ensures in
     let f = known.fits in
     let done = c.in_ok-place_up_to.ensures {u = tt} in
-    let goes = placed_on c.args.boxes.now old.marks.items c.deref-2.result.now old.placing c.place_up_to.new.placing c.requires.known.places _ c.requires.input.is_tree.tree c.requires.known.are
+    let goes = placed_on c.args.boxes.now old.marks.items c.settle.new.marks.items old.placing c.place_up_to.new.placing c.requires.known.places _ c.requires.input.is_tree.tree c.requires.known.are
     (let early = c.requires.known.knows.early in let few = f.first_most in let within = f.within in omega (arith, early, few, within)) c.requires.known.knows.placed
-    (let early = c.requires.known.knows.early in let settles = rw c.deref.ensures.value at c.settle.ensures in λ j lt. rw c.deref-2.ensures.value (settles.before j (omega (arith, lt, early)))) done.placed in
-    let placed = rw c.deref-2.ensures.value at goes.to in
+    (let early = c.requires.known.knows.early in let settles = rw c.deref.ensures.value at c.settle.ensures in λ j lt. settles.before j (omega (arith, lt, early))) (rw c.deref-2.ensures.value at done.placed) in
+    let placed = goes.to in
     let edge = c.lower_of-edge.result in
     let is_bottom = subst (λ (s : Clear). IsClearEdge c.place_up_to.new.placing.floats s c.clear_edge-bottom.result) c.clear_at.ensures c.clear_edge-bottom.ensures in
     let near = subst (IsEdgeNear (weight c.args.boxes.now k)) (sym c.lower_of-edge.ensures) (lower_near (weight c.args.boxes.now k) c.place_up_to.new.placing.floats _ c.clear_edge-bottom.result c.args.hypothetical.0 placed.within is_bottom c.requires.near) in

@@ -22,9 +22,9 @@ returns-clause-known c =
     let early = known.early in let few = f.first_most in let within = f.within in
     let old = c.args.flow.now in
     let done = c.in_ok-place_up_to.ensures {u = tt} in
-    let goes = placed_on c.args.boxes.now old.marks.items c.deref.result.now old.placing c.place_up_to.new.placing c.requires.known.places _ c.requires.input.is_tree.tree c.requires.known.are
-    (omega (arith, early, few, within)) known.placed (λ j lt. rw c.deref.ensures.value refl) done.placed in
-    let placed = rw c.deref.ensures.value at goes.to in
+    let goes = placed_on c.args.boxes.now old.marks.items old.marks.items old.placing c.place_up_to.new.placing c.requires.known.places _ c.requires.input.is_tree.tree c.requires.known.are
+    (omega (arith, early, few, within)) known.placed (λ j lt. refl) (rw c.deref.ensures.value at done.placed) in
+    let placed = goes.to in
     record { places = goes.places; are = goes.are; knows = knows_placed c.args.boxes.now c.requires.input.is_tree.tree c.requires.input.is_tree (state_of old) (placing_of old.placing c.requires.known.places) c.args._k c.requires.positive c.requires.within known
     (placing_of c.place_up_to.new.placing goes.places) placed (subst (λ (n : ℕ). AreExtentsKept c.args.boxes.now n old.placing.extents.items c.place_up_to.new.placing.extents.items) (sym (places_count old.placing c.requires.known.places c.requires.known.are)) done.kept) goes.same }
 
@@ -35,6 +35,6 @@ returns-clause-settled c =
     let early = known.early in let few = f.first_most in let within = f.within in
     let old = c.args.flow.now in
     let done = c.in_ok-place_up_to.ensures {u = tt} in
-    let goes = placed_on c.args.boxes.now old.marks.items c.deref.result.now old.placing c.place_up_to.new.placing c.requires.known.places _ c.requires.input.is_tree.tree c.requires.known.are
-    (omega (arith, early, few, within)) known.placed (λ j lt. rw c.deref.ensures.value refl) done.placed in
+    let goes = placed_on c.args.boxes.now old.marks.items old.marks.items old.placing c.place_up_to.new.placing c.requires.known.places _ c.requires.input.is_tree.tree c.requires.known.are
+    (omega (arith, early, few, within)) known.placed (λ j lt. refl) (rw c.deref.ensures.value at done.placed) in
     sym (places_count c.place_up_to.new.placing goes.places goes.are) ∙ goes.to.places_length

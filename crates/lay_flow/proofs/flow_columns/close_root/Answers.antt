@@ -1,10 +1,11 @@
-use Rattle.std.proofs.Common.{◌≡◌, false, ℕ, ◌+ℤ◌, pos, arith, subst, sym, List, ap, ◌∙◌, length}
+use Rattle.std.proofs.Common.{◌≡◌, ◌<◌, false, ℕ, ◌+ℤ◌, pos, arith, subst, sym, List, ap, ◌∙◌, length}
 use Rattle.lay_units.specs.declared.length.Unit.{Unit as Length}
 use Rattle.lay_floats.specs.declared.requests.Clear.TheVariants.{Both as clear_both}
 use Rattle.lay_heights.specs.AutoHeights.{root_height_of}
 use Rattle.lay_flow.specs.declared.block.Block.{Block}
 use Rattle.lay_flow.specs.Lengths.{length_at}
 use Rattle.lay_flow.specs.BlockPositions.{border_height, is_solid}
+use Rattle.lay_flow.specs.BlockSizes.{IsNear}
 use Rattle.lay_flow.specs.Weights.{weight}
 use Rattle.lay_flow.specs.Pass.Bounds.{held_end, state_of, IsMarkNear}
 use Rattle.lay_flow.specs.Pass.Knows.{AreExtentsKept}
@@ -46,9 +47,9 @@ root_height-height-requires-clause-floats c =
     let done = c.in_ok-place_up_to.ensures {u = tt} in
     let old = c.args.flow.now in
     let fits = c.requires.known.knows.fits in
-    let goes = placed_on c.args.boxes.now old.marks.items c.deref-2.result.now old.placing c.place_up_to.new.placing c.requires.known.places _ c.requires.input.is_tree.tree c.requires.known.are
+    let goes = placed_on c.args.boxes.now old.marks.items c.settle.new.marks.items old.placing c.place_up_to.new.placing c.requires.known.places _ c.requires.input.is_tree.tree c.requires.known.are
     (let early = c.requires.known.knows.early in let few = fits.first_most in let within = fits.within in omega (arith, early, few, within)) c.requires.known.knows.placed
-    (let early = c.requires.known.knows.early in let settles = rw c.deref.ensures.value at c.settle.ensures in λ j lt. rw c.deref-2.ensures.value (settles.before j (omega (arith, lt, early)))) done.placed in
+    (let early = c.requires.known.knows.early in let settles = rw c.deref.ensures.value at c.settle.ensures in λ j lt. settles.before j (omega (arith, lt, early))) (rw c.deref-2.ensures.value at done.placed) in
     clear_edge_position (weight c.args.boxes.now (length c.args.boxes.now)) _ clear_both c.clear_edge-bottom.result c.requires.input.light goes.to.within c.clear_edge-bottom.ensures
 
 pub root_end-requires-clause-margin : goal.root_end-requires-clause-margin
@@ -62,15 +63,15 @@ root_end-requires-clause-lines c lines =
     let done = c.in_ok-place_up_to.ensures {u = tt} in
     let old = c.args.flow.now in
     let fits = c.requires.known.knows.fits in
-    let goes = placed_on c.args.boxes.now old.marks.items c.deref-2.result.now old.placing c.place_up_to.new.placing c.requires.known.places _ c.requires.input.is_tree.tree c.requires.known.are
+    let goes = placed_on c.args.boxes.now old.marks.items c.settle.new.marks.items old.placing c.place_up_to.new.placing c.requires.known.places _ c.requires.input.is_tree.tree c.requires.known.are
     (let early = c.requires.known.knows.early in let few = fits.first_most in let within = fits.within in omega (arith, early, few, within)) c.requires.known.knows.placed
-    (let early = c.requires.known.knows.early in let settles = rw c.deref.ensures.value at c.settle.ensures in λ j lt. rw c.deref-2.ensures.value (settles.before j (omega (arith, lt, early)))) done.placed in
+    (let early = c.requires.known.knows.early in let settles = rw c.deref.ensures.value at c.settle.ensures in λ j lt. settles.before j (omega (arith, lt, early))) (rw c.deref-2.ensures.value at done.placed) in
     let some = c.requires.input.is_tree.some in
     let block = c.block_at-block.ensures.value in
     let marked = rw c.deref-3.ensures.value at c.length_at-mark.ensures in
     let depth = rw c.deref-4.ensures.value at c.length_at-depth.ensures in
     let there = rw block at lines in
-    rw (block, depth, marked) (line_depth c.args.boxes.now c.requires.input c.deref-2.result.now (placing_of c.place_up_to.new.placing goes.places) (length c.args.boxes.now) goes.to 0 some (omega arith) there)
+    rw (block, depth, marked) (line_depth c.args.boxes.now c.requires.input c.settle.new.marks.items (placing_of c.place_up_to.new.placing goes.places) (length c.args.boxes.now) goes.to 0 some (omega arith) there)
 
 pub returns-clause-finished : goal.returns-clause-finished
 returns-clause-finished c =
@@ -82,10 +83,10 @@ returns-clause-finished c =
     let done = c.in_ok-place_up_to.ensures {u = tt} in
     let old = c.args.flow.now in
     let fits = c.requires.known.knows.fits in
-    let goes = placed_on c.args.boxes.now old.marks.items c.deref-2.result.now old.placing c.place_up_to.new.placing c.requires.known.places _ c.requires.input.is_tree.tree c.requires.known.are
+    let goes = placed_on c.args.boxes.now old.marks.items c.settle.new.marks.items old.placing c.place_up_to.new.placing c.requires.known.places _ c.requires.input.is_tree.tree c.requires.known.are
     (let early = c.requires.known.knows.early in let few = fits.first_most in let within = fits.within in omega (arith, early, few, within)) c.requires.known.knows.placed
-    (let early = c.requires.known.knows.early in let settles = rw c.deref.ensures.value at c.settle.ensures in λ j lt. rw c.deref-2.ensures.value (settles.before j (omega (arith, lt, early)))) done.placed in
-    let placed = rw c.deref-2.ensures.value at goes.to in
+    (let early = c.requires.known.knows.early in let settles = rw c.deref.ensures.value at c.settle.ensures in λ j lt. settles.before j (omega (arith, lt, early))) (rw c.deref-2.ensures.value at done.placed) in
+    let placed = goes.to in
     let placing = placing_of c.place_up_to.new.placing goes.places in
     let over = c.root_end.ensures.value ∙ (λ i. held_end (block i).inside (c.length_at-mark.result.0 +ℤ (block i).edge_top.0) (depth i) c.end_of-end.result.0) in
     let is_height = c.root_height-height.ensures.value
@@ -119,3 +120,23 @@ returns-clause-sized c =
     subst (λ (xs : List Length). Wrote length_at old.heights.items xs 0 c.root_height-height.result.0) (sym c.write_at.ensures) (wrote_length old.heights.items 0 c.root_height-height.result (omega (arith, some, l))) in
     sized_boxes c.args.boxes.now c.requires.input (state_of old) _ c.root_height-height.result.0 f
     (λ flow. c.root_height-height.ensures.size (subst (λ (b : Block). is_solid b.inside ≡ false) (sym c.block_at-block.ensures.value) flow)) wrote
+
+pub length_at-depth-requires : goal.length_at-depth-requires
+length_at-depth-requires c =
+    let f = c.requires.known.knows.fits in
+    let old = c.args.flow.now in
+    let done = c.in_ok-place_up_to.ensures {u = tt} in
+    let goes = placed_on c.args.boxes.now old.marks.items c.settle.new.marks.items old.placing c.place_up_to.new.placing c.requires.known.places _ c.requires.input.is_tree.tree c.requires.known.are
+    (let early = c.requires.known.knows.early in let few = f.first_most in let within = f.within in omega (arith, early, few, within)) c.requires.known.knows.placed
+    (let early = c.requires.known.knows.early in let settles = rw c.deref.ensures.value at c.settle.ensures in λ j lt. settles.before j (omega (arith, lt, early))) (rw c.deref-2.ensures.value at done.placed) in
+    let l = goes.to.extents_length in let some = c.requires.input.is_tree.some in
+    let there : 0 < length c.place_up_to.new.placing.extents.items = omega (arith, l, some) in
+    rw c.deref-4.ensures.value there
+
+pub root_height-height-requires-clause-mark : goal.root_height-height-requires-clause-mark
+root_height-height-requires-clause-mark c =
+    let f = c.requires.known.knows.fits in
+    let marked = rw c.deref-3.ensures.value at c.length_at-mark.ensures in
+    let settles = rw c.deref.ensures.value at c.settle.ensures in
+    subst IsNear (sym marked) (mark_is_near (weight c.args.boxes.now 0) _ (light_at c.args.boxes.now c.requires.input 0 (omega arith))
+    (near_tops c.args.boxes.now c.requires.input (state_of c.args.flow.now) _ c.end_of-end.result.0 f c.end_of-end.ensures.near settles 0))

@@ -1,4 +1,4 @@
-use Rattle.std.proofs.Common.{◌≡◌, ℕ, false, arith, subst, sym, List, ap, ◌∙◌, length, refl}
+use Rattle.std.proofs.Common.{◌≡◌, ◌<◌, ℕ, false, arith, subst, sym, List, ap, ◌∙◌, length, refl}
 use Rattle.std.proofs.lemmas.Int.{ints}
 use Rattle.lay_units.specs.Units.{IsPosition}
 use Rattle.lay_units.specs.declared.length.Unit.{Unit as Length}
@@ -61,14 +61,14 @@ height_to_margin-height-requires-clause-lines c lines =
     let f = c.requires.known.knows.fits in let a = f.parent in let b = f.within in
     let old = c.args.flow.now in
     let done = c.in_ok-place_up_to.ensures {u = tt} in
-    let goes = placed_on c.args.boxes.now old.marks.items c.deref-2.result.now old.placing c.place_up_to.new.placing c.requires.known.places _ c.requires.input.is_tree.tree c.requires.known.are
+    let goes = placed_on c.args.boxes.now old.marks.items c.settle.new.marks.items old.placing c.place_up_to.new.placing c.requires.known.places _ c.requires.input.is_tree.tree c.requires.known.are
     (let early = c.requires.known.knows.early in let few = f.first_most in let within = f.within in omega (arith, early, few, within)) c.requires.known.knows.placed
-    (let early = c.requires.known.knows.early in let settles = rw c.deref.ensures.value at c.settle.ensures in λ j lt. rw c.deref-2.ensures.value (settles.before j (omega (arith, lt, early)))) done.placed in
+    (let early = c.requires.known.knows.early in let settles = rw c.deref.ensures.value at c.settle.ensures in λ j lt. settles.before j (omega (arith, lt, early))) (rw c.deref-2.ensures.value at done.placed) in
     let block = c.block_at-block.ensures.value in
     let marked = rw c.deref-3.ensures.value at c.length_at-mark.ensures in
     let depth = rw c.deref-4.ensures.value at c.length_at.ensures in
     let there = rw block at lines in
-    rw (block, depth, marked) (line_depth c.args.boxes.now c.requires.input c.deref-2.result.now (placing_of c.place_up_to.new.placing goes.places) c.args.m goes.to c.args.p a b there)
+    rw (block, depth, marked) (line_depth c.args.boxes.now c.requires.input c.settle.new.marks.items (placing_of c.place_up_to.new.placing goes.places) c.args.m goes.to c.args.p a b there)
 
 pub sum_of-flow-requires-clause-a : goal.sum_of-flow-requires-clause-a
 sum_of-flow-requires-clause-a c =
@@ -88,10 +88,10 @@ sum_of-flow-requires-clause-b c =
     let near = marks_settled c.args.boxes.now c.requires.input.is_tree.tree (state_of c.args.flow.now) p c.args.m c.requires.positive f _ c.end_of-end.result.0 settles c.end_of-end.ensures.near p in
     let old = c.args.flow.now in
     let done = c.in_ok-place_up_to.ensures {u = tt} in
-    let goes = placed_on c.args.boxes.now old.marks.items c.deref-2.result.now old.placing c.place_up_to.new.placing c.requires.known.places _ c.requires.input.is_tree.tree c.requires.known.are
+    let goes = placed_on c.args.boxes.now old.marks.items c.settle.new.marks.items old.placing c.place_up_to.new.placing c.requires.known.places _ c.requires.input.is_tree.tree c.requires.known.are
     (let early = c.requires.known.knows.early in let few = f.first_most in let within = f.within in omega (arith, early, few, within)) c.requires.known.knows.placed
-    (let early = c.requires.known.knows.early in let settles = rw c.deref.ensures.value at c.settle.ensures in λ j lt. rw c.deref-2.ensures.value (settles.before j (omega (arith, lt, early)))) done.placed in
-    let placed = rw c.deref-2.ensures.value at goes.to in
+    (let early = c.requires.known.knows.early in let settles = rw c.deref.ensures.value at c.settle.ensures in λ j lt. settles.before j (omega (arith, lt, early))) (rw c.deref-2.ensures.value at done.placed) in
+    let placed = goes.to in
     let extent = rw c.deref-4.ensures.value at c.length_at.ensures in
     let height = rw (block, extent) at c.height_to_margin-height.ensures.value in
     true_or (is_solid (block_at c.args.boxes.now p).inside) (IsPosition c.height_to_margin-height.result.0)
@@ -111,10 +111,10 @@ returns c =
     let settles = rw c.deref.ensures.value at c.settle.ensures in
     let old = c.args.flow.now in
     let done = c.in_ok-place_up_to.ensures {u = tt} in
-    let goes = placed_on c.args.boxes.now old.marks.items c.deref-2.result.now old.placing c.place_up_to.new.placing c.requires.known.places _ c.requires.input.is_tree.tree c.requires.known.are
+    let goes = placed_on c.args.boxes.now old.marks.items c.settle.new.marks.items old.placing c.place_up_to.new.placing c.requires.known.places _ c.requires.input.is_tree.tree c.requires.known.are
     (let early = c.requires.known.knows.early in let few = f.first_most in let within = f.within in omega (arith, early, few, within)) c.requires.known.knows.placed
-    (let early = c.requires.known.knows.early in let settles = rw c.deref.ensures.value at c.settle.ensures in λ j lt. rw c.deref-2.ensures.value (settles.before j (omega (arith, lt, early)))) done.placed in
-    let placed = rw c.deref-2.ensures.value at goes.to in
+    (let early = c.requires.known.knows.early in let settles = rw c.deref.ensures.value at c.settle.ensures in λ j lt. settles.before j (omega (arith, lt, early))) (rw c.deref-2.ensures.value at done.placed) in
+    let placed = goes.to in
     let extent = rw c.deref-4.ensures.value at c.length_at.ensures in
     let height = rw (block, extent) at c.height_to_margin-height.ensures.value in
     let size : is_solid (block_at c.args.boxes.now p).inside ≡ false → IsBoxSize c.height_to_margin-height.result.0 = λ flow. c.height_to_margin-height.ensures.size (subst (λ (b : Block). is_solid b.inside ≡ false) (sym block) flow) in
@@ -126,3 +126,15 @@ returns c =
     _ _ (placing_of c.place_up_to.new.placing goes.places) c.end_of-end.result.0 c.length_at-mark.result.0 c.height_to_margin-height.result.0 c.sum_of-flow.result.0 c.lone_margin-flow.result c.requires.parted c.requires.settled
     ends c.end_of-end.ensures.near settles placed (subst (λ (n : ℕ). AreExtentsKept c.args.boxes.now n old.placing.extents.items c.place_up_to.new.placing.extents.items) (sym (places_count old.placing c.requires.known.places c.requires.known.are)) done.kept) goes.same marked size height starts wrote
     c.lone_margin-flow.ensures.fits holds }
+
+pub length_at-requires : goal.length_at-requires
+length_at-requires c =
+    let f = c.requires.known.knows.fits in
+    let old = c.args.flow.now in
+    let done = c.in_ok-place_up_to.ensures {u = tt} in
+    let goes = placed_on c.args.boxes.now old.marks.items c.settle.new.marks.items old.placing c.place_up_to.new.placing c.requires.known.places _ c.requires.input.is_tree.tree c.requires.known.are
+    (let early = c.requires.known.knows.early in let few = f.first_most in let within = f.within in omega (arith, early, few, within)) c.requires.known.knows.placed
+    (let early = c.requires.known.knows.early in let settles = rw c.deref.ensures.value at c.settle.ensures in λ j lt. settles.before j (omega (arith, lt, early))) (rw c.deref-2.ensures.value at done.placed) in
+    let l = goes.to.extents_length in let a = f.parent in let b = f.within in
+    let there : c.args.p < length c.place_up_to.new.placing.extents.items = omega (arith, l, a, b) in
+    rw c.deref-4.ensures.value there

@@ -9,6 +9,7 @@ use Rattle.lay_flow.specs.Weights.{weight}
 use Rattle.lay_flow.proofs.PassFits.{start_is_near, end_near, mark_is_near}
 use Rattle.lay_flow.proofs.PassSteps.{knows_parting}
 use Rattle.lay_flow.proofs.RunReach.{RunEnds}
+use Rattle.lay_flow.proofs.LaidLines.{inset_position}
 use Rattle.lay_flow.proofs.margin_steps.open_parting.Goals as goal
 
 pub end_of-mark-requires-clause-start : goal.end_of-mark-requires-clause-start
@@ -33,3 +34,6 @@ returns c =
     record { places = c.requires.ready.places; are = c.requires.ready.are; knows = knows_parting c.args.boxes.now c.requires.input.is_tree.tree (state_of old) (placing_of old.placing c.requires.ready.places) c.args.k _ c.end_of-mark.result.0 c.sum_of-flow.result.0 c.with_margin-strut.result c.no_margin-flow.result
     c.requires.input c.requires.positive c.requires.within c.requires.parting c.requires.ready.ready holds ends c.end_of-mark.ensures.near
     settles starts c.no_margin-flow.ensures.fits c.no_margin-flow.ensures.holds }
+
+pub sum_of-flow-requires-clause-b : goal.sum_of-flow-requires-clause-b
+sum_of-flow-requires-clause-b c = inset_position c.block_at-block.result.edge_top.0 c.block_at-block.ensures.fits.edge_top

@@ -3,9 +3,6 @@ use Rattle.lay_flow.specs.Pass.Known.{GoesOn}
 use Rattle.lay_flow.proofs.PlacedOn.{goes_further, goes_nowhere, placed_further}
 use Rattle.lay_flow.proofs.placement.place_up_to.Goals as goal
 
-pub loop-k-starts : goal.loop-k-starts
-loop-k-starts c = (omega arith, c.requires.known, goes_nowhere c.args.boxes.now c.args.marks.now c.args.placing.now _, λ j e. refl)
-
 pub loop-k-preserved : goal.loop-k-preserved
 loop-k-preserved c =
     let inv = c.loop-k.invariant in
