@@ -97,3 +97,7 @@ goes_further boxes marks old mid new n k m first le then places are to =
     let next = then there.places there.are there.to in
     let a = to.places_length in let b = there.to.places_length in
     record { places = next.places; are = next.are; to = next.to; same = λ j lt. next.same j (omega (arith, lt, a, b, le)) ∙ there.same j lt }
+
+-- the depths have an entry for each box
+pub within_extents : (boxes : List FlowBox) (marks : List Length) (now : PlacingState) (before : List Placement) (m : ℕ) → ArePlacedOn boxes marks now before m → (k : ℕ) → k < length boxes → k < length now.extents.items
+within_extents boxes marks now before m goes k lt = let l = goes.to.extents_length in omega (arith, l, lt)

@@ -11,6 +11,7 @@ use Rattle.lay_flow.proofs.WeightFacts.{light_at, weight_up}
 use Rattle.lay_flow.specs.Weights.{weight}
 use Rattle.lay_flow.proofs.ClearSteps.{ready_cleared}
 use Rattle.lay_flow.proofs.PassFits.{start_is_near, end_near, settled_near}
+use Rattle.lay_flow.specs.Pass.Known.{ArePlacedOn, IsReadyAt}
 use Rattle.lay_flow.proofs.PlacedOn.{edge_known, kept_places, placed_on, places_count}
 use Rattle.lay_flow.proofs.PlaceSteps.{lower_near}
 use Rattle.lay_flow.proofs.RunReach.{RunEnds}
@@ -52,9 +53,10 @@ returns c =
     let settles = rw c.deref.ensures.value at c.settle.ensures in
     let f = known.fits in
     let done = c.in_ok-place_up_to.ensures {u = tt} in
-    let goes = placed_on c.args.boxes.now old.marks.items c.settle.new.marks.items old.placing c.place_up_to.new.placing c.requires.known.places _ c.requires.input.is_tree.tree c.requires.known.are
+    let there = placed_on c.args.boxes.now old.marks.items c.settle.new.marks.items old.placing c.place_up_to.new.placing c.requires.known.places c.args.k c.requires.input.is_tree.tree c.requires.known.are
     (let early = c.requires.known.knows.early in let few = f.first_most in let within = f.within in omega (arith, early, few, within)) c.requires.known.knows.placed
     (let early = c.requires.known.knows.early in let settles = rw c.deref.ensures.value at c.settle.ensures in λ j lt. settles.before j (omega (arith, lt, early))) (rw c.deref-2.ensures.value at done.placed) in
+    let go : ArePlacedOn c.args.boxes.now c.settle.new.marks.items c.place_up_to.new.placing c.requires.known.places c.args.k → IsReadyAt c.args.boxes.now (record c.args.flow.now { marks = c.settle.new.marks; clears = c.write_flag.new.flags; clear_edges = c.write_at.new.column; start = c.lower_of-edge.result; strut = c.no_margin-flow.result; first = c.args.k; hangs = true; placing = c.place_up_to.new.placing }) c.args.k = λ goes.
     let placed = goes.to in
     let edge = c.lower_of-edge.result in
     let is_bottom = subst (λ (s : Clear). IsClearEdge c.place_up_to.new.placing.floats s c.clear_edge-bottom.result) c.clear_at.ensures c.clear_edge-bottom.ensures in
@@ -67,4 +69,5 @@ returns c =
     record { places = goes.places; are = goes.are; ready = ready_cleared c.args.boxes.now c.requires.input.is_tree.tree c.requires.input.is_tree (state_of old) (placing_of old.placing c.requires.known.places) k c.requires.positive within known
     c.args.hypothetical.0 c.requires.flows (places_count old.placing c.requires.known.places c.requires.known.are ∙ c.requires.settled) (edge_known c.args.boxes.now (state_of old) old.placing c.requires.known.places c.requires.known.are k c.args.hypothetical.0 c.requires.edge) c.requires.decides
     _ _ _ (placing_of c.place_up_to.new.placing goes.places) c.end_of-end.result.0 edge.0 c.clear_edge-bottom.result c.no_margin-flow.result
-    ends c.end_of-end.ensures.near settles placed (subst (λ (n : ℕ). AreExtentsKept c.args.boxes.now n old.placing.extents.items c.place_up_to.new.placing.extents.items) (sym (places_count old.placing c.requires.known.places c.requires.known.are)) done.kept) goes.same is_bottom c.lower_of-edge.ensures near flag wrote c.no_margin-flow.ensures.fits c.no_margin-flow.ensures.holds }
+    ends c.end_of-end.ensures.near settles placed (subst (λ (n : ℕ). AreExtentsKept c.args.boxes.now n old.placing.extents.items c.place_up_to.new.placing.extents.items) (sym (places_count old.placing c.requires.known.places c.requires.known.are)) done.kept) goes.same is_bottom c.lower_of-edge.ensures near flag wrote c.no_margin-flow.ensures.fits c.no_margin-flow.ensures.holds } in
+    go there

@@ -7,12 +7,13 @@ use Rattle.lay_flow.specs.Lengths.{length_at}
 use Rattle.lay_flow.specs.BlockPositions.{border_height, is_solid}
 use Rattle.lay_flow.specs.BlockSizes.{IsNear}
 use Rattle.lay_flow.specs.Weights.{weight}
-use Rattle.lay_flow.specs.Pass.Bounds.{held_end, state_of, IsMarkNear}
+use Rattle.lay_flow.specs.Pass.Bounds.{IsLineDepth, held_end, state_of, IsMarkNear}
 use Rattle.lay_flow.specs.Pass.Knows.{AreExtentsKept}
 use Rattle.lay_flow.specs.Pass.Known.{placing_of}
 use Rattle.lay_flow.proofs.SoFar.{Wrote}
 use Rattle.lay_flow.proofs.PassFits.{start_is_near, mark_is_near, end_near}
-use Rattle.lay_flow.proofs.PlacedOn.{kept_places, line_depth, placed_on, places_count}
+use Rattle.lay_flow.specs.Pass.Known.{ArePlacedOn, IsFinished}
+use Rattle.lay_flow.proofs.PlacedOn.{kept_places, line_depth, placed_on, places_count, within_extents}
 use Rattle.lay_flow.proofs.WeightFacts.{light_at, weight_up}
 use Rattle.lay_flow.proofs.PlaceSteps.{clear_edge_position}
 use Rattle.lay_flow.proofs.PassEnds.{all_places, near_tops, sized_boxes}
@@ -47,10 +48,11 @@ root_height-height-requires-clause-floats c =
     let done = c.in_ok-place_up_to.ensures {u = tt} in
     let old = c.args.flow.now in
     let fits = c.requires.known.knows.fits in
-    let goes = placed_on c.args.boxes.now old.marks.items c.settle.new.marks.items old.placing c.place_up_to.new.placing c.requires.known.places _ c.requires.input.is_tree.tree c.requires.known.are
+    let there = placed_on c.args.boxes.now old.marks.items c.settle.new.marks.items old.placing c.place_up_to.new.placing c.requires.known.places (length c.args.boxes.now) c.requires.input.is_tree.tree c.requires.known.are
     (let early = c.requires.known.knows.early in let few = fits.first_most in let within = fits.within in omega (arith, early, few, within)) c.requires.known.knows.placed
     (let early = c.requires.known.knows.early in let settles = rw c.deref.ensures.value at c.settle.ensures in λ j lt. settles.before j (omega (arith, lt, early))) (rw c.deref-2.ensures.value at done.placed) in
-    clear_edge_position (weight c.args.boxes.now (length c.args.boxes.now)) _ clear_both c.clear_edge-bottom.result c.requires.input.light goes.to.within c.clear_edge-bottom.ensures
+    (λ (goes : ArePlacedOn c.args.boxes.now c.settle.new.marks.items c.place_up_to.new.placing c.requires.known.places (length c.args.boxes.now)).
+    clear_edge_position (weight c.args.boxes.now (length c.args.boxes.now)) _ clear_both c.clear_edge-bottom.result c.requires.input.light goes.to.within c.clear_edge-bottom.ensures) there
 
 pub root_end-requires-clause-margin : goal.root_end-requires-clause-margin
 root_end-requires-clause-margin c =
@@ -63,15 +65,17 @@ root_end-requires-clause-lines c lines =
     let done = c.in_ok-place_up_to.ensures {u = tt} in
     let old = c.args.flow.now in
     let fits = c.requires.known.knows.fits in
-    let goes = placed_on c.args.boxes.now old.marks.items c.settle.new.marks.items old.placing c.place_up_to.new.placing c.requires.known.places _ c.requires.input.is_tree.tree c.requires.known.are
+    let there = placed_on c.args.boxes.now old.marks.items c.settle.new.marks.items old.placing c.place_up_to.new.placing c.requires.known.places (length c.args.boxes.now) c.requires.input.is_tree.tree c.requires.known.are
     (let early = c.requires.known.knows.early in let few = fits.first_most in let within = fits.within in omega (arith, early, few, within)) c.requires.known.knows.placed
     (let early = c.requires.known.knows.early in let settles = rw c.deref.ensures.value at c.settle.ensures in λ j lt. settles.before j (omega (arith, lt, early))) (rw c.deref-2.ensures.value at done.placed) in
+    let go : ArePlacedOn c.args.boxes.now c.settle.new.marks.items c.place_up_to.new.placing c.requires.known.places (length c.args.boxes.now) → IsLineDepth c.length_at-mark.result.0 c.block_at-block.result.edge_top.0 c.length_at-depth.result.0 = λ goes.
     let some = c.requires.input.is_tree.some in
     let block = c.block_at-block.ensures.value in
     let marked = rw c.deref-3.ensures.value at c.length_at-mark.ensures in
     let depth = rw c.deref-4.ensures.value at c.length_at-depth.ensures in
     let there = rw block at lines in
-    rw (block, depth, marked) (line_depth c.args.boxes.now c.requires.input c.settle.new.marks.items (placing_of c.place_up_to.new.placing goes.places) (length c.args.boxes.now) goes.to 0 some (omega arith) there)
+    rw (block, depth, marked) (line_depth c.args.boxes.now c.requires.input c.settle.new.marks.items (placing_of c.place_up_to.new.placing goes.places) (length c.args.boxes.now) goes.to 0 some (omega arith) there) in
+    go there
 
 pub returns-clause-finished : goal.returns-clause-finished
 returns-clause-finished c =
@@ -83,9 +87,10 @@ returns-clause-finished c =
     let done = c.in_ok-place_up_to.ensures {u = tt} in
     let old = c.args.flow.now in
     let fits = c.requires.known.knows.fits in
-    let goes = placed_on c.args.boxes.now old.marks.items c.settle.new.marks.items old.placing c.place_up_to.new.placing c.requires.known.places _ c.requires.input.is_tree.tree c.requires.known.are
+    let there = placed_on c.args.boxes.now old.marks.items c.settle.new.marks.items old.placing c.place_up_to.new.placing c.requires.known.places (length c.args.boxes.now) c.requires.input.is_tree.tree c.requires.known.are
     (let early = c.requires.known.knows.early in let few = fits.first_most in let within = fits.within in omega (arith, early, few, within)) c.requires.known.knows.placed
     (let early = c.requires.known.knows.early in let settles = rw c.deref.ensures.value at c.settle.ensures in λ j lt. settles.before j (omega (arith, lt, early))) (rw c.deref-2.ensures.value at done.placed) in
+    let go : ArePlacedOn c.args.boxes.now c.settle.new.marks.items c.place_up_to.new.placing c.requires.known.places (length c.args.boxes.now) → IsFinished c.args.boxes.now (record c.args.flow.now { marks = c.settle.new.marks; heights = c.write_at.new.column; placing = c.place_up_to.new.placing }) = λ goes.
     let placed = goes.to in
     let placing = placing_of c.place_up_to.new.placing goes.places in
     let over = c.root_end.ensures.value ∙ (λ i. held_end (block i).inside (c.length_at-mark.result.0 +ℤ (block i).edge_top.0) (depth i) c.end_of-end.result.0) in
@@ -102,7 +107,8 @@ returns-clause-finished c =
           c.end_of-end.result.0 c.root_end.result.0 c.length_at-mark.result.0 c.root_height-height.result.0 c.requires.known.knows ends settles placed kept goes.same c.clear_edge-bottom.ensures
           marked over is_height wrote_height;
       near = goes.to.near;
-    }
+    } in
+    go there
 
 pub returns-clause-near : goal.returns-clause-near
 returns-clause-near c k lt =
@@ -126,12 +132,10 @@ length_at-depth-requires c =
     let f = c.requires.known.knows.fits in
     let old = c.args.flow.now in
     let done = c.in_ok-place_up_to.ensures {u = tt} in
-    let goes = placed_on c.args.boxes.now old.marks.items c.settle.new.marks.items old.placing c.place_up_to.new.placing c.requires.known.places _ c.requires.input.is_tree.tree c.requires.known.are
+    let there = placed_on c.args.boxes.now old.marks.items c.settle.new.marks.items old.placing c.place_up_to.new.placing c.requires.known.places (length c.args.boxes.now) c.requires.input.is_tree.tree c.requires.known.are
     (let early = c.requires.known.knows.early in let few = f.first_most in let within = f.within in omega (arith, early, few, within)) c.requires.known.knows.placed
     (let early = c.requires.known.knows.early in let settles = rw c.deref.ensures.value at c.settle.ensures in λ j lt. settles.before j (omega (arith, lt, early))) (rw c.deref-2.ensures.value at done.placed) in
-    let l = goes.to.extents_length in let some = c.requires.input.is_tree.some in
-    let there : 0 < length c.place_up_to.new.placing.extents.items = omega (arith, l, some) in
-    rw c.deref-4.ensures.value there
+    rw c.deref-4.ensures.value (within_extents c.args.boxes.now c.settle.new.marks.items c.place_up_to.new.placing c.requires.known.places (length c.args.boxes.now) there 0 c.requires.input.is_tree.some)
 
 pub root_height-height-requires-clause-mark : goal.root_height-height-requires-clause-mark
 root_height-height-requires-clause-mark c =

@@ -20,11 +20,11 @@ finish-requires-clause-known c =
 pub returns-clause-columns : goal.returns-clause-columns
 returns-clause-columns c =
     let done = (c.in_ok-finish.ensures {u = tt}).finished in
-    let corners = c.in_ok-line_corners.ensures {u = tt} in
-    columns_of c.args.boxes.now c.finish.new.flow _ c.in_ok-line_corners.corners.items done (rw c.deref.ensures.value at corners) refl refl refl refl refl
+    let corners = c.in_ok-corners.ensures {u = tt} in
+    columns_of c.args.boxes.now c.finish.new.flow _ c.in_ok-corners.corners.items done (rw c.deref.ensures.value at corners) refl refl refl refl refl
 
 pub returns-clause-near : goal.returns-clause-near
 returns-clause-near c =
     let done = c.in_ok-finish.ensures {u = tt} in
-    let corners = c.in_ok-line_corners.ensures {u = tt} in
-    near_columns c.args.boxes.now c.finish.new.flow _ c.in_ok-line_corners.corners.items done.finished (rw c.deref.ensures.value at corners) refl refl refl refl refl c.requires.input done.near done.sized
+    let corners = c.in_ok-corners.ensures {u = tt} in
+    near_columns c.args.boxes.now c.finish.new.flow _ c.in_ok-corners.corners.items done.finished (rw c.deref.ensures.value at corners) refl refl refl refl refl c.requires.input done.near done.sized

@@ -2,6 +2,7 @@ use Rattle.std.proofs.Common.{ℕ, ◌≡◌, ◌<◌, ◌+◌, arith, drop, len
 use Rattle.std.proofs.lemmas.Grind.{elements}
 use Rattle.std.proofs.lemmas.List.{length-replicate}
 use Rattle.lay_floats.specs.declared.requests.Place.{Place}
+use Rattle.lay_floats.specs.declared.requests.NodePlace.{NodePlace}
 use Rattle.lay_flow.specs.BlockFloats.{no_place}
 use Rattle.lay_flow.specs.FlowPlaces.{place_or}
 use Rattle.lay_flow.specs.Pass.Columns.{corner_at, joined}
@@ -18,7 +19,7 @@ loop-k-preserved c =
     let inv = c.loop-k.invariant in
     let wrote = c.write_all.ensures in
     let l = inv.0 in
-    (wrote.length_is ∙ l, λ k lt. ap (λ (p : Place). place_or p k (joined (drop (c.loop-k.k + 1) c.args.met.now))) (wrote.each k (omega (arith, l, lt))) ∙ sym (drop_list k (corner_at c.loop-k.corners.items k) c.args.met.now c.loop-k.k _ c.loop-k-test.true) ∙ inv.1 k lt)
+    (wrote.length_is ∙ l, λ k lt. ap (λ (p : Place). place_or p k (joined (drop (c.loop-k.k + 1) c.args.met.now))) (wrote.each k (omega (arith, l, lt)) ∙ ap (λ (ps : List NodePlace). place_or (corner_at c.loop-k.corners.items k) k ps) (c.as_slice.ensures ∙ c.index-met-k.is)) ∙ sym (drop_list k (corner_at c.loop-k.corners.items k) c.args.met.now c.loop-k.k c.index-met-k.result c.loop-k-test.true) ∙ inv.1 k lt)
 
 pub returns : goal.returns
 returns c = record {

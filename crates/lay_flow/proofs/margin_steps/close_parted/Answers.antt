@@ -7,14 +7,16 @@ use Rattle.lay_flow.specs.Lengths.{length_at}
 use Rattle.lay_flow.specs.BlockSizes.{IsBoxSize, IsNear}
 use Rattle.lay_flow.specs.BlockPositions.{is_solid}
 use Rattle.lay_flow.specs.MarginRuns.{block_at}
-use Rattle.lay_flow.specs.Pass.Bounds.{state_of, IsMarkNear}
+use Rattle.lay_flow.specs.Pass.Bounds.{IsLineDepth, state_of, IsMarkNear}
+use Rattle.lay_flow.specs.Boxes.{parent_at}
 use Rattle.lay_flow.specs.Pass.Known.{placing_of}
 use Rattle.lay_flow.proofs.WeightFacts.{light_at, weight_up}
 use Rattle.lay_flow.specs.Weights.{weight}
 use Rattle.lay_flow.proofs.SoFar.{Wrote}
 use Rattle.lay_flow.proofs.PassFits.{start_is_near, mark_is_near, marks_settled, end_near, box_height_position, extent_position}
 use Rattle.lay_flow.proofs.PassSteps.{knows_parted}
-use Rattle.lay_flow.proofs.PlacedOn.{kept_places, line_depth, placed_on, places_count}
+use Rattle.lay_flow.specs.Pass.Known.{ArePlacedOn, IsKnown}
+use Rattle.lay_flow.proofs.PlacedOn.{kept_places, line_depth, placed_on, places_count, within_extents}
 use Rattle.lay_flow.specs.Pass.Knows.{AreExtentsKept}
 use Rattle.lay_flow.proofs.RunReach.{RunEnds}
 use Rattle.lay_flow.proofs.Truths.{true_or}
@@ -61,14 +63,16 @@ height_to_margin-height-requires-clause-lines c lines =
     let f = c.requires.known.knows.fits in let a = f.parent in let b = f.within in
     let old = c.args.flow.now in
     let done = c.in_ok-place_up_to.ensures {u = tt} in
-    let goes = placed_on c.args.boxes.now old.marks.items c.settle.new.marks.items old.placing c.place_up_to.new.placing c.requires.known.places _ c.requires.input.is_tree.tree c.requires.known.are
+    let there = placed_on c.args.boxes.now old.marks.items c.settle.new.marks.items old.placing c.place_up_to.new.placing c.requires.known.places c.args.m c.requires.input.is_tree.tree c.requires.known.are
     (let early = c.requires.known.knows.early in let few = f.first_most in let within = f.within in omega (arith, early, few, within)) c.requires.known.knows.placed
     (let early = c.requires.known.knows.early in let settles = rw c.deref.ensures.value at c.settle.ensures in λ j lt. settles.before j (omega (arith, lt, early))) (rw c.deref-2.ensures.value at done.placed) in
+    let go : ArePlacedOn c.args.boxes.now c.settle.new.marks.items c.place_up_to.new.placing c.requires.known.places c.args.m → IsLineDepth c.length_at-mark.result.0 c.block_at-block.result.edge_top.0 c.length_at.result.0 = λ goes.
     let block = c.block_at-block.ensures.value in
     let marked = rw c.deref-3.ensures.value at c.length_at-mark.ensures in
     let depth = rw c.deref-4.ensures.value at c.length_at.ensures in
     let there = rw block at lines in
-    rw (block, depth, marked) (line_depth c.args.boxes.now c.requires.input c.settle.new.marks.items (placing_of c.place_up_to.new.placing goes.places) c.args.m goes.to c.args.p a b there)
+    rw (block, depth, marked) (line_depth c.args.boxes.now c.requires.input c.settle.new.marks.items (placing_of c.place_up_to.new.placing goes.places) c.args.m goes.to c.args.p a b there) in
+    go there
 
 pub sum_of-flow-requires-clause-a : goal.sum_of-flow-requires-clause-a
 sum_of-flow-requires-clause-a c =
@@ -86,19 +90,22 @@ sum_of-flow-requires-clause-b c =
     let block = c.block_at-block.ensures.value in
     let settles = rw c.deref.ensures.value at c.settle.ensures in
     let near = marks_settled c.args.boxes.now c.requires.input.is_tree.tree (state_of c.args.flow.now) p c.args.m c.requires.positive f _ c.end_of-end.result.0 settles c.end_of-end.ensures.near p in
+    let light_p = light_at c.args.boxes.now c.requires.input p (omega (arith, a, b)) in
+    let light_m = light_at c.args.boxes.now c.requires.input c.args.m b in
     let old = c.args.flow.now in
     let done = c.in_ok-place_up_to.ensures {u = tt} in
-    let goes = placed_on c.args.boxes.now old.marks.items c.settle.new.marks.items old.placing c.place_up_to.new.placing c.requires.known.places _ c.requires.input.is_tree.tree c.requires.known.are
+    let there = placed_on c.args.boxes.now old.marks.items c.settle.new.marks.items old.placing c.place_up_to.new.placing c.requires.known.places c.args.m c.requires.input.is_tree.tree c.requires.known.are
     (let early = c.requires.known.knows.early in let few = f.first_most in let within = f.within in omega (arith, early, few, within)) c.requires.known.knows.placed
     (let early = c.requires.known.knows.early in let settles = rw c.deref.ensures.value at c.settle.ensures in λ j lt. settles.before j (omega (arith, lt, early))) (rw c.deref-2.ensures.value at done.placed) in
+    (λ (goes : ArePlacedOn c.args.boxes.now c.settle.new.marks.items c.place_up_to.new.placing c.requires.known.places c.args.m).
     let placed = goes.to in
     let extent = rw c.deref-4.ensures.value at c.length_at.ensures in
     let height = rw (block, extent) at c.height_to_margin-height.ensures.value in
     true_or (is_solid (block_at c.args.boxes.now p).inside) (IsPosition c.height_to_margin-height.result.0)
     (λ solid. let low = placed.low p c.requires.positive f.parent solid in
     let h : c.height_to_margin-height.result.0 ≡ length_at c.place_up_to.new.placing.extents.items p = height ∙ rw solid refl in
-    subst IsPosition (sym h) (extent_position (weight c.args.boxes.now c.args.m) _ _ (light_at c.args.boxes.now c.requires.input c.args.m b) (mark_is_near (weight c.args.boxes.now p) _ (light_at c.args.boxes.now c.requires.input p (omega (arith, a, b))) near) low.0 low.1))
-    (λ flow. box_height_position c.height_to_margin-height.result.0 (c.height_to_margin-height.ensures.size (subst (λ (b : Block). is_solid b.inside ≡ false) (sym block) flow)))
+    subst IsPosition (sym h) (extent_position (weight c.args.boxes.now c.args.m) _ _ light_m (mark_is_near (weight c.args.boxes.now p) _ light_p near) low.0 low.1))
+    (λ flow. box_height_position c.height_to_margin-height.result.0 (c.height_to_margin-height.ensures.size (subst (λ (b : Block). is_solid b.inside ≡ false) (sym block) flow)))) there
 
 pub returns : goal.returns
 returns c =
@@ -111,9 +118,10 @@ returns c =
     let settles = rw c.deref.ensures.value at c.settle.ensures in
     let old = c.args.flow.now in
     let done = c.in_ok-place_up_to.ensures {u = tt} in
-    let goes = placed_on c.args.boxes.now old.marks.items c.settle.new.marks.items old.placing c.place_up_to.new.placing c.requires.known.places _ c.requires.input.is_tree.tree c.requires.known.are
+    let there = placed_on c.args.boxes.now old.marks.items c.settle.new.marks.items old.placing c.place_up_to.new.placing c.requires.known.places c.args.m c.requires.input.is_tree.tree c.requires.known.are
     (let early = c.requires.known.knows.early in let few = f.first_most in let within = f.within in omega (arith, early, few, within)) c.requires.known.knows.placed
     (let early = c.requires.known.knows.early in let settles = rw c.deref.ensures.value at c.settle.ensures in λ j lt. settles.before j (omega (arith, lt, early))) (rw c.deref-2.ensures.value at done.placed) in
+    let go : ArePlacedOn c.args.boxes.now c.settle.new.marks.items c.place_up_to.new.placing c.requires.known.places c.args.m → IsKnown c.args.boxes.now (record c.args.flow.now { marks = c.settle.new.marks; heights = c.write_at.new.column; start = c.sum_of-flow.result; strut = c.lone_margin-flow.result; first = c.args.m; hangs = false; placing = c.place_up_to.new.placing }) (parent_at c.args.boxes.now c.args.p) c.args.m = λ goes.
     let placed = goes.to in
     let extent = rw c.deref-4.ensures.value at c.length_at.ensures in
     let height = rw (block, extent) at c.height_to_margin-height.ensures.value in
@@ -125,16 +133,17 @@ returns c =
     record { places = goes.places; are = goes.are; knows = knows_parted c.args.boxes.now c.requires.input.is_tree.tree (state_of old) (placing_of old.placing c.requires.known.places) p c.args.m c.requires.input c.requires.positive c.requires.ends c.requires.known.knows
     _ _ (placing_of c.place_up_to.new.placing goes.places) c.end_of-end.result.0 c.length_at-mark.result.0 c.height_to_margin-height.result.0 c.sum_of-flow.result.0 c.lone_margin-flow.result c.requires.parted c.requires.settled
     ends c.end_of-end.ensures.near settles placed (subst (λ (n : ℕ). AreExtentsKept c.args.boxes.now n old.placing.extents.items c.place_up_to.new.placing.extents.items) (sym (places_count old.placing c.requires.known.places c.requires.known.are)) done.kept) goes.same marked size height starts wrote
-    c.lone_margin-flow.ensures.fits holds }
+    c.lone_margin-flow.ensures.fits holds } in
+    go there
 
 pub length_at-requires : goal.length_at-requires
 length_at-requires c =
     let f = c.requires.known.knows.fits in
     let old = c.args.flow.now in
     let done = c.in_ok-place_up_to.ensures {u = tt} in
-    let goes = placed_on c.args.boxes.now old.marks.items c.settle.new.marks.items old.placing c.place_up_to.new.placing c.requires.known.places _ c.requires.input.is_tree.tree c.requires.known.are
+    let a = f.parent in let b = f.within in
+    let inner : c.args.p < length c.args.boxes.now = omega (arith, a, b) in
+    let there = placed_on c.args.boxes.now old.marks.items c.settle.new.marks.items old.placing c.place_up_to.new.placing c.requires.known.places c.args.m c.requires.input.is_tree.tree c.requires.known.are
     (let early = c.requires.known.knows.early in let few = f.first_most in let within = f.within in omega (arith, early, few, within)) c.requires.known.knows.placed
     (let early = c.requires.known.knows.early in let settles = rw c.deref.ensures.value at c.settle.ensures in λ j lt. settles.before j (omega (arith, lt, early))) (rw c.deref-2.ensures.value at done.placed) in
-    let l = goes.to.extents_length in let a = f.parent in let b = f.within in
-    let there : c.args.p < length c.place_up_to.new.placing.extents.items = omega (arith, l, a, b) in
-    rw c.deref-4.ensures.value there
+    rw c.deref-4.ensures.value (within_extents c.args.boxes.now c.settle.new.marks.items c.place_up_to.new.placing c.requires.known.places c.args.m there c.args.p inner)
