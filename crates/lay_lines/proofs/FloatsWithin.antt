@@ -92,16 +92,22 @@ meets_within law m fr y ss k fs st after (suc n) least top all is c =
     (state_wider (further m n + 17179869184) (further m (suc n)) after (omega arith) step.0, omega (arith, a, b))
 
 -- the left edge of a room is that of the container, or of a float
-room_within : (m : ℕ) (fr : Frame) (y : ℤ) (floats : List Placed) (a e : ℤ) → 1125899906842624 ≤ m → FrameWithin fr → All (BoxWithin (pos m)) floats → IsLineRoom fr y floats a e → IsWithin (pos m) a
-room_within m fr y floats a e least frame all room = elim room.start_is.one_of [
+pub room_start : (m : ℕ) (fr : Frame) (y : ℤ) (floats : List Placed) (a e : ℤ) → 1125899906842624 ≤ m → FrameWithin fr → All (BoxWithin (pos m)) floats → IsLineRoom fr y floats a e → IsWithin (pos m) a
+room_start m fr y floats a e least frame all room = elim room.start_is.one_of [
   | inl is ↦ subst (IsWithin (pos m)) (sym is) (wider 1125899906842624 m _ least frame.left)
   | inr w ↦ (let box = at_of (BoxWithin (pos m)) floats w.0 w.1 all w.2 in subst (IsWithin (pos m)) (sym w.3.2) box.right)
+]
+
+pub room_end : (m : ℕ) (fr : Frame) (y : ℤ) (floats : List Placed) (a e : ℤ) → 1125899906842624 ≤ m → FrameWithin fr → All (BoxWithin (pos m)) floats → IsLineRoom fr y floats a e → IsWithin (pos m) e
+room_end m fr y floats a e least frame all room = elim room.end_is.one_of [
+  | inl is ↦ subst (IsWithin (pos m)) (sym is) (wider 1125899906842624 m _ least frame.right)
+  | inr w ↦ (let box = at_of (BoxWithin (pos m)) floats w.0 w.1 all w.2 in subst (IsWithin (pos m)) (sym w.3.2) box.left)
 ]
 
 pub rooms_fit : (m : ℕ) (fr : Frame) (floats : List Placed) (ss : List Stretch) → 1125899906842624 ≤ m → m ≤ 2305843009213693952 → spread_of fr.tab.0 ss ≤ 2 ^ 58 → FrameWithin fr → All (BoxWithin (pos m)) floats
     → RoomsFit fr floats ss
 rooms_fit m fr floats ss least most spread frame all y a e room =
-    let at = room_within m fr y floats a e least frame all room in
+    let at = room_start m fr y floats a e least frame all room in
     let n = m + 1125902054326272 in
     let start : IsWithin (pos n) (start_of fr a) =
     (let low = at.0 in

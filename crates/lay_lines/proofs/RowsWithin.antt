@@ -25,7 +25,7 @@ use Rattle.lay_lines.proofs.Chains.{not_both}
 use Rattle.lay_lines.proofs.LineLists.{map_append_one}
 use Rattle.lay_lines.proofs.Steps.{takes_some, top_fits}
 use Rattle.lay_lines.proofs.PensWithin.{wider, position}
-use Rattle.lay_lines.proofs.FloatsWithin.{at_of, StateWithin, state_wider, FrameWithin, further, meets_within, can_meet_all, top_within, floats_to, fills_within, can_fill, rooms_fit}
+use Rattle.lay_lines.proofs.FloatsWithin.{at_of, StateWithin, state_wider, FrameWithin, further, meets_within, can_meet_all, top_within, floats_to, fills_within, can_fill, room_start, room_end, rooms_fit}
 use Rattle.lay_lines.proofs.Totals.{part_of, total_to, total_to_most, total_split, drop_less}
 
 max_within : (n : ℕ) (v w : ℤ) → IsWithin (pos n) v → IsWithin (pos n) w → IsWithin (pos n) (int_max v w)
@@ -293,8 +293,14 @@ module _ (law : PlaceWithin) (m : ℕ) (p : Position) (w : PositionWithin m p) (
       let h = length f.first.heads in
       let far = m + 274877906944 * weight_to p.rest r.reach.count in
       let wait = few_wait r f in
+      let least = w.least in
+      let filled = filled_within r f in
+      let reach = further (further m h) (floats_to p.rest r.reach.count) in
       record {
         top = wider (further m h) far r.top (omega (arith, wait)) (line_within f.first r.headed r.top f.is f.heads f.top_is);
+        start = wider reach far _ (omega (arith, wait)) (room_start reach p.frame r.top r.filled.floats _ _ (omega (arith, least)) w.frame filled.0.floats f.room_is);
+        end = wider reach far _ (omega (arith, wait)) (room_end reach p.frame r.top r.filled.floats _ _ (omega (arith, least)) w.frame filled.0.floats f.room_is);
+        extent = subst ExtentWithin (sym f.extent_is) (extent_within r.reach.count);
         to = wider (under r f) far r.to (omega (arith, wait)) (under_end r f);
       }
 
@@ -325,7 +331,7 @@ pub record LaidWithin (m : ℕ) (l : Laid) : Type 0 where
   pub rows : All (RowWithin (pos m)) (map ended_of l.rows)
 
 pub row_wider : (n m : ℕ) → n ≤ m → (e : Ended) → RowWithin (pos n) e → RowWithin (pos m) e
-row_wider n m le e is = record { top = wider n m _ le is.top; to = wider n m _ le is.to }
+row_wider n m le e is = record { top = wider n m _ le is.top; start = wider n m _ le is.start; end = wider n m _ le is.end; extent = is.extent; to = wider n m _ le is.to }
 
 abbrev laid_with : List Row → Row → Position → Laid
 laid_with rows r p = record { rows = rows ++ r ∷ []; position = after_row p r }

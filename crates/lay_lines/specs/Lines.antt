@@ -9,7 +9,7 @@ use Rattle.lay_floats.specs.Within.{IsWithin, BoxWithin}
 use Rattle.lay_lines.specs.declared.frame.Frame.{Frame}
 use Rattle.lay_lines.specs.declared.row.Ended.{Ended}
 use Rattle.lay_lines.specs.declared.laying.Lines.{Lines}
-use Rattle.lay_lines.specs.LineContents.{LineContentValue, lines_weight}
+use Rattle.lay_lines.specs.LineContents.{LineContentValue, ExtentWithin, lines_weight}
 use Rattle.lay_lines.specs.Meeting.{none_met}
 use Rattle.lay_lines.specs.Rows.{Position, Laid, AreRows, position_of, ended_of}
 
@@ -41,8 +41,12 @@ pub record AreLines (c : LineContentValue) (left right : Unit) (top : ℤ) (befo
 abbrev pub growth : LineContentValue → ℕ
 growth c = 2 ^ 38 * lines_weight c
 
+-- a line, with its room and its extent
 pub record RowWithin (m : ℤ) (e : Ended) : Type 0 where
   pub top : IsWithin m e.top.0
+  pub start : IsWithin m e.reach.start.0
+  pub end : IsWithin m e.reach.end.0
+  pub extent : ExtentWithin e.extent
   pub to : IsWithin m e.to.0
 
 pub record NodePlaceWithin (m : ℤ) (p : NodePlace) : Type 0 where
