@@ -181,7 +181,13 @@ within_up m n v le w = let a = w.0 in let b = w.1 in (omega (arith, ints, a, le)
 -- lines within some distance are within a greater one
 pub lines_wider : (m n : ℤ) (v : LinesValue) → m ≤ℤ n → LinesWithin m v → LinesWithin n v
 lines_wider m n v le w = record {
-  rows = All-weaker (RowWithin m) (RowWithin n) (λ e r. record { top = within_up m n e.top.0 le r.top; to = within_up m n e.to.0 le r.to }) v.rows w.rows;
+  rows = All-weaker (RowWithin m) (RowWithin n) (λ e r. record {
+    top = within_up m n e.top.0 le r.top;
+    start = within_up m n e.reach.start.0 le r.start;
+    end = within_up m n e.reach.end.0 le r.end;
+    extent = r.extent;
+    to = within_up m n e.to.0 le r.to;
+  }) v.rows w.rows;
   places = All-weaker (NodePlaceWithin m) (NodePlaceWithin n) (λ p r. record { x = within_up m n p.place.x.0 le r.x; y = within_up m n p.place.y.0 le r.y }) v.places w.places;
   end = within_up m n v.end.0 le w.end;
   floats = All-weaker (BoxWithin m) (BoxWithin n) (λ f b. wider m n f le b) v.floats w.floats;
