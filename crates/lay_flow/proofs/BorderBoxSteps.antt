@@ -9,7 +9,7 @@ use Rattle.lay_flow.specs.declared.flow_box.FlowBox.{FlowBox}
 use Rattle.lay_flow.specs.declared.flow_places.BoxPlace.{BoxPlace}
 use Rattle.lay_flow.specs.declared.flow_columns.FlowColumns.{FlowColumns}
 use Rattle.lay_flow.specs.Boxes.{box_at}
-use Rattle.lay_flow.specs.BlockFloats.{Placement, no_place, place_at, placement_at}
+use Rattle.lay_flow.specs.BlockFloats.{Spot, no_place, place_at, spot_at}
 use Rattle.lay_flow.specs.declared.pass.Pass.{Pass}
 use Rattle.lay_flow.specs.Weights.{weight}
 use Rattle.lay_floats.specs.declared.requests.NodePlace.{NodePlace}
@@ -52,7 +52,7 @@ far_nowhere : IsFarPlace no_place
 far_nowhere = record { x = (omega (arith, ints), omega (arith, ints)); y = (omega (arith, ints), omega (arith, ints)) }
 
 -- the lists of places, one after the other
-joined_lines : (ps : List Placement) → line_places ps ≡ joined (map (λ p. p.lines.places) ps)
+joined_lines : (ps : List Spot) → line_places ps ≡ joined (map (λ p. p.lines.places) ps)
 joined_lines [] = refl
 joined_lines (p ∷ ps) = ap (λ (qs : List NodePlace). p.lines.places ++ qs) (joined_lines ps)
 
@@ -65,16 +65,16 @@ chosen P p k (q ∷ qs) here all = chosen P (if q.node == k then q.place else p)
     one true = All-head (λ (q : NodePlace). P q.place) q qs all
     one false = here
 
-column_at : (ps : List Placement) (k : ℕ) → corner_at (map (λ p. p.place) ps) k ≡ place_at ps k
+column_at : (ps : List Spot) (k : ℕ) → corner_at (map (λ p. p.place) ps) k ≡ place_at ps k
 column_at [] k = refl
 column_at (p ∷ ps) zero = refl
 column_at (p ∷ ps) (suc k) = column_at ps k
 
-all_met : (w : ℕ) (ps : List Placement) → ((k : ℕ) → k < length ps → IsPlaceNear w (placement_at ps k)) → All (NodePlaceWithin (reach w)) (line_places ps)
+all_met : (w : ℕ) (ps : List Spot) → ((k : ℕ) → k < length ps → IsPlaceNear w (spot_at ps k)) → All (NodePlaceWithin (reach w)) (line_places ps)
 all_met w [] near = All-nil (NodePlaceWithin (reach w))
 all_met w (p ∷ ps) near = All-append (NodePlaceWithin (reach w)) p.lines.places (line_places ps) (near 0 (omega arith)).lines.places (all_met w ps (λ k lt. near (suc k) (omega (arith, lt))))
 
-all_rows : (w : ℕ) (ps : List Placement) → w ≤ 8388608 → ((k : ℕ) → k < length ps → IsPlaceNear w (placement_at ps k)) → AreNearRows (map (λ p. p.lines.rows) ps)
+all_rows : (w : ℕ) (ps : List Spot) → w ≤ 8388608 → ((k : ℕ) → k < length ps → IsPlaceNear w (spot_at ps k)) → AreNearRows (map (λ p. p.lines.rows) ps)
 all_rows w [] light near = All-nil (λ (rows : List Ended). All (RowWithin (pos 1152921504606846976)) rows)
 all_rows w (p ∷ ps) light near = All-cons (λ (rows : List Ended). All (RowWithin (pos 1152921504606846976)) rows) p.lines.rows (map (λ p. p.lines.rows) ps) (lines_near p.lines (near 0 (omega arith)).lines) (all_rows w ps light (λ k lt. near (suc k) (omega (arith, lt))))
   where
@@ -90,7 +90,6 @@ module _ (boxes : List FlowBox) (flow : Pass) (corners : List Place) (is : IsFin
 
   corner_is : (k : ℕ) → k < length boxes → corner_at corners k ≡ place_in_lines is.places k
   corner_is k lt = corners_put.each k lt ∙ ap (place_or no_place k) (sym (joined_lines is.places))
-
 
   far_at : AreFlowBoxes boxes → (k : ℕ) → k < length boxes → IsFarPlace (place_at is.places k)
   far_at input k lt = let near = is.near k lt in far_place (weight boxes (length boxes)) (place_at is.places k) input.light near.x near.y
@@ -127,7 +126,7 @@ module _ (boxes : List FlowBox) (flow : Pass) (out : FlowColumns) (corners : Lis
       record {
         tops_length = rw tops mine;
         heights_length = rw heights high;
-        places_length = rw places (sym (ap length is.are.places_are) ∙ map_length (λ (p : Placement). p.place) is.places ∙ counted boxes flow corners is put);
+        places_length = rw places (sym (ap length is.are.places_are) ∙ map_length (λ (p : Spot). p.place) is.places ∙ counted boxes flow corners is put);
         corners_length = rw corner put.length_is;
         top = λ k lt. rw tops (near k (omega (arith, lt, mine)));
         height = λ k lt flow. rw heights (sized k (omega (arith, lt, high)) flow);
@@ -151,7 +150,7 @@ module _ (boxes : List FlowBox) (columns : FlowColumns) (is : AreColumnsOf boxes
       count = of.count;
       each = λ k lt. of.each k lt
           ∙ (λ i. border_box (box_at boxes k).kind (record { 0 = length_at (is.are.tops_are i) k }) (record { 0 = length_at (is.are.heights_are i) k }) (place_is k i) (in_lines_is k lt i))
-          ∙ ap (λ (ps : List Placement). border_box (box_at boxes k).kind (record { 0 = length_at is.are.flow.layout.places.marks k }) (record { 0 = length_at is.are.flow.layout.places.heights k }) (place_at ps k) (place_in_lines ps k)) is.are.places_are;
+          ∙ ap (λ (ps : List Spot). border_box (box_at boxes k).kind (record { 0 = length_at is.are.flow.layout.places.marks k }) (record { 0 = length_at is.are.flow.layout.places.heights k }) (place_at ps k) (place_in_lines ps k)) is.are.places_are;
       lines = sym is.rows_are ∙ ap (map (λ p. p.lines.rows)) is.are.places_are;
     };
   }

@@ -16,7 +16,7 @@ use Rattle.lay_flow.specs.Children.{flag_at}
 use Rattle.lay_flow.specs.MarginRuns.{block_at, margins, has_top, run_at, run_before}
 use Rattle.lay_flow.specs.BlockPositions.{Extents, is_lines, start_before}
 use Rattle.lay_flow.specs.BlockLayout.{BlockLayout, IsBlockLayout}
-use Rattle.lay_flow.specs.BlockFloats.{Placement, shape_at, floats_before}
+use Rattle.lay_flow.specs.BlockFloats.{Spot, shape_at, floats_before}
 use Rattle.lay_flow.specs.Clearance.{IsHypothetical, HasClearedFloat, IsAbove, lower_of, HasClearance}
 use Rattle.lay_flow.specs.Pass.State.{PassState, IsAt, Settled}
 use Rattle.lay_flow.specs.Pass.Bounds.{StrutFits, IsEdgeNear, IsCollapseNear}
@@ -124,7 +124,7 @@ module _ (boxes : List FlowBox) (tree : IsTree (parents_of boxes)) (are_tree : I
 
   -- it is decided that the box at k has no clearance
   pub ready_unclear : ((shape_at boxes k).float ≡ None
-      → (extents : Extents) (clear_edges : List Length) (y : BlockLayout) (places : List Placement) → MayBe boxes (length placing.places) placing.extents extents → IsCandidate boxes extents clear_edges y now.clears now.clear_edges (k + 1) → ArePlacesKept placing.places places
+      → (extents : Extents) (clear_edges : List Length) (y : BlockLayout) (places : List Spot) → MayBe boxes (length placing.places) placing.extents extents → IsCandidate boxes extents clear_edges y now.clears now.clear_edges (k + 1) → ArePlacesKept placing.places places
       → HasClearance boxes extents clear_edges places y k) → IsReady boxes now placing k
   ready_unclear here = record {
     fits = was.fits;
@@ -246,7 +246,7 @@ module _ (boxes : List FlowBox) (tree : IsTree (parents_of boxes)) (are_tree : I
             subst (λ (c : Clear). Clears c w.1.side) (in_lines_unclear boxes k in_lines) w.3.0)
       ]
 
-      cleared_outside : is_in_lines (box_at boxes k).kind ≡ false → (places : List Placement) → ArePlacesKept placing'.places places → HasClearance boxes extents clear_edges places y k
+      cleared_outside : is_in_lines (box_at boxes k).kind ≡ false → (places : List Spot) → ArePlacesKept placing'.places places → HasClearance boxes extents clear_edges places y k
       cleared_outside out places are =
           let there = some_hypothetical_lem boxes extents clear_edges y k tree are_tree.some candidate.is_layout in
           let mark = edge_is extents clear_edges there.0 may_be (may_be_without extents clear_edges y may_be before there.0 there.1) there.1.later in
@@ -270,7 +270,7 @@ module _ (boxes : List FlowBox) (tree : IsTree (parents_of boxes)) (are_tree : I
             edge = λ t. edge_here ∙ lower ∙ ap (lower_of bottom') mark;
           }
 
-      cleared : (places : List Placement) → ArePlacesKept placing'.places places → HasClearance boxes extents clear_edges places y k
+      cleared : (places : List Spot) → ArePlacesKept placing'.places places → HasClearance boxes extents clear_edges places y k
       cleared places are = true_or (is_in_lines (box_at boxes k).kind) (HasClearance boxes extents clear_edges places y k)
           (λ in_lines. absurd (undecided in_lines))
           (λ out. cleared_outside out places are)

@@ -13,7 +13,7 @@ use Rattle.lay_flow.specs.MarginRuns.{block_at}
 use Rattle.lay_flow.specs.BlockPositions.{is_lines}
 use Rattle.lay_flow.proofs.Truths.{true_false}
 use Rattle.lay_floats.specs.ClearEdge.{Clears, IsClearEdge}
-use Rattle.lay_flow.specs.BlockFloats.{Placement, float_of, floats_after, floats_before, place_at, placement_at, shape_at}
+use Rattle.lay_flow.specs.BlockFloats.{Spot, float_of, floats_after, floats_before, place_at, spot_at, shape_at}
 use Rattle.lay_flow.specs.Clearance.{IsAbove}
 use Rattle.lay_flow.proofs.PlaceSteps.{nothing_more}
 use Rattle.lay_flow.proofs.FloatLists.{Has, has_there, has_back}
@@ -24,14 +24,14 @@ has_nothing xs f w = subst (λ (zs : List Placed). Has zs f) (nothing_more xs) w
 nothing_has : (xs : List Placed) (f : Placed) → Has xs f → Has (xs ++ []) f
 nothing_has xs f w = subst (λ (zs : List Placed). Has zs f) (sym (nothing_more xs)) w
 
-module _ (boxes : List FlowBox) (places : List Placement) where
+module _ (boxes : List FlowBox) (places : List Spot) where
   -- no box from the one at n to before that at m holds lines
   abbrev pub NoLines : ℕ → ℕ → Type 0
   NoLines n m = (j : ℕ) → n ≤ j → j < m → is_lines (block_at boxes j).inside ≡ false
 
   -- the floats after a box without lines
   after_is : (m : ℕ) (inside : Inside) → is_lines inside ≡ false
-      → floats_after (floats_before boxes places m) inside (shape_at boxes m) (placement_at places m) ≡ floats_before boxes places m ++ float_of (shape_at boxes m) (place_at places m)
+      → floats_after (floats_before boxes places m) inside (shape_at boxes m) (spot_at places m) ≡ floats_before boxes places m ++ float_of (shape_at boxes m) (place_at places m)
   after_is m blocks_inside e = refl
   after_is m lines_inside e = absurd (true_false true refl e)
   after_is m solid_inside e = refl

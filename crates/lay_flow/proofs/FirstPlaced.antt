@@ -11,13 +11,13 @@ use Rattle.lay_floats.specs.Within.{BoxWithin}
 use Rattle.lay_lines.specs.declared.row.Ended.{Ended}
 use Rattle.lay_flow.specs.declared.flow_box.FlowBox.{FlowBox}
 use Rattle.lay_flow.specs.declared.placement.Placing.{Placing as PlacingState}
-use Rattle.lay_flow.specs.BlockFloats.{Placement}
+use Rattle.lay_flow.specs.BlockFloats.{Spot}
 use Rattle.lay_flow.specs.Lengths.{length_at, no_length}
 use Rattle.lay_flow.specs.Weights.{weight}
 use Rattle.lay_flow.specs.Pass.Bounds.{IsMarkNear, reach}
 use Rattle.lay_flow.specs.Pass.Placed.{PlacesTo}
 use Rattle.lay_flow.specs.Pass.Knows.{AreExtentsKept, HaveNoExtent}
-use Rattle.lay_flow.specs.Pass.Known.{ArePlaced, ArePlacedOn, ArePlacements, GoesOn, placing_of}
+use Rattle.lay_flow.specs.Pass.Known.{ArePlaced, ArePlacedOn, AreSpots, GoesOn, placing_of}
 use Rattle.lay_flow.proofs.PassEnds.{lengths_at}
 use Rattle.lay_flow.proofs.PassSteps.{no_extents_kept}
 
@@ -33,7 +33,7 @@ pub mark_near_none : (w : ℕ) (v : ℤ) → v ≡ pos 0 → IsMarkNear w v
 mark_near_none w v e = (omega (arith, ints, e), omega (arith, ints, e))
 
 module _ (boxes : List FlowBox) (marks : List Length) (now : PlacingState) (is : IsEmpty now (length boxes)) where
-  are_none : ArePlacements now []
+  are_none : AreSpots now []
   are_none = record { places_are = sym is.places; rows_are = sym is.rows; met_are = sym is.met }
 
   to_none : PlacesTo boxes marks (placing_of now []) 0

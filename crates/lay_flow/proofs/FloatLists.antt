@@ -14,7 +14,7 @@ use Rattle.lay_flow.specs.MarginRuns.{block_at}
 use Rattle.lay_flow.specs.BlockPositions.{is_lines}
 use Rattle.lay_floats.specs.ClearEdge.{Clears, IsClearEdge}
 use Rattle.lay_floats.proofs.Unique.{one_clear_edge_lem}
-use Rattle.lay_flow.specs.BlockFloats.{Placement, shape_at, place_at, lines_at, float_of, floats_before}
+use Rattle.lay_flow.specs.BlockFloats.{Spot, shape_at, place_at, lines_at, float_of, floats_before}
 use Rattle.lay_flow.proofs.PlaceSteps.{nothing_more}
 
 -- a float is in the list
@@ -46,15 +46,15 @@ has_back xs x f P old new w = elim (cases_lt w.0 (length xs)) [
     last xs x f i ge e = grind (arith, elements, e, ge)
 
 -- the floats of the sides to clear have the same places, and boxes that hold lines the same lines
-pub record SameCleared (boxes : List FlowBox) (clear : Clear) (places others : List Placement) (n : ℕ) : Type 0 where
+pub record SameCleared (boxes : List FlowBox) (clear : Clear) (places others : List Spot) (n : ℕ) : Type 0 where
   pub float : (j : ℕ) (side : Side) → j < n → (shape_at boxes j).float ≡ Some side → Clears clear side → place_at places j ≡ place_at others j
   pub lines : (j : ℕ) → j < n → is_lines (block_at boxes j).inside ≡ true → lines_at places j ≡ lines_at others j
 
-pub same_back : (boxes : List FlowBox) (clear : Clear) (places others : List Placement) (n : ℕ) → SameCleared boxes clear places others n → SameCleared boxes clear others places n
+pub same_back : (boxes : List FlowBox) (clear : Clear) (places others : List Spot) (n : ℕ) → SameCleared boxes clear places others n → SameCleared boxes clear others places n
 same_back boxes clear places others n same = record { float = λ j side lt e c. sym (same.float j side lt e c); lines = λ j lt e. sym (same.lines j lt e) }
 
 module _ (boxes : List FlowBox) (clear : Clear) where
-  has_too : (places others : List Placement) (n : ℕ) → SameCleared boxes clear places others n → (f : Placed) → Clears clear f.side → Has (floats_before boxes places n) f → Has (floats_before boxes others n) f
+  has_too : (places others : List Spot) (n : ℕ) → SameCleared boxes clear places others n → (f : Placed) → Clears clear f.side → Has (floats_before boxes places n) f → Has (floats_before boxes others n) f
   has_too places others zero same f clears w = w
   has_too places others (suc n) same f clears w = by_inside (block_at boxes n).inside refl
       (has_too places others n (record { float = λ j side lt. same.float j side (omega (arith, lt)); lines = λ j lt. same.lines j (omega (arith, lt)) }) f clears)
@@ -87,7 +87,7 @@ module _ (boxes : List FlowBox) (clear : Clear) where
           rw e (subst (λ (v : LinesValue). Has v.floats f) l w')
       by_inside solid_inside e earlier = rw e (go (shape_at boxes n).float refl earlier (rw e at w))
 
-  moved : (places others : List Placement) (n : ℕ) → SameCleared boxes clear places others n → SameCleared boxes clear others places n → (bottom : Option Length)
+  moved : (places others : List Spot) (n : ℕ) → SameCleared boxes clear places others n → SameCleared boxes clear others places n → (bottom : Option Length)
       → IsClearEdge (floats_before boxes others n) clear bottom → IsClearEdge (floats_before boxes places n) clear bottom
   moved places others n same back None is = λ i f there clears. let w = has_too places others n same f clears (i, there) in is w.0 f w.1 clears
   moved places others n same back (Some v) is = record {
@@ -96,7 +96,7 @@ module _ (boxes : List FlowBox) (clear : Clear) where
   }
 
   -- other floats don't matter
-  pub one_edge_to_clear : (places others : List Placement) (n : ℕ) → SameCleared boxes clear places others n → (bottom other : Option Length)
+  pub one_edge_to_clear : (places others : List Spot) (n : ℕ) → SameCleared boxes clear places others n → (bottom other : Option Length)
       → IsClearEdge (floats_before boxes places n) clear bottom → IsClearEdge (floats_before boxes others n) clear other → bottom ≡ other
   one_edge_to_clear places others n same bottom other is also =
       one_clear_edge_lem (floats_before boxes places n) clear bottom other is (moved places others n same (same_back boxes clear places others n same) other also)

@@ -19,7 +19,7 @@ use Rattle.lay_flow.specs.Lengths.{length_at}
 use Rattle.lay_flow.specs.Children.{flag_at}
 use Rattle.lay_flow.specs.MarginRuns.{Runs, Entry, has_top, block_at, run_at, run_before}
 use Rattle.lay_flow.specs.BlockPositions.{HasPositions, is_lines, is_placed}
-use Rattle.lay_flow.specs.BlockFloats.{Placement, placement_at, shape_at, floats_before}
+use Rattle.lay_flow.specs.BlockFloats.{Spot, spot_at, shape_at, floats_before}
 use Rattle.lay_flow.specs.BlockLayout.{BlockLayout}
 use Rattle.lay_flow.specs.Clearance.{HasClearedFloat, IsAbove, HasClearance, NeedsClearance, lower_of}
 use Rattle.lay_flow.specs.ContextFlow.{Flow, IsContextFlow}
@@ -153,13 +153,13 @@ module _ (boxes : List FlowBox) (tree : IsTree (parents_of boxes)) (some : 0 < l
     none_high : NoneWaits boxes (shape_at boxes k).clear (run_at here.without.runs.before_tops k) k → SameCleared boxes (shape_at boxes k).clear f.places g.places k
     none_high free = record {
       float = λ j side lt e c. elim (cases_lt j first) [
-        | inl low ↦ ap (λ (q : Placement). q.place) (stands_before j low)
+        | inl low ↦ ap (λ (q : Spot). q.place) (stands_before j low)
         | inr from ↦ absurd (true_false (has_top j (run_before boxes f.layout.runs (parent_at boxes k) k)) (was.gathered.own j from lt) (ap (has_top j) (sym run_without) ∙ free j side lt e c))
       ];
-      lines = λ j lt lines. ap (λ (q : Placement). q.lines) (stands_before j (placed_before out j lt (lines_placed (block_at boxes j).inside lines)));
+      lines = λ j lt lines. ap (λ (q : Spot). q.lines) (stands_before j (placed_before out j lt (lines_placed (block_at boxes j).inside lines)));
     }
       where
-        stands_before : (j : ℕ) → j < first → placement_at f.places j ≡ placement_at g.places j
+        stands_before : (j : ℕ) → j < first → spot_at f.places j ≡ spot_at g.places j
         stands_before j low = let most = was.gathered.most in places_to boxes tree are f g is also first (omega (arith, most, within)) was.mark j low
 
     waits_too : HasClearedFloat boxes k (run_at here.without.runs.before_tops k) → HasClearedFloat boxes k (run_at there.without.runs.before_tops k)

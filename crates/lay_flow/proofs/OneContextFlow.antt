@@ -14,7 +14,7 @@ use Rattle.lay_flow.specs.Children.{flag_at}
 use Rattle.lay_flow.specs.MarginRuns.{block_at, run_before}
 use Rattle.lay_flow.specs.BlockPositions.{Extents, is_placed, start_before}
 use Rattle.lay_flow.specs.BlockLayout.{BlockLayout, IsBlockLayout}
-use Rattle.lay_flow.specs.BlockFloats.{Placement, no_placement, place_at, floats_before}
+use Rattle.lay_flow.specs.BlockFloats.{Spot, no_spot, place_at, floats_before}
 use Rattle.lay_flow.specs.ContextFlow.{Flow, IsContextFlow}
 use Rattle.lay_flow.specs.Pass.MarginPlace.{IsPlace}
 use Rattle.lay_flow.specs.Laws.{OneContextFlow, OneFlowOf}
@@ -83,7 +83,7 @@ module _ (boxes : List FlowBox) (tree : IsTree (parents_of boxes)) (some : 0 < l
       (run_before boxes f.layout.runs 0 (length boxes)) (λ c from above inside. let least = at_last.alike.gathered.least in absurd (omega (arith, from, above, least)))
 
   places_same : f.places ≡ g.places
-  places_same = same_list no_placement f.places g.places (is.places_length ∙ sym also.places_length)
+  places_same = same_list no_spot f.places g.places (is.places_length ∙ sym also.places_length)
       (λ k lt. let l = is.places_length in places_to boxes tree are f g is also (length boxes) (omega arith) marks_all k (omega (arith, l, lt)))
 
   clears_same : f.layout.runs.clears ≡ g.layout.runs.clears
@@ -100,7 +100,7 @@ module _ (boxes : List FlowBox) (tree : IsTree (parents_of boxes)) (some : 0 < l
 
   floats_same : f.extents.floats ≡ g.extents.floats
   floats_same = one_clear_edge_lem (floats_before boxes f.places (length boxes)) clear_both f.extents.floats g.extents.floats is.bottom
-      (subst (λ (ps : List Placement). IsClearEdge (floats_before boxes ps (length boxes)) clear_both g.extents.floats) (sym places_same) also.bottom)
+      (subst (λ (ps : List Spot). IsClearEdge (floats_before boxes ps (length boxes)) clear_both g.extents.floats) (sym places_same) also.bottom)
 
   depths_same : f.extents.depths ≡ g.extents.depths
   depths_same = same_lengths f.extents.depths g.extents.depths (is.extents_length ∙ sym also.extents_length) (λ k lt.
@@ -129,8 +129,8 @@ pub one_flow_of_lem : OneFlowOf
 one_flow_of_lem boxes out other are is also =
     let e = one_context_flow_lem boxes is.flow also.flow are is.is_flow also.is_flow in
     let boxes_same : out.boxes ≡ other.boxes = same_list no_box_place out.boxes other.boxes (is.places.count ∙ sym also.places.count) (λ k lt. let l = is.places.count in
-        is.places.each k (omega (arith, lt, l))
-        ∙ ap (λ (f : Flow). border_box (box_at boxes k).kind (record { 0 = length_at f.layout.places.marks k }) (record { 0 = length_at f.layout.places.heights k }) (place_at f.places k) (place_in_lines f.places k)) e
-        ∙ sym (also.places.each k (omega (arith, lt, l)))) in
-    let lines_same : out.lines ≡ other.lines = is.places.lines ∙ ap (λ (f : Flow). map (λ (p : Placement). p.lines.rows) f.places) e ∙ sym also.places.lines in
+    is.places.each k (omega (arith, lt, l))
+    ∙ ap (λ (f : Flow). border_box (box_at boxes k).kind (record { 0 = length_at f.layout.places.marks k }) (record { 0 = length_at f.layout.places.heights k }) (place_at f.places k) (place_in_lines f.places k)) e
+    ∙ sym (also.places.each k (omega (arith, lt, l)))) in
+    let lines_same : out.lines ≡ other.lines = is.places.lines ∙ ap (λ (f : Flow). map (λ (p : Spot). p.lines.rows) f.places) e ∙ sym also.places.lines in
     λ i. record { boxes = boxes_same i; lines = lines_same i }

@@ -22,7 +22,7 @@ use Rattle.lay_flow.specs.Boxes.{box_at, parent_at, parents_of}
 use Rattle.lay_flow.specs.Lengths.{length_at}
 use Rattle.lay_flow.specs.MarginRuns.{block_at, has_top, run_at, run_before}
 use Rattle.lay_flow.specs.BlockLayout.{BlockLayout}
-use Rattle.lay_flow.specs.BlockFloats.{Placement, ceiling, content_of, float_of, float_request, floats_before, line_content_of, lines_at, place_at, shape_at}
+use Rattle.lay_flow.specs.BlockFloats.{Spot, ceiling, content_of, float_of, float_request, floats_before, line_content_of, lines_at, place_at, shape_at}
 use Rattle.lay_flow.specs.Clearance.{AreFloatPlaces, IsHypothetical, NeedsClearance}
 use Rattle.lay_flow.specs.ContextFlow.{Flow, IsContextFlow}
 use Rattle.lay_flow.specs.FlowBoxes.{IsFlowTree, is_in_lines}
@@ -92,7 +92,7 @@ module _ (boxes : List FlowBox) (are : IsFlowTree boxes) (f : Flow) (is : IsCont
       lead_goes_on boxes without.runs h.is_layout.has_runs k positive within (h.later k (omega arith))
       ∙ run_up_to boxes tree without.runs f.layout.runs h.is_layout.has_runs is.layout.has_runs k h.earlier (parent_at boxes k) k (place_before boxes tree k positive within) (omega arith)
 
-  module _ (places : List Placement) (by : AreFloatPlaces boxes without.places.marks places k) where
+  module _ (places : List Spot) (by : AreFloatPlaces boxes without.places.marks places k) where
     -- floats have the same places, and lines are the same
     record SameFloats (n : ℕ) : Type 0 where
       pub float : (j : ℕ) (side : Side) → j < n → (shape_at boxes j).float ≡ Some side → place_at f.places j ≡ place_at places j

@@ -18,7 +18,7 @@ use Rattle.lay_flow.specs.Children.{flag_at}
 use Rattle.lay_flow.specs.MarginRuns.{block_at, parts_tops, joins_bottom, may_collapse_through, may_join_bottoms}
 use Rattle.lay_flow.specs.BlockPositions.{Extents, border_height, is_placed, is_solid}
 use Rattle.lay_flow.specs.BlockLayout.{BlockLayout}
-use Rattle.lay_flow.specs.BlockFloats.{Placement, content_of, line_content_of, lines_at, shape_at, place_at, floats_before, float_request, solid_request, ceiling}
+use Rattle.lay_flow.specs.BlockFloats.{Spot, content_of, line_content_of, lines_at, shape_at, place_at, floats_before, float_request, solid_request, ceiling}
 use Rattle.lay_flow.specs.Pass.State.{PassState, IsAt, Settled}
 use Rattle.lay_flow.specs.FlowBoxes.{AreFlowBoxes}
 use Rattle.lay_flow.specs.Pass.Bounds.{StrutFits, IsStartNear, IsMarkNear, IsCollapseNear, held_end, held_height, is_barred, reach}
@@ -70,7 +70,7 @@ may_before boxes old new extents le kept may_be j lt placed = may_be j (omega (a
 pub no_extents_kept : (boxes : List FlowBox) (old new : List Length) (n : ℕ) → AreExtentsKept boxes n old new → HaveNoExtent boxes old → HaveNoExtent boxes new
 no_extents_kept boxes old new n kept was j flow = kept j (λ placed. absurd (true_false (is_placed (block_at boxes j).inside) placed flow)) ∙ was j flow
 
-pub places_before : (old new places : List Placement) → length old ≤ length new → ArePlacesKept old new → ArePlacesKept new places → ArePlacesKept old places
+pub places_before : (old new places : List Spot) → length old ≤ length new → ArePlacesKept old new → ArePlacesKept new places → ArePlacesKept old places
 places_before old new places le kept are j lt = are j (omega (arith, lt, le)) ∙ kept j lt
 
 -- what was decided stays so when more boxes are placed

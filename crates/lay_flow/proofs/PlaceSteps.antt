@@ -30,7 +30,7 @@ use Rattle.lay_flow.specs.Weights.{weight}
 use Rattle.lay_flow.specs.declared.block.Inside.{Inside}
 use Rattle.lay_flow.specs.declared.block.Inside.TheVariants.{Blocks as blocks_inside, Lines as lines_inside, Solid as solid_inside}
 use Rattle.lay_lines.specs.Lines.{LinesValue, AreLines, LinesWithin, RowWithin, NodePlaceWithin}
-use Rattle.lay_flow.specs.BlockFloats.{AreLinesAt, Placement, placement_at, no_placement, shape_at, place_at, no_place, lines_at, no_lines, line_content_of, content_of, float_of, floats_after, floats_before, float_request, solid_request, ceiling}
+use Rattle.lay_flow.specs.BlockFloats.{AreLinesAt, Spot, spot_at, no_spot, shape_at, place_at, no_place, lines_at, no_lines, line_content_of, content_of, float_of, floats_after, floats_before, float_request, solid_request, ceiling}
 use Rattle.lay_flow.specs.Clearance.{lower_of}
 use Rattle.lay_flow.specs.Pass.Bounds.{reach, IsMarkNear, IsEdgeNear}
 use Rattle.lay_flow.specs.Pass.Placed.{IsPlaceNear, Placing, PlacesTo, ShapeFits, IsCeilingNear}
@@ -45,7 +45,7 @@ all_at : (P : Placed → Type 0) (floats : List Placed) (i : ℕ) (f : Placed) �
 all_at P floats i f all e = grind (arith, elements, all, e)
 
 -- floats depend on the places before them alone
-pub floats_same : (boxes : List FlowBox) (places others : List Placement) (n : ℕ) → ((j : ℕ) → j < n → placement_at places j ≡ placement_at others j) → floats_before boxes places n ≡ floats_before boxes others n
+pub floats_same : (boxes : List FlowBox) (places others : List Spot) (n : ℕ) → ((j : ℕ) → j < n → spot_at places j ≡ spot_at others j) → floats_before boxes places n ≡ floats_before boxes others n
 floats_same boxes places others zero same = refl
 floats_same boxes places others (suc k) same =
     let e = floats_same boxes places others k (λ j lt. same j (omega (arith, lt))) in
@@ -56,14 +56,14 @@ pub nothing_more : (xs : List Placed) → xs ++ [] ≡ xs
 nothing_more [] = refl
 nothing_more (x ∷ xs) = ap (λ (zs : List Placed). x ∷ zs) (nothing_more xs)
 
--- one more placement
-pub old_place : (places : List Placement) (p : Placement) (j : ℕ) → j < length places → get_or (places ++ p ∷ []) j no_placement ≡ get_or places j no_placement
+-- one more spot
+pub old_place : (places : List Spot) (p : Spot) (j : ℕ) → j < length places → get_or (places ++ p ∷ []) j no_spot ≡ get_or places j no_spot
 old_place places p j lt = grind (arith, elements, lt)
 
-new_place : (places : List Placement) (p : Placement) (k : ℕ) → length places ≡ k → get_or (places ++ p ∷ []) k no_placement ≡ p
+new_place : (places : List Spot) (p : Spot) (k : ℕ) → length places ≡ k → get_or (places ++ p ∷ []) k no_spot ≡ p
 new_place places p k e = grind (arith, elements, e)
 
-one_longer : (places : List Placement) (p : Placement) → length (places ++ p ∷ []) ≡ length places + 1
+one_longer : (places : List Spot) (p : Spot) → length (places ++ p ∷ []) ≡ length places + 1
 one_longer places p = grind (arith, elements)
 
 reach_up : (n m : ℕ) → n ≤ m → reach n ≤ℤ reach m
@@ -201,11 +201,11 @@ no_lines_within n = record {
   floats = All-nil (BoxWithin (reach n));
 }
 
-pub no_placement_near : (n : ℕ) → IsPlaceNear n no_placement
-no_placement_near n = record { x = (omega (arith, ints), omega (arith, ints)); y = (omega (arith, ints), omega (arith, ints)); lines = no_lines_within n }
+pub no_spot_near : (n : ℕ) → IsPlaceNear n no_spot
+no_spot_near n = record { x = (omega (arith, ints), omega (arith, ints)); y = (omega (arith, ints), omega (arith, ints)); lines = no_lines_within n }
 
 -- what holds of one more box that is placed
-pub record IsAdded (boxes : List FlowBox) (marks : List Length) (now : Placing) (k : ℕ) (p : Placement) (extents : List Length) (floats : List Placed) : Type 0 where
+pub record IsAdded (boxes : List FlowBox) (marks : List Length) (now : Placing) (k : ℕ) (p : Spot) (extents : List Length) (floats : List Placed) : Type 0 where
   pub extents_length : length extents ≡ length boxes
   pub earlier : (j : ℕ) → j < k → length_at extents j ≡ length_at now.extents j
   pub floats_are : floats ≡ floats_after now.floats (block_at boxes k).inside (shape_at boxes k) p
@@ -221,26 +221,26 @@ pub record IsAdded (boxes : List FlowBox) (marks : List Length) (now : Placing) 
   pub lines_extent : is_lines (block_at boxes k).inside ≡ true → length_at extents k ≡ p.lines.end.0 -ℤ (length_at marks k +ℤ (block_at boxes k).edge_top.0)
   pub no_lines_else : is_lines (block_at boxes k).inside ≡ false → p.lines ≡ no_lines
 
-module _ (boxes : List FlowBox) (marks : List Length) (now : Placing) (k : ℕ) (was : PlacesTo boxes marks now k) (p : Placement) where
+module _ (boxes : List FlowBox) (marks : List Length) (now : Placing) (k : ℕ) (was : PlacesTo boxes marks now k) (p : Spot) where
   same_before : (n : ℕ) → n ≤ k → floats_before boxes (now.places ++ p ∷ []) n ≡ floats_before boxes now.places n
   same_before n le = floats_same boxes (now.places ++ p ∷ []) now.places n (λ j lt. let l = was.places_length in old_place now.places p j (omega (arith, l, lt, le)))
 
-  here : placement_at (now.places ++ p ∷ []) k ≡ p
+  here : spot_at (now.places ++ p ∷ []) k ≡ p
   here = new_place now.places p k was.places_length
 
   longer : length (now.places ++ p ∷ []) ≡ k + 1
   longer = let l = was.places_length in one_longer now.places p ∙ ap (λ (n : ℕ). n + 1) l
 
-  old_at : (j : ℕ) → j < k → placement_at (now.places ++ p ∷ []) j ≡ placement_at now.places j
+  old_at : (j : ℕ) → j < k → spot_at (now.places ++ p ∷ []) j ≡ spot_at now.places j
   old_at j lt = let l = was.places_length in old_place now.places p j (omega (arith, l, lt))
 
   place_here : place_at (now.places ++ p ∷ []) k ≡ p.place
-  place_here = ap (λ (q : Placement). q.place) here
+  place_here = ap (λ (q : Spot). q.place) here
 
   higher : reach (weight boxes k) ≤ℤ reach (weight boxes (k + 1))
   higher = reach_up (weight boxes k) (weight boxes (k + 1)) (weight_up boxes k (k + 1) (omega arith))
 
-  near_up : (q : Placement) → IsPlaceNear (weight boxes k) q → IsPlaceNear (weight boxes (k + 1)) q
+  near_up : (q : Spot) → IsPlaceNear (weight boxes k) q → IsPlaceNear (weight boxes (k + 1)) q
   near_up q w = record {
     x = within_up (reach (weight boxes k)) (reach (weight boxes (k + 1))) q.place.x.0 higher w.x;
     y = within_up (reach (weight boxes k)) (reach (weight boxes (k + 1))) q.place.y.0 higher w.y;
@@ -258,13 +258,13 @@ module _ (boxes : List FlowBox) (marks : List Length) (now : Placing) (k : ℕ) 
   ]
 
   lines_here : lines_at (now.places ++ p ∷ []) k ≡ p.lines
-  lines_here = ap (λ (q : Placement). q.lines) here
+  lines_here = ap (λ (q : Spot). q.lines) here
 
   old_place_at : (j : ℕ) → j < k → place_at (now.places ++ p ∷ []) j ≡ place_at now.places j
-  old_place_at j lt = ap (λ (q : Placement). q.place) (old_at j lt)
+  old_place_at j lt = ap (λ (q : Spot). q.place) (old_at j lt)
 
   old_lines_at : (j : ℕ) → j < k → lines_at (now.places ++ p ∷ []) j ≡ lines_at now.places j
-  old_lines_at j lt = ap (λ (q : Placement). q.lines) (old_at j lt)
+  old_lines_at j lt = ap (λ (q : Spot). q.lines) (old_at j lt)
 
   pub adds : (extents : List Length) (floats : List Placed) → IsAdded boxes marks now k p extents floats → PlacesTo boxes marks (record { extents = extents; floats = floats; places = now.places ++ p ∷ [] }) (k + 1)
   adds extents floats is = record {
@@ -272,7 +272,7 @@ module _ (boxes : List FlowBox) (marks : List Length) (now : Placing) (k : ℕ) 
     extents_length = is.extents_length;
     floats_are = is.floats_are ∙ sym step ∙ ap (floats_before boxes more) (sym one);
     within = is.within;
-    near = both (λ (j : ℕ). IsPlaceNear (weight boxes (k + 1)) (placement_at more j)) (λ j low. let g = old_at j low in rw g (near_up (placement_at now.places j) (was.near j low))) (let h = here in rw h is.near);
+    near = both (λ (j : ℕ). IsPlaceNear (weight boxes (k + 1)) (spot_at more j)) (λ j low. let g = old_at j low in rw g (near_up (spot_at now.places j) (was.near j low))) (let h = here in rw h is.near);
     root = λ some. elim (cases_lt 0 k) [
       | inl low ↦ (let g = old_place_at 0 low in rw g (was.root low))
       | inr ge ↦ (let zero_is : k ≡ 0 = omega (arith, ge) in ap (λ (j : ℕ). place_at more j) (sym zero_is) ∙ place_here ∙ is.root zero_is)
@@ -305,7 +305,7 @@ module _ (boxes : List FlowBox) (marks : List Length) (now : Placing) (k : ℕ) 
         (λ e. let h = lines_here in rw h (is.no_lines_else e));
   }
     where
-      more : List Placement
+      more : List Spot
       more = now.places ++ p ∷ []
 
       one : k + 1 ≡ suc k
@@ -329,7 +329,7 @@ module _ (boxes : List FlowBox) (marks : List Length) (now : Placing) (k : ℕ) 
   no_more : (shape_at boxes k).float ≡ None → is_lines (block_at boxes k).inside ≡ false → now.floats ≡ floats_after now.floats (block_at boxes k).inside (shape_at boxes k) p
   no_more none flows = sym (nothing_more now.floats) ∙ floats_go (block_at boxes k).inside (shape_at boxes k) [] flows (rw none refl)
 
-  pub knows_other : (shape_at boxes k).float ≡ None → is_placed (block_at boxes k).inside ≡ false → p ≡ no_placement → PlacesTo boxes marks (record { extents = now.extents; floats = now.floats; places = now.places ++ p ∷ [] }) (k + 1)
+  pub knows_other : (shape_at boxes k).float ≡ None → is_placed (block_at boxes k).inside ≡ false → p ≡ no_spot → PlacesTo boxes marks (record { extents = now.extents; floats = now.floats; places = now.places ++ p ∷ [] }) (k + 1)
   knows_other none blocks is =
       let none_of = placed_none (block_at boxes k).inside blocks in
       let flows = none_of.0 in
@@ -339,16 +339,16 @@ module _ (boxes : List FlowBox) (marks : List Length) (now : Placing) (k : ℕ) 
         earlier = λ j lt. refl;
         floats_are = no_more none flows;
         within = still_within;
-        near = subst (IsPlaceNear (weight boxes (k + 1))) (sym is) (no_placement_near (weight boxes (k + 1)));
-        root = λ e. ap (λ (q : Placement). q.place) is;
+        near = subst (IsPlaceNear (weight boxes (k + 1))) (sym is) (no_spot_near (weight boxes (k + 1)));
+        root = λ e. ap (λ (q : Spot). q.place) is;
         float = λ side low e. absurd (not_both (shape_at boxes k).float side none e);
         solid = λ low e. absurd (true_false (is_solid (block_at boxes k).inside) e flow);
         extent = λ low e. absurd (true_false (is_solid (block_at boxes k).inside) e flow);
         low = λ low e. absurd (true_false (is_solid (block_at boxes k).inside) e flow);
-        other = λ low e s. ap (λ (q : Placement). q.place) is;
+        other = λ low e s. ap (λ (q : Spot). q.place) is;
         lines = λ e. absurd (true_false (is_lines (block_at boxes k).inside) e flows);
         lines_extent = λ e. absurd (true_false (is_lines (block_at boxes k).inside) e flows);
-        no_lines_else = λ e. ap (λ (q : Placement). q.lines) is;
+        no_lines_else = λ e. ap (λ (q : Spot). q.lines) is;
       })
 
   pub knows_float : (side : Side) (floats : List Placed) → 0 < k → (shape_at boxes k).float ≡ Some side → is_placed (block_at boxes k).inside ≡ false → ShapeFits (shape_at boxes k) → IsCeilingNear (weight boxes k) (ceiling boxes marks k)
@@ -445,8 +445,8 @@ module _ (boxes : List FlowBox) (marks : List Length) (now : Placing) (k : ℕ) 
         no_lines_else = λ e. absurd (true_false (is_lines (block_at boxes k).inside) lines e);
       })
     where
-      zero_within : IsPlaceNear (weight boxes (k + 1)) no_placement
-      zero_within = no_placement_near (weight boxes (k + 1))
+      zero_within : IsPlaceNear (weight boxes (k + 1)) no_spot
+      zero_within = no_spot_near (weight boxes (k + 1))
 
       floats_left : (inside : Inside) → is_lines inside ≡ true → p.lines.floats ≡ floats_after now.floats inside (shape_at boxes k) p
       floats_left blocks_inside e = absurd (true_false false e refl)

@@ -1,4 +1,4 @@
--- The columns of the code beside the placements that they are of.
+-- The columns of the code beside the spots that they are of.
 use Rattle.std.proofs.Common.{◌≡◌, ◌+◌, suc, ◌+ℤ◌, ℕ, ◌<◌, ◌≤◌, ℤ, List, [], ◌∷◌, ◌++◌, length, map, true, arith, refl, sym, ap, ◌∙◌, subst}
 use Rattle.std.proofs.lemmas.Int.{ints}
 use Rattle.lay_doc.specs.Tree.{IsTree}
@@ -7,7 +7,7 @@ use Rattle.lay_flow.specs.declared.flow_box.FlowBox.{FlowBox}
 use Rattle.lay_flow.specs.declared.placement.Placing.{Placing as PlacingState}
 use Rattle.lay_flow.specs.Boxes.{parents_of}
 use Rattle.lay_flow.specs.Lengths.{length_at}
-use Rattle.lay_flow.specs.BlockFloats.{Placement}
+use Rattle.lay_flow.specs.BlockFloats.{Spot}
 use Rattle.lay_flow.specs.Pass.State.{PassState}
 use Rattle.lay_flow.specs.Pass.Clears.{IsEdgeWithout}
 use Rattle.lay_flow.specs.FlowBoxes.{AreFlowBoxes}
@@ -16,7 +16,7 @@ use Rattle.lay_flow.specs.BlockPositions.{is_lines}
 use Rattle.lay_flow.specs.Pass.Bounds.{IsLineDepth}
 use Rattle.lay_flow.specs.Pass.Placed.{Placing, PlacesTo}
 use Rattle.lay_flow.proofs.WeightFacts.{light_at}
-use Rattle.lay_flow.specs.Pass.Known.{ArePlaced, ArePlacedOn, ArePlacements, GoesOn, placing_of}
+use Rattle.lay_flow.specs.Pass.Known.{ArePlaced, ArePlacedOn, AreSpots, GoesOn, placing_of}
 use Rattle.lay_flow.proofs.PassSteps.{placed_kept}
 use Rattle.lay_flow.proofs.PlaceSteps.{old_place}
 
@@ -28,10 +28,10 @@ pub map_push : {A B : Type 0} (f : A → B) (xs : List A) (x : A) → map f (xs 
 map_push f [] x = refl
 map_push f (y ∷ xs) x = ap (λ (ys : List _). f y ∷ ys) (map_push f xs x)
 
-pub places_count : (now : PlacingState) (places : List Placement) → ArePlacements now places → length places ≡ length now.places.items
-places_count now places are = sym (map_length (λ (p : Placement). p.place) places) ∙ ap length are.places_are
+pub places_count : (now : PlacingState) (places : List Spot) → AreSpots now places → length places ≡ length now.places.items
+places_count now places are = sym (map_length (λ (p : Spot). p.place) places) ∙ ap length are.places_are
 
-module _ (boxes : List FlowBox) (old new : List Length) (now : PlacingState) (places : List Placement) (tree : IsTree (parents_of boxes)) (are : ArePlacements now places)
+module _ (boxes : List FlowBox) (old new : List Length) (now : PlacingState) (places : List Spot) (tree : IsTree (parents_of boxes)) (are : AreSpots now places)
     (few : length places ≤ length boxes) (placed : PlacesTo boxes old (placing_of now places) (length places)) (same : (j : ℕ) → j < length places → length_at new j ≡ length_at old j) where
   count : length places ≡ length now.places.items
   count = places_count now places are
@@ -43,15 +43,15 @@ module _ (boxes : List FlowBox) (old new : List Length) (now : PlacingState) (pl
   pub kept_places : ArePlaced boxes new now (length now.places.items)
   kept_places = record { places = places; are = are; to = kept }
 
-module _ (boxes : List FlowBox) (old new : List Length) (now then : PlacingState) (places : List Placement) (m : ℕ) (tree : IsTree (parents_of boxes)) (are : ArePlacements now places)
+module _ (boxes : List FlowBox) (old new : List Length) (now then : PlacingState) (places : List Spot) (m : ℕ) (tree : IsTree (parents_of boxes)) (are : AreSpots now places)
     (few : length places ≤ length boxes) (placed : PlacesTo boxes old (placing_of now places) (length places)) (same : (j : ℕ) → j < length places → length_at new j ≡ length_at old j)
     (goes : GoesOn boxes new now then (length now.places.items) m) where
   -- and more are placed
   pub placed_on : ArePlacedOn boxes new then places m
   placed_on = goes places are (subst (PlacesTo boxes new (placing_of now places)) (places_count now places are) (placed_kept boxes old new (placing_of now places) (length places) tree few placed same))
 
-module _ (boxes : List FlowBox) (now : PassState) (placing : PlacingState) (places : List Placement) (are : ArePlacements placing places) (k : ℕ) (edge : ℤ) where
-  -- the depths that are known are those of the placements
+module _ (boxes : List FlowBox) (now : PassState) (placing : PlacingState) (places : List Spot) (are : AreSpots placing places) (k : ℕ) (edge : ℤ) where
+  -- the depths that are known are those of the spots
   pub edge_of : IsEdgeWithout boxes now (length places) placing.extents.items k edge → IsEdgeWithout boxes now (length placing.places.items) placing.extents.items k edge
   edge_of is = subst (λ (n : ℕ). IsEdgeWithout boxes now n placing.extents.items k edge) (places_count placing places are) is
 
@@ -68,16 +68,16 @@ line_depth boxes input marks now n to k lt le lines =
     let e = to.lines_extent k lt lines in
     (omega (arith, ints, a, light, e), omega (arith, ints, b, light, e))
 
-module _ (boxes : List FlowBox) (marks : List Length) (old new : PlacingState) (places : List Placement) (are : ArePlacements old places) (p : Placement) (m : ℕ)
+module _ (boxes : List FlowBox) (marks : List Length) (old new : PlacingState) (places : List Spot) (are : AreSpots old places) (p : Spot) (m : ℕ)
     (pushed : new.places.items ≡ old.places.items ++ p.place ∷ []) (rows : new.rows.items ≡ old.rows.items ++ p.lines.rows ∷ []) (met : new.met.items ≡ old.met.items ++ p.lines.places ∷ []) where
-  -- one more placement
+  -- one more spot
   pub pushed_on : PlacesTo boxes marks (placing_of new (places ++ p ∷ [])) m → ArePlacedOn boxes marks new places m
   pushed_on to = record {
     places = places ++ p ∷ [];
     are = record {
-      places_are = map_push (λ (q : Placement). q.place) places p ∙ (λ i. are.places_are i ++ p.place ∷ []) ∙ sym pushed;
-      rows_are = map_push (λ (q : Placement). q.lines.rows) places p ∙ (λ i. are.rows_are i ++ p.lines.rows ∷ []) ∙ sym rows;
-      met_are = map_push (λ (q : Placement). q.lines.places) places p ∙ (λ i. are.met_are i ++ p.lines.places ∷ []) ∙ sym met;
+      places_are = map_push (λ (q : Spot). q.place) places p ∙ (λ i. are.places_are i ++ p.place ∷ []) ∙ sym pushed;
+      rows_are = map_push (λ (q : Spot). q.lines.rows) places p ∙ (λ i. are.rows_are i ++ p.lines.rows ∷ []) ∙ sym rows;
+      met_are = map_push (λ (q : Spot). q.lines.places) places p ∙ (λ i. are.met_are i ++ p.lines.places ∷ []) ∙ sym met;
     };
     to = to;
     same = λ j lt. old_place places p j lt;
@@ -99,5 +99,5 @@ goes_further boxes marks old mid new n k m first le then places are to =
     record { places = next.places; are = next.are; to = next.to; same = λ j lt. next.same j (omega (arith, lt, a, b, le)) ∙ there.same j lt }
 
 -- the depths have an entry for each box
-pub within_extents : (boxes : List FlowBox) (marks : List Length) (now : PlacingState) (before : List Placement) (m : ℕ) → ArePlacedOn boxes marks now before m → (k : ℕ) → k < length boxes → k < length now.extents.items
+pub within_extents : (boxes : List FlowBox) (marks : List Length) (now : PlacingState) (before : List Spot) (m : ℕ) → ArePlacedOn boxes marks now before m → (k : ℕ) → k < length boxes → k < length now.extents.items
 within_extents boxes marks now before m goes k lt = let l = goes.to.extents_length in omega (arith, l, lt)

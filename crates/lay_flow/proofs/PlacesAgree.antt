@@ -20,7 +20,7 @@ use Rattle.lay_floats.proofs.Unique.{one_float_place_lem, one_solid_place_lem}
 use Rattle.lay_flow.specs.Lengths.{length_at}
 use Rattle.lay_flow.specs.MarginRuns.{block_at}
 use Rattle.lay_flow.specs.BlockPositions.{is_lines, is_placed, is_solid}
-use Rattle.lay_flow.specs.BlockFloats.{content_of, line_content_of, lines_at, placement_at, shape_at, place_at, floats_before, float_request, solid_request, ceiling}
+use Rattle.lay_flow.specs.BlockFloats.{content_of, line_content_of, lines_at, spot_at, shape_at, place_at, floats_before, float_request, solid_request, ceiling}
 use Rattle.lay_flow.specs.ContextFlow.{Flow, IsContextFlow}
 use Rattle.lay_flow.proofs.Lengths.{same_length}
 use Rattle.lay_flow.proofs.PlaceSteps.{floats_same}
@@ -34,7 +34,7 @@ module _ (boxes : List FlowBox) (tree : IsTree (parents_of boxes)) (are : IsFlow
   SameMarks n = (j : ℕ) → j < n → length_at f.layout.places.marks j ≡ length_at g.layout.places.marks j
 
   abbrev pub SamePlaces : ℕ → Type 0
-  SamePlaces n = (j : ℕ) → j < n → placement_at f.places j ≡ placement_at g.places j
+  SamePlaces n = (j : ℕ) → j < n → spot_at f.places j ≡ spot_at g.places j
 
   module _ (k : ℕ) (positive : 0 < k) (within : k < length boxes) (marks : SameMarks (k + 1)) (before : SamePlaces k) where
     floats_to : floats_before boxes f.places k ≡ floats_before boxes g.places k
@@ -81,8 +81,8 @@ module _ (boxes : List FlowBox) (tree : IsTree (parents_of boxes)) (are : IsFlow
       | inr ne ↦ place_here k (omega (arith, ne)) within marks before (shape_at boxes k).float refl (is_solid (block_at boxes k).inside) refl
     ]
 
-    placement_here : placement_at f.places k ≡ placement_at g.places k
-    placement_here = let p = place_too in let l = lines_here (is_lines (block_at boxes k).inside) refl in λ i. record { place = p i; lines = l i }
+    spot_here : spot_at f.places k ≡ spot_at g.places k
+    spot_here = let p = place_too in let l = lines_here (is_lines (block_at boxes k).inside) refl in λ i. record { place = p i; lines = l i }
 
   pub places_to : (n : ℕ) → n ≤ length boxes → SameMarks n → SamePlaces n
   places_to zero le marks = λ j lt. absurd (omega (arith, lt))
@@ -90,8 +90,8 @@ module _ (boxes : List FlowBox) (tree : IsTree (parents_of boxes)) (are : IsFlow
       let before = places_to k (omega (arith, le)) (λ j lt. marks j (omega (arith, lt))) in
       λ j lt. elim (cases_lt j k) [
         | inl low ↦ before j low
-        | inr ge ↦ (let e : j ≡ k = omega (arith, lt, ge) in subst (λ (j : ℕ). placement_at f.places j ≡ placement_at g.places j) (sym e)
-            (placement_here k (omega (arith, le)) (λ j lt. marks j (omega (arith, lt))) before))
+        | inr ge ↦ (let e : j ≡ k = omega (arith, lt, ge) in subst (λ (j : ℕ). spot_at f.places j ≡ spot_at g.places j) (sym e)
+            (spot_here k (omega (arith, le)) (λ j lt. marks j (omega (arith, lt))) before))
       ]
 
   -- and so their depths

@@ -66,8 +66,12 @@ returns c =
     subst (λ (xs : List Bool). Wrote flag_at old.clears.items xs k true) (sym c.write_flag.ensures) (wrote_flag old.clears.items k true (omega (arith, within, l1))) in
     let wrote : Wrote length_at old.clear_edges.items c.write_at.new.column.items k edge.0 =
     subst (λ (xs : List Length). Wrote length_at old.clear_edges.items xs k edge.0) (sym c.write_at.ensures) (wrote_length old.clear_edges.items k edge (omega (arith, within, l2))) in
-    record { places = goes.places; are = goes.are; ready = ready_cleared c.args.boxes.now c.requires.input.is_tree.tree c.requires.input.is_tree (state_of old) (placing_of old.placing c.requires.known.places) k c.requires.positive within known
-    c.args.hypothetical.0 c.requires.flows (places_count old.placing c.requires.known.places c.requires.known.are ∙ c.requires.settled) (edge_known c.args.boxes.now (state_of old) old.placing c.requires.known.places c.requires.known.are k c.args.hypothetical.0 c.requires.edge) c.requires.decides
-    _ _ _ (placing_of c.place_up_to.new.placing goes.places) c.end_of-end.result.0 edge.0 c.clear_edge-bottom.result c.no_margin-flow.result
-    ends c.end_of-end.ensures.near settles placed (subst (λ (n : ℕ). AreExtentsKept c.args.boxes.now n old.placing.extents.items c.place_up_to.new.placing.extents.items) (sym (places_count old.placing c.requires.known.places c.requires.known.are)) done.kept) goes.same is_bottom c.lower_of-edge.ensures near flag wrote c.no_margin-flow.ensures.fits c.no_margin-flow.ensures.holds } in
+    record {
+      places = goes.places;
+      are = goes.are;
+      ready = ready_cleared c.args.boxes.now c.requires.input.is_tree.tree c.requires.input.is_tree (state_of old) (placing_of old.placing c.requires.known.places) k c.requires.positive within known
+          c.args.hypothetical.0 c.requires.flows (places_count old.placing c.requires.known.places c.requires.known.are ∙ c.requires.settled) (edge_known c.args.boxes.now (state_of old) old.placing c.requires.known.places c.requires.known.are k c.args.hypothetical.0 c.requires.edge) c.requires.decides
+          _ _ _ (placing_of c.place_up_to.new.placing goes.places) c.end_of-end.result.0 edge.0 c.clear_edge-bottom.result c.no_margin-flow.result
+          ends c.end_of-end.ensures.near settles placed (subst (λ (n : ℕ). AreExtentsKept c.args.boxes.now n old.placing.extents.items c.place_up_to.new.placing.extents.items) (sym (places_count old.placing c.requires.known.places c.requires.known.are)) done.kept) goes.same is_bottom c.lower_of-edge.ensures near flag wrote c.no_margin-flow.ensures.fits c.no_margin-flow.ensures.holds;
+    } in
     go there

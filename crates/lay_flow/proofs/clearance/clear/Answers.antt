@@ -7,5 +7,9 @@ use Rattle.lay_flow.proofs.clearance.clear.Goals as goal
 pub returns-else-asks_to_clear : goal.returns-else-asks_to_clear
 returns-else-asks_to_clear c =
     let old = c.args.flow.now in
-    record { places = c.requires.known.places; are = c.requires.known.are; ready = ready_unasked c.args.boxes.now c.requires.input.is_tree.tree c.requires.input.is_tree (state_of old) (placing_of old.placing c.requires.known.places) c.args.k c.requires.positive c.requires.within c.requires.known.knows
-    (c.if-asks_to_clear.ensures.passes_none refl) }
+    record {
+      places = c.requires.known.places;
+      are = c.requires.known.are;
+      ready = ready_unasked c.args.boxes.now c.requires.input.is_tree.tree c.requires.input.is_tree (state_of old) (placing_of old.placing c.requires.known.places) c.args.k c.requires.positive c.requires.within c.requires.known.knows
+          (c.if-asks_to_clear.ensures.passes_none refl);
+    }

@@ -28,8 +28,12 @@ returns-clause-known c =
     (omega (arith, early, few, within)) known.placed (λ j lt. refl) (rw c.deref.ensures.value at done.placed) in
     let go : ArePlacedOn c.args.boxes.now old.marks.items c.place_up_to.new.placing c.requires.known.places old.first → IsKnown c.args.boxes.now (record c.args.flow.now { placing = c.place_up_to.new.placing }) (parent_at c.args.boxes.now c.args._k) c.args._k = λ goes.
     let placed = goes.to in
-    record { places = goes.places; are = goes.are; knows = knows_placed c.args.boxes.now c.requires.input.is_tree.tree c.requires.input.is_tree (state_of old) (placing_of old.placing c.requires.known.places) c.args._k c.requires.positive c.requires.within known
-    (placing_of c.place_up_to.new.placing goes.places) placed (subst (λ (n : ℕ). AreExtentsKept c.args.boxes.now n old.placing.extents.items c.place_up_to.new.placing.extents.items) (sym (places_count old.placing c.requires.known.places c.requires.known.are)) done.kept) goes.same } in
+    record {
+      places = goes.places;
+      are = goes.are;
+      knows = knows_placed c.args.boxes.now c.requires.input.is_tree.tree c.requires.input.is_tree (state_of old) (placing_of old.placing c.requires.known.places) c.args._k c.requires.positive c.requires.within known
+          (placing_of c.place_up_to.new.placing goes.places) placed (subst (λ (n : ℕ). AreExtentsKept c.args.boxes.now n old.placing.extents.items c.place_up_to.new.placing.extents.items) (sym (places_count old.placing c.requires.known.places c.requires.known.are)) done.kept) goes.same;
+    } in
     go there
 
 pub returns-clause-settled : goal.returns-clause-settled

@@ -47,19 +47,23 @@ returns c =
     let placing = c.place_up_to.new.placing in
     let empty : IsEmpty c.in_ok-placing.placing n = record { extents = made.extents; floats = made.floats; places = made.places; rows = made.rows; met = made.met } in
     let goes = rw c.deref.ensures.value at (none_placed_to c.args.boxes.now _ c.in_ok-placing.placing empty placing 1 done.placed) in
-    record { places = goes.places; are = goes.are; knows =
-    knows_first c.args.boxes.now c.requires.input
-    (state_of (record { marks = c.in_ok-marks.marks; heights = c.in_ok-vec.field-0; through = c.in_ok-vec-2.field-0; clears = c.in_ok-vec-3.field-0; clear_edges = c.in_ok-vec-4.field-0; start = c.block_at.result.edge_top; strut = c.no_margin.result; first = 1; hangs = false; placing = placing }))
-    (placing_of placing goes.places) goes.to (first_extents c.args.boxes.now c.in_ok-marks.marks.items c.in_ok-placing.placing empty placing done.kept)
-    (ap (λ (xs : List Length). length xs) marks ∙ grind (arith, elements))
-    (ap (λ (xs : List Length). length xs) heights ∙ grind (arith, elements))
-    (ap (λ (xs : List Bool). length xs) through ∙ grind (arith, elements))
-    (ap (λ (xs : List Bool). length xs) clears ∙ grind (arith, elements))
-    (ap (λ (xs : List Length). length xs) edges ∙ grind (arith, elements))
-    (omega arith) refl c.no_margin.ensures.holds c.no_margin.ensures.fits
-    (ap (λ (b : Block). b.edge_top.0) c.block_at.ensures.value)
-    (λ j. ap (λ (xs : List Length). length_at xs j) marks ∙ lengths_at n j)
-    (λ j. ap (λ (xs : List Length). length_at xs j) heights ∙ lengths_at n j)
-    (λ j. ap (λ (xs : List Bool). flag_at xs j) through ∙ flags_at n j)
-    (λ j. ap (λ (xs : List Bool). flag_at xs j) clears ∙ flags_at n j)
-    (λ j. ap (λ (xs : List Length). length_at xs j) edges ∙ lengths_at n j) }
+    record {
+      places = goes.places;
+      are = goes.are;
+      knows =
+          knows_first c.args.boxes.now c.requires.input
+          (state_of (record { marks = c.in_ok-marks.marks; heights = c.in_ok-vec.field-0; through = c.in_ok-vec-2.field-0; clears = c.in_ok-vec-3.field-0; clear_edges = c.in_ok-vec-4.field-0; start = c.block_at.result.edge_top; strut = c.no_margin.result; first = 1; hangs = false; placing = placing }))
+          (placing_of placing goes.places) goes.to (first_extents c.args.boxes.now c.in_ok-marks.marks.items c.in_ok-placing.placing empty placing done.kept)
+          (ap (λ (xs : List Length). length xs) marks ∙ grind (arith, elements))
+          (ap (λ (xs : List Length). length xs) heights ∙ grind (arith, elements))
+          (ap (λ (xs : List Bool). length xs) through ∙ grind (arith, elements))
+          (ap (λ (xs : List Bool). length xs) clears ∙ grind (arith, elements))
+          (ap (λ (xs : List Length). length xs) edges ∙ grind (arith, elements))
+          (omega arith) refl c.no_margin.ensures.holds c.no_margin.ensures.fits
+          (ap (λ (b : Block). b.edge_top.0) c.block_at.ensures.value)
+          (λ j. ap (λ (xs : List Length). length_at xs j) marks ∙ lengths_at n j)
+          (λ j. ap (λ (xs : List Length). length_at xs j) heights ∙ lengths_at n j)
+          (λ j. ap (λ (xs : List Bool). flag_at xs j) through ∙ flags_at n j)
+          (λ j. ap (λ (xs : List Bool). flag_at xs j) clears ∙ flags_at n j)
+          (λ j. ap (λ (xs : List Length). length_at xs j) edges ∙ lengths_at n j);
+    }

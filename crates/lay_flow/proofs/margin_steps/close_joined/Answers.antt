@@ -49,9 +49,13 @@ returns c =
     let starts = ap (λ (v : Length). v.0) c.sum_of-flow.ensures in
     let wrote : Wrote length_at old.heights.items c.write_at.new.column.items p c.height_to_border-height.result.0 =
     subst (λ (xs : List Length). Wrote length_at old.heights.items xs p c.height_to_border-height.result.0) (sym c.write_at.ensures) (wrote_length old.heights.items p c.height_to_border-height.result (omega (arith, a, b, l))) in
-    record { places = c.requires.known.places; are = c.requires.known.are; knows = knows_joined c.args.boxes.now c.requires.input.is_tree.tree (state_of old) (placing_of old.placing c.requires.known.places) p c.args._m c.requires.input c.requires.positive c.requires.ends c.requires.known.knows
-    _ c.length_at-mark.result.0 c.height_to_border-height.result.0 c.sum_of-flow.result.0 c.with_margin-flow.result c.requires.joined c.requires.unbarred c.requires.settled marked (c.height_to_border-height.ensures.size flow) height starts wrote
-    c.with_margin-flow.ensures.fits holds }
+    record {
+      places = c.requires.known.places;
+      are = c.requires.known.are;
+      knows = knows_joined c.args.boxes.now c.requires.input.is_tree.tree (state_of old) (placing_of old.placing c.requires.known.places) p c.args._m c.requires.input c.requires.positive c.requires.ends c.requires.known.knows
+          _ c.length_at-mark.result.0 c.height_to_border-height.result.0 c.sum_of-flow.result.0 c.with_margin-flow.result c.requires.joined c.requires.unbarred c.requires.settled marked (c.height_to_border-height.ensures.size flow) height starts wrote
+          c.with_margin-flow.ensures.fits holds;
+    }
 
 pub sum_of-flow-requires-clause-b : goal.sum_of-flow-requires-clause-b
 sum_of-flow-requires-clause-b c =

@@ -130,10 +130,14 @@ returns c =
     let wrote : Wrote length_at old.heights.items c.write_at.new.column.items p c.height_to_margin-height.result.0 =
     subst (λ (xs : List Length). Wrote length_at old.heights.items xs p c.height_to_margin-height.result.0) (sym c.write_at.ensures) (wrote_length old.heights.items p c.height_to_margin-height.result (omega (arith, a, b, l))) in
     let ends : RunEnds old.hangs old.start.0 old.strut c.end_of-end.result.0 = record { hanging = c.end_of-end.ensures.hanging; value = c.end_of-end.ensures.value } in
-    record { places = goes.places; are = goes.are; knows = knows_parted c.args.boxes.now c.requires.input.is_tree.tree (state_of old) (placing_of old.placing c.requires.known.places) p c.args.m c.requires.input c.requires.positive c.requires.ends c.requires.known.knows
-    _ _ (placing_of c.place_up_to.new.placing goes.places) c.end_of-end.result.0 c.length_at-mark.result.0 c.height_to_margin-height.result.0 c.sum_of-flow.result.0 c.lone_margin-flow.result c.requires.parted c.requires.settled
-    ends c.end_of-end.ensures.near settles placed (subst (λ (n : ℕ). AreExtentsKept c.args.boxes.now n old.placing.extents.items c.place_up_to.new.placing.extents.items) (sym (places_count old.placing c.requires.known.places c.requires.known.are)) done.kept) goes.same marked size height starts wrote
-    c.lone_margin-flow.ensures.fits holds } in
+    record {
+      places = goes.places;
+      are = goes.are;
+      knows = knows_parted c.args.boxes.now c.requires.input.is_tree.tree (state_of old) (placing_of old.placing c.requires.known.places) p c.args.m c.requires.input c.requires.positive c.requires.ends c.requires.known.knows
+          _ _ (placing_of c.place_up_to.new.placing goes.places) c.end_of-end.result.0 c.length_at-mark.result.0 c.height_to_margin-height.result.0 c.sum_of-flow.result.0 c.lone_margin-flow.result c.requires.parted c.requires.settled
+          ends c.end_of-end.ensures.near settles placed (subst (λ (n : ℕ). AreExtentsKept c.args.boxes.now n old.placing.extents.items c.place_up_to.new.placing.extents.items) (sym (places_count old.placing c.requires.known.places c.requires.known.are)) done.kept) goes.same marked size height starts wrote
+          c.lone_margin-flow.ensures.fits holds;
+    } in
     go there
 
 pub length_at-requires : goal.length_at-requires

@@ -33,5 +33,9 @@ returns c =
     let flag : Wrote flag_at old.through.items c.write_flag.new.flags.items p true =
     subst (λ (xs : List Bool). Wrote flag_at old.through.items xs p true) (sym c.write_flag.ensures) (wrote_flag old.through.items p true (omega (arith, a, b, l3))) in
     let ends : RunEnds old.hangs old.start.0 old.strut c.end_of-mark.result.0 = record { hanging = c.end_of-mark.ensures.hanging; value = c.end_of-mark.ensures.value } in
-    record { places = c.requires.known.places; are = c.requires.known.are; knows = knows_through c.args.boxes.now c.requires.input.is_tree.tree (state_of old) (placing_of old.placing c.requires.known.places) p c.args._m c.requires.input c.requires.positive c.requires.ends c.requires.known.knows
-    _ _ _ c.end_of-mark.result.0 c.with_margin-flow.result c.requires.through c.requires.waiting c.requires.inside ends c.end_of-mark.ensures.near mark height flag c.with_margin-flow.ensures.fits holds }
+    record {
+      places = c.requires.known.places;
+      are = c.requires.known.are;
+      knows = knows_through c.args.boxes.now c.requires.input.is_tree.tree (state_of old) (placing_of old.placing c.requires.known.places) p c.args._m c.requires.input c.requires.positive c.requires.ends c.requires.known.knows
+          _ _ _ c.end_of-mark.result.0 c.with_margin-flow.result c.requires.through c.requires.waiting c.requires.inside ends c.end_of-mark.ensures.near mark height flag c.with_margin-flow.ensures.fits holds;
+    }

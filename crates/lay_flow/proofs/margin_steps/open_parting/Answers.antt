@@ -31,9 +31,13 @@ returns c =
     let starts = ap (λ (v : Length). v.0) c.sum_of-flow.ensures ∙ ap (λ (b : Block). c.end_of-mark.result.0 +ℤ b.edge_top.0) c.block_at-block.ensures.value in
     let old = c.args.flow.now in
     let ends : RunEnds old.hangs old.start.0 c.with_margin-strut.result c.end_of-mark.result.0 = record { hanging = c.end_of-mark.ensures.hanging; value = c.end_of-mark.ensures.value } in
-    record { places = c.requires.ready.places; are = c.requires.ready.are; knows = knows_parting c.args.boxes.now c.requires.input.is_tree.tree (state_of old) (placing_of old.placing c.requires.ready.places) c.args.k _ c.end_of-mark.result.0 c.sum_of-flow.result.0 c.with_margin-strut.result c.no_margin-flow.result
-    c.requires.input c.requires.positive c.requires.within c.requires.parting c.requires.ready.ready holds ends c.end_of-mark.ensures.near
-    settles starts c.no_margin-flow.ensures.fits c.no_margin-flow.ensures.holds }
+    record {
+      places = c.requires.ready.places;
+      are = c.requires.ready.are;
+      knows = knows_parting c.args.boxes.now c.requires.input.is_tree.tree (state_of old) (placing_of old.placing c.requires.ready.places) c.args.k _ c.end_of-mark.result.0 c.sum_of-flow.result.0 c.with_margin-strut.result c.no_margin-flow.result
+          c.requires.input c.requires.positive c.requires.within c.requires.parting c.requires.ready.ready holds ends c.end_of-mark.ensures.near
+          settles starts c.no_margin-flow.ensures.fits c.no_margin-flow.ensures.holds;
+    }
 
 pub sum_of-flow-requires-clause-b : goal.sum_of-flow-requires-clause-b
 sum_of-flow-requires-clause-b c = inset_position c.block_at-block.result.edge_top.0 c.block_at-block.ensures.fits.edge_top

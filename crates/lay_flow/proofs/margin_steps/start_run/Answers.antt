@@ -14,5 +14,9 @@ run_start-flow-requires-clause-end c =
 
 pub returns-clause-known : goal.returns-clause-known
 returns-clause-known c =
-    record { places = c.requires.known.places; are = c.requires.known.are; knows = knows_started c.args.boxes.now c.requires.input.is_tree.tree (state_of c.args.flow.now) (placing_of c.args.flow.now.placing c.requires.known.places) c.args._p c.args._m c.requires.input c.requires.positive c.requires.ends c.requires.known.knows
-    c.run_start-flow.result.0 c.requires.through c.requires.hangs c.requires.first c.run_start-flow.ensures.value c.run_start-flow.ensures.near }
+    record {
+      places = c.requires.known.places;
+      are = c.requires.known.are;
+      knows = knows_started c.args.boxes.now c.requires.input.is_tree.tree (state_of c.args.flow.now) (placing_of c.args.flow.now.placing c.requires.known.places) c.args._p c.args._m c.requires.input c.requires.positive c.requires.ends c.requires.known.knows
+          c.run_start-flow.result.0 c.requires.through c.requires.hangs c.requires.first c.run_start-flow.ensures.value c.run_start-flow.ensures.near;
+    }

@@ -3,7 +3,7 @@ use Rattle.lay_floats.specs.declared.requests.FloatReq.{FloatReq}
 use Rattle.lay_floats.specs.Fits.{BoxFits, RequestFits}
 use Rattle.lay_floats.specs.FloatPlace.{IsFloatPlace, placed_at}
 use Rattle.lay_flow.specs.declared.block.Block.{Block}
-use Rattle.lay_flow.specs.BlockFloats.{Placement, float_request, no_lines}
+use Rattle.lay_flow.specs.BlockFloats.{Spot, float_request, no_lines}
 use Rattle.lay_flow.specs.BlockPositions.{is_placed}
 use Rattle.lay_flow.specs.MarginRuns.{block_at}
 use Rattle.lay_flow.specs.Weights.{weight}
@@ -50,11 +50,11 @@ returns-clause-placed c places are was =
     let near = subst (IsCeilingNear (weight boxes c.args.k)) top c.ceiling-top.ensures.near in
     let put = c.in_ok-place.ensures {u = tt} in
     let p = c.in_ok-place.place in
-    let here : Placement = record { place = p; lines = no_lines } in
+    let here : Spot = record { place = p; lines = no_lines } in
     let stands = subst (λ (r : FloatReq). IsFloatPlace c.args.placing.now.floats r p.x.0 p.y.0) asked put.place in
     let floats = rw asked at put.placed in
-    let push = c.in_ok-push_placement.ensures {u = tt} in
+    let push = c.in_ok-push_spot.ensures {u = tt} in
     let flow : is_placed (block_at boxes c.args.k).inside ≡ false = ap (λ (b : Block). is_placed b.inside) (float_block boxes c.args.k c.args.side c.requires.float) in
-    pushed_on boxes c.args.marks.now c.args.placing.now c.push_placement.new.placing places are here (c.args.k + 1) push.places push.rows push.met
+    pushed_on boxes c.args.marks.now c.args.placing.now c.push_spot.new.placing places are here (c.args.k + 1) push.places push.rows push.met
     (rw (push.extents, push.floats) (knows_float boxes c.args.marks.now (placing_of c.args.placing.now places) c.args.k was here c.args.side c.place.new.self
     (positive_float boxes c.requires.input.is_tree c.args.k c.args.side c.requires.float) c.requires.float flow (shape_fits boxes c.requires.input c.args.k within) near stands floats refl))

@@ -2,7 +2,7 @@ use Rattle.std.proofs.Common.{◌≡◌, ◌+◌, ◌<◌, ◌+ℤ◌, ◌-ℤ�
 use Rattle.lay_units.specs.Units.{IsPosition}
 use Rattle.lay_units.specs.declared.length.Unit.{Unit as Length}
 use Rattle.lay_lines.specs.Lines.{lines_of}
-use Rattle.lay_flow.specs.BlockFloats.{Placement}
+use Rattle.lay_flow.specs.BlockFloats.{Spot}
 use Rattle.lay_flow.specs.Lengths.{length_at}
 use Rattle.lay_flow.specs.MarginRuns.{block_at}
 use Rattle.lay_flow.specs.Weights.{weight}
@@ -54,7 +54,7 @@ returns-clause-placed c places are was =
     let v = lines_of c.in_ok-lines.lines c.lay_lines.new.floats in
     let near = laid_near boxes c.requires.input c.args.marks.now k within (c.requires.near k) c.sum_of-top.result.0 top c.requires.lines old.floats was.within c.index-boxes-k.result b v c.in_ok-lines.ensures.near in
     let laid = laid_lines boxes c.requires.input c.args.marks.now k within (c.requires.near k) c.sum_of-top.result.0 top c.requires.lines old.floats was.within c.index-boxes-k.result b v c.in_ok-lines.ensures.near c.in_ok-lines.ensures.lines in
-    let here : Placement = record { place = c.nowhere.result; lines = v } in
+    let here : Spot = record { place = c.nowhere.result; lines = v } in
     let l = was.extents_length in
     let value : c.depth_below-depth.result.0 ≡ v.end.0 -ℤ (length_at c.args.marks.now k +ℤ (block_at boxes k).edge_top.0) = c.depth_below-depth.ensures ∙ (λ i. v.end.0 -ℤ top i) in
     let wrote : Wrote length_at old.extents.items c.write_at.new.column.items k (v.end.0 -ℤ (length_at c.args.marks.now k +ℤ (block_at boxes k).edge_top.0)) =

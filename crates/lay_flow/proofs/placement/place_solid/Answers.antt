@@ -4,7 +4,7 @@ use Rattle.lay_floats.specs.Fits.{SolidFits}
 use Rattle.lay_floats.specs.SolidPlace.{IsSolidPlace}
 use Rattle.lay_units.specs.declared.length.Unit.{Unit as Length}
 use Rattle.lay_flow.specs.Lengths.{length_at}
-use Rattle.lay_flow.specs.BlockFloats.{Placement, no_lines, solid_request, shape_at}
+use Rattle.lay_flow.specs.BlockFloats.{Spot, no_lines, solid_request, shape_at}
 use Rattle.lay_flow.specs.Weights.{weight}
 use Rattle.lay_flow.specs.BlockSizes.{IsNear}
 use Rattle.lay_flow.specs.Pass.Known.{placing_of}
@@ -57,9 +57,9 @@ returns-clause-placed c places are was =
     let wrote : Wrote length_at old.extents.items c.write_at.new.column.items c.args.k (p.y.0 -ℤ length_at c.args.marks.now c.args.k +ℤ (shape_at c.args.boxes.now c.args.k).height.0) =
     subst (λ (v : ℤ). Wrote length_at old.extents.items c.write_at.new.column.items c.args.k v) value
     (subst (λ (xs : List Length). Wrote length_at old.extents.items xs c.args.k c.extent_below-extent.result.0) (sym c.write_at.ensures) (wrote_length old.extents.items c.args.k c.extent_below-extent.result (omega (arith, within, l)))) in
-    let push = c.in_ok-push_placement.ensures {u = tt} in
-    let here : Placement = record { place = p; lines = no_lines } in
+    let push = c.in_ok-push_spot.ensures {u = tt} in
+    let here : Spot = record { place = p; lines = no_lines } in
     let none = solid_flows c.args.boxes.now c.args.k c.requires.solid in
-    pushed_on boxes c.args.marks.now old c.push_placement.new.placing places are here (c.args.k + 1) push.places push.rows push.met
+    pushed_on boxes c.args.marks.now old c.push_spot.new.placing places are here (c.args.k + 1) push.places push.rows push.met
     (rw (push.extents, push.floats) (knows_solid boxes c.args.marks.now (placing_of old places) c.args.k was here c.write_at.new.column.items
     (positive_solid boxes c.requires.input.is_tree c.args.k c.requires.solid) none c.requires.solid (shape_fits boxes c.requires.input c.args.k within) (c.requires.near c.args.k) stands wrote refl))

@@ -7,8 +7,8 @@ pub loop-k-preserved : goal.loop-k-preserved
 loop-k-preserved c =
     let inv = c.loop-k.invariant in
     let done = c.in_ok-place_one.ensures {u = tt} in
-    let le = inv.0 in
-    (omega (arith, le),
+    let le = inv.0 in (
+      omega (arith, le),
       placed_further c.args.boxes.now c.args.marks.now c.loop-k.placing c.place_one.new.placing _ _ inv.1 done.placed,
       goes_further c.args.boxes.now c.args.marks.now c.args.placing.now c.loop-k.placing c.place_one.new.placing _ _ _ inv.2 le done.placed,
       λ j e. done.kept j (λ s. let lt = e s in omega (arith, lt, le)) ∙ inv.3 j e,
