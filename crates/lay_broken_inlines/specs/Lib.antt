@@ -1,0 +1,3 @@
+pub mod FormerParents
+pub mod OpenParts
+pub mod SubtreeEnds

@@ -1,0 +1,88 @@
+//! The inline box that held a box before it was broken (CSS 2.2, 9.2.1.1).
+
+ghost use Rattle.std.specs.Prelude.{◌≡◌, ◌<◌, ◌+◌, ◌≤◌, ℕ, length, slice_index, IfOk, OnOk, IsTrue, false, MatchOption, true};
+ghost use Rattle.lay_doc.specs.Tree.{IsTree};
+ghost use Rattle.lay_boxgen.specs.BoxColumns.{box_parents};
+ghost use Rattle.lay_broken_inlines.specs.FormerParents.{AreFormerParents, IsFormerParent};
+ghost use Rattle.lay_broken_inlines.specs.OpenParts.{AreLastPlaces, AreOpen, GoesOn};
+ghost use Rattle.lay_broken_inlines.specs.SubtreeEnds.{AreEnds, IsEnd};
+
+use crate::last_place::{is_inline_at, last_places};
+use crate::subtree_end::{box_parent, subtree_ends};
+use lay_boxgen::{BoxNode, BoxTree};
+use lay_units::NoMemory;
+use std::alloc::Global;
+
+/// For each box the place of the part before it of the innermost inline box that held it before it broke that.
+pub fn former_parents(alloc: Global, tree: &BoxTree) -> Result<Vec<Option<usize>>, NoMemory>
+    ensures { IfOk result (λ v. AreFormerParents tree.now v.items) }
+{
+    let boxes = tree.as_slice();
+    let last = last_places(alloc, boxes)?;
+    let ends = subtree_ends(alloc, boxes)?;
+    let mut parts = Vec::new(alloc);
+    let mut parents = Vec::with_capacity(alloc, boxes.len())?;
+    for k in 0..boxes.len() {
+        let parent = former_parent(boxes, &last, ends[k], &mut parts, k);
+        parents.push(parent)?;
+        note_open(boxes, &mut parts, k)?;
+    }
+    Ok(parents)
+}
+
+/// The former parent of the box at k. Parts that can have held no box from there on are dropped.
+fn former_parent(
+    boxes: &[BoxNode],
+    last: &[usize],
+    end: usize,
+    parts: &mut Vec<usize>,
+    k: usize,
+) -> Option<usize>
+    requires tree { IsTree (box_parents boxes.now) }
+    requires within { k < length boxes.now }
+    requires last { AreLastPlaces boxes.now last.now }
+    requires end { IsEnd boxes.now k end }
+    requires before { AreOpen boxes.now k parts.old.items }
+    ensures parent { IsFormerParent boxes.now k result }
+    ensures after { AreOpen boxes.now k parts.new.items }
+{
+    while is_top_over(last, end, parts) {
+        parts.pop();
+    }
+    nearest(parts, box_parent(boxes, k))
+}
+
+/// Whether the topmost of these parts has no later part from the place `end` on.
+fn is_top_over(last: &[usize], end: usize, parts: &[usize]) -> bool
+    requires { (i : ℕ) → i < length parts.now → slice_index parts.now i < length last.now }
+    ensures over { IsTrue result → (i : ℕ) × (i + 1 ≡ length parts.now) × (slice_index last.now (slice_index parts.now i) < end) }
+    ensures goes_on { result ≡ false → GoesOn last.now parts.now end }
+{
+    match parts.len() {
+        0 => false,
+        n => last[parts[n - 1]] < end,
+    }
+}
+
+/// The topmost of these parts, if it stands behind the place `parent`.
+fn nearest(parts: &[usize], parent: usize) -> Option<usize>
+    ensures { MatchOption result ((i : ℕ) → i + 1 ≡ length parts.now → slice_index parts.now i ≤ parent) (λ p. (i : ℕ) × (i + 1 ≡ length parts.now) × (slice_index parts.now i ≡ p) × (parent < p)) }
+{
+    match parts.len() {
+        0 => None,
+        n if parent < parts[n - 1] => Some(parts[n - 1]),
+        _ => None,
+    }
+}
+
+/// Notes the box at k, if it is an inline box.
+fn note_open(boxes: &[BoxNode], parts: &mut Vec<usize>, k: usize) -> Result<(), NoMemory>
+    requires within { k < length boxes.now }
+    requires before { AreOpen boxes.now k parts.old.items }
+    ensures { OnOk result (AreOpen boxes.now (k + 1) parts.new.items) }
+{
+    if is_inline_at(boxes, k) {
+        parts.push(k)?;
+    }
+    Ok(())
+}
