@@ -71,13 +71,13 @@ start_of s p = part.Edge (if p.first then record { 0 = left_edges s } else no_le
 abbrev pub end_of : Style → InlinePart → LinePart
 end_of s p = part.Edge (if p.last then record { 0 = right_edges s } else no_length) (has_vertical_edges s || (p.last && has_right_edges s))
 
-abbrev pub start_in : MeasureInValue → ℕ → Option BoxNode → List LinePart
-start_in m k None = []
-start_in m k (Some b) = start_of b.style (part_at m k) ∷ []
+abbrev pub start_in : MeasureInValue → ℕ → Option BoxNode → LinePart
+start_in m k None = part.Edge no_length false
+start_in m k (Some b) = start_of b.style (part_at m k)
 
-abbrev pub end_in : MeasureInValue → ℕ → Option BoxNode → List LinePart
-end_in m k None = []
-end_in m k (Some b) = end_of b.style (part_at m k) ∷ []
+abbrev pub end_in : MeasureInValue → ℕ → Option BoxNode → LinePart
+end_in m k None = part.Edge no_length false
+end_in m k (Some b) = end_of b.style (part_at m k)
 
 -- A cluster under this `white-space`. A collapsible space goes at the start and the end of a line. A preserved one counts, but at the
 -- end of a line where white space wraps. A preserved linefeed has no width; of CR LF, a cluster, the CR is a character.
@@ -99,8 +99,8 @@ text_parts m text (w ∷ ws) = part_between m text w (next_place text ws) ∷ te
 
 abbrev pub parts_at : MeasureInValue → Item → List LinePart
 parts_at m (item.Text k text mode widths) = text_parts mode text widths
-parts_at m (item.Start k) = start_in m k (slice_get m.boxes k)
-parts_at m (item.End k) = end_in m k (slice_get m.boxes k)
+parts_at m (item.Start k) = start_in m k (slice_get m.boxes k) ∷ []
+parts_at m (item.End k) = end_in m k (slice_get m.boxes k) ∷ []
 parts_at m (item.Atomic k mode) = part.Atomic (contribution_at m k) ∷ []
 parts_at m (item.Float k) = part.Float (contribution_at m k) ∷ []
 parts_at m (item.Anchor k) = []

@@ -1,8 +1,12 @@
 -- The preferred minimum width and the preferred width of a context (CSS 2.2, 10.3.5): those of the content of its own box, by a recursion
 -- on its boxes. A block box has those of its lines, or those of its blocks. The boxes of inner contexts have given ones, so nothing of
--- another context is looked into, and neither is the room that there will be.
+-- another context is looked into, and neither is the room that there will be. Tables don't have theirs here yet: the content of a table's
+-- wrapper counts for nothing, and where a wrapper stands among other boxes, its widths are given.
 use Rattle.std.specs.Prelude.{ℕ, ◌+◌, ◌==◌, List, [], ◌∷◌, ◌++◌, Option, Some, None, drop, slice_get, if◌then◌else◌}
+use Rattle.lay_doc.specs.declared.style.Style.{Style}
 use Rattle.lay_boxgen.specs.Roles.{role_of}
+use Rattle.lay_boxgen.specs.declared.box_tree.BoxKind.{BoxKind}
+use Rattle.lay_boxgen.specs.declared.box_tree.BoxKind.TheVariants as kind
 use Rattle.lay_boxgen.specs.declared.box_role.Role.{Role}
 use Rattle.lay_boxgen.specs.declared.box_role.Role.TheVariants as role
 use Rattle.lay_boxgen.specs.declared.box_tree.BoxNode.{BoxNode}
@@ -11,6 +15,7 @@ use Rattle.lay_measure.specs.Children.{Child, block_widths, child_as, holds_line
 use Rattle.lay_measure.specs.LineParts.{contribution}
 use Rattle.lay_measure.specs.LineWidths.{inline_widths}
 use Rattle.lay_measure.specs.MeasureInValue.{MeasureInValue, inner_at, no_widths}
+use Rattle.lay_measure.specs.ReplacedWidths.{replaced_width}
 use Rattle.lay_measure.specs.declared.preferred_widths.PreferredWidths.{PreferredWidths}
 
 -- the preferred widths of the lines of the box at k
@@ -38,6 +43,15 @@ children m p k (b ∷ bs) =
     if b.parent == p then as_child m k b (children m k (k + 1) bs) ++ children m p (k + 1) bs
     else children m p (k + 1) bs
 
+-- those of a context whose own box is this one: a replaced element has the width of the replaced rules
+abbrev pub preferred_as : MeasureInValue → BoxKind → Style → PreferredWidths
+preferred_as m (kind.Replaced w h inline) s = record { minimum = record { 0 = replaced_width w h s }; preferred = record { 0 = replaced_width w h s } }
+preferred_as m _ s = content_widths m 0 (children m 0 1 (drop 1 m.boxes))
+
+abbrev pub preferred_in : MeasureInValue → Option BoxNode → PreferredWidths
+preferred_in m None = no_widths
+preferred_in m (Some b) = preferred_as m b.kind b.style
+
 -- the preferred widths of the context with these boxes
 abbrev pub preferred_of : MeasureInValue → PreferredWidths
-preferred_of m = content_widths m 0 (children m 0 1 (drop 1 m.boxes))
+preferred_of m = preferred_in m (slice_get m.boxes 0)

@@ -95,12 +95,10 @@ pub(crate) fn right_edges(style: &Style) -> Result<Unit, NoMemory>
 fn bounded_width(style: &Style, content: Unit) -> Unit
     ensures { result.0 ≡ bounded_width style.now content }
 {
-    let sizing = &style.sizing;
-    with_min_max(
-        given_or(sizing.width, content),
-        size_or_zero(sizing.min_width),
-        limit_of(sizing.max_width),
-    )
+    let width = given_or(style.sizing.width, content);
+    let least = size_or_zero(style.sizing.min_width);
+    let most = limit_of(style.sizing.max_width);
+    with_min_max(width, least, most)
 }
 
 /// A `width` that is a length, in place of the content's width.

@@ -1,9 +1,8 @@
 //! The preferred widths of lines.
 
-ghost use Rattle.std.specs.Prelude.{◌≡◌, [], IfOk};
+ghost use Rattle.std.specs.Prelude.{◌≡◌, ◌<◌, ◌≤◌, ◌+◌, length, [], IfOk};
 ghost use Rattle.std.specs.List.{list_any};
-ghost use Rattle.std.specs.Int.{int_max};
-ghost use Rattle.lay_measure.specs.MeasureInValue.{no_length};
+ghost use Rattle.lay_measure.specs.WidestLine.{widest_with};
 ghost use Rattle.lay_measure.specs.LineWidths.{first_start, indent_of, inline_widths, is_seen, lines_of, parts_widths, tab_of, widest};
 
 use crate::line_parts::{LinePart, line_parts};
@@ -60,33 +59,43 @@ fn widest(
         widest: Unit(0),
     };
     for k in 0..parts.len() {
-        if ends_line(how, parts[k]) {
-            let width = line_width(how, tab, lines.start, &parts[lines.from..k])?;
-            lines = lines.after(width, k + 1);
-        }
+        lines = lines.past(how, tab, parts, k)?;
     }
-    let width = line_width(how, tab, lines.start, &parts[lines.from..])?;
-    Ok(greater(lines.widest, width))
+    let last = line_width(how, tab, lines.start, &parts[lines.from..parts.len()])?;
+    Ok(greater(lines.widest, greater(last, Unit(0))))
 }
 
 /// Where a line begins among the parts, and across; and the widest line before it.
 #[derive(Clone, Copy)]
-struct Lines {
-    from: usize,
-    start: Unit,
-    widest: Unit,
+pub struct Lines {
+    pub from: usize,
+    pub start: Unit,
+    pub widest: Unit,
 }
 
 impl Lines {
-    /// The line after one of this width, which begins with the part at `from`.
-    fn after(self, width: Unit, from: usize) -> Lines
-        ensures { result ≡ record { from = from; start = no_length; widest = record { 0 = int_max self.widest.0 width.0 } } }
+    /// After the part at k.
+    fn past(
+        self,
+        how: Breaking,
+        tab: Unit,
+        parts: &[LinePart],
+        k: usize,
+    ) -> Result<Lines, NoMemory>
+        requires begun { self.from ≤ k }
+        requires inside { k < length parts.now }
+        ensures total { IfOk result (λ l. widest_with how tab.0 parts.now l (k + 1) ≡ widest_with how tab.0 parts.now self k) }
+        ensures begun { IfOk result (λ l. l.from ≤ k + 1) }
     {
-        Lines {
-            from,
+        if !ends_line(how, parts[k]) {
+            return Ok(self);
+        }
+        let width = line_width(how, tab, self.start, &parts[self.from..k])?;
+        Ok(Lines {
+            from: k + 1,
             start: Unit(0),
             widest: greater(self.widest, width),
-        }
+        })
     }
 }
 
@@ -94,11 +103,17 @@ impl Lines {
 fn first_start(style: &TextStyle, parts: &[LinePart]) -> Unit
     ensures { result ≡ first_start style.now parts.now }
 {
-    if parts.iter().any(|part| is_seen(*part)) {
+    if is_any_seen(parts) {
         indent_of(style.text_indent)
     } else {
         Unit(0)
     }
+}
+
+fn is_any_seen(parts: &[LinePart]) -> bool
+    ensures { result ≡ list_any is_seen parts.now }
+{
+    parts.iter().any(|part| is_seen(*part))
 }
 
 fn is_seen(part: LinePart) -> bool

@@ -76,8 +76,8 @@ fn put_item(parts: &mut Vec<LinePart>, of: &MeasureIn<'_>, item: &Item) -> Resul
             widths,
             ..
         } => put_text(parts, *mode, text.as_str().as_bytes(), widths.as_slice()),
-        Item::Start(place) => put_start(parts, of, *place),
-        Item::End(place) => put_end(parts, of, *place),
+        Item::Start(place) => push_part(parts, start_at(of, *place)?),
+        Item::End(place) => push_part(parts, end_at(of, *place)?),
         Item::Atomic(place, _) => push_part(parts, LinePart::Atomic(contribution_at(of, *place)?)),
         Item::Float(place) => push_part(parts, LinePart::Float(contribution_at(of, *place)?)),
         Item::Anchor(_) => Ok(()),
@@ -134,14 +134,14 @@ fn next_place(text: &[u8], rest: &[ClusterWidth]) -> usize
     }
 }
 
-/// Puts the start of the inline box at a place.
-fn put_start(parts: &mut Vec<LinePart>, of: &MeasureIn<'_>, place: u32) -> Result<(), NoMemory>
-    ensures { OnOk result (parts.new.items ≡ parts.old.items ++ start_in of.now place (slice_get of.now.boxes place)) }
+/// The start of the inline box at a place.
+fn start_at(of: &MeasureIn<'_>, place: u32) -> Result<LinePart, NoMemory>
+    ensures { IfOk result (λ p. p ≡ start_in of.now place (slice_get of.now.boxes place)) }
 {
     let k = place as usize;
     match of.boxes().get(k) {
-        Some(node) => push_part(parts, start_of(&node.style, of.part_at(k))?),
-        None => Ok(()),
+        Some(node) => start_of(&node.style, of.part_at(k)),
+        None => Ok(LinePart::Edge(Unit(0), false)),
     }
 }
 
@@ -155,14 +155,14 @@ fn start_of(style: &Style, part: InlinePart) -> Result<LinePart, NoMemory>
     Ok(LinePart::Edge(left_edges(style)?, seen))
 }
 
-/// Puts the end of the inline box at a place.
-fn put_end(parts: &mut Vec<LinePart>, of: &MeasureIn<'_>, place: u32) -> Result<(), NoMemory>
-    ensures { OnOk result (parts.new.items ≡ parts.old.items ++ end_in of.now place (slice_get of.now.boxes place)) }
+/// The end of the inline box at a place.
+fn end_at(of: &MeasureIn<'_>, place: u32) -> Result<LinePart, NoMemory>
+    ensures { IfOk result (λ p. p ≡ end_in of.now place (slice_get of.now.boxes place)) }
 {
     let k = place as usize;
     match of.boxes().get(k) {
-        Some(node) => push_part(parts, end_of(&node.style, of.part_at(k))?),
-        None => Ok(()),
+        Some(node) => end_of(&node.style, of.part_at(k)),
+        None => Ok(LinePart::Edge(Unit(0), false)),
     }
 }
 

@@ -59,9 +59,10 @@ fn widest_float(parts: &[LinePart]) -> Unit
     ensures { result ≡ record { 0 = widest_float parts.now } }
 {
     let mut widest = Unit(0);
-    for k in 0..parts.len() {
-        if let LinePart::Float(widths) = parts[k] {
-            widest = greater(widest, widths.minimum);
+    let count = parts.len();
+    for done in 0..count {
+        if let LinePart::Float(widths) = parts[count - 1 - done] {
+            widest = greater(widths.minimum, widest);
         }
     }
     widest
