@@ -1,11 +1,10 @@
 -- The children of a box among the boxes from a place on, a box further.
-use Rattle.std.proofs.Common.{◌≡◌, ◌≢◌, ℕ, zero, suc, ◌+◌, ◌-◌, ◌<◌, ◌≤◌, ◌==◌, ◌⊎◌, inl, inr, Option, Some, Result, IfOk, slice_get, replicate, subst, true, false, List, [], ◌∷◌, ◌++◌, length, drop, get_or, map, slice_index, refl, sym, ap, ◌∙◌, arith}
+use Rattle.std.proofs.Common.{◌≡◌, ◌≢◌, ℕ, zero, suc, ◌+◌, ◌-◌, ◌<◌, ◌≤◌, ◌==◌, ◌⊎◌, inl, inr, Option, Some, slice_get, replicate, subst, true, false, List, [], ◌∷◌, ◌++◌, length, drop, get_or, slice_index, refl, sym, ap, ◌∙◌, arith}
 use Rattle.std.proofs.lemmas.Bool.{cases_eq, ne_eqb, eq-eqb}
 use Rattle.std.proofs.lemmas.List.{drop_all, drop_more, get_or-replicate, length-replicate}
 use Rattle.std.proofs.lemmas.Option.{slice_get-get_or}
 use Rattle.lay_boxgen.specs.BoxColumns.{box_parents}
 use Rattle.lay_boxgen.specs.declared.box_tree.BoxNode.{BoxNode}
-use Rattle.lay_measure.specs.Children.{Child}
 use Rattle.lay_measure.specs.ChildTotals.{totals_of}
 use Rattle.lay_measure.specs.declared.children.ChildTotals.{ChildTotals}
 use Rattle.lay_measure.specs.MeasureInValue.{MeasureInValue}
@@ -58,7 +57,7 @@ known_further m k d parent old new t lt at here others known value p less = from
     from : (p ≡ parent) ⊎ (p ≡ parent → ⊥) → slice_get new p ≡ Some (totals_from m p k)
     from (inl e) =
         let there : slice_get new parent ≡ Some (totals_from m parent k) =
-          here ∙ ap (λ x. Some x) (value ∙ ap (λ cs. totals_of cs) (sym (is_child m parent k d lt at))) in
+        here ∙ ap (λ x. Some x) (value ∙ ap (λ cs. totals_of cs) (sym (is_child m parent k d lt at))) in
         subst (λ q. slice_get new q ≡ Some (totals_from m q k)) (sym e) there
     from (inr ne) =
         let apart : (get_or m.boxes k d).parent ≢ p = λ h. ne (sym h ∙ at) in

@@ -4,7 +4,7 @@
 -- of the line beside it, and the other that of the widest where they break wherever they may, or of the widest float. Spaces at the
 -- start and the end of a line don't count (16.6.1). A `text-indent` that is a length comes before the first line where that is seen;
 -- a first line that isn't seen (9.4.2) is the only one.
-use Rattle.std.specs.Prelude.{ℕ, zero, suc, ℤ, pos, negsuc, ◌+ℤ◌, ◌*ℤ◌, Bool, true, false, List, [], ◌∷◌, ◌++◌, Option, Some, None, slice_get, if◌then◌else◌}
+use Rattle.std.specs.Prelude.{zero, suc, ℤ, pos, negsuc, ◌+ℤ◌, ◌*ℤ◌, Bool, true, false, List, [], ◌∷◌, ◌++◌, if◌then◌else◌}
 use Rattle.std.specs.List.{list_any}
 use Rattle.std.specs.Int.{int_max, int_div_euclid}
 use Rattle.lay_units.specs.declared.length.Unit.{Unit as Length}

@@ -26,7 +26,10 @@ pub(crate) fn contribution_at(of: &MeasureIn<'_>, place: u32) -> Result<Preferre
 }
 
 /// What a box with these preferred widths takes.
-pub(crate) fn contribution(node: &BoxNode, own: PreferredWidths) -> Result<PreferredWidths, NoMemory>
+pub(crate) fn contribution(
+    node: &BoxNode,
+    own: PreferredWidths,
+) -> Result<PreferredWidths, NoMemory>
     ensures { IfOk result (λ w. w ≡ contribution node.now own) }
 {
     let style = &node.style;

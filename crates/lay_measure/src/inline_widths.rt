@@ -45,12 +45,7 @@ fn parts_widths(
 }
 
 /// The width of the widest line of these parts.
-fn widest(
-    how: Breaking,
-    tab: Unit,
-    start: Unit,
-    parts: &[LinePart],
-) -> Result<Unit, NoMemory>
+fn widest(how: Breaking, tab: Unit, start: Unit, parts: &[LinePart]) -> Result<Unit, NoMemory>
     ensures { IfOk result (λ v. v ≡ record { 0 = widest how tab.0 start (lines_of how [] parts.now) }) }
 {
     let mut lines = Lines {
@@ -75,13 +70,7 @@ pub struct Lines {
 
 impl Lines {
     /// After the part at k.
-    fn past(
-        self,
-        how: Breaking,
-        tab: Unit,
-        parts: &[LinePart],
-        k: usize,
-    ) -> Result<Lines, NoMemory>
+    fn past(self, how: Breaking, tab: Unit, parts: &[LinePart], k: usize) -> Result<Lines, NoMemory>
         requires begun { self.from ≤ k }
         requires inside { k < length parts.now }
         ensures total { IfOk result (λ l. widest_with how tab.0 parts.now l (k + 1) ≡ widest_with how tab.0 parts.now self k) }

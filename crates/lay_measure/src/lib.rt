@@ -5,15 +5,15 @@
 //! `specs/ReplacedWidths.antt` (what a box takes), and on `specs/LineParts.antt` and `specs/LineWidths.antt` (lines).
 #![tactic(auto)]
 
-mod preferred_widths;
-mod measure_in;
-mod measuring;
 mod children;
 mod contributions;
-mod replaced_widths;
 mod inline_widths;
 mod line_parts;
+mod measure_in;
+mod measuring;
 mod pen;
+mod preferred_widths;
+mod replaced_widths;
 mod sums;
 
 pub use measure_in::MeasureIn;

@@ -4,7 +4,9 @@ ghost use Rattle.std.specs.Prelude.{◌≡◌, ◌++◌, ◌∷◌, [], slice_ge
 ghost use Rattle.lay_space.specs.Tokens.{next_place};
 ghost use Rattle.lay_measure.specs.LineParts.{cluster_part, end_in, end_of, has_left_edges, has_right_edges, has_vertical_edges, is_nonzero, line_parts, part_between, parts_at, parts_of, start_in, start_of, text_parts};
 
-use crate::contributions::{contribution_at, left_edges, margin_or_zero, right_edges, size_of, size_or_zero};
+use crate::contributions::{
+    contribution_at, left_edges, margin_or_zero, right_edges, size_of, size_or_zero,
+};
 use crate::measure_in::MeasureIn;
 use crate::preferred_widths::PreferredWidths;
 use lay_box_parts::InlinePart;
@@ -52,11 +54,7 @@ pub(crate) fn line_parts(
     Ok(parts)
 }
 
-fn put_items(
-    parts: &mut Vec<LinePart>,
-    of: &MeasureIn<'_>,
-    items: &[Item],
-) -> Result<(), NoMemory>
+fn put_items(parts: &mut Vec<LinePart>, of: &MeasureIn<'_>, items: &[Item]) -> Result<(), NoMemory>
     ensures { OnOk result (parts.new.items ≡ parts.old.items ++ parts_of of.now items.now) }
 {
     for k in 0..items.len() {

@@ -1,5 +1,4 @@
-use Rattle.std.proofs.Common.{rules, ◌≡◌, ◌<◌, arith, get_or, ap, sym, ◌∙◌}
-use Rattle.lay_boxgen.specs.declared.box_tree.BoxNode.{BoxNode}
+use Rattle.std.proofs.Common.{◌≡◌, arith, get_or, ap}
 use Rattle.lay_measure.proofs.ChildrenBefore.{length-parents, parent_at}
 use Rattle.lay_measure.proofs.measuring.parent_of.Goals as goal
 

@@ -1,6 +1,6 @@
-use Rattle.std.proofs.Common.{rules, ◌≡◌, ◌-◌, [], length, drop, sym, ap, ◌∙◌, arith, Some, slice_get, replicate}
+use Rattle.std.proofs.Common.{rules, ◌≡◌, ◌-◌, [], length, drop, ap, ◌∙◌, arith, slice_get, replicate}
 use Rattle.lay_measure.specs.ChildTotals.{totals_of}
-use Rattle.lay_measure.specs.PreferredWidths.{children, content_widths}
+use Rattle.lay_measure.specs.PreferredWidths.{children}
 use Rattle.lay_measure.proofs.ChildrenBefore.{none_left, one_value, totals_from}
 use Rattle.lay_measure.proofs.measuring.tree_widths.Goals as goal
 
