@@ -1,0 +1,2 @@
+pub mod WidestLines
+pub mod ChildrenBefore

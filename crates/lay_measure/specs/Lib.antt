@@ -1,0 +1,9 @@
+pub mod MeasureInValue
+pub mod Contributions
+pub mod ReplacedWidths
+pub mod LineParts
+pub mod LineWidths
+pub mod WidestLine
+pub mod Children
+pub mod ChildTotals
+pub mod PreferredWidths

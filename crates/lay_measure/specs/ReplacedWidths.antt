@@ -1,0 +1,43 @@
+-- The width of a replaced element where nothing around it is known (CSS 2.2, 10.3.2, 10.4, 10.6.2 and 10.7): that of the rules for
+-- replaced elements, where a percentage of `width` and `height` counts as `auto`, one of `min-width` and `min-height` as 0, and
+-- one of `max-width` and `max-height` as `none`. It is both preferred widths of the element. Natural sizes are from 1 unit on.
+use Rattle.std.specs.Prelude.{ℤ, pos}
+use Rattle.std.specs.Int.{int_max}
+use Rattle.lay_units.specs.Units.{clamp_size_of}
+use Rattle.lay_units.specs.declared.length.Unit.{Unit as Length}
+use Rattle.lay_units.specs.declared.records.Len.{Len}
+use Rattle.lay_units.specs.declared.records.Len.TheVariants.{Auto as auto, Of as of}
+use Rattle.lay_doc.specs.declared.style.Style.{Style}
+use Rattle.lay_doc.specs.declared.style_lengths.LengthPercentageOrAuto.{LengthPercentageOrAuto}
+use Rattle.lay_doc.specs.declared.style_lengths.LengthPercentageOrAuto.TheVariants as or_auto
+use Rattle.lay_widths.specs.ReplacedSizes.{sizes_for}
+use Rattle.lay_widths.specs.declared.replaced.ReplacedIn.{ReplacedIn}
+use Rattle.lay_doc.specs.LengthValues.{size_of}
+use Rattle.lay_measure.specs.Contributions.{limit_of, size_or_zero}
+
+abbrev pub length_or_auto : LengthPercentageOrAuto → Len
+length_or_auto or_auto.Auto = auto
+length_or_auto (or_auto.Length u) = of (size_of u.0)
+length_or_auto (or_auto.Percent h) = auto
+
+abbrev pub natural_size : Length → Length
+natural_size u = record { 0 = int_max (pos 1) (clamp_size_of u.0) }
+
+-- an element of these natural sizes and this style
+abbrev pub replaced_of : Length → Length → Style → ReplacedIn
+replaced_of w h s = record {
+  natural_width = natural_size w;
+  natural_height = natural_size h;
+  width = length_or_auto s.sizing.width;
+  height = length_or_auto s.sizing.height;
+  min_width = size_or_zero s.sizing.min_width;
+  max_width = limit_of s.sizing.max_width;
+  min_height = size_or_zero s.sizing.min_height;
+  max_height = limit_of s.sizing.max_height;
+}
+
+abbrev pub width_of : ReplacedIn → ℤ
+width_of r = clamp_size_of (sizes_for r r.width r.height).width
+
+abbrev pub replaced_width : Length → Length → Style → ℤ
+replaced_width w h s = width_of (replaced_of w h s)

@@ -1,0 +1,70 @@
+//! Widths of replaced elements.
+
+ghost use Rattle.std.specs.Prelude.{◌≡◌, pos, ◌≤ℤ◌, IfSome};
+ghost use Rattle.lay_widths.specs.Lengths.{IsSize, LenIsSize};
+ghost use Rattle.lay_widths.specs.ReplacedFits.{ReplacedFits};
+ghost use Rattle.lay_measure.specs.ReplacedWidths.{length_or_auto, natural_size, replaced_of, replaced_width};
+ghost use Rattle.lay_measure.specs.Contributions.{limit_of, size_or_zero};
+
+use crate::contributions::{limit_of, size_of, size_or_zero};
+use lay_doc::{LengthPercentage, LengthPercentageOrAuto, LengthPercentageOrNone, Style};
+use lay_units::{Len, Unit, clamp_size};
+use lay_widths::{ReplacedIn, replaced_size};
+
+/// The width of a replaced element of these natural sizes, whatever is around it.
+pub(crate) fn replaced_width(w: Unit, h: Unit, style: &Style) -> Unit
+    ensures { result.0 ≡ replaced_width w h style.now }
+{
+    replaced_size(&replaced_of(w, h, style)).width
+}
+
+fn replaced_of(w: Unit, h: Unit, style: &Style) -> ReplacedIn
+    ensures value { result ≡ replaced_of w h style.now }
+    ensures fits { ReplacedFits result }
+{
+    let sizing = &style.sizing;
+    ReplacedIn {
+        natural_width: natural_size(w),
+        natural_height: natural_size(h),
+        width: length_or_auto(sizing.width),
+        height: length_or_auto(sizing.height),
+        min_width: least(sizing.min_width),
+        max_width: greatest(sizing.max_width),
+        min_height: least(sizing.min_height),
+        max_height: greatest(sizing.max_height),
+    }
+}
+
+/// A natural size, which is from 1 unit on.
+fn natural_size(size: Unit) -> Unit
+    ensures value { result ≡ natural_size size }
+    ensures size { IsSize result.0 }
+    ensures positive { pos 1 ≤ℤ result.0 }
+{
+    Unit(clamp_size(i128::from(size.0)).0.max(1))
+}
+
+/// A `width` or a `height`, of which a percentage is `auto`.
+fn length_or_auto(size: LengthPercentageOrAuto) -> Len
+    ensures value { result ≡ length_or_auto size }
+    ensures size { LenIsSize result }
+{
+    match size {
+        LengthPercentageOrAuto::Length(length) => Len::Of(size_of(length)),
+        LengthPercentageOrAuto::Auto | LengthPercentageOrAuto::Percent(_) => Len::Auto,
+    }
+}
+
+fn least(size: LengthPercentage) -> Unit
+    ensures value { result ≡ size_or_zero size }
+    ensures size { IsSize result.0 }
+{
+    size_or_zero(size)
+}
+
+fn greatest(limit: LengthPercentageOrNone) -> Option<Unit>
+    ensures value { result ≡ limit_of limit }
+    ensures size { IfSome result (λ v. IsSize v.0) }
+{
+    limit_of(limit)
+}
