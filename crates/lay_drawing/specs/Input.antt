@@ -1,0 +1,2 @@
+-- What was read of a report.
+use Rattle.std.specs.Prelude.{ℕ}

@@ -1,0 +1,101 @@
+-- The picture of pieces: an SVG document with a shape for each piece, in their order.
+-- A box is an outlined rectangle, a line a dashed one, and a text a filled bar, each kind with a colour of its own and
+-- each with its kind, node and part as its title. A box that has room for it shows the number of its node.
+use Rattle.std.specs.Prelude.{ℕ, ◌+◌, ◌*◌, ◌≡◌, ◌&&◌, Bool, true, false, ℤ, pos, ◌+ℤ◌, ◌-ℤ◌, ◌≤ℤ◌, List, [], ◌∷◌, ◌++◌, length, codes, fold, nat_le, if◌then◌else◌}
+use Rattle.std.specs.List.{flat_map, All}
+use Rattle.std.specs.Int.{int_min, int_max, unsigned_abs}
+use Rattle.std.specs.Fmt.{decimal}
+use Rattle.lay_frag.specs.declared.frag.Frag.{Frag}
+use Rattle.lay_frag.specs.declared.frag.FragKind.{FragKind}
+use Rattle.lay_frag.specs.declared.frag.FragKind.TheVariants.{Box, Line, Text}
+use Rattle.lay_frag.specs.Lines.{kind_word}
+use Rattle.lay_drawing.specs.declared.frame.Frame.{Frame}
+use Rattle.lay_drawing.specs.Pixels.{px_text}
+
+-- the edges of a piece; a width or a height that is negative reaches to the left or upward
+abbrev pub edges : Frag → Frame
+edges f = record {
+  left = int_min f.rect.x.0 (f.rect.x.0 +ℤ f.rect.w.0);
+  top = int_min f.rect.y.0 (f.rect.y.0 +ℤ f.rect.h.0);
+  right = int_max f.rect.x.0 (f.rect.x.0 +ℤ f.rect.w.0);
+  bottom = int_max f.rect.y.0 (f.rect.y.0 +ℤ f.rect.h.0);
+}
+
+-- the least frame that holds two
+abbrev pub joined : Frame → Frame → Frame
+joined a b = record { left = int_min a.left b.left; top = int_min a.top b.top; right = int_max a.right b.right; bottom = int_max a.bottom b.bottom }
+
+-- the least frame that holds all pieces; where there are none, one of no size
+abbrev pub frame_of : List Frag → Frame
+frame_of [] = record { left = pos 0; top = pos 0; right = pos 0; bottom = pos 0 }
+frame_of (f ∷ fs) = fold (λ frame piece. joined frame (edges piece)) (edges f) fs
+
+-- a frame holds a piece
+pub record Holds (frame : Frame) (f : Frag) : Type 0 where
+  pub left : frame.left ≤ℤ (edges f).left
+  pub top : frame.top ≤ℤ (edges f).top
+  pub right : (edges f).right ≤ℤ frame.right
+  pub bottom : (edges f).bottom ≤ℤ frame.bottom
+
+abbrev pub FramesHold : Type 0
+FramesHold = (pieces : List Frag) → All (Holds (frame_of pieces)) pieces
+
+-- an attribute with a length
+abbrev pub length_text : List ℕ → ℤ → List ℕ
+length_text name units = codes " " ++ name ++ codes "=\"" ++ px_text units ++ codes "\""
+
+-- a margin of one px stands round all, so that no outline is cut: its outer edge
+abbrev pub outside : ℤ → ℤ
+outside low = low -ℤ pos 64
+
+-- from its outer edge to the other
+abbrev pub span : ℤ → ℤ → ℤ
+span low high = (high -ℤ low) +ℤ pos 128
+
+abbrev pub view_text : Frame → List ℕ
+view_text frame =
+    codes " viewBox=\"" ++ px_text (outside frame.left) ++ codes " " ++ px_text (outside frame.top)
+    ++ codes " " ++ px_text (span frame.left frame.right) ++ codes " " ++ px_text (span frame.top frame.bottom) ++ codes "\""
+
+abbrev pub opening : Frame → List ℕ
+opening frame =
+    codes "<svg xmlns=\"http://www.w3.org/2000/svg\"" ++ length_text (codes "width") (span frame.left frame.right) ++ length_text (codes "height") (span frame.top frame.bottom)
+    ++ view_text frame ++ codes " font-family=\"monospace\" font-size=\"10\" pointer-events=\"all\">\n"
+
+-- how a kind is painted: outlined, dashed, or filled
+abbrev pub paint : FragKind → List ℕ
+paint Box = codes " fill=\"none\" stroke=\"#1d4ed8\""
+paint Line = codes " fill=\"none\" stroke=\"#b45309\" stroke-dasharray=\"4 2\""
+paint Text = codes " fill=\"#15803d\" fill-opacity=\"0.4\""
+
+abbrev pub title_text : Frag → List ℕ
+title_text f = codes "<title>" ++ kind_word f.kind ++ codes " " ++ decimal f.node.0 ++ codes " " ++ decimal f.part ++ codes "</title>"
+
+abbrev pub rect_text : Frag → List ℕ
+rect_text f =
+    codes "<rect" ++ length_text (codes "x") (edges f).left ++ length_text (codes "y") (edges f).top
+    ++ length_text (codes "width") ((edges f).right -ℤ (edges f).left) ++ length_text (codes "height") ((edges f).bottom -ℤ (edges f).top)
+    ++ paint f.kind ++ codes ">" ++ title_text f ++ codes "</rect>\n"
+
+abbrev pub is_box : FragKind → Bool
+is_box Box = true
+is_box Line = false
+is_box Text = false
+
+-- a box has room for the number of its node where that is 6 px wide a digit, 12 px high, and has 3 px on each side
+abbrev pub has_room : Frag → Bool
+has_room f = is_box f.kind && nat_le (384 * length (decimal f.node.0) + 384) (unsigned_abs f.rect.w.0) && nat_le 768 (unsigned_abs f.rect.h.0)
+
+abbrev pub number_text : Frag → List ℕ
+number_text f =
+    codes "<text" ++ length_text (codes "x") ((edges f).left +ℤ pos 192) ++ length_text (codes "y") ((edges f).top +ℤ pos 640)
+    ++ codes " fill=\"#1d4ed8\">" ++ decimal f.node.0 ++ codes "</text>\n"
+
+abbrev pub shape : Frag → List ℕ
+shape f = rect_text f ++ (if has_room f then number_text f else [])
+
+abbrev pub shapes : List Frag → List ℕ
+shapes pieces = flat_map shape pieces
+
+abbrev pub picture : List Frag → List ℕ
+picture pieces = opening (frame_of pieces) ++ shapes pieces ++ codes "</svg>\n"

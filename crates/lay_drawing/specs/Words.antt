@@ -1,0 +1,2 @@
+-- The words of the command line.
+use Rattle.std.specs.Prelude.{ℕ}
