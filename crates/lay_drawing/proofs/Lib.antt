@@ -1,0 +1,9 @@
+pub mod Numerals
+pub mod Splitting
+pub mod LineReading
+pub mod Streams
+pub mod LineSteps
+pub mod ByteSteps
+pub mod WordLemmas
+pub mod Digits
+pub mod Frames

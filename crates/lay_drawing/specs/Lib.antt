@@ -1,6 +1,7 @@
 pub mod Lines
 pub mod Reading
 pub mod Reports
+pub mod States
 pub mod Pixels
 pub mod Picture
 pub mod Words

@@ -1,41 +1,43 @@
 -- The picture of pieces: an SVG document with a shape for each piece, in their order.
 -- A box is an outlined rectangle, a line a dashed one, and a text a filled bar, each kind with a colour of its own and
 -- each with its kind, node and part as its title. A box that has room for it shows the number of its node.
-use Rattle.std.specs.Prelude.{ℕ, ◌+◌, ◌*◌, ◌≡◌, ◌&&◌, Bool, true, false, ℤ, pos, ◌+ℤ◌, ◌-ℤ◌, ◌≤ℤ◌, List, [], ◌∷◌, ◌++◌, length, codes, fold, nat_le, if◌then◌else◌}
+use Rattle.std.specs.Prelude.{ℕ, ◌+◌, ◌*◌, ◌≡◌, ◌&&◌, Bool, true, false, ℤ, pos, ◌+ℤ◌, ◌-ℤ◌, ◌≤ℤ◌, List, [], ◌∷◌, ◌++◌, length, codes, fold, nat_le, unsigned_abs, if◌then◌else◌}
 use Rattle.std.specs.List.{flat_map, All}
-use Rattle.std.specs.Int.{int_min, int_max, unsigned_abs}
+use Rattle.std.specs.Int.{int_min, int_max}
 use Rattle.std.specs.Fmt.{decimal}
 use Rattle.lay_frag.specs.declared.frag.Frag.{Frag}
 use Rattle.lay_frag.specs.declared.frag.FragKind.{FragKind}
 use Rattle.lay_frag.specs.declared.frag.FragKind.TheVariants.{Box, Line, Text}
 use Rattle.lay_frag.specs.Lines.{kind_word}
 use Rattle.lay_drawing.specs.declared.frame.Frame.{Frame}
+use Rattle.lay_drawing.specs.declared.frame.Span.{Span}
 use Rattle.lay_drawing.specs.Pixels.{px_text}
 
--- the edges of a piece; a width or a height that is negative reaches to the left or upward
-abbrev pub edges : Frag → Frame
-edges f = record {
-  left = int_min f.rect.x.0 (f.rect.x.0 +ℤ f.rect.w.0);
-  top = int_min f.rect.y.0 (f.rect.y.0 +ℤ f.rect.h.0);
-  right = int_max f.rect.x.0 (f.rect.x.0 +ℤ f.rect.w.0);
-  bottom = int_max f.rect.y.0 (f.rect.y.0 +ℤ f.rect.h.0);
-}
+-- the edges of a size; one that is negative reaches to the left or upward
+abbrev pub reach : ℤ → ℤ → Span
+reach from size = record { low = int_min from (from +ℤ size); high = int_max from (from +ℤ size) }
 
--- the least frame that holds two
+abbrev pub edges : Frag → Frame
+edges f = record { across = reach f.rect.x.0 f.rect.w.0; down = reach f.rect.y.0 f.rect.h.0 }
+
+-- the least that holds two
+abbrev pub wider : Span → Span → Span
+wider a b = record { low = int_min a.low b.low; high = int_max a.high b.high }
+
 abbrev pub joined : Frame → Frame → Frame
-joined a b = record { left = int_min a.left b.left; top = int_min a.top b.top; right = int_max a.right b.right; bottom = int_max a.bottom b.bottom }
+joined a b = record { across = wider a.across b.across; down = wider a.down b.down }
 
 -- the least frame that holds all pieces; where there are none, one of no size
 abbrev pub frame_of : List Frag → Frame
-frame_of [] = record { left = pos 0; top = pos 0; right = pos 0; bottom = pos 0 }
+frame_of [] = record { across = record { low = pos 0; high = pos 0 }; down = record { low = pos 0; high = pos 0 } }
 frame_of (f ∷ fs) = fold (λ frame piece. joined frame (edges piece)) (edges f) fs
 
+abbrev pub IsWithin : Span → Span → Type 0
+IsWithin inner outer = (outer.low ≤ℤ inner.low) × (inner.high ≤ℤ outer.high)
+
 -- a frame holds a piece
-pub record Holds (frame : Frame) (f : Frag) : Type 0 where
-  pub left : frame.left ≤ℤ (edges f).left
-  pub top : frame.top ≤ℤ (edges f).top
-  pub right : (edges f).right ≤ℤ frame.right
-  pub bottom : (edges f).bottom ≤ℤ frame.bottom
+abbrev pub Holds : Frame → Frag → Type 0
+Holds frame f = IsWithin (edges f).across frame.across × IsWithin (edges f).down frame.down
 
 abbrev pub FramesHold : Type 0
 FramesHold = (pieces : List Frag) → All (Holds (frame_of pieces)) pieces
@@ -49,17 +51,17 @@ abbrev pub outside : ℤ → ℤ
 outside low = low -ℤ pos 64
 
 -- from its outer edge to the other
-abbrev pub span : ℤ → ℤ → ℤ
-span low high = (high -ℤ low) +ℤ pos 128
+abbrev pub full_size : Span → ℤ
+full_size s = (s.high -ℤ s.low) +ℤ pos 128
 
 abbrev pub view_text : Frame → List ℕ
 view_text frame =
-    codes " viewBox=\"" ++ px_text (outside frame.left) ++ codes " " ++ px_text (outside frame.top)
-    ++ codes " " ++ px_text (span frame.left frame.right) ++ codes " " ++ px_text (span frame.top frame.bottom) ++ codes "\""
+    codes " viewBox=\"" ++ px_text (outside frame.across.low) ++ codes " " ++ px_text (outside frame.down.low)
+    ++ codes " " ++ px_text (full_size frame.across) ++ codes " " ++ px_text (full_size frame.down) ++ codes "\""
 
 abbrev pub opening : Frame → List ℕ
 opening frame =
-    codes "<svg xmlns=\"http://www.w3.org/2000/svg\"" ++ length_text (codes "width") (span frame.left frame.right) ++ length_text (codes "height") (span frame.top frame.bottom)
+    codes "<svg xmlns=\"http://www.w3.org/2000/svg\"" ++ length_text (codes "width") (full_size frame.across) ++ length_text (codes "height") (full_size frame.down)
     ++ view_text frame ++ codes " font-family=\"monospace\" font-size=\"10\" pointer-events=\"all\">\n"
 
 -- how a kind is painted: outlined, dashed, or filled
@@ -73,8 +75,8 @@ title_text f = codes "<title>" ++ kind_word f.kind ++ codes " " ++ decimal f.nod
 
 abbrev pub rect_text : Frag → List ℕ
 rect_text f =
-    codes "<rect" ++ length_text (codes "x") (edges f).left ++ length_text (codes "y") (edges f).top
-    ++ length_text (codes "width") ((edges f).right -ℤ (edges f).left) ++ length_text (codes "height") ((edges f).bottom -ℤ (edges f).top)
+    codes "<rect" ++ length_text (codes "x") (edges f).across.low ++ length_text (codes "y") (edges f).down.low
+    ++ length_text (codes "width") ((edges f).across.high -ℤ (edges f).across.low) ++ length_text (codes "height") ((edges f).down.high -ℤ (edges f).down.low)
     ++ paint f.kind ++ codes ">" ++ title_text f ++ codes "</rect>\n"
 
 abbrev pub is_box : FragKind → Bool
@@ -88,7 +90,7 @@ has_room f = is_box f.kind && nat_le (384 * length (decimal f.node.0) + 384) (un
 
 abbrev pub number_text : Frag → List ℕ
 number_text f =
-    codes "<text" ++ length_text (codes "x") ((edges f).left +ℤ pos 192) ++ length_text (codes "y") ((edges f).top +ℤ pos 640)
+    codes "<text" ++ length_text (codes "x") ((edges f).across.low +ℤ pos 192) ++ length_text (codes "y") ((edges f).down.low +ℤ pos 640)
     ++ codes " fill=\"#1d4ed8\">" ++ decimal f.node.0 ++ codes "</text>\n"
 
 abbrev pub shape : Frag → List ℕ

@@ -5,7 +5,7 @@ use Rattle.std.specs.Fmt.{decimal}
 use Rattle.std.specs.Str.Parse.{digits_value}
 
 -- the first digits of so many 64th, at most `most` of them: long division by 64
-abbrev pub fraction_digits : ℕ → ℕ → List ℕ
+unfoldable pub fraction_digits : ℕ → ℕ → List ℕ
 fraction_digits zero rest = []
 fraction_digits (suc most) rest = if rest == 0 then [] else (48 + rest * 10 / 64) ∷ fraction_digits most (rest * 10 % 64)
 

@@ -109,13 +109,14 @@ rect_of [] = None
 rect_of (x ∷ []) = None
 rect_of (x ∷ y ∷ []) = None
 rect_of (x ∷ y ∷ w ∷ []) = None
-rect_of (x ∷ y ∷ w ∷ h ∷ []) = do
-  left ← position_of x
-  top ← position_of y
-  width ← position_of w
-  height ← position_of h
-  Some (record { x = left; y = top; w = width; h = height })
-rect_of (x ∷ y ∷ w ∷ h ∷ more ∷ rest) = None
+rect_of (x ∷ y ∷ w ∷ h ∷ rest) =
+    if length rest == 0 then (do
+      left ← position_of x
+      top ← position_of y
+      width ← position_of w
+      height ← position_of h
+      Some (record { x = left; y = top; w = width; h = height }))
+    else None
 
 abbrev pub piece_of : FragKind → List (List ℕ) → Option Frag
 piece_of kind [] = None

@@ -2,7 +2,7 @@
 -- First comes the history: a line for each command and each version that was published. A line that shows a version
 -- is followed by the pieces of its tree, one line each; the last version and its pieces follow the history, and then,
 -- where it is told, the count of contexts that were laid out.
-use Rattle.std.specs.Prelude.{ℕ, ◌≡◌, ◌+◌, ◌==◌, ◌&&◌, ◌||◌, Bool, true, false, not, List, [], ◌∷◌, ◌++◌, length, Option, Some, None, if◌then◌else◌}
+use Rattle.std.specs.Prelude.{ℕ, ◌≡◌, ◌+◌, ◌==◌, ◌&&◌, ◌||◌, Bool, true, false, not, List, [], ◌∷◌, ◌++◌, length, Option, Some, None, option_and_then, if◌then◌else◌}
 use Rattle.std.specs.List.{flat_map, list_any, All}
 use Rattle.lay_frag.specs.declared.frag.Frag.{Frag}
 use Rattle.lay_drawing.specs.declared.line.Line.{Line}
@@ -57,11 +57,7 @@ next_place (Piece f) place = after_piece place
 -- where the lines lead from a place, if they may stand there one after the other
 abbrev pub place_after : Place → List Line → Option Place
 place_after place [] = Some place
-place_after place (line ∷ lines) = after (next_place line place)
-  where
-    after : Option Place → Option Place
-    after None = None
-    after (Some next) = place_after next lines
+place_after place (line ∷ lines) = option_and_then (λ next. place_after next lines) (next_place line place)
 
 -- a report may end there
 abbrev pub is_whole : Place → Bool
@@ -130,11 +126,24 @@ pub record AreLines (bytes : List ℕ) (lines : List Line) (place : Place) (rest
   pub all : All IsLine lines
   pub place_is : place_after History lines ≡ Some place
 
--- the bytes are a whole report
+-- the bytes are a whole report with these lines
 pub record IsReport (bytes : List ℕ) (lines : List Line) : Type 0 where
   pub place : Place
   pub are_lines : AreLines bytes lines place []
   pub whole : is_whole place ≡ true
+
+-- the bytes are a report that shows the wanted tree, and these are its pieces
+pub record ShowsPieces (bytes : List ℕ) (wanted : Option ℕ) (pieces : List Frag) : Type 0 where
+  pub lines : List Line
+  pub report : IsReport bytes lines
+  pub shown : is_shown wanted lines ≡ true
+  pub pieces_are : pieces ≡ pieces_shown wanted lines
+
+-- the bytes are a report that doesn't show the tree of the version
+pub record ShowsNoTree (bytes : List ℕ) (version : ℕ) : Type 0 where
+  pub lines : List Line
+  pub report : IsReport bytes lines
+  pub not_shown : is_shown (Some version) lines ≡ false
 
 -- no line that may stand there stands in front of what is left, and nothing is left only where lines are missing
 pub record IsNoLine (place : Place) (rest : List ℕ) : Type 0 where

@@ -3,7 +3,7 @@
 use crate::input::{InputFault, read_report};
 use crate::output::write_all;
 use crate::picture::picture;
-use crate::reading::Reading;
+use crate::state::Reading;
 use crate::words::{Wish, read_words};
 use lay_outside::{Sink, Source};
 use lay_units::{NoMemory, Text};

@@ -3,20 +3,24 @@
 ghost use Rattle.std.specs.Prelude.{◌≡◌, ◌+ℤ◌, fold};
 ghost use Rattle.std.specs.List.{All};
 ghost use Rattle.lay_units.specs.Units.{IsPosition};
-ghost use Rattle.std.specs.Int.{int_min, int_max};
 ghost use Rattle.lay_drawing.specs.Lines.{IsPiece};
-ghost use Rattle.lay_drawing.specs.Picture.{edges, joined, frame_of, FramesHold};
+ghost use Rattle.lay_drawing.specs.Picture.{reach, edges, wider, joined, frame_of, FramesHold};
 
 use lay_frag::Frag;
 use lay_units::Unit;
 
-/// Edges in page coordinates, in units of 1/64 px.
+/// Two edges on one axis of the page, in units of 1/64 px.
+#[derive(Clone, Copy)]
+pub struct Span {
+    pub low: i64,
+    pub high: i64,
+}
+
+/// The edges of a part of the page.
 #[derive(Clone, Copy)]
 pub struct Frame {
-    pub left: i64,
-    pub top: i64,
-    pub right: i64,
-    pub bottom: i64,
+    pub across: Span,
+    pub down: Span,
 }
 
 /// The least frame that holds all pieces; where there are none, one of no size.
@@ -26,10 +30,8 @@ pub(crate) fn frame_of(pieces: &[Frag]) -> Frame
 {
     match pieces.split_first() {
         None => Frame {
-            left: 0,
-            top: 0,
-            right: 0,
-            bottom: 0,
+            across: Span { low: 0, high: 0 },
+            down: Span { low: 0, high: 0 },
         },
         Some((first, rest)) => frame_from(edges(first), rest),
     }
@@ -52,34 +54,39 @@ pub(crate) fn edges(piece: &Frag) -> Frame
     ensures { result ≡ edges piece.now }
 {
     let rect = piece.rect;
-    let (left, right) = ends(rect.x, rect.w);
-    let (top, bottom) = ends(rect.y, rect.h);
     Frame {
-        left,
-        top,
-        right,
-        bottom,
+        across: reach(rect.x, rect.w),
+        down: reach(rect.y, rect.h),
     }
 }
 
-fn ends(from: Unit, size: Unit) -> (i64, i64)
+fn reach(from: Unit, size: Unit) -> Span
     requires from { IsPosition from.0 }
     requires size { IsPosition size.0 }
-    ensures low { result.0 ≡ int_min from.0 (from.0 +ℤ size.0) }
-    ensures high { result.1 ≡ int_max from.0 (from.0 +ℤ size.0) }
+    ensures { result ≡ reach from.0 size.0 }
 {
     let to = from.0 + size.0;
-    (from.0.min(to), from.0.max(to))
+    Span {
+        low: from.0.min(to),
+        high: from.0.max(to),
+    }
 }
 
 fn joined(a: Frame, b: Frame) -> Frame
     ensures { result ≡ joined a b }
 {
     Frame {
-        left: a.left.min(b.left),
-        top: a.top.min(b.top),
-        right: a.right.max(b.right),
-        bottom: a.bottom.max(b.bottom),
+        across: wider(a.across, b.across),
+        down: wider(a.down, b.down),
+    }
+}
+
+fn wider(a: Span, b: Span) -> Span
+    ensures { result ≡ wider a b }
+{
+    Span {
+        low: a.low.min(b.low),
+        high: a.high.max(b.high),
     }
 }
 

@@ -1,6 +1,10 @@
 //! Reading a report from a source.
 
-use crate::reading::{Reading, Stop};
+ghost use Rattle.std.specs.Prelude.{◌≡◌, ◌≤◌, OnOk, IfOk, IfErr, [], ◌++◌};
+ghost use Rattle.lay_drawing.specs.Input.{IsDrained, HasReport, IsCause};
+ghost use Rattle.lay_drawing.specs.Input.{IsSameFault};
+
+use crate::state::{Reading, Stop};
 use lay_outside::Source;
 use std::alloc::Global;
 
@@ -20,7 +24,12 @@ pub(crate) fn read_report<S: Source>(
     alloc: Global,
     wanted: Option<u64>,
     source: &mut S,
-) -> Result<Reading, InputFault> {
+) -> Result<Reading, InputFault>
+    ensures wanted { IfOk result (λ r. r.wanted ≡ wanted) }
+    ensures report { IfOk result (λ r. HasReport (S.left source.old) r) }
+    ensures drained { OnOk result (IsDrained (S.left source.old) (S.left source.new)) }
+    ensures cause { IfErr result (IsCause (S.faults source.old) (S.faults source.new) (S.left source.old)) }
+{
     let mut reading = Reading::new(alloc, wanted);
     let mut buffer = [0u8; 4096];
     for _ in 0..u64::MAX {
@@ -36,7 +45,9 @@ pub(crate) fn read_report<S: Source>(
     Err(InputFault::NoMemory)
 }
 
-fn stopped(read: Result<(), Stop>) -> Result<(), InputFault> {
+fn stopped(read: Result<(), Stop>) -> Result<(), InputFault>
+    ensures { IsSameFault read result }
+{
     match read {
         Ok(()) => Ok(()),
         Err(Stop::BadLine(number)) => Err(InputFault::BadLine(number)),

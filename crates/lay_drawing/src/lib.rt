@@ -16,6 +16,7 @@ mod picture;
 mod pixels;
 mod places;
 mod reading;
+mod state;
 mod words;
 
 pub use call::{Ending, draw, usage};

@@ -175,13 +175,17 @@ fn piece(kind: FragKind, fields: &[&[u8]]) -> Option<Frag>
 fn rect(fields: &[&[u8]]) -> Option<Rect>
     ensures { result ≡ rect_of (map (λ f. f.now) fields.now) }
 {
-    if let [x, y, w, h] = fields {
-        return Some(Rect {
-            x: position(x)?,
-            y: position(y)?,
-            w: position(w)?,
-            h: position(h)?,
-        });
+    let (x, below_x) = fields.split_first()?;
+    let (y, below_y) = below_x.split_first()?;
+    let (w, below_w) = below_y.split_first()?;
+    let (h, rest) = below_w.split_first()?;
+    if !rest.is_empty() {
+        return None;
     }
-    None
+    Some(Rect {
+        x: position(x)?,
+        y: position(y)?,
+        w: position(w)?,
+        h: position(h)?,
+    })
 }

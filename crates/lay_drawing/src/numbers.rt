@@ -1,6 +1,8 @@
 //! Numbers as a report writes them: decimal, without leading zeros, a minus in front of negative ones.
 
 ghost use Rattle.std.specs.Prelude.{◌≡◌};
+ghost use Rattle.std.specs.List.{list_all};
+ghost use Rattle.std.specs.Char.{is_ascii_digit};
 ghost use Rattle.lay_drawing.specs.Reading.{is_numeral, number_of, small_of, position_of, negative_of, positive_of};
 
 use lay_units::Unit;
@@ -28,9 +30,15 @@ fn is_numeral(text: &[u8]) -> bool
     match text.split_first() {
         None => false,
         Some((first, rest)) => {
-            text.iter().all(|b| b.is_ascii_digit()) && (rest.is_empty() || *first != b'0')
+            all_digits(text) && (rest.is_empty() || *first != b'0')
         }
     }
+}
+
+fn all_digits(text: &[u8]) -> bool
+    ensures { result ≡ list_all is_ascii_digit text.now }
+{
+    text.iter().all(|b| b.is_ascii_digit())
 }
 
 /// The number below 2^32 that is written so.

@@ -5,9 +5,9 @@ ghost use Rattle.std.specs.List.{All};
 ghost use Rattle.std.specs.Fmt.{decimal};
 ghost use Rattle.lay_frag.specs.Lines.{kind_word};
 ghost use Rattle.lay_drawing.specs.Lines.{IsPiece};
-ghost use Rattle.lay_drawing.specs.Picture.{length_text, outside, span, view_text, opening, paint, title_text, rect_text, is_box, has_room, number_text, shape, shapes, picture};
+ghost use Rattle.lay_drawing.specs.Picture.{length_text, outside, full_size, view_text, opening, paint, title_text, rect_text, is_box, has_room, number_text, shape, shapes, picture};
 
-use crate::frame::{Frame, edges, frame_of};
+use crate::frame::{Frame, Span, edges, frame_of};
 use crate::pixels::push_px;
 use lay_frag::{Frag, FragKind};
 use lay_units::{NoMemory, Text};
@@ -30,8 +30,8 @@ fn push_opening(text: &mut String, frame: Frame) -> Result<(), NoMemory>
     ensures { OnOk result (string_bytes text.new ≡ string_bytes text.old ++ opening frame) }
 {
     text.push_str("<svg xmlns=\"http://www.w3.org/2000/svg\"")?;
-    push_length(text, "width", span(frame.left, frame.right))?;
-    push_length(text, "height", span(frame.top, frame.bottom))?;
+    push_length(text, "width", full_size(frame.across))?;
+    push_length(text, "height", full_size(frame.down))?;
     push_view(text, frame)?;
     text.push_str(" font-family=\"monospace\" font-size=\"10\" pointer-events=\"all\">\n")?;
     Ok(())
@@ -41,13 +41,13 @@ fn push_view(text: &mut String, frame: Frame) -> Result<(), NoMemory>
     ensures { OnOk result (string_bytes text.new ≡ string_bytes text.old ++ view_text frame) }
 {
     text.push_str(" viewBox=\"")?;
-    push_px(text, outside(frame.left))?;
+    push_px(text, outside(frame.across.low))?;
     text.push_str(" ")?;
-    push_px(text, outside(frame.top))?;
+    push_px(text, outside(frame.down.low))?;
     text.push_str(" ")?;
-    push_px(text, span(frame.left, frame.right))?;
+    push_px(text, full_size(frame.across))?;
     text.push_str(" ")?;
-    push_px(text, span(frame.top, frame.bottom))?;
+    push_px(text, full_size(frame.down))?;
     text.push_str("\"")?;
     Ok(())
 }
@@ -60,10 +60,10 @@ fn outside(low: i64) -> i128
 }
 
 /// From the outer edge of the margin to the other.
-fn span(low: i64, high: i64) -> i128
-    ensures { result ≡ span low high }
+fn full_size(span: Span) -> i128
+    ensures { result ≡ full_size span }
 {
-    difference(high, low) + 128
+    difference(span.high, span.low) + 128
 }
 
 fn difference(high: i64, low: i64) -> i128
@@ -119,10 +119,10 @@ fn push_rect(text: &mut String, piece: &Frag) -> Result<(), NoMemory>
 {
     let edges = edges(piece);
     text.push_str("<rect")?;
-    push_length(text, "x", i128::from(edges.left))?;
-    push_length(text, "y", i128::from(edges.top))?;
-    push_length(text, "width", difference(edges.right, edges.left))?;
-    push_length(text, "height", difference(edges.bottom, edges.top))?;
+    push_length(text, "x", i128::from(edges.across.low))?;
+    push_length(text, "y", i128::from(edges.down.low))?;
+    push_length(text, "width", difference(edges.across.high, edges.across.low))?;
+    push_length(text, "height", difference(edges.down.high, edges.down.low))?;
     text.push_str(paint(piece.kind))?;
     text.push_str(">")?;
     push_title(text, piece)?;
@@ -194,8 +194,8 @@ fn push_number(text: &mut String, piece: &Frag, number: &str) -> Result<(), NoMe
 {
     let edges = edges(piece);
     text.push_str("<text")?;
-    push_length(text, "x", further(edges.left, 192))?;
-    push_length(text, "y", further(edges.top, 640))?;
+    push_length(text, "x", further(edges.across.low, 192))?;
+    push_length(text, "y", further(edges.down.low, 640))?;
     text.push_str(" fill=\"#1d4ed8\">")?;
     text.push_str(number)?;
     text.push_str("</text>\n")?;

@@ -1,10 +1,15 @@
 //! The words of the command line.
 
+ghost use Rattle.std.specs.Prelude.{◌≡◌, IfOk, map, string_bytes, codes};
+ghost use Rattle.clap.specs.Words.{app_of, found_of, rows_of};
+ghost use Rattle.lay_drawing.specs.Reading.{number_of};
+ghost use Rattle.lay_drawing.specs.Words.{our_app, values_at, wish_at, wish_with, wish_of};
+
 use crate::numbers::number;
 use clap::error::ErrorKind;
 use clap::{Arg, ArgAction, ArgMatches, Command};
 use lay_units::NoMemory;
-use std::alloc::Global;
+use std::alloc::{AllocError, Global};
 
 /// What the words ask for.
 #[derive(Clone, Copy)]
@@ -17,10 +22,11 @@ pub enum Wish {
 
 /// What these words ask for.
 pub(crate) fn read_words(alloc: Global, words: &[String]) -> Result<Wish, NoMemory>
+    ensures { IfOk result (λ w. w ≡ wish_of (map string_bytes words.now)) }
 {
     let command = command(alloc)?;
     match command.try_get_matches_from(words) {
-        Ok(matches) => Ok(wish_of(&matches)),
+        Ok(matches) => Ok(wish_found(&matches)),
         Err(error) => {
             if error.kind() == ErrorKind::OutOfMemory {
                 Err(NoMemory)
@@ -32,33 +38,48 @@ pub(crate) fn read_words(alloc: Global, words: &[String]) -> Result<Wish, NoMemo
 }
 
 /// The command that reads the words.
-fn command<'a>(alloc: Global) -> Result<Command<'a>, NoMemory>
+fn command<'a>(alloc: Global) -> Result<Command<'a>, AllocError>
+    ensures { IfOk result (λ c. app_of c ≡ our_app) }
 {
     let version = Arg::new(alloc, "version")
         .long("version")
         .action(ArgAction::Append);
-    let command = Command::new(alloc, "lay_picture")
+    Command::new(alloc, "lay_picture")
         .no_binary_name(true)
         .disable_help_flag(true)
         .disable_version_flag(true)
-        .arg(version)?;
-    Ok(command)
+        .arg(version)
 }
 
-fn wish_of(matches: &ArgMatches<'_>) -> Wish
+/// What is asked for in what `clap` found.
+fn wish_found(matches: &ArgMatches<'_>) -> Wish
+    ensures { result ≡ wish_with (values_at (codes "version") (rows_of (found_of matches.now))) }
 {
     match matches.get_raw("version") {
+        Some(values) => wish_with(values),
         None => Wish::Tree(None),
-        Some(values) => match values {
-            [value] => version_of(value),
-            _ => Wish::Nothing,
-        },
     }
 }
 
-fn version_of(value: &str) -> Wish
+fn wish_with(values: &[&str]) -> Wish
+    ensures { result ≡ wish_with (map (λ v. v.now) values.now) }
 {
-    match number(value.as_bytes()) {
+    match values.split_first() {
+        None => Wish::Tree(None),
+        Some((value, more)) => {
+            if more.is_empty() {
+                wish_at(number(value.as_bytes()))
+            } else {
+                Wish::Nothing
+            }
+        }
+    }
+}
+
+fn wish_at(version: Option<u64>) -> Wish
+    ensures { result ≡ wish_at version }
+{
+    match version {
         Some(version) => Wish::Tree(Some(version)),
         None => Wish::Nothing,
     }
