@@ -1,8 +1,8 @@
 -- The digits of a fraction.
-use Rattle.std.proofs.Common.{◌≡◌, ℕ, zero, suc, ◌+◌, ◌*◌, ◌/◌, ◌%◌, ◌^◌, ◌<◌, ◌==◌, ◌&&◌, Bool, true, false, List, [], ◌∷◌, ◌++◌, length, refl, sym, ap, ◌∙◌, arith, append_assoc, append-nil, cases_lt, inl, inr}
+use Rattle.std.proofs.Common.{◌≡◌, ℕ, zero, suc, ◌+◌, ◌*◌, ◌/◌, ◌%◌, ◌^◌, ◌<◌, ◌==◌, ◌&&◌, Bool, true, false, List, [], ◌∷◌, ◌++◌, length, refl, sym, ap, ◌∙◌, arith, append_assoc, append-nil, inl, inr}
 use Rattle.std.specs.Fmt.{decimal}
 use Rattle.std.specs.Str.Parse.{digits_value}
-use Rattle.std.proofs.lemmas.Bool.{ne_eqb, eqb-true}
+use Rattle.std.proofs.lemmas.Bool.{ne_eqb, eqb-true, cases_lt}
 use Rattle.std.proofs.lemmas.Fmt.{decimal_digit}
 use Rattle.lay_drawing.specs.Pixels.{fraction_digits, FractionsAreExact}
 use Rattle.lay_drawing.proofs.Numerals.{both}
@@ -27,6 +27,12 @@ one_more text out zero counter left is low small some e = absurd (omega arith)
 one_more text out (suc m) counter left is low small some e =
     let digit : decimal (left * 10 / 64) ≡ (48 + left * 10 / 64) ∷ [] = decimal_digit (left * 10 / 64) (omega arith) in
     (m, omega arith, rw digit (append_assoc text ((48 + left * 10 / 64) ∷ []) (fraction_digits m (left * 10 % 64)) ∙ ap (λ (ys : List ℕ). text ++ ys) (sym (step m left some)) ∙ e))
+
+pub zero_left : (text out : List ℕ) (most left : ℕ) → left ≡ 0 → text ++ fraction_digits most left ≡ out → text ≡ out
+zero_left text out most left is e = sym (append-nil text) ∙ ap (λ (ys : List ℕ). text ++ ys) (sym (ap (fraction_digits most) is ∙ none_left most)) ∙ e
+
+pub all_written : (text out : List ℕ) (most left : ℕ) → most ≡ 0 → text ++ fraction_digits most left ≡ out → text ≡ out
+all_written text out most left is e = sym (append-nil text) ∙ ap (λ (ys : List ℕ). text ++ ys) (sym (ap (λ (m : ℕ). fraction_digits m left) is ∙ none_more left)) ∙ e
 
 exact : ℕ → Bool
 exact rest = (digits_value 10 (fraction_digits 6 rest) * 64) == (rest * 10 ^ length (fraction_digits 6 rest))

@@ -7,3 +7,4 @@ pub mod ByteSteps
 pub mod WordLemmas
 pub mod Digits
 pub mod Frames
+pub mod Sources

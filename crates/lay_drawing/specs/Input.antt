@@ -1,5 +1,5 @@
 -- What was read of a source, and why a report isn't there.
-use Rattle.std.specs.Prelude.{ℕ, ◌≡◌, List, [], ◌++◌, Option, Some, IfSome, Result, Ok, Err, IsOk}
+use Rattle.std.specs.Prelude.{ℕ, ◌≡◌, List, [], ◌++◌, Option, Some, IfSome}
 use Rattle.lay_outside.specs.Outside.{Rose}
 use Rattle.lay_drawing.specs.declared.input.InputFault.{InputFault}
 use Rattle.lay_drawing.specs.declared.input.InputFault.TheVariants.{BadLine, Failed, NoMemory}
@@ -31,7 +31,3 @@ IsCause old new left NoMemory = Unit {0}
 abbrev pub fault_of : Stop → InputFault
 fault_of (stop.BadLine number) = BadLine number
 fault_of stop.NoMemory = NoMemory
-
-abbrev pub IsSameFault : Result (Unit {0}) Stop → Result (Unit {0}) InputFault → Type 0
-IsSameFault (Ok u) r = IsOk r
-IsSameFault (Err s) r = r ≡ Err (fault_of s)

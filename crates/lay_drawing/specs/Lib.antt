@@ -7,3 +7,4 @@ pub mod Picture
 pub mod Words
 pub mod Input
 pub mod Answers
+pub mod Endings

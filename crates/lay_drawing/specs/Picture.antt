@@ -14,7 +14,7 @@ use Rattle.lay_drawing.specs.declared.frame.Span.{Span}
 use Rattle.lay_drawing.specs.Pixels.{px_text}
 
 -- the edges of a size; one that is negative reaches to the left or upward
-abbrev pub reach : ℤ → ℤ → Span
+unfoldable pub reach : ℤ → ℤ → Span
 reach from size = record { low = int_min from (from +ℤ size); high = int_max from (from +ℤ size) }
 
 abbrev pub edges : Frag → Frame
@@ -43,41 +43,52 @@ abbrev pub FramesHold : Type 0
 FramesHold = (pieces : List Frag) → All (Holds (frame_of pieces)) pieces
 
 -- an attribute with a length
-abbrev pub length_text : List ℕ → ℤ → List ℕ
+unfoldable pub length_text : List ℕ → ℤ → List ℕ
 length_text name units = codes " " ++ name ++ codes "=\"" ++ px_text units ++ codes "\""
 
 -- a margin of one px stands round all, so that no outline is cut: its outer edge
-abbrev pub outside : ℤ → ℤ
-outside low = low -ℤ pos 64
+abbrev pub outside : Span → ℤ
+outside s = s.low -ℤ pos 64
 
 -- from its outer edge to the other
 abbrev pub full_size : Span → ℤ
 full_size s = (s.high -ℤ s.low) +ℤ pos 128
 
-abbrev pub view_text : Frame → List ℕ
+unfoldable pub view_text : Frame → List ℕ
 view_text frame =
-    codes " viewBox=\"" ++ px_text (outside frame.across.low) ++ codes " " ++ px_text (outside frame.down.low)
-    ++ codes " " ++ px_text (full_size frame.across) ++ codes " " ++ px_text (full_size frame.down) ++ codes "\""
+    px_text (outside frame.across) ++ codes " " ++ px_text (outside frame.down)
+    ++ codes " " ++ px_text (full_size frame.across) ++ codes " " ++ px_text (full_size frame.down)
 
-abbrev pub opening : Frame → List ℕ
+unfoldable pub full_sizes : Frame → List ℕ
+full_sizes frame = length_text (codes "width") (full_size frame.across) ++ length_text (codes "height") (full_size frame.down)
+
+unfoldable pub opening : Frame → List ℕ
 opening frame =
-    codes "<svg xmlns=\"http://www.w3.org/2000/svg\"" ++ length_text (codes "width") (full_size frame.across) ++ length_text (codes "height") (full_size frame.down)
-    ++ view_text frame ++ codes " font-family=\"monospace\" font-size=\"10\" pointer-events=\"all\">\n"
+    codes "<svg xmlns=\"http://www.w3.org/2000/svg\"" ++ full_sizes frame ++ codes " viewBox=\"" ++ view_text frame
+    ++ codes "\" font-family=\"monospace\" font-size=\"10\" pointer-events=\"all\">\n"
 
--- how a kind is painted: outlined, dashed, or filled
-abbrev pub paint : FragKind → List ℕ
+-- how a kind is painted: outlined, dashed, or filled, with a colour of its own
+unfoldable pub paint : FragKind → List ℕ
 paint Box = codes " fill=\"none\" stroke=\"#1d4ed8\""
 paint Line = codes " fill=\"none\" stroke=\"#b45309\" stroke-dasharray=\"4 2\""
 paint Text = codes " fill=\"#15803d\" fill-opacity=\"0.4\""
 
-abbrev pub title_text : Frag → List ℕ
+unfoldable pub title_text : Frag → List ℕ
 title_text f = codes "<title>" ++ kind_word f.kind ++ codes " " ++ decimal f.node.0 ++ codes " " ++ decimal f.part ++ codes "</title>"
 
-abbrev pub rect_text : Frag → List ℕ
+unfoldable pub place_text : ℤ → ℤ → List ℕ
+place_text left top = length_text (codes "x") left ++ length_text (codes "y") top
+
+abbrev pub size : Span → ℤ
+size s = s.high -ℤ s.low
+
+unfoldable pub sizes : Frame → List ℕ
+sizes frame = length_text (codes "width") (size frame.across) ++ length_text (codes "height") (size frame.down)
+
+unfoldable pub rect_text : Frag → List ℕ
 rect_text f =
-    codes "<rect" ++ length_text (codes "x") (edges f).across.low ++ length_text (codes "y") (edges f).down.low
-    ++ length_text (codes "width") ((edges f).across.high -ℤ (edges f).across.low) ++ length_text (codes "height") ((edges f).down.high -ℤ (edges f).down.low)
-    ++ paint f.kind ++ codes ">" ++ title_text f ++ codes "</rect>\n"
+    codes "<rect" ++ place_text (edges f).across.low (edges f).down.low ++ sizes (edges f) ++ paint f.kind
+    ++ codes ">" ++ title_text f ++ codes "</rect>\n"
 
 abbrev pub is_box : FragKind → Bool
 is_box Box = true
@@ -88,9 +99,16 @@ is_box Text = false
 abbrev pub has_room : Frag → Bool
 has_room f = is_box f.kind && nat_le (384 * length (decimal f.node.0) + 384) (unsigned_abs f.rect.w.0) && nat_le 768 (unsigned_abs f.rect.h.0)
 
-abbrev pub number_text : Frag → List ℕ
+-- where the number begins, from the left, and its baseline, from the top
+abbrev pub number_left : Span → ℤ
+number_left s = s.low +ℤ pos 192
+
+abbrev pub number_base : Span → ℤ
+number_base s = s.low +ℤ pos 640
+
+unfoldable pub number_text : Frag → List ℕ
 number_text f =
-    codes "<text" ++ length_text (codes "x") ((edges f).across.low +ℤ pos 192) ++ length_text (codes "y") ((edges f).down.low +ℤ pos 640)
+    codes "<text" ++ place_text (number_left (edges f).across) (number_base (edges f).down)
     ++ codes " fill=\"#1d4ed8\">" ++ decimal f.node.0 ++ codes "</text>\n"
 
 abbrev pub shape : Frag → List ℕ

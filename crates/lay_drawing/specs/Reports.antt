@@ -2,7 +2,7 @@
 -- First comes the history: a line for each command and each version that was published. A line that shows a version
 -- is followed by the pieces of its tree, one line each; the last version and its pieces follow the history, and then,
 -- where it is told, the count of contexts that were laid out.
-use Rattle.std.specs.Prelude.{ℕ, ◌≡◌, ◌+◌, ◌==◌, ◌&&◌, ◌||◌, Bool, true, false, not, List, [], ◌∷◌, ◌++◌, length, Option, Some, None, option_and_then, if◌then◌else◌}
+use Rattle.std.specs.Prelude.{ℕ, ◌≡◌, ◌+◌, ◌==◌, ◌&&◌, ◌||◌, Bool, true, false, not, List, [], ◌∷◌, ◌++◌, length, Option, Some, None, IfSome, option_and_then, if◌then◌else◌}
 use Rattle.std.specs.List.{flat_map, list_any, All}
 use Rattle.lay_frag.specs.declared.frag.Frag.{Frag}
 use Rattle.lay_drawing.specs.declared.line.Line.{Line}
@@ -132,11 +132,11 @@ pub record IsReport (bytes : List ℕ) (lines : List Line) : Type 0 where
   pub are_lines : AreLines bytes lines place []
   pub whole : is_whole place ≡ true
 
--- the bytes are a report that shows the wanted tree, and these are its pieces
+-- the bytes are a report that shows the wanted tree, and these are its pieces; the last tree is in every report
 pub record ShowsPieces (bytes : List ℕ) (wanted : Option ℕ) (pieces : List Frag) : Type 0 where
   pub lines : List Line
   pub report : IsReport bytes lines
-  pub shown : is_shown wanted lines ≡ true
+  pub shown : IfSome wanted (λ version. is_shown wanted lines ≡ true)
   pub pieces_are : pieces ≡ pieces_shown wanted lines
 
 -- the bytes are a report that doesn't show the tree of the version

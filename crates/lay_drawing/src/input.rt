@@ -1,8 +1,10 @@
 //! Reading a report from a source.
 
-ghost use Rattle.std.specs.Prelude.{◌≡◌, ◌≤◌, OnOk, IfOk, IfErr, [], ◌++◌};
+ghost use Rattle.std.specs.Prelude.{◌≡◌, ◌≤◌, OnOk, IfOk, IfErr, ℕ, List};
 ghost use Rattle.lay_drawing.specs.Input.{IsDrained, HasReport, IsCause};
-ghost use Rattle.lay_drawing.specs.Input.{IsSameFault};
+ghost use Rattle.lay_drawing.specs.States.{HasRead, WasReport, StopsAtEnd};
+ghost use Rattle.lay_drawing.specs.declared.state.Stop.{Stop};
+ghost use Rattle.lay_drawing.specs.Input.{fault_of};
 
 use crate::state::{Reading, Stop};
 use lay_outside::Source;
@@ -34,23 +36,33 @@ pub(crate) fn read_report<S: Source>(
     let mut buffer = [0u8; 4096];
     for _ in 0..u64::MAX {
         match source.read(&mut buffer) {
-            Ok(0) => {
-                stopped(reading.end())?;
-                return Ok(reading);
-            }
-            Ok(n) => stopped(reading.read(alloc, &buffer[..n]))?,
+            Ok(0) => return ended(reading),
+            Ok(n) => match reading.read(alloc, &buffer[..n]) {
+                Ok(()) => {}
+                Err(stop) => return Err(fault_of(stop)),
+            },
             Err(_) => return Err(InputFault::Failed),
         }
     }
     Err(InputFault::NoMemory)
 }
 
-fn stopped(read: Result<(), Stop>) -> Result<(), InputFault>
-    ensures { IsSameFault read result }
+/// What was read, where nothing comes any more.
+fn ended(reading: Reading) -> Result<Reading, InputFault>
+    ensures ok { IfOk result (λ r. (r ≡ reading) × ((bytes : List ℕ) → HasRead reading bytes → WasReport reading bytes)) }
+    ensures err { IfErr result (λ f. (stop : Stop) × StopsAtEnd reading stop × (f ≡ fault_of stop)) }
 {
-    match read {
-        Ok(()) => Ok(()),
-        Err(Stop::BadLine(number)) => Err(InputFault::BadLine(number)),
-        Err(Stop::NoMemory) => Err(InputFault::NoMemory),
+    match reading.end() {
+        Ok(()) => Ok(reading),
+        Err(stop) => Err(fault_of(stop)),
+    }
+}
+
+fn fault_of(stop: Stop) -> InputFault
+    ensures { result ≡ fault_of stop }
+{
+    match stop {
+        Stop::BadLine(number) => InputFault::BadLine(number),
+        Stop::NoMemory => InputFault::NoMemory,
     }
 }

@@ -5,6 +5,7 @@
 //! (`specs/Pixels.antt`), and `specs/Answers.antt` which text answers which words and bytes.
 #![tactic(auto)]
 
+mod answer;
 mod call;
 mod fields;
 mod frame;

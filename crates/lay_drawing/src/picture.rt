@@ -5,7 +5,7 @@ ghost use Rattle.std.specs.List.{All};
 ghost use Rattle.std.specs.Fmt.{decimal};
 ghost use Rattle.lay_frag.specs.Lines.{kind_word};
 ghost use Rattle.lay_drawing.specs.Lines.{IsPiece};
-ghost use Rattle.lay_drawing.specs.Picture.{length_text, outside, full_size, view_text, opening, paint, title_text, rect_text, is_box, has_room, number_text, shape, shapes, picture};
+ghost use Rattle.lay_drawing.specs.Picture.{length_text, outside, full_size, full_sizes, view_text, opening, paint, title_text, place_text, size, sizes, rect_text, is_box, has_room, number_left, number_base, number_text, shape, shapes, picture};
 
 use crate::frame::{Frame, Span, edges, frame_of};
 use crate::pixels::push_px;
@@ -22,71 +22,102 @@ pub(crate) fn picture(alloc: Global, pieces: &[Frag]) -> Result<Text, NoMemory>
     let mut text = String::new(alloc);
     push_opening(&mut text, frame_of(pieces))?;
     push_shapes(alloc, &mut text, pieces)?;
-    text.push_str("</svg>\n")?;
+    push(&mut text, "</svg>\n")?;
     Ok(Text::new(text))
 }
 
 fn push_opening(text: &mut String, frame: Frame) -> Result<(), NoMemory>
     ensures { OnOk result (string_bytes text.new ≡ string_bytes text.old ++ opening frame) }
 {
-    text.push_str("<svg xmlns=\"http://www.w3.org/2000/svg\"")?;
+    push(text, "<svg xmlns=\"http://www.w3.org/2000/svg\"")?;
+    push_full_sizes(text, frame)?;
+    push(text, " viewBox=\"")?;
+    push_view(text, frame)?;
+    push(
+        text,
+        "\" font-family=\"monospace\" font-size=\"10\" pointer-events=\"all\">\n",
+    )?;
+    Ok(())
+}
+
+fn push_full_sizes(text: &mut String, frame: Frame) -> Result<(), NoMemory>
+    ensures { OnOk result (string_bytes text.new ≡ string_bytes text.old ++ full_sizes frame) }
+{
     push_length(text, "width", full_size(frame.across))?;
     push_length(text, "height", full_size(frame.down))?;
-    push_view(text, frame)?;
-    text.push_str(" font-family=\"monospace\" font-size=\"10\" pointer-events=\"all\">\n")?;
     Ok(())
 }
 
 fn push_view(text: &mut String, frame: Frame) -> Result<(), NoMemory>
     ensures { OnOk result (string_bytes text.new ≡ string_bytes text.old ++ view_text frame) }
 {
-    text.push_str(" viewBox=\"")?;
-    push_px(text, outside(frame.across.low))?;
-    text.push_str(" ")?;
-    push_px(text, outside(frame.down.low))?;
-    text.push_str(" ")?;
+    push_px(text, outside(frame.across))?;
+    push(text, " ")?;
+    push_px(text, outside(frame.down))?;
+    push(text, " ")?;
     push_px(text, full_size(frame.across))?;
-    text.push_str(" ")?;
+    push(text, " ")?;
     push_px(text, full_size(frame.down))?;
-    text.push_str("\"")?;
     Ok(())
 }
 
 /// The outer edge of the margin.
-fn outside(low: i64) -> i128
-    ensures { result ≡ outside low }
+fn outside(span: Span) -> i128
+    ensures { result ≡ outside span }
 {
-    i128::from(low) - 64
+    i128::from(span.low) - 64
 }
 
 /// From the outer edge of the margin to the other.
 fn full_size(span: Span) -> i128
     ensures { result ≡ full_size span }
 {
-    difference(span.high, span.low) + 128
+    size(span) + 128
 }
 
-fn difference(high: i64, low: i64) -> i128
-    ensures { result ≡ high -ℤ low }
+fn size(span: Span) -> i128
+    ensures { result ≡ size span }
 {
-    i128::from(high) - i128::from(low)
+    i128::from(span.high) - i128::from(span.low)
 }
 
-fn further(from: i64, by: i64) -> i128
-    ensures { result ≡ from +ℤ by }
+fn low(span: Span) -> i128
+    ensures { result ≡ span.low }
 {
-    i128::from(from) + i128::from(by)
+    i128::from(span.low)
+}
+
+/// Where the number of a box begins, from the left.
+fn number_left(span: Span) -> i128
+    ensures { result ≡ number_left span }
+{
+    i128::from(span.low) + 192
+}
+
+/// Its baseline, from the top.
+fn number_base(span: Span) -> i128
+    ensures { result ≡ number_base span }
+{
+    i128::from(span.low) + 640
+}
+
+/// Adds a text.
+fn push(text: &mut String, more: &str) -> Result<(), NoMemory>
+    ensures { OnOk result (string_bytes text.new ≡ string_bytes text.old ++ more.now) }
+{
+    text.push_str(more)?;
+    Ok(())
 }
 
 /// Adds an attribute with a length.
 fn push_length(text: &mut String, name: &str, units: i128) -> Result<(), NoMemory>
     ensures { OnOk result (string_bytes text.new ≡ string_bytes text.old ++ length_text name.now units) }
 {
-    text.push_str(" ")?;
-    text.push_str(name)?;
-    text.push_str("=\"")?;
+    push(text, " ")?;
+    push(text, name)?;
+    push(text, "=\"")?;
     push_px(text, units)?;
-    text.push_str("\"")?;
+    push(text, "\"")?;
     Ok(())
 }
 
@@ -117,16 +148,30 @@ fn push_rect(text: &mut String, piece: &Frag) -> Result<(), NoMemory>
     requires { IsPiece piece.now }
     ensures { OnOk result (string_bytes text.new ≡ string_bytes text.old ++ rect_text piece.now) }
 {
-    let edges = edges(piece);
-    text.push_str("<rect")?;
-    push_length(text, "x", i128::from(edges.across.low))?;
-    push_length(text, "y", i128::from(edges.down.low))?;
-    push_length(text, "width", difference(edges.across.high, edges.across.low))?;
-    push_length(text, "height", difference(edges.down.high, edges.down.low))?;
-    text.push_str(paint(piece.kind))?;
-    text.push_str(">")?;
+    let frame = edges(piece);
+    push(text, "<rect")?;
+    push_place(text, low(frame.across), low(frame.down))?;
+    push_sizes(text, frame)?;
+    push(text, paint(piece.kind))?;
+    push(text, ">")?;
     push_title(text, piece)?;
-    text.push_str("</rect>\n")?;
+    push(text, "</rect>\n")?;
+    Ok(())
+}
+
+fn push_place(text: &mut String, left: i128, top: i128) -> Result<(), NoMemory>
+    ensures { OnOk result (string_bytes text.new ≡ string_bytes text.old ++ place_text left top) }
+{
+    push_length(text, "x", left)?;
+    push_length(text, "y", top)?;
+    Ok(())
+}
+
+fn push_sizes(text: &mut String, frame: Frame) -> Result<(), NoMemory>
+    ensures { OnOk result (string_bytes text.new ≡ string_bytes text.old ++ sizes frame) }
+{
+    push_length(text, "width", size(frame.across))?;
+    push_length(text, "height", size(frame.down))?;
     Ok(())
 }
 
@@ -144,11 +189,11 @@ fn paint(kind: FragKind) -> &'static str
 fn push_title(text: &mut String, piece: &Frag) -> Result<(), NoMemory>
     ensures { OnOk result (string_bytes text.new ≡ string_bytes text.old ++ title_text piece.now) }
 {
-    text.push_str("<title>")?;
-    text.push_str(word(piece.kind))?;
+    push(text, "<title>")?;
+    push(text, word(piece.kind))?;
     push_count(text, piece.node.0)?;
     push_count(text, piece.part)?;
-    text.push_str("</title>")?;
+    push(text, "</title>")?;
     Ok(())
 }
 
@@ -192,12 +237,11 @@ fn push_number(text: &mut String, piece: &Frag, number: &str) -> Result<(), NoMe
     requires number { number.now ≡ decimal piece.now.node.0 }
     ensures { OnOk result (string_bytes text.new ≡ string_bytes text.old ++ number_text piece.now) }
 {
-    let edges = edges(piece);
-    text.push_str("<text")?;
-    push_length(text, "x", further(edges.across.low, 192))?;
-    push_length(text, "y", further(edges.down.low, 640))?;
-    text.push_str(" fill=\"#1d4ed8\">")?;
-    text.push_str(number)?;
-    text.push_str("</text>\n")?;
+    let frame = edges(piece);
+    push(text, "<text")?;
+    push_place(text, number_left(frame.across), number_base(frame.down))?;
+    push(text, " fill=\"#1d4ed8\">")?;
+    push(text, number)?;
+    push(text, "</text>\n")?;
     Ok(())
 }
