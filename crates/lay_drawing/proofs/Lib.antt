@@ -8,3 +8,4 @@ pub mod WordLemmas
 pub mod Digits
 pub mod Frames
 pub mod Sources
+pub mod Answering

@@ -1,13 +1,16 @@
 //! The answer to the bytes of a report.
 
 ghost use Rattle.std.specs.Prelude.{◌≡◌, ◌++◌, codes, IfOk, IfErr, IfSome, OnOk};
-ghost use Rattle.lay_outside.specs.Outside.{Rose};
+ghost use Rattle.std.specs.List.{All};
+ghost use Rattle.lay_drawing.specs.Lines.{IsPiece};
+ghost use Rattle.lay_drawing.specs.Picture.{picture};
 ghost use Rattle.lay_drawing.specs.Input.{IsDrained};
 ghost use Rattle.lay_drawing.specs.Answers.{refusal, AnswersBytes, AnswersReading, IsLack, DrainsFor};
 
 use crate::input::{InputFault, read_report};
 use crate::picture::picture;
 use crate::state::Reading;
+use lay_frag::Frag;
 use lay_outside::Source;
 use lay_units::{NoMemory, Text};
 use std::alloc::Global;
@@ -42,32 +45,48 @@ pub(crate) fn answer_to<S: Source>(
     ensures lacks { IfErr result (IsLack (S.faults source.old) (S.faults source.new)) }
 {
     match read_report(alloc, wanted, source) {
-        Ok(reading) => match shown(alloc, &reading) {
-            Ok(answer) => Ok(answer),
-            Err(_) => Err(Lack::NoMemory),
-        },
-        Err(InputFault::BadLine(number)) => match refusal(alloc, "refused line ", number) {
-            Ok(line) => Ok(Answer::Refusal(line)),
-            Err(_) => Err(Lack::NoMemory),
-        },
+        Ok(reading) => shown(alloc, &reading),
+        Err(InputFault::BadLine(number)) => refused(alloc, "refused line ", number),
         Err(InputFault::Failed) => Err(Lack::Failed),
         Err(InputFault::NoMemory) => Err(Lack::NoMemory),
     }
 }
 
 /// The picture of the tree that is asked for, or the line that says that it isn't shown.
-fn shown(alloc: Global, reading: &Reading) -> Result<Answer, NoMemory>
-    ensures { IfOk result (AnswersReading reading.now) }
+fn shown(alloc: Global, reading: &Reading) -> Result<Answer, Lack>
+    ensures ok { IfOk result (AnswersReading reading.now) }
+    ensures err { IfErr result (λ l. l ≡ Lack.NoMemory) }
 {
     match reading.wanted {
-        None => Ok(Answer::Picture(picture(alloc, &reading.pieces)?)),
+        None => drawn(alloc, &reading.pieces),
         Some(version) => {
             if reading.is_shown {
-                Ok(Answer::Picture(picture(alloc, &reading.pieces)?))
+                drawn(alloc, &reading.pieces)
             } else {
-                Ok(Answer::Refusal(refusal(alloc, "refused version ", version)?))
+                refused(alloc, "refused version ", version)
             }
         }
+    }
+}
+
+fn drawn(alloc: Global, pieces: &[Frag]) -> Result<Answer, Lack>
+    requires { All IsPiece pieces.now }
+    ensures ok { IfOk result (λ a. a ≡ Answer.Picture (picture pieces.now)) }
+    ensures err { IfErr result (λ l. l ≡ Lack.NoMemory) }
+{
+    match picture(alloc, pieces) {
+        Ok(text) => Ok(Answer::Picture(text)),
+        Err(_) => Err(Lack::NoMemory),
+    }
+}
+
+fn refused(alloc: Global, word: &str, number: u64) -> Result<Answer, Lack>
+    ensures ok { IfOk result (λ a. a ≡ Answer.Refusal (refusal word.now number)) }
+    ensures err { IfErr result (λ l. l ≡ Lack.NoMemory) }
+{
+    match refusal(alloc, word, number) {
+        Ok(line) => Ok(Answer::Refusal(line)),
+        Err(_) => Err(Lack::NoMemory),
     }
 }
 
