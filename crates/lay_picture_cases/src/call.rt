@@ -33,7 +33,7 @@ pub fn ending(answer: &Answer) -> &'static str {
 }
 
 /// Makes the call on these terms, over the bytes of a report.
-pub fn answer(alloc: Global, terms: &Terms<'_>, report: Vec<u8>) -> Result<Answer> {
+pub fn answer_to(alloc: Global, terms: &Terms<'_>, report: Vec<u8>) -> Result<Answer> {
     let words = words(alloc, terms.words)?;
     let failing_reads = vec![in alloc; terms.failing_read]?;
     let failing_writes = vec![in alloc; terms.failing_write]?;

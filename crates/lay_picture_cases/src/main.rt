@@ -8,7 +8,7 @@
 mod call;
 mod terms;
 
-use crate::call::{answer, ending};
+use crate::call::{answer_to, ending};
 use crate::terms::Terms;
 use anyhow::{Context, Result, bail};
 use std::rt::Files;
@@ -50,12 +50,12 @@ fn try_case<R: Files + Print + AllocGlobal>(rt: &R, folder: &str, name: &str) ->
     let Some(terms) = Terms::read(text.as_str()) else {
         bail!("{name}.terms can't be read");
     };
-    let answer = answer(rt.alloc(), &terms, report)?;
-    let ending = ending(&answer);
+    let answer = answer_to(rt.alloc(), &terms, report)?;
+    let ended = ending(&answer);
     if answer.bytes() == wanted.as_slice() {
-        rt.println(format_args!("{name}: {ending}, ok"))?;
+        rt.println(format_args!("{name}: {ended}, ok"))?;
     } else {
-        rt.println(format_args!("{name}: {ending}, and this isn't what was wanted:"))?;
+        rt.println(format_args!("{name}: {ended}, and this isn't what was wanted:"))?;
         rt.println(String::from_utf8_lossy(rt.alloc(), answer.bytes())?)?;
     }
     Ok(())
