@@ -1,0 +1,11 @@
+pub mod Numerals
+pub mod Splitting
+pub mod LineReading
+pub mod Streams
+pub mod LineSteps
+pub mod ByteSteps
+pub mod WordLemmas
+pub mod Digits
+pub mod Frames
+pub mod Sources
+pub mod Answering

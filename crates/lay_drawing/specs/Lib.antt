@@ -1,0 +1,10 @@
+pub mod Lines
+pub mod Reading
+pub mod Reports
+pub mod States
+pub mod Pixels
+pub mod Picture
+pub mod Words
+pub mod Input
+pub mod Answers
+pub mod Endings

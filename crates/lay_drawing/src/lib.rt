@@ -1,0 +1,23 @@
+//! Pictures of reports: from the words of a command line and the bytes of a report to an SVG document.
+//!
+//! `specs/Lines.antt` says how a line of a report is written, `specs/Reports.antt` which lines stand where and which
+//! pieces are shown, `specs/Picture.antt` the picture of pieces, with lengths in px written exactly
+//! (`specs/Pixels.antt`), and `specs/Answers.antt` which text answers which words and bytes.
+#![tactic(auto)]
+
+mod answer;
+mod call;
+mod fields;
+mod frame;
+mod input;
+mod line;
+mod numbers;
+mod output;
+mod picture;
+mod pixels;
+mod places;
+mod reading;
+mod state;
+mod words;
+
+pub use call::{Ending, draw, usage};
