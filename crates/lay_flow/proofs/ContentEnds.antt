@@ -15,7 +15,7 @@ use Rattle.lay_flow.specs.BlockLayout.{BlockLayout, IsBlockLayout}
 use Rattle.lay_flow.specs.Pass.State.{PassState, IsAt}
 use Rattle.lay_flow.proofs.BlockKinds.{no_edge}
 use Rattle.lay_flow.proofs.Closings.{place_below, out_parted}
-use Rattle.lay_flow.proofs.ContentHeights.{content_bottom, content_inner, content_margin, margin_end}
+use Rattle.lay_flow.proofs.ContentHeights.{content_bottom, content_inner, margin_end}
 use Rattle.lay_flow.proofs.GatheredRuns.{last_over}
 use Rattle.lay_flow.proofs.LayoutFacts.{start_first, start_next}
 use Rattle.lay_flow.proofs.RunEntries.{top_here}

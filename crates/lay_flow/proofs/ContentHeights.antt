@@ -2,7 +2,6 @@
 use Rattle.std.proofs.Common.{◌≡◌, ℕ, zero, suc, ◌<◌, Bool, true, false, ℤ, pos, ◌+ℤ◌, ◌-ℤ◌, List, length, refl, ap, arith, Option, Some, None, if◌then◌else◌}
 use Rattle.std.proofs.lemmas.Int.{ints}
 use Rattle.lay_flow.specs.declared.flow_box.FlowBox.{FlowBox}
-use Rattle.lay_units.specs.declared.length.Unit.{Unit as Length}
 use Rattle.lay_heights.specs.AutoHeights.{root_height_of}
 use Rattle.lay_margins.specs.Collapse.{collapse}
 use Rattle.lay_flow.specs.declared.block.Block.{Block}

@@ -1,10 +1,9 @@
 -- Two flows of a context that are alike before a box give it the same clearance.
-use Rattle.std.proofs.Common.{◌≡◌, ◌⊎◌, ℕ, zero, suc, ◌+◌, ◌<◌, ◌≤◌, ◌&&◌, Bool, true, false, ℤ, List, length, refl, sym, ap, ◌∙◌, arith, inl, inr, Option, Some, None, subst}
-use Rattle.std.proofs.lemmas.Bool.{cases_lt, cases_eq}
+use Rattle.std.proofs.Common.{◌≡◌, ◌⊎◌, ℕ, zero, suc, ◌<◌, ◌≤◌, Bool, true, false, ℤ, List, length, refl, sym, ap, ◌∙◌, arith, inl, inr, Option, Some, None, subst}
+use Rattle.std.proofs.lemmas.Bool.{cases_lt}
 use Rattle.lay_flow.specs.FlowBoxes.{IsFlowTree}
 use Rattle.lay_flow.specs.declared.flow_box.FlowBox.{FlowBox}
 use Rattle.lay_flow.specs.Boxes.{parent_at, parents_of}
-use Rattle.lay_flow.proofs.BoxTrees.{parent_before}
 use Rattle.lay_units.specs.declared.length.Unit.{Unit as Length}
 use Rattle.lay_doc.specs.Tree.{IsTree}
 use Rattle.lay_doc.proofs.OneStyles.{same_list}
@@ -18,7 +17,7 @@ use Rattle.lay_floats.proofs.Unique.{one_clear_edge_lem}
 use Rattle.lay_flow.specs.Lengths.{length_at}
 use Rattle.lay_flow.specs.Children.{flag_at}
 use Rattle.lay_flow.specs.MarginRuns.{Runs, Entry, has_top, block_at, run_at, run_before}
-use Rattle.lay_flow.specs.BlockPositions.{HasPositions, is_lines, is_placed}
+use Rattle.lay_flow.specs.BlockPositions.{HasPositions, is_placed}
 use Rattle.lay_flow.specs.BlockFloats.{Spot, spot_at, shape_at, floats_before}
 use Rattle.lay_flow.specs.BlockLayout.{BlockLayout}
 use Rattle.lay_flow.specs.Clearance.{HasClearedFloat, IsAbove, HasClearance, NeedsClearance, lower_of}

@@ -1,5 +1,5 @@
 -- A context has one flow.
-use Rattle.std.proofs.Common.{◌≡◌, ℕ, ◌+◌, ◌<◌, ◌≤◌, false, ℤ, ◌+ℤ◌, List, length, map, refl, sym, ap, ◌∙◌, arith, inl, inr, subst}
+use Rattle.std.proofs.Common.{◌≡◌, ℕ, ◌+◌, ◌<◌, ◌≤◌, false, ℤ, ◌+ℤ◌, List, length, map, refl, sym, ap, ◌∙◌, arith, inl, subst}
 use Rattle.lay_flow.specs.FlowBoxes.{IsFlowTree}
 use Rattle.lay_flow.specs.declared.flow_box.FlowBox.{FlowBox}
 use Rattle.lay_flow.specs.Boxes.{parent_at, parents_of}

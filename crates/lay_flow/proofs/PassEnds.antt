@@ -1,17 +1,13 @@
 -- The beginning and the end of the pass.
-use Rattle.std.proofs.Common.{◌≡◌, ℕ, zero, suc, ◌+◌, Bool, false, ℤ, pos, ◌+ℤ◌, ◌-ℤ◌, List, [], ◌∷◌, length, slice_index_or, replicate, All, refl, sym, ap, ◌∙◌, arith, inl, inr, Option, Some, None, subst}
-use Rattle.std.proofs.lemmas.List.{length-replicate}
+use Rattle.std.proofs.Common.{◌≡◌, ℕ, zero, suc, ◌+◌, Bool, false, ℤ, pos, ◌+ℤ◌, ◌-ℤ◌, List, [], length, slice_index_or, replicate, refl, sym, ap, ◌∙◌, arith, inl, inr, Option, Some, None, subst}
 use Rattle.std.proofs.lemmas.Bool.{cases_eq}
 use Rattle.std.proofs.lemmas.Int.{ints}
-use Rattle.std.proofs.lemmas.List.Elements.{All-nil}
 use Rattle.lay_flow.specs.declared.flow_box.FlowBox.{FlowBox}
 use Rattle.lay_units.specs.declared.length.Unit.{Unit as Length}
 use Rattle.lay_margins.specs.Collapse.{Holds, collapse}
 use Rattle.lay_floats.specs.declared.placed.Placed.{Placed}
-use Rattle.lay_floats.specs.declared.requests.Side.{Side}
 use Rattle.lay_floats.specs.declared.requests.Clear.TheVariants.{Both as clear_both}
 use Rattle.lay_floats.specs.ClearEdge.{IsClearEdge}
-use Rattle.lay_floats.specs.Within.{BoxWithin}
 use Rattle.lay_heights.specs.AutoHeights.{root_height_of}
 use Rattle.lay_flow.specs.Lengths.{length_at, no_length}
 use Rattle.lay_flow.specs.BlockSizes.{IsBoxSize}
@@ -19,7 +15,6 @@ use Rattle.lay_flow.specs.Children.{last_child, flag_at}
 use Rattle.lay_flow.specs.MarginRuns.{Entry, margins, block_at, run_at, run_before}
 use Rattle.lay_flow.specs.BlockPositions.{Extents, content_top, start_below, start_before, border_height, content_height, is_solid}
 use Rattle.lay_flow.specs.BlockLayout.{BlockLayout, IsBlockLayout}
-use Rattle.lay_flow.specs.BlockFloats.{shape_at, place_at, no_place, floats_before}
 use Rattle.lay_flow.specs.ContextFlow.{AreContextPlaces}
 use Rattle.lay_flow.specs.Pass.State.{PassState, Settled}
 use Rattle.lay_flow.specs.FlowBoxes.{AreFlowBoxes}

@@ -1,5 +1,5 @@
 -- The columns of the code beside the spots that they are of.
-use Rattle.std.proofs.Common.{◌≡◌, ◌+◌, suc, ◌+ℤ◌, ℕ, ◌<◌, ◌≤◌, ℤ, List, [], ◌∷◌, ◌++◌, length, map, true, arith, refl, sym, ap, ◌∙◌, subst}
+use Rattle.std.proofs.Common.{◌≡◌, suc, ℕ, ◌<◌, ◌≤◌, ℤ, List, [], ◌∷◌, ◌++◌, length, map, true, arith, refl, sym, ap, ◌∙◌, subst}
 use Rattle.std.proofs.lemmas.Int.{ints}
 use Rattle.lay_doc.specs.Tree.{IsTree}
 use Rattle.lay_units.specs.declared.length.Unit.{Unit as Length}

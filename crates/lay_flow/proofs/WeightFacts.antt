@@ -1,7 +1,6 @@
 -- Boxes weigh more than those before them.
-use Rattle.std.proofs.Common.{◌≡◌, ℕ, zero, suc, ◌+◌, ◌*◌, ◌<◌, ◌≤◌, List, length, refl, sym, ap, ◌∙◌, arith, inl, inr, subst}
+use Rattle.std.proofs.Common.{◌≡◌, ℕ, zero, suc, ◌+◌, ◌<◌, ◌≤◌, List, length, sym, ap, arith, inl, inr, subst}
 use Rattle.std.proofs.lemmas.Bool.{cases_lt}
-use Rattle.lay_lines.specs.LineContents.{lines_weight}
 use Rattle.lay_flow.specs.declared.flow_box.FlowBox.{FlowBox}
 use Rattle.lay_flow.specs.declared.flow_box.FlowKind.{FlowKind}
 use Rattle.lay_flow.specs.declared.flow_box.FlowKind.TheVariants.{Block as block, Lines as lines, Solid as solid, Float as float, LineFloat as line_float, Inline as inline}

@@ -1,5 +1,5 @@
 -- What the code of a pass knows at each place: its columns have each placement but for the floats that its lines leave.
-use Rattle.std.specs.Prelude.{ℕ, ◌≡◌, List, length, map}
+use Rattle.std.specs.Prelude.{ℕ, ◌≡◌, List, map}
 use Rattle.lay_units.specs.declared.length.Unit.{Unit as Length}
 use Rattle.lay_flow.specs.declared.flow_box.FlowBox.{FlowBox}
 use Rattle.lay_flow.specs.declared.pass.Pass.{Pass}

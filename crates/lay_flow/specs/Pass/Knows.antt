@@ -4,7 +4,6 @@ use Rattle.lay_flow.specs.declared.flow_box.FlowBox.{FlowBox}
 use Rattle.lay_flow.specs.Boxes.{parent_at}
 use Rattle.lay_units.specs.declared.length.Unit.{Unit as Length}
 use Rattle.lay_floats.specs.declared.requests.Side.{Side}
-use Rattle.lay_floats.specs.declared.placed.Placed.{Placed}
 use Rattle.lay_flow.specs.Lengths.{length_at}
 use Rattle.lay_flow.specs.Children.{flag_at}
 use Rattle.lay_flow.specs.MarginRuns.{block_at}

@@ -1,7 +1,3 @@
-use Rattle.std.proofs.Common.{subst, sym, ◌≡◌, List, ap}
-use Rattle.lay_flow.specs.declared.flow_box.FlowBox.{FlowBox}
-use Rattle.lay_flow.specs.FlowBoxes.{AreFlowBoxes}
-use Rattle.lay_flow.specs.FlowPlaces.{FlowPlacesValue, IsFlowOf}
 use Rattle.lay_flow.proofs.BorderBoxSteps.{is_flow_of}
 use Rattle.lay_flow.proofs.border_boxes.flow.Goals as goal
 

@@ -1,4 +1,4 @@
-use Rattle.std.proofs.Common.{ℕ, ◌+◌, Bool, true, arith, subst, sym, ◌∙◌, List, length}
+use Rattle.std.proofs.Common.{ℕ, ◌+◌, Bool, true, arith, subst, sym, ◌∙◌, List}
 use Rattle.lay_units.specs.declared.length.Unit.{Unit as Length}
 use Rattle.lay_floats.specs.ClearEdge.{IsClearEdge}
 use Rattle.lay_floats.specs.declared.requests.Clear.{Clear}

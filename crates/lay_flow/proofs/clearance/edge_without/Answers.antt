@@ -1,7 +1,7 @@
 use Rattle.std.proofs.Common.{arith}
 use Rattle.lay_flow.specs.Pass.Known.{placing_of}
 use Rattle.lay_flow.specs.Pass.Bounds.{state_of}
-use Rattle.lay_flow.proofs.WeightFacts.{light_at, weight_up}
+use Rattle.lay_flow.proofs.WeightFacts.{light_at}
 use Rattle.lay_flow.specs.Weights.{weight}
 use Rattle.lay_flow.proofs.PlacedOn.{edge_of}
 use Rattle.lay_flow.proofs.ClearSteps.{hanging_edge, flowing_edge}

@@ -1,11 +1,11 @@
-use Rattle.std.proofs.Common.{◌≡◌, ℕ, ◌≤◌, List, Bool, [], length, replicate, false, refl, ap, sym, subst, ◌∙◌, arith}
+use Rattle.std.proofs.Common.{◌≡◌, List, Bool, length, replicate, false, refl, ap, ◌∙◌, arith}
 use Rattle.std.proofs.lemmas.Grind.{elements}
 use Rattle.lay_units.specs.declared.length.Unit.{Unit as Length}
 use Rattle.lay_flow.specs.declared.block.Block.{Block}
 use Rattle.lay_flow.specs.Lengths.{length_at, no_length}
 use Rattle.lay_flow.specs.Children.{flag_at}
 use Rattle.lay_flow.specs.Weights.{weight}
-use Rattle.lay_flow.specs.Pass.Bounds.{state_of, IsMarkNear}
+use Rattle.lay_flow.specs.Pass.Bounds.{state_of}
 use Rattle.lay_flow.specs.Pass.Known.{placing_of}
 use Rattle.lay_flow.proofs.PassEnds.{knows_first, flags_at, lengths_at}
 use Rattle.lay_flow.proofs.FirstPlaced.{IsEmpty, none_placed, none_placed_to, first_extents, mark_near_none}

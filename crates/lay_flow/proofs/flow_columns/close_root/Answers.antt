@@ -1,4 +1,4 @@
-use Rattle.std.proofs.Common.{◌≡◌, ◌<◌, false, ℕ, ◌+ℤ◌, pos, arith, subst, sym, List, ap, ◌∙◌, length}
+use Rattle.std.proofs.Common.{◌≡◌, false, ℕ, ◌+ℤ◌, pos, arith, subst, sym, List, ap, ◌∙◌, length}
 use Rattle.lay_units.specs.declared.length.Unit.{Unit as Length}
 use Rattle.lay_floats.specs.declared.requests.Clear.TheVariants.{Both as clear_both}
 use Rattle.lay_heights.specs.AutoHeights.{root_height_of}

@@ -1,5 +1,4 @@
-use Rattle.std.proofs.Common.{ℕ, ◌≡◌, ◌<◌, ◌+◌, arith, drop, length, replicate, refl, sym, ap, ◌∙◌, List}
-use Rattle.std.proofs.lemmas.Grind.{elements}
+use Rattle.std.proofs.Common.{◌≡◌, ◌+◌, arith, drop, length, replicate, sym, ap, ◌∙◌, List}
 use Rattle.std.proofs.lemmas.List.{length-replicate}
 use Rattle.lay_floats.specs.declared.requests.Place.{Place}
 use Rattle.lay_floats.specs.declared.requests.NodePlace.{NodePlace}

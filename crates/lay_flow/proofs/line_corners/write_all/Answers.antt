@@ -1,4 +1,4 @@
-use Rattle.std.proofs.Common.{ℕ, ◌≡◌, ◌<◌, ◌+◌, arith, drop, length, refl, sym, ap, ◌∙◌}
+use Rattle.std.proofs.Common.{◌+◌, arith, drop, refl, sym, ap, ◌∙◌}
 use Rattle.lay_floats.specs.declared.requests.Place.{Place}
 use Rattle.lay_flow.specs.Pass.Columns.{corner_at}
 use Rattle.lay_flow.specs.FlowPlaces.{place_or}

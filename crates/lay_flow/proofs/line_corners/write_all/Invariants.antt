@@ -1,4 +1,4 @@
-use Rattle.std.proofs.Common.{ℕ, ◌≡◌, ◌<◌, ◌≤◌, length, drop}
+use Rattle.std.proofs.Common.{ℕ, ◌≡◌, ◌<◌, length, drop}
 use Rattle.lay_flow.specs.FlowPlaces.{place_or}
 use Rattle.lay_flow.specs.Pass.Columns.{corner_at}
 use Rattle.lay_flow.proofs.line_corners.write_all.Given as goal

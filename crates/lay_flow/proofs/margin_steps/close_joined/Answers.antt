@@ -8,7 +8,7 @@ use Rattle.lay_flow.specs.Lengths.{length_at}
 use Rattle.lay_flow.specs.Pass.Known.{placing_of}
 use Rattle.lay_flow.specs.BlockSizes.{IsNear}
 use Rattle.lay_flow.specs.Pass.Bounds.{state_of}
-use Rattle.lay_flow.proofs.WeightFacts.{light_at, weight_up}
+use Rattle.lay_flow.proofs.WeightFacts.{light_at}
 use Rattle.lay_flow.specs.Weights.{weight}
 use Rattle.lay_flow.proofs.BlockKinds.{joins_flow, placed_none}
 use Rattle.lay_flow.proofs.SoFar.{Wrote}

@@ -1,4 +1,4 @@
-use Rattle.std.proofs.Common.{◌+◌, ap, refl, subst, List}
+use Rattle.std.proofs.Common.{◌+◌, ap}
 use Rattle.lay_floats.specs.declared.requests.Place.{Place}
 use Rattle.lay_flow.specs.BlockFloats.{Spot, no_lines}
 use Rattle.lay_flow.specs.Pass.Known.{placing_of}

@@ -1,6 +1,6 @@
-use Rattle.std.proofs.Common.{◌≡◌, ℕ, ◌+◌, ◌≤◌, arith, length, refl, ◌∙◌, subst}
+use Rattle.std.proofs.Common.{◌≡◌, ℕ, arith, length, ◌∙◌, subst}
 use Rattle.lay_flow.specs.Pass.Known.{GoesOn}
-use Rattle.lay_flow.proofs.PlacedOn.{goes_further, goes_nowhere, placed_further}
+use Rattle.lay_flow.proofs.PlacedOn.{goes_further, placed_further}
 use Rattle.lay_flow.proofs.placement.place_up_to.Goals as goal
 
 pub loop-k-preserved : goal.loop-k-preserved

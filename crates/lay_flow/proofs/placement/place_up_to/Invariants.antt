@@ -1,5 +1,4 @@
-use Rattle.std.proofs.Common.{ℕ, List, ◌≤◌, length}
-use Rattle.lay_flow.specs.BlockFloats.{Spot}
+use Rattle.std.proofs.Common.{◌≤◌, length}
 use Rattle.lay_flow.specs.Pass.Knows.{AreExtentsKept}
 use Rattle.lay_flow.specs.Pass.Known.{ArePlaced, GoesOn}
 use Rattle.lay_flow.proofs.placement.place_up_to.Given as goal

@@ -1,6 +1,5 @@
-use Rattle.std.proofs.Common.{◌<◌, ◌+◌, false, ℕ, arith, length, refl, subst}
+use Rattle.std.proofs.Common.{◌<◌, ◌+◌, false, arith, length, refl, subst}
 use Rattle.lay_flow.specs.declared.flow_box.FlowBox.{FlowBox}
-use Rattle.lay_flow.specs.Boxes.{box_at}
 use Rattle.lay_flow.specs.Weights.{weight_of}
 use Rattle.lay_flow.proofs.IndexedBoxes.{box_is}
 use Rattle.lay_flow.proofs.Truths.{true_false}
