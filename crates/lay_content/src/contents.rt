@@ -1,7 +1,6 @@
 //! The content of the lines of a container.
 
 ghost use Rattle.std.specs.Prelude.{◌≡◌, pos, ◌*ℤ◌, slice_get, None, IfOk, IfSome};
-ghost use Rattle.lay_units.specs.Units.{IsUsed};
 ghost use Rattle.lay_face.specs.Faces.{entry_of, thousandths_of};
 ghost use Rattle.lay_lines.specs.LineContents.{IsLineContent, IsTabDistance};
 ghost use Rattle.lay_content.specs.Contents.{content_in, indent_in, tab_in, used_indent};

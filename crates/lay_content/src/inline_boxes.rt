@@ -1,6 +1,6 @@
 //! The edges of inline boxes.
 
-ghost use Rattle.std.specs.Prelude.{◌≡◌, ◌+ℤ◌, slice_get, if◌then◌else◌};
+ghost use Rattle.std.specs.Prelude.{◌≡◌, ◌+ℤ◌, if◌then◌else◌};
 ghost use Rattle.lay_units.specs.Units.{IsPosition};
 ghost use Rattle.lay_sizes.specs.UsedLengths.{no_length};
 ghost use Rattle.lay_sizes.specs.SizeBounds.{SizeFits};

@@ -1,7 +1,7 @@
 //! Segments as stretches.
 
-ghost use Rattle.std.specs.Prelude.{◌≡◌, ◌++◌, ◌∷◌, [], true, ◌&&◌, not, if◌then◌else◌, IfOk, OnOk};
-ghost use Rattle.lay_content.specs.Stretches.{floats_at, floats_of, heads_of, is_content, parts_at, stretch_of, stretches_of};
+ghost use Rattle.std.specs.Prelude.{◌≡◌, ◌++◌, [], true, ◌&&◌, not, if◌then◌else◌, IfOk, OnOk};
+ghost use Rattle.lay_content.specs.Stretches.{floats_at, is_content, parts_at, stretch_of, stretches_of};
 
 use crate::box_measures::BoxMeasures;
 use crate::container::Container;

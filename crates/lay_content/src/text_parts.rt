@@ -6,7 +6,7 @@ ghost use Rattle.lay_content.specs.TextParts.{cluster_parts, linefeed_parts, par
 
 use lay_lines::{Advance, Part};
 use lay_space::{ClusterKind, Mode, cluster_kind};
-use lay_units::{ClusterWidth, NoMemory, Unit};
+use lay_units::{ClusterWidth, NoMemory};
 
 /// The number of a text's box, its `white-space` and its bytes.
 #[derive(Clone, Copy)]

@@ -1,6 +1,6 @@
 //! Items that have nothing inside.
 
-ghost use Rattle.std.specs.Prelude.{◌≡◌, ◌<◌, ◌++◌, ◌∷◌, [], length, List, false, IfOk, OnOk};
+ghost use Rattle.std.specs.Prelude.{◌≡◌, ◌<◌, ◌++◌, [], length, List, false, IfOk, OnOk};
 ghost use Rattle.lay_boxgen.specs.Roles.{role_of};
 ghost use Rattle.lay_space.specs.declared.item.Item.{Item};
 ghost use Rattle.lay_space.specs.declared.item.Item.TheVariants as item;

@@ -1,7 +1,7 @@
 //! Texts with the widths of their clusters.
 
-ghost use Rattle.std.specs.Prelude.{◌≡◌, ◌++◌, slice_get, map, IfOk};
-ghost use Rattle.lay_units.specs.Units.{IsUsed, IsUsedSize};
+ghost use Rattle.std.specs.Prelude.{◌≡◌, slice_get, IfOk};
+ghost use Rattle.lay_units.specs.Units.{IsUsed};
 ghost use Rattle.lay_doc.specs.LengthValues.{length_of, size_of};
 ghost use Rattle.lay_face.specs.Clusters.{widths_of};
 ghost use Rattle.lay_items.specs.InlineSegments.{measured, measured_item, setting_of, widths_in};
