@@ -7,7 +7,7 @@ ghost use Rattle.std.specs.Prelude.{◌≡◌, length};
 use crate::cells::ample;
 use crate::documents::document;
 use anyhow::{Result, bail};
-use lay_boxgen::{BoxKind, BoxNode, boxes, is_context};
+use lay_boxgen::{BoxKind, BoxNode, BoxTree, boxes, is_context};
 use lay_doc::{Computed, Display, Doc, LengthPercentageOrAuto, NodeId, Style};
 use lay_inherit::computed;
 use lay_units::Unit;
@@ -75,6 +75,12 @@ pub(crate) fn with_styles(alloc: Global, text: &str) -> Result<String> {
     trimmed(alloc, &out)
 }
 
+/// The boxes of the root's context.
+pub fn root_boxes(alloc: Global, text: &str) -> Result<BoxTree> {
+    let page = styled(alloc, text)?;
+    ample(boxes(alloc, &page.doc, &page.style, NodeId(1)))
+}
+
 /// How many boxes the root's context has.
 pub(crate) fn count(alloc: Global, text: &str) -> Result<String> {
     let page = styled(alloc, text)?;
@@ -83,7 +89,8 @@ pub(crate) fn count(alloc: Global, text: &str) -> Result<String> {
     Ok(format!(in alloc; "{count}")?)
 }
 
-fn trimmed(alloc: Global, text: &String) -> Result<String> {
+/// The text without the space at its end.
+pub fn trimmed(alloc: Global, text: &String) -> Result<String> {
     Ok(String::from_str(alloc, text.as_str().trim())?)
 }
 
@@ -134,7 +141,8 @@ fn push_brackets(out: &mut String, from: u32, to: u32) -> Result<()> {
     Ok(())
 }
 
-fn push_box(out: &mut String, node: &BoxNode) -> Result<()> {
+/// Writes a box.
+pub fn push_box(out: &mut String, node: &BoxNode) -> Result<()> {
     if node.anonymous {
         out.push('*')?;
     }

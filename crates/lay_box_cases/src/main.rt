@@ -13,6 +13,7 @@ mod documents;
 mod floats;
 mod heights;
 mod margins;
+mod parts;
 mod widths;
 
 use anyhow::{Context, Result, bail};
@@ -89,6 +90,8 @@ fn answer(alloc: Global, call: &str, text: &str) -> Result<String> {
         "box-nodes" => boxes::with_nodes(alloc, text),
         "box-styles" => boxes::with_styles(alloc, text),
         "box-counts" => boxes::count(alloc, text),
+        "inline-parts" => parts::of_inlines(alloc, text),
+        "former-parents" => parts::former(alloc, text),
         "block-widths" => widths::of_block(alloc, text),
         "float-widths" => widths::of_float(alloc, text),
         "replaced-sizes" => widths::of_replaced(alloc, text),

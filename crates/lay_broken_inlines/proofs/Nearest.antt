@@ -7,9 +7,8 @@ use Rattle.lay_boxgen.specs.BoxColumns.{box_parents}
 use Rattle.lay_boxgen.specs.Containers.{box_parent}
 use Rattle.lay_boxgen.specs.declared.box_tree.BoxNode.{BoxNode}
 use Rattle.lay_box_parts.specs.InlineParts.{id_at, is_inline_at, is_part_at}
-use Rattle.lay_box_parts.specs.LatestParts.{IsLatest}
 use Rattle.lay_broken_inlines.specs.FormerParents.{IsFormerParent, OneFormerParent, WasIn}
-use Rattle.lay_broken_inlines.specs.OpenParts.{AreLastPlaces, AreOpen, GoesOn, IsOver}
+use Rattle.lay_broken_inlines.specs.OpenParts.{AreNextPlaces, AreOpen, GoesOn, IsNextTo, IsOver}
 use Rattle.lay_broken_inlines.specs.SubtreeEnds.{IsEnd}
 use Rattle.lay_broken_inlines.proofs.Ends.{in-end, out-end}
 
@@ -28,32 +27,43 @@ part-within [] id k h = cc
 part-within (b ∷ bs) id zero h = omega arith
 part-within (b ∷ bs) id (suc k) h = let r = part-within bs id k h in omega (arith, r)
 
-module _ (boxes : List BoxNode) (tree : IsTree (box_parents boxes)) (last : List ℕ) (lasts : AreLastPlaces boxes last) where
-  -- a part whose inline box has no part behind a box has held none from that one on
-  pub over : (k e p : ℕ) → p < k → k < length boxes → IsEnd boxes k e → is_inline_at boxes p ≡ true → get_or last p 0 < e → IsOver boxes k p
+module _ (boxes : List BoxNode) (tree : IsTree (box_parents boxes)) (next : List ℕ) (nexts : AreNextPlaces boxes next) where
+  -- the next part is the only one
+  next-is : (p k : ℕ) → WasIn boxes p k → (q : ℕ) → IsNextTo boxes (length boxes) p q → (was : WasIn boxes p k) → was.next ≡ q
+  next-is p k h q (inl none) was =
+      let a = was.before in
+      let b = was.behind in
+      absurd (never (is_part_at boxes (id_at boxes p) was.next) was.same (none.1 was.next (omega (arith, a, b)) (part-within boxes (id_at boxes p) was.next was.same)))
+  next-is p k h q (inr some) was =
+      let a = was.before in
+      let b = was.behind in
+      elim (cases_lt was.next q) [
+        | inl low ↦ absurd (never (is_part_at boxes (id_at boxes p) was.next) was.same (some.3 was.next (omega (arith, a, b)) low))
+        | inr high ↦ elim (cases_lt q was.next) [
+          | inl over ↦ absurd (never (is_part_at boxes (id_at boxes p) q) some.2 (was.first q some.0 over))
+          | inr under ↦ omega (arith, high, under)
+        ]
+      ]
+
+  -- a part whose next one stands before the end of a box has held none from that box on
+  pub over : (k e p : ℕ) → p < k → k < length boxes → IsEnd boxes k e → is_inline_at boxes p ≡ true → get_or next p 0 < e → IsOver boxes k p
   over k e p before within end part less j from lt was =
-      let l = lasts.each p (omega (arith, before, within)) part in
-      let q = was.later in
-      let in_list = part-within boxes (id_at boxes p) q was.same in
-      let most : q ≤ get_or last p 0 = elim (cases_lt (get_or last p 0) q) [
-        | inl high ↦ absurd (never (is_part_at boxes (id_at boxes p) q) was.same (l.2 q high in_list))
-        | inr low ↦ low
-      ] in
+      let q = was.next in
+      let is = next-is p j was (get_or next p 0) (nexts.each p (omega (arith, before, within)) part) was in
       let behind = was.behind in
       let beside = was.beside in
       elim (cases_lt k j) [
         | inl more ↦ elim (cases_lt j e) [
           | inl inside ↦ (let u = end.inside j more inside in omega (arith, u, beside, before))
-          | inr out ↦ omega (arith, out, behind, most, less)
+          | inr out ↦ omega (arith, out, behind, is, less)
         ]
-        | inr same ↦ (let is : j ≡ k = omega (arith, from, same) in
-            let moved = subst (λ (x : ℕ). WasIn boxes p x) is was in
-            let here = subst (λ (x : ℕ). x < q) is behind in
-            was_out is (in-end boxes tree k e end q q (omega arith) (omega (arith, here)) (omega (arith, most, less))))
+        | inr upto ↦ (let here : j ≡ k = omega (arith, from, upto) in
+            let high : k < q = omega (arith, here, behind) in
+            was_out here (in-end boxes tree k e end q q (omega arith) (omega (arith, high)) (omega (arith, is, less))))
       ]
     where
-      was_out : j ≡ k → IsUnder (box_parents boxes) k was.later → ⊥
-      was_out is under = was.outside (subst (λ (x : ℕ). IsUnder (box_parents boxes) x was.later) (sym is) under)
+      was_out : j ≡ k → IsUnder (box_parents boxes) k was.next → ⊥
+      was_out here under = was.outside (subst (λ (x : ℕ). IsUnder (box_parents boxes) x was.next) (sym here) under)
 
   -- without the topmost
   take-read : (xs : List ℕ) (n i : ℕ) → i < n → get_or (take n xs) i 0 ≡ get_or xs i 0
@@ -67,7 +77,7 @@ module _ (boxes : List BoxNode) (tree : IsTree (box_parents boxes)) (last : List
   length-take-less [] (suc n) le = absurd (omega (arith, le))
   length-take-less (x ∷ xs) (suc n) le = let e = length-take-less xs n (omega (arith, le)) in omega (arith, e)
 
-  pub popped : (k e : ℕ) (xs : List ℕ) → k < length boxes → IsEnd boxes k e → AreOpen boxes k xs → (i : ℕ) → i + 1 ≡ length xs → get_or last (get_or xs i 0) 0 < e → AreOpen boxes k (take i xs)
+  pub popped : (k e : ℕ) (xs : List ℕ) → k < length boxes → IsEnd boxes k e → AreOpen boxes k xs → (i : ℕ) → i + 1 ≡ length xs → get_or next (get_or xs i 0) 0 < e → AreOpen boxes k (take i xs)
   popped k e xs within end h i top less =
       let count = length-take-less xs i (omega (arith, top)) in
       record {
@@ -83,7 +93,7 @@ module _ (boxes : List BoxNode) (tree : IsTree (box_parents boxes)) (last : List
                 let w = found.1 in
                 let same : found.0 ≡ i = omega (arith, high, w, top) in
                 let q : get_or xs i 0 ≡ p = sym (ap (λ (x : ℕ). get_or xs x 0) same) ∙ found.2 in
-                inr (over k e p before within end part (subst (λ (x : ℕ). get_or last x 0 < e) q less)))
+                inr (over k e p before within end part (subst (λ (x : ℕ). get_or next x 0 < e) q less)))
           ]
           | inr gone ↦ inr gone
         ];
@@ -102,7 +112,7 @@ module _ (boxes : List BoxNode) (tree : IsTree (box_parents boxes)) (last : List
     | inr high ↦ (let same : j ≡ i = omega (arith, high, lt, top) in rw same (omega arith))
   ]
 
-  pub nearest-is : (k e : ℕ) (xs : List ℕ) → k < length boxes → IsEnd boxes k e → AreOpen boxes k xs → GoesOn last xs e → (o : Option ℕ)
+  pub nearest-is : (k e : ℕ) (xs : List ℕ) → k < length boxes → IsEnd boxes k e → AreOpen boxes k xs → GoesOn next xs e → (o : Option ℕ)
       → MatchOption o ((i : ℕ) → i + 1 ≡ length xs → get_or xs i 0 ≤ box_parent boxes k) (λ p. (i : ℕ) × (i + 1 ≡ length xs) × (get_or xs i 0 ≡ p) × (box_parent boxes k < p))
       → IsFormerParent boxes k o
   nearest-is k e xs within end h goes None none = λ p was.
@@ -120,22 +130,24 @@ module _ (boxes : List BoxNode) (tree : IsTree (box_parents boxes)) (last : List
       open_p : (p < k) × (is_inline_at boxes p ≡ true)
       open_p = subst (λ (x : ℕ). (x < k) × (is_inline_at boxes x ≡ true)) is (h.each i (omega (arith, top)))
 
-      lasts_p : IsLatest boxes (length boxes) (id_at boxes p) (Some (get_or last p 0))
-      lasts_p = lasts.each p (let lt = open_p.0 in omega (arith, lt, within)) open_p.1
+      goes_on : e ≤ get_or next p 0
+      goes_on = subst (λ (x : ℕ). e ≤ get_or next x 0) is (goes i top)
 
-      goes_on : e ≤ get_or last p 0
-      goes_on = subst (λ (x : ℕ). e ≤ get_or last x 0) is (goes i top)
-
-      held : WasIn boxes p k
-      held = record {
+      held_by : IsNextTo boxes (length boxes) p (get_or next p 0) → WasIn boxes p k
+      held_by (inl none) = absurd (let z = none.0 in let a = end.after in omega (arith, z, a, goes_on))
+      held_by (inr some) = record {
         part = open_p.1;
         before = open_p.0;
         beside = beside;
-        later = get_or last p 0;
+        next = get_or next p 0;
         behind = (let a = end.after in omega (arith, a, goes_on));
-        same = lasts_p.1;
-        outside = λ under. (let o = out-end boxes tree k e (get_or last p 0) end under lasts_p.0 in omega (arith, o, goes_on));
+        same = some.2;
+        first = some.3;
+        outside = λ under. (let o = out-end boxes tree k e (get_or next p 0) end under some.1 in omega (arith, o, goes_on));
       }
+
+      held : WasIn boxes p k
+      held = held_by (nexts.each p (let lt = open_p.0 in omega (arith, lt, within)) open_p.1)
 
       nearest : (r : ℕ) → WasIn boxes r k → r ≤ p
       nearest r was = (

@@ -1,15 +1,23 @@
 -- The parts of inline boxes that a walk over the boxes keeps: of those before a place all that can have held a box from there
 -- on.
-use Rattle.std.specs.Prelude.{ℕ, ◌≡◌, ◌⊎◌, ◌+◌, ◌<◌, ◌≤◌, true, List, length, slice_index, Some}
+use Rattle.std.specs.Prelude.{ℕ, ◌≡◌, ◌⊎◌, ◌+◌, ◌<◌, ◌≤◌, true, false, List, length, slice_index}
 use Rattle.lay_boxgen.specs.declared.box_tree.BoxNode.{BoxNode}
-use Rattle.lay_box_parts.specs.InlineParts.{id_at, is_inline_at}
-use Rattle.lay_box_parts.specs.LatestParts.{IsLatest}
+use Rattle.lay_box_parts.specs.InlineParts.{id_at, is_inline_at, is_part_at}
 use Rattle.lay_broken_inlines.specs.FormerParents.{WasIn}
 
--- for each part the place of the last part of its inline box
-pub record AreLastPlaces (boxes : List BoxNode) (last : List ℕ) : Type 0 where
-  pub count : length last ≡ length boxes
-  pub each : (k : ℕ) → k < length boxes → is_inline_at boxes k ≡ true → IsLatest boxes (length boxes) (id_at boxes k) (Some (slice_index last k))
+-- among the first n boxes this is the place of the next part behind the one at p, and 0 where there is none
+abbrev pub IsNextTo : List BoxNode → (n p q : ℕ) → Type 0
+IsNextTo boxes n p q =
+    ((q ≡ 0) × ((j : ℕ) → p < j → j < n → is_part_at boxes (id_at boxes p) j ≡ false))
+    ⊎ ((p < q) × (q < n) × (is_part_at boxes (id_at boxes p) q ≡ true) × ((j : ℕ) → p < j → j < q → is_part_at boxes (id_at boxes p) j ≡ false))
+
+-- that of each part
+pub record AreNextTo (boxes : List BoxNode) (next : List ℕ) (n : ℕ) : Type 0 where
+  pub count : length next ≡ length boxes
+  pub each : (p : ℕ) → p < length boxes → is_inline_at boxes p ≡ true → IsNextTo boxes n p (slice_index next p)
+
+abbrev pub AreNextPlaces : List BoxNode → List ℕ → Type 0
+AreNextPlaces boxes next = AreNextTo boxes next (length boxes)
 
 -- no box from the place k on was in the inline box of the part at p
 abbrev pub IsOver : List BoxNode → (k p : ℕ) → Type 0
@@ -20,6 +28,6 @@ pub record AreOpen (boxes : List BoxNode) (k : ℕ) (parts : List ℕ) : Type 0 
   pub rising : (i j : ℕ) → i < j → j < length parts → slice_index parts i < slice_index parts j
   pub all : (p : ℕ) → p < k → is_inline_at boxes p ≡ true → ((i : ℕ) × (i < length parts) × (slice_index parts i ≡ p)) ⊎ IsOver boxes k p
 
--- the topmost one, if there is one, has a later part from the place `end` on
-abbrev pub GoesOn : (last parts : List ℕ) → ℕ → Type 0
-GoesOn last parts end = (i : ℕ) → i + 1 ≡ length parts → end ≤ slice_index last (slice_index parts i)
+-- the next part of the topmost one, if there is one, stands at the place `end` or behind it
+abbrev pub GoesOn : (next parts : List ℕ) → ℕ → Type 0
+GoesOn next parts end = (i : ℕ) → i + 1 ≡ length parts → end ≤ slice_index next (slice_index parts i)

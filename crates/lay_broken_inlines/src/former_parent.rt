@@ -4,10 +4,10 @@ ghost use Rattle.std.specs.Prelude.{◌≡◌, ◌<◌, ◌+◌, ◌≤◌, ℕ,
 ghost use Rattle.lay_doc.specs.Tree.{IsTree};
 ghost use Rattle.lay_boxgen.specs.BoxColumns.{box_parents};
 ghost use Rattle.lay_broken_inlines.specs.FormerParents.{AreFormerParents, IsFormerParent};
-ghost use Rattle.lay_broken_inlines.specs.OpenParts.{AreLastPlaces, AreOpen, GoesOn};
+ghost use Rattle.lay_broken_inlines.specs.OpenParts.{AreNextPlaces, AreOpen, GoesOn};
 ghost use Rattle.lay_broken_inlines.specs.SubtreeEnds.{AreEnds, IsEnd};
 
-use crate::last_place::{is_inline_at, last_places};
+use crate::next_place::{is_inline_at, next_places};
 use crate::subtree_end::{box_parent, subtree_ends};
 use lay_boxgen::{BoxNode, BoxTree};
 use lay_units::NoMemory;
@@ -18,12 +18,12 @@ pub fn former_parents(alloc: Global, tree: &BoxTree) -> Result<Vec<Option<usize>
     ensures { IfOk result (λ v. AreFormerParents tree.now v.items) }
 {
     let boxes = tree.as_slice();
-    let last = last_places(alloc, boxes)?;
+    let next = next_places(alloc, boxes)?;
     let ends = subtree_ends(alloc, boxes)?;
     let mut parts = Vec::new(alloc);
     let mut parents = Vec::with_capacity(alloc, boxes.len())?;
     for k in 0..boxes.len() {
-        let parent = former_parent(boxes, &last, ends[k], &mut parts, k);
+        let parent = former_parent(boxes, &next, ends[k], &mut parts, k);
         parents.push(parent)?;
         note_open(boxes, &mut parts, k)?;
     }
@@ -33,34 +33,34 @@ pub fn former_parents(alloc: Global, tree: &BoxTree) -> Result<Vec<Option<usize>
 /// The former parent of the box at k. Parts that can have held no box from there on are dropped.
 fn former_parent(
     boxes: &[BoxNode],
-    last: &[usize],
+    next: &[usize],
     end: usize,
     parts: &mut Vec<usize>,
     k: usize,
 ) -> Option<usize>
     requires tree { IsTree (box_parents boxes.now) }
     requires within { k < length boxes.now }
-    requires last { AreLastPlaces boxes.now last.now }
+    requires next { AreNextPlaces boxes.now next.now }
     requires end { IsEnd boxes.now k end }
     requires before { AreOpen boxes.now k parts.old.items }
     ensures parent { IsFormerParent boxes.now k result }
     ensures after { AreOpen boxes.now k parts.new.items }
 {
-    while is_top_over(last, end, parts) {
+    while is_top_over(next, end, parts) {
         parts.pop();
     }
     nearest(parts, box_parent(boxes, k))
 }
 
-/// Whether the topmost of these parts has no later part from the place `end` on.
-fn is_top_over(last: &[usize], end: usize, parts: &[usize]) -> bool
-    requires { (i : ℕ) → i < length parts.now → slice_index parts.now i < length last.now }
-    ensures over { IsTrue result → (i : ℕ) × (i + 1 ≡ length parts.now) × (slice_index last.now (slice_index parts.now i) < end) }
-    ensures goes_on { result ≡ false → GoesOn last.now parts.now end }
+/// Whether the next part of the topmost of these parts, if there is one, stands before the place `end`.
+fn is_top_over(next: &[usize], end: usize, parts: &[usize]) -> bool
+    requires { (i : ℕ) → i < length parts.now → slice_index parts.now i < length next.now }
+    ensures over { IsTrue result → (i : ℕ) × (i + 1 ≡ length parts.now) × (slice_index next.now (slice_index parts.now i) < end) }
+    ensures goes_on { result ≡ false → GoesOn next.now parts.now end }
 {
     match parts.len() {
         0 => false,
-        n => last[parts[n - 1]] < end,
+        n => next[parts[n - 1]] < end,
     }
 }
 

@@ -5,8 +5,8 @@
 #![tactic(auto)]
 
 mod former_parent;
-mod last_place;
 mod laws;
+mod next_place;
 mod subtree_end;
 
 pub use former_parent::former_parents;
