@@ -1,11 +1,10 @@
 -- Answers to what was read.
 use Rattle.std.proofs.Common.{◌≡◌, ℕ, List, codes, Bool, true, false, refl, sym, ap, ◌∙◌, subst, Option, Some, None, IfSome, Ok, Err, Result, IfOk}
-use Rattle.lay_outside.specs.Outside.{Took}
 use Rattle.lay_drawing.specs.declared.answer.Answer.{Answer}
 use Rattle.lay_drawing.specs.declared.answer.Answer.TheVariants.{Picture, Refusal}
 use Rattle.lay_drawing.specs.declared.answer.Lack.{Lack}
 use Rattle.lay_drawing.specs.declared.state.Reading.{Reading}
-use Rattle.lay_drawing.specs.Reports.{IsBadLine, is_shown, pieces_shown}
+use Rattle.lay_drawing.specs.Reports.{IsBadLine, is_shown}
 use Rattle.lay_drawing.specs.States.{WasReport}
 use Rattle.lay_drawing.specs.Input.{HasReport}
 use Rattle.lay_drawing.specs.Answers.{AnswersBytes, AnswersReading, IsRefusal, IsAnswer, refusal, bad_line, no_tree, refused}

@@ -1,6 +1,6 @@
 -- Bytes that are read: a line that ends, one that is bad, and the bytes of a report one after the other.
-use Rattle.std.proofs.Common.{◌≡◌, ℕ, zero, suc, ◌+◌, ◌^◌, ◌<◌, ◌≤◌, ◌==◌, ◌&&◌, ◌||◌, Bool, true, false, not, List, [], ◌∷◌, ◌++◌, length, take, drop, get_or, refl, sym, ap, subst, ◌∙◌, arith, append_assoc, append-nil, length-append, Option, Some, None, IfSome, ℤ, pos, negsuc, codes}
-use Rattle.std.specs.List.{flat_map, list_any, join_with_byte, All}
+use Rattle.std.proofs.Common.{◌≡◌, ℕ, zero, suc, ◌+◌, ◌^◌, ◌<◌, ◌≤◌, ◌==◌, false, List, [], ◌∷◌, ◌++◌, length, take, drop, get_or, refl, sym, ap, subst, ◌∙◌, arith, append_assoc, append-nil, length-append, Option, Some, None, ℤ, pos, negsuc}
+use Rattle.std.specs.List.{flat_map, join_with_byte}
 use Rattle.std.specs.Fmt.{decimal, signed_decimal}
 use Rattle.std.proofs.lemmas.Grind.{flat_map-append}
 use Rattle.std.proofs.lemmas.Int.{ints}
@@ -14,15 +14,14 @@ use Rattle.lay_drawing.specs.declared.line.EditReply.TheVariants.{Accepted, Refu
 use Rattle.lay_drawing.specs.declared.line.Line.{Line}
 use Rattle.lay_drawing.specs.declared.line.Line.TheVariants.{Edit, Publish, Latest, Sync, Final, Laid, Piece}
 use Rattle.lay_drawing.specs.declared.places.Place.{Place}
-use Rattle.lay_drawing.specs.declared.places.Place.TheVariants.{History}
 use Rattle.lay_drawing.specs.declared.state.Reading.{Reading}
 use Rattle.lay_drawing.specs.declared.state.Stop.{Stop}
 use Rattle.lay_drawing.specs.declared.state.Stop.TheVariants.{BadLine, NoMemory}
 use Rattle.lay_drawing.specs.Lines.{line_text, line_body, line_fields, reply_fields, shown_field, IsLine, IsReply, IsVersion}
 use Rattle.lay_drawing.specs.Reading.{line_in}
-use Rattle.lay_drawing.specs.Reports.{next_place, is_whole, IsBadLine, IsNoLine, AreLines}
-use Rattle.lay_drawing.specs.States.{HasLines, HasRead, Adds, CantAdd, IsNext, Reads, Stops}
-use Rattle.lay_drawing.proofs.Splitting.{Lacks, lacks_more, lacks_append, same_front, front_within, no_such}
+use Rattle.lay_drawing.specs.Reports.{next_place, IsBadLine}
+use Rattle.lay_drawing.specs.States.{HasRead, Adds, CantAdd, IsNext, Reads, Stops}
+use Rattle.lay_drawing.proofs.Splitting.{lacks_more, lacks_append, same_front, front_within}
 use Rattle.lay_drawing.proofs.LineReading.{line_sound, line_complete, body_lacks}
 use Rattle.lay_drawing.proofs.LineSteps.{has_more}
 
@@ -121,8 +120,16 @@ fields_short (Sync e i s) is = omega (arith, short e (omega (arith, is.0)), shor
 fields_short (Final v) is = omega (arith, short v is)
 fields_short (Laid v) is = omega (arith, short v is)
 fields_short (Piece f) is =
-    omega (arith, kind_short f.kind, short f.node.0 (omega (arith, is.0)), short f.part (omega (arith, is.1)),
-    signed_short f.rect.x.0 is.2.x, signed_short f.rect.y.0 is.2.y, signed_short f.rect.w.0 is.2.w, signed_short f.rect.h.0 is.2.h)
+    omega (
+      arith,
+      kind_short f.kind,
+      short f.node.0 (omega (arith, is.0)),
+      short f.part (omega (arith, is.1)),
+      signed_short f.rect.x.0 is.2.x,
+      signed_short f.rect.y.0 is.2.y,
+      signed_short f.rect.w.0 is.2.w,
+      signed_short f.rect.h.0 is.2.h,
+    )
 
 -- a line that is too long
 pub stops_long : (s : Reading) (byte : ℕ) (stop : Stop) → (byte == 10) ≡ false → length s.text.items ≡ 200 → IsNext s.count stop → Stops s (byte ∷ []) stop

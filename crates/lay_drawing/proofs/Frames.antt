@@ -1,7 +1,6 @@
 -- The frame of pieces holds each of them.
-use Rattle.std.proofs.Common.{◌≡◌, ℕ, List, [], ◌∷◌, fold, arith, ℤ, ◌≤ℤ◌, ◌+ℤ◌}
+use Rattle.std.proofs.Common.{List, [], ◌∷◌, fold, arith}
 use Rattle.std.specs.List.{All}
-use Rattle.std.specs.Int.{int_min, int_max}
 use Rattle.std.proofs.lemmas.Int.{ints, clamps}
 use Rattle.std.proofs.lemmas.List.Elements.{All-nil, All-cons}
 use Rattle.lay_frag.specs.declared.frag.Frag.{Frag}
@@ -29,9 +28,10 @@ unfolding Inside
 grows frame [] = (same_span frame.across, same_span frame.down)
 grows frame (x ∷ xs) =
     let later = grows (joined frame (edges x)) xs in
-    let end : Frame = fold (λ f p. joined f (edges p)) (joined frame (edges x)) xs in
-    (trans_span frame.across (joined frame (edges x)).across end.across (left_span frame.across (edges x).across) later.0,
-    trans_span frame.down (joined frame (edges x)).down end.down (left_span frame.down (edges x).down) later.1)
+    let end : Frame = fold (λ f p. joined f (edges p)) (joined frame (edges x)) xs in (
+      trans_span frame.across (joined frame (edges x)).across end.across (left_span frame.across (edges x).across) later.0,
+      trans_span frame.down (joined frame (edges x)).down end.down (left_span frame.down (edges x).down) later.1,
+    )
 
 each : (frame : Frame) (fs : List Frag) → All (Holds (fold (λ f p. joined f (edges p)) frame fs)) fs
 unfolding Inside
@@ -39,10 +39,11 @@ each frame [] = All-nil (Holds frame)
 each frame (x ∷ xs) =
     let later = grows (joined frame (edges x)) xs in
     let end : Frame = fold (λ f p. joined f (edges p)) (joined frame (edges x)) xs in
-    All-cons (Holds end) x xs
-      (trans_span (edges x).across (joined frame (edges x)).across end.across (right_span frame.across (edges x).across) later.0,
-      trans_span (edges x).down (joined frame (edges x)).down end.down (right_span frame.down (edges x).down) later.1)
-      (each (joined frame (edges x)) xs)
+    All-cons (Holds end) x xs (
+      trans_span (edges x).across (joined frame (edges x)).across end.across (right_span frame.across (edges x).across) later.0,
+      trans_span (edges x).down (joined frame (edges x)).down end.down (right_span frame.down (edges x).down) later.1,
+    )
+    (each (joined frame (edges x)) xs)
 
 pub hold_lem : FramesHold
 unfolding Inside

@@ -9,3 +9,4 @@ pub mod Digits
 pub mod Frames
 pub mod Sources
 pub mod Answering
+pub mod Scratches

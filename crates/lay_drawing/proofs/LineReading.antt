@@ -1,8 +1,7 @@
 -- What is read of a line is what is written.
-use Rattle.std.proofs.Common.{◌≡◌, ◌≢◌, ℕ, zero, suc, ◌+◌, ◌^◌, ◌<◌, ◌≤◌, ◌==◌, ◌&&◌, ◌||◌, Bool, true, false, not, List, [], ◌∷◌, ◌++◌, length, refl, sym, ap, subst, ◌∙◌, arith, rules, ℤ, pos, negsuc, neg_ℤ, codes, Option, Some, None, IfSome, option_and_then, nat_lt, nat_le, if◌then◌else◌}
+use Rattle.std.proofs.Common.{◌≡◌, ℕ, zero, suc, ◌^◌, ◌<◌, ◌≤◌, ◌==◌, ◌&&◌, true, false, List, [], ◌∷◌, length, refl, sym, ap, subst, ◌∙◌, arith, ℤ, pos, negsuc, neg_ℤ, codes, Option, Some, None, IfSome, option_and_then, nat_lt, nat_le}
 use Rattle.std.proofs.lemmas.Int.{ints}
 use Rattle.std.specs.List.{join_with_byte}
-use Rattle.std.specs.Str.{bytes_eq}
 use Rattle.std.specs.Str.Parse.{AllDigits}
 use Rattle.std.specs.Fmt.{decimal, signed_decimal}
 use Rattle.std.proofs.lemmas.Bool.{ltb-true, lt-ltb, le-leb, leb-true, ne_eqb, eqb-true}
@@ -138,9 +137,10 @@ shown_lacks c None low is = nomemory_lacks c low
 reply_lacks : (c : ℕ) (r : EditReply) → c < 45 → IsReply r → AllLack c (reply_fields r)
 unfolding Low
 reply_lacks c (Accepted v) low is = (letters c low (codes "accepted") (omega arith, (omega arith, (omega arith, (omega arith, (omega arith, (omega arith, (omega arith, (omega arith, tt)))))))), (decimal_lacks c v (omega arith) is, tt))
-reply_lacks c (Refused k) low is =
-    (letters c low (codes "refused") (omega arith, (omega arith, (omega arith, (omega arith, (omega arith, (omega arith, (omega arith, tt))))))),
-    (lacks_more c 69 (decimal k) (ne_eqb 69 c (λ e. omega arith)) (decimal_lacks c k (omega arith) (omega (arith, is.1))), tt))
+reply_lacks c (Refused k) low is = (
+  letters c low (codes "refused") (omega arith, (omega arith, (omega arith, (omega arith, (omega arith, (omega arith, (omega arith, tt))))))),
+  (lacks_more c 69 (decimal k) (ne_eqb 69 c (λ e. omega arith)) (decimal_lacks c k (omega arith) (omega (arith, is.1))), tt),
+)
 reply_lacks c NoMemory low is = (nomemory_lacks c low, tt)
 
 all_lack : (c : ℕ) (l : Line) → c < 45 → IsLine l → AllLack c (line_fields l)
@@ -151,9 +151,16 @@ all_lack c (Latest e i s) low is = (letters c low (codes "latest") (omega arith,
 all_lack c (Sync e i s) low is = (letters c low (codes "sync") (omega arith, (omega arith, (omega arith, (omega arith, tt)))), (decimal_lacks c e (omega arith) (omega (arith, is.0)), (decimal_lacks c i (omega arith) (omega (arith, is.1)), (shown_lacks c s low is.2, tt))))
 all_lack c (Final v) low is = (letters c low (codes "final") (omega arith, (omega arith, (omega arith, (omega arith, (omega arith, tt))))), (decimal_lacks c v (omega arith) is, tt))
 all_lack c (Laid v) low is = (letters c low (codes "laid") (omega arith, (omega arith, (omega arith, (omega arith, tt)))), (decimal_lacks c v (omega arith) is, tt))
-all_lack c (Piece f) low is =
-    (kind_lacks c f.kind low, (decimal_lacks c f.node.0 (omega arith) (omega (arith, is.0)), (decimal_lacks c f.part (omega arith) (omega (arith, is.1)),
-    (signed_lacks c f.rect.x.0 low is.2.x, (signed_lacks c f.rect.y.0 low is.2.y, (signed_lacks c f.rect.w.0 low is.2.w, (signed_lacks c f.rect.h.0 low is.2.h, tt)))))))
+all_lack c (Piece f) low is = (
+  kind_lacks c f.kind low,
+  (
+    decimal_lacks c f.node.0 (omega arith) (omega (arith, is.0)),
+    (
+      decimal_lacks c f.part (omega arith) (omega (arith, is.1)),
+      (signed_lacks c f.rect.x.0 low is.2.x, (signed_lacks c f.rect.y.0 low is.2.y, (signed_lacks c f.rect.w.0 low is.2.w, (signed_lacks c f.rect.h.0 low is.2.h, tt)))),
+    ),
+  ),
+)
 
 -- a line has no linefeed before its end
 pub body_lacks : (l : Line) → IsLine l → Lacks 10 (line_body l)
@@ -182,8 +189,8 @@ small_sound : (t : List ℕ) (n : ℕ) → small_of t ≡ Some n → (t ≡ deci
 small_sound t n e = option_and_then_some _ (number_of t) n e (λ m read rest.
     let s = number_sound t m read in
     by_bool (nat_lt m (2 ^ 32))
-      (λ less. let f = rw less at rest in let q : m ≡ n = cc in (s.0 ∙ ap decimal q, omega (arith, ltb-true m (2 ^ 32) less, q)))
-      (λ more. let f = rw more at rest in absurd cc))
+    (λ less. let f = rw less at rest in let q : m ≡ n = cc in (s.0 ∙ ap decimal q, omega (arith, ltb-true m (2 ^ 32) less, q)))
+    (λ more. let f = rw more at rest in absurd cc))
 
 is_nil : {X : Type 0} (ys : List X) → (length ys == 0) ≡ true → ys ≡ []
 is_nil [] q = refl
@@ -206,25 +213,25 @@ negative_sound : (t : List ℕ) (v : Length) → negative_of t ≡ Some v → (4
 negative_sound t v e = option_and_then_some _ (number_of t) v e (λ m read rest.
     let s = number_sound t m read in
     by_bool (nat_lt 0 m && nat_lt m (2 ^ 62))
-      (λ less.
-        let f = rw less at rest in
-        let q : record { 0 = neg_ℤ (pos m) } ≡ v = cc in
-        let parts = both (nat_lt 0 m) (nat_lt m (2 ^ 62)) less in
-        let k = negated m (ltb-true 0 m parts.0) (ltb-true m (2 ^ 62) parts.1) in
-        (ap (λ (ds : List ℕ). 45 ∷ ds) s.0 ∙ k.0 ∙ ap (λ (u : Length). signed_decimal u.0) q, subst (λ (u : Length). IsPosition u.0) q k.1))
-      (λ more. let f = rw more at rest in absurd cc))
+    (λ less.
+    let f = rw less at rest in
+    let q : record { 0 = neg_ℤ (pos m) } ≡ v = cc in
+    let parts = both (nat_lt 0 m) (nat_lt m (2 ^ 62)) less in
+    let k = negated m (ltb-true 0 m parts.0) (ltb-true m (2 ^ 62) parts.1) in
+    (ap (λ (ds : List ℕ). 45 ∷ ds) s.0 ∙ k.0 ∙ ap (λ (u : Length). signed_decimal u.0) q, subst (λ (u : Length). IsPosition u.0) q k.1))
+    (λ more. let f = rw more at rest in absurd cc))
 
 positive_sound : (t : List ℕ) (v : Length) → positive_of t ≡ Some v → (t ≡ signed_decimal v.0) × IsPosition v.0
 positive_sound t v e = option_and_then_some _ (number_of t) v e (λ m read rest.
     let s = number_sound t m read in
     by_bool (nat_lt m (2 ^ 62))
-      (λ less.
-        let f = rw less at rest in
-        let q : record { 0 = pos m } ≡ v = cc in
-        let small = ltb-true m (2 ^ 62) less in
-        let range : IsPosition (pos m) = (omega (arith, ints), omega (arith, ints)) in
-        (s.0 ∙ ap (λ (u : Length). signed_decimal u.0) q, subst (λ (u : Length). IsPosition u.0) q range))
-      (λ more. let f = rw more at rest in absurd cc))
+    (λ less.
+    let f = rw less at rest in
+    let q : record { 0 = pos m } ≡ v = cc in
+    let small = ltb-true m (2 ^ 62) less in
+    let range : IsPosition (pos m) = (omega (arith, ints), omega (arith, ints)) in
+    (s.0 ∙ ap (λ (u : Length). signed_decimal u.0) q, subst (λ (u : Length). IsPosition u.0) q range))
+    (λ more. let f = rw more at rest in absurd cc))
 
 position_sound : (t : List ℕ) (v : Length) → position_of t ≡ Some v → (t ≡ signed_decimal v.0) × IsPosition v.0
 position_sound [] v e = absurd cc
@@ -242,19 +249,19 @@ rect_sound (x ∷ y ∷ []) r e = absurd cc
 rect_sound (x ∷ y ∷ w ∷ []) r e = absurd cc
 rect_sound (x ∷ y ∷ w ∷ h ∷ rest) r e = by_bool (length rest == 0)
     (λ none.
-      let f = rw none at e in
-      option_and_then_some _ (position_of x) r f (λ left a e1.
-      option_and_then_some _ (position_of y) r e1 (λ top b e2.
-      option_and_then_some _ (position_of w) r e2 (λ width c e3.
-      option_and_then_some _ (position_of h) r e3 (λ height d e4.
-        let q : record { x = left; y = top; w = width; h = height } ≡ r = cc in
-        let p1 = position_sound x left a in
-        let p2 = position_sound y top b in
-        let p3 = position_sound w width c in
-        let p4 = position_sound h height d in
-        let z = is_nil rest none in
-        let same : x ∷ y ∷ w ∷ h ∷ rest ≡ rect_fields (record { x = left; y = top; w = width; h = height }) = (let g1 = p1.0 in let g2 = p2.0 in let g3 = p3.0 in let g4 = p4.0 in cc) in
-        (same ∙ ap rect_fields q, subst IsRectInRange q (record { x = p1.1; y = p2.1; w = p3.1; h = p4.1 })))))))
+    let f = rw none at e in
+    option_and_then_some _ (position_of x) r f (λ left a e1.
+    option_and_then_some _ (position_of y) r e1 (λ top b e2.
+    option_and_then_some _ (position_of w) r e2 (λ width c e3.
+    option_and_then_some _ (position_of h) r e3 (λ height d e4.
+    let q : record { x = left; y = top; w = width; h = height } ≡ r = cc in
+    let p1 = position_sound x left a in
+    let p2 = position_sound y top b in
+    let p3 = position_sound w width c in
+    let p4 = position_sound h height d in
+    let z = is_nil rest none in
+    let same : x ∷ y ∷ w ∷ h ∷ rest ≡ rect_fields (record { x = left; y = top; w = width; h = height }) = (let g1 = p1.0 in let g2 = p2.0 in let g3 = p3.0 in let g4 = p4.0 in cc) in
+    (same ∙ ap rect_fields q, subst IsRectInRange q (record { x = p1.1; y = p2.1; w = p3.1; h = p4.1 })))))))
     (λ some. let f = rw some at e in absurd cc)
 
 abbrev piece_fields : Frag → List (List ℕ)
@@ -267,38 +274,38 @@ piece_sound kind (x ∷ y ∷ rest) f e =
     option_and_then_some _ (small_of x) f e (λ node a e1.
     option_and_then_some _ (small_of y) f e1 (λ part b e2.
     option_and_then_some _ (rect_of rest) f e2 (λ r c e3.
-      let q : record { kind = kind; node = record { 0 = node }; part = part; rect = r } ≡ f = cc in
-      let p1 = small_sound x node a in
-      let p2 = small_sound y part b in
-      let p3 = rect_sound rest r c in
-      let same : x ∷ y ∷ rest ≡ piece_fields (record { kind = kind; node = record { 0 = node }; part = part; rect = r }) = (let g1 = p1.0 in let g2 = p2.0 in let g3 = p3.0 in cc) in
-      (same ∙ ap piece_fields q, ap (λ (g : Frag). g.kind) (sym q), subst IsPiece q (p1.1, p2.1, p3.1)))))
+    let q : record { kind = kind; node = record { 0 = node }; part = part; rect = r } ≡ f = cc in
+    let p1 = small_sound x node a in
+    let p2 = small_sound y part b in
+    let p3 = rect_sound rest r c in
+    let same : x ∷ y ∷ rest ≡ piece_fields (record { kind = kind; node = record { 0 = node }; part = part; rect = r }) = (let g1 = p1.0 in let g2 = p2.0 in let g3 = p3.0 in cc) in
+    (same ∙ ap piece_fields q, ap (λ (g : Frag). g.kind) (sym q), subst IsPiece q (p1.1, p2.1, p3.1)))))
 
 kind_sound : (word : List ℕ) (kind : FragKind) → kind_of word ≡ Some kind → word ≡ kind_word kind
 kind_sound word kind e = by_bool (is_word (codes "box") word)
     (λ a. let f = rw a at e in let q : Box ≡ kind = cc in word_sound (codes "box") word a ∙ ap kind_word q)
     (λ na. let f = rw na at e in by_bool (is_word (codes "line") word)
-      (λ b. let g = rw b at f in let q : LineBox ≡ kind = cc in word_sound (codes "line") word b ∙ ap kind_word q)
-      (λ nb. let g = rw nb at f in by_bool (is_word (codes "text") word)
-        (λ c. let h = rw c at g in let q : Text ≡ kind = cc in word_sound (codes "text") word c ∙ ap kind_word q)
-        (λ nc. let h = rw nc at g in absurd cc)))
+    (λ b. let g = rw b at f in let q : LineBox ≡ kind = cc in word_sound (codes "line") word b ∙ ap kind_word q)
+    (λ nb. let g = rw nb at f in by_bool (is_word (codes "text") word)
+    (λ c. let h = rw c at g in let q : Text ≡ kind = cc in word_sound (codes "text") word c ∙ ap kind_word q)
+    (λ nc. let h = rw nc at g in absurd cc)))
 
 shown_sound : (fields : List (List ℕ)) (o : Option ℕ) → shown_of fields ≡ Some o → (fields ≡ shown_field o ∷ []) × IsVersion o
 shown_sound [] o e = absurd cc
 shown_sound (x ∷ xs) o e = by_bool (is_word (codes "nomemory") x && (length xs == 0))
     (λ both_are.
-      let f = rw both_are at e in
-      let q : None ≡ o = cc in
-      let parts = both (is_word (codes "nomemory") x) (length xs == 0) both_are in
-      let g1 = word_sound (codes "nomemory") x parts.0 in
-      let g2 = is_nil xs parts.1 in
-      subst (λ (u : Option ℕ). (x ∷ xs ≡ shown_field u ∷ []) × IsVersion u) q (let same : x ∷ xs ≡ codes "nomemory" ∷ [] = cc in same, tt))
+    let f = rw both_are at e in
+    let q : None ≡ o = cc in
+    let parts = both (is_word (codes "nomemory") x) (length xs == 0) both_are in
+    let g1 = word_sound (codes "nomemory") x parts.0 in
+    let g2 = is_nil xs parts.1 in
+    subst (λ (u : Option ℕ). (x ∷ xs ≡ shown_field u ∷ []) × IsVersion u) q (let same : x ∷ xs ≡ codes "nomemory" ∷ [] = cc in same, tt))
     (λ other.
-      let f = rw other at e in
-      option_and_then_some _ (counted_of (x ∷ xs)) o f (λ v a e1.
-        let q : Some v ≡ o = cc in
-        let s = counted_sound (x ∷ xs) v a in
-        subst (λ (u : Option ℕ). (x ∷ xs ≡ shown_field u ∷ []) × IsVersion u) q s))
+    let f = rw other at e in
+    option_and_then_some _ (counted_of (x ∷ xs)) o f (λ v a e1.
+    let q : Some v ≡ o = cc in
+    let s = counted_sound (x ∷ xs) v a in
+    subst (λ (u : Option ℕ). (x ∷ xs ≡ shown_field u ∷ []) × IsVersion u) q s))
 
 abbrev Read : Type 0
 Read = ℕ × ℕ × Option ℕ
@@ -316,60 +323,60 @@ read_sound (x ∷ y ∷ rest) r e =
     option_and_then_some _ (small_of x) r e (λ editor a e1.
     option_and_then_some _ (small_of y) r e1 (λ index b e2.
     option_and_then_some _ (shown_of rest) r e2 (λ shown c e3.
-      let made : Read = (editor, index, shown) in
-      let q : made ≡ r = cc in
-      let p1 = small_sound x editor a in
-      let p2 = small_sound y index b in
-      let p3 = shown_sound rest shown c in
-      let same : x ∷ y ∷ rest ≡ decimal editor ∷ decimal index ∷ shown_field shown ∷ [] = (let g1 = p1.0 in let g2 = p2.0 in let g3 = p3.0 in cc) in
-      (same ∙ ap read_fields q, subst IsRead q (p1.1, p2.1, p3.1)))))
+    let made : Read = (editor, index, shown) in
+    let q : made ≡ r = cc in
+    let p1 = small_sound x editor a in
+    let p2 = small_sound y index b in
+    let p3 = shown_sound rest shown c in
+    let same : x ∷ y ∷ rest ≡ decimal editor ∷ decimal index ∷ shown_field shown ∷ [] = (let g1 = p1.0 in let g2 = p2.0 in let g3 = p3.0 in cc) in
+    (same ∙ ap read_fields q, subst IsRead q (p1.1, p2.1, p3.1)))))
 
 fault_sound : (fields : List (List ℕ)) (k : ℕ) → fault_of fields ≡ Some k → (fields ≡ (69 ∷ decimal k) ∷ []) × (1 ≤ k) × (k ≤ 11)
 fault_sound [] k e = absurd cc
 fault_sound ([] ∷ rest) k e = absurd cc
 fault_sound ((x ∷ xs) ∷ rest) k e =
     option_and_then_some _ (number_of xs) k e (λ m a e1.
-      by_bool ((length rest == 0) && x == 69 && nat_le 1 m && nat_le m 11)
-        (λ all.
-          let f = rw all at e1 in
-          let q : m ≡ k = cc in
-          let p1 = both ((length rest == 0) && x == 69 && nat_le 1 m) (nat_le m 11) all in
-          let p2 = both ((length rest == 0) && x == 69) (nat_le 1 m) p1.0 in
-          let p3 = both (length rest == 0) (x == 69) p2.0 in
-          let z = is_nil rest p3.0 in
-          let letter : x ≡ 69 = eqb-true x 69 p3.1 in
-          let s = number_sound xs m a in
-          let same : (x ∷ xs) ∷ rest ≡ (69 ∷ decimal m) ∷ [] = (let g = s.0 in cc) in
-          (same ∙ ap (λ (n : ℕ). (69 ∷ decimal n) ∷ []) q, omega (arith, leb-true 1 m p2.1, q), omega (arith, leb-true m 11 p1.1, q)))
-        (λ some. let f = rw some at e1 in absurd cc))
+    by_bool ((length rest == 0) && x == 69 && nat_le 1 m && nat_le m 11)
+    (λ all.
+    let f = rw all at e1 in
+    let q : m ≡ k = cc in
+    let p1 = both ((length rest == 0) && x == 69 && nat_le 1 m) (nat_le m 11) all in
+    let p2 = both ((length rest == 0) && x == 69) (nat_le 1 m) p1.0 in
+    let p3 = both (length rest == 0) (x == 69) p2.0 in
+    let z = is_nil rest p3.0 in
+    let letter : x ≡ 69 = eqb-true x 69 p3.1 in
+    let s = number_sound xs m a in
+    let same : (x ∷ xs) ∷ rest ≡ (69 ∷ decimal m) ∷ [] = (let g = s.0 in cc) in
+    (same ∙ ap (λ (n : ℕ). (69 ∷ decimal n) ∷ []) q, omega (arith, leb-true 1 m p2.1, q), omega (arith, leb-true m 11 p1.1, q)))
+    (λ some. let f = rw some at e1 in absurd cc))
 
 reply_sound : (fields : List (List ℕ)) (r : EditReply) → reply_of fields ≡ Some r → (fields ≡ reply_fields r) × IsReply r
 reply_sound [] r e = absurd cc
 reply_sound (word ∷ rest) r e = by_bool (is_word (codes "accepted") word)
     (λ a. let f = rw a at e in
-      option_and_then_some _ (counted_of rest) r f (λ v b e1.
-        let q : Accepted v ≡ r = cc in
-        let w = word_sound (codes "accepted") word a in
-        let s = counted_sound rest v b in
-        let same : word ∷ rest ≡ codes "accepted" ∷ decimal v ∷ [] = (let g = s.0 in cc) in
-        (same ∙ ap reply_fields q, subst IsReply q s.1)))
+    option_and_then_some _ (counted_of rest) r f (λ v b e1.
+    let q : Accepted v ≡ r = cc in
+    let w = word_sound (codes "accepted") word a in
+    let s = counted_sound rest v b in
+    let same : word ∷ rest ≡ codes "accepted" ∷ decimal v ∷ [] = (let g = s.0 in cc) in
+    (same ∙ ap reply_fields q, subst IsReply q s.1)))
     (λ na. let f = rw na at e in by_bool (is_word (codes "refused") word)
-      (λ a. let g = rw a at f in
-        option_and_then_some _ (fault_of rest) r g (λ k b e1.
-          let q : Refused k ≡ r = cc in
-          let w = word_sound (codes "refused") word a in
-          let s = fault_sound rest k b in
-          let same : word ∷ rest ≡ codes "refused" ∷ (69 ∷ decimal k) ∷ [] = (let h = s.0 in cc) in
-          (same ∙ ap reply_fields q, subst IsReply q (s.1, s.2))))
-      (λ nb. let g = rw nb at f in by_bool (is_word (codes "nomemory") word && (length rest == 0))
-        (λ a. let h = rw a at g in
-          let q : NoMemory ≡ r = cc in
-          let parts = both (is_word (codes "nomemory") word) (length rest == 0) a in
-          let w = word_sound (codes "nomemory") word parts.0 in
-          let z = is_nil rest parts.1 in
-          let same : word ∷ rest ≡ codes "nomemory" ∷ [] = cc in
-          (same ∙ ap reply_fields q, subst IsReply q tt))
-        (λ nc. let h = rw nc at g in absurd cc)))
+    (λ a. let g = rw a at f in
+    option_and_then_some _ (fault_of rest) r g (λ k b e1.
+    let q : Refused k ≡ r = cc in
+    let w = word_sound (codes "refused") word a in
+    let s = fault_sound rest k b in
+    let same : word ∷ rest ≡ codes "refused" ∷ (69 ∷ decimal k) ∷ [] = (let h = s.0 in cc) in
+    (same ∙ ap reply_fields q, subst IsReply q (s.1, s.2))))
+    (λ nb. let g = rw nb at f in by_bool (is_word (codes "nomemory") word && (length rest == 0))
+    (λ a. let h = rw a at g in
+    let q : NoMemory ≡ r = cc in
+    let parts = both (is_word (codes "nomemory") word) (length rest == 0) a in
+    let w = word_sound (codes "nomemory") word parts.0 in
+    let z = is_nil rest parts.1 in
+    let same : word ∷ rest ≡ codes "nomemory" ∷ [] = cc in
+    (same ∙ ap reply_fields q, subst IsReply q tt))
+    (λ nc. let h = rw nc at g in absurd cc)))
 
 edit_sound : (fields : List (List ℕ)) (l : Line) → edit_of fields ≡ Some l → (codes "edit" ∷ fields ≡ line_fields l) × IsLine l
 edit_sound [] l e = absurd cc
@@ -378,45 +385,45 @@ edit_sound (x ∷ y ∷ rest) l e =
     option_and_then_some _ (small_of x) l e (λ editor a e1.
     option_and_then_some _ (small_of y) l e1 (λ index b e2.
     option_and_then_some _ (reply_of rest) l e2 (λ reply c e3.
-      let q : Edit editor index reply ≡ l = cc in
-      let p1 = small_sound x editor a in
-      let p2 = small_sound y index b in
-      let p3 = reply_sound rest reply c in
-      let same : codes "edit" ∷ x ∷ y ∷ rest ≡ codes "edit" ∷ decimal editor ∷ decimal index ∷ reply_fields reply = (let g1 = p1.0 in let g2 = p2.0 in let g3 = p3.0 in cc) in
-      (same ∙ ap line_fields q, subst IsLine q (p1.1, p2.1, p3.1)))))
+    let q : Edit editor index reply ≡ l = cc in
+    let p1 = small_sound x editor a in
+    let p2 = small_sound y index b in
+    let p3 = reply_sound rest reply c in
+    let same : codes "edit" ∷ x ∷ y ∷ rest ≡ codes "edit" ∷ decimal editor ∷ decimal index ∷ reply_fields reply = (let g1 = p1.0 in let g2 = p2.0 in let g3 = p3.0 in cc) in
+    (same ∙ ap line_fields q, subst IsLine q (p1.1, p2.1, p3.1)))))
 
 -- a word, and a count behind it
 count_line : (make : ℕ → Line) (word : List ℕ) → ((n : ℕ) → line_fields (make n) ≡ word ∷ decimal n ∷ []) → ((n : ℕ) → n < 2 ^ 64 → IsLine (make n))
     → (field : List ℕ) (rest : List (List ℕ)) (l : Line) → is_word word field ≡ true → option_and_then (λ n. Some (make n)) (counted_of rest) ≡ Some l → (field ∷ rest ≡ line_fields l) × IsLine l
 count_line make word written fits field rest l a e =
     option_and_then_some _ (counted_of rest) l e (λ n b e1.
-      let q : make n ≡ l = cc in
-      let w = word_sound word field a in
-      let s = counted_sound rest n b in
-      let same : field ∷ rest ≡ word ∷ decimal n ∷ [] = (let g = s.0 in cc) in
-      (same ∙ sym (written n) ∙ ap line_fields q, subst IsLine q (fits n s.1)))
+    let q : make n ≡ l = cc in
+    let w = word_sound word field a in
+    let s = counted_sound rest n b in
+    let same : field ∷ rest ≡ word ∷ decimal n ∷ [] = (let g = s.0 in cc) in
+    (same ∙ sym (written n) ∙ ap line_fields q, subst IsLine q (fits n s.1)))
 
 -- a word, and a read behind it
 read_line : (make : Read → Line) (word : List ℕ) → ((r : Read) → line_fields (make r) ≡ word ∷ read_fields r) → ((r : Read) → IsRead r → IsLine (make r))
     → (field : List ℕ) (rest : List (List ℕ)) (l : Line) → is_word word field ≡ true → option_and_then (λ r. Some (make r)) (read_of rest) ≡ Some l → (field ∷ rest ≡ line_fields l) × IsLine l
 read_line make word written fits field rest l a e =
     option_and_then_some _ (read_of rest) l e (λ r b e1.
-      let q : make r ≡ l = cc in
-      let w = word_sound word field a in
-      let s = read_sound rest r b in
-      let same : field ∷ rest ≡ word ∷ read_fields r = (let g = s.0 in cc) in
-      (same ∙ sym (written r) ∙ ap line_fields q, subst IsLine q (fits r s.1)))
+    let q : make r ≡ l = cc in
+    let w = word_sound word field a in
+    let s = read_sound rest r b in
+    let same : field ∷ rest ≡ word ∷ read_fields r = (let g = s.0 in cc) in
+    (same ∙ sym (written r) ∙ ap line_fields q, subst IsLine q (fits r s.1)))
 
 piece_line : (field : List ℕ) (rest : List (List ℕ)) (l : Line) → option_and_then (λ kind. option_and_then (λ f. Some (Piece f)) (piece_of kind rest)) (kind_of field) ≡ Some l → (field ∷ rest ≡ line_fields l) × IsLine l
 piece_line field rest l e =
     option_and_then_some _ (kind_of field) l e (λ kind a e1.
     option_and_then_some _ (piece_of kind rest) l e1 (λ f b e2.
-      let q : Piece f ≡ l = cc in
-      let w = kind_sound field kind a in
-      let s = piece_sound kind rest f b in
-      let k : kind_word kind ≡ kind_word f.kind = ap kind_word (sym s.1) in
-      let same : field ∷ rest ≡ line_fields (Piece f) = (let g = s.0 in let first : field ≡ kind_word f.kind = w ∙ k in cc) in
-      (same ∙ ap line_fields q, subst IsLine q s.2)))
+    let q : Piece f ≡ l = cc in
+    let w = kind_sound field kind a in
+    let s = piece_sound kind rest f b in
+    let k : kind_word kind ≡ kind_word f.kind = ap kind_word (sym s.1) in
+    let same : field ∷ rest ≡ line_fields (Piece f) = (let g = s.0 in let first : field ≡ kind_word f.kind = w ∙ k in cc) in
+    (same ∙ ap line_fields q, subst IsLine q s.2)))
 
 fields_sound : (fields : List (List ℕ)) (l : Line) → line_of fields ≡ Some l → (fields ≡ line_fields l) × IsLine l
 fields_sound [] l e = absurd cc

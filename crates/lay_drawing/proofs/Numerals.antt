@@ -1,13 +1,12 @@
 -- Numerals: digits without leading zeros, and the numbers that they write.
-use Rattle.std.proofs.Common.{◌≡◌, ◌≢◌, ℕ, zero, suc, ◌+◌, ◌^◌, ◌<◌, ◌≤◌, ◌==◌, ◌&&◌, ◌||◌, Bool, true, false, not, List, [], ◌∷◌, length, get_or, refl, sym, ap, ◌∙◌, arith, rules, subst, Option, Some, None, Result, Ok, Err, nat_lt, if◌then◌else◌}
+use Rattle.std.proofs.Common.{◌≡◌, ℕ, zero, suc, ◌^◌, ◌<◌, ◌==◌, ◌&&◌, ◌||◌, Bool, true, false, not, List, [], ◌∷◌, length, get_or, refl, sym, ap, ◌∙◌, arith, rules, subst, Some, None, Err, nat_lt, if◌then◌else◌}
 use Rattle.std.specs.List.{list_all}
 use Rattle.std.specs.Char.{is_ascii_digit}
-use Rattle.std.specs.Result.{OkIff}
-use Rattle.std.specs.Str.{IsAscii, IsUtf8}
-use Rattle.std.specs.Str.Parse.{AllDigits, IsNumeral, digits_value, ParsesUnsigned}
+use Rattle.std.specs.Str.{IsUtf8}
+use Rattle.std.specs.Str.Parse.{digits_value, ParsesUnsigned}
 use Rattle.std.specs.Fmt.{decimal}
 use Rattle.std.proofs.lemmas.Str.{IsUtf8-from_ascii}
-use Rattle.std.proofs.lemmas.Str.Parse.{IsNumeralModel, IsDigitsTest, numerals_by_value, parse_digits}
+use Rattle.std.proofs.lemmas.Str.Parse.{IsNumeralModel, numerals_by_value, parse_digits}
 use Rattle.std.proofs.lemmas.Fmt.{decimal-digits_value, IsAscii-from_digits, digits_decimal, digits_value-decimal, decimal_nonempty, first_decimal, decimal_digit}
 use Rattle.std.proofs.lemmas.Bool.{ltb-true, lt-ltb, ne_eqb}
 use Rattle.lay_drawing.specs.Reading.{is_numeral, number_of}
@@ -70,8 +69,8 @@ no_zero n small (x ∷ xs) e =
     let digits : list_all is_ascii_digit (x ∷ xs) ≡ true = subst Digits e (digits_of n small) in
     let first : get_or (decimal n) 0 0 ≡ x = ap (λ (t : List ℕ). get_or t 0 0) e in
     let lead : (length xs == 0) || not (x == 48) ≡ true = by_nat n
-        (λ zero_is. let one : length (decimal n) ≡ 1 = ap (λ m. length (decimal m)) zero_is ∙ ap length (decimal_digit 0 (omega arith)) in let none : length xs ≡ 0 = omega (arith, one, ap length e) in rw none refl)
-        (λ some. let more = first_decimal n some small in let other : (x == 48) ≡ false = ne_eqb x 48 (λ q. omega (arith, more, first)) in rw other (or_true (length xs == 0)))
+    (λ zero_is. let one : length (decimal n) ≡ 1 = ap (λ m. length (decimal m)) zero_is ∙ ap length (decimal_digit 0 (omega arith)) in let none : length xs ≡ 0 = omega (arith, one, ap length e) in rw none refl)
+    (λ some. let more = first_decimal n some small in let other : (x == 48) ≡ false = ne_eqb x 48 (λ q. omega (arith, more, first)) in rw other (or_true (length xs == 0)))
     in
     rw (digits, lead) refl
   where

@@ -1,5 +1,5 @@
 -- Bytes of a source that are read one piece after the other.
-use Rattle.std.proofs.Common.{◌≡◌, ℕ, ◌+◌, List, [], ◌++◌, take, drop, refl, sym, ap, ◌∙◌, arith, Option, Some, None, IfSome, subst, append_assoc, append-nil}
+use Rattle.std.proofs.Common.{◌≡◌, ℕ, List, [], ◌++◌, take, drop, refl, sym, ap, ◌∙◌, arith, Option, Some, None, IfSome, subst, append_assoc, append-nil}
 use Rattle.std.proofs.lemmas.Grind.{common_steps}
 use Rattle.lay_outside.specs.Outside.{GivesNext}
 use Rattle.lay_drawing.specs.declared.state.Reading.{Reading}

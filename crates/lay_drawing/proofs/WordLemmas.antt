@@ -1,5 +1,5 @@
 -- What is read of the matches of the words.
-use Rattle.std.proofs.Common.{◌≡◌, ◌==◌, ℕ, true, false, Bool, List, [], ◌∷◌, length, Option, Some, None, refl, sym, ap, ◌∙◌, map, option_map, unwrap_or, codes, arith}
+use Rattle.std.proofs.Common.{◌≡◌, ◌==◌, ℕ, true, false, List, [], ◌∷◌, length, Option, Some, None, refl, ap, ◌∙◌, map, option_map, unwrap_or, codes, arith}
 use Rattle.std.specs.Option.{option_map_or}
 use Rattle.std.specs.List.{find}
 use Rattle.std.specs.Str.{bytes_eq}
@@ -11,7 +11,6 @@ use Rattle.clap.specs.declared.parser.matches.Found.{Found}
 use Rattle.clap.specs.declared.parser.matches.MatchedArg.{MatchedArg}
 use Rattle.clap.specs.Walk.{row_of, rows_of}
 use Rattle.clap.specs.Words.{fault_of, matches_of, is_simple, is_simple_and_free}
-use Rattle.lay_drawing.specs.declared.words.Wish.{Wish}
 use Rattle.lay_drawing.specs.declared.words.Wish.TheVariants.{Nothing}
 use Rattle.lay_drawing.specs.Words.{our_app, values_at, wish_with, wish_of}
 use Rattle.lay_drawing.proofs.Numerals.{by_bool}

@@ -1,6 +1,6 @@
 -- Which text answers which bytes: the picture of the tree that is asked for; or one line, for the first line that is none
 -- of a report, or for the version that the report doesn't show.
-use Rattle.std.specs.Prelude.{ℕ, ◌≡◌, ◌≤◌, true, false, List, ◌++◌, length, take, codes, Option, Some, None, IfSome}
+use Rattle.std.specs.Prelude.{ℕ, ◌≡◌, ◌≤◌, true, false, List, ◌++◌, length, take, codes, Option, Some, IfSome}
 use Rattle.std.specs.Fmt.{decimal}
 use Rattle.lay_outside.specs.Outside.{Rose, Took}
 use Rattle.lay_frag.specs.declared.frag.Frag.{Frag}

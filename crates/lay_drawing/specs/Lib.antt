@@ -8,3 +8,4 @@ pub mod Words
 pub mod Input
 pub mod Answers
 pub mod Endings
+pub mod Scratch

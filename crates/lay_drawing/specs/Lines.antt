@@ -1,7 +1,7 @@
 -- How a line of a report is written: its fields, parted by one space each, and a linefeed.
 -- Numbers are decimal, without leading zeros, those of nodes, parts, editors and indices below 2^32, versions and
 -- counts below 2^64, lengths and positions, in units of 1/64 px, below 2^62 in absolute value.
-use Rattle.std.specs.Prelude.{ℕ, ◌^◌, ◌<◌, ◌≤◌, List, [], ◌∷◌, ◌++◌, codes, Option, Some, None, ⊤}
+use Rattle.std.specs.Prelude.{ℕ, ◌^◌, ◌<◌, ◌≤◌, List, [], ◌∷◌, ◌++◌, codes, Option, Some, None}
 use Rattle.std.specs.List.{join_with_byte}
 use Rattle.std.specs.Fmt.{decimal, signed_decimal}
 use Rattle.lay_frag.specs.declared.frag.Frag.{Frag}

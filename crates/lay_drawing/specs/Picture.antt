@@ -1,7 +1,7 @@
 -- The picture of pieces: an SVG document with a shape for each piece, in their order.
 -- A box is an outlined rectangle, a line a dashed one, and a text a filled bar, each kind with a colour of its own and
 -- each with its kind, node and part as its title. A box that has room for it shows the number of its node.
-use Rattle.std.specs.Prelude.{ℕ, ◌+◌, ◌*◌, ◌≡◌, ◌&&◌, Bool, true, false, ℤ, pos, ◌+ℤ◌, ◌-ℤ◌, ◌≤ℤ◌, List, [], ◌∷◌, ◌++◌, length, codes, fold, nat_le, unsigned_abs, if◌then◌else◌}
+use Rattle.std.specs.Prelude.{ℕ, ◌+◌, ◌*◌, ◌&&◌, Bool, true, false, ℤ, pos, ◌+ℤ◌, ◌-ℤ◌, ◌≤ℤ◌, List, [], ◌∷◌, ◌++◌, length, codes, fold, nat_le, unsigned_abs, if◌then◌else◌}
 use Rattle.std.specs.List.{flat_map, All}
 use Rattle.std.specs.Int.{int_min, int_max}
 use Rattle.std.specs.Fmt.{decimal}

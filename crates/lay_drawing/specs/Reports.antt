@@ -2,7 +2,7 @@
 -- First comes the history: a line for each command and each version that was published. A line that shows a version
 -- is followed by the pieces of its tree, one line each; the last version and its pieces follow the history, and then,
 -- where it is told, the count of contexts that were laid out.
-use Rattle.std.specs.Prelude.{ℕ, ◌≡◌, ◌+◌, ◌==◌, ◌&&◌, ◌||◌, Bool, true, false, not, List, [], ◌∷◌, ◌++◌, length, Option, Some, None, IfSome, option_and_then, if◌then◌else◌}
+use Rattle.std.specs.Prelude.{ℕ, ◌≡◌, ◌+◌, ◌==◌, Bool, true, false, List, [], ◌∷◌, ◌++◌, length, Option, Some, None, IfSome, option_and_then, if◌then◌else◌}
 use Rattle.std.specs.List.{flat_map, list_any, All}
 use Rattle.lay_frag.specs.declared.frag.Frag.{Frag}
 use Rattle.lay_drawing.specs.declared.line.Line.{Line}

@@ -1,15 +1,13 @@
 -- What stands behind a state of reading: the lines so far, and the line that isn't ended yet.
-use Rattle.std.specs.Prelude.{ℕ, ◌≡◌, ◌+◌, ◌==◌, ◌&&◌, ◌||◌, Bool, true, false, not, List, [], ◌∷◌, ◌++◌, length, Option, Some, None, IfSome, if◌then◌else◌}
+use Rattle.std.specs.Prelude.{ℕ, ◌≡◌, ◌+◌, ◌==◌, ◌&&◌, ◌||◌, Bool, true, false, not, List, [], ◌∷◌, ◌++◌, length, Option, Some, None, if◌then◌else◌}
 use Rattle.std.specs.List.{flat_map, list_any, All}
-use Rattle.lay_outside.specs.Outside.{Rose}
 use Rattle.lay_drawing.specs.declared.line.Line.{Line}
-use Rattle.lay_drawing.specs.declared.places.Place.{Place}
 use Rattle.lay_drawing.specs.declared.places.Place.TheVariants.{History}
 use Rattle.lay_drawing.specs.declared.state.Reading.{Reading}
 use Rattle.lay_drawing.specs.declared.state.Stop.{Stop}
 use Rattle.lay_drawing.specs.declared.state.Stop.TheVariants.{BadLine, NoMemory}
 use Rattle.lay_drawing.specs.Lines.{line_text, IsLine}
-use Rattle.lay_drawing.specs.Reports.{place_after, next_place, is_shown, is_piece, shows, piece_in, first_pieces, pieces_shown, IsReport, IsBadLine}
+use Rattle.lay_drawing.specs.Reports.{place_after, next_place, is_shown, is_piece, shows, piece_in, pieces_shown, IsReport, IsBadLine}
 
 -- the lines since the first that shows the wanted tree are pieces of it
 abbrev pub all_pieces : List Line → Bool

@@ -93,5 +93,4 @@ fn wider(a: Span, b: Span) -> Span
 /// The frame of pieces holds each of them.
 pub fn frames_hold()
     ensures { FramesHold }
-{
-}
+{}

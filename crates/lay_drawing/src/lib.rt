@@ -10,6 +10,7 @@ mod call;
 mod fields;
 mod frame;
 mod input;
+mod laws;
 mod line;
 mod numbers;
 mod output;
@@ -21,3 +22,6 @@ mod state;
 mod words;
 
 pub use call::{Ending, draw, usage};
+pub use frame::frames_hold;
+pub use laws::scratch_reports_show;
+pub use pixels::fractions_are_exact;

@@ -77,11 +77,7 @@ fn edit(fields: &[&[u8]]) -> Option<Line>
 {
     let (editor, rest) = fields.split_first()?;
     let (index, reply_fields) = rest.split_first()?;
-    Some(Line::Edit(
-        small(editor)?,
-        small(index)?,
-        reply(reply_fields)?,
-    ))
+    Some(Line::Edit(small(editor)?, small(index)?, reply(reply_fields)?))
 }
 
 fn reply(fields: &[&[u8]]) -> Option<EditReply>

@@ -29,9 +29,7 @@ fn is_numeral(text: &[u8]) -> bool
 {
     match text.split_first() {
         None => false,
-        Some((first, rest)) => {
-            all_digits(text) && (rest.is_empty() || *first != b'0')
-        }
+        Some((first, rest)) => { all_digits(text) && (rest.is_empty() || *first != b'0') }
     }
 }
 

@@ -55,5 +55,4 @@ fn push_digits(text: &mut String, rest: u32) -> Result<(), NoMemory>
 /// Nothing is rounded.
 pub fn fractions_are_exact()
     ensures { FractionsAreExact }
-{
-}
+{}

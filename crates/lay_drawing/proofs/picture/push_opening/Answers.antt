@@ -1,6 +1,4 @@
-use Rattle.std.proofs.Common.{rules, append_assoc, FitsSigned}
-use Rattle.std.specs.Int.{w128}
-use Rattle.std.proofs.lemmas.Int.{to_z-of_z}
+use Rattle.std.proofs.Common.{append_assoc}
 use Rattle.lay_drawing.specs.Picture.{opening}
 use Rattle.lay_drawing.proofs.picture.push_opening.Goals as goal
 

@@ -1,6 +1,6 @@
 use Rattle.std.proofs.Common.{arith}
 use Rattle.std.proofs.lemmas.Bool.{ne_eqb}
-use Rattle.lay_drawing.proofs.ByteSteps.{stops_long, reads_byte}
+use Rattle.lay_drawing.proofs.ByteSteps.{stops_long}
 use Rattle.lay_drawing.proofs.state.Reading.read_byte.Goals as goal
 
 pub returns-then-len-eq-LONGEST-clause-err : goal.returns-then-len-eq-LONGEST-clause-err
