@@ -17,10 +17,10 @@ use Rattle.lay_flow.specs.FlowPlaces.{AreNearPlaces, IsFlowOf, box_place_at}
 use Rattle.lay_flow.specs.Lengths.{length_at}
 use Rattle.lay_flow.proofs.BoxTrees.{parent_is, parents_length}
 use Rattle.lay_sizes.specs.declared.sizing.BoxSizes.{BoxSizes}
-use Rattle.lay_context.specs.declared.outside.OwnBox.{OwnBox}
+use Rattle.lay_sizes.specs.declared.own_boxes.OwnBox.{OwnBox}
 use Rattle.lay_context.specs.ContextBoxes.{AreContextBoxes, is_inner}
-use Rattle.lay_context.specs.ContextSizes.{HaveSizeBounds, sizes_at}
-use Rattle.lay_context.specs.OwnBoxes.{OwnBoxFits, OwnBoxesFit, own_box_at}
+use Rattle.lay_sizes.specs.SizeColumns.{HaveSizeBounds, sizes_at}
+use Rattle.lay_sizes.specs.OwnBoxes.{OwnBoxFits, OwnBoxesFit, own_box_at}
 use Rattle.lay_units.specs.Units.{IsUsedSize}
 use Rattle.lay_units.specs.declared.records.Len.{Len}
 use Rattle.lay_units.specs.declared.records.Len.TheVariants as len

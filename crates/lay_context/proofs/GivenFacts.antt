@@ -10,11 +10,11 @@ use Rattle.lay_sizes.specs.declared.sizing.ContainingBlock.{ContainingBlock}
 use Rattle.lay_sizes.specs.BoxSizes.{content_block}
 use Rattle.lay_context.specs.declared.corner.Corner.{Corner}
 use Rattle.lay_context.specs.Contexts.{AreContexts, Context, boxes_in, context_at}
-use Rattle.lay_context.specs.ContextSizes.{sizes_at}
+use Rattle.lay_sizes.specs.SizeColumns.{sizes_at}
 use Rattle.lay_context.specs.ContextPlaces.{Placement}
 use Rattle.lay_context.specs.DocumentLayout.{outer_block, own_box_in, sizes_in}
-use Rattle.lay_context.specs.declared.outside.OwnBox.{OwnBox}
-use Rattle.lay_context.specs.OwnBoxes.{OwnBoxFits, OwnBoxesFit, own_box_at}
+use Rattle.lay_sizes.specs.declared.own_boxes.OwnBox.{OwnBox}
+use Rattle.lay_sizes.specs.OwnBoxes.{OwnBoxFits, OwnBoxesFit, own_box_at}
 use Rattle.lay_context.specs.PlaceBounds.{IsCornerNear, IsRectNear, PlacementFits}
 use Rattle.lay_context.specs.Solves.{own_rect}
 

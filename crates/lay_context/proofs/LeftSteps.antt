@@ -10,9 +10,10 @@ use Rattle.lay_boxgen.specs.BoxColumns.{box_parents}
 use Rattle.lay_floats.specs.Within.{IsWithin}
 use Rattle.lay_flow.specs.Lengths.{length_at}
 use Rattle.lay_sizes.specs.declared.sizing.BoxSizes.{BoxSizes}
-use Rattle.lay_context.specs.declared.outside.OwnBox.{OwnBox}
-use Rattle.lay_context.specs.ContextSizes.{HaveSizeBounds, sizes_at}
-use Rattle.lay_context.specs.OwnBoxes.{OwnBoxesFit, outside}
+use Rattle.lay_sizes.specs.declared.own_boxes.OwnBox.{OwnBox}
+use Rattle.lay_sizes.specs.SizeColumns.{HaveSizeBounds, sizes_at}
+use Rattle.lay_sizes.specs.OwnBoxes.{OwnBoxesFit}
+use Rattle.lay_context.specs.Outside.{outside}
 use Rattle.lay_context.proofs.OutsideFacts.{outside_fits}
 use Rattle.lay_sizes.specs.SizeBounds.{SizeFits}
 use Rattle.lay_context.specs.ContextBlocks.{left_of_box, HasLefts}

@@ -12,10 +12,10 @@ use Rattle.lay_flow.specs.FlowPlaces.{IsFlowOf}
 use Rattle.lay_flow.specs.Lengths.{length_at, no_length}
 use Rattle.lay_sizes.specs.declared.sizing.BoxSizes.{BoxSizes}
 use Rattle.lay_flow.proofs.OneContextFlow.{one_flow_of_lem}
-use Rattle.lay_context.specs.declared.outside.OwnBox.{OwnBox}
+use Rattle.lay_sizes.specs.declared.own_boxes.OwnBox.{OwnBox}
 use Rattle.lay_context.specs.ContextBoxes.{AreContextBoxes}
-use Rattle.lay_context.specs.ContextSizes.{sizes_at}
-use Rattle.lay_context.specs.OwnBoxes.{outside}
+use Rattle.lay_sizes.specs.SizeColumns.{sizes_at}
+use Rattle.lay_context.specs.Outside.{outside}
 use Rattle.lay_context.specs.ContextBlocks.{left_of_box, AreFlowBoxesOf, HasLefts}
 use Rattle.lay_context.specs.ContextPlaces.{ContextPlaces, HasPlaces, placement_of}
 use Rattle.lay_context.specs.Laws.{OnePlacement}

@@ -12,7 +12,8 @@ use Rattle.lay_sizes.specs.declared.sizing.ContainingBlock.{ContainingBlock}
 use Rattle.lay_sizes.specs.BoxSizes.{content_block}
 use Rattle.lay_sizes.proofs.OneSizes.{one_box_sizes_lem}
 use Rattle.lay_context.specs.ContextBoxes.{is_inner}
-use Rattle.lay_context.specs.ContextSizes.{HasSizes, IsBoxSized, containing_block, no_sizes, sizes_at, width_rule}
+use Rattle.lay_sizes.specs.SizeColumns.{no_sizes, sizes_at}
+use Rattle.lay_context.specs.ContextSizes.{HasSizes, IsBoxSized, containing_block, width_rule}
 use Rattle.lay_context.specs.Laws.{OneContextSizes}
 use Rattle.lay_context.proofs.SizeSteps.{parent_before}
 

@@ -6,10 +6,11 @@ use Rattle.lay_boxgen.specs.declared.box_tree.BoxNode.{BoxNode}
 use Rattle.lay_flow.specs.Lengths.{no_length}
 use Rattle.lay_sizes.specs.declared.sizing.BoxSizes.{BoxSizes}
 use Rattle.lay_sizes.specs.SizeBounds.{SizeFits}
-use Rattle.lay_context.specs.declared.outside.OwnBox.{OwnBox}
+use Rattle.lay_sizes.specs.declared.own_boxes.OwnBox.{OwnBox}
 use Rattle.lay_context.specs.ContextBoxes.{is_inner}
-use Rattle.lay_context.specs.ContextSizes.{sizes_at}
-use Rattle.lay_context.specs.OwnBoxes.{IsBoxSize, OwnBoxFits, no_own_box, own_box, own_box_at, outside}
+use Rattle.lay_sizes.specs.SizeColumns.{sizes_at}
+use Rattle.lay_sizes.specs.OwnBoxes.{IsBoxSize, OwnBoxFits, no_own_box, own_box, own_box_at}
+use Rattle.lay_context.specs.Outside.{outside}
 
 pub own_box_fits : (z : BoxSizes) (height : Length) → SizeFits z → IsBoxSize height.0 → OwnBoxFits (own_box z height)
 own_box_fits z height fits sized = record {

@@ -5,7 +5,7 @@ use Rattle.std.proofs.lemmas.Grind.{elements}
 use Rattle.lay_boxgen.specs.declared.box_tree.BoxNode.{BoxNode}
 use Rattle.lay_frag.specs.declared.frag.Frag.{Frag}
 use Rattle.lay_sizes.specs.declared.sizing.BoxSizes.{BoxSizes}
-use Rattle.lay_context.specs.declared.outside.OwnBox.{OwnBox}
+use Rattle.lay_sizes.specs.declared.own_boxes.OwnBox.{OwnBox}
 use Rattle.lay_context.specs.ContextBoxes.{is_inner}
 use Rattle.lay_context.specs.ContextPlaces.{ContextPlaces, piece_of_box, pieces_to}
 use Rattle.lay_context.specs.PlaceBounds.{AreNearPieces, IsRectNear}

@@ -2,7 +2,7 @@
 use Rattle.std.proofs.Common.{List, ◌∙◌}
 use Rattle.lay_boxgen.specs.declared.box_tree.BoxNode.{BoxNode}
 use Rattle.lay_sizes.specs.declared.sizing.BoxSizes.{BoxSizes}
-use Rattle.lay_context.specs.declared.outside.OwnBox.{OwnBox}
+use Rattle.lay_sizes.specs.declared.own_boxes.OwnBox.{OwnBox}
 use Rattle.lay_context.specs.ContextPlaces.{ContextPlaces, HasPlaces}
 use Rattle.lay_context.specs.PlaceBounds.{HaveCounts}
 

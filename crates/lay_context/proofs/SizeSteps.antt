@@ -12,7 +12,8 @@ use Rattle.lay_sizes.specs.declared.sizing.ContainingBlock.{ContainingBlock}
 use Rattle.lay_sizes.specs.BoxSizes.{content_block}
 use Rattle.lay_sizes.specs.SizeBounds.{SizeFits}
 use Rattle.lay_context.specs.ContextBoxes.{is_inner}
-use Rattle.lay_context.specs.ContextSizes.{HasSizes, HaveSizeBounds, IsBoxSized, containing_block, no_sizes, sizes_at}
+use Rattle.lay_sizes.specs.SizeColumns.{HaveSizeBounds, no_sizes, sizes_at}
+use Rattle.lay_context.specs.ContextSizes.{HasSizes, IsBoxSized, containing_block}
 
 -- the boxes before n have their sizes
 pub record SizesTo (outer : ContainingBlock) (boxes : List BoxNode) (sizes : List BoxSizes) (n : ℕ) : Type 0 where

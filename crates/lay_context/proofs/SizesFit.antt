@@ -2,7 +2,7 @@
 use Rattle.std.proofs.Common.{arith}
 use Rattle.std.proofs.lemmas.Int.{ints}
 use Rattle.lay_sizes.specs.SizeBounds.{SizeFits}
-use Rattle.lay_context.specs.ContextSizes.{no_sizes}
+use Rattle.lay_sizes.specs.SizeColumns.{no_sizes}
 
 pub no_sizes_fit : SizeFits no_sizes
 no_sizes_fit = record {

@@ -9,7 +9,7 @@ use Rattle.lay_context.specs.declared.task.Phase.TheVariants.{Size, Place}
 use Rattle.lay_context.specs.declared.input.Input.TheVariants as input
 use Rattle.lay_context.specs.declared.value.Value.TheVariants as value
 use Rattle.lay_context.specs.Contexts.{Context, context_at, boxes_in}
-use Rattle.lay_context.specs.ContextSizes.{sizes_at}
+use Rattle.lay_sizes.specs.SizeColumns.{sizes_at}
 use Rattle.lay_context.specs.ContextPlaces.{Placement}
 use Rattle.lay_context.specs.DocumentLayout.{inner_boxes, outer_block, own_box_in, placement_in, sizes_in}
 use Rattle.lay_context.specs.Needs.{needs_by}

@@ -21,10 +21,11 @@ use Rattle.lay_flow.specs.declared.flow_box.FlowKind.TheVariants.{Block as block
 use Rattle.lay_flow.specs.Lengths.{length_at, no_length}
 use Rattle.lay_flow.specs.Boxes.{box_at}
 use Rattle.lay_sizes.specs.declared.sizing.BoxSizes.{BoxSizes}
-use Rattle.lay_context.specs.declared.outside.OwnBox.{OwnBox}
+use Rattle.lay_sizes.specs.declared.own_boxes.OwnBox.{OwnBox}
 use Rattle.lay_context.specs.ContextBoxes.{is_inner, is_float}
-use Rattle.lay_context.specs.ContextSizes.{sizes_at}
-use Rattle.lay_context.specs.OwnBoxes.{own_box_at, outside}
+use Rattle.lay_sizes.specs.SizeColumns.{sizes_at}
+use Rattle.lay_sizes.specs.OwnBoxes.{own_box_at}
+use Rattle.lay_context.specs.Outside.{outside}
 
 -- the left content edge of the box at k
 abbrev pub content_left : List Length → List BoxSizes → ℕ → Length

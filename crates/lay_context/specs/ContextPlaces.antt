@@ -12,10 +12,10 @@ use Rattle.lay_flow.specs.FlowPlaces.{IsFlowOf, box_place_at}
 use Rattle.lay_sizes.specs.declared.sizing.BoxSizes.{BoxSizes}
 use Rattle.lay_sizes.specs.BoxSizes.{border_width}
 use Rattle.lay_context.specs.declared.corner.Corner.{Corner}
-use Rattle.lay_context.specs.declared.outside.OwnBox.{OwnBox}
+use Rattle.lay_sizes.specs.declared.own_boxes.OwnBox.{OwnBox}
 use Rattle.lay_context.specs.ContextBoxes.{is_inner}
-use Rattle.lay_context.specs.ContextSizes.{sizes_at}
-use Rattle.lay_context.specs.OwnBoxes.{own_box}
+use Rattle.lay_sizes.specs.SizeColumns.{sizes_at}
+use Rattle.lay_sizes.specs.OwnBoxes.{own_box}
 use Rattle.lay_context.specs.ContextBlocks.{AreFlowBoxesOf, HasLefts}
 
 pub record ContextPlaces : Type 0 where

@@ -1,9 +1,6 @@
 -- The used sizes of the boxes of one context, from outer to inner ones (CSS 2.2, 10.1): the containing block of a box is
 -- the content box of its parent box. That of the context's own box is given. The boxes of inner contexts are sized there.
-use Rattle.std.specs.Prelude.{ℕ, zero, suc, ◌≡◌, ◌<◌, true, false, List, length, slice_index, slice_index_or, None}
-use Rattle.lay_units.specs.declared.records.Len.TheVariants.{Auto as auto}
-use Rattle.lay_units.specs.declared.records.Sides.{Sides}
-use Rattle.lay_widths.specs.declared.widths.BlockOut.{BlockOut}
+use Rattle.std.specs.Prelude.{ℕ, zero, suc, ◌≡◌, ◌<◌, true, false, List, length, slice_index}
 use Rattle.lay_doc.specs.ComputedStyle.{style_at}
 use Rattle.lay_boxgen.specs.declared.box_tree.BoxNode.{BoxNode}
 use Rattle.lay_boxgen.specs.declared.facts.Flow.{Flow}
@@ -16,7 +13,7 @@ use Rattle.lay_sizes.specs.declared.sizing.ContainingBlock.{ContainingBlock}
 use Rattle.lay_sizes.specs.declared.sizing.WidthRule.{WidthRule}
 use Rattle.lay_sizes.specs.declared.sizing.WidthRule.TheVariants.{Fills, ShrinksToFit}
 use Rattle.lay_sizes.specs.BoxSizes.{IsSized, content_block}
-use Rattle.lay_sizes.specs.SizeBounds.{SizeFits}
+use Rattle.lay_sizes.specs.SizeColumns.{no_sizes, sizes_at}
 use Rattle.lay_context.specs.ContextBoxes.{is_inner}
 
 -- Which rule gives a box its width (10.3.3 and 10.3.5). Of a float the preferred widths of its content aren't known yet, and
@@ -25,26 +22,6 @@ abbrev pub width_rule : Flow → WidthRule
 width_rule InFlow = Fills
 width_rule Floating = ShrinksToFit no_length no_length
 width_rule Absolute = Fills
-
-abbrev pub no_widths : BlockOut
-no_widths = record { margin_left = no_length; width = no_length; margin_right = no_length }
-
-abbrev pub no_edges : Sides
-no_edges = record { top = no_length; right = no_length; bottom = no_length; left = no_length }
-
-abbrev pub no_sizes : BoxSizes
-no_sizes = record {
-  widths = no_widths;
-  edges = no_edges;
-  margin_top = no_length;
-  margin_bottom = no_length;
-  height = auto;
-  min_height = no_length;
-  max_height = None;
-}
-
-abbrev pub sizes_at : List BoxSizes → ℕ → BoxSizes
-sizes_at sizes k = slice_index_or sizes k no_sizes
 
 abbrev pub containing_block : ContainingBlock → List ℕ → List BoxSizes → ℕ → ContainingBlock
 containing_block outer parents sizes zero = outer
@@ -60,6 +37,3 @@ pub record HasSizes (outer : ContainingBlock) (boxes : List BoxNode) (sizes : Li
   pub each : (k : ℕ) → k < length boxes → is_inner boxes k ≡ false
       → IsBoxSized (containing_block outer (box_parents boxes) sizes k) boxes k (sizes_at sizes k)
   pub inner : (k : ℕ) → k < length boxes → is_inner boxes k ≡ true → sizes_at sizes k ≡ no_sizes
-
-abbrev pub HaveSizeBounds : List BoxSizes → Type 0
-HaveSizeBounds sizes = (k : ℕ) → k < length sizes → SizeFits (sizes_at sizes k)

@@ -15,10 +15,10 @@ use Rattle.lay_sizes.specs.declared.sizing.BoxSizes.{BoxSizes}
 use Rattle.lay_sizes.specs.declared.sizing.ContainingBlock.{ContainingBlock}
 use Rattle.lay_sizes.specs.BoxSizes.{border_width, content_block}
 use Rattle.lay_context.specs.declared.corner.Corner.{Corner}
-use Rattle.lay_context.specs.declared.outside.OwnBox.{OwnBox}
+use Rattle.lay_sizes.specs.declared.own_boxes.OwnBox.{OwnBox}
 use Rattle.lay_context.specs.Contexts.{Context, context_at, boxes_in}
-use Rattle.lay_context.specs.ContextSizes.{sizes_at}
-use Rattle.lay_context.specs.OwnBoxes.{no_own_box}
+use Rattle.lay_sizes.specs.SizeColumns.{sizes_at}
+use Rattle.lay_sizes.specs.OwnBoxes.{no_own_box}
 use Rattle.lay_context.specs.ContextPlaces.{Placement}
 
 -- the used sizes of the boxes of the context with this number

@@ -5,10 +5,10 @@ use Rattle.lay_units.specs.Units.{IsPosition}
 use Rattle.lay_boxgen.specs.declared.box_tree.BoxNode.{BoxNode}
 use Rattle.lay_sizes.specs.declared.sizing.BoxSizes.{BoxSizes}
 use Rattle.lay_sizes.specs.declared.sizing.ContainingBlock.{ContainingBlock}
-use Rattle.lay_context.specs.declared.outside.OwnBox.{OwnBox}
+use Rattle.lay_sizes.specs.declared.own_boxes.OwnBox.{OwnBox}
 use Rattle.lay_context.specs.ContextBoxes.{AreContextBoxes}
-use Rattle.lay_context.specs.ContextSizes.{HaveSizeBounds}
-use Rattle.lay_context.specs.OwnBoxes.{OwnBoxesFit}
+use Rattle.lay_sizes.specs.SizeColumns.{HaveSizeBounds}
+use Rattle.lay_sizes.specs.OwnBoxes.{OwnBoxesFit}
 
 pub record SizeInput : Type 0 where
   pub boxes : List BoxNode

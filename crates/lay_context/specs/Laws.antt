@@ -8,7 +8,7 @@ use Rattle.lay_boxgen.specs.declared.box_tree.BoxNode.{BoxNode}
 use Rattle.lay_boxgen.specs.Contexts.{IsContextAt}
 use Rattle.lay_sizes.specs.declared.sizing.BoxSizes.{BoxSizes}
 use Rattle.lay_sizes.specs.declared.sizing.ContainingBlock.{ContainingBlock}
-use Rattle.lay_context.specs.declared.outside.OwnBox.{OwnBox}
+use Rattle.lay_sizes.specs.declared.own_boxes.OwnBox.{OwnBox}
 use Rattle.lay_context.specs.declared.task.Task.{Task}
 use Rattle.lay_context.specs.ContextBoxes.{AreContextBoxes}
 use Rattle.lay_context.specs.Contexts.{Context, AreContexts}

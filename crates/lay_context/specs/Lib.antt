@@ -1,7 +1,7 @@
 pub mod ContextBoxes
 pub mod Contexts
 pub mod ContextSizes
-pub mod OwnBoxes
+pub mod Outside
 pub mod ContextBlocks
 pub mod ContextPlaces
 pub mod DocumentLayout

@@ -7,7 +7,7 @@ use Rattle.lay_frag.specs.declared.frag.Frag.{Frag}
 use Rattle.lay_floats.specs.Within.{IsWithin}
 use Rattle.lay_flow.specs.Lengths.{length_at}
 use Rattle.lay_context.specs.declared.corner.Corner.{Corner}
-use Rattle.lay_context.specs.OwnBoxes.{OwnBoxFits}
+use Rattle.lay_sizes.specs.OwnBoxes.{OwnBoxFits}
 use Rattle.lay_context.specs.ContextPlaces.{ContextPlaces, Placement}
 use Rattle.lay_context.specs.DocumentLayout.{corner_at}
 

@@ -5,14 +5,14 @@ ghost use Rattle.lay_units.specs.Units.{IsPosition};
 ghost use Rattle.lay_doc.specs.ComputedStyle.{style_at};
 ghost use Rattle.lay_boxgen.specs.BoxColumns.{box_parents, box_styles};
 ghost use Rattle.lay_flow.specs.Lengths.{length_at};
-ghost use Rattle.lay_context.specs.ContextSizes.{HaveSizeBounds, sizes_at};
-ghost use Rattle.lay_context.specs.OwnBoxes.{OwnBoxFits, OwnBoxesFit, outside, own_box_at};
+ghost use Rattle.lay_sizes.specs.SizeColumns.{HaveSizeBounds, sizes_at};
+ghost use Rattle.lay_sizes.specs.OwnBoxes.{OwnBoxFits, OwnBoxesFit, own_box_at};
+ghost use Rattle.lay_context.specs.Outside.{outside};
 ghost use Rattle.lay_context.specs.ContextBoxes.{is_inner};
 
-use crate::outside::{OwnBox, own_box};
 use lay_boxgen::BoxNode;
 use lay_doc::Style;
-use lay_sizes::BoxSizes;
+use lay_sizes::{BoxSizes, OwnBox, own_box};
 use lay_units::Unit;
 
 pub(crate) fn parent_at(boxes: &[BoxNode], k: usize) -> usize

@@ -4,14 +4,13 @@ ghost use Rattle.std.specs.Prelude.{◌≡◌, ◌<◌, ◌≤◌, ◌+ℤ◌, p
 ghost use Rattle.lay_units.specs.Units.{IsPosition};
 ghost use Rattle.lay_floats.specs.Within.{IsWithin};
 ghost use Rattle.lay_sizes.specs.SizeBounds.{SizeFits};
-ghost use Rattle.lay_context.specs.OwnBoxes.{OwnBoxFits};
+ghost use Rattle.lay_sizes.specs.OwnBoxes.{OwnBoxFits};
 ghost use Rattle.lay_context.specs.ContextBlocks.{content_left, left_of_box, HasLefts};
 ghost use Rattle.lay_context.specs.PlaceBounds.{AreNearLefts};
 
 use crate::box_columns::{length_at, outside, parent_at, sizes_at, sum_of};
 use crate::input::PlaceInput;
-use crate::outside::OwnBox;
-use lay_sizes::BoxSizes;
+use lay_sizes::{BoxSizes, OwnBox};
 use lay_units::{NoMemory, Unit};
 use std::alloc::Global;
 

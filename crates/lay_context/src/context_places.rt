@@ -2,7 +2,7 @@
 
 ghost use Rattle.std.specs.Prelude.{◌≤◌, length, IfOk};
 ghost use Rattle.lay_context.specs.ContextPlaces.{HasPlaces, own_height};
-ghost use Rattle.lay_context.specs.OwnBoxes.{IsBoxSize};
+ghost use Rattle.lay_sizes.specs.OwnBoxes.{IsBoxSize};
 ghost use Rattle.lay_context.specs.PlaceBounds.{HaveCounts};
 
 use crate::context_blocks::lefts_of;

@@ -10,11 +10,10 @@ ghost use Rattle.lay_context.specs.PlaceBounds.{AreNearLefts};
 use crate::box_columns::{is_inner, length_at, own_box_at, parent_at, sizes_at, style_at, sum_of};
 use crate::context_blocks::inside_edge;
 use crate::input::PlaceInput;
-use crate::outside::OwnBox;
 use lay_doc::Float;
 use lay_floats::{Clear, Side};
 use lay_flow::{Across, BlockBox, FloatBox, FlowBox, FlowKind, HeightRule, SolidBox, Vertical};
-use lay_sizes::BoxSizes;
+use lay_sizes::{BoxSizes, OwnBox};
 use lay_units::{NoMemory, Unit};
 use std::alloc::Global;
 

@@ -5,14 +5,14 @@ ghost use Rattle.lay_units.specs.Units.{IsPosition};
 ghost use Rattle.lay_boxgen.specs.BoxColumns.{box_parents};
 ghost use Rattle.lay_sizes.specs.SizeBounds.{SizeFits};
 ghost use Rattle.lay_context.specs.ContextBoxes.{AreContextBoxes, is_inner};
-ghost use Rattle.lay_context.specs.ContextSizes.{HasSizes, HaveSizeBounds, IsBoxSized, containing_block, no_sizes, width_rule};
+ghost use Rattle.lay_sizes.specs.SizeColumns.{HaveSizeBounds, no_sizes};
+ghost use Rattle.lay_context.specs.ContextSizes.{HasSizes, IsBoxSized, containing_block, width_rule};
 
 use crate::box_columns::{is_inner, parent_at, sizes_at, style_at};
 use crate::input::SizeInput;
 use lay_boxgen::{BoxNode, Flow, flow_of};
-use lay_sizes::{BoxSizes, ContainingBlock, WidthRule, box_sizes, content_block};
-use lay_units::{Len, NoMemory, Sides, Unit};
-use lay_widths::BlockOut;
+use lay_sizes::{BoxSizes, ContainingBlock, NO_SIZES, WidthRule, box_sizes, content_block};
+use lay_units::{NoMemory, Unit};
 use std::alloc::Global;
 use std::marker::Model;
 use std::sync::Arc;
@@ -26,7 +26,7 @@ pub struct ContextSizes {
 impl Model for ContextSizes {
     ghost use Rattle.std.specs.Prelude.{List};
     ghost use Rattle.lay_sizes.specs.declared.sizing.BoxSizes.{BoxSizes};
-    ghost use Rattle.lay_context.specs.ContextSizes.{HaveSizeBounds};
+    ghost use Rattle.lay_sizes.specs.SizeColumns.{HaveSizeBounds};
 
     ghost Value = { List BoxSizes };
 
@@ -101,26 +101,6 @@ fn sizes_beside(containing: ContainingBlock, boxes: &[BoxNode], k: usize) -> Box
     let style = style_at(boxes, k);
     box_sizes(containing, width_rule(flow_of(style)), style)
 }
-
-/// No sizes.
-const NO_SIZES: BoxSizes = BoxSizes {
-    widths: BlockOut {
-        margin_left: Unit(0),
-        width: Unit(0),
-        margin_right: Unit(0),
-    },
-    edges: Sides {
-        top: Unit(0),
-        right: Unit(0),
-        bottom: Unit(0),
-        left: Unit(0),
-    },
-    margin_top: Unit(0),
-    margin_bottom: Unit(0),
-    height: Len::Auto,
-    min_height: Unit(0),
-    max_height: None,
-};
 
 /// The containing block of the box at k, where the sizes of those before it are known.
 fn containing_block(

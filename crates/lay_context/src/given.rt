@@ -3,21 +3,21 @@
 ghost use Rattle.std.specs.Prelude.{◌≡◌, ◌<◌, IfOk, length};
 ghost use Rattle.lay_units.specs.Units.{IsPosition, IsUsedSize};
 ghost use Rattle.lay_sizes.specs.BoxSizes.{content_block};
-ghost use Rattle.lay_context.specs.ContextSizes.{sizes_at};
+ghost use Rattle.lay_sizes.specs.SizeColumns.{sizes_at};
 ghost use Rattle.lay_context.specs.DocumentLayout.{inner_boxes, outer_block, own_box_in};
 ghost use Rattle.lay_context.specs.Local.{input_of};
 ghost use Rattle.lay_context.specs.Settling.{IsReady};
 ghost use Rattle.lay_context.specs.declared.task.Phase.TheVariants.{Size};
-ghost use Rattle.lay_context.specs.OwnBoxes.{OwnBoxFits};
+ghost use Rattle.lay_sizes.specs.OwnBoxes.{OwnBoxFits};
 
 use crate::box_columns::{parent_at, sizes_at};
 use crate::context_sizes::ContextSizes;
 use crate::contexts::Contexts;
 use crate::input::{Input, PlaceInput, SizeInput};
 use crate::known::Known;
-use crate::outside::{NO_OWN_BOX, OwnBox, OwnBoxes};
+use crate::own_boxes::OwnBoxes;
 use crate::task::{Phase, Task};
-use lay_sizes::{ContainingBlock, content_block};
+use lay_sizes::{ContainingBlock, NO_OWN_BOX, OwnBox, content_block};
 use lay_units::NoMemory;
 use std::alloc::Global;
 

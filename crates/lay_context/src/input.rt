@@ -8,10 +8,10 @@ ghost use Rattle.lay_context.specs.Inputs.{SizeInputFits, PlaceInputFits};
 
 use crate::context_boxes::ContextBoxes;
 use crate::context_sizes::ContextSizes;
-use crate::outside::{OwnBox, OwnBoxes};
+use crate::own_boxes::OwnBoxes;
 use lay_boxgen::BoxNode;
 use lay_doc::Clear;
-use lay_sizes::{BoxSizes, ContainingBlock};
+use lay_sizes::{BoxSizes, ContainingBlock, OwnBox};
 use std::marker::Model;
 
 /// What a task is given.

@@ -25,7 +25,7 @@ mod input;
 mod known;
 mod laws;
 mod layout;
-mod outside;
+mod own_boxes;
 mod page_corners;
 mod pieces;
 mod placing;

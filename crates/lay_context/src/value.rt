@@ -6,8 +6,8 @@ ghost use Rattle.lay_context.specs.PlaceBounds.{PlacementFits};
 
 use crate::context_sizes::ContextSizes;
 use crate::corner::Corner;
-use crate::outside::{NO_OWN_BOX, OwnBox};
 use lay_frag::Pieces;
+use lay_sizes::{NO_OWN_BOX, OwnBox};
 use lay_units::NoMemory;
 use std::alloc::Global;
 use std::marker::Model;

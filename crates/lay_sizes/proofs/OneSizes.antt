@@ -1,20 +1,34 @@
 -- A box has one set of used sizes.
-use Rattle.std.proofs.Common.{◌≡◌, refl, sym, ◌∙◌, Option}
+use Rattle.std.proofs.Common.{◌≡◌, ℤ, refl, sym, ◌∙◌, Option}
 use Rattle.lay_units.specs.declared.length.Unit.{Unit as Length}
 use Rattle.lay_units.specs.declared.records.Len.{Len}
 use Rattle.lay_units.specs.declared.records.Sides.{Sides}
 use Rattle.lay_units.specs.declared.records.BlockIn.{BlockIn}
 use Rattle.lay_widths.specs.declared.widths.BlockOut.{BlockOut}
+use Rattle.lay_widths.specs.declared.widths.UsedWidths.{UsedWidths}
+use Rattle.lay_widths.specs.BlockWidths.{IsHeld}
 use Rattle.lay_widths.proofs.Unique.{one_block_width_lem, one_float_width_lem}
 use Rattle.lay_sizes.specs.declared.sizing.BoxSizes.{BoxSizes}
 use Rattle.lay_sizes.specs.declared.sizing.WidthRule.{WidthRule}
-use Rattle.lay_sizes.specs.declared.sizing.WidthRule.TheVariants.{Fills, ShrinksToFit}
+use Rattle.lay_sizes.specs.declared.sizing.WidthRule.TheVariants.{Fills, Inline, ShrinksToFit}
 use Rattle.lay_sizes.specs.UsedLengths.{block_of}
-use Rattle.lay_sizes.specs.BoxSizes.{IsUsedWidth}
+use Rattle.lay_sizes.specs.BoxSizes.{IsUsedWidth, inline_widths}
 use Rattle.lay_sizes.specs.Laws.{OneBoxSizes}
+
+abbrev widths_of : ℤ → ℤ → ℤ → BlockOut
+widths_of left width right = record { margin_left = record { 0 = left }; width = record { 0 = width }; margin_right = record { 0 = right } }
+
+held_same : (used : UsedWidths) (x y : BlockOut) → IsHeld used x → IsHeld used y → x ≡ y
+held_same used x y p q =
+    let left = p.margin_left ∙ sym q.margin_left in
+    let width = p.width ∙ sym q.width in
+    let right = p.margin_right ∙ sym q.margin_right in
+    let e : widths_of x.margin_left.0 x.width.0 x.margin_right.0 ≡ widths_of y.margin_left.0 y.width.0 y.margin_right.0 = rw (left, width, right) refl in
+    e
 
 one_used_width : (rule : WidthRule) (b : BlockIn) (x y : BlockOut) → IsUsedWidth rule b x → IsUsedWidth rule b y → x ≡ y
 one_used_width Fills b x y p q = one_block_width_lem b x y p q
+one_used_width Inline b x y p q = held_same (inline_widths b) x y p q
 one_used_width (ShrinksToFit preferred_minimum preferred) b x y p q = one_float_width_lem b preferred_minimum preferred x y p q
 
 abbrev sizes_of : BlockOut → Sides → (margin_top margin_bottom : Length) → Len → Length → Option Length → BoxSizes

@@ -14,9 +14,9 @@ use Rattle.lay_widths.specs.declared.widths.BlockOut.{BlockOut}
 use Rattle.lay_widths.specs.declared.widths.UsedWidths.{UsedWidths}
 use Rattle.lay_widths.specs.BlockWidths.{IsHeld}
 use Rattle.lay_sizes.specs.declared.sizing.WidthRule.{WidthRule}
-use Rattle.lay_sizes.specs.declared.sizing.WidthRule.TheVariants.{Fills, ShrinksToFit}
+use Rattle.lay_sizes.specs.declared.sizing.WidthRule.TheVariants.{Fills, Inline, ShrinksToFit}
 use Rattle.lay_sizes.specs.UsedLengths.{used_size, used_vertical_margin, used_height, used_min_height, edge_of, block_of}
-use Rattle.lay_sizes.specs.BoxSizes.{IsUsedWidth}
+use Rattle.lay_sizes.specs.BoxSizes.{IsUsedWidth, inline_widths}
 use Rattle.lay_sizes.specs.SizeBounds.{IsInset, IsUsedSizeOrAuto}
 use Rattle.lay_sizes.specs.Laws.{SizesFit}
 
@@ -44,6 +44,7 @@ held_fit used out held = record {
 
 widths_fit : (rule : WidthRule) (b : BlockIn) (out : BlockOut) → IsUsedWidth rule b out → WidthsFit out
 widths_fit Fills b out is = held_fit is.used out is.held
+widths_fit Inline b out is = held_fit (inline_widths b) out is
 widths_fit (ShrinksToFit preferred_minimum preferred) b out is = held_fit is.used out is.held
 
 vertical_margin_is_used : (containing : Length) (margin : LengthPercentageOrAuto) → IsUsed (used_vertical_margin containing margin).0

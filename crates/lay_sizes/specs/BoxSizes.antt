@@ -1,21 +1,28 @@
 -- The used sizes of one box beside its containing block (CSS 2.2, 8.3 to 8.5, 10.2 to 10.5 and 10.7): its horizontal
 -- margins and its width by the rule that is its own, its borders and paddings, its vertical margins, and its height with the
 -- bounds of that, as far as they don't depend on what is in it.
-use Rattle.std.specs.Prelude.{◌≡◌, ◌+ℤ◌, ℤ}
+use Rattle.std.specs.Prelude.{◌≡◌, ◌+ℤ◌, ℤ, pos}
 use Rattle.lay_units.specs.declared.records.BlockIn.{BlockIn}
 use Rattle.lay_doc.specs.declared.style.Style.{Style}
 use Rattle.lay_widths.specs.declared.widths.BlockOut.{BlockOut}
-use Rattle.lay_widths.specs.BlockWidths.{IsUsedBlock}
+use Rattle.lay_widths.specs.declared.widths.UsedWidths.{UsedWidths}
+use Rattle.lay_widths.specs.BlockWidths.{IsHeld, IsUsedBlock}
 use Rattle.lay_widths.specs.FloatWidths.{IsUsedFloat}
 use Rattle.lay_sizes.specs.declared.sizing.BoxSizes.{BoxSizes}
 use Rattle.lay_sizes.specs.declared.sizing.ContainingBlock.{ContainingBlock}
 use Rattle.lay_sizes.specs.declared.sizing.WidthRule.{WidthRule}
-use Rattle.lay_sizes.specs.declared.sizing.WidthRule.TheVariants.{Fills, ShrinksToFit}
-use Rattle.lay_sizes.specs.UsedLengths.{block_of, edges_of, used_vertical_margin, used_height, used_min_height, used_max_height, definite_height}
+use Rattle.lay_sizes.specs.declared.sizing.WidthRule.TheVariants.{Fills, Inline, ShrinksToFit}
+use Rattle.lay_sizes.specs.UsedLengths.{block_of, edges_of, or_zero, used_vertical_margin, used_height, used_min_height, used_max_height, definite_height}
+
+-- 10.3.1, of an inline box: "The 'width' property does not apply. A computed value of 'auto' for 'margin-left' or
+-- 'margin-right' becomes a used value of '0'." How wide it is, is said by its lines.
+abbrev pub inline_widths : BlockIn → UsedWidths
+inline_widths b = record { margin_left = (or_zero b.margin_left).0; width = pos 0; margin_right = (or_zero b.margin_right).0 }
 
 -- the used margins and width
 abbrev pub IsUsedWidth : WidthRule → BlockIn → BlockOut → Type 0
 IsUsedWidth Fills b out = IsUsedBlock b out
+IsUsedWidth Inline b out = IsHeld (inline_widths b) out
 IsUsedWidth (ShrinksToFit preferred_minimum preferred) b out = IsUsedFloat b preferred_minimum preferred out
 
 -- these are the used sizes of a box of this style, whose width comes by this rule

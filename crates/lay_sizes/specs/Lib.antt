@@ -1,4 +1,6 @@
 pub mod UsedLengths
 pub mod BoxSizes
 pub mod SizeBounds
+pub mod SizeColumns
+pub mod OwnBoxes
 pub mod Laws

@@ -3,12 +3,17 @@
 //!
 //! Contracts cite `IsSized` of `specs/BoxSizes.antt`, whose lengths are those of `specs/UsedLengths.antt`. It is a
 //! relation, and has one value (`specs/Laws.antt`). Contexts size their boxes by it, and so will tables and
-//! absolute boxes; nothing of them is known here.
+//! absolute boxes; nothing of them is known here. What a context sees of the box of a context inside it is an
+//! `OwnBox` (`specs/OwnBoxes.antt`).
 #![tactic(auto)]
 
 mod laws;
+mod own_boxes;
 mod sizing;
 mod used_lengths;
 
 pub use laws::{one_box_sizes, sizes_fit};
-pub use sizing::{BoxSizes, ContainingBlock, WidthRule, border_width, box_sizes, content_block};
+pub use own_boxes::{NO_OWN_BOX, OwnBox, own_box};
+pub use sizing::{
+    BoxSizes, ContainingBlock, NO_SIZES, WidthRule, border_width, box_sizes, content_block,
+};

@@ -1,17 +1,18 @@
 //! The used sizes of boxes.
 
 ghost use Rattle.std.specs.Prelude.{◌≡◌, ◌+ℤ◌};
-ghost use Rattle.lay_units.specs.Units.{IsPosition};
-ghost use Rattle.lay_sizes.specs.UsedLengths.{block_of};
-ghost use Rattle.lay_sizes.specs.BoxSizes.{IsSized, IsUsedWidth, border_width, content_block};
+ghost use Rattle.lay_units.specs.Units.{IsPosition, clamp_of};
+ghost use Rattle.lay_widths.specs.BlockWidths.{IsHeld};
+ghost use Rattle.lay_sizes.specs.UsedLengths.{block_of, or_zero};
+ghost use Rattle.lay_sizes.specs.BoxSizes.{IsSized, IsUsedWidth, border_width, content_block, inline_widths};
 ghost use Rattle.lay_sizes.specs.SizeBounds.{SizeFits};
 
 use crate::used_lengths::{
-    block_of, definite_height, edges_of, used_height, used_max_height, used_min_height,
+    block_of, definite_height, edges_of, or_zero, used_height, used_max_height, used_min_height,
     used_vertical_margin,
 };
 use lay_doc::Style;
-use lay_units::{Len, Sides, Unit};
+use lay_units::{BlockIn, Len, Sides, Unit, clamp};
 use lay_widths::{BlockOut, solve_block, solve_float};
 
 /// A containing block (CSS 2.2, 10.1), in 1/64 px. Its height is auto where it depends on what is in it.
@@ -26,6 +27,9 @@ pub struct ContainingBlock {
 pub enum WidthRule {
     /// A block in flow fills its containing block (CSS 2.2, 10.3.3).
     Fills,
+    /// An inline box is as wide as what is in it on each line, `width` doesn't apply, and auto margins are zero
+    /// (10.3.1). So is a text.
+    Inline,
     /// A float is as wide as its content, whose preferred widths these are in 1/64 px (10.3.5).
     ShrinksToFit {
         preferred_minimum: Unit,
@@ -49,6 +53,26 @@ pub struct BoxSizes {
     pub min_height: Unit,
     pub max_height: Option<Unit>,
 }
+
+/// No sizes.
+pub const NO_SIZES: BoxSizes = BoxSizes {
+    widths: BlockOut {
+        margin_left: Unit(0),
+        width: Unit(0),
+        margin_right: Unit(0),
+    },
+    edges: Sides {
+        top: Unit(0),
+        right: Unit(0),
+        bottom: Unit(0),
+        left: Unit(0),
+    },
+    margin_top: Unit(0),
+    margin_bottom: Unit(0),
+    height: Len::Auto,
+    min_height: Unit(0),
+    max_height: None,
+};
 
 /// The used sizes of a box of this style, whose width comes by this rule.
 pub fn box_sizes(containing: ContainingBlock, rule: WidthRule, style: &Style) -> BoxSizes
@@ -77,11 +101,29 @@ fn used_widths(containing: Unit, rule: WidthRule, style: &Style) -> BlockOut
     let block = block_of(containing, style);
     match rule {
         WidthRule::Fills => solve_block(&block),
+        WidthRule::Inline => inline_widths(&block),
         WidthRule::ShrinksToFit {
             preferred_minimum,
             preferred,
         } => solve_float(&block, preferred_minimum, preferred),
     }
+}
+
+/// The used margins of an inline box. Its width is in its lines.
+fn inline_widths(block: &BlockIn) -> BlockOut
+    ensures { IsHeld (inline_widths block.now) result }
+{
+    BlockOut {
+        margin_left: margin_or_zero(block.margin_left),
+        width: Unit(0),
+        margin_right: margin_or_zero(block.margin_right),
+    }
+}
+
+fn margin_or_zero(margin: Len) -> Unit
+    ensures { result.0 ≡ clamp_of (or_zero margin).0 }
+{
+    clamp(i128::from(or_zero(margin).0))
 }
 
 /// The content box of a box, as the containing block of what is in it.

@@ -67,7 +67,7 @@ pub(crate) fn used_vertical_margin(containing: Unit, margin: LengthPercentageOrA
     or_zero(used_margin(containing, margin))
 }
 
-fn or_zero(length: Len) -> Unit
+pub(crate) fn or_zero(length: Len) -> Unit
     ensures { result ≡ or_zero length }
 {
     match length {

@@ -1,16 +1,13 @@
 -- The own box of a context, as the context around it takes it: its used margins, and the size of its border box (CSS 2.2, 8.1).
 -- The context around knows nothing else of what is inside.
-use Rattle.std.specs.Prelude.{ℕ, ◌<◌, ℤ, pos, ◌≤ℤ◌, List, length, slice_index_or, if◌then◌else◌}
+use Rattle.std.specs.Prelude.{ℕ, ◌<◌, ℤ, pos, ◌≤ℤ◌, List, length, slice_index_or}
 use Rattle.lay_units.specs.Units.{IsUsed}
 use Rattle.lay_units.specs.declared.length.Unit.{Unit as Length}
 use Rattle.lay_units.specs.declared.records.Sides.{Sides}
-use Rattle.lay_boxgen.specs.declared.box_tree.BoxNode.{BoxNode}
+use Rattle.lay_sizes.specs.declared.own_boxes.OwnBox.{OwnBox}
 use Rattle.lay_sizes.specs.declared.sizing.BoxSizes.{BoxSizes}
 use Rattle.lay_sizes.specs.BoxSizes.{border_width}
-use Rattle.lay_flow.specs.Lengths.{no_length}
-use Rattle.lay_context.specs.declared.outside.OwnBox.{OwnBox}
-use Rattle.lay_context.specs.ContextBoxes.{is_inner}
-use Rattle.lay_context.specs.ContextSizes.{sizes_at}
+use Rattle.lay_sizes.specs.UsedLengths.{no_length}
 
 -- the margins of a box
 abbrev pub margins_of : BoxSizes → Sides
@@ -34,10 +31,6 @@ no_own_box = record {
 
 abbrev pub own_box_at : List OwnBox → ℕ → OwnBox
 own_box_at inner k = slice_index_or inner k no_own_box
-
--- the box at k from outside: that of an inner context is as this says, and the height of another isn't known yet
-abbrev pub outside : List BoxNode → List BoxSizes → List OwnBox → ℕ → OwnBox
-outside boxes sizes inner k = if is_inner boxes k then own_box_at inner k else own_box (sizes_at sizes k) no_length
 
 -- the width or the height of a border box: a used size and two insets
 abbrev pub IsBoxSize : ℤ → Type 0

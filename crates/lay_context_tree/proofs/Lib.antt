@@ -1,0 +1,14 @@
+pub mod Apart
+pub mod Counted
+pub mod Kept
+pub mod KeptOnce
+pub mod Members
+pub mod NodeKinds
+pub mod OneStand
+pub mod Reached
+pub mod OneList
+pub mod Relabeled
+pub mod OwnBoxes
+pub mod OwnChildren
+pub mod RelabeledLists
+pub mod RisingLists

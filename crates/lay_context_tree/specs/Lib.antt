@@ -1,0 +1,3 @@
+pub mod ContextTree
+pub mod OwnNodes
+pub mod DocumentContexts
