@@ -33,8 +33,8 @@ How open places of the standard are read
   root that floats right ends at the viewport's right edge.
 - 10.4: the widths that are compared solve the equation as it stands, before they are held within the limit of lengths.
 - 10.5: percentages are of the height after 10.7.
-- 9.2.1.1: blocks in an inline box with nothing between them but blank texts and floats break it once. What stands beside
-  blocks is wrapped whole, with its floats, where it is more than floats and blank texts.
+- 9.2.1.1: blocks in an inline box with nothing between them but blank texts and floats break it once. What stands
+  beside blocks is wrapped whole, with its floats, where it is more than floats and blank texts.
 - 9.4.2: a line is seen, too, where an inline box on it has a margin, border or padding above or below.
 - 9.5: what is beside a line is asked over the height of its strut. A line with nothing in it goes down also where the
   floats beside it leave the whole width. A float inside a segment is met at its end, and one right behind a break that
@@ -44,8 +44,8 @@ How open places of the standard are read
 - 16.4: letter-spacing is added behind each cluster, word-spacing at each U+0020 and U+00A0; a tab has neither.
 - 16.6.1: what stands beside a linefeed is removed inside one text; a space behind a space, over texts. A space that
   surely begins a line is removed before there are segments. Where a space was removed there is no break.
-- 16.6.1: spaces at a line's end under `pre-wrap` don't count for what fits, and do count for alignment; those under `pre`
-  count for both. A space with a combining mark is no space.
+- 16.6.1: spaces at a line's end under `pre-wrap` don't count for what fits, and do count for alignment; those under
+  `pre` count for both. A space with a combining mark is no space.
 - 6.2.1 and 8.5.1: on the root `inherit` is the initial value, so `border-top-width: inherit` is `medium`.
 """
 import collections
@@ -93,8 +93,8 @@ class Flow:
     def place_content(self, box):
         """Places what is in a box whose content box is open: its lines, or its blocks and floats."""
         if box.holds_lines():
-            containing_block = self.content_boxes[box]
-            self.lines[box], self.lines_end[box] = lay_lines(box.content, containing_block, self.floats, self.keep_float)
+            lines, end = lay_lines(box.content, self.content_boxes[box], self.floats, self.keep_float)
+            self.lines[box], self.lines_end[box] = lines, end
         for child in box.children:
             self.place(child)
 

@@ -11,21 +11,23 @@ DEFAULT_FIELDS = {'default': 500, 'ascent': 750, 'descent': 250, 'xheight': 500,
 ZERO_WIDTH_NON_JOINER, ZERO_WIDTH_JOINER = '\u200c', '\u200d'
 SPACING_THAI = '\u0e33\u0eb3'
 # Signs of the category Mc that extend what is before them, with the two that stand alone.
-EXTENDING_MC = ('\u09be\u09d7\u0b3e\u0b57\u0bbe\u0bd7\u0cc2\u0cd5\u0cd6\u0d3e\u0d57\u0dcf\u0ddf\u302e\u302f\uff9e\uff9f')
-LONE_MC = '\u102b\u102c\u1038\u1062\u1063\u1064\u1067\u1068\u1069\u106a\u106b\u106c\u106d\u1083\u1087\u1088\u1089\u108a' \
-          '\u108b\u108c\u108f\u109a\u109b\u109c\u1a61\u1a63\u1a64\uaa7b\uaa7d'
-PICTOGRAPHIC = re.compile('[\u00a9\u00ae\u203c\u2049\u2122\u2139\u2194-\u2199\u21a9\u21aa\u231a\u231b\u2328\u23cf'
-                          '\u23e9-\u23f3\u23f8-\u23fa\u24c2\u25aa\u25ab\u25b6\u25c0\u25fb-\u25fe\u2600-\u2605\u2607-\u2612'
-                          '\u2614-\u2685\u2690-\u2705\u2708-\u2712\u2714\u2716\u271d\u2721\u2728\u2733\u2734\u2744\u2747'
-                          '\u274c\u274e\u2753-\u2755\u2757\u2763-\u2767\u2795-\u2797\u27a1\u27b0\u27bf\u2934\u2935'
-                          '\u2b05-\u2b07\u2b1b\u2b1c\u2b50\u2b55\u3030\u303d\u3297\u3299'
-                          '\U0001f000-\U0001f0ff\U0001f10d-\U0001f10f\U0001f12f\U0001f16c-\U0001f171\U0001f17e\U0001f17f'
-                          '\U0001f18e\U0001f191-\U0001f19a\U0001f1ad-\U0001f1e5\U0001f201-\U0001f20f\U0001f21a\U0001f22f'
-                          '\U0001f232-\U0001f23a\U0001f23c-\U0001f23f\U0001f249-\U0001f3fa\U0001f400-\U0001f53d'
-                          '\U0001f546-\U0001f64f\U0001f680-\U0001f6ff\U0001f774-\U0001f77f\U0001f7d5-\U0001f7ff'
-                          '\U0001f80c-\U0001f80f\U0001f848-\U0001f84f\U0001f85a-\U0001f85f\U0001f888-\U0001f88f'
-                          '\U0001f8ae-\U0001f8ff\U0001f90c-\U0001f93a\U0001f93c-\U0001f945\U0001f947-\U0001faff'
-                          '\U0001fc00-\U0001fffd]')
+EXTENDING_MC = re.compile('[\u09be\u09d7\u0b3e\u0b57\u0bbe\u0bd7\u0cc2\u0cd5\u0cd6\u0d3e\u0d57\u0dcf\u0ddf\u302e\u302f'
+                          '\uff9e\uff9f]')
+LONE_MC = re.compile('[\u102b\u102c\u1038\u1062-\u1064\u1067-\u106d\u1083\u1087-\u108c\u108f\u109a-\u109c'
+                     '\u1a61\u1a63\u1a64\uaa7b\uaa7d]')
+PICTOGRAPHIC = re.compile(
+    '[\u00a9\u00ae\u203c\u2049\u2122\u2139\u2194-\u2199\u21a9\u21aa\u231a\u231b\u2328\u23cf'
+    '\u23e9-\u23f3\u23f8-\u23fa\u24c2\u25aa\u25ab\u25b6\u25c0\u25fb-\u25fe\u2600-\u2605'
+    '\u2607-\u2612\u2614-\u2685\u2690-\u2705\u2708-\u2712\u2714\u2716\u271d\u2721\u2728\u2733'
+    '\u2734\u2744\u2747\u274c\u274e\u2753-\u2755\u2757\u2763-\u2767\u2795-\u2797\u27a1\u27b0'
+    '\u27bf\u2934\u2935\u2b05-\u2b07\u2b1b\u2b1c\u2b50\u2b55\u3030\u303d\u3297\u3299'
+    '\U0001f000-\U0001f0ff\U0001f10d-\U0001f10f\U0001f12f\U0001f16c-\U0001f171\U0001f17e'
+    '\U0001f17f\U0001f18e\U0001f191-\U0001f19a\U0001f1ad-\U0001f1e5\U0001f201-\U0001f20f'
+    '\U0001f21a\U0001f22f\U0001f232-\U0001f23a\U0001f23c-\U0001f23f\U0001f249-\U0001f3fa'
+    '\U0001f400-\U0001f53d\U0001f546-\U0001f64f\U0001f680-\U0001f6ff\U0001f774-\U0001f77f'
+    '\U0001f7d5-\U0001f7ff\U0001f80c-\U0001f80f\U0001f848-\U0001f84f\U0001f85a-\U0001f85f'
+    '\U0001f888-\U0001f88f\U0001f8ae-\U0001f8ff\U0001f90c-\U0001f93a\U0001f93c-\U0001f945'
+    '\U0001f947-\U0001faff\U0001fc00-\U0001fffd]')
 
 
 class Face:
@@ -67,12 +69,12 @@ def cluster_class(character):
     if character == ZERO_WIDTH_JOINER:
         return 'joiner'
     category = unicodedata.category(character)
-    if (category in ('Mn', 'Me') or character in EXTENDING_MC or character == ZERO_WIDTH_NON_JOINER
+    if (category in ('Mn', 'Me') or EXTENDING_MC.match(character) or character == ZERO_WIDTH_NON_JOINER
             or 0x1f3fb <= code <= 0x1f3ff or 0xe0020 <= code <= 0xe007f):
         return 'extend'
     if category in ('Cc', 'Cf', 'Zl', 'Zp'):
         return 'control'
-    if (category == 'Mc' and character not in LONE_MC) or character in SPACING_THAI:
+    if (category == 'Mc' and not LONE_MC.match(character)) or character in SPACING_THAI:
         return 'mark'
     return 'pictograph' if PICTOGRAPHIC.match(character) else 'other'
 

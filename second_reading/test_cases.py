@@ -259,7 +259,8 @@ class Lines(LayoutCase):
 
     def test_tab_reaches_to_a_stop_that_a_float_does_not_move(self):
         self.assert_texts(
-            block(1, 'white-space: pre', block(3, 'float: left; width: 20px; height: 10px'), (4, 'a\tb')), '4 20 2 52 16')
+            block(1, 'white-space: pre', block(3, 'float: left; width: 20px; height: 10px'), (4, 'a\tb')),
+            '4 20 2 52 16')
 
     def test_step_one_of_white_space_looks_inside_one_text(self):
         self.assert_texts(

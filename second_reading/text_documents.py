@@ -36,19 +36,22 @@ GREATEST_DEPTH = 8
 
 WORDS = ['a', 'bb', 'ccc', 'dddd', 'eeeee', 'aaaa', 'bbbb', 'ffffffff', 'gggggggggggg']
 BLANKS = [' ', ' ', ' ', ' ', ' ', '  ', '\n', '\n ', ' \n', '\t']
-ODD_BLANKS = ['   ', '\t', '\t\t', ' \t ', '\n', '\n\n', ' \n \n ', '\r\n', '\r', ' \r ', '\r\n\r\n', '\t\n', '\n\t', '\x0c',
-              '\u200b', '\u200b\u200b', ' \u200b', '\u200b ', '\u00a0', ' \u00a0 ', '\u2003', '\u3000', '', ' \u0301']
+ODD_BLANKS = ['   ', '\t', '\t\t', ' \t ', '\n', '\n\n', ' \n \n ', '\r\n', '\r', ' \r ', '\r\n\r\n', '\t\n', '\n\t',
+              '\x0c', '\u200b', '\u200b\u200b', ' \u200b', '\u200b ', '\u00a0', ' \u00a0 ', '\u2003', '\u3000', '',
+              ' \u0301']
 BLANKS_BESIDE_BLOCKS = [' ', '\n', '\n', ' \n ', '\t', '\r', ' \r ', '\r\n', '']
-ODD_WORDS = ['e\u0301', 'e\u0301\u0302x', '\u0301', '\U0001f468\u200d\U0001f469\u200d\U0001f467', '\U0001f1e9\U0001f1ea',
-             '\U0001f44d\U0001f3fd', '\ufeff', '\u00ad', '\u200d', '\u1100\u1161\u11a8', '\uac00\u11a8', '\u0e01\u0e33',
-             '\x01', 'w' * 40, '-', 'a-b', '\u4e2d\u6587', '\u200c', '\u0915\u0903', '\u2028', '\x85', 'i\u200bj']
+ODD_WORDS = ['e\u0301', 'e\u0301\u0302x', '\u0301', '\U0001f468\u200d\U0001f469\u200d\U0001f467',
+             '\U0001f1e9\U0001f1ea', '\U0001f44d\U0001f3fd', '\ufeff', '\u00ad', '\u200d', '\u1100\u1161\u11a8',
+             '\uac00\u11a8', '\u0e01\u0e33', '\x01', 'w' * 40, '-', 'a-b', '\u4e2d\u6587', '\u200c', '\u0915\u0903',
+             '\u2028', '\x85', 'i\u200bj']
 
 LENGTHS = [0, 1, 2, 4, 8, 8, 10, 16, 20, 24]
 CONTAINER_WIDTHS = ['16px', '24px', '32px', '40px', '48px', '60px', '64px', '80px', '99px', '120px', '0', '50%', '100%']
 FLOAT_WIDTHS = ['8px', '16px', '20px', '24px', '30px', '40px', '60px', '90px', '120px', '0', '50%', '100%', '33.33%']
 FLOAT_HEIGHTS = ['0', '1px', '5px', '10px', '16px', '20px', '20px', '25px', '30px', '40px', '60px', '50%']
 FONT_SIZES = ['10px', '20px', '8px', '16px', '2em', '0.5em', '0', '150%', 'larger', 'smaller', 'x-large', '7.3px']
-LINE_HEIGHTS = ['normal', '0', '1', '1.5', '0.5', '2', '10px', '20px', '31px', '150%', '50%', '0.333', '3.03px', 'inherit']
+LINE_HEIGHTS = ['normal', '0', '1', '1.5', '0.5', '2', '10px', '20px', '31px', '150%', '50%', '0.333', '3.03px',
+                'inherit']
 SPACINGS = ['1px', '2px', '8px', '-1px', '-2px', '-8px', '-10px', '0.5px', '0.1em', 'normal', '-0.01px', '24px']
 INDENTS = ['8px', '16px', '20px', '40px', '-8px', '-20px', '50%', '-10%', '10%', '2em', '120px', '0.5px', '33.33%']
 ALIGNS = ['center', 'center', 'right', 'left', 'justify', 'inherit']
@@ -151,7 +154,8 @@ class TextDocument:
             return self.choice(BLANKS + ODD_BLANKS if self.hit(self.profile.odd_text) else BLANKS)
         parts = [self.blank()] if self.hit(35) else []
         for _ in range(self.choice([1, 1, 2, 3, 4, 6, 8])):
-            parts += [self.choice(ODD_WORDS) if self.hit(self.profile.odd_text / 3) else self.choice(WORDS), self.blank()]
+            words = ODD_WORDS if self.hit(self.profile.odd_text / 3) else WORDS
+            parts += [self.choice(words), self.blank()]
         return ''.join(parts if self.hit(40) else parts[:-1])
 
     def blank(self):
@@ -181,8 +185,8 @@ class TextDocument:
                 style['border-%s-style' % side] = self.choice(['solid', 'solid', 'none'])
                 style['border-%s-width' % side] = self.choice(['1px', '5px', 'thin', '0', '3.3px'])
             if self.hit(hundredths):
-                style['margin-' + side] = self.choice([self.pixels(), self.pixels(), '-' + self.pixels(), '-8px', 'auto',
-                                                       '10%', '-30px'])
+                style['margin-' + side] = self.choice([self.pixels(), self.pixels(), '-' + self.pixels(), '-8px',
+                                                       'auto', '10%', '-30px'])
 
     def add_inline_style(self, style):
         """An inline box."""
