@@ -29,7 +29,7 @@ pub meets_front : (fr : Frame) (y : ℤ) (ss : List Stretch) (k : ℕ) (fs : Lis
 meets_front fr y ss k fs a b m = chain_keeps floats_of (MeetsAt fr y ss k fs) (met_at_front fr y ss k fs) (length fs) a b m
 
 pub taken_front : (fr : Frame) (y : ℤ) (ss : List Stretch) (k : ℕ) (a b : State) → TakesNext fr y ss k a b → IsFront a.floats b.floats
-taken_front fr y ss k a b t = meets_front fr y ss (suc k) t.stretch.floats.items a b t.meets
+taken_front fr y ss k a b t = meets_front fr y ss (suc k) t.stretch.floats a b t.meets
 
 -- where the j-th float can't be met, the floats that stand are a front of those that all would make
 pub meets_stopped : OneFloatPlace → (fr : Frame) (y : ℤ) (ss : List Stretch) (k : ℕ) (fs : List LineFloat) (st now after : State) (j : ℕ) (f : LineFloat) (left : List Placed) → MeetsTo fr y ss k fs j st now → j < length fs

@@ -15,7 +15,7 @@ use Rattle.lay_lines.specs.Extents.{height_of}
 use Rattle.lay_lines.specs.Meeting.{State, IsFront, Meets}
 use Rattle.lay_lines.specs.Filling.{TakesNext, Fills, IsLongest, Takes, IsTop}
 use Rattle.lay_lines.specs.Rows.{Position, Row, Laid, is_seen, extent_of, emptied, IsFilled, IsRow, after_row, AddsRow, RowsTo, AreRows, position_of, ended_of}
-use Rattle.lay_lines.specs.Laws.{OneListOfLines}
+use Rattle.lay_lines.specs.Laws.{OneListOfRows}
 use Rattle.lay_lines.specs.Reaching.{IsReach}
 use Rattle.lay_lines.proofs.Chains.{chain_more, chain_one, chain_front, chain_keeps, chain_cut, front_trans}
 use Rattle.lay_lines.proofs.Steps.{one_meets, one_takes_next}
@@ -56,8 +56,8 @@ same_reach a b c s e p = λ i. record { count = c i; start = record { 0 = s i };
 pub one_filled : FloatLaws → (p : Position) (r q : Row) → IsFilled p r → IsFilled p q → SameFilled r q
 one_filled one p r q f g =
     let es : g.first ≡ f.first = same_Some _ _ (sym g.is ∙ f.is) in
-    let eh : r.headed ≡ q.headed = one_meets one.place p.frame p.from p.rest 0 f.first.heads.items p.state r.headed q.headed f.heads
-    (subst (λ (s : Stretch). Meets p.frame p.from p.rest 0 s.heads.items p.state q.headed) es g.heads) in
+    let eh : r.headed ≡ q.headed = one_meets one.place p.frame p.from p.rest 0 f.first.heads p.state r.headed q.headed f.heads
+    (subst (λ (s : Stretch). Meets p.frame p.from p.rest 0 s.heads p.state q.headed) es g.heads) in
     let et : r.top ≡ q.top = one_top p.frame p.from p.rest r.headed.floats r.top q.top f.top_is (subst (λ (s : State). IsTop p.frame p.from p.rest s.floats q.top) (sym eh) g.top_is) in
     let ec : r.reach.count ≡ q.reach.count = one_longest _ _ r.reach.count q.reach.count f.count_is (rw (et, eh) g.count_is) in
     let eg : r.filled ≡ q.filled = chain_one (TakesNext p.frame r.top p.rest) (one_takes_next one.place p.frame r.top p.rest) r.reach.count r.headed r.filled q.filled f.filled_is (rw (et, eh, ec) g.filled_is) in
@@ -107,8 +107,8 @@ no_further one start a b n m p none lt q =
     let e = chain_one AddsRow (one_adds_row one) n start front.0 a front.2 p in
     ended n front.0 front.1 (ap (λ (l : Laid). l.position.rest) e ∙ none) front.3
 
-pub one_list_of_lines_lem : FloatLaws → OneListOfLines
-one_list_of_lines_lem one start a b p q =
+pub one_list_of_rows_lem : FloatLaws → OneListOfRows
+one_list_of_rows_lem one start a b p q =
     let first : Laid = record { rows = []; position = start } in
     let e : p.count ≡ q.count = elim (cases_lt p.count q.count) [
       | inl less ↦ absurd (no_further one first a b p.count q.count p.rows p.all less q.rows)
@@ -126,7 +126,7 @@ adds_front : (k : ℕ) (a b : Laid) → AddsRow k a b → IsFront (floats_at a) 
 adds_front k a b s =
     let p = a.position in
     let f = s.is.filled in
-    let heads = meets_front p.frame p.from p.rest 0 f.first.heads.items p.state s.row.headed f.heads in
+    let heads = meets_front p.frame p.from p.rest 0 f.first.heads p.state s.row.headed f.heads in
     let all = front_trans _ _ _ (front_trans _ _ _ heads (filled_front p s.row f)) (row_front p s.row s.is) in
     subst (λ (l : Laid). IsFront (floats_at a) (floats_at l)) (sym s.after) all
 
@@ -166,7 +166,7 @@ same_laid rows st fr fr' from from' bs bs' ss ss' a b c d =
     λ i. record { rows = rows; position = record { frame = a i; from = b i; open_boxes = c i; rest = d i; state = st } }
 
 pub filled_by : (p : Position) (s : Stretch) (headed filled after : State) (top : ℤ) (reach : Reach) (extent : Extent) (seen : Bool) (to : ℤ) → slice_get p.rest 0 ≡ Some s
-    → Meets p.frame p.from p.rest 0 s.heads.items p.state headed → IsTop p.frame p.from p.rest headed.floats top → Takes p.frame top p.rest headed reach.count → Fills p.frame top p.rest reach.count headed filled
+    → Meets p.frame p.from p.rest 0 s.heads p.state headed → IsTop p.frame p.from p.rest headed.floats top → Takes p.frame top p.rest headed reach.count → Fills p.frame top p.rest reach.count headed filled
     → IsReach p.frame top p.rest filled.floats reach → extent ≡ extent_of p reach.count → seen ≡ is_seen p reach.count → to ≡ (if seen then (top +ℤ height_of extent) else p.from)
     → IsFilled p (record { headed = headed; top = top; reach = reach; filled = filled; extent = extent; seen = seen; to = to; after = after })
 filled_by p s headed filled after top reach extent seen to is heads top_is takes fills reach_is extent_is seen_is to_is = record {
@@ -184,12 +184,12 @@ filled_by p s headed filled after top reach extent seen to is heads top_is takes
 }
 
 -- a line that stopped where it took: what stands is a front of what it would have
-pub taking_stopped : FloatLaws → (p : Position) (s : Stretch) (headed : State) (top : ℤ) (left : List Placed) (r : Row) → slice_get p.rest 0 ≡ Some s → Meets p.frame p.from p.rest 0 s.heads.items p.state headed
+pub taking_stopped : FloatLaws → (p : Position) (s : Stretch) (headed : State) (top : ℤ) (left : List Placed) (r : Row) → slice_get p.rest 0 ≡ Some s → Meets p.frame p.from p.rest 0 s.heads p.state headed
     → IsTop p.frame p.from p.rest headed.floats top → ((n : ℕ) (after : State) → Takes p.frame top p.rest headed n → Fills p.frame top p.rest n headed after → IsFront left after.floats)
     → IsFilled p r → IsFront left r.filled.floats
 taking_stopped one p s headed top left r is heads top_is stopped f =
     let es : f.first ≡ s = same_Some _ _ (sym f.is ∙ is) in
-    let eh : r.headed ≡ headed = one_meets one.place p.frame p.from p.rest 0 s.heads.items p.state r.headed headed (subst (λ (t : Stretch). Meets p.frame p.from p.rest 0 t.heads.items p.state r.headed) es f.heads) heads in
+    let eh : r.headed ≡ headed = one_meets one.place p.frame p.from p.rest 0 s.heads p.state r.headed headed (subst (λ (t : Stretch). Meets p.frame p.from p.rest 0 t.heads p.state r.headed) es f.heads) heads in
     let et : r.top ≡ top = one_top p.frame p.from p.rest headed.floats r.top top (subst (λ (z : State). IsTop p.frame p.from p.rest z.floats r.top) eh f.top_is) top_is in
     let takes = subst (λ (z : State). Takes p.frame top p.rest z r.reach.count) eh (subst (λ (v : ℤ). Takes p.frame v p.rest r.headed r.reach.count) et f.count_is) in
     let fills = subst (λ (z : State). Fills p.frame top p.rest r.reach.count z r.filled) eh (subst (λ (v : ℤ). Fills p.frame v p.rest r.reach.count r.headed r.filled) et f.filled_is) in

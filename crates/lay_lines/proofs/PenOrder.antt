@@ -82,10 +82,10 @@ moved_before p q w seen is = record {
 }
 
 over_before : (fr : Frame) (p q : Pen) (x : Part) → IsBefore p q → IsBefore (over fr p x) (over fr q x)
-over_before fr p q (Space w) is = spaced_before p q w.0 is
+over_before fr p q (Space w) is = spaced_before p q w.width.0 is
 over_before fr p q (PreservedSpace w) is =
     record { at = omega (arith, ints, is.at); visible = is.visible; solid = omega (arith, ints, is.at); started = refl; seen = refl }
-over_before fr p q Tab is = went_before _ _ (stop_order fr.tab.0 p.at.0 q.at.0 is.at)
+over_before fr p q (Tab t) is = went_before _ _ (stop_order fr.tab.0 p.at.0 q.at.0 is.at)
 over_before fr p q Linefeed is = record { at = is.at; visible = is.visible; solid = is.solid; started = is.started; seen = refl }
 over_before fr p q (Text w) is = went_before _ _ (omega (arith, ints, is.at))
 over_before fr p q (Start b) is = moved_before p q b.width.0 b.seen is
@@ -97,7 +97,7 @@ all_before fr p q (x ∷ xs) is = all_before fr (over fr p x) (over fr q x) xs (
 
 past_before : (fr : Frame) (p q : Pen) (o : Option Stretch) → IsBefore p q → IsBefore (past_at fr p o) (past_at fr q o)
 past_before fr p q None is = is
-past_before fr p q (Some s) is = all_before fr p q s.parts.items is
+past_before fr p q (Some s) is = all_before fr p q s.parts is
 
 pub pen_before : (fr : Frame) (a b : ℤ) (ss : List Stretch) (k : ℕ) → a ≤ℤ b → IsBefore (pen_to fr a ss k) (pen_to fr b ss k)
 pen_before fr a b ss zero le =
@@ -136,7 +136,7 @@ pub pen_fits : (fr : Frame) (a : ℤ) (ss : List Stretch) (k : ℕ) → ContentF
 pen_fits fr a ss zero fits le = fits.blank_fits
 pen_fits fr a ss (suc k) fits le =
     let w = some_at ss k (omega (arith, le)) in
-    subst PenFits (pen_next fr a ss k (pen_to fr a ss k) w.0 refl w.1) (last_fits fr (pen_to fr a ss k) w.0.parts.items (fits.stretches k w.0 w.1))
+    subst PenFits (pen_next fr a ss k (pen_to fr a ss k) w.0 refl w.1) (last_fits fr (pen_to fr a ss k) w.0.parts (fits.stretches k w.0 w.1))
 
 -- Between a top and the next bottom of a float beside it nothing gets free: where nothing fits at the top, a
 -- line may begin at the next bottom first.

@@ -31,9 +31,9 @@ reach_is fr y ss floats count start end pen rooms room low high within e = recor
 }
 
 -- what a stretch more needs
-pub next_fits : (fr : Frame) (y : ℤ) (ss : List Stretch) (floats : List Placed) (r : Reach) (s : Stretch) → RoomsFit fr floats ss → IsReach fr y ss floats r → slice_get ss r.count ≡ Some s → PensFit fr r.pen s.parts.items
+pub next_fits : (fr : Frame) (y : ℤ) (ss : List Stretch) (floats : List Placed) (r : Reach) (s : Stretch) → RoomsFit fr floats ss → IsReach fr y ss floats r → slice_get ss r.count ≡ Some s → PensFit fr r.pen s.parts
 next_fits fr y ss floats r s rooms is at =
-    subst (λ (p : Pen). PensFit fr p s.parts.items) (sym is.pen_is.pen) ((rooms y r.start.0 r.end.0 is.room).stretches r.count s at)
+    subst (λ (p : Pen). PensFit fr p s.parts) (sym is.pen_is.pen) ((rooms y r.start.0 r.end.0 is.room).stretches r.count s at)
 
 pub next_reach : (fr : Frame) (y : ℤ) (ss : List Stretch) (floats : List Placed) (r : Reach) (s : Stretch) (pen : Pen) → RoomsFit fr floats ss → IsReach fr y ss floats r → slice_get ss r.count ≡ Some s → pen ≡ past fr r.pen s
     → IsReach fr y ss floats (reach_of (r.count + 1) r.start r.end pen)

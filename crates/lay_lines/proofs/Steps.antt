@@ -40,7 +40,7 @@ one_meets one fr y ss k fs st a b p q = chain_one (MeetsAt fr y ss k fs) (one_me
 pub one_takes_next : OneFloatPlace → (fr : Frame) (y : ℤ) (ss : List Stretch) (k : ℕ) (st a b : State) → TakesNext fr y ss k st a → TakesNext fr y ss k st b → a ≡ b
 one_takes_next one fr y ss k st a b p q =
     let e : q.stretch ≡ p.stretch = same_Some _ _ (sym q.is ∙ p.is) in
-    one_meets one fr y ss (suc k) p.stretch.floats.items st a b p.meets (subst (λ (s : Stretch). Meets fr y ss (suc k) s.floats.items st b) e q.meets)
+    one_meets one fr y ss (suc k) p.stretch.floats st a b p.meets (subst (λ (s : Stretch). Meets fr y ss (suc k) s.floats st b) e q.meets)
 
 -- no stretch that a line took so far has to end it
 abbrev pub Unforced : List Stretch → ℕ → Type 0
@@ -123,7 +123,7 @@ next_to fr y ss k n first floats e zero_is (inl fit) = inl (subst (λ (m : ℕ).
 next_to fr y ss k n first floats e zero_is (inr alone) = inr (zero_is alone.0, alone.1)
 
 -- the floats of a stretch that is taken are met
-pub takes_from : (fr : Frame) (y : ℤ) (ss : List Stretch) (k n : ℕ) (s : Stretch) (list : List LineFloat) (st after : State) → slice_get ss k ≡ Some s → n ≡ k + 1 → list ≡ s.floats.items
+pub takes_from : (fr : Frame) (y : ℤ) (ss : List Stretch) (k n : ℕ) (s : Stretch) (list : List LineFloat) (st after : State) → slice_get ss k ≡ Some s → n ≡ k + 1 → list ≡ s.floats
     → Meets fr y ss n list st after → TakesNext fr y ss k st after
 takes_from fr y ss k n s list st after is e same m = record {
   stretch = s;
@@ -131,20 +131,20 @@ takes_from fr y ss k n s list st after is e same m = record {
   meets = subst (λ (fs : List LineFloat). Meets fr y ss (suc k) fs st after) same (subst (λ (j : ℕ). Meets fr y ss j list st after) (e ∙ add-one k) m);
 }
 
-pub takes_to : (fr : Frame) (y : ℤ) (ss : List Stretch) (k n : ℕ) (s : Stretch) (list : List LineFloat) (st after : State) → slice_get ss k ≡ Some s → n ≡ k + 1 → list ≡ s.floats.items
+pub takes_to : (fr : Frame) (y : ℤ) (ss : List Stretch) (k n : ℕ) (s : Stretch) (list : List LineFloat) (st after : State) → slice_get ss k ≡ Some s → n ≡ k + 1 → list ≡ s.floats
     → TakesNext fr y ss k st after → Meets fr y ss n list st after
 takes_to fr y ss k n s list st after is e same t =
     let g : t.stretch ≡ s = same_Some _ _ (sym t.is ∙ is) in
     subst (λ (j : ℕ). Meets fr y ss j list st after) (sym (e ∙ add-one k))
-    (subst (λ (fs : List LineFloat). Meets fr y ss (suc k) fs st after) (sym same) (subst (λ (u : Stretch). Meets fr y ss (suc k) u.floats.items st after) g t.meets))
+    (subst (λ (fs : List LineFloat). Meets fr y ss (suc k) fs st after) (sym same) (subst (λ (u : Stretch). Meets fr y ss (suc k) u.floats st after) g t.meets))
 
-pub can_from : (fr : Frame) (y : ℤ) (ss : List Stretch) (k n : ℕ) (s : Stretch) (list : List LineFloat) (st : State) → n ≡ k + 1 → list ≡ s.floats.items
-    → CanMeetAll fr y ss (suc k) s.floats.items st → CanMeetAll fr y ss n list st
+pub can_from : (fr : Frame) (y : ℤ) (ss : List Stretch) (k n : ℕ) (s : Stretch) (list : List LineFloat) (st : State) → n ≡ k + 1 → list ≡ s.floats
+    → CanMeetAll fr y ss (suc k) s.floats st → CanMeetAll fr y ss n list st
 can_from fr y ss k n s list st e same can =
     subst (λ (j : ℕ). CanMeetAll fr y ss j list st) (sym (e ∙ add-one k)) (subst (λ (fs : List LineFloat). CanMeetAll fr y ss (suc k) fs st) (sym same) can)
 
 -- what one stretch more needs
-pub can_next : (fr : Frame) (y : ℤ) (ss : List Stretch) (st now : State) (k n : ℕ) → CanFill fr y ss st → Fills fr y ss k st now → n ≡ k → (s : Stretch) → slice_get ss n ≡ Some s → CanMeetAll fr y ss (suc n) s.floats.items now
+pub can_next : (fr : Frame) (y : ℤ) (ss : List Stretch) (st now : State) (k n : ℕ) → CanFill fr y ss st → Fills fr y ss k st now → n ≡ k → (s : Stretch) → slice_get ss n ≡ Some s → CanMeetAll fr y ss (suc n) s.floats now
 can_next fr y ss st now k n can fills e s is = can.meets n now s (subst (λ (j : ℕ). Fills fr y ss j st now) (sym e) fills) is
 
 pub rooms_next : (fr : Frame) (y : ℤ) (ss : List Stretch) (st now : State) (k : ℕ) (s : Stretch) → CanFill fr y ss st → Fills fr y ss k st now → slice_get ss k ≡ Some s → RoomsFit fr now.floats ss

@@ -38,7 +38,7 @@ reading_of bs e = record { open_boxes = bs; extent = e }
 abbrev pub read : Reading → Part → Reading
 read r (Space w) = r
 read r (PreservedSpace w) = r
-read r Tab = r
+read r (Tab t) = r
 read r Linefeed = r
 read r (Text w) = r
 read r (Start b) = record { open_boxes = r.open_boxes ++ b ∷ []; extent = raised r.extent b.extent }
@@ -50,7 +50,7 @@ read_all r (x ∷ xs) = read_all (read r x) xs
 
 abbrev pub read_at : Reading → Option Stretch → Reading
 read_at r None = r
-read_at r (Some s) = read_all r s.parts.items
+read_at r (Some s) = read_all r s.parts
 
 -- after the first k of these, on a line at whose start these boxes are open
 abbrev pub reading_to : Frame → List InlineStart → List Stretch → ℕ → Reading

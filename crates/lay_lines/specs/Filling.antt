@@ -22,7 +22,7 @@ FitsNext fr y ss k floats = HasFit fr y ss (suc k) floats ⊎ ((k ≡ 0) × IsAl
 pub record TakesNext (fr : Frame) (y : ℤ) (ss : List Stretch) (k : ℕ) (st after : State) : Type 0 where
   pub stretch : Stretch
   pub is : slice_get ss k ≡ Some stretch
-  pub meets : Meets fr y ss (suc k) stretch.floats.items st after
+  pub meets : Meets fr y ss (suc k) stretch.floats st after
 
 -- the line after it took the first n of these
 abbrev pub Fills : Frame → ℤ → List Stretch → ℕ → State → State → Type 0
@@ -60,4 +60,4 @@ pub record IsTop (fr : Frame) (from : ℤ) (ss : List Stretch) (floats : List Pl
 pub record CanFill (fr : Frame) (y : ℤ) (ss : List Stretch) (st : State) : Type 0 where
   pub rooms : RoomsFit fr st.floats ss
   pub meets : (k : ℕ) (mid : State) (s : Stretch) → Fills fr y ss k st mid → slice_get ss k ≡ Some s
-      → CanMeetAll fr y ss (suc k) s.floats.items mid
+      → CanMeetAll fr y ss (suc k) s.floats mid

@@ -72,11 +72,11 @@ hung p w = record {
 }
 
 abbrev pub over : Frame → Pen → Part → Pen
-over fr p (Space w) = spaced p w.0
-over fr p (PreservedSpace w) = hung p w.0
-over fr p Tab = went (next_stop fr.tab.0 p.at.0)
+over fr p (Space w) = spaced p w.width.0
+over fr p (PreservedSpace w) = hung p w.width.0
+over fr p (Tab t) = went (next_stop fr.tab.0 p.at.0)
 over fr p Linefeed = record { at = p.at; visible = p.visible; solid = p.solid; started = p.started; seen = true }
-over fr p (Text w) = went (p.at.0 +ℤ w.0)
+over fr p (Text w) = went (p.at.0 +ℤ w.width.0)
 over fr p (Start b) = moved p b.width.0 b.seen
 over fr p (End b) = moved p b.width.0 b.seen
 
@@ -85,7 +85,7 @@ over_all fr p [] = p
 over_all fr p (x ∷ xs) = over_all fr (over fr p x) xs
 
 abbrev pub past : Frame → Pen → Stretch → Pen
-past fr p s = over_all fr p s.parts.items
+past fr p s = over_all fr p s.parts
 
 abbrev pub past_at : Frame → Pen → Option Stretch → Pen
 past_at fr p None = p
@@ -116,4 +116,4 @@ PensFit fr p (x ∷ xs) = PenFits p × PensFit fr (over fr p x) xs
 
 pub record ContentFits (fr : Frame) (a : ℤ) (ss : List Stretch) : Type 0 where
   pub blank_fits : PenFits (blank (start_of fr a))
-  pub stretches : (k : ℕ) (s : Stretch) → slice_get ss k ≡ Some s → PensFit fr (pen_to fr a ss k) s.parts.items
+  pub stretches : (k : ℕ) (s : Stretch) → slice_get ss k ≡ Some s → PensFit fr (pen_to fr a ss k) s.parts

@@ -47,7 +47,7 @@ emptied st = record { floats = st.floats; places = st.places; put_off = [] }
 pub record IsFilled (p : Position) (r : Row) : Type 0 where
   pub first : Stretch
   pub is : slice_get p.rest 0 ≡ Some first
-  pub heads : Meets p.frame p.from p.rest 0 first.heads.items p.state r.headed
+  pub heads : Meets p.frame p.from p.rest 0 first.heads p.state r.headed
   pub top_is : IsTop p.frame p.from p.rest r.headed.floats r.top
   pub count_is : Takes p.frame r.top p.rest r.headed r.reach.count
   pub filled_is : Fills p.frame r.top p.rest r.reach.count r.headed r.filled
@@ -103,10 +103,10 @@ pub record AreRows (start : Position) (end : Laid) : Type 0 where
 pub record CanRow (p : Position) : Type 0 where
   pub frame : FrameFits p.frame
   pub from : IsPosition p.from
-  pub heads : (s : Stretch) → slice_get p.rest 0 ≡ Some s → CanMeetAll p.frame p.from p.rest 0 s.heads.items p.state
-  pub rooms : (s : Stretch) (headed : State) → slice_get p.rest 0 ≡ Some s → Meets p.frame p.from p.rest 0 s.heads.items p.state headed
+  pub heads : (s : Stretch) → slice_get p.rest 0 ≡ Some s → CanMeetAll p.frame p.from p.rest 0 s.heads p.state
+  pub rooms : (s : Stretch) (headed : State) → slice_get p.rest 0 ≡ Some s → Meets p.frame p.from p.rest 0 s.heads p.state headed
       → RoomsFit p.frame headed.floats p.rest
-  pub fills : (s : Stretch) (headed : State) (top : ℤ) → slice_get p.rest 0 ≡ Some s → Meets p.frame p.from p.rest 0 s.heads.items p.state headed
+  pub fills : (s : Stretch) (headed : State) (top : ℤ) → slice_get p.rest 0 ≡ Some s → Meets p.frame p.from p.rest 0 s.heads p.state headed
       → IsTop p.frame p.from p.rest headed.floats top → CanFill p.frame top p.rest headed
   pub extent : (count : ℕ) → ExtentFits (extent_of p count)
   pub to : (r : Row) → IsFilled p r → IsPosition r.to

@@ -1,28 +1,37 @@
-//! Content of lines, measured.
+//! Content of lines, measured. All lengths are in 1/64 px.
 
 use crate::frame::Extent;
+use crate::lists::{LineFloatList, PartList};
 use lay_floats::FloatReq;
 use lay_units::Unit;
 
-/// A part of a line's content, with its width.
+/// A part of a line's content, with its width. A text, and each inline box, is named by the number of its box.
 #[derive(Clone, Copy)]
 pub enum Part {
     /// A collapsible space.
-    Space(Unit),
-    PreservedSpace(Unit),
-    /// A preserved tab, which reaches to the next tab stop.
-    Tab,
+    Space(Advance),
+    PreservedSpace(Advance),
+    /// A preserved tab, which reaches to the next tab stop, in the text of this number.
+    Tab(u32),
     /// A preserved linefeed.
     Linefeed,
     /// Other text.
-    Text(Unit),
+    Text(Advance),
     Start(InlineStart),
     End(InlineEnd),
+}
+
+/// Text of some width.
+#[derive(Clone, Copy)]
+pub struct Advance {
+    pub text: u32,
+    pub width: Unit,
 }
 
 /// The start of an inline box: its left margin, border and padding together.
 #[derive(Clone, Copy)]
 pub struct InlineStart {
+    pub node: u32,
     pub width: Unit,
     /// Its left or a vertical margin, border or padding isn't 0.
     pub seen: bool,
@@ -34,12 +43,14 @@ pub struct InlineStart {
 /// The end of an inline box: its right margin, border and padding together.
 #[derive(Clone, Copy)]
 pub struct InlineEnd {
+    pub node: u32,
     pub width: Unit,
     /// One of them isn't 0.
     pub seen: bool,
 }
 
-/// A float, with its node's number.
+/// A float, with the number of its box. It is asked for at the top of the line that meets it, whatever the
+/// ceiling of `req` is.
 #[derive(Clone, Copy)]
 pub struct LineFloat {
     pub node: u32,
@@ -50,9 +61,19 @@ pub struct LineFloat {
 /// the floats in it.
 #[derive(Drop)]
 pub struct Stretch {
-    pub heads: Vec<LineFloat>,
-    pub parts: Vec<Part>,
-    pub floats: Vec<LineFloat>,
+    pub heads: LineFloatList,
+    pub parts: PartList,
+    pub floats: LineFloatList,
     /// It ends with a preserved linefeed.
     pub forced: bool,
+}
+
+/// What is painted of a box on a line, beside its baseline: how far its border box reaches above and below it,
+/// and its horizontal margins.
+#[derive(Clone, Copy)]
+pub struct InlineArea {
+    pub above: Unit,
+    pub below: Unit,
+    pub margin_left: Unit,
+    pub margin_right: Unit,
 }

@@ -1,12 +1,18 @@
-//! The law of the definitions. The function does nothing.
+//! The laws of the definitions. The functions do nothing.
 
-ghost use Rattle.lay_lines.specs.Laws.{OneListOfLines};
+ghost use Rattle.lay_lines.specs.Laws.{OneListOfRows, OneLines};
 
 use lay_floats::{one_float_place, one_room};
 
 /// A container has one list of lines.
-pub fn one_list_of_lines()
-    ensures { OneListOfLines }
+pub fn one_lines()
+    ensures { OneLines }
+{
+    one_list_of_rows();
+}
+
+fn one_list_of_rows()
+    ensures { OneListOfRows }
 {
     one_float_place();
     one_room();

@@ -1,16 +1,22 @@
 //! Lines beside floats: what each line of a block container takes, where it stands, and the floats that it
 //! meets (CSS 2.2, 9.4.2, 9.5, 10.8.1, 16.1 and 16.6).
 //!
-//! Contracts cite `AreRows` of `specs/Rows.antt`, which stands on `specs/Pens.antt` (how far content comes),
-//! `specs/Meeting.antt` (the floats of a line), `specs/Filling.antt` (what a line takes, and its top) and
-//! `specs/Extents.antt` (how high it is). A container has one list of lines (`specs/Laws.antt`).
+//! Contracts cite `LineContentValue` of `specs/LineContents.antt` and `AreLines` of `specs/Lines.antt`, which stands
+//! on `specs/Rows.antt` (line after line), `specs/Pens.antt` (how far content comes), `specs/Meeting.antt` (the floats
+//! of a line), `specs/Filling.antt` (what a line takes, and its top) and `specs/Extents.antt` (how high it is). A
+//! container has one list of lines (`specs/Laws.antt`).
 #![tactic(auto)]
 
 mod arithmetic;
+mod bounds;
+mod budgets;
 mod content;
 mod extents;
 mod frame;
 mod laws;
+mod laying;
+mod line_content;
+mod lists;
 mod meeting;
 mod met;
 mod pen;
@@ -20,10 +26,12 @@ mod rows;
 mod taking;
 mod top;
 
-pub use content::{InlineEnd, InlineStart, LineFloat, Part, Stretch};
-pub use frame::{Extent, Frame, Line};
-pub use laws::one_list_of_lines;
+pub use content::{Advance, InlineArea, InlineEnd, InlineStart, LineFloat, Part, Stretch};
+pub use frame::Extent;
+pub use laws::one_lines;
+pub use laying::{Lines, lay};
+pub use line_content::LineContent;
+pub use lists::{LineFloatList, NodePlaceList, PartList, RowList, StretchList};
 pub use pen::Pen;
 pub use reach::Reach;
 pub use row::Ended;
-pub use rows::{Rows, lay_rows};

@@ -71,7 +71,7 @@ impl Pen {
     }
 
     pub(crate) fn past(self, frame: &Frame, stretch: &Stretch) -> Pen
-        requires { PensFit frame.now self stretch.now.parts.items }
+        requires { PensFit frame.now self stretch.now.parts }
         ensures { result ≡ past frame.now self stretch.now }
     {
         self.over_all(frame, stretch.parts.as_slice())
@@ -93,9 +93,9 @@ impl Pen {
         ensures { result ≡ over frame.now self part }
     {
         match part {
-            Part::Space(width) => self.spaced(width),
-            Part::PreservedSpace(width) => self.hung(width),
-            Part::Tab => Pen::went(next_stop(frame.tab, self.at)),
+            Part::Space(advance) => self.spaced(advance.width),
+            Part::PreservedSpace(advance) => self.hung(advance.width),
+            Part::Tab(_) => Pen::went(next_stop(frame.tab, self.at)),
             Part::Linefeed => Pen {
                 at: self.at,
                 visible: self.visible,
@@ -103,7 +103,7 @@ impl Pen {
                 started: self.started,
                 seen: true,
             },
-            Part::Text(width) => Pen::went(plus(self.at, width)),
+            Part::Text(advance) => Pen::went(plus(self.at, advance.width)),
             Part::Start(start) => self.moved(start.width, start.seen),
             Part::End(end) => self.moved(end.width, end.seen),
         }

@@ -141,20 +141,20 @@ fn headed_top(
     requires frame { FrameFits start.now.frame }
     requires from { IsPosition start.now.top.0 }
     requires heads { (s : StretchValue) → slice_get stretches.now 0 ≡ Some s
-        → CanMeetAll start.now.frame start.now.top.0 stretches.now 0 s.heads.items
+        → CanMeetAll start.now.frame start.now.top.0 stretches.now 0 s.heads
         (state_of floats.old met.old) }
     requires rooms { (s : StretchValue) (headed : State) → slice_get stretches.now 0 ≡ Some s
-        → Meets start.now.frame start.now.top.0 stretches.now 0 s.heads.items
+        → Meets start.now.frame start.now.top.0 stretches.now 0 s.heads
         (state_of floats.old met.old) headed → RoomsFit start.now.frame headed.floats stretches.now }
     ensures heads { IfOk result (λ _. (s : StretchValue) → slice_get stretches.now 0 ≡ Some s
-        → Meets start.now.frame start.now.top.0 stretches.now 0 s.heads.items
+        → Meets start.now.frame start.now.top.0 stretches.now 0 s.heads
         (state_of floats.old met.old) (state_of floats.new met.new)) }
     ensures top { IfOk result (λ top. IsTop start.now.frame start.now.top.0 stretches.now floats.new
         top.0) }
     ensures fits { IfOk result (λ top. IsPosition top.0) }
     ensures stopped { IfErr result (λ _. (s : StretchValue) (headed : State)
         → slice_get stretches.now 0 ≡ Some s
-        → Meets start.now.frame start.now.top.0 stretches.now 0 s.heads.items
+        → Meets start.now.frame start.now.top.0 stretches.now 0 s.heads
         (state_of floats.old met.old) headed → IsFront floats.new headed.floats) }
 {
     let blank = Reach::none(floats, &start.frame, stretches);

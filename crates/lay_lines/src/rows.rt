@@ -13,8 +13,7 @@ use lay_floats::{Floats, NodePlace, one_float_place, one_room};
 use lay_units::{NoMemory, Unit};
 use std::alloc::Global;
 
-/// The lines of a container, in order, the places of the floats that they met, and where what follows them
-/// begins.
+/// The lines of a container so far.
 #[derive(Drop)]
 pub struct Rows {
     pub rows: Vec<Ended>,
@@ -22,9 +21,6 @@ pub struct Rows {
     pub end: Unit,
 }
 
-/// The lines of this content, from a top downward. The floats that they meet are added to `floats`. After a
-/// NoMemory those in `floats` are the first ones of all that would have been there. All lengths and places
-/// that are given, and those that follow from them, are below 2^62 units of 1/64 px in absolute value.
 pub fn lay_rows(
     alloc: Global,
     floats: &mut Floats,

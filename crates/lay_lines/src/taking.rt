@@ -66,7 +66,7 @@ fn take_next(
     requires rooms { RoomsFit line.now.frame floats.old stretches.now }
     requires floats { (s : StretchValue) → slice_get stretches.now reach.now.count ≡ Some s
         → CanMeetAll line.now.frame line.now.top.0 stretches.now
-        (suc reach.now.count) s.floats.items (state_of floats.old met.old) }
+        (suc reach.now.count) s.floats (state_of floats.old met.old) }
     ensures takes { IfOk result (λ next. IfSome next
         (λ r. TakesNext line.now.frame line.now.top.0 stretches.now reach.now.count
         (state_of floats.old met.old) (state_of floats.new met.new))) }

@@ -15,7 +15,7 @@ meet_after-requires-clause-floats c =
     let k = c.args.reach.now.count in
     let s = c.index-stretches-reach.result in
     let is = stretch_is c.args.stretches.now k s c.requires.some c.index-stretches-reach.is in
-    let same : c.as_slice.result.now ≡ s.floats.items = cc in
+    let same : c.as_slice.result.now ≡ s.floats = cc in
     can_from c.args.line.now.frame c.args.line.now.top.0 c.args.stretches.now k c.next-next.result.count s c.as_slice.result.now (state_of c.args.floats.now c.args.met.now) c.next-next.ensures.count same (c.requires.floats s is)
 
 pub returns-in_err-after-clause-stopped : goal.returns-in_err-after-clause-stopped
@@ -23,7 +23,7 @@ returns-in_err-after-clause-stopped c =
     let k = c.args.reach.now.count in
     let s = c.index-stretches-reach.result in
     let is = stretch_is c.args.stretches.now k s c.requires.some c.index-stretches-reach.is in
-    let same : c.as_slice.result.now ≡ s.floats.items = cc in
+    let same : c.as_slice.result.now ≡ s.floats = cc in
     at_err c.from_residual.result _ (λ after t. c.in_err-after.ensures.stopped after
     (takes_to c.args.line.now.frame c.args.line.now.top.0 c.args.stretches.now k c.next-next.result.count s c.as_slice.result.now (state_of c.args.floats.now c.args.met.now) after is c.next-next.ensures.count same t))
 
@@ -38,7 +38,7 @@ returns-clause-takes c =
     let k = c.args.reach.now.count in
     let s = c.index-stretches-reach.result in
     let is = stretch_is c.args.stretches.now k s c.requires.some c.index-stretches-reach.is in
-    let same : c.as_slice.result.now ≡ s.floats.items = cc in
+    let same : c.as_slice.result.now ≡ s.floats = cc in
     takes_from c.args.line.now.frame c.args.line.now.top.0 c.args.stretches.now k c.next-next.result.count s c.as_slice.result.now (state_of c.args.floats.now c.args.met.now)
     (state_of c.meet_after.new.floats c.meet_after.new.met) is c.next-next.ensures.count same c.in_ok-after.ensures.meets
 

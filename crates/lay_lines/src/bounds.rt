@@ -1,0 +1,121 @@
+//! Whether the content of lines is within its bounds.
+
+ghost use Rattle.std.specs.Prelude.{◌↔◌, ◌^◌, pos, IsTrue, All};
+ghost use Rattle.lay_units.specs.Units.{IsUsed};
+ghost use Rattle.lay_floats.specs.Within.{IsWithin};
+ghost use Rattle.lay_lines.specs.LineContents.{
+  IsLineContent,
+  content_of,
+  ExtentWithin,
+  IsTabDistance,
+  PartWithin,
+  LineFloatWithin,
+  StretchWithin,
+};
+
+use crate::budgets::{is_spread_within, is_weight_within};
+use crate::content::{LineFloat, Part, Stretch};
+use crate::frame::Extent;
+use lay_units::Unit;
+
+pub fn is_line_content(strut: Extent, indent: Unit, tab: Unit, stretches: &[Stretch]) -> bool
+    ensures { IsTrue result ↔ IsLineContent (content_of strut indent tab stretches.now) }
+{
+    if !is_extent_within(strut) || !is_used(indent) || !is_tab_distance(tab) {
+        return false;
+    }
+    are_stretches_within(stretches) && is_spread_within(tab, stretches) && is_weight_within(stretches)
+}
+
+fn is_used(length: Unit) -> bool
+    ensures { IsTrue result ↔ IsUsed length.0 }
+{
+    -2147483648 <= length.0 && length.0 <= 2147483648
+}
+
+fn is_tab_distance(tab: Unit) -> bool
+    ensures { IsTrue result ↔ IsTabDistance tab.0 }
+{
+    0 <= tab.0 && tab.0 <= 35184372088832
+}
+
+fn are_stretches_within(stretches: &[Stretch]) -> bool
+    ensures { IsTrue result ↔ All StretchWithin stretches.now }
+{
+    for stretch in stretches {
+        if !is_stretch_within(stretch) {
+            return false;
+        }
+    }
+    true
+}
+
+fn is_stretch_within(stretch: &Stretch) -> bool
+    ensures { IsTrue result ↔ StretchWithin stretch.now }
+{
+    are_floats_within(stretch.heads.as_slice())
+        && are_parts_within(stretch.parts.as_slice())
+        && are_floats_within(stretch.floats.as_slice())
+}
+
+fn are_floats_within(floats: &[LineFloat]) -> bool
+    ensures { IsTrue result ↔ All LineFloatWithin floats.now }
+{
+    for float in floats {
+        if !is_float_within(float) {
+            return false;
+        }
+    }
+    true
+}
+
+fn is_float_within(float: &LineFloat) -> bool
+    ensures { IsTrue result ↔ LineFloatWithin float.now }
+{
+    let req = &float.req;
+    is_float_size(req.width) && is_float_size(req.height) && is_float_edge(req.left) && is_float_edge(req.right)
+}
+
+fn is_float_size(length: Unit) -> bool
+    ensures { IsTrue result ↔ IsWithin (pos (2 ^ 34)) length.0 }
+{
+    -17179869184 <= length.0 && length.0 <= 17179869184
+}
+
+fn is_float_edge(edge: Unit) -> bool
+    ensures { IsTrue result ↔ IsWithin (pos (2 ^ 50)) edge.0 }
+{
+    -1125899906842624 <= edge.0 && edge.0 <= 1125899906842624
+}
+
+fn are_parts_within(parts: &[Part]) -> bool
+    ensures { IsTrue result ↔ All PartWithin parts.now }
+{
+    for part in parts {
+        if !is_part_within(part) {
+            return false;
+        }
+    }
+    true
+}
+
+fn is_part_within(part: &Part) -> bool
+    ensures { IsTrue result ↔ PartWithin part.now }
+{
+    match part {
+        Part::Start(start) => is_extent_within(start.extent),
+        _ => true,
+    }
+}
+
+fn is_extent_within(extent: Extent) -> bool
+    ensures { IsTrue result ↔ ExtentWithin extent }
+{
+    is_reach(extent.above) && is_reach(extent.below)
+}
+
+fn is_reach(length: Unit) -> bool
+    ensures { IsTrue result ↔ IsWithin (pos (2 ^ 36)) length.0 }
+{
+    -68719476736 <= length.0 && length.0 <= 68719476736
+}

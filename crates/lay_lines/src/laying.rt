@@ -1,0 +1,63 @@
+//! The lines of a container.
+
+ghost use Rattle.std.specs.Prelude.{◌≡◌, IfOk, IfErr};
+ghost use Rattle.lay_lines.specs.Lines.{LinesValue, AreLines, lines_of, frame_of, first_position};
+ghost use Rattle.lay_lines.specs.Meeting.{IsFront};
+ghost use Rattle.lay_lines.specs.Rows.{CanLay};
+
+use crate::frame::{Frame, Line};
+use crate::line_content::LineContent;
+use crate::lists::{NodePlaceList, RowList};
+use crate::rows::lay_rows;
+use lay_floats::Floats;
+use lay_units::{NoMemory, Unit};
+use std::alloc::Global;
+
+/// The lines of a container, in order, the places of the floats that they met, in order, and where what follows
+/// them begins.
+#[derive(Drop)]
+pub struct Lines {
+    pub rows: RowList,
+    pub places: NodePlaceList,
+    pub end: Unit,
+}
+
+/// The lines of this content between two content edges, from a top downward (CSS 2.2, 9.4.2 and 9.5), all in
+/// 1/64 px. The floats that they meet are added to `floats`. After a NoMemory those in `floats` are the first
+/// ones of all that would have been there.
+pub fn lay(
+    alloc: Global,
+    floats: &mut Floats,
+    content: &LineContent,
+    left: Unit,
+    right: Unit,
+    top: Unit,
+) -> Result<Lines, NoMemory>
+    requires can { CanLay (first_position content.now left right top.0 floats.old) }
+    ensures lines { IfOk result (λ out. AreLines content.now left right top.0 floats.old (lines_of out floats.new)) }
+    ensures stopped { IfErr result (λ _. (v : LinesValue) → AreLines content.now left right top.0 floats.old v
+        → IsFront floats.new v.floats) }
+{
+    let start = Line {
+        frame: frame_of(content, left, right),
+        top,
+    };
+    let rows = lay_rows(alloc, floats, &start, content.stretches())?;
+    Ok(Lines {
+        rows: RowList::new(rows.rows),
+        places: NodePlaceList::new(rows.places),
+        end: rows.end,
+    })
+}
+
+fn frame_of(content: &LineContent, left: Unit, right: Unit) -> Frame
+    ensures { result ≡ frame_of content.now left right }
+{
+    Frame {
+        left,
+        right,
+        strut: content.strut(),
+        indent: content.indent(),
+        tab: content.tab(),
+    }
+}

@@ -1,0 +1,80 @@
+//! The content of the lines of a container.
+
+ghost use Rattle.std.specs.Prelude.{◌≡◌, None, IfSome};
+ghost use Rattle.lay_lines.specs.LineContents.{IsLineContent, content_of};
+
+use crate::bounds::is_line_content;
+use crate::content::Stretch;
+use crate::frame::Extent;
+use crate::lists::StretchList;
+use lay_units::Unit;
+use std::marker::Model;
+
+/// The content of the lines of a container, measured, with the container's strut, its `text-indent` and the
+/// distance between its tab stops. The strut and the extents of inline boxes are at most 2^36 units of 1/64 px,
+/// the indent is a used length and the distance 0 to 2^45 units; no float is larger than 2^34 units or has a
+/// containing block edge further than 2^50 away; all widths together are at most 2^58 units, with a tab as wide as
+/// the distance of stops, and stretches and floats fewer than 2^21.
+#[derive(Drop)]
+pub struct LineContent {
+    strut: Extent,
+    indent: Unit,
+    tab: Unit,
+    stretches: StretchList,
+}
+
+impl Model for LineContent {
+    ghost use Rattle.lay_lines.specs.LineContents.{LineContentValue, IsLineContent, content_of};
+
+    ghost Value = { LineContentValue };
+
+    ghost view = { λ c. content_of c.strut c.indent c.tab c.stretches };
+
+    ghost invariant = { λ c. IsLineContent (content_of c.strut c.indent c.tab c.stretches) };
+}
+
+impl LineContent {
+    /// None exactly where the bounds don't hold.
+    pub fn new(strut: Extent, indent: Unit, tab: Unit, stretches: StretchList) -> Option<LineContent>
+        ensures some { IfSome result (λ c. c ≡ content_of strut indent tab stretches) }
+        ensures fits { IfSome result IsLineContent }
+        ensures none { result ≡ None → IsLineContent (content_of strut indent tab stretches) → ⊥ }
+    {
+        if !is_line_content(strut, indent, tab, stretches.as_slice()) {
+            return None;
+        }
+        Some(LineContent {
+            strut,
+            indent,
+            tab,
+            stretches,
+        })
+    }
+
+    /// How far the container's strut reaches above and below the baseline.
+    pub fn strut(&self) -> Extent
+        ensures { result ≡ self.now.strut }
+    {
+        self.strut
+    }
+
+    pub fn indent(&self) -> Unit
+        ensures { result ≡ self.now.indent }
+    {
+        self.indent
+    }
+
+    /// The distance between tab stops; 0 where there are none.
+    pub fn tab(&self) -> Unit
+        ensures { result ≡ self.now.tab }
+    {
+        self.tab
+    }
+
+    pub fn stretches(&self) -> &[Stretch]
+        ensures value { result.now ≡ self.now.stretches }
+        ensures fits { IsLineContent self.now }
+    {
+        self.stretches.as_slice()
+    }
+}
