@@ -1,0 +1,3 @@
+pub mod InlineItems
+pub mod InlineSegments
+pub mod OpenBoxes

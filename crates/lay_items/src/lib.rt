@@ -1,0 +1,18 @@
+//! Inline content: what stands in the lines of a block container, from the boxes of its context (CSS 2.2, 9.2.2, 9.4.2,
+//! 9.5, 16.4 and 16.6).
+//!
+//! Contracts cite `items_of` of `specs/InlineItems.antt`, the boxes that stand in the lines in the order of the box tree,
+//! and `segments_in` of `specs/InlineSegments.antt`, the same after white space processing, with the widths of texts, cut
+//! where lines may break. Lines and preferred widths both take their content from here.
+#![tactic(auto)]
+
+mod container_items;
+mod container_segments;
+mod leaves;
+mod measured;
+mod modes;
+mod open_boxes;
+
+pub use container_items::inline_items;
+pub use container_segments::inline_segments;
+pub use modes::mode_of;

@@ -1,0 +1,110 @@
+//! Texts with the widths of their clusters.
+
+ghost use Rattle.std.specs.Prelude.{◌≡◌, ◌++◌, slice_get, map, IfOk};
+ghost use Rattle.lay_units.specs.Units.{IsUsed, IsUsedSize};
+ghost use Rattle.lay_doc.specs.LengthValues.{length_of, size_of};
+ghost use Rattle.lay_face.specs.Clusters.{widths_of};
+ghost use Rattle.lay_items.specs.InlineSegments.{measured, measured_item, setting_of, widths_in};
+
+use crate::open_boxes::push_item;
+use lay_boxgen::BoxNode;
+use lay_doc::TextStyle;
+use lay_face::Face;
+use lay_space::{Item, ItemList};
+use lay_units::{MOST_TEXT, NoMemory, Unit, WidthList, clamp, clamp_size};
+use std::alloc::Global;
+
+/// These items, each text with the widths of its clusters in the style of its box.
+pub fn measured(
+    alloc: Global,
+    face: &Face,
+    boxes: &[BoxNode],
+    items: &[Item],
+) -> Result<ItemList, NoMemory>
+    ensures { IfOk result (λ l. l ≡ measured face.now boxes.now items.now) }
+{
+    let mut out = Vec::with_capacity(alloc, items.len())?;
+    for k in 0..items.len() {
+        let item = measured_item(alloc, face, boxes, &items[k])?;
+        push_item(&mut out, item)?;
+    }
+    Ok(ItemList::new(out))
+}
+
+fn measured_item(
+    alloc: Global,
+    face: &Face,
+    boxes: &[BoxNode],
+    item: &Item,
+) -> Result<Item, NoMemory>
+    ensures { IfOk result (λ i. i ≡ measured_item face.now boxes.now item.now) }
+{
+    Ok(match item {
+        Item::Text {
+            node,
+            text,
+            mode,
+            ..
+        } => Item::Text {
+            node: *node,
+            text: text.copy(alloc)?,
+            mode: *mode,
+            widths: widths_at(alloc, face, boxes, *node, text.as_str())?,
+        },
+        Item::Atomic(node, mode) => Item::Atomic(*node, *mode),
+        Item::Start(node) => Item::Start(*node),
+        Item::End(node) => Item::End(*node),
+        Item::Float(node) => Item::Float(*node),
+        Item::Anchor(node) => Item::Anchor(*node),
+    })
+}
+
+/// The widths of the clusters of a text of the box at a place, and none where no box is there.
+fn widths_at(
+    alloc: Global,
+    face: &Face,
+    boxes: &[BoxNode],
+    place: u32,
+    text: &str,
+) -> Result<WidthList, NoMemory>
+    ensures { IfOk result (λ l. l ≡ widths_in face.now (slice_get boxes.now place) text.now) }
+{
+    match boxes.get(place as usize) {
+        Some(node) => text_widths(alloc, face, &node.style.text, text),
+        None => Ok(WidthList::new(Vec::new(alloc))),
+    }
+}
+
+/// The widths of the clusters of a text in a style. No document has a text of more than 2^20 bytes; for one there
+/// would be no memory.
+fn text_widths(
+    alloc: Global,
+    face: &Face,
+    style: &TextStyle,
+    text: &str,
+) -> Result<WidthList, NoMemory>
+    ensures { IfOk result (λ l. l ≡ widths_of face.now (setting_of style.now) text.now) }
+{
+    if text.len() > MOST_TEXT {
+        return Err(NoMemory);
+    }
+    let size = size_of(style.font_size);
+    let letter = length_of(style.letter_spacing);
+    let word = length_of(style.word_spacing);
+    face.widths_fit(text, size, letter, word);
+    face.cluster_widths(alloc, text, size, letter, word)
+}
+
+fn length_of(length: Unit) -> Unit
+    ensures value { result ≡ length_of length.0 }
+    ensures used { IsUsed result.0 }
+{
+    clamp(i128::from(length.0))
+}
+
+fn size_of(length: Unit) -> Unit
+    ensures value { result ≡ size_of length.0 }
+    ensures used { IsUsed result.0 }
+{
+    clamp_size(i128::from(length.0))
+}
