@@ -1,3 +1,4 @@
+pub mod ContainerSteps
 pub mod SizesFit
 pub mod SizeSteps
 pub mod OneSizes

@@ -1,53 +1,160 @@
 //! The pieces of the boxes of one context.
 
-ghost use Rattle.std.specs.Prelude.{◌≡◌, ◌<◌, ◌≤◌, length, IfOk};
+ghost use Rattle.std.specs.Prelude.{◌≡◌, ◌<◌, ◌≤◌, ◌||◌, length, IfOk};
 ghost use Rattle.lay_sizes.specs.BoxSizes.{border_width};
 ghost use Rattle.lay_sizes.specs.SizeBounds.{SizeFits};
-ghost use Rattle.lay_context.specs.ContextPlaces.{piece_of_box, pieces_to};
+ghost use Rattle.lay_context.specs.ContextPieces.{align_of, kind_on_line, piece_of_box, piece_on_line, pieces_of_box, pieces_on_lines, pieces_to, line_container};
+ghost use Rattle.lay_context.specs.PieceParts.{with_pieces};
 ghost use Rattle.lay_context.specs.PlaceBounds.{AreNearPieces, HaveCounts, IsNear, IsRectNear};
 
-use crate::box_columns::{is_inner, sizes_at};
+use crate::box_columns::{is_inner, sizes_at, style_at};
 use crate::context_places::BoxPlaces;
 use crate::corners::{corner_of_box, near_position, place_at};
 use crate::input::PlaceInput;
+use crate::piece_list::PieceList;
+use lay_boxgen::BoxNode;
+use lay_content::inline_areas;
+use lay_doc::TextAlign;
+use lay_flow::{BlockBox, FlowKind, LinesBox};
 use lay_frag::{Frag, FragKind};
+use lay_inlines::{Align, Container, LinePiece, LinePieceKind, LinePieceList, LinesGeometry, line_pieces};
+use lay_lines::InlineArea;
 use lay_sizes::{BoxSizes, border_width};
 use lay_units::{NoMemory, Rect, Unit};
 use std::alloc::Global;
 
-/// The border boxes of the boxes of one context in order, counted from the context's own. Boxes of inner
-/// contexts are left out, since they are pieces of those. NoMemory is also the answer where one stands more
-/// than 2^60 units away, which it does in no document within the limits.
+/// The pieces of the boxes of one context in order, counted from the corner of the context's own border box. NoMemory
+/// is also the answer where one stands more than 2^60 units away, which it does in no document within the limits, or
+/// where there are more than 2^31.
 pub(crate) fn pieces_of(
     alloc: Global,
     input: &PlaceInput,
     places: &BoxPlaces,
 ) -> Result<Vec<Frag>, NoMemory>
     requires counts { HaveCounts input.now.boxes places.now }
-    ensures pieces { IfOk result (λ v. v.items ≡ pieces_to input.now.boxes input.now.sizes places.now (length input.now.boxes)) }
+    ensures pieces { IfOk result (λ v. v.items ≡ pieces_to input.now.face input.now.boxes input.now.sizes places.now.flow_boxes places.now.places (length input.now.boxes)) }
     ensures near { IfOk result (λ v. AreNearPieces v.items) }
-    ensures few { IfOk result (λ v. length v.items ≤ length input.now.boxes) }
+    ensures few { IfOk result (λ v. length v.items ≤ 2147483648) }
 {
-    let boxes = input.boxes();
-    let mut pieces = Vec::with_capacity(alloc, boxes.len())?;
-    for k in 0..boxes.len() {
-        if !is_inner(boxes, k) {
-            let piece = piece_of_box(input, places, k)?;
-            pieces.push(piece)?;
+    let areas = inline_areas(alloc, input.boxes(), input.sizes(), input.face())?;
+    let mut pieces = PieceList::new(alloc);
+    for k in 0..input.boxes().len() {
+        pieces = with_box(alloc, pieces, input, places, areas.as_slice(), k)?;
+    }
+    Ok(pieces.into_vec())
+}
+
+/// These pieces, and behind them those of the box at k.
+fn with_box(
+    alloc: Global,
+    pieces: PieceList,
+    input: &PlaceInput,
+    places: &BoxPlaces,
+    areas: &[InlineArea],
+    k: usize,
+) -> Result<PieceList, NoMemory>
+{
+    if is_inner(input.boxes(), k) || input.role(k).is_inline_level() {
+        return Ok(pieces);
+    }
+    let pieces = pieces.with(piece_of_box(input, places, k)?)?;
+    match &places.flow_boxes.as_slice()[k].kind {
+        FlowKind::Lines(lines) => {
+            let geometry = LinesGeometry {
+                container: line_container(input, k, &lines.block),
+                content: &lines.content,
+                rows: places.places.rows(k),
+                areas,
+            };
+            let on_lines = line_pieces(alloc, &geometry)?;
+            with_lines(pieces, input.boxes(), on_lines.as_slice())
         }
+        _ => Ok(pieces),
+    }
+}
+
+/// These pieces, and behind them those that stand on lines.
+fn with_lines(
+    pieces: PieceList,
+    boxes: &[BoxNode],
+    on_lines: &[LinePiece],
+) -> Result<PieceList, NoMemory>
+{
+    let mut pieces = pieces;
+    for k in 0..on_lines.len() {
+        pieces = pieces.with(piece_on_line(boxes, on_lines[k])?)?;
     }
     Ok(pieces)
+}
+
+/// A piece on a line. NoMemory is also the answer where it stands more than 2^60 units away.
+fn piece_on_line(boxes: &[BoxNode], piece: LinePiece) -> Result<Frag, NoMemory>
+{
+    let node = match boxes.get(piece.node as usize) {
+        Some(node) => node.node,
+        None => return Err(NoMemory),
+    };
+    Ok(Frag {
+        kind: kind_on_line(piece.kind),
+        node,
+        part: 0,
+        rect: near_rect(piece.rect)?,
+    })
+}
+
+fn kind_on_line(kind: LinePieceKind) -> FragKind
+    ensures { result ≡ kind_on_line kind }
+{
+    match kind {
+        LinePieceKind::Line => FragKind::Line,
+        LinePieceKind::Inline => FragKind::Box,
+        LinePieceKind::Text => FragKind::Text,
+    }
+}
+
+/// A rectangle. NoMemory is the answer where one of its numbers is more than 2^60 units from 0.
+fn near_rect(rect: Rect) -> Result<Rect, NoMemory>
+    ensures value { IfOk result (λ r. r ≡ rect) }
+    ensures near { IfOk result IsRectNear }
+{
+    let x = near_position(rect.x)?;
+    let y = near_position(rect.y)?;
+    let w = near_position(rect.w)?;
+    let h = near_position(rect.h)?;
+    Ok(Rect { x, y, w, h })
+}
+
+/// The block box at k, as its lines take it.
+fn line_container(input: &PlaceInput, k: usize, block: &BlockBox) -> Container
+{
+    Container {
+        node: k as u32,
+        left: block.content.left,
+        right: block.content.right,
+        align: align_of(style_at(input.boxes(), k).text.text_align),
+    }
+}
+
+/// The used value of `text-align`. Lines aren't justified.
+fn align_of(align: TextAlign) -> Align
+    ensures { result ≡ align_of align }
+{
+    match align {
+        TextAlign::Left | TextAlign::Justify => Align::Left,
+        TextAlign::Right => Align::Right,
+        TextAlign::Center => Align::Center,
+    }
 }
 
 /// The border box of the box at k.
 fn piece_of_box(input: &PlaceInput, places: &BoxPlaces, k: usize) -> Result<Frag, NoMemory>
     requires place { k < length input.now.boxes }
     requires counts { HaveCounts input.now.boxes places.now }
-    ensures piece { IfOk result (λ f. f ≡ piece_of_box input.now.boxes input.now.sizes places.now k) }
+    ensures piece { IfOk result (λ f. f ≡ piece_of_box input.now.boxes input.now.sizes places.now.places k) }
     ensures near { IfOk result (λ f. IsRectNear f.rect) }
 {
     let corner = corner_of_box(places, k)?;
-    let height = near_position(place_at(&places.places, k).height)?;
+    let height = near_position(place_at(places.places.boxes(), k).height)?;
     Ok(Frag {
         kind: FragKind::Box,
         node: input.boxes()[k].node,
