@@ -1,3 +1,4 @@
+pub mod AllLists
 pub mod Chains
 pub mod Fronts
 pub mod LineLists

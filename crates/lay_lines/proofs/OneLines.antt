@@ -1,11 +1,6 @@
 -- A container has one list of lines, as callers see it.
-use Rattle.std.proofs.Common.{◌≡◌, ◌∙◌, ℤ, List, map, sym, ap}
-use Rattle.lay_units.specs.declared.length.Unit.{Unit}
-use Rattle.lay_floats.specs.declared.placed.Placed.{Placed}
-use Rattle.lay_floats.specs.declared.requests.NodePlace.{NodePlace}
-use Rattle.lay_lines.specs.declared.row.Ended.{Ended}
-use Rattle.lay_lines.specs.LineContents.{LineContentValue}
-use Rattle.lay_lines.specs.Lines.{LinesValue, AreLines, first_position}
+use Rattle.std.proofs.Common.{◌≡◌, ◌∙◌, map, sym, ap}
+use Rattle.lay_lines.specs.Lines.{LinesValue, first_position}
 use Rattle.lay_lines.specs.Rows.{Laid, ended_of}
 use Rattle.lay_lines.specs.Laws.{OneListOfRows, OneLines}
 

@@ -1,7 +1,7 @@
 -- The lines of a block container, from a top downward between two content edges, beside the floats that stand already
 -- (CSS 2.2, 9.4.2 and 9.5): the rows, the places of the floats that they met, in order, where what follows begins, and
 -- all floats that stand afterwards.
-use Rattle.std.specs.Prelude.{◌≡◌, ◌*◌, ◌^◌, ℤ, pos, ◌+ℤ◌, ◌≤ℤ◌, ℕ, List, [], map, All}
+use Rattle.std.specs.Prelude.{◌≡◌, ◌*◌, ◌^◌, ℤ, pos, List, [], map, All}
 use Rattle.lay_units.specs.declared.length.Unit.{Unit}
 use Rattle.lay_floats.specs.declared.placed.Placed.{Placed}
 use Rattle.lay_floats.specs.declared.requests.NodePlace.{NodePlace}

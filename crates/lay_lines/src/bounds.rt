@@ -24,7 +24,10 @@ pub fn is_line_content(strut: Extent, indent: Unit, tab: Unit, stretches: &[Stre
     if !is_extent_within(strut) || !is_used(indent) || !is_tab_distance(tab) {
         return false;
     }
-    are_stretches_within(stretches) && is_spread_within(tab, stretches) && is_weight_within(stretches)
+    if !are_stretches_within(stretches) || !is_spread_within(tab, stretches) {
+        return false;
+    }
+    is_weight_within(stretches)
 }
 
 fn is_used(length: Unit) -> bool
@@ -42,8 +45,8 @@ fn is_tab_distance(tab: Unit) -> bool
 fn are_stretches_within(stretches: &[Stretch]) -> bool
     ensures { IsTrue result ↔ All StretchWithin stretches.now }
 {
-    for stretch in stretches {
-        if !is_stretch_within(stretch) {
+    for k in 0..stretches.len() {
+        if !is_stretch_within(&stretches[k]) {
             return false;
         }
     }
@@ -73,7 +76,10 @@ fn is_float_within(float: &LineFloat) -> bool
     ensures { IsTrue result ↔ LineFloatWithin float.now }
 {
     let req = &float.req;
-    is_float_size(req.width) && is_float_size(req.height) && is_float_edge(req.left) && is_float_edge(req.right)
+    is_float_size(req.width)
+        && is_float_size(req.height)
+        && is_float_edge(req.left)
+        && is_float_edge(req.right)
 }
 
 fn is_float_size(length: Unit) -> bool

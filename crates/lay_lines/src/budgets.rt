@@ -42,7 +42,9 @@ fn spread_of_part(tab: Unit, part: Part) -> u64
     ensures { result ≡ spread_of_part tab.0 part }
 {
     match part {
-        Part::Space(advance) | Part::PreservedSpace(advance) | Part::Text(advance) => distance(advance.width),
+        Part::Space(advance) | Part::PreservedSpace(advance) | Part::Text(advance) => distance(
+            advance.width,
+        ),
         Part::Tab(_) => distance(tab),
         Part::Linefeed => 0,
         Part::Start(start) => distance(start.width),

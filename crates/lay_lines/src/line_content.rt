@@ -35,7 +35,12 @@ impl Model for LineContent {
 
 impl LineContent {
     /// None exactly where the bounds don't hold.
-    pub fn new(strut: Extent, indent: Unit, tab: Unit, stretches: StretchList) -> Option<LineContent>
+    pub fn new(
+        strut: Extent,
+        indent: Unit,
+        tab: Unit,
+        stretches: StretchList,
+    ) -> Option<LineContent>
         ensures some { IfSome result (λ c. c ≡ content_of strut indent tab stretches) }
         ensures fits { IfSome result IsLineContent }
         ensures none { result ≡ None → IsLineContent (content_of strut indent tab stretches) → ⊥ }
