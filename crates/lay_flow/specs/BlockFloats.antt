@@ -1,7 +1,8 @@
--- The floats of a block formatting context, and its solid boxes, which no float overlaps (CSS 2.2, 9.5 and 9.5.1). They
--- are read among the boxes in document order. There is a column of places with an entry
--- for each box. That of a float is the corner of its margin box, and that of a solid box the corner of its border box.
--- Other boxes have none, and theirs is 0.
+-- The floats of a block formatting context, its solid boxes, which no float overlaps, and its lines, which floats shorten
+-- (CSS 2.2, 9.4.2, 9.5 and 9.5.1). They
+-- are read among the boxes in document order. There is a column of placements with an entry
+-- for each box. The place of a float is the corner of its margin box, and that of a solid box the corner of its border box.
+-- Other boxes have none, and theirs is 0. A box that holds lines has these, with the floats that stand once they are laid.
 --
 -- For example, a root has three children: a block 10 px high with a bottom margin of 20 px, a left float 30 px wide and
 -- 50 px high, and a solid box 40 px high in the margin's run. The run ends at 30 px, where the solid box has its mark. The
@@ -12,27 +13,39 @@ use Rattle.lay_flow.specs.declared.flow_box.FlowBox.{FlowBox}
 use Rattle.lay_flow.specs.Boxes.{no_across, box_at, parent_at}
 use Rattle.lay_units.specs.declared.length.Unit.{Unit as Length}
 use Rattle.lay_floats.specs.declared.placed.Placed.{Placed}
+use Rattle.lay_floats.specs.declared.requests.Clear.TheVariants.{None as clear_none}
 use Rattle.lay_floats.specs.declared.requests.Side.{Side}
 use Rattle.lay_floats.specs.declared.requests.FloatReq.{FloatReq}
 use Rattle.lay_floats.specs.declared.requests.SolidReq.{SolidReq}
 use Rattle.lay_floats.specs.declared.requests.Place.{Place}
 use Rattle.lay_flow.specs.declared.flow_box.FlowKind.{FlowKind}
-use Rattle.lay_flow.specs.declared.flow_box.FlowKind.TheVariants.{Block as block, Solid as solid, Float as float}
+use Rattle.lay_flow.specs.declared.flow_box.FlowKind.TheVariants.{Block as block, Lines as lines, Solid as solid, Float as float, LineFloat as line_float, Inline as inline}
 use Rattle.lay_flow.specs.declared.flow_box.Across.{Across}
 use Rattle.lay_flow.specs.declared.shape.Shape.{Shape}
+use Rattle.lay_flow.specs.declared.block.Inside.{Inside}
+use Rattle.lay_flow.specs.declared.block.Inside.TheVariants.{Blocks as blocks_inside, Lines as lines_inside, Solid as solid_inside}
+use Rattle.lay_lines.specs.LineContents.{LineContentValue}
+use Rattle.lay_lines.specs.Lines.{LinesValue, AreLines}
 use Rattle.lay_flow.specs.Lengths.{no_length, length_at}
 use Rattle.lay_flow.specs.MarginRuns.{block_at}
 
 -- the content edges of a box, and 0 of one in which no box stands
 abbrev pub content_of : FlowKind → Across
 content_of (block b) = b.content
+content_of (lines l) = l.block.content
 content_of (solid b) = no_across
 content_of (float b) = no_across
+content_of (line_float b) = no_across
+content_of inline = no_across
+
+abbrev pub no_shape : Across → Shape
+no_shape around = record { float = None; clear = clear_none; left = around.left; right = around.right; x = no_length; width = no_length; height = no_length }
 
 -- a box as floats see it: the size of the margin box of a float and of the border box of a solid box counts. Around it there
--- are content edges.
+-- are content edges. What stands in lines takes no part: the lines have it.
 abbrev pub shape_of : Across → FlowKind → Shape
 shape_of around (block b) = record { float = None; clear = b.clear; left = around.left; right = around.right; x = b.x; width = no_length; height = no_length }
+shape_of around (lines l) = record { float = None; clear = l.block.clear; left = around.left; right = around.right; x = l.block.x; width = no_length; height = no_length }
 shape_of around (solid b) = record { float = None; clear = b.clear; left = around.left; right = around.right; x = b.x; width = b.width; height = b.height }
 shape_of around (float b) = record {
   float = Some b.side;
@@ -43,6 +56,8 @@ shape_of around (float b) = record {
   width = record { 0 = b.margin.left.0 +ℤ b.width.0 +ℤ b.margin.right.0 };
   height = record { 0 = b.margin.top.0 +ℤ b.height.0 +ℤ b.margin.bottom.0 };
 }
+shape_of around (line_float b) = no_shape around
+shape_of around inline = no_shape around
 
 -- the containing block of a float or a solid box is its parent
 abbrev pub shape_at : List FlowBox → ℕ → Shape
@@ -51,8 +66,25 @@ shape_at boxes k = shape_of (content_of (box_at boxes (parent_at boxes k)).kind)
 abbrev pub no_place : Place
 no_place = record { x = no_length; y = no_length }
 
-abbrev pub place_at : List Place → ℕ → Place
-place_at places k = slice_index_or places k no_place
+abbrev pub no_lines : LinesValue
+no_lines = record { rows = []; places = []; end = no_length; floats = [] }
+
+-- where a box was placed, and the lines in it
+pub record Placement : Type 0 where
+  pub place : Place
+  pub lines : LinesValue
+
+abbrev pub no_placement : Placement
+no_placement = record { place = no_place; lines = no_lines }
+
+abbrev pub placement_at : List Placement → ℕ → Placement
+placement_at places k = slice_index_or places k no_placement
+
+abbrev pub place_at : List Placement → ℕ → Place
+place_at places k = (placement_at places k).place
+
+abbrev pub lines_at : List Placement → ℕ → LinesValue
+lines_at places k = (placement_at places k).lines
 
 -- a box with this shape and place, if it is a float
 abbrev pub float_of : Shape → Place → List Placed
@@ -62,16 +94,39 @@ float_of s p = on_side s.float
     on_side None = []
     on_side (Some side) = record { side = side; x = p.x; y = p.y; width = s.width; height = s.height } ∷ []
 
+-- the floats after a box, where these were before it: those that its lines leave, or one more if it is a float itself
+abbrev pub floats_after : List Placed → Inside → Shape → Placement → List Placed
+floats_after floats blocks_inside s p = floats ++ float_of s p.place
+floats_after floats lines_inside s p = p.lines.floats
+floats_after floats solid_inside s p = floats ++ float_of s p.place
+
 -- the floats before the box at k, as they stand
-abbrev pub floats_before : List FlowBox → List Place → ℕ → List Placed
+abbrev pub floats_before : List FlowBox → List Placement → ℕ → List Placed
 floats_before boxes places zero = []
-floats_before boxes places (suc k) = floats_before boxes places k ++ float_of (shape_at boxes k) (place_at places k)
+floats_before boxes places (suc k) = floats_after (floats_before boxes places k) (block_at boxes k).inside (shape_at boxes k) (placement_at places k)
 
 -- a float stands at no place above its mark, nor above the top of its containing block's content
 abbrev pub ceiling : List FlowBox → List Length → ℕ → ℤ
 ceiling boxes marks k =
     let p = parent_at boxes k in
     int_max (length_at marks k) (length_at marks p +ℤ (block_at boxes p).edge_top.0)
+
+abbrev pub no_content : LineContentValue
+no_content = record { strut = record { above = no_length; below = no_length }; indent = no_length; tab = no_length; stretches = [] }
+
+abbrev pub line_content_of : FlowKind → LineContentValue
+line_content_of (block b) = no_content
+line_content_of (lines l) = l.content
+line_content_of (solid b) = no_content
+line_content_of (float b) = no_content
+line_content_of (line_float b) = no_content
+line_content_of inline = no_content
+
+-- the box at k has its lines in its content box, beside the floats before it (9.4.2 and 9.5)
+abbrev pub AreLinesAt : List FlowBox → List Length → List Placement → ℕ → Type 0
+AreLinesAt boxes marks places k =
+    let kind = (box_at boxes k).kind in
+    AreLines (line_content_of kind) (content_of kind).left (content_of kind).right (length_at marks k +ℤ (block_at boxes k).edge_top.0) (floats_before boxes places k) (lines_at places k)
 
 -- what a float with this shape asks for
 abbrev pub float_request : Shape → Side → ℤ → FloatReq

@@ -23,7 +23,7 @@ use Rattle.lay_heights.specs.MinMax.{with_min_max_of}
 use Rattle.lay_margins.specs.Collapse.{collapse}
 use Rattle.lay_flow.specs.declared.block.Block.{Block}
 use Rattle.lay_flow.specs.declared.block.Inside.{Inside}
-use Rattle.lay_flow.specs.declared.block.Inside.TheVariants.{Blocks as blocks_inside, Solid as solid_inside}
+use Rattle.lay_flow.specs.declared.block.Inside.TheVariants.{Blocks as blocks_inside, Lines as lines_inside, Solid as solid_inside}
 use Rattle.lay_flow.specs.Lengths.{length_at}
 use Rattle.lay_flow.specs.Children.{last_child, flag_at}
 use Rattle.lay_flow.specs.MarginRuns.{Runs, margins, has_top, block_at, run_at, parts_tops, joins_bottom, run_before}
@@ -39,8 +39,9 @@ pub record Positions : Type 0 where
 
 -- What is in the boxes of a context beside their blocks.
 pub record Extents : Type 0 where
-  -- how far the bottom border edge of a solid box lies below its mark, and 0 for other boxes
-  pub solid : List Length
+  -- how far the bottom border edge of a solid box lies below its mark, and the end of the lines in a box below the top of
+  -- its content, and 0 for other boxes
+  pub depths : List Length
   -- the lowest bottom of the context's floats, if it has any
   pub floats : Option Length
 
@@ -88,32 +89,42 @@ content_top boxes at k = record { 0 = length_at at.marks k +ℤ (block_at boxes 
 abbrev pub margin_bottom : Runs → Positions → ℕ → Length
 margin_bottom r at c = record { 0 = start_below r at c +ℤ collapse (margins (run_at r.to_bottoms c)) }
 
--- where the content of the box may end (10.6.3): with the bottom margin of its last child, where that doesn't adjoin
--- the box's own, and with the border of that child. No box holds lines yet.
-abbrev pub ends_of : List FlowBox → Runs → Positions → ℕ → FlowEnds
-ends_of boxes r at k = after (last_child boxes k (length boxes))
+-- where the lines of the box end, if it holds lines
+abbrev pub line_end : Inside → Length → ℤ → Option Length
+line_end blocks_inside top depth = None
+line_end lines_inside top depth = Some (record { 0 = top.0 +ℤ depth })
+line_end solid_inside top depth = None
+
+abbrev pub line_end_of : List FlowBox → Extents → Positions → ℕ → Option Length
+line_end_of boxes extents at k = line_end (block_at boxes k).inside (content_top boxes at k) (length_at extents.depths k)
+
+-- where the content of the box may end (10.6.3): with its last line, with the bottom margin of its last child, where that
+-- doesn't adjoin the box's own, and with the border of that child
+abbrev pub ends_of : List FlowBox → Runs → Extents → Positions → ℕ → FlowEnds
+ends_of boxes r extents at k = after (last_child boxes k (length boxes))
   where
     after : Option ℕ → FlowEnds
-    after None = record { top = content_top boxes at k; line = None; margin = None; border = None }
+    after None = record { top = content_top boxes at k; line = line_end_of boxes extents at k; margin = None; border = None }
     after (Some c) = record {
       top = content_top boxes at k;
-      line = None;
+      line = line_end_of boxes extents at k;
       margin = if joins_bottom boxes r k then None else Some (margin_bottom r at c);
       border = Some (record { 0 = start_below r at c });
     }
 
--- where the last margin in the context's own box ends
-abbrev pub root_end : List FlowBox → Runs → Positions → Length
-root_end boxes r at = after (last_child boxes 0 (length boxes))
+-- where the last line in the context's own box ends, or the last margin in it
+abbrev pub root_end : List FlowBox → Runs → Extents → Positions → Length
+root_end boxes r extents at = after (line_end_of boxes extents at 0) (last_child boxes 0 (length boxes))
   where
-    after : Option ℕ → Length
-    after None = content_top boxes at 0
-    after (Some c) = margin_bottom r at c
+    after : Option Length → Option ℕ → Length
+    after (Some line) child = line
+    after None None = content_top boxes at 0
+    after None (Some c) = margin_bottom r at c
 
 -- the auto height of the content of the box: that of the context's own box by 10.6.7, and of others by 10.6.3
-abbrev pub content_height : List FlowBox → Runs → Option Length → Positions → ℕ → ℤ
-content_height boxes r floats at zero = root_height_of (content_top boxes at 0) (root_end boxes r at) floats
-content_height boxes r floats at (suc k) = auto_height_of (ends_of boxes r at (suc k))
+abbrev pub content_height : List FlowBox → Runs → Extents → Positions → ℕ → ℤ
+content_height boxes r extents at zero = root_height_of (content_top boxes at 0) (root_end boxes r extents at) extents.floats
+content_height boxes r extents at (suc k) = auto_height_of (ends_of boxes r extents at (suc k))
 
 abbrev pub given_or_auto : Len → ℤ → ℤ
 given_or_auto auto height = height
@@ -121,7 +132,19 @@ given_or_auto (of given) height = given.0
 
 abbrev pub is_solid : Inside → Bool
 is_solid blocks_inside = false
+is_solid lines_inside = false
 is_solid solid_inside = true
+
+abbrev pub is_lines : Inside → Bool
+is_lines blocks_inside = false
+is_lines lines_inside = true
+is_lines solid_inside = false
+
+-- what is in the box is no part of the blocks, and its depth is known once the box stands
+abbrev pub is_placed : Inside → Bool
+is_placed blocks_inside = false
+is_placed lines_inside = true
+is_placed solid_inside = true
 
 -- the height of a border box, where that of its content is given if it is auto (10.7). That of a solid box is its extent:
 -- how far its bottom border edge lies below its mark.
@@ -133,7 +156,7 @@ border_height b extent content =
 abbrev pub height_of : List FlowBox → Runs → Extents → Positions → ℕ → ℤ
 height_of boxes r extents at k =
     if flag_at r.through k then pos 0
-    else border_height (block_at boxes k) (length_at extents.solid k) (content_height boxes r extents.floats at k)
+    else border_height (block_at boxes k) (length_at extents.depths k) (content_height boxes r extents at k)
 
 -- these are the positions and the heights, where the runs, the extents and the clear edges are given
 pub record HasPositions (boxes : List FlowBox) (r : Runs) (extents : Extents) (clear_edges : List Length) (at : Positions) : Type 0 where

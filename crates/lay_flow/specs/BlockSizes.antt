@@ -12,9 +12,9 @@ IsInset v = (pos 0 ≤ℤ v) × (v ≤ℤ pos 4294967296)
 abbrev pub IsBoxSize : ℤ → Type 0
 IsBoxSize v = (pos 0 ≤ℤ v) × (v ≤ℤ pos 10737418240)
 
--- at most 2^53 units from 0
+-- at most 2^60 units from 0
 abbrev pub IsNear : ℤ → Type 0
-IsNear v = (neg_ℤ (pos 9007199254740992) ≤ℤ v) × (v ≤ℤ pos 9007199254740992)
+IsNear v = (neg_ℤ (pos 1152921504606846976) ≤ℤ v) × (v ≤ℤ pos 1152921504606846976)
 
 -- used margins, a border and a padding on each side, and a given height and a minimum that are used sizes
 pub record BlockFits (b : Block) : Type 0 where

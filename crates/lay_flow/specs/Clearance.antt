@@ -17,15 +17,14 @@ use Rattle.std.specs.Int.{int_max}
 use Rattle.lay_flow.specs.declared.flow_box.FlowBox.{FlowBox}
 use Rattle.lay_units.specs.declared.length.Unit.{Unit as Length}
 use Rattle.lay_floats.specs.declared.requests.Side.{Side}
-use Rattle.lay_floats.specs.declared.requests.Place.{Place}
 use Rattle.lay_floats.specs.ClearEdge.{Clears, IsClearEdge}
 use Rattle.lay_floats.specs.FloatPlace.{IsFloatPlace}
-use Rattle.lay_flow.specs.BlockPositions.{Extents}
+use Rattle.lay_flow.specs.BlockPositions.{Extents, is_lines}
 use Rattle.lay_flow.specs.Lengths.{length_at}
 use Rattle.lay_flow.specs.Children.{flag_at}
-use Rattle.lay_flow.specs.MarginRuns.{Entry, has_top, run_at}
+use Rattle.lay_flow.specs.MarginRuns.{Entry, block_at, has_top, run_at}
 use Rattle.lay_flow.specs.BlockLayout.{BlockLayout, IsBlockLayout}
-use Rattle.lay_flow.specs.BlockFloats.{ceiling, float_request, floats_before, place_at, shape_at}
+use Rattle.lay_flow.specs.BlockFloats.{AreLinesAt, Placement, ceiling, float_request, floats_before, place_at, shape_at}
 
 -- the hypothetical layout of the box at k
 pub record IsHypothetical (boxes : List FlowBox) (extents : Extents) (clear_edges : List Length) (y : BlockLayout) (k : ℕ) (without : BlockLayout) : Type 0 where
@@ -46,17 +45,19 @@ IsAbove hypothetical bottom = (v : Length) × (bottom ≡ Some v) × (hypothetic
 abbrev pub NeedsClearance : List FlowBox → BlockLayout → ℕ → Option Length → Type 0
 NeedsClearance boxes without k bottom = HasClearedFloat boxes k (run_at without.runs.before_tops k) ⊎ IsAbove (length_at without.places.marks k) bottom
 
--- the floats before the box at k stand by these marks. By those of its hypothetical layout, it is where they stand in that.
-abbrev pub AreFloatPlaces : List FlowBox → List Length → List Place → ℕ → Type 0
-AreFloatPlaces boxes marks places k = (j : ℕ) (side : Side) → 0 < j → j < k → (shape_at boxes j).float ≡ Some side
-    → IsFloatPlace (floats_before boxes places j) (float_request (shape_at boxes j) side (ceiling boxes marks j)) (place_at places j).x.0 (place_at places j).y.0
+-- the floats before the box at k stand by these marks, those in lines too. By those of its hypothetical layout, it is where
+-- they stand in that.
+pub record AreFloatPlaces (boxes : List FlowBox) (marks : List Length) (places : List Placement) (k : ℕ) : Type 0 where
+  pub float : (j : ℕ) (side : Side) → 0 < j → j < k → (shape_at boxes j).float ≡ Some side
+      → IsFloatPlace (floats_before boxes places j) (float_request (shape_at boxes j) side (ceiling boxes marks j)) (place_at places j).x.0 (place_at places j).y.0
+  pub lines : (j : ℕ) → j < k → is_lines (block_at boxes j).inside ≡ true → AreLinesAt boxes marks places j
 
 abbrev pub lower_of : Option Length → ℤ → ℤ
 lower_of None hypothetical = hypothetical
 lower_of (Some bottom) hypothetical = int_max bottom.0 hypothetical
 
 -- whether the box at k has clearance, and its clear edge
-pub record HasClearance (boxes : List FlowBox) (extents : Extents) (clear_edges : List Length) (places : List Place) (y : BlockLayout) (k : ℕ) : Type 0 where
+pub record HasClearance (boxes : List FlowBox) (extents : Extents) (clear_edges : List Length) (places : List Placement) (y : BlockLayout) (k : ℕ) : Type 0 where
   pub without : BlockLayout
   pub is_hypothetical : IsHypothetical boxes extents clear_edges y k without
   -- the lowest bottom of the floats to clear

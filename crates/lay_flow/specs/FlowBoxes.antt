@@ -1,12 +1,13 @@
--- What is known of the boxes of a block formatting context (CSS 2.2, 9.4.1): they are a tree of 1 to 16384 boxes, boxes
--- stand in block boxes alone, and the used values of each lie within their bounds.
-use Rattle.std.specs.Prelude.{ℕ, ◌≡◌, ◌<◌, ◌≤◌, pos, Bool, true, false, ℤ, List, length}
+-- What is known of the boxes of a block formatting context (CSS 2.2, 9.4.1 and 9.4.2): they are a tree, boxes stand in block
+-- boxes alone, those of lines stand in the box with the lines, the used values of each lie within their bounds, and all
+-- together weigh at most 2^23, so that they are at most so many.
+use Rattle.std.specs.Prelude.{ℕ, ◌≡◌, ◌<◌, ◌≤◌, pos, Bool, true, false, not, ⊤, ℤ, List, length}
 use Rattle.lay_units.specs.Units.{IsUsed, IsUsedSize}
 use Rattle.lay_doc.specs.Tree.{IsTree}
 use Rattle.lay_floats.specs.Within.{IsWithin}
 use Rattle.lay_flow.specs.declared.flow_box.FlowBox.{FlowBox}
 use Rattle.lay_flow.specs.declared.flow_box.FlowKind.{FlowKind}
-use Rattle.lay_flow.specs.declared.flow_box.FlowKind.TheVariants.{Block as block, Solid as solid, Float as float}
+use Rattle.lay_flow.specs.declared.flow_box.FlowKind.TheVariants.{Block as block, Lines as lines, Solid as solid, Float as float, LineFloat as line_float, Inline as inline}
 use Rattle.lay_flow.specs.declared.flow_box.BlockBox.{BlockBox}
 use Rattle.lay_flow.specs.declared.flow_box.SolidBox.{SolidBox}
 use Rattle.lay_flow.specs.declared.flow_box.FloatBox.{FloatBox}
@@ -14,11 +15,34 @@ use Rattle.lay_flow.specs.declared.flow_box.Vertical.{Vertical}
 use Rattle.lay_flow.specs.Boxes.{box_at, parent_at, parents_of}
 use Rattle.lay_flow.specs.BlockSizes.{IsInset, IsBoxSize}
 use Rattle.lay_flow.specs.BlockPositions.{given_or_auto}
+use Rattle.lay_flow.specs.Weights.{weight}
 
+-- it stands in lines
+abbrev pub is_in_lines : FlowKind → Bool
+is_in_lines (block b) = false
+is_in_lines (lines l) = false
+is_in_lines (solid b) = false
+is_in_lines (float b) = false
+is_in_lines (line_float b) = true
+is_in_lines inline = true
+
+-- it may be the context's own box
 abbrev pub is_block : FlowKind → Bool
 is_block (block b) = true
+is_block (lines l) = true
 is_block (solid b) = false
 is_block (float b) = false
+is_block (line_float b) = false
+is_block inline = false
+
+-- the first may be the parent of the second
+abbrev pub may_hold : FlowKind → FlowKind → Bool
+may_hold (block b) child = not (is_in_lines child)
+may_hold (lines l) child = is_in_lines child
+may_hold (solid b) child = false
+may_hold (float b) child = false
+may_hold (line_float b) child = false
+may_hold inline child = false
 
 -- a vertical edge: at most 2^49 units from the origin
 abbrev pub IsEdge : ℤ → Type 0
@@ -54,17 +78,20 @@ pub record FloatBoxFits (b : FloatBox) : Type 0 where
 
 abbrev pub KindFits : FlowKind → Type 0
 KindFits (block b) = BlockBoxFits b
+KindFits (lines l) = BlockBoxFits l.block
 KindFits (solid b) = SolidBoxFits b
 KindFits (float b) = FloatBoxFits b
+KindFits (line_float b) = FloatBoxFits b
+KindFits inline = ⊤
 
--- they are a tree, in which boxes stand in block boxes
+-- they are a tree, in which boxes stand in block boxes, and those of lines in a box that holds lines
 pub record IsFlowTree (boxes : List FlowBox) : Type 0 where
   pub some : 0 < length boxes
   pub tree : IsTree (parents_of boxes)
   pub root : is_block (box_at boxes 0).kind ≡ true
-  pub parent : (k : ℕ) → 0 < k → k < length boxes → is_block (box_at boxes (parent_at boxes k)).kind ≡ true
+  pub parent : (k : ℕ) → 0 < k → k < length boxes → may_hold (box_at boxes (parent_at boxes k)).kind (box_at boxes k).kind ≡ true
 
 pub record AreFlowBoxes (boxes : List FlowBox) : Type 0 where
   pub is_tree : IsFlowTree boxes
-  pub few : length boxes ≤ 16384
+  pub light : weight boxes (length boxes) ≤ 8388608
   pub fits : (k : ℕ) → k < length boxes → KindFits (box_at boxes k).kind

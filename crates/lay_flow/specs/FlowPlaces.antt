@@ -1,16 +1,20 @@
--- Where the boxes of a block formatting context stand (CSS 2.2, 9.4.1 and 9.5): the corner and the height of each border box.
--- A block stands with its top border edge at its mark, a float with its margin box and a solid box with its border box at
--- its place.
-use Rattle.std.specs.Prelude.{ℕ, ◌≡◌, ◌<◌, ◌+ℤ◌, List, length, slice_index_or}
+-- Where the boxes of a block formatting context stand (CSS 2.2, 9.4.1 and 9.5): the corner and the height of each border box,
+-- and the lines in it. A block stands with its top border edge at its mark, a float with its margin box and a solid box with
+-- its border box at its place. A float that lines met stands where they put it. What else stands in lines has no place here.
+use Rattle.std.specs.Prelude.{ℕ, ◌≡◌, ◌<◌, ◌==◌, ◌+ℤ◌, pos, List, [], ◌∷◌, ◌++◌, All, length, map, slice_index_or, if◌then◌else◌}
 use Rattle.lay_units.specs.declared.length.Unit.{Unit as Length}
+use Rattle.lay_floats.specs.declared.requests.NodePlace.{NodePlace}
 use Rattle.lay_floats.specs.declared.requests.Place.{Place}
+use Rattle.lay_lines.specs.Lines.{RowWithin}
+use Rattle.lay_lines.specs.declared.row.Ended.{Ended}
 use Rattle.lay_flow.specs.declared.flow_box.FlowBox.{FlowBox}
+use Rattle.lay_flow.specs.declared.flow_box.FloatBox.{FloatBox}
 use Rattle.lay_flow.specs.declared.flow_box.FlowKind.{FlowKind}
-use Rattle.lay_flow.specs.declared.flow_box.FlowKind.TheVariants.{Block as block, Solid as solid, Float as float}
+use Rattle.lay_flow.specs.declared.flow_box.FlowKind.TheVariants.{Block as block, Lines as lines, Solid as solid, Float as float, LineFloat as line_float, Inline as inline}
 use Rattle.lay_flow.specs.declared.flow_places.BoxPlace.{BoxPlace}
 use Rattle.lay_flow.specs.Lengths.{no_length, length_at}
 use Rattle.lay_flow.specs.Boxes.{box_at}
-use Rattle.lay_flow.specs.BlockFloats.{no_place, place_at}
+use Rattle.lay_flow.specs.BlockFloats.{Placement, no_place, place_at}
 use Rattle.lay_flow.specs.BlockSizes.{IsBoxSize, IsNear}
 use Rattle.lay_flow.specs.ContextFlow.{Flow, IsContextFlow}
 
@@ -20,28 +24,54 @@ no_box_place = record { corner = no_place; height = no_length }
 abbrev pub box_place_at : List BoxPlace → ℕ → BoxPlace
 box_place_at places k = slice_index_or places k no_box_place
 
--- for a box with this mark, height and place in the flow
-abbrev pub border_box : FlowKind → Length → Length → Place → BoxPlace
-border_box (block b) mark height place = record { corner = record { x = b.x; y = mark }; height = height }
-border_box (solid b) mark height place = record { corner = place; height = b.height }
-border_box (float b) mark height place = record {
+-- the border boxes, and the lines of each box
+pub record FlowPlacesValue : Type 0 where
+  pub boxes : List BoxPlace
+  pub lines : List (List Ended)
+
+-- the places of the floats that lines met, box after box
+abbrev pub line_places : List Placement → List NodePlace
+line_places [] = []
+line_places (p ∷ ps) = p.lines.places ++ line_places ps
+
+-- the place that comes last with this number, or this one where there is none
+abbrev pub place_or : Place → ℕ → List NodePlace → Place
+place_or p k [] = p
+place_or p k (q ∷ qs) = place_or (if q.node == k then q.place else p) k qs
+
+-- where lines put the box at k
+abbrev pub place_in_lines : List Placement → ℕ → Place
+place_in_lines places k = place_or no_place k (line_places places)
+
+abbrev pub float_box : FloatBox → Place → BoxPlace
+float_box b place = record {
   corner = record { x = record { 0 = place.x.0 +ℤ b.margin.left.0 }; y = record { 0 = place.y.0 +ℤ b.margin.top.0 } };
   height = b.height;
 }
 
--- these are the places of the boxes with these marks, heights and places in the flow
-pub record ArePlacesOf (boxes : List FlowBox) (marks heights : List Length) (places : List Place) (out : List BoxPlace) : Type 0 where
-  pub count : length out ≡ length boxes
-  pub each : (k : ℕ) → k < length boxes → box_place_at out k
-      ≡ border_box (box_at boxes k).kind (record { 0 = length_at marks k }) (record { 0 = length_at heights k }) (place_at places k)
+-- for a box with this mark and height, this place in the flow and this one in lines
+abbrev pub border_box : FlowKind → Length → Length → Place → Place → BoxPlace
+border_box (block b) mark height place in_lines = record { corner = record { x = b.x; y = mark }; height = height }
+border_box (lines l) mark height place in_lines = record { corner = record { x = l.block.x; y = mark }; height = height }
+border_box (solid b) mark height place in_lines = record { corner = place; height = b.height }
+border_box (float b) mark height place in_lines = float_box b place
+border_box (line_float b) mark height place in_lines = float_box b in_lines
+border_box inline mark height place in_lines = no_box_place
+
+-- these are the places of the boxes with these marks, heights and placements in the flow
+pub record ArePlacesOf (boxes : List FlowBox) (marks heights : List Length) (places : List Placement) (out : FlowPlacesValue) : Type 0 where
+  pub count : length out.boxes ≡ length boxes
+  pub each : (k : ℕ) → k < length boxes → box_place_at out.boxes k
+      ≡ border_box (box_at boxes k).kind (record { 0 = length_at marks k }) (record { 0 = length_at heights k }) (place_at places k) (place_in_lines places k)
+  pub lines : out.lines ≡ map (λ p. p.lines.rows) places
 
 -- these are the places of the boxes of a context
-pub record IsFlowOf (boxes : List FlowBox) (out : List BoxPlace) : Type 0 where
+pub record IsFlowOf (boxes : List FlowBox) (out : FlowPlacesValue) : Type 0 where
   pub flow : Flow
   pub is_flow : IsContextFlow boxes flow
   pub places : ArePlacesOf boxes flow.layout.places.marks flow.layout.places.heights flow.places out
 
--- corners at most 2^53 units away, and heights of border boxes
+-- corners at most 2^60 units away, and heights of border boxes
 pub record IsNearPlace (p : BoxPlace) : Type 0 where
   pub x : IsNear p.corner.x.0
   pub y : IsNear p.corner.y.0
@@ -49,3 +79,7 @@ pub record IsNearPlace (p : BoxPlace) : Type 0 where
 
 abbrev pub AreNearPlaces : List BoxPlace → Type 0
 AreNearPlaces places = (k : ℕ) → k < length places → IsNearPlace (box_place_at places k)
+
+-- the tops of lines and where they end are at most 2^60 units away
+abbrev pub AreNearRows : List (List Ended) → Type 0
+AreNearRows lines = All (λ rows. All (RowWithin (pos 1152921504606846976)) rows) lines

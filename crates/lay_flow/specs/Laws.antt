@@ -7,14 +7,12 @@ use Rattle.lay_flow.specs.declared.flow_box.FlowBox.{FlowBox}
 use Rattle.lay_flow.specs.Boxes.{parents_of}
 use Rattle.lay_units.specs.declared.length.Unit.{Unit as Length}
 use Rattle.lay_doc.specs.Tree.{IsTree}
-use Rattle.lay_floats.specs.declared.requests.Place.{Place}
 use Rattle.lay_floats.specs.ClearEdge.{IsClearEdge}
 use Rattle.lay_flow.specs.FlowBoxes.{IsFlowTree}
 use Rattle.lay_flow.specs.Clearance.{AreFloatPlaces, IsHypothetical, NeedsClearance}
-use Rattle.lay_flow.specs.BlockFloats.{floats_before, shape_at}
+use Rattle.lay_flow.specs.BlockFloats.{Placement, floats_before, shape_at}
 use Rattle.lay_flow.specs.ContextFlow.{Flow, IsContextFlow}
-use Rattle.lay_flow.specs.declared.flow_places.BoxPlace.{BoxPlace}
-use Rattle.lay_flow.specs.FlowPlaces.{IsFlowOf}
+use Rattle.lay_flow.specs.FlowPlaces.{FlowPlacesValue, IsFlowOf}
 use Rattle.lay_flow.specs.BlockPositions.{Extents}
 use Rattle.lay_flow.specs.BlockLayout.{BlockLayout, IsBlockLayout}
 
@@ -33,7 +31,7 @@ OneContextFlow = (boxes : List FlowBox) (f g : Flow) → IsFlowTree boxes → Is
 
 -- and its boxes have one place each
 abbrev pub OneFlowOf : Type 0
-OneFlowOf = (boxes : List FlowBox) (places others : List BoxPlace) → IsFlowTree boxes → IsFlowOf boxes places → IsFlowOf boxes others → places ≡ others
+OneFlowOf = (boxes : List FlowBox) (out other : FlowPlacesValue) → IsFlowTree boxes → IsFlowOf boxes out → IsFlowOf boxes other → out ≡ other
 
 -- a box has one hypothetical layout and no other
 abbrev pub OneHypothetical : Type 0
@@ -46,7 +44,7 @@ SomeHypothetical = (boxes : List FlowBox) (extents : Extents) (clear_edges : Lis
 
 -- the floats as they stand in the hypothetical layout of a box and those of the flow decide alike whether the box has clearance
 abbrev pub OneTest : Type 0
-OneTest = (boxes : List FlowBox) (f : Flow) (k : ℕ) (without : BlockLayout) (places : List Place) (bottom other : Option Length) → IsFlowTree boxes → IsContextFlow boxes f → 0 < k → k < length boxes
+OneTest = (boxes : List FlowBox) (f : Flow) (k : ℕ) (without : BlockLayout) (places : List Placement) (bottom other : Option Length) → IsFlowTree boxes → IsContextFlow boxes f → 0 < k → k < length boxes
     → IsHypothetical boxes f.extents f.clear_edges f.layout k without → AreFloatPlaces boxes without.places.marks places k
     → IsClearEdge (floats_before boxes places k) (shape_at boxes k).clear bottom → IsClearEdge (floats_before boxes f.places k) (shape_at boxes k).clear other
     → NeedsClearance boxes without k bottom ↔ NeedsClearance boxes without k other

@@ -6,6 +6,7 @@ pub mod Adjoining
 pub mod BlockPositions
 pub mod BlockLayout
 pub mod BlockSizes
+pub mod Weights
 pub mod FlowBoxes
 pub mod BlockFloats
 pub mod Clearance

@@ -20,23 +20,30 @@ use Rattle.lay_flow.specs.declared.flow_box.FlowBox.{FlowBox}
 use Rattle.lay_flow.specs.Boxes.{box_at, parent_at}
 use Rattle.lay_units.specs.declared.records.Len.{Len}
 use Rattle.lay_units.specs.declared.records.Len.TheVariants.{Auto as auto, Of as of}
+use Rattle.lay_flow.specs.declared.flow_box.BlockBox.{BlockBox}
 use Rattle.lay_flow.specs.declared.flow_box.FlowKind.{FlowKind}
-use Rattle.lay_flow.specs.declared.flow_box.FlowKind.TheVariants.{Block as block, Solid as solid, Float as float}
+use Rattle.lay_flow.specs.declared.flow_box.FlowKind.TheVariants.{Block as block, Lines as lines, Solid as solid, Float as float, LineFloat as line_float, Inline as inline}
 use Rattle.lay_flow.specs.declared.block.Block.{Block}
 use Rattle.lay_flow.specs.declared.block.Inside.{Inside}
-use Rattle.lay_flow.specs.declared.block.Inside.TheVariants.{Blocks as blocks_inside, Solid as solid_inside}
+use Rattle.lay_flow.specs.declared.block.Inside.TheVariants.{Blocks as blocks_inside, Lines as lines_inside, Solid as solid_inside}
 use Rattle.lay_flow.specs.Children.{last_child, next_child, flag_at}
 use Rattle.lay_flow.specs.Lengths.{no_length}
 
 abbrev pub no_block : Block
 no_block = record { margin_top = no_length; margin_bottom = no_length; edge_top = no_length; edge_bottom = no_length; height = auto; min_height = no_length; max_height = None; inside = blocks_inside }
 
+abbrev pub block_with : BlockBox → Inside → Block
+block_with b inside = record { margin_top = b.margin.top; margin_bottom = b.margin.bottom; edge_top = b.inset.top; edge_bottom = b.inset.bottom; height = b.height.given; min_height = b.height.min; max_height = b.height.max; inside = inside }
+
 -- a box as margins and heights see it. A float stands among the blocks as an empty one: its mark is that which such a block
--- has there.
+-- has there. So does what stands in lines: the box with the lines has all that counts.
 abbrev pub block_of : FlowKind → Block
-block_of (block b) = record { margin_top = b.margin.top; margin_bottom = b.margin.bottom; edge_top = b.inset.top; edge_bottom = b.inset.bottom; height = b.height.given; min_height = b.height.min; max_height = b.height.max; inside = blocks_inside }
+block_of (block b) = block_with b blocks_inside
+block_of (lines l) = block_with l.block lines_inside
 block_of (solid b) = record { margin_top = b.margin.top; margin_bottom = b.margin.bottom; edge_top = no_length; edge_bottom = no_length; height = auto; min_height = no_length; max_height = None; inside = solid_inside }
 block_of (float b) = no_block
+block_of (line_float b) = no_block
+block_of inline = no_block
 
 abbrev pub block_at : List FlowBox → ℕ → Block
 block_at boxes k = block_of (box_at boxes k).kind
@@ -78,6 +85,7 @@ is_zero (negsuc n) = false
 
 abbrev pub is_blocks : Inside → Bool
 is_blocks blocks_inside = true
+is_blocks lines_inside = false
 is_blocks solid_inside = false
 
 abbrev pub is_auto : Len → Bool

@@ -6,5 +6,6 @@ pub mod Bounds
 pub mod LookAhead
 pub mod Placed
 pub mod Knows
+pub mod Known
 pub mod Clears
 pub mod Columns

@@ -1,7 +1,7 @@
 //! Boxes as margins and heights see them.
 
 ghost use Rattle.std.specs.Prelude.{◌≡◌};
-ghost use Rattle.lay_flow.specs.MarginRuns.{block_of, no_block};
+ghost use Rattle.lay_flow.specs.MarginRuns.{block_of, block_with, no_block};
 
 use crate::flow_box::{BlockBox, FlowBox, FlowKind, SolidBox};
 use lay_units::{Len, Unit};
@@ -11,6 +11,8 @@ use lay_units::{Len, Unit};
 pub(crate) enum Inside {
     /// Boxes of the context, or nothing.
     Blocks,
+    /// Lines.
+    Lines,
     /// What is no part of the context.
     Solid,
 }
@@ -48,24 +50,34 @@ impl FlowBox {
     pub(crate) fn block(&self) -> Block
         ensures { result ≡ block_of self.now.kind }
     {
-        match self.kind {
-            FlowKind::Block(b) => Block {
-                margin_top: b.margin.top,
-                margin_bottom: b.margin.bottom,
-                edge_top: b.inset.top,
-                edge_bottom: b.inset.bottom,
-                height: b.height.given,
-                min_height: b.height.min,
-                max_height: b.height.max,
-                inside: Inside::Blocks,
-            },
+        match &self.kind {
+            FlowKind::Block(b) => b.block(Inside::Blocks),
+            FlowKind::Lines(l) => l.block.block(Inside::Lines),
             FlowKind::Solid(b) => Block {
                 margin_top: b.margin.top,
                 margin_bottom: b.margin.bottom,
                 inside: Inside::Solid,
                 ..NO_BLOCK
             },
-            FlowKind::Float(_) => NO_BLOCK,
+            FlowKind::Float(_) | FlowKind::LineFloat(_) | FlowKind::Inline => NO_BLOCK,
+        }
+    }
+}
+
+impl BlockBox {
+    // It as margins and heights see it, with this in it.
+    fn block(&self, inside: Inside) -> Block
+        ensures { result ≡ block_with self.now inside }
+    {
+        Block {
+            margin_top: self.margin.top,
+            margin_bottom: self.margin.bottom,
+            edge_top: self.inset.top,
+            edge_bottom: self.inset.bottom,
+            height: self.height.given,
+            min_height: self.height.min,
+            max_height: self.height.max,
+            inside,
         }
     }
 }

@@ -1,10 +1,11 @@
 //! The heights of blocks whose content is known (CSS 2.2, 10.6.3, 10.6.7 and 10.7).
 
-ghost use Rattle.std.specs.Prelude.{◌≡◌, ◌-ℤ◌, ◌+ℤ◌, false, pos, IfSome};
+ghost use Rattle.std.specs.Prelude.{◌≡◌, ◌-ℤ◌, ◌+ℤ◌, false, true, pos, IfSome};
 ghost use Rattle.lay_units.specs.Units.{IsPosition, IsUsedSize};
 ghost use Rattle.lay_heights.specs.AutoHeights.{EndsFit, auto_height_of, root_height_of};
 ghost use Rattle.lay_heights.specs.MinMax.{with_min_max_of};
-ghost use Rattle.lay_flow.specs.BlockPositions.{border_height, given_or_auto, is_solid};
+ghost use Rattle.lay_flow.specs.BlockPositions.{border_height, given_or_auto, is_lines, is_solid, line_end};
+ghost use Rattle.lay_flow.specs.Pass.Bounds.{IsLineDepth, held_end, held_height};
 ghost use Rattle.lay_flow.specs.BlockSizes.{BlockFits, IsInset, IsBoxSize, IsNear};
 
 use crate::block::Block;
@@ -33,24 +34,38 @@ impl Block {
         )
     }
 
-    /// The height of its border box, which stands at the mark, where its content ends with the bottom margin of
-    /// its last child.
+    /// The height of its border box, which stands at the mark, where its content ends with its last line, or else
+    /// with the bottom margin of its last child.
     pub(crate) fn height_to_margin(&self, extent: Unit, mark: Unit, margin: Unit) -> Unit
         requires block { BlockFits self.now }
         requires mark { IsNear mark.0 }
         requires margin { IsNear margin.0 }
-        ensures value { result.0 ≡ border_height self.now extent.0 (margin.0 -ℤ (mark.0 +ℤ self.now.edge_top.0)) }
+        requires lines { is_lines self.now.inside ≡ true → IsLineDepth mark.0 self.now.edge_top.0 extent.0 }
+        ensures value { result.0 ≡ border_height self.now extent.0 (held_height self.now.inside extent.0 (margin.0 -ℤ (mark.0 +ℤ self.now.edge_top.0))) }
         ensures size { is_solid self.now.inside ≡ false → IsBoxSize result.0 }
     {
+        let top = sum_of(mark, self.edge_top);
         self.height_to(
             extent,
             &FlowEnds {
-                top: sum_of(mark, self.edge_top),
-                line: None,
+                top,
+                line: self.line_end(top, extent),
                 margin: Some(margin),
                 border: None,
             },
         )
+    }
+
+    // Where its lines end.
+    fn line_end(&self, top: Unit, depth: Unit) -> Option<Unit>
+        requires top { IsPosition top.0 }
+        requires depth { is_lines self.now.inside ≡ true → IsPosition depth.0 }
+        ensures { result ≡ line_end self.now.inside top depth.0 }
+    {
+        if self.inside.is_lines() {
+            return Some(sum_of(top, depth));
+        }
+        None
     }
 
     fn height_to(&self, extent: Unit, ends: &FlowEnds) -> Unit
@@ -65,7 +80,21 @@ impl Block {
         self.framed(auto_height_flow(ends))
     }
 
-    /// The height of the border box of the context's own box, whose margins end at `end`, and its floats at a lowest
+    /// Where the content of the context's own box ends, which stands at the mark: with its last line, or else with the
+    /// last margin.
+    pub(crate) fn root_end(&self, extent: Unit, mark: Unit, margin: Unit) -> Unit
+        requires block { BlockFits self.now }
+        requires mark { IsNear mark.0 }
+        requires margin { IsNear margin.0 }
+        requires lines { is_lines self.now.inside ≡ true → IsLineDepth mark.0 self.now.edge_top.0 extent.0 }
+        ensures value { result.0 ≡ held_end self.now.inside (mark.0 +ℤ self.now.edge_top.0) extent.0 margin.0 }
+        ensures near { IsNear result.0 }
+    {
+        self.line_end(sum_of(mark, self.edge_top), extent)
+            .unwrap_or(margin)
+    }
+
+    /// The height of the border box of the context's own box, whose content ends at `end`, and its floats at a lowest
     /// bottom.
     pub(crate) fn root_height(&self, mark: Unit, end: Unit, floats: Option<Unit>) -> Unit
         requires block { BlockFits self.now }

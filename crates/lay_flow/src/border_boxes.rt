@@ -3,33 +3,32 @@
 ghost use Rattle.std.specs.Prelude.{◌≡◌, ◌<◌, ◌+ℤ◌, pos, false, length, IfOk};
 ghost use Rattle.lay_units.specs.Units.{IsUsed};
 ghost use Rattle.lay_floats.specs.Within.{IsWithin};
-ghost use Rattle.lay_flow.specs.BlockFloats.{place_at};
 ghost use Rattle.lay_flow.specs.Boxes.{box_at};
 ghost use Rattle.lay_flow.specs.BlockPositions.{is_solid};
 ghost use Rattle.lay_flow.specs.BlockSizes.{IsBoxSize, IsNear};
-ghost use Rattle.lay_flow.specs.FlowBoxes.{AreFlowBoxes, KindFits};
-ghost use Rattle.lay_flow.specs.FlowPlaces.{AreNearPlaces, ArePlacesOf, IsFlowOf, IsNearPlace, border_box};
-ghost use Rattle.lay_flow.specs.Pass.Columns.{AreNearColumns, IsFarPlace};
+ghost use Rattle.lay_flow.specs.FlowBoxes.{AreFlowBoxes, FloatBoxFits, KindFits};
+ghost use Rattle.lay_flow.specs.FlowPlaces.{AreNearPlaces, IsFlowOf, IsNearPlace, border_box, float_box};
+ghost use Rattle.lay_flow.specs.Pass.Columns.{AreBorderBoxes, AreNearColumns, IsFarPlace, corner_at};
 ghost use Rattle.lay_flow.specs.Lengths.{length_at};
 ghost use Rattle.lay_flow.specs.MarginRuns.{block_of};
 
 use crate::columns::{length_at, place_at};
-use crate::flow_box::{FlowBox, FlowBoxes, FlowKind};
+use crate::flow_box::{FloatBox, FlowBox, FlowBoxes, FlowKind};
 use crate::flow_columns::{FlowColumns, flow_columns};
 use crate::flow_places::{BoxPlace, FlowPlaces};
 use lay_floats::Place;
 use lay_units::{NoMemory, Unit};
 use std::alloc::Global;
 
-/// Where the boxes of a block formatting context stand (CSS 2.2, 8.3.1, 9.4.1, 9.5, 9.5.2, 10.6.3, 10.6.7 and
-/// 10.7). NoMemory is the answer for want of memory alone.
+/// Where the boxes of a block formatting context stand, and their lines (CSS 2.2, 8.3.1, 9.4.1, 9.4.2, 9.5, 9.5.2,
+/// 10.6.3, 10.6.7 and 10.7). NoMemory is the answer for want of memory alone.
 pub fn flow(alloc: Global, boxes: &FlowBoxes) -> Result<FlowPlaces, NoMemory>
     ensures { IfOk result (IsFlowOf boxes.now) }
 {
     let boxes = boxes.as_slice();
     let columns = flow_columns(alloc, boxes)?;
     let places = border_boxes(alloc, boxes, &columns)?;
-    Ok(FlowPlaces::new(places))
+    Ok(FlowPlaces::new(places, columns.rows))
 }
 
 // The corner and the height of each border box.
@@ -40,7 +39,7 @@ fn border_boxes(
 ) -> Result<Vec<BoxPlace>, NoMemory>
     requires input { AreFlowBoxes boxes.now }
     requires near { AreNearColumns boxes.now columns.now }
-    ensures places { IfOk result (λ r. ArePlacesOf boxes.now columns.now.tops.items columns.now.heights.items columns.now.places.items r.items) }
+    ensures places { IfOk result (λ r. AreBorderBoxes boxes.now columns.now r.items) }
     ensures near { IfOk result (λ r. AreNearPlaces r.items) }
 {
     let mut places = Vec::with_capacity(alloc, boxes.len())?;
@@ -54,44 +53,70 @@ fn border_box_at(boxes: &[FlowBox], columns: &FlowColumns, k: usize) -> BoxPlace
     requires input { AreFlowBoxes boxes.now }
     requires near { AreNearColumns boxes.now columns.now }
     requires within { k < length boxes.now }
-    ensures value { result ≡ border_box (box_at boxes.now k).kind (record { 0 = length_at columns.now.tops.items k }) (record { 0 = length_at columns.now.heights.items k }) (place_at columns.now.places.items k) }
+    ensures value { result ≡ border_box (box_at boxes.now k).kind (record { 0 = length_at columns.now.tops.items k }) (record { 0 = length_at columns.now.heights.items k }) (corner_at columns.now.places.items k) (corner_at columns.now.corners.items k) }
     ensures near { IsNearPlace result }
 {
     let mark = length_at(&columns.tops, k);
     let height = length_at(&columns.heights, k);
-    border_box(&boxes[k], mark, height, place_at(&columns.places, k))
+    let place = place_at(&columns.places, k);
+    border_box(&boxes[k], mark, height, place, place_at(&columns.corners, k))
 }
 
-fn border_box(flow_box: &FlowBox, mark: Unit, height: Unit, place: Place) -> BoxPlace
+fn border_box(
+    flow_box: &FlowBox,
+    mark: Unit,
+    height: Unit,
+    place: Place,
+    in_lines: Place,
+) -> BoxPlace
     requires fits { KindFits flow_box.now.kind }
     requires mark { IsNear mark.0 }
     requires height { is_solid (block_of flow_box.now.kind).inside ≡ false → IsBoxSize height.0 }
     requires place { IsFarPlace place }
-    ensures value { result ≡ border_box flow_box.now.kind mark height place }
+    requires in_lines { IsFarPlace in_lines }
+    ensures value { result ≡ border_box flow_box.now.kind mark height place in_lines }
     ensures near { IsNearPlace result }
 {
-    match flow_box.kind {
-        FlowKind::Block(b) => BoxPlace {
-            corner: Place { x: b.x, y: mark },
-            height,
-        },
+    match &flow_box.kind {
+        FlowKind::Block(b) => in_flow(b.x, mark, height),
+        FlowKind::Lines(l) => in_flow(l.block.x, mark, height),
         FlowKind::Solid(b) => BoxPlace {
             corner: place,
             height: b.height,
         },
-        FlowKind::Float(b) => BoxPlace {
-            corner: Place {
-                x: edge_inside(place.x, b.margin.left),
-                y: edge_inside(place.y, b.margin.top),
-            },
-            height: b.height,
+        FlowKind::Float(b) => float_box(b, place),
+        FlowKind::LineFloat(b) => float_box(b, in_lines),
+        FlowKind::Inline => in_flow(Unit(0), Unit(0), Unit(0)),
+    }
+}
+
+fn in_flow(x: Unit, y: Unit, height: Unit) -> BoxPlace
+    ensures { result ≡ record { corner = record { x = x; y = y }; height = height } }
+{
+    BoxPlace {
+        corner: Place { x, y },
+        height,
+    }
+}
+
+fn float_box(b: &FloatBox, place: Place) -> BoxPlace
+    requires fits { FloatBoxFits b.now }
+    requires place { IsFarPlace place }
+    ensures value { result ≡ float_box b.now place }
+    ensures near { IsNearPlace result }
+{
+    BoxPlace {
+        corner: Place {
+            x: edge_inside(place.x, b.margin.left),
+            y: edge_inside(place.y, b.margin.top),
         },
+        height: b.height,
     }
 }
 
 // The edge that is a margin away from that of a margin box.
 fn edge_inside(edge: Unit, margin: Unit) -> Unit
-    requires edge { IsWithin (pos 4503599627370496) edge.0 }
+    requires edge { IsWithin (pos 864691128455135232) edge.0 }
     requires margin { IsUsed margin.0 }
     ensures value { result ≡ record { 0 = edge.0 +ℤ margin.0 } }
     ensures near { IsNear result.0 }

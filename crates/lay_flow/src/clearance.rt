@@ -10,7 +10,8 @@ ghost use Rattle.lay_flow.specs.FlowBoxes.{AreFlowBoxes};
 ghost use Rattle.lay_flow.specs.Clearance.{IsAbove, lower_of};
 ghost use Rattle.lay_flow.specs.Pass.Clears.{HasWaitingFloat, IsAboveFloats, IsEdgeWithout, IsSideToClear};
 ghost use Rattle.lay_flow.specs.Pass.Bounds.{IsEdgeNear, state_of};
-ghost use Rattle.lay_flow.specs.Pass.Knows.{IsReady, Knows, placing_of};
+ghost use Rattle.lay_flow.specs.Pass.Known.{IsKnown, IsReadyAt};
+ghost use Rattle.lay_flow.specs.Weights.{weight};
 
 use crate::columns::{write_at, write_flag};
 use crate::flow_box::FlowBox;
@@ -28,8 +29,8 @@ pub(crate) fn clear(boxes: &[FlowBox], flow: &mut Pass, k: usize) -> Result<(), 
     requires input { AreFlowBoxes boxes.now }
     requires positive { 0 < k }
     requires within { k < length boxes.now }
-    requires known { Knows boxes.now (state_of flow.old) (placing_of flow.old.placing) (parent_at boxes.now k) k }
-    ensures { OnOk result (IsReady boxes.now (state_of flow.new) (placing_of flow.new.placing) k) }
+    requires known { IsKnown boxes.now flow.old (parent_at boxes.now k) k }
+    ensures { OnOk result (IsReadyAt boxes.now flow.new k) }
 {
     if asks_to_clear(boxes, k) {
         place_settled(boxes, flow, k)?;
@@ -51,8 +52,8 @@ fn place_settled(boxes: &[FlowBox], flow: &mut Pass, _k: usize) -> Result<(), No
     requires input { AreFlowBoxes boxes.now }
     requires positive { 0 < _k }
     requires within { _k < length boxes.now }
-    requires known { Knows boxes.now (state_of flow.old) (placing_of flow.old.placing) (parent_at boxes.now _k) _k }
-    ensures known { OnOk result (Knows boxes.now (state_of flow.new) (placing_of flow.new.placing) (parent_at boxes.now _k) _k) }
+    requires known { IsKnown boxes.now flow.old (parent_at boxes.now _k) _k }
+    ensures known { OnOk result (IsKnown boxes.now flow.new (parent_at boxes.now _k) _k) }
     ensures settled { OnOk result (length flow.new.placing.places.items ≡ flow.new.first) }
 {
     place_up_to(boxes, &flow.marks, &mut flow.placing, flow.first)?;
@@ -67,8 +68,8 @@ fn clear_floats(boxes: &[FlowBox], flow: &mut Pass, k: usize) -> Result<(), NoMe
     requires within { k < length boxes.now }
     requires flows { (shape_at boxes.now k).float ≡ None }
     requires settled { length flow.old.placing.places.items ≡ flow.old.first }
-    requires known { Knows boxes.now (state_of flow.old) (placing_of flow.old.placing) (parent_at boxes.now k) k }
-    ensures { OnOk result (IsReady boxes.now (state_of flow.new) (placing_of flow.new.placing) k) }
+    requires known { IsKnown boxes.now flow.old (parent_at boxes.now k) k }
+    ensures { OnOk result (IsReadyAt boxes.now flow.new k) }
 {
     let bottom = flow.placing.floats.clear_edge(clear_at(boxes, k));
     let hypothetical = edge_without(boxes, flow, k);
@@ -83,9 +84,9 @@ fn edge_without(boxes: &[FlowBox], flow: &Pass, k: usize) -> Unit
     requires input { AreFlowBoxes boxes.now }
     requires positive { 0 < k }
     requires within { k < length boxes.now }
-    requires known { Knows boxes.now (state_of flow.now) (placing_of flow.now.placing) (parent_at boxes.now k) k }
-    ensures edge { IsEdgeWithout boxes.now (state_of flow.now) (placing_of flow.now.placing) k result.0 }
-    ensures near { IsEdgeNear k result.0 }
+    requires known { IsKnown boxes.now flow.now (parent_at boxes.now k) k }
+    ensures edge { IsEdgeWithout boxes.now (state_of flow.now) (length flow.now.placing.places.items) flow.now.placing.extents.items k result.0 }
+    ensures near { IsEdgeNear (weight boxes.now k) result.0 }
 {
     if flow.hangs {
         return flow.start;
@@ -162,11 +163,11 @@ fn begin_cleared(
     requires within { k < length boxes.now }
     requires flows { (shape_at boxes.now k).float ≡ None }
     requires settled { length flow.old.placing.places.items ≡ flow.old.first }
-    requires known { Knows boxes.now (state_of flow.old) (placing_of flow.old.placing) (parent_at boxes.now k) k }
-    requires edge { IsEdgeWithout boxes.now (state_of flow.old) (placing_of flow.old.placing) k hypothetical.0 }
-    requires near { IsEdgeNear k hypothetical.0 }
+    requires known { IsKnown boxes.now flow.old (parent_at boxes.now k) k }
+    requires edge { IsEdgeWithout boxes.now (state_of flow.old) (length flow.old.placing.places.items) flow.old.placing.extents.items k hypothetical.0 }
+    requires near { IsEdgeNear (weight boxes.now k) hypothetical.0 }
     requires decides { HasWaitingFloat boxes.now flow.old.first k ⊎ IsAboveFloats flow.old.placing.floats (shape_at boxes.now k).clear hypothetical.0 }
-    ensures { OnOk result (IsReady boxes.now (state_of flow.new) (placing_of flow.new.placing) k) }
+    ensures { OnOk result (IsReadyAt boxes.now flow.new k) }
 {
     let end = end_of(flow.start, flow.hangs, flow.strut);
     settle(boxes, &flow.through, &mut flow.marks, flow.first, k, end);

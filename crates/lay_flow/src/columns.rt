@@ -4,10 +4,10 @@ ghost use Rattle.std.specs.Prelude.{◌≡◌, ◌<◌, ◌+ℤ◌, length, slic
 ghost use Rattle.lay_units.specs.Units.{IsPosition};
 ghost use Rattle.lay_flow.specs.Boxes.{parent_at, parents_of};
 ghost use Rattle.lay_doc.specs.Tree.{IsTree};
-ghost use Rattle.lay_flow.specs.BlockFloats.{place_at};
 ghost use Rattle.lay_flow.specs.FlowBoxes.{AreFlowBoxes};
 ghost use Rattle.lay_flow.specs.BlockSizes.{BlockFits};
 ghost use Rattle.lay_flow.specs.Lengths.{length_at};
+ghost use Rattle.lay_flow.specs.Pass.Columns.{corner_at};
 ghost use Rattle.lay_flow.specs.Children.{flag_at};
 ghost use Rattle.lay_flow.specs.MarginRuns.{block_at};
 
@@ -76,7 +76,7 @@ pub(crate) fn write_flag(flags: &mut Vec<bool>, k: usize, v: bool)
 
 pub(crate) fn place_at(places: &[Place], k: usize) -> Place
     requires { k < length places.now }
-    ensures { result ≡ place_at places.now k }
+    ensures { result ≡ corner_at places.now k }
 {
     places[k]
 }

@@ -5,12 +5,13 @@ ghost use Rattle.lay_flow.specs.declared.flow_box.FlowBox.{FlowBox};
 ghost use Rattle.lay_flow.specs.FlowBoxes.{AreFlowBoxes};
 
 use lay_floats::{Clear, Side};
+use lay_lines::LineContent;
 use lay_units::{Len, Sides, Unit};
 use std::marker::Model;
 
 /// A box of a block formatting context. All lengths are in 1/64 px, and horizontal positions are counted from
 /// one origin of the context.
-#[derive(Clone, Copy, Drop)]
+#[derive(Drop)]
 pub struct FlowBox {
     /// The place of its parent among the boxes. That of the context's own box is 0.
     pub parent: usize,
@@ -18,15 +19,21 @@ pub struct FlowBox {
 }
 
 /// What a box is to its formatting context.
-#[derive(Clone, Copy, Drop)]
+#[derive(Drop)]
 pub enum FlowKind {
     /// A block box, in which further boxes of the context stand (9.4.1).
     Block(BlockBox),
+    /// A block box that holds lines (9.4.2).
+    Lines(LinesBox),
     /// A box that may not overlap floats: a table, a replaced box or the root of a formatting context of its
     /// own (9.5).
     Solid(SolidBox),
     /// A float (9.5.1).
     Float(FloatBox),
+    /// A float that the lines of its parent meet, which place it.
+    LineFloat(FloatBox),
+    /// An inline box, or a text, in the lines of its parent.
+    Inline,
 }
 
 /// A block box. Its margins, insets and horizontal edges are used values.
@@ -41,6 +48,14 @@ pub struct BlockBox {
     /// The edges of its content, which is the containing block of the boxes in it.
     pub content: Across,
     pub height: HeightRule,
+}
+
+/// A block box with lines in it.
+#[derive(Drop)]
+pub struct LinesBox {
+    pub block: BlockBox,
+    /// What its lines hold, measured.
+    pub content: LineContent,
 }
 
 /// A box of a known size that may not overlap floats.

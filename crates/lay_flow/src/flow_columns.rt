@@ -1,23 +1,23 @@
 //! The places of the boxes of a context, in one pass over their margins in document order.
 
-ghost use Rattle.std.specs.Prelude.{◌≡◌, ℕ, ◌+◌, ◌-◌, ◌<◌, ◌≤◌, ◌∷◌, [], length, slice_index, replicate, IfOk, OnOk};
+ghost use Rattle.std.specs.Prelude.{◌≡◌, ℕ, ◌+◌, ◌-◌, ◌<◌, ◌≤◌, [], length, slice_index, replicate, IfOk, OnOk};
 ghost use Rattle.lay_flow.specs.Boxes.{parent_at};
 ghost use Rattle.lay_flow.specs.Lengths.{no_length};
-ghost use Rattle.lay_flow.specs.BlockFloats.{no_place};
 ghost use Rattle.lay_flow.specs.FlowBoxes.{AreFlowBoxes};
-ghost use Rattle.lay_flow.specs.ContextFlow.{AreContextPlaces};
-ghost use Rattle.lay_flow.specs.Pass.Bounds.{AreBoxHeights, AreNear, state_of};
-ghost use Rattle.lay_flow.specs.Pass.Placed.{AreCornersNear};
-ghost use Rattle.lay_flow.specs.Pass.Knows.{Knows, placing_of};
+ghost use Rattle.lay_flow.specs.Pass.Bounds.{AreBoxHeights, AreNear};
+ghost use Rattle.lay_flow.specs.Pass.Columns.{AreColumnsOf, AreNearColumns};
+ghost use Rattle.lay_flow.specs.Pass.Known.{IsFinished, IsKnown};
 
 use crate::columns::{block_at, length_at, parent_at, write_at};
 use crate::flow_box::FlowBox;
 use crate::margin_run::{end_of, no_margin};
 use crate::margin_steps::{close, open};
 use crate::pass::Pass;
-use crate::placement::{Placing, nowhere, place_up_to, push_place};
+use crate::line_corners::line_corners;
+use crate::placement::{Placing, place_up_to};
 use crate::settling::settle;
 use lay_floats::{Clear, Floats, Place};
+use lay_lines::RowList;
 use lay_units::{NoMemory, Unit};
 use std::alloc::Global;
 
@@ -31,15 +31,17 @@ pub(crate) struct FlowColumns {
     pub heights: Vec<Unit>,
     /// The corners of the margin boxes of floats and of the border boxes of solid boxes, and (0, 0) for others.
     pub places: Vec<Place>,
+    /// The lines of boxes that hold lines.
+    pub rows: Vec<RowList>,
+    /// The corners of the margin boxes of the floats that lines met, and (0, 0) for others.
+    pub corners: Vec<Place>,
 }
 
 /// The columns of a context's flow.
 pub(crate) fn flow_columns(alloc: Global, boxes: &[FlowBox]) -> Result<FlowColumns, NoMemory>
     requires input { AreFlowBoxes boxes.now }
-    ensures places { IfOk result (λ r. AreContextPlaces boxes.now r.tops.items r.heights.items r.places.items) }
-    ensures near { IfOk result (λ r. AreNear r.tops.items) }
-    ensures sized { IfOk result (λ r. AreBoxHeights boxes.now r.heights.items) }
-    ensures corners { IfOk result (λ r. AreCornersNear boxes.now r.places.items) }
+    ensures columns { IfOk result (AreColumnsOf boxes.now) }
+    ensures near { IfOk result (AreNearColumns boxes.now) }
 {
     let mut flow = begin(alloc, boxes)?;
     for k in 1..boxes.len() {
@@ -47,21 +49,27 @@ pub(crate) fn flow_columns(alloc: Global, boxes: &[FlowBox]) -> Result<FlowColum
     }
     finish(boxes, &mut flow)?;
     let placing = flow.placing;
+    let corners = line_corners(alloc, boxes.len(), &placing.met)?;
     Ok(FlowColumns {
         tops: flow.marks,
         heights: flow.heights,
         places: placing.places,
+        rows: placing.rows,
+        corners,
     })
 }
 
 // The top of the content of the context's own box: the pass is before its first child.
 fn begin(alloc: Global, boxes: &[FlowBox]) -> Result<Pass, NoMemory>
     requires input { AreFlowBoxes boxes.now }
-    ensures { IfOk result (λ flow. Knows boxes.now (state_of flow) (placing_of flow.placing) 0 1) }
+    ensures { IfOk result (λ flow. IsKnown boxes.now flow 0 1) }
 {
     let count = boxes.len();
+    let marks = vec![in alloc; Unit(0); count]?;
+    let mut placing = none_placed(alloc, count)?;
+    place_up_to(boxes, &marks, &mut placing, 1)?;
     Ok(Pass {
-        marks: vec![in alloc; Unit(0); count]?,
+        marks,
         heights: vec![in alloc; Unit(0); count]?,
         through: vec![in alloc; false; count]?,
         clears: vec![in alloc; false; count]?,
@@ -70,22 +78,25 @@ fn begin(alloc: Global, boxes: &[FlowBox]) -> Result<Pass, NoMemory>
         strut: no_margin(),
         first: 1,
         hangs: false,
-        placing: placing_of(alloc, count)?,
+        placing,
     })
 }
 
-// The context's own box is placed, and no other.
-fn placing_of(alloc: Global, count: usize) -> Result<Placing, NoMemory>
+// No box is placed.
+fn none_placed(alloc: Global, count: usize) -> Result<Placing, NoMemory>
     ensures extents { IfOk result (λ placing. placing.extents.items ≡ replicate count no_length) }
     ensures floats { IfOk result (λ placing. placing.floats ≡ []) }
-    ensures places { IfOk result (λ placing. placing.places.items ≡ no_place ∷ []) }
+    ensures places { IfOk result (λ placing. placing.places.items ≡ []) }
+    ensures rows { IfOk result (λ placing. placing.rows.items ≡ []) }
+    ensures met { IfOk result (λ placing. placing.met.items ≡ []) }
 {
-    let mut places = Vec::new(alloc);
-    push_place(&mut places, nowhere())?;
     Ok(Placing {
+        alloc,
         extents: vec![in alloc; Unit(0); count]?,
         floats: Floats::new(alloc),
-        places,
+        places: Vec::new(alloc),
+        rows: Vec::new(alloc),
+        met: Vec::new(alloc),
     })
 }
 
@@ -94,8 +105,8 @@ fn advance(boxes: &[FlowBox], flow: &mut Pass, k: usize) -> Result<(), NoMemory>
     requires input { AreFlowBoxes boxes.now }
     requires positive { 0 < k }
     requires within { k < length boxes.now }
-    requires known { Knows boxes.now (state_of flow.old) (placing_of flow.old.placing) (k - 1) k }
-    ensures { OnOk result (Knows boxes.now (state_of flow.new) (placing_of flow.new.placing) k (k + 1)) }
+    requires known { IsKnown boxes.now flow.old (k - 1) k }
+    ensures { OnOk result (IsKnown boxes.now flow.new k (k + 1)) }
 {
     let parent = parent_at(boxes, k);
     close_to(boxes, flow, k - 1, parent, k)?;
@@ -115,8 +126,8 @@ fn close_to(
     requires order { to ≤ from }
     requires next { m < length boxes.now → parent_at boxes.now m ≡ to }
     requires last { length boxes.now ≤ m → to ≡ 0 }
-    requires known { Knows boxes.now (state_of flow.old) (placing_of flow.old.placing) from m }
-    ensures { OnOk result (Knows boxes.now (state_of flow.new) (placing_of flow.new.placing) to m) }
+    requires known { IsKnown boxes.now flow.old from m }
+    ensures { OnOk result (IsKnown boxes.now flow.new to m) }
 {
     let mut innermost = from;
     while innermost != to {
@@ -129,11 +140,10 @@ fn close_to(
 // Closes all boxes, the context's own one last.
 fn finish(boxes: &[FlowBox], flow: &mut Pass) -> Result<(), NoMemory>
     requires input { AreFlowBoxes boxes.now }
-    requires known { Knows boxes.now (state_of flow.old) (placing_of flow.old.placing) (length boxes.now - 1) (length boxes.now) }
-    ensures places { OnOk result (AreContextPlaces boxes.now flow.new.marks.items flow.new.heights.items flow.new.placing.places.items) }
+    requires known { IsKnown boxes.now flow.old (length boxes.now - 1) (length boxes.now) }
+    ensures finished { OnOk result (IsFinished boxes.now flow.new) }
     ensures near { OnOk result (AreNear flow.new.marks.items) }
     ensures sized { OnOk result (AreBoxHeights boxes.now flow.new.heights.items) }
-    ensures corners { OnOk result (AreCornersNear boxes.now flow.new.placing.places.items) }
 {
     let count = boxes.len();
     close_to(boxes, flow, count - 1, 0, count)?;
@@ -144,11 +154,10 @@ fn finish(boxes: &[FlowBox], flow: &mut Pass) -> Result<(), NoMemory>
 // The last run ends, and with it the content of the context's own box, which reaches round its floats.
 fn close_root(boxes: &[FlowBox], flow: &mut Pass) -> Result<(), NoMemory>
     requires input { AreFlowBoxes boxes.now }
-    requires known { Knows boxes.now (state_of flow.old) (placing_of flow.old.placing) 0 (length boxes.now) }
-    ensures places { OnOk result (AreContextPlaces boxes.now flow.new.marks.items flow.new.heights.items flow.new.placing.places.items) }
+    requires known { IsKnown boxes.now flow.old 0 (length boxes.now) }
+    ensures finished { OnOk result (IsFinished boxes.now flow.new) }
     ensures near { OnOk result (AreNear flow.new.marks.items) }
     ensures sized { OnOk result (AreBoxHeights boxes.now flow.new.heights.items) }
-    ensures corners { OnOk result (AreCornersNear boxes.now flow.new.placing.places.items) }
 {
     let count = boxes.len();
     let end = end_of(flow.start, flow.hangs, flow.strut);
@@ -164,7 +173,8 @@ fn close_root(boxes: &[FlowBox], flow: &mut Pass) -> Result<(), NoMemory>
     let block = block_at(boxes, 0);
     let mark = length_at(&flow.marks, 0);
     let bottom = flow.placing.floats.clear_edge(Clear::Both);
-    let height = block.root_height(mark, end, bottom);
+    let depth = length_at(&flow.placing.extents, 0);
+    let height = block.root_height(mark, block.root_end(depth, mark, end), bottom);
     write_at(&mut flow.heights, 0, height);
     Ok(())
 }

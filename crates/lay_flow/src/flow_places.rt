@@ -1,10 +1,10 @@
 //! The places of the boxes of a block formatting context.
 
-ghost use Rattle.std.specs.Prelude.{◌≡◌, List};
-ghost use Rattle.lay_flow.specs.declared.flow_places.BoxPlace.{BoxPlace};
-ghost use Rattle.lay_flow.specs.FlowPlaces.{AreNearPlaces};
+ghost use Rattle.std.specs.Prelude.{◌≡◌, length};
+ghost use Rattle.lay_flow.specs.FlowPlaces.{AreNearPlaces, AreNearRows};
 
 use lay_floats::Place;
+use lay_lines::RowList;
 use lay_units::Unit;
 use std::marker::Model;
 
@@ -16,39 +16,45 @@ pub struct BoxPlace {
     pub height: Unit,
 }
 
-/// The places of the boxes of a context in document order.
+/// The places of the boxes of a context in document order, and their lines.
 #[derive(Drop)]
 pub struct FlowPlaces {
-    items: Vec<BoxPlace>,
+    boxes: Vec<BoxPlace>,
+    lines: Vec<RowList>,
 }
 
 impl Model for FlowPlaces {
-    ghost Value = { List BoxPlace };
+    ghost use Rattle.lay_flow.specs.FlowPlaces.{AreNearPlaces, AreNearRows, FlowPlacesValue};
 
-    ghost view = { λ p. p.items.items };
+    ghost Value = { FlowPlacesValue };
 
-    ghost invariant = { λ p. AreNearPlaces p.items.items };
+    ghost view = { λ p. record { boxes = p.boxes.items; lines = p.lines.items } };
+
+    ghost invariant = { λ p. AreNearPlaces p.boxes.items × AreNearRows p.lines.items };
 }
 
 impl FlowPlaces {
-    pub(crate) fn new(places: Vec<BoxPlace>) -> Self
-        requires { AreNearPlaces places.items }
-        ensures { result ≡ places.items }
+    pub(crate) fn new(boxes: Vec<BoxPlace>, lines: Vec<RowList>) -> Self
+        requires boxes { AreNearPlaces boxes.items }
+        requires lines { AreNearRows lines.items }
+        ensures { result ≡ record { boxes = boxes.items; lines = lines.items } }
     {
-        FlowPlaces { items: places }
+        FlowPlaces { boxes, lines }
     }
 
-    pub fn as_slice(&self) -> &[BoxPlace]
-        ensures value { result.now ≡ self.now }
-        ensures near { AreNearPlaces self.now }
+    /// The border boxes.
+    pub fn boxes(&self) -> &[BoxPlace]
+        ensures value { result.now ≡ self.now.boxes }
+        ensures near { AreNearPlaces self.now.boxes }
     {
-        &self.items
+        &self.boxes
     }
 
-    pub fn into_vec(self) -> Vec<BoxPlace>
-        ensures value { result.items ≡ self }
-        ensures near { AreNearPlaces self }
+    /// The lines of each box; no other box than one that holds lines has any.
+    pub fn lines(&self) -> &[RowList]
+        ensures value { result.now ≡ self.now.lines }
+        ensures near { AreNearRows self.now.lines }
     {
-        self.items
+        &self.lines
     }
 }

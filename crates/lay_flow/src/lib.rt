@@ -1,10 +1,10 @@
-//! Block flow: the places of the boxes of one block formatting context (CSS 2.2, 8.3.1, 9.4.1, 9.5,
-//! 10.6.3, 10.6.7 and 10.7).
+//! Block flow: the places of the boxes of one block formatting context, and their lines (CSS 2.2, 8.3.1, 9.4.1, 9.4.2,
+//! 9.5, 10.6.3, 10.6.7 and 10.7).
 //!
 //! `flow` takes the boxes of a context as one value, `FlowBoxes`, and cites `IsFlowOf` of
 //! `specs/FlowPlaces.antt`: the border boxes of a flow (`specs/ContextFlow.antt`). That has runs of adjoining
 //! margins (`specs/MarginRuns.antt`), positions and heights (`specs/BlockPositions.antt`), floats and boxes that
-//! they may not overlap (`specs/BlockFloats.antt`), and clearance (`specs/Clearance.antt`), each as a column of a
+//! they may not overlap, with lines beside floats (`specs/BlockFloats.antt`), and clearance (`specs/Clearance.antt`), each as a column of a
 //! value per box in document order. The laws in `specs/Laws.antt` say that a context has one flow, and its
 //! blocks one layout. What the code keeps on its way stands in `specs/Pass/`.
 #![tactic(auto)]
@@ -19,6 +19,7 @@ mod flow_columns;
 mod flow_places;
 mod hypothetical_edge;
 mod laws;
+mod line_corners;
 mod margin_collapse;
 mod margin_run;
 mod margin_steps;
@@ -29,7 +30,8 @@ mod shape;
 
 pub use border_boxes::flow;
 pub use flow_box::{
-    Across, BlockBox, FloatBox, FlowBox, FlowBoxes, FlowKind, HeightRule, SolidBox, Vertical,
+    Across, BlockBox, FloatBox, FlowBox, FlowBoxes, FlowKind, HeightRule, LinesBox, SolidBox,
+    Vertical,
 };
 pub use flow_places::{BoxPlace, FlowPlaces};
 pub use laws::{

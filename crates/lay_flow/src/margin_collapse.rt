@@ -1,7 +1,7 @@
 //! What of a block parts its margins (CSS 2.2, 8.3.1).
 
 ghost use Rattle.std.specs.Prelude.{◌≡◌, ◌&&◌, not};
-ghost use Rattle.lay_flow.specs.BlockPositions.{is_solid};
+ghost use Rattle.lay_flow.specs.BlockPositions.{is_lines, is_solid};
 ghost use Rattle.lay_flow.specs.MarginRuns.{is_auto, is_auto_or_zero, is_blocks, is_zero, may_collapse_through, may_join_bottoms};
 
 use crate::block::{Block, Inside};
@@ -19,7 +19,16 @@ impl Inside {
     {
         match self {
             Inside::Blocks => true,
-            Inside::Solid => false,
+            Inside::Lines | Inside::Solid => false,
+        }
+    }
+
+    pub(crate) fn is_lines(self) -> bool
+        ensures { result ≡ is_lines self }
+    {
+        match self {
+            Inside::Lines => true,
+            Inside::Blocks | Inside::Solid => false,
         }
     }
 
@@ -27,7 +36,7 @@ impl Inside {
         ensures { result ≡ is_solid self }
     {
         match self {
-            Inside::Blocks => false,
+            Inside::Blocks | Inside::Lines => false,
             Inside::Solid => true,
         }
     }

@@ -5,7 +5,7 @@ ghost use Rattle.lay_flow.specs.Boxes.{parent_at};
 ghost use Rattle.lay_flow.specs.FlowBoxes.{AreFlowBoxes};
 ghost use Rattle.lay_flow.specs.MarginRuns.{block_at, may_collapse_through, may_join_bottoms, parts_tops};
 ghost use Rattle.lay_flow.specs.Pass.Bounds.{is_barred, state_of};
-ghost use Rattle.lay_flow.specs.Pass.Knows.{IsReady, Knows, placing_of};
+ghost use Rattle.lay_flow.specs.Pass.Known.{IsKnown, IsReadyAt};
 
 use crate::clearance::clear;
 use crate::columns::{block_at, flag_at, length_at, parent_at, sum_of, write_at, write_flag};
@@ -21,8 +21,8 @@ pub(crate) fn open(boxes: &[FlowBox], flow: &mut Pass, k: usize) -> Result<(), N
     requires input { AreFlowBoxes boxes.now }
     requires positive { 0 < k }
     requires within { k < length boxes.now }
-    requires known { Knows boxes.now (state_of flow.old) (placing_of flow.old.placing) (parent_at boxes.now k) k }
-    ensures { OnOk result (Knows boxes.now (state_of flow.new) (placing_of flow.new.placing) k (k + 1)) }
+    requires known { IsKnown boxes.now flow.old (parent_at boxes.now k) k }
+    ensures { OnOk result (IsKnown boxes.now flow.new k (k + 1)) }
 {
     clear(boxes, flow, k)?;
     enter(boxes, flow, k);
@@ -34,8 +34,8 @@ fn enter(boxes: &[FlowBox], flow: &mut Pass, k: usize)
     requires input { AreFlowBoxes boxes.now }
     requires positive { 0 < k }
     requires within { k < length boxes.now }
-    requires ready { IsReady boxes.now (state_of flow.old) (placing_of flow.old.placing) k }
-    ensures { Knows boxes.now (state_of flow.new) (placing_of flow.new.placing) k (k + 1) }
+    requires ready { IsReadyAt boxes.now flow.old k }
+    ensures { IsKnown boxes.now flow.new k (k + 1) }
 {
     if block_at(boxes, k).has_edge_top() {
         open_parting(boxes, flow, k);
@@ -50,8 +50,8 @@ fn open_plain(boxes: &[FlowBox], flow: &mut Pass, k: usize)
     requires positive { 0 < k }
     requires within { k < length boxes.now }
     requires plain { parts_tops boxes.now k ≡ false }
-    requires ready { IsReady boxes.now (state_of flow.old) (placing_of flow.old.placing) k }
-    ensures { Knows boxes.now (state_of flow.new) (placing_of flow.new.placing) k (k + 1) }
+    requires ready { IsReadyAt boxes.now flow.old k }
+    ensures { IsKnown boxes.now flow.new k (k + 1) }
 {
     flow.strut = with_margin(flow.strut, block_at(boxes, k).margin_top);
 }
@@ -62,8 +62,8 @@ fn open_parting(boxes: &[FlowBox], flow: &mut Pass, k: usize)
     requires positive { 0 < k }
     requires within { k < length boxes.now }
     requires parting { parts_tops boxes.now k ≡ true }
-    requires ready { IsReady boxes.now (state_of flow.old) (placing_of flow.old.placing) k }
-    ensures { Knows boxes.now (state_of flow.new) (placing_of flow.new.placing) k (k + 1) }
+    requires ready { IsReadyAt boxes.now flow.old k }
+    ensures { IsKnown boxes.now flow.new k (k + 1) }
 {
     let block = block_at(boxes, k);
     let strut = with_margin(flow.strut, block.margin_top);
@@ -87,8 +87,8 @@ pub(crate) fn close(boxes: &[FlowBox], flow: &mut Pass, p: usize, m: usize) -> R
     requires input { AreFlowBoxes boxes.now }
     requires positive { 0 < p }
     requires ends { m < length boxes.now → parent_at boxes.now m < p }
-    requires known { Knows boxes.now (state_of flow.old) (placing_of flow.old.placing) p m }
-    ensures { OnOk result (Knows boxes.now (state_of flow.new) (placing_of flow.new.placing) (parent_at boxes.now p) m) }
+    requires known { IsKnown boxes.now flow.old p m }
+    ensures { OnOk result (IsKnown boxes.now flow.new (parent_at boxes.now p) m) }
 {
     let block = block_at(boxes, p);
     if block.may_collapse_through() && flow.first <= p {
@@ -118,8 +118,8 @@ fn pass_through(boxes: &[FlowBox], flow: &mut Pass, p: usize, m: usize)
     requires ends { m < length boxes.now → parent_at boxes.now m < p }
     requires through { may_collapse_through (block_at boxes.now p) ≡ true }
     requires waiting { flow.old.first ≤ p }
-    requires known { Knows boxes.now (state_of flow.old) (placing_of flow.old.placing) p m }
-    ensures { Knows boxes.now (state_of flow.new) (placing_of flow.new.placing) (parent_at boxes.now p) m }
+    requires known { IsKnown boxes.now flow.old p m }
+    ensures { IsKnown boxes.now flow.new (parent_at boxes.now p) m }
 {
     if flow.hangs && flow.first == p {
         start_run(boxes, flow, p, m);
@@ -136,8 +136,8 @@ fn start_run(boxes: &[FlowBox], flow: &mut Pass, _p: usize, _m: usize)
     requires through { may_collapse_through (block_at boxes.now _p) ≡ true }
     requires hangs { flow.old.hangs ≡ true }
     requires first { flow.old.first ≡ _p }
-    requires known { Knows boxes.now (state_of flow.old) (placing_of flow.old.placing) _p _m }
-    ensures known { Knows boxes.now (state_of flow.new) (placing_of flow.new.placing) _p _m }
+    requires known { IsKnown boxes.now flow.old _p _m }
+    ensures known { IsKnown boxes.now flow.new _p _m }
     ensures starts { flow.new.hangs ≡ false }
     ensures first { flow.new.first ≡ flow.old.first }
 {
@@ -153,8 +153,8 @@ fn close_through(boxes: &[FlowBox], flow: &mut Pass, p: usize, _m: usize)
     requires through { may_collapse_through (block_at boxes.now p) ≡ true }
     requires waiting { flow.old.first ≤ p }
     requires inside { flow.old.hangs ≡ true → flow.old.first < p }
-    requires known { Knows boxes.now (state_of flow.old) (placing_of flow.old.placing) p _m }
-    ensures { Knows boxes.now (state_of flow.new) (placing_of flow.new.placing) (parent_at boxes.now p) _m }
+    requires known { IsKnown boxes.now flow.old p _m }
+    ensures { IsKnown boxes.now flow.new (parent_at boxes.now p) _m }
 {
     let mark = end_of(flow.start, flow.hangs, flow.strut);
     write_at(&mut flow.marks, p, mark);
@@ -171,8 +171,8 @@ fn close_joined(boxes: &[FlowBox], flow: &mut Pass, p: usize, _m: usize)
     requires joined { may_join_bottoms (block_at boxes.now p) ≡ true }
     requires unbarred { is_barred boxes.now (state_of flow.old) p ≡ false }
     requires settled { may_collapse_through (block_at boxes.now p) ≡ true → p < flow.old.first }
-    requires known { Knows boxes.now (state_of flow.old) (placing_of flow.old.placing) p _m }
-    ensures { Knows boxes.now (state_of flow.new) (placing_of flow.new.placing) (parent_at boxes.now p) _m }
+    requires known { IsKnown boxes.now flow.old p _m }
+    ensures { IsKnown boxes.now flow.new (parent_at boxes.now p) _m }
 {
     let block = block_at(boxes, p);
     let mark = length_at(&flow.marks, p);
@@ -189,8 +189,8 @@ fn close_parted(boxes: &[FlowBox], flow: &mut Pass, p: usize, m: usize) -> Resul
     requires ends { m < length boxes.now → parent_at boxes.now m < p }
     requires parted { (may_join_bottoms (block_at boxes.now p) && not (is_barred boxes.now (state_of flow.old) p)) ≡ false }
     requires settled { may_collapse_through (block_at boxes.now p) ≡ true → p < flow.old.first }
-    requires known { Knows boxes.now (state_of flow.old) (placing_of flow.old.placing) p m }
-    ensures { OnOk result (Knows boxes.now (state_of flow.new) (placing_of flow.new.placing) (parent_at boxes.now p) m) }
+    requires known { IsKnown boxes.now flow.old p m }
+    ensures { OnOk result (IsKnown boxes.now flow.new (parent_at boxes.now p) m) }
 {
     let block = block_at(boxes, p);
     let end = end_of(flow.start, flow.hangs, flow.strut);

@@ -1,31 +1,41 @@
-//! Floats and solid boxes find their places, in document order, once their marks are known.
+//! Floats, solid boxes and lines find their places, in document order, once their marks are known.
 
-ghost use Rattle.std.specs.Prelude.{◌≡◌, ℕ, ◌+◌, ◌-ℤ◌, ◌+ℤ◌, ◌<◌, ◌≤◌, ◌++◌, ◌∷◌, [], length, pos, true, false, OnOk, Some, None};
+ghost use Rattle.std.specs.Prelude.{◌≡◌, ℕ, ℤ, ◌+◌, ◌-ℤ◌, ◌+ℤ◌, ◌<◌, ◌≤◌, ◌≤ℤ◌, ◌++◌, ◌∷◌, [], All, length, pos, true, false, IfOk, OnOk, Some, None};
 ghost use Rattle.std.specs.Int.{int_max};
-ghost use Rattle.lay_floats.specs.Within.{IsWithin};
-ghost use Rattle.lay_flow.specs.BlockFloats.{ceiling, float_request, solid_request, no_place, shape_at};
-ghost use Rattle.lay_flow.specs.BlockPositions.{is_solid};
-ghost use Rattle.lay_flow.specs.FlowBoxes.{AreFlowBoxes};
-ghost use Rattle.lay_flow.specs.MarginRuns.{block_at};
+ghost use Rattle.lay_floats.specs.Within.{BoxWithin, IsWithin};
+ghost use Rattle.lay_lines.specs.Lines.{AreLines, LinesWithin, growth, lines_of};
+ghost use Rattle.lay_flow.specs.BlockFloats.{ceiling, content_of, float_request, line_content_of, solid_request, no_place, shape_at};
+ghost use Rattle.lay_flow.specs.BlockPositions.{is_lines, is_placed, is_solid};
+ghost use Rattle.lay_flow.specs.Boxes.{box_at};
+ghost use Rattle.lay_flow.specs.Weights.{weight};
+ghost use Rattle.lay_flow.specs.FlowBoxes.{AreFlowBoxes, KindFits};
+ghost use Rattle.lay_flow.specs.MarginRuns.{block_at, block_of};
+ghost use Rattle.lay_units.specs.Units.{IsPosition};
 ghost use Rattle.lay_flow.specs.BlockSizes.{IsNear};
 ghost use Rattle.lay_flow.specs.Pass.Bounds.{IsMarkNear};
-ghost use Rattle.lay_flow.specs.Pass.Knows.{AreExtentsKept, ArePlacesKept, placing_of};
-ghost use Rattle.lay_flow.specs.Pass.Placed.{PlacesTo, IsCeilingNear};
+ghost use Rattle.lay_flow.specs.Pass.Knows.{AreExtentsKept};
+ghost use Rattle.lay_flow.specs.Pass.Known.{ArePlaced, GoesOn};
+ghost use Rattle.lay_flow.specs.Pass.Placed.{IsCeilingNear};
 ghost use Rattle.lay_flow.specs.Lengths.{length_at};
 
 use crate::columns::{block_at, length_at, parent_at, sum_of, write_at};
-use crate::flow_box::FlowBox;
+use crate::flow_box::{FlowBox, FlowKind};
 use crate::shape::{Shape, shape_at, side_at};
 use lay_floats::{FloatReq, Floats, Place, Side, SolidReq};
+use lay_lines::{Lines, NodePlaceList, RowList, lay};
 use lay_units::{NoMemory, Unit};
+use std::alloc::Global;
 
-/// What a pass keeps of floats and solid boxes: the extents of the latter as far as they are known, the floats that
-/// stand, and the places so far.
+/// What a pass keeps of floats, solid boxes and lines: the depths of boxes as far as they are known, the floats that
+/// stand, and with an entry for each box so far its place, its lines, and the floats that they met.
 #[derive(Drop)]
 pub(crate) struct Placing {
+    pub alloc: Global,
     pub extents: Vec<Unit>,
     pub floats: Floats,
     pub places: Vec<Place>,
+    pub rows: Vec<RowList>,
+    pub met: Vec<NodePlaceList>,
 }
 
 /// Places the boxes before m that have no place yet, where their marks are known.
@@ -38,12 +48,11 @@ pub(crate) fn place_up_to(
     requires input { AreFlowBoxes boxes.now }
     requires within { m ≤ length boxes.now }
     requires count { length marks.now ≡ length boxes.now }
-    requires near { (j : ℕ) → IsMarkNear j (length_at marks.now j) }
+    requires near { (j : ℕ) → IsMarkNear (weight boxes.now j) (length_at marks.now j) }
     requires order { length placing.old.places.items ≤ m }
-    requires known { PlacesTo boxes.now marks.now (placing_of placing.old) (length placing.old.places.items) }
-    ensures placed { OnOk result (PlacesTo boxes.now marks.now (placing_of placing.new) m) }
+    requires known { ArePlaced boxes.now marks.now placing.old (length placing.old.places.items) }
+    ensures placed { OnOk result (GoesOn boxes.now marks.now placing.old placing.new (length placing.old.places.items) m) }
     ensures kept { OnOk result (AreExtentsKept boxes.now (length placing.old.places.items) placing.old.extents.items placing.new.extents.items) }
-    ensures same { OnOk result (ArePlacesKept placing.old.places.items placing.new.places.items) }
 {
     for k in placing.places.len()..m {
         place_one(boxes, marks, placing, k)?;
@@ -60,18 +69,22 @@ fn place_one(
     requires input { AreFlowBoxes boxes.now }
     requires within { k < length boxes.now }
     requires count { length marks.now ≡ length boxes.now }
-    requires near { (j : ℕ) → IsMarkNear j (length_at marks.now j) }
-    requires known { PlacesTo boxes.now marks.now (placing_of placing.old) k }
-    ensures placed { OnOk result (PlacesTo boxes.now marks.now (placing_of placing.new) (k + 1)) }
+    requires near { (j : ℕ) → IsMarkNear (weight boxes.now j) (length_at marks.now j) }
+    requires known { ArePlaced boxes.now marks.now placing.old k }
+    ensures placed { OnOk result (GoesOn boxes.now marks.now placing.old placing.new k (k + 1)) }
     ensures kept { OnOk result (AreExtentsKept boxes.now k placing.old.extents.items placing.new.extents.items) }
-    ensures same { OnOk result (ArePlacesKept placing.old.places.items placing.new.places.items) }
 {
     if let Some(side) = side_at(boxes, k) {
         place_float(boxes, marks, placing, k, side)?;
         return Ok(());
     }
-    if block_at(boxes, k).inside.is_solid() {
+    let inside = block_at(boxes, k).inside;
+    if inside.is_solid() {
         place_solid(boxes, marks, placing, k)?;
+        return Ok(());
+    }
+    if inside.is_lines() {
+        place_lines(boxes, marks, placing, k)?;
         return Ok(());
     }
     place_nowhere(boxes, marks, placing, k)?;
@@ -88,17 +101,16 @@ fn place_float(
     requires input { AreFlowBoxes boxes.now }
     requires within { k < length boxes.now }
     requires count { length marks.now ≡ length boxes.now }
-    requires near { (j : ℕ) → IsMarkNear j (length_at marks.now j) }
+    requires near { (j : ℕ) → IsMarkNear (weight boxes.now j) (length_at marks.now j) }
     requires float { (shape_at boxes.now k).float ≡ Some side }
-    requires known { PlacesTo boxes.now marks.now (placing_of placing.old) k }
-    ensures placed { OnOk result (PlacesTo boxes.now marks.now (placing_of placing.new) (k + 1)) }
+    requires known { ArePlaced boxes.now marks.now placing.old k }
+    ensures placed { OnOk result (GoesOn boxes.now marks.now placing.old placing.new k (k + 1)) }
     ensures kept { OnOk result (placing.new.extents.items ≡ placing.old.extents.items) }
-    ensures same { OnOk result (ArePlacesKept placing.old.places.items placing.new.places.items) }
 {
     let top = ceiling(boxes, marks, k);
     let request = float_request(&shape_at(boxes, k), side, top);
     let place = placing.floats.place(&request)?;
-    push_place(&mut placing.places, place)?;
+    push_placement(placing, place)?;
     Ok(())
 }
 
@@ -111,19 +123,18 @@ fn place_solid(
     requires input { AreFlowBoxes boxes.now }
     requires within { k < length boxes.now }
     requires count { length marks.now ≡ length boxes.now }
-    requires near { (j : ℕ) → IsMarkNear j (length_at marks.now j) }
+    requires near { (j : ℕ) → IsMarkNear (weight boxes.now j) (length_at marks.now j) }
     requires solid { is_solid (block_at boxes.now k).inside ≡ true }
-    requires known { PlacesTo boxes.now marks.now (placing_of placing.old) k }
-    ensures placed { OnOk result (PlacesTo boxes.now marks.now (placing_of placing.new) (k + 1)) }
+    requires known { ArePlaced boxes.now marks.now placing.old k }
+    ensures placed { OnOk result (GoesOn boxes.now marks.now placing.old placing.new k (k + 1)) }
     ensures kept { OnOk result (AreExtentsKept boxes.now k placing.old.extents.items placing.new.extents.items) }
-    ensures same { OnOk result (ArePlacesKept placing.old.places.items placing.new.places.items) }
 {
     let shape = shape_at(boxes, k);
     let mark = length_at(marks, k);
     let place = placing.floats.fit_solid(&solid_request(&shape, mark));
     let extent = extent_below(mark, place.y, shape.height);
     write_at(&mut placing.extents, k, extent);
-    push_place(&mut placing.places, place)?;
+    push_placement(placing, place)?;
     Ok(())
 }
 
@@ -135,14 +146,68 @@ fn place_nowhere(
 ) -> Result<(), NoMemory>
     requires within { k < length boxes.now }
     requires float { (shape_at boxes.now k).float ≡ None }
-    requires solid { is_solid (block_at boxes.now k).inside ≡ false }
-    requires known { PlacesTo boxes.now _marks.now (placing_of placing.old) k }
-    ensures placed { OnOk result (PlacesTo boxes.now _marks.now (placing_of placing.new) (k + 1)) }
+    requires blocks { is_placed (block_at boxes.now k).inside ≡ false }
+    requires known { ArePlaced boxes.now _marks.now placing.old k }
+    ensures placed { OnOk result (GoesOn boxes.now _marks.now placing.old placing.new k (k + 1)) }
     ensures kept { OnOk result (placing.new.extents.items ≡ placing.old.extents.items) }
-    ensures same { OnOk result (ArePlacesKept placing.old.places.items placing.new.places.items) }
 {
-    push_place(&mut placing.places, nowhere())?;
+    push_placement(placing, nowhere())?;
     Ok(())
+}
+
+fn place_lines(
+    boxes: &[FlowBox],
+    marks: &[Unit],
+    placing: &mut Placing,
+    k: usize,
+) -> Result<(), NoMemory>
+    requires input { AreFlowBoxes boxes.now }
+    requires within { k < length boxes.now }
+    requires count { length marks.now ≡ length boxes.now }
+    requires near { (j : ℕ) → IsMarkNear (weight boxes.now j) (length_at marks.now j) }
+    requires lines { is_lines (block_at boxes.now k).inside ≡ true }
+    requires known { ArePlaced boxes.now marks.now placing.old k }
+    ensures placed { OnOk result (GoesOn boxes.now marks.now placing.old placing.new k (k + 1)) }
+    ensures kept { OnOk result (AreExtentsKept boxes.now k placing.old.extents.items placing.new.extents.items) }
+{
+    let top = sum_of(length_at(marks, k), block_at(boxes, k).edge_top);
+    let lines = boxes[k].lay_lines(placing.alloc, &mut placing.floats, top)?;
+    let depth = depth_below(top, lines.end);
+    write_at(&mut placing.extents, k, depth);
+    placing.places.push(nowhere())?;
+    placing.rows.push(lines.rows)?;
+    placing.met.push(lines.places)?;
+    Ok(())
+}
+
+impl FlowBox {
+    // The lines of a box that holds lines, from the top of its content.
+    fn lay_lines(&self, alloc: Global, floats: &mut Floats, top: Unit) -> Result<Lines, NoMemory>
+        requires lines { is_lines (block_of self.now.kind).inside ≡ true }
+        requires fits { KindFits self.now.kind }
+        requires top { IsNear top.0 }
+        requires floats { All (BoxWithin (pos 1152921504606846976)) floats.old }
+        ensures lines { IfOk result (λ out. AreLines (line_content_of self.now.kind) (content_of self.now.kind).left (content_of self.now.kind).right top.0 floats.old (lines_of out floats.new)) }
+        ensures near { (r : ℤ) → r ≤ℤ pos 1152921504606846976 → IsWithin r top.0 → All (BoxWithin r) floats.old
+            → IfOk result (λ out. LinesWithin (r +ℤ growth (line_content_of self.now.kind)) (lines_of out floats.new)) }
+    {
+        match &self.kind {
+            FlowKind::Lines(l) => {
+                let content = self.content();
+                lay(alloc, floats, &l.content, content.left, content.right, top)
+            }
+            _ => unreachable!(),
+        }
+    }
+}
+
+// How far an end lies below a top.
+fn depth_below(top: Unit, end: Unit) -> Unit
+    requires top { IsPosition top.0 }
+    requires end { IsPosition end.0 }
+    ensures { result.0 ≡ end.0 -ℤ top.0 }
+{
+    Unit(end.0 - top.0)
 }
 
 // How far the bottom of a box lies below its mark.
@@ -161,9 +226,9 @@ fn ceiling(boxes: &[FlowBox], marks: &[Unit], k: usize) -> Unit
     requires within { k < length boxes.now }
     requires positive { 0 < k }
     requires count { length marks.now ≡ length boxes.now }
-    requires near { (j : ℕ) → IsMarkNear j (length_at marks.now j) }
+    requires near { (j : ℕ) → IsMarkNear (weight boxes.now j) (length_at marks.now j) }
     ensures value { result.0 ≡ ceiling boxes.now marks.now k }
-    ensures near { IsCeilingNear k result.0 }
+    ensures near { IsCeilingNear (weight boxes.now k) result.0 }
 {
     let parent = parent_at(boxes, k);
     let content = sum_of(length_at(marks, parent), block_at(boxes, parent).edge_top);
@@ -202,7 +267,7 @@ fn solid_request(shape: &Shape, mark: Unit) -> SolidReq
     }
 }
 
-pub(crate) fn nowhere() -> Place
+fn nowhere() -> Place
     ensures { result ≡ no_place }
 {
     Place {
@@ -211,10 +276,16 @@ pub(crate) fn nowhere() -> Place
     }
 }
 
-pub(crate) fn push_place(places: &mut Vec<Place>, place: Place) -> Result<(), NoMemory>
-    ensures pushed { OnOk result (places.new.items ≡ places.old.items ++ place ∷ []) }
-    ensures same { OnOk result (ArePlacesKept places.old.items places.new.items) }
+// One more box, with this place and without lines.
+fn push_placement(placing: &mut Placing, place: Place) -> Result<(), NoMemory>
+    ensures extents { OnOk result (placing.new.extents.items ≡ placing.old.extents.items) }
+    ensures floats { OnOk result (placing.new.floats ≡ placing.old.floats) }
+    ensures places { OnOk result (placing.new.places.items ≡ placing.old.places.items ++ place ∷ []) }
+    ensures rows { OnOk result (placing.new.rows.items ≡ placing.old.rows.items ++ [] ∷ []) }
+    ensures met { OnOk result (placing.new.met.items ≡ placing.old.met.items ++ [] ∷ []) }
 {
-    places.push(place)?;
+    placing.places.push(place)?;
+    placing.rows.push(RowList::new(Vec::new(placing.alloc)))?;
+    placing.met.push(NodePlaceList::new(Vec::new(placing.alloc)))?;
     Ok(())
 }

@@ -1,15 +1,16 @@
 //! Boxes as the floats of their block formatting context see them.
 
-ghost use Rattle.std.specs.Prelude.{◌≡◌, ◌<◌, ◌+ℤ◌, length};
+ghost use Rattle.std.specs.Prelude.{◌≡◌, ◌<◌, ◌+ℤ◌, length, None};
 ghost use Rattle.lay_units.specs.Units.{IsUsed};
-ghost use Rattle.lay_flow.specs.BlockFloats.{content_of, shape_of, shape_at};
+ghost use Rattle.lay_flow.specs.BlockFloats.{content_of, no_shape, shape_of, shape_at};
 ghost use Rattle.lay_flow.specs.BlockSizes.{IsBoxSize};
 ghost use Rattle.lay_flow.specs.declared.flow_box.Across.{Across};
 ghost use Rattle.lay_flow.specs.Boxes.{box_at};
 ghost use Rattle.lay_flow.specs.FlowBoxes.{AreFlowBoxes, KindFits};
+ghost use Rattle.lay_flow.specs.Lengths.{no_length};
 
 use crate::columns::parent_at;
-use crate::flow_box::{Across, FlowBox, FlowKind};
+use crate::flow_box::{Across, BlockBox, FlowBox, FlowKind};
 use lay_floats::{Clear, Side};
 use lay_units::Unit;
 
@@ -57,35 +58,41 @@ pub(crate) fn side_at(boxes: &[FlowBox], k: usize) -> Option<Side>
 }
 
 impl FlowBox {
-    // Its content edges.
-    fn content(&self) -> Across
+    /// Its content edges.
+    pub(crate) fn content(&self) -> Across
         ensures { result ≡ content_of self.now.kind }
     {
-        match self.kind {
+        match &self.kind {
             FlowKind::Block(b) => b.content,
-            FlowKind::Solid(_) | FlowKind::Float(_) => Across {
-                left: Unit(0),
-                right: Unit(0),
-            },
+            FlowKind::Lines(l) => l.block.content,
+            FlowKind::Solid(_) | FlowKind::Float(_) | FlowKind::LineFloat(_) | FlowKind::Inline => {
+                Across {
+                    left: Unit(0),
+                    right: Unit(0),
+                }
+            }
         }
     }
 
     fn clear(&self) -> Clear
         ensures { (around : Across) → result ≡ (shape_of around self.now.kind).clear }
     {
-        match self.kind {
+        match &self.kind {
             FlowKind::Block(b) => b.clear,
+            FlowKind::Lines(l) => l.block.clear,
             FlowKind::Solid(b) => b.clear,
             FlowKind::Float(b) => b.clear,
+            FlowKind::LineFloat(_) | FlowKind::Inline => Clear::None,
         }
     }
 
     fn side(&self) -> Option<Side>
         ensures { (around : Across) → result ≡ (shape_of around self.now.kind).float }
     {
-        match self.kind {
-            FlowKind::Block(_) | FlowKind::Solid(_) => None,
+        match &self.kind {
+            FlowKind::Block(_) | FlowKind::Lines(_) | FlowKind::Solid(_) => None,
             FlowKind::Float(b) => Some(b.side),
+            FlowKind::LineFloat(_) | FlowKind::Inline => None,
         }
     }
 
@@ -93,35 +100,51 @@ impl FlowBox {
         requires { KindFits self.now.kind }
         ensures { result ≡ shape_of around self.now.kind }
     {
-        match self.kind {
-            FlowKind::Block(b) => Shape {
-                float: None,
-                clear: b.clear,
-                left: around.left,
-                right: around.right,
-                x: b.x,
-                width: Unit(0),
-                height: Unit(0),
-            },
+        match &self.kind {
+            FlowKind::Block(b) => in_flow(around, b),
+            FlowKind::Lines(l) => in_flow(around, &l.block),
             FlowKind::Solid(b) => Shape {
-                float: None,
                 clear: b.clear,
-                left: around.left,
-                right: around.right,
                 x: b.x,
                 width: b.width,
                 height: b.height,
+                ..no_shape(around)
             },
             FlowKind::Float(b) => Shape {
                 float: Some(b.side),
                 clear: b.clear,
-                left: around.left,
-                right: around.right,
-                x: Unit(0),
                 width: with_margins(b.margin.left, b.width, b.margin.right),
                 height: with_margins(b.margin.top, b.height, b.margin.bottom),
+                ..no_shape(around)
             },
+            FlowKind::LineFloat(_) | FlowKind::Inline => no_shape(around),
         }
+    }
+}
+
+// A block box, whose size is known later.
+fn in_flow(around: Across, b: &BlockBox) -> Shape
+    ensures { result ≡ record { float = None; clear = b.now.clear; left = around.left; right = around.right; x = b.now.x; width = no_length; height = no_length } }
+{
+    Shape {
+        clear: b.clear,
+        x: b.x,
+        ..no_shape(around)
+    }
+}
+
+// Nothing that floats see.
+fn no_shape(around: Across) -> Shape
+    ensures { result ≡ no_shape around }
+{
+    Shape {
+        float: None,
+        clear: Clear::None,
+        left: around.left,
+        right: around.right,
+        x: Unit(0),
+        width: Unit(0),
+        height: Unit(0),
     }
 }
 

@@ -1,17 +1,21 @@
--- How large the numbers of a pass become. Between a mark and the next lie at most a height and what a run's margins
--- collapse to, or a float, which together are less than 2^36 units; and the first float lies within 2^51 units.
-use Rattle.std.specs.Prelude.{ℕ, ◌≡◌, ◌+◌, ◌*◌, ◌<◌, ◌≤◌, ℤ, pos, neg_ℤ, ◌≤ℤ◌, ◌==◌, ◌&&◌, nat_lt, Bool, true, false, List, length}
+-- How large the numbers of a pass become, by the weight w of the boxes so far. Between a mark and the next lie at most a height
+-- and what a run's margins collapse to, or a float, which together are less than 2^36 units; lines reach at most 2^38 units
+-- further for each weight of theirs; and the first float lies within 2^51 units.
+use Rattle.std.specs.Prelude.{ℕ, ◌≡◌, ◌+◌, ◌*◌, ◌<◌, ◌≤◌, ℤ, pos, neg_ℤ, ◌+ℤ◌, ◌≤ℤ◌, ◌==◌, ◌&&◌, nat_lt, Bool, true, false, List, length}
 use Rattle.lay_flow.specs.declared.flow_box.FlowBox.{FlowBox}
 use Rattle.lay_flow.specs.Boxes.{parent_at}
 use Rattle.lay_units.specs.Units.{limit}
 use Rattle.lay_units.specs.declared.length.Unit.{Unit as Length}
 use Rattle.lay_margins.specs.StrutValue.{StrutValue}
 use Rattle.lay_flow.specs.declared.pass.Pass.{Pass}
+use Rattle.lay_flow.specs.declared.block.Inside.{Inside}
+use Rattle.lay_flow.specs.declared.block.Inside.TheVariants.{Blocks as blocks_inside, Lines as lines_inside, Solid as solid_inside}
 use Rattle.lay_flow.specs.Lengths.{length_at}
 use Rattle.lay_flow.specs.BlockSizes.{IsBoxSize, IsNear}
 use Rattle.lay_flow.specs.Children.{flag_at}
 use Rattle.lay_flow.specs.MarginRuns.{block_at, parts_tops}
 use Rattle.lay_flow.specs.BlockPositions.{is_solid}
+use Rattle.lay_flow.specs.Weights.{weight}
 use Rattle.lay_flow.specs.Pass.State.{PassState}
 
 -- the strut holds used margins
@@ -21,25 +25,41 @@ pub record StrutFits (s : StrutValue) : Type 0 where
   pub negative_least : neg_ℤ limit ≤ℤ s.negative
   pub negative_most : s.negative ≤ℤ pos 0
 
--- how far from the origin the boxes before the one at k reach
+-- how far from the origin boxes of this weight reach
 abbrev pub reach : ℕ → ℤ
-reach k = pos (2251799813685248 + 68719476736 * k)
+reach w = pos (2251799813685248 + 68719476736 * w)
 
 -- where a box without clearance may begin a run
 abbrev pub IsStartNear : ℕ → ℤ → Type 0
-IsStartNear k v = (neg_ℤ (reach k) ≤ℤ v) × (v ≤ℤ reach k)
+IsStartNear w v = (neg_ℤ (reach w) ≤ℤ v) × (v ≤ℤ reach w)
 
--- a clear edge of the box at k
+-- a clear edge of the box behind them
 abbrev pub IsEdgeNear : ℕ → ℤ → Type 0
-IsEdgeNear k v = (neg_ℤ (pos (2251799813685248 + 68719476736 * k + 2147483648)) ≤ℤ v) × (v ≤ℤ pos (2251799813685248 + 68719476736 * k + 2147483648))
+IsEdgeNear w v = (neg_ℤ (pos (2251799813685248 + 68719476736 * w + 2147483648)) ≤ℤ v) × (v ≤ℤ pos (2251799813685248 + 68719476736 * w + 2147483648))
 
--- a start of a run whose first top margin is that of the box at k
+-- a start of a run whose first top margin is that of the box behind them
 abbrev pub IsRunNear : ℕ → ℤ → Type 0
-IsRunNear k v = (neg_ℤ (pos (2251799813685248 + 68719476736 * k + 4294967296)) ≤ℤ v) × (v ≤ℤ pos (2251799813685248 + 68719476736 * k + 4294967296))
+IsRunNear w v = (neg_ℤ (pos (2251799813685248 + 68719476736 * w + 4294967296)) ≤ℤ v) × (v ≤ℤ pos (2251799813685248 + 68719476736 * w + 4294967296))
 
--- a mark of the box at k
+-- a mark of the box behind them
 abbrev pub IsMarkNear : ℕ → ℤ → Type 0
-IsMarkNear k v = (neg_ℤ (pos (2251799813685248 + 68719476736 * k + 6442450944)) ≤ℤ v) × (v ≤ℤ pos (2251799813685248 + 68719476736 * k + 6442450944))
+IsMarkNear w v = (neg_ℤ (pos (2251799813685248 + 68719476736 * w + 6442450944)) ≤ℤ v) × (v ≤ℤ pos (2251799813685248 + 68719476736 * w + 6442450944))
+
+-- the height of what is in a box: of lines their depth
+abbrev pub held_height : Inside → ℤ → ℤ → ℤ
+held_height blocks_inside depth content = content
+held_height lines_inside depth content = depth
+held_height solid_inside depth content = content
+
+-- where what is in a box ends
+abbrev pub held_end : Inside → ℤ → ℤ → ℤ → ℤ
+held_end blocks_inside top depth end = end
+held_end lines_inside top depth end = top +ℤ depth
+held_end solid_inside top depth end = end
+
+-- lines that stand at a mark below an edge end near
+abbrev pub IsLineDepth : ℤ → ℤ → ℤ → Type 0
+IsLineDepth mark edge depth = IsNear (mark +ℤ edge +ℤ depth)
 
 -- what margins collapse to
 abbrev pub IsCollapseNear : ℤ → Type 0
@@ -53,9 +73,9 @@ pub record StateFits (boxes : List FlowBox) (now : PassState) (p m : ℕ) : Type
   pub marks_length : length now.marks ≡ length boxes
   pub heights_length : length now.heights ≡ length boxes
   pub through_length : length now.through ≡ length boxes
-  pub start_near : IsRunNear now.first now.start
-  pub edge_near : now.hangs ≡ true → IsEdgeNear now.first now.start
-  pub mark_near : (j : ℕ) → IsMarkNear j (length_at now.marks j)
+  pub start_near : IsRunNear (weight boxes now.first) now.start
+  pub edge_near : now.hangs ≡ true → IsEdgeNear (weight boxes now.first) now.start
+  pub mark_near : (j : ℕ) → IsMarkNear (weight boxes j) (length_at now.marks j)
   pub strut_fits : StrutFits now.strut
   -- the boxes that wait for their marks have no border or padding above their content
   pub unparted : (j : ℕ) → now.first ≤ j → j < m → parts_tops boxes j ≡ false

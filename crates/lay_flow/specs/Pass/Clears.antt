@@ -13,7 +13,6 @@ use Rattle.lay_flow.specs.Clearance.{IsAbove}
 use Rattle.lay_flow.specs.BlockPositions.{Extents}
 use Rattle.lay_flow.specs.BlockLayout.{BlockLayout}
 use Rattle.lay_flow.specs.Pass.State.{PassState}
-use Rattle.lay_flow.specs.Pass.Placed.{Placing}
 use Rattle.lay_flow.specs.Pass.Knows.{MayBe, IsCandidate}
 
 -- a float of a side to clear
@@ -28,8 +27,9 @@ HasWaitingFloat boxes first k = (j : ℕ) × (first ≤ j) × (j < k) × IsSideT
 abbrev pub IsAboveFloats : List Placed → Clear → ℤ → Type 0
 IsAboveFloats floats clear hypothetical = (bottom : Option Length) × IsClearEdge floats clear bottom × IsAbove hypothetical bottom
 
--- the mark of the box at k in each layout that the blocks may have, but without clearance from that box on
-abbrev pub IsEdgeWithout : List FlowBox → PassState → Placing → ℕ → ℤ → Type 0
-IsEdgeWithout boxes now placing k edge =
-    (extents : Extents) (clear_edges : List Length) (w : BlockLayout) → MayBe boxes placing extents → IsCandidate boxes extents clear_edges w now.clears now.clear_edges k → ((j : ℕ) → k ≤ j → flag_at w.runs.clears j ≡ false)
+-- the mark of the box at k in each layout that the blocks may have with the depths known of the first n boxes, but without
+-- clearance from the box at k on
+abbrev pub IsEdgeWithout : List FlowBox → PassState → ℕ → List Length → ℕ → ℤ → Type 0
+IsEdgeWithout boxes now n known k edge =
+    (extents : Extents) (clear_edges : List Length) (w : BlockLayout) → MayBe boxes n known extents → IsCandidate boxes extents clear_edges w now.clears now.clear_edges k → ((j : ℕ) → k ≤ j → flag_at w.runs.clears j ≡ false)
     → edge ≡ length_at w.places.marks k

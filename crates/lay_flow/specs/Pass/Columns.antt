@@ -1,25 +1,62 @@
--- The columns that a pass leaves: marks, heights and places, an entry for each box, within their bounds.
-use Rattle.std.specs.Prelude.{ℕ, ◌≡◌, ◌<◌, pos, false, List, length}
+-- The columns that a pass leaves, an entry for each box, and their bounds: marks, heights, places, lines, and the corners that
+-- lines give to the floats that they met.
+use Rattle.std.specs.Prelude.{ℕ, ◌≡◌, ◌<◌, pos, false, List, [], ◌∷◌, ◌++◌, length, map, slice_index_or}
+use Rattle.lay_floats.specs.declared.requests.NodePlace.{NodePlace}
 use Rattle.lay_floats.specs.declared.requests.Place.{Place}
 use Rattle.lay_floats.specs.Within.{IsWithin}
 use Rattle.lay_flow.specs.declared.flow_columns.FlowColumns.{FlowColumns}
 use Rattle.lay_flow.specs.declared.flow_box.FlowBox.{FlowBox}
+use Rattle.lay_flow.specs.declared.flow_places.BoxPlace.{BoxPlace}
+use Rattle.lay_flow.specs.Boxes.{box_at}
 use Rattle.lay_flow.specs.Lengths.{length_at}
 use Rattle.lay_flow.specs.MarginRuns.{block_at}
 use Rattle.lay_flow.specs.BlockPositions.{is_solid}
-use Rattle.lay_flow.specs.BlockFloats.{place_at}
+use Rattle.lay_flow.specs.BlockFloats.{Placement, no_place}
 use Rattle.lay_flow.specs.BlockSizes.{IsBoxSize, IsNear}
+use Rattle.lay_flow.specs.ContextFlow.{AreContextPlaces}
+use Rattle.lay_flow.specs.FlowPlaces.{AreNearRows, border_box, box_place_at, place_or}
 
--- a place at most 2^52 units away
+-- a place at most 2^59 + 2^58 units away
 pub record IsFarPlace (p : Place) : Type 0 where
-  pub x : IsWithin (pos 4503599627370496) p.x.0
-  pub y : IsWithin (pos 4503599627370496) p.y.0
+  pub x : IsWithin (pos 864691128455135232) p.x.0
+  pub y : IsWithin (pos 864691128455135232) p.y.0
 
--- the columns that a pass leaves
+-- a place in a column of such
+abbrev pub corner_at : List Place → ℕ → Place
+corner_at places k = slice_index_or places k no_place
+
+-- lists of places, one after the other
+abbrev pub joined : List (List NodePlace) → List NodePlace
+joined [] = []
+joined (ps ∷ pss) = ps ++ joined pss
+
+-- a corner for each box: the last that these give to it
+pub record AreCorners (count : ℕ) (met : List (List NodePlace)) (corners : List Place) : Type 0 where
+  pub length_is : length corners ≡ count
+  pub each : (k : ℕ) → k < count → corner_at corners k ≡ place_or no_place k (joined met)
+
+-- the columns that a pass leaves are those of the context's flow, with these placements
+pub record AreColumnsOf (boxes : List FlowBox) (out : FlowColumns) : Type 0 where
+  pub places : List Placement
+  pub are : AreContextPlaces boxes out.tops.items out.heights.items places
+  pub places_are : map (λ p. p.place) places ≡ out.places.items
+  pub rows_are : map (λ p. p.lines.rows) places ≡ out.rows.items
+  pub corners_are : AreCorners (length boxes) (map (λ p. p.lines.places) places) out.corners.items
+
+-- and are within these bounds
 pub record AreNearColumns (boxes : List FlowBox) (out : FlowColumns) : Type 0 where
   pub tops_length : length out.tops.items ≡ length boxes
   pub heights_length : length out.heights.items ≡ length boxes
   pub places_length : length out.places.items ≡ length boxes
+  pub corners_length : length out.corners.items ≡ length boxes
   pub top : (k : ℕ) → k < length boxes → IsNear (length_at out.tops.items k)
   pub height : (k : ℕ) → k < length boxes → is_solid (block_at boxes k).inside ≡ false → IsBoxSize (length_at out.heights.items k)
-  pub place : (k : ℕ) → k < length boxes → IsFarPlace (place_at out.places.items k)
+  pub place : (k : ℕ) → k < length boxes → IsFarPlace (corner_at out.places.items k)
+  pub corner : (k : ℕ) → k < length boxes → IsFarPlace (corner_at out.corners.items k)
+  pub rows : AreNearRows out.rows.items
+
+-- the border boxes by these columns
+pub record AreBorderBoxes (boxes : List FlowBox) (columns : FlowColumns) (out : List BoxPlace) : Type 0 where
+  pub count : length out ≡ length boxes
+  pub each : (k : ℕ) → k < length boxes → box_place_at out k
+      ≡ border_box (box_at boxes k).kind (record { 0 = length_at columns.tops.items k }) (record { 0 = length_at columns.heights.items k }) (corner_at columns.places.items k) (corner_at columns.corners.items k)

@@ -4,33 +4,30 @@ use Rattle.lay_flow.specs.declared.flow_box.FlowBox.{FlowBox}
 use Rattle.lay_flow.specs.Boxes.{parent_at}
 use Rattle.lay_units.specs.declared.length.Unit.{Unit as Length}
 use Rattle.lay_floats.specs.declared.requests.Side.{Side}
-use Rattle.lay_floats.specs.declared.requests.Place.{Place}
-use Rattle.lay_flow.specs.declared.placement.Placing.{Placing as PlacingState}
+use Rattle.lay_floats.specs.declared.placed.Placed.{Placed}
 use Rattle.lay_flow.specs.Lengths.{length_at}
 use Rattle.lay_flow.specs.Children.{flag_at}
 use Rattle.lay_flow.specs.MarginRuns.{block_at}
-use Rattle.lay_flow.specs.BlockFloats.{shape_at, place_at}
-use Rattle.lay_flow.specs.BlockPositions.{Extents, is_solid}
+use Rattle.lay_flow.specs.BlockFloats.{Placement, placement_at, shape_at}
+use Rattle.lay_flow.specs.BlockPositions.{Extents, is_placed}
+use Rattle.lay_flow.specs.Weights.{weight}
 use Rattle.lay_flow.specs.BlockLayout.{BlockLayout, IsBlockLayout}
 use Rattle.lay_flow.specs.Clearance.{HasClearance}
 use Rattle.lay_flow.specs.Pass.State.{PassState, IsAt, IsBefore}
 use Rattle.lay_flow.specs.Pass.Bounds.{StateFits, IsStartNear, IsEdgeNear}
 use Rattle.lay_flow.specs.Pass.Placed.{Placing, PlacesTo}
 
--- extents as they may be at last: those of the solid boxes that are placed are known
-abbrev pub MayBe : List FlowBox → Placing → Extents → Type 0
-MayBe boxes now extents = (j : ℕ) → 0 < j → j < length now.places → is_solid (block_at boxes j).inside ≡ true → length_at extents.solid j ≡ length_at now.extents j
+-- extents as they may be at last: the depths of the first n boxes are known
+abbrev pub MayBe : List FlowBox → ℕ → List Length → Extents → Type 0
+MayBe boxes n known extents = (j : ℕ) → j < n → is_placed (block_at boxes j).inside ≡ true → length_at extents.depths j ≡ length_at known j
 
-abbrev pub placing_of : PlacingState → Placing
-placing_of p = record { extents = p.extents.items; floats = p.floats; places = p.places.items }
-
--- the context's own box and boxes that aren't solid have no extent
+-- boxes that hold blocks have no depth
 abbrev pub HaveNoExtent : List FlowBox → List Length → Type 0
-HaveNoExtent boxes extents = (j : ℕ) → (0 < j → is_solid (block_at boxes j).inside ≡ false) → length_at extents j ≡ pos 0
+HaveNoExtent boxes extents = (j : ℕ) → is_placed (block_at boxes j).inside ≡ false → length_at extents j ≡ pos 0
 
--- the extents but those of solid boxes from the place k on are the same
+-- the depths but those from the place k on of boxes that don't hold blocks are the same
 abbrev pub AreExtentsKept : List FlowBox → ℕ → List Length → List Length → Type 0
-AreExtentsKept boxes k old new = (j : ℕ) → (is_solid (block_at boxes j).inside ≡ true → j < k) → length_at new j ≡ length_at old j
+AreExtentsKept boxes k old new = (j : ℕ) → (is_placed (block_at boxes j).inside ≡ true → j < k) → length_at new j ≡ length_at old j
 
 -- a layout that the blocks may have at last: the boxes before m have the clearance that was decided
 pub record IsCandidate (boxes : List FlowBox) (extents : Extents) (clear_edges : List Length) (y : BlockLayout) (flags : List Bool) (edges : List Length) (m : ℕ) : Type 0 where
@@ -38,15 +35,15 @@ pub record IsCandidate (boxes : List FlowBox) (extents : Extents) (clear_edges :
   pub clears : (j : ℕ) → j < m → flag_at y.runs.clears j ≡ flag_at flags j
   pub edge : (j : ℕ) → j < m → flag_at flags j ≡ true → length_at clear_edges j ≡ length_at edges j
 
--- places of which those that are known are the same
-abbrev pub ArePlacesKept : List Place → List Place → Type 0
-ArePlacesKept old new = (j : ℕ) → j < length old → place_at new j ≡ place_at old j
+-- placements of which those that are known are the same
+abbrev pub ArePlacesKept : List Placement → List Placement → Type 0
+ArePlacesKept old new = (j : ℕ) → j < length old → placement_at new j ≡ placement_at old j
 
 -- the clearance of the boxes before m was decided as it is in every flow that the context may have at last
 abbrev pub AreDecided : List FlowBox → List Bool → List Length → Placing → ℕ → Type 0
 AreDecided boxes flags edges placing m =
     (k : ℕ) → 0 < k → k < m → (shape_at boxes k).float ≡ None
-    → (extents : Extents) (clear_edges : List Length) (y : BlockLayout) (places : List Place) → MayBe boxes placing extents → IsCandidate boxes extents clear_edges y flags edges m → ArePlacesKept placing.places places
+    → (extents : Extents) (clear_edges : List Length) (y : BlockLayout) (places : List Placement) → MayBe boxes (length placing.places) placing.extents extents → IsCandidate boxes extents clear_edges y flags edges m → ArePlacesKept placing.places places
     → HasClearance boxes extents clear_edges places y k
 
 -- the columns of clearance, as far as the boxes before m are decided
@@ -61,8 +58,8 @@ pub record AreClears (boxes : List FlowBox) (flags : List Bool) (edges : List Le
 -- the pass is at the place (p, m), and what it keeps is as in every layout that may be that of the context
 pub record Knows (boxes : List FlowBox) (now : PassState) (placing : Placing) (p m : ℕ) : Type 0 where
   pub fits : StateFits boxes now p m
-  pub near : IsStartNear m now.start
-  pub is_at : (extents : Extents) (clear_edges : List Length) (y : BlockLayout) → MayBe boxes placing extents → IsCandidate boxes extents clear_edges y now.clears now.clear_edges m → IsAt boxes clear_edges y now p m
+  pub near : IsStartNear (weight boxes m) now.start
+  pub is_at : (extents : Extents) (clear_edges : List Length) (y : BlockLayout) → MayBe boxes (length placing.places) placing.extents extents → IsCandidate boxes extents clear_edges y now.clears now.clear_edges m → IsAt boxes clear_edges y now p m
   pub no_extents : HaveNoExtent boxes placing.extents
   pub placed : PlacesTo boxes now.marks placing (length placing.places)
   pub early : length placing.places ≤ now.first
@@ -72,8 +69,8 @@ pub record Knows (boxes : List FlowBox) (now : PassState) (placing : Placing) (p
 -- the pass is before the top margin of the box at k, and it is decided whether that has clearance
 pub record IsReady (boxes : List FlowBox) (now : PassState) (placing : Placing) (k : ℕ) : Type 0 where
   pub fits : StateFits boxes now (parent_at boxes k) k
-  pub near : IsEdgeNear k now.start
-  pub is_before : (extents : Extents) (clear_edges : List Length) (y : BlockLayout) → MayBe boxes placing extents → IsCandidate boxes extents clear_edges y now.clears now.clear_edges (k + 1) → IsBefore boxes clear_edges y now k
+  pub near : IsEdgeNear (weight boxes k) now.start
+  pub is_before : (extents : Extents) (clear_edges : List Length) (y : BlockLayout) → MayBe boxes (length placing.places) placing.extents extents → IsCandidate boxes extents clear_edges y now.clears now.clear_edges (k + 1) → IsBefore boxes clear_edges y now k
   pub no_extents : HaveNoExtent boxes placing.extents
   pub placed : PlacesTo boxes now.marks placing (length placing.places)
   pub early : length placing.places ≤ now.first
