@@ -27,7 +27,7 @@ mod taking;
 mod top;
 
 pub use content::{Advance, InlineArea, InlineEnd, InlineStart, LineFloat, Part, Stretch};
-pub use frame::Extent;
+pub use frame::{Extent, Frame};
 pub use laws::one_lines;
 pub use laying::{Lines, lay};
 pub use line_content::LineContent;

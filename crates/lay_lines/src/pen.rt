@@ -54,7 +54,7 @@ impl Pen {
     }
 
     /// Before the content of a line.
-    pub(crate) fn blank(frame: &Frame, edge: Unit) -> Pen
+    pub fn blank(frame: &Frame, edge: Unit) -> Pen
         requires left { IsPosition frame.now.left.0 }
         requires edge { IsPosition edge.0 }
         requires fits { PenFits (blank (start_of frame.now edge.0)) }
@@ -88,7 +88,8 @@ impl Pen {
         pen
     }
 
-    fn over(self, frame: &Frame, part: Part) -> Pen
+    /// After one part more.
+    pub fn over(self, frame: &Frame, part: Part) -> Pen
         requires { PenFits (over frame.now self part) }
         ensures { result ≡ over frame.now self part }
     {

@@ -1,0 +1,12 @@
+use Rattle.std.proofs.Common.{◌≡◌, ◌++◌, drop}
+use Rattle.lay_lines.specs.Pens.{over_all}
+use Rattle.lay_inlines.specs.Bounds.{PensWithin}
+use Rattle.lay_inlines.specs.Strokes.{strokes, parts_of}
+use Rattle.lay_inlines.proofs.strokes.draw.Given as goal
+
+abbrev pub invariant-loop-k : goal.invariant-loop-k
+invariant-loop-k l = record {
+  strokes : l.out.items ++ strokes l.frame l.pen (parts_of (drop l.k l.stretches)) ≡ l.initial.out.items ++ strokes l.frame l.initial.pen (parts_of l.stretches);
+  pen : over_all l.frame l.pen (parts_of (drop l.k l.stretches)) ≡ over_all l.frame l.initial.pen (parts_of l.stretches);
+  fits : PensWithin l.frame l.pen (parts_of (drop l.k l.stretches));
+}

@@ -1,0 +1,6 @@
+pub mod Behind
+pub mod Bounds
+pub mod LinePieces
+pub mod OpenBoxes
+pub mod Spans
+pub mod Strokes

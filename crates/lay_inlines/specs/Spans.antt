@@ -1,0 +1,80 @@
+-- From where to where the inline boxes and the texts of a line reach on it (CSS 2.2, 9.4.2 and 8.6). An inline box
+-- begins after its left margin where its start is on the line, and where the line's content begins otherwise; it
+-- ends before its right margin where its end is on the line, and where the content ends otherwise. A text reaches
+-- over its parts that stay on the line, and has none where no part does.
+use Rattle.std.specs.Prelude.{ℕ, ◌==◌, ℤ, pos, ◌+ℤ◌, ◌-ℤ◌, Bool, true, false, ◌&&◌, if◌then◌else◌, List, [], ◌∷◌, ◌++◌, length, drop, take, ◌-◌, slice_index_or}
+use Rattle.lay_units.specs.declared.length.Unit.{Unit}
+use Rattle.lay_lines.specs.declared.content.InlineArea.{InlineArea}
+use Rattle.lay_inlines.specs.declared.line_piece.LinePieceKind.{LinePieceKind}
+use Rattle.lay_inlines.specs.declared.line_piece.LinePieceKind.TheVariants.{Line, Inline, Text}
+use Rattle.lay_inlines.specs.declared.spans.Span.{Span}
+use Rattle.lay_inlines.specs.declared.strokes.Stroke.{Stroke}
+use Rattle.lay_inlines.specs.declared.strokes.Shown.{Shown}
+use Rattle.lay_inlines.specs.declared.strokes.Shown.TheVariants.{OfText, Opens, Closes, Nothing}
+use Rattle.lay_inlines.specs.Strokes.{has_content, begin_of, end_of, stays, shown_of}
+
+abbrev pub unit : ℤ → Unit
+unit v = record { 0 = v }
+
+abbrev pub no_area : InlineArea
+no_area = record { above = unit (pos 0); below = unit (pos 0); margin_left = unit (pos 0); margin_right = unit (pos 0) }
+
+-- that of the box of this number
+abbrev pub area_at : List InlineArea → ℕ → InlineArea
+area_at areas n = slice_index_or areas n no_area
+
+abbrev pub span_of : LinePieceKind → ℕ → ℤ → ℤ → Span
+span_of kind n from to = record { kind = kind; node = n; from = unit from; to = unit to }
+
+-- the right border edges of the inline boxes that end on the line after these boxes' ends, innermost first
+abbrev pub edges_before : List InlineArea → Shown → ℤ → List Unit → List Unit
+edges_before areas (OfText t) to edges = edges
+edges_before areas (Opens n) to edges = drop 1 edges
+edges_before areas (Closes n) to edges = unit (to -ℤ (area_at areas n).margin_right.0) ∷ edges
+edges_before areas Nothing to edges = edges
+
+abbrev pub shown_before : Stroke → List Stroke → Shown
+shown_before s ss = shown_of s.part (stays s (has_content ss))
+
+-- where the inline boxes end that are open before these parts, as far as they end among them, innermost first
+abbrev pub right_edges : List InlineArea → List Stroke → List Unit
+right_edges areas [] = []
+right_edges areas (s ∷ ss) = edges_before areas (shown_before s ss) (end_of s (has_content ss)) (right_edges areas ss)
+
+-- and one that this many of them are in, where the line's content ends at `end`
+abbrev pub edge_at : List Unit → ℕ → ℤ → ℤ
+edge_at edges n end = (slice_index_or edges n (unit end)).0
+
+abbrev pub is_text : LinePieceKind → Bool
+is_text Line = false
+is_text Inline = false
+is_text Text = true
+
+-- a bit of a text before these; what is left of the text on its line follows it
+abbrev pub with_text : ℕ → ℤ → ℤ → List Span → List Span
+with_text t from to [] = span_of Text t from to ∷ []
+with_text t from to (s ∷ ss) =
+    if is_text s.kind && (s.node == t) then span_of Text t from s.to.0 ∷ ss
+    else span_of Text t from to ∷ s ∷ ss
+
+abbrev pub inline_span : List InlineArea → ℕ → ℤ → ℤ → Span
+inline_span areas n from to = span_of Inline n (from +ℤ (area_at areas n).margin_left.0) to
+
+-- what a part shows, before the spans of the parts behind it
+abbrev pub with_shown : List InlineArea → Shown → ℤ → ℤ → ℤ → List Span → List Span
+with_shown areas (OfText t) from to edge spans = with_text t from to spans
+with_shown areas (Opens n) from to edge spans = inline_span areas n from edge ∷ spans
+with_shown areas (Closes n) from to edge spans = spans
+with_shown areas Nothing from to edge spans = spans
+
+-- the boxes and texts that begin among these parts, in document order
+abbrev pub spans_of : List InlineArea → ℤ → List Stroke → List Span
+spans_of areas end [] = []
+spans_of areas end (s ∷ ss) =
+    with_shown areas (shown_before s ss) (begin_of s (has_content ss)) (end_of s (has_content ss)) (edge_at (right_edges areas ss) 0 end)
+    (spans_of areas end ss)
+
+-- the boxes that are open where the line's content begins, outermost first
+abbrev pub open_spans : ℤ → ℤ → List Unit → List ℕ → List Span
+open_spans start end edges [] = []
+open_spans start end edges (n ∷ ns) = span_of Inline n start (edge_at edges (length ns) end) ∷ open_spans start end edges ns

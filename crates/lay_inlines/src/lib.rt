@@ -1,0 +1,25 @@
+//! The pieces of the lines of a block container: the line boxes, and on each of them the inline boxes and the texts
+//! (CSS 2.2, 9.4.2, 10.8, 16.2 and 16.6.1).
+//!
+//! Contracts cite `pieces_of` of `specs/LinePieces.antt`, which stands on `specs/Strokes.antt` (where the content of
+//! a line stands) and `specs/Spans.antt` (from where to where boxes and texts reach on it).
+#![tactic(auto)]
+
+mod align;
+mod arithmetic;
+mod line;
+mod line_piece;
+mod lines;
+mod open_boxes;
+mod spans;
+mod strokes;
+
+pub use align::Align;
+pub use line_piece::{LinePiece, LinePieceKind, LinePieceList};
+pub use lines::{Container, LinesGeometry, line_pieces};
+
+#[cfg(test)]
+mod tests {
+    #[test]
+    fn nothing() {}
+}

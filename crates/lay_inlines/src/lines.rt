@@ -1,0 +1,92 @@
+//! The pieces of the lines of a block container.
+
+ghost use Rattle.std.specs.Prelude.{◌≡◌, ◌≤◌, ◌^◌, ℕ, [], List, take, drop, IfOk};
+ghost use Rattle.lay_lines.specs.Lines.{frame_of};
+ghost use Rattle.lay_lines.specs.Rows.{next_frame};
+ghost use Rattle.lay_inlines.specs.Bounds.{LinesWithin};
+ghost use Rattle.lay_inlines.specs.LinePieces.{pieces_of};
+
+use crate::align::Align;
+use crate::line::{Line, put_line};
+use crate::line_piece::{LinePiece, LinePieceList};
+use crate::open_boxes::pass;
+use lay_lines::{Ended, Frame, InlineArea, LineContent, Stretch};
+use lay_units::{NoMemory, Unit};
+use std::alloc::Global;
+
+/// A block container: its number, the left and right edge of its content box, and its `text-align`.
+#[derive(Clone, Copy)]
+pub struct Container {
+    pub node: u32,
+    pub left: Unit,
+    pub right: Unit,
+    pub align: Align,
+}
+
+/// The lines of a block container: its content, the rows that it was laid out in, and the areas of the boxes by
+/// their number. A box that has none there is as high as nothing and has no margins.
+#[derive(Clone, Copy)]
+pub struct LinesGeometry<'a> {
+    pub container: Container,
+    pub content: &'a LineContent,
+    pub rows: &'a [Ended],
+    pub areas: &'a [InlineArea],
+}
+
+/// The pieces of these lines (CSS 2.2, 9.4.2, 10.8, 16.2): line by line the line box, and then in document order its
+/// inline boxes and texts. A line that isn't seen has none. All lengths are in 1/64 px; the left edge is within 2^50
+/// of 0, tops and rooms of lines within 2^61, and heights and margins within 2^36. It gives NoMemory where memory
+/// runs out.
+pub fn line_pieces(alloc: Global, lines: &LinesGeometry) -> Result<LinePieceList, NoMemory>
+    requires { LinesWithin lines.now.container lines.now.rows.now lines.now.areas.now }
+    ensures { IfOk result (λ l. l
+        ≡ pieces_of lines.now.container lines.now.content.now lines.now.rows.now lines.now.areas.now) }
+{
+    let mut pieces = Vec::new(alloc);
+    let mut open_boxes = Vec::new(alloc);
+    let mut frame = first_frame(lines);
+    let mut rest = lines.content.stretches();
+    for k in 0..lines.rows.len() {
+        let row = lines.rows[k];
+        let count = row.reach.count.min(rest.len());
+        let taken = &rest[..count];
+        if row.seen {
+            let line = Line {
+                container: lines.container,
+                frame,
+                row,
+                areas: lines.areas,
+            };
+            put_line(alloc, &mut pieces, &line, open_boxes.as_slice(), taken)?;
+        }
+        pass(&mut open_boxes, taken)?;
+        frame = next_frame(frame, row.seen);
+        rest = &rest[count..];
+    }
+    Ok(LinePieceList::new(pieces))
+}
+
+fn first_frame(lines: &LinesGeometry) -> Frame
+    ensures { result ≡ frame_of lines.now.content.now lines.now.container.left lines.now.container.right }
+{
+    Frame {
+        left: lines.container.left,
+        right: lines.container.right,
+        strut: lines.content.strut(),
+        indent: lines.content.indent(),
+        tab: lines.content.tab(),
+    }
+}
+
+/// What the line after one has from its container.
+fn next_frame(frame: Frame, seen: bool) -> Frame
+    ensures { result ≡ next_frame frame seen }
+{
+    Frame {
+        left: frame.left,
+        right: frame.right,
+        strut: frame.strut,
+        indent: if seen { Unit(0) } else { frame.indent },
+        tab: frame.tab,
+    }
+}

@@ -1,0 +1,102 @@
+//! The content of a line, with the pen.
+
+ghost use Rattle.std.specs.Prelude.{◌≡◌, ◌++◌, ◌||◌, IfOk, OnOk};
+ghost use Rattle.lay_inlines.specs.Bounds.{PensWithin};
+ghost use Rattle.lay_inlines.specs.Strokes.{is_content, shown_of, place, strokes, parts_of};
+ghost use Rattle.lay_lines.specs.Pens.{over_all};
+
+use lay_lines::{Frame, Part, Pen, Stretch};
+use lay_units::{NoMemory, Unit};
+
+/// A part of a line's content, with how far content comes before it and after it.
+#[derive(Clone, Copy)]
+pub struct Stroke {
+    pub part: Part,
+    pub before: Pen,
+    pub after: Pen,
+}
+
+/// What a part shows on its line, with the number of the text or the inline box: a bit of a text, or where an inline
+/// box begins or ends.
+#[derive(Clone, Copy)]
+pub enum Shown {
+    OfText(u32),
+    Opens(u32),
+    Closes(u32),
+    Nothing,
+}
+
+/// Adds the strokes of these stretches, from a pen. The answer is the pen after them.
+pub fn draw(
+    out: &mut Vec<Stroke>,
+    frame: &Frame,
+    pen: Pen,
+    stretches: &[Stretch],
+) -> Result<Pen, NoMemory>
+    requires { PensWithin frame.now pen (parts_of stretches.now) }
+    ensures strokes { OnOk result (out.new.items
+        ≡ out.old.items ++ strokes frame.now pen (parts_of stretches.now)) }
+    ensures pen { IfOk result (λ p. p ≡ over_all frame.now pen (parts_of stretches.now)) }
+{
+    let mut pen = pen;
+    for k in 0..stretches.len() {
+        pen = draw_parts(out, frame, pen, stretches[k].parts.as_slice())?;
+    }
+    Ok(pen)
+}
+
+fn draw_parts(
+    out: &mut Vec<Stroke>,
+    frame: &Frame,
+    pen: Pen,
+    parts: &[Part],
+) -> Result<Pen, NoMemory>
+    requires { PensWithin frame.now pen parts.now }
+    ensures strokes { OnOk result (out.new.items ≡ out.old.items ++ strokes frame.now pen parts.now) }
+    ensures pen { IfOk result (λ p. p ≡ over_all frame.now pen parts.now) }
+{
+    let mut before = pen;
+    for k in 0..parts.len() {
+        let part = parts[k];
+        let after = before.over(frame, part);
+        out.push(Stroke {
+            part,
+            before,
+            after,
+        })?;
+        before = after;
+    }
+    Ok(before)
+}
+
+/// Whether collapsible spaces beside it stay.
+pub fn is_content(part: Part) -> bool
+    ensures { result ≡ is_content part }
+{
+    match part {
+        Part::PreservedSpace(_) | Part::Tab(_) | Part::Text(_) => true,
+        Part::Space(_) | Part::Linefeed | Part::Start(_) | Part::End(_) => false,
+    }
+}
+
+/// What a part shows. A collapsible space is a part of its text where it stays on the line.
+pub fn shown_of(part: Part, stays: bool) -> Shown
+    ensures { result ≡ shown_of part stays }
+{
+    match part {
+        Part::Space(space) if stays => Shown::OfText(space.text),
+        Part::PreservedSpace(space) => Shown::OfText(space.text),
+        Part::Tab(text) => Shown::OfText(text),
+        Part::Text(text) => Shown::OfText(text.text),
+        Part::Start(start) => Shown::Opens(start.node),
+        Part::End(end) => Shown::Closes(end.node),
+        Part::Space(_) | Part::Linefeed => Shown::Nothing,
+    }
+}
+
+/// Where the pen stands, with content following it on its line or without.
+pub fn place(pen: Pen, followed: bool) -> Unit
+    ensures { result.0 ≡ place pen followed }
+{
+    if followed { pen.at } else { pen.solid }
+}
