@@ -25,6 +25,9 @@ use Rattle.lay_flow.specs.declared.flow_box.FloatBox.{FloatBox}
 use Rattle.lay_flow.specs.declared.flow_box.FlowBox.{FlowBox}
 use Rattle.lay_flow.specs.declared.flow_box.FlowKind.{FlowKind}
 use Rattle.lay_flow.specs.declared.flow_box.FlowKind.TheVariants.{Block as block, Lines as lines, Solid as solid, Float as float, LineFloat as line_float, Inline as inline}
+use Rattle.lay_items.specs.InlineSegments.{segments_in}
+use Rattle.lay_lines.specs.LineContents.{LineContentValue}
+use Rattle.lay_content.specs.Stub.{content_in, has_seen}
 use Rattle.lay_flow.specs.Lengths.{length_at, no_length}
 use Rattle.lay_flow.specs.Boxes.{box_at, empty_block}
 use Rattle.lay_sizes.specs.declared.sizing.BoxSizes.{BoxSizes}
@@ -112,7 +115,14 @@ content_edges sizes lefts k = (block_box sides.None (sizes_at sizes k) (record {
 
 -- a line of the box at k is seen (9.4.2)
 abbrev pub holds_lines : FaceValue → List BoxNode → List BoxSizes → ℕ → Bool
-holds_lines face boxes sizes k = is_inline_container boxes k && has_seen_line_in face boxes sizes k
+holds_lines face boxes sizes k = is_inline_container boxes k && has_seen boxes sizes (segments_in face boxes k)
+
+-- what the lines of the box at k hold
+abbrev pub line_content_at : FaceValue → List BoxNode → List BoxSizes → List OwnBox → List Length → ℕ → Option LineContentValue
+line_content_at face boxes sizes inner lefts k =
+    if holds_lines face boxes sizes k
+    then Some (content_in face boxes sizes inner (content_edges sizes lefts k).left (content_edges sizes lefts k).right k)
+    else None
 
 -- the box at k stands in such lines
 abbrev pub is_in_lines : FaceValue → List BoxNode → List BoxSizes → ℕ → Bool
@@ -133,12 +143,15 @@ kind_alone boxes sizes inner lefts k =
     if is_inner boxes k then inner_box (float_side boxes k) (cleared_by boxes k) (own_box_at inner k) (record { 0 = length_at lefts k })
     else (if is_inline_level (role_at boxes k) then block empty_block else block (own_block boxes sizes lefts k))
 
+-- what the box at k is, where its lines hold this, or it holds none
+abbrev pub kind_by : FaceValue → List BoxNode → List BoxSizes → List OwnBox → List Length → ℕ → Option LineContentValue → FlowKind
+kind_by face boxes sizes inner lefts k (Some content) = lines (record { block = own_block boxes sizes lefts k; content = content })
+kind_by face boxes sizes inner lefts k None =
+    if is_in_lines face boxes sizes k then kind_in_lines (float_side boxes k) (cleared_by boxes k) (own_box_at inner k)
+    else kind_alone boxes sizes inner lefts k
+
 abbrev pub kind_of_box : FaceValue → List BoxNode → List BoxSizes → List OwnBox → List Length → ℕ → FlowKind
-kind_of_box face boxes sizes inner lefts k =
-    if holds_lines face boxes sizes k
-    then lines (record { block = own_block boxes sizes lefts k; content = content_in face boxes sizes inner (content_edges sizes lefts k) k })
-    else (if is_in_lines face boxes sizes k then kind_in_lines (float_side boxes k) (cleared_by boxes k) (own_box_at inner k)
-    else kind_alone boxes sizes inner lefts k)
+kind_of_box face boxes sizes inner lefts k = kind_by face boxes sizes inner lefts k (line_content_at face boxes sizes inner lefts k)
 
 abbrev pub flow_box_of : FaceValue → List BoxNode → List BoxSizes → List OwnBox → List Length → ℕ → FlowBox
 flow_box_of face boxes sizes inner lefts k = record {

@@ -31,7 +31,7 @@ use Rattle.lay_flow.specs.FlowPlaces.{FlowPlacesValue, box_place_at}
 use Rattle.lay_sizes.specs.declared.sizing.BoxSizes.{BoxSizes}
 use Rattle.lay_sizes.specs.BoxSizes.{border_width}
 use Rattle.lay_sizes.specs.SizeColumns.{sizes_at}
-use Rattle.lay_content.specs.InlineAreas.{areas_of}
+use Rattle.lay_content.specs.Stub.{areas_of}
 use Rattle.lay_context.specs.ContextBoxes.{is_inner}
 use Rattle.lay_context.specs.PieceParts.{with_pieces}
 

@@ -19,4 +19,5 @@ pub mod Local
 pub mod Settling
 pub mod PlaceBounds
 pub mod PieceCounts
+pub mod LineBoxes
 pub mod Laws

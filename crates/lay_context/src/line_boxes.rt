@@ -1,8 +1,10 @@
 //! The boxes of one context that hold lines.
 
-ghost use Rattle.std.specs.Prelude.{◌≡◌, ◌<◌, length, IfOk};
+ghost use Rattle.std.specs.Prelude.{◌≡◌, ◌<◌, Some, None, length, IfOk};
+ghost use Rattle.lay_context.specs.ContextBlocks.{line_content_at};
+ghost use Rattle.lay_context.specs.LineBoxes.{IsShaping};
 
-use crate::box_columns::{length_at, sizes_at, style_at};
+use crate::box_columns::{length_at, sizes_at};
 use crate::context_blocks::{content_right, inside_edge};
 use crate::input::PlaceInput;
 use lay_content::{ContentOf, has_seen_line, line_content};
@@ -27,6 +29,9 @@ pub(crate) fn lines_in(
     of: Shaping<'_>,
     k: usize,
 ) -> Result<Option<LineContent>, NoMemory>
+    requires shaping { IsShaping of }
+    requires place { k < length of.input.now.boxes }
+    ensures { IfOk result (λ o. o ≡ line_content_at of.input.now.face of.input.now.boxes of.input.now.sizes of.input.now.inner of.lefts.now k) }
 {
     if !of.inline_containers[k] {
         return Ok(None);
@@ -36,7 +41,8 @@ pub(crate) fn lines_in(
     if !has_seen_line(boxes, of.input.sizes(), segments.as_slice()) {
         return Ok(None);
     }
-    let left = inside_edge(length_at(of.lefts, k), sizes_at(of.input.sizes(), k));
+    let sizes = sizes_at(of.input.sizes(), k);
+    let left = inside_edge(length_at(of.lefts, k), sizes);
     let content = line_content(
         alloc,
         ContentOf {
@@ -44,6 +50,8 @@ pub(crate) fn lines_in(
             sizes: of.input.sizes(),
             inner: of.input.inner(),
             container: k,
+            left,
+            right: content_right(left, sizes),
             face: of.input.face(),
             segments: segments.as_slice(),
         },

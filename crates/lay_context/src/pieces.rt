@@ -63,7 +63,7 @@ fn with_box(
             let geometry = LinesGeometry {
                 container: line_container(input, k, &lines.block),
                 content: &lines.content,
-                rows: places.places.rows(k),
+                rows: places.places.lines()[k].as_slice(),
                 areas,
             };
             let on_lines = line_pieces(alloc, &geometry)?;
