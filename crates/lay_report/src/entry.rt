@@ -1,44 +1,55 @@
 //! The line of an entry of a history.
 
-ghost use Rattle.std.specs.Prelude.{◌≡◌, ◌++◌, OnOk, codes, string_bytes};
+ghost use Rattle.std.specs.Prelude.{◌≡◌, ◌++◌, IfOk, OnOk, OnErr, codes, string_bytes};
 ghost use Rattle.std.specs.Fmt.{decimal};
 ghost use Rattle.lay_report.specs.Report.{entry_line, command_line, reply_text, fault_number};
 
+use itoa::Buffer;
 use lay_doc::{EditFault, Entry, Reply};
 use lay_units::NoMemory;
-use std::fmt::Write;
+use std::alloc::Global;
 
-/// Adds the line of an entry. On an error a part of it may have been added.
-pub fn push_entry(text: &mut String, entry: &Entry) -> Result<(), NoMemory>
-    ensures { OnOk result (string_bytes text.new ≡ string_bytes text.old ++ entry_line entry.now) }
+/// Adds the line of an entry. For want of memory the text stays as it was.
+pub fn push_entry(alloc: Global, text: &mut String, entry: &Entry) -> Result<(), NoMemory>
+    ensures added { OnOk result (string_bytes text.new ≡ string_bytes text.old ++ entry_line entry.now) }
+    ensures kept { OnErr result (string_bytes text.new ≡ string_bytes text.old) }
 {
+    let line = line_of(alloc, entry)?;
+    text.push_str(&line)?;
+    Ok(())
+}
+
+fn line_of(alloc: Global, entry: &Entry) -> Result<String, NoMemory>
+    ensures { IfOk result (λ line. string_bytes line ≡ entry_line entry.now) }
+{
+    let mut line = String::new(alloc);
     match entry {
         Entry::Edit {
             editor,
             index,
             edit: _,
             reply,
-        } => push_command(text, "edit ", *editor, *index, *reply),
-        Entry::Publish { version } => push_version(text, "publish ", *version),
+        } => push_command(&mut line, "edit ", *editor, *index, *reply)?,
+        Entry::Publish { version } => push_version(&mut line, "publish ", *version)?,
         Entry::Latest {
             editor,
             index,
             reply,
-        } => push_command(text, "latest ", *editor, *index, *reply),
+        } => push_command(&mut line, "latest ", *editor, *index, *reply)?,
         Entry::Sync {
             editor,
             index,
             reply,
-        } => push_command(text, "sync ", *editor, *index, *reply),
+        } => push_command(&mut line, "sync ", *editor, *index, *reply)?,
     }
+    Ok(line)
 }
 
 /// Adds a line of a word and a version.
-pub fn push_version(text: &mut String, word: &str, version: u64) -> Result<(), NoMemory>
+pub(crate) fn push_version(text: &mut String, word: &str, version: u64) -> Result<(), NoMemory>
     ensures { OnOk result (string_bytes text.new ≡ string_bytes text.old ++ word.now ++ decimal version ++ codes "\n") }
 {
-    text.push_str(word)?;
-    write!(text, "{version}")?;
+    push_number(text, word, version)?;
     text.push_str("\n")?;
     Ok(())
 }
@@ -53,10 +64,8 @@ fn push_command(
 ) -> Result<(), NoMemory>
     ensures { OnOk result (string_bytes text.new ≡ string_bytes text.old ++ command_line word.now editor index reply) }
 {
-    text.push_str(word)?;
-    write!(text, "{editor}")?;
-    text.push_str(" ")?;
-    write!(text, "{index}")?;
+    push_number(text, word, u64::from(editor))?;
+    push_number(text, " ", u64::from(index))?;
     text.push_str(" ")?;
     push_reply(text, reply)?;
     text.push_str("\n")?;
@@ -77,12 +86,16 @@ fn push_reply(text: &mut String, reply: Reply) -> Result<(), NoMemory>
     }
 }
 
-/// Adds a word and a number.
+/// Adds a word and a number. For want of memory the text stays as it was.
 pub fn push_number(text: &mut String, word: &str, number: u64) -> Result<(), NoMemory>
-    ensures { OnOk result (string_bytes text.new ≡ string_bytes text.old ++ word.now ++ decimal number) }
+    ensures added { OnOk result (string_bytes text.new ≡ string_bytes text.old ++ word.now ++ decimal number) }
+    ensures kept { OnErr result (string_bytes text.new ≡ string_bytes text.old) }
 {
+    let mut buffer = Buffer::new();
+    let digits = buffer.format(number);
+    text.reserve(word.len() + digits.len())?;
     text.push_str(word)?;
-    write!(text, "{number}")?;
+    text.push_str(digits)?;
     Ok(())
 }
 

@@ -14,7 +14,7 @@ pub fn scratch_report(alloc: Global, tree: &Tree) -> Result<Text, NoMemory>
     ensures { IfOk result (λ t. t ≡ scratch_report tree.now) }
 {
     let mut text = String::new(alloc);
-    push_entry(&mut text, &Entry::Publish { version: 0 })?;
+    push_entry(alloc, &mut text, &Entry::Publish { version: 0 })?;
     push_final(alloc, &mut text, 0, tree)?;
     Ok(Text::new(text))
 }

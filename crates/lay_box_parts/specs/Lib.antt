@@ -1,0 +1,3 @@
+pub mod InlineParts
+pub mod LatestParts
+pub mod Laws
