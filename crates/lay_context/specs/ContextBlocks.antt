@@ -4,7 +4,7 @@
 -- and its floats are like others. The box of an inner context floats, or is solid: no float of this context overlaps it. The
 -- others are blocks, and the context's own box is one. Horizontal positions are counted from the left border edge of the
 -- context's own box.
-use Rattle.std.specs.Prelude.{ℕ, zero, suc, ◌≡◌, ◌<◌, ◌+ℤ◌, ◌&&◌, Bool, List, length, nat_lt, Option, Some, None, if◌then◌else◌}
+use Rattle.std.specs.Prelude.{ℕ, zero, suc, ◌≡◌, ◌<◌, ◌+ℤ◌, ◌&&◌, Bool, true, false, List, length, nat_lt, Option, Some, None, if◌then◌else◌}
 use Rattle.lay_units.specs.declared.length.Unit.{Unit as Length}
 use Rattle.lay_doc.specs.declared.style_words.Float.{Float}
 use Rattle.lay_doc.specs.declared.style_words.Float.TheVariants as floating
@@ -116,6 +116,15 @@ content_edges sizes lefts k = (block_box sides.None (sizes_at sizes k) (record {
 -- a line of the box at k is seen (9.4.2)
 abbrev pub holds_lines : FaceValue → List BoxNode → List BoxSizes → ℕ → Bool
 holds_lines face boxes sizes k = is_inline_container boxes k && has_seen boxes sizes (segments_in face boxes k)
+
+-- a flow box holds lines
+abbrev pub has_lines : FlowKind → Bool
+has_lines (block b) = false
+has_lines (lines l) = true
+has_lines (solid b) = false
+has_lines (float b) = false
+has_lines (line_float b) = false
+has_lines inline = false
 
 -- what the lines of the box at k hold
 abbrev pub line_content_at : FaceValue → List BoxNode → List BoxSizes → List OwnBox → List Length → ℕ → Option LineContentValue

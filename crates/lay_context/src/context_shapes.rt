@@ -1,10 +1,12 @@
 //! The boxes of one context as its block formatting context takes them.
 
-ghost use Rattle.std.specs.Prelude.{◌≡◌, ◌<◌, ◌+ℤ◌, pos, length, IfOk};
-ghost use Rattle.lay_units.specs.Units.{IsPosition};
+ghost use Rattle.std.specs.Prelude.{ℕ, ◌≡◌, ◌<◌, pos, length, IfOk};
 ghost use Rattle.lay_floats.specs.Within.{IsWithin};
 ghost use Rattle.lay_sizes.specs.SizeBounds.{SizeFits};
-ghost use Rattle.lay_context.specs.ContextBlocks.{AreFlowBoxesOf, block_box, cleared_by, cleared_sides, float_side, flow_box_of, inner_box, side_of};
+ghost use Rattle.lay_flow.specs.Boxes.{box_at};
+ghost use Rattle.lay_sizes.specs.OwnBoxes.{own_box_at};
+ghost use Rattle.lay_context.specs.ContextBlocks.{AreFlowBoxesOf, block_box, cleared_by, cleared_sides, float_box, float_side, flow_box_of, has_lines, inner_box, kind_alone, kind_in_lines, own_block, side_of};
+ghost use Rattle.lay_context.specs.LineBoxes.{IsShaping};
 ghost use Rattle.lay_context.specs.PlaceBounds.{AreNearLefts};
 
 use crate::box_columns::{is_inner, length_at, own_box_at, sizes_at, style_at};
@@ -40,7 +42,7 @@ pub(crate) fn flow_boxes_of(
     let count = input.boxes().len();
     let mut flow_boxes = Vec::with_capacity(alloc, count)?;
     for k in 0..count {
-        let flow_box = flow_box_of(alloc, of, &flow_boxes, k)?;
+        let flow_box = flow_box_of(alloc, &of, &flow_boxes, k)?;
         flow_boxes.push(flow_box)?;
     }
     Ok(flow_boxes)
@@ -49,10 +51,15 @@ pub(crate) fn flow_boxes_of(
 /// The box at k, where those before it are known.
 fn flow_box_of(
     alloc: Global,
-    of: Shaping<'_>,
+    of: &Shaping<'_>,
     flow_boxes: &[FlowBox],
     k: usize,
 ) -> Result<FlowBox, NoMemory>
+    requires shaping { IsShaping of.now.input.now.boxes of.now.lefts.now of.now.inline_containers.now }
+    requires place { k < length of.now.input.now.boxes }
+    requires known { length flow_boxes.now ≡ k }
+    requires before { (j : ℕ) → j < k → box_at flow_boxes.now j ≡ flow_box_of of.now.input.now.face of.now.input.now.boxes of.now.input.now.sizes of.now.input.now.inner of.now.lefts.now j }
+    ensures { IfOk result (λ b. b ≡ flow_box_of of.now.input.now.face of.now.input.now.boxes of.now.input.now.sizes of.now.input.now.inner of.now.lefts.now k) }
 {
     let parent = of.input.container(k);
     let in_lines = 0 < k && holds_lines(flow_boxes, parent);
@@ -61,7 +68,7 @@ fn flow_box_of(
             block: own_block(of, k),
             content,
         }),
-        None if in_lines => kind_in_lines(of.input, k),
+        None if in_lines => kind_in_lines(of, k),
         None => kind_alone(of, k),
     };
     Ok(FlowBox { parent, kind })
@@ -69,13 +76,19 @@ fn flow_box_of(
 
 /// Whether the flow box at k holds lines.
 fn holds_lines(flow_boxes: &[FlowBox], k: usize) -> bool
+    requires { k < length flow_boxes.now }
+    ensures { result ≡ has_lines (box_at flow_boxes.now k).kind }
 {
     matches!(flow_boxes[k].kind, FlowKind::Lines(_))
 }
 
-/// What a box in lines is: the lines place floats, and know the others.
-fn kind_in_lines(input: &PlaceInput, k: usize) -> FlowKind
+/// What the box at k is in the lines of its container, which place it if it floats.
+fn kind_in_lines(of: &Shaping<'_>, k: usize) -> FlowKind
+    requires { k < length of.now.input.now.boxes }
+    ensures { result ≡ kind_in_lines (float_side of.now.input.now.boxes k) (cleared_by of.now.input.now.boxes k) (own_box_at of.now.input.now.inner k) }
 {
+    let input = of.input;
+    let _ = input.context_boxes();
     match float_side(input, k) {
         None => FlowKind::Inline,
         Some(side) => FlowKind::LineFloat(float_box(
@@ -86,30 +99,40 @@ fn kind_in_lines(input: &PlaceInput, k: usize) -> FlowKind
     }
 }
 
-/// What a box is that is in no lines. Inline boxes and texts take no room then.
-fn kind_alone(of: Shaping<'_>, k: usize) -> FlowKind
+/// What the box at k is, where it is in no lines. Inline boxes and texts take no room then.
+fn kind_alone(of: &Shaping<'_>, k: usize) -> FlowKind
+    requires lefts { length of.now.lefts.now ≡ length of.now.input.now.boxes }
+    requires near { AreNearLefts of.now.lefts.now }
+    requires place { k < length of.now.input.now.boxes }
+    ensures { result ≡ kind_alone of.now.input.now.boxes of.now.input.now.sizes of.now.input.now.inner of.now.lefts.now k }
 {
-    let boxes = of.input.boxes();
-    if is_inner(boxes, k) {
+    let input = of.input;
+    if is_inner(input.boxes(), k) {
         return inner_box(
-            float_side(of.input, k),
-            cleared_by(of.input, k),
-            own_box_at(of.input.inner(), k),
+            float_side(input, k),
+            cleared_by(input, k),
+            own_box_at(input.inner(), k),
             length_at(of.lefts, k),
         );
     }
-    if of.input.role(k).is_inline_level() {
+    if input.role(k).is_inline_level() {
         return FlowKind::Block(EMPTY_BLOCK);
     }
     FlowKind::Block(own_block(of, k))
 }
 
 /// The block box at k.
-fn own_block(of: Shaping<'_>, k: usize) -> BlockBox
+fn own_block(of: &Shaping<'_>, k: usize) -> BlockBox
+    requires lefts { length of.now.lefts.now ≡ length of.now.input.now.boxes }
+    requires near { AreNearLefts of.now.lefts.now }
+    requires place { k < length of.now.input.now.boxes }
+    ensures { result ≡ own_block of.now.input.now.boxes of.now.input.now.sizes of.now.lefts.now k }
 {
+    let input = of.input;
+    let _ = input.context_boxes();
     block_box(
-        cleared_by(of.input, k),
-        sizes_at(of.input.sizes(), k),
+        cleared_by(input, k),
+        sizes_at(input.sizes(), k),
         length_at(of.lefts, k),
     )
 }

@@ -26,12 +26,12 @@ pub(crate) struct Shaping<'a> {
 /// the answer where it is out of the bounds of lines.
 pub(crate) fn lines_in(
     alloc: Global,
-    of: Shaping<'_>,
+    of: &Shaping<'_>,
     k: usize,
 ) -> Result<Option<LineContent>, NoMemory>
-    requires shaping { IsShaping of }
-    requires place { k < length of.input.now.boxes }
-    ensures { IfOk result (λ o. o ≡ line_content_at of.input.now.face of.input.now.boxes of.input.now.sizes of.input.now.inner of.lefts.now k) }
+    requires shaping { IsShaping of.now.input.now.boxes of.now.lefts.now of.now.inline_containers.now }
+    requires place { k < length of.now.input.now.boxes }
+    ensures { IfOk result (λ o. o ≡ line_content_at of.now.input.now.face of.now.input.now.boxes of.now.input.now.sizes of.now.input.now.inner of.now.lefts.now k) }
 {
     if !of.inline_containers[k] {
         return Ok(None);
@@ -45,7 +45,7 @@ pub(crate) fn lines_in(
     let left = inside_edge(length_at(of.lefts, k), sizes);
     let content = line_content(
         alloc,
-        ContentOf {
+        &ContentOf {
             boxes,
             sizes: of.input.sizes(),
             inner: of.input.inner(),

@@ -53,6 +53,13 @@ fn with_box(
     areas: &[InlineArea],
     k: usize,
 ) -> Result<PieceList, NoMemory>
+    requires place { k < length input.now.boxes }
+    requires counts { HaveCounts input.now.boxes places.now }
+    requires fit { AreLinesFit places.now.flow_boxes places.now.places areas.now }
+    requires areas { areas.now ≡ areas_of input.now.face input.now.boxes input.now.sizes }
+    requires near { AreNearPieces pieces }
+    ensures pieces { IfOk result (λ p. p ≡ with_pieces pieces (pieces_of_box input.now.face input.now.boxes input.now.sizes places.now.flow_boxes places.now.places k)) }
+    ensures near { IfOk result AreNearPieces }
 {
     if is_inner(input.boxes(), k) || input.role(k).is_inline_level() {
         return Ok(pieces);
@@ -79,6 +86,9 @@ fn with_lines(
     boxes: &[BoxNode],
     on_lines: &[LinePiece],
 ) -> Result<PieceList, NoMemory>
+    requires near { AreNearPieces pieces }
+    ensures pieces { IfOk result (λ p. p ≡ with_pieces pieces (map (piece_on_line boxes.now) on_lines.now)) }
+    ensures near { IfOk result AreNearPieces }
 {
     let mut pieces = pieces;
     for k in 0..on_lines.len() {
@@ -89,6 +99,8 @@ fn with_lines(
 
 /// A piece on a line. NoMemory is also the answer where it stands more than 2^60 units away.
 fn piece_on_line(boxes: &[BoxNode], piece: LinePiece) -> Result<Frag, NoMemory>
+    ensures piece { IfOk result (λ f. f ≡ piece_on_line boxes.now piece) }
+    ensures near { IfOk result (λ f. IsRectNear f.rect) }
 {
     let node = match boxes.get(piece.node as usize) {
         Some(node) => node.node,
@@ -126,6 +138,9 @@ fn near_rect(rect: Rect) -> Result<Rect, NoMemory>
 
 /// The block box at k, as its lines take it.
 fn line_container(input: &PlaceInput, k: usize, block: &BlockBox) -> Container
+    requires place { k < length input.now.boxes }
+    requires few { k ≤ 65536 }
+    ensures { result ≡ line_container input.now.boxes k block.now }
 {
     Container {
         node: k as u32,
