@@ -14,12 +14,10 @@ use Rattle.lay_doc.specs.ComputedStyle.{style_at}
 use Rattle.lay_boxgen.specs.declared.box_tree.BoxNode.{BoxNode}
 use Rattle.lay_boxgen.specs.BoxColumns.{box_styles}
 use Rattle.lay_boxgen.specs.Roles.{clear_at, is_inline_level, role_at}
-use Rattle.lay_face.specs.FaceValue.{FaceValue}
 use Rattle.lay_floats.specs.declared.requests.Side.{Side}
 use Rattle.lay_floats.specs.declared.requests.Side.TheVariants as side
 use Rattle.lay_floats.specs.declared.requests.Clear.{Clear as Cleared}
 use Rattle.lay_floats.specs.declared.requests.Clear.TheVariants as sides
-use Rattle.lay_flow.specs.declared.flow_box.Across.{Across}
 use Rattle.lay_flow.specs.declared.flow_box.BlockBox.{BlockBox}
 use Rattle.lay_flow.specs.declared.flow_box.FloatBox.{FloatBox}
 use Rattle.lay_flow.specs.declared.flow_box.FlowBox.{FlowBox}
@@ -27,7 +25,10 @@ use Rattle.lay_flow.specs.declared.flow_box.FlowKind.{FlowKind}
 use Rattle.lay_flow.specs.declared.flow_box.FlowKind.TheVariants.{Block as block, Lines as lines, Solid as solid, Float as float, LineFloat as line_float, Inline as inline}
 use Rattle.lay_items.specs.InlineSegments.{segments_in}
 use Rattle.lay_lines.specs.LineContents.{LineContentValue}
-use Rattle.lay_content.specs.Stub.{content_in, has_seen}
+use Rattle.lay_content.specs.declared.container.Container.{Container}
+use Rattle.lay_content.specs.BoxMeasuresValue.{BoxMeasuresValue}
+use Rattle.lay_content.specs.Contents.{content_in}
+use Rattle.lay_content.specs.SeenLines.{has_seen_line}
 use Rattle.lay_flow.specs.Lengths.{length_at, no_length}
 use Rattle.lay_flow.specs.Boxes.{box_at, empty_block}
 use Rattle.lay_sizes.specs.declared.sizing.BoxSizes.{BoxSizes}
@@ -109,13 +110,34 @@ abbrev pub cleared_by : List BoxNode → ℕ → Cleared
 cleared_by boxes zero = sides.None
 cleared_by boxes (suc k) = cleared_sides (clear_at boxes (suc k))
 
--- the edges of the content of the box at k
-abbrev pub content_edges : List BoxSizes → List Length → ℕ → Across
-content_edges sizes lefts k = (block_box sides.None (sizes_at sizes k) (record { 0 = length_at lefts k })).content
+-- the block box at k
+abbrev pub own_block : List BoxNode → List BoxSizes → List Length → ℕ → BlockBox
+own_block boxes sizes lefts k = block_box (cleared_by boxes k) (sizes_at sizes k) (record { 0 = length_at lefts k })
 
--- a line of the box at k is seen (9.4.2)
-abbrev pub holds_lines : FaceValue → List BoxNode → List BoxSizes → ℕ → Bool
-holds_lines face boxes sizes k = is_inline_container boxes k && has_seen boxes sizes (segments_in face boxes k)
+-- the box at k, as the content of its lines takes it
+abbrev pub line_container : BoxMeasuresValue → List Length → ℕ → Container
+line_container m lefts k = record {
+  place = k;
+  containing = (sizes_at m.sizes k).containing;
+  left = (own_block m.boxes m.sizes lefts k).content.left;
+  right = (own_block m.boxes m.sizes lefts k).content.right;
+}
+
+-- what lines of the box at k would hold
+abbrev pub content_of_box : BoxMeasuresValue → List Length → ℕ → LineContentValue
+content_of_box m lefts k = content_in m (line_container m lefts k) (segments_in m.face m.boxes k)
+
+-- the box at k has lines of which one is seen (9.4.2)
+abbrev pub holds_lines : BoxMeasuresValue → List Length → ℕ → Bool
+holds_lines m lefts k = is_inline_container m.boxes k && has_seen_line (content_of_box m lefts k).stretches
+
+-- what they hold
+abbrev pub lines_in : BoxMeasuresValue → List Length → ℕ → Option LineContentValue
+lines_in m lefts k = if holds_lines m lefts k then Some (content_of_box m lefts k) else None
+
+-- the box at k stands in such lines
+abbrev pub is_in_lines : BoxMeasuresValue → List Length → ℕ → Bool
+is_in_lines m lefts k = nat_lt 0 k && holds_lines m lefts (container_of m.boxes k)
 
 -- a flow box holds lines
 abbrev pub has_lines : FlowKind → Bool
@@ -125,21 +147,6 @@ has_lines (solid b) = false
 has_lines (float b) = false
 has_lines (line_float b) = false
 has_lines inline = false
-
--- what the lines of the box at k hold
-abbrev pub line_content_at : FaceValue → List BoxNode → List BoxSizes → List OwnBox → List Length → ℕ → Option LineContentValue
-line_content_at face boxes sizes inner lefts k =
-    if holds_lines face boxes sizes k
-    then Some (content_in face boxes sizes inner (content_edges sizes lefts k).left (content_edges sizes lefts k).right k)
-    else None
-
--- the box at k stands in such lines
-abbrev pub is_in_lines : FaceValue → List BoxNode → List BoxSizes → ℕ → Bool
-is_in_lines face boxes sizes k = nat_lt 0 k && holds_lines face boxes sizes (container_of boxes k)
-
--- the block box at k
-abbrev pub own_block : List BoxNode → List BoxSizes → List Length → ℕ → BlockBox
-own_block boxes sizes lefts k = block_box (cleared_by boxes k) (sizes_at sizes k) (record { 0 = length_at lefts k })
 
 -- what a box in lines is: a float of this side, or another
 abbrev pub kind_in_lines : Option Side → Cleared → OwnBox → FlowKind
@@ -153,21 +160,15 @@ kind_alone boxes sizes inner lefts k =
     else (if is_inline_level (role_at boxes k) then block empty_block else block (own_block boxes sizes lefts k))
 
 -- what the box at k is, where its lines hold this, or it holds none
-abbrev pub kind_by : FaceValue → List BoxNode → List BoxSizes → List OwnBox → List Length → ℕ → Option LineContentValue → FlowKind
-kind_by face boxes sizes inner lefts k (Some content) = lines (record { block = own_block boxes sizes lefts k; content = content })
-kind_by face boxes sizes inner lefts k None =
-    if is_in_lines face boxes sizes k then kind_in_lines (float_side boxes k) (cleared_by boxes k) (own_box_at inner k)
-    else kind_alone boxes sizes inner lefts k
+abbrev pub kind_by : BoxMeasuresValue → List Length → ℕ → Option LineContentValue → FlowKind
+kind_by m lefts k (Some content) = lines (record { block = own_block m.boxes m.sizes lefts k; content = content })
+kind_by m lefts k None =
+    if is_in_lines m lefts k then kind_in_lines (float_side m.boxes k) (cleared_by m.boxes k) (own_box_at m.inner k)
+    else kind_alone m.boxes m.sizes m.inner lefts k
 
-abbrev pub kind_of_box : FaceValue → List BoxNode → List BoxSizes → List OwnBox → List Length → ℕ → FlowKind
-kind_of_box face boxes sizes inner lefts k = kind_by face boxes sizes inner lefts k (line_content_at face boxes sizes inner lefts k)
+abbrev pub flow_box_of : BoxMeasuresValue → List Length → ℕ → FlowBox
+flow_box_of m lefts k = record { parent = container_of m.boxes k; kind = kind_by m lefts k (lines_in m lefts k) }
 
-abbrev pub flow_box_of : FaceValue → List BoxNode → List BoxSizes → List OwnBox → List Length → ℕ → FlowBox
-flow_box_of face boxes sizes inner lefts k = record {
-  parent = container_of boxes k;
-  kind = kind_of_box face boxes sizes inner lefts k;
-}
-
-pub record AreFlowBoxesOf (face : FaceValue) (boxes : List BoxNode) (sizes : List BoxSizes) (inner : List OwnBox) (lefts : List Length) (flow_boxes : List FlowBox) : Type 0 where
-  pub count : length flow_boxes ≡ length boxes
-  pub each : (k : ℕ) → k < length boxes → box_at flow_boxes k ≡ flow_box_of face boxes sizes inner lefts k
+pub record AreFlowBoxesOf (m : BoxMeasuresValue) (lefts : List Length) (flow_boxes : List FlowBox) : Type 0 where
+  pub count : length flow_boxes ≡ length m.boxes
+  pub each : (k : ℕ) → k < length m.boxes → box_at flow_boxes k ≡ flow_box_of m lefts k

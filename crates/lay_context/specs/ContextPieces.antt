@@ -12,9 +12,7 @@ use Rattle.lay_frag.specs.declared.frag.FragKind.TheVariants as kind
 use Rattle.lay_boxgen.specs.declared.box_tree.BoxNode.{BoxNode}
 use Rattle.lay_boxgen.specs.BoxColumns.{box_ids, box_styles}
 use Rattle.lay_boxgen.specs.Roles.{is_inline_level, role_at}
-use Rattle.lay_face.specs.FaceValue.{FaceValue}
 use Rattle.lay_lines.specs.declared.row.Ended.{Ended}
-use Rattle.lay_lines.specs.declared.content.InlineArea.{InlineArea}
 use Rattle.lay_inlines.specs.declared.align.Align.{Align}
 use Rattle.lay_inlines.specs.declared.align.Align.TheVariants as aligned
 use Rattle.lay_inlines.specs.declared.line_piece.LinePiece.{LinePiece}
@@ -31,7 +29,8 @@ use Rattle.lay_flow.specs.FlowPlaces.{FlowPlacesValue, box_place_at}
 use Rattle.lay_sizes.specs.declared.sizing.BoxSizes.{BoxSizes}
 use Rattle.lay_sizes.specs.BoxSizes.{border_width}
 use Rattle.lay_sizes.specs.SizeColumns.{sizes_at}
-use Rattle.lay_content.specs.Stub.{areas_of}
+use Rattle.lay_content.specs.BoxMeasuresValue.{BoxMeasuresValue}
+use Rattle.lay_content.specs.InlineBoxes.{areas_of}
 use Rattle.lay_context.specs.ContextBoxes.{is_inner}
 use Rattle.lay_context.specs.PieceParts.{with_pieces}
 
@@ -86,23 +85,23 @@ line_container boxes k b = record {
 }
 
 -- the pieces of the lines of the box at k, where it is this in its flow
-abbrev pub pieces_on_lines : FaceValue → List BoxNode → List BoxSizes → FlowPlacesValue → ℕ → FlowKind → List Frag
-pieces_on_lines face boxes sizes places k (block b) = []
-pieces_on_lines face boxes sizes places k (lines l) =
-    map (piece_on_line boxes) (pieces_of (line_container boxes k l.block) l.content (rows_at places k) (areas_of face boxes sizes))
-pieces_on_lines face boxes sizes places k (solid b) = []
-pieces_on_lines face boxes sizes places k (float b) = []
-pieces_on_lines face boxes sizes places k (line_float b) = []
-pieces_on_lines face boxes sizes places k inline = []
+abbrev pub pieces_on_lines : BoxMeasuresValue → FlowPlacesValue → ℕ → FlowKind → List Frag
+pieces_on_lines m places k (block b) = []
+pieces_on_lines m places k (lines l) =
+    map (piece_on_line m.boxes) (pieces_of (line_container m.boxes k l.block) l.content (rows_at places k) (areas_of m))
+pieces_on_lines m places k (solid b) = []
+pieces_on_lines m places k (float b) = []
+pieces_on_lines m places k (line_float b) = []
+pieces_on_lines m places k inline = []
 
 -- the pieces of the box at k
-abbrev pub pieces_of_box : FaceValue → List BoxNode → List BoxSizes → List FlowBox → FlowPlacesValue → ℕ → List Frag
-pieces_of_box face boxes sizes flow_boxes places k =
-    if is_inner boxes k || is_inline_level (role_at boxes k) then []
-    else piece_of_box boxes sizes places k ∷ pieces_on_lines face boxes sizes places k (box_at flow_boxes k).kind
+abbrev pub pieces_of_box : BoxMeasuresValue → List FlowBox → FlowPlacesValue → ℕ → List Frag
+pieces_of_box m flow_boxes places k =
+    if is_inner m.boxes k || is_inline_level (role_at m.boxes k) then []
+    else piece_of_box m.boxes m.sizes places k ∷ pieces_on_lines m places k (box_at flow_boxes k).kind
 
 -- the pieces of the first n boxes, each with its part
-abbrev pub pieces_to : FaceValue → List BoxNode → List BoxSizes → List FlowBox → FlowPlacesValue → ℕ → List Frag
-pieces_to face boxes sizes flow_boxes places zero = []
-pieces_to face boxes sizes flow_boxes places (suc k) =
-    with_pieces (pieces_to face boxes sizes flow_boxes places k) (pieces_of_box face boxes sizes flow_boxes places k)
+abbrev pub pieces_to : BoxMeasuresValue → List FlowBox → FlowPlacesValue → ℕ → List Frag
+pieces_to m flow_boxes places zero = []
+pieces_to m flow_boxes places (suc k) =
+    with_pieces (pieces_to m flow_boxes places k) (pieces_of_box m flow_boxes places k)

@@ -4,6 +4,9 @@ use Rattle.std.specs.Prelude.{ℕ, zero, suc, ◌≡◌, List, [], ◌∷◌, �
 use Rattle.lay_units.specs.declared.length.Unit.{Unit as Length}
 use Rattle.lay_frag.specs.declared.frag.Frag.{Frag}
 use Rattle.lay_boxgen.specs.declared.box_tree.BoxNode.{BoxNode}
+use Rattle.lay_box_parts.specs.declared.inline_part.InlinePart.{InlinePart}
+use Rattle.lay_box_parts.specs.InlineParts.{AreInlineParts}
+use Rattle.lay_content.specs.BoxMeasuresValue.{BoxMeasuresValue}
 use Rattle.lay_face.specs.FaceValue.{FaceValue}
 use Rattle.lay_flow.specs.declared.flow_box.FlowBox.{FlowBox}
 use Rattle.lay_flow.specs.FlowPlaces.{FlowPlacesValue, IsFlowOf, box_place_at}
@@ -16,6 +19,8 @@ use Rattle.lay_context.specs.ContextBlocks.{AreFlowBoxesOf, HasLefts}
 use Rattle.lay_context.specs.ContextPieces.{pieces_to}
 
 pub record ContextPlaces : Type 0 where
+  -- which parts of inline boxes the boxes are (8.6)
+  pub parts : List InlinePart
   -- the left border edges of boxes in flow, where no float is beside them
   pub lefts : List Length
   -- the boxes as block flow takes them
@@ -23,10 +28,15 @@ pub record ContextPlaces : Type 0 where
   -- the corners and the heights of border boxes, and the lines of each box
   pub places : FlowPlacesValue
 
+-- what the content of lines is measured by
+abbrev pub measures_of : FaceValue → List BoxNode → List BoxSizes → List OwnBox → ContextPlaces → BoxMeasuresValue
+measures_of face boxes sizes inner p = record { boxes = boxes; parts = p.parts; sizes = sizes; inner = inner; face = face }
+
 -- these are the places beside the used sizes and the boxes of inner contexts, in a face
 pub record HasPlaces (face : FaceValue) (boxes : List BoxNode) (sizes : List BoxSizes) (inner : List OwnBox) (p : ContextPlaces) : Type 0 where
+  pub are_parts : AreInlineParts boxes p.parts
   pub has_lefts : HasLefts boxes sizes inner p.lefts
-  pub are_flow_boxes : AreFlowBoxesOf face boxes sizes inner p.lefts p.flow_boxes
+  pub are_flow_boxes : AreFlowBoxesOf (measures_of face boxes sizes inner p) p.lefts p.flow_boxes
   pub is_flow : IsFlowOf p.flow_boxes p.places
 
 -- the corner of the border box of the box at k
@@ -49,10 +59,10 @@ pub record Placement : Type 0 where
   pub pieces : List Frag
   pub corners : List Corner
 
-abbrev pub placement_of : FaceValue → List BoxNode → List BoxSizes → ContextPlaces → Placement
-placement_of face boxes sizes p = record {
+abbrev pub placement_of : FaceValue → List BoxNode → List BoxSizes → List OwnBox → ContextPlaces → Placement
+placement_of face boxes sizes inner p = record {
   own = own_box (sizes_at sizes 0) (own_height p);
-  pieces = pieces_to face boxes sizes p.flow_boxes p.places (length boxes);
+  pieces = pieces_to (measures_of face boxes sizes inner p) p.flow_boxes p.places (length boxes);
   corners = corners_to p (length boxes);
 }
 
@@ -60,4 +70,4 @@ placement_of face boxes sizes p = record {
 pub record IsPlacement (face : FaceValue) (boxes : List BoxNode) (sizes : List BoxSizes) (inner : List OwnBox) (answer : Placement) : Type 0 where
   pub places : ContextPlaces
   pub has_places : HasPlaces face boxes sizes inner places
-  pub answer_is : answer ≡ placement_of face boxes sizes places
+  pub answer_is : answer ≡ placement_of face boxes sizes inner places

@@ -8,6 +8,7 @@ ghost use Rattle.lay_context.specs.PlaceBounds.{HaveCounts};
 use crate::context_blocks::lefts_of;
 use crate::context_shapes::flow_boxes_of;
 use crate::input::PlaceInput;
+use lay_box_parts::{InlinePart, inline_parts};
 use lay_flow::{FlowBoxes, FlowPlaces, flow, is_light};
 use lay_units::{NoMemory, Unit};
 use std::alloc::Global;
@@ -21,6 +22,8 @@ const MOST_BOXES: usize = 65536;
 /// corner of the context's own border box.
 #[derive(Drop)]
 pub(crate) struct BoxPlaces {
+    /// Which parts of inline boxes the boxes are.
+    pub parts: Vec<InlinePart>,
     /// The left border edges of boxes in flow, where no float is beside them.
     pub lefts: Vec<Unit>,
     /// The boxes as block flow takes them.
@@ -34,7 +37,7 @@ impl Model for BoxPlaces {
 
     ghost Value = { ContextPlaces };
 
-    ghost view = { λ p. record { lefts = p.lefts.items; flow_boxes = p.flow_boxes; places = p.places } };
+    ghost view = { λ p. record { parts = p.parts.items; lefts = p.lefts.items; flow_boxes = p.flow_boxes; places = p.places } };
 }
 
 /// Where the boxes of one context stand. NoMemory is also the answer for more boxes than 65,536, and where lines are
@@ -48,14 +51,16 @@ pub(crate) fn context_places(alloc: Global, input: &PlaceInput) -> Result<BoxPla
     if boxes.len() > MOST_BOXES {
         return Err(NoMemory);
     }
+    let parts = inline_parts(alloc, boxes)?;
     let lefts = lefts_of(alloc, input)?;
-    let flow_boxes = flow_boxes_of(alloc, input, &lefts)?;
+    let flow_boxes = flow_boxes_of(alloc, input, &parts, &lefts)?;
     if !is_light(&flow_boxes) {
         return Err(NoMemory);
     }
     let flow_boxes = FlowBoxes::new(flow_boxes);
     let places = flow(alloc, &flow_boxes)?;
     Ok(BoxPlaces {
+        parts,
         lefts,
         flow_boxes,
         places,

@@ -6,7 +6,7 @@ ghost use Rattle.lay_sizes.specs.SizeBounds.{SizeFits};
 ghost use Rattle.lay_flow.specs.Boxes.{box_at};
 ghost use Rattle.lay_sizes.specs.OwnBoxes.{own_box_at};
 ghost use Rattle.lay_context.specs.ContextBlocks.{AreFlowBoxesOf, block_box, cleared_by, cleared_sides, float_box, float_side, flow_box_of, has_lines, inner_box, kind_alone, kind_in_lines, own_block, side_of};
-ghost use Rattle.lay_context.specs.LineBoxes.{IsShaping};
+ghost use Rattle.lay_context.specs.LineBoxes.{IsShaping, measures_in};
 ghost use Rattle.lay_context.specs.PlaceBounds.{AreNearLefts};
 
 use crate::box_columns::{is_inner, length_at, own_box_at, sizes_at, style_at};
@@ -14,6 +14,7 @@ use crate::context_blocks::{content_right, inside_edge};
 use crate::inline_containers::inline_containers;
 use crate::input::PlaceInput;
 use crate::line_boxes::{Shaping, lines_in};
+use lay_box_parts::InlinePart;
 use lay_doc::Float;
 use lay_floats::{Clear, Side};
 use lay_flow::{
@@ -27,15 +28,17 @@ use std::alloc::Global;
 pub(crate) fn flow_boxes_of(
     alloc: Global,
     input: &PlaceInput,
+    parts: &[InlinePart],
     lefts: &[Unit],
 ) -> Result<Vec<FlowBox>, NoMemory>
     requires lefts { length lefts.now ≡ length input.now.boxes }
     requires near { AreNearLefts lefts.now }
-    ensures { IfOk result (λ v. AreFlowBoxesOf input.now.face input.now.boxes input.now.sizes input.now.inner lefts.now v.items) }
+    ensures { IfOk result (λ v. AreFlowBoxesOf (measures_in input.now parts.now) lefts.now v.items) }
 {
     let inline_containers = inline_containers(alloc, input.context_boxes())?;
     let of = Shaping {
         input,
+        parts,
         lefts,
         inline_containers: &inline_containers,
     };
@@ -58,8 +61,8 @@ fn flow_box_of(
     requires shaping { IsShaping of.now.input.now.boxes of.now.lefts.now of.now.inline_containers.now }
     requires place { k < length of.now.input.now.boxes }
     requires known { length flow_boxes.now ≡ k }
-    requires before { (j : ℕ) → j < k → box_at flow_boxes.now j ≡ flow_box_of of.now.input.now.face of.now.input.now.boxes of.now.input.now.sizes of.now.input.now.inner of.now.lefts.now j }
-    ensures { IfOk result (λ b. b ≡ flow_box_of of.now.input.now.face of.now.input.now.boxes of.now.input.now.sizes of.now.input.now.inner of.now.lefts.now k) }
+    requires before { (j : ℕ) → j < k → box_at flow_boxes.now j ≡ flow_box_of (measures_in of.now.input.now of.now.parts.now) of.now.lefts.now j }
+    ensures { IfOk result (λ b. b ≡ flow_box_of (measures_in of.now.input.now of.now.parts.now) of.now.lefts.now k) }
 {
     let parent = of.input.container(k);
     let in_lines = 0 < k && holds_lines(flow_boxes, parent);

@@ -27,6 +27,7 @@ mod input;
 mod known;
 mod laws;
 mod layout;
+mod line_bounds;
 mod line_boxes;
 mod own_boxes;
 mod medium;

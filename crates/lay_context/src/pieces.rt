@@ -1,24 +1,28 @@
 //! The pieces of the boxes of one context.
 
-ghost use Rattle.std.specs.Prelude.{◌≡◌, ◌<◌, ◌≤◌, ◌||◌, length, IfOk};
+ghost use Rattle.std.specs.Prelude.{◌≡◌, ◌<◌, ◌≤◌, All, length, map, IfOk};
+ghost use Rattle.lay_content.specs.InlineBoxes.{areas_of};
+ghost use Rattle.lay_inlines.specs.Bounds.{AreaWithin, RowWithin};
 ghost use Rattle.lay_sizes.specs.BoxSizes.{border_width};
 ghost use Rattle.lay_sizes.specs.SizeBounds.{SizeFits};
-ghost use Rattle.lay_context.specs.ContextPieces.{align_of, kind_on_line, piece_of_box, piece_on_line, pieces_of_box, pieces_on_lines, pieces_to, line_container};
+ghost use Rattle.lay_context.specs.ContextPieces.{align_of, id_of, kind_on_line, line_container, piece_of_box, piece_on_line, pieces_of_box, pieces_to, rows_at};
+ghost use Rattle.lay_context.specs.LineBoxes.{measures_in};
 ghost use Rattle.lay_context.specs.PieceParts.{with_pieces};
 ghost use Rattle.lay_context.specs.PlaceBounds.{AreNearPieces, HaveCounts, IsNear, IsRectNear};
 
 use crate::box_columns::{is_inner, sizes_at, style_at};
 use crate::context_places::BoxPlaces;
 use crate::corners::{corner_of_box, near_position, place_at};
+use crate::line_bounds::{is_area_within, is_row_within};
 use crate::input::PlaceInput;
 use crate::piece_list::PieceList;
 use lay_boxgen::BoxNode;
-use lay_content::inline_areas;
-use lay_doc::TextAlign;
-use lay_flow::{BlockBox, FlowKind, LinesBox};
+use lay_content::{BoxMeasures, inline_areas};
+use lay_doc::{NodeId, TextAlign};
+use lay_flow::{BlockBox, FlowKind};
 use lay_frag::{Frag, FragKind};
-use lay_inlines::{Align, Container, LinePiece, LinePieceKind, LinePieceList, LinesGeometry, line_pieces};
-use lay_lines::InlineArea;
+use lay_inlines::{Align, Container, LinePiece, LinePieceKind, LinesGeometry, line_pieces};
+use lay_lines::{Ended, InlineArea};
 use lay_sizes::{BoxSizes, border_width};
 use lay_units::{NoMemory, Rect, Unit};
 use std::alloc::Global;
@@ -32,16 +36,41 @@ pub(crate) fn pieces_of(
     places: &BoxPlaces,
 ) -> Result<Vec<Frag>, NoMemory>
     requires counts { HaveCounts input.now.boxes places.now }
-    ensures pieces { IfOk result (λ v. v.items ≡ pieces_to input.now.face input.now.boxes input.now.sizes places.now.flow_boxes places.now.places (length input.now.boxes)) }
+    ensures pieces { IfOk result (λ v. v.items ≡ pieces_to (measures_in input.now places.now.parts) places.now.flow_boxes places.now.places (length input.now.boxes)) }
     ensures near { IfOk result (λ v. AreNearPieces v.items) }
     ensures few { IfOk result (λ v. length v.items ≤ 2147483648) }
 {
-    let areas = inline_areas(alloc, input.boxes(), input.sizes(), input.face())?;
+    let areas = areas_of(alloc, input, places)?;
     let mut pieces = PieceList::new(alloc);
     for k in 0..input.boxes().len() {
-        pieces = with_box(alloc, pieces, input, places, areas.as_slice(), k)?;
+        pieces = with_box(alloc, pieces, input, places, &areas, k)?;
     }
     Ok(pieces.into_vec())
+}
+
+/// What is painted of each box on its lines. NoMemory is also the answer where a length of that is more than 2^36
+/// units, which it is in no document within the limits.
+fn areas_of(
+    alloc: Global,
+    input: &PlaceInput,
+    places: &BoxPlaces,
+) -> Result<Vec<InlineArea>, NoMemory>
+    ensures areas { IfOk result (λ v. v.items ≡ areas_of (measures_in input.now places.now.parts)) }
+    ensures within { IfOk result (λ v. All AreaWithin v.items) }
+{
+    let measures = BoxMeasures::new(
+        input.boxes(),
+        &places.parts,
+        input.sizes(),
+        input.inner(),
+        input.face(),
+    );
+    let areas = inline_areas(alloc, &measures)?;
+    if areas.iter().all(|area| is_area_within(area)) {
+        Ok(areas)
+    } else {
+        Err(NoMemory)
+    }
 }
 
 /// These pieces, and behind them those of the box at k.
@@ -55,10 +84,10 @@ fn with_box(
 ) -> Result<PieceList, NoMemory>
     requires place { k < length input.now.boxes }
     requires counts { HaveCounts input.now.boxes places.now }
-    requires fit { AreLinesFit places.now.flow_boxes places.now.places areas.now }
-    requires areas { areas.now ≡ areas_of input.now.face input.now.boxes input.now.sizes }
+    requires areas { areas.now ≡ areas_of (measures_in input.now places.now.parts) }
+    requires within { All AreaWithin areas.now }
     requires near { AreNearPieces pieces }
-    ensures pieces { IfOk result (λ p. p ≡ with_pieces pieces (pieces_of_box input.now.face input.now.boxes input.now.sizes places.now.flow_boxes places.now.places k)) }
+    ensures pieces { IfOk result (λ p. p ≡ with_pieces pieces (pieces_of_box (measures_in input.now places.now.parts) places.now.flow_boxes places.now.places k)) }
     ensures near { IfOk result AreNearPieces }
 {
     if is_inner(input.boxes(), k) || input.role(k).is_inline_level() {
@@ -70,13 +99,28 @@ fn with_box(
             let geometry = LinesGeometry {
                 container: line_container(input, k, &lines.block),
                 content: &lines.content,
-                rows: places.places.lines()[k].as_slice(),
+                rows: rows_at(places, k)?,
                 areas,
             };
             let on_lines = line_pieces(alloc, &geometry)?;
             with_lines(pieces, input.boxes(), on_lines.as_slice())
         }
         _ => Ok(pieces),
+    }
+}
+
+/// The lines of the box at k. NoMemory is also the answer where one reaches further than 2^61 units, which it does in no
+/// document within the limits.
+fn rows_at(places: &BoxPlaces, k: usize) -> Result<&[Ended], NoMemory>
+    requires { k < length places.now.places.lines }
+    ensures rows { IfOk result (λ r. r.now ≡ rows_at places.now.places k) }
+    ensures within { IfOk result (λ r. All RowWithin r.now) }
+{
+    let rows = places.places.lines()[k].as_slice();
+    if rows.iter().all(|row| is_row_within(row)) {
+        Ok(rows)
+    } else {
+        Err(NoMemory)
     }
 }
 
@@ -102,16 +146,22 @@ fn piece_on_line(boxes: &[BoxNode], piece: LinePiece) -> Result<Frag, NoMemory>
     ensures piece { IfOk result (λ f. f ≡ piece_on_line boxes.now piece) }
     ensures near { IfOk result (λ f. IsRectNear f.rect) }
 {
-    let node = match boxes.get(piece.node as usize) {
-        Some(node) => node.node,
-        None => return Err(NoMemory),
-    };
     Ok(Frag {
         kind: kind_on_line(piece.kind),
-        node,
+        node: NodeId(id_of(boxes, piece.node as usize)),
         part: 0,
         rect: near_rect(piece.rect)?,
     })
+}
+
+/// The id of the node of the box at k.
+fn id_of(boxes: &[BoxNode], k: usize) -> u32
+    ensures { result ≡ id_of boxes.now k }
+{
+    match boxes.get(k) {
+        Some(node) => node.node.0,
+        None => 0,
+    }
 }
 
 fn kind_on_line(kind: LinePieceKind) -> FragKind
