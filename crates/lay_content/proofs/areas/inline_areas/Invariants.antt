@@ -1,0 +1,6 @@
+use Rattle.std.proofs.Common.{◌≡◌}
+use Rattle.lay_content.specs.InlineBoxes.{areas_to}
+use Rattle.lay_content.proofs.areas.inline_areas.Given as goal
+
+abbrev pub invariant-loop-k : goal.invariant-loop-k
+invariant-loop-k l = l.areas.items ≡ areas_to l.measures l.k

@@ -1,0 +1,97 @@
+//! What is painted of texts and inline boxes.
+
+ghost use Rattle.std.specs.Prelude.{◌≡◌, Some, IfOk, if◌then◌else◌};
+ghost use Rattle.lay_sizes.specs.UsedLengths.{no_length};
+ghost use Rattle.lay_content.specs.InlineBoxes.{area_at, area_in, areas_of, inline_area, text_area};
+ghost use Rattle.lay_sizes.specs.SizeBounds.{SizeFits};
+
+use crate::box_measures::BoxMeasures;
+use crate::line_heights::{ascent, descent};
+use crate::sums::sum_of;
+use lay_box_parts::InlinePart;
+use lay_boxgen::{BoxNode, Role};
+use lay_doc::TextStyle;
+use lay_face::Face;
+use lay_lines::InlineArea;
+use lay_sizes::BoxSizes;
+use lay_units::{NoMemory, Unit};
+use std::alloc::Global;
+
+/// What is painted of each box of a context on its lines, by the place of the box (CSS 2.2, 10.6.1): the content area of
+/// a text, the border box of an inline box, and nothing of others. All lengths are in 1/64 px.
+pub fn inline_areas(alloc: Global, measures: &BoxMeasures<'_>) -> Result<Vec<InlineArea>, NoMemory>
+    ensures { IfOk result (λ v. v.items ≡ areas_of measures.now) }
+{
+    let count = measures.boxes().len();
+    let mut areas = Vec::with_capacity(alloc, count)?;
+    for k in 0..count {
+        areas.push(area_at(measures, k))?;
+    }
+    Ok(areas)
+}
+
+/// The area of the box at k.
+fn area_at(measures: &BoxMeasures<'_>, k: usize) -> InlineArea
+    ensures { result ≡ area_at measures.now k }
+{
+    match measures.boxes().get(k) {
+        Some(node) => area_of(measures, k, node),
+        None => NO_AREA,
+    }
+}
+
+/// The area of this box, which is that at k.
+fn area_of(measures: &BoxMeasures<'_>, k: usize, node: &BoxNode) -> InlineArea
+    ensures { result ≡ area_in measures.now k (Some node.now) }
+{
+    let style = &node.style.text;
+    match node.role() {
+        Role::Text => text_area(measures.face(), style),
+        Role::Inline => inline_area(
+            measures.face(),
+            style,
+            measures.sizes_at(k),
+            measures.part_at(k),
+        ),
+        _ => NO_AREA,
+    }
+}
+
+const NO_AREA: InlineArea = InlineArea {
+    above: Unit(0),
+    below: Unit(0),
+    margin_left: Unit(0),
+    margin_right: Unit(0),
+};
+
+/// The content area of a text.
+fn text_area(face: &Face, style: &TextStyle) -> InlineArea
+    ensures { result ≡ text_area face.now style.now }
+{
+    InlineArea {
+        above: ascent(face, style),
+        below: descent(face, style),
+        margin_left: Unit(0),
+        margin_right: Unit(0),
+    }
+}
+
+/// The border box of an inline box, beside its margins.
+fn inline_area(face: &Face, style: &TextStyle, sizes: BoxSizes, part: InlinePart) -> InlineArea
+    requires { SizeFits sizes }
+    ensures { result ≡ inline_area face.now style.now sizes part }
+{
+    InlineArea {
+        above: sum_of(ascent(face, style), sizes.edges.top),
+        below: sum_of(descent(face, style), sizes.edges.bottom),
+        margin_left: where_it_stands(part.first, sizes.widths.margin_left),
+        margin_right: where_it_stands(part.last, sizes.widths.margin_right),
+    }
+}
+
+/// A margin, where it stands on this part.
+fn where_it_stands(here: bool, margin: Unit) -> Unit
+    ensures { result ≡ (if here then margin else no_length) }
+{
+    if here { margin } else { Unit(0) }
+}

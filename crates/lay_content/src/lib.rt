@@ -1,0 +1,26 @@
+//! The content of the lines of a block container, measured: from the segments of its inline content to the stretches that
+//! lines take, with the extents, the edges and the floats in them (CSS 2.2, 8.3 to 8.6, 9.4.2, 9.5, 10.8.1, 16.1 and 16.6).
+//!
+//! Contracts cite `content_in` of `specs/Contents.antt`, which stands on `specs/Stretches.antt` (segments as stretches),
+//! `specs/TextParts.antt`, `specs/InlineBoxes.antt` and `specs/LineFloats.antt` (what is in them) and
+//! `specs/LineHeights.antt` (10.8.1); `areas_of` of `specs/InlineBoxes.antt`, what is painted of texts and inline boxes;
+//! and `has_seen_line` of `specs/SeenLines.antt`. No atomic inline-level box is laid out yet.
+#![tactic(auto)]
+
+mod areas;
+mod box_measures;
+mod container;
+mod contents;
+mod inline_boxes;
+mod line_floats;
+mod line_heights;
+mod seen_lines;
+mod stretches;
+mod sums;
+mod text_parts;
+
+pub use areas::inline_areas;
+pub use box_measures::BoxMeasures;
+pub use container::Container;
+pub use contents::line_content;
+pub use seen_lines::has_seen_line;

@@ -1,0 +1,100 @@
+//! Floats in the content of lines.
+
+ghost use Rattle.std.specs.Prelude.{◌≡◌, ◌+ℤ◌, slice_get};
+ghost use Rattle.lay_boxgen.specs.Roles.{clear_of};
+ghost use Rattle.lay_sizes.specs.OwnBoxes.{IsBoxSize, OwnBoxFits};
+ghost use Rattle.lay_units.specs.Units.{IsUsed};
+ghost use Rattle.lay_content.specs.LineFloats.{cleared_sides, clear_in, float_at, request_of, side_in};
+
+use crate::box_measures::BoxMeasures;
+use crate::container::Container;
+use lay_boxgen::{BoxKind, BoxNode, Role};
+use lay_floats::{Clear, FloatReq, Side};
+use lay_lines::LineFloat;
+use lay_sizes::OwnBox;
+use lay_units::Unit;
+
+/// The float at a place in a container. Its ceiling comes from its line.
+pub(crate) fn float_at(measures: &BoxMeasures<'_>, container: Container, place: u32) -> LineFloat
+    ensures { result ≡ float_at measures.now container place }
+{
+    let k = place as usize;
+    let boxes = measures.boxes();
+    LineFloat {
+        node: place,
+        req: request_of(
+            side_at(boxes, k),
+            clear_at(boxes, k),
+            measures.own_box_at(k),
+            container,
+        ),
+    }
+}
+
+fn request_of(side: Side, clear: Clear, own: OwnBox, container: Container) -> FloatReq
+    requires { OwnBoxFits own }
+    ensures { result ≡ request_of side clear own container }
+{
+    FloatReq {
+        side,
+        width: around(own.margin.left, own.width, own.margin.right),
+        height: around(own.margin.top, own.height, own.margin.bottom),
+        left: container.left,
+        right: container.right,
+        ceiling: Unit(0),
+        clear,
+    }
+}
+
+/// A size of a border box with its margins.
+fn around(before: Unit, size: Unit, after: Unit) -> Unit
+    requires before { IsUsed before.0 }
+    requires size { IsBoxSize size.0 }
+    requires after { IsUsed after.0 }
+    ensures { result ≡ record { 0 = before.0 +ℤ size.0 +ℤ after.0 } }
+{
+    Unit(before.0 + size.0 + after.0)
+}
+
+/// The side to which the float at k goes.
+fn side_at(boxes: &[BoxNode], k: usize) -> Side
+    ensures { result ≡ side_in (slice_get boxes.now k) }
+{
+    match boxes.get(k) {
+        Some(node) => match node.role() {
+            Role::RightFloat => Side::Right,
+            _ => Side::Left,
+        },
+        None => Side::Left,
+    }
+}
+
+/// The sides whose floats the float at k goes past (CSS 2.2, 9.5.2).
+fn clear_at(boxes: &[BoxNode], k: usize) -> Clear
+    ensures { result ≡ clear_in (slice_get boxes.now k) }
+{
+    match boxes.get(k) {
+        Some(node) => cleared_sides(clear_of(node)),
+        None => Clear::None,
+    }
+}
+
+fn clear_of(node: &BoxNode) -> lay_doc::Clear
+    ensures { result ≡ clear_of node.now }
+{
+    match node.kind {
+        BoxKind::Wrapper | BoxKind::InlineWrapper => lay_doc::Clear::None,
+        _ => node.style.clear,
+    }
+}
+
+fn cleared_sides(clear: lay_doc::Clear) -> Clear
+    ensures { result ≡ cleared_sides clear }
+{
+    match clear {
+        lay_doc::Clear::None => Clear::None,
+        lay_doc::Clear::Left => Clear::Left,
+        lay_doc::Clear::Right => Clear::Right,
+        lay_doc::Clear::Both => Clear::Both,
+    }
+}
