@@ -1,1 +1,6 @@
+mod Backward
+mod Content
 mod OpenBoxSteps
+mod PenPlaces
+mod RowSteps
+mod Spreads

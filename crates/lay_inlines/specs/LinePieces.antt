@@ -77,11 +77,15 @@ abbrev pub line_pieces_of : Container → List InlineArea → Frame → Ended �
 line_pieces_of c areas fr row ns xs =
     line_box c.node row ∷ map (piece_of areas (origin_of c row (content_end fr row xs)) (baseline_of row)) (line_spans areas fr row ns xs)
 
+-- a line that isn't seen has none
+abbrev pub pieces_if_seen : Container → List InlineArea → Frame → Ended → List ℕ → List Part → List LinePiece
+pieces_if_seen c areas fr row ns xs = if row.seen then line_pieces_of c areas fr row ns xs else []
+
 -- the pieces of these lines, the first of which begins with this frame, these open inline boxes and this content
 abbrev pub pieces_from : Container → List InlineArea → Frame → List ℕ → List Stretch → List Ended → List LinePiece
 pieces_from c areas fr ns ss [] = []
 pieces_from c areas fr ns ss (row ∷ rows) =
-    (if row.seen then line_pieces_of c areas fr row ns (parts_of (take row.reach.count ss)) else [])
+    pieces_if_seen c areas fr row ns (parts_of (take row.reach.count ss))
     ++ pieces_from c areas (next_frame fr row.seen) (open_after ns (parts_of (take row.reach.count ss))) (drop row.reach.count ss) rows
 
 abbrev pub pieces_of : Container → LineContentValue → List Ended → List InlineArea → List LinePiece

@@ -1,10 +1,12 @@
 //! The pieces of the lines of a block container.
 
-ghost use Rattle.std.specs.Prelude.{◌≡◌, ◌≤◌, ◌^◌, ℕ, [], List, take, drop, IfOk};
+ghost use Rattle.std.specs.Prelude.{◌≡◌, ◌++◌, take, drop, IfOk, OnOk};
 ghost use Rattle.lay_lines.specs.Lines.{frame_of};
 ghost use Rattle.lay_lines.specs.Rows.{next_frame};
-ghost use Rattle.lay_inlines.specs.Bounds.{LinesWithin};
-ghost use Rattle.lay_inlines.specs.LinePieces.{pieces_of};
+ghost use Rattle.lay_inlines.specs.Bounds.{GeometryWithin, LineWithin, PensWithin};
+ghost use Rattle.lay_inlines.specs.LinePieces.{blank_of, pieces_if_seen, pieces_of};
+ghost use Rattle.lay_inlines.specs.OpenBoxes.{open_after};
+ghost use Rattle.lay_inlines.specs.Strokes.{parts_of};
 
 use crate::align::Align;
 use crate::line::{Line, put_line};
@@ -38,7 +40,7 @@ pub struct LinesGeometry<'a> {
 /// of 0, tops and rooms of lines within 2^61, and heights and margins within 2^36. It gives NoMemory where memory
 /// runs out.
 pub fn line_pieces(alloc: Global, lines: &LinesGeometry) -> Result<LinePieceList, NoMemory>
-    requires { LinesWithin lines.now.container lines.now.rows.now lines.now.areas.now }
+    requires { GeometryWithin lines.now.container lines.now.rows.now lines.now.areas.now }
     ensures { IfOk result (λ l. l
         ≡ pieces_of lines.now.container lines.now.content.now lines.now.rows.now lines.now.areas.now) }
 {
@@ -48,22 +50,54 @@ pub fn line_pieces(alloc: Global, lines: &LinesGeometry) -> Result<LinePieceList
     let mut rest = lines.content.stretches();
     for k in 0..lines.rows.len() {
         let row = lines.rows[k];
-        let count = row.reach.count.min(rest.len());
-        let taken = &rest[..count];
-        if row.seen {
-            let line = Line {
-                container: lines.container,
-                frame,
-                row,
-                areas: lines.areas,
-            };
-            put_line(alloc, &mut pieces, &line, open_boxes.as_slice(), taken)?;
-        }
-        pass(&mut open_boxes, taken)?;
+        let line = Line {
+            container: lines.container,
+            frame,
+            row,
+            areas: lines.areas,
+        };
+        let taken = front(rest, row.reach.count);
+        put_row(alloc, &mut pieces, &mut open_boxes, &line, taken)?;
         frame = next_frame(frame, row.seen);
-        rest = &rest[count..];
+        rest = back(rest, row.reach.count);
     }
     Ok(LinePieceList::new(pieces))
+}
+
+/// Adds the pieces of a line, where it is seen. The open boxes are then those after it.
+fn put_row(
+    alloc: Global,
+    out: &mut Vec<LinePiece>,
+    open_boxes: &mut Vec<u32>,
+    line: &Line,
+    taken: &[Stretch],
+) -> Result<(), NoMemory>
+    requires line { LineWithin line.now.container line.now.frame line.now.row line.now.areas.now }
+    requires pens { PensWithin line.now.frame (blank_of line.now.frame line.now.row) (parts_of taken.now) }
+    ensures pieces { OnOk result (out.new.items
+        ≡ out.old.items ++ pieces_if_seen line.now.container line.now.areas.now line.now.frame line.now.row open_boxes.old.items
+        (parts_of taken.now)) }
+    ensures open_boxes { OnOk result (open_boxes.new.items
+        ≡ open_after open_boxes.old.items (parts_of taken.now)) }
+{
+    if line.row.seen {
+        put_line(alloc, out, line, open_boxes.as_slice(), taken)?;
+    }
+    pass(open_boxes, taken)
+}
+
+/// The first so many of these, or all.
+fn front(stretches: &[Stretch], count: usize) -> &[Stretch]
+    ensures { result.now ≡ take count stretches.now }
+{
+    &stretches[..count.min(stretches.len())]
+}
+
+/// What is left after these.
+fn back(stretches: &[Stretch], count: usize) -> &[Stretch]
+    ensures { result.now ≡ drop count stretches.now }
+{
+    &stretches[count.min(stretches.len())..]
 }
 
 fn first_frame(lines: &LinesGeometry) -> Frame

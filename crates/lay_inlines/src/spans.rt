@@ -1,6 +1,6 @@
 //! From where to where boxes and texts reach on a line. They are found from the line's end to its start.
 
-ghost use Rattle.std.specs.Prelude.{◌≡◌, ◌||◌, ◌&&◌, ◌++◌, ◌∷◌, ℕ, [], List, All, length, drop, reverse, IfOk, OnOk};
+ghost use Rattle.std.specs.Prelude.{◌≡◌, ◌||◌, ◌&&◌, ◌++◌, ◌∷◌, ◌<◌, ◌+◌, ◌-◌, ℕ, [], List, All, length, drop, reverse, IfOk, OnOk};
 ghost use Rattle.lay_inlines.specs.Bounds.{IsPlace, AreaWithin, StrokeWithin, SpanWithin};
 ghost use Rattle.lay_inlines.specs.Behind.{BehindWithin, Within};
 ghost use Rattle.lay_inlines.specs.Spans.{area_at, edge_at, edges_before, right_edges, is_text, with_text, with_shown, span_of, inline_span, spans_of, open_spans};
@@ -92,10 +92,8 @@ impl Behind {
         ensures edges { OnOk result (reverse self.new.edges.items ≡ right_edges areas.now strokes.now) }
         ensures within { OnOk result (BehindWithin self.new) }
     {
-        let count = strokes.len();
-        for done in 0..count {
-            let at = count - 1 - done;
-            self.put(areas, &strokes[at], end)?;
+        for done in 0..strokes.len() {
+            self.put(areas, from_end(strokes, done), end)?;
         }
         Ok(())
     }
@@ -243,16 +241,32 @@ impl Behind {
             ++ reverse self.old.spans.items) }
         ensures within { OnOk result (BehindWithin self.new) }
     {
-        let count = open_boxes.len();
-        for done in 0..count {
-            let to = self.next_edge(ends.end);
-            self.spans.push(Span {
-                kind: LinePieceKind::Inline,
-                node: open_boxes[count - 1 - done],
-                from: ends.start,
-                to,
-            })?;
+        for done in 0..open_boxes.len() {
+            self.put_one_open(*from_end(open_boxes, done), ends)?;
         }
+        Ok(())
+    }
+
+    /// Puts the innermost of these that is left.
+    fn put_one_open(&mut self, node: u32, ends: Ends) -> Result<(), NoMemory>
+        requires within { BehindWithin self.old }
+        requires start { IsPlace ends.start.0 }
+        requires end { IsPlace ends.end.0 }
+        ensures spans { OnOk result (reverse self.new.spans.items
+            ≡ span_of LinePieceKind.Inline node ends.start.0
+            (edge_at (reverse self.old.edges.items) 0 ends.end.0)
+            ∷ reverse self.old.spans.items) }
+        ensures edges { OnOk result (reverse self.new.edges.items
+            ≡ drop 1 (reverse self.old.edges.items)) }
+        ensures within { OnOk result (BehindWithin self.new) }
+    {
+        let to = self.next_edge(ends.end);
+        self.spans.push(Span {
+            kind: LinePieceKind::Inline,
+            node,
+            from: ends.start,
+            to,
+        })?;
         Ok(())
     }
 
@@ -272,6 +286,15 @@ impl Behind {
             None => end,
         }
     }
+}
+
+/// The item before these last ones.
+fn from_end<T>(items: &[T], done: usize) -> &T
+    requires { done < length items.now }
+    ensures { drop (length items.now - (done + 1)) items.now
+        ≡ result.now ∷ drop (length items.now - done) items.now }
+{
+    &items[items.len() - 1 - done]
 }
 
 fn is_text(kind: LinePieceKind) -> bool

@@ -1,8 +1,13 @@
 pub mod AllLists
 pub mod Chains
+pub mod FloatsWithin
 pub mod Fronts
 pub mod LineLists
+pub mod LinesWithin
 pub mod OneLines
 pub mod PenOrder
-pub mod Steps
+pub mod PensWithin
 pub mod Reaches
+pub mod RowsWithin
+pub mod Steps
+pub mod Totals

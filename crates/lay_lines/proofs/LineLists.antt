@@ -195,7 +195,7 @@ taking_stopped one p s headed top left r is heads top_is stopped f =
     let fills = subst (λ (z : State). Fills p.frame top p.rest r.reach.count z r.filled) eh (subst (λ (v : ℤ). Fills p.frame v p.rest r.reach.count r.headed r.filled) et f.filled_is) in
     stopped r.reach.count r.filled takes fills
 
-map_append_one : (xs : List Row) (r : Row) → map ended_of (xs ++ r ∷ []) ≡ map ended_of xs ++ ended_of r ∷ []
+pub map_append_one : (xs : List Row) (r : Row) → map ended_of (xs ++ r ∷ []) ≡ map ended_of xs ++ ended_of r ∷ []
 map_append_one [] r = refl
 map_append_one (x ∷ xs) r = ap (λ (ys : List Ended). ended_of x ∷ ys) (map_append_one xs r)
 

@@ -33,7 +33,7 @@ div_order (pos a) (negsuc b) s le = absurd (omega (arith, ints, le))
 div_order (negsuc a) (pos b) s le = omega (arith, ints)
 div_order (negsuc a) (negsuc b) s le = let q = quotient_order b a s (omega (arith, ints, le)) in omega (arith, ints, q)
 
-times_more : (m : ℤ) (s : ℕ) → m *ℤ pos (suc s) ≡ (m *ℤ pos s) +ℤ m
+pub times_more : (m : ℤ) (s : ℕ) → m *ℤ pos (suc s) ≡ (m *ℤ pos s) +ℤ m
 times_more m s = *ℤ_comm m (pos (suc s)) ∙ suc_ℤ-*ℤ (pos s) m ∙ ap (λ (z : ℤ). z +ℤ m) (*ℤ_comm (pos s) m)
 
 times_order : (a b : ℤ) (s : ℕ) → a ≤ℤ b → (a *ℤ pos s) ≤ℤ (b *ℤ pos s)

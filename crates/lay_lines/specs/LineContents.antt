@@ -34,21 +34,22 @@ spread_of_part tab (Text w) = distance w.width.0
 spread_of_part tab (Start b) = distance b.width.0
 spread_of_part tab (End b) = distance b.width.0
 
+abbrev pub total : {X : Type 0} → (X → ℕ) → List X → ℕ
+total of [] = 0
+total of (x ∷ xs) = of x + total of xs
+
 abbrev pub spread_of_parts : ℤ → List Part → ℕ
-spread_of_parts tab [] = 0
-spread_of_parts tab (x ∷ xs) = spread_of_part tab x + spread_of_parts tab xs
+spread_of_parts tab xs = total (spread_of_part tab) xs
 
 abbrev pub spread_of : ℤ → List Stretch → ℕ
-spread_of tab [] = 0
-spread_of tab (s ∷ ss) = spread_of_parts tab s.parts + spread_of tab ss
+spread_of tab ss = total (λ (s : Stretch). spread_of_parts tab s.parts) ss
 
 -- a stretch and its floats
 abbrev pub weight_of_stretch : Stretch → ℕ
 weight_of_stretch s = length s.heads + length s.floats + 1
 
 abbrev pub weight_of : List Stretch → ℕ
-weight_of [] = 0
-weight_of (s ∷ ss) = weight_of_stretch s + weight_of ss
+weight_of ss = total weight_of_stretch ss
 
 -- its stretches and their floats, and one more
 abbrev pub lines_weight : LineContentValue → ℕ

@@ -1,8 +1,8 @@
 //! The laws of the definitions. The functions do nothing.
 
-ghost use Rattle.lay_lines.specs.Laws.{OneListOfRows, OneLines};
+ghost use Rattle.lay_lines.specs.Laws.{OneListOfRows, OneLines, LinesAreNear};
 
-use lay_floats::{one_float_place, one_room};
+use lay_floats::{one_float_place, one_room, place_within};
 
 /// A container has one list of lines.
 pub fn one_lines()
@@ -16,4 +16,11 @@ fn one_list_of_rows()
 {
     one_float_place();
     one_room();
+}
+
+/// Lines reach no further than their content lets them.
+pub fn lines_are_near()
+    ensures { LinesAreNear }
+{
+    place_within();
 }

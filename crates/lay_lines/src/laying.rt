@@ -1,15 +1,16 @@
 //! The lines of a container.
 
-ghost use Rattle.std.specs.Prelude.{◌≡◌, IfOk, IfErr};
-ghost use Rattle.lay_lines.specs.Lines.{LinesValue, AreLines, lines_of, frame_of, first_position};
+ghost use Rattle.std.specs.Prelude.{◌≡◌, ◌≤◌, ◌+◌, ◌^◌, ℕ, pos, All, IfOk, IfErr};
+ghost use Rattle.lay_floats.specs.Within.{IsWithin, BoxWithin};
+ghost use Rattle.lay_lines.specs.Lines.{LinesValue, AreLines, LinesWithin, growth, lines_of, frame_of};
 ghost use Rattle.lay_lines.specs.Meeting.{IsFront};
-ghost use Rattle.lay_lines.specs.Rows.{CanLay};
 
 use crate::frame::{Frame, Line};
+use crate::laws::lines_are_near;
 use crate::line_content::LineContent;
 use crate::lists::{NodePlaceList, RowList};
 use crate::rows::lay_rows;
-use lay_floats::Floats;
+use lay_floats::{Floats, place_within};
 use lay_units::{NoMemory, Unit};
 use std::alloc::Global;
 
@@ -22,9 +23,10 @@ pub struct Lines {
     pub end: Unit,
 }
 
-/// The lines of this content between two content edges, from a top downward (CSS 2.2, 9.4.2 and 9.5), all in
-/// 1/64 px. The floats that they meet are added to `floats`. After a NoMemory those in `floats` are the first
-/// ones of all that would have been there.
+/// The lines of this content between two content edges, from a top downward (CSS 2.2, 9.4.2 and 9.5). The floats
+/// that they meet are added to `floats`. After a NoMemory those in `floats` are the first ones of all that would
+/// have been there. The edges are at most 2^50 units of 1/64 px from the origin, the top and the edges of all
+/// floats at most 2^60.
 pub fn lay(
     alloc: Global,
     floats: &mut Floats,
@@ -33,11 +35,18 @@ pub fn lay(
     right: Unit,
     top: Unit,
 ) -> Result<Lines, NoMemory>
-    requires can { CanLay (first_position content.now left right top.0 floats.old) }
+    requires left { IsWithin (pos (2 ^ 50)) left.0 }
+    requires right { IsWithin (pos (2 ^ 50)) right.0 }
+    requires top { IsWithin (pos (2 ^ 60)) top.0 }
+    requires floats { All (BoxWithin (pos (2 ^ 60))) floats.old }
     ensures lines { IfOk result (λ out. AreLines content.now left right top.0 floats.old (lines_of out floats.new)) }
+    ensures near { IfOk result (λ out. (r : ℕ) → 2 ^ 50 ≤ r → r ≤ 2 ^ 60 → IsWithin (pos r) top.0
+        → All (BoxWithin (pos r)) floats.old → LinesWithin (pos (r + growth content.now)) (lines_of out floats.new)) }
     ensures stopped { IfErr result (λ _. (v : LinesValue) → AreLines content.now left right top.0 floats.old v
         → IsFront floats.new v.floats) }
 {
+    place_within();
+    lines_are_near();
     let start = Line {
         frame: frame_of(content, left, right),
         top,

@@ -28,7 +28,7 @@ mod top;
 
 pub use content::{Advance, InlineArea, InlineEnd, InlineStart, LineFloat, Part, Stretch};
 pub use frame::{Extent, Frame};
-pub use laws::one_lines;
+pub use laws::{lines_are_near, one_lines};
 pub use laying::{Lines, lay};
 pub use line_content::LineContent;
 pub use lists::{LineFloatList, NodePlaceList, PartList, RowList, StretchList};

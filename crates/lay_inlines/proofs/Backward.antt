@@ -1,0 +1,35 @@
+-- Lines from their ends to their starts.
+use Rattle.std.proofs.Common.{◌≡◌, ◌∙◌, ℕ, zero, suc, ◌+◌, ◌-◌, ◌<◌, ◌≤◌, ℤ, Bool, List, [], ◌∷◌, ◌++◌, length, drop, get_or, refl, sym, ap, subst, arith, add-zero}
+use Rattle.std.proofs.lemmas.List.{drop_more, get_or-drop, drop-drop}
+use Rattle.lay_units.specs.declared.length.Unit.{Unit}
+use Rattle.lay_lines.specs.declared.content.InlineArea.{InlineArea}
+use Rattle.lay_inlines.specs.declared.spans.Span.{Span}
+use Rattle.lay_inlines.specs.declared.strokes.Stroke.{Stroke}
+use Rattle.lay_inlines.specs.declared.line_piece.LinePieceKind.TheVariants.{Inline}
+use Rattle.lay_inlines.specs.Strokes.{is_content, has_content, begin_of, end_of, stays, shown_of}
+use Rattle.lay_inlines.specs.Spans.{right_edges, edges_before, edge_at, with_shown, spans_of, span_of, open_spans, unit}
+
+-- one element more, from the end
+pub drop_before : {X : Type 0} → (xs : List X) (n m : ℕ) (x : X) → m + n + 1 ≡ length xs → x ≡ get_or xs m x → drop m xs ≡ x ∷ drop (m + 1) xs
+drop_before {X} xs n m x lt e = drop_more xs m x (omega arith) ∙ ap (λ (y : X). y ∷ drop (m + 1) xs) (sym e)
+
+pub spans_step : (areas : List InlineArea) (end : ℤ) (s : Stroke) (ss : List Stroke) (f : Bool) (edges : List Unit) (spans new : List Span)
+    → f ≡ has_content ss → edges ≡ right_edges areas ss → spans ≡ spans_of areas end ss
+    → new ≡ with_shown areas (shown_of s.part (stays s f)) (begin_of s f) (end_of s f) (edge_at edges 0 end) spans
+    → new ≡ spans_of areas end (s ∷ ss)
+spans_step areas end s ss f edges spans new p q r e =
+    e ∙ (λ i. with_shown areas (shown_of s.part (stays s (p i))) (begin_of s (p i)) (end_of s (p i)) (edge_at (q i) 0 end) (r i))
+
+pub edges_step : (areas : List InlineArea) (s : Stroke) (ss : List Stroke) (f : Bool) (edges new : List Unit)
+    → f ≡ has_content ss → edges ≡ right_edges areas ss → new ≡ edges_before areas (shown_of s.part (stays s f)) (end_of s f) edges → new ≡ right_edges areas (s ∷ ss)
+edges_step areas s ss f edges new p q e = e ∙ (λ i. edges_before areas (shown_of s.part (stays s (p i))) (end_of s (p i)) (q i))
+
+-- the edges of the open boxes are taken one after the other
+pub open_step : (start end : ℤ) (edges : List Unit) (n : ℕ) (ns : List ℕ) (now : List Unit) (spans before new : List Span)
+    → now ≡ drop (length ns) edges → before ≡ open_spans start end edges ns ++ spans → new ≡ span_of Inline n start (edge_at now 0 end) ∷ before
+    → new ≡ open_spans start end edges (n ∷ ns) ++ spans
+open_step start end edges n ns now spans before new e f is =
+    is ∙ (λ i. span_of Inline n start (same i) ∷ f i)
+  where
+    same : edge_at now 0 end ≡ edge_at edges (length ns) end
+    same = ap (λ (xs : List Unit). edge_at xs 0 end) e ∙ ap (λ (u : Unit). u.0) (get_or-drop (length ns) edges 0 (unit end)) ∙ ap (λ (k : ℕ). edge_at edges k end) (add-zero (length ns))

@@ -1,0 +1,26 @@
+-- The content of a line, stretch by stretch.
+use Rattle.std.proofs.Common.{◌≡◌, ◌∙◌, ℕ, ◌+◌, ◌<◌, List, [], ◌∷◌, ◌++◌, length, drop, get_or, refl, sym, ap}
+use Rattle.std.proofs.lemmas.List.{drop_more, append_assoc}
+use Rattle.lay_lines.specs.declared.content.Part.{Part}
+use Rattle.lay_lines.specs.declared.content.Stretch.{Stretch}
+use Rattle.lay_lines.specs.declared.frame.Frame.{Frame}
+use Rattle.lay_lines.specs.declared.pen.Pen.{Pen}
+use Rattle.lay_lines.specs.Pens.{over, over_all}
+use Rattle.lay_inlines.specs.declared.strokes.Stroke.{Stroke}
+use Rattle.lay_inlines.specs.Strokes.{parts_of, strokes, stroke_of}
+
+pub parts_more : (ss : List Stretch) (k : ℕ) (d : Stretch) → k < length ss → parts_of (drop k ss) ≡ (get_or ss k d).parts ++ parts_of (drop (k + 1) ss)
+parts_more ss k d lt = ap parts_of (drop_more ss k d lt)
+
+pub over_all-append : (fr : Frame) (p : Pen) (xs ys : List Part) → over_all fr p (xs ++ ys) ≡ over_all fr (over_all fr p xs) ys
+over_all-append fr p [] ys = refl
+over_all-append fr p (x ∷ xs) ys = over_all-append fr (over fr p x) xs ys
+
+pub strokes-append : (fr : Frame) (p : Pen) (xs ys : List Part) → strokes fr p (xs ++ ys) ≡ strokes fr p xs ++ strokes fr (over_all fr p xs) ys
+strokes-append fr p [] ys = refl
+strokes-append fr p (x ∷ xs) ys = ap (λ (ss : List Stroke). stroke_of x p (over fr p x) ∷ ss) (strokes-append fr (over fr p x) xs ys)
+
+-- the strokes of some parts, and then those of the rest
+pub draw_more : (fr : Frame) (p q : Pen) (xs ys : List Part) (out new : List Stroke) → new ≡ out ++ strokes fr p xs → q ≡ over_all fr p xs → new ++ strokes fr q ys ≡ out ++ strokes fr p (xs ++ ys)
+draw_more fr p q xs ys out new e f =
+    (λ i. e i ++ strokes fr (f i) ys) ∙ append_assoc out (strokes fr p xs) (strokes fr (over_all fr p xs) ys) ∙ ap (λ (ss : List Stroke). out ++ ss) (sym (strokes-append fr p xs ys))
