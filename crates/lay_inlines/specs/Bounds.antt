@@ -7,11 +7,17 @@ use Rattle.lay_lines.specs.declared.content.Part.{Part}
 use Rattle.lay_lines.specs.declared.frame.Frame.{Frame}
 use Rattle.lay_lines.specs.declared.pen.Pen.{Pen}
 use Rattle.lay_lines.specs.declared.row.Ended.{Ended}
-use Rattle.lay_lines.specs.Lines.{RowWithin}
+use Rattle.lay_lines.specs.LineContents.{ExtentWithin}
 use Rattle.lay_lines.specs.Pens.{over}
 use Rattle.lay_inlines.specs.declared.lines.Container.{Container}
 use Rattle.lay_inlines.specs.declared.spans.Span.{Span}
 use Rattle.lay_inlines.specs.declared.strokes.Stroke.{Stroke}
+
+pub record RowWithin (row : Ended) : Type 0 where
+  pub top : IsWithin (pos (2 ^ 61)) row.top.0
+  pub start : IsWithin (pos (2 ^ 61)) row.reach.start.0
+  pub end : IsWithin (pos (2 ^ 61)) row.reach.end.0
+  pub extent : ExtentWithin row.extent
 
 pub record AreaWithin (a : InlineArea) : Type 0 where
   pub above : IsWithin (pos (2 ^ 36)) a.above.0
@@ -21,7 +27,7 @@ pub record AreaWithin (a : InlineArea) : Type 0 where
 
 pub record GeometryWithin (c : Container) (rs : List Ended) (bs : List InlineArea) : Type 0 where
   pub left : IsWithin (pos (2 ^ 50)) c.left.0
-  pub rows : All (RowWithin (pos (2 ^ 61))) rs
+  pub rows : All RowWithin rs
   pub areas : All AreaWithin bs
 
 -- places of the pen, and then those of edges
@@ -59,5 +65,5 @@ IsBaseline v = IsWithin (pos (2 ^ 61 + 2 ^ 36)) v
 pub record LineWithin (c : Container) (fr : Frame) (r : Ended) (bs : List InlineArea) : Type 0 where
   pub left : IsWithin (pos (2 ^ 50)) c.left.0
   pub same_left : fr.left ≡ c.left
-  pub row : RowWithin (pos (2 ^ 61)) r
+  pub row : RowWithin r
   pub areas : All AreaWithin bs

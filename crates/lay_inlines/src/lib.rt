@@ -17,9 +17,3 @@ mod strokes;
 pub use align::Align;
 pub use line_piece::{LinePiece, LinePieceKind, LinePieceList};
 pub use lines::{Container, LinesGeometry, line_pieces};
-
-#[cfg(test)]
-mod tests {
-    #[test]
-    fn nothing() {}
-}

@@ -1,10 +1,9 @@
 //! The pieces of one line.
 
 ghost use Rattle.std.specs.Prelude.{◌≡◌, ◌++◌, ◌+ℤ◌, ◌-ℤ◌, ℤ, pos, ◌^◌, List, All, map, reverse, OnOk};
-ghost use Rattle.lay_inlines.specs.Bounds.{IsPlace, AreaWithin, PensWithin, SpanWithin, IsOrigin, IsBaseline, LineWithin};
+ghost use Rattle.lay_inlines.specs.Bounds.{IsPlace, RowWithin, AreaWithin, PensWithin, SpanWithin, IsOrigin, IsBaseline, LineWithin};
 ghost use Rattle.lay_inlines.specs.LinePieces.{line_box, piece_of, baseline_of, origin_of, blank_of, content_end, line_pieces_of};
 ghost use Rattle.lay_inlines.specs.Strokes.{parts_of};
-ghost use Rattle.lay_lines.specs.Lines.{RowWithin};
 
 use crate::align::shift_of;
 use crate::arithmetic::{minus, plus};
@@ -78,7 +77,7 @@ impl Line<'_> {
 }
 
 fn line_box(node: u32, row: &Ended) -> LinePiece
-    requires { RowWithin (pos (2 ^ 61)) row.now }
+    requires { RowWithin row.now }
     ensures { result ≡ line_box node row.now }
 {
     LinePiece {

@@ -3,8 +3,7 @@ use Rattle.std.proofs.lemmas.List.Elements.{All-get_or}
 use Rattle.lay_units.specs.Units.{IsUsed}
 use Rattle.lay_lines.specs.declared.content.Stretch.{Stretch}
 use Rattle.lay_lines.specs.declared.frame.Frame.{Frame}
-use Rattle.lay_lines.specs.Lines.{RowWithin}
-use Rattle.lay_inlines.specs.Bounds.{PensWithin}
+use Rattle.lay_inlines.specs.Bounds.{RowWithin}
 use Rattle.lay_inlines.specs.Strokes.{parts_of}
 use Rattle.lay_inlines.proofs.RowSteps.{pieces_more, next_indent}
 use Rattle.lay_inlines.proofs.Spreads.{pens_of, rest_spread}
@@ -13,7 +12,7 @@ use Rattle.lay_inlines.proofs.lines.line_pieces.Goals as goal
 pub put_row-requires-clause-pens : goal.put_row-requires-clause-pens
 put_row-requires-clause-pens c =
     let old = c.loop-k.invariant in
-    let row = All-get_or (RowWithin (pos (2 ^ 61))) c.args.lines.now.rows.now c.loop-k.k _ c.loop-k-test.true c.requires.rows in
+    let row = All-get_or RowWithin c.args.lines.now.rows.now c.loop-k.k _ c.loop-k-test.true c.requires.rows in
     pens_of c.loop-k.frame c.args.lines.now.container.left c.args.lines.now.content.now.tab _ _ c.loop-k.rest.now c.front-taken.result.now old.left old.tab c.front-taken.ensures c.requires.left row.start
     old.indent old.spread
 
