@@ -1,5 +1,5 @@
 -- The nearest block container of a box is found among the boxes before it.
-use Rattle.std.proofs.Common.{◌≡◌, ℕ, zero, suc, ◌<◌, ◌≤◌, Bool, true, false, List, [], ◌∷◌, length, slice_index, refl, sym, ap, ◌∙◌, subst, arith, if◌then◌else◌}
+use Rattle.std.proofs.Common.{◌≡◌, ℕ, zero, suc, ◌<◌, ◌≤◌, ◌⊎◌, inl, inr, Bool, true, false, List, [], ◌∷◌, length, slice_index, refl, sym, ap, ◌∙◌, subst, arith, if◌then◌else◌}
 use Rattle.lay_doc.specs.Tree.{IsTree}
 use Rattle.lay_boxgen.specs.declared.box_tree.BoxNode.{BoxNode}
 use Rattle.lay_boxgen.specs.BoxColumns.{box_parents}
@@ -38,22 +38,34 @@ pub container_is : (boxes : List BoxNode) (containers : List ℕ) (k : ℕ) → 
 container_is boxes containers k are found within =
     one_container boxes k (slice_index containers k) (container_of boxes k) (found.each k within) (containers_are_nearest_lem boxes k are within)
 
-before_by : (boxes : List BoxNode) (turns k p : ℕ) (b : Bool) → counts boxes p ≡ b → p < k → (0 < p → container_in turns boxes p < p) → (if b then p else container_in turns boxes p) < k
-before_by boxes turns k p true is before further = before
-before_by boxes turns k zero false is before further = absurd cc
-before_by boxes turns k (suc p) false is before further = let h = further (omega arith) in omega arith
+some_before : (boxes : List BoxNode) (p : ℕ) → counts boxes p ≡ false → 0 < p
+some_before boxes zero is = absurd cc
+some_before boxes (suc p) is = omega arith
 
-before_in : (boxes : List BoxNode) (turns k : ℕ) → IsTree (box_parents boxes) → k ≤ turns → 0 < k → k < length boxes → container_in turns boxes k < k
-before_in boxes zero k tree enough positive within = absurd (omega arith)
-before_in boxes (suc turns) zero tree enough positive within = absurd (omega arith)
-before_in boxes (suc turns) (suc k) tree enough positive within =
+before_by : (boxes : List BoxNode) (turns k p : ℕ) (b : Bool) → counts boxes p ≡ b → p < k → (p ≡ 0) ⊎ (container_in turns boxes p < p) → (if b then p else container_in turns boxes p) < k
+before_by boxes turns k p true is before further = before
+before_by boxes turns k p false is before further =
+    let some = some_before boxes p is in
+    elim further [
+      | inl none ↦ absurd (omega (arith, some, none))
+      | inr less ↦ omega (arith, less, before)
+    ]
+
+before_in : (boxes : List BoxNode) (turns k : ℕ) → IsTree (box_parents boxes) → k ≤ turns → k < length boxes → (k ≡ 0) ⊎ (container_in turns boxes k < k)
+before_in boxes turns zero tree enough within = inl refl
+before_in boxes zero (suc k) tree enough within = absurd (omega arith)
+before_in boxes (suc turns) (suc k) tree enough within =
     let before = parent_before boxes k tree within in
     let p : ℕ = box_parent boxes (suc k) in
-    before_by boxes turns (suc k) p (counts boxes p) refl before (λ some. before_in boxes turns p tree (omega arith) some (omega arith))
+    inr (before_by boxes turns (suc k) p (counts boxes p) refl before (before_in boxes turns p tree (omega arith) (omega arith)))
 
 -- it stands before the box
 pub container_before : (boxes : List BoxNode) (k : ℕ) → AreContextBoxes boxes → 0 < k → k < length boxes → container_of boxes k < k
-container_before boxes k are positive within = before_in boxes k k are.tree (omega arith) positive within
+container_before boxes k are positive within =
+    elim (before_in boxes k k are.tree (omega arith) within) [
+      | inl none ↦ absurd (omega (arith, positive, none))
+      | inr less ↦ less
+    ]
 
 pub container_within : (boxes : List BoxNode) (k : ℕ) → AreContextBoxes boxes → k < length boxes → container_of boxes k < length boxes
 container_within boxes zero are within = within

@@ -1,16 +1,14 @@
 -- What a context is given by the one around it, and where it stands.
-use Rattle.std.proofs.Common.{◌≡◌, ◌<◌, ℕ, zero, suc, ◌+◌, List, [], ◌∷◌, ◌++◌, length, length-append, map, take, slice_index, refl, arith, get_or, inl, inr}
+use Rattle.std.proofs.Common.{◌≡◌, ◌<◌, ℕ, zero, suc, ◌+◌, List, [], ◌∷◌, ◌++◌, length, length-append, map, take, slice_index, refl, arith, inl, inr}
 use Rattle.std.proofs.lemmas.Bool.{cases_lt}
 use Rattle.std.proofs.lemmas.Grind.{elements}
 use Rattle.std.proofs.lemmas.List.{map-append, take_more}
 use Rattle.std.proofs.lemmas.Int.{ints}
-use Rattle.lay_boxgen.specs.BoxColumns.{box_parents}
 use Rattle.lay_sizes.specs.declared.sizing.BoxSizes.{BoxSizes}
 use Rattle.lay_sizes.specs.declared.sizing.ContainingBlock.{ContainingBlock}
-use Rattle.lay_sizes.specs.BoxSizes.{content_block}
 use Rattle.lay_context.specs.declared.corner.Corner.{Corner}
 use Rattle.lay_context.specs.Contexts.{AreContexts, Context, boxes_in, context_at}
-use Rattle.lay_sizes.specs.SizeColumns.{sizes_at}
+use Rattle.lay_context.specs.Containing.{block_around}
 use Rattle.lay_context.specs.ContextPlaces.{Placement}
 use Rattle.lay_context.specs.DocumentLayout.{outer_block, own_box_in, sizes_in}
 use Rattle.lay_sizes.specs.declared.own_boxes.OwnBox.{OwnBox}
@@ -19,7 +17,7 @@ use Rattle.lay_context.specs.PlaceBounds.{IsCornerNear, IsRectNear, PlacementFit
 use Rattle.lay_context.specs.Solves.{own_rect}
 
 pub outer_is : (viewport : ContainingBlock) (contexts : List Context) (sizes : List (List BoxSizes)) (i : ℕ) → 0 < i
-    → outer_block viewport contexts sizes i ≡ content_block (sizes_at (sizes_in sizes (context_at contexts i).outer) (get_or (box_parents (boxes_in contexts (context_at contexts i).outer)) (context_at contexts i).outer_box 0))
+    → outer_block viewport contexts sizes i ≡ block_around (boxes_in contexts (context_at contexts i).outer) (sizes_in sizes (context_at contexts i).outer) (context_at contexts i).outer_box
 outer_is viewport contexts sizes zero some = absurd (omega (arith, some))
 outer_is viewport contexts sizes (suc i) some = refl
 

@@ -16,7 +16,6 @@ pub record HaveCounts (boxes : List BoxNode) (p : ContextPlaces) : Type 0 where
   pub left_count : length p.lefts ≡ length boxes
   pub box_count : length p.flow_boxes ≡ length boxes
   pub place_count : length p.places.boxes ≡ length boxes
-  pub line_count : length p.places.lines ≡ length boxes
 
 -- the left border edges are at most 2^49 units away
 abbrev pub AreNearLefts : List Length → Type 0

@@ -16,7 +16,7 @@ use std::alloc::Global;
 
 /// The left border edges of boxes in flow, where no float is beside them, from outer to inner boxes.
 pub(crate) fn lefts_of(alloc: Global, input: &PlaceInput) -> Result<Vec<Unit>, NoMemory>
-    requires few { length input.now.boxes ≤ 16384 }
+    requires few { length input.now.boxes ≤ 65536 }
     ensures lefts { IfOk result (λ v. HasLefts input.now.boxes input.now.sizes input.now.inner v.items) }
     ensures near { IfOk result (λ v. AreNearLefts v.items) }
 {

@@ -3,6 +3,7 @@
 ghost use Rattle.std.specs.Prelude.{◌≡◌, ◌<◌, length, IfOk};
 ghost use Rattle.lay_boxgen.specs.Roles.{clear_at, role_at};
 ghost use Rattle.lay_context.specs.Containing.{container_of, is_anonymous};
+ghost use Rattle.lay_context.specs.InlineContainers.{is_own_container};
 ghost use Rattle.lay_context.specs.ContextBoxes.{AreContextBoxes, is_float};
 
 use lay_boxgen::{BoxNode, BoxTree, Role};
@@ -77,6 +78,15 @@ impl ContextBoxes {
         ensures before { 0 < k → result < k }
     {
         self.containers[k]
+    }
+
+    /// Whether the box at k is a block container in which other boxes of the context stand.
+    pub(crate) fn is_own_container(&self, k: usize) -> bool
+        requires { k < length self.now }
+        ensures { result ≡ is_own_container self.now k }
+    {
+        let node = &self.tree.as_slice()[k];
+        (k == 0 || node.is_block_container()) && !node.inner
     }
 
     /// Whether the box at k is anonymous (9.2.1.1).

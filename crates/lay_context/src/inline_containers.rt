@@ -12,7 +12,7 @@ use std::alloc::Global;
 /// What stands in a block container.
 #[derive(Clone, Copy)]
 pub(crate) enum Level {
-    /// What is in flow beside no line.
+    /// What is in flow beside no line, and what other boxes of the context stand in.
     Block,
     /// What is in lines.
     Inline,
@@ -45,19 +45,21 @@ fn holders(alloc: Global, boxes: &ContextBoxes, level: Level) -> Result<Vec<bool
     let count = boxes.as_slice().len();
     let mut holders = vec![in alloc; false; count]?;
     for k in 1..count {
-        if is_of(level, boxes.role(k)) {
-            holders[boxes.container(k)] = true;
+        if is_of(level, boxes, k) {
+            let container = boxes.container(k);
+            holders[container] = true;
         }
     }
     Ok(holders)
 }
 
-fn is_of(level: Level, role: Role) -> bool
-    ensures { result ≡ is_of level role }
+fn is_of(level: Level, boxes: &ContextBoxes, k: usize) -> bool
+    requires { k < length boxes.now }
+    ensures { result ≡ is_of level boxes.now k }
 {
     match level {
-        Level::Block => is_beside_lines(role),
-        Level::Inline => role.is_inline_level(),
+        Level::Block => is_beside_lines(boxes.role(k)) || boxes.is_own_container(k),
+        Level::Inline => boxes.role(k).is_inline_level(),
     }
 }
 

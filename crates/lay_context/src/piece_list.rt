@@ -1,6 +1,6 @@
 //! The pieces of a context as they come, each with its part.
 
-ghost use Rattle.std.specs.Prelude.{◌≡◌, ◌≤◌, ◌∷◌, ◌++◌, [], length, IfOk};
+ghost use Rattle.std.specs.Prelude.{ℕ, ◌≡◌, ◌≢◌, ◌≤◌, ◌∷◌, ◌++◌, [], length, IfOk, OnOk};
 ghost use Rattle.lay_context.specs.PieceParts.{numbered};
 ghost use Rattle.lay_context.specs.PieceCounts.{count_in, counts_in, with_one};
 
@@ -66,7 +66,7 @@ impl PieceList {
             part: count_in(node, piece.kind),
             ..piece
         })?;
-        counts.insert(piece.node.0, with_one(node, piece.kind))?;
+        put(&mut counts, piece.node.0, with_one(node, piece.kind))?;
         Ok(PieceList { items, counts })
     }
 
@@ -91,6 +91,15 @@ fn counts_in(counts: &BTreeMap<u32, Counts>, id: u32) -> Counts
             texts: 0,
         },
     }
+}
+
+/// Notes these for the node with this id.
+fn put(counts: &mut BTreeMap<u32, Counts>, id: u32, node: Counts) -> Result<(), NoMemory>
+    ensures here { OnOk result (counts_in counts.new id ≡ node) }
+    ensures others { OnOk result ((other : ℕ) → other ≢ id → counts_in counts.new other ≡ counts_in counts.old other) }
+{
+    counts.insert(id, node)?;
+    Ok(())
 }
 
 fn count_in(counts: Counts, kind: FragKind) -> u32

@@ -112,11 +112,13 @@ fn with_box(
 /// The lines of the box at k. NoMemory is also the answer where one reaches further than 2^61 units, which it does in no
 /// document within the limits.
 fn rows_at(places: &BoxPlaces, k: usize) -> Result<&[Ended], NoMemory>
-    requires { k < length places.now.places.lines }
     ensures rows { IfOk result (λ r. r.now ≡ rows_at places.now.places k) }
     ensures within { IfOk result (λ r. All RowWithin r.now) }
 {
-    let rows = places.places.lines()[k].as_slice();
+    let rows = match places.places.lines().get(k) {
+        Some(rows) => rows.as_slice(),
+        None => &[],
+    };
     if rows.iter().all(|row| is_row_within(row)) {
         Ok(rows)
     } else {
@@ -134,11 +136,11 @@ fn with_lines(
     ensures pieces { IfOk result (λ p. p ≡ with_pieces pieces (map (piece_on_line boxes.now) on_lines.now)) }
     ensures near { IfOk result AreNearPieces }
 {
-    let mut pieces = pieces;
+    let mut all = pieces;
     for k in 0..on_lines.len() {
-        pieces = pieces.with(piece_on_line(boxes, on_lines[k])?)?;
+        all = all.with(piece_on_line(boxes, on_lines[k])?)?;
     }
-    Ok(pieces)
+    Ok(all)
 }
 
 /// A piece on a line. NoMemory is also the answer where it stands more than 2^60 units away.
