@@ -1,11 +1,12 @@
 #!/usr/bin/env python3
-"""A second reading of CSS 2.2: block layout with collapsing margins, floats and clearance, as plain as can be.
+"""A second reading of CSS 2.2: blocks with collapsing margins, floats, clearance and lines, as plain as can be.
 
 usage: blocks.py < DOCUMENT      prints the report of `lay scratch` on a run document without faults
 
 It was written apart from the crates, so that each is a test of the other (`compare`). It is slow on purpose: what the
 standard calls a hypothetical position is got by laying a context out once more for each box with `clear`. Begin here,
-with `Flow`; then `margins` (8.3.1), `floats` (9.5), `sizes` (10), `boxes` (9.2 and 9.7) and `styles` (6).
+with `Flow`; then `margins` (8.3.1), `floats` (9.5), `lines` (9.4.2), `content` (16.4 and 16.6), `sizes` (10), `boxes`
+(9.2 and 9.7), `face` (15) and `styles` (6).
 
 Words: a context is a block formatting context, and its own box is the one that establishes it. A solid box is a
 context's own box in the flow, which overlaps no float. The mark of a box is where the flow puts its top border edge,
@@ -32,13 +33,30 @@ How open places of the standard are read
   root that floats right ends at the viewport's right edge.
 - 10.4: the widths that are compared solve the equation as it stands, before they are held within the limit of lengths.
 - 10.5: percentages are of the height after 10.7.
+- 9.2.1.1: blocks in an inline box with nothing between them but blank texts and floats break it once. What stands beside
+  blocks is wrapped whole, with its floats, where it is more than floats and blank texts.
+- 9.4.2: a line is seen, too, where an inline box on it has a margin, border or padding above or below.
+- 9.5: what is beside a line is asked over the height of its strut. A line with nothing in it goes down also where the
+  floats beside it leave the whole width. A float inside a segment is met at its end, and one right behind a break that
+  isn't forced before it; once a float of a line is put off, so are the later ones.
+- 9.5: a line ends before the first segment that doesn't fit, also where a longer front would.
+- 16.1: each block container indents its first line that is seen, also an anonymous block.
+- 16.4: letter-spacing is added behind each cluster, word-spacing at each U+0020 and U+00A0; a tab has neither.
+- 16.6.1: what stands beside a linefeed is removed inside one text; a space behind a space, over texts. A space that
+  surely begins a line is removed before there are segments. Where a space was removed there is no break.
+- 16.6.1: spaces at a line's end under `pre-wrap` don't count for what fits, and do count for alignment; those under `pre`
+  count for both. A space with a combining mark is no space.
 - 6.2.1 and 8.5.1: on the root `inherit` is the initial value, so `border-top-width: inherit` is `medium`.
 """
+import collections
 import json
 import sys
 
 from boxes import Box, boxes_of_context, first_not_built, read_nodes
+from content import Content
+from face import Face
 from floats import ContainingBlock, bottoms_to_clear, clears, place_float, place_solid
+from lines import lay_lines
 from margins import MarginRuns, bottom_margin, top_margin
 from sizes import find_sizes, used_height
 from styles import UNITS_PER_PX
@@ -54,6 +72,7 @@ class Flow:
         self.context_box, self.hypothetical_edges = context_box, hypothetical_edges
         self.runs = MarginRuns(context_box, hypothetical_edges.keys())
         self.marks, self.left, self.top, self.height = {}, {}, {}, {}
+        self.lines, self.lines_end = {}, {}
         self.bottoms_to_clear = {}              # of the floats before a box
         self.floats = []                        # margin boxes, in document order
         self.content_boxes = {}
@@ -64,12 +83,20 @@ class Flow:
         """Places all boxes; gives the content height of the context, which reaches round its floats (10.6.7)."""
         content_top = self.open_content_box(self.context_box, 0, 0).top
         self.start = content_top
-        for child in self.context_box.children:
-            self.place(child)
+        self.place_content(self.context_box)
         children = self.context_box.children_in_flow()
         end = self.start + self.runs.whole(bottom_margin(children[-1])) if children else content_top
+        end = self.lines_end.get(self.context_box, end)
         bottom = max([end] + [other.bottom for other in self.floats])
         return used_height(self.context_box, bottom - content_top)
+
+    def place_content(self, box):
+        """Places what is in a box whose content box is open: its lines, or its blocks and floats."""
+        if box.holds_lines():
+            containing_block = self.content_boxes[box]
+            self.lines[box], self.lines_end[box] = lay_lines(box.content, containing_block, self.floats, self.keep_float)
+        for child in box.children:
+            self.place(child)
 
     def open_content_box(self, box, left, top):
         """The content box of a box whose border box has this corner."""
@@ -120,7 +147,11 @@ class Flow:
         mark = self.mark(box)
         self.marks[box] = mark
         height = box.margin.top + box.border_box_height + box.margin.bottom
-        margin_box = place_float(box, height, self.content_boxes[box.parent], mark, self.floats)
+        self.keep_float(place_float(box, height, self.content_boxes[box.parent], mark, self.floats))
+
+    def keep_float(self, margin_box):
+        """Makes a float one of the earlier floats of all that comes after."""
+        box = margin_box.box
         self.floats.append(margin_box)
         self.left[box] = margin_box.left + box.margin.left
         self.top[box] = margin_box.top + box.margin.top
@@ -141,8 +172,7 @@ class Flow:
         content_top = self.open_content_box(box, self.left[box], self.top[box]).top
         if box.border.top or box.padding.top:
             self.start = content_top
-        for child in box.children:
-            self.place(child)
+        self.place_content(box)
         content_height = used_height(box, self.content_bottom(box) - content_top)
         self.height[box] = content_top - self.top[box] + content_height + box.padding.bottom + box.border.bottom
         if not self.runs.collapses_through(box):
@@ -151,10 +181,13 @@ class Flow:
     def content_bottom(self, box):
         """Where the content ends for a height of `auto` (10.6.3), which is
 
+        - at the bottom of the last line,
         - below the bottom margin of the last child in the flow, if it doesn't collapse with the box's,
         - else at the bottom border edge of the last one whose top margin doesn't collapse with that,
         - else at the top.
         """
+        if box.holds_lines():
+            return self.lines_end[box]
         children = box.children_in_flow()
         if children and not self.runs.adjoin(bottom_margin(children[-1]), bottom_margin(box)):
             return self.start + self.runs.whole(bottom_margin(children[-1]))
@@ -171,6 +204,7 @@ def has_clearance(box, hypothetical_edge, hypothetical_flow):
     runs = hypothetical_flow.runs
     is_past = all(hypothetical_edge >= bottom for bottom in hypothetical_flow.bottoms_to_clear[box])
     moves_with_float = any(clears(box.clear, other.side)
+                           and runs.has(top_margin(other.box))
                            and runs.stands_before(top_margin(other.box), top_margin(box))
                            and runs.adjoin(top_margin(other.box), top_margin(box))
                            for other in hypothetical_flow.floats)
@@ -206,28 +240,53 @@ def lay_out_context(box):
 
 # -- the page
 
-def lay_out_page(root_node, viewport):
+def find_content(box, face):
+    """Sets what the lines of the block containers below a box hold; one without a line that is seen holds none."""
+    for child in box.children + box.line_floats:
+        find_content(child, face)
+    content = Content(box, face)
+    if content.has_seen_line():
+        box.content = content
+    else:
+        box.hold_no_lines()
+
+
+def lay_out_page(root_node, viewport, face):
     """The root's box with all sizes and flows set, and the corner of its border box; the viewport is in px (10.1)."""
     width, height = (side * UNITS_PER_PX for side in viewport)
     root = Box(root_node, None)
     find_sizes(root, width, height)
+    find_content(root, face)
     lay_out_context(root)
     left = width - root.margin.right - root.border_box_width if root.side == 'right' else root.margin.left
     return root, left, root.margin.top
 
 
-def border_boxes(box, left, top):
-    """The border boxes of a context whose own one has this corner, its own boxes before those of inner contexts."""
-    yield box.node.id, left, top, box.border_box_width, box.border_box_height
-    flow, inner = box.flow, []
+def pieces_in_flow(flow, box):
+    """The pieces in a box that are of its context, from the context's corner, in the order of the tree of boxes."""
+    for line in flow.lines.get(box, []):
+        yield from line.pieces
+    for child in box.children:
+        if not child.is_context:
+            yield ('box', child.node.id, flow.left[child], flow.top[child], child.border_box_width, flow.height[child])
+            yield from pieces_in_flow(flow, child)
+
+
+def contexts(box, left, top):
+    """The contexts in document order, each as its own box and the corner of that on the page."""
+    yield box, left, top
     for child in boxes_of_context(box):
         if child.is_context:
-            inner.append(child)
-        else:
-            yield (child.node.id, left + flow.left[child], top + flow.top[child],
-                   child.border_box_width, flow.height[child])
-    for child in inner:
-        yield from border_boxes(child, left + flow.left[child], top + flow.top[child])
+            yield from contexts(child, left + box.flow.left[child], top + box.flow.top[child])
+
+
+def piece_lines(box, left, top):
+    """The lines of the report for a context; the part counts its earlier pieces of the same kind and node."""
+    parts = collections.Counter()
+    own = ('box', box.node.id, 0, 0, box.border_box_width, box.border_box_height)
+    for kind, ident, x, y, width, height in [own, *pieces_in_flow(box.flow, box)]:
+        yield '%s %d %d %d %d %d %d' % (kind, ident, parts[kind, ident], left + x, top + y, width, height)
+        parts[kind, ident] += 1
 
 
 def report(run):
@@ -238,7 +297,8 @@ def report(run):
         return 'refused NotBuilt %d\n' % place, 1
     lines = ['publish 0', 'final 0']
     if not nodes[0].is_hidden:
-        lines += ['box %d 0 %d %d %d %d' % line for line in border_boxes(*lay_out_page(nodes[0], run['viewport']))]
+        page = lay_out_page(nodes[0], run['viewport'], Face(run.get('face', {})))
+        lines += [line for context in contexts(*page) for line in piece_lines(*context)]
     return '\n'.join(lines) + '\n', 0
 
 

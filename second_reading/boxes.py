@@ -1,18 +1,23 @@
-"""The nodes of a run document and the block boxes that they generate (CSS 2.2, 9.2.1, 9.4.1 and 9.7)."""
+"""The nodes of a run document and the boxes that they generate (CSS 2.2, 9.2, 9.4 and 9.7).
+
+A block container holds blocks, or it holds inline content: texts, inline boxes and the floats among them. Where both
+stand in it, inline boxes are broken round the blocks, and what stands beside blocks is put into anonymous blocks.
+"""
 from styles import computed_style
+
+FLOATS = ('left', 'right')
 
 
 class Node:
-    """A node of the document, with its computed style."""
+    """A node of the document, with its computed style; a text has that of an element without declarations."""
 
     def __init__(self, place, fields, parent):
         self.place, self.id, self.kind, self.parent = place, fields['id'], fields['kind'], parent
+        self.text = fields.get('text', '')
         self.children = []
-        if self.kind == 'text':
-            self.style, self.is_hidden = None, parent.is_hidden
-        else:
-            self.style = computed_style(fields.get('style', {}), parent.style if parent else None)
-            self.is_hidden = self.word('display') == 'none' or (parent is not None and parent.is_hidden)
+        declarations = {} if self.kind == 'text' else fields.get('style', {})
+        self.style = computed_style(declarations, parent.style if parent else None)
+        self.is_hidden = self.word('display') == 'none' or (parent is not None and parent.is_hidden)
 
     def word(self, name):
         """The keyword of a property."""
@@ -24,12 +29,18 @@ class Node:
         if display == 'list-item':
             display = 'block'
         is_absolute = self.word('position') in ('absolute', 'fixed')
-        if is_absolute or self.word('float') != 'none' or self.parent is None:
+        if is_absolute or self.is_floating() or self.parent is None:
             if display == 'inline-table':
                 return 'table'
             if display in ('inline', 'inline-block') or (display.startswith('table') and display != 'table'):
                 return 'block'
         return display
+
+    def is_floating(self):
+        return self.word('float') in FLOATS
+
+    def is_block_in_flow(self):
+        return self.kind == 'element' and self.used_display() == 'block' and not self.is_floating()
 
 
 def read_nodes(run):
@@ -45,31 +56,160 @@ def read_nodes(run):
     return nodes
 
 
+def is_built(node):
+    """This reading lays out texts, blocks, inline boxes on the baseline, and floats with a width of their own."""
+    if node.is_hidden or node.kind == 'text':
+        return True
+    if node.kind != 'element' or node.word('position') != 'static':
+        return False
+    if node.used_display() == 'inline':
+        return node.word('vertical-align') == 'baseline'
+    if node.used_display() != 'block':
+        return False
+    return not (node.is_floating() and node.word('width') == 'auto')            # shrink-to-fit, 10.3.5
+
+
 def first_not_built(nodes):
-    """The place of the first node that this reading doesn't lay out, or None.
+    """The place of the first node that this reading doesn't lay out, or None."""
+    return next((node.place for node in nodes if not is_built(node)), None)
 
-    It lays out elements that are blocks in normal flow, and floats with a width of their own.
-    """
-    for node in nodes:
-        if node.is_hidden:
+
+# -- inline content
+
+class TextBox:
+    """A text."""
+
+    def __init__(self, node):
+        self.node, self.style, self.text = node, node.style, node.text
+
+
+class InlineBox:
+    """An inline box, or a part of one that blocks break; `sizes` adds its margins, borders and paddings."""
+
+    def __init__(self, node, children, is_first=True, is_last=True):
+        self.node, self.style, self.children = node, node.style, children
+        self.is_first, self.is_last = is_first, is_last
+
+
+def generated(node):
+    """What the children of a node generate: text and inline boxes, and for blocks and floats their nodes."""
+    for child in node.children:
+        if child.is_hidden:
             continue
-        if node.kind != 'element' or node.used_display() != 'block' or node.word('position') != 'static':
-            return node.place
-        if node.word('float') != 'none' and node.word('width') == 'auto':       # shrink-to-fit, 10.3.5
-            return node.place
-    return None
+        if child.kind == 'text':
+            if child.text:
+                yield TextBox(child)
+        elif child.used_display() == 'inline':
+            yield from broken(InlineBox(child, list(generated(child))))
+        else:
+            yield child
 
+
+def is_block(part):
+    return isinstance(part, Node) and not part.is_floating()
+
+
+def is_float(part):
+    return isinstance(part, Node) and part.is_floating()
+
+
+def is_blank(part):
+    """A text that is white space which is collapsed away where it stands alone (9.2.2.1, 16.6.1).
+
+    A carriage return is an ordinary character where no linefeed is beside it.
+    """
+    if not isinstance(part, TextBox) or part.text.strip(' \t\r\n'):
+        return False
+    mode = part.style['white-space'].amount
+    if mode in ('normal', 'nowrap'):
+        return '\r' not in part.text or '\n' in part.text
+    return mode == 'pre-line' and '\r' not in part.text and '\n' not in part.text
+
+
+def broken(inline):
+    """The parts of an inline box and the blocks that break it (9.2.1.1), or the box whole.
+
+    Blocks with nothing between them but blank texts and floats are one break; these floats stay between them.
+    """
+    places = [place for place, child in enumerate(inline.children) if is_block(child)]
+    if not places:
+        return [inline]
+    found, begin, is_first = [], 0, True
+    while places:
+        first = last = places.pop(0)
+        while places and all(is_float(child) or is_blank(child) for child in inline.children[last + 1:places[0]]):
+            last = places.pop(0)
+        found.append(InlineBox(inline.node, inline.children[begin:first], is_first, False))
+        found += [child for child in inline.children[first:last + 1] if not is_blank(child)]
+        begin, is_first = last + 1, False
+    return found + [InlineBox(inline.node, inline.children[begin:], False, True)]
+
+
+# -- boxes
 
 class Box:
-    """A block box. `sizes` adds its margins, borders, paddings and sizes, `blocks` the flow of a context's own box."""
+    """A block container. `sizes` adds its margins, borders, paddings and sizes, and whether it holds lines.
 
-    def __init__(self, node, parent):
-        self.node, self.parent = node, parent
-        self.side = node.word('float')
+    Its children are blocks and floats, or it has inline content. Where that comes to no line that is seen, its floats
+    are its children; else they are floats of its lines. `blocks` adds the flow of a context's own box.
+    """
+
+    def __init__(self, node, parent, style=None):
+        self.node, self.parent, self.style = node, parent, style or node.style
+        self.is_anonymous = style is not None
+        self.side = self.style['float'].amount
         self.is_floating = self.side != 'none'
-        self.is_context = parent is None or self.is_floating or node.word('overflow') != 'visible'      # 9.4.1
-        self.clear = node.word('clear')
-        self.children = [Box(child, self) for child in node.children if not child.is_hidden]
+        self.is_context = parent is None or self.is_floating or self.style['overflow'].amount != 'visible'      # 9.4.1
+        self.clear = self.style['clear'].amount
+        self.children, self.line_floats, self.inline_content, self.content = [], [], [], None
+        if not self.is_anonymous:
+            self.fill(list(generated(node)))
+
+    def fill(self, parts):
+        """Gives the box what its node's children generate (9.2.1.1)."""
+        if not any(map(is_block, parts)):
+            self.hold_inline_content(parts)
+            return
+        run = []
+        for part in parts:
+            if is_block(part):
+                self.end_run(run)
+                self.children.append(Box(part, self))
+                run = []
+            else:
+                run.append(part)
+        self.end_run(run)
+
+    def end_run(self, run):
+        """Wraps what stands beside blocks in an anonymous block, if it is more than floats and blank texts."""
+        if all(is_float(part) or is_blank(part) for part in run):
+            self.children += [Box(part, self) for part in run if is_float(part)]
+            return
+        block = Box(self.node, self, computed_style({}, self.style))
+        block.hold_inline_content(run)
+        self.children.append(block)
+
+    def hold_inline_content(self, parts):
+        """Texts and inline boxes, and floats, whose containing block is this box."""
+        self.inline_content = self.with_boxes(parts)
+
+    def with_boxes(self, parts):
+        """The parts, with boxes for the nodes of floats."""
+        for place, part in enumerate(parts):
+            if isinstance(part, InlineBox):
+                self.with_boxes(part.children)
+            elif is_float(part):
+                parts[place] = Box(part, self)
+                self.line_floats.append(parts[place])
+        return parts
+
+    def holds_lines(self):
+        return self.content is not None
+
+    def hold_no_lines(self):
+        """No line of the inline content is seen, so its floats are as those among blocks."""
+        self.children += self.line_floats
+        self.line_floats = []
 
     def children_in_flow(self):
         """The children that aren't floats (9.3)."""
@@ -78,7 +218,7 @@ class Box:
 
 def boxes_of_context(box):
     """The boxes below a context's own box that stand in it, inner contexts' own boxes among them, in document order."""
-    for child in box.children:
+    for child in box.children + box.line_floats:
         yield child
         if not child.is_context:
             yield from boxes_of_context(child)

@@ -49,7 +49,8 @@ class MarginRuns:
         self.joined = {margin: margin for margin in self.margins}        # a forest; each tree is a run
         self.join_children(context_box)
         for box in boxes_of_context(context_box):
-            self.join_box(box)
+            if self.has(top_margin(box)):
+                self.join_box(box)
         self.members = {}
         for margin in self.margins:
             self.members.setdefault(self.run(margin), []).append(margin)
@@ -61,6 +62,8 @@ class MarginRuns:
         if box.is_floating:
             return True
         if box.is_context or box.border.top or box.padding.top or box.padding.bottom or box.border.bottom:
+            return False
+        if box.holds_lines():
             return False
         if box.min_height or box.given_height not in (None, 0):
             return False
@@ -112,6 +115,10 @@ class MarginRuns:
 
     def adjoin(self, margin, other):
         return self.run(margin) == self.run(other)
+
+    def has(self, margin):
+        """The margin stands in the sequence; those of floats in lines don't."""
+        return margin in self.places
 
     def stands_before(self, margin, other):
         """In document order."""

@@ -5,6 +5,7 @@ import json
 from boxes import first_not_built, read_nodes
 
 PLAIN_WORDS = {'float': 'left', 'clear': 'left', 'overflow': 'hidden', '-style': 'solid'}
+KEYWORDS = ('display', 'text-align', 'white-space', 'vertical-align')        # without plainer values
 PLAIN_VIEWPORT = [100, 80]
 
 
@@ -40,7 +41,7 @@ def with_declaration(run, place, name, text):
 
 def plainer_texts(name, text):
     """Plainer values of a property."""
-    if name == 'display':
+    if name in KEYWORDS:
         return []
     for ending, word in PLAIN_WORDS.items():
         if name.endswith(ending):
@@ -62,15 +63,46 @@ def with_fewer_nodes(run):
 def with_plainer_styles(run):
     """With a declaration less, or with a plainer value."""
     declarations = [(place, name, text)
-                    for place, node in enumerate(run['nodes']) for name, text in node['style'].items()]
+                    for place, node in enumerate(run['nodes']) for name, text in node.get('style', {}).items()]
     for place, name, text in declarations:
-        if name != 'display':
+        if name != 'display' or text == 'inline':
             yield with_declaration(run, place, name, None)
         elif text == 'list-item':
             yield with_declaration(run, place, name, 'block')
     for place, name, text in declarations:
         for plain in plainer_texts(name, text):
             yield with_declaration(run, place, name, plain)
+
+
+def with_text(run, place, text):
+    """The document with another text of a text node."""
+    other = copy.deepcopy(run)
+    other['nodes'][place]['text'] = text
+    return other
+
+
+def with_shorter_texts(run):
+    """With half of a text, or with a character less, or with a plain character."""
+    for place, node in enumerate(run['nodes']):
+        text = node.get('text', '')
+        half = len(text) // 2
+        if half:
+            yield with_text(run, place, text[:half])
+            yield with_text(run, place, text[half:])
+        for at in range(len(text)):
+            yield with_text(run, place, text[:at] + text[at + 1:])
+        for at, character in enumerate(text):
+            if character not in 'a \n':
+                yield with_text(run, place, text[:at] + 'a' + text[at + 1:])
+
+
+def with_plainer_face(run):
+    """With the usual face, or with a number of the face less."""
+    if 'face' not in run:
+        return
+    yield {name: run[name] for name in run if name != 'face'}
+    for name in run['face']:
+        yield dict(run, face={other: run['face'][other] for other in run['face'] if other != name})
 
 
 def with_plainer_numbers(run):
@@ -86,7 +118,9 @@ def with_plainer_numbers(run):
 def smaller_documents(run):
     """The documents that are one change smaller, the boldest changes first."""
     yield from with_fewer_nodes(run)
+    yield from with_plainer_face(run)
     yield from with_plainer_styles(run)
+    yield from with_shorter_texts(run)
     yield from with_plainer_numbers(run)
 
 

@@ -5,6 +5,7 @@ greatest size of `none`.
 """
 from collections import namedtuple
 
+from boxes import InlineBox
 from styles import SIDES, resolve, size_within_limit, within_limit
 
 Edges = namedtuple('Edges', SIDES)
@@ -39,7 +40,7 @@ def solve_floating(containing_width, margin_left, margin_right, width, rest):
 
 def used_widths(box, containing_width):
     """The used width and horizontal margins, after the three steps of 10.4, each of which solves the widths anew."""
-    style = box.node.style
+    style = box.style
     margin_left, margin_right = (resolve(style[name], containing_width) for name in ('margin-left', 'margin-right'))
     rest = box.border.left + box.padding.left + box.padding.right + box.border.right
 
@@ -75,7 +76,7 @@ def used_height(box, auto_height):
 
 def find_edges(box, containing_width):
     """Sets the used borders and paddings; percentages above and below are of the width, too (8.4)."""
-    style = box.node.style
+    style = box.style
     box.border = Edges(*(size_within_limit(style['border-%s-width' % side].amount) for side in SIDES))
     box.padding = Edges(*(size_within_limit(resolve(style['padding-' + side], containing_width)) for side in SIDES))
 
@@ -83,7 +84,7 @@ def find_edges(box, containing_width):
 def find_widths(box, containing_width):
     """Sets the used margins, width and width of the border box; vertical margins of `auto` are 0 (8.3 and 10.6.3)."""
     widths = used_widths(box, containing_width)
-    top, bottom = (resolve(box.node.style[name], containing_width) for name in ('margin-top', 'margin-bottom'))
+    top, bottom = (resolve(box.style[name], containing_width) for name in ('margin-top', 'margin-bottom'))
     box.margin = Edges(within_limit(top or 0), within_limit(widths.margin_right),
                        within_limit(bottom or 0), within_limit(widths.margin_left))
     box.width = size_within_limit(widths.width)
@@ -92,7 +93,7 @@ def find_widths(box, containing_width):
 
 def find_heights(box, containing_height):
     """Sets the height as given, its bounds, and the height that the children's percentages are of (10.5 and 10.7)."""
-    style = box.node.style
+    style = box.style
     box.given_height = resolve(style['height'], containing_height)
     box.min_height = resolve(style['min-height'], containing_height) or 0
     box.max_height = resolve(style['max-height'], containing_height)
@@ -101,10 +102,30 @@ def find_heights(box, containing_height):
         box.definite_height = size_within_limit(height_within(box.given_height, box.min_height, box.max_height))
 
 
+    box.percentage_base = containing_height if box.is_anonymous else box.definite_height        # 9.2.1.1
+
+
+def find_inline_edges(parts, containing_width):
+    """Sets margins, borders and paddings of the inline boxes among the parts; margins of `auto` are 0 (10.3.1)."""
+    for part in parts:
+        if isinstance(part, InlineBox):
+            find_edges(part, containing_width)
+            margins = (resolve(part.style['margin-' + side], containing_width) for side in SIDES)
+            part.margin = Edges(*(within_limit(margin or 0) for margin in margins))
+            find_inline_edges(part.children, containing_width)
+
+
+def has_vertical_edges(box):
+    """A margin, border or padding above or below isn't 0."""
+    return any(edges.top or edges.bottom for edges in (box.margin, box.border, box.padding))
+
+
 def find_sizes(box, containing_width, containing_height):
     """Sets the sizes of a box and of all below it; the containing block's height is None where it isn't definite."""
     find_edges(box, containing_width)
     find_widths(box, containing_width)
     find_heights(box, containing_height)
-    for child in box.children:
-        find_sizes(child, box.width, box.definite_height)
+    box.indent = within_limit(resolve(box.style['text-indent'], containing_width))              # 16.1
+    find_inline_edges(box.inline_content, box.width)
+    for child in box.children + box.line_floats:
+        find_sizes(child, box.width, box.percentage_base)

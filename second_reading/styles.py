@@ -1,7 +1,7 @@
-"""Values and computed styles of block boxes (CSS 2.2, 4.3, 6.1, 6.2 and 15.7).
+"""Values and computed styles of blocks, inline boxes and texts (CSS 2.2, 4.3, 6.1, 6.2, 10.8.1, 15.7 and 16).
 
-A length is a whole number of units of 1/64 px, a percentage one of hundredths of a percent, and a factor of `em` one of
-thousandths. Each is rounded down once, when its text is read, and then held within its bounds.
+A length is a whole number of units of 1/64 px, a percentage one of hundredths of a percent, and a factor of `em` or a
+number one of thousandths. Each is rounded down once, when its text is read, and then held within its bounds.
 """
 import re
 from collections import namedtuple
@@ -25,11 +25,14 @@ INITIAL_VALUES = {
     **{'padding-%s' % side: '0' for side in SIDES},
     **{'border-%s-style' % side: 'none' for side in SIDES},
     **{'border-%s-width' % side: 'medium' for side in SIDES},
+    'vertical-align': 'baseline', 'line-height': 'normal', 'text-indent': '0', 'text-align': 'left',
+    'white-space': 'normal', 'letter-spacing': 'normal', 'word-spacing': 'normal',
 }
+INHERITED = ('line-height', 'text-indent', 'text-align', 'white-space', 'letter-spacing', 'word-spacing')
 
 NUMBER_AND_UNIT = re.compile(r'^([+-]?(?:[0-9]+|[0-9]*\.[0-9]+))([a-z%]*)$')
 
-# The kind is `length` (of units), `percentage` (of hundredths) or `word`.
+# The kind is `length` (of units), `percentage` (of hundredths), `number` (of thousandths) or `word`.
 Value = namedtuple('Value', 'kind amount')
 
 
@@ -85,13 +88,38 @@ def read_font_size(text, parents_font_size):
     return size_within_limit(amount if kind == 'length' else amount * parents_font_size // 10000)
 
 
+def read_line_height(text, font_size):
+    """The computed line height (10.8.1): a number stays one, and so does `normal`; a percentage becomes a length."""
+    match = NUMBER_AND_UNIT.match(text)
+    if match and match.group(2) == '':
+        return Value('number', Fraction(match.group(1)) * 1000 // 1)
+    value = read_value(text, font_size)
+    if value.kind == 'percentage':
+        return Value('length', size_within_limit(value.amount * font_size // 10000))
+    return value
+
+
+def read_spacing(text, font_size):
+    """The computed letter- or word-spacing (16.4); `normal` is 0."""
+    return Value('length', 0) if text == 'normal' else read_value(text, font_size)
+
+
+def used_line_height(style, face):
+    """The line height in units (10.8.1)."""
+    kind, amount = style['line-height']
+    if kind == 'length':
+        return size_within_limit(amount)
+    thousandths = amount if kind == 'number' else face.normal
+    return size_within_limit(thousandths * style['font-size'] // 1000)
+
+
 def computed_style(declarations, parents_style):
     """The value of each property (6.1), and `font-size` in units; the root has no parent's style."""
     given = {name: text.strip(WHITE_SPACE).lower() for name, text in declarations.items()}
     parents_font_size = parents_style['font-size'] if parents_style else FONT_SIZES['medium'] * UNITS_PER_PX
     style = {'font-size': read_font_size(given.get('font-size'), parents_font_size)}
     for name, initial in INITIAL_VALUES.items():
-        text = given.get(name, initial)
+        text = given.get(name, 'inherit' if name in INHERITED else initial)
         if text == 'inherit' and parents_style:
             style[name] = parents_style[name]
             continue
@@ -99,6 +127,10 @@ def computed_style(declarations, parents_style):
             text = initial                               # 6.2.1: on the root it is the initial value
         if name.startswith('border') and text in BORDER_WIDTHS:
             style[name] = Value('length', BORDER_WIDTHS[text] * UNITS_PER_PX)
+        elif name == 'line-height':
+            style[name] = read_line_height(text, style['font-size'])
+        elif name.endswith('-spacing'):
+            style[name] = read_spacing(text, style['font-size'])
         else:
             style[name] = read_value(text, style['font-size'])
     for side in SIDES:

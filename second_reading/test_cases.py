@@ -18,8 +18,18 @@ def block(ident, declarations='', *children):
     return ident, style, children
 
 
+def inline(ident, declarations='', *children):
+    """An inline box, as a block is written."""
+    ident, style, children = block(ident, declarations, *children)
+    return ident, dict(style, display='inline'), children
+
+
 def nodes_of(tree, parent=0):
-    """The list of nodes of a run document."""
+    """The list of nodes of a run document; a text is its id and its characters."""
+    if len(tree) == 2:
+        ident, text = tree
+        yield {'id': ident, 'parent': parent, 'kind': 'text', 'text': text}
+        return
     ident, style, children = tree
     yield {'id': ident, 'parent': parent, 'kind': 'element', 'style': style}
     for child in children:
@@ -35,6 +45,14 @@ class LayoutCase(unittest.TestCase):
         lines = [line.split() for line in text.splitlines()[2:]]
         got = [' '.join([line[1]] + ['%g' % (int(number) / 64) for number in line[3:]]) for line in lines]
         self.assertEqual(list(boxes), got)
+        self.assertEqual(0, status)
+
+    def assert_texts(self, root, *texts):
+        """The report of a document with this root has these texts, each as `id x y width height`."""
+        text, status = report({'viewport': [100, 80], 'nodes': list(nodes_of(root))})
+        lines = [line.split() for line in text.splitlines() if line.startswith('text')]
+        got = [' '.join([line[1]] + ['%g' % (int(number) / 64) for number in line[3:]]) for line in lines]
+        self.assertEqual(list(texts), got)
         self.assertEqual(0, status)
 
 
@@ -204,6 +222,48 @@ class Sizes(LayoutCase):
             block(1, 'height: 50%; margin-top: 3px; margin-left: 4px; width: 50%',
                   block(2, 'margin-top: 5px; height: 100%')),
             '1 4 3 50 40', '2 4 8 50 40')
+
+
+class Lines(LayoutCase):
+    """A character is 8 wide and 16 high, in a line of 20."""
+
+    def test_line_takes_the_words_that_fit_without_the_space_behind_them(self):
+        self.assert_texts(block(1, 'width: 72px', (2, 'aaaa bbbb cccc')), '2 0 2 72 16', '2 0 22 32 16')
+
+    def test_float_with_room_beside_the_content_moves_it(self):
+        self.assert_boxes(
+            block(1, '', (2, 'aa '), block(4, 'float: left; width: 60px; height: 10px'), (5, ' bb')),
+            '1 0 0 100 20', '1 60 0 40 20', '2 60 2 24 16', '5 84 2 16 16', '4 0 0 60 10')
+
+    def test_float_without_room_beside_the_content_stands_below_the_line(self):
+        self.assert_boxes(
+            block(1, '', (2, 'aa '), block(4, 'float: left; width: 90px; height: 10px'), (5, ' bb')),
+            '1 0 0 100 30', '1 0 0 100 20', '2 0 2 24 16', '5 24 2 16 16', '4 0 20 90 10')
+
+    def test_line_goes_down_to_where_its_word_fits(self):
+        self.assert_texts(
+            block(1, '', block(3, 'float: left; width: 60px; height: 10px'),
+                  block(4, 'float: right; width: 30px; height: 40px'), (5, 'aaaaaa b')),
+            '5 0 12 64 16')
+
+    def test_line_that_is_not_seen_parts_no_margins(self):
+        self.assert_boxes(
+            block(1, '', block(2, 'margin-top: 10px; margin-bottom: 20px', inline(3, '', (4, ' '))),
+                  block(5, 'height: 5px')),
+            '1 0 0 100 25', '2 0 10 100 0', '5 0 20 100 5')
+
+    def test_edges_of_an_inline_box_stand_on_its_first_and_last_part(self):
+        self.assert_boxes(
+            block(1, 'width: 50px', inline(2, 'padding-left: 4px; padding-right: 6px', (3, 'aaaa bbbb'))),
+            '1 0 0 50 40', '1 0 0 50 20', '2 0 2 36 16', '3 4 2 32 16', '1 0 20 50 20', '2 0 22 38 16', '3 0 22 32 16')
+
+    def test_tab_reaches_to_a_stop_that_a_float_does_not_move(self):
+        self.assert_texts(
+            block(1, 'white-space: pre', block(3, 'float: left; width: 20px; height: 10px'), (4, 'a\tb')), '4 20 2 52 16')
+
+    def test_step_one_of_white_space_looks_inside_one_text(self):
+        self.assert_texts(
+            block(1, '', inline(2, '', (3, 'a ')), (4, '\n '), inline(5, '', (6, 'b'))), '3 0 2 16 16', '6 16 2 8 16')
 
 
 if __name__ == '__main__':

@@ -4,7 +4,9 @@ import unittest
 from blocks import lay_out_page
 from boxes import boxes_of_context, read_nodes
 from documents import document
+from face import Face
 from margins import top_margin
+from text_documents import text_document
 
 SEED, DOCUMENTS = 99, 400
 
@@ -20,9 +22,9 @@ def contexts(box):
 class Laws(unittest.TestCase):
     @classmethod
     def setUpClass(cls):
-        runs = [document(SEED, number) for number in range(DOCUMENTS)]
+        runs = [draw(SEED, number) for number in range(DOCUMENTS) for draw in (document, text_document)]
         roots = [(read_nodes(run)[0], run['viewport']) for run in runs]
-        pages = [lay_out_page(root, viewport)[0] for root, viewport in roots if not root.is_hidden]
+        pages = [lay_out_page(root, viewport, Face({}))[0] for root, viewport in roots if not root.is_hidden]
         cls.flows = [box.flow for root in pages for box in contexts(root)]
 
     def test_run_is_a_stretch_of_the_sequence_of_margins(self):
@@ -50,6 +52,22 @@ class Laws(unittest.TestCase):
                     continue
                 if flow.runs.adjoin(top_margin(parent), top_margin(box)):
                     self.assertEqual(flow.marks[parent], flow.marks[box])
+
+    def test_lines_of_a_block_stand_below_each_other_and_end_in_it(self):
+        for flow in self.flows:
+            for box, lines in flow.lines.items():
+                tops = [line.pieces[0][3] for line in lines]
+                bottoms = [line.pieces[0][3] + line.pieces[0][5] for line in lines]
+                self.assertTrue(all(bottom <= top for bottom, top in zip(bottoms, tops[1:])))
+                self.assertEqual(flow.lines_end[box], bottoms[-1])
+
+    def test_each_character_that_is_left_is_on_one_line(self):
+        for flow in self.flows:
+            for box in flow.lines:
+                texts = [part for segment in box.content.segments for part in segment.parts if hasattr(part, 'kind')]
+                seen = {part.box.node.id for part in texts if part.kind not in ('space', 'linefeed')}
+                pieces = {piece[1] for line in flow.lines[box] for piece in line.pieces if piece[0] == 'text'}
+                self.assertLessEqual(seen, pieces)
 
 
 if __name__ == '__main__':

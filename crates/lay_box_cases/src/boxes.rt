@@ -31,7 +31,7 @@ fn styled(alloc: Global, text: &str) -> Result<Page> {
 }
 
 /// The boxes of the contexts of a document, context after context in document order.
-pub fn of_all_contexts(alloc: Global, text: &str) -> Result<String> {
+pub(crate) fn of_all_contexts(alloc: Global, text: &str) -> Result<String> {
     let page = styled(alloc, text)?;
     let mut out = String::new(alloc);
     for node in page.doc.nodes() {
@@ -47,7 +47,7 @@ pub fn of_all_contexts(alloc: Global, text: &str) -> Result<String> {
 }
 
 /// The boxes of the root's context, each with its node's id and behind `<` the place of its parent.
-pub fn with_nodes(alloc: Global, text: &str) -> Result<String> {
+pub(crate) fn with_nodes(alloc: Global, text: &str) -> Result<String> {
     let page = styled(alloc, text)?;
     let tree = ample(boxes(alloc, &page.doc, &page.style, NodeId(1)))?;
     let mut out = String::new(alloc);
@@ -63,7 +63,7 @@ pub fn with_nodes(alloc: Global, text: &str) -> Result<String> {
 /// The boxes of the root's context, each with what its style has: `b` for `display: block` and `i`
 /// for inline, and the signs of documents for a font size and a margin that aren't the initial
 /// ones.
-pub fn with_styles(alloc: Global, text: &str) -> Result<String> {
+pub(crate) fn with_styles(alloc: Global, text: &str) -> Result<String> {
     let page = styled(alloc, text)?;
     let tree = ample(boxes(alloc, &page.doc, &page.style, NodeId(1)))?;
     let mut out = String::new(alloc);
@@ -76,7 +76,7 @@ pub fn with_styles(alloc: Global, text: &str) -> Result<String> {
 }
 
 /// How many boxes the root's context has.
-pub fn count(alloc: Global, text: &str) -> Result<String> {
+pub(crate) fn count(alloc: Global, text: &str) -> Result<String> {
     let page = styled(alloc, text)?;
     let tree = ample(boxes(alloc, &page.doc, &page.style, NodeId(1)))?;
     let count = tree.as_slice().len();

@@ -7,24 +7,24 @@ use std::str::{FromStr, SplitWhitespace};
 
 /// The cells that are left of a row.
 #[derive(Drop)]
-pub struct Cells<'a> {
+pub(crate) struct Cells<'a> {
     words: SplitWhitespace<'a>,
 }
 
 impl<'a> Cells<'a> {
-    pub fn new(row: &'a str) -> Cells<'a> {
+    pub(crate) fn new(row: &'a str) -> Cells<'a> {
         Cells {
             words: row.split_whitespace(),
         }
     }
 
     /// The next cell, where there is one more.
-    pub fn word(&mut self) -> Option<&'a str> {
+    pub(crate) fn word(&mut self) -> Option<&'a str> {
         self.words.next()
     }
 
     /// The number in the next cell.
-    pub fn number<T: FromStr<Err = ParseIntError>>(&mut self) -> Result<T> {
+    pub(crate) fn number<T: FromStr<Err = ParseIntError>>(&mut self) -> Result<T> {
         match self.words.next() {
             Some(word) => number(word),
             None => bail!("a cell is missing"),
@@ -32,7 +32,7 @@ impl<'a> Cells<'a> {
     }
 
     /// The number in the next cell, None where `auto` or `none` stands there.
-    pub fn number_or_none<T: FromStr<Err = ParseIntError>>(&mut self) -> Result<Option<T>> {
+    pub(crate) fn number_or_none<T: FromStr<Err = ParseIntError>>(&mut self) -> Result<Option<T>> {
         match self.words.next() {
             Some("auto" | "none") => Ok(None),
             Some(word) => Ok(Some(number(word)?)),
@@ -41,7 +41,7 @@ impl<'a> Cells<'a> {
     }
 
     /// Ends the row, which has no further cell.
-    pub fn end(mut self) -> Result<()> {
+    pub(crate) fn end(mut self) -> Result<()> {
         match self.words.next() {
             Some(word) => bail!("a cell too many: {word}"),
             None => Ok(()),
@@ -57,7 +57,7 @@ fn number<T: FromStr<Err = ParseIntError>>(word: &str) -> Result<T> {
 }
 
 /// What is given where there is memory.
-pub fn ample<T: Drop>(given: Result<T, NoMemory>) -> Result<T> {
+pub(crate) fn ample<T: Drop>(given: Result<T, NoMemory>) -> Result<T> {
     match given {
         Ok(given) => Ok(given),
         Err(_) => bail!("out of memory"),

@@ -28,7 +28,7 @@ struct Page {
 }
 
 /// The document that a text is.
-pub fn document(alloc: Global, text: &str) -> Result<Doc> {
+pub(crate) fn document(alloc: Global, text: &str) -> Result<Doc> {
     let mut page = Page::new(alloc);
     for letter in text.chars() {
         if !page.sign(alloc, letter)? && !page.bracket(letter)? {

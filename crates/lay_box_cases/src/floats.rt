@@ -40,7 +40,7 @@ struct FloatTerm {
 }
 
 /// The answers to terms.
-pub fn answers(alloc: Global, text: &str) -> Result<String> {
+pub(crate) fn answers(alloc: Global, text: &str) -> Result<String> {
     let mut page = Page {
         floats: Floats::new(alloc),
         count: 0,

@@ -10,7 +10,7 @@ use lay_units::Unit;
 use std::alloc::Global;
 
 /// The auto height of a block in flow.
-pub fn of_flow(alloc: Global, text: &str) -> Result<String> {
+pub(crate) fn of_flow(alloc: Global, text: &str) -> Result<String> {
     let mut cells = Cells::new(text);
     let top = cells.number()?;
     let line = cells.number_or_none()?;
@@ -27,7 +27,7 @@ pub fn of_flow(alloc: Global, text: &str) -> Result<String> {
 }
 
 /// The auto height of the root of a block formatting context.
-pub fn of_root(alloc: Global, text: &str) -> Result<String> {
+pub(crate) fn of_root(alloc: Global, text: &str) -> Result<String> {
     let mut cells = Cells::new(text);
     let top = cells.number()?;
     let end = cells.number()?;
@@ -40,7 +40,7 @@ pub fn of_root(alloc: Global, text: &str) -> Result<String> {
 }
 
 /// A height within its bounds.
-pub fn bounded(alloc: Global, text: &str) -> Result<String> {
+pub(crate) fn bounded(alloc: Global, text: &str) -> Result<String> {
     let mut cells = Cells::new(text);
     let height = cells.number()?;
     let min = cells.number()?;

@@ -10,7 +10,7 @@ use std::alloc::Global;
 
 /// What three margins collapse to, whether they are added one by one or the last two are joined
 /// with the first.
-pub fn collapsed(alloc: Global, text: &str) -> Result<String> {
+pub(crate) fn collapsed(alloc: Global, text: &str) -> Result<String> {
     let mut cells = Cells::new(text);
     let first = px(cells.number()?);
     let second = px(cells.number()?);
@@ -28,7 +28,7 @@ pub fn collapsed(alloc: Global, text: &str) -> Result<String> {
 }
 
 /// The runs of a list of edges, each with the place of its first edge and the number of its edges.
-pub fn runs_of(alloc: Global, text: &str) -> Result<String> {
+pub(crate) fn runs_of(alloc: Global, text: &str) -> Result<String> {
     let edges = edges(alloc, text)?;
     if edges.len() > 1000 {
         bail!("too many edges");

@@ -20,7 +20,7 @@ struct BlockRow {
 }
 
 /// The used margins and width of a block.
-pub fn of_block(alloc: Global, text: &str) -> Result<String> {
+pub(crate) fn of_block(alloc: Global, text: &str) -> Result<String> {
     let mut cells = Cells::new(text);
     let row = block_row(&mut cells)?;
     cells.end()?;
@@ -29,7 +29,7 @@ pub fn of_block(alloc: Global, text: &str) -> Result<String> {
 
 /// The used margins and width of a float, whose last two cells are its preferred minimum and its
 /// preferred width.
-pub fn of_float(alloc: Global, text: &str) -> Result<String> {
+pub(crate) fn of_float(alloc: Global, text: &str) -> Result<String> {
     let mut cells = Cells::new(text);
     let row = block_row(&mut cells)?;
     let minimum = cells.number::<u16>()?;
@@ -41,7 +41,7 @@ pub fn of_float(alloc: Global, text: &str) -> Result<String> {
 }
 
 /// The used width and height of a replaced element.
-pub fn of_replaced(alloc: Global, text: &str) -> Result<String> {
+pub(crate) fn of_replaced(alloc: Global, text: &str) -> Result<String> {
     let mut cells = Cells::new(text);
     let natural_width = cells.number()?;
     let natural_height = cells.number()?;

@@ -10,7 +10,7 @@ use std::sync::Wait;
 use std::thread::Threads;
 
 /// Makes the top call on these terms, over the bytes of a document.
-pub fn call<R: Threads + Wait + Sync>(
+pub(crate) fn call<R: Threads + Wait + Sync>(
     rt: &R,
     alloc: Global,
     terms: &Terms<'_>,

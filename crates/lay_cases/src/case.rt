@@ -20,7 +20,7 @@ use crate::terms::Terms;
 
 /// A call, and the answer that is wanted.
 #[derive(Clone, Copy)]
-pub struct Case<'a> {
+pub(crate) struct Case<'a> {
     name: &'a str,
     terms: Terms<'a>,
     document: &'a str,
@@ -29,7 +29,7 @@ pub struct Case<'a> {
 
 impl<'a> Case<'a> {
     /// The case that a text is, which begins behind the word `case`; None where it is none.
-    pub fn read(text: &'a str) -> Option<Case<'a>> {
+    pub(crate) fn read(text: &'a str) -> Option<Case<'a>> {
         let (call, answer) = text.split_once("\nanswer ")?;
         let (name, behind) = call.split_once('\n').unwrap_or((call, ""));
         let (terms, document) = match behind.strip_prefix("with ") {
@@ -50,20 +50,20 @@ impl<'a> Case<'a> {
         })
     }
 
-    pub fn name(&self) -> &'a str {
+    pub(crate) fn name(&self) -> &'a str {
         self.name
     }
 
-    pub fn terms(&self) -> &Terms<'a> {
+    pub(crate) fn terms(&self) -> &Terms<'a> {
         &self.terms
     }
 
     /// The run document, where the terms name none.
-    pub fn document(&self) -> &'a str {
+    pub(crate) fn document(&self) -> &'a str {
         self.document
     }
 
-    pub fn wanted(&self) -> Wanted<'a> {
+    pub(crate) fn wanted(&self) -> Wanted<'a> {
         self.wanted
     }
 }

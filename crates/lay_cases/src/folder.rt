@@ -5,7 +5,10 @@ use std::fs;
 use std::rt::Files;
 
 /// The names in a folder, in byte order.
-pub fn names<R: Files + AllocGlobal + Clone + Drop>(rt: &R, folder: &str) -> Result<Vec<String>> {
+pub(crate) fn names<R: Files + AllocGlobal + Clone + Drop>(
+    rt: &R,
+    folder: &str,
+) -> Result<Vec<String>> {
     let mut names = Vec::new(rt.alloc());
     for entry in fs::read_dir(rt, folder).context("listing a folder")? {
         let entry = entry?;

@@ -4,7 +4,7 @@ ghost use Rattle.std.specs.Prelude.{◌≡◌};
 
 /// The terms of a call.
 #[derive(Clone, Copy)]
-pub struct Terms<'a> {
+pub(crate) struct Terms<'a> {
     words: &'a str,
     document: Option<&'a str>,
     reading: Steps,
@@ -15,7 +15,7 @@ pub struct Terms<'a> {
 
 /// How many bytes a stream takes at most in a call, and the number of the call that fails, from 1; 0 where none does.
 #[derive(Clone, Copy)]
-pub struct Steps {
+pub(crate) struct Steps {
     pub most: usize,
     pub failing: u64,
 }
@@ -37,7 +37,7 @@ pub const PLAIN: Terms<'static> = Terms {
 
 impl<'a> Terms<'a> {
     /// The terms of a line, `KEY VALUE, KEY VALUE ..`, and else the plain ones; None where a key is none.
-    pub fn read(line: &'a str) -> Option<Terms<'a>> {
+    pub(crate) fn read(line: &'a str) -> Option<Terms<'a>> {
         let mut terms = PLAIN;
         if !line.is_empty() {
             for term in line.split(", ") {
@@ -71,30 +71,30 @@ impl<'a> Terms<'a> {
     }
 
     /// The words of the command line, parted by blanks.
-    pub fn words(&self) -> &'a str {
+    pub(crate) fn words(&self) -> &'a str {
         self.words
     }
 
     /// The document's name from the data folder on, where the case has none of its own.
-    pub fn document(&self) -> Option<&'a str> {
+    pub(crate) fn document(&self) -> Option<&'a str> {
         self.document
     }
 
-    pub fn reading(&self) -> Steps {
+    pub(crate) fn reading(&self) -> Steps {
         self.reading
     }
 
-    pub fn writing(&self) -> Steps {
+    pub(crate) fn writing(&self) -> Steps {
         self.writing
     }
 
     /// How many bytes the sink takes.
-    pub fn room(&self) -> usize {
+    pub(crate) fn room(&self) -> usize {
         self.room
     }
 
     /// How many bytes of the answer are wanted, where it isn't all of them.
-    pub fn front(&self) -> Option<usize> {
+    pub(crate) fn front(&self) -> Option<usize> {
         self.front
     }
 }

@@ -1,3 +1,4 @@
+pub mod AreaBounds
 pub mod BoxMeasuresValue
 pub mod LineHeights
 pub mod InlineBoxes

@@ -1,4 +1,5 @@
--- Texts in lines (CSS 2.2, 16.6 and 16.6.1): each grapheme cluster is a part of its line. A collapsible space goes at the
+-- Texts in lines (CSS 2.2, 16.6 and 16.6.1): each grapheme cluster that has a width of its own is a part of its line, and so
+-- are those of a word, which have one together. A collapsible space goes at the
 -- start and the end of a line, and a space of `pre-wrap` at the end doesn't count for what fits; one of `pre` counts as
 -- any character. A preserved tab reaches to the next tab stop. A preserved linefeed ends the line; of CR LF, a cluster,
 -- the CR is a character before it.

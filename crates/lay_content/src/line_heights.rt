@@ -2,6 +2,7 @@
 
 ghost use Rattle.std.specs.Prelude.{◌≡◌, pos, ◌+ℤ◌, ◌-ℤ◌, ◌*ℤ◌, ◌≤ℤ◌};
 ghost use Rattle.lay_units.specs.Units.{IsPosition, IsSum, IsUsed, IsUsedSize, half_of};
+ghost use Rattle.lay_face.specs.Faces.{IsMeasure};
 ghost use Rattle.lay_content.specs.LineHeights.{ascent, descent, extent_of, font_size, leading, line_height, line_height_in, with_leading};
 
 use lay_doc::{LineHeight, TextStyle};
@@ -24,20 +25,22 @@ pub(crate) fn extent_of(face: &Face, style: &TextStyle) -> Extent
 /// How far a content area reaches above the baseline.
 pub(crate) fn ascent(face: &Face, style: &TextStyle) -> Unit
     ensures value { result.0 ≡ ascent face.now style.now }
-    ensures fits { IsPosition result.0 }
+    ensures near { IsMeasure result.0 }
 {
     let size = font_size(style);
     face.fits_at(size);
+    face.measures_are_near(size);
     face.ascent(size)
 }
 
 /// How far it reaches below it.
 pub(crate) fn descent(face: &Face, style: &TextStyle) -> Unit
     ensures value { result.0 ≡ descent face.now style.now }
-    ensures fits { IsPosition result.0 }
+    ensures near { IsMeasure result.0 }
 {
     let size = font_size(style);
     face.fits_at(size);
+    face.measures_are_near(size);
     face.descent(size)
 }
 

@@ -5,13 +5,13 @@ use lay_units::NoMemory;
 use std::alloc::Global;
 
 /// What a case is about: it is told the calls of the case, and answers them.
-pub trait Subject {
+pub(crate) trait Subject {
     /// The answer to a call; None where the line is none.
     fn answer(&mut self, alloc: Global, line: &str) -> Result<Option<String>, NoMemory>;
 }
 
 /// The first line of a case that has another answer than it says, with that answer.
-pub fn first_difference<S: Subject>(
+pub(crate) fn first_difference<S: Subject>(
     alloc: Global,
     subject: &mut S,
     lines: &str,

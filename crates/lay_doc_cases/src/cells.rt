@@ -19,13 +19,13 @@ use std::alloc::Global;
 
 /// The cells of a case.
 #[derive(Drop)]
-pub struct HalvingCells {
+pub(crate) struct HalvingCells {
     cells: Cells<Halving>,
 }
 
 impl HalvingCells {
     /// No cells yet.
-    pub fn new(alloc: Global) -> HalvingCells {
+    pub(crate) fn new(alloc: Global) -> HalvingCells {
         HalvingCells {
             cells: Cells::new(alloc),
         }

@@ -23,13 +23,13 @@ use std::alloc::Global;
 
 /// A document with the edits of a case.
 #[derive(Drop)]
-pub struct EditedDocument {
+pub(crate) struct EditedDocument {
     doc: Doc,
 }
 
 impl EditedDocument {
     /// The document of the element 1.
-    pub fn new(alloc: Global) -> Result<EditedDocument> {
+    pub(crate) fn new(alloc: Global) -> Result<EditedDocument> {
         match Doc::new(alloc, 800, 600, element(alloc, 1)) {
             Ok(doc) => Ok(EditedDocument { doc }),
             Err(_) => bail!("no document"),

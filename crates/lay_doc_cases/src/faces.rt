@@ -17,13 +17,13 @@ use std::alloc::Global;
 
 /// The face that was made last.
 #[derive(Drop)]
-pub struct OneFace {
+pub(crate) struct OneFace {
     face: Option<Face>,
 }
 
 impl OneFace {
     /// No face yet.
-    pub fn new() -> OneFace {
+    pub(crate) fn new() -> OneFace {
         OneFace { face: None }
     }
 

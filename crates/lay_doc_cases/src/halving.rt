@@ -9,7 +9,7 @@ use std::alloc::Global;
 use std::sync::Arc;
 
 /// The work of halving a number.
-pub struct Halving;
+pub(crate) struct Halving;
 
 impl Work for Halving {
     ghost use Rattle.std.specs.Prelude.{◌≡◌, ◌/◌};
@@ -40,7 +40,7 @@ fn halved(alloc: Global, key: u32, number: u64, input: u64) -> Result<Done<Halvi
 }
 
 /// A claim; None where the cell isn't ready.
-pub fn claim(
+pub(crate) fn claim(
     alloc: Global,
     cells: &mut Cells<Halving>,
     key: u32,
@@ -57,7 +57,7 @@ pub fn claim(
 }
 
 /// Finishes the claim of this number with the half of the input.
-pub fn finish(
+pub(crate) fn finish(
     alloc: Global,
     cells: &mut Cells<Halving>,
     key: u32,
@@ -69,7 +69,7 @@ pub fn finish(
 }
 
 /// The value that is kept under the key.
-pub fn value(cells: &Cells<Halving>, key: u32) -> Option<u64> {
+pub(crate) fn value(cells: &Cells<Halving>, key: u32) -> Option<u64> {
     match cells.value(key) {
         Some(value) => Some(**value),
         None => None,
@@ -77,7 +77,7 @@ pub fn value(cells: &Cells<Halving>, key: u32) -> Option<u64> {
 }
 
 /// Gives the cells a shape; false where there are too many numbers.
-pub fn reshape(
+pub(crate) fn reshape(
     cells: &mut Cells<Halving>,
     shape: Shape<u32>,
     fresh: &[u32],
@@ -90,7 +90,7 @@ pub fn reshape(
 }
 
 /// Puts a key with at most two dependencies at the end; false where it may not stand there.
-pub fn put(shape: &mut Shape<u32>, key: u32, needs: &[u32]) -> Result<bool, NoMemory> {
+pub(crate) fn put(shape: &mut Shape<u32>, key: u32, needs: &[u32]) -> Result<bool, NoMemory> {
     if !is_short(shape) || has_key(shape, key) || !has_keys(shape, needs) || !are_apart(needs) {
         return Ok(false);
     }

@@ -7,23 +7,23 @@ use std::alloc::{AllocError, Global};
 use std::fmt::Debug;
 
 /// The answer to a call that has none of its own.
-pub fn done(alloc: Global) -> Result<Option<String>, NoMemory> {
+pub(crate) fn done(alloc: Global) -> Result<Option<String>, NoMemory> {
     Ok(Some(String::from_str(alloc, "done")?))
 }
 
 /// A value as `Debug` writes it.
-pub fn shown<T: Debug + Drop>(alloc: Global, value: T) -> Result<String, AllocError> {
+pub(crate) fn shown<T: Debug + Drop>(alloc: Global, value: T) -> Result<String, AllocError> {
     format!(in alloc; "{value:?}")
 }
 
 /// Two numbers with a blank between them.
-pub fn two_numbers(text: &str) -> Option<(u32, u32)> {
+pub(crate) fn two_numbers(text: &str) -> Option<(u32, u32)> {
     let (first, second) = text.split_once(' ')?;
     Some((first.parse::<u32>().ok()?, second.parse::<u32>().ok()?))
 }
 
 /// Numbers with blanks between them.
-pub fn numbers(alloc: Global, text: &str) -> Result<Option<Vec<u32>>, NoMemory> {
+pub(crate) fn numbers(alloc: Global, text: &str) -> Result<Option<Vec<u32>>, NoMemory> {
     let mut numbers = Vec::new(alloc);
     for word in text.split(' ') {
         if word.is_empty() {
@@ -38,13 +38,13 @@ pub fn numbers(alloc: Global, text: &str) -> Result<Option<Vec<u32>>, NoMemory> 
 }
 
 /// The declaration `PROPERTY: VALUE`.
-pub fn declaration(alloc: Global, text: &str) -> Option<Decl> {
+pub(crate) fn declaration(alloc: Global, text: &str) -> Option<Decl> {
     let (name, value) = text.split_once(": ")?;
     read(alloc, name, value).ok()
 }
 
 /// Declarations with `; ` between them.
-pub fn declarations(alloc: Global, text: &str) -> Result<Option<Decls>, NoMemory> {
+pub(crate) fn declarations(alloc: Global, text: &str) -> Result<Option<Decls>, NoMemory> {
     let mut decls = Decls::new(alloc);
     for text in text.split("; ") {
         if text.is_empty() {

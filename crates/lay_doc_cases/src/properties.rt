@@ -55,7 +55,7 @@ pub const PROPERTIES: [(&str, Property); 46] = [
 ];
 
 /// The computed value of a property.
-pub fn computed_value(
+pub(crate) fn computed_value(
     alloc: Global,
     style: &Style,
     property: Property,

@@ -15,7 +15,7 @@ use std::alloc::Global;
 
 /// The styles of a root and its child.
 #[derive(Drop)]
-pub struct ComputedStyles;
+pub(crate) struct ComputedStyles;
 
 impl Subject for ComputedStyles {
     fn answer(&mut self, alloc: Global, line: &str) -> Result<Option<String>, NoMemory> {

@@ -9,7 +9,7 @@ use std::alloc::{AllocError, Global};
 
 /// The reader of values.
 #[derive(Drop)]
-pub struct ReadValues;
+pub(crate) struct ReadValues;
 
 impl Subject for ReadValues {
     fn answer(&mut self, alloc: Global, line: &str) -> Result<Option<String>, NoMemory> {

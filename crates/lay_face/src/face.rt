@@ -4,7 +4,7 @@ ghost use Rattle.std.specs.Prelude.{◌≡◌, ◌≤◌, pos, ◌*ℤ◌, All, 
 ghost use Rattle.lay_units.specs.Units.{IsPosition, IsUsed};
 ghost use Rattle.lay_face.specs.declared.pairs.AdvancePair.{AdvancePair as Pair};
 ghost use Rattle.lay_face.specs.Clusters.{WidthsFit};
-ghost use Rattle.lay_face.specs.Faces.{FitsAt, face_of, entry_of, thousandths_of};
+ghost use Rattle.lay_face.specs.Faces.{FitsAt, MeasuresAreNear, face_of, entry_of, thousandths_of};
 
 use crate::pairs::PairList;
 use crate::table::{table_entry, table_of};
@@ -133,6 +133,15 @@ impl Face {
     pub fn fits_at(&self, size: Unit)
         requires { IsUsed size.0 }
         ensures { FitsAt self.now size.0 }
+    {
+        let _ = &self.table;
+    }
+
+    /// The measures of lines of a face at a used font size are at most ten times the greatest used length, since its
+    /// numbers are at most 10,000. Does nothing.
+    pub fn measures_are_near(&self, size: Unit)
+        requires { IsUsed size.0 }
+        ensures { MeasuresAreNear self.now size.0 }
     {
         let _ = &self.table;
     }

@@ -1,5 +1,5 @@
 -- The content of the lines of a block container, cut where lines may break (CSS 2.2, 9.4.2, 16.4 and 16.6): what white
--- space processing leaves of its items, each text with the widths of its clusters in its own box's font and spacings.
+-- space processing leaves of its items, each text with the widths of its words and spaces in its own box's font and spacings.
 use Rattle.std.specs.Prelude.{ℕ, List, [], false, Option, Some, None, slice_get, map}
 use Rattle.lay_units.specs.declared.records.ClusterWidth.{ClusterWidth}
 use Rattle.lay_doc.specs.declared.style.TextStyle.{TextStyle}
@@ -13,16 +13,17 @@ use Rattle.lay_space.specs.declared.item.Item.TheVariants as item
 use Rattle.lay_space.specs.declared.segment.Segment.{Segment}
 use Rattle.lay_space.specs.WhiteSpace.{processed}
 use Rattle.lay_space.specs.Segments.{segments_of}
+use Rattle.lay_items.specs.GatheredWidths.{gathered}
 use Rattle.lay_items.specs.InlineItems.{items_of}
 
 -- the font size and the spacings that a text of this style is set in: used lengths, held within their bounds
 abbrev pub setting_of : TextStyle → Setting
 setting_of s = record { size = size_of s.font_size.0; letter = length_of s.letter_spacing.0; word = length_of s.word_spacing.0 }
 
--- the widths of the clusters of a text of this box
+-- the widths of the clusters of a text of this box, those of a word together
 abbrev pub widths_in : FaceValue → Option BoxNode → List ℕ → List ClusterWidth
 widths_in face None text = []
-widths_in face (Some b) text = widths_of face (setting_of b.style.text) text
+widths_in face (Some b) text = gathered text (widths_of face (setting_of b.style.text) text)
 
 -- this item, with widths where it is a text
 abbrev pub measured_item : FaceValue → List BoxNode → Item → Item

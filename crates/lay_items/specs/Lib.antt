@@ -1,3 +1,4 @@
+pub mod GatheredWidths
 pub mod InlineItems
 pub mod InlineSegments
 pub mod OpenBoxes

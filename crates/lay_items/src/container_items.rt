@@ -26,7 +26,7 @@ pub fn inline_items(
 {
     let mut below = OpenBoxes {
         items: Vec::new(alloc),
-        open: Vec::new(alloc),
+        inlines: Vec::new(alloc),
         container: container as u32,
     };
     for place in container + 1..boxes.len() {
@@ -41,9 +41,9 @@ pub fn inline_items(
 /// The items where no box from `place` on is below the container.
 fn all_items(below: OpenBoxes, boxes: &[BoxNode], place: usize) -> Result<ItemList, NoMemory>
     requires over { (q : ℕ) → below.container ≤ q → q < place → items_below boxes.now q place (drop place boxes.now) ≡ [] }
-    requires order { Fall below.container (reverse below.open.items) place }
+    requires order { Fall below.container (reverse below.inlines.items) place }
     requires few { place ≤ 4294967295 }
-    ensures { IfOk result (λ l. l ≡ all_items boxes.now below.container below.items.items (reverse below.open.items) place) }
+    ensures { IfOk result (λ l. l ≡ all_items boxes.now below.container below.items.items (reverse below.inlines.items) place) }
 {
     let mut below = below;
     let container = below.container;

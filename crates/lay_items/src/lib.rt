@@ -8,6 +8,7 @@
 
 mod container_items;
 mod container_segments;
+mod gathered;
 mod leaves;
 mod measured;
 mod modes;

@@ -6,6 +6,7 @@ ghost use Rattle.lay_doc.specs.LengthValues.{length_of, size_of};
 ghost use Rattle.lay_face.specs.Clusters.{widths_of};
 ghost use Rattle.lay_items.specs.InlineSegments.{measured, measured_item, setting_of, widths_in};
 
+use crate::gathered::gathered;
 use crate::open_boxes::push_item;
 use lay_boxgen::BoxNode;
 use lay_doc::TextStyle;
@@ -59,7 +60,7 @@ fn measured_item(
     })
 }
 
-/// The widths of the clusters of a text of the box at a place, and none where no box is there.
+/// The widths of the words and spaces of a text of the box at a place, and none where no box is there.
 fn widths_at(
     alloc: Global,
     face: &Face,
@@ -70,7 +71,10 @@ fn widths_at(
     ensures { IfOk result (λ l. l ≡ widths_in face.now (slice_get boxes.now place) text.now) }
 {
     match boxes.get(place as usize) {
-        Some(node) => text_widths(alloc, face, &node.style.text, text),
+        Some(node) => {
+            let widths = text_widths(alloc, face, &node.style.text, text)?;
+            gathered(alloc, text.as_bytes(), widths.as_slice())
+        }
         None => Ok(WidthList::new(Vec::new(alloc))),
     }
 }

@@ -19,7 +19,7 @@ use std::alloc::Global;
 #[derive(Drop)]
 pub struct OpenBoxes {
     pub items: Vec<Item>,
-    pub open: Vec<u32>,
+    pub inlines: Vec<u32>,
     pub container: u32,
 }
 
@@ -29,10 +29,10 @@ impl OpenBoxes {
         requires tree { IsTree (box_parents boxes.now) }
         requires there { place < length boxes.now }
         requires below { self.old.container ≤ box_parent boxes.now place }
-        requires order { Fall self.old.container (reverse self.old.open.items) place }
-        ensures items { OnOk result (all_items boxes.now self.old.container self.old.items.items (reverse self.old.open.items) place
-            ≡ all_items boxes.now self.new.container self.new.items.items (reverse self.new.open.items) (place + 1)) }
-        ensures order { OnOk result (Fall self.new.container (reverse self.new.open.items) (place + 1)) }
+        requires order { Fall self.old.container (reverse self.old.inlines.items) place }
+        ensures items { OnOk result (all_items boxes.now self.old.container self.old.items.items (reverse self.old.inlines.items) place
+            ≡ all_items boxes.now self.new.container self.new.items.items (reverse self.new.inlines.items) (place + 1)) }
+        ensures order { OnOk result (Fall self.new.container (reverse self.new.inlines.items) (place + 1)) }
         ensures container { self.new.container ≡ self.old.container }
     {
         let node = &boxes[place as usize];
@@ -53,18 +53,18 @@ impl OpenBoxes {
     pub fn close_to(&mut self, boxes: &[BoxNode], place: u32, parent: u32) -> Result<u32, NoMemory>
         requires over { (q : ℕ) → parent < q → q < place → items_below boxes.now q place (drop place boxes.now) ≡ [] }
         requires below { self.old.container ≤ parent }
-        requires order { Fall self.old.container (reverse self.old.open.items) place }
-        ensures items { OnOk result (all_items boxes.now self.old.container self.old.items.items (reverse self.old.open.items) place
-            ≡ all_items boxes.now self.new.container self.new.items.items (reverse self.new.open.items) place) }
-        ensures order { OnOk result (Fall self.new.container (reverse self.new.open.items) (parent + 1)) }
-        ensures innermost { IfOk result (λ q. q ≡ innermost self.new.container (reverse self.new.open.items)) }
+        requires order { Fall self.old.container (reverse self.old.inlines.items) place }
+        ensures items { OnOk result (all_items boxes.now self.old.container self.old.items.items (reverse self.old.inlines.items) place
+            ≡ all_items boxes.now self.new.container self.new.items.items (reverse self.new.inlines.items) place) }
+        ensures order { OnOk result (Fall self.new.container (reverse self.new.inlines.items) (parent + 1)) }
+        ensures innermost { IfOk result (λ q. q ≡ innermost self.new.container (reverse self.new.inlines.items)) }
         ensures container { self.new.container ≡ self.old.container }
     {
         let _ = boxes;
         let _ = place;
-        while let Some(top) = self.open.pop() {
+        while let Some(top) = self.inlines.pop() {
             if top <= parent {
-                self.open.push(top)?;
+                self.inlines.push(top)?;
                 return Ok(top);
             }
             push_item(&mut self.items, Item::End(top))?;
@@ -75,11 +75,11 @@ impl OpenBoxes {
     /// Begins the inline box at a place.
     fn begin(&mut self, place: u32) -> Result<(), NoMemory>
         ensures items { OnOk result (self.new.items.items ≡ self.old.items.items ++ item.Start place ∷ []) }
-        ensures open { OnOk result (reverse self.new.open.items ≡ place ∷ reverse self.old.open.items) }
+        ensures inlines { OnOk result (reverse self.new.inlines.items ≡ place ∷ reverse self.old.inlines.items) }
         ensures container { self.new.container ≡ self.old.container }
     {
         push_item(&mut self.items, Item::Start(place))?;
-        self.open.push(place)?;
+        self.inlines.push(place)?;
         Ok(())
     }
 }

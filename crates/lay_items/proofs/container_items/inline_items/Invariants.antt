@@ -5,6 +5,6 @@ use Rattle.lay_items.proofs.container_items.inline_items.Given as goal
 
 abbrev pub invariant-loop-place : goal.invariant-loop-place
 invariant-loop-place l =
-    (all_items l.boxes l.below.container l.below.items.items (reverse l.below.open.items) l.place ≡ items_of l.boxes l.container)
-    × Fall l.below.container (reverse l.below.open.items) l.place
+    (all_items l.boxes l.below.container l.below.items.items (reverse l.below.inlines.items) l.place ≡ items_of l.boxes l.container)
+    × Fall l.below.container (reverse l.below.inlines.items) l.place
     × (l.below.container ≡ l.container)

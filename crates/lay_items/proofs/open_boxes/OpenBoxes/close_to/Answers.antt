@@ -11,7 +11,7 @@ loop-top-preserved c =
     let container = c.loop-top.self.container in
     let items = c.loop-top.self.items.items in
     let qs = reverse c.pop.new.self.items in
-    let turn : reverse c.loop-top.self.open.items ≡ q ∷ qs = turned _ _ q c.in-Some.ensures.items in
+    let turn : reverse c.loop-top.self.inlines.items ≡ q ∷ qs = turned _ _ q c.in-Some.ensures.items in
     let fall : Fall container (q ∷ qs) k = subst (λ xs. Fall container xs k) turn c.loop-top.invariant.1 in
     let none = c.requires.over q c.if-top-parent.false fall.0 in (
       ap (λ xs. all_items boxes container xs qs k) c.in_ok-push_item.ensures

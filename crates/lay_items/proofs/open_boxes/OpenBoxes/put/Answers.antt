@@ -19,7 +19,7 @@ returns-then-innermost-node-clause-items c =
     let k = c.args.place in
     let b = c.index-boxes-place.result in
     let container = c.close_to.new.self.container in
-    let qs = reverse c.close_to.new.self.open.items in
+    let qs = reverse c.close_to.new.self.inlines.items in
     c.in_ok-innermost.ensures.items
     ∙ past_skipped boxes container k c.close_to.new.self.items.items qs b c.requires.there c.index-boxes-place.is c.in_ok-innermost.ensures.order
     (λ e. c.if-innermost-node.true (c.in_ok-innermost.ensures.innermost ∙ e))
@@ -29,10 +29,10 @@ returns-then-innermost-node-clause-order c =
     let boxes = c.args.boxes.now in
     let k = c.args.place in
     let at = parent_at boxes k c.index-boxes-place.result c.requires.there c.index-boxes-place.is in
-    let first = fall_low c.args.self.now.container (reverse c.args.self.now.open.items) k c.requires.order in
+    let first = fall_low c.args.self.now.container (reverse c.args.self.now.inlines.items) k c.requires.order in
     let counted = length-parents boxes in
     let before = c.requires.tree.before k (omega (arith, first)) (omega (arith, counted, c.requires.there)) in
-    fall_up c.close_to.new.self.container (reverse c.close_to.new.self.open.items) (c.index-boxes-place.result.parent + 1) (k + 1) (omega (arith, at, before)) c.in_ok-innermost.ensures.order
+    fall_up c.close_to.new.self.container (reverse c.close_to.new.self.inlines.items) (c.index-boxes-place.result.parent + 1) (k + 1) (omega (arith, at, before)) c.in_ok-innermost.ensures.order
 
 pub returns-then-is_inline-clause-items : goal.returns-then-is_inline-clause-items
 returns-then-is_inline-clause-items c =
@@ -41,27 +41,27 @@ returns-then-is_inline-clause-items c =
     let b = c.index-boxes-place.result in
     let container = c.close_to.new.self.container in
     let items = c.close_to.new.self.items.items in
-    let qs = reverse c.close_to.new.self.open.items in
+    let qs = reverse c.close_to.new.self.inlines.items in
     let inside : innermost container qs ≡ b.parent = sym c.in_ok-innermost.ensures.innermost ∙ c.if-innermost-node.false in
     let inline : is_inline (role_of b) ≡ true = search rules in
     c.in_ok-innermost.ensures.items
     ∙ past_inline boxes container k items qs b c.requires.there c.index-boxes-place.is c.in_ok-innermost.ensures.order inside inline
     ∙ ap (λ n. all_items boxes n (items ++ item.Start k ∷ []) (k ∷ qs) (k + 1)) (sym c.in_ok-begin.ensures.container)
     ∙ ap (λ xs. all_items boxes c.begin.new.self.container xs (k ∷ qs) (k + 1)) (sym c.in_ok-begin.ensures.items)
-    ∙ ap (λ xs. all_items boxes c.begin.new.self.container c.begin.new.self.items.items xs (k + 1)) (sym c.in_ok-begin.ensures.open)
+    ∙ ap (λ xs. all_items boxes c.begin.new.self.container c.begin.new.self.items.items xs (k + 1)) (sym c.in_ok-begin.ensures.inlines)
 
 pub returns-then-is_inline-clause-order : goal.returns-then-is_inline-clause-order
 returns-then-is_inline-clause-order c =
     let boxes = c.args.boxes.now in
     let k = c.args.place in
     let container = c.close_to.new.self.container in
-    let qs = reverse c.close_to.new.self.open.items in
+    let qs = reverse c.close_to.new.self.inlines.items in
     let at = parent_at boxes k c.index-boxes-place.result c.requires.there c.index-boxes-place.is in
-    let first = fall_low c.args.self.now.container (reverse c.args.self.now.open.items) k c.requires.order in
+    let first = fall_low c.args.self.now.container (reverse c.args.self.now.inlines.items) k c.requires.order in
     let counted = length-parents boxes in
     let before = c.requires.tree.before k (omega (arith, first)) (omega (arith, counted, c.requires.there)) in
     let fall : Fall container (k ∷ qs) (k + 1) = (omega arith, fall_up container qs (c.index-boxes-place.result.parent + 1) k (omega (arith, at, before)) c.in_ok-innermost.ensures.order) in
-    subst (λ xs. Fall c.begin.new.self.container xs (k + 1)) (sym c.in_ok-begin.ensures.open) (subst (λ n. Fall n (k ∷ qs) (k + 1)) (sym c.in_ok-begin.ensures.container) fall)
+    subst (λ xs. Fall c.begin.new.self.container xs (k + 1)) (sym c.in_ok-begin.ensures.inlines) (subst (λ n. Fall n (k ∷ qs) (k + 1)) (sym c.in_ok-begin.ensures.container) fall)
 
 pub returns-clause-items : goal.returns-clause-items
 returns-clause-items c =
@@ -70,7 +70,7 @@ returns-clause-items c =
     let b = c.index-boxes-place.result in
     let container = c.close_to.new.self.container in
     let items = c.close_to.new.self.items.items in
-    let qs = reverse c.close_to.new.self.open.items in
+    let qs = reverse c.close_to.new.self.inlines.items in
     let inside : innermost container qs ≡ b.parent = sym c.in_ok-innermost.ensures.innermost ∙ c.if-innermost-node.false in
     let below = items_below boxes k (k + 1) (drop (k + 1) boxes) in
     c.in_ok-innermost.ensures.items
@@ -81,7 +81,7 @@ returns-clause-order c =
     let boxes = c.args.boxes.now in
     let k = c.args.place in
     let at = parent_at boxes k c.index-boxes-place.result c.requires.there c.index-boxes-place.is in
-    let first = fall_low c.args.self.now.container (reverse c.args.self.now.open.items) k c.requires.order in
+    let first = fall_low c.args.self.now.container (reverse c.args.self.now.inlines.items) k c.requires.order in
     let counted = length-parents boxes in
     let before = c.requires.tree.before k (omega (arith, first)) (omega (arith, counted, c.requires.there)) in
-    fall_up c.close_to.new.self.container (reverse c.close_to.new.self.open.items) (c.index-boxes-place.result.parent + 1) (k + 1) (omega (arith, at, before)) c.in_ok-innermost.ensures.order
+    fall_up c.close_to.new.self.container (reverse c.close_to.new.self.inlines.items) (c.index-boxes-place.result.parent + 1) (k + 1) (omega (arith, at, before)) c.in_ok-innermost.ensures.order

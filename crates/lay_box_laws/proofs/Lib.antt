@@ -1,0 +1,2 @@
+pub mod ChildTrees
+pub mod WhiteChildren

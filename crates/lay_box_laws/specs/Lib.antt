@@ -1,0 +1,2 @@
+pub mod NodeTreeLaws
+pub mod WhiteSpaceLaws

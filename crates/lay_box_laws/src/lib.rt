@@ -1,0 +1,9 @@
+//! Laws of box generation (CSS 2.2, 9.2 and 17.2.1): what its definitions come to, said in other words.
+//!
+//! `specs/NodeTreeLaws.antt` says what the tree of boxes is that generation starts from, and
+//! `specs/WhiteSpaceLaws.antt` of each child by itself whether it is irrelevant.
+#![tactic(auto)]
+
+mod laws;
+
+pub use laws::{children_stand_in_order, white_space_goes_by_itself};

@@ -1,0 +1,9 @@
+pub mod Apart
+pub mod Counted
+pub mod Kept
+pub mod KeptOnce
+pub mod Members
+pub mod NodeKinds
+pub mod OneStand
+pub mod Reached
+pub mod OneList

@@ -1,0 +1,2 @@
+pub mod ContextTree
+pub mod DocumentContexts

@@ -1,0 +1,19 @@
+//! Laws of the definitions. The functions do nothing.
+
+ghost use Rattle.lay_context_tree.specs.ContextTree.{ContextsStandOnce};
+ghost use Rattle.lay_context_tree.specs.DocumentContexts.{ContextsStandInOrder, OneListOfContexts};
+
+/// Each context but the root's stands once, among the boxes of the context around it.
+pub fn contexts_stand_once()
+    ensures { ContextsStandOnce }
+{}
+
+/// A document has one list of contexts.
+pub fn one_list_of_contexts()
+    ensures { OneListOfContexts }
+{}
+
+/// In it each context stands behind the one around it.
+pub fn contexts_stand_in_order()
+    ensures { ContextsStandInOrder }
+{}

@@ -1,0 +1,113 @@
+//! The clusters of a text, gathered.
+
+ghost use Rattle.std.specs.Prelude.{◌≡◌, ◌∷◌, ◌++◌, [], true, option_to_list, IfOk, OnOk};
+ghost use Rattle.lay_space.specs.Tokens.{next_place};
+ghost use Rattle.lay_items.specs.GatheredWidths.{gathered, gathered_after, goes_on, is_small, stands_alone, with_cluster};
+
+use lay_space::{ClusterKind, Mode, cluster_kind};
+use lay_units::{ClusterWidth, NoMemory, Unit, WidthList};
+use std::alloc::Global;
+
+/// The widths of the clusters of a text, with those that no line breaks between as one.
+pub fn gathered(alloc: Global, text: &[u8], widths: &[ClusterWidth]) -> Result<WidthList, NoMemory>
+    ensures { IfOk result (λ l. l ≡ gathered text.now widths.now) }
+{
+    let mut out = Vec::new(alloc);
+    let mut before = None;
+    for k in 0..widths.len() {
+        before = put_after(&mut out, text, before, widths[k], &widths[k + 1..])?;
+    }
+    put_before(&mut out, before)?;
+    Ok(WidthList::new(out))
+}
+
+/// Puts a cluster behind those that are gathered so far, or gathers it too. Answers what is gathered then.
+fn put_after(
+    out: &mut Vec<ClusterWidth>,
+    text: &[u8],
+    before: Option<ClusterWidth>,
+    width: ClusterWidth,
+    rest: &[ClusterWidth],
+) -> Result<Option<ClusterWidth>, NoMemory>
+    ensures { IfOk result (λ after. out.old.items ++ gathered_after text.now before (width ∷ rest.now)
+        ≡ out.new.items ++ gathered_after text.now after rest.now) }
+{
+    if stands_alone(text, width.place, next_place(text, rest)) {
+        put_before(out, before)?;
+        put_width(out, width)?;
+        return Ok(None);
+    }
+    if goes_on(before, width) {
+        return Ok(Some(with_cluster(before, width)));
+    }
+    put_before(out, before)?;
+    Ok(Some(width))
+}
+
+/// Whether the cluster between two places is more than text.
+fn stands_alone(text: &[u8], from: usize, to: usize) -> bool
+    ensures { result ≡ stands_alone text.now from to }
+{
+    match cluster_kind(Mode::Pre, text, from, to) {
+        ClusterKind::Other => false,
+        _ => true,
+    }
+}
+
+fn goes_on(before: Option<ClusterWidth>, width: ClusterWidth) -> bool
+    ensures { result ≡ goes_on before width }
+{
+    match before {
+        Some(before) => is_small(before.width) && is_small(width.width),
+        None => true,
+    }
+}
+
+fn with_cluster(before: Option<ClusterWidth>, width: ClusterWidth) -> ClusterWidth
+    requires { goes_on before width ≡ true }
+    ensures { result ≡ with_cluster before width }
+{
+    match before {
+        Some(before) => ClusterWidth {
+            place: before.place,
+            width: Unit(before.width.0 + width.width.0),
+        },
+        None => width,
+    }
+}
+
+/// Widths from here on are not added up.
+const MOST_SMALL: i64 = 1 << 61;
+
+fn is_small(width: Unit) -> bool
+    ensures { result ≡ is_small width.0 }
+{
+    -MOST_SMALL <= width.0 && width.0 < MOST_SMALL
+}
+
+/// Puts what is gathered so far, if there is anything.
+fn put_before(out: &mut Vec<ClusterWidth>, before: Option<ClusterWidth>) -> Result<(), NoMemory>
+    ensures { OnOk result (out.new.items ≡ out.old.items ++ option_to_list before) }
+{
+    if let Some(width) = before {
+        put_width(out, width)?;
+    }
+    Ok(())
+}
+
+fn put_width(out: &mut Vec<ClusterWidth>, width: ClusterWidth) -> Result<(), NoMemory>
+    ensures { OnOk result (out.new.items ≡ out.old.items ++ width ∷ []) }
+{
+    out.push(width)?;
+    Ok(())
+}
+
+/// Where the next cluster begins, or the text ends.
+fn next_place(text: &[u8], rest: &[ClusterWidth]) -> usize
+    ensures { result ≡ next_place text.now rest.now }
+{
+    match rest.first() {
+        Some(width) => width.place,
+        None => text.len(),
+    }
+}
