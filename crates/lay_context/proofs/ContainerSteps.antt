@@ -3,7 +3,7 @@ use Rattle.std.proofs.Common.{◌≡◌, ℕ, zero, suc, ◌<◌, ◌≤◌, ◌
 use Rattle.lay_doc.specs.Tree.{IsTree}
 use Rattle.lay_boxgen.specs.declared.box_tree.BoxNode.{BoxNode}
 use Rattle.lay_boxgen.specs.BoxColumns.{box_parents}
-use Rattle.lay_boxgen.specs.Containers.{AreContainers, IsContainer, box_parent, counts, further, own, parent}
+use Rattle.lay_boxgen.specs.Containers.{AreContainers, IsContainer, box_parent, counts, further as at_further, own as at_own, parent as at_parent}
 use Rattle.lay_boxgen.proofs.BoxForests.{length-parents}
 use Rattle.lay_boxgen.proofs.NearestContainers.{one_container}
 use Rattle.lay_context.specs.ContextBoxes.{AreContextBoxes}
@@ -15,15 +15,15 @@ parent_before boxes k tree within = tree.before (suc k) (omega arith) (omega (ar
 by_parent : (boxes : List BoxNode) (turns k : ℕ) (b : Bool) → 0 < k → counts boxes (box_parent boxes k) ≡ b
     → IsContainer boxes (box_parent boxes k) (container_in turns boxes (box_parent boxes k))
     → IsContainer boxes k (if b then box_parent boxes k else container_in turns boxes (box_parent boxes k))
-by_parent boxes turns k true positive is nearest = parent k positive is
-by_parent boxes turns k false positive is nearest = further k (container_in turns boxes (box_parent boxes k)) positive is nearest
+by_parent boxes turns k true positive is nearest = at_parent k positive is
+by_parent boxes turns k false positive is nearest = at_further k (container_in turns boxes (box_parent boxes k)) positive is nearest
 
 own_own : (boxes : List BoxNode) (turns p : ℕ) → p ≡ 0 → IsContainer boxes 0 (if counts boxes p then p else container_in turns boxes p)
-own_own boxes turns zero is = own
+own_own boxes turns zero is = at_own
 own_own boxes turns (suc p) is = absurd (omega arith)
 
 nearest_in : (boxes : List BoxNode) (turns k : ℕ) → IsTree (box_parents boxes) → k ≤ turns → k < length boxes → IsContainer boxes k (container_in turns boxes k)
-nearest_in boxes zero zero tree enough within = own
+nearest_in boxes zero zero tree enough within = at_own
 nearest_in boxes zero (suc k) tree enough within = absurd (omega arith)
 nearest_in boxes (suc turns) zero tree enough within = own_own boxes turns (box_parent boxes 0) tree.root
 nearest_in boxes (suc turns) (suc k) tree enough within =

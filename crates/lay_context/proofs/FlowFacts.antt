@@ -1,6 +1,7 @@
 -- The boxes of one context are as block flow takes them.
 use Rattle.std.proofs.Common.{◌≡◌, ℕ, zero, suc, ◌<◌, ◌≤◌, ◌==◌, ◌&&◌, ◌||◌, not, nat_lt, pos, Bool, true, false, List, length, slice_index, refl, sym, ap, ◌∙◌, arith, subst, inl, inr, Option, Some, None, if◌then◌else◌}
-use Rattle.std.proofs.lemmas.Bool.{cases_lt}
+use Rattle.std.proofs.lemmas.Bool.{cases_lt, eq-eqb}
+use Rattle.std.proofs.lemmas.Bool.Decides.{nat_tests}
 use Rattle.std.proofs.lemmas.Int.{ints}
 use Rattle.lay_units.specs.Units.{IsUsedSize}
 use Rattle.lay_units.specs.declared.length.Unit.{Unit as Length}
@@ -10,7 +11,7 @@ use Rattle.lay_doc.specs.Tree.{IsTree}
 use Rattle.lay_boxgen.specs.declared.box_role.Role.{Role}
 use Rattle.lay_boxgen.specs.declared.box_role.Role.TheVariants as role
 use Rattle.lay_boxgen.specs.declared.box_tree.BoxNode.{BoxNode}
-use Rattle.lay_boxgen.specs.Containers.{AreContainers, IsContainer, box_parent, counts, further, own, parent}
+use Rattle.lay_boxgen.specs.Containers.{AreContainers, IsContainer, box_parent, counts, further as at_further, own as at_own, parent as at_parent}
 use Rattle.lay_boxgen.specs.Roles.{is_inline_level, role_at}
 use Rattle.lay_boxgen.proofs.BoxForests.{length-parents}
 use Rattle.lay_boxgen.proofs.NearestContainers.{containers_are_a_tree}
@@ -139,14 +140,14 @@ kind_fits m lefts k None own fits near =
 
 -- a container counts, and isn't the box of an inner context
 container_counts : (boxes : List BoxNode) (k c : ℕ) → IsContainer boxes k c → counts boxes c ≡ true
-container_counts boxes k c own = refl
-container_counts boxes k c (parent j positive e) = e
-container_counts boxes k c (further j d positive e up) = container_counts boxes (box_parent boxes j) d up
+container_counts boxes k c at_own = refl
+container_counts boxes k c (at_parent j positive e) = e
+container_counts boxes k c (at_further j d positive e up) = container_counts boxes (box_parent boxes j) d up
 
 container_own : (boxes : List BoxNode) → AreContextBoxes boxes → (k c : ℕ) → k < length boxes → IsContainer boxes k c → is_inner boxes c ≡ false
-container_own boxes are k c within own = are.own
-container_own boxes are k c within (parent j positive e) = are.parents j positive within
-container_own boxes are k c within (further j d positive e up) =
+container_own boxes are k c within at_own = are.own
+container_own boxes are k c within (at_parent j positive e) = are.parents j positive within
+container_own boxes are k c within (at_further j d positive e up) =
     let less = are.tree.before j positive (omega (arith, within, length-parents boxes)) in
     container_own boxes are (box_parent boxes j) d (omega (arith, less, within)) up
 
@@ -164,12 +165,10 @@ beside_by false same of none p s = absurd cc
 beside_by true false of none p s = absurd cc
 
 positive_lt : (k : ℕ) → 0 < k → nat_lt 0 k ≡ true
-positive_lt zero positive = absurd (omega arith)
-positive_lt (suc k) positive = refl
+positive_lt k positive = grind (arith, nat_tests, positive)
 
 same_eq : (k : ℕ) → (k == k) ≡ true
-same_eq zero = refl
-same_eq (suc k) = same_eq k
+same_eq k = eq-eqb k k refl
 
 -- what stands in a container that holds lines isn't in flow beside them, nor a container of the context
 in_line_container : (boxes : List BoxNode) (k : ℕ) → 0 < k → k < length boxes → is_inline_container boxes (container_of boxes k) ≡ true → is_of block_level boxes k ≡ false
@@ -269,10 +268,13 @@ holds_by m lefts k false are positive within is =
     let child = out_of_lines m lefts k (holds_lines m lefts k) (and_none (nat_lt 0 k) (holds_lines m lefts c) is) in
     rw (is, out, outer) (block_alone (is_inline_level (role_at m.boxes c)) (block (own_block m.boxes m.sizes lefts c)) (flow_box_of m lefts k).kind (λ x e. rw e refl) child)
 
-root_by : (m : BoxMeasuresValue) (lefts : List Length) (held inline : Bool) → is_inner m.boxes 0 ≡ false → is_inline_level (role_at m.boxes 0) ≡ inline
-    → is_block (kind_by m lefts 0 (if held then Some (content_of_box m lefts 0) else None)) ≡ true
-root_by m lefts true inline own is = refl
-root_by m lefts false inline own is = rw own refl
+block_kind : (inline : Bool) (b : FlowKind) → is_block b ≡ true → is_block (if inline then block empty_block else b) ≡ true
+block_kind true b e = refl
+block_kind false b e = e
+
+root_by : (m : BoxMeasuresValue) (lefts : List Length) (held : Bool) → is_inner m.boxes 0 ≡ false → is_block (kind_by m lefts 0 (if held then Some (content_of_box m lefts 0) else None)) ≡ true
+root_by m lefts true own = refl
+root_by m lefts false own = rw own (block_kind (is_inline_level (role_at m.boxes 0)) (block (own_block m.boxes m.sizes lefts 0)) refl)
 
 module _ (m : BoxMeasuresValue) (lefts : List Length) (flow_boxes : List FlowBox) (are : AreContextBoxes m.boxes) (of : AreFlowBoxesOf m lefts flow_boxes) where
   within : (k : ℕ) → k < length flow_boxes → k < length m.boxes
@@ -297,7 +299,7 @@ module _ (m : BoxMeasuresValue) (lefts : List Length) (flow_boxes : List FlowBox
     tree = containers_are_a_tree m.boxes (parents_of flow_boxes) are.tree containers;
     root =
         let some : 0 < length flow_boxes = omega (arith, are.some, of.count) in
-        ap is_block (kind_is 0 some) ∙ root_by m lefts (holds_lines m lefts 0) (is_inline_level (role_at m.boxes 0)) are.own refl;
+        ap is_block (kind_is 0 some) ∙ root_by m lefts (holds_lines m lefts 0) are.own;
     parent = λ k positive lt.
         let there = within k lt in
         let before = container_before m.boxes k are positive there in

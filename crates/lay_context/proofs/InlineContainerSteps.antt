@@ -1,6 +1,7 @@
 -- Which boxes hold boxes of a level, from the front of a context on.
-use Rattle.std.proofs.Common.{◌≡◌, ◌≢◌, ℕ, zero, suc, ◌+◌, ◌<◌, ◌≤◌, ◌==◌, ◌&&◌, ◌||◌, Bool, true, false, List, length, replicate, slice_set, nat_lt, refl, sym, ap, ◌∙◌, arith, inl, inr, add-one}
-use Rattle.std.proofs.lemmas.Bool.{cases_lt}
+use Rattle.std.proofs.Common.{◌≡◌, ◌≢◌, ℕ, zero, suc, [], ◌+◌, ◌<◌, ◌≤◌, ◌==◌, ◌&&◌, ◌||◌, Bool, true, false, List, length, replicate, slice_set, nat_lt, refl, sym, ap, ◌∙◌, arith, inl, inr, add-one}
+use Rattle.std.proofs.lemmas.Bool.{cases_eq, eq-eqb, ne_eqb}
+use Rattle.std.proofs.lemmas.Bool.Decides.{nat_tests}
 use Rattle.std.proofs.lemmas.Grind.{elements}
 use Rattle.lay_boxgen.specs.declared.box_tree.BoxNode.{BoxNode}
 use Rattle.lay_flow.specs.Children.{flag_at}
@@ -13,8 +14,14 @@ pub record HoldersTo (level : Level) (boxes : List BoxNode) (flags : List Bool) 
   pub count : length flags ≡ length boxes
   pub each : (c : ℕ) → c < length boxes → flag_at flags c ≡ holds level boxes c n
 
+none_read : (k : ℕ) → flag_at [] k ≡ false
+none_read zero = refl
+none_read (suc k) = refl
+
 none_set : (n k : ℕ) → flag_at (replicate n false) k ≡ false
-none_set n k = grind (arith, elements)
+none_set zero k = none_read k
+none_set (suc n) zero = refl
+none_set (suc n) (suc k) = none_set n k
 
 none_count : (n : ℕ) → length (replicate n false) ≡ n
 none_count n = grind (arith, elements)
@@ -58,27 +65,13 @@ none_more level boxes flags n so_far is = record {
 }
 
 positive_lt : (k : ℕ) → 0 < k → nat_lt 0 k ≡ true
-positive_lt zero positive = absurd (omega arith)
-positive_lt (suc k) positive = refl
+positive_lt k positive = grind (arith, nat_tests, positive)
 
 same_eq : (k : ℕ) → (k == k) ≡ true
-same_eq zero = refl
-same_eq (suc k) = same_eq k
+same_eq k = eq-eqb k k refl
 
 other_eq : (j k : ℕ) → j ≢ k → (j == k) ≡ false
-other_eq zero zero other = absurd (other refl)
-other_eq zero (suc k) other = refl
-other_eq (suc j) zero other = refl
-other_eq (suc j) (suc k) other = other_eq j k (λ e. other (ap suc e))
-
-pub cases_eq : (j k : ℕ) → (j ≡ k) ⊎ (j ≢ k)
-cases_eq zero zero = inl refl
-cases_eq zero (suc k) = inr (λ e. omega (arith, e))
-cases_eq (suc j) zero = inr (λ e. omega (arith, e))
-cases_eq (suc j) (suc k) = elim (cases_eq j k) [
-  | inl e ↦ inl (ap suc e)
-  | inr other ↦ inr (λ e. other (omega (arith, e)))
-]
+other_eq j k other = ne_eqb j k other
 
 -- with one that is
 pub one_more : (level : Level) (boxes : List BoxNode) (flags : List Bool) (n : ℕ) → HoldersTo level boxes flags n → 0 < n → container_of boxes n < length boxes → is_of level boxes n ≡ true

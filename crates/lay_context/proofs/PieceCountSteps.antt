@@ -1,7 +1,7 @@
 -- How many pieces are of a kind and a node, with one more.
-use Rattle.std.proofs.Common.{◌≡◌, ◌≢◌, ℕ, zero, suc, ◌+◌, ◌<◌, ◌≤◌, ◌==◌, ◌&&◌, List, [], ◌∷◌, ◌++◌, length, length-append, refl, sym, ap, ◌∙◌, arith, inl, inr, Bool, true, false, if◌then◌else◌, Option, Some}
-use Rattle.std.specs.BTreeMap.{BTreeMap, get}
-use Rattle.std.specs.Ordering.{nat_cmp}
+use Rattle.std.proofs.Common.{◌≡◌, ◌≢◌, ℕ, ◌+◌, ◌<◌, ◌≤◌, ◌==◌, ◌&&◌, List, [], ◌∷◌, ◌++◌, length, length-append, refl, sym, ap, ◌∙◌, arith, inl, inr, Bool, true, false, if◌then◌else◌}
+use Rattle.std.specs.BTreeMap.{BTreeMap}
+use Rattle.std.proofs.lemmas.Bool.{cases_eq, eq-eqb, ne_eqb}
 use Rattle.lay_frag.specs.declared.frag.Frag.{Frag}
 use Rattle.lay_frag.specs.declared.frag.FragKind.{FragKind}
 use Rattle.lay_frag.specs.declared.frag.FragKind.TheVariants.{Box, Line, Text}
@@ -34,23 +34,10 @@ more_in counts Text Line = omega arith
 more_in counts Text Text = refl
 
 same_eq : (k : ℕ) → (k == k) ≡ true
-same_eq zero = refl
-same_eq (suc k) = same_eq k
+same_eq k = eq-eqb k k refl
 
 other_eq : (j k : ℕ) → j ≢ k → (j == k) ≡ false
-other_eq zero zero other = absurd (other refl)
-other_eq zero (suc k) other = refl
-other_eq (suc j) zero other = refl
-other_eq (suc j) (suc k) other = other_eq j k (λ e. other (ap suc e))
-
-cases_eq : (j k : ℕ) → (j ≡ k) ⊎ (j ≢ k)
-cases_eq zero zero = inl refl
-cases_eq zero (suc k) = inr (λ e. omega (arith, e))
-cases_eq (suc j) zero = inr (λ e. omega (arith, e))
-cases_eq (suc j) (suc k) = elim (cases_eq j k) [
-  | inl e ↦ inl (ap suc e)
-  | inr other ↦ inr (λ e. other (omega (arith, e)))
-]
+other_eq j k other = ne_eqb j k other
 
 both_true : (a b : Bool) → b ≡ true → (a && b) ≡ a
 both_true true b e = e

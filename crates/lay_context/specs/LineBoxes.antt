@@ -1,5 +1,5 @@
 -- What flow boxes are made of, while they are made.
-use Rattle.std.specs.Prelude.{ℕ, ◌≡◌, ◌<◌, Bool, List, length}
+use Rattle.std.specs.Prelude.{ℕ, ◌≡◌, ◌<◌, ◌≤◌, Bool, List, length}
 use Rattle.lay_units.specs.declared.length.Unit.{Unit as Length}
 use Rattle.lay_boxgen.specs.declared.box_tree.BoxNode.{BoxNode}
 use Rattle.lay_box_parts.specs.declared.inline_part.InlinePart.{InlinePart}
@@ -15,6 +15,7 @@ measures_in i parts = record { boxes = i.boxes; parts = parts; sizes = i.sizes; 
 
 -- the columns are as long as the boxes, and say what they ought to
 pub record IsShaping (boxes : List BoxNode) (lefts : List Length) (inline_containers : List Bool) : Type 0 where
+  pub few : length boxes ≤ 65536
   pub lefts_count : length lefts ≡ length boxes
   pub near : AreNearLefts lefts
   pub flags_count : length inline_containers ≡ length boxes

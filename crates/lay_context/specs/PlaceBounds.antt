@@ -13,6 +13,7 @@ use Rattle.lay_context.specs.DocumentLayout.{corner_at}
 
 -- each column has an entry for each box
 pub record HaveCounts (boxes : List BoxNode) (p : ContextPlaces) : Type 0 where
+  pub few : length boxes ≤ 65536
   pub left_count : length p.lefts ≡ length boxes
   pub box_count : length p.flow_boxes ≡ length boxes
   pub place_count : length p.places.boxes ≡ length boxes

@@ -1,6 +1,7 @@
 //! The boxes of one context.
 
-ghost use Rattle.std.specs.Prelude.{◌≡◌, ◌<◌, length, IfOk};
+ghost use Rattle.std.specs.Prelude.{◌≡◌, ◌<◌, length, slice_index, IfOk};
+ghost use Rattle.lay_boxgen.specs.Containers.{AreContainers};
 ghost use Rattle.lay_boxgen.specs.Roles.{clear_at, role_at};
 ghost use Rattle.lay_context.specs.Containing.{container_of, is_anonymous};
 ghost use Rattle.lay_context.specs.InlineContainers.{is_own_container};
@@ -77,7 +78,7 @@ impl ContextBoxes {
         ensures within { result < length self.now }
         ensures before { 0 < k → result < k }
     {
-        self.containers[k]
+        container_at(self.tree.as_slice(), &self.containers, k)
     }
 
     /// Whether the box at k is a block container in which other boxes of the context stand.
@@ -113,4 +114,24 @@ impl ContextBoxes {
         let containers = self.containers.clone()?;
         Ok(ContextBoxes { tree, containers })
     }
+}
+
+/// The nearest block container of the box at k, where these are those of the boxes.
+fn container_at(boxes: &[BoxNode], containers: &[usize], k: usize) -> usize
+    requires are { AreContextBoxes boxes.now }
+    requires found { AreContainers boxes.now containers.now }
+    requires place { k < length boxes.now }
+    ensures container { result ≡ container_of boxes.now k }
+    ensures within { result < length boxes.now }
+    ensures before { 0 < k → result < k }
+{
+    let _ = boxes;
+    place_at(containers, k)
+}
+
+fn place_at(column: &[usize], k: usize) -> usize
+    requires { k < length column.now }
+    ensures { result ≡ slice_index column.now k }
+{
+    column[k]
 }

@@ -1,6 +1,6 @@
 //! The boxes of one context as its block formatting context takes them.
 
-ghost use Rattle.std.specs.Prelude.{ℕ, ◌≡◌, ◌<◌, pos, length, IfOk};
+ghost use Rattle.std.specs.Prelude.{ℕ, ◌≡◌, ◌<◌, ◌≤◌, pos, length, IfOk};
 ghost use Rattle.lay_floats.specs.Within.{IsWithin};
 ghost use Rattle.lay_sizes.specs.SizeBounds.{SizeFits};
 ghost use Rattle.lay_flow.specs.Boxes.{box_at};
@@ -31,6 +31,7 @@ pub(crate) fn flow_boxes_of(
     parts: &[InlinePart],
     lefts: &[Unit],
 ) -> Result<Vec<FlowBox>, NoMemory>
+    requires few { length input.now.boxes ≤ 65536 }
     requires lefts { length lefts.now ≡ length input.now.boxes }
     requires near { AreNearLefts lefts.now }
     ensures { IfOk result (λ v. AreFlowBoxesOf (measures_in input.now parts.now) lefts.now v.items) }

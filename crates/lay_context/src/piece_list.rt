@@ -2,7 +2,7 @@
 
 ghost use Rattle.std.specs.Prelude.{ℕ, ◌≡◌, ◌≢◌, ◌≤◌, ◌∷◌, ◌++◌, [], length, IfOk, OnOk};
 ghost use Rattle.lay_context.specs.PieceParts.{numbered};
-ghost use Rattle.lay_context.specs.PieceCounts.{count_in, counts_in, with_one};
+ghost use Rattle.lay_context.specs.PieceCounts.{AreCounted, count_in, counts_in, with_one};
 
 use lay_frag::{Frag, FragKind};
 use lay_units::NoMemory;
@@ -56,18 +56,7 @@ impl PieceList {
     pub(crate) fn with(self, piece: Frag) -> Result<PieceList, NoMemory>
         ensures { IfOk result (λ p. p ≡ self ++ numbered self piece ∷ []) }
     {
-        let mut items = self.items;
-        let mut counts = self.counts;
-        if items.len() >= MOST_PIECES {
-            return Err(NoMemory);
-        }
-        let node = counts_in(&counts, piece.node.0);
-        items.push(Frag {
-            part: count_in(node, piece.kind),
-            ..piece
-        })?;
-        put(&mut counts, piece.node.0, with_one(node, piece.kind))?;
-        Ok(PieceList { items, counts })
+        added(self.items, self.counts, piece)
     }
 
     /// The pieces, in order.
@@ -77,6 +66,29 @@ impl PieceList {
     {
         self.items
     }
+}
+
+/// These pieces, of which the counts are these, with one more.
+fn added(
+    items: Vec<Frag>,
+    counts: BTreeMap<u32, Counts>,
+    piece: Frag,
+) -> Result<PieceList, NoMemory>
+    requires { AreCounted items.items counts }
+    ensures { IfOk result (λ p. p ≡ items.items ++ numbered items.items piece ∷ []) }
+{
+    let mut items = items;
+    let mut counts = counts;
+    if items.len() >= MOST_PIECES {
+        return Err(NoMemory);
+    }
+    let node = counts_in(&counts, piece.node.0);
+    items.push(Frag {
+        part: count_in(node, piece.kind),
+        ..piece
+    })?;
+    put(&mut counts, piece.node.0, with_one(node, piece.kind))?;
+    Ok(PieceList { items, counts })
 }
 
 /// What these say of the node with this id.

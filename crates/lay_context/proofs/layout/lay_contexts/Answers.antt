@@ -3,8 +3,8 @@ use Rattle.lay_context.specs.Settling.{AreDoneTo}
 use Rattle.lay_context.proofs.TaskSteps.{one_more, known, ready, solved}
 use Rattle.lay_context.proofs.layout.lay_contexts.Goals as goal
 
-pub settle-requires-clause-ready : goal.settle-requires-clause-ready
-settle-requires-clause-ready c =
+pub settle-requires : goal.settle-requires
+settle-requires c =
     rw (c.task_at.ensures, c.len-count.ensures.count)
     (ready c.args.medium.now c.args.contexts.now c.len-count.ensures.are c.loop-turn.known c.loop-turn.turn (omega arith) c.loop-turn.invariant)
 
@@ -23,4 +23,4 @@ pub returns : goal.returns
 returns c =
     let all : c.loop-turn.turn ≡ length c.args.contexts.now + length c.args.contexts.now = omega arith in
     let done : AreDoneTo c.args.medium.now c.args.contexts.now c.loop-turn.known (length c.args.contexts.now + length c.args.contexts.now) = rw (← all) c.loop-turn.invariant in
-    solved c.args.medium.now c.args.contexts.now c.len-count.ensures.are c.loop-turn.known done c.in_ok-tree.tree (c.in_ok-tree.ensures {u = tt})
+    solved c.args.medium.now c.args.contexts.now c.len-count.ensures.are c.loop-turn.known done c.in_ok-tree.tree (rw c.viewport.ensures.viewport at (c.in_ok-tree.ensures {u = tt}))

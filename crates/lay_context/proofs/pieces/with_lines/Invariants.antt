@@ -6,6 +6,6 @@ use Rattle.lay_context.proofs.pieces.with_lines.Given as goal
 
 abbrev pub invariant-loop-k : goal.invariant-loop-k
 invariant-loop-k l = record {
-  are : l.all ≡ with_pieces l.pieces (map (piece_on_line l.boxes) (take l.k l.on_lines));
+  are : l.all ≡ with_pieces l.initial.all (map (piece_on_line l.boxes) (take l.k l.on_lines));
   near : AreNearPieces l.all;
 }
