@@ -103,29 +103,29 @@ module _ (boxes : List FlowBox) (tree : IsTree (parents_of boxes)) (extents : Ex
   start_there : (r : BlockLayout) (c : ℕ) → last_child boxes p m ≡ Some c → start_below r.runs r.places c ≡ start_before boxes r.runs r.places p m
   start_there r c e = rw e refl
 
-  bottom_same : start_before boxes y.runs y.places p m ≡ start_before boxes z.runs z.places p m → MarkSame → content_bottom boxes y.runs y.places p ≡ content_bottom boxes z.runs z.places p
-  bottom_same start mark = go (last_child boxes p m) refl
+  bottom_same : start_before boxes y.runs y.places p m ≡ start_before boxes z.runs z.places p m → MarkSame → length_at extents.depths p ≡ length_at others.depths p → content_bottom boxes y.runs extents y.places p ≡ content_bottom boxes z.runs others z.places p
+  bottom_same start mark extent = go (last_child boxes p m) refl
     where
       runs : Same boxes y.runs z.runs p m
       runs = same_runs boxes tree extents clear_edges y is others other_edges z also first p m at was
 
-      go : (o : Option ℕ) → last_child boxes p m ≡ o → content_bottom boxes y.runs y.places p ≡ content_bottom boxes z.runs z.places p
-      go None e = let g = last_end ∙ e in rw (g, mark) refl
+      go : (o : Option ℕ) → last_child boxes p m ≡ o → content_bottom boxes y.runs extents y.places p ≡ content_bottom boxes z.runs others z.places p
+      go None e = let g = last_end ∙ e in rw (g, mark, extent) refl
       go (Some c) e =
           let g = last_end ∙ e in
           let l = last_there boxes p m c e in
           let below = start_there y c e ∙ start ∙ sym (start_there z c e) in
           let tail = (runs.closed c l.0 l.1).tail in
           let j = joins_same in
-          rw (g, below, tail, j) refl
+          rw (g, below, tail, j, mark, extent) refl
 
-  height_standing : start_before boxes y.runs y.places p m ≡ start_before boxes z.runs z.places p m → MarkSame → length_at extents.solid p ≡ length_at others.solid p → flag_at y.runs.through p ≡ false
+  height_standing : start_before boxes y.runs y.places p m ≡ start_before boxes z.runs z.places p m → MarkSame → length_at extents.depths p ≡ length_at others.depths p → flag_at y.runs.through p ≡ false
       → length_at y.places.heights p ≡ length_at z.places.heights p
   height_standing start mark extent stands =
       let also_stands : flag_at z.runs.through p ≡ false = sym closed_runs.pass ∙ stands in
-      let b = bottom_same start mark in
-      let h : length_at y.places.heights p ≡ border_height (block_at boxes p) (length_at extents.solid p) (content_bottom boxes y.runs y.places p -ℤ (length_at y.places.marks p +ℤ (block_at boxes p).edge_top.0)) = is.has_positions.height p inner ∙ (let e = content_inner boxes y.runs extents.floats y.places p positive in rw (stands, e) refl) in
-      let k : length_at z.places.heights p ≡ border_height (block_at boxes p) (length_at others.solid p) (content_bottom boxes z.runs z.places p -ℤ (length_at z.places.marks p +ℤ (block_at boxes p).edge_top.0)) = also.has_positions.height p inner ∙ (let e = content_inner boxes z.runs others.floats z.places p positive in rw (also_stands, e) refl) in
+      let b = bottom_same start mark extent in
+      let h : length_at y.places.heights p ≡ border_height (block_at boxes p) (length_at extents.depths p) (content_bottom boxes y.runs extents y.places p -ℤ (length_at y.places.marks p +ℤ (block_at boxes p).edge_top.0)) = is.has_positions.height p inner ∙ (let e = content_inner boxes y.runs extents y.places p positive in rw (stands, e) refl) in
+      let k : length_at z.places.heights p ≡ border_height (block_at boxes p) (length_at others.depths p) (content_bottom boxes z.runs others z.places p -ℤ (length_at z.places.marks p +ℤ (block_at boxes p).edge_top.0)) = also.has_positions.height p inner ∙ (let e = content_inner boxes z.runs others z.places p positive in rw (also_stands, e) refl) in
       h ∙ (λ i. border_height (block_at boxes p) (extent i) (b i -ℤ (mark i +ℤ (block_at boxes p).edge_top.0))) ∙ sym k
 
   -- what follows a box that isn't collapsed through starts below it
@@ -135,7 +135,7 @@ module _ (boxes : List FlowBox) (tree : IsTree (parents_of boxes)) (extents : Ex
   start_through : (r : BlockLayout) → flag_at r.runs.through p ≡ true → start_before boxes r.runs r.places (parent_at boxes p) m ≡ length_at r.places.starts p
   start_through r through = let e = last_y in rw (e, through) refl
 
-  closed_standing : flag_at y.runs.through p ≡ false → start_before boxes y.runs y.places p m ≡ start_before boxes z.runs z.places p m → MarkSame → length_at extents.solid p ≡ length_at others.solid p
+  closed_standing : flag_at y.runs.through p ≡ false → start_before boxes y.runs y.places p m ≡ start_before boxes z.runs z.places p m → MarkSame → length_at extents.depths p ≡ length_at others.depths p
       → (next : ℕ) → Gathered boxes y.runs next (parent_at boxes p) m → MarksTo boxes tree extents clear_edges y is others other_edges z also next
       → AlikeAt boxes tree extents clear_edges y is others other_edges z also next (parent_at boxes p) m
   closed_standing stands start mark extent next g marks =
@@ -179,7 +179,7 @@ module _ (boxes : List FlowBox) (tree : IsTree (parents_of boxes)) (extents : Ex
     pub next : ℕ
     pub alike : AlikeAt boxes tree extents clear_edges y is others other_edges z also next (parent_at boxes p) m
 
-  closed_parted : joins_bottom boxes y.runs p ≡ false → (MarksTo boxes tree extents clear_edges y is others other_edges z also m → length_at extents.solid p ≡ length_at others.solid p) → SomeClosed
+  closed_parted : joins_bottom boxes y.runs p ≡ false → (MarksTo boxes tree extents clear_edges y is others other_edges z also m → length_at extents.depths p ≡ length_at others.depths p) → SomeClosed
   closed_parted parted extent =
       let marks = marks_same boxes tree extents clear_edges y is others other_edges z also first p m at was (run_before boxes y.runs p m) (ended_here parted) in
       let start = start_same boxes tree extents clear_edges y is others other_edges z also first p m at was (run_before boxes y.runs p m) (ended_here parted) in
@@ -187,7 +187,7 @@ module _ (boxes : List FlowBox) (tree : IsTree (parents_of boxes)) (extents : Ex
       record { next = m; alike = closed_standing stands start (marks p lt) (extent marks) m (close_parted boxes tree y.runs is.has_runs p m positive lt within ends was.gathered.inside parted) marks }
 
   -- its bottom margin adjoins that of its last child, and its top margin is in an earlier run
-  closed_joined : joins_bottom boxes y.runs p ≡ true → p < first → (may_join_bottoms (block_at boxes p) ≡ true → length_at extents.solid p ≡ length_at others.solid p) → SomeClosed
+  closed_joined : joins_bottom boxes y.runs p ≡ true → p < first → (may_join_bottoms (block_at boxes p) ≡ true → length_at extents.depths p ≡ length_at others.depths p) → SomeClosed
   closed_joined joined before extent =
       let stands : flag_at y.runs.through p ≡ false = passes_here boxes tree y.runs is.has_runs p m positive lt within ends was.gathered.inside first was.gathered
       ∙ (let n = low_yes p first before in rw n (and_false (may_collapse_through (block_at boxes p)))) in
@@ -275,7 +275,7 @@ module _ (boxes : List FlowBox) (tree : IsTree (parents_of boxes)) (extents : Ex
       alike = closed_up first (close_joined boxes tree y.runs is.has_runs p m positive lt within ends was.gathered.inside first was.gathered joined) was.mark (record { height = no_height; kept = λ t top. mark_kept top }) start_up;
     }
 
-  pub closes_alike : (MarksTo boxes tree extents clear_edges y is others other_edges z also m → length_at extents.solid p ≡ length_at others.solid p) → (may_join_bottoms (block_at boxes p) ≡ true → length_at extents.solid p ≡ length_at others.solid p) → SomeClosed
+  pub closes_alike : (MarksTo boxes tree extents clear_edges y is others other_edges z also m → length_at extents.depths p ≡ length_at others.depths p) → (may_join_bottoms (block_at boxes p) ≡ true → length_at extents.depths p ≡ length_at others.depths p) → SomeClosed
   closes_alike by_marks by_kind = true_or (joins_bottom boxes y.runs p) SomeClosed
       (λ joined. elim (cases_lt p first) [
         | inl before ↦ closed_joined joined before by_kind

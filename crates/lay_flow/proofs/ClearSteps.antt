@@ -2,22 +2,21 @@
 use Rattle.std.proofs.Common.{◌≡◌, ◌⊎◌, ℕ, ◌+◌, ◌<◌, ◌≤◌, not, nat_lt, Bool, true, false, ℤ, ◌-ℤ◌, List, [], length, refl, sym, ap, ◌∙◌, arith, inl, inr, Option, Some, None, subst}
 use Rattle.std.proofs.lemmas.Bool.{cases_lt, cases_eq}
 use Rattle.lay_flow.specs.declared.flow_box.FlowBox.{FlowBox}
-use Rattle.lay_flow.specs.Boxes.{parent_at, parents_of}
+use Rattle.lay_flow.specs.Boxes.{box_at, parent_at, parents_of}
 use Rattle.lay_units.specs.declared.length.Unit.{Unit as Length}
 use Rattle.lay_margins.specs.StrutValue.{StrutValue}
 use Rattle.lay_margins.specs.Collapse.{Holds}
 use Rattle.lay_floats.specs.declared.placed.Placed.{Placed}
 use Rattle.lay_floats.specs.declared.requests.Clear.{Clear}
 use Rattle.lay_floats.specs.declared.requests.Clear.TheVariants.{None as clear_none}
-use Rattle.lay_floats.specs.declared.requests.Place.{Place}
 use Rattle.lay_floats.specs.ClearEdge.{Clears, IsClearEdge}
 use Rattle.lay_doc.specs.Tree.{IsTree}
 use Rattle.lay_flow.specs.Lengths.{length_at}
 use Rattle.lay_flow.specs.Children.{flag_at}
-use Rattle.lay_flow.specs.MarginRuns.{margins, has_top, run_at, run_before}
-use Rattle.lay_flow.specs.BlockPositions.{Extents, start_before}
+use Rattle.lay_flow.specs.MarginRuns.{block_at, margins, has_top, run_at, run_before}
+use Rattle.lay_flow.specs.BlockPositions.{Extents, is_lines, start_before}
 use Rattle.lay_flow.specs.BlockLayout.{BlockLayout, IsBlockLayout}
-use Rattle.lay_flow.specs.BlockFloats.{shape_at, floats_before}
+use Rattle.lay_flow.specs.BlockFloats.{Spot, shape_at, floats_before}
 use Rattle.lay_flow.specs.Clearance.{IsHypothetical, HasClearedFloat, IsAbove, lower_of, HasClearance}
 use Rattle.lay_flow.specs.Pass.State.{PassState, IsAt, Settled}
 use Rattle.lay_flow.specs.Pass.Bounds.{StrutFits, IsEdgeNear, IsCollapseNear}
@@ -34,12 +33,17 @@ use Rattle.lay_flow.proofs.PlaceSteps.{floats_same}
 use Rattle.lay_flow.proofs.RunFacts.{lead_goes_on}
 use Rattle.lay_flow.proofs.RunReach.{RunEnds}
 use Rattle.lay_flow.proofs.SoFar.{Wrote}
-use Rattle.lay_flow.proofs.Truths.{true_false, low_not, low_yes}
+use Rattle.lay_flow.proofs.Truths.{true_false, true_or, low_not, low_yes}
+use Rattle.lay_flow.specs.FlowBoxes.{IsFlowTree, is_in_lines}
+use Rattle.lay_flow.specs.Weights.{weight}
+use Rattle.lay_flow.proofs.BlockKinds.{placed_none}
+use Rattle.lay_flow.proofs.FlowBoxFacts.{in_lines_unclear}
+use Rattle.lay_flow.proofs.PlacedInRuns.{placed_in_run}
 
 no_some : {A : Type 0} (v : A) → None ≡ Some v → ⊥
 no_some v e = grind (arith, e)
 
-module _ (boxes : List FlowBox) (tree : IsTree (parents_of boxes)) (some : 0 < length boxes) (now : PassState) (placing : Placing) (k : ℕ) (positive : 0 < k) (within : k < length boxes)
+module _ (boxes : List FlowBox) (tree : IsTree (parents_of boxes)) (are_tree : IsFlowTree boxes) (now : PassState) (placing : Placing) (k : ℕ) (positive : 0 < k) (within : k < length boxes)
     (was : Knows boxes now placing (parent_at boxes k) k) where
   -- the boxes before the run are placed
   pub knows_placed : (placing' : Placing) → PlacesTo boxes now.marks placing' now.first → AreExtentsKept boxes (length placing.places) placing.extents placing'.extents → ArePlacesKept placing.places placing'.places
@@ -52,7 +56,7 @@ module _ (boxes : List FlowBox) (tree : IsTree (parents_of boxes)) (some : 0 < l
         fits = was.fits;
         near = was.near;
         is_at = λ extents clear_edges y may_be candidate. was.is_at extents clear_edges y (may_before boxes placing placing' extents more kept may_be) candidate;
-        no_extents = no_extents_kept boxes placing.extents placing'.extents (length placing.places) was.placed.some kept was.no_extents;
+        no_extents = no_extents_kept boxes placing.extents placing'.extents (length placing.places) kept was.no_extents;
         placed = subst (λ (n : ℕ). PlacesTo boxes now.marks placing' n) (sym l) placed;
         early = omega (arith, l);
         are_clears = was.are_clears;
@@ -69,7 +73,7 @@ module _ (boxes : List FlowBox) (tree : IsTree (parents_of boxes)) (some : 0 < l
   }
 
   -- the hypothetical layout of the box at k
-  module _ (extents : Extents) (clear_edges : List Length) (y : BlockLayout) (may_be : MayBe boxes placing extents) (candidate : IsCandidate boxes extents clear_edges y now.clears now.clear_edges k) where
+  module _ (extents : Extents) (clear_edges : List Length) (y : BlockLayout) (may_be : MayBe boxes (length placing.places) placing.extents extents) (candidate : IsCandidate boxes extents clear_edges y now.clears now.clear_edges k) where
     module _ (without : BlockLayout) (is : IsHypothetical boxes extents clear_edges y k without) where
       may_be_without : IsCandidate boxes extents clear_edges without now.clears now.clear_edges k
       may_be_without = record { is_layout = is.is_layout; clears = λ j lt. is.earlier j lt ∙ candidate.clears j lt; edge = candidate.edge }
@@ -98,7 +102,7 @@ module _ (boxes : List FlowBox) (tree : IsTree (parents_of boxes)) (some : 0 < l
           (j, side.0, w.2, side.1, side.2, ap (has_top j) lead_without ∙ at_without.in_run.gathered.own j w.1 w.2)
 
   -- a run that hangs has the box at k at its clear edge
-  pub hanging_edge : now.hangs ≡ true → IsEdgeWithout boxes now placing k now.start
+  pub hanging_edge : now.hangs ≡ true → IsEdgeWithout boxes now (length placing.places) placing.extents k now.start
   hanging_edge t extents clear_edges w may_be candidate later =
       let run = (was.is_at extents clear_edges w may_be candidate).in_run in
       let h = run.hanging t in
@@ -110,7 +114,7 @@ module _ (boxes : List FlowBox) (tree : IsTree (parents_of boxes)) (some : 0 < l
       → Holds now.strut (margins (run_before boxes w.runs (parent_at boxes k) k)) → now.start ≡ start_before boxes w.runs w.places (parent_at boxes k) k
       → ((j : ℕ) → j < k → has_top j (run_before boxes w.runs (parent_at boxes k) k) ≡ not (nat_lt j now.first))
       → edge ≡ length_at w.places.marks k)
-      → IsEdgeWithout boxes now placing k edge
+      → IsEdgeWithout boxes now (length placing.places) placing.extents k edge
   flowing_edge f edge ahead extents clear_edges w may_be candidate later =
       let run = (was.is_at extents clear_edges w may_be candidate).in_run in
       ahead extents clear_edges w candidate.is_layout later run.strut_holds (run.start_is f) (λ j lt. elim (cases_lt j now.first) [
@@ -120,11 +124,11 @@ module _ (boxes : List FlowBox) (tree : IsTree (parents_of boxes)) (some : 0 < l
 
   -- it is decided that the box at k has no clearance
   pub ready_unclear : ((shape_at boxes k).float ≡ None
-      → (extents : Extents) (clear_edges : List Length) (y : BlockLayout) (places : List Place) → MayBe boxes placing extents → IsCandidate boxes extents clear_edges y now.clears now.clear_edges (k + 1) → ArePlacesKept placing.places places
+      → (extents : Extents) (clear_edges : List Length) (y : BlockLayout) (places : List Spot) → MayBe boxes (length placing.places) placing.extents extents → IsCandidate boxes extents clear_edges y now.clears now.clear_edges (k + 1) → ArePlacesKept placing.places places
       → HasClearance boxes extents clear_edges places y k) → IsReady boxes now placing k
   ready_unclear here = record {
     fits = was.fits;
-    near = start_edge_near k now.start was.near;
+    near = start_edge_near (weight boxes k) now.start was.near;
     is_before = λ extents clear_edges y may_be candidate.
         let at = was.is_at extents clear_edges y may_be (earlier extents clear_edges y now.clears now.clear_edges (λ j lt. refl) (λ j lt. refl) candidate) in
         record { so_far = at.so_far; run = inl (candidate.clears k (omega arith) ∙ was.are_clears.later k (omega arith), at.in_run) };
@@ -153,7 +157,7 @@ module _ (boxes : List FlowBox) (tree : IsTree (parents_of boxes)) (some : 0 < l
   pub ready_unasked : ((shape_at boxes k).float ≡ None → (shape_at boxes k).clear ≡ clear_none) → IsReady boxes now placing k
   ready_unasked passes_none = ready_unclear (λ none extents clear_edges y places may_be candidate kept.
       let clear = passes_none none in
-      let there = some_hypothetical_lem boxes extents clear_edges y k tree some candidate.is_layout in
+      let there = some_hypothetical_lem boxes extents clear_edges y k tree are_tree.some candidate.is_layout in
       let unclear = unclear_here extents clear_edges y candidate in
       record {
         without = there.0;
@@ -164,12 +168,18 @@ module _ (boxes : List FlowBox) (tree : IsTree (parents_of boxes)) (some : 0 < l
         edge = λ t. absurd (true_false (flag_at y.runs.clears k) t unclear);
       })
 
-  -- a box that stands below the floats that it goes past, none of which is in its run
-  pub ready_below : (edge : ℤ) (bottom : Option Length) → length placing.places ≡ now.first → IsEdgeWithout boxes now placing k edge → IsClearEdge placing.floats (shape_at boxes k).clear bottom
+  -- no box in the run holds lines
+  bare : is_in_lines (box_at boxes k).kind ≡ false → (extents : Extents) (clear_edges : List Length) (y : BlockLayout) → MayBe boxes (length placing.places) placing.extents extents → IsCandidate boxes extents clear_edges y now.clears now.clear_edges k
+      → (j : ℕ) → now.first ≤ j → j < k → is_lines (block_at boxes j).inside ≡ false
+  bare out extents clear_edges y may_be candidate j from lt =
+      let at = was.is_at extents clear_edges y may_be candidate in
+      (placed_none (block_at boxes j).inside (placed_in_run boxes are_tree y.runs candidate.is_layout.has_runs now.first k positive within out at.in_run.gathered j from lt)).0
+
+  ready_beside : is_in_lines (box_at boxes k).kind ≡ false → (edge : ℤ) (bottom : Option Length) → length placing.places ≡ now.first → IsEdgeWithout boxes now (length placing.places) placing.extents k edge → IsClearEdge placing.floats (shape_at boxes k).clear bottom
       → (HasWaitingFloat boxes now.first k → ⊥) → (IsAbove edge bottom → ⊥) → IsReady boxes now placing k
-  ready_below edge bottom settled edge_is is_bottom none_waits below = ready_unclear (λ none extents clear_edges y places may_be candidate kept.
+  ready_beside out edge bottom settled edge_is is_bottom none_waits below = ready_unclear (λ none extents clear_edges y places may_be candidate kept.
       let before = earlier extents clear_edges y now.clears now.clear_edges (λ j lt. refl) (λ j lt. refl) candidate in
-      let there = some_hypothetical_lem boxes extents clear_edges y k tree some candidate.is_layout in
+      let there = some_hypothetical_lem boxes extents clear_edges y k tree are_tree.some candidate.is_layout in
       let unclear = unclear_here extents clear_edges y candidate in
       let mark = edge_is extents clear_edges there.0 may_be (may_be_without extents clear_edges y may_be before there.0 there.1) there.1.later in
       let floats : placing.floats ≡ floats_before boxes places now.first = was.placed.floats_are ∙ ap (floats_before boxes placing.places) settled
@@ -178,7 +188,7 @@ module _ (boxes : List FlowBox) (tree : IsTree (parents_of boxes)) (some : 0 < l
         without = there.0;
         is_hypothetical = there.1;
         bottom = bottom;
-        is_bottom = edge_of_more boxes places (shape_at boxes k).clear bottom now.first k was.fits.first_most (λ j low high side float clears. none_waits (j, low, high, (side, float, clears)))
+        is_bottom = edge_of_more boxes places (shape_at boxes k).clear bottom now.first k was.fits.first_most (bare out extents clear_edges y may_be before) (λ j low high side float clears. none_waits (j, low, high, (side, float, clears)))
             (subst (λ (fs : List Placed). IsClearEdge fs (shape_at boxes k).clear bottom) floats is_bottom);
         decides = (
           λ t. absurd (true_false (flag_at y.runs.clears k) t unclear),
@@ -190,13 +200,20 @@ module _ (boxes : List FlowBox) (tree : IsTree (parents_of boxes)) (some : 0 < l
         edge = λ t. absurd (true_false (flag_at y.runs.clears k) t unclear);
       })
 
+  -- a box that stands below the floats that it goes past, none of which is in its run
+  pub ready_below : (edge : ℤ) (bottom : Option Length) → length placing.places ≡ now.first → IsEdgeWithout boxes now (length placing.places) placing.extents k edge → IsClearEdge placing.floats (shape_at boxes k).clear bottom
+      → (HasWaitingFloat boxes now.first k → ⊥) → (IsAbove edge bottom → ⊥) → IsReady boxes now placing k
+  ready_below edge bottom settled edge_is is_bottom none_waits below = true_or (is_in_lines (box_at boxes k).kind) (IsReady boxes now placing k)
+      (λ in_lines. ready_unasked (λ none. in_lines_unclear boxes k in_lines))
+      (λ out. ready_beside out edge bottom settled edge_is is_bottom none_waits below)
+
   -- its clearance begins a run
-  module _ (hypothetical : ℤ) (flows : (shape_at boxes k).float ≡ None) (settled : length placing.places ≡ now.first) (edge_is : IsEdgeWithout boxes now placing k hypothetical)
+  module _ (hypothetical : ℤ) (flows : (shape_at boxes k).float ≡ None) (settled : length placing.places ≡ now.first) (edge_is : IsEdgeWithout boxes now (length placing.places) placing.extents k hypothetical)
       (decides : HasWaitingFloat boxes now.first k ⊎ IsAboveFloats placing.floats (shape_at boxes k).clear hypothetical)
       (marks edges : List Length) (flags : List Bool) (placing' : Placing) (end edge : ℤ) (bottom' : Option Length) (strut' : StrutValue)
       (ends : RunEnds now.hangs now.start now.strut end) (ended : IsCollapseNear (end -ℤ now.start)) (settles : Settled boxes now.through now.marks marks now.first k end)
       (placed : PlacesTo boxes marks placing' k) (kept : AreExtentsKept boxes (length placing.places) placing.extents placing'.extents) (same : ArePlacesKept placing.places placing'.places)
-      (is_bottom' : IsClearEdge placing'.floats (shape_at boxes k).clear bottom') (lower : edge ≡ lower_of bottom' hypothetical) (near : IsEdgeNear k edge)
+      (is_bottom' : IsClearEdge placing'.floats (shape_at boxes k).clear bottom') (lower : edge ≡ lower_of bottom' hypothetical) (near : IsEdgeNear (weight boxes k) edge)
       (wrote_flag : Wrote flag_at now.clears flags k true) (wrote_edge : Wrote length_at now.clear_edges edges k edge) (fits' : StrutFits strut') (empty : Holds strut' []) where
     more : length placing.places ≤ length placing'.places
     more = let l = placed.places_length in let f = was.fits.first_most in omega (arith, l, f, settled)
@@ -207,8 +224,8 @@ module _ (boxes : List FlowBox) (tree : IsTree (parents_of boxes)) (some : 0 < l
     same_edges : (j : ℕ) → j < k → length_at edges j ≡ length_at now.clear_edges j
     same_edges j lt = wrote_edge.other j (λ e. omega (arith, e, lt))
 
-    module _ (extents : Extents) (clear_edges : List Length) (y : BlockLayout) (may_be' : MayBe boxes placing' extents) (candidate : IsCandidate boxes extents clear_edges y flags edges (k + 1)) where
-      may_be : MayBe boxes placing extents
+    module _ (extents : Extents) (clear_edges : List Length) (y : BlockLayout) (may_be' : MayBe boxes (length placing'.places) placing'.extents extents) (candidate : IsCandidate boxes extents clear_edges y flags edges (k + 1)) where
+      may_be : MayBe boxes (length placing.places) placing.extents extents
       may_be = may_before boxes placing placing' extents more kept may_be'
 
       before : IsCandidate boxes extents clear_edges y now.clears now.clear_edges k
@@ -220,9 +237,18 @@ module _ (boxes : List FlowBox) (tree : IsTree (parents_of boxes)) (some : 0 < l
       edge_here : length_at clear_edges k ≡ edge
       edge_here = candidate.edge k (omega arith) wrote_flag.here ∙ wrote_edge.here
 
-      cleared : (places : List Place) → ArePlacesKept placing'.places places → HasClearance boxes extents clear_edges places y k
-      cleared places are =
-          let there = some_hypothetical_lem boxes extents clear_edges y k tree some candidate.is_layout in
+      -- what stands in lines goes past no floats
+      undecided : is_in_lines (box_at boxes k).kind ≡ true → ⊥
+      undecided in_lines = elim decides [
+        | inl w ↦ subst (λ (c : Clear). Clears c w.3.0) (in_lines_unclear boxes k in_lines) w.3.2
+        | inr above ↦ (let there = subst (IsClearEdge placing.floats (shape_at boxes k).clear) above.2.1 above.1 in
+            let w = there.one_of in
+            subst (λ (c : Clear). Clears c w.1.side) (in_lines_unclear boxes k in_lines) w.3.0)
+      ]
+
+      cleared_outside : is_in_lines (box_at boxes k).kind ≡ false → (places : List Spot) → ArePlacesKept placing'.places places → HasClearance boxes extents clear_edges places y k
+      cleared_outside out places are =
+          let there = some_hypothetical_lem boxes extents clear_edges y k tree are_tree.some candidate.is_layout in
           let mark = edge_is extents clear_edges there.0 may_be (may_be_without extents clear_edges y may_be before there.0 there.1) there.1.later in
           let l = placed.places_length in
           let floats' : placing'.floats ≡ floats_before boxes places k = placed.floats_are ∙ sym (floats_same boxes places placing'.places k (λ j lt. are j (omega (arith, lt, l)))) in
@@ -233,7 +259,7 @@ module _ (boxes : List FlowBox) (tree : IsTree (parents_of boxes)) (some : 0 < l
           let has : HasClearedFloat boxes k (run_at there.0.runs.before_tops k) ⊎ IsAbove (length_at there.0.places.marks k) bottom' = elim decides [
             | inl waits ↦ inl (cleared_waits extents clear_edges y may_be before there.0 there.1 waits)
             | inr above ↦ inr (let at_first = subst (λ (fs : List Placed). IsClearEdge fs (shape_at boxes k).clear above.0) floats above.1 in
-                subst (λ (v : ℤ). IsAbove v bottom') mark (higher_with_more boxes places (shape_at boxes k).clear above.0 bottom' now.first k f at_first at_last hypothetical above.2))
+                subst (λ (v : ℤ). IsAbove v bottom') mark (higher_with_more boxes places (shape_at boxes k).clear above.0 bottom' now.first k f (bare out extents clear_edges y may_be before) at_first at_last hypothetical above.2))
           ] in
           record {
             without = there.0;
@@ -244,6 +270,11 @@ module _ (boxes : List FlowBox) (tree : IsTree (parents_of boxes)) (some : 0 < l
             edge = λ t. edge_here ∙ lower ∙ ap (lower_of bottom') mark;
           }
 
+      cleared : (places : List Spot) → ArePlacesKept placing'.places places → HasClearance boxes extents clear_edges places y k
+      cleared places are = true_or (is_in_lines (box_at boxes k).kind) (HasClearance boxes extents clear_edges places y k)
+          (λ in_lines. absurd (undecided in_lines))
+          (λ out. cleared_outside out places are)
+
     pub ready_cleared : IsReady boxes (record now { marks = marks; clears = flags; clear_edges = edges; start = edge; strut = strut'; first = k; hangs = true }) placing' k
     ready_cleared = record {
       fits = fits_cleared boxes tree now k marks edges flags end edge strut' positive was.fits settles ended near fits';
@@ -251,7 +282,7 @@ module _ (boxes : List FlowBox) (tree : IsTree (parents_of boxes)) (some : 0 < l
       is_before = λ extents clear_edges y may_be' candidate.
           opened_cleared boxes extents clear_edges y candidate.is_layout tree k positive within now end (clears_here extents clear_edges y may_be' candidate) ends
           (was.is_at extents clear_edges y (may_be extents clear_edges y may_be' candidate) (before extents clear_edges y may_be' candidate)) marks edges flags strut' edge empty settles (sym (edge_here extents clear_edges y may_be' candidate));
-      no_extents = no_extents_kept boxes placing.extents placing'.extents (length placing.places) was.placed.some kept was.no_extents;
+      no_extents = no_extents_kept boxes placing.extents placing'.extents (length placing.places) kept was.no_extents;
       placed = let l = placed.places_length in subst (λ (n : ℕ). PlacesTo boxes marks placing' n) (sym l) placed;
       early = let l = placed.places_length in omega (arith, l);
       are_clears = record {

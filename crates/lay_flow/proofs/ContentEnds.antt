@@ -15,7 +15,7 @@ use Rattle.lay_flow.specs.BlockLayout.{BlockLayout, IsBlockLayout}
 use Rattle.lay_flow.specs.Pass.State.{PassState, IsAt}
 use Rattle.lay_flow.proofs.BlockKinds.{no_edge}
 use Rattle.lay_flow.proofs.Closings.{place_below, out_parted}
-use Rattle.lay_flow.proofs.ContentHeights.{content_bottom, content_inner}
+use Rattle.lay_flow.proofs.ContentHeights.{content_bottom, content_inner, margin_end}
 use Rattle.lay_flow.proofs.GatheredRuns.{last_over}
 use Rattle.lay_flow.proofs.LayoutFacts.{start_first, start_next}
 use Rattle.lay_flow.proofs.RunEntries.{top_here}
@@ -31,7 +31,7 @@ module _ (boxes : List FlowBox) (extents : Extents) (clear_edges : List Length) 
   last_here : last_child boxes p (length boxes) ≡ last_child boxes p m
   last_here = last_over boxes tree y.runs is.has_runs p m positive was.in_run.gathered.parent was.in_run.gathered.within ends was.in_run.gathered.inside
 
-  end_leaf : last_child boxes p m ≡ None → content_bottom boxes y.runs y.places p ≡ length_at y.places.marks p +ℤ (block_at boxes p).edge_top.0
+  end_leaf : last_child boxes p m ≡ None → margin_end boxes y.runs y.places p ≡ length_at y.places.marks p +ℤ (block_at boxes p).edge_top.0
   end_leaf e = let f = last_here ∙ e in rw f refl
 
   -- without children its top margin is in the run, unless an edge parts it from that
@@ -43,20 +43,20 @@ module _ (boxes : List FlowBox) (extents : Extents) (clear_edges : List Length) 
   ]
 
   -- its bottom margin adjoins that of its last child
-  pub bottom_joined : joins_bottom boxes y.runs p ≡ true → p < now.first → content_bottom boxes y.runs y.places p ≡ start_before boxes y.runs y.places p m
+  pub bottom_joined : joins_bottom boxes y.runs p ≡ true → p < now.first → margin_end boxes y.runs y.places p ≡ start_before boxes y.runs y.places p m
   bottom_joined joined before = go (last_child boxes p m) refl
     where
-      by_wall : (b : Bool) → parts_tops boxes p ≡ b → last_child boxes p m ≡ None → content_bottom boxes y.runs y.places p ≡ start_before boxes y.runs y.places p m
+      by_wall : (b : Bool) → parts_tops boxes p ≡ b → last_child boxes p m ≡ None → margin_end boxes y.runs y.places p ≡ start_before boxes y.runs y.places p m
       by_wall true wall e = end_leaf e ∙ sym (start_first boxes y.runs y.places p m e ∙ rw wall refl)
       by_wall false wall e = let t = top_there e wall in absurd (omega (arith, t, before))
 
-      go : (o : Option ℕ) → last_child boxes p m ≡ o → content_bottom boxes y.runs y.places p ≡ start_before boxes y.runs y.places p m
+      go : (o : Option ℕ) → last_child boxes p m ≡ o → margin_end boxes y.runs y.places p ≡ start_before boxes y.runs y.places p m
       go None e = by_wall (parts_tops boxes p) refl e
       go (Some c) e = (let f = last_here ∙ e in let s = start_next boxes y.runs y.places p m c e in rw (f, joined) (sym s))
 
   -- its bottom margin begins a run
   pub bottom_parted : joins_bottom boxes y.runs p ≡ false → flag_at y.runs.through p ≡ false
-      → content_bottom boxes y.runs y.places p ≡ start_before boxes y.runs y.places p m +ℤ collapse (margins (run_before boxes y.runs p m))
+      → margin_end boxes y.runs y.places p ≡ start_before boxes y.runs y.places p m +ℤ collapse (margins (run_before boxes y.runs p m))
   bottom_parted parted stands = go (last_child boxes p m) refl
     where
       two : (a b : ℤ) (xs zs : List Entry) → a ≡ b → xs ≡ zs → (a +ℤ collapse (margins xs)) ≡ (b +ℤ collapse (margins zs))
@@ -69,7 +69,7 @@ module _ (boxes : List FlowBox) (extents : Extents) (clear_edges : List Length) 
       plus_zero v e z = omega (arith, ints, z)
 
       by_wall : (b : Bool) → parts_tops boxes p ≡ b → last_child boxes p m ≡ None
-          → content_bottom boxes y.runs y.places p ≡ start_before boxes y.runs y.places p m +ℤ collapse (margins (run_before boxes y.runs p m))
+          → margin_end boxes y.runs y.places p ≡ start_before boxes y.runs y.places p m +ℤ collapse (margins (run_before boxes y.runs p m))
       by_wall true wall e =
           let start : start_before boxes y.runs y.places p m ≡ length_at y.places.marks p +ℤ (block_at boxes p).edge_top.0 = start_first boxes y.runs y.places p m e ∙ rw wall refl in
           let run : run_before boxes y.runs p m ≡ [] = first_comes boxes y.runs p m e ∙ rw wall refl in
@@ -80,18 +80,18 @@ module _ (boxes : List FlowBox) (extents : Extents) (clear_edges : List Length) 
           ∙ mark_here boxes extents clear_edges y is tree now p m was.in_run (place_below boxes extents clear_edges y is tree now p m positive was ends) p high (omega arith) was.in_run.gathered.inside stands
           ∙ ap (λ (run : List Entry). start_before boxes y.runs y.places p m +ℤ collapse (margins run)) (out_parted boxes extents clear_edges y is tree now p m positive was ends parted)
 
-      go : (o : Option ℕ) → last_child boxes p m ≡ o → content_bottom boxes y.runs y.places p ≡ start_before boxes y.runs y.places p m +ℤ collapse (margins (run_before boxes y.runs p m))
+      go : (o : Option ℕ) → last_child boxes p m ≡ o → margin_end boxes y.runs y.places p ≡ start_before boxes y.runs y.places p m +ℤ collapse (margins (run_before boxes y.runs p m))
       go None e = by_wall (parts_tops boxes p) refl e
       go (Some c) e = here (last_here ∙ e) ∙ two (start_below y.runs y.places c) (start_before boxes y.runs y.places p m) (run_at y.runs.to_bottoms c) (run_before boxes y.runs p m)
           (sym (start_next boxes y.runs y.places p m c e)) (sym (next_comes boxes y.runs p m c e))
         where
-          here : last_child boxes p (length boxes) ≡ Some c → content_bottom boxes y.runs y.places p ≡ start_below y.runs y.places c +ℤ collapse (margins (run_at y.runs.to_bottoms c))
+          here : last_child boxes p (length boxes) ≡ Some c → margin_end boxes y.runs y.places p ≡ start_below y.runs y.places c +ℤ collapse (margins (run_at y.runs.to_bottoms c))
           here f = rw (f, parted) refl
 
-  pub height_there : (h mark bottom : ℤ) → flag_at y.runs.through p ≡ false → mark ≡ length_at y.places.marks p → bottom ≡ content_bottom boxes y.runs y.places p
-      → h ≡ border_height (block_at boxes p) (length_at extents.solid p) (bottom -ℤ (mark +ℤ (block_at boxes p).edge_top.0)) → h ≡ length_at y.places.heights p
+  pub height_there : (h mark bottom : ℤ) → flag_at y.runs.through p ≡ false → mark ≡ length_at y.places.marks p → bottom ≡ content_bottom boxes y.runs extents y.places p
+      → h ≡ border_height (block_at boxes p) (length_at extents.depths p) (bottom -ℤ (mark +ℤ (block_at boxes p).edge_top.0)) → h ≡ length_at y.places.heights p
   height_there h mark bottom stands marked ended here =
-      let there : length_at y.places.heights p ≡ border_height (block_at boxes p) (length_at extents.solid p) (content_height boxes y.runs extents.floats y.places p) = is.has_positions.height p within_p ∙ rw stands refl in
-      let content = content_inner boxes y.runs extents.floats y.places p positive in
-      here ∙ (λ i. border_height (block_at boxes p) (length_at extents.solid p) (ended i -ℤ (marked i +ℤ (block_at boxes p).edge_top.0)))
-      ∙ ap (λ (v : ℤ). border_height (block_at boxes p) (length_at extents.solid p) v) (sym content) ∙ sym there
+      let there : length_at y.places.heights p ≡ border_height (block_at boxes p) (length_at extents.depths p) (content_height boxes y.runs extents y.places p) = is.has_positions.height p within_p ∙ rw stands refl in
+      let content = content_inner boxes y.runs extents y.places p positive in
+      here ∙ (λ i. border_height (block_at boxes p) (length_at extents.depths p) (ended i -ℤ (marked i +ℤ (block_at boxes p).edge_top.0)))
+      ∙ ap (λ (v : ℤ). border_height (block_at boxes p) (length_at extents.depths p) v) (sym content) ∙ sym there

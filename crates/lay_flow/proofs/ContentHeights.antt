@@ -1,19 +1,21 @@
 -- Where the content of a box ends, in one number: the auto heights of 10.6.3 and 10.6.7 reach down to it.
-use Rattle.std.proofs.Common.{◌≡◌, ℕ, zero, suc, ◌<◌, Bool, true, false, ℤ, pos, ◌+ℤ◌, ◌-ℤ◌, List, length, refl, arith, Option, Some, None, if◌then◌else◌}
+use Rattle.std.proofs.Common.{◌≡◌, ℕ, zero, suc, ◌<◌, Bool, true, false, ℤ, pos, ◌+ℤ◌, ◌-ℤ◌, List, length, refl, ap, arith, Option, Some, None, if◌then◌else◌}
 use Rattle.std.proofs.lemmas.Int.{ints}
 use Rattle.lay_flow.specs.declared.flow_box.FlowBox.{FlowBox}
-use Rattle.lay_units.specs.declared.length.Unit.{Unit as Length}
 use Rattle.lay_heights.specs.AutoHeights.{root_height_of}
 use Rattle.lay_margins.specs.Collapse.{collapse}
 use Rattle.lay_flow.specs.declared.block.Block.{Block}
 use Rattle.lay_flow.specs.Lengths.{length_at}
 use Rattle.lay_flow.specs.Children.{last_child}
 use Rattle.lay_flow.specs.MarginRuns.{Runs, margins, block_at, run_at, joins_bottom}
-use Rattle.lay_flow.specs.BlockPositions.{Positions, start_below, content_top, content_height, border_height, is_solid}
-use Rattle.lay_flow.proofs.Truths.{true_or}
+use Rattle.lay_flow.specs.declared.block.Inside.{Inside}
+use Rattle.lay_flow.specs.declared.block.Inside.TheVariants.{Blocks as blocks_inside, Lines as lines_inside, Solid as solid_inside}
+use Rattle.lay_flow.specs.BlockPositions.{Extents, line_end, line_end_of, Positions, start_below, content_top, content_height, border_height, is_lines, is_placed, is_solid}
+use Rattle.lay_flow.specs.Pass.Bounds.{held_end, held_height}
+use Rattle.lay_flow.proofs.Truths.{true_false, true_or}
 
-abbrev pub content_bottom : List FlowBox → Runs → Positions → ℕ → ℤ
-content_bottom boxes r at k = below (last_child boxes k (length boxes))
+abbrev pub margin_end : List FlowBox → Runs → Positions → ℕ → ℤ
+margin_end boxes r at k = below (last_child boxes k (length boxes))
   where
     below : Option ℕ → ℤ
     below None = length_at at.marks k +ℤ (block_at boxes k).edge_top.0
@@ -21,35 +23,80 @@ content_bottom boxes r at k = below (last_child boxes k (length boxes))
         if joins_bottom boxes r k then start_below r at c
         else start_below r at c +ℤ collapse (margins (run_at r.to_bottoms c))
 
-pub content_inner : (boxes : List FlowBox) (r : Runs) (floats : Option Length) (at : Positions) (p : ℕ) → 0 < p
-    → content_height boxes r floats at p ≡ content_bottom boxes r at p -ℤ (length_at at.marks p +ℤ (block_at boxes p).edge_top.0)
-content_inner boxes r floats at zero low = absurd (omega (arith, low))
-content_inner boxes r floats at (suc k) low = go (last_child boxes (suc k) (length boxes)) refl
+-- its lines end before its margins do
+abbrev pub content_bottom : List FlowBox → Runs → Extents → Positions → ℕ → ℤ
+content_bottom boxes r extents at k = held_end (block_at boxes k).inside (length_at at.marks k +ℤ (block_at boxes k).edge_top.0) (length_at extents.depths k) (margin_end boxes r at k)
+
+pub content_inner : (boxes : List FlowBox) (r : Runs) (extents : Extents) (at : Positions) (p : ℕ) → 0 < p
+    → content_height boxes r extents at p ≡ content_bottom boxes r extents at p -ℤ (length_at at.marks p +ℤ (block_at boxes p).edge_top.0)
+content_inner boxes r extents at zero low = absurd (omega (arith, low))
+content_inner boxes r extents at (suc k) low = by_inside (block_at boxes (suc k)).inside refl
   where
     none : (v : ℤ) → pos 0 ≡ v -ℤ v
     none v = omega (arith, ints)
 
-    by_joins : (c : ℕ) (b : Bool) → last_child boxes (suc k) (length boxes) ≡ Some c → joins_bottom boxes r (suc k) ≡ b
-        → content_height boxes r floats at (suc k) ≡ content_bottom boxes r at (suc k) -ℤ (length_at at.marks (suc k) +ℤ (block_at boxes (suc k)).edge_top.0)
-    by_joins c true e joined = rw (e, joined) refl
-    by_joins c false e parted = rw (e, parted) refl
+    line_is : (inside : Inside) → (block_at boxes (suc k)).inside ≡ inside → line_end_of boxes extents at (suc k) ≡ line_end inside (content_top boxes at (suc k)) (length_at extents.depths (suc k))
+    line_is inside i = ap (λ (inside : Inside). line_end inside (content_top boxes at (suc k)) (length_at extents.depths (suc k))) i
 
-    go : (o : Option ℕ) → last_child boxes (suc k) (length boxes) ≡ o
-        → content_height boxes r floats at (suc k) ≡ content_bottom boxes r at (suc k) -ℤ (length_at at.marks (suc k) +ℤ (block_at boxes (suc k)).edge_top.0)
-    go None e = rw e (none (length_at at.marks (suc k) +ℤ (block_at boxes (suc k)).edge_top.0))
-    go (Some c) e = by_joins c (joins_bottom boxes r (suc k)) e refl
+    by_joins : (inside : Inside) (c : ℕ) (b : Bool) → (block_at boxes (suc k)).inside ≡ inside → last_child boxes (suc k) (length boxes) ≡ Some c → joins_bottom boxes r (suc k) ≡ b → content_height boxes r extents at (suc k) ≡ content_bottom boxes r extents at (suc k) -ℤ (length_at at.marks (suc k) +ℤ (block_at boxes (suc k)).edge_top.0)
+    by_joins blocks_inside c true i e joined = let l = line_is blocks_inside i in rw (e, joined, l, i) refl
+    by_joins blocks_inside c false i e parted = let l = line_is blocks_inside i in rw (e, parted, l, i) refl
+    by_joins lines_inside c b i e joined = let l = line_is lines_inside i in rw (e, l, i) refl
+    by_joins solid_inside c true i e joined = let l = line_is solid_inside i in rw (e, joined, l, i) refl
+    by_joins solid_inside c false i e parted = let l = line_is solid_inside i in rw (e, parted, l, i) refl
 
-pub content_root : (boxes : List FlowBox) (r : Runs) (floats : Option Length) (at : Positions)
-    → content_height boxes r floats at 0 ≡ root_height_of (content_top boxes at 0) (record { 0 = content_bottom boxes r at 0 }) floats
-content_root boxes r floats at = go (last_child boxes 0 (length boxes)) refl
+    go : (inside : Inside) (o : Option ℕ) → (block_at boxes (suc k)).inside ≡ inside → last_child boxes (suc k) (length boxes) ≡ o → content_height boxes r extents at (suc k) ≡ content_bottom boxes r extents at (suc k) -ℤ (length_at at.marks (suc k) +ℤ (block_at boxes (suc k)).edge_top.0)
+    go blocks_inside None i e = let l = line_is blocks_inside i in rw (e, l, i) (none (length_at at.marks (suc k) +ℤ (block_at boxes (suc k)).edge_top.0))
+    go lines_inside None i e = let l = line_is lines_inside i in rw (e, l, i) refl
+    go solid_inside None i e = let l = line_is solid_inside i in rw (e, l, i) (none (length_at at.marks (suc k) +ℤ (block_at boxes (suc k)).edge_top.0))
+    go inside (Some c) i e = by_joins inside c (joins_bottom boxes r (suc k)) i e refl
+
+    by_inside : (inside : Inside) → (block_at boxes (suc k)).inside ≡ inside → content_height boxes r extents at (suc k) ≡ content_bottom boxes r extents at (suc k) -ℤ (length_at at.marks (suc k) +ℤ (block_at boxes (suc k)).edge_top.0)
+    by_inside inside i = go inside (last_child boxes (suc k) (length boxes)) i refl
+
+pub content_root : (boxes : List FlowBox) (r : Runs) (extents : Extents) (at : Positions)
+    → content_height boxes r extents at 0 ≡ root_height_of (content_top boxes at 0) (record { 0 = content_bottom boxes r extents at 0 }) extents.floats
+content_root boxes r extents at = go (block_at boxes 0).inside (last_child boxes 0 (length boxes)) refl refl
   where
-    go : (o : Option ℕ) → last_child boxes 0 (length boxes) ≡ o
-        → content_height boxes r floats at 0 ≡ root_height_of (content_top boxes at 0) (record { 0 = content_bottom boxes r at 0 }) floats
-    go None e = rw e refl
-    go (Some c) e = rw e refl
+    go : (inside : Inside) (o : Option ℕ) → (block_at boxes 0).inside ≡ inside → last_child boxes 0 (length boxes) ≡ o
+        → content_height boxes r extents at 0 ≡ root_height_of (content_top boxes at 0) (record { 0 = content_bottom boxes r extents at 0 }) extents.floats
+    go blocks_inside None i e = rw (i, e) refl
+    go blocks_inside (Some c) i e = rw (i, e) refl
+    go lines_inside None i e = rw i refl
+    go lines_inside (Some c) i e = rw i refl
+    go solid_inside None i e = rw (i, e) refl
+    go solid_inside (Some c) i e = rw (i, e) refl
+
+-- of a box that doesn't hold lines
+pub content_margin : (boxes : List FlowBox) (r : Runs) (extents : Extents) (at : Positions) (p : ℕ) → is_lines (block_at boxes p).inside ≡ false → content_bottom boxes r extents at p ≡ margin_end boxes r at p
+content_margin boxes r extents at p e = go (block_at boxes p).inside refl e
+  where
+    go : (inside : Inside) → (block_at boxes p).inside ≡ inside → is_lines inside ≡ false → content_bottom boxes r extents at p ≡ margin_end boxes r at p
+    go blocks_inside i e = rw i refl
+    go lines_inside i e = absurd (true_false true refl e)
+    go solid_inside i e = rw i refl
+
+pub held_none : (inside : Inside) (top depth end : ℤ) → is_lines inside ≡ false → held_end inside top depth end ≡ end
+held_none blocks_inside top depth end e = refl
+held_none lines_inside top depth end e = absurd (true_false true refl e)
+held_none solid_inside top depth end e = refl
 
 -- the extent of a box that isn't solid doesn't count
 pub same_border_height : (b : Block) (e f content : ℤ) → (is_solid b.inside ≡ true → e ≡ f) → border_height b e content ≡ border_height b f content
 same_border_height b e f content same = true_or (is_solid b.inside) (border_height b e content ≡ border_height b f content)
     (λ solid. let s = same solid in rw (solid, s) refl)
     (λ flow. rw flow refl)
+
+-- the height of what is in a box is that from the top of it to its end
+pub held_between : (inside : Inside) (top depth end : ℤ) → held_height inside depth (end -ℤ top) ≡ held_end inside top depth end -ℤ top
+held_between blocks_inside top depth end = refl
+held_between lines_inside top depth end = between top depth
+  where
+    between : (a b : ℤ) → b ≡ (a +ℤ b) -ℤ a
+    between a b = omega (arith, ints)
+held_between solid_inside top depth end = refl
+
+pub held_same : (inside : Inside) (s t d e m n : ℤ) → s ≡ t → (is_placed inside ≡ true → d ≡ e) → m ≡ n → held_end inside s d m ≡ held_end inside t e n
+held_same blocks_inside s t d e m n top depth end = end
+held_same lines_inside s t d e m n top depth end = let same = depth refl in λ i. top i +ℤ same i
+held_same solid_inside s t d e m n top depth end = end

@@ -1,5 +1,5 @@
 -- Floats in a list, and the lowest bottom of those of the sides to clear.
-use Rattle.std.proofs.Common.{◌≡◌, ℕ, zero, suc, ◌<◌, ◌≤◌, List, [], ◌∷◌, ◌++◌, length, slice_get, refl, sym, ap, ◌∙◌, arith, inl, inr, Option, Some, None, subst}
+use Rattle.std.proofs.Common.{◌≡◌, true, ℕ, zero, suc, ◌<◌, ◌≤◌, List, [], ◌∷◌, ◌++◌, length, slice_get, refl, sym, ap, ◌∙◌, arith, inl, inr, Option, Some, None, subst}
 use Rattle.std.proofs.lemmas.Bool.{cases_lt}
 use Rattle.std.proofs.lemmas.Grind.{elements}
 use Rattle.lay_flow.specs.declared.flow_box.FlowBox.{FlowBox}
@@ -7,10 +7,14 @@ use Rattle.lay_units.specs.declared.length.Unit.{Unit as Length}
 use Rattle.lay_floats.specs.declared.placed.Placed.{Placed}
 use Rattle.lay_floats.specs.declared.requests.Side.{Side}
 use Rattle.lay_floats.specs.declared.requests.Clear.{Clear}
-use Rattle.lay_floats.specs.declared.requests.Place.{Place}
+use Rattle.lay_lines.specs.Lines.{LinesValue}
+use Rattle.lay_flow.specs.declared.block.Inside.{Inside}
+use Rattle.lay_flow.specs.declared.block.Inside.TheVariants.{Blocks as blocks_inside, Lines as lines_inside, Solid as solid_inside}
+use Rattle.lay_flow.specs.MarginRuns.{block_at}
+use Rattle.lay_flow.specs.BlockPositions.{is_lines}
 use Rattle.lay_floats.specs.ClearEdge.{Clears, IsClearEdge}
 use Rattle.lay_floats.proofs.Unique.{one_clear_edge_lem}
-use Rattle.lay_flow.specs.BlockFloats.{shape_at, place_at, floats_before}
+use Rattle.lay_flow.specs.BlockFloats.{Spot, shape_at, place_at, lines_at, float_of, floats_before}
 use Rattle.lay_flow.proofs.PlaceSteps.{nothing_more}
 
 -- a float is in the list
@@ -41,33 +45,49 @@ has_back xs x f P old new w = elim (cases_lt w.0 (length xs)) [
     last : (xs : List Placed) (x f : Placed) (i : ℕ) → length xs ≤ i → slice_get (xs ++ x ∷ []) i ≡ Some f → f ≡ x
     last xs x f i ge e = grind (arith, elements, e, ge)
 
--- the places of the floats of the sides to clear are the same
-abbrev pub SameCleared : List FlowBox → Clear → List Place → List Place → ℕ → Type 0
-SameCleared boxes clear places others n = (j : ℕ) (side : Side) → j < n → (shape_at boxes j).float ≡ Some side → Clears clear side → place_at places j ≡ place_at others j
+-- the floats of the sides to clear have the same places, and boxes that hold lines the same lines
+pub record SameCleared (boxes : List FlowBox) (clear : Clear) (places others : List Spot) (n : ℕ) : Type 0 where
+  pub float : (j : ℕ) (side : Side) → j < n → (shape_at boxes j).float ≡ Some side → Clears clear side → place_at places j ≡ place_at others j
+  pub lines : (j : ℕ) → j < n → is_lines (block_at boxes j).inside ≡ true → lines_at places j ≡ lines_at others j
+
+pub same_back : (boxes : List FlowBox) (clear : Clear) (places others : List Spot) (n : ℕ) → SameCleared boxes clear places others n → SameCleared boxes clear others places n
+same_back boxes clear places others n same = record { float = λ j side lt e c. sym (same.float j side lt e c); lines = λ j lt e. sym (same.lines j lt e) }
 
 module _ (boxes : List FlowBox) (clear : Clear) where
-  has_too : (places others : List Place) (n : ℕ) → SameCleared boxes clear places others n → (f : Placed) → Clears clear f.side → Has (floats_before boxes places n) f → Has (floats_before boxes others n) f
+  has_too : (places others : List Spot) (n : ℕ) → SameCleared boxes clear places others n → (f : Placed) → Clears clear f.side → Has (floats_before boxes places n) f → Has (floats_before boxes others n) f
   has_too places others zero same f clears w = w
-  has_too places others (suc n) same f clears w = go (shape_at boxes n).float refl (has_too places others n (λ j side lt. same j side (omega (arith, lt))) f clears)
+  has_too places others (suc n) same f clears w = by_inside (block_at boxes n).inside refl
+      (has_too places others n (record { float = λ j side lt. same.float j side (omega (arith, lt)); lines = λ j lt. same.lines j (omega (arith, lt)) }) f clears)
     where
-      go : (o : Option Side) → (shape_at boxes n).float ≡ o → (Has (floats_before boxes places n) f → Has (floats_before boxes others n) f) → Has (floats_before boxes others (suc n)) f
-      go None e earlier =
+      -- without lines
+      go : (o : Option Side) → (shape_at boxes n).float ≡ o → (Has (floats_before boxes places n) f → Has (floats_before boxes others n) f)
+          → Has (floats_before boxes places n ++ float_of (shape_at boxes n) (place_at places n)) f → Has (floats_before boxes others n ++ float_of (shape_at boxes n) (place_at others n)) f
+      go None e earlier w =
           let w' : Has (floats_before boxes places n ++ []) f = rw e at w in
           let back = earlier (subst (λ (xs : List Placed). Has xs f) (nothing_more (floats_before boxes places n)) w') in
           rw e (subst (λ (xs : List Placed). Has xs f) (sym (nothing_more (floats_before boxes others n))) back)
-      go (Some side) e earlier =
+      go (Some side) e earlier w =
           let mine : Placed = record { side = side; x = (place_at places n).x; y = (place_at places n).y; width = (shape_at boxes n).width; height = (shape_at boxes n).height } in
           let other : Placed = record { side = side; x = (place_at others n).x; y = (place_at others n).y; width = (shape_at boxes n).width; height = (shape_at boxes n).height } in
           let w' : Has (floats_before boxes places n ++ mine ∷ []) f = rw e at w in
           let there : Has (floats_before boxes others n ++ other ∷ []) f = has_back (floats_before boxes places n) mine f (Has (floats_before boxes others n ++ other ∷ []) f)
           (λ old. has_there (floats_before boxes others n) other f (earlier old))
           (λ new. let clears_it : Clears clear side = subst (Clears clear) (ap (λ (f : Placed). f.side) new) clears in
-          let p = same n side (omega arith) e clears_it in
+          let p = same.float n side (omega arith) e clears_it in
           let is_other : f ≡ other = new ∙ (λ i. record { side = side; x = (p i).x; y = (p i).y; width = (shape_at boxes n).width; height = (shape_at boxes n).height }) in
           subst (Has (floats_before boxes others n ++ other ∷ [])) (sym is_other) (has_last (floats_before boxes others n) other)) w' in
           rw e there
 
-  moved : (places others : List Place) (n : ℕ) → SameCleared boxes clear places others n → SameCleared boxes clear others places n → (bottom : Option Length)
+      by_inside : (inside : Inside) → (block_at boxes n).inside ≡ inside → (Has (floats_before boxes places n) f → Has (floats_before boxes others n) f) → Has (floats_before boxes others (suc n)) f
+      by_inside blocks_inside e earlier = rw e (go (shape_at boxes n).float refl earlier (rw e at w))
+      by_inside lines_inside e earlier =
+          let here : is_lines (block_at boxes n).inside ≡ true = ap is_lines e in
+          let l = same.lines n (omega arith) here in
+          let w' : Has (lines_at places n).floats f = rw e at w in
+          rw e (subst (λ (v : LinesValue). Has v.floats f) l w')
+      by_inside solid_inside e earlier = rw e (go (shape_at boxes n).float refl earlier (rw e at w))
+
+  moved : (places others : List Spot) (n : ℕ) → SameCleared boxes clear places others n → SameCleared boxes clear others places n → (bottom : Option Length)
       → IsClearEdge (floats_before boxes others n) clear bottom → IsClearEdge (floats_before boxes places n) clear bottom
   moved places others n same back None is = λ i f there clears. let w = has_too places others n same f clears (i, there) in is w.0 f w.1 clears
   moved places others n same back (Some v) is = record {
@@ -76,7 +96,7 @@ module _ (boxes : List FlowBox) (clear : Clear) where
   }
 
   -- other floats don't matter
-  pub one_edge_to_clear : (places others : List Place) (n : ℕ) → SameCleared boxes clear places others n → (bottom other : Option Length)
+  pub one_edge_to_clear : (places others : List Spot) (n : ℕ) → SameCleared boxes clear places others n → (bottom other : Option Length)
       → IsClearEdge (floats_before boxes places n) clear bottom → IsClearEdge (floats_before boxes others n) clear other → bottom ≡ other
   one_edge_to_clear places others n same bottom other is also =
-      one_clear_edge_lem (floats_before boxes places n) clear bottom other is (moved places others n same (λ j side lt e c. sym (same j side lt e c)) other also)
+      one_clear_edge_lem (floats_before boxes places n) clear bottom other is (moved places others n same (same_back boxes clear places others n same) other also)

@@ -3,6 +3,10 @@ pub mod Lengths
 pub mod Truths
 pub mod BoxTrees
 pub mod FlowBoxFacts
+pub mod IndexedBoxes
+pub mod OneLineList
+pub mod WeightFacts
+pub mod PlacedInRuns
 pub mod ChildPlaces
 pub mod Siblings
 pub mod MarginWalk
@@ -42,6 +46,10 @@ pub mod PassSteps
 pub mod ClearedFloats
 pub mod ClearSteps
 pub mod PassEnds
+pub mod PlacedOn
+pub mod ChosenCorners
+pub mod LaidLines
+pub mod FirstPlaced
 pub mod PositionsUpTo
 pub mod OneClearance
 pub mod OneContextFlow

@@ -1,10 +1,9 @@
 -- Two flows of a context that are alike before a box give it the same clearance.
-use Rattle.std.proofs.Common.{◌≡◌, ◌⊎◌, ℕ, zero, suc, ◌+◌, ◌<◌, ◌≤◌, ◌&&◌, Bool, true, false, ℤ, List, length, refl, sym, ap, ◌∙◌, arith, inl, inr, Option, Some, None, subst}
-use Rattle.std.proofs.lemmas.Bool.{cases_lt, cases_eq}
+use Rattle.std.proofs.Common.{◌≡◌, ◌⊎◌, ℕ, zero, suc, ◌<◌, ◌≤◌, Bool, true, false, ℤ, List, length, refl, sym, ap, ◌∙◌, arith, inl, inr, Option, Some, None, subst}
+use Rattle.std.proofs.lemmas.Bool.{cases_lt}
 use Rattle.lay_flow.specs.FlowBoxes.{IsFlowTree}
 use Rattle.lay_flow.specs.declared.flow_box.FlowBox.{FlowBox}
 use Rattle.lay_flow.specs.Boxes.{parent_at, parents_of}
-use Rattle.lay_flow.proofs.BoxTrees.{parent_before}
 use Rattle.lay_units.specs.declared.length.Unit.{Unit as Length}
 use Rattle.lay_doc.specs.Tree.{IsTree}
 use Rattle.lay_doc.proofs.OneStyles.{same_list}
@@ -15,27 +14,29 @@ use Rattle.lay_floats.specs.declared.requests.Clear.{Clear}
 use Rattle.lay_floats.specs.declared.requests.Clear.TheVariants.{None as clear_none, Left as clear_left, Right as clear_right, Both as clear_both}
 use Rattle.lay_floats.specs.ClearEdge.{Clears, IsClearEdge}
 use Rattle.lay_floats.proofs.Unique.{one_clear_edge_lem}
-use Rattle.lay_flow.specs.declared.block.Block.{Block}
-use Rattle.lay_flow.specs.declared.block.Inside.{Inside}
-use Rattle.lay_flow.specs.declared.block.Inside.TheVariants.{Blocks as blocks_inside, Solid as solid_inside}
 use Rattle.lay_flow.specs.Lengths.{length_at}
 use Rattle.lay_flow.specs.Children.{flag_at}
-use Rattle.lay_flow.specs.MarginRuns.{Runs, Entry, has_top, block_at, is_blocks, run_at, run_before, may_collapse_through}
-use Rattle.lay_flow.specs.BlockPositions.{HasPositions, is_solid}
-use Rattle.lay_flow.specs.BlockFloats.{shape_at, floats_before}
-use Rattle.lay_flow.specs.Clearance.{HasClearedFloat, IsAbove, HasClearance, lower_of}
+use Rattle.lay_flow.specs.MarginRuns.{Runs, Entry, has_top, block_at, run_at, run_before}
+use Rattle.lay_flow.specs.BlockPositions.{HasPositions, is_placed}
+use Rattle.lay_flow.specs.BlockFloats.{Spot, spot_at, shape_at, floats_before}
+use Rattle.lay_flow.specs.BlockLayout.{BlockLayout}
+use Rattle.lay_flow.specs.Clearance.{HasClearedFloat, IsAbove, HasClearance, NeedsClearance, lower_of}
 use Rattle.lay_flow.specs.ContextFlow.{Flow, IsContextFlow}
-use Rattle.lay_flow.proofs.FlowBoxFacts.{parent_holds}
+use Rattle.lay_flow.specs.Boxes.{box_at}
+use Rattle.lay_flow.specs.FlowBoxes.{is_in_lines}
+use Rattle.lay_flow.proofs.FlowBoxFacts.{in_lines_unclear}
+use Rattle.lay_flow.proofs.PlacedInRuns.{placed_in_run}
+use Rattle.lay_flow.proofs.BlockKinds.{lines_placed}
 use Rattle.lay_flow.proofs.Truths.{true_false, true_or}
 use Rattle.lay_flow.proofs.BlockLayoutLaws.{one_runs}
 use Rattle.lay_flow.proofs.PositionsUpTo.{marks_up_to}
 use Rattle.lay_flow.proofs.RunsUpTo.{run_up_to}
-use Rattle.lay_flow.proofs.RunFacts.{lead_goes_on, passes_is}
+use Rattle.lay_flow.proofs.RunFacts.{lead_goes_on}
 use Rattle.lay_flow.proofs.PlaceSteps.{floats_same}
 use Rattle.lay_flow.proofs.LookAhead.{place_before}
 use Rattle.lay_flow.proofs.AlikeSteps.{AlikeAt, marks_above_clearance}
 use Rattle.lay_flow.proofs.FloatLists.{SameCleared, one_edge_to_clear}
-use Rattle.lay_flow.proofs.PlacesAgree.{places_to, extent_solid, extent_other}
+use Rattle.lay_flow.proofs.PlacesAgree.{places_to, extent_placed, extent_other}
 
 clears_or : (c : Clear) (s : Side) → Clears c s ⊎ (Clears c s → ⊥)
 clears_or clear_none s = inr (λ w. w)
@@ -83,52 +84,33 @@ some_waits boxes k run (suc n) le = elim (some_waits boxes k run n (omega (arith
           (λ f. inr (none_here before (λ side g c. f)))
     ]
 
-solid_or_blocks : (inside : Inside) → is_solid inside ≡ true → is_blocks inside ≡ true → ⊥
-solid_or_blocks blocks_inside s b = true_false false s refl
-solid_or_blocks solid_inside s b = true_false false b refl
-
-passes_blocks : (b : Block) (more : Bool) → (may_collapse_through b && more) ≡ true → is_blocks b.inside ≡ true
-passes_blocks b more e = grind (arith, e)
+-- what stands in lines needs no clearance
+pub no_need : (boxes : List FlowBox) (k : ℕ) → is_in_lines (box_at boxes k).kind ≡ true → (floats : List Placed) (without : BlockLayout) (bottom : Option Length)
+    → IsClearEdge floats (shape_at boxes k).clear bottom → NeedsClearance boxes without k bottom → ⊥
+no_need boxes k in_lines floats without bottom is_bottom (inl w) = subst (λ (clear : Clear). Clears clear w.1) (in_lines_unclear boxes k in_lines) w.4
+no_need boxes k in_lines floats without bottom is_bottom (inr above) =
+    let there = subst (IsClearEdge floats (shape_at boxes k).clear) above.1 is_bottom in
+    let w = there.one_of in
+    subst (λ (clear : Clear). Clears clear w.1.side) (in_lines_unclear boxes k in_lines) w.3.0
 
 module _ (boxes : List FlowBox) (tree : IsTree (parents_of boxes)) (some : 0 < length boxes) (are : IsFlowTree boxes)
     (f g : Flow) (is : IsContextFlow boxes f) (also : IsContextFlow boxes g)
     (first k : ℕ) (positive : 0 < k) (within : k < length boxes)
     (was : AlikeAt boxes tree f.extents f.clear_edges f.layout is.layout g.extents g.clear_edges g.layout also.layout first (parent_at boxes k) k) where
-  -- a solid box before that at k isn't in the run
-  solid_before : (j : ℕ) → 0 < j → j < k → is_solid (block_at boxes j).inside ≡ true → j < first
-  solid_before j low lt solid = elim (cases_lt j first) [
-    | inl less ↦ less
-    | inr from ↦ absurd (solid_or_blocks (block_at boxes j).inside solid (blocks_through (through from)))
-  ]
-    where
-      there : j < length boxes
-      there = omega (arith, lt, within)
+  -- what is placed before a box that doesn't stand in lines isn't in its run
+  module _ (out : is_in_lines (box_at boxes k).kind ≡ false) where
+    placed_before : (j : ℕ) → j < k → is_placed (block_at boxes j).inside ≡ true → j < first
+    placed_before j lt placed = elim (cases_lt j first) [
+      | inl less ↦ less
+      | inr from ↦ absurd (true_false (is_placed (block_at boxes j).inside) placed (placed_in_run boxes are f.layout.runs is.layout.has_runs first k positive within out was.gathered j from lt))
+    ]
 
-      childless : (c : ℕ) → c < length boxes → 0 < c → parent_at boxes c ≡ j → ⊥
-      childless c inner above e = solid_or_blocks (block_at boxes j).inside solid (ap (λ (p : ℕ). is_blocks (block_at boxes p).inside) (sym e) ∙ parent_holds boxes are c above inner)
+    extents_before : (j : ℕ) → 0 < j → j < k → length_at f.extents.depths j ≡ length_at g.extents.depths j
+    extents_before j low lt = true_or (is_placed (block_at boxes j).inside) (length_at f.extents.depths j ≡ length_at g.extents.depths j)
+        (λ placed. let less = placed_before j lt placed in extent_placed boxes tree are f g is also j (omega (arith, lt, within)) placed (λ i a. was.mark i (omega (arith, a, less))))
+        (λ flows. extent_other boxes tree are f g is also j (omega (arith, lt, within)) flows)
 
-      blocks_through : flag_at f.layout.runs.through j ≡ true → is_blocks (block_at boxes j).inside ≡ true
-      blocks_through t = passes_blocks (block_at boxes j) _ (sym (passes_is boxes f.layout.runs is.layout.has_runs j low there) ∙ t)
-
-      through : first ≤ j → flag_at f.layout.runs.through j ≡ true
-      through from = elim (cases_eq (j + 1) k) [
-        | inl e ↦ (let up = parent_before boxes tree k positive within in elim (cases_lt (parent_at boxes k) j) [
-          | inl less ↦ was.gathered.closed j from less lt
-          | inr ge ↦ absurd (childless k within positive (omega (arith, up, ge, e)))
-        ])
-        | inr ne ↦ (let inner : j + 1 < length boxes = omega (arith, lt, ne, within) in
-            let up = parent_before boxes tree (j + 1) (omega arith) inner in elim (cases_lt (parent_at boxes (j + 1)) j) [
-              | inl less ↦ was.gathered.gone j (j + 1) from (omega arith) (omega (arith, lt, ne)) less
-              | inr ge ↦ absurd (childless (j + 1) inner (omega arith) (omega (arith, up, ge)))
-            ])
-      ]
-
-  extents_before : (j : ℕ) → 0 < j → j < k → length_at f.extents.solid j ≡ length_at g.extents.solid j
-  extents_before j low lt = true_or (is_solid (block_at boxes j).inside) (length_at f.extents.solid j ≡ length_at g.extents.solid j)
-      (λ solid. let less = solid_before j low lt solid in extent_solid boxes tree f g is also j low (omega (arith, lt, within)) solid (λ i a. was.mark i (omega (arith, a, less))))
-      (λ flows. extent_other boxes tree f g is also j low (omega (arith, lt, within)) flows)
-
-  module _ (none : (shape_at boxes k).float ≡ None) where
+  module _ (none : (shape_at boxes k).float ≡ None) (out : is_in_lines (box_at boxes k).kind ≡ false) where
     here : HasClearance boxes f.extents f.clear_edges f.places f.layout k
     here = is.clearance k positive within none
 
@@ -158,7 +140,7 @@ module _ (boxes : List FlowBox) (tree : IsTree (parents_of boxes)) (some : 0 < l
           | inl low ↦ was.edges j low (sym (h.earlier j low) ∙ cleared)
           | inr high ↦ absurd (true_false (flag_at here.without.runs.clears j) cleared (h.later j high))
         ] in
-        marks_up_to boxes tree here.without.runs f.extents g.extents f.clear_edges g.clear_edges here.without.places there.without.places h.is_layout.has_positions positions k extents_before edges some within k (omega arith)
+        marks_up_to boxes tree here.without.runs f.extents g.extents f.clear_edges g.clear_edges here.without.places there.without.places h.is_layout.has_positions positions k (extents_before out) edges some within k (omega arith)
 
     -- the run before the box is that of the flow
     run_without : run_at here.without.runs.before_tops k ≡ run_before boxes f.layout.runs (parent_at boxes k) k
@@ -168,10 +150,16 @@ module _ (boxes : List FlowBox) (tree : IsTree (parents_of boxes)) (some : 0 < l
         ∙ run_up_to boxes tree here.without.runs f.layout.runs h.is_layout.has_runs is.layout.has_runs k h.earlier (parent_at boxes k) k (place_before boxes tree k positive within) (omega arith)
 
     none_high : NoneWaits boxes (shape_at boxes k).clear (run_at here.without.runs.before_tops k) k → SameCleared boxes (shape_at boxes k).clear f.places g.places k
-    none_high free j side lt e c = elim (cases_lt j first) [
-      | inl low ↦ (let most = was.gathered.most in places_to boxes tree f g is also first (omega (arith, most, within)) was.mark j low)
-      | inr from ↦ absurd (true_false (has_top j (run_before boxes f.layout.runs (parent_at boxes k) k)) (was.gathered.own j from lt) (ap (has_top j) (sym run_without) ∙ free j side lt e c))
-    ]
+    none_high free = record {
+      float = λ j side lt e c. elim (cases_lt j first) [
+        | inl low ↦ ap (λ (q : Spot). q.place) (stands_before j low)
+        | inr from ↦ absurd (true_false (has_top j (run_before boxes f.layout.runs (parent_at boxes k) k)) (was.gathered.own j from lt) (ap (has_top j) (sym run_without) ∙ free j side lt e c))
+      ];
+      lines = λ j lt lines. ap (λ (q : Spot). q.lines) (stands_before j (placed_before out j lt (lines_placed (block_at boxes j).inside lines)));
+    }
+      where
+        stands_before : (j : ℕ) → j < first → spot_at f.places j ≡ spot_at g.places j
+        stands_before j low = let most = was.gathered.most in places_to boxes tree are f g is also first (omega (arith, most, within)) was.mark j low
 
     waits_too : HasClearedFloat boxes k (run_at here.without.runs.before_tops k) → HasClearedFloat boxes k (run_at there.without.runs.before_tops k)
     waits_too w = subst (HasClearedFloat boxes k) lead_without w
@@ -212,21 +200,34 @@ module _ (boxes : List FlowBox) (tree : IsTree (parents_of boxes)) (some : 0 < l
     edge_in_flow cleared =
         let also_cleared = sym clear_in_flow ∙ cleared in
         let marks = marks_above_clearance boxes tree f.extents f.clear_edges f.layout is.layout g.extents g.clear_edges g.layout also.layout first k positive within was cleared also_cleared in
-        let floats = floats_same boxes f.places g.places k (places_to boxes tree f g is also k (omega (arith, within)) marks) in
+        let floats = floats_same boxes f.places g.places k (places_to boxes tree are f g is also k (omega (arith, within)) marks) in
         let bottom = one_clear_edge_lem (floats_before boxes f.places k) (shape_at boxes k).clear here.bottom there.bottom here.is_bottom (subst (λ (fs : List Placed). IsClearEdge fs (shape_at boxes k).clear there.bottom) (sym floats) there.is_bottom) in
         let mark = mark_without in
         here.edge cleared ∙ (λ i. lower_of (bottom i) (mark i)) ∙ sym (there.edge also_cleared)
+
+  -- what stands in lines has no clearance
+  module _ (in_lines : is_in_lines (box_at boxes k).kind ≡ true) where
+    unclear : (h : Flow) → IsContextFlow boxes h → (shape_at boxes k).float ≡ None → flag_at h.layout.runs.clears k ≡ false
+    unclear h also none =
+        let here = also.clearance k positive within none in
+        true_or (flag_at h.layout.runs.clears k) (flag_at h.layout.runs.clears k ≡ false)
+        (λ t. absurd (no_need boxes k in_lines (floats_before boxes h.places k) here.without here.bottom here.is_bottom (here.decides.0 t)))
+        (λ f. f)
 
   pub one_clear : flag_at f.layout.runs.clears k ≡ flag_at g.layout.runs.clears k
   one_clear = go (shape_at boxes k).float refl
     where
       go : (o : Option Side) → (shape_at boxes k).float ≡ o → flag_at f.layout.runs.clears k ≡ flag_at g.layout.runs.clears k
-      go None e = clear_in_flow e
+      go None e = true_or (is_in_lines (box_at boxes k).kind) (flag_at f.layout.runs.clears k ≡ flag_at g.layout.runs.clears k)
+          (λ in_lines. unclear in_lines f is e ∙ sym (unclear in_lines g also e))
+          (λ out. clear_in_flow e out)
       go (Some side) e = is.float_clear k side within e ∙ sym (also.float_clear k side within e)
 
   pub one_edge : flag_at f.layout.runs.clears k ≡ true → length_at f.clear_edges k ≡ length_at g.clear_edges k
   one_edge cleared = go (shape_at boxes k).float refl
     where
       go : (o : Option Side) → (shape_at boxes k).float ≡ o → length_at f.clear_edges k ≡ length_at g.clear_edges k
-      go None e = edge_in_flow e cleared
+      go None e = true_or (is_in_lines (box_at boxes k).kind) (length_at f.clear_edges k ≡ length_at g.clear_edges k)
+          (λ in_lines. absurd (true_false (flag_at f.layout.runs.clears k) cleared (unclear in_lines f is e)))
+          (λ out. edge_in_flow e out cleared)
       go (Some side) e = absurd (true_false (flag_at f.layout.runs.clears k) cleared (is.float_clear k side within e))

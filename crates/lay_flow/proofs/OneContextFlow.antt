@@ -1,6 +1,5 @@
 -- A context has one flow.
-use Rattle.std.proofs.Common.{◌≡◌, ℕ, ◌+◌, ◌<◌, ◌≤◌, false, ℤ, ◌+ℤ◌, List, length, refl, sym, ap, ◌∙◌, arith, inl, inr, subst}
-use Rattle.std.proofs.lemmas.Bool.{cases_eq}
+use Rattle.std.proofs.Common.{◌≡◌, ℕ, ◌+◌, ◌<◌, ◌≤◌, false, ℤ, ◌+ℤ◌, List, length, map, refl, sym, ap, ◌∙◌, arith, inl, subst}
 use Rattle.lay_flow.specs.FlowBoxes.{IsFlowTree}
 use Rattle.lay_flow.specs.declared.flow_box.FlowBox.{FlowBox}
 use Rattle.lay_flow.specs.Boxes.{parent_at, parents_of}
@@ -8,19 +7,18 @@ use Rattle.lay_units.specs.declared.length.Unit.{Unit as Length}
 use Rattle.lay_doc.specs.Tree.{IsTree}
 use Rattle.lay_doc.proofs.OneStyles.{same_list}
 use Rattle.lay_floats.specs.declared.requests.Clear.TheVariants.{Both as clear_both}
-use Rattle.lay_floats.specs.declared.requests.Place.{Place}
 use Rattle.lay_floats.specs.ClearEdge.{IsClearEdge}
 use Rattle.lay_floats.proofs.Unique.{one_clear_edge_lem}
 use Rattle.lay_flow.specs.Lengths.{length_at}
 use Rattle.lay_flow.specs.Children.{flag_at}
 use Rattle.lay_flow.specs.MarginRuns.{block_at, run_before}
-use Rattle.lay_flow.specs.BlockPositions.{Extents, is_solid, start_before}
+use Rattle.lay_flow.specs.BlockPositions.{Extents, is_placed, start_before}
 use Rattle.lay_flow.specs.BlockLayout.{BlockLayout, IsBlockLayout}
-use Rattle.lay_flow.specs.BlockFloats.{no_place, place_at, floats_before}
+use Rattle.lay_flow.specs.BlockFloats.{Spot, no_spot, place_at, floats_before}
 use Rattle.lay_flow.specs.ContextFlow.{Flow, IsContextFlow}
 use Rattle.lay_flow.specs.Pass.MarginPlace.{IsPlace}
 use Rattle.lay_flow.specs.Laws.{OneContextFlow, OneFlowOf}
-use Rattle.lay_flow.specs.FlowPlaces.{no_box_place, border_box}
+use Rattle.lay_flow.specs.FlowPlaces.{no_box_place, border_box, place_in_lines}
 use Rattle.lay_flow.specs.Boxes.{box_at}
 use Rattle.lay_flow.proofs.Truths.{true_false, true_or}
 use Rattle.lay_flow.proofs.BlockKinds.{joins_flow}
@@ -30,7 +28,7 @@ use Rattle.lay_flow.proofs.GatheredRuns.{begins}
 use Rattle.lay_flow.proofs.LayoutsAlike.{marks_same}
 use Rattle.lay_flow.proofs.AlikeSteps.{AlikeAt, opens_alike}
 use Rattle.lay_flow.proofs.AlikeClosings.{closes_alike}
-use Rattle.lay_flow.proofs.PlacesAgree.{places_to, extent_solid, extent_other}
+use Rattle.lay_flow.proofs.PlacesAgree.{places_to, extent_placed, extent_other}
 use Rattle.lay_flow.proofs.OneClearance.{one_clear, one_edge}
 
 module _ (boxes : List FlowBox) (tree : IsTree (parents_of boxes)) (some : 0 < length boxes) (are : IsFlowTree boxes)
@@ -49,10 +47,10 @@ module _ (boxes : List FlowBox) (tree : IsTree (parents_of boxes)) (some : 0 < l
   closes p m positive lt within ends was =
       let inner : p < length boxes = omega (arith, lt, within) in
       let next = closes_alike boxes tree f.extents f.clear_edges f.layout is.layout g.extents g.clear_edges g.layout also.layout was.first p m positive was.alike ends
-      (λ marks. true_or (is_solid (block_at boxes p).inside) (length_at f.extents.solid p ≡ length_at g.extents.solid p)
-      (λ solid. extent_solid boxes tree f g is also p positive inner solid (λ j low. marks j (omega (arith, low, lt))))
-      (λ flows. extent_other boxes tree f g is also p positive inner flows))
-      (λ may. extent_other boxes tree f g is also p positive inner (joins_flow (block_at boxes p) may)) in
+      (λ marks. true_or (is_placed (block_at boxes p).inside) (length_at f.extents.depths p ≡ length_at g.extents.depths p)
+      (λ placed. extent_placed boxes tree are f g is also p inner placed (λ j low. marks j (omega (arith, low, lt))))
+      (λ flows. extent_other boxes tree are f g is also p inner flows))
+      (λ may. extent_other boxes tree are f g is also p inner (joins_flow (block_at boxes p) may)) in
       record { first = next.next; alike = next.alike }
 
   start_root : (y : BlockLayout) → start_before boxes y.runs y.places 0 1 ≡ length_at y.places.marks 0 +ℤ (block_at boxes 0).edge_top.0
@@ -85,8 +83,8 @@ module _ (boxes : List FlowBox) (tree : IsTree (parents_of boxes)) (some : 0 < l
       (run_before boxes f.layout.runs 0 (length boxes)) (λ c from above inside. let least = at_last.alike.gathered.least in absurd (omega (arith, from, above, least)))
 
   places_same : f.places ≡ g.places
-  places_same = same_list no_place f.places g.places (is.places_length ∙ sym also.places_length)
-      (λ k lt. let l = is.places_length in places_to boxes tree f g is also (length boxes) (omega arith) marks_all k (omega (arith, l, lt)))
+  places_same = same_list no_spot f.places g.places (is.places_length ∙ sym also.places_length)
+      (λ k lt. let l = is.places_length in places_to boxes tree are f g is also (length boxes) (omega arith) marks_all k (omega (arith, l, lt)))
 
   clears_same : f.layout.runs.clears ≡ g.layout.runs.clears
   clears_same = same_list false f.layout.runs.clears g.layout.runs.clears (is.layout.has_runs.clears_length ∙ sym also.layout.has_runs.clears_length)
@@ -102,20 +100,18 @@ module _ (boxes : List FlowBox) (tree : IsTree (parents_of boxes)) (some : 0 < l
 
   floats_same : f.extents.floats ≡ g.extents.floats
   floats_same = one_clear_edge_lem (floats_before boxes f.places (length boxes)) clear_both f.extents.floats g.extents.floats is.bottom
-      (subst (λ (ps : List Place). IsClearEdge (floats_before boxes ps (length boxes)) clear_both g.extents.floats) (sym places_same) also.bottom)
+      (subst (λ (ps : List Spot). IsClearEdge (floats_before boxes ps (length boxes)) clear_both g.extents.floats) (sym places_same) also.bottom)
 
-  solid_same : f.extents.solid ≡ g.extents.solid
-  solid_same = same_lengths f.extents.solid g.extents.solid (is.extents_length ∙ sym also.extents_length) (λ k lt. elim (cases_eq k 0) [
-    | inl z ↦ subst (λ (k : ℕ). length_at f.extents.solid k ≡ length_at g.extents.solid k) (sym z) (is.no_extent_root ∙ sym also.no_extent_root)
-    | inr ne ↦ (let l = is.extents_length in
-        let there : k < length boxes = omega (arith, l, lt) in
-        true_or (is_solid (block_at boxes k).inside) (length_at f.extents.solid k ≡ length_at g.extents.solid k)
-        (λ solid. extent_solid boxes tree f g is also k (omega (arith, ne)) there solid (λ j low. marks_all j (omega (arith, low, there))))
-        (λ flows. extent_other boxes tree f g is also k (omega (arith, ne)) there flows))
-  ])
+  depths_same : f.extents.depths ≡ g.extents.depths
+  depths_same = same_lengths f.extents.depths g.extents.depths (is.extents_length ∙ sym also.extents_length) (λ k lt.
+      let l = is.extents_length in
+      let there : k < length boxes = omega (arith, l, lt) in
+      true_or (is_placed (block_at boxes k).inside) (length_at f.extents.depths k ≡ length_at g.extents.depths k)
+      (λ placed. extent_placed boxes tree are f g is also k there placed (λ j low. marks_all j (omega (arith, low, there))))
+      (λ flows. extent_other boxes tree are f g is also k there flows))
 
   extents_same : f.extents ≡ g.extents
-  extents_same = let s = solid_same in let b = floats_same in λ i. record { solid = s i; floats = b i }
+  extents_same = let s = depths_same in let b = floats_same in λ i. record { depths = s i; floats = b i }
 
   flows_same : f ≡ g
   flows_same =
@@ -130,9 +126,11 @@ pub one_context_flow_lem : OneContextFlow
 one_context_flow_lem boxes f g are is also = flows_same boxes are.tree are.some are f g is also
 
 pub one_flow_of_lem : OneFlowOf
-one_flow_of_lem boxes out others are is also =
+one_flow_of_lem boxes out other are is also =
     let e = one_context_flow_lem boxes is.flow also.flow are is.is_flow also.is_flow in
-    same_list no_box_place out others (is.places.count ∙ sym also.places.count) (λ k lt. let l = is.places.count in
+    let boxes_same : out.boxes ≡ other.boxes = same_list no_box_place out.boxes other.boxes (is.places.count ∙ sym also.places.count) (λ k lt. let l = is.places.count in
     is.places.each k (omega (arith, lt, l))
-    ∙ ap (λ (f : Flow). border_box (box_at boxes k).kind (record { 0 = length_at f.layout.places.marks k }) (record { 0 = length_at f.layout.places.heights k }) (place_at f.places k)) e
-    ∙ sym (also.places.each k (omega (arith, lt, l))))
+    ∙ ap (λ (f : Flow). border_box (box_at boxes k).kind (record { 0 = length_at f.layout.places.marks k }) (record { 0 = length_at f.layout.places.heights k }) (place_at f.places k) (place_in_lines f.places k)) e
+    ∙ sym (also.places.each k (omega (arith, lt, l)))) in
+    let lines_same : out.lines ≡ other.lines = is.places.lines ∙ ap (λ (f : Flow). map (λ (p : Spot). p.lines.rows) f.places) e ∙ sym also.places.lines in
+    λ i. record { boxes = boxes_same i; lines = lines_same i }

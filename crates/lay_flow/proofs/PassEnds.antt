@@ -1,34 +1,30 @@
 -- The beginning and the end of the pass.
-use Rattle.std.proofs.Common.{◌≡◌, ℕ, zero, suc, ◌+◌, Bool, false, ℤ, pos, ◌+ℤ◌, ◌-ℤ◌, List, [], ◌∷◌, length, slice_index_or, replicate, All, refl, sym, ap, ◌∙◌, arith, inl, inr, Option, Some, None, subst}
-use Rattle.std.proofs.lemmas.List.{length-replicate}
+use Rattle.std.proofs.Common.{◌≡◌, ℕ, zero, suc, ◌+◌, Bool, false, ℤ, pos, ◌+ℤ◌, ◌-ℤ◌, List, [], length, slice_index_or, replicate, refl, sym, ap, ◌∙◌, arith, inl, inr, Option, Some, None, subst}
 use Rattle.std.proofs.lemmas.Bool.{cases_eq}
 use Rattle.std.proofs.lemmas.Int.{ints}
-use Rattle.std.proofs.lemmas.List.Elements.{All-nil}
 use Rattle.lay_flow.specs.declared.flow_box.FlowBox.{FlowBox}
 use Rattle.lay_units.specs.declared.length.Unit.{Unit as Length}
 use Rattle.lay_margins.specs.Collapse.{Holds, collapse}
 use Rattle.lay_floats.specs.declared.placed.Placed.{Placed}
-use Rattle.lay_floats.specs.declared.requests.Side.{Side}
 use Rattle.lay_floats.specs.declared.requests.Clear.TheVariants.{Both as clear_both}
-use Rattle.lay_floats.specs.declared.requests.Place.{Place}
 use Rattle.lay_floats.specs.ClearEdge.{IsClearEdge}
-use Rattle.lay_floats.specs.Within.{BoxWithin}
 use Rattle.lay_heights.specs.AutoHeights.{root_height_of}
 use Rattle.lay_flow.specs.Lengths.{length_at, no_length}
 use Rattle.lay_flow.specs.BlockSizes.{IsBoxSize}
 use Rattle.lay_flow.specs.Children.{last_child, flag_at}
 use Rattle.lay_flow.specs.MarginRuns.{Entry, margins, block_at, run_at, run_before}
-use Rattle.lay_flow.specs.BlockPositions.{Extents, start_below, start_before, border_height, content_height, is_solid}
+use Rattle.lay_flow.specs.BlockPositions.{Extents, content_top, start_below, start_before, border_height, content_height, is_solid}
 use Rattle.lay_flow.specs.BlockLayout.{BlockLayout, IsBlockLayout}
-use Rattle.lay_flow.specs.BlockFloats.{shape_at, place_at, no_place, floats_before}
 use Rattle.lay_flow.specs.ContextFlow.{AreContextPlaces}
 use Rattle.lay_flow.specs.Pass.State.{PassState, Settled}
 use Rattle.lay_flow.specs.FlowBoxes.{AreFlowBoxes}
-use Rattle.lay_flow.specs.Pass.Bounds.{StrutFits, StateFits, IsMarkNear, IsCollapseNear, AreBoxHeights, reach}
-use Rattle.lay_flow.specs.Pass.Placed.{Placing, PlacesTo, IsPlaceNear}
-use Rattle.lay_flow.specs.Pass.Knows.{Knows, MayBe, IsCandidate, AreExtentsKept, ArePlacesKept}
-use Rattle.lay_flow.proofs.FlowBoxFacts.{block_fits, root_flows}
-use Rattle.lay_flow.proofs.ContentHeights.{content_bottom, content_root}
+use Rattle.lay_flow.specs.Pass.Bounds.{StrutFits, StateFits, IsMarkNear, IsCollapseNear, AreBoxHeights, held_end}
+use Rattle.lay_flow.specs.Weights.{weight}
+use Rattle.lay_flow.proofs.WeightFacts.{weight_up}
+use Rattle.lay_flow.specs.Pass.Placed.{Placing, PlacesTo}
+use Rattle.lay_flow.specs.Pass.Knows.{Knows, MayBe, HaveNoExtent, IsCandidate, AreExtentsKept, ArePlacesKept}
+use Rattle.lay_flow.proofs.FlowBoxFacts.{block_fits, root_not_solid}
+use Rattle.lay_flow.proofs.ContentHeights.{content_bottom, content_root, held_same, margin_end, same_border_height}
 use Rattle.lay_flow.proofs.BlockLayoutLaws.{some_block_layout_lem, same_lengths}
 use Rattle.lay_flow.proofs.LayoutFacts.{start_first, start_next}
 use Rattle.lay_flow.proofs.PassFits.{settled_near, end_near}
@@ -56,12 +52,12 @@ module _ (boxes : List FlowBox) (input : AreFlowBoxes boxes) where
   root_mark : (extents : Extents) (clear_edges : List Length) (y : BlockLayout) → IsBlockLayout boxes extents clear_edges y → length_at y.places.marks 0 ≡ pos 0
   root_mark extents clear_edges y is = is.has_positions.mark 0 input.is_tree.some
 
-  pub knows_first : (now : PassState) (placing : Placing) → placing.extents ≡ replicate (length boxes) no_length → placing.floats ≡ [] → placing.places ≡ no_place ∷ [] → length now.marks ≡ length boxes → length now.heights ≡ length boxes → length now.through ≡ length boxes → length now.clears ≡ length boxes → length now.clear_edges ≡ length boxes → now.first ≡ 1 → now.hangs ≡ false
+  pub knows_first : (now : PassState) (placing : Placing) → PlacesTo boxes now.marks placing 1 → HaveNoExtent boxes placing.extents → length now.marks ≡ length boxes → length now.heights ≡ length boxes → length now.through ≡ length boxes → length now.clears ≡ length boxes → length now.clear_edges ≡ length boxes → now.first ≡ 1 → now.hangs ≡ false
       → Holds now.strut [] → StrutFits now.strut → now.start ≡ (block_at boxes 0).edge_top.0
       → ((j : ℕ) → length_at now.marks j ≡ pos 0) → ((j : ℕ) → length_at now.heights j ≡ pos 0) → ((j : ℕ) → flag_at now.through j ≡ false)
       → ((j : ℕ) → flag_at now.clears j ≡ false) → ((j : ℕ) → length_at now.clear_edges j ≡ pos 0)
       → Knows boxes now placing 0 1
-  knows_first now placing extents_is floats_is places_is l1 l2 l3 l4 l5 first hangs holds fits start marks heights flags clears edges =
+  knows_first now placing placed no_extents l1 l2 l3 l4 l5 first hangs holds fits start marks heights flags clears edges =
       let some = input.is_tree.some in
       let inset = (block_fits boxes input 0 some).edge_top in
       let a = inset.0 in let b = inset.1 in
@@ -74,7 +70,7 @@ module _ (boxes : List FlowBox) (input : AreFlowBoxes boxes) where
           marks_length = l1;
           heights_length = l2;
           through_length = l3;
-          start_near = (omega (arith, ints, a, b, start, first), omega (arith, ints, a, b, start, first));
+          start_near = let w = weight_up boxes 1 now.first (omega (arith, first)) in (omega (arith, ints, a, b, start, w), omega (arith, ints, a, b, start, w));
           edge_near = λ t. absurd (true_false now.hangs t hangs);
           sized = λ j flow. (let e = heights j in (omega (arith, ints, e), omega (arith, ints, e)));
           mark_near = λ j. (let e = marks j in (omega (arith, ints, e), omega (arith, ints, e)));
@@ -88,36 +84,16 @@ module _ (boxes : List FlowBox) (input : AreFlowBoxes boxes) where
             (start ∙ zero_plus (length_at y.places.marks 0) (block_at boxes 0).edge_top.0 mark) (marks 0 ∙ sym mark) flags;
         are_clears = record { clears_length = l4; edges_length = l5; later = λ j le. clears j; root = clears 0; float = λ k side e. clears k; no_edge = λ k off. edges k };
         decided = λ k low lt. absurd (omega (arith, low, lt));
-        no_extents = λ j flow. ap (λ (xs : List Length). length_at xs j) extents_is ∙ lengths_at (length boxes) j;
-        placed = let one : length placing.places ≡ 1 = ap (λ (ps : List Place). length ps) places_is in subst (λ (n : ℕ). PlacesTo boxes now.marks placing n) (sym one) placed_first;
-        early = let one : length placing.places ≡ 1 = ap (λ (ps : List Place). length ps) places_is in omega (arith, one, first);
+        no_extents = no_extents;
+        placed = subst (λ (n : ℕ). PlacesTo boxes now.marks placing n) (sym placed.places_length) placed;
+        early = let one = placed.places_length in omega (arith, one, first);
       }
     where
-      placed_first : PlacesTo boxes now.marks placing 1
-      placed_first = record {
-        some = omega arith;
-        places_length = ap (λ (ps : List Place). length ps) places_is;
-        extents_length = ap (λ (xs : List Length). length xs) extents_is ∙ length-replicate (length boxes) no_length;
-        floats_are = floats_is ∙ sym (no_float (shape_at boxes 0).float (root_flows boxes input.is_tree));
-        within = let none : All (BoxWithin (reach 1)) [] = All-nil (BoxWithin (reach 1)) in subst (λ (fs : List Placed). All (BoxWithin (reach 1)) fs) (sym floats_is) none;
-        near = λ k lt. let e : k ≡ 0 = omega (arith, lt) in let none : place_at placing.places k ≡ no_place = ap (place_at placing.places) e ∙ ap (λ (ps : List Place). place_at ps 0) places_is in
-            subst (IsPlaceNear 1) (sym none) (record { x = (omega (arith, ints), omega (arith, ints)); y = (omega (arith, ints), omega (arith, ints)) });
-        root = ap (λ (ps : List Place). place_at ps 0) places_is;
-        float = λ k side some lt e. absurd (omega (arith, some, lt));
-        solid = λ k some lt e. absurd (omega (arith, some, lt));
-        extent = λ k some lt e. absurd (omega (arith, some, lt));
-        low = λ k some lt e. absurd (omega (arith, some, lt));
-        other = λ k some lt e s. absurd (omega (arith, some, lt));
-      }
-        where
-          no_float : (o : Option Side) → (shape_at boxes 0).float ≡ None → floats_before boxes placing.places 1 ≡ []
-          no_float o e = rw e refl
-
       zero_plus : (m e : ℤ) → m ≡ pos 0 → e ≡ m +ℤ e
       zero_plus m e z = omega (arith, ints, z)
 
   -- where the content of the context's own box ends
-  root_bottom : (y : BlockLayout) → content_bottom boxes y.runs y.places 0 ≡ start_before boxes y.runs y.places 0 (length boxes) +ℤ collapse (margins (run_before boxes y.runs 0 (length boxes)))
+  root_bottom : (y : BlockLayout) → margin_end boxes y.runs y.places 0 ≡ start_before boxes y.runs y.places 0 (length boxes) +ℤ collapse (margins (run_before boxes y.runs 0 (length boxes)))
   root_bottom y = go (last_child boxes 0 (length boxes)) refl
     where
       plus_none : (v : ℤ) → v ≡ v +ℤ collapse []
@@ -126,29 +102,30 @@ module _ (boxes : List FlowBox) (input : AreFlowBoxes boxes) where
       two : (a b : ℤ) (xs zs : List Entry) → a ≡ b → xs ≡ zs → a +ℤ collapse (margins xs) ≡ b +ℤ collapse (margins zs)
       two a b xs zs e f = rw (e, f) refl
 
-      go : (o : Option ℕ) → last_child boxes 0 (length boxes) ≡ o → content_bottom boxes y.runs y.places 0 ≡ start_before boxes y.runs y.places 0 (length boxes) +ℤ collapse (margins (run_before boxes y.runs 0 (length boxes)))
+      go : (o : Option ℕ) → last_child boxes 0 (length boxes) ≡ o → margin_end boxes y.runs y.places 0 ≡ start_before boxes y.runs y.places 0 (length boxes) +ℤ collapse (margins (run_before boxes y.runs 0 (length boxes)))
       go None e =
           let run : run_before boxes y.runs 0 (length boxes) ≡ [] = first_comes boxes y.runs 0 (length boxes) e in
           let start : start_before boxes y.runs y.places 0 (length boxes) ≡ length_at y.places.marks 0 +ℤ (block_at boxes 0).edge_top.0 = start_first boxes y.runs y.places 0 (length boxes) e in
-          let bottom : content_bottom boxes y.runs y.places 0 ≡ length_at y.places.marks 0 +ℤ (block_at boxes 0).edge_top.0 = rw e refl in
+          let bottom : margin_end boxes y.runs y.places 0 ≡ length_at y.places.marks 0 +ℤ (block_at boxes 0).edge_top.0 = rw e refl in
           bottom ∙ sym start ∙ plus_none (start_before boxes y.runs y.places 0 (length boxes)) ∙ sym (ap (λ (run : List Entry). start_before boxes y.runs y.places 0 (length boxes) +ℤ collapse (margins run)) run)
       go (Some c) e =
           let run = next_comes boxes y.runs 0 (length boxes) c e in
           let start = start_next boxes y.runs y.places 0 (length boxes) c e in
-          let bottom : content_bottom boxes y.runs y.places 0 ≡ start_below y.runs y.places c +ℤ collapse (margins (run_at y.runs.to_bottoms c)) = rw e refl in
+          let bottom : margin_end boxes y.runs y.places 0 ≡ start_below y.runs y.places c +ℤ collapse (margins (run_at y.runs.to_bottoms c)) = rw e refl in
           bottom ∙ two (start_below y.runs y.places c) (start_before boxes y.runs y.places 0 (length boxes)) (run_at y.runs.to_bottoms c) (run_before boxes y.runs 0 (length boxes)) (sym start) (sym run)
 
-  pub all_places : (now : PassState) (placing placing' : Placing) (marks heights : List Length) (bottom : Option Length) (end mark height : ℤ)
+  pub all_places : (now : PassState) (placing placing' : Placing) (marks heights : List Length) (bottom : Option Length) (end over mark height : ℤ)
       → Knows boxes now placing 0 (length boxes)
       → RunEnds now.hangs now.start now.strut end
       → Settled boxes now.through now.marks marks now.first (length boxes) end
       → PlacesTo boxes marks placing' (length boxes) → AreExtentsKept boxes (length placing.places) placing.extents placing'.extents → ArePlacesKept placing.places placing'.places
       → IsClearEdge placing'.floats clear_both bottom
-      → mark ≡ length_at marks 0 → height ≡ border_height (block_at boxes 0) (pos 0) (root_height_of (record { 0 = mark +ℤ (block_at boxes 0).edge_top.0 }) (record { 0 = end }) bottom)
+      → mark ≡ length_at marks 0 → over ≡ held_end (block_at boxes 0).inside (mark +ℤ (block_at boxes 0).edge_top.0) (length_at placing'.extents 0) end
+      → height ≡ border_height (block_at boxes 0) (pos 0) (root_height_of (record { 0 = mark +ℤ (block_at boxes 0).edge_top.0 }) (record { 0 = over }) bottom)
       → Wrote length_at now.heights heights 0 height
       → AreContextPlaces boxes marks heights placing'.places
-  all_places now placing placing' marks heights bottom end mark height known ends settled placed kept same is_bottom marked is_height wrote =
-      let extents : Extents = record { solid = placing'.extents; floats = bottom } in
+  all_places now placing placing' marks heights bottom end over mark height known ends settled placed kept same is_bottom marked over_is is_height wrote =
+      let extents : Extents = record { depths = placing'.extents; floats = bottom } in
       let n : ℕ = length boxes in
       let edges = now.clear_edges in
       let there = some_block_layout_lem boxes extents edges now.clears input.is_tree.tree input.is_tree.some known.are_clears.clears_length in
@@ -157,19 +134,22 @@ module _ (boxes : List FlowBox) (input : AreFlowBoxes boxes) where
       let clears : (k : ℕ) → flag_at y.runs.clears k ≡ flag_at now.clears k = λ k. ap (λ (flags : List Bool). flag_at flags k) there.1 in
       let candidate : IsCandidate boxes extents edges y now.clears edges n = record { is_layout = is; clears = λ j lt. clears j; edge = λ j lt t. refl } in
       let positive = known.fits.first_least in
-      let may_be : MayBe boxes placing extents = λ j low lt solid. kept j (λ s. lt) in
-      let no_extents = no_extents_kept boxes placing.extents placing'.extents (length placing.places) known.placed.some kept known.no_extents in
-      let no_root : length_at placing'.extents 0 ≡ pos 0 = no_extents 0 (λ low. absurd (omega (arith, low))) in
+      let may_be : MayBe boxes (length placing.places) placing.extents extents = λ j lt is_there. kept j (λ s. lt) in
+      let no_extents = no_extents_kept boxes placing.extents placing'.extents (length placing.places) kept known.no_extents in
       let at = known.is_at extents edges y may_be candidate in
       let through : flag_at y.runs.through 0 ≡ false = is.has_runs.through 0 input.is_tree.some in
       let root = at.so_far.marked.stands 0 positive (at.so_far.open_yet 0 (omega arith) at.in_run.gathered.inside) through in
       let each_mark = all_marks boxes extents edges y is input.is_tree.tree now at end ends marks root settled in
-      let content : length_at y.places.heights 0 ≡ border_height (block_at boxes 0) (length_at placing'.extents 0) (content_height boxes y.runs bottom y.places 0) = is.has_positions.height 0 input.is_tree.some ∙ rw through refl in
+      let content : length_at y.places.heights 0 ≡ border_height (block_at boxes 0) (length_at placing'.extents 0) (content_height boxes y.runs extents y.places 0) = is.has_positions.height 0 input.is_tree.some ∙ rw through refl in
       let mark_is = marked ∙ each_mark 0 input.is_tree.some in
       let end_is = reach_end boxes extents edges y is input.is_tree.tree now at end ends ∙ sym (root_bottom y) in
+      let inside = (block_at boxes 0).inside in
+      let bottom_is = over_is ∙ held_same inside (mark +ℤ (block_at boxes 0).edge_top.0) (length_at y.places.marks 0 +ℤ (block_at boxes 0).edge_top.0) (length_at placing'.extents 0) (length_at placing'.extents 0) end (margin_end boxes y.runs y.places 0)
+      (ap (λ (v : ℤ). v +ℤ (block_at boxes 0).edge_top.0) mark_is) (λ t. refl) end_is in
       let height_is : height ≡ length_at y.places.heights 0 = is_height
-      ∙ (λ i. border_height (block_at boxes 0) (sym no_root i) (root_height_of (record { 0 = mark_is i +ℤ (block_at boxes 0).edge_top.0 }) (record { 0 = end_is i }) bottom))
-      ∙ ap (λ (v : ℤ). border_height (block_at boxes 0) (length_at placing'.extents 0) v) (sym (content_root boxes y.runs bottom y.places)) ∙ sym content in
+      ∙ (λ i. border_height (block_at boxes 0) (pos 0) (root_height_of (record { 0 = mark_is i +ℤ (block_at boxes 0).edge_top.0 }) (record { 0 = bottom_is i }) bottom))
+      ∙ same_border_height (block_at boxes 0) (pos 0) (length_at placing'.extents 0) (root_height_of (content_top boxes y.places 0) (record { 0 = content_bottom boxes y.runs extents y.places 0 }) bottom) (λ solid. absurd (true_false (is_solid inside) solid (root_not_solid boxes input.is_tree)))
+      ∙ ap (λ (v : ℤ). border_height (block_at boxes 0) (length_at placing'.extents 0) v) (sym (content_root boxes y.runs extents y.places)) ∙ sym content in
       let marks_length = settled.length_is ∙ known.fits.marks_length in
       let heights_length = wrote.length_is ∙ known.fits.heights_length in
       let tops_are = same_lengths marks y.places.marks (marks_length ∙ sym is.has_positions.marks_length) (λ k lt. each_mark k (omega (arith, lt, marks_length))) in
@@ -187,11 +167,13 @@ module _ (boxes : List FlowBox) (input : AreFlowBoxes boxes) where
           no_edge = λ k lt off. known.are_clears.no_edge k (sym (clears k) ∙ off);
           float = λ k side low lt s. stands.float k side low lt s;
           solid = λ k low lt solid. stands.solid k low lt solid;
-          no_place_root = stands.root;
+          no_place_root = stands.root input.is_tree.some;
           no_place_else = λ k low lt none flow. stands.other k low lt none flow;
           solid_extent = λ k low lt solid. stands.extent k low lt solid;
-          no_extent = λ k low lt flow. no_extents k (λ positive. flow);
-          no_extent_root = no_root;
+          no_extent = λ k lt flow. no_extents k flow;
+          lines = λ k lt lines. stands.lines k lt lines;
+          no_lines_else = λ k lt none. stands.no_lines_else k lt none;
+          lines_extent = λ k lt lines. stands.lines_extent k lt lines;
           bottom = subst (λ (fs : List Placed). IsClearEdge fs clear_both bottom) stands.floats_are is_bottom;
         };
         tops_are = tops_are;
@@ -205,10 +187,10 @@ module _ (boxes : List FlowBox) (input : AreFlowBoxes boxes) where
   pub near_tops : (now : PassState) (marks : List Length) (end : ℤ) → StateFits boxes now 0 (length boxes)
       → IsCollapseNear (end -ℤ now.start)
       → Settled boxes now.through now.marks marks now.first (length boxes) end
-      → (k : ℕ) → IsMarkNear k (length_at marks k)
+      → (k : ℕ) → IsMarkNear (weight boxes k) (length_at marks k)
   near_tops now marks end fits ended settled k =
       settled_near boxes now.through now.marks marks now.first (length boxes) end input.is_tree.tree fits.first_least (omega arith) fits.mark_near
-      (λ i le. end_near now.first i now.start end fits.start_near ended le) settled (k + 1) k (omega arith)
+      (λ i le. end_near (weight boxes now.first) (weight boxes i) now.start end fits.start_near ended (weight_up boxes now.first i le)) settled (k + 1) k (omega arith)
 
   pub sized_boxes : (now : PassState) (heights : List Length) (height : ℤ) → StateFits boxes now 0 (length boxes) → (is_solid (block_at boxes 0).inside ≡ false → IsBoxSize height) → Wrote length_at now.heights heights 0 height
       → AreBoxHeights boxes heights

@@ -18,12 +18,14 @@ use Rattle.lay_flow.specs.Pass.State.{PassState, Settled}
 use Rattle.lay_flow.specs.Pass.Bounds.{StrutFits, StateFits, IsStartNear, IsRunNear, IsEdgeNear, IsMarkNear, IsCollapseNear, reach}
 use Rattle.lay_flow.proofs.Openings.{pushed}
 use Rattle.lay_flow.proofs.SoFar.{Wrote}
+use Rattle.lay_flow.specs.Weights.{weight}
 use Rattle.lay_flow.proofs.Truths.{true_false, true_or}
+use Rattle.lay_flow.proofs.WeightFacts.{weight_up}
 
-pub start_is_near : (k : ℕ) (v : ℤ) → k ≤ 16384 → IsRunNear k v → IsNear v
+pub start_is_near : (k : ℕ) (v : ℤ) → k ≤ 8388608 → IsRunNear k v → IsNear v
 start_is_near k v few near = let a = near.0 in let b = near.1 in (omega (arith, ints, few, a), omega (arith, ints, few, b))
 
-pub mark_is_near : (k : ℕ) (v : ℤ) → k ≤ 16384 → IsMarkNear k v → IsNear v
+pub mark_is_near : (k : ℕ) (v : ℤ) → k ≤ 8388608 → IsMarkNear k v → IsNear v
 mark_is_near k v few near = let a = near.0 in let b = near.1 in (omega (arith, ints, few, a), omega (arith, ints, few, b))
 
 -- a mark at the end of a run, of a box from the run's first one on
@@ -72,22 +74,22 @@ higher_near j k v le near = let a = near.0 in let b = near.1 in (omega (arith, i
 
 -- the marks once a run has ended
 pub settled_near : (boxes : List FlowBox) (flags : List Bool) (old new : List Length) (f m : ℕ) (end : ℤ) → IsTree (parents_of boxes) → 0 < f → m ≤ length boxes
-    → ((j : ℕ) → IsMarkNear j (length_at old j)) → ((j : ℕ) → f ≤ j → IsMarkNear j end) → Settled boxes flags old new f m end
-    → (n j : ℕ) → j < n → IsMarkNear j (length_at new j)
+    → ((j : ℕ) → IsMarkNear (weight boxes j) (length_at old j)) → ((j : ℕ) → f ≤ j → IsMarkNear (weight boxes j) end) → Settled boxes flags old new f m end
+    → (n j : ℕ) → j < n → IsMarkNear (weight boxes j) (length_at new j)
 settled_near boxes flags old new f m end tree positive within was ended settled zero j lt = absurd (omega (arith, lt))
 settled_near boxes flags old new f m end tree positive within was ended settled (suc n) j lt = elim (cases_lt j f) [
-  | inl low ↦ subst (IsMarkNear j) (sym (settled.before j low)) (was j)
+  | inl low ↦ subst (IsMarkNear (weight boxes j)) (sym (settled.before j low)) (was j)
   | inr high ↦ elim (cases_lt j m) [
-    | inl inside ↦ true_or (flag_at flags j) (IsMarkNear j (length_at new j))
+    | inl inside ↦ true_or (flag_at flags j) (IsMarkNear (weight boxes j) (length_at new j))
         (λ code. elim (cases_lt (parent_at boxes j) f) [
-          | inl low ↦ subst (IsMarkNear j) (sym (settled.keeps j high inside code low)) (was j)
+          | inl low ↦ subst (IsMarkNear (weight boxes j)) (sym (settled.keeps j high inside code low)) (was j)
           | inr up ↦ (let b = parent_before boxes tree j (omega (arith, positive, high)) (omega (arith, inside, within)) in
-              subst (IsMarkNear j) (sym (settled.inherits j high inside code up))
-              (higher_near (parent_at boxes j) j (length_at new (parent_at boxes j)) (omega (arith, b))
+              subst (IsMarkNear (weight boxes j)) (sym (settled.inherits j high inside code up))
+              (higher_near (weight boxes (parent_at boxes j)) (weight boxes j) (length_at new (parent_at boxes j)) (weight_up boxes (parent_at boxes j) j (omega (arith, b)))
               (settled_near boxes flags old new f m end tree positive within was ended settled n (parent_at boxes j) (omega (arith, b, lt)))))
         ])
-        (λ code. subst (IsMarkNear j) (sym (settled.stands j high inside code)) (ended j high))
-    | inr after ↦ subst (IsMarkNear j) (sym (settled.after j after)) (was j)
+        (λ code. subst (IsMarkNear (weight boxes j)) (sym (settled.stands j high inside code)) (ended j high))
+    | inr after ↦ subst (IsMarkNear (weight boxes j)) (sym (settled.after j after)) (was j)
   ]
 ]
 
@@ -113,7 +115,7 @@ module _ (boxes : List FlowBox) (tree : IsTree (parents_of boxes)) (now : PassSt
   }
 
   pub fits_parting : (k : ℕ) (marks : List Length) (end start : ℤ) (strut' : StrutValue) → k < length boxes → StateFits boxes now (parent_at boxes k) k
-      → Settled boxes now.through now.marks marks now.first (k + 1) end → IsCollapseNear (end -ℤ now.start) → IsStartNear (k + 1) start → StrutFits strut'
+      → Settled boxes now.through now.marks marks now.first (k + 1) end → IsCollapseNear (end -ℤ now.start) → IsStartNear (weight boxes (k + 1)) start → StrutFits strut'
       → StateFits boxes (record now { marks = marks; start = start; strut = strut'; first = k + 1; hangs = false }) k (k + 1)
   fits_parting k marks end start strut' within was settled ended near fits' = record {
     parent = omega arith;
@@ -123,17 +125,17 @@ module _ (boxes : List FlowBox) (tree : IsTree (parents_of boxes)) (now : PassSt
     marks_length = settled.length_is ∙ was.marks_length;
     heights_length = was.heights_length;
     through_length = was.through_length;
-    start_near = run_near (k + 1) start near;
+    start_near = run_near (weight boxes (k + 1)) start near;
     edge_near = λ t. absurd (true_false false t refl);
     mark_near = λ j. settled_near boxes now.through now.marks marks now.first (k + 1) end tree was.first_least (omega (arith, within)) was.mark_near
-        (λ i le. end_near now.first i now.start end was.start_near ended le) settled (j + 1) j (omega arith);
+        (λ i le. end_near (weight boxes now.first) (weight boxes i) now.start end was.start_near ended (weight_up boxes now.first i le)) settled (j + 1) j (omega arith);
     strut_fits = fits';
     sized = was.sized;
     unparted = λ j low high. absurd (omega (arith, low, high));
   }
 
   pub fits_cleared : (k : ℕ) (marks edges : List Length) (flags : List Bool) (end edge : ℤ) (strut' : StrutValue) → 0 < k → StateFits boxes now (parent_at boxes k) k
-      → Settled boxes now.through now.marks marks now.first k end → IsCollapseNear (end -ℤ now.start) → IsEdgeNear k edge → StrutFits strut'
+      → Settled boxes now.through now.marks marks now.first k end → IsCollapseNear (end -ℤ now.start) → IsEdgeNear (weight boxes k) edge → StrutFits strut'
       → StateFits boxes (record now { marks = marks; clears = flags; clear_edges = edges; start = edge; strut = strut'; first = k; hangs = true }) (parent_at boxes k) k
   fits_cleared k marks edges flags end edge strut' positive was settled ended near fits' = record {
     parent = was.parent;
@@ -143,10 +145,10 @@ module _ (boxes : List FlowBox) (tree : IsTree (parents_of boxes)) (now : PassSt
     marks_length = settled.length_is ∙ was.marks_length;
     heights_length = was.heights_length;
     through_length = was.through_length;
-    start_near = edge_run_near k edge near;
+    start_near = edge_run_near (weight boxes k) edge near;
     edge_near = λ t. near;
     mark_near = λ j. settled_near boxes now.through now.marks marks now.first k end tree was.first_least was.within was.mark_near
-        (λ i le. end_near now.first i now.start end was.start_near ended le) settled (j + 1) j (omega arith);
+        (λ i le. end_near (weight boxes now.first) (weight boxes i) now.start end was.start_near ended (weight_up boxes now.first i le)) settled (j + 1) j (omega arith);
     strut_fits = fits';
     sized = was.sized;
     unparted = λ j low high. absurd (omega (arith, low, high));
@@ -174,7 +176,7 @@ module _ (boxes : List FlowBox) (tree : IsTree (parents_of boxes)) (now : PassSt
       marks_length = was.marks_length;
       heights_length = was.heights_length;
       through_length = was.through_length;
-      start_near = above_near now.first now.start start (was.edge_near hangs) collapsed;
+      start_near = above_near (weight boxes now.first) now.start start (was.edge_near hangs) collapsed;
       edge_near = λ t. absurd (true_false false t refl);
       mark_near = was.mark_near;
       strut_fits = was.strut_fits;
@@ -196,13 +198,13 @@ module _ (boxes : List FlowBox) (tree : IsTree (parents_of boxes)) (now : PassSt
       through_length = wrote_flag.length_is ∙ was.through_length;
       start_near = was.start_near;
       edge_near = was.edge_near;
-      mark_near = written IsMarkNear length_at now.marks marks end wrote_mark (end_near now.first p now.start end was.start_near ended waits) was.mark_near;
+      mark_near = written (λ (j : ℕ) (v : ℤ). IsMarkNear (weight boxes j) v) length_at now.marks marks end wrote_mark (end_near (weight boxes now.first) (weight boxes p) now.start end was.start_near ended (weight_up boxes now.first p waits)) was.mark_near;
       strut_fits = fits';
       sized = written (λ (j : ℕ) (v : ℤ). is_solid (block_at boxes j).inside ≡ false → IsBoxSize v) length_at now.heights heights (pos 0) wrote_height (λ flow. (omega (arith, ints), omega (arith, ints))) was.sized;
       unparted = was.unparted;
     }
 
-    pub fits_joined : (heights : List Length) (height start : ℤ) (strut' : StrutValue) → IsStartNear now.first start → IsBoxSize height → Wrote length_at now.heights heights p height → StrutFits strut'
+    pub fits_joined : (heights : List Length) (height start : ℤ) (strut' : StrutValue) → IsStartNear (weight boxes now.first) start → IsBoxSize height → Wrote length_at now.heights heights p height → StrutFits strut'
         → StateFits boxes (record now { heights = heights; start = start; strut = strut' }) (parent_at boxes p) m
     fits_joined heights height start strut' near size wrote fits' = record {
       parent = up_parent;
@@ -212,8 +214,8 @@ module _ (boxes : List FlowBox) (tree : IsTree (parents_of boxes)) (now : PassSt
       marks_length = was.marks_length;
       heights_length = wrote.length_is ∙ was.heights_length;
       through_length = was.through_length;
-      start_near = run_near now.first start near;
-      edge_near = λ t. start_edge_near now.first start near;
+      start_near = run_near (weight boxes now.first) start near;
+      edge_near = λ t. start_edge_near (weight boxes now.first) start near;
       mark_near = was.mark_near;
       strut_fits = fits';
       sized = written (λ (j : ℕ) (v : ℤ). is_solid (block_at boxes j).inside ≡ false → IsBoxSize v) length_at now.heights heights height wrote (λ flow. size) was.sized;
@@ -221,13 +223,13 @@ module _ (boxes : List FlowBox) (tree : IsTree (parents_of boxes)) (now : PassSt
     }
 
     pub marks_settled : (marks : List Length) (end : ℤ) → Settled boxes now.through now.marks marks now.first m end → IsCollapseNear (end -ℤ now.start)
-        → (j : ℕ) → IsMarkNear j (length_at marks j)
+        → (j : ℕ) → IsMarkNear (weight boxes j) (length_at marks j)
     marks_settled marks end settled ended j = settled_near boxes now.through now.marks marks now.first m end tree was.first_least was.within was.mark_near
-        (λ i le. end_near now.first i now.start end was.start_near ended le) settled (j + 1) j (omega arith)
+        (λ i le. end_near (weight boxes now.first) (weight boxes i) now.start end was.start_near ended (weight_up boxes now.first i le)) settled (j + 1) j (omega arith)
 
     pub fits_parted : (marks heights : List Length) (end height start : ℤ) (strut' : StrutValue)
         → Settled boxes now.through now.marks marks now.first m end → IsCollapseNear (end -ℤ now.start)
-        → IsStartNear m start → (is_solid (block_at boxes p).inside ≡ false → IsBoxSize height) → Wrote length_at now.heights heights p height → StrutFits strut'
+        → IsStartNear (weight boxes m) start → (is_solid (block_at boxes p).inside ≡ false → IsBoxSize height) → Wrote length_at now.heights heights p height → StrutFits strut'
         → StateFits boxes (record now { marks = marks; heights = heights; start = start; strut = strut'; first = m; hangs = false }) (parent_at boxes p) m
     fits_parted marks heights end height start strut' settled ended near size wrote fits' =
         let lt = was.parent in
@@ -239,7 +241,7 @@ module _ (boxes : List FlowBox) (tree : IsTree (parents_of boxes)) (now : PassSt
           marks_length = settled.length_is ∙ was.marks_length;
           heights_length = wrote.length_is ∙ was.heights_length;
           through_length = was.through_length;
-          start_near = run_near m start near;
+          start_near = run_near (weight boxes m) start near;
           edge_near = λ t. absurd (true_false false t refl);
           mark_near = marks_settled marks end settled ended;
           strut_fits = fits';
@@ -251,5 +253,5 @@ pub box_height_position : (h : ℤ) → IsBoxSize h → IsPosition h
 box_height_position h size = let a = size.0 in let b = size.1 in (omega (arith, ints, a), omega (arith, ints, b))
 
 -- what is added to a mark to come to a bottom edge
-pub extent_position : (m : ℕ) (mark x : ℤ) → m ≤ 16384 → IsNear mark → (neg_ℤ (reach m)) ≤ℤ (mark +ℤ x) → (mark +ℤ x) ≤ℤ reach m → IsPosition x
+pub extent_position : (m : ℕ) (mark x : ℤ) → m ≤ 8388608 → IsNear mark → (neg_ℤ (reach m)) ≤ℤ (mark +ℤ x) → (mark +ℤ x) ≤ℤ reach m → IsPosition x
 extent_position m mark x few near least most = let a = near.0 in let b = near.1 in (omega (arith, ints, few, a, b, least, most), omega (arith, ints, few, a, b, least, most))

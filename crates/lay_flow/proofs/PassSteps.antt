@@ -2,12 +2,12 @@
 use Rattle.std.proofs.Common.{◌≡◌, ℕ, ◌+◌, ◌<◌, ◌≤◌, ◌==◌, ◌&&◌, ◌||◌, not, nat_lt, Bool, true, false, ℤ, pos, ◌+ℤ◌, ◌-ℤ◌, List, [], ◌∷◌, length, refl, sym, ap, ◌∙◌, arith, inl, inr, subst}
 use Rattle.std.proofs.lemmas.Bool.{cases_lt}
 use Rattle.lay_flow.specs.declared.flow_box.FlowBox.{FlowBox}
-use Rattle.lay_flow.specs.Boxes.{parent_at, parents_of}
+use Rattle.lay_flow.specs.Boxes.{box_at, parent_at, parents_of}
 use Rattle.lay_flow.proofs.BoxTrees.{parent_before}
 use Rattle.lay_units.specs.declared.length.Unit.{Unit as Length}
 use Rattle.lay_margins.specs.StrutValue.{StrutValue}
 use Rattle.lay_margins.specs.Collapse.{Holds, collapse}
-use Rattle.lay_floats.specs.declared.requests.Place.{Place}
+use Rattle.lay_lines.specs.Lines.{AreLines}
 use Rattle.lay_floats.specs.FloatPlace.{IsFloatPlace}
 use Rattle.lay_floats.specs.SolidPlace.{IsSolidPlace}
 use Rattle.lay_floats.specs.Within.{IsWithin}
@@ -16,17 +16,17 @@ use Rattle.lay_flow.specs.Lengths.{length_at}
 use Rattle.lay_flow.specs.BlockSizes.{IsBoxSize}
 use Rattle.lay_flow.specs.Children.{flag_at}
 use Rattle.lay_flow.specs.MarginRuns.{block_at, parts_tops, joins_bottom, may_collapse_through, may_join_bottoms}
-use Rattle.lay_flow.specs.BlockPositions.{Extents, border_height, is_solid}
+use Rattle.lay_flow.specs.BlockPositions.{Extents, border_height, is_placed, is_solid}
 use Rattle.lay_flow.specs.BlockLayout.{BlockLayout}
-use Rattle.lay_flow.specs.BlockFloats.{shape_at, place_at, floats_before, float_request, solid_request, ceiling}
+use Rattle.lay_flow.specs.BlockFloats.{Spot, content_of, line_content_of, lines_at, shape_at, place_at, floats_before, float_request, solid_request, ceiling}
 use Rattle.lay_flow.specs.Pass.State.{PassState, IsAt, Settled}
 use Rattle.lay_flow.specs.FlowBoxes.{AreFlowBoxes}
-use Rattle.lay_flow.specs.Pass.Bounds.{StrutFits, IsStartNear, IsMarkNear, IsCollapseNear, is_barred, reach}
+use Rattle.lay_flow.specs.Pass.Bounds.{StrutFits, IsStartNear, IsMarkNear, IsCollapseNear, held_end, held_height, is_barred, reach}
 use Rattle.lay_flow.specs.Pass.Placed.{Placing, PlacesTo}
 use Rattle.lay_flow.specs.Pass.Knows.{Knows, IsReady, MayBe, IsCandidate, HaveNoExtent, AreClears, AreDecided, AreExtentsKept, ArePlacesKept}
 use Rattle.lay_flow.proofs.FlowBoxFacts.{block_fits}
-use Rattle.lay_flow.proofs.ContentHeights.{same_border_height}
-use Rattle.lay_flow.proofs.BlockKinds.{joined_passes, joins_flow}
+use Rattle.lay_flow.proofs.ContentHeights.{content_margin, held_between, held_same, same_border_height}
+use Rattle.lay_flow.proofs.BlockKinds.{joined_passes, joins_flow, placed_none, solid_placed}
 use Rattle.lay_flow.proofs.Openings.{WithMargin, pushed, opened, opened_wall}
 use Rattle.lay_flow.proofs.Closings.{passes_is, joined_here, code_open, not_hanging, started, close_passing, close_joined, close_parted, mark_parted, reach_parted}
 use Rattle.lay_flow.proofs.ContentEnds.{bottom_joined, bottom_parted, height_there}
@@ -34,12 +34,13 @@ use Rattle.lay_flow.proofs.PassFits.{fits_opened, fits_parting, fits_started, fi
 use Rattle.lay_flow.proofs.RunReach.{RunEnds}
 use Rattle.lay_flow.proofs.SoFar.{Wrote}
 use Rattle.lay_flow.proofs.Truths.{true_false, true_or, low_yes}
+use Rattle.lay_flow.specs.Weights.{weight}
+use Rattle.lay_flow.proofs.WeightFacts.{weight_up, weight_over}
 
 -- boxes stay placed where the marks before them are the same
 pub placed_kept : (boxes : List FlowBox) (old new : List Length) (now : Placing) (n : ℕ) → IsTree (parents_of boxes) → n ≤ length boxes
     → PlacesTo boxes old now n → ((j : ℕ) → j < n → length_at new j ≡ length_at old j) → PlacesTo boxes new now n
 placed_kept boxes old new now n tree within was same = record {
-  some = was.some;
   places_length = was.places_length;
   extents_length = was.extents_length;
   floats_are = was.floats_are;
@@ -54,25 +55,22 @@ placed_kept boxes old new now n tree within was same = record {
       subst (λ (v : ℤ). IsFloatPlace (floats_before boxes now.places k) (float_request (shape_at boxes k) side v) (place_at now.places k).x.0 (place_at now.places k).y.0) (sym top) (was.float k side positive lt e);
   solid = λ k positive lt e. subst (λ (v : ℤ). IsSolidPlace (floats_before boxes now.places k) (solid_request (shape_at boxes k) v) (place_at now.places k).x.0 (place_at now.places k).y.0) (sym (same k lt)) (was.solid k positive lt e);
   extent = λ k positive lt e. subst (λ (v : ℤ). length_at now.extents k ≡ (place_at now.places k).y.0 -ℤ v +ℤ (shape_at boxes k).height.0) (sym (same k lt)) (was.extent k positive lt e);
-  low = λ k positive lt e. subst (λ (v : ℤ). IsWithin (reach n) (v +ℤ length_at now.extents k)) (sym (same k lt)) (was.low k positive lt e);
+  low = λ k positive lt e. subst (λ (v : ℤ). IsWithin (reach (weight boxes n)) (v +ℤ length_at now.extents k)) (sym (same k lt)) (was.low k positive lt e);
   other = was.other;
+  lines = λ k lt e. subst (λ (v : ℤ). AreLines (line_content_of (box_at boxes k).kind) (content_of (box_at boxes k).kind).left (content_of (box_at boxes k).kind).right (v +ℤ (block_at boxes k).edge_top.0) (floats_before boxes now.places k) (lines_at now.places k)) (sym (same k lt)) (was.lines k lt e);
+  lines_extent = λ k lt e. subst (λ (v : ℤ). length_at now.extents k ≡ (lines_at now.places k).end.0 -ℤ (v +ℤ (block_at boxes k).edge_top.0)) (sym (same k lt)) (was.lines_extent k lt e);
+  no_lines_else = was.no_lines_else;
 }
 
 -- extents that may be at last when more boxes are placed
 pub may_before : (boxes : List FlowBox) (old new : Placing) (extents : Extents) → length old.places ≤ length new.places → AreExtentsKept boxes (length old.places) old.extents new.extents
-    → MayBe boxes new extents → MayBe boxes old extents
-may_before boxes old new extents le kept may_be j some lt solid = may_be j some (omega (arith, lt, le)) solid ∙ kept j (λ s. lt)
+    → MayBe boxes (length new.places) new.extents extents → MayBe boxes (length old.places) old.extents extents
+may_before boxes old new extents le kept may_be j lt placed = may_be j (omega (arith, lt, le)) placed ∙ kept j (λ s. lt)
 
-pub no_extents_kept : (boxes : List FlowBox) (old new : List Length) (n : ℕ) → 0 < n → AreExtentsKept boxes n old new → HaveNoExtent boxes old → HaveNoExtent boxes new
-no_extents_kept boxes old new n some kept was j flow = kept j early ∙ was j flow
-  where
-    early : is_solid (block_at boxes j).inside ≡ true → j < n
-    early solid = elim (cases_lt 0 j) [
-      | inl positive ↦ absurd (true_false (is_solid (block_at boxes j).inside) solid (flow positive))
-      | inr ge ↦ omega (arith, ge, some)
-    ]
+pub no_extents_kept : (boxes : List FlowBox) (old new : List Length) (n : ℕ) → AreExtentsKept boxes n old new → HaveNoExtent boxes old → HaveNoExtent boxes new
+no_extents_kept boxes old new n kept was j flow = kept j (λ placed. absurd (true_false (is_placed (block_at boxes j).inside) placed flow)) ∙ was j flow
 
-pub places_before : (old new places : List Place) → length old ≤ length new → ArePlacesKept old new → ArePlacesKept new places → ArePlacesKept old places
+pub places_before : (old new places : List Spot) → length old ≤ length new → ArePlacesKept old new → ArePlacesKept new places → ArePlacesKept old places
 places_before old new places le kept are j lt = are j (omega (arith, lt, le)) ∙ kept j lt
 
 -- what was decided stays so when more boxes are placed
@@ -108,7 +106,7 @@ module _ (boxes : List FlowBox) (tree : IsTree (parents_of boxes)) (now : PassSt
       → Knows boxes (pushed now strut) placing k (k + 1)
   knows_opened k strut positive within plain was fits holds = record {
     fits = fits_opened boxes tree now k strut within plain was.fits fits;
-    near = edge_later_near k (k + 1) now.start (omega arith) was.near;
+    near = edge_later_near (weight boxes k) (weight boxes (k + 1)) now.start (weight_over boxes k (k + 1) (omega arith)) was.near;
     is_at = λ extents clear_edges y may_be candidate. opened boxes extents clear_edges y candidate.is_layout tree k positive within now strut plain holds (was.is_before extents clear_edges y may_be candidate);
     no_extents = was.no_extents;
     placed = was.placed;
@@ -123,7 +121,7 @@ module _ (boxes : List FlowBox) (tree : IsTree (parents_of boxes)) (now : PassSt
       → Knows boxes (record now { marks = marks; start = start; strut = strut'; first = k + 1; hangs = false }) placing k (k + 1)
   knows_parting k marks end start strut strut' input positive within parting was holds ends ended settled starts fits' empty =
       let f = was.fits.first_most in
-      let near = below_near k (k + 1) end (block_at boxes k).edge_top.0 start (end_near now.first k now.start end was.fits.start_near ended f) (inset_height (block_at boxes k).edge_top.0 (block_fits boxes input k within).edge_top) starts (omega arith) in
+      let near = below_near (weight boxes k) (weight boxes (k + 1)) end (block_at boxes k).edge_top.0 start (end_near (weight boxes now.first) (weight boxes k) now.start end was.fits.start_near ended (weight_up boxes now.first k f)) (inset_height (block_at boxes k).edge_top.0 (block_fits boxes input k within).edge_top) starts (weight_over boxes k (k + 1) (omega arith)) in
       record {
         fits = fits_parting boxes tree now k marks end start strut' within was.fits settled ended near fits';
         near = near;
@@ -146,7 +144,7 @@ module _ (boxes : List FlowBox) (tree : IsTree (parents_of boxes)) (now : PassSt
         → Knows boxes (record now { start = start; hangs = false }) placing p m
     knows_started start may hangs first value collapsed = record {
       fits = fits_started boxes tree now p m positive was.fits start hangs collapsed;
-      near = let lt = was.fits.parent in run_later_near now.first m start (omega (arith, first, lt)) (above_near now.first now.start start (was.fits.edge_near hangs) collapsed);
+      near = let lt = was.fits.parent in run_later_near (weight boxes now.first) (weight boxes m) start (weight_over boxes now.first m (omega (arith, first, lt))) (above_near (weight boxes now.first) now.start start (was.fits.edge_near hangs) collapsed);
       is_at = λ extents clear_edges y may_be candidate. started boxes extents clear_edges y candidate.is_layout tree now p m positive (was.is_at extents clear_edges y may_be candidate) ends start may hangs first value;
       no_extents = was.no_extents;
       placed = was.placed;
@@ -181,7 +179,7 @@ module _ (boxes : List FlowBox) (tree : IsTree (parents_of boxes)) (now : PassSt
       | inr high ↦ settled (joined_passes boxes p (was.fits.unparted p high was.fits.parent) may)
     ]
 
-    module _ (extents : Extents) (clear_edges : List Length) (y : BlockLayout) (may_be : MayBe boxes placing extents) (candidate : IsCandidate boxes extents clear_edges y now.clears now.clear_edges m) where
+    module _ (extents : Extents) (clear_edges : List Length) (y : BlockLayout) (may_be : MayBe boxes (length placing.places) placing.extents extents) (candidate : IsCandidate boxes extents clear_edges y now.clears now.clear_edges m) where
       at : IsAt boxes clear_edges y now p m
       at = was.is_at extents clear_edges y may_be candidate
 
@@ -202,7 +200,7 @@ module _ (boxes : List FlowBox) (tree : IsTree (parents_of boxes)) (now : PassSt
         → Knows boxes (record now { heights = heights; start = start; strut = strut' }) placing (parent_at boxes p) m
     knows_joined heights mark height start strut' may unbarred settled marked size is_height starts wrote fits' holds = record {
       fits = fits_joined boxes tree now p m positive was.fits heights height start strut' near size wrote fits';
-      near = later_near now.first m start was.fits.first_most near;
+      near = later_near (weight boxes now.first) (weight boxes m) start (weight_up boxes now.first m was.fits.first_most) near;
       is_at = there;
       no_extents = was.no_extents;
       placed = was.placed;
@@ -214,21 +212,22 @@ module _ (boxes : List FlowBox) (tree : IsTree (parents_of boxes)) (now : PassSt
         before : p < now.first
         before = joined_before may settled
 
-        near : IsStartNear now.first start
-        near = below_near p now.first mark height start (subst (IsMarkNear p) (sym marked) (was.fits.mark_near p)) size starts before
+        near : IsStartNear (weight boxes now.first) start
+        near = below_near (weight boxes p) (weight boxes now.first) mark height start (subst (IsMarkNear (weight boxes p)) (sym marked) (was.fits.mark_near p)) size starts (weight_over boxes p now.first before)
 
-        there : (extents : Extents) (clear_edges : List Length) (y : BlockLayout) → MayBe boxes placing extents → IsCandidate boxes extents clear_edges y now.clears now.clear_edges m
+        there : (extents : Extents) (clear_edges : List Length) (y : BlockLayout) → MayBe boxes (length placing.places) placing.extents extents → IsCandidate boxes extents clear_edges y now.clears now.clear_edges m
             → IsAt boxes clear_edges y (record now { heights = heights; start = start; strut = strut' }) (parent_at boxes p) m
         there extents clear_edges y may_be candidate =
             let is = candidate.is_layout in
             let at = was.is_at extents clear_edges y may_be candidate in
             let truth = stands extents clear_edges y may_be candidate settled in
-            let ext : is_solid (block_at boxes p).inside ≡ true → length_at placing.extents p ≡ length_at extents.solid p = λ solid. absurd (true_false (is_solid (block_at boxes p).inside) solid (joins_flow (block_at boxes p) may)) in
+            let none_of = placed_none (block_at boxes p).inside (joins_flow (block_at boxes p) may) in
+            let ext : is_solid (block_at boxes p).inside ≡ true → length_at placing.extents p ≡ length_at extents.depths p = λ solid. absurd (true_false (is_solid (block_at boxes p).inside) solid none_of.1) in
             let joined : joins_bottom boxes y.runs p ≡ true = joins_here extents clear_edges y may_be candidate ∙ rw (truth, may, unbarred) refl in
             let mark_is = marked ∙ at.so_far.marked.stands p before (code_open boxes extents clear_edges y is tree now p m positive at ends) truth in
-            let bottom = bottom_joined boxes extents clear_edges y is tree now p m positive at ends joined before in
+            let bottom = content_margin boxes y.runs extents y.places p none_of.0 ∙ bottom_joined boxes extents clear_edges y is tree now p m positive at ends joined before in
             let from = at.in_run.start_is (not_hanging boxes extents clear_edges y is tree now p m positive at ends before) in
-            let height_is = height_there boxes extents clear_edges y is tree now p m positive at ends height mark now.start truth mark_is (from ∙ sym bottom) (is_height ∙ same_border_height (block_at boxes p) (length_at placing.extents p) (length_at extents.solid p) (now.start -ℤ (mark +ℤ (block_at boxes p).edge_top.0)) ext) in
+            let height_is = height_there boxes extents clear_edges y is tree now p m positive at ends height mark now.start truth mark_is (from ∙ sym bottom) (is_height ∙ same_border_height (block_at boxes p) (length_at placing.extents p) (length_at extents.depths p) (now.start -ℤ (mark +ℤ (block_at boxes p).edge_top.0)) ext) in
             let wrote_height : Wrote length_at now.heights heights p (length_at y.places.heights p) = subst (λ (v : ℤ). Wrote length_at now.heights heights p v) height_is wrote in
             close_joined boxes extents clear_edges y is tree now p m positive at ends heights strut' start truth joined before wrote_height
             (starts ∙ (λ i. marked i +ℤ (sym wrote.here) i)) holds
@@ -237,7 +236,7 @@ module _ (boxes : List FlowBox) (tree : IsTree (parents_of boxes)) (now : PassSt
         → RunEnds now.hangs now.start now.strut end → IsCollapseNear (end -ℤ now.start)
         → Settled boxes now.through now.marks marks now.first m end
         → PlacesTo boxes marks placing' m → AreExtentsKept boxes (length placing.places) placing.extents placing'.extents → ArePlacesKept placing.places placing'.places
-        → mark ≡ length_at marks p → (is_solid (block_at boxes p).inside ≡ false → IsBoxSize height) → height ≡ border_height (block_at boxes p) (length_at placing'.extents p) (end -ℤ (mark +ℤ (block_at boxes p).edge_top.0))
+        → mark ≡ length_at marks p → (is_solid (block_at boxes p).inside ≡ false → IsBoxSize height) → height ≡ border_height (block_at boxes p) (length_at placing'.extents p) (held_height (block_at boxes p).inside (length_at placing'.extents p) (end -ℤ (mark +ℤ (block_at boxes p).edge_top.0)))
         → start ≡ mark +ℤ height → Wrote length_at now.heights heights p height
         → StrutFits strut' → Holds strut' ((block_at boxes p).margin_bottom.0 ∷ [])
         → Knows boxes (record now { marks = marks; heights = heights; start = start; strut = strut'; first = m; hangs = false }) placing' (parent_at boxes p) m
@@ -245,7 +244,7 @@ module _ (boxes : List FlowBox) (tree : IsTree (parents_of boxes)) (now : PassSt
       fits = fits_parted boxes tree now p m positive was.fits marks heights end height start strut' settles ended start_near size wrote fits';
       near = start_near;
       is_at = there;
-      no_extents = no_extents_kept boxes placing.extents placing'.extents (length placing.places) was.placed.some kept was.no_extents;
+      no_extents = no_extents_kept boxes placing.extents placing'.extents (length placing.places) kept was.no_extents;
       placed = let e = placed.places_length in subst (λ (n : ℕ). PlacesTo boxes marks placing' n) (sym e) placed;
       early = let e = placed.places_length in omega (arith, e);
       are_clears = was.are_clears;
@@ -256,18 +255,18 @@ module _ (boxes : List FlowBox) (tree : IsTree (parents_of boxes)) (now : PassSt
         more = let l = placed.places_length in let early = was.early in let few = was.fits.first_most in omega (arith, l, early, few)
 
         -- the bottom border edge of the box
-        start_near : IsStartNear m start
-        start_near = true_or (is_solid (block_at boxes p).inside) (IsStartNear m start)
+        start_near : IsStartNear (weight boxes m) start
+        start_near = true_or (is_solid (block_at boxes p).inside) (IsStartNear (weight boxes m) start)
             (λ solid. let low = placed.low p positive was.fits.parent solid in
             let h : height ≡ length_at placing'.extents p = is_height ∙ rw solid refl in
-            subst (λ (v : ℤ). IsWithin (reach m) v) (sym (starts ∙ (λ i. marked i +ℤ h i))) low)
+            subst (λ (v : ℤ). IsWithin (reach (weight boxes m)) v) (sym (starts ∙ (λ i. marked i +ℤ h i))) low)
             (λ flow. let near_mark = marks_settled boxes tree now p m positive was.fits marks end settles ended p in
-            below_near p m mark height start (subst (IsMarkNear p) (sym marked) near_mark) (size flow) starts was.fits.parent)
+            below_near (weight boxes p) (weight boxes m) mark height start (subst (IsMarkNear (weight boxes p)) (sym marked) near_mark) (size flow) starts (weight_over boxes p m was.fits.parent))
 
-        ext_there : (extents : Extents) → MayBe boxes placing' extents → is_solid (block_at boxes p).inside ≡ true → length_at placing'.extents p ≡ length_at extents.solid p
-        ext_there extents may_be solid = let l = placed.places_length in let lt = was.fits.parent in sym (may_be p positive (omega (arith, l, lt)) solid)
+        ext_there : (extents : Extents) → MayBe boxes (length placing'.places) placing'.extents extents → is_placed (block_at boxes p).inside ≡ true → length_at placing'.extents p ≡ length_at extents.depths p
+        ext_there extents may_be is_there = let l = placed.places_length in let lt = was.fits.parent in sym (may_be p (omega (arith, l, lt)) is_there)
 
-        there : (extents : Extents) (clear_edges : List Length) (y : BlockLayout) → MayBe boxes placing' extents → IsCandidate boxes extents clear_edges y now.clears now.clear_edges m
+        there : (extents : Extents) (clear_edges : List Length) (y : BlockLayout) → MayBe boxes (length placing'.places) placing'.extents extents → IsCandidate boxes extents clear_edges y now.clears now.clear_edges m
             → IsAt boxes clear_edges y (record now { marks = marks; heights = heights; start = start; strut = strut'; first = m; hangs = false }) (parent_at boxes p) m
         there extents clear_edges y may_be' candidate =
             let is = candidate.is_layout in
@@ -278,7 +277,13 @@ module _ (boxes : List FlowBox) (tree : IsTree (parents_of boxes)) (now : PassSt
             let parted : joins_bottom boxes y.runs p ≡ false = joins_here extents clear_edges y may_be candidate ∙ rw (truth, may) refl in
             let mark_is = marked ∙ mark_parted boxes extents clear_edges y is tree now p m positive at ends truth parted end reaches marks settles in
             let bottom = reach_parted boxes extents clear_edges y is tree now p m positive at ends truth parted end reaches ∙ sym (bottom_parted boxes extents clear_edges y is tree now p m positive at ends parted truth) in
-            let height_is = height_there boxes extents clear_edges y is tree now p m positive at ends height mark end truth mark_is bottom (is_height ∙ same_border_height (block_at boxes p) (length_at placing'.extents p) (length_at extents.solid p) (end -ℤ (mark +ℤ (block_at boxes p).edge_top.0)) ext) in
+            let inside = (block_at boxes p).inside in
+            let top : ℤ = mark +ℤ (block_at boxes p).edge_top.0 in
+            let bottom_is = held_same inside top (length_at y.places.marks p +ℤ (block_at boxes p).edge_top.0) (length_at placing'.extents p) (length_at extents.depths p) end _
+            (ap (λ (v : ℤ). v +ℤ (block_at boxes p).edge_top.0) mark_is) ext bottom in
+            let held_is = ap (λ (v : ℤ). border_height (block_at boxes p) (length_at placing'.extents p) v) (held_between inside top (length_at placing'.extents p) end) in
+            let height_is = height_there boxes extents clear_edges y is tree now p m positive at ends height mark (held_end inside top (length_at placing'.extents p) end) truth mark_is bottom_is
+            (is_height ∙ held_is ∙ same_border_height (block_at boxes p) (length_at placing'.extents p) (length_at extents.depths p) (held_end inside top (length_at placing'.extents p) end -ℤ top) (λ solid. ext (solid_placed inside solid))) in
             let wrote_height : Wrote length_at now.heights heights p (length_at y.places.heights p) = subst (λ (v : ℤ). Wrote length_at now.heights heights p v) height_is wrote in
             close_parted boxes extents clear_edges y is tree now p m positive at ends truth parted end reaches marks settles heights strut' start wrote_height
             (starts ∙ (λ i. marked i +ℤ (sym wrote.here) i)) holds

@@ -97,35 +97,35 @@ module _ (boxes : List FlowBox) (tree : IsTree (parents_of boxes)) (r : Runs) (e
 
   -- the heights of two boxes with the same ends of content
   content_same : (s t : Positions) (p m : ℕ) → last_child boxes p (length boxes) ≡ last_child boxes p m → p < m → SamePositions boxes s t p m
-      → content_height boxes r extents.floats s p ≡ content_height boxes r extents.floats t p
+      → content_height boxes r extents s p ≡ content_height boxes r extents t p
   content_same s t p m last lt was = by_place p refl
     where
-      go : (o : Option ℕ) → last_child boxes p m ≡ o → content_bottom boxes r s p ≡ content_bottom boxes r t p
+      go : (o : Option ℕ) → last_child boxes p m ≡ o → content_bottom boxes r extents s p ≡ content_bottom boxes r extents t p
       go None e = let g = last ∙ e in let f = was.mark p lt in rw (g, f) refl
-      go (Some c) e = let g = last ∙ e in let l = last_there boxes p m c e in let u = below_same s t c (was.start c l.1) (was.mark c l.1) (was.closed c l.0 l.1) in rw (g, u) refl
+      go (Some c) e = let g = last ∙ e in let l = last_there boxes p m c e in let u = below_same s t c (was.start c l.1) (was.mark c l.1) (was.closed c l.0 l.1) in let f = was.mark p lt in rw (g, u, f) refl
 
-      bottom : content_bottom boxes r s p ≡ content_bottom boxes r t p
+      bottom : content_bottom boxes r extents s p ≡ content_bottom boxes r extents t p
       bottom = go (last_child boxes p m) refl
 
-      between : content_bottom boxes r s p -ℤ (length_at s.marks p +ℤ (block_at boxes p).edge_top.0) ≡ content_bottom boxes r t p -ℤ (length_at t.marks p +ℤ (block_at boxes p).edge_top.0)
+      between : content_bottom boxes r extents s p -ℤ (length_at s.marks p +ℤ (block_at boxes p).edge_top.0) ≡ content_bottom boxes r extents t p -ℤ (length_at t.marks p +ℤ (block_at boxes p).edge_top.0)
       between = let e = bottom in let f = was.mark p lt in rw (e, f) refl
 
       reaches : (u v d e : ℤ) → u ≡ v → d ≡ e → root_height_of (record { 0 = u }) (record { 0 = d }) extents.floats ≡ root_height_of (record { 0 = v }) (record { 0 = e }) extents.floats
       reaches u v d e same ends = rw (same, ends) refl
 
-      at_root : length_at s.marks 0 ≡ length_at t.marks 0 → content_bottom boxes r s 0 ≡ content_bottom boxes r t 0 → content_height boxes r extents.floats s 0 ≡ content_height boxes r extents.floats t 0
-      at_root mark ends = content_root boxes r extents.floats s
-          ∙ reaches (length_at s.marks 0 +ℤ (block_at boxes 0).edge_top.0) (length_at t.marks 0 +ℤ (block_at boxes 0).edge_top.0) (content_bottom boxes r s 0) (content_bottom boxes r t 0)
+      at_root : length_at s.marks 0 ≡ length_at t.marks 0 → content_bottom boxes r extents s 0 ≡ content_bottom boxes r extents t 0 → content_height boxes r extents s 0 ≡ content_height boxes r extents t 0
+      at_root mark ends = content_root boxes r extents s
+          ∙ reaches (length_at s.marks 0 +ℤ (block_at boxes 0).edge_top.0) (length_at t.marks 0 +ℤ (block_at boxes 0).edge_top.0) (content_bottom boxes r extents s 0) (content_bottom boxes r extents t 0)
           (ap (λ (v : ℤ). v +ℤ (block_at boxes 0).edge_top.0) mark) ends
-          ∙ sym (content_root boxes r extents.floats t)
+          ∙ sym (content_root boxes r extents t)
 
-      by_place : (q : ℕ) → p ≡ q → content_height boxes r extents.floats s p ≡ content_height boxes r extents.floats t p
+      by_place : (q : ℕ) → p ≡ q → content_height boxes r extents s p ≡ content_height boxes r extents t p
       by_place zero e = let z = sym e in
-          subst (λ (k : ℕ). content_height boxes r extents.floats s k ≡ content_height boxes r extents.floats t k) z
-          (at_root (subst (λ (k : ℕ). length_at s.marks k ≡ length_at t.marks k) e (was.mark p lt)) (subst (λ (k : ℕ). content_bottom boxes r s k ≡ content_bottom boxes r t k) e bottom))
-      by_place (suc k) e = content_inner boxes r extents.floats s p (omega (arith, e)) ∙ between ∙ sym (content_inner boxes r extents.floats t p (omega (arith, e)))
+          subst (λ (k : ℕ). content_height boxes r extents s k ≡ content_height boxes r extents t k) z
+          (at_root (subst (λ (k : ℕ). length_at s.marks k ≡ length_at t.marks k) e (was.mark p lt)) (subst (λ (k : ℕ). content_bottom boxes r extents s k ≡ content_bottom boxes r extents t k) e bottom))
+      by_place (suc k) e = content_inner boxes r extents s p (omega (arith, e)) ∙ between ∙ sym (content_inner boxes r extents t p (omega (arith, e)))
 
-  height_same : (s t : Positions) (p : ℕ) → content_height boxes r extents.floats s p ≡ content_height boxes r extents.floats t p → height_of boxes r extents s p ≡ height_of boxes r extents t p
+  height_same : (s t : Positions) (p : ℕ) → content_height boxes r extents s p ≡ content_height boxes r extents t p → height_of boxes r extents s p ≡ height_of boxes r extents t p
   height_same s t p e = rw e refl
 
   close_stands : (p m : ℕ) → 0 < p → p < m → m ≤ length boxes → (m < length boxes → parent_at boxes m < p) → Stands p m → Stands (parent_at boxes p) m

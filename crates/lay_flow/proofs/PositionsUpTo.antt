@@ -18,7 +18,7 @@ use Rattle.lay_flow.proofs.PositionsAgree.{SamePositions}
 
 module _ (boxes : List FlowBox) (tree : IsTree (parents_of boxes)) (r : Runs) (extents others : Extents) (clear_edges other_edges : List Length) (s t : Positions)
     (is : HasPositions boxes r extents clear_edges s) (also : HasPositions boxes r others other_edges t)
-    (limit : ℕ) (same : (j : ℕ) → 0 < j → j < limit → length_at extents.solid j ≡ length_at others.solid j) (edges : (j : ℕ) → j ≤ limit → flag_at r.clears j ≡ true → length_at clear_edges j ≡ length_at other_edges j) where
+    (limit : ℕ) (same : (j : ℕ) → 0 < j → j < limit → length_at extents.depths j ≡ length_at others.depths j) (edges : (j : ℕ) → j ≤ limit → flag_at r.clears j ≡ true → length_at clear_edges j ≡ length_at other_edges j) where
   record Agrees (p m : ℕ) : Type 0 where
     pub parent : p < m
     pub within : m ≤ length boxes
@@ -85,18 +85,18 @@ module _ (boxes : List FlowBox) (tree : IsTree (parents_of boxes)) (r : Runs) (e
       mark : length_at s.marks k ≡ length_at t.marks k
       mark = let w = was in is.mark k within ∙ mark_same k positive start (w.alike.mark (parent_at boxes k) w.parent) ∙ sym (also.mark k within)
 
-  content_same : (p m : ℕ) → 0 < p → last_child boxes p (length boxes) ≡ last_child boxes p m → p < m → SamePositions boxes s t p m
-      → content_height boxes r extents.floats s p ≡ content_height boxes r others.floats t p
-  content_same p m positive last lt was = content_inner boxes r extents.floats s p positive ∙ between ∙ sym (content_inner boxes r others.floats t p positive)
+  content_same : (p m : ℕ) → 0 < p → length_at extents.depths p ≡ length_at others.depths p → last_child boxes p (length boxes) ≡ last_child boxes p m → p < m → SamePositions boxes s t p m
+      → content_height boxes r extents s p ≡ content_height boxes r others t p
+  content_same p m positive depth last lt was = content_inner boxes r extents s p positive ∙ between ∙ sym (content_inner boxes r others t p positive)
     where
-      go : (o : Option ℕ) → last_child boxes p m ≡ o → content_bottom boxes r s p ≡ content_bottom boxes r t p
-      go None e = let g = last ∙ e in let f = was.mark p lt in rw (g, f) refl
-      go (Some c) e = let g = last ∙ e in let l = last_there boxes p m c e in let u = below_same c (was.start c l.1) (was.mark c l.1) (was.closed c l.0 l.1) in rw (g, u) refl
+      go : (o : Option ℕ) → last_child boxes p m ≡ o → content_bottom boxes r extents s p ≡ content_bottom boxes r others t p
+      go None e = let g = last ∙ e in let f = was.mark p lt in rw (g, f, depth) refl
+      go (Some c) e = let g = last ∙ e in let l = last_there boxes p m c e in let u = below_same c (was.start c l.1) (was.mark c l.1) (was.closed c l.0 l.1) in let f = was.mark p lt in rw (g, u, f, depth) refl
 
-      between : content_bottom boxes r s p -ℤ (length_at s.marks p +ℤ (block_at boxes p).edge_top.0) ≡ content_bottom boxes r t p -ℤ (length_at t.marks p +ℤ (block_at boxes p).edge_top.0)
+      between : content_bottom boxes r extents s p -ℤ (length_at s.marks p +ℤ (block_at boxes p).edge_top.0) ≡ content_bottom boxes r others t p -ℤ (length_at t.marks p +ℤ (block_at boxes p).edge_top.0)
       between = let e = go (last_child boxes p m) refl in let f = was.mark p lt in rw (e, f) refl
 
-  height_same : (p : ℕ) → length_at extents.solid p ≡ length_at others.solid p → content_height boxes r extents.floats s p ≡ content_height boxes r others.floats t p → height_of boxes r extents s p ≡ height_of boxes r others t p
+  height_same : (p : ℕ) → length_at extents.depths p ≡ length_at others.depths p → content_height boxes r extents s p ≡ content_height boxes r others t p → height_of boxes r extents s p ≡ height_of boxes r others t p
   height_same p e f = rw (e, f) refl
 
   close_agrees : (p m : ℕ) → 0 < p → p < m → m ≤ length boxes → (m < length boxes → parent_at boxes m < p) → UpTo p m → UpTo (parent_at boxes p) m
@@ -136,7 +136,7 @@ module _ (boxes : List FlowBox) (tree : IsTree (parents_of boxes)) (r : Runs) (e
           let w = was in
           let le = low_enough cond in
           let last = last_same boxes p m (length boxes) within (none_left boxes tree p m lt ends) in
-          is.height p inner ∙ height_same p (same p positive (omega (arith, lt, le))) (content_same p m positive last lt w.alike) ∙ sym (also.height p inner)
+          is.height p inner ∙ height_same p (same p positive (omega (arith, lt, le))) (content_same p m positive (same p positive (omega (arith, lt, le))) last lt w.alike) ∙ sym (also.height p inner)
 
   -- the marks of the boxes up to the limit
   pub marks_up_to : 0 < length boxes → limit < length boxes → (j : ℕ) → j ≤ limit → length_at s.marks j ≡ length_at t.marks j

@@ -1,12 +1,12 @@
 -- The runs of a layout are the longest chains of margins of which each adjoins the next.
-use Rattle.std.proofs.Common.{◌≡◌, ℕ, zero, suc, ◌+◌, ◌<◌, ◌≤◌, ◌&&◌, ◌||◌, not, Bool, true, false, List, [], ◌∷◌, ◌++◌, length, refl, sym, ap, ◌∙◌, arith, inl, inr, Option, Some, None, subst, if◌then◌else◌}
+use Rattle.std.proofs.Common.{◌≡◌, ℕ, zero, suc, ◌+◌, ◌<◌, ◌&&◌, ◌||◌, not, Bool, true, false, List, [], ◌∷◌, ◌++◌, length, refl, sym, ap, ◌∙◌, arith, Option, Some, None, subst}
 use Rattle.lay_doc.specs.Tree.{IsTree}
 use Rattle.lay_flow.specs.declared.flow_box.FlowBox.{FlowBox}
-use Rattle.lay_flow.specs.Adjoining.{Margin, top, bottom, IsMargin, run_to, run_of, Adjoins, first_child, next_sibling, last_margin, own_margins, collapsed_through, entries_of, clearance_of, RunsAdjoin}
+use Rattle.lay_flow.specs.Adjoining.{Margin, top, bottom, IsMargin, run_to, run_of, Adjoins, first_child, next_sibling, last_margin, own_margins, collapsed_through, entries_of, clearance_of}
 use Rattle.lay_flow.specs.Boxes.{parent_at, parents_of}
 use Rattle.lay_flow.specs.Children.{is_child, last_child, next_child, flag_at}
 use Rattle.lay_flow.specs.Laws.{AdjoiningRuns}
-use Rattle.lay_flow.specs.MarginRuns.{Entry, margin, mark, clear, Runs, HasRuns, block_at, is_barred, joins_bottom, may_collapse_through, may_join_bottoms, parts_tops, run_across, run_at, run_before, to_top}
+use Rattle.lay_flow.specs.MarginRuns.{Entry, margin, mark, Runs, HasRuns, block_at, is_barred, joins_bottom, may_collapse_through, may_join_bottoms, parts_tops, run_across, run_at, run_before, to_top}
 use Rattle.lay_flow.proofs.BlockKinds.{joined_passes}
 use Rattle.lay_flow.proofs.BoxTrees.{parent_before}
 use Rattle.lay_flow.proofs.ChildPlaces.{child_is, last_none}

@@ -3,7 +3,7 @@ use Rattle.std.proofs.Common.{◌≡◌, ℕ, zero, suc, ◌+◌, ◌<◌, ◌�
 use Rattle.std.proofs.lemmas.Bool.{cases_lt, cases_eq}
 use Rattle.lay_flow.specs.declared.flow_box.FlowBox.{FlowBox}
 use Rattle.lay_flow.specs.Boxes.{parent_at}
-use Rattle.lay_flow.specs.Children.{is_child, last_child, next_child, or_else}
+use Rattle.lay_flow.specs.Children.{is_child, last_child, next_child}
 use Rattle.lay_flow.proofs.ChildPlaces.{last_none, last_some, next_none, next_some, not_child}
 
 pub child_parent : (boxes : List FlowBox) (p k : ℕ) → is_child boxes p k ≡ true → (p < k) × (parent_at boxes k ≡ p)

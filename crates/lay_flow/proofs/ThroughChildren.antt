@@ -1,12 +1,12 @@
 -- A box is collapsed through just where its children are and nothing of its own parts its margins.
-use Rattle.std.proofs.Common.{◌≡◌, ◌↔◌, ℕ, zero, suc, ◌+◌, ◌<◌, ◌≤◌, ◌&&◌, not, nat_lt, Bool, true, false, List, ◌∷◌, ◌++◌, [], length, refl, sym, ap, ◌∙◌, arith, inl, inr, Option, Some, None, subst}
+use Rattle.std.proofs.Common.{◌≡◌, ℕ, zero, suc, ◌+◌, ◌<◌, ◌≤◌, ◌&&◌, not, nat_lt, Bool, true, false, List, length, refl, sym, ap, ◌∙◌, arith, inl, inr, Option, Some, None}
 use Rattle.std.proofs.lemmas.Bool.{cases_eq}
 use Rattle.lay_doc.specs.Tree.{IsTree}
 use Rattle.lay_flow.specs.declared.flow_box.FlowBox.{FlowBox}
 use Rattle.lay_flow.specs.Boxes.{parent_at, parents_of}
 use Rattle.lay_flow.specs.Children.{is_child, last_child, flag_at}
 use Rattle.lay_flow.specs.Laws.{CollapsedThrough}
-use Rattle.lay_flow.specs.MarginRuns.{Entry, margin, Runs, HasRuns, block_at, has_top, may_collapse_through, run_at, run_before}
+use Rattle.lay_flow.specs.MarginRuns.{Runs, HasRuns, block_at, has_top, may_collapse_through, run_at, run_before}
 use Rattle.lay_flow.specs.Pass.Gathered.{IsAround}
 use Rattle.lay_flow.proofs.BoxTrees.{parents_together}
 use Rattle.lay_flow.proofs.CollapsedThrough.{end_of, end_place, through_inside}

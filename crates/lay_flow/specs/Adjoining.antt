@@ -5,7 +5,7 @@
 -- For example, a root has two children. The first has a height, the second is empty. The bottom margin of the first adjoins
 -- the top margin of the second (b), and that the bottom margin of the second (d): the three are a run. The top margin of the
 -- first adjoins none before it, since the root's margins adjoin none, and none after it, since the first box has a height.
-use Rattle.std.specs.Prelude.{ℕ, ◌≡◌, ◌+◌, ◌<◌, true, false, List, [], ◌∷◌, ◌++◌, length, Some, None, if◌then◌else◌}
+use Rattle.std.specs.Prelude.{ℕ, ◌≡◌, ◌<◌, true, false, List, [], ◌∷◌, ◌++◌, length, Some, None, if◌then◌else◌}
 use Rattle.lay_flow.specs.declared.flow_box.FlowBox.{FlowBox}
 use Rattle.lay_flow.specs.Boxes.{parent_at}
 use Rattle.lay_flow.specs.Children.{last_child, flag_at}

@@ -1,6 +1,5 @@
 -- The floats of a block formatting context, its solid boxes, which no float overlaps, and its lines, which floats shorten
--- (CSS 2.2, 9.4.2, 9.5 and 9.5.1). They
--- are read among the boxes in document order. There is a column of placements with an entry
+-- (CSS 2.2, 9.4.2, 9.5 and 9.5.1). They are read among the boxes in document order. There is a column of spots with an entry
 -- for each box. The place of a float is the corner of its margin box, and that of a solid box the corner of its border box.
 -- Other boxes have none, and theirs is 0. A box that holds lines has these, with the floats that stand once they are laid.
 --
@@ -70,21 +69,21 @@ abbrev pub no_lines : LinesValue
 no_lines = record { rows = []; places = []; end = no_length; floats = [] }
 
 -- where a box was placed, and the lines in it
-pub record Placement : Type 0 where
+pub record Spot : Type 0 where
   pub place : Place
   pub lines : LinesValue
 
-abbrev pub no_placement : Placement
-no_placement = record { place = no_place; lines = no_lines }
+abbrev pub no_spot : Spot
+no_spot = record { place = no_place; lines = no_lines }
 
-abbrev pub placement_at : List Placement → ℕ → Placement
-placement_at places k = slice_index_or places k no_placement
+abbrev pub spot_at : List Spot → ℕ → Spot
+spot_at places k = slice_index_or places k no_spot
 
-abbrev pub place_at : List Placement → ℕ → Place
-place_at places k = (placement_at places k).place
+abbrev pub place_at : List Spot → ℕ → Place
+place_at places k = (spot_at places k).place
 
-abbrev pub lines_at : List Placement → ℕ → LinesValue
-lines_at places k = (placement_at places k).lines
+abbrev pub lines_at : List Spot → ℕ → LinesValue
+lines_at places k = (spot_at places k).lines
 
 -- a box with this shape and place, if it is a float
 abbrev pub float_of : Shape → Place → List Placed
@@ -95,15 +94,15 @@ float_of s p = on_side s.float
     on_side (Some side) = record { side = side; x = p.x; y = p.y; width = s.width; height = s.height } ∷ []
 
 -- the floats after a box, where these were before it: those that its lines leave, or one more if it is a float itself
-abbrev pub floats_after : List Placed → Inside → Shape → Placement → List Placed
+abbrev pub floats_after : List Placed → Inside → Shape → Spot → List Placed
 floats_after floats blocks_inside s p = floats ++ float_of s p.place
 floats_after floats lines_inside s p = p.lines.floats
 floats_after floats solid_inside s p = floats ++ float_of s p.place
 
 -- the floats before the box at k, as they stand
-abbrev pub floats_before : List FlowBox → List Placement → ℕ → List Placed
+abbrev pub floats_before : List FlowBox → List Spot → ℕ → List Placed
 floats_before boxes places zero = []
-floats_before boxes places (suc k) = floats_after (floats_before boxes places k) (block_at boxes k).inside (shape_at boxes k) (placement_at places k)
+floats_before boxes places (suc k) = floats_after (floats_before boxes places k) (block_at boxes k).inside (shape_at boxes k) (spot_at places k)
 
 -- a float stands at no place above its mark, nor above the top of its containing block's content
 abbrev pub ceiling : List FlowBox → List Length → ℕ → ℤ
@@ -123,7 +122,7 @@ line_content_of (line_float b) = no_content
 line_content_of inline = no_content
 
 -- the box at k has its lines in its content box, beside the floats before it (9.4.2 and 9.5)
-abbrev pub AreLinesAt : List FlowBox → List Length → List Placement → ℕ → Type 0
+abbrev pub AreLinesAt : List FlowBox → List Length → List Spot → ℕ → Type 0
 AreLinesAt boxes marks places k =
     let kind = (box_at boxes k).kind in
     AreLines (line_content_of kind) (content_of kind).left (content_of kind).right (length_at marks k +ℤ (block_at boxes k).edge_top.0) (floats_before boxes places k) (lines_at places k)

@@ -24,7 +24,7 @@ use Rattle.lay_flow.specs.Lengths.{length_at}
 use Rattle.lay_flow.specs.Children.{flag_at}
 use Rattle.lay_flow.specs.MarginRuns.{Entry, block_at, has_top, run_at}
 use Rattle.lay_flow.specs.BlockLayout.{BlockLayout, IsBlockLayout}
-use Rattle.lay_flow.specs.BlockFloats.{AreLinesAt, Placement, ceiling, float_request, floats_before, place_at, shape_at}
+use Rattle.lay_flow.specs.BlockFloats.{AreLinesAt, Spot, ceiling, float_request, floats_before, place_at, shape_at}
 
 -- the hypothetical layout of the box at k
 pub record IsHypothetical (boxes : List FlowBox) (extents : Extents) (clear_edges : List Length) (y : BlockLayout) (k : ℕ) (without : BlockLayout) : Type 0 where
@@ -47,7 +47,7 @@ NeedsClearance boxes without k bottom = HasClearedFloat boxes k (run_at without.
 
 -- the floats before the box at k stand by these marks, those in lines too. By those of its hypothetical layout, it is where
 -- they stand in that.
-pub record AreFloatPlaces (boxes : List FlowBox) (marks : List Length) (places : List Placement) (k : ℕ) : Type 0 where
+pub record AreFloatPlaces (boxes : List FlowBox) (marks : List Length) (places : List Spot) (k : ℕ) : Type 0 where
   pub float : (j : ℕ) (side : Side) → 0 < j → j < k → (shape_at boxes j).float ≡ Some side
       → IsFloatPlace (floats_before boxes places j) (float_request (shape_at boxes j) side (ceiling boxes marks j)) (place_at places j).x.0 (place_at places j).y.0
   pub lines : (j : ℕ) → j < k → is_lines (block_at boxes j).inside ≡ true → AreLinesAt boxes marks places j
@@ -57,7 +57,7 @@ lower_of None hypothetical = hypothetical
 lower_of (Some bottom) hypothetical = int_max bottom.0 hypothetical
 
 -- whether the box at k has clearance, and its clear edge
-pub record HasClearance (boxes : List FlowBox) (extents : Extents) (clear_edges : List Length) (places : List Placement) (y : BlockLayout) (k : ℕ) : Type 0 where
+pub record HasClearance (boxes : List FlowBox) (extents : Extents) (clear_edges : List Length) (places : List Spot) (y : BlockLayout) (k : ℕ) : Type 0 where
   pub without : BlockLayout
   pub is_hypothetical : IsHypothetical boxes extents clear_edges y k without
   -- the lowest bottom of the floats to clear

@@ -13,16 +13,16 @@ use Rattle.lay_flow.specs.Children.{flag_at}
 use Rattle.lay_flow.specs.MarginRuns.{block_at}
 use Rattle.lay_flow.specs.BlockPositions.{Extents, is_lines, is_placed, is_solid}
 use Rattle.lay_flow.specs.BlockLayout.{BlockLayout, IsBlockLayout}
-use Rattle.lay_flow.specs.BlockFloats.{AreLinesAt, Placement, shape_at, place_at, no_place, lines_at, no_lines, floats_before, ceiling, float_request, solid_request}
+use Rattle.lay_flow.specs.BlockFloats.{AreLinesAt, Spot, shape_at, place_at, no_place, lines_at, no_lines, floats_before, ceiling, float_request, solid_request}
 use Rattle.lay_flow.specs.Clearance.{HasClearance}
 
 -- The columns of a flow: the layout of the blocks, the extents of solid boxes, lines and floats, the clear edges, and the
--- placements of floats, solid boxes and lines.
+-- spots of floats, solid boxes and lines.
 pub record Flow : Type 0 where
   pub layout : BlockLayout
   pub extents : Extents
   pub clear_edges : List Length
-  pub places : List Placement
+  pub places : List Spot
 
 pub record IsContextFlow (boxes : List FlowBox) (f : Flow) : Type 0 where
   pub layout : IsBlockLayout boxes f.extents f.clear_edges f.layout
@@ -54,8 +54,8 @@ pub record IsContextFlow (boxes : List FlowBox) (f : Flow) : Type 0 where
   -- the context's own box reaches round all floats
   pub bottom : IsClearEdge (floats_before boxes f.places (length boxes)) clear_both f.extents.floats
 
--- these are the top border edges and the heights of the border boxes, and the placements
-pub record AreContextPlaces (boxes : List FlowBox) (tops heights : List Length) (places : List Placement) : Type 0 where
+-- these are the top border edges and the heights of the border boxes, and the spots
+pub record AreContextPlaces (boxes : List FlowBox) (tops heights : List Length) (places : List Spot) : Type 0 where
   pub flow : Flow
   pub is_flow : IsContextFlow boxes flow
   pub tops_are : tops ≡ flow.layout.places.marks

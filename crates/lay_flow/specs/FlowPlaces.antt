@@ -14,7 +14,7 @@ use Rattle.lay_flow.specs.declared.flow_box.FlowKind.TheVariants.{Block as block
 use Rattle.lay_flow.specs.declared.flow_places.BoxPlace.{BoxPlace}
 use Rattle.lay_flow.specs.Lengths.{no_length, length_at}
 use Rattle.lay_flow.specs.Boxes.{box_at}
-use Rattle.lay_flow.specs.BlockFloats.{Placement, no_place, place_at}
+use Rattle.lay_flow.specs.BlockFloats.{Spot, no_place, place_at}
 use Rattle.lay_flow.specs.BlockSizes.{IsBoxSize, IsNear}
 use Rattle.lay_flow.specs.ContextFlow.{Flow, IsContextFlow}
 
@@ -30,7 +30,7 @@ pub record FlowPlacesValue : Type 0 where
   pub lines : List (List Ended)
 
 -- the places of the floats that lines met, box after box
-abbrev pub line_places : List Placement → List NodePlace
+abbrev pub line_places : List Spot → List NodePlace
 line_places [] = []
 line_places (p ∷ ps) = p.lines.places ++ line_places ps
 
@@ -40,7 +40,7 @@ place_or p k [] = p
 place_or p k (q ∷ qs) = place_or (if q.node == k then q.place else p) k qs
 
 -- where lines put the box at k
-abbrev pub place_in_lines : List Placement → ℕ → Place
+abbrev pub place_in_lines : List Spot → ℕ → Place
 place_in_lines places k = place_or no_place k (line_places places)
 
 abbrev pub float_box : FloatBox → Place → BoxPlace
@@ -58,8 +58,8 @@ border_box (float b) mark height place in_lines = float_box b place
 border_box (line_float b) mark height place in_lines = float_box b in_lines
 border_box inline mark height place in_lines = no_box_place
 
--- these are the places of the boxes with these marks, heights and placements in the flow
-pub record ArePlacesOf (boxes : List FlowBox) (marks heights : List Length) (places : List Placement) (out : FlowPlacesValue) : Type 0 where
+-- these are the places of the boxes with these marks, heights and spots in the flow
+pub record ArePlacesOf (boxes : List FlowBox) (marks heights : List Length) (places : List Spot) (out : FlowPlacesValue) : Type 0 where
   pub count : length out.boxes ≡ length boxes
   pub each : (k : ℕ) → k < length boxes → box_place_at out.boxes k
       ≡ border_box (box_at boxes k).kind (record { 0 = length_at marks k }) (record { 0 = length_at heights k }) (place_at places k) (place_in_lines places k)
@@ -82,4 +82,4 @@ AreNearPlaces places = (k : ℕ) → k < length places → IsNearPlace (box_plac
 
 -- the tops of lines and where they end are at most 2^60 units away
 abbrev pub AreNearRows : List (List Ended) → Type 0
-AreNearRows lines = All (λ rows. All (RowWithin (pos 1152921504606846976)) rows) lines
+AreNearRows all = All (λ rows. All (RowWithin (pos 1152921504606846976)) rows) all

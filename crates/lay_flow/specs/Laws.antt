@@ -10,7 +10,7 @@ use Rattle.lay_doc.specs.Tree.{IsTree}
 use Rattle.lay_floats.specs.ClearEdge.{IsClearEdge}
 use Rattle.lay_flow.specs.FlowBoxes.{IsFlowTree}
 use Rattle.lay_flow.specs.Clearance.{AreFloatPlaces, IsHypothetical, NeedsClearance}
-use Rattle.lay_flow.specs.BlockFloats.{Placement, floats_before, shape_at}
+use Rattle.lay_flow.specs.BlockFloats.{Spot, floats_before, shape_at}
 use Rattle.lay_flow.specs.ContextFlow.{Flow, IsContextFlow}
 use Rattle.lay_flow.specs.FlowPlaces.{FlowPlacesValue, IsFlowOf}
 use Rattle.lay_flow.specs.BlockPositions.{Extents}
@@ -44,7 +44,7 @@ SomeHypothetical = (boxes : List FlowBox) (extents : Extents) (clear_edges : Lis
 
 -- the floats as they stand in the hypothetical layout of a box and those of the flow decide alike whether the box has clearance
 abbrev pub OneTest : Type 0
-OneTest = (boxes : List FlowBox) (f : Flow) (k : ℕ) (without : BlockLayout) (places : List Placement) (bottom other : Option Length) → IsFlowTree boxes → IsContextFlow boxes f → 0 < k → k < length boxes
+OneTest = (boxes : List FlowBox) (f : Flow) (k : ℕ) (without : BlockLayout) (places : List Spot) (bottom other : Option Length) → IsFlowTree boxes → IsContextFlow boxes f → 0 < k → k < length boxes
     → IsHypothetical boxes f.extents f.clear_edges f.layout k without → AreFloatPlaces boxes without.places.marks places k
     → IsClearEdge (floats_before boxes places k) (shape_at boxes k).clear bottom → IsClearEdge (floats_before boxes f.places k) (shape_at boxes k).clear other
     → NeedsClearance boxes without k bottom ↔ NeedsClearance boxes without k other

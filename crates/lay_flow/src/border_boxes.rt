@@ -59,7 +59,13 @@ fn border_box_at(boxes: &[FlowBox], columns: &FlowColumns, k: usize) -> BoxPlace
     let mark = length_at(&columns.tops, k);
     let height = length_at(&columns.heights, k);
     let place = place_at(&columns.places, k);
-    border_box(&boxes[k], mark, height, place, place_at(&columns.corners, k))
+    border_box(
+        &boxes[k],
+        mark,
+        height,
+        place,
+        place_at(&columns.corners, k),
+    )
 }
 
 fn border_box(

@@ -10,10 +10,10 @@ ghost use Rattle.lay_flow.specs.Pass.Known.{IsFinished, IsKnown};
 
 use crate::columns::{block_at, length_at, parent_at, write_at};
 use crate::flow_box::FlowBox;
+use crate::line_corners::line_corners;
 use crate::margin_run::{end_of, no_margin};
 use crate::margin_steps::{close, open};
 use crate::pass::Pass;
-use crate::line_corners::line_corners;
 use crate::placement::{Placing, place_up_to};
 use crate::settling::settle;
 use lay_floats::{Clear, Floats, Place};

@@ -27,6 +27,7 @@ mod pass;
 mod placement;
 mod settling;
 mod shape;
+mod weights;
 
 pub use border_boxes::flow;
 pub use flow_box::{
@@ -38,3 +39,4 @@ pub use laws::{
     adjoining_runs, collapsed_through, one_block_layout, one_context_flow, one_flow_of,
     one_hypothetical, one_test, some_block_layout, some_hypothetical,
 };
+pub use weights::is_light;

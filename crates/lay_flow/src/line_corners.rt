@@ -15,7 +15,7 @@ pub(crate) fn line_corners(
     count: usize,
     met: &[NodePlaceList],
 ) -> Result<Vec<Place>, NoMemory>
-    ensures { IfOk result (AreCorners count met.now) }
+    ensures { IfOk result (λ r. AreCorners count met.now r.items) }
 {
     let nowhere = Place {
         x: Unit(0),

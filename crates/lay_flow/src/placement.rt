@@ -1,6 +1,6 @@
 //! Floats, solid boxes and lines find their places, in document order, once their marks are known.
 
-ghost use Rattle.std.specs.Prelude.{◌≡◌, ℕ, ℤ, ◌+◌, ◌-ℤ◌, ◌+ℤ◌, ◌<◌, ◌≤◌, ◌≤ℤ◌, ◌++◌, ◌∷◌, [], All, length, pos, true, false, IfOk, OnOk, Some, None};
+ghost use Rattle.std.specs.Prelude.{◌≡◌, ℕ, ◌+◌, ◌-ℤ◌, ◌+ℤ◌, ◌<◌, ◌≤◌, ◌++◌, ◌∷◌, [], All, length, pos, true, false, IfOk, OnOk, Some, None};
 ghost use Rattle.std.specs.Int.{int_max};
 ghost use Rattle.lay_floats.specs.Within.{BoxWithin, IsWithin};
 ghost use Rattle.lay_lines.specs.Lines.{AreLines, LinesWithin, growth, lines_of};
@@ -110,7 +110,7 @@ fn place_float(
     let top = ceiling(boxes, marks, k);
     let request = float_request(&shape_at(boxes, k), side, top);
     let place = placing.floats.place(&request)?;
-    push_placement(placing, place)?;
+    push_spot(placing, place)?;
     Ok(())
 }
 
@@ -134,7 +134,7 @@ fn place_solid(
     let place = placing.floats.fit_solid(&solid_request(&shape, mark));
     let extent = extent_below(mark, place.y, shape.height);
     write_at(&mut placing.extents, k, extent);
-    push_placement(placing, place)?;
+    push_spot(placing, place)?;
     Ok(())
 }
 
@@ -151,7 +151,7 @@ fn place_nowhere(
     ensures placed { OnOk result (GoesOn boxes.now _marks.now placing.old placing.new k (k + 1)) }
     ensures kept { OnOk result (placing.new.extents.items ≡ placing.old.extents.items) }
 {
-    push_placement(placing, nowhere())?;
+    push_spot(placing, nowhere())?;
     Ok(())
 }
 
@@ -188,8 +188,8 @@ impl FlowBox {
         requires top { IsNear top.0 }
         requires floats { All (BoxWithin (pos 1152921504606846976)) floats.old }
         ensures lines { IfOk result (λ out. AreLines (line_content_of self.now.kind) (content_of self.now.kind).left (content_of self.now.kind).right top.0 floats.old (lines_of out floats.new)) }
-        ensures near { (r : ℤ) → r ≤ℤ pos 1152921504606846976 → IsWithin r top.0 → All (BoxWithin r) floats.old
-            → IfOk result (λ out. LinesWithin (r +ℤ growth (line_content_of self.now.kind)) (lines_of out floats.new)) }
+        ensures near { IfOk result (λ out. (r : ℕ) → 1125899906842624 ≤ r → r ≤ 1152921504606846976 → IsWithin (pos r) top.0 → All (BoxWithin (pos r)) floats.old
+            → LinesWithin (pos (r + growth (line_content_of self.now.kind))) (lines_of out floats.new)) }
     {
         match &self.kind {
             FlowKind::Lines(l) => {
@@ -277,7 +277,7 @@ fn nowhere() -> Place
 }
 
 // One more box, with this place and without lines.
-fn push_placement(placing: &mut Placing, place: Place) -> Result<(), NoMemory>
+fn push_spot(placing: &mut Placing, place: Place) -> Result<(), NoMemory>
     ensures extents { OnOk result (placing.new.extents.items ≡ placing.old.extents.items) }
     ensures floats { OnOk result (placing.new.floats ≡ placing.old.floats) }
     ensures places { OnOk result (placing.new.places.items ≡ placing.old.places.items ++ place ∷ []) }
@@ -286,6 +286,8 @@ fn push_placement(placing: &mut Placing, place: Place) -> Result<(), NoMemory>
 {
     placing.places.push(place)?;
     placing.rows.push(RowList::new(Vec::new(placing.alloc)))?;
-    placing.met.push(NodePlaceList::new(Vec::new(placing.alloc)))?;
+    placing
+        .met
+        .push(NodePlaceList::new(Vec::new(placing.alloc)))?;
     Ok(())
 }

@@ -11,7 +11,7 @@ use Rattle.lay_flow.specs.Boxes.{box_at}
 use Rattle.lay_flow.specs.Lengths.{length_at}
 use Rattle.lay_flow.specs.MarginRuns.{block_at}
 use Rattle.lay_flow.specs.BlockPositions.{is_solid}
-use Rattle.lay_flow.specs.BlockFloats.{Placement, no_place}
+use Rattle.lay_flow.specs.BlockFloats.{Spot, no_place}
 use Rattle.lay_flow.specs.BlockSizes.{IsBoxSize, IsNear}
 use Rattle.lay_flow.specs.ContextFlow.{AreContextPlaces}
 use Rattle.lay_flow.specs.FlowPlaces.{AreNearRows, border_box, box_place_at, place_or}
@@ -35,9 +35,9 @@ pub record AreCorners (count : ℕ) (met : List (List NodePlace)) (corners : Lis
   pub length_is : length corners ≡ count
   pub each : (k : ℕ) → k < count → corner_at corners k ≡ place_or no_place k (joined met)
 
--- the columns that a pass leaves are those of the context's flow, with these placements
+-- the columns that a pass leaves are those of the context's flow, with these spots
 pub record AreColumnsOf (boxes : List FlowBox) (out : FlowColumns) : Type 0 where
-  pub places : List Placement
+  pub places : List Spot
   pub are : AreContextPlaces boxes out.tops.items out.heights.items places
   pub places_are : map (λ p. p.place) places ≡ out.places.items
   pub rows_are : map (λ p. p.lines.rows) places ≡ out.rows.items

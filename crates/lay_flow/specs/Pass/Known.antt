@@ -1,56 +1,56 @@
 -- What the code of a pass knows at each place: its columns have each placement but for the floats that its lines leave.
-use Rattle.std.specs.Prelude.{ℕ, ◌≡◌, List, length, map}
+use Rattle.std.specs.Prelude.{ℕ, ◌≡◌, List, map}
 use Rattle.lay_units.specs.declared.length.Unit.{Unit as Length}
 use Rattle.lay_flow.specs.declared.flow_box.FlowBox.{FlowBox}
 use Rattle.lay_flow.specs.declared.pass.Pass.{Pass}
 use Rattle.lay_flow.specs.declared.placement.Placing.{Placing as PlacingState}
-use Rattle.lay_flow.specs.BlockFloats.{Placement}
+use Rattle.lay_flow.specs.BlockFloats.{Spot}
 use Rattle.lay_flow.specs.Pass.Bounds.{state_of}
 use Rattle.lay_flow.specs.ContextFlow.{AreContextPlaces}
 use Rattle.lay_flow.specs.Pass.Placed.{AreCornersNear, Placing, PlacesTo}
 use Rattle.lay_flow.specs.Pass.Knows.{ArePlacesKept, IsReady, Knows}
 
-abbrev pub placing_of : PlacingState → List Placement → Placing
+abbrev pub placing_of : PlacingState → List Spot → Placing
 placing_of p places = record { extents = p.extents.items; floats = p.floats; places = places }
 
--- the columns are those of these placements
-pub record ArePlacements (now : PlacingState) (places : List Placement) : Type 0 where
-  pub places : map (λ p. p.place) places ≡ now.places.items
-  pub rows : map (λ p. p.lines.rows) places ≡ now.rows.items
-  pub met : map (λ p. p.lines.places) places ≡ now.met.items
+-- the columns are those of these spots
+pub record AreSpots (now : PlacingState) (places : List Spot) : Type 0 where
+  pub places_are : map (λ p. p.place) places ≡ now.places.items
+  pub rows_are : map (λ p. p.lines.rows) places ≡ now.rows.items
+  pub met_are : map (λ p. p.lines.places) places ≡ now.met.items
 
 -- the boxes before the one at n are placed
 pub record ArePlaced (boxes : List FlowBox) (marks : List Length) (now : PlacingState) (n : ℕ) : Type 0 where
-  pub places : List Placement
-  pub are : ArePlacements now places
+  pub places : List Spot
+  pub are : AreSpots now places
   pub to : PlacesTo boxes marks (placing_of now places) n
 
 -- so are those before the one at m, and what was known before is kept
-pub record ArePlacedOn (boxes : List FlowBox) (marks : List Length) (now : PlacingState) (before : List Placement) (m : ℕ) : Type 0 where
-  pub places : List Placement
-  pub are : ArePlacements now places
+pub record ArePlacedOn (boxes : List FlowBox) (marks : List Length) (now : PlacingState) (before : List Spot) (m : ℕ) : Type 0 where
+  pub places : List Spot
+  pub are : AreSpots now places
   pub to : PlacesTo boxes marks (placing_of now places) m
   pub same : ArePlacesKept before places
 
 -- from each way in which the boxes before the one at n may be placed it goes on to that at m
 abbrev pub GoesOn : List FlowBox → List Length → PlacingState → PlacingState → ℕ → ℕ → Type 0
-GoesOn boxes marks old new n m = (places : List Placement) → ArePlacements old places → PlacesTo boxes marks (placing_of old places) n → ArePlacedOn boxes marks new places m
+GoesOn boxes marks old new n m = (places : List Spot) → AreSpots old places → PlacesTo boxes marks (placing_of old places) n → ArePlacedOn boxes marks new places m
 
 -- the pass is at the place (p, m)
 pub record IsKnown (boxes : List FlowBox) (flow : Pass) (p m : ℕ) : Type 0 where
-  pub places : List Placement
-  pub are : ArePlacements flow.placing places
+  pub places : List Spot
+  pub are : AreSpots flow.placing places
   pub knows : Knows boxes (state_of flow) (placing_of flow.placing places) p m
 
 -- the pass is before the top margin of the box at k
 pub record IsReadyAt (boxes : List FlowBox) (flow : Pass) (k : ℕ) : Type 0 where
-  pub places : List Placement
-  pub are : ArePlacements flow.placing places
+  pub places : List Spot
+  pub are : AreSpots flow.placing places
   pub ready : IsReady boxes (state_of flow) (placing_of flow.placing places) k
 
 -- all boxes are placed
 pub record IsFinished (boxes : List FlowBox) (flow : Pass) : Type 0 where
-  pub places : List Placement
-  pub are : ArePlacements flow.placing places
+  pub places : List Spot
+  pub are : AreSpots flow.placing places
   pub context : AreContextPlaces boxes flow.marks.items flow.heights.items places
   pub near : AreCornersNear boxes places

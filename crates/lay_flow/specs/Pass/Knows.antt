@@ -4,11 +4,10 @@ use Rattle.lay_flow.specs.declared.flow_box.FlowBox.{FlowBox}
 use Rattle.lay_flow.specs.Boxes.{parent_at}
 use Rattle.lay_units.specs.declared.length.Unit.{Unit as Length}
 use Rattle.lay_floats.specs.declared.requests.Side.{Side}
-use Rattle.lay_floats.specs.declared.placed.Placed.{Placed}
 use Rattle.lay_flow.specs.Lengths.{length_at}
 use Rattle.lay_flow.specs.Children.{flag_at}
 use Rattle.lay_flow.specs.MarginRuns.{block_at}
-use Rattle.lay_flow.specs.BlockFloats.{Placement, placement_at, shape_at}
+use Rattle.lay_flow.specs.BlockFloats.{Spot, spot_at, shape_at}
 use Rattle.lay_flow.specs.BlockPositions.{Extents, is_placed}
 use Rattle.lay_flow.specs.Weights.{weight}
 use Rattle.lay_flow.specs.BlockLayout.{BlockLayout, IsBlockLayout}
@@ -35,15 +34,15 @@ pub record IsCandidate (boxes : List FlowBox) (extents : Extents) (clear_edges :
   pub clears : (j : ℕ) → j < m → flag_at y.runs.clears j ≡ flag_at flags j
   pub edge : (j : ℕ) → j < m → flag_at flags j ≡ true → length_at clear_edges j ≡ length_at edges j
 
--- placements of which those that are known are the same
-abbrev pub ArePlacesKept : List Placement → List Placement → Type 0
-ArePlacesKept old new = (j : ℕ) → j < length old → placement_at new j ≡ placement_at old j
+-- spots of which those that are known are the same
+abbrev pub ArePlacesKept : List Spot → List Spot → Type 0
+ArePlacesKept old new = (j : ℕ) → j < length old → spot_at new j ≡ spot_at old j
 
 -- the clearance of the boxes before m was decided as it is in every flow that the context may have at last
 abbrev pub AreDecided : List FlowBox → List Bool → List Length → Placing → ℕ → Type 0
 AreDecided boxes flags edges placing m =
     (k : ℕ) → 0 < k → k < m → (shape_at boxes k).float ≡ None
-    → (extents : Extents) (clear_edges : List Length) (y : BlockLayout) (places : List Placement) → MayBe boxes (length placing.places) placing.extents extents → IsCandidate boxes extents clear_edges y flags edges m → ArePlacesKept placing.places places
+    → (extents : Extents) (clear_edges : List Length) (y : BlockLayout) (places : List Spot) → MayBe boxes (length placing.places) placing.extents extents → IsCandidate boxes extents clear_edges y flags edges m → ArePlacesKept placing.places places
     → HasClearance boxes extents clear_edges places y k
 
 -- the columns of clearance, as far as the boxes before m are decided

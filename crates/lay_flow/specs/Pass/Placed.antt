@@ -12,7 +12,7 @@ use Rattle.lay_flow.specs.declared.shape.Shape.{Shape}
 use Rattle.lay_flow.specs.Lengths.{length_at}
 use Rattle.lay_flow.specs.MarginRuns.{block_at}
 use Rattle.lay_flow.specs.BlockPositions.{is_lines, is_solid}
-use Rattle.lay_flow.specs.BlockFloats.{AreLinesAt, Placement, placement_at, shape_at, place_at, no_place, lines_at, no_lines, floats_before, float_request, solid_request, ceiling}
+use Rattle.lay_flow.specs.BlockFloats.{AreLinesAt, Spot, spot_at, shape_at, place_at, no_place, lines_at, no_lines, floats_before, float_request, solid_request, ceiling}
 use Rattle.lay_flow.specs.Weights.{weight}
 use Rattle.lay_flow.specs.Pass.Bounds.{reach}
 
@@ -25,14 +25,14 @@ pub record ShapeFits (s : Shape) : Type 0 where
   pub x : IsWithin (pos 1125899906842624) s.x.0
 
 -- what a pass keeps of floats, solid boxes and lines: the depths of the boxes, as far as they are known, the floats that
--- stand, and the placements so far
+-- stand, and the spots so far
 pub record Placing : Type 0 where
   pub extents : List Length
   pub floats : List Placed
-  pub places : List Placement
+  pub places : List Spot
 
--- a placement that boxes of this weight reach at most
-pub record IsPlaceNear (w : ℕ) (p : Placement) : Type 0 where
+-- a spot that boxes of this weight reach at most
+pub record IsPlaceNear (w : ℕ) (p : Spot) : Type 0 where
   pub x : IsWithin (reach w) p.place.x.0
   pub y : IsWithin (reach w) p.place.y.0
   pub lines : LinesWithin (reach w) p.lines
@@ -43,7 +43,7 @@ pub record PlacesTo (boxes : List FlowBox) (marks : List Length) (now : Placing)
   pub extents_length : length now.extents ≡ length boxes
   pub floats_are : now.floats ≡ floats_before boxes now.places n
   pub within : All (BoxWithin (reach (weight boxes n))) now.floats
-  pub near : (k : ℕ) → k < n → IsPlaceNear (weight boxes n) (placement_at now.places k)
+  pub near : (k : ℕ) → k < n → IsPlaceNear (weight boxes n) (spot_at now.places k)
   pub root : 0 < n → place_at now.places 0 ≡ no_place
   pub float : (k : ℕ) (side : Side) → 0 < k → k < n → (shape_at boxes k).float ≡ Some side
       → IsFloatPlace (floats_before boxes now.places k) (float_request (shape_at boxes k) side (ceiling boxes marks k)) (place_at now.places k).x.0 (place_at now.places k).y.0
@@ -53,15 +53,14 @@ pub record PlacesTo (boxes : List FlowBox) (marks : List Length) (now : Placing)
       → length_at now.extents k ≡ (place_at now.places k).y.0 -ℤ length_at marks k +ℤ (shape_at boxes k).height.0
   pub low : (k : ℕ) → 0 < k → k < n → is_solid (block_at boxes k).inside ≡ true → IsWithin (reach (weight boxes n)) (length_at marks k +ℤ length_at now.extents k)
   pub other : (k : ℕ) → 0 < k → k < n → (shape_at boxes k).float ≡ None → is_solid (block_at boxes k).inside ≡ false → place_at now.places k ≡ no_place
-
   pub lines : (k : ℕ) → k < n → is_lines (block_at boxes k).inside ≡ true → AreLinesAt boxes marks now.places k
   pub lines_extent : (k : ℕ) → k < n → is_lines (block_at boxes k).inside ≡ true
       → length_at now.extents k ≡ (lines_at now.places k).end.0 -ℤ (length_at marks k +ℤ (block_at boxes k).edge_top.0)
   pub no_lines_else : (k : ℕ) → k < n → is_lines (block_at boxes k).inside ≡ false → lines_at now.places k ≡ no_lines
 
--- all placements of a context are near
-abbrev pub AreCornersNear : List FlowBox → List Placement → Type 0
-AreCornersNear boxes places = (k : ℕ) → k < length boxes → IsPlaceNear (weight boxes (length boxes)) (placement_at places k)
+-- all spots of a context are near
+abbrev pub AreCornersNear : List FlowBox → List Spot → Type 0
+AreCornersNear boxes places = (k : ℕ) → k < length boxes → IsPlaceNear (weight boxes (length boxes)) (spot_at places k)
 
 -- a ceiling of the box behind boxes of this weight: its mark, or the top of its parent's content
 abbrev pub IsCeilingNear : ℕ → ℤ → Type 0

@@ -1,9 +1,8 @@
-use Rattle.std.proofs.Common.{subst, sym}
-use Rattle.lay_flow.specs.FlowBoxes.{AreFlowBoxes}
-use Rattle.lay_flow.proofs.BorderBoxSteps.{near_columns}
+use Rattle.lay_flow.proofs.BorderBoxSteps.{is_flow_of}
 use Rattle.lay_flow.proofs.border_boxes.flow.Goals as goal
 
-pub border_boxes-requires-clause-near : goal.border_boxes-requires-clause-near
-border_boxes-requires-clause-near c =
+pub returns : goal.returns
+returns c =
     let left = c.in_ok-columns.ensures {u = tt} in
-    near_columns c.as_slice-boxes.result.now c.in_ok-columns.columns left.places (subst AreFlowBoxes (sym c.as_slice-boxes.ensures.value) c.as_slice-boxes.ensures.are) left.near left.sized left.corners
+    let made = c.in_ok-places.ensures {u = tt} in
+    rw c.new.ensures (rw c.as_slice-boxes.ensures.value at (is_flow_of c.as_slice-boxes.result.now c.in_ok-columns.columns left.columns c.in_ok-places.places.items made.places))

@@ -1,11 +1,49 @@
-use Rattle.lay_flow.specs.Pass.Knows.{placing_of}
+use Rattle.std.proofs.Common.{ℕ, arith, refl, sym, ◌∙◌, subst}
+use Rattle.lay_flow.specs.Boxes.{parent_at}
+use Rattle.lay_flow.specs.Pass.Known.{placing_of}
+use Rattle.lay_flow.specs.Pass.Knows.{AreExtentsKept}
 use Rattle.lay_flow.specs.Pass.Bounds.{state_of}
 use Rattle.lay_flow.proofs.ClearSteps.{knows_placed}
+use Rattle.lay_flow.specs.Pass.Known.{ArePlacedOn, IsKnown}
+use Rattle.lay_flow.proofs.PlacedOn.{kept_places, placed_on, places_count}
 use Rattle.lay_flow.proofs.clearance.place_settled.Goals as goal
+
+pub place_up_to-requires-clause-known : goal.place_up_to-requires-clause-known
+place_up_to-requires-clause-known c =
+    let known = c.requires.known.knows in
+    let f = known.fits in
+    let early = known.early in let few = f.first_most in let within = f.within in
+    let old = c.args.flow.now in
+    kept_places c.args.boxes.now old.marks.items c.deref.result.now old.placing c.requires.known.places c.requires.input.is_tree.tree c.requires.known.are (omega (arith, early, few, within)) known.placed
+    (λ j lt. rw c.deref.ensures.value refl)
 
 pub returns-clause-known : goal.returns-clause-known
 returns-clause-known c =
+    let known = c.requires.known.knows in
+    let f = known.fits in
+    let early = known.early in let few = f.first_most in let within = f.within in
+    let old = c.args.flow.now in
     let done = c.in_ok-place_up_to.ensures {u = tt} in
-    let placed = rw c.deref.ensures.value at done.placed in
-    knows_placed c.args.boxes.now c.requires.input.is_tree.tree c.requires.input.is_tree.some (state_of c.args.flow.now) (placing_of c.args.flow.now.placing) c.args._k c.requires.positive c.requires.within c.requires.known
-    (placing_of c.place_up_to.new.placing) placed done.kept done.same
+    let there = placed_on c.args.boxes.now old.marks.items old.marks.items old.placing c.place_up_to.new.placing c.requires.known.places old.first c.requires.input.is_tree.tree c.requires.known.are
+    (omega (arith, early, few, within)) known.placed (λ j lt. refl) (rw c.deref.ensures.value at done.placed) in
+    let go : ArePlacedOn c.args.boxes.now old.marks.items c.place_up_to.new.placing c.requires.known.places old.first → IsKnown c.args.boxes.now (record c.args.flow.now { placing = c.place_up_to.new.placing }) (parent_at c.args.boxes.now c.args._k) c.args._k = λ goes.
+    let placed = goes.to in
+    record {
+      places = goes.places;
+      are = goes.are;
+      knows = knows_placed c.args.boxes.now c.requires.input.is_tree.tree c.requires.input.is_tree (state_of old) (placing_of old.placing c.requires.known.places) c.args._k c.requires.positive c.requires.within known
+          (placing_of c.place_up_to.new.placing goes.places) placed (subst (λ (n : ℕ). AreExtentsKept c.args.boxes.now n old.placing.extents.items c.place_up_to.new.placing.extents.items) (sym (places_count old.placing c.requires.known.places c.requires.known.are)) done.kept) goes.same;
+    } in
+    go there
+
+pub returns-clause-settled : goal.returns-clause-settled
+returns-clause-settled c =
+    let known = c.requires.known.knows in
+    let f = known.fits in
+    let early = known.early in let few = f.first_most in let within = f.within in
+    let old = c.args.flow.now in
+    let done = c.in_ok-place_up_to.ensures {u = tt} in
+    let there = placed_on c.args.boxes.now old.marks.items old.marks.items old.placing c.place_up_to.new.placing c.requires.known.places old.first c.requires.input.is_tree.tree c.requires.known.are
+    (omega (arith, early, few, within)) known.placed (λ j lt. refl) (rw c.deref.ensures.value at done.placed) in
+    (λ (goes : ArePlacedOn c.args.boxes.now old.marks.items c.place_up_to.new.placing c.requires.known.places old.first).
+    sym (places_count c.place_up_to.new.placing goes.places goes.are) ∙ goes.to.places_length) there

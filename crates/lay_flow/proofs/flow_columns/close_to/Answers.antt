@@ -2,8 +2,7 @@ use Rattle.std.proofs.Common.{◌<◌, ◌≤◌, arith, length, ℕ, subst, sym
 use Rattle.std.proofs.lemmas.Bool.{cases_lt}
 use Rattle.lay_flow.specs.Boxes.{parent_at}
 use Rattle.lay_flow.proofs.BoxTrees.{parent_before, parents_together}
-use Rattle.lay_flow.specs.Pass.Bounds.{state_of}
-use Rattle.lay_flow.specs.Pass.Knows.{Knows, placing_of}
+use Rattle.lay_flow.specs.Pass.Known.{IsKnown}
 use Rattle.lay_flow.proofs.flow_columns.close_to.Goals as goal
 
 pub loop-innermost-preserved : goal.loop-innermost-preserved
@@ -11,7 +10,7 @@ loop-innermost-preserved c =
     let p = c.loop-innermost.innermost in
     let inv = c.loop-innermost.invariant in
     let order = inv.0 in let less = inv.1 in
-    let within = inv.2.fits.within in
+    let within = inv.2.knows.fits.within in
     let test = c.loop-innermost-test.true in
     let tree = c.requires.input.is_tree.tree in
     let is = c.parent_at-innermost.ensures.value in
@@ -24,5 +23,5 @@ loop-innermost-preserved c =
     let done = c.in_ok-close.ensures {u = tt} in (
       omega (arith, stays, is),
       omega (arith, up, is, less),
-      subst (λ (q : ℕ). Knows c.args.boxes.now (state_of c.close.new.flow) (placing_of c.close.new.flow.placing) q c.args.m) (sym is) done,
+      subst (λ (q : ℕ). IsKnown c.args.boxes.now c.close.new.flow q c.args.m) (sym is) done,
     )

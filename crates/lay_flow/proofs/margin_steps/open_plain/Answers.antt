@@ -1,4 +1,4 @@
-use Rattle.lay_flow.specs.Pass.Knows.{placing_of}
+use Rattle.lay_flow.specs.Pass.Known.{placing_of}
 use Rattle.lay_flow.specs.Pass.Bounds.{state_of}
 use Rattle.lay_flow.proofs.PassSteps.{knows_opened}
 use Rattle.lay_flow.proofs.margin_steps.open_plain.Goals as goal
@@ -6,5 +6,9 @@ use Rattle.lay_flow.proofs.margin_steps.open_plain.Goals as goal
 pub returns : goal.returns
 returns c =
     let holds = rw c.block_at.ensures.value at c.with_margin-flow.ensures.holds in
-    knows_opened c.args.boxes.now c.requires.input.is_tree.tree (state_of c.args.flow.now) (placing_of c.args.flow.now.placing) c.args.k c.with_margin-flow.result
-    c.requires.positive c.requires.within c.requires.plain c.requires.ready c.with_margin-flow.ensures.fits holds
+    record {
+      places = c.requires.ready.places;
+      are = c.requires.ready.are;
+      knows = knows_opened c.args.boxes.now c.requires.input.is_tree.tree (state_of c.args.flow.now) (placing_of c.args.flow.now.placing c.requires.ready.places) c.args.k c.with_margin-flow.result
+          c.requires.positive c.requires.within c.requires.plain c.requires.ready.ready c.with_margin-flow.ensures.fits holds;
+    }

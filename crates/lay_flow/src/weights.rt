@@ -1,0 +1,63 @@
+//! How much the boxes of a context have to lay out.
+
+ghost use Rattle.std.specs.Prelude.{◌≡◌, ◌↔◌, ◌+◌, ◌*◌, ◌≤◌, ◌<◌, IsTrue, length, None, IfSome};
+ghost use Rattle.lay_lines.specs.LineContents.{lines_weight, weight_of_stretch};
+ghost use Rattle.lay_flow.specs.Weights.{weight, weight_of};
+
+use crate::flow_box::{FlowBox, FlowKind};
+use lay_lines::{LineContent, Stretch};
+
+/// Whether boxes, with their lines, are few enough to be a context's: each counts once, and one that holds lines
+/// four times more for each stretch and each float of these, and once more. All together are at most 2^23.
+pub fn is_light(boxes: &[FlowBox]) -> bool
+    ensures { IsTrue result ↔ weight boxes.now (length boxes.now) ≤ 8388608 }
+{
+    let mut left = 8388608;
+    for k in 0..boxes.len() {
+        match spend_box(left, &boxes[k]) {
+            None => return false,
+            Some(rest) => left = rest,
+        }
+    }
+    true
+}
+
+// What is left after the weight of a box.
+fn spend_box(left: u64, flow_box: &FlowBox) -> Option<u64>
+    ensures some { IfSome result (λ rest. weight_of flow_box.now.kind + rest ≡ left) }
+    ensures none { result ≡ None → left < weight_of flow_box.now.kind }
+{
+    left.checked_sub(box_weight(flow_box))
+}
+
+fn box_weight(flow_box: &FlowBox) -> u64
+    ensures { result ≡ weight_of flow_box.now.kind }
+{
+    match &flow_box.kind {
+        FlowKind::Lines(l) => 1 + 4 * content_weight(&l.content),
+        FlowKind::Block(_)
+        | FlowKind::Solid(_)
+        | FlowKind::Float(_)
+        | FlowKind::LineFloat(_)
+        | FlowKind::Inline => 1,
+    }
+}
+
+fn content_weight(content: &LineContent) -> u64
+    ensures value { result ≡ lines_weight content.now }
+    ensures small { result ≤ 2097152 }
+{
+    let stretches = content.stretches();
+    let mut sum = 1;
+    for k in 0..stretches.len() {
+        sum += stretch_weight(&stretches[k]);
+    }
+    sum
+}
+
+fn stretch_weight(stretch: &Stretch) -> u64
+    requires { weight_of_stretch stretch.now ≤ 2097152 }
+    ensures { result ≡ weight_of_stretch stretch.now }
+{
+    stretch.heads.as_slice().len() as u64 + stretch.floats.as_slice().len() as u64 + 1
+}
