@@ -1,6 +1,6 @@
 -- Which boxes hold boxes of a level, from the front of a context on.
-use Rattle.std.proofs.Common.{◌≡◌, ◌≢◌, ℕ, zero, suc, [], ◌+◌, ◌<◌, ◌≤◌, ◌==◌, ◌&&◌, ◌||◌, Bool, true, false, List, length, replicate, slice_set, nat_lt, refl, sym, ap, ◌∙◌, arith, inl, inr, add-one}
-use Rattle.std.proofs.lemmas.Bool.{cases_eq, eq-eqb, ne_eqb}
+use Rattle.std.proofs.Common.{◌≡◌, ◌≢◌, ℕ, zero, suc, [], ◌∷◌, ◌++◌, ◌+◌, ◌<◌, ◌≤◌, ◌==◌, ◌&&◌, ◌||◌, Bool, true, false, List, length, replicate, slice_set, nat_lt, refl, sym, ap, ◌∙◌, arith, inl, inr, add-one}
+use Rattle.std.proofs.lemmas.Bool.{cases_eq, cases_lt, eq-eqb, ne_eqb}
 use Rattle.std.proofs.lemmas.Bool.Decides.{nat_tests}
 use Rattle.std.proofs.lemmas.Grind.{elements}
 use Rattle.lay_boxgen.specs.declared.box_tree.BoxNode.{BoxNode}
@@ -85,3 +85,16 @@ one_more level boxes flags n so_far positive within is = record {
         ∙ sym (other_more (holds level boxes c n) (nat_lt 0 n) (container_of boxes n == c) (is_of level boxes n) (other_eq (container_of boxes n) c other)))
   ];
 }
+
+read_before : (flags : List Bool) (b : Bool) (k : ℕ) → k < length flags → flag_at (flags ++ b ∷ []) k ≡ flag_at flags k
+read_before flags b k lt = grind (arith, elements)
+
+read_last : (flags : List Bool) (b : Bool) (k : ℕ) → k ≡ length flags → flag_at (flags ++ b ∷ []) k ≡ b
+read_last flags b k is = grind (arith, elements)
+
+-- a column of flags with one more
+pub one_flag : (of : ℕ → Bool) (flags : List Bool) (n : ℕ) (b : Bool) → length flags ≡ n → ((k : ℕ) → k < n → flag_at flags k ≡ of k) → b ≡ of n → (k : ℕ) → k < n + 1 → flag_at (flags ++ b ∷ []) k ≡ of k
+one_flag of flags n b counted so_far is k lt = elim (cases_lt k n) [
+  | inl low ↦ read_before flags b k (omega (arith, counted)) ∙ so_far k low
+  | inr high ↦ (let q : k ≡ n = omega arith in read_last flags b k (q ∙ sym counted) ∙ rw q is)
+]

@@ -9,7 +9,7 @@ use Rattle.lay_sizes.specs.declared.sizing.BoxSizes.{BoxSizes}
 use Rattle.lay_sizes.specs.declared.sizing.ContainingBlock.{ContainingBlock}
 use Rattle.lay_sizes.specs.BoxSizes.{content_block}
 use Rattle.lay_sizes.specs.SizeBounds.{SizeFits}
-use Rattle.lay_context.specs.Containing.{block_in, container_of, height_holder}
+use Rattle.lay_context.specs.Containing.{block_around, block_in, container_of, height_holder}
 use Rattle.lay_context.specs.ContextBoxes.{AreContextBoxes, is_inner}
 use Rattle.lay_sizes.specs.SizeColumns.{HaveSizeBounds, no_sizes, sizes_at}
 use Rattle.lay_context.specs.ContextSizes.{HasSizes, IsBoxSized, containing_block}
@@ -41,6 +41,10 @@ containing_before outer boxes are sizes z zero within known = refl
 containing_before outer boxes are sizes z (suc k) within known =
     let before = container_before boxes (suc k) are (omega arith) within in
     block_in_before boxes are sizes z (container_of boxes (suc k)) (omega arith) (omega arith)
+
+pub containing_inner : (outer : ContainingBlock) (boxes : List BoxNode) (sizes : List BoxSizes) (k : ℕ) → 0 < k → containing_block outer boxes sizes k ≡ block_around boxes sizes k
+containing_inner outer boxes sizes zero positive = absurd (omega arith)
+containing_inner outer boxes sizes (suc k) positive = refl
 
 pub one_more : (outer : ContainingBlock) (boxes : List BoxNode) (sizes : List BoxSizes) (n : ℕ) (z : BoxSizes) → AreContextBoxes boxes → n < length boxes
     → SizesTo outer boxes sizes n → (is_inner boxes n ≡ false → IsBoxSized (containing_block outer boxes sizes n) boxes n z) → (is_inner boxes n ≡ true → z ≡ no_sizes) → SizeFits z

@@ -121,6 +121,7 @@ fn containing_block(
     ensures block { result ≡ containing_block outer boxes.now sizes.now k }
     ensures near { IsPosition result.width.0 }
 {
+    let _ = boxes.as_slice();
     if k == 0 {
         return outer;
     }

@@ -31,10 +31,22 @@ pub(crate) fn inline_containers(
     let count = boxes.as_slice().len();
     let mut containers = Vec::with_capacity(alloc, count)?;
     for k in 0..count {
-        let alone = is_block_box(boxes.role(k)) && flag_at(&inline, k) && !flag_at(&blocks, k);
+        let alone = is_inline_container(boxes, &inline, &blocks, k);
         containers.push(alone)?;
     }
     Ok(containers)
+}
+
+/// Whether the box at k is one, where these say what stands in it.
+fn is_inline_container(boxes: &ContextBoxes, inline: &[bool], blocks: &[bool], k: usize) -> bool
+    requires place { k < length boxes.now }
+    requires inline_count { k < length inline.now }
+    requires block_count { k < length blocks.now }
+    requires inline { flag_at inline.now k ≡ holds Level.Inline boxes.now k (length boxes.now) }
+    requires blocks { flag_at blocks.now k ≡ holds Level.Block boxes.now k (length boxes.now) }
+    ensures { result ≡ is_inline_container boxes.now k }
+{
+    is_block_box(boxes.role(k)) && flag_at(inline, k) && !flag_at(blocks, k)
 }
 
 /// Whether a box of this level stands in each box.

@@ -58,7 +58,8 @@ impl SizeInput {
 
     /// The boxes, with what is known of them.
     pub(crate) fn context_boxes(&self) -> &ContextBoxes
-        ensures { result.now ≡ self.now.boxes }
+        ensures boxes { result.now ≡ self.now.boxes }
+        ensures fits { SizeInputFits self.now }
     {
         &self.boxes
     }
