@@ -1,14 +1,13 @@
 -- The tree of a node has the trees of its children in document order.
-use Rattle.std.proofs.Common.{◌≡◌, ◌⊎◌, inl, inr, ℕ, zero, suc, ◌+◌, ◌-◌, ◌<◌, ◌≤◌, ◌==◌, nat_lt, Bool, true, false, List, [], ◌∷◌, length, map, filter, drop, slice_get, slice_index, slice_index_or, refl, ap, sym, subst, ◌∙◌, arith, if◌then◌else◌, Option, None, Some}
+use Rattle.std.proofs.Common.{◌≡◌, inl, inr, ℕ, zero, suc, ◌+◌, ◌-◌, ◌<◌, ◌≤◌, ◌==◌, nat_lt, true, false, List, [], ◌∷◌, length, map, filter, drop, slice_get, slice_index, slice_index_or, refl, ap, sym, ◌∙◌, arith, Option, None, Some}
 use Rattle.std.proofs.lemmas.Bool.{cases_lt, cases_eq}
 use Rattle.std.proofs.lemmas.List.{drop_all}
 use Rattle.lay_doc.specs.declared.node.Node.{Node}
 use Rattle.lay_doc.specs.declared.style.Style.{Style}
 use Rattle.lay_doc.specs.ComputedStyle.{style_at}
 use Rattle.lay_doc.specs.InitialStyle.{initial_style}
-use Rattle.lay_doc.specs.Document.{Document, IsDocument, parents_of}
+use Rattle.lay_doc.specs.Document.{parents_of}
 use Rattle.lay_doc.specs.Tree.{IsTree}
-use Rattle.lay_boxgen.specs.Boxes.{Tree}
 use Rattle.lay_boxgen.specs.Contexts.{box_at, box_of_node}
 use Rattle.lay_boxgen.specs.NodeBoxes.{node_box}
 use Rattle.lay_boxgen.specs.NodeTrees.{and_child, as_child, box_with, children_of, first_tree, node_trees, others_than_children, tree_at}
@@ -103,29 +102,29 @@ module _ (nodes : List Node) (styles : List Style) (is_tree : IsTree (parents_of
       let h = splits m d (at + 1) (omega (arith, lt)) (omega (arith, e)) in
       elim (cases_eq (up at) m) [
         | inl is ↦ (
-          let x = below-true (up at) (m + 1) (omega (arith, is)) in
-          let y = below-false (up at) m (omega (arith, is)) in
-          let z = is-true (up at) m is in (
-            simp (x, y, z) h.0,
-            simp (x, z) (ap (and_child as_child (tree_at nodes styles at)) h.1),
-          ))
+            let x = below-true (up at) (m + 1) (omega (arith, is)) in
+            let y = below-false (up at) m (omega (arith, is)) in
+            let z = is-true (up at) m is in (
+              simp (x, y, z) h.0,
+              simp (x, z) (ap (and_child as_child (tree_at nodes styles at)) h.1),
+            ))
         | inr other ↦ elim (cases_lt (up at) m) [
           | inl low ↦ (
-            let x = below-true (up at) (m + 1) (omega (arith, low)) in
-            let y = below-true (up at) m low in
-            let z = is-false (up at) m other in
-            let w = ended m at lt low d (at + 1) (omega arith) (omega (arith, e)) in (
-              simp (x, y, z) (ap (λ rs. entry at ∷ map entry rs) w.0),
-              simp (x, z) (ap (child_trees nodes styles) (sym w.1)),
-            ))
+              let x = below-true (up at) (m + 1) (omega (arith, low)) in
+              let y = below-true (up at) m low in
+              let z = is-false (up at) m other in
+              let w = ended m at lt low d (at + 1) (omega arith) (omega (arith, e)) in (
+                simp (x, y, z) (ap (λ rs. entry at ∷ map entry rs) w.0),
+                simp (x, z) (ap (child_trees nodes styles) (sym w.1)),
+              ))
           | inr high ↦ (
-            let more : m + 1 ≤ up at = omega (arith, high, other) in
-            let x = below-false (up at) (m + 1) more in
-            let y = below-false (up at) m high in
-            let z = is-false (up at) m other in (
-              simp (x, y) h.0,
-              simp (x, z) h.1,
-            ))
+              let more : m + 1 ≤ up at = omega (arith, high, other) in
+              let x = below-false (up at) (m + 1) more in
+              let y = below-false (up at) m high in
+              let z = is-false (up at) m other in (
+                simp (x, y) h.0,
+                simp (x, z) h.1,
+              ))
         ]
       ]
 
@@ -151,7 +150,7 @@ module _ (nodes : List Node) (styles : List Style) (is_tree : IsTree (parents_of
       ∙ (ap (λ ns. entry m ∷ others_than_children m ns) rest
       ∙ (ap (λ ns. entry m ∷ ns) sp.0 ∙ sym (simp kept refl))))
 
-  in-order : (k : ℕ) → k < length nodes → tree_at nodes styles k ≡ box_with (box_at nodes styles k) (child_trees nodes styles (children_places nodes k))
+  pub in-order : (k : ℕ) → k < length nodes → tree_at nodes styles k ≡ box_with (box_at nodes styles k) (child_trees nodes styles (children_places nodes k))
   unfolding forest
   in-order k lt =
       let n = at nodes k lt in

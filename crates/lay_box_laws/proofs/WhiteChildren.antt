@@ -1,7 +1,7 @@
 -- White space goes by itself.
-use Rattle.std.proofs.Common.{◌≡◌, Bool, true, false, ◌&&◌, List, [], ◌∷◌, ◌++◌, refl, ap, sym, ◌∙◌, if◌then◌else◌, Option, None, Some, append_assoc}
+use Rattle.std.proofs.Common.{◌≡◌, Bool, true, false, List, [], ◌∷◌, ◌++◌, refl, ap, sym, ◌∙◌, if◌then◌else◌, Option, None, Some}
 use Rattle.lay_boxgen.specs.Boxes.{Tree, facts_of}
-use Rattle.lay_boxgen.specs.Irrelevant.{is_irrelevant, kept_from, kept_gap, without_white_space}
+use Rattle.lay_boxgen.specs.Irrelevant.{is_irrelevant, kept_from, kept_gap}
 use Rattle.lay_boxgen.specs.Runs.{is_white_box}
 use Rattle.lay_boxgen.specs.declared.facts.Facts.{Facts}
 use Rattle.lay_boxgen.specs.declared.facts.Form.{Form}

@@ -7,3 +7,8 @@ pub mod NodeKinds
 pub mod OneStand
 pub mod Reached
 pub mod OneList
+pub mod Relabeled
+pub mod OwnBoxes
+pub mod OwnChildren
+pub mod RelabeledLists
+pub mod RisingLists

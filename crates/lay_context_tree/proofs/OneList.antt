@@ -1,5 +1,5 @@
 -- A document has one list of contexts, in which each stands behind the one around it.
-use Rattle.std.proofs.Common.{◌≡◌, ◌⊎◌, inl, inr, ℕ, zero, suc, ◌<◌, List, [], ◌∷◌, length, map, get_or, refl, ap, sym, subst, ◌∙◌, arith}
+use Rattle.std.proofs.Common.{◌≡◌, inl, inr, ℕ, zero, suc, ◌<◌, List, [], ◌∷◌, length, map, get_or, refl, ap, sym, subst, ◌∙◌, arith}
 use Rattle.std.proofs.lemmas.Bool.{cases_lt}
 use Rattle.lay_doc.specs.declared.node.Node.{Node}
 use Rattle.lay_doc.specs.declared.style.Style.{Style}
@@ -10,48 +10,8 @@ use Rattle.lay_boxgen.proofs.NodeColumns.{length-parents}
 use Rattle.lay_context_tree.specs.ContextTree.{IsAround, StandsIn, StandsOnce, further, parent, parent_of}
 use Rattle.lay_context_tree.specs.DocumentContexts.{AreDocumentContexts, ContextsStandInOrder, OneListOfContexts, spot_at}
 use Rattle.lay_context_tree.specs.declared.context_spot.ContextSpot.{ContextSpot}
+use Rattle.lay_context_tree.proofs.RisingLists.{AllAbove, Has, Rises, one-rising}
 use Rattle.lay_context_tree.proofs.OneStand.{contexts_stand_once, marked-true, within}
-
--- Rising lists with the same members are equal.
-abbrev AllAbove : ℕ → List ℕ → Type 0
-AllAbove x [] = Unit {0}
-AllAbove x (y ∷ ys) = (x < y) × AllAbove x ys
-
-abbrev Rises : List ℕ → Type 0
-Rises [] = Unit {0}
-Rises (x ∷ xs) = AllAbove x xs × Rises xs
-
-abbrev Has : List ℕ → ℕ → Type 0
-Has [] k = ⊥
-Has (x ∷ xs) k = (x ≡ k) ⊎ Has xs k
-
-above : (x : ℕ) (ys : List ℕ) (k : ℕ) → AllAbove x ys → Has ys k → x < k
-above x [] k h m = absurd m
-above x (y ∷ ys) k h (inl e) = let lt = h.0 in omega (arith, lt, e)
-above x (y ∷ ys) k h (inr m) = above x ys k h.1 m
-
--- the first of both is one
-first : (x y : ℕ) (xs ys : List ℕ) → AllAbove x xs → AllAbove y ys → Has (y ∷ ys) x → Has (x ∷ xs) y → x ≡ y
-first x y xs ys h g (inl e) n = sym e
-first x y xs ys h g (inr m) (inl e) = e
-first x y xs ys h g (inr m) (inr n) = absurd (let p = above y ys x g m in let q = above x xs y h n in omega (arith, p, q))
-
-rest : (x : ℕ) (xs ys : List ℕ) → AllAbove x xs → ((k : ℕ) → Has (x ∷ xs) k → Has (x ∷ ys) k) → (k : ℕ) → Has xs k → Has ys k
-rest x xs ys h all k m = by (all k (inr m))
-  where
-    by : Has (x ∷ ys) k → Has ys k
-    by (inl e) = absurd (let p = above x xs k h m in omega (arith, p, e))
-    by (inr n) = n
-
-one-rising : (xs ys : List ℕ) → Rises xs → Rises ys → ((k : ℕ) → Has xs k → Has ys k) → ((k : ℕ) → Has ys k → Has xs k) → xs ≡ ys
-one-rising [] [] h g p q = refl
-one-rising [] (y ∷ ys) h g p q = absurd (q y (inl refl))
-one-rising (x ∷ xs) [] h g p q = absurd (p x (inl refl))
-one-rising (x ∷ xs) (y ∷ ys) h g p q =
-    let e = first x y xs ys h.0 g.0 (p x (inl refl)) (q y (inl refl)) in
-    let p2 : (k : ℕ) → Has (x ∷ xs) k → Has (x ∷ ys) k = subst (λ (z : ℕ). (k : ℕ) → Has (x ∷ xs) k → Has (z ∷ ys) k) (sym e) p in
-    let q2 : (k : ℕ) → Has (x ∷ ys) k → Has (x ∷ xs) k = subst (λ (z : ℕ). (k : ℕ) → Has (z ∷ ys) k → Has (x ∷ xs) k) (sym e) q in
-    ap (λ (z : ℕ). z ∷ xs) e ∙ ap (λ zs. y ∷ zs) (one-rising xs ys h.1 g.1 (rest x xs ys h.0 p2) (rest x ys xs (subst (λ (z : ℕ). AllAbove z ys) (sym e) g.0) q2))
 
 abbrev places : List ContextSpot → List ℕ
 places spots = map (λ s. s.place) spots

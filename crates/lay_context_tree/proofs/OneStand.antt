@@ -43,7 +43,7 @@ root-of : (o : Option Node) (s : Style) → IsTrue (has_box (box_of_node 0 o s))
 root-of None s h = absurd cc
 root-of (Some n) s h = root-by n s (form_of true n.kind n.text s) h
 
-there : {X : Type 0} (xs : List X) (k : ℕ) (x : X) → slice_get xs k ≡ Some x → k < length xs
+pub there : {X : Type 0} (xs : List X) (k : ℕ) (x : X) → slice_get xs k ≡ Some x → k < length xs
 there [] k x e = cc
 there (y ∷ ys) zero x e = omega arith
 there (y ∷ ys) (suc k) x e = let h = there ys k x e in omega (arith, h)

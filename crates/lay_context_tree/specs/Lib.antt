@@ -1,2 +1,3 @@
 pub mod ContextTree
+pub mod OwnNodes
 pub mod DocumentContexts

@@ -2,6 +2,7 @@
 
 ghost use Rattle.lay_context_tree.specs.ContextTree.{ContextsStandOnce};
 ghost use Rattle.lay_context_tree.specs.DocumentContexts.{ContextsStandInOrder, OneListOfContexts};
+ghost use Rattle.lay_context_tree.specs.OwnNodes.{OwnNodesDecide};
 
 /// Each context but the root's stands once, among the boxes of the context around it.
 pub fn contexts_stand_once()
@@ -16,4 +17,9 @@ pub fn one_list_of_contexts()
 /// In it each context stands behind the one around it.
 pub fn contexts_stand_in_order()
     ensures { ContextsStandInOrder }
+{}
+
+/// The boxes of a context depend on its own nodes alone.
+pub fn own_nodes_decide()
+    ensures { OwnNodesDecide }
 {}

@@ -1,12 +1,12 @@
 -- Lines from their ends to their starts.
-use Rattle.std.proofs.Common.{◌≡◌, ◌∙◌, ℕ, zero, suc, ◌+◌, ◌-◌, ◌<◌, ◌≤◌, ℤ, Bool, List, [], ◌∷◌, ◌++◌, length, drop, get_or, refl, sym, ap, subst, arith, add-zero}
-use Rattle.std.proofs.lemmas.List.{drop_more, get_or-drop, drop-drop}
+use Rattle.std.proofs.Common.{◌≡◌, ◌∙◌, ℕ, ◌+◌, ℤ, Bool, List, ◌∷◌, ◌++◌, length, drop, get_or, sym, ap, arith, add-zero}
+use Rattle.std.proofs.lemmas.List.{drop_more, get_or-drop}
 use Rattle.lay_units.specs.declared.length.Unit.{Unit}
 use Rattle.lay_lines.specs.declared.content.InlineArea.{InlineArea}
 use Rattle.lay_inlines.specs.declared.spans.Span.{Span}
 use Rattle.lay_inlines.specs.declared.strokes.Stroke.{Stroke}
 use Rattle.lay_inlines.specs.declared.line_piece.LinePieceKind.TheVariants.{Inline}
-use Rattle.lay_inlines.specs.Strokes.{is_content, has_content, begin_of, end_of, stays, shown_of}
+use Rattle.lay_inlines.specs.Strokes.{has_content, begin_of, end_of, stays, shown_of}
 use Rattle.lay_inlines.specs.Spans.{right_edges, edges_before, edge_at, with_shown, spans_of, span_of, open_spans, unit}
 
 -- one element more, from the end

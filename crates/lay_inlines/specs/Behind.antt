@@ -1,5 +1,5 @@
 -- What the code keeps of a line as it goes from its end to its start, within bounds.
-use Rattle.std.specs.Prelude.{List, All}
+use Rattle.std.specs.Prelude.{All}
 use Rattle.lay_units.specs.declared.length.Unit.{Unit}
 use Rattle.lay_inlines.specs.declared.spans.Behind.{Behind}
 use Rattle.lay_inlines.specs.Bounds.{IsEdge, SpanWithin}

@@ -1,5 +1,6 @@
 pub mod Behind
 pub mod Bounds
+pub mod Laws
 pub mod LinePieces
 pub mod OpenBoxes
 pub mod Spans

@@ -2,10 +2,9 @@
 -- as wide as the room that floats leave it and as high as its extent, and then in document order the inline boxes and
 -- the texts on it. These stand on the line's baseline, and are moved where `text-align` says so and the line is wider
 -- than its content. An inline box is as high as its border box, whatever the height of the line.
-use Rattle.std.specs.Prelude.{ℕ, ℤ, pos, ◌+ℤ◌, ◌-ℤ◌, Bool, if◌then◌else◌, List, [], ◌∷◌, ◌++◌, drop, take, map}
+use Rattle.std.specs.Prelude.{ℕ, ℤ, pos, ◌+ℤ◌, ◌-ℤ◌, if◌then◌else◌, List, [], ◌∷◌, ◌++◌, drop, take, map}
 use Rattle.std.specs.Int.{int_max}
 use Rattle.lay_units.specs.Units.{half_of}
-use Rattle.lay_units.specs.declared.length.Unit.{Unit}
 use Rattle.lay_units.specs.declared.records.Rect.{Rect}
 use Rattle.lay_lines.specs.declared.content.InlineArea.{InlineArea}
 use Rattle.lay_lines.specs.declared.content.Part.{Part}
@@ -49,7 +48,7 @@ piece_of areas origin baseline s = record {
   kind = s.kind;
   node = s.node;
   rect = rect_of (origin +ℤ s.from.0) (baseline -ℤ (area_at areas s.node).above.0) (s.to.0 -ℤ s.from.0)
-    ((area_at areas s.node).above.0 +ℤ (area_at areas s.node).below.0);
+      ((area_at areas s.node).above.0 +ℤ (area_at areas s.node).below.0);
 }
 
 abbrev pub baseline_of : Ended → ℤ

@@ -2,7 +2,7 @@
 -- begins after its left margin where its start is on the line, and where the line's content begins otherwise; it
 -- ends before its right margin where its end is on the line, and where the content ends otherwise. A text reaches
 -- over its parts that stay on the line, and has none where no part does.
-use Rattle.std.specs.Prelude.{ℕ, ◌==◌, ℤ, pos, ◌+ℤ◌, ◌-ℤ◌, Bool, true, false, ◌&&◌, if◌then◌else◌, List, [], ◌∷◌, ◌++◌, length, drop, take, ◌-◌, slice_index_or}
+use Rattle.std.specs.Prelude.{ℕ, ◌==◌, ℤ, pos, ◌+ℤ◌, ◌-ℤ◌, Bool, true, false, ◌&&◌, if◌then◌else◌, List, [], ◌∷◌, length, drop, slice_index_or}
 use Rattle.lay_units.specs.declared.length.Unit.{Unit}
 use Rattle.lay_lines.specs.declared.content.InlineArea.{InlineArea}
 use Rattle.lay_inlines.specs.declared.line_piece.LinePieceKind.{LinePieceKind}

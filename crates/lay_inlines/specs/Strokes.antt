@@ -1,7 +1,7 @@
 -- Where the content of a line stands (CSS 2.2, 9.4.2 and 16.6.1). The pen is that with which the line was filled. It
 -- passes over collapsible spaces at a line's start, which are removed. Those at its end are removed too, and what
 -- follows them there, as the end of an inline box, stands as if they weren't there.
-use Rattle.std.specs.Prelude.{ℕ, ℤ, Bool, true, false, ◌||◌, ◌&&◌, if◌then◌else◌, List, [], ◌∷◌, ◌++◌}
+use Rattle.std.specs.Prelude.{ℤ, Bool, true, false, ◌||◌, ◌&&◌, if◌then◌else◌, List, [], ◌∷◌, ◌++◌}
 use Rattle.lay_lines.specs.declared.content.Part.{Part}
 use Rattle.lay_lines.specs.declared.content.Part.TheVariants.{Space, PreservedSpace, Tab, Linefeed, Text, Start, End}
 use Rattle.lay_lines.specs.declared.content.Stretch.{Stretch}

@@ -7,6 +7,7 @@
 
 mod align;
 mod arithmetic;
+mod laws;
 mod line;
 mod line_piece;
 mod lines;
@@ -15,5 +16,6 @@ mod spans;
 mod strokes;
 
 pub use align::Align;
+pub use laws::{content_ends_with_its_pen, removed_spaces_show_nothing};
 pub use line_piece::{LinePiece, LinePieceKind, LinePieceList};
 pub use lines::{Container, LinesGeometry, line_pieces};

@@ -1,6 +1,6 @@
 //! The pieces of one line.
 
-ghost use Rattle.std.specs.Prelude.{◌≡◌, ◌++◌, ◌+ℤ◌, ◌-ℤ◌, ℤ, pos, ◌^◌, List, All, map, reverse, OnOk};
+ghost use Rattle.std.specs.Prelude.{◌≡◌, ◌++◌, ◌+ℤ◌, ◌-ℤ◌, ℤ, pos, ◌^◌, [], List, All, map, reverse, OnOk};
 ghost use Rattle.lay_inlines.specs.Bounds.{IsPlace, RowWithin, AreaWithin, PensWithin, SpanWithin, IsOrigin, IsBaseline, LineWithin};
 ghost use Rattle.lay_inlines.specs.LinePieces.{line_box, piece_of, baseline_of, origin_of, blank_of, content_end, line_pieces_of};
 ghost use Rattle.lay_inlines.specs.Strokes.{parts_of};
@@ -9,8 +9,8 @@ use crate::align::shift_of;
 use crate::arithmetic::{minus, plus};
 use crate::line_piece::{LinePiece, LinePieceKind};
 use crate::lines::Container;
-use crate::spans::{Ends, Span, area_at, line_spans};
-use crate::strokes::draw;
+use crate::spans::{Behind, Ends, Span, area_at};
+use crate::strokes::{Stroke, draw};
 use lay_lines::{Ended, Frame, InlineArea, Pen, Stretch};
 use lay_units::{NoMemory, Rect, Unit};
 use std::alloc::Global;
@@ -31,30 +31,54 @@ pub struct Origin {
     pub y: Unit,
 }
 
-/// Adds the pieces of a line that takes these stretches, where these inline boxes are open from its start.
-pub fn put_line(
-    alloc: Global,
-    out: &mut Vec<LinePiece>,
-    line: &Line,
-    open_boxes: &[u32],
-    taken: &[Stretch],
-) -> Result<(), NoMemory>
-    requires line { LineWithin line.now.container line.now.frame line.now.row line.now.areas.now }
-    requires pens { PensWithin line.now.frame (blank_of line.now.frame line.now.row) (parts_of taken.now) }
-    ensures { OnOk result (out.new.items
-        ≡ out.old.items ++ line_pieces_of line.now.container line.now.areas.now line.now.frame line.now.row open_boxes.now
-        (parts_of taken.now)) }
-{
-    let blank = Pen::blank(&line.frame, line.row.reach.start);
-    let mut strokes = Vec::new(alloc);
-    let last = draw(&mut strokes, &line.frame, blank, taken)?;
-    let ends = Ends {
-        start: blank.at,
-        end: last.solid,
-    };
-    let spans = line_spans(alloc, line.areas, strokes.as_slice(), open_boxes, ends)?;
-    out.push(line_box(line.container.node, &line.row))?;
-    write(out, spans, line.areas, line.origin(last.solid))
+/// What is kept of one line while its pieces are found, in memory that serves one line after the other.
+#[derive(Drop)]
+pub(crate) struct Sheet {
+    strokes: Vec<Stroke>,
+    behind: Behind,
+}
+
+impl Sheet {
+    pub(crate) fn new(alloc: Global) -> Sheet
+        ensures { result.strokes.items ≡ [] }
+    {
+        Sheet {
+            strokes: Vec::new(alloc),
+            behind: Behind::new(alloc),
+        }
+    }
+
+    /// Adds the pieces of a line that takes these stretches, where these inline boxes are open from its start.
+    pub(crate) fn put_line(
+        &mut self,
+        out: &mut Vec<LinePiece>,
+        line: &Line,
+        open_boxes: &[u32],
+        taken: &[Stretch],
+    ) -> Result<(), NoMemory>
+        requires line { LineWithin line.now.container line.now.frame line.now.row line.now.areas.now }
+        requires pens { PensWithin line.now.frame (blank_of line.now.frame line.now.row) (parts_of taken.now) }
+        ensures { OnOk result (out.new.items
+            ≡ out.old.items ++ line_pieces_of line.now.container line.now.areas.now line.now.frame line.now.row open_boxes.now
+            (parts_of taken.now)) }
+    {
+        let blank = Pen::blank(&line.frame, line.row.reach.start);
+        self.strokes.clear();
+        let last = draw(&mut self.strokes, &line.frame, blank, taken)?;
+        let ends = Ends {
+            start: blank.at,
+            end: last.solid,
+        };
+        let strokes = self.strokes.as_slice();
+        self.behind.fill(line.areas, strokes, open_boxes, ends)?;
+        out.push(line_box(line.container.node, &line.row))?;
+        write(
+            out,
+            &mut self.behind.spans,
+            line.areas,
+            line.origin(last.solid),
+        )
+    }
 }
 
 impl Line<'_> {
@@ -95,18 +119,17 @@ fn line_box(node: u32, row: &Ended) -> LinePiece
 /// Adds what these spans show, the last of which comes first.
 fn write(
     out: &mut Vec<LinePiece>,
-    spans: Vec<Span>,
+    spans: &mut Vec<Span>,
     areas: &[InlineArea],
     origin: Origin,
 ) -> Result<(), NoMemory>
-    requires spans { All SpanWithin spans.items }
+    requires spans { All SpanWithin spans.old.items }
     requires areas { All AreaWithin areas.now }
     requires x { IsOrigin origin.x.0 }
     requires y { IsBaseline origin.y.0 }
     ensures { OnOk result (out.new.items
-        ≡ out.old.items ++ map (piece_of areas.now origin.x.0 origin.y.0) (reverse spans.items)) }
+        ≡ out.old.items ++ map (piece_of areas.now origin.x.0 origin.y.0) (reverse spans.old.items)) }
 {
-    let mut spans = spans;
     while let Some(span) = spans.pop() {
         out.push(piece_of(&span, areas, origin))?;
     }

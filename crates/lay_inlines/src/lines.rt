@@ -9,7 +9,7 @@ ghost use Rattle.lay_inlines.specs.OpenBoxes.{open_after};
 ghost use Rattle.lay_inlines.specs.Strokes.{parts_of};
 
 use crate::align::Align;
-use crate::line::{Line, put_line};
+use crate::line::{Line, Sheet};
 use crate::line_piece::{LinePiece, LinePieceList};
 use crate::open_boxes::pass;
 use lay_lines::{Ended, Frame, InlineArea, LineContent, Stretch};
@@ -45,6 +45,7 @@ pub fn line_pieces(alloc: Global, lines: &LinesGeometry) -> Result<LinePieceList
         ≡ pieces_of lines.now.container lines.now.content.now lines.now.rows.now lines.now.areas.now) }
 {
     let mut pieces = Vec::new(alloc);
+    let mut sheet = Sheet::new(alloc);
     let mut open_boxes = Vec::new(alloc);
     let mut frame = first_frame(lines);
     let mut rest = lines.content.stretches();
@@ -57,7 +58,7 @@ pub fn line_pieces(alloc: Global, lines: &LinesGeometry) -> Result<LinePieceList
             areas: lines.areas,
         };
         let taken = front(rest, row.reach.count);
-        put_row(alloc, &mut pieces, &mut open_boxes, &line, taken)?;
+        put_row(&mut sheet, &mut pieces, &mut open_boxes, &line, taken)?;
         frame = next_frame(frame, row.seen);
         rest = back(rest, row.reach.count);
     }
@@ -66,7 +67,7 @@ pub fn line_pieces(alloc: Global, lines: &LinesGeometry) -> Result<LinePieceList
 
 /// Adds the pieces of a line, where it is seen. The open boxes are then those after it.
 fn put_row(
-    alloc: Global,
+    sheet: &mut Sheet,
     out: &mut Vec<LinePiece>,
     open_boxes: &mut Vec<u32>,
     line: &Line,
@@ -81,7 +82,7 @@ fn put_row(
         ≡ open_after open_boxes.old.items (parts_of taken.now)) }
 {
     if line.row.seen {
-        put_line(alloc, out, line, open_boxes.as_slice(), taken)?;
+        sheet.put_line(out, line, open_boxes.as_slice(), taken)?;
     }
     pass(open_boxes, taken)
 }

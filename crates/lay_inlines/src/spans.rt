@@ -32,47 +32,47 @@ pub struct Ends {
 /// What stands behind some part of a line, the last of it first: the boxes and texts that begin there, the right
 /// edges of the boxes that end there only, and whether there is content.
 #[derive(Drop)]
-struct Behind {
-    spans: Vec<Span>,
+pub(crate) struct Behind {
+    pub(crate) spans: Vec<Span>,
     edges: Vec<Unit>,
     followed: bool,
 }
 
-/// The boxes and texts of a line with these strokes, on which these inline boxes are open from its start; the
-/// last one first.
-pub fn line_spans(
-    alloc: Global,
-    areas: &[InlineArea],
-    strokes: &[Stroke],
-    open_boxes: &[u32],
-    ends: Ends,
-) -> Result<Vec<Span>, NoMemory>
-    requires areas { All AreaWithin areas.now }
-    requires strokes { All StrokeWithin strokes.now }
-    requires start { IsPlace ends.start.0 }
-    requires end { IsPlace ends.end.0 }
-    ensures spans { IfOk result (λ v. reverse v.items
-        ≡ open_spans ends.start.0 ends.end.0 (right_edges areas.now strokes.now) open_boxes.now
-        ++ spans_of areas.now ends.end.0 strokes.now) }
-    ensures within { IfOk result (λ v. All SpanWithin v.items) }
-{
-    let mut behind = Behind {
-        spans: Vec::new(alloc),
-        edges: Vec::new(alloc),
-        followed: false,
-    };
-    behind.put_all(areas, strokes, ends.end)?;
-    behind.put_open(open_boxes, ends)?;
-    Ok(behind.into_spans())
-}
-
 impl Behind {
-    fn into_spans(self) -> Vec<Span>
-        requires { BehindWithin self }
-        ensures spans { result.items ≡ self.spans.items }
-        ensures within { All SpanWithin result.items }
+    /// Nothing.
+    pub(crate) fn new(alloc: Global) -> Behind
+        ensures { result.spans.items ≡ [] }
     {
-        self.spans
+        Behind {
+            spans: Vec::new(alloc),
+            edges: Vec::new(alloc),
+            followed: false,
+        }
+    }
+
+    /// The boxes and texts of a line with these strokes, on which these inline boxes are open from its start; the
+    /// last one first.
+    pub(crate) fn fill(
+        &mut self,
+        areas: &[InlineArea],
+        strokes: &[Stroke],
+        open_boxes: &[u32],
+        ends: Ends,
+    ) -> Result<(), NoMemory>
+        requires areas { All AreaWithin areas.now }
+        requires strokes { All StrokeWithin strokes.now }
+        requires start { IsPlace ends.start.0 }
+        requires end { IsPlace ends.end.0 }
+        ensures spans { OnOk result (reverse self.new.spans.items
+            ≡ open_spans ends.start.0 ends.end.0 (right_edges areas.now strokes.now) open_boxes.now
+            ++ spans_of areas.now ends.end.0 strokes.now) }
+        ensures within { OnOk result (All SpanWithin self.new.spans.items) }
+    {
+        self.spans.clear();
+        self.edges.clear();
+        self.followed = false;
+        self.put_all(areas, strokes, ends.end)?;
+        self.put_open(open_boxes, ends)
     }
 
     fn put_all(
@@ -122,7 +122,15 @@ impl Behind {
         let shown = shown_of(stroke.part, stroke.before.started && self.followed);
         let from = place(stroke.before, has_content);
         let to = place(stroke.after, self.followed);
-        self.put_shown(areas, shown, Ends { start: from, end: to }, end)?;
+        self.put_shown(
+            areas,
+            shown,
+            Ends {
+                start: from,
+                end: to,
+            },
+            end,
+        )?;
         self.followed = has_content;
         Ok(())
     }

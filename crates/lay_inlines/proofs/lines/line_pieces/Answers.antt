@@ -1,10 +1,8 @@
-use Rattle.std.proofs.Common.{◌≡◌, ◌∙◌, ◌^◌, pos, List, take, get_or, ap, sym, subst, arith, rules}
+use Rattle.std.proofs.Common.{◌∙◌, ap, sym, subst}
 use Rattle.std.proofs.lemmas.List.Elements.{All-get_or}
 use Rattle.lay_units.specs.Units.{IsUsed}
-use Rattle.lay_lines.specs.declared.content.Stretch.{Stretch}
 use Rattle.lay_lines.specs.declared.frame.Frame.{Frame}
 use Rattle.lay_inlines.specs.Bounds.{RowWithin}
-use Rattle.lay_inlines.specs.Strokes.{parts_of}
 use Rattle.lay_inlines.proofs.RowSteps.{pieces_more, next_indent}
 use Rattle.lay_inlines.proofs.Spreads.{pens_of, rest_spread}
 use Rattle.lay_inlines.proofs.lines.line_pieces.Goals as goal
@@ -23,8 +21,8 @@ loop-k-preserved c =
     let frame = c.next_frame-frame.ensures in
     record {
       pieces = pieces_more c.args.lines.now.container c.args.lines.now.areas.now c.loop-k.frame c.loop-k.open_boxes.items c.loop-k.rest.now c.args.lines.now.rows.now c.loop-k.k _
-        c.loop-k.pieces.items c.put_row.new.out.items c.next_frame-frame.result c.put_row.new.open_boxes.items c.front-taken.result.now c.back-rest.result.now
-        lt c.front-taken.ensures c.back-rest.ensures frame c.in_ok-put_row.ensures.open_boxes c.in_ok-put_row.ensures.pieces ∙ old.pieces;
+          c.loop-k.pieces.items c.put_row.new.out.items c.next_frame-frame.result c.put_row.new.open_boxes.items c.front-taken.result.now c.back-rest.result.now
+          lt c.front-taken.ensures c.back-rest.ensures frame c.in_ok-put_row.ensures.open_boxes c.in_ok-put_row.ensures.pieces ∙ old.pieces;
       left = ap (λ (f : Frame). f.left) frame ∙ old.left;
       tab = ap (λ (f : Frame). f.tab) frame ∙ old.tab;
       indent = subst (λ (f : Frame). IsUsed f.indent.0) (sym frame) (next_indent c.loop-k.frame _ old.indent);

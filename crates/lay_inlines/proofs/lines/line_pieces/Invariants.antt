@@ -7,7 +7,7 @@ use Rattle.lay_inlines.proofs.lines.line_pieces.Given as goal
 abbrev pub invariant-loop-k : goal.invariant-loop-k
 invariant-loop-k l = record {
   pieces : l.pieces.items ++ pieces_from l.lines.container l.lines.areas.now l.frame l.open_boxes.items l.rest (drop l.k l.lines.rows.now)
-    ≡ pieces_of l.lines.container l.lines.content.now l.lines.rows.now l.lines.areas.now;
+      ≡ pieces_of l.lines.container l.lines.content.now l.lines.rows.now l.lines.areas.now;
   left : l.frame.left ≡ l.lines.container.left;
   tab : l.frame.tab ≡ l.lines.content.now.tab;
   indent : IsUsed l.frame.indent.0;

@@ -1,4 +1,4 @@
-use Rattle.std.proofs.Common.{◌≡◌, ◌∙◌, ◌+◌, List, ℕ, drop, get_or, ap, sym, rules}
+use Rattle.std.proofs.Common.{◌∙◌, ◌+◌, List, ℕ, drop, get_or, ap, sym, rules}
 use Rattle.lay_lines.specs.declared.content.Part.{Part}
 use Rattle.lay_inlines.specs.OpenBoxes.{open_after}
 use Rattle.lay_inlines.specs.Strokes.{parts_of}

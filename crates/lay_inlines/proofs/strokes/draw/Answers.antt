@@ -1,12 +1,10 @@
-use Rattle.std.proofs.Common.{◌≡◌, ◌∙◌, ◌++◌, ◌+◌, List, ℕ, drop, get_or, ap, sym, subst, rules}
-use Rattle.std.proofs.lemmas.List.{append_assoc}
+use Rattle.std.proofs.Common.{◌∙◌, ◌++◌, ◌+◌, List, drop, get_or, ap, sym, subst, rules}
 use Rattle.lay_lines.specs.declared.content.Part.{Part}
 use Rattle.lay_lines.specs.declared.pen.Pen.{Pen}
 use Rattle.lay_lines.specs.Pens.{over_all}
-use Rattle.lay_inlines.specs.declared.strokes.Stroke.{Stroke}
 use Rattle.lay_inlines.specs.Bounds.{PensWithin}
 use Rattle.lay_inlines.specs.Strokes.{parts_of, strokes}
-use Rattle.lay_inlines.proofs.Content.{parts_more, over_all-append, strokes-append, draw_more}
+use Rattle.lay_inlines.proofs.Content.{parts_more, over_all-append, draw_more}
 use Rattle.lay_inlines.proofs.PenPlaces.{front_within, back_within}
 use Rattle.lay_inlines.proofs.strokes.draw.Goals as goal
 
@@ -31,8 +29,8 @@ loop-k-preserved c =
     let all = subst (λ (xs : List Part). PensWithin fr p xs) more c.loop-k.invariant.fits in
     record {
       strokes = draw_more fr p c.in_ok-pen.pen here.parts rest c.loop-k.out.items c.draw_parts.new.out.items
-        (c.in_ok-pen.ensures.strokes ∙ ap (λ (xs : List Part). c.loop-k.out.items ++ strokes fr p xs) same) pen
-        ∙ ap (λ (xs : List Part). c.loop-k.out.items ++ strokes fr p xs) (sym more) ∙ c.loop-k.invariant.strokes;
+          (c.in_ok-pen.ensures.strokes ∙ ap (λ (xs : List Part). c.loop-k.out.items ++ strokes fr p xs) same) pen
+          ∙ ap (λ (xs : List Part). c.loop-k.out.items ++ strokes fr p xs) (sym more) ∙ c.loop-k.invariant.strokes;
       pen = ap (λ (q : Pen). over_all fr q rest) pen ∙ sym (over_all-append fr p here.parts rest) ∙ ap (λ (xs : List Part). over_all fr p xs) (sym more) ∙ c.loop-k.invariant.pen;
       fits = subst (λ (q : Pen). PensWithin fr q rest) (sym pen) (back_within fr p here.parts rest all);
     }

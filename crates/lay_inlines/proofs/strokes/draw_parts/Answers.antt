@@ -1,5 +1,5 @@
 use Rattle.std.proofs.Common.{rules}
-use Rattle.lay_inlines.proofs.PenPlaces.{over_fits, next_within}
+use Rattle.lay_inlines.proofs.PenPlaces.{over_fits}
 use Rattle.lay_inlines.proofs.strokes.draw_parts.Goals as goal
 
 pub over-after-requires : goal.over-after-requires

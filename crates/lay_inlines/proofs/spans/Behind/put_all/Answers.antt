@@ -1,5 +1,5 @@
-use Rattle.std.proofs.Common.{◌≡◌, ◌++◌, ◌∷◌, ◌∙◌, ◌||◌, ◌+◌, ◌-◌, Bool, List, All, length, drop, reverse, ap}
-use Rattle.std.proofs.lemmas.List.Elements.{All-drop, All-head, All-same}
+use Rattle.std.proofs.Common.{◌∙◌, ◌||◌, ◌+◌, ◌-◌, Bool, length, drop, ap}
+use Rattle.std.proofs.lemmas.List.Elements.{All-drop, All-head}
 use Rattle.lay_inlines.specs.Bounds.{StrokeWithin}
 use Rattle.lay_inlines.specs.Strokes.{is_content}
 use Rattle.lay_inlines.proofs.Backward.{spans_step, edges_step}

@@ -1,35 +1,35 @@
-use Rattle.std.proofs.Common.{◌≡◌, ◌∙◌, ◌++◌, ap, sym, subst}
+use Rattle.std.proofs.Common.{◌∙◌, ◌++◌, ap, sym, subst}
 use Rattle.std.proofs.lemmas.List.Elements.{All-same}
 use Rattle.lay_lines.specs.declared.pen.Pen.{Pen}
 use Rattle.lay_lines.specs.Pens.{over_all}
-use Rattle.lay_inlines.specs.Bounds.{PensWithin, PenWithin, StrokeWithin}
+use Rattle.lay_inlines.specs.Bounds.{PenWithin, StrokeWithin}
 use Rattle.lay_inlines.specs.LinePieces.{blank_of}
 use Rattle.lay_inlines.specs.Strokes.{parts_of, strokes}
 use Rattle.lay_inlines.proofs.PenPlaces.{pen_fits, first_within, last_within, strokes_within}
-use Rattle.lay_inlines.proofs.line.put_line.Goals as goal
+use Rattle.lay_inlines.proofs.line.Sheet.put_line.Goals as goal
 
 pub blank-blank-requires-clause-fits : goal.blank-blank-requires-clause-fits
 blank-blank-requires-clause-fits c =
     let fr = c.args.line.now.frame in
     pen_fits (blank_of fr c.args.line.now.row) (first_within fr (blank_of fr c.args.line.now.row) (parts_of c.args.taken.now) c.requires.pens)
 
-pub line_spans-requires-clause-strokes : goal.line_spans-requires-clause-strokes
-line_spans-requires-clause-strokes c =
+pub fill-requires-clause-strokes : goal.fill-requires-clause-strokes
+fill-requires-clause-strokes c =
     let fr = c.args.line.now.frame in
     let p = blank_of fr c.args.line.now.row in
     let xs = parts_of c.args.taken.now in
-    let e = c.as_slice.ensures.value ∙ c.in_ok-last.ensures.strokes ∙ (λ i. c.new-strokes.ensures.items i ++ strokes fr (c.blank-blank.ensures i) xs) in
-    All-same StrokeWithin c.as_slice.result.now (strokes fr p xs) e (strokes_within fr p xs c.requires.pens)
+    let e = c.as_slice-strokes.ensures.value ∙ c.in_ok-last.ensures.strokes ∙ (λ i. c.clear.ensures.items i ++ strokes fr (c.blank-blank.ensures i) xs) in
+    All-same StrokeWithin c.as_slice-strokes.result.now (strokes fr p xs) e (strokes_within fr p xs c.requires.pens)
 
-pub line_spans-requires-clause-start : goal.line_spans-requires-clause-start
-line_spans-requires-clause-start c =
+pub fill-requires-clause-start : goal.fill-requires-clause-start
+fill-requires-clause-start c =
     let fr = c.args.line.now.frame in
     let p = blank_of fr c.args.line.now.row in
     let w = first_within fr p (parts_of c.args.taken.now) c.requires.pens in
     (subst PenWithin (sym c.blank-blank.ensures) w).at
 
-pub line_spans-requires-clause-end : goal.line_spans-requires-clause-end
-line_spans-requires-clause-end c =
+pub fill-requires-clause-end : goal.fill-requires-clause-end
+fill-requires-clause-end c =
     let fr = c.args.line.now.frame in
     let p = blank_of fr c.args.line.now.row in
     let w = last_within fr p (parts_of c.args.taken.now) c.requires.pens in

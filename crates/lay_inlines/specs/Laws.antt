@@ -1,0 +1,27 @@
+-- What the definitions come to. The content of a line ends where it did when the line was filled. A collapsible space
+-- at the start or at the end of a line shows nothing, and moves nothing (CSS 2.2, 16.6.1).
+use Rattle.std.specs.Prelude.{ℕ, ◌≡◌, List, [], ◌∷◌, ◌++◌, take}
+use Rattle.lay_lines.specs.declared.content.Advance.{Advance}
+use Rattle.lay_lines.specs.declared.content.InlineArea.{InlineArea}
+use Rattle.lay_lines.specs.declared.content.Part.{Part}
+use Rattle.lay_lines.specs.declared.content.Part.TheVariants.{Space}
+use Rattle.lay_lines.specs.declared.frame.Frame.{Frame}
+use Rattle.lay_lines.specs.declared.row.Ended.{Ended}
+use Rattle.lay_lines.specs.Rows.{Position, Row, IsFilled, ended_of}
+use Rattle.lay_inlines.specs.declared.lines.Container.{Container}
+use Rattle.lay_inlines.specs.LinePieces.{content_end, line_pieces_of}
+use Rattle.lay_inlines.specs.Strokes.{parts_of}
+
+abbrev pub ContentEndsWithItsPen : Type 0
+ContentEndsWithItsPen =
+    (p : Position) (r : Row) → IsFilled p r → content_end p.frame (ended_of r) (parts_of (take r.reach.count p.rest)) ≡ r.reach.pen.solid.0
+
+abbrev pub SpacesAtTheStartAreRemoved : Type 0
+SpacesAtTheStartAreRemoved =
+    (c : Container) (areas : List InlineArea) (fr : Frame) (row : Ended) (ns : List ℕ) (w : Advance) (xs : List Part)
+    → line_pieces_of c areas fr row ns (Space w ∷ xs) ≡ line_pieces_of c areas fr row ns xs
+
+abbrev pub SpacesAtTheEndAreRemoved : Type 0
+SpacesAtTheEndAreRemoved =
+    (c : Container) (areas : List InlineArea) (fr : Frame) (row : Ended) (ns : List ℕ) (xs : List Part) (w : Advance)
+    → line_pieces_of c areas fr row ns (xs ++ Space w ∷ []) ≡ line_pieces_of c areas fr row ns xs

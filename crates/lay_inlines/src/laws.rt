@@ -1,0 +1,14 @@
+//! The laws of the definitions. The functions do nothing.
+
+ghost use Rattle.lay_inlines.specs.Laws.{ContentEndsWithItsPen, SpacesAtTheStartAreRemoved, SpacesAtTheEndAreRemoved};
+
+/// The content of a line ends where the pen stood that filled the line.
+pub fn content_ends_with_its_pen()
+    ensures { ContentEndsWithItsPen }
+{}
+
+/// Collapsible spaces at either end of a line show nothing and move nothing.
+pub fn removed_spaces_show_nothing()
+    ensures start { SpacesAtTheStartAreRemoved }
+    ensures end { SpacesAtTheEndAreRemoved }
+{}
