@@ -1,0 +1,4 @@
+pub mod Disjunctions
+pub mod SeenPens
+pub mod ShownBoxes
+pub mod SeenRows

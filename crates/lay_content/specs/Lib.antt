@@ -7,3 +7,4 @@ pub mod TextParts
 pub mod Stretches
 pub mod Contents
 pub mod SeenLines
+pub mod Laws

@@ -4,7 +4,7 @@
 //! Contracts cite `content_in` of `specs/Contents.antt`, which stands on `specs/Stretches.antt` (segments as stretches),
 //! `specs/TextParts.antt`, `specs/InlineBoxes.antt` and `specs/LineFloats.antt` (what is in them) and
 //! `specs/LineHeights.antt` (10.8.1); `areas_of` of `specs/InlineBoxes.antt`, what is painted of texts and inline boxes;
-//! and `has_seen_line` of `specs/SeenLines.antt`. No atomic inline-level box is laid out yet.
+//! and `has_seen_line` of `specs/SeenLines.antt`, which says of content what its lines come to (`specs/Laws.antt`). No atomic inline-level box is laid out yet.
 #![tactic(auto)]
 
 mod areas;
@@ -12,6 +12,7 @@ mod box_measures;
 mod container;
 mod contents;
 mod inline_boxes;
+mod laws;
 mod line_floats;
 mod line_heights;
 mod seen_lines;
@@ -23,4 +24,5 @@ pub use areas::inline_areas;
 pub use box_measures::BoxMeasures;
 pub use container::Container;
 pub use contents::line_content;
+pub use laws::seen_lines_are_seen;
 pub use seen_lines::has_seen_line;
