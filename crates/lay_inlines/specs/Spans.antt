@@ -26,7 +26,7 @@ area_at areas n = slice_index_or areas n no_area
 abbrev pub span_of : LinePieceKind → ℕ → ℤ → ℤ → Span
 span_of kind n from to = record { kind = kind; node = n; from = unit from; to = unit to }
 
--- the right border edges of the inline boxes that end on the line after these boxes' ends, innermost first
+-- the right edges before a part: the box that begins with it isn't open there, and the one that ends with it is
 abbrev pub edges_before : List InlineArea → Shown → ℤ → List Unit → List Unit
 edges_before areas (OfText t) to edges = edges
 edges_before areas (Opens n) to edges = drop 1 edges
@@ -41,7 +41,7 @@ abbrev pub right_edges : List InlineArea → List Stroke → List Unit
 right_edges areas [] = []
 right_edges areas (s ∷ ss) = edges_before areas (shown_before s ss) (end_of s (has_content ss)) (right_edges areas ss)
 
--- and one that this many of them are in, where the line's content ends at `end`
+-- that of the box which this many open ones are in: the end of the line's content, where its own end isn't on the line
 abbrev pub edge_at : List Unit → ℕ → ℤ → ℤ
 edge_at edges n end = (slice_index_or edges n (unit end)).0
 
@@ -50,7 +50,7 @@ is_text Line = false
 is_text Inline = false
 is_text Text = true
 
--- a bit of a text before these; what is left of the text on its line follows it
+-- a bit of a text before these, of which the first is what is left of the text on its line
 abbrev pub with_text : ℕ → ℤ → ℤ → List Span → List Span
 with_text t from to [] = span_of Text t from to ∷ []
 with_text t from to (s ∷ ss) =
