@@ -20,6 +20,7 @@ use Rattle.lay_floats.specs.declared.requests.Clear.{Clear as Cleared}
 use Rattle.lay_floats.specs.Within.{IsWithin}
 use Rattle.lay_flow.specs.declared.flow_box.FlowBox.{FlowBox}
 use Rattle.lay_flow.specs.declared.flow_box.FlowKind.{FlowKind}
+use Rattle.lay_flow.specs.declared.flow_box.LinesBox.{LinesBox}
 use Rattle.lay_flow.specs.declared.flow_box.FlowKind.TheVariants.{Block as block, Lines as lines}
 use Rattle.lay_flow.specs.BlockPositions.{given_or_auto}
 use Rattle.lay_flow.specs.BlockSizes.{IsBoxSize}
@@ -340,3 +341,39 @@ lines_by m lefts k false =
 -- a flow box has lines where its box holds lines of which one is seen
 pub lines_are_held : (m : BoxMeasuresValue) (lefts : List Length) (k : ℕ) → has_lines (flow_box_of m lefts k).kind ≡ holds_lines m lefts k
 lines_are_held m lefts k = lines_by m lefts k (holds_lines m lefts k)
+
+and_one : (a b : Bool) → a ≡ true → (a && b) ≡ b
+and_one true b e = refl
+and_one false b e = absurd cc
+
+-- the left content edge of a box with lines is near
+pub lines_left : (flow_boxes : List FlowBox) (k : ℕ) (l : LinesBox) → AreFlowBoxes flow_boxes → k < length flow_boxes → (box_at flow_boxes k).kind ≡ lines l → IsWithin (pos 1125899906842624) l.block.content.left.0
+lines_left flow_boxes k l are within is =
+    let fits : BlockBoxFits l.block = subst KindFits is (are.fits k within) in
+    fits.left
+
+-- what a box is, by what its lines hold and whether it stands in lines
+pub kind_with : (m : BoxMeasuresValue) (lefts : List Length) (k : ℕ) (content : LineContentValue) → lines_in m lefts k ≡ Some content
+    → (flow_box_of m lefts k).kind ≡ lines (record { block = own_block m.boxes m.sizes lefts k; content = content })
+kind_with m lefts k content is = ap (kind_by m lefts k) is
+
+pub kind_inside : (m : BoxMeasuresValue) (lefts : List Length) (k : ℕ) → lines_in m lefts k ≡ None → is_in_lines m lefts k ≡ true
+    → (flow_box_of m lefts k).kind ≡ kind_in_lines (float_side m.boxes k) (cleared_by m.boxes k) (own_box_at m.inner k)
+kind_inside m lefts k is inside = ap (kind_by m lefts k) is ∙ rw inside refl
+
+pub kind_outside : (m : BoxMeasuresValue) (lefts : List Length) (k : ℕ) → lines_in m lefts k ≡ None → is_in_lines m lefts k ≡ false
+    → (flow_box_of m lefts k).kind ≡ kind_alone m.boxes m.sizes m.inner lefts k
+kind_outside m lefts k is outside = ap (kind_by m lefts k) is ∙ rw outside refl
+
+pub box_is : (m : BoxMeasuresValue) (lefts : List Length) (k p : ℕ) (kind : FlowKind) → p ≡ container_of m.boxes k → kind ≡ (flow_box_of m lefts k).kind
+    → (let b : FlowBox = record { parent = p; kind = kind } in b) ≡ flow_box_of m lefts k
+box_is m lefts k p kind parent is = λ i. record { parent = parent i; kind = is i }
+
+-- a box stands in lines where its container's flow box has lines
+pub in_lines_is : (m : BoxMeasuresValue) (lefts : List Length) (k p : ℕ) (b : FlowBox) → 0 < k → p ≡ container_of m.boxes k → b ≡ flow_box_of m lefts p → has_lines b.kind ≡ is_in_lines m lefts k
+in_lines_is m lefts k p b positive parent is =
+    ap (λ (x : FlowBox). has_lines x.kind) is ∙ lines_are_held m lefts p ∙ ap (holds_lines m lefts) parent ∙ sym (and_one (nat_lt 0 k) (holds_lines m lefts (container_of m.boxes k)) (positive_lt k positive))
+
+pub first_out : (m : BoxMeasuresValue) (lefts : List Length) (k : ℕ) → k ≡ 0 → is_in_lines m lefts k ≡ false
+first_out m lefts zero is = refl
+first_out m lefts (suc k) is = absurd (omega (arith, is))

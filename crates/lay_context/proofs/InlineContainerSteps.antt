@@ -73,14 +73,20 @@ same_eq k = eq-eqb k k refl
 other_eq : (j k : ℕ) → j ≢ k → (j == k) ≡ false
 other_eq j k other = ne_eqb j k other
 
+here_more : (level : Level) (boxes : List BoxNode) (flags : List Bool) (n c : ℕ) → container_of boxes n ≡ c → HoldersTo level boxes flags n → 0 < n → c < length boxes → is_of level boxes n ≡ true
+    → flag_at (slice_set flags c true) c ≡ holds level boxes c (n + 1)
+here_more level boxes flags n c here so_far positive within is =
+    let set = set_here flags c (omega (arith, within, so_far.count)) in
+    let same : (container_of boxes n == c) ≡ true = rw here (same_eq c) in
+    set ∙ sym (rw (add-one n) (one_here (holds level boxes c n) (nat_lt 0 n) (container_of boxes n == c) (is_of level boxes n) (positive_lt n positive) same is))
+
 -- with one that is
 pub one_more : (level : Level) (boxes : List BoxNode) (flags : List Bool) (n : ℕ) → HoldersTo level boxes flags n → 0 < n → container_of boxes n < length boxes → is_of level boxes n ≡ true
     → HoldersTo level boxes (slice_set flags (container_of boxes n) true) (n + 1)
 one_more level boxes flags n so_far positive within is = record {
   count = set_count flags (container_of boxes n) ∙ so_far.count;
   each = λ c lt. elim (cases_eq (container_of boxes n) c) [
-    | inl here ↦ (let set = set_here flags (container_of boxes n) (omega (arith, within, so_far.count)) in
-        rw (add-one n, ← here) (set ∙ sym (one_here (holds level boxes (container_of boxes n) n) (nat_lt 0 n) (container_of boxes n == container_of boxes n) (is_of level boxes n) (positive_lt n positive) (same_eq (container_of boxes n)) is)))
+    | inl here ↦ rw here (here_more level boxes flags n c here so_far positive lt is)
     | inr other ↦ rw (add-one n) (set_other flags (container_of boxes n) c other ∙ so_far.each c lt
         ∙ sym (other_more (holds level boxes c n) (nat_lt 0 n) (container_of boxes n == c) (is_of level boxes n) (other_eq (container_of boxes n) c other)))
   ];

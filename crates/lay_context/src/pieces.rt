@@ -2,10 +2,11 @@
 
 ghost use Rattle.std.specs.Prelude.{◌≡◌, ◌<◌, ◌≤◌, All, length, map, IfOk};
 ghost use Rattle.lay_content.specs.InlineBoxes.{areas_of};
+ghost use Rattle.lay_flow.specs.Boxes.{box_at};
 ghost use Rattle.lay_inlines.specs.Bounds.{AreaWithin, RowWithin};
 ghost use Rattle.lay_sizes.specs.BoxSizes.{border_width};
 ghost use Rattle.lay_sizes.specs.SizeBounds.{SizeFits};
-ghost use Rattle.lay_context.specs.ContextPieces.{align_of, id_of, kind_on_line, line_container, piece_of_box, piece_on_line, pieces_of_box, pieces_to, rows_at};
+ghost use Rattle.lay_context.specs.ContextPieces.{align_of, id_of, kind_on_line, line_container, piece_of_box, piece_on_line, pieces_of_box, pieces_on_lines, pieces_to, rows_at};
 ghost use Rattle.lay_context.specs.LineBoxes.{measures_in};
 ghost use Rattle.lay_context.specs.PieceParts.{with_pieces};
 ghost use Rattle.lay_context.specs.PlaceBounds.{AreNearPieces, HaveCounts, IsNear, IsRectNear};
@@ -21,7 +22,7 @@ use lay_content::{BoxMeasures, inline_areas};
 use lay_doc::{NodeId, TextAlign};
 use lay_flow::{BlockBox, FlowKind};
 use lay_frag::{Frag, FragKind};
-use lay_inlines::{Align, Container, LinePiece, LinePieceKind, LinesGeometry, line_pieces};
+use lay_inlines::{Align, Container, LinePiece, LinePieceKind, LinePieceList, LinesGeometry, line_pieces};
 use lay_lines::{Ended, InlineArea};
 use lay_sizes::{BoxSizes, border_width};
 use lay_units::{NoMemory, Rect, Unit};
@@ -94,6 +95,24 @@ fn with_box(
         return Ok(pieces);
     }
     let pieces = pieces.with(piece_of_box(input, places, k)?)?;
+    let on_lines = pieces_on_lines(alloc, input, places, areas, k)?;
+    with_lines(pieces, input.boxes(), on_lines.as_slice())
+}
+
+/// What stands on the lines of the box at k.
+fn pieces_on_lines(
+    alloc: Global,
+    input: &PlaceInput,
+    places: &BoxPlaces,
+    areas: &[InlineArea],
+    k: usize,
+) -> Result<LinePieceList, NoMemory>
+    requires place { k < length input.now.boxes }
+    requires counts { HaveCounts input.now.boxes places.now }
+    requires areas { areas.now ≡ areas_of (measures_in input.now places.now.parts) }
+    requires within { All AreaWithin areas.now }
+    ensures { IfOk result (λ l. map (piece_on_line input.now.boxes) l ≡ pieces_on_lines (measures_in input.now places.now.parts) places.now.places k (box_at places.now.flow_boxes k).kind) }
+{
     match &places.flow_boxes.as_slice()[k].kind {
         FlowKind::Lines(lines) => {
             let geometry = LinesGeometry {
@@ -102,10 +121,13 @@ fn with_box(
                 rows: rows_at(places, k)?,
                 areas,
             };
-            let on_lines = line_pieces(alloc, &geometry)?;
-            with_lines(pieces, input.boxes(), on_lines.as_slice())
+            line_pieces(alloc, &geometry)
         }
-        _ => Ok(pieces),
+        FlowKind::Block(_)
+        | FlowKind::Solid(_)
+        | FlowKind::Float(_)
+        | FlowKind::LineFloat(_)
+        | FlowKind::Inline => Ok(LinePieceList::new(Vec::new(alloc))),
     }
 }
 
