@@ -20,7 +20,6 @@ use Rattle.lay_floats.specs.declared.requests.Clear.{Clear as Cleared}
 use Rattle.lay_floats.specs.Within.{IsWithin}
 use Rattle.lay_flow.specs.declared.flow_box.FlowBox.{FlowBox}
 use Rattle.lay_flow.specs.declared.flow_box.FlowKind.{FlowKind}
-use Rattle.lay_flow.specs.declared.flow_box.LinesBox.{LinesBox}
 use Rattle.lay_flow.specs.declared.flow_box.FlowKind.TheVariants.{Block as block, Lines as lines}
 use Rattle.lay_flow.specs.BlockPositions.{given_or_auto}
 use Rattle.lay_flow.specs.BlockSizes.{IsBoxSize}
@@ -346,12 +345,6 @@ and_one : (a b : Bool) → a ≡ true → (a && b) ≡ b
 and_one true b e = refl
 and_one false b e = absurd cc
 
--- the left content edge of a box with lines is near
-pub lines_left : (flow_boxes : List FlowBox) (k : ℕ) (l : LinesBox) → AreFlowBoxes flow_boxes → k < length flow_boxes → (box_at flow_boxes k).kind ≡ lines l → IsWithin (pos 1125899906842624) l.block.content.left.0
-lines_left flow_boxes k l are within is =
-    let fits : BlockBoxFits l.block = subst KindFits is (are.fits k within) in
-    fits.left
-
 -- what a box is, by what its lines hold and whether it stands in lines
 pub kind_with : (m : BoxMeasuresValue) (lefts : List Length) (k : ℕ) (content : LineContentValue) → lines_in m lefts k ≡ Some content
     → (flow_box_of m lefts k).kind ≡ lines (record { block = own_block m.boxes m.sizes lefts k; content = content })
@@ -374,6 +367,6 @@ pub in_lines_is : (m : BoxMeasuresValue) (lefts : List Length) (k p : ℕ) (b : 
 in_lines_is m lefts k p b positive parent is =
     ap (λ (x : FlowBox). has_lines x.kind) is ∙ lines_are_held m lefts p ∙ ap (holds_lines m lefts) parent ∙ sym (and_one (nat_lt 0 k) (holds_lines m lefts (container_of m.boxes k)) (positive_lt k positive))
 
-pub first_out : (m : BoxMeasuresValue) (lefts : List Length) (k : ℕ) → k ≡ 0 → is_in_lines m lefts k ≡ false
+pub first_out : (m : BoxMeasuresValue) (lefts : List Length) (k : ℕ) → k ≡ 0 → nat_lt 0 k ≡ is_in_lines m lefts k
 first_out m lefts zero is = refl
 first_out m lefts (suc k) is = absurd (omega (arith, is))

@@ -3,6 +3,7 @@
 ghost use Rattle.std.specs.Prelude.{◌≡◌, ◌<◌, ◌≤◌, All, length, map, IfOk};
 ghost use Rattle.lay_content.specs.InlineBoxes.{areas_of};
 ghost use Rattle.lay_flow.specs.Boxes.{box_at};
+ghost use Rattle.lay_flow.specs.FlowBoxes.{KindFits};
 ghost use Rattle.lay_inlines.specs.Bounds.{AreaWithin, RowWithin};
 ghost use Rattle.lay_sizes.specs.BoxSizes.{border_width};
 ghost use Rattle.lay_sizes.specs.SizeBounds.{SizeFits};
@@ -20,7 +21,7 @@ use crate::piece_list::PieceList;
 use lay_boxgen::BoxNode;
 use lay_content::{BoxMeasures, inline_areas};
 use lay_doc::{NodeId, TextAlign};
-use lay_flow::{BlockBox, FlowKind};
+use lay_flow::{BlockBox, FlowBox, FlowBoxes, FlowKind};
 use lay_frag::{Frag, FragKind};
 use lay_inlines::{Align, Container, LinePiece, LinePieceKind, LinePieceList, LinesGeometry, line_pieces};
 use lay_lines::{Ended, InlineArea};
@@ -113,7 +114,7 @@ fn pieces_on_lines(
     requires within { All AreaWithin areas.now }
     ensures { IfOk result (λ l. map (piece_on_line input.now.boxes) l ≡ pieces_on_lines (measures_in input.now places.now.parts) places.now.places k (box_at places.now.flow_boxes k).kind) }
 {
-    match &places.flow_boxes.as_slice()[k].kind {
+    match kind_at(&places.flow_boxes, k) {
         FlowKind::Lines(lines) => {
             let geometry = LinesGeometry {
                 container: line_container(input, k, &lines.block),
@@ -129,6 +130,22 @@ fn pieces_on_lines(
         | FlowKind::LineFloat(_)
         | FlowKind::Inline => Ok(LinePieceList::new(Vec::new(alloc))),
     }
+}
+
+/// What the box at k is to its flow.
+fn kind_at(flow_boxes: &FlowBoxes, k: usize) -> &FlowKind
+    requires { k < length flow_boxes.now }
+    ensures kind { result.now ≡ (box_at flow_boxes.now k).kind }
+    ensures fits { KindFits (box_at flow_boxes.now k).kind }
+{
+    kind_in(flow_boxes.as_slice(), k)
+}
+
+fn kind_in(flow_boxes: &[FlowBox], k: usize) -> &FlowKind
+    requires { k < length flow_boxes.now }
+    ensures { result.now ≡ (box_at flow_boxes.now k).kind }
+{
+    &flow_boxes[k].kind
 }
 
 /// The lines of the box at k. NoMemory is also the answer where one reaches further than 2^61 units, which it does in no

@@ -14,7 +14,7 @@ returns c =
     let in_lines : c.if-k-gt0.in_lines ≡ is_in_lines m c.args.of.now.lefts.now c.args.k = elim c.if-k-gt0.branch [
       | then-k-gt0 w ↦ (let before = c.container-parent.ensures.before w.if-k-gt0.true in
           w.in_lines-is ∙ w.holds_lines-in_lines.ensures ∙ in_lines_is m c.args.of.now.lefts.now c.args.k c.container-parent.result _ w.if-k-gt0.true parent (c.requires.before c.container-parent.result before))
-      | else-k-gt0 w ↦ w.in_lines-is ∙ sym (first_out m c.args.of.now.lefts.now c.args.k (omega (arith, w.if-k-gt0.false)))
+      | else-k-gt0 w ↦ w.in_lines-is ∙ first_out m c.args.of.now.lefts.now c.args.k (omega (arith, w.if-k-gt0.false))
     ] in
     let kind : c.match-branch-2.kind ≡ (flow_box_of m c.args.of.now.lefts.now c.args.k).kind = elim c.match-branch-2.branch [
       | in-Some w ↦ (let is = sym found ∙ w.in-Some.is in

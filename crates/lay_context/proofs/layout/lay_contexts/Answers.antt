@@ -4,9 +4,10 @@ use Rattle.lay_context.proofs.TaskSteps.{one_more, known, ready, solved}
 use Rattle.lay_context.proofs.layout.lay_contexts.Goals as goal
 
 pub settle-requires : goal.settle-requires
-settle-requires c =
-    rw (c.task_at.ensures, c.len-count.ensures.count)
-    (ready c.args.medium.now c.args.contexts.now c.len-count.ensures.are c.loop-turn.known c.loop-turn.turn (omega arith) c.loop-turn.invariant)
+settle-requires c = record {
+  ready = rw (c.task_at.ensures, c.len-count.ensures.count)
+      (ready c.args.medium.now c.args.contexts.now c.len-count.ensures.are c.loop-turn.known c.loop-turn.turn (omega arith) c.loop-turn.invariant);
+}
 
 pub loop-turn-preserved : goal.loop-turn-preserved
 loop-turn-preserved c =
