@@ -3,15 +3,7 @@ use Rattle.std.proofs.Common.{◌≡◌, ℕ, zero, suc, ◌+◌, ◌<◌, List,
 use Rattle.lay_doc.specs.declared.node.NodeId.{NodeId}
 use Rattle.lay_doc.specs.declared.node.Node.{Node}
 use Rattle.lay_doc.specs.declared.style.Style.{Style}
-use Rattle.lay_doc.specs.NewNodes.{is_element}
-use Rattle.lay_doc.specs.Document.{is_element_at}
 use Rattle.lay_cli.specs.Built.{is_built, first_unbuilt}
-
--- what is read at a place is an element where the definition says so
-pub element_read : (nodes : List Node) (k : ℕ) (other : Node) → k < length nodes → is_element (get_or nodes k other).kind ≡ is_element_at nodes k
-element_read [] k other within = absurd (omega arith)
-element_read (m ∷ ms) zero other within = refl
-element_read (m ∷ ms) (suc k) other within = element_read ms k other (omega arith)
 
 both : (b : Bool) (o : Option ℕ) → (if b then option_map suc o else Some 0) ≡ None → (b ≡ true) × (o ≡ None)
 both true None e = (refl, refl)

@@ -57,7 +57,7 @@ Spells bytes run = IsReading bytes (Ok run) × IsBuilt run
 pub record IsRunReport (run : Run) (text : List ℕ) : Type 0 where
   pub built : IsBuilt run
   pub tree : List Context
-  pub solves : Solves run.doc tree
+  pub solves : Solves run.doc run.face tree
   pub text_is : text ≡ scratch_report tree
 
 -- the line names the first node of the run that isn't laid out

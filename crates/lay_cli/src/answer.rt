@@ -11,7 +11,7 @@ ghost use Rattle.lay_cli.specs.Answers.{AnswersRun, AnswersBytes, IsFaultAnswer}
 use crate::built::first_unbuilt;
 use crate::refusal::{fault_line, unbuilt_line};
 use lay_context::scratch_styled;
-use lay_doc::{Computed, Doc};
+use lay_doc::Computed;
 use lay_inherit::computed;
 use lay_json::{InputFault, RunDoc, read_run};
 use lay_report::scratch_report;
@@ -59,15 +59,16 @@ fn answer_for(alloc: Global, run: &RunDoc) -> Result<Answer, NoMemory>
         run.listed().as_slice(),
     )? {
         Some(place) => Ok(Answer::Refusal(unbuilt_line(alloc, place)?)),
-        None => Ok(Answer::Report(report(alloc, run.doc(), &computed)?)),
+        None => Ok(Answer::Report(report(alloc, run, &computed)?)),
     }
 }
 
-fn report(alloc: Global, doc: &Doc, computed: &Computed) -> Result<Text, NoMemory>
-    requires styles { HasStyles (parents_of doc.now.nodes) (declarations_of doc.now.nodes) computed.now }
-    ensures { IfOk result (λ t. (tree : List Context) × Solves doc.now tree × (t ≡ scratch_report tree)) }
+/// The report of the layout of a run's document, where its computed styles are known.
+fn report(alloc: Global, run: &RunDoc, computed: &Computed) -> Result<Text, NoMemory>
+    requires styles { HasStyles (parents_of run.now.doc.nodes) (declarations_of run.now.doc.nodes) computed.now }
+    ensures { IfOk result (λ t. (tree : List Context) × Solves run.now.doc run.now.face tree × (t ≡ scratch_report tree)) }
 {
-    let tree = scratch_styled(alloc, doc, computed)?;
+    let tree = scratch_styled(alloc, run.doc(), run.face(), computed)?;
     let text = scratch_report(alloc, &tree)?;
     Ok(text)
 }

@@ -1,15 +1,15 @@
 //! Which nodes are laid out so far.
 
 ghost use Rattle.std.specs.Prelude.{◌≡◌, ◌<◌, List, Bool, length, IfOk};
-ghost use Rattle.lay_doc.specs.Document.{IsDocument, parents_of};
-ghost use Rattle.lay_boxgen.specs.Display.{is_floated};
-ghost use Rattle.lay_cli.specs.Built.{AreHidden, is_block, is_static, is_auto, shrinks_to_fit, is_built_style, is_built_at, is_built_place, is_built, first_unbuilt};
+ghost use Rattle.lay_doc.specs.Document.{IsDocument, is_text_at, parents_of};
+ghost use Rattle.lay_boxgen.specs.Display.{is_floated, is_inline_display};
+ghost use Rattle.lay_cli.specs.Built.{AreHidden, display_of, is_baseline, is_block_display, is_built_display, is_static, is_auto, shrinks_to_fit, is_built_style, is_built_at, is_built_place, is_built, first_unbuilt};
 
 use crate::hidden::{hidden, hidden_at};
 use lay_boxgen::{flow_of, used_display};
 use lay_doc::{
-    Display, Doc, Float, LengthPercentageOrAuto, Node, NodeId, Position, Style, is_element_at,
-    style_at,
+    Display, Doc, Float, LengthPercentageOrAuto, Node, NodeId, Position, Style, VerticalAlign,
+    is_element_at, style_at,
 };
 use lay_units::NoMemory;
 use std::alloc::Global;
@@ -70,22 +70,55 @@ fn is_built_at(nodes: &[Node], styles: &[Style], hidden: &[bool], place: usize) 
     ensures { result ≡ is_built_at nodes.now styles.now hidden.now place }
 {
     hidden_at(hidden, place)
+        || is_text_at(nodes, place)
         || is_element_at(nodes, place) && is_built_style(place == 0, style_at(styles, place))
+}
+
+fn is_text_at(nodes: &[Node], place: usize) -> bool
+    requires { place < length nodes.now }
+    ensures { result ≡ is_text_at nodes.now place }
+{
+    nodes[place].kind.is_text()
 }
 
 fn is_built_style(is_root: bool, style: &Style) -> bool
     ensures { result ≡ is_built_style is_root style.now }
 {
-    is_block(is_root, style) && is_static(style.position) && !shrinks_to_fit(style)
+    is_built_display(display_of(is_root, style), style)
+        && is_static(style.position) && !shrinks_to_fit(style)
 }
 
-fn is_block(is_root: bool, style: &Style) -> bool
-    ensures { result ≡ is_block is_root style.now }
+/// The used display of an element.
+fn display_of(is_root: bool, style: &Style) -> Display
+    ensures { result ≡ display_of is_root style.now }
 {
-    matches!(
-        used_display(is_root, flow_of(style), style.display),
-        Display::Block | Display::ListItem
-    )
+    used_display(is_root, flow_of(style), style.display)
+}
+
+/// Whether an element of this used display is a block or an inline box that is laid out.
+fn is_built_display(display: Display, style: &Style) -> bool
+    ensures { result ≡ is_built_display display style.now }
+{
+    is_block_display(display)
+        || is_inline_display(display) && is_baseline(style.text.vertical_align)
+}
+
+fn is_block_display(display: Display) -> bool
+    ensures { result ≡ is_block_display display }
+{
+    matches!(display, Display::Block | Display::ListItem)
+}
+
+fn is_inline_display(display: Display) -> bool
+    ensures { result ≡ is_inline_display display }
+{
+    matches!(display, Display::Inline)
+}
+
+fn is_baseline(align: VerticalAlign) -> bool
+    ensures { result ≡ is_baseline align }
+{
+    matches!(align, VerticalAlign::Baseline)
 }
 
 fn is_static(position: Position) -> bool

@@ -1,16 +1,15 @@
 -- What a context is given by the one around it, and where it stands.
-use Rattle.std.proofs.Common.{◌≡◌, ◌<◌, ℕ, zero, suc, ◌+◌, List, [], ◌∷◌, ◌++◌, length, length-append, map, take, slice_index, refl, arith, get_or, inl, inr}
+use Rattle.std.proofs.Common.{◌≡◌, ◌<◌, ℕ, zero, suc, ◌+◌, List, [], ◌∷◌, ◌++◌, length, length-append, map, take, slice_index, refl, arith, inl, inr}
 use Rattle.std.proofs.lemmas.Bool.{cases_lt}
 use Rattle.std.proofs.lemmas.Grind.{elements}
 use Rattle.std.proofs.lemmas.List.{map-append, take_more}
 use Rattle.std.proofs.lemmas.Int.{ints}
-use Rattle.lay_boxgen.specs.BoxColumns.{box_parents}
 use Rattle.lay_sizes.specs.declared.sizing.BoxSizes.{BoxSizes}
 use Rattle.lay_sizes.specs.declared.sizing.ContainingBlock.{ContainingBlock}
-use Rattle.lay_sizes.specs.BoxSizes.{content_block}
 use Rattle.lay_context.specs.declared.corner.Corner.{Corner}
 use Rattle.lay_context.specs.Contexts.{AreContexts, Context, boxes_in, context_at}
-use Rattle.lay_sizes.specs.SizeColumns.{sizes_at}
+use Rattle.lay_context.specs.Containing.{block_around, container_of}
+use Rattle.lay_context.proofs.ContainerSteps.{container_within}
 use Rattle.lay_context.specs.ContextPlaces.{Placement}
 use Rattle.lay_context.specs.DocumentLayout.{outer_block, own_box_in, sizes_in}
 use Rattle.lay_sizes.specs.declared.own_boxes.OwnBox.{OwnBox}
@@ -19,9 +18,19 @@ use Rattle.lay_context.specs.PlaceBounds.{IsCornerNear, IsRectNear, PlacementFit
 use Rattle.lay_context.specs.Solves.{own_rect}
 
 pub outer_is : (viewport : ContainingBlock) (contexts : List Context) (sizes : List (List BoxSizes)) (i : ℕ) → 0 < i
-    → outer_block viewport contexts sizes i ≡ content_block (sizes_at (sizes_in sizes (context_at contexts i).outer) (get_or (box_parents (boxes_in contexts (context_at contexts i).outer)) (context_at contexts i).outer_box 0))
+    → outer_block viewport contexts sizes i ≡ block_around (boxes_in contexts (context_at contexts i).outer) (sizes_in sizes (context_at contexts i).outer) (context_at contexts i).outer_box
 outer_is viewport contexts sizes zero some = absurd (omega (arith, some))
 outer_is viewport contexts sizes (suc i) some = refl
+
+-- the containers of the boxes of inner contexts are sized
+pub outer_known : (contexts : List Context) (sizes : List (List BoxSizes)) (i : ℕ) → AreContexts contexts → 0 < i → i < length contexts
+    → length (sizes_in sizes (context_at contexts i).outer) ≡ length (boxes_in contexts (context_at contexts i).outer)
+    → container_of (boxes_in contexts (context_at contexts i).outer) (context_at contexts i).outer_box < length (sizes_in sizes (context_at contexts i).outer)
+outer_known contexts sizes i are positive within sized =
+    let less = are.outer i positive within in
+    let o : ℕ = (context_at contexts i).outer in
+    let h = container_within (boxes_in contexts o) (context_at contexts i).outer_box (are.boxes o (omega (arith, less, within))) (are.outer_box i positive within) in
+    omega (arith, h, sized)
 
 -- the number of an inner context, or 0, is that of a context
 pub inner_within : (contexts : List Context) (i k : ℕ) → AreContexts contexts → i < length contexts → k < length (context_at contexts i).inner → slice_index (context_at contexts i).inner k < length contexts

@@ -1,12 +1,15 @@
+pub mod ContainerSteps
 pub mod SizesFit
 pub mod SizeSteps
 pub mod OneSizes
 pub mod OutsideFacts
+pub mod InlineContainerSteps
 pub mod LeftSteps
 pub mod FlowBoxSteps
 pub mod FlowFacts
 pub mod PlaceFacts
 pub mod PieceSteps
+pub mod PieceCountSteps
 pub mod PieceRanges
 pub mod OnePlaces
 pub mod CornerSteps

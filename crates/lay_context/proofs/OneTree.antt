@@ -6,19 +6,18 @@ use Rattle.lay_doc.specs.ComputedStyle.{declarations_of}
 use Rattle.lay_doc.proofs.OneStyles.{one_style_column_lem, same_list}
 use Rattle.lay_frag.specs.Pieces.{Context as PageContext}
 use Rattle.lay_sizes.specs.declared.sizing.BoxSizes.{BoxSizes}
-use Rattle.lay_sizes.specs.declared.sizing.ContainingBlock.{ContainingBlock}
 use Rattle.lay_context.specs.declared.task.Phase.{Phase}
 use Rattle.lay_context.specs.declared.task.Phase.TheVariants.{Size, Place}
 use Rattle.lay_context.specs.declared.task.Task.{Task}
 use Rattle.lay_context.specs.declared.input.Input.{Input}
 use Rattle.lay_context.specs.declared.value.Value.TheVariants as value
-use Rattle.lay_context.specs.Contexts.{Context, AreContexts, boxes_in}
+use Rattle.lay_context.specs.Contexts.{Context, AreContexts, boxes_in, Medium}
 use Rattle.lay_context.specs.ContextList.{AreContextsOf}
 use Rattle.lay_context.specs.ContextPlaces.{Placement}
 use Rattle.lay_context.specs.DocumentLayout.{HasPageCorners, inner_boxes, no_placement, outer_block, placement_in, sizes_in}
 use Rattle.lay_context.specs.Needs.{task_at}
 use Rattle.lay_context.specs.Local.{Workings, IsLocal, IsTaskDone, input_by, input_of, value_by, value_of}
-use Rattle.lay_context.specs.Solves.{SolvesContexts, viewport_of}
+use Rattle.lay_context.specs.Solves.{SolvesContexts, medium_of}
 use Rattle.lay_context.specs.Laws.{HadTurn, OneSolution}
 use Rattle.lay_context.proofs.ContextNumbers.{are_contexts, one_context_list}
 use Rattle.lay_context.proofs.OneCorners.{one_corner_column}
@@ -40,27 +39,27 @@ same_members (x ∷ xs) (y ∷ ys) e same =
 abbrev workings_of : List (List BoxSizes) → List Placement → Workings
 workings_of sizes places = record { sizes = sizes; places = places }
 
-module _ (viewport : ContainingBlock) (contexts : List Context) (are : AreContexts contexts) where
+module _ (medium : Medium) (contexts : List Context) (are : AreContexts contexts) where
   -- all tasks are done with these values
   abbrev AllDone : Workings → Type 0
-  AllDone w = (task : Task) → task.context < length contexts → IsTaskDone viewport contexts w task
+  AllDone w = (task : Task) → task.context < length contexts → IsTaskDone medium contexts w task
 
-  all_done : (tree : List PageContext) (s : SolvesContexts viewport contexts tree) → AllDone (workings_of s.sizes s.places)
+  all_done : (tree : List PageContext) (s : SolvesContexts medium contexts tree) → AllDone (workings_of s.sizes s.places)
   all_done tree s task lt = by task.phase task.context lt
     where
-      by : (phase : Phase) (i : ℕ) → i < length contexts → IsTaskDone viewport contexts (workings_of s.sizes s.places) (record { context = i; phase = phase })
+      by : (phase : Phase) (i : ℕ) → i < length contexts → IsTaskDone medium contexts (workings_of s.sizes s.places) (record { context = i; phase = phase })
       by Size i lt = s.has_sizes i lt
       by Place i lt = s.has_places i lt
 
   -- a task has one value, where it is given the same
-  by_phase : (v w : Workings) (phase : Phase) (i : ℕ) → i < length contexts → IsLocal (input_by viewport contexts v phase i) (value_by v phase i) → IsLocal (input_by viewport contexts v phase i) (value_by w phase i)
+  by_phase : (v w : Workings) (phase : Phase) (i : ℕ) → i < length contexts → IsLocal (input_by medium contexts v phase i) (value_by v phase i) → IsLocal (input_by medium contexts v phase i) (value_by w phase i)
       → value_by v phase i ≡ value_by w phase i
-  by_phase v w Size i lt a b = ap value.Size (one_context_sizes_lem (outer_block viewport contexts v.sizes i) (boxes_in contexts i) (sizes_in v.sizes i) (sizes_in w.sizes i) (are.boxes i lt) a b)
+  by_phase v w Size i lt a b = ap value.Size (one_context_sizes_lem (outer_block medium.viewport contexts v.sizes i) (boxes_in contexts i) (sizes_in v.sizes i) (sizes_in w.sizes i) (are.boxes i lt) a b)
   by_phase v w Place i lt a b =
-      ap value.Place (one_placement_lem (boxes_in contexts i) (sizes_in v.sizes i) (inner_boxes contexts v.places i) (placement_in v.places i) (placement_in w.places i) (are.boxes i lt) a b)
+      ap value.Place (one_placement_lem medium.face (boxes_in contexts i) (sizes_in v.sizes i) (inner_boxes contexts v.places i) (placement_in v.places i) (placement_in w.places i) (are.boxes i lt) a b)
 
-  one_value : (v w : Workings) (task : Task) → task.context < length contexts → IsTaskDone viewport contexts v task → IsTaskDone viewport contexts w task
-      → input_of viewport contexts v task ≡ input_of viewport contexts w task → value_of v task ≡ value_of w task
+  one_value : (v w : Workings) (task : Task) → task.context < length contexts → IsTaskDone medium contexts v task → IsTaskDone medium contexts w task
+      → input_of medium contexts v task ≡ input_of medium contexts w task → value_of v task ≡ value_of w task
   one_value v w task lt a b same = by_phase v w task.phase task.context lt a (subst (λ (i : Input). IsLocal i (value_of w task)) (sym same) b)
 
   -- values agree turn by turn, since what a task needs had its turn before
@@ -70,7 +69,7 @@ module _ (viewport : ContainingBlock) (contexts : List Context) (are : AreContex
     | inl low ↦ agree v w a b m (omega arith) turn low
     | inr high ↦ (let t : Task = task_at (length contexts) turn in
         let there = task_within (length contexts) turn (omega arith) in
-        let given = inputs_come_of_needs_lem viewport contexts v w t (λ needed needs.
+        let given = inputs_come_of_needs_lem medium contexts v w t (λ needed needs.
         (let had = needs_come_first_lem contexts turn needed are (omega arith) needs in
         subst (λ (u : Task). value_of v u ≡ value_of w u) had.is (agree v w a b m (omega arith) had.turn (omega (arith, had.earlier, lt))))) in
         one_value v w t there (a t there) (b t there) given)
@@ -80,7 +79,7 @@ module _ (viewport : ContainingBlock) (contexts : List Context) (are : AreContex
   agree_at v w a b task had = subst (λ (u : Task). value_of v u ≡ value_of w u) had.is (agree v w a b (length contexts + length contexts) (omega arith) had.turn had.earlier)
 
   -- two trees of the same contexts are equal
-  pub one_tree : (s t : List PageContext) → SolvesContexts viewport contexts s → SolvesContexts viewport contexts t → s ≡ t
+  pub one_tree : (s t : List PageContext) → SolvesContexts medium contexts s → SolvesContexts medium contexts t → s ≡ t
   one_tree s t a b =
       let v : Workings = workings_of a.sizes a.places in
       let w : Workings = workings_of b.sizes b.places in
@@ -92,15 +91,15 @@ module _ (viewport : ContainingBlock) (contexts : List Context) (are : AreContex
       place_value (placement_in a.places i) (placement_in b.places i) (agree_at v w (all_done s a) (all_done t b) (record { context = i; phase = Place }) (had_place_turn (length contexts) i there)))) in
       let x = a.assembled in
       let y = b.assembled in
-      let cornered : HasPageCorners viewport contexts a.sizes a.places y.corners = rw (sizes, places) y.has_corners in
-      let corners = one_corner_column viewport contexts a.sizes a.places are x.corners y.corners x.has_corners cornered in
+      let cornered : HasPageCorners medium.viewport contexts a.sizes a.places y.corners = rw (sizes, places) y.has_corners in
+      let corners = one_corner_column medium.viewport contexts a.sizes a.places are x.corners y.corners x.has_corners cornered in
       same_members s t (x.tree_is.count ∙ sym y.tree_is.count) (λ i lt.
       (let p = x.tree_is.each i (omega (arith, x.tree_is.count)) in let q = y.tree_is.each i (omega (arith, x.tree_is.count)) in p ∙ (rw (places, corners) refl) ∙ sym q))
 
 pub one_solution_lem : OneSolution
-one_solution_lem d s t is a b =
+one_solution_lem d face s t is a b =
     let styles = one_style_column_lem (parents_of d.nodes) (declarations_of d.nodes) a.styles b.styles is.tree a.has_styles b.has_styles in
     let listed : AreContextsOf d.nodes a.styles b.contexts = rw styles b.are_contexts in
     let contexts = one_context_list d.nodes a.styles a.contexts b.contexts a.are_contexts listed in
-    let other : SolvesContexts (viewport_of d) a.contexts t = rw contexts b.solves_contexts in
-    one_tree (viewport_of d) a.contexts (are_contexts d.nodes a.styles a.contexts a.are_contexts) s t a.solves_contexts other
+    let other : SolvesContexts (medium_of d face) a.contexts t = rw contexts b.solves_contexts in
+    one_tree (medium_of d face) a.contexts (are_contexts d.nodes a.styles a.contexts a.are_contexts) s t a.solves_contexts other

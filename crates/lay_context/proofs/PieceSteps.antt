@@ -1,20 +1,15 @@
--- A list of pieces that grows.
-use Rattle.std.proofs.Common.{◌≡◌, ℕ, ◌+◌, ◌<◌, ◌≤◌, List, [], ◌∷◌, ◌++◌, length, ◌∙◌, arith, inl, inr, Some, slice_get, true, false, append-nil, length-append, add-one, refl}
+-- A list of pieces that grows, piece by piece and box by box.
+use Rattle.std.proofs.Common.{◌≡◌, ℕ, ◌+◌, ◌<◌, List, [], ◌∷◌, ◌++◌, length, map, take, refl, sym, ap, ◌∙◌, arith, inl, inr, Some, slice_get, length-append, add-one,}
 use Rattle.std.proofs.lemmas.Bool.{cases_lt}
 use Rattle.std.proofs.lemmas.Grind.{elements}
-use Rattle.lay_boxgen.specs.declared.box_tree.BoxNode.{BoxNode}
+use Rattle.std.proofs.lemmas.List.{map-append, take_more}
 use Rattle.lay_frag.specs.declared.frag.Frag.{Frag}
-use Rattle.lay_sizes.specs.declared.sizing.BoxSizes.{BoxSizes}
-use Rattle.lay_sizes.specs.declared.own_boxes.OwnBox.{OwnBox}
-use Rattle.lay_context.specs.ContextBoxes.{is_inner}
-use Rattle.lay_context.specs.ContextPlaces.{ContextPlaces, piece_of_box, pieces_to}
+use Rattle.lay_flow.specs.declared.flow_box.FlowBox.{FlowBox}
+use Rattle.lay_flow.specs.FlowPlaces.{FlowPlacesValue}
+use Rattle.lay_content.specs.BoxMeasuresValue.{BoxMeasuresValue}
+use Rattle.lay_context.specs.ContextPieces.{pieces_of_box, pieces_to}
+use Rattle.lay_context.specs.PieceParts.{numbered, with_pieces}
 use Rattle.lay_context.specs.PlaceBounds.{AreNearPieces, IsRectNear}
-
--- these are the pieces of the first n boxes
-pub record PiecesTo (boxes : List BoxNode) (sizes : List BoxSizes) (inner : List OwnBox) (p : ContextPlaces) (pieces : List Frag) (n : ℕ) : Type 0 where
-  pub are : pieces ≡ pieces_to boxes sizes p n
-  pub near : AreNearPieces pieces
-  pub few : length pieces ≤ n
 
 read_before : (fs : List Frag) (f : Frag) (k : ℕ) → k < length fs → slice_get (fs ++ f ∷ []) k ≡ slice_get fs k
 read_before fs f k lt = grind (arith, elements)
@@ -28,19 +23,19 @@ near_and_one fs f near own k lt = elim (cases_lt k (length fs)) [
   | inr high ↦ (let q : k ≡ length fs = omega (arith, length-append fs (f ∷ [])) in rw (q, read_last fs f) own)
 ]
 
--- with the box of an inner context there are no more
-pub none_more : (boxes : List BoxNode) (sizes : List BoxSizes) (inner : List OwnBox) (p : ContextPlaces) (fs : List Frag) (n : ℕ) → PiecesTo boxes sizes inner p fs n → is_inner boxes n ≡ true → PiecesTo boxes sizes inner p fs (n + 1)
-none_more boxes sizes inner p fs n so_far is = record {
-  are = so_far.are ∙ rw (add-one n, is, append-nil (pieces_to boxes sizes p n)) refl;
-  near = so_far.near;
-  few = omega (arith, so_far.few);
-}
+-- one piece more is near where it is, whatever its part
+pub one_more_near : (fs gs : List Frag) (f : Frag) → gs ≡ fs ++ numbered fs f ∷ [] → AreNearPieces fs → IsRectNear f.rect → AreNearPieces gs
+one_more_near fs gs f is near own = rw is (near_and_one fs (numbered fs f) near own)
 
--- with another box there is one more
-pub one_more : (boxes : List BoxNode) (sizes : List BoxSizes) (inner : List OwnBox) (p : ContextPlaces) (fs : List Frag) (n : ℕ) (f : Frag) → PiecesTo boxes sizes inner p fs n → is_inner boxes n ≡ false → f ≡ piece_of_box boxes sizes p n
-    → IsRectNear f.rect → PiecesTo boxes sizes inner p (fs ++ f ∷ []) (n + 1)
-one_more boxes sizes inner p fs n f so_far own is near = record {
-  are = rw (add-one n, is, own, so_far.are) refl;
-  near = near_and_one fs f so_far.near near;
-  few = grind (arith, elements, so_far.few);
-}
+-- pieces behind pieces behind others
+with_more : (before fs : List Frag) (f : Frag) → with_pieces before (fs ++ f ∷ []) ≡ with_pieces before fs ++ numbered (with_pieces before fs) f ∷ []
+with_more before [] f = refl
+with_more before (x ∷ xs) f = with_more (before ++ numbered before x ∷ []) xs f
+
+pub one_more_piece : (before fs : List Frag) (f : Frag) (pieces more : List Frag) → pieces ≡ with_pieces before fs → more ≡ pieces ++ numbered pieces f ∷ [] → more ≡ with_pieces before (fs ++ f ∷ [])
+one_more_piece before fs f pieces more so_far is = is ∙ ap (λ (ps : List Frag). ps ++ numbered ps f ∷ []) so_far ∙ sym (with_more before fs f)
+
+-- the pieces of the first boxes with those of the next one
+pub one_more_box : (m : BoxMeasuresValue) (flow_boxes : List FlowBox) (places : FlowPlacesValue) (n : ℕ) (pieces more : List Frag) → pieces ≡ pieces_to m flow_boxes places n
+    → more ≡ with_pieces pieces (pieces_of_box m flow_boxes places n) → more ≡ pieces_to m flow_boxes places (n + 1)
+one_more_box m flow_boxes places n pieces more so_far is = is ∙ rw (add-one n, so_far) refl

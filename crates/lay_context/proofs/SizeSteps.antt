@@ -1,24 +1,24 @@
 -- A column of used sizes that grows, from outer to inner boxes.
-use Rattle.std.proofs.Common.{◌≡◌, ℕ, zero, suc, ◌+◌, ◌<◌, ◌≤◌, true, false, List, [], ◌∷◌, ◌++◌, length, length-append, get_or, refl, sym, ap, ◌∙◌, arith, inl, inr}
+use Rattle.std.proofs.Common.{◌≡◌, ℕ, zero, suc, ◌+◌, ◌<◌, ◌≤◌, true, false, List, [], ◌∷◌, ◌++◌, length, length-append, refl, sym, ap, ◌∙◌, arith, inl, inr}
 use Rattle.std.proofs.lemmas.Bool.{cases_lt}
 use Rattle.std.proofs.lemmas.Int.{ints}
 use Rattle.std.proofs.lemmas.Grind.{elements}
 use Rattle.lay_units.specs.Units.{IsPosition}
-use Rattle.lay_doc.specs.Tree.{IsTree}
 use Rattle.lay_boxgen.specs.declared.box_tree.BoxNode.{BoxNode}
-use Rattle.lay_boxgen.specs.BoxColumns.{box_parents}
 use Rattle.lay_sizes.specs.declared.sizing.BoxSizes.{BoxSizes}
 use Rattle.lay_sizes.specs.declared.sizing.ContainingBlock.{ContainingBlock}
 use Rattle.lay_sizes.specs.BoxSizes.{content_block}
 use Rattle.lay_sizes.specs.SizeBounds.{SizeFits}
-use Rattle.lay_context.specs.ContextBoxes.{is_inner}
+use Rattle.lay_context.specs.Containing.{block_around, block_in, container_of, height_holder}
+use Rattle.lay_context.specs.ContextBoxes.{AreContextBoxes, is_inner}
 use Rattle.lay_sizes.specs.SizeColumns.{HaveSizeBounds, no_sizes, sizes_at}
 use Rattle.lay_context.specs.ContextSizes.{HasSizes, IsBoxSized, containing_block}
+use Rattle.lay_context.proofs.ContainerSteps.{container_before, holder_before}
 
 -- the boxes before n have their sizes
 pub record SizesTo (outer : ContainingBlock) (boxes : List BoxNode) (sizes : List BoxSizes) (n : ℕ) : Type 0 where
   pub count : length sizes ≡ n
-  pub each : (k : ℕ) → k < n → is_inner boxes k ≡ false → IsBoxSized (containing_block outer (box_parents boxes) sizes k) boxes k (sizes_at sizes k)
+  pub each : (k : ℕ) → k < n → is_inner boxes k ≡ false → IsBoxSized (containing_block outer boxes sizes k) boxes k (sizes_at sizes k)
   pub inner : (k : ℕ) → k < n → is_inner boxes k ≡ true → sizes_at sizes k ≡ no_sizes
   pub bounds : HaveSizeBounds sizes
 
@@ -28,36 +28,35 @@ read_before sizes z k lt = grind (arith, elements)
 read_last : (sizes : List BoxSizes) (z : BoxSizes) (k : ℕ) → k ≡ length sizes → sizes_at (sizes ++ z ∷ []) k ≡ z
 read_last sizes z k e = grind (arith, elements)
 
-pub length-box_parents : (boxes : List BoxNode) → length (box_parents boxes) ≡ length boxes
-length-box_parents [] = refl
-length-box_parents (b ∷ bs) = let e = length-box_parents bs in omega (arith, e)
+block_in_before : (boxes : List BoxNode) → AreContextBoxes boxes → (sizes : List BoxSizes) (z : BoxSizes) (c : ℕ) → c < length boxes → c < length sizes → block_in boxes (sizes ++ z ∷ []) c ≡ block_in boxes sizes c
+block_in_before boxes are sizes z c within known =
+    let holder = holder_before boxes c are within in
+    let one = read_before sizes z c known in
+    let other = read_before sizes z (height_holder boxes c) (omega arith) in
+    rw (one, other) refl
 
--- the parent of a box stands before it
-pub parent_before : (boxes : List BoxNode) → IsTree (box_parents boxes) → (k : ℕ) → suc k < length boxes → get_or (box_parents boxes) (suc k) 0 < suc k
-parent_before boxes tree k within = tree.before (suc k) (omega arith) (omega (arith, length-box_parents boxes))
+containing_before : (outer : ContainingBlock) (boxes : List BoxNode) → AreContextBoxes boxes → (sizes : List BoxSizes) (z : BoxSizes) (k : ℕ) → k < length boxes → k ≤ length sizes
+    → containing_block outer boxes (sizes ++ z ∷ []) k ≡ containing_block outer boxes sizes k
+containing_before outer boxes are sizes z zero within known = refl
+containing_before outer boxes are sizes z (suc k) within known =
+    let before = container_before boxes (suc k) are (omega arith) within in
+    block_in_before boxes are sizes z (container_of boxes (suc k)) (omega arith) (omega arith)
 
--- and so it is among the boxes
-pub parent_within : (boxes : List BoxNode) → IsTree (box_parents boxes) → (k : ℕ) → k < length boxes → get_or (box_parents boxes) k 0 < length boxes
-parent_within boxes tree zero within = let r = tree.root in omega (arith, r)
-parent_within boxes tree (suc k) within = let h = parent_before boxes tree k within in omega arith
+pub containing_inner : (outer : ContainingBlock) (boxes : List BoxNode) (sizes : List BoxSizes) (k : ℕ) → 0 < k → containing_block outer boxes sizes k ≡ block_around boxes sizes k
+containing_inner outer boxes sizes zero positive = absurd (omega arith)
+containing_inner outer boxes sizes (suc k) positive = refl
 
-containing_before : (outer : ContainingBlock) (boxes : List BoxNode) → IsTree (box_parents boxes) → (sizes : List BoxSizes) (z : BoxSizes) (k : ℕ) → k < length boxes → k ≤ length sizes
-    → containing_block outer (box_parents boxes) (sizes ++ z ∷ []) k ≡ containing_block outer (box_parents boxes) sizes k
-containing_before outer boxes tree sizes z zero within known = refl
-containing_before outer boxes tree sizes z (suc k) within known =
-    ap content_block (read_before sizes z (get_or (box_parents boxes) (suc k) 0) (let h = parent_before boxes tree k within in omega arith))
-
-pub one_more : (outer : ContainingBlock) (boxes : List BoxNode) (sizes : List BoxSizes) (n : ℕ) (z : BoxSizes) → IsTree (box_parents boxes) → n < length boxes
-    → SizesTo outer boxes sizes n → (is_inner boxes n ≡ false → IsBoxSized (containing_block outer (box_parents boxes) sizes n) boxes n z) → (is_inner boxes n ≡ true → z ≡ no_sizes) → SizeFits z
+pub one_more : (outer : ContainingBlock) (boxes : List BoxNode) (sizes : List BoxSizes) (n : ℕ) (z : BoxSizes) → AreContextBoxes boxes → n < length boxes
+    → SizesTo outer boxes sizes n → (is_inner boxes n ≡ false → IsBoxSized (containing_block outer boxes sizes n) boxes n z) → (is_inner boxes n ≡ true → z ≡ no_sizes) → SizeFits z
     → SizesTo outer boxes (sizes ++ z ∷ []) (n + 1)
-one_more outer boxes sizes n z tree within so_far each inner fits = record {
+one_more outer boxes sizes n z are within so_far each inner fits = record {
   count = grind (arith, elements, so_far.count);
   each = λ k lt own. elim (cases_lt k n) [
-    | inl low ↦ (let e = containing_before outer boxes tree sizes z k (omega arith) (omega (arith, so_far.count)) in
+    | inl low ↦ (let e = containing_before outer boxes are sizes z k (omega arith) (omega (arith, so_far.count)) in
         let r = read_before sizes z k (omega (arith, so_far.count)) in
         rw (e, r) (so_far.each k low own))
     | inr high ↦ (let q : k ≡ n = omega arith in
-        let e = containing_before outer boxes tree sizes z n within (omega (arith, so_far.count)) in
+        let e = containing_before outer boxes are sizes z n within (omega (arith, so_far.count)) in
         let r = read_last sizes z n (sym so_far.count) in
         rw (q, e, r) (each (rw q at own)))
   ];
@@ -82,11 +81,3 @@ all_sizes outer boxes sizes n e so_far = record {
 -- the content box of a box of used sizes is as wide as a used width
 pub content_fits : (z : BoxSizes) → SizeFits z → IsPosition (content_block z).width.0
 content_fits z fits = (omega (arith, ints, fits.width.0, fits.width.1), omega (arith, ints, fits.width.0, fits.width.1))
-
--- the containing block of a box is the outer one, or as wide as a used width
-pub containing_fits : (outer : ContainingBlock) (boxes : List BoxNode) (sizes : List BoxSizes) (n : ℕ) → IsPosition outer.width.0 → IsTree (box_parents boxes) → n < length boxes
-    → SizesTo outer boxes sizes n → IsPosition (containing_block outer (box_parents boxes) sizes n).width.0
-containing_fits outer boxes sizes zero fits tree within so_far = fits
-containing_fits outer boxes sizes (suc n) fits tree within so_far =
-    let p : ℕ = get_or (box_parents boxes) (suc n) 0 in
-    content_fits (sizes_at sizes p) (so_far.bounds p (let h = parent_before boxes tree n within in omega (arith, so_far.count)))

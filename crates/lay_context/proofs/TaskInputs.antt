@@ -1,15 +1,13 @@
 -- What a task is given comes of what it needs, so the value of another task changes nothing of it.
 use Rattle.std.proofs.Common.{◌≡◌, ◌<◌, ℕ, zero, suc, List, [], ◌∷◌, length, map, slice_index, refl, ap, arith}
-use Rattle.lay_boxgen.specs.BoxColumns.{box_parents}
 use Rattle.lay_sizes.specs.declared.sizing.BoxSizes.{BoxSizes}
 use Rattle.lay_sizes.specs.declared.sizing.ContainingBlock.{ContainingBlock}
-use Rattle.lay_sizes.specs.BoxSizes.{content_block}
 use Rattle.lay_context.specs.declared.task.Phase.{Phase}
 use Rattle.lay_context.specs.declared.task.Phase.TheVariants.{Size, Place}
 use Rattle.lay_context.specs.declared.input.Input.TheVariants as input
 use Rattle.lay_context.specs.declared.value.Value.TheVariants as value
-use Rattle.lay_context.specs.Contexts.{Context, context_at, boxes_in}
-use Rattle.lay_sizes.specs.SizeColumns.{sizes_at}
+use Rattle.lay_context.specs.Contexts.{Context, Medium, context_at, boxes_in}
+use Rattle.lay_context.specs.Containing.{block_around}
 use Rattle.lay_context.specs.ContextPlaces.{Placement}
 use Rattle.lay_context.specs.DocumentLayout.{inner_boxes, outer_block, own_box_in, placement_in, sizes_in}
 use Rattle.lay_context.specs.Needs.{needs_by}
@@ -35,14 +33,14 @@ boxes_same x y (j ∷ numbers) same =
     let rest : map (own_box_in x) numbers ≡ map (own_box_in y) numbers = boxes_same x y numbers (λ k lt. same (suc k) (omega arith)) in
     rw (own, rest) refl
 
-module _ (viewport : ContainingBlock) (contexts : List Context) (v w : Workings) where
-  block_same : (i : ℕ) → ((j : ℕ) → needs_by contexts Size i Size j → sizes_in v.sizes j ≡ sizes_in w.sizes j) → outer_block viewport contexts v.sizes i ≡ outer_block viewport contexts w.sizes i
+module _ (medium : Medium) (contexts : List Context) (v w : Workings) where
+  block_same : (i : ℕ) → ((j : ℕ) → needs_by contexts Size i Size j → sizes_in v.sizes j ≡ sizes_in w.sizes j) → outer_block medium.viewport contexts v.sizes i ≡ outer_block medium.viewport contexts w.sizes i
   block_same zero same = refl
   block_same (suc i) same =
       let outer : ℕ = (context_at contexts (suc i)).outer in
-      ap (λ (column : List BoxSizes). content_block (sizes_at column (slice_index (box_parents (boxes_in contexts outer)) (context_at contexts (suc i)).outer_box))) (same outer (omega arith, refl))
+      ap (λ (column : List BoxSizes). block_around (boxes_in contexts outer) column (context_at contexts (suc i)).outer_box) (same outer (omega arith, refl))
 
-  input_same : (phase : Phase) (i : ℕ) → ((needed : Phase) (j : ℕ) → needs_by contexts phase i needed j → value_by v needed j ≡ value_by w needed j) → input_by viewport contexts v phase i ≡ input_by viewport contexts w phase i
+  input_same : (phase : Phase) (i : ℕ) → ((needed : Phase) (j : ℕ) → needs_by contexts phase i needed j → value_by v needed j ≡ value_by w needed j) → input_by medium contexts v phase i ≡ input_by medium contexts w phase i
   input_same Size i same =
       let block = block_same i (λ j needs. size_value (sizes_in v.sizes j) (sizes_in w.sizes j) (same Size j needs)) in
       ap (λ (b : ContainingBlock). input.Size (record { boxes = boxes_in contexts i; containing = b })) block
@@ -54,5 +52,5 @@ module _ (viewport : ContainingBlock) (contexts : List Context) (v w : Workings)
       rw (sizes, inner) refl
 
 pub inputs_come_of_needs_lem : InputsComeOfNeeds
-inputs_come_of_needs_lem viewport contexts v w task same =
-    input_same viewport contexts v w task.phase task.context (λ phase j needs. same (record { context = j; phase = phase }) needs)
+inputs_come_of_needs_lem medium contexts v w task same =
+    input_same medium contexts v w task.phase task.context (λ phase j needs. same (record { context = j; phase = phase }) needs)

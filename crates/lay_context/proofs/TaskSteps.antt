@@ -3,14 +3,13 @@ use Rattle.std.proofs.Common.{◌≡◌, ◌≢◌, ◌<◌, ◌≤◌, ℕ, zer
 use Rattle.std.proofs.lemmas.Bool.{cases_lt}
 use Rattle.std.proofs.lemmas.Grind.{elements}
 use Rattle.lay_sizes.specs.declared.sizing.BoxSizes.{BoxSizes}
-use Rattle.lay_sizes.specs.declared.sizing.ContainingBlock.{ContainingBlock}
 use Rattle.lay_frag.specs.Pieces.{Context as PageContext}
 use Rattle.lay_context.specs.declared.task.Phase.{Phase}
 use Rattle.lay_context.specs.declared.task.Phase.TheVariants.{Size, Place}
 use Rattle.lay_context.specs.declared.task.Task.{Task}
 use Rattle.lay_context.specs.declared.value.Value.{Value}
 use Rattle.lay_context.specs.declared.value.Value.TheVariants as value
-use Rattle.lay_context.specs.Contexts.{Context, AreContexts, boxes_in}
+use Rattle.lay_context.specs.Contexts.{Context, AreContexts, Medium, boxes_in}
 use Rattle.lay_context.specs.ContextPlaces.{ContextPlaces, Placement, corners_to, corner_of_box}
 use Rattle.lay_context.specs.DocumentLayout.{placement_in, sizes_in}
 use Rattle.lay_context.specs.Needs.{task_at}
@@ -42,16 +41,16 @@ length-corners : (p : ContextPlaces) (n : ℕ) → length (corners_to p n) ≡ n
 length-corners p zero = refl
 length-corners p (suc n) = omega (arith, length-corners p n, length-append (corners_to p n) (corner_of_box p n ∷ []))
 
-module _ (viewport : ContainingBlock) (contexts : List Context) (w : Workings) where
+module _ (medium : Medium) (contexts : List Context) (w : Workings) where
   -- the value of the task itself
-  here : (phase : Phase) (i : ℕ) (v : Value) → i < length contexts → HasCounts contexts w → IsLocal (input_by viewport contexts w phase i) v → value_by (with_value w i v) phase i ≡ v
+  here : (phase : Phase) (i : ℕ) (v : Value) → i < length contexts → HasCounts contexts w → IsLocal (input_by medium contexts w phase i) v → value_by (with_value w i v) phase i ≡ v
   here Size i (value.Size z) lt counts local = ap value.Size (sizes_here w.sizes i z (omega (arith, counts.sizes)))
   here Size i (value.Place p) lt counts local = absurd local
   here Place i (value.Size z) lt counts local = absurd local
   here Place i (value.Place p) lt counts local = ap value.Place (places_here w.places i p (omega (arith, counts.places)))
 
   -- that of another one
-  other : (phase : Phase) (i : ℕ) (v : Value) → IsLocal (input_by viewport contexts w phase i) v → (q : Phase) (j : ℕ) → ((phase ≡ q) → i ≢ j) → value_by (with_value w i v) q j ≡ value_by w q j
+  other : (phase : Phase) (i : ℕ) (v : Value) → IsLocal (input_by medium contexts w phase i) v → (q : Phase) (j : ℕ) → ((phase ≡ q) → i ≢ j) → value_by (with_value w i v) q j ≡ value_by w q j
   other Size i (value.Size z) local Size j differ = ap value.Size (sizes_other w.sizes i j z (differ refl))
   other Size i (value.Size z) local Place j differ = refl
   other Size i (value.Place p) local q j differ = absurd local
@@ -63,59 +62,59 @@ module _ (viewport : ContainingBlock) (contexts : List Context) (w : Workings) w
   counts_with i (value.Size z) counts = record { sizes = sizes_length w.sizes i z ∙ counts.sizes; places = counts.places }
   counts_with i (value.Place p) counts = record { sizes = counts.sizes; places = places_length w.places i p ∙ counts.places }
 
-  other_task : (t u : Task) (v : Value) → IsLocal (input_of viewport contexts w t) v → (t ≡ u → ⊥) → value_of (with_value w t.context v) u ≡ value_of w u
+  other_task : (t u : Task) (v : Value) → IsLocal (input_of medium contexts w t) v → (t ≡ u → ⊥) → value_of (with_value w t.context v) u ≡ value_of w u
   other_task t u v local differ = other t.phase t.context v local u.phase u.context (λ same e. differ (rw (same, e) refl))
 
-module _ (viewport : ContainingBlock) (contexts : List Context) (are : AreContexts contexts) where
+module _ (medium : Medium) (contexts : List Context) (are : AreContexts contexts) where
   -- a needed size is as long as its boxes
-  pub ready : (w : Workings) (turn : ℕ) → turn < length contexts + length contexts → AreDoneTo viewport contexts w turn → IsReady contexts w (task_at (length contexts) turn)
+  pub ready : (w : Workings) (turn : ℕ) → turn < length contexts + length contexts → AreDoneTo medium contexts w turn → IsReady contexts w (task_at (length contexts) turn)
   ready w turn within so_far = record {
     within = task_within (length contexts) turn within;
     counts = so_far.counts;
     sized = λ j needs.
         let had = needs_come_first_lem contexts turn (record { context = j; phase = Size }) are within needs in
-        (subst (IsTaskDone viewport contexts w) had.is (so_far.done had.turn had.earlier)).count;
+        (subst (IsTaskDone medium contexts w) had.is (so_far.done had.turn had.earlier)).count;
   }
 
-  module _ (w : Workings) (turn : ℕ) (within : turn < length contexts + length contexts) (v : Value) (local : IsLocal (input_of viewport contexts w (task_at (length contexts) turn)) v) where
+  module _ (w : Workings) (turn : ℕ) (within : turn < length contexts + length contexts) (v : Value) (local : IsLocal (input_of medium contexts w (task_at (length contexts) turn)) v) where
     abbrev after : Workings
     after = with_value w (task_at (length contexts) turn).context v
 
     -- a task with an earlier turn has the value that it had
     value_stays : (s : ℕ) → s < turn → value_of after (task_at (length contexts) s) ≡ value_of w (task_at (length contexts) s)
-    value_stays s lt = other_task viewport contexts w (task_at (length contexts) turn) (task_at (length contexts) s) v local
+    value_stays s lt = other_task medium contexts w (task_at (length contexts) turn) (task_at (length contexts) s) v local
         (λ same. (let e = one_turn (length contexts) turn s within (omega arith) same in omega (arith, e, lt)))
 
     -- and what a task is given that has its turn by then
-    input_stays : (s : ℕ) → s ≤ turn → input_of viewport contexts after (task_at (length contexts) s) ≡ input_of viewport contexts w (task_at (length contexts) s)
-    input_stays s le = inputs_come_of_needs_lem viewport contexts after w (task_at (length contexts) s) (λ needed needs.
+    input_stays : (s : ℕ) → s ≤ turn → input_of medium contexts after (task_at (length contexts) s) ≡ input_of medium contexts w (task_at (length contexts) s)
+    input_stays s le = inputs_come_of_needs_lem medium contexts after w (task_at (length contexts) s) (λ needed needs.
         (let had = needs_come_first_lem contexts s needed are (omega arith) needs in
         subst (λ (u : Task). value_of after u ≡ value_of w u) had.is (value_stays had.turn (omega (arith, had.earlier, le)))))
 
-  pub one_more : (w next : Workings) (turn : ℕ) → turn < length contexts + length contexts → AreDoneTo viewport contexts w turn → IsSettled viewport contexts w (task_at (length contexts) turn) next → AreDoneTo viewport contexts next (turn + 1)
+  pub one_more : (w next : Workings) (turn : ℕ) → turn < length contexts + length contexts → AreDoneTo medium contexts w turn → IsSettled medium contexts w (task_at (length contexts) turn) next → AreDoneTo medium contexts next (turn + 1)
   one_more w next turn within so_far settled =
       let t : Task = task_at (length contexts) turn in
       let v : Value = settled.value in
       let a : Workings = with_value w t.context v in
-      let done : AreDoneTo viewport contexts a (turn + 1) = record {
-        counts = counts_with viewport contexts w t.context v so_far.counts;
+      let done : AreDoneTo medium contexts a (turn + 1) = record {
+        counts = counts_with medium contexts w t.context v so_far.counts;
         done = λ s lt. elim (cases_lt s turn) [
           | inl low ↦ (let i = input_stays w turn within v settled.local s (omega arith) in let x = value_stays w turn within v settled.local s low in rw (i, x) (so_far.done s low))
           | inr high ↦ (let q : s ≡ turn = omega arith in
               let i = input_stays w turn within v settled.local turn (omega arith) in
-              let x = here viewport contexts w t.phase t.context v (task_within (length contexts) turn within) so_far.counts settled.local in
+              let x = here medium contexts w t.phase t.context v (task_within (length contexts) turn within) so_far.counts settled.local in
               rw q (rw (i, x) settled.local))
         ];
       } in
-      subst (λ (k : Workings). AreDoneTo viewport contexts k (turn + 1)) (sym settled.noted) done
+      subst (λ (k : Workings). AreDoneTo medium contexts k (turn + 1)) (sym settled.noted) done
 
   -- when all had their turns, each context has its values
-  module _ (w : Workings) (all : AreDoneTo viewport contexts w (length contexts + length contexts)) where
-    pub sizes_done : (i : ℕ) → i < length contexts → IsTaskDone viewport contexts w (record { context = i; phase = Size })
-    sizes_done i lt = let had = had_size_turn (length contexts) i lt in subst (IsTaskDone viewport contexts w) had.is (all.done had.turn had.earlier)
+  module _ (w : Workings) (all : AreDoneTo medium contexts w (length contexts + length contexts)) where
+    pub sizes_done : (i : ℕ) → i < length contexts → IsTaskDone medium contexts w (record { context = i; phase = Size })
+    sizes_done i lt = let had = had_size_turn (length contexts) i lt in subst (IsTaskDone medium contexts w) had.is (all.done had.turn had.earlier)
 
-    pub places_done : (i : ℕ) → i < length contexts → IsTaskDone viewport contexts w (record { context = i; phase = Place })
-    places_done i lt = let had = had_place_turn (length contexts) i lt in subst (IsTaskDone viewport contexts w) had.is (all.done had.turn had.earlier)
+    pub places_done : (i : ℕ) → i < length contexts → IsTaskDone medium contexts w (record { context = i; phase = Place })
+    places_done i lt = let had = had_place_turn (length contexts) i lt in subst (IsTaskDone medium contexts w) had.is (all.done had.turn had.earlier)
 
     pub known : AreKnown contexts w
     known = record {
@@ -124,7 +123,7 @@ module _ (viewport : ContainingBlock) (contexts : List Context) (are : AreContex
       cornered = λ i lt. (let is = places_done i lt in ap (λ (p : Placement). length p.corners) is.answer_is ∙ length-corners is.places (length (boxes_in contexts i)));
     }
 
-    pub solved : (tree : List PageContext) → IsAssembled viewport contexts w.sizes w.places tree → SolvesContexts viewport contexts tree
+    pub solved : (tree : List PageContext) → IsAssembled medium.viewport contexts w.sizes w.places tree → SolvesContexts medium contexts tree
     solved tree assembled = record {
       sizes = w.sizes;
       places = w.places;

@@ -1,8 +1,15 @@
 -- Contexts beside each other, each known by its number: the root's first, and each behind the one around it, in which its box
--- stands (CSS 2.2, 9.4.1).
+-- stands (CSS 2.2, 9.4.1); and what all of them are laid out on.
 use Rattle.std.specs.Prelude.{ℕ, ◌≡◌, ◌<◌, List, [], length, slice_index, slice_index_or}
 use Rattle.lay_boxgen.specs.declared.box_tree.BoxNode.{BoxNode}
+use Rattle.lay_face.specs.FaceValue.{FaceValue}
+use Rattle.lay_sizes.specs.declared.sizing.ContainingBlock.{ContainingBlock}
 use Rattle.lay_context.specs.ContextBoxes.{AreContextBoxes}
+
+-- the viewport, which is the containing block of the root (10.1), and the face of texts
+pub record Medium : Type 0 where
+  pub viewport : ContainingBlock
+  pub face : FaceValue
 
 pub record Context : Type 0 where
   -- the place of its node in the document

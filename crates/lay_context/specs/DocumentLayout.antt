@@ -1,6 +1,6 @@
 -- What the contexts of a document are given by each other, each known by its number: the containing block of a context's own
 -- box by the context around it (CSS 2.2, 10.1), the boxes of inner contexts by those, and where a context stands on the page.
-use Rattle.std.specs.Prelude.{ℕ, zero, suc, ◌≡◌, ◌<◌, ◌+ℤ◌, ◌-ℤ◌, Bool, true, false, List, [], length, map, slice_index, slice_index_or, if◌then◌else◌}
+use Rattle.std.specs.Prelude.{ℕ, zero, suc, ◌≡◌, ◌<◌, ◌+ℤ◌, ◌-ℤ◌, Bool, true, false, List, [], length, map, slice_index_or, if◌then◌else◌}
 use Rattle.lay_units.specs.declared.length.Unit.{Unit as Length}
 use Rattle.lay_doc.specs.declared.style.Style.{Style}
 use Rattle.lay_doc.specs.declared.style_words.Float.{Float}
@@ -9,13 +9,14 @@ use Rattle.lay_doc.specs.ComputedStyle.{style_at}
 use Rattle.lay_boxgen.specs.declared.facts.Flow.{Flow}
 use Rattle.lay_boxgen.specs.declared.facts.Flow.TheVariants.{Floating}
 use Rattle.lay_boxgen.specs.Display.{flow_of}
-use Rattle.lay_boxgen.specs.BoxColumns.{box_parents, box_styles}
+use Rattle.lay_boxgen.specs.BoxColumns.{box_styles}
 use Rattle.lay_flow.specs.Lengths.{no_length}
 use Rattle.lay_sizes.specs.declared.sizing.BoxSizes.{BoxSizes}
 use Rattle.lay_sizes.specs.declared.sizing.ContainingBlock.{ContainingBlock}
-use Rattle.lay_sizes.specs.BoxSizes.{border_width, content_block}
+use Rattle.lay_sizes.specs.BoxSizes.{border_width}
 use Rattle.lay_context.specs.declared.corner.Corner.{Corner}
 use Rattle.lay_sizes.specs.declared.own_boxes.OwnBox.{OwnBox}
+use Rattle.lay_context.specs.Containing.{block_around}
 use Rattle.lay_context.specs.Contexts.{Context, context_at, boxes_in}
 use Rattle.lay_sizes.specs.SizeColumns.{sizes_at}
 use Rattle.lay_sizes.specs.OwnBoxes.{no_own_box}
@@ -25,13 +26,13 @@ use Rattle.lay_context.specs.ContextPlaces.{Placement}
 abbrev pub sizes_in : List (List BoxSizes) → ℕ → List BoxSizes
 sizes_in sizes i = slice_index_or sizes i []
 
--- the containing block of a context's own box: the content box of the parent box of that box in the context around it, and
--- for the root the viewport
+-- the containing block of a context's own box: what the nearest block container of that box in the context around it is to
+-- it, and for the root the viewport
 abbrev pub outer_block : ContainingBlock → List Context → List (List BoxSizes) → ℕ → ContainingBlock
 outer_block viewport contexts sizes zero = viewport
 outer_block viewport contexts sizes (suc i) =
     let c = context_at contexts (suc i) in
-    content_block (sizes_at (sizes_in sizes c.outer) (slice_index (box_parents (boxes_in contexts c.outer)) c.outer_box))
+    block_around (boxes_in contexts c.outer) (sizes_in sizes c.outer) c.outer_box
 
 abbrev pub no_placement : Placement
 no_placement = record { own = no_own_box; pieces = []; corners = [] }

@@ -6,12 +6,13 @@ use Rattle.lay_doc.specs.Document.{Document, IsDocument}
 use Rattle.lay_frag.specs.Pieces.{Context as PageContext}
 use Rattle.lay_boxgen.specs.declared.box_tree.BoxNode.{BoxNode}
 use Rattle.lay_boxgen.specs.Contexts.{IsContextAt}
+use Rattle.lay_face.specs.FaceValue.{FaceValue}
 use Rattle.lay_sizes.specs.declared.sizing.BoxSizes.{BoxSizes}
 use Rattle.lay_sizes.specs.declared.sizing.ContainingBlock.{ContainingBlock}
 use Rattle.lay_sizes.specs.declared.own_boxes.OwnBox.{OwnBox}
 use Rattle.lay_context.specs.declared.task.Task.{Task}
 use Rattle.lay_context.specs.ContextBoxes.{AreContextBoxes}
-use Rattle.lay_context.specs.Contexts.{Context, AreContexts}
+use Rattle.lay_context.specs.Contexts.{Context, Medium, AreContexts}
 use Rattle.lay_context.specs.ContextList.{context_spots, document_spots, spot_at}
 use Rattle.lay_context.specs.ContextSizes.{HasSizes}
 use Rattle.lay_context.specs.ContextPlaces.{Placement, IsPlacement}
@@ -34,16 +35,16 @@ abbrev pub OneContextSizes : Type 0
 OneContextSizes = (outer : ContainingBlock) (boxes : List BoxNode) (x y : List BoxSizes) → AreContextBoxes boxes
     → HasSizes outer boxes x → HasSizes outer boxes y → x ≡ y
 
--- beside the used sizes and the boxes of inner contexts a context has one placement
+-- beside the used sizes and the boxes of inner contexts a context has one placement in a face
 abbrev pub OnePlacement : Type 0
-OnePlacement = (boxes : List BoxNode) (sizes : List BoxSizes) (inner : List OwnBox) (p q : Placement) → AreContextBoxes boxes
-    → IsPlacement boxes sizes inner p → IsPlacement boxes sizes inner q → p ≡ q
+OnePlacement = (face : FaceValue) (boxes : List BoxNode) (sizes : List BoxSizes) (inner : List OwnBox) (p q : Placement) → AreContextBoxes boxes
+    → IsPlacement face boxes sizes inner p → IsPlacement face boxes sizes inner q → p ≡ q
 
 -- where the values that a task needs are equal, it is given the same
 abbrev pub InputsComeOfNeeds : Type 0
-InputsComeOfNeeds = (viewport : ContainingBlock) (contexts : List Context) (v w : Workings) (task : Task)
+InputsComeOfNeeds = (medium : Medium) (contexts : List Context) (v w : Workings) (task : Task)
     → ((needed : Task) → Needs contexts task needed → value_of v needed ≡ value_of w needed)
-    → input_of viewport contexts v task ≡ input_of viewport contexts w task
+    → input_of medium contexts v task ≡ input_of medium contexts w task
 
 -- what a task needs had its turn before
 pub record HadTurn (n before : ℕ) (task : Task) : Type 0 where
@@ -55,6 +56,6 @@ abbrev pub NeedsComeFirst : Type 0
 NeedsComeFirst = (contexts : List Context) (turn : ℕ) (needed : Task) → AreContexts contexts → turn < length contexts + length contexts
     → Needs contexts (task_at (length contexts) turn) needed → HadTurn (length contexts) turn needed
 
--- two trees that solve one document are equal
+-- two trees that solve one document in one face are equal
 abbrev pub OneSolution : Type 0
-OneSolution = (d : Document) (s t : List PageContext) → IsDocument d → Solves d s → Solves d t → s ≡ t
+OneSolution = (d : Document) (face : FaceValue) (s t : List PageContext) → IsDocument d → Solves d face s → Solves d face t → s ≡ t

@@ -1,8 +1,12 @@
 pub mod ContextBoxes
 pub mod Contexts
+pub mod Containing
 pub mod ContextSizes
 pub mod Outside
+pub mod InlineContainers
 pub mod ContextBlocks
+pub mod PieceParts
+pub mod ContextPieces
 pub mod ContextPlaces
 pub mod DocumentLayout
 pub mod ContextList
@@ -14,4 +18,6 @@ pub mod Needs
 pub mod Local
 pub mod Settling
 pub mod PlaceBounds
+pub mod PieceCounts
+pub mod LineBoxes
 pub mod Laws

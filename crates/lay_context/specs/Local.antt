@@ -2,7 +2,6 @@
 -- given is plain data, in which no document and no number of a context stands, and the value is its answer to that alone.
 use Rattle.std.specs.Prelude.{ℕ, List, slice_set}
 use Rattle.lay_sizes.specs.declared.sizing.BoxSizes.{BoxSizes}
-use Rattle.lay_sizes.specs.declared.sizing.ContainingBlock.{ContainingBlock}
 use Rattle.lay_context.specs.declared.task.Phase.{Phase}
 use Rattle.lay_context.specs.declared.task.Phase.TheVariants as phase
 use Rattle.lay_context.specs.declared.task.Task.{Task}
@@ -10,7 +9,7 @@ use Rattle.lay_context.specs.declared.input.Input.{Input}
 use Rattle.lay_context.specs.declared.input.Input.TheVariants as input
 use Rattle.lay_context.specs.declared.value.Value.{Value}
 use Rattle.lay_context.specs.declared.value.Value.TheVariants as value
-use Rattle.lay_context.specs.Contexts.{Context, boxes_in}
+use Rattle.lay_context.specs.Contexts.{Context, Medium, boxes_in}
 use Rattle.lay_context.specs.ContextSizes.{HasSizes}
 use Rattle.lay_context.specs.ContextPlaces.{Placement, IsPlacement}
 use Rattle.lay_context.specs.DocumentLayout.{inner_boxes, outer_block, placement_in, sizes_in}
@@ -18,7 +17,7 @@ use Rattle.lay_context.specs.DocumentLayout.{inner_boxes, outer_block, placement
 -- a value is right beside what its task is given
 abbrev pub IsLocal : Input → Value → Type 0
 IsLocal (input.Size i) (value.Size sizes) = HasSizes i.containing i.boxes sizes
-IsLocal (input.Place i) (value.Place answer) = IsPlacement i.boxes i.sizes i.inner answer
+IsLocal (input.Place i) (value.Place answer) = IsPlacement i.face i.boxes i.sizes i.inner answer
 IsLocal _ _ = ⊥
 
 -- columns of values, with one for each context
@@ -26,15 +25,20 @@ pub record Workings : Type 0 where
   pub sizes : List (List BoxSizes)
   pub places : List Placement
 
-abbrev pub input_by : ContainingBlock → List Context → Workings → Phase → ℕ → Input
-input_by viewport contexts w phase.Size i =
-    input.Size (record { boxes = boxes_in contexts i; containing = outer_block viewport contexts w.sizes i })
-input_by viewport contexts w phase.Place i =
-    input.Place (record { boxes = boxes_in contexts i; sizes = sizes_in w.sizes i; inner = inner_boxes contexts w.places i })
+abbrev pub input_by : Medium → List Context → Workings → Phase → ℕ → Input
+input_by medium contexts w phase.Size i =
+    input.Size (record { boxes = boxes_in contexts i; containing = outer_block medium.viewport contexts w.sizes i })
+input_by medium contexts w phase.Place i =
+    input.Place (record {
+      boxes = boxes_in contexts i;
+      sizes = sizes_in w.sizes i;
+      inner = inner_boxes contexts w.places i;
+      face = medium.face;
+    })
 
 -- what a task is given, from these values
-abbrev pub input_of : ContainingBlock → List Context → Workings → Task → Input
-input_of viewport contexts w task = input_by viewport contexts w task.phase task.context
+abbrev pub input_of : Medium → List Context → Workings → Task → Input
+input_of medium contexts w task = input_by medium contexts w task.phase task.context
 
 abbrev pub value_by : Workings → Phase → ℕ → Value
 value_by w phase.Size i = value.Size (sizes_in w.sizes i)
@@ -50,5 +54,5 @@ with_value w i (value.Size sizes) = record { sizes = slice_set w.sizes i sizes; 
 with_value w i (value.Place answer) = record { sizes = w.sizes; places = slice_set w.places i answer }
 
 -- the value of this task is right beside what the others give it
-abbrev pub IsTaskDone : ContainingBlock → List Context → Workings → Task → Type 0
-IsTaskDone viewport contexts w task = IsLocal (input_of viewport contexts w task) (value_of w task)
+abbrev pub IsTaskDone : Medium → List Context → Workings → Task → Type 0
+IsTaskDone medium contexts w task = IsLocal (input_of medium contexts w task) (value_of w task)

@@ -13,8 +13,10 @@ use Rattle.lay_context.specs.DocumentLayout.{corner_at}
 
 -- each column has an entry for each box
 pub record HaveCounts (boxes : List BoxNode) (p : ContextPlaces) : Type 0 where
+  pub few : length boxes ≤ 65536
   pub left_count : length p.lefts ≡ length boxes
-  pub place_count : length p.places ≡ length boxes
+  pub box_count : length p.flow_boxes ≡ length boxes
+  pub place_count : length p.places.boxes ≡ length boxes
 
 -- the left border edges are at most 2^49 units away
 abbrev pub AreNearLefts : List Length → Type 0
@@ -44,5 +46,5 @@ AreNearCorners corners = (i : ℕ) → i < length corners → IsCornerNear (corn
 pub record PlacementFits (p : Placement) : Type 0 where
   pub own : OwnBoxFits p.own
   pub pieces : AreNearPieces p.pieces
-  pub few : length p.pieces ≤ 16384
+  pub few : length p.pieces ≤ 2147483648
   pub corners : AreNearCorners p.corners

@@ -1,10 +1,9 @@
 -- What the loop over tasks keeps: the tasks that had their turn are done, and so what the next one needs is there.
 use Rattle.std.specs.Prelude.{ℕ, ◌≡◌, ◌<◌, List, length}
-use Rattle.lay_sizes.specs.declared.sizing.ContainingBlock.{ContainingBlock}
 use Rattle.lay_context.specs.declared.task.Phase.TheVariants.{Size}
 use Rattle.lay_context.specs.declared.task.Task.{Task}
 use Rattle.lay_context.specs.declared.value.Value.{Value}
-use Rattle.lay_context.specs.Contexts.{Context, boxes_in}
+use Rattle.lay_context.specs.Contexts.{Context, Medium, boxes_in}
 use Rattle.lay_context.specs.DocumentLayout.{sizes_in, placement_in}
 use Rattle.lay_context.specs.Needs.{Needs, task_at}
 use Rattle.lay_context.specs.Local.{Workings, IsLocal, IsTaskDone, input_of, with_value}
@@ -22,14 +21,14 @@ pub record IsReady (contexts : List Context) (w : Workings) (task : Task) : Type
       → length (sizes_in w.sizes j) ≡ length (boxes_in contexts j)
 
 -- the tasks before this turn are done
-pub record AreDoneTo (viewport : ContainingBlock) (contexts : List Context) (w : Workings) (turn : ℕ) : Type 0 where
+pub record AreDoneTo (medium : Medium) (contexts : List Context) (w : Workings) (turn : ℕ) : Type 0 where
   pub counts : HasCounts contexts w
-  pub done : (t : ℕ) → t < turn → IsTaskDone viewport contexts w (task_at (length contexts) t)
+  pub done : (t : ℕ) → t < turn → IsTaskDone medium contexts w (task_at (length contexts) t)
 
 -- a task has been given a value that is right beside the others
-pub record IsSettled (viewport : ContainingBlock) (contexts : List Context) (before : Workings) (task : Task) (after : Workings) : Type 0 where
+pub record IsSettled (medium : Medium) (contexts : List Context) (before : Workings) (task : Task) (after : Workings) : Type 0 where
   pub value : Value
-  pub local : IsLocal (input_of viewport contexts before task) value
+  pub local : IsLocal (input_of medium contexts before task) value
   pub noted : after ≡ with_value before task.context value
 
 -- the columns that a tree is put together of are as long as the boxes that they are of

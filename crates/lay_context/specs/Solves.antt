@@ -12,12 +12,13 @@ use Rattle.lay_doc.specs.LengthValues.{px}
 use Rattle.lay_doc.specs.ComputedStyle.{HasStyles, declarations_of}
 use Rattle.lay_boxgen.specs.declared.box_tree.BoxNode.{BoxNode}
 use Rattle.lay_boxgen.specs.BoxColumns.{box_ids}
+use Rattle.lay_face.specs.FaceValue.{FaceValue}
 use Rattle.lay_frag.specs.Pieces.{Context as PageContext}
 use Rattle.lay_flow.specs.Lengths.{no_length}
 use Rattle.lay_sizes.specs.declared.sizing.BoxSizes.{BoxSizes}
 use Rattle.lay_sizes.specs.declared.sizing.ContainingBlock.{ContainingBlock}
 use Rattle.lay_context.specs.declared.corner.Corner.{Corner}
-use Rattle.lay_context.specs.Contexts.{Context, boxes_in}
+use Rattle.lay_context.specs.Contexts.{Context, Medium, boxes_in}
 use Rattle.lay_context.specs.ContextList.{AreContextsOf}
 use Rattle.lay_context.specs.ContextSizes.{HasSizes}
 use Rattle.lay_context.specs.ContextPlaces.{Placement, IsPlacement}
@@ -48,26 +49,30 @@ pub record IsAssembled (viewport : ContainingBlock) (contexts : List Context) (s
   pub has_corners : HasPageCorners viewport contexts sizes places corners
   pub tree_is : IsTreeOf contexts places corners tree
 
--- the tree of these contexts, for a viewport, has the rectangles of workings that meet their equations
-pub record SolvesContexts (viewport : ContainingBlock) (contexts : List Context) (tree : List PageContext) : Type 0 where
+-- the tree of these contexts, on a medium, has the rectangles of workings that meet their equations
+pub record SolvesContexts (medium : Medium) (contexts : List Context) (tree : List PageContext) : Type 0 where
   pub sizes : List (List BoxSizes)
   pub places : List Placement
   pub size_count : length sizes ≡ length contexts
   pub place_count : length places ≡ length contexts
   pub has_sizes : (i : ℕ) → i < length contexts
-      → HasSizes (outer_block viewport contexts sizes i) (boxes_in contexts i) (sizes_in sizes i)
+      → HasSizes (outer_block medium.viewport contexts sizes i) (boxes_in contexts i) (sizes_in sizes i)
   pub has_places : (i : ℕ) → i < length contexts
-      → IsPlacement (boxes_in contexts i) (sizes_in sizes i) (inner_boxes contexts places i) (placement_in places i)
-  pub assembled : IsAssembled viewport contexts sizes places tree
+      → IsPlacement medium.face (boxes_in contexts i) (sizes_in sizes i) (inner_boxes contexts places i) (placement_in places i)
+  pub assembled : IsAssembled medium.viewport contexts sizes places tree
 
 -- the viewport as the root's containing block (10.1)
 abbrev pub viewport_of : Document → ContainingBlock
 viewport_of d = record { width = px d.width; height = of (px d.height) }
 
--- the tree is the layout of the document
-pub record Solves (d : Document) (tree : List PageContext) : Type 0 where
+-- what the document is laid out on
+abbrev pub medium_of : Document → FaceValue → Medium
+medium_of d face = record { viewport = viewport_of d; face = face }
+
+-- the tree is the layout of the document in a face
+pub record Solves (d : Document) (face : FaceValue) (tree : List PageContext) : Type 0 where
   pub styles : List Style
   pub has_styles : HasStyles (parents_of d.nodes) (declarations_of d.nodes) styles
   pub contexts : List Context
   pub are_contexts : AreContextsOf d.nodes styles contexts
-  pub solves_contexts : SolvesContexts (viewport_of d) contexts tree
+  pub solves_contexts : SolvesContexts (medium_of d face) contexts tree

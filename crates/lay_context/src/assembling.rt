@@ -1,6 +1,6 @@
 //! The tree of a document, put together of the values of its contexts.
 
-ghost use Rattle.std.specs.Prelude.{◌≡◌, ◌<◌, ◌≤◌, length, IfOk};
+ghost use Rattle.std.specs.Prelude.{◌≡◌, ◌+◌, ◌^◌, ◌<◌, ◌≤◌, length, IfOk};
 ghost use Rattle.lay_units.specs.Units.{IsUsedSize};
 ghost use Rattle.lay_frag.specs.Pieces.{IsContextInRange};
 ghost use Rattle.lay_context.specs.Contexts.{boxes_in};
@@ -20,6 +20,9 @@ use lay_sizes::ContainingBlock;
 use lay_units::{NoMemory, Rect, Unit};
 use std::alloc::Global;
 
+/// More pieces than a report can number.
+const TOO_MANY_PIECES: usize = 4294967296;
+
 /// The tree of these contexts, whose values are known.
 pub(crate) fn assemble(
     alloc: Global,
@@ -35,7 +38,8 @@ pub(crate) fn assemble(
     tree_of(alloc, contexts, known, &corners)
 }
 
-/// The tree of these contexts, whose corners on the page are known.
+/// The tree of these contexts, whose corners on the page are known. NoMemory is also the answer for 2^32 pieces or
+/// more.
 fn tree_of(
     alloc: Global,
     contexts: &Contexts,
@@ -49,12 +53,28 @@ fn tree_of(
 {
     let count = contexts.len();
     let mut tree = Vec::with_capacity(alloc, count)?;
+    let mut pieces = 0;
     for i in 0..count {
         let boxes = contexts.at(i).boxes().as_slice();
         let context = placed(boxes, known.placement(i), corner_at(corners, i))?;
+        pieces = with_few(pieces, &context)?;
         tree.push(context)?;
     }
     Ok(Tree::new(tree))
+}
+
+/// So many pieces with those of a context. NoMemory is the answer where they aren't below 2^32.
+fn with_few(before: usize, context: &Placed) -> Result<usize, NoMemory>
+    requires before { before < 2 ^ 32 }
+    requires few { length context.now.pieces ≤ 2147483648 }
+    ensures count { IfOk result (λ n. n ≡ before + length context.now.pieces) }
+    ensures few { IfOk result (λ n. n < 2 ^ 32) }
+{
+    let count = before + context.pieces().len();
+    if count >= TOO_MANY_PIECES {
+        return Err(NoMemory);
+    }
+    Ok(count)
 }
 
 /// A context on the page, whose border box has this corner.
@@ -63,7 +83,7 @@ fn placed(boxes: &[BoxNode], placement: &Placement, corner: Corner) -> Result<Pl
     requires near { IsCornerNear corner }
     ensures value { IfOk result (λ c. c ≡ context_of boxes.now placement.now corner) }
     ensures range { IfOk result IsContextInRange }
-    ensures few { IfOk result (λ c. length c.pieces ≤ 16384) }
+    ensures few { IfOk result (λ c. length c.pieces ≤ 2147483648) }
 {
     let rect = own_rect(placement, corner);
     let pieces = placement.pieces()?;

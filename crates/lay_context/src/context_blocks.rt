@@ -8,7 +8,7 @@ ghost use Rattle.lay_sizes.specs.OwnBoxes.{OwnBoxFits};
 ghost use Rattle.lay_context.specs.ContextBlocks.{content_left, left_of_box, HasLefts};
 ghost use Rattle.lay_context.specs.PlaceBounds.{AreNearLefts};
 
-use crate::box_columns::{length_at, outside, parent_at, sizes_at, sum_of};
+use crate::box_columns::{length_at, outside, sizes_at, sum_of};
 use crate::input::PlaceInput;
 use lay_sizes::{BoxSizes, OwnBox};
 use lay_units::{NoMemory, Unit};
@@ -16,7 +16,7 @@ use std::alloc::Global;
 
 /// The left border edges of boxes in flow, where no float is beside them, from outer to inner boxes.
 pub(crate) fn lefts_of(alloc: Global, input: &PlaceInput) -> Result<Vec<Unit>, NoMemory>
-    requires few { length input.now.boxes ≤ 16384 }
+    requires few { length input.now.boxes ≤ 65536 }
     ensures lefts { IfOk result (λ v. HasLefts input.now.boxes input.now.sizes input.now.inner v.items) }
     ensures near { IfOk result (λ v. AreNearLefts v.items) }
 {
@@ -41,7 +41,7 @@ fn left_of_box(input: &PlaceInput, lefts: &[Unit], k: usize) -> Unit
     }
     let boxes = input.boxes();
     let own = outside(boxes, input.sizes(), input.inner(), k);
-    with_margin(content_left(input, lefts, parent_at(boxes, k)), own)
+    with_margin(content_left(input, lefts, input.container(k)), own)
 }
 
 /// The border edge that is a box's left margin right of a content edge.
@@ -73,4 +73,13 @@ pub(crate) fn inside_edge(left: Unit, sizes: BoxSizes) -> Unit
     ensures near { IsPosition result.0 }
 {
     sum_of(left, sizes.edges.left)
+}
+
+/// The right edge of a content that begins there.
+pub(crate) fn content_right(left: Unit, sizes: BoxSizes) -> Unit
+    requires left { IsPosition left.0 }
+    requires sizes { SizeFits sizes }
+    ensures { result ≡ record { 0 = left.0 +ℤ sizes.widths.width.0 } }
+{
+    sum_of(left, sizes.widths.width)
 }

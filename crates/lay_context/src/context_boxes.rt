@@ -1,32 +1,38 @@
 //! The boxes of one context.
 
-ghost use Rattle.std.specs.Prelude.{◌≡◌, ◌<◌, length, IfOk};
-ghost use Rattle.lay_boxgen.specs.Roles.{clear_at};
+ghost use Rattle.std.specs.Prelude.{◌≡◌, ◌<◌, length, slice_index, IfOk};
+ghost use Rattle.lay_boxgen.specs.Containers.{AreContainers};
+ghost use Rattle.lay_boxgen.specs.Roles.{clear_at, role_at};
+ghost use Rattle.lay_context.specs.Containing.{container_of, is_anonymous};
+ghost use Rattle.lay_context.specs.InlineContainers.{is_own_container};
 ghost use Rattle.lay_context.specs.ContextBoxes.{AreContextBoxes, is_float};
 
-use lay_boxgen::{BoxNode, BoxTree};
+use lay_boxgen::{BoxNode, BoxTree, Role};
 use lay_doc::Clear;
 use lay_units::NoMemory;
 use std::alloc::Global;
 use std::marker::Model;
 use std::sync::Arc;
 
-/// The boxes of a context in the order of the box tree, its own first. Whoever is given them shares them.
+/// The boxes of a context in the order of the box tree, its own first, and the nearest block container of each.
+/// Whoever is given them shares them.
 #[derive(Drop)]
 pub struct ContextBoxes {
     tree: Arc<BoxTree>,
+    containers: Arc<Vec<usize>>,
 }
 
 impl Model for ContextBoxes {
     ghost use Rattle.std.specs.Prelude.{List};
     ghost use Rattle.lay_boxgen.specs.declared.box_tree.BoxNode.{BoxNode};
+    ghost use Rattle.lay_boxgen.specs.Containers.{AreContainers};
     ghost use Rattle.lay_context.specs.ContextBoxes.{AreContextBoxes};
 
     ghost Value = { List BoxNode };
 
     ghost view = { λ b. b.tree.value };
 
-    ghost invariant = { λ b. AreContextBoxes b.tree.value };
+    ghost invariant = { λ b. AreContextBoxes b.tree.value × AreContainers b.tree.value b.containers.value.items };
 }
 
 impl ContextBoxes {
@@ -35,8 +41,10 @@ impl ContextBoxes {
         requires { AreContextBoxes tree }
         ensures { IfOk result (λ b. b ≡ tree) }
     {
+        let containers = tree.containers(alloc)?;
+        let containers = Arc::new(alloc, containers)?;
         let tree = Arc::new(alloc, tree)?;
-        Ok(ContextBoxes { tree })
+        Ok(ContextBoxes { tree, containers })
     }
 
     /// The boxes, in order.
@@ -55,6 +63,41 @@ impl ContextBoxes {
         self.tree.as_slice()[k].inner && self.tree.role(k).is_float()
     }
 
+    /// What the box at k is in its formatting context.
+    pub(crate) fn role(&self, k: usize) -> Role
+        requires { k < length self.now }
+        ensures { result ≡ role_at self.now k }
+    {
+        self.tree.role(k)
+    }
+
+    /// The place of the nearest block container of the box at k; the context's own box is its own.
+    pub(crate) fn container(&self, k: usize) -> usize
+        requires { k < length self.now }
+        ensures container { result ≡ container_of self.now k }
+        ensures within { result < length self.now }
+        ensures before { 0 < k → result < k }
+    {
+        container_at(self.tree.as_slice(), &self.containers, k)
+    }
+
+    /// Whether the box at k is a block container in which other boxes of the context stand.
+    pub(crate) fn is_own_container(&self, k: usize) -> bool
+        requires { k < length self.now }
+        ensures { result ≡ is_own_container self.now k }
+    {
+        let node = &self.tree.as_slice()[k];
+        (k == 0 || node.is_block_container()) && !node.inner
+    }
+
+    /// Whether the box at k is anonymous (9.2.1.1).
+    pub(crate) fn is_anonymous(&self, k: usize) -> bool
+        requires { k < length self.now }
+        ensures { result ≡ is_anonymous self.now k }
+    {
+        self.tree.as_slice()[k].anonymous
+    }
+
     /// The sides that the box at k clears.
     pub(crate) fn clear(&self, k: usize) -> Clear
         requires { k < length self.now }
@@ -68,6 +111,27 @@ impl ContextBoxes {
         ensures { IfOk result (λ b. b ≡ self.now) }
     {
         let tree = self.tree.clone()?;
-        Ok(ContextBoxes { tree })
+        let containers = self.containers.clone()?;
+        Ok(ContextBoxes { tree, containers })
     }
+}
+
+/// The nearest block container of the box at k, where these are those of the boxes.
+fn container_at(boxes: &[BoxNode], containers: &[usize], k: usize) -> usize
+    requires are { AreContextBoxes boxes.now }
+    requires found { AreContainers boxes.now containers.now }
+    requires place { k < length boxes.now }
+    ensures container { result ≡ container_of boxes.now k }
+    ensures within { result < length boxes.now }
+    ensures before { 0 < k → result < k }
+{
+    let _ = boxes;
+    place_at(containers, k)
+}
+
+fn place_at(column: &[usize], k: usize) -> usize
+    requires { k < length column.now }
+    ensures { result ≡ slice_index column.now k }
+{
+    column[k]
 }

@@ -2,16 +2,17 @@
 
 ghost use Rattle.std.specs.Prelude.{◌≡◌, ◌<◌, ◌≤◌, true, false, length, IfOk};
 ghost use Rattle.lay_units.specs.Units.{IsPosition};
-ghost use Rattle.lay_boxgen.specs.BoxColumns.{box_parents};
 ghost use Rattle.lay_sizes.specs.SizeBounds.{SizeFits};
-ghost use Rattle.lay_context.specs.ContextBoxes.{AreContextBoxes, is_inner};
+ghost use Rattle.lay_context.specs.ContextBoxes.{is_inner};
 ghost use Rattle.lay_sizes.specs.SizeColumns.{HaveSizeBounds, no_sizes};
-ghost use Rattle.lay_context.specs.ContextSizes.{HasSizes, IsBoxSized, containing_block, width_rule};
+ghost use Rattle.lay_context.specs.ContextSizes.{HasSizes, IsBoxSized, block_rule, containing_block, width_rule};
 
-use crate::box_columns::{is_inner, parent_at, sizes_at, style_at};
+use crate::box_columns::{is_inner, style_at};
+use crate::containing::block_around;
+use crate::context_boxes::ContextBoxes;
 use crate::input::SizeInput;
-use lay_boxgen::{BoxNode, Flow, flow_of};
-use lay_sizes::{BoxSizes, ContainingBlock, NO_SIZES, WidthRule, box_sizes, content_block};
+use lay_boxgen::{Flow, Role, flow_of};
+use lay_sizes::{BoxSizes, ContainingBlock, NO_SIZES, WidthRule, box_sizes};
 use lay_units::{NoMemory, Unit};
 use std::alloc::Global;
 use std::marker::Model;
@@ -64,7 +65,7 @@ impl ContextSizes {
 pub(crate) fn context_sizes(alloc: Global, input: &SizeInput) -> Result<ContextSizes, NoMemory>
     ensures { IfOk result (HasSizes input.now.containing input.now.boxes) }
 {
-    let sizes = sizes_of(alloc, input.containing(), input.boxes())?;
+    let sizes = sizes_of(alloc, input.containing(), input.context_boxes())?;
     ContextSizes::new(alloc, sizes)
 }
 
@@ -72,15 +73,15 @@ pub(crate) fn context_sizes(alloc: Global, input: &SizeInput) -> Result<ContextS
 fn sizes_of(
     alloc: Global,
     outer: ContainingBlock,
-    boxes: &[BoxNode],
+    boxes: &ContextBoxes,
 ) -> Result<Vec<BoxSizes>, NoMemory>
     requires outer { IsPosition outer.width.0 }
-    requires are { AreContextBoxes boxes.now }
     ensures sizes { IfOk result (λ v. HasSizes outer boxes.now v.items) }
     ensures bounds { IfOk result (λ v. HaveSizeBounds v.items) }
 {
-    let mut sizes = Vec::with_capacity(alloc, boxes.len())?;
-    for k in 0..boxes.len() {
+    let count = boxes.as_slice().len();
+    let mut sizes = Vec::with_capacity(alloc, count)?;
+    for k in 0..count {
         let containing = containing_block(outer, boxes, &sizes, k);
         sizes.push(sizes_beside(containing, boxes, k))?;
     }
@@ -88,42 +89,59 @@ fn sizes_of(
 }
 
 /// The used sizes of the box at k beside its containing block.
-fn sizes_beside(containing: ContainingBlock, boxes: &[BoxNode], k: usize) -> BoxSizes
+fn sizes_beside(containing: ContainingBlock, boxes: &ContextBoxes, k: usize) -> BoxSizes
     requires place { k < length boxes.now }
     requires containing { IsPosition containing.width.0 }
     ensures each { is_inner boxes.now k ≡ false → IsBoxSized containing boxes.now k result }
     ensures inner { is_inner boxes.now k ≡ true → result ≡ no_sizes }
     ensures fits { SizeFits result }
 {
-    if is_inner(boxes, k) {
+    if is_inner(boxes.as_slice(), k) {
         return NO_SIZES;
     }
-    let style = style_at(boxes, k);
-    box_sizes(containing, width_rule(flow_of(style)), style)
+    let style = style_at(boxes.as_slice(), k);
+    box_sizes(
+        containing,
+        width_rule(boxes.role(k), flow_of(style)),
+        style,
+    )
 }
 
 /// The containing block of the box at k, where the sizes of those before it are known.
 fn containing_block(
     outer: ContainingBlock,
-    boxes: &[BoxNode],
+    boxes: &ContextBoxes,
     sizes: &[BoxSizes],
     k: usize,
 ) -> ContainingBlock
+    requires outer { IsPosition outer.width.0 }
     requires place { k < length boxes.now }
-    requires are { AreContextBoxes boxes.now }
     requires known { k ≤ length sizes.now }
-    ensures { result ≡ containing_block outer (box_parents boxes.now) sizes.now k }
+    requires bounds { HaveSizeBounds sizes.now }
+    ensures block { result ≡ containing_block outer boxes.now sizes.now k }
+    ensures near { IsPosition result.width.0 }
 {
+    let _ = boxes.as_slice();
     if k == 0 {
         return outer;
     }
-    content_block(&sizes_at(sizes, parent_at(boxes, k)))
+    block_around(boxes, sizes, k)
 }
 
-/// Which rule gives a box its width. Of a float the preferred widths of its content aren't known yet, and count
-/// as 0.
-fn width_rule(flow: Flow) -> WidthRule
-    ensures { result ≡ width_rule flow }
+/// Which rule gives a box its width.
+fn width_rule(role: Role, flow: Flow) -> WidthRule
+    ensures { result ≡ width_rule role flow }
+{
+    if role.is_inline_level() {
+        return WidthRule::Inline;
+    }
+    block_rule(flow)
+}
+
+/// Which rule gives a box that isn't inline its width. Of a float the preferred widths of its content aren't known
+/// yet, and count as 0.
+fn block_rule(flow: Flow) -> WidthRule
+    ensures { result ≡ block_rule flow }
 {
     match flow {
         Flow::InFlow => WidthRule::Fills,

@@ -37,11 +37,11 @@ pub(crate) fn corners_of(
 /// The corner of the border box of the box at k, counted from that of the context's own. NoMemory is the
 /// answer where it is more than 2^60 units away, which it is in no document within the limits.
 pub(crate) fn corner_of_box(places: &BoxPlaces, k: usize) -> Result<Corner, NoMemory>
-    requires { k < length places.now.places }
+    requires { k < length places.now.places.boxes }
     ensures corner { IfOk result (λ c. c ≡ corner_of_box places.now k) }
     ensures near { IfOk result IsCornerNear }
 {
-    let corner = place_at(&places.places, k).corner;
+    let corner = place_at(places.places.boxes(), k).corner;
     near_corner(corner.x, corner.y)
 }
 

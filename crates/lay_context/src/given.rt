@@ -2,47 +2,44 @@
 
 ghost use Rattle.std.specs.Prelude.{◌≡◌, ◌<◌, IfOk, length};
 ghost use Rattle.lay_units.specs.Units.{IsPosition, IsUsedSize};
-ghost use Rattle.lay_sizes.specs.BoxSizes.{content_block};
-ghost use Rattle.lay_sizes.specs.SizeColumns.{sizes_at};
 ghost use Rattle.lay_context.specs.DocumentLayout.{inner_boxes, outer_block, own_box_in};
 ghost use Rattle.lay_context.specs.Local.{input_of};
 ghost use Rattle.lay_context.specs.Settling.{IsReady};
 ghost use Rattle.lay_context.specs.declared.task.Phase.TheVariants.{Size};
 ghost use Rattle.lay_sizes.specs.OwnBoxes.{OwnBoxFits};
 
-use crate::box_columns::{parent_at, sizes_at};
-use crate::context_sizes::ContextSizes;
+use crate::containing::block_around;
 use crate::contexts::Contexts;
 use crate::input::{Input, PlaceInput, SizeInput};
 use crate::known::Known;
+use crate::medium::Medium;
 use crate::own_boxes::OwnBoxes;
 use crate::task::{Phase, Task};
-use lay_sizes::{ContainingBlock, NO_OWN_BOX, OwnBox, content_block};
+use lay_sizes::{ContainingBlock, NO_OWN_BOX, OwnBox};
 use lay_units::NoMemory;
 use std::alloc::Global;
 
 /// What a task is given, where the values that it needs are known.
 pub(crate) fn input(
     alloc: Global,
-    viewport: ContainingBlock,
+    medium: &Medium,
     contexts: &Contexts,
     known: &Known,
     task: Task,
 ) -> Result<Input, NoMemory>
-    requires viewport { IsUsedSize viewport.width.0 }
     requires ready { IsReady contexts.now known.now task }
-    ensures { IfOk result (λ i. i ≡ input_of viewport contexts.now known.now task) }
+    ensures { IfOk result (λ i. i ≡ input_of medium.now contexts.now known.now task) }
 {
     let boxes = contexts.at(task.context).boxes().share()?;
     match task.phase {
         Phase::Size => {
-            let containing = outer_block(viewport, contexts, known, task.context);
+            let containing = outer_block(medium.viewport(), contexts, known, task.context);
             Ok(Input::Size(SizeInput::new(boxes, containing)))
         }
         Phase::Place => {
             let sizes = known.sizes(task.context).share()?;
             let inner = inner_boxes(alloc, contexts, known, task.context)?;
-            Ok(Input::Place(PlaceInput::new(boxes, sizes, inner)))
+            Ok(Input::Place(PlaceInput::new(boxes, sizes, inner, medium.face()?)))
         }
     }
 }
@@ -64,17 +61,8 @@ fn outer_block(
     }
     let context = contexts.at(i);
     let outer = context.outer();
-    let boxes = contexts.at(outer).boxes().as_slice();
-    content_of(known.sizes(outer), parent_at(boxes, context.outer_box()))
-}
-
-/// The content box of the box at k, of these used sizes.
-fn content_of(sizes: &ContextSizes, k: usize) -> ContainingBlock
-    requires { k < length sizes.now }
-    ensures block { result ≡ content_block (sizes_at sizes.now k) }
-    ensures fits { IsPosition result.width.0 }
-{
-    content_block(&sizes_at(sizes.as_slice(), k))
+    let boxes = contexts.at(outer).boxes();
+    block_around(boxes, known.sizes(outer).as_slice(), context.outer_box())
 }
 
 /// The boxes of the contexts inside the one with this number, among its boxes.

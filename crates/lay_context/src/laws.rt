@@ -1,6 +1,7 @@
 //! The laws of the definitions: a task has one value and needs what the table says, so that a document has one
 //! layout, and the nodes in the list of its contexts are contexts.
 
+ghost use Rattle.lay_context.specs.Containing.{ContainersAreNearest};
 ghost use Rattle.lay_context.specs.Laws.{EnoughTurns, InputsComeOfNeeds, NeedsComeFirst, OneContextSizes, OnePlacement, OneSolution, SpotsAreContexts};
 
 /// The used sizes of the boxes of a context are the only ones beside its containing block.
@@ -21,6 +22,11 @@ pub fn inputs_come_of_needs()
 /// What a task needs has its turn before it.
 pub fn needs_come_first()
     ensures { NeedsComeFirst }
+{}
+
+/// The nearest block container of a box is the one that the standard says (CSS 2.2, 10.1).
+pub fn containers_are_nearest()
+    ensures { ContainersAreNearest }
 {}
 
 /// Two trees that solve one document are equal.

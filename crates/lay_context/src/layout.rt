@@ -15,31 +15,40 @@ use crate::contexts::Contexts;
 use crate::given::input;
 use crate::input::Input;
 use crate::known::Known;
+use crate::medium::Medium;
 use crate::placing::placement;
 use crate::task::{Task, task_at};
 use crate::value::Value;
 use lay_doc::{Computed, Doc};
+use lay_face::Face;
 use lay_frag::Tree;
 use lay_inherit::computed;
 use lay_sizes::ContainingBlock;
 use lay_units::{Len, NoMemory, Unit};
 use std::alloc::Global;
+use std::sync::Arc;
 
-/// The layout of a document: the tree that solves it.
-pub fn scratch(alloc: Global, doc: &Doc) -> Result<Tree, NoMemory>
-    ensures { IfOk result (Solves doc.now) }
+/// The layout of a document in a face: the tree that solves it.
+pub fn scratch(alloc: Global, doc: &Doc, face: &Arc<Face>) -> Result<Tree, NoMemory>
+    ensures { IfOk result (Solves doc.now face.now.value) }
 {
     let computed = computed(alloc, doc)?;
-    scratch_styled(alloc, doc, &computed)
+    scratch_styled(alloc, doc, face, &computed)
 }
 
 /// The same, where the computed styles of the document are known.
-pub fn scratch_styled(alloc: Global, doc: &Doc, computed: &Computed) -> Result<Tree, NoMemory>
+pub fn scratch_styled(
+    alloc: Global,
+    doc: &Doc,
+    face: &Arc<Face>,
+    computed: &Computed,
+) -> Result<Tree, NoMemory>
     requires styles { HasStyles (parents_of doc.now.nodes) (declarations_of doc.now.nodes) computed.now }
-    ensures { IfOk result (Solves doc.now) }
+    ensures { IfOk result (Solves doc.now face.now.value) }
 {
     let contexts = contexts_of(alloc, doc, computed)?;
-    lay_contexts(alloc, viewport_of(doc), &contexts)
+    let medium = Medium::new(viewport_of(doc), face.clone()?);
+    lay_contexts(alloc, &medium, &contexts)
 }
 
 /// The viewport as the root's containing block.
@@ -57,34 +66,32 @@ fn viewport_of(doc: &Doc) -> ContainingBlock
 /// The layout of these contexts: each task in its turn, and the tree put together of the values.
 fn lay_contexts(
     alloc: Global,
-    viewport: ContainingBlock,
+    medium: &Medium,
     contexts: &Contexts,
 ) -> Result<Tree, NoMemory>
-    requires viewport { IsUsedSize viewport.width.0 }
-    ensures { IfOk result (SolvesContexts viewport contexts.now) }
+    ensures { IfOk result (SolvesContexts medium.now contexts.now) }
 {
     let count = contexts.len();
     let mut known = Known::new(alloc, count)?;
     for turn in 0..count + count {
-        settle(alloc, viewport, contexts, &mut known, task_at(count, turn))?;
+        settle(alloc, medium, contexts, &mut known, task_at(count, turn))?;
     }
-    let tree = assemble(alloc, viewport, contexts, &known)?;
+    let tree = assemble(alloc, medium.viewport(), contexts, &known)?;
     Ok(tree)
 }
 
 /// Computes the value of a task, where the values that it needs are known.
 fn settle(
     alloc: Global,
-    viewport: ContainingBlock,
+    medium: &Medium,
     contexts: &Contexts,
     known: &mut Known,
     task: Task,
 ) -> Result<(), NoMemory>
-    requires viewport { IsUsedSize viewport.width.0 }
     requires ready { IsReady contexts.now known.old task }
-    ensures { OnOk result (IsSettled viewport contexts.now known.old task known.new) }
+    ensures { OnOk result (IsSettled medium.now contexts.now known.old task known.new) }
 {
-    let input = input(alloc, viewport, contexts, known, task)?;
+    let input = input(alloc, medium, contexts, known, task)?;
     let value = compute(alloc, &input)?;
     known.set(task.context, value);
     Ok(())

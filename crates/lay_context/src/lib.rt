@@ -10,6 +10,7 @@
 
 mod assembling;
 mod box_columns;
+mod containing;
 mod context_blocks;
 mod context_boxes;
 mod context_list;
@@ -21,19 +22,24 @@ mod contexts;
 mod corner;
 mod corners;
 mod given;
+mod inline_containers;
 mod input;
 mod known;
 mod laws;
 mod layout;
+mod line_bounds;
+mod line_boxes;
 mod own_boxes;
+mod medium;
 mod page_corners;
+mod piece_list;
 mod pieces;
 mod placing;
 mod task;
 mod value;
 
 pub use laws::{
-    enough_turns, inputs_come_of_needs, needs_come_first, one_context_sizes, one_placement,
+    containers_are_nearest, enough_turns, inputs_come_of_needs, needs_come_first, one_context_sizes, one_placement,
     one_solution, spots_are_contexts,
 };
 pub use layout::{scratch, scratch_styled};

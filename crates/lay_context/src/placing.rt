@@ -17,7 +17,7 @@ use std::sync::Arc;
 
 /// Where the boxes of a context stand, beside their used sizes and the boxes of inner contexts.
 pub(crate) fn placement(alloc: Global, input: &PlaceInput) -> Result<Placement, NoMemory>
-    ensures { IfOk result (IsPlacement input.now.boxes input.now.sizes input.now.inner) }
+    ensures { IfOk result (IsPlacement input.now.face input.now.boxes input.now.sizes input.now.inner) }
 {
     let _ = input.boxes();
     let places = context_places(alloc, input)?;
@@ -25,7 +25,7 @@ pub(crate) fn placement(alloc: Global, input: &PlaceInput) -> Result<Placement, 
     let corners = corners_of(alloc, input, &places)?;
     let own = own_box(
         sizes_at(input.sizes(), 0),
-        place_at(&places.places, 0).height,
+        place_at(places.places.boxes(), 0).height,
     );
     let pieces = Arc::new(alloc, Pieces::new(pieces))?;
     Ok(Placement::new(own, pieces, corners))

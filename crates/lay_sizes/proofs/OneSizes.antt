@@ -31,8 +31,9 @@ one_used_width Fills b x y p q = one_block_width_lem b x y p q
 one_used_width Inline b x y p q = held_same (inline_widths b) x y p q
 one_used_width (ShrinksToFit preferred_minimum preferred) b x y p q = one_float_width_lem b preferred_minimum preferred x y p q
 
-abbrev sizes_of : BlockOut → Sides → (margin_top margin_bottom : Length) → Len → Length → Option Length → BoxSizes
-sizes_of widths edges margin_top margin_bottom height min_height max_height = record {
+abbrev sizes_of : Length → BlockOut → Sides → (margin_top margin_bottom : Length) → Len → Length → Option Length → BoxSizes
+sizes_of containing widths edges margin_top margin_bottom height min_height max_height = record {
+  containing = containing;
   widths = widths;
   edges = edges;
   margin_top = margin_top;
@@ -44,6 +45,7 @@ sizes_of widths edges margin_top margin_bottom height min_height max_height = re
 
 pub one_box_sizes_lem : OneBoxSizes
 one_box_sizes_lem containing rule s y z p q =
+    let around = p.containing_is ∙ sym q.containing_is in
     let widths = one_used_width rule (block_of containing.width s) y.widths z.widths p.widths q.widths in
     let edges = p.edges ∙ sym q.edges in
     let margin_top = p.margin_top ∙ sym q.margin_top in
@@ -51,6 +53,6 @@ one_box_sizes_lem containing rule s y z p q =
     let height = p.height ∙ sym q.height in
     let min_height = p.min_height ∙ sym q.min_height in
     let max_height = p.max_height ∙ sym q.max_height in
-    let e : sizes_of y.widths y.edges y.margin_top y.margin_bottom y.height y.min_height y.max_height ≡ sizes_of z.widths z.edges z.margin_top z.margin_bottom z.height z.min_height z.max_height =
-    rw (widths, edges, margin_top, margin_bottom, height, min_height, max_height) refl in
+    let e : sizes_of y.containing y.widths y.edges y.margin_top y.margin_bottom y.height y.min_height y.max_height ≡ sizes_of z.containing z.widths z.edges z.margin_top z.margin_bottom z.height z.min_height z.max_height =
+    rw (around, widths, edges, margin_top, margin_bottom, height, min_height, max_height) refl in
     e

@@ -25,8 +25,9 @@ IsUsedWidth Fills b out = IsUsedBlock b out
 IsUsedWidth Inline b out = IsHeld (inline_widths b) out
 IsUsedWidth (ShrinksToFit preferred_minimum preferred) b out = IsUsedFloat b preferred_minimum preferred out
 
--- these are the used sizes of a box of this style, whose width comes by this rule
+-- these are the used sizes of a box of this style, whose width comes by this rule, with the width of its containing block
 pub record IsSized (containing : ContainingBlock) (rule : WidthRule) (s : Style) (z : BoxSizes) : Type 0 where
+  pub containing_is : z.containing ≡ containing.width
   pub widths : IsUsedWidth rule (block_of containing.width s) z.widths
   pub edges : z.edges ≡ edges_of containing.width s
   pub margin_top : z.margin_top ≡ used_vertical_margin containing.width s.margin.top

@@ -16,6 +16,7 @@ no_edges = record { top = no_length; right = no_length; bottom = no_length; left
 
 abbrev pub no_sizes : BoxSizes
 no_sizes = record {
+  containing = no_length;
   widths = no_widths;
   edges = no_edges;
   margin_top = no_length;

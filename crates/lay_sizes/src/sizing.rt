@@ -41,6 +41,8 @@ pub enum WidthRule {
 /// 10.7), in 1/64 px.
 #[derive(Clone, Copy)]
 pub struct BoxSizes {
+    /// The width of its containing block, which is what percentages are of (16.1).
+    pub containing: Unit,
     /// Its left and right margins and its width.
     pub widths: BlockOut,
     /// Its border and its padding on each side together.
@@ -56,6 +58,7 @@ pub struct BoxSizes {
 
 /// No sizes.
 pub const NO_SIZES: BoxSizes = BoxSizes {
+    containing: Unit(0),
     widths: BlockOut {
         margin_left: Unit(0),
         width: Unit(0),
@@ -83,6 +86,7 @@ pub fn box_sizes(containing: ContainingBlock, rule: WidthRule, style: &Style) ->
     let width = containing.width;
     let height = containing.height;
     BoxSizes {
+        containing: width,
         widths: used_widths(width, rule, style),
         edges: edges_of(width, style),
         margin_top: used_vertical_margin(width, style.margin.top),

@@ -18,7 +18,7 @@ returns c =
     let styles = rw c.doc.ensures at (c.in_ok-computed.ensures {u = tt}) in
     let document = rw c.doc-2.ensures at c.first_unbuilt.ensures.document in
     let known = rw (c.doc-2.ensures, c.as_slice.ensures, c.as_slice-2.ensures, c.listed.ensures.value) at (c.in_ok-place.ensures {u = tt}).value in
-    let report = rw c.doc-in-None.ensures at (c.in_ok-report-in-None.ensures {u = tt}) in
+    let report = c.in_ok-report-in-None.ensures {u = tt} in
     record {
       built = decides c.args.run.now c.in_ok-computed.computed known.0 None document styles known.1 (sym known.2 ∙ c.in-None.is);
       tree = report.0;

@@ -8,7 +8,7 @@ loop-k-preserved c =
     let fits = c.boxes-boxes.ensures.fits in
     let counted = ap length c.boxes-boxes.ensures.boxes in
     let is = rw c.deref.ensures.value at c.left_of_box-left.ensures in
-    rw ok.items (one_more c.args.input.now.boxes c.args.input.now.sizes c.args.input.now.inner c.loop-k.lefts.items c.loop-k.k c.left_of_box-left.result fits.boxes.tree fits.size_count fits.inner_count fits.size_bounds fits.inner_bounds (omega (arith, counted)) c.loop-k.invariant is)
+    rw ok.items (one_more c.args.input.now.boxes c.args.input.now.sizes c.args.input.now.inner c.loop-k.lefts.items c.loop-k.k c.left_of_box-left.result fits.boxes fits.size_count fits.inner_count fits.size_bounds fits.inner_bounds (omega (arith, counted)) c.loop-k.invariant is)
 
 pub left_of_box-left-requires-clause-near : goal.left_of_box-left-requires-clause-near
 left_of_box-left-requires-clause-near c =

@@ -1,6 +1,7 @@
 use Rattle.std.proofs.Common.{arith}
 use Rattle.std.proofs.lemmas.Grind.{elements}
 use Rattle.lay_context.specs.ContextBlocks.{flow_box_of}
+use Rattle.lay_context.specs.LineBoxes.{measures_in}
 use Rattle.lay_context.proofs.FlowBoxSteps.{one_more}
 use Rattle.lay_context.proofs.context_shapes.flow_boxes_of.Goals as goal
 
@@ -9,5 +10,5 @@ loop-k-preserved c =
     let ok = c.in_ok-push.ensures {u = tt} in
     record {
       count = rw ok.items (grind (arith, elements, c.loop-k.invariant.count));
-      each = rw ok.items (one_more (flow_box_of c.args.input.now.boxes c.args.input.now.sizes c.args.input.now.inner c.args.lefts.now) c.loop-k.flow_boxes.items c.loop-k.k c.flow_box_of.result c.loop-k.invariant.count c.loop-k.invariant.each c.flow_box_of.ensures);
+      each = rw ok.items (one_more (flow_box_of (measures_in c.args.input.now c.args.parts.now) c.args.lefts.now) c.loop-k.flow_boxes.items c.loop-k.k c.in_ok-flow_box.flow_box c.loop-k.invariant.count c.loop-k.invariant.each (c.in_ok-flow_box.ensures {u = tt}));
     }

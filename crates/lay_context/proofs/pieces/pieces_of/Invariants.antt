@@ -1,5 +1,11 @@
-use Rattle.lay_context.proofs.PieceSteps.{PiecesTo}
+use Rattle.std.proofs.Common.{◌≡◌}
+use Rattle.lay_context.specs.ContextPieces.{pieces_to}
+use Rattle.lay_context.specs.LineBoxes.{measures_in}
+use Rattle.lay_context.specs.PlaceBounds.{AreNearPieces}
 use Rattle.lay_context.proofs.pieces.pieces_of.Given as goal
 
 abbrev pub invariant-loop-k : goal.invariant-loop-k
-invariant-loop-k l = PiecesTo l.input.boxes l.input.sizes l.input.inner l.places l.pieces.items l.k
+invariant-loop-k l = record {
+  are : l.pieces ≡ pieces_to (measures_in l.input l.places.parts) l.places.flow_boxes l.places.places l.k;
+  near : AreNearPieces l.pieces;
+}

@@ -15,6 +15,6 @@ new-requires-3 c =
     record {
       own = c.own_box-own.ensures.fits;
       pieces = rw made pieces.near;
-      few = omega (arith, counted, pieces.few, places.few);
+      few = omega (arith, counted, pieces.few);
       corners = (c.in_ok-corners.ensures {u = tt}).near;
     }

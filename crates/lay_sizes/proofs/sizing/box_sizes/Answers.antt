@@ -1,8 +1,10 @@
+use Rattle.std.proofs.Common.{refl}
 use Rattle.lay_sizes.proofs.SizesFit.{sizes_fit_lem}
 use Rattle.lay_sizes.proofs.sizing.box_sizes.Goals as goal
 
 pub returns-clause-fits : goal.returns-clause-fits
 returns-clause-fits c = sizes_fit_lem c.args.containing c.args.rule c.args.style.now _ (record {
+  containing_is = refl;
   widths = c.used_widths.ensures;
   edges = c.edges_of.ensures;
   margin_top = c.used_vertical_margin.ensures;
