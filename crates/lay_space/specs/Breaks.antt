@@ -110,8 +110,8 @@ broken solid (x ∷ xs) =
     front_break (solid && breaks_before x xs) ++ Content x ∷ back_break (break_after x xs)
     ++ broken (solid_after (break_after x xs) ((solid && not (breaks_before x xs)) || is_solid x)) xs
 
--- What stands right after a break and goes before it: the end of an inline box or of a text, unless an inline
--- box starts between (`started`), and floats and anchors, unless the break is forced.
+-- What stands right after a break and goes before it: floats and anchors, unless the break is forced, and the end of an
+-- inline box or of a text, unless an inline box starts between, or a float or an anchor stays there (`started`).
 abbrev pub goes_back : Token → Bool → Bool → Bool
 goes_back (Cluster c) forced started = false
 goes_back TextEnd forced started = not started
@@ -140,6 +140,16 @@ is_start (End n) = false
 is_start (Float n) = false
 is_start (Anchor n) = false
 
+-- behind it no end goes back
+abbrev pub keeps_ends : Token → Bool
+keeps_ends (Cluster c) = false
+keeps_ends TextEnd = false
+keeps_ends (Atomic n m) = false
+keeps_ends (Start n) = true
+keeps_ends (End n) = false
+keeps_ends (Float n) = true
+keeps_ends (Anchor n) = true
+
 -- the break that things may go back behind, and what waits behind it
 abbrev pub flushed : Option Bool → List Entry → List Entry
 flushed None held = held
@@ -152,7 +162,7 @@ settled at started held (Break forced ∷ xs) = flushed at held ++ settled (Some
 settled None started held (Content x ∷ xs) = held ++ Content x ∷ settled None false [] xs
 settled (Some forced) started held (Content x ∷ xs) =
     if goes_back x forced started then Content x ∷ settled (Some forced) started held xs
-    else (if waits x then settled (Some forced) (started || is_start x) (held ++ Content x ∷ []) xs
+    else (if waits x then settled (Some forced) (started || keeps_ends x) (held ++ Content x ∷ []) xs
     else flushed (Some forced) held ++ Content x ∷ settled None false [] xs)
 
 -- the content with its breaks

@@ -36,6 +36,7 @@ ghost use Rattle.lay_space.specs.Breaks.{
   goes_back,
   waits,
   is_start,
+  keeps_ends,
   flushed,
   entries_of,
 };
@@ -80,8 +81,8 @@ struct Seen {
     atomic: Option<bool>,
 }
 
-/// The entries so far; the break behind which things may still go back, whether the start of an inline
-/// box waits behind it, and all that waits there.
+/// The entries so far; the break behind which things may still go back, whether something waits behind it that no
+/// end goes back over, and all that waits there.
 #[derive(Drop)]
 struct Settler {
     out: Vec<Entry>,
@@ -163,7 +164,7 @@ impl Settler {
             }
             if waits(token) {
                 push_entry(&mut self.held, Entry::Content(token))?;
-                self.started = self.started || is_start(token);
+                self.started = self.started || keeps_ends(token);
                 return Ok(());
             }
         }
@@ -345,6 +346,16 @@ fn waits(token: Token) -> bool
     match token {
         Token::Cluster(_) | Token::Atomic(_, _) => false,
         _ => true,
+    }
+}
+
+/// Whether no end goes back over it.
+fn keeps_ends(token: Token) -> bool
+    ensures { result ≡ keeps_ends token }
+{
+    match token {
+        Token::Start(_) | Token::Float(_) | Token::Anchor(_) => true,
+        _ => false,
     }
 }
 
