@@ -1,6 +1,7 @@
--- The preferred widths of a box by what its children take. A block is as wide as the widest (CSS 2.2, 10.3.5). Floats that stand next to each other
--- take the sum of their preferred widths, since they stand beside each other where there is room (9.5); by their preferred minimum
--- widths they stand below each other. What has no place in the flow, and white space, doesn't part them.
+-- The preferred widths of a box by what its children take. A block is as wide as the widest (CSS 2.2, 10.3.5). Floats
+-- that stand next to each other take the sum of their preferred widths, since they stand beside each other where
+-- there is room (9.5); by their preferred minimum widths they stand below each other. What has no place in the flow,
+-- and white space, doesn't part them.
 use Rattle.std.specs.Prelude.{ℤ, pos, ◌+ℤ◌, Bool, true, false, List, [], ◌∷◌}
 use Rattle.std.specs.List.{list_any}
 use Rattle.std.specs.Int.{int_max}

@@ -1,7 +1,7 @@
--- What a box takes of the preferred widths of what is around it (CSS 2.2, 10.3.5): the width of its content, or its `width` in
--- place of that where it is a length, between its `min-width` and `max-width` where these are lengths (10.4), with its margins,
--- borders and paddings (8.1). How wide its containing block will be isn't known yet. So a percentage counts as `auto` in `width`, as
--- `none` in `max-width`, and else as 0; margins that are `auto` are 0 too.
+-- What a box takes of the preferred widths of what is around it (CSS 2.2, 10.3.5): the width of its content, or its
+-- `width` in place of that where it is a length, between its `min-width` and `max-width` where these are lengths
+-- (10.4), with its margins, borders and paddings (8.1). How wide its containing block will be isn't known yet. So a
+-- percentage counts as `auto` in `width`, as `none` in `max-width`, and else as 0; margins that are `auto` are 0 too.
 use Rattle.std.specs.Prelude.{ℤ, ◌+ℤ◌, Option, Some, None}
 use Rattle.lay_units.specs.declared.length.Unit.{Unit as Length}
 use Rattle.lay_doc.specs.LengthValues.{length_of, size_of}

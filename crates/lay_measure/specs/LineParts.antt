@@ -1,6 +1,6 @@
--- What stands in the lines of a block container, by its widths (CSS 2.2, 9.4.2, 16.6 and 16.6.1): the grapheme clusters of its texts,
--- the starts and ends of its inline boxes with their edges, atomic boxes and floats with what they take, and between them the
--- places where lines may or have to break.
+-- What stands in the lines of a block container, by its widths (CSS 2.2, 9.4.2, 16.6 and 16.6.1): the grapheme
+-- clusters of its texts, the starts and ends of its inline boxes with their edges, atomic boxes and floats with what
+-- they take, and between them the places where lines may or have to break.
 use Rattle.std.specs.Prelude.{ℕ, ◌+◌, ◌==◌, ℤ, pos, negsuc, Bool, true, false, not, ◌&&◌, ◌||◌, List, [], ◌∷◌, ◌++◌, Option, Some, None, slice_get, if◌then◌else◌}
 use Rattle.lay_units.specs.declared.length.Unit.{Unit as Length}
 use Rattle.lay_units.specs.declared.records.ClusterWidth.{ClusterWidth}
@@ -25,8 +25,9 @@ use Rattle.lay_measure.specs.declared.line_parts.LinePart.{LinePart}
 use Rattle.lay_measure.specs.declared.line_parts.LinePart.TheVariants as part
 use Rattle.lay_measure.specs.declared.preferred_widths.PreferredWidths.{PreferredWidths}
 
--- What a box with these preferred widths takes of those around it. A replaced element has its own width. The preferred widths of
--- the wrapper of a table are those of its border box: `width` and its bounds act on the table in it (17.4, 17.5.2).
+-- What a box with these preferred widths takes of those around it. A replaced element has its own width. The
+-- preferred widths of the wrapper of a table are those of its border box: `width` and its bounds act on the table in
+-- it (17.4, 17.5.2).
 abbrev pub contribution_as : BoxKind → Style → PreferredWidths → PreferredWidths
 contribution_as (kind.Replaced w h inline) s own = record { minimum = margin_box s (replaced_width w h s); preferred = margin_box s (replaced_width w h s) }
 contribution_as kind.Wrapper s own = record { minimum = around_border s own.minimum; preferred = around_border s own.preferred }
@@ -79,8 +80,9 @@ abbrev pub end_in : MeasureInValue → ℕ → Option BoxNode → LinePart
 end_in m k None = part.Edge no_length false
 end_in m k (Some b) = end_of b.style (part_at m k)
 
--- A cluster under this `white-space`. A collapsible space goes at the start and the end of a line. A preserved one counts, but at the
--- end of a line where white space wraps. A preserved linefeed has no width; of CR LF, a cluster, the CR is a character.
+-- A cluster under this `white-space`. A collapsible space goes at the start and the end of a line. A preserved one
+-- counts, but at the end of a line where white space wraps. A preserved linefeed has no width; of CR LF, a cluster,
+-- the CR is a character.
 abbrev pub cluster_part : Mode → ClusterKind → Bool → Length → LinePart
 cluster_part m CollapsibleSpace lone width = part.Space width
 cluster_part m PreservedSpace lone width = if wraps m then part.HangingSpace width else part.Cluster width

@@ -1,9 +1,10 @@
--- The preferred widths of what stands in lines. CSS 2.2, 10.3.5: "calculate the preferred width by formatting the content without
--- breaking lines other than where explicit line breaks occur, and also calculate the preferred minimum width, e.g., by trying all
--- possible line breaks." So the one is the width of the widest line where lines break at preserved linefeeds alone, with the floats
--- of the line beside it, and the other that of the widest where they break wherever they may, or of the widest float. Spaces at the
--- start and the end of a line don't count (16.6.1). A `text-indent` that is a length comes before the first line where that is seen;
--- a first line that isn't seen (9.4.2) is the only one.
+-- The preferred widths of what stands in lines. CSS 2.2, 10.3.5: "calculate the preferred width by formatting the
+-- content without breaking lines other than where explicit line breaks occur, and also calculate the preferred
+-- minimum width, e.g., by trying all possible line breaks." So the one is the width of the widest line where lines
+-- break at preserved linefeeds alone, with the floats of the line beside it, and the other that of the widest where
+-- they break wherever they may, or of the widest float. Spaces at the start and the end of a line don't count
+-- (16.6.1). A `text-indent` that is a length comes before the first line where that is seen; a first line that isn't
+-- seen (9.4.2) is the only one.
 use Rattle.std.specs.Prelude.{zero, suc, ℤ, pos, negsuc, ◌+ℤ◌, ◌*ℤ◌, Bool, true, false, List, [], ◌∷◌, ◌++◌, if◌then◌else◌}
 use Rattle.std.specs.List.{list_any}
 use Rattle.std.specs.Int.{int_max, int_div_euclid}

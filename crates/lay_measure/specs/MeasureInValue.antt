@@ -1,5 +1,6 @@
--- What the preferred widths of a context depend on: its boxes, which of them have the left and the right edges of their
--- inline boxes, the preferred widths of the inner contexts, which stand at the places of their boxes, and the face.
+-- What the preferred widths of a context depend on: its boxes, which of them have the left and the right edges of
+-- their inline boxes, the preferred widths of the inner contexts, which stand at the places of their boxes, and the
+-- face.
 use Rattle.std.specs.Prelude.{ℕ, List, slice_index_or, pos}
 use Rattle.lay_units.specs.declared.length.Unit.{Unit as Length}
 use Rattle.lay_boxgen.specs.declared.box_tree.BoxNode.{BoxNode}

@@ -1,6 +1,7 @@
--- The width of a replaced element where nothing around it is known (CSS 2.2, 10.3.2, 10.4, 10.6.2 and 10.7): that of the rules for
--- replaced elements, where a percentage of `width` and `height` counts as `auto`, one of `min-width` and `min-height` as 0, and
--- one of `max-width` and `max-height` as `none`. It is both preferred widths of the element. Natural sizes are from 1 unit on.
+-- The width of a replaced element where nothing around it is known (CSS 2.2, 10.3.2, 10.4, 10.6.2 and 10.7): that of
+-- the rules for replaced elements, where a percentage of `width` and `height` counts as `auto`, one of `min-width`
+-- and `min-height` as 0, and one of `max-width` and `max-height` as `none`. It is both preferred widths of the
+-- element. Natural sizes are from 1 unit on.
 use Rattle.std.specs.Prelude.{ℤ, pos}
 use Rattle.std.specs.Int.{int_max}
 use Rattle.lay_units.specs.Units.{clamp_size_of}

@@ -1,5 +1,5 @@
--- What the code keeps while it goes from line to line: the widest so far, and where the line at hand begins. With that line and
--- those behind it, it comes to the widest of all.
+-- What the code keeps while it goes from line to line: the widest so far, and where the line at hand begins. With
+-- that line and those behind it, it comes to the widest of all.
 use Rattle.std.specs.Prelude.{ℕ, ℤ, List, drop, slice_range}
 use Rattle.std.specs.Int.{int_max}
 use Rattle.lay_measure.specs.LineWidths.{lines_of, widest}

@@ -9,8 +9,8 @@ use crate::sums::{greater, sum};
 use lay_boxgen::Role;
 use lay_units::{NoMemory, Unit};
 
-/// What some children of a box come to: whether one is inline-level, the greatest preferred minimum width, how wide the floats are
-/// that come first, and the greatest preferred width behind them.
+/// What some children of a box come to: whether one is inline-level, the greatest preferred minimum width, how wide
+/// the floats are that come first, and the greatest preferred width behind them.
 #[derive(Clone, Copy)]
 pub struct ChildTotals {
     pub lines: bool,

@@ -1,8 +1,9 @@
 //! Preferred widths: how wide the content of a context would like to be, and how narrow it can be (CSS 2.2, 10.3.5).
 //!
-//! Contracts cite `preferred_of` of `specs/PreferredWidths.antt`, a function of a context's boxes, of the preferred widths of the
-//! contexts inside it and of the face. It stands on `specs/Children.antt` (what children come to), `specs/Contributions.antt` and
-//! `specs/ReplacedWidths.antt` (what a box takes), and on `specs/LineParts.antt` and `specs/LineWidths.antt` (lines).
+//! Contracts cite `preferred_of` of `specs/PreferredWidths.antt`, a function of a context's boxes, of the preferred
+//! widths of the contexts inside it and of the face. It stands on `specs/Children.antt` (what children come to),
+//! `specs/Contributions.antt` and `specs/ReplacedWidths.antt` (what a box takes), and on `specs/LineParts.antt` and
+//! `specs/LineWidths.antt` (lines).
 #![tactic(auto)]
 
 mod children;

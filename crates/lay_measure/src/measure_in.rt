@@ -9,8 +9,9 @@ use lay_boxgen::BoxNode;
 use lay_face::Face;
 use std::marker::Model;
 
-/// The boxes of a context, lent: with which parts of inline boxes they are, the preferred widths of the inner contexts in flow or
-/// floating, which stand at the places of their boxes, and the face. A table's wrapper has the widths of its border box there.
+/// The boxes of a context, lent: with which parts of inline boxes they are, the preferred widths of the inner
+/// contexts in flow or floating, which stand at the places of their boxes, and the face. A table's wrapper has the
+/// widths of its border box there.
 #[derive(Drop)]
 pub struct MeasureIn<'a> {
     boxes: &'a [BoxNode],

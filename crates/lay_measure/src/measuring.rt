@@ -23,8 +23,8 @@ use lay_items::inline_segments;
 use lay_units::{NoMemory, Unit};
 use std::alloc::Global;
 
-/// The preferred minimum width and the preferred width of a context's own box (CSS 2.2, 10.3.5), in 1/64 px and from 0; zeros where
-/// there is no box. A width that isn't within 2^63 units of 0 is want of memory; no document has one.
+/// The preferred minimum width and the preferred width of a context's own box (CSS 2.2, 10.3.5), in 1/64 px and from
+/// 0; zeros where there is no box. A width that isn't within 2^63 units of 0 is want of memory; no document has one.
 pub fn measure(alloc: Global, of: &MeasureIn<'_>) -> Result<PreferredWidths, NoMemory>
     requires tree { IsTree (box_parents of.now.boxes) }
     requires few { length of.now.boxes ≤ 4294967295 }
@@ -63,8 +63,8 @@ fn replaced_widths(w: Unit, h: Unit, style: &Style) -> PreferredWidths
     }
 }
 
-/// The preferred widths of the content of the context's own box. The boxes are taken from the last to the first, so that the children
-/// of each are known before it.
+/// The preferred widths of the content of the context's own box. The boxes are taken from the last to the first, so
+/// that the children of each are known before it.
 fn tree_widths(alloc: Global, of: &MeasureIn<'_>) -> Result<PreferredWidths, NoMemory>
     requires tree { IsTree (box_parents of.now.boxes) }
     requires few { length of.now.boxes ≤ 4294967295 }
@@ -133,7 +133,8 @@ fn put_totals(totals: &mut [ChildTotals], p: usize, at_p: ChildTotals)
     totals[p] = at_p;
 }
 
-/// What some children of a box come to with the box at k before them, where these are what the children of that come to.
+/// What some children of a box come to with the box at k before them, where these are what the children of that come
+/// to.
 fn with_child(
     alloc: Global,
     of: &MeasureIn<'_>,

@@ -15,8 +15,8 @@ pub enum Breaking {
     WhereForced,
 }
 
-/// How far the content of a line has come, counted from the container's left content edge: where more would begin, where it ends
-/// without the spaces at its end, and whether something stands that a space may follow.
+/// How far the content of a line has come, counted from the container's left content edge: where more would begin,
+/// where it ends without the spaces at its end, and whether something stands that a space may follow.
 #[derive(Clone, Copy)]
 pub struct Pen {
     pub at: Unit,

@@ -5,7 +5,8 @@ ghost use Rattle.std.specs.Int.{int_max};
 
 use lay_units::{NoMemory, Unit};
 
-/// The sum of two lengths. NoMemory is the answer where it isn't within 2^63 units of 0, as no sum of a document within its limits is.
+/// The sum of two lengths. NoMemory is the answer where it isn't within 2^63 units of 0, as no sum of a document
+/// within its limits is.
 pub(crate) fn sum(a: Unit, b: Unit) -> Result<Unit, NoMemory>
     ensures { IfOk result (λ v. v ≡ record { 0 = a.0 +ℤ b.0 }) }
 {
