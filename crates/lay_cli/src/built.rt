@@ -85,7 +85,8 @@ fn is_built_style(is_root: bool, style: &Style) -> bool
     ensures { result ≡ is_built_style is_root style.now }
 {
     is_built_display(display_of(is_root, style), style)
-        && is_static(style.position) && !shrinks_to_fit(style)
+        && is_static(style.position)
+        && !shrinks_to_fit(style)
 }
 
 /// The used display of an element.

@@ -100,11 +100,7 @@ fn sizes_beside(containing: ContainingBlock, boxes: &ContextBoxes, k: usize) -> 
         return NO_SIZES;
     }
     let style = style_at(boxes.as_slice(), k);
-    box_sizes(
-        containing,
-        width_rule(boxes.role(k), flow_of(style)),
-        style,
-    )
+    box_sizes(containing, width_rule(boxes.role(k), flow_of(style)), style)
 }
 
 /// The containing block of the box at k, where the sizes of those before it are known.

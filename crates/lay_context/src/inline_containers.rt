@@ -19,10 +19,7 @@ pub(crate) enum Level {
 }
 
 /// Whether each box is a block box that contains inline-level boxes alone.
-pub(crate) fn inline_containers(
-    alloc: Global,
-    boxes: &ContextBoxes,
-) -> Result<Vec<bool>, NoMemory>
+pub(crate) fn inline_containers(alloc: Global, boxes: &ContextBoxes) -> Result<Vec<bool>, NoMemory>
     ensures count { IfOk result (λ v. length v.items ≡ length boxes.now) }
     ensures each { IfOk result (λ v. (k : ℕ) → k < length boxes.now → flag_at v.items k ≡ is_inline_container boxes.now k) }
 {

@@ -64,11 +64,7 @@ fn viewport_of(doc: &Doc) -> ContainingBlock
 }
 
 /// The layout of these contexts: each task in its turn, and the tree put together of the values.
-fn lay_contexts(
-    alloc: Global,
-    medium: &Medium,
-    contexts: &Contexts,
-) -> Result<Tree, NoMemory>
+fn lay_contexts(alloc: Global, medium: &Medium, contexts: &Contexts) -> Result<Tree, NoMemory>
     ensures { IfOk result (SolvesContexts medium.now contexts.now) }
 {
     let count = contexts.len();

@@ -29,8 +29,8 @@ mod laws;
 mod layout;
 mod line_bounds;
 mod line_boxes;
-mod own_boxes;
 mod medium;
+mod own_boxes;
 mod page_corners;
 mod piece_list;
 mod pieces;
@@ -39,7 +39,7 @@ mod task;
 mod value;
 
 pub use laws::{
-    containers_are_nearest, enough_turns, inputs_come_of_needs, needs_come_first, one_context_sizes, one_placement,
-    one_solution, spots_are_contexts,
+    containers_are_nearest, enough_turns, inputs_come_of_needs, needs_come_first,
+    one_context_sizes, one_placement, one_solution, spots_are_contexts,
 };
 pub use layout::{scratch, scratch_styled};

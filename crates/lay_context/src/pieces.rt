@@ -15,15 +15,17 @@ ghost use Rattle.lay_context.specs.PlaceBounds.{AreNearPieces, HaveCounts, IsNea
 use crate::box_columns::{is_inner, sizes_at, style_at};
 use crate::context_places::BoxPlaces;
 use crate::corners::{corner_of_box, near_position, place_at};
-use crate::line_bounds::{is_area_within, is_row_within};
 use crate::input::PlaceInput;
+use crate::line_bounds::{is_area_within, is_row_within};
 use crate::piece_list::PieceList;
 use lay_boxgen::BoxNode;
 use lay_content::{BoxMeasures, inline_areas};
 use lay_doc::{NodeId, TextAlign};
 use lay_flow::{BlockBox, FlowBox, FlowBoxes, FlowKind};
 use lay_frag::{Frag, FragKind};
-use lay_inlines::{Align, Container, LinePiece, LinePieceKind, LinePieceList, LinesGeometry, line_pieces};
+use lay_inlines::{
+    Align, Container, LinePiece, LinePieceKind, LinePieceList, LinesGeometry, line_pieces,
+};
 use lay_lines::{Ended, InlineArea};
 use lay_sizes::{BoxSizes, border_width};
 use lay_units::{NoMemory, Rect, Unit};
