@@ -10,7 +10,6 @@ use Rattle.lay_lines.specs.Pens.{over, start_of}
 use Rattle.lay_inlines.specs.declared.line_piece.LinePieceKind.{LinePieceKind}
 use Rattle.lay_inlines.specs.declared.line_piece.LinePieceKind.TheVariants as on_line
 use Rattle.lay_inlines.specs.declared.spans.Span.{Span}
-use Rattle.lay_inlines.specs.declared.strokes.Stroke.{Stroke}
 use Rattle.lay_inlines.specs.AtomicBoxes.{atomic_box, atomic_boxes, atomic_pieces, is_atomic}
 use Rattle.lay_inlines.specs.Laws.{EachAtomicBoxHasOnePiece}
 use Rattle.lay_inlines.specs.LinePieces.{piece_of, baseline_of, origin_of, blank_of, content_end, line_spans, line_strokes}
@@ -35,8 +34,8 @@ behind_open start end edges raises (n ∷ ns) ss = behind_open start end edges (
 -- a bit of a text neither hides nor shows an atomic box
 beside_text : (t n : ℕ) (raise r f u : Unit) (from to : ℤ) (kind : LinePieceKind) (same : Bool) (ss : List Span)
     → atomic_spans (if is_text kind && same then span_of on_line.Text t raise from u.0 ∷ ss
-      else span_of on_line.Text t raise from to ∷ record { kind = kind; node = n; raise = r; from = f; to = u } ∷ ss)
-      ≡ atomic_spans (record { kind = kind; node = n; raise = r; from = f; to = u } ∷ ss)
+    else span_of on_line.Text t raise from to ∷ record { kind = kind; node = n; raise = r; from = f; to = u } ∷ ss)
+    ≡ atomic_spans (record { kind = kind; node = n; raise = r; from = f; to = u } ∷ ss)
 beside_text t n raise r f u from to on_line.Line same ss = refl
 beside_text t n raise r f u from to on_line.Inline same ss = refl
 beside_text t n raise r f u from to on_line.Text true ss = refl
