@@ -1,11 +1,11 @@
 //! Sums that stop where they pass their bound.
 
 ghost use Rattle.std.specs.Prelude.{◌≡◌, ◌↔◌, ◌+◌, ◌*◌, ◌/◌, ◌≤◌, ◌<◌, ◌^◌, IsTrue, length, None, IfSome};
+ghost use Rattle.lay_valign.specs.Near.{distance};
 ghost use Rattle.lay_valign.specs.PartsFit.{length_of};
 ghost use Rattle.lay_lines.specs.LineContents.{
   boxes_of,
   boxes_of_part,
-  distance,
   lift_by,
   lift_of,
   lift_of_part,
