@@ -91,10 +91,11 @@ half_near : (above below x r : ℤ) → (r +ℤ r) ≤ℤ (x +ℤ (below -ℤ ab
     → IsNear (distance above + distance below + distance x) r × IsNear (distance above + distance below + distance x) (r +ℤ above) × IsNear (distance above + distance below + distance x) (below -ℤ r)
 half_near above below x r low high =
     let a = near above in let b = near below in let c = near x in
-    let a0 = a.0 in let a1 = a.1 in let b0 = b.0 in let b1 = b.1 in let c0 = c.0 in let c1 = c.1 in
-    ((omega (arith, ints, low, high, a0, a1, b0, b1, c0, c1), omega (arith, ints, low, high, a0, a1, b0, b1, c0, c1)),
-     (omega (arith, ints, low, high, a0, a1, b0, b1, c0, c1), omega (arith, ints, low, high, a0, a1, b0, b1, c0, c1)),
-     (omega (arith, ints, low, high, a0, a1, b0, b1, c0, c1), omega (arith, ints, low, high, a0, a1, b0, b1, c0, c1)))
+    let a0 = a.0 in let a1 = a.1 in let b0 = b.0 in let b1 = b.1 in let c0 = c.0 in let c1 = c.1 in (
+      (omega (arith, ints, low, high, a0, a1, b0, b1, c0, c1), omega (arith, ints, low, high, a0, a1, b0, b1, c0, c1)),
+      (omega (arith, ints, low, high, a0, a1, b0, b1, c0, c1), omega (arith, ints, low, high, a0, a1, b0, b1, c0, c1)),
+      (omega (arith, ints, low, high, a0, a1, b0, b1, c0, c1), omega (arith, ints, low, high, a0, a1, b0, b1, c0, c1)),
+    )
 
 -- with none
 still_near : (s : Shift) (above below : ℤ) → pos 0 ≡ raise_by s above below → RaiseNear s above below
@@ -262,17 +263,19 @@ module _ (strut : Part) (parts : List Part) (are : AreParts (strut ∷ parts)) w
     raised_near : (edge : LineEdge) (beside floor v : ℤ) → neg_ℤ (pos u) ≤ℤ beside → (neg_ℤ (pos u) ≤ℤ floor) × (floor ≤ℤ pos (u + most))
         → IsRaised (IsAligned edge all) (beyond s beside) floor v → (neg_ℤ (pos u) ≤ℤ v) × (v ≤ℤ pos (u + 2 * most))
     raised_near edge beside floor v least fits r =
-        let low = fits.0 in let from = r.from in
-        (omega (arith, ints, low, from), elim r.least [
-          | inl e ↦ (let high = fits.1 in omega (arith, ints, high, e))
-          | inr found ↦ (
-              let al = found.1 in
-              let own = own_root all s.roots found.0 is.roots al.within al.no_strut (aligned_begins edge (part_at all found.0).shift al.aligned) in
-              let a = (above_near found.0 al.within al.no_strut own).1 in
-              let b = (below_near found.0 al.within al.no_strut own).1 in
-              let e = found.2 in
-              omega (arith, ints, a, b, e, least))
-        ])
+        let low = fits.0 in let from = r.from in (
+          omega (arith, ints, low, from),
+          elim r.least [
+            | inl e ↦ (let high = fits.1 in omega (arith, ints, high, e))
+            | inr found ↦ (
+                let al = found.1 in
+                let own = own_root all s.roots found.0 is.roots al.within al.no_strut (aligned_begins edge (part_at all found.0).shift al.aligned) in
+                let a = (above_near found.0 al.within al.no_strut own).1 in
+                let b = (below_near found.0 al.within al.no_strut own).1 in
+                let e = found.2 in
+                omega (arith, ints, a, b, e, least))
+          ],
+        )
 
     module _ (above below : ℤ) (line : IsLine all s above below) where
       line_below : (neg_ℤ (pos u) ≤ℤ below) × (below ≤ℤ pos (u + 2 * most))
