@@ -3,8 +3,13 @@
 
 ghost use Rattle.lay_context_boxes.specs.Containing.{ContainersAreNearest};
 ghost use Rattle.lay_contexts.specs.Laws.{EnoughTurns, SpotsAreContexts};
-ghost use Rattle.lay_context.specs.Laws.{InputsComeOfNeeds, NeedsComeFirst, OneContextSizes, OneSolution};
+ghost use Rattle.lay_context.specs.Laws.{InputsComeOfNeeds, NeedsComeFirst, OneContextSizes, OneContextWidths, OneSolution};
 ghost use Rattle.lay_placement.specs.Laws.{OnePlacement};
+
+/// The preferred widths of a context are the only ones beside those of the contexts inside it.
+pub fn one_context_widths()
+    ensures { OneContextWidths }
+{}
 
 /// The used sizes of the boxes of a context are the only ones beside its containing block.
 pub fn one_context_sizes()
