@@ -4,6 +4,7 @@ use Rattle.std.proofs.lemmas.Bool.{cases_lt}
 use Rattle.lay_doc.specs.Document.{parents_of}
 use Rattle.lay_doc.specs.ComputedStyle.{declarations_of}
 use Rattle.lay_doc.proofs.OneStyles.{one_style_column_lem, same_list}
+use Rattle.lay_boxgen.proofs.NodeColumns.{length-parents}
 use Rattle.lay_frag.specs.Pieces.{Context as PageContext}
 use Rattle.lay_measure.specs.MeasureInValue.{no_widths}
 use Rattle.lay_measure.specs.declared.preferred_widths.PreferredWidths.{PreferredWidths}
@@ -23,7 +24,7 @@ use Rattle.lay_context.specs.Needs.{task_at, turns_of}
 use Rattle.lay_context.specs.Local.{Workings, IsLocal, IsTaskDone, input_by, input_of, value_by, value_of}
 use Rattle.lay_context.specs.Solves.{SolvesContexts, medium_of}
 use Rattle.lay_context.specs.Laws.{HadTurn, OneSolution}
-use Rattle.lay_contexts.proofs.ContextNumbers.{are_contexts, one_context_list}
+use Rattle.lay_contexts.proofs.ContextNumbers.{are_contexts, one_context_list_lem}
 use Rattle.lay_context.proofs.OneCorners.{one_corner_column}
 use Rattle.lay_placement.proofs.OnePlaces.{one_placement_lem}
 use Rattle.lay_context.proofs.OneSizes.{one_context_sizes_lem}
@@ -107,6 +108,7 @@ pub one_solution_lem : OneSolution
 one_solution_lem d face s t is a b =
     let styles = one_style_column_lem (parents_of d.nodes) (declarations_of d.nodes) a.styles b.styles is.tree a.has_styles b.has_styles in
     let listed : AreContextsOf d.nodes a.styles b.contexts = rw styles b.are_contexts in
-    let contexts = one_context_list d.nodes a.styles a.contexts b.contexts a.are_contexts listed in
+    let counted : length a.styles ≡ length d.nodes = a.has_styles.length_is ∙ length-parents d.nodes in
+    let contexts = one_context_list_lem d a.styles a.contexts b.contexts is counted a.are_contexts listed in
     let other : SolvesContexts (medium_of d face) a.contexts t = rw contexts b.solves_contexts in
-    one_tree (medium_of d face) a.contexts (are_contexts d.nodes a.styles a.contexts a.are_contexts) s t a.solves_contexts other
+    one_tree (medium_of d face) a.contexts (are_contexts d a.styles a.contexts is counted a.are_contexts) s t a.solves_contexts other

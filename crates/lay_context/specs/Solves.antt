@@ -14,7 +14,7 @@ use Rattle.lay_boxgen.specs.declared.box_tree.BoxNode.{BoxNode}
 use Rattle.lay_boxgen.specs.BoxColumns.{box_ids}
 use Rattle.lay_face.specs.FaceValue.{FaceValue}
 use Rattle.lay_frag.specs.Pieces.{Context as PageContext}
-use Rattle.lay_flow.specs.Lengths.{no_length}
+use Rattle.lay_sizes.specs.UsedLengths.{no_length}
 use Rattle.lay_measure.specs.declared.preferred_widths.PreferredWidths.{PreferredWidths}
 use Rattle.lay_sizes.specs.declared.sizing.BoxSizes.{BoxSizes}
 use Rattle.lay_sizes.specs.declared.sizing.ContainingBlock.{ContainingBlock}

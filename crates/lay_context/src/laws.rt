@@ -1,5 +1,5 @@
 //! The laws of the definitions: a task has one value and needs what the table says, so that a document has one
-//! layout, and the nodes in the list of its contexts are contexts.
+//! layout.
 
 ghost use Rattle.lay_context_boxes.specs.Containing.{ContainersAreNearest};
 ghost use Rattle.lay_contexts.specs.Laws.{EnoughTurns, SpotsAreContexts};

@@ -1,4 +1,5 @@
 pub mod CornerColumns
+pub mod CornerCounts
 pub mod FlowBoxSteps
 pub mod FlowFacts
 pub mod InlineContainerSteps
