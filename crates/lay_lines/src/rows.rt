@@ -50,9 +50,9 @@ pub fn lay_rows(
     let mut rest = stretches;
     while !rest.is_empty() {
         let ended = put_row(alloc, floats, &mut met, &here, &mut boxes, rest)?;
-        rows.push(ended)?;
         here = next_line(&here, &ended);
         rest = rest_of(rest, ended.reach.count);
+        rows.push(ended)?;
     }
     Ok(Rows {
         rows,
