@@ -95,7 +95,8 @@ fn spend_boxes(left: u64, parts: &[Part]) -> Option<u64>
     Some(left)
 }
 
-fn boxes_of_part(part: Part) -> u64
+/// Whether a part is an inline box or an atomic box, as a number.
+pub fn boxes_of_part(part: Part) -> u64
     ensures { result ≡ boxes_of_part part }
 {
     match part {

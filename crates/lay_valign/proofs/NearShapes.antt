@@ -1,6 +1,6 @@
 -- A line's shape reaches no further than its strut, and what its other parts can lift.
-use Rattle.std.proofs.Common.{◌≡◌, ℕ, zero, suc, ◌+◌, ◌*◌, ◌<◌, ◌≤◌, ℤ, pos, negsuc, ◌+ℤ◌, ◌-ℤ◌, ◌≤ℤ◌, neg_ℤ, List, [], ◌∷◌, inl, inr, length, refl, sym, ap, ◌∙◌, arith, subst, get_or}
-use Rattle.std.proofs.Common.{Bool, true, false, if◌then◌else◌}
+use Rattle.std.proofs.Common.{◌≡◌, ℕ, zero, suc, ◌+◌, ◌*◌, ◌<◌, ◌≤◌, ℤ, pos, negsuc, ◌+ℤ◌, ◌-ℤ◌, ◌≤ℤ◌, neg_ℤ, List, [], ◌∷◌, inl, inr, length, refl, sym, ◌∙◌, arith, subst}
+use Rattle.std.proofs.Common.{Bool, true, false}
 use Rattle.std.specs.Prelude.{slice_index}
 use Rattle.std.proofs.lemmas.Int.{ints}
 use Rattle.std.proofs.lemmas.List.{get_or_default}
@@ -9,15 +9,14 @@ use Rattle.lay_units.specs.Units.{half_of}
 use Rattle.lay_units.specs.declared.length.Unit.{Unit}
 use Rattle.lay_valign.specs.declared.parts.LineEdge.{LineEdge}
 use Rattle.lay_valign.specs.declared.parts.LineEdge.TheVariants.{TopEdge, BottomEdge}
-use Rattle.lay_valign.specs.declared.parts.LineShape.{LineShape}
 use Rattle.lay_valign.specs.declared.parts.Part.{Part}
 use Rattle.lay_valign.specs.declared.parts.Shift.{Shift}
 use Rattle.lay_valign.specs.declared.parts.Shift.TheVariants.{By, Middle, TextTop, TextBottom, Top, Bottom}
-use Rattle.lay_valign.specs.Parts.{part_at, at, no_length, begins, is_aligned, AreParts}
+use Rattle.lay_valign.specs.Parts.{part_at, at, no_length, begins, AreParts}
 use Rattle.lay_valign.specs.PartsFit.{length_of}
 use Rattle.lay_valign.specs.Raises.{raise_by, raise_of}
-use Rattle.lay_valign.specs.Subtrees.{Subtrees, AreSubtrees, HasRoots, HasRises, HasReaches, IsGreatest, InSubtree, above_of, below_of, rise_of}
-use Rattle.lay_valign.specs.LineShape.{IsAligned, IsLine, IsRaised, IsShape, beyond, base_by, base_of, shift_of}
+use Rattle.lay_valign.specs.Subtrees.{Subtrees, AreSubtrees, HasRises, IsGreatest, InSubtree, above_of, below_of, rise_of}
+use Rattle.lay_valign.specs.LineShape.{IsAligned, IsLine, IsRaised, beyond, base_by, base_of, shift_of}
 use Rattle.lay_valign.specs.Near.{distance, IsNear, lift, lift_of, ShapesAreNear}
 use Rattle.lay_valign.proofs.Columns.{root_own, root_first, own_root}
 use Rattle.lay_valign.proofs.OneShape.{aligned_begins}
@@ -91,10 +90,11 @@ half_near : (above below x r : ℤ) → (r +ℤ r) ≤ℤ (x +ℤ (below -ℤ ab
     → IsNear (distance above + distance below + distance x) r × IsNear (distance above + distance below + distance x) (r +ℤ above) × IsNear (distance above + distance below + distance x) (below -ℤ r)
 half_near above below x r low high =
     let a = near above in let b = near below in let c = near x in
-    let a0 = a.0 in let a1 = a.1 in let b0 = b.0 in let b1 = b.1 in let c0 = c.0 in let c1 = c.1 in
-    ((omega (arith, ints, low, high, a0, a1, b0, b1, c0, c1), omega (arith, ints, low, high, a0, a1, b0, b1, c0, c1)),
-     (omega (arith, ints, low, high, a0, a1, b0, b1, c0, c1), omega (arith, ints, low, high, a0, a1, b0, b1, c0, c1)),
-     (omega (arith, ints, low, high, a0, a1, b0, b1, c0, c1), omega (arith, ints, low, high, a0, a1, b0, b1, c0, c1)))
+    let a0 = a.0 in let a1 = a.1 in let b0 = b.0 in let b1 = b.1 in let c0 = c.0 in let c1 = c.1 in (
+      (omega (arith, ints, low, high, a0, a1, b0, b1, c0, c1), omega (arith, ints, low, high, a0, a1, b0, b1, c0, c1)),
+      (omega (arith, ints, low, high, a0, a1, b0, b1, c0, c1), omega (arith, ints, low, high, a0, a1, b0, b1, c0, c1)),
+      (omega (arith, ints, low, high, a0, a1, b0, b1, c0, c1), omega (arith, ints, low, high, a0, a1, b0, b1, c0, c1)),
+    )
 
 -- with none
 still_near : (s : Shift) (above below : ℤ) → pos 0 ≡ raise_by s above below → RaiseNear s above below
@@ -262,17 +262,19 @@ module _ (strut : Part) (parts : List Part) (are : AreParts (strut ∷ parts)) w
     raised_near : (edge : LineEdge) (beside floor v : ℤ) → neg_ℤ (pos u) ≤ℤ beside → (neg_ℤ (pos u) ≤ℤ floor) × (floor ≤ℤ pos (u + most))
         → IsRaised (IsAligned edge all) (beyond s beside) floor v → (neg_ℤ (pos u) ≤ℤ v) × (v ≤ℤ pos (u + 2 * most))
     raised_near edge beside floor v least fits r =
-        let low = fits.0 in let from = r.from in
-        (omega (arith, ints, low, from), elim r.least [
-          | inl e ↦ (let high = fits.1 in omega (arith, ints, high, e))
-          | inr found ↦ (
-              let al = found.1 in
-              let own = own_root all s.roots found.0 is.roots al.within al.no_strut (aligned_begins edge (part_at all found.0).shift al.aligned) in
-              let a = (above_near found.0 al.within al.no_strut own).1 in
-              let b = (below_near found.0 al.within al.no_strut own).1 in
-              let e = found.2 in
-              omega (arith, ints, a, b, e, least))
-        ])
+        let low = fits.0 in let from = r.from in (
+          omega (arith, ints, low, from),
+          elim r.least [
+            | inl e ↦ (let high = fits.1 in omega (arith, ints, high, e))
+            | inr found ↦ (
+                let al = found.1 in
+                let own = own_root all s.roots found.0 is.roots al.within al.no_strut (aligned_begins edge (part_at all found.0).shift al.aligned) in
+                let a = (above_near found.0 al.within al.no_strut own).1 in
+                let b = (below_near found.0 al.within al.no_strut own).1 in
+                let e = found.2 in
+                omega (arith, ints, a, b, e, least))
+          ],
+        )
 
     module _ (above below : ℤ) (line : IsLine all s above below) where
       line_below : (neg_ℤ (pos u) ≤ℤ below) × (below ≤ℤ pos (u + 2 * most))
