@@ -1,5 +1,6 @@
 -- What the contexts of a document are given by each other, each known by its number: the containing block of a context's own
--- box by the context around it (CSS 2.2, 10.1), the boxes of inner contexts by those, and where a context stands on the page.
+-- box by the context around it (CSS 2.2, 10.1), the preferred widths (10.3.5) and the boxes of inner contexts by those, and where
+-- a context stands on the page.
 use Rattle.std.specs.Prelude.{ℕ, zero, suc, ◌≡◌, ◌<◌, ◌+ℤ◌, ◌-ℤ◌, Bool, true, false, List, [], length, map, slice_index_or, if◌then◌else◌}
 use Rattle.lay_units.specs.declared.length.Unit.{Unit as Length}
 use Rattle.lay_doc.specs.declared.style.Style.{Style}
@@ -10,17 +11,31 @@ use Rattle.lay_boxgen.specs.declared.facts.Flow.{Flow}
 use Rattle.lay_boxgen.specs.declared.facts.Flow.TheVariants.{Floating}
 use Rattle.lay_boxgen.specs.Display.{flow_of}
 use Rattle.lay_boxgen.specs.BoxColumns.{box_styles}
-use Rattle.lay_flow.specs.Lengths.{no_length}
+use Rattle.lay_measure.specs.MeasureInValue.{no_widths}
+use Rattle.lay_measure.specs.declared.preferred_widths.PreferredWidths.{PreferredWidths}
 use Rattle.lay_sizes.specs.declared.sizing.BoxSizes.{BoxSizes}
 use Rattle.lay_sizes.specs.declared.sizing.ContainingBlock.{ContainingBlock}
 use Rattle.lay_sizes.specs.BoxSizes.{border_width}
-use Rattle.lay_context.specs.declared.corner.Corner.{Corner}
+use Rattle.lay_placement.specs.declared.corner.Corner.{Corner}
 use Rattle.lay_sizes.specs.declared.own_boxes.OwnBox.{OwnBox}
-use Rattle.lay_context.specs.Containing.{block_around}
-use Rattle.lay_context.specs.Contexts.{Context, context_at, boxes_in}
+use Rattle.lay_context.specs.ContainingBlocks.{block_around}
+use Rattle.lay_contexts.specs.Contexts.{Context, context_at, boxes_in}
 use Rattle.lay_sizes.specs.SizeColumns.{sizes_at}
 use Rattle.lay_sizes.specs.OwnBoxes.{no_own_box}
-use Rattle.lay_context.specs.ContextPlaces.{Placement}
+use Rattle.lay_placement.specs.ContextPlaces.{Placement, corner_at, no_placement}
+
+-- the preferred widths of the context with this number
+abbrev pub widths_in : List PreferredWidths → ℕ → PreferredWidths
+widths_in widths i = slice_index_or widths i no_widths
+
+-- those of the inner context with this number, where 0 stands for none
+abbrev pub inner_widths_in : List PreferredWidths → ℕ → PreferredWidths
+inner_widths_in widths zero = no_widths
+inner_widths_in widths (suc j) = widths_in widths (suc j)
+
+-- those of the contexts inside the one with the number i, among its boxes
+abbrev pub inner_widths : List Context → List PreferredWidths → ℕ → List PreferredWidths
+inner_widths contexts widths i = map (inner_widths_in widths) (context_at contexts i).inner
 
 -- the used sizes of the boxes of the context with this number
 abbrev pub sizes_in : List (List BoxSizes) → ℕ → List BoxSizes
@@ -33,9 +48,6 @@ outer_block viewport contexts sizes zero = viewport
 outer_block viewport contexts sizes (suc i) =
     let c = context_at contexts (suc i) in
     block_around (boxes_in contexts c.outer) (sizes_in sizes c.outer) c.outer_box
-
-abbrev pub no_placement : Placement
-no_placement = record { own = no_own_box; pieces = []; corners = [] }
 
 -- the answer of the context with this number
 abbrev pub placement_in : List Placement → ℕ → Placement
@@ -67,12 +79,6 @@ root_corner viewport s z = record { x = root_left viewport s z; y = z.margin_top
 -- a corner that is counted from another one
 abbrev pub beside : Corner → Corner → Corner
 beside outer inner = record { x = record { 0 = outer.x.0 +ℤ inner.x.0 }; y = record { 0 = outer.y.0 +ℤ inner.y.0 } }
-
-abbrev pub no_corner : Corner
-no_corner = record { x = no_length; y = no_length }
-
-abbrev pub corner_at : List Corner → ℕ → Corner
-corner_at corners i = slice_index_or corners i no_corner
 
 -- the corner of the border box of the context with the number i on the page
 abbrev pub page_corner : ContainingBlock → List Context → List (List BoxSizes) → List Placement → List Corner → ℕ → Corner

@@ -3,13 +3,15 @@ use Rattle.std.specs.Prelude.{ℕ, ◌≡◌, ◌<◌, List, length}
 use Rattle.lay_context.specs.declared.task.Phase.TheVariants.{Size}
 use Rattle.lay_context.specs.declared.task.Task.{Task}
 use Rattle.lay_context.specs.declared.value.Value.{Value}
-use Rattle.lay_context.specs.Contexts.{Context, Medium, boxes_in}
+use Rattle.lay_contexts.specs.Contexts.{Context, boxes_in}
+use Rattle.lay_context.specs.Medium.{Medium}
 use Rattle.lay_context.specs.DocumentLayout.{sizes_in, placement_in}
 use Rattle.lay_context.specs.Needs.{Needs, task_at}
 use Rattle.lay_context.specs.Local.{Workings, IsLocal, IsTaskDone, input_of, with_value}
 
 -- each context has a value of each phase, known or not
 pub record HasCounts (contexts : List Context) (w : Workings) : Type 0 where
+  pub widths : length w.widths ≡ length contexts
   pub sizes : length w.sizes ≡ length contexts
   pub places : length w.places ≡ length contexts
 

@@ -1,33 +1,78 @@
 //! What a task of a layout is given.
 
-ghost use Rattle.std.specs.Prelude.{◌≡◌, ◌<◌, length};
-ghost use Rattle.lay_boxgen.specs.Roles.{clear_at, role_at};
-ghost use Rattle.lay_context.specs.Containing.{container_of};
-ghost use Rattle.lay_context.specs.ContextBoxes.{is_float};
-ghost use Rattle.lay_units.specs.Units.{IsPosition};
-ghost use Rattle.lay_context.specs.Inputs.{SizeInputFits, PlaceInputFits};
+ghost use Rattle.std.specs.Prelude.{◌≡◌};
+ghost use Rattle.lay_context_boxes.specs.ContextBoxes.{AreContextBoxes};
+ghost use Rattle.lay_context.specs.Inputs.{SizeInputFits};
 
-use crate::context_boxes::ContextBoxes;
-use crate::context_sizes::ContextSizes;
-use crate::own_boxes::OwnBoxes;
-use lay_boxgen::{BoxNode, Role};
-use lay_doc::Clear;
+use lay_boxgen::BoxNode;
+use lay_context_boxes::ContextBoxes;
 use lay_face::Face;
-use lay_sizes::{BoxSizes, ContainingBlock, OwnBox};
+use lay_measure::PreferredWidths;
+use lay_placement::PlaceInput;
+use lay_sizes::ContainingBlock;
 use std::marker::Model;
 use std::sync::Arc;
 
 /// What a task is given.
 #[derive(Drop)]
 pub enum Input {
+    Measure(MeasureInput),
     Size(SizeInput),
     Place(PlaceInput),
 }
 
-/// The boxes of a context, and the containing block of its own one.
+/// The boxes of a context, the preferred widths of inner contexts at the places of their boxes, and the face of texts.
+#[derive(Drop)]
+pub struct MeasureInput {
+    boxes: ContextBoxes,
+    inner: Vec<PreferredWidths>,
+    face: Arc<Face>,
+}
+
+impl Model for MeasureInput {
+    ghost use Rattle.lay_context.specs.Inputs.{MeasureInput as Plain};
+
+    ghost Value = { Plain };
+
+    ghost view = { λ i. record { boxes = i.boxes; inner = i.inner.items; face = i.face.value } };
+}
+
+impl MeasureInput {
+    pub(crate) fn new(
+        boxes: ContextBoxes,
+        inner: Vec<PreferredWidths>,
+        face: Arc<Face>,
+    ) -> MeasureInput
+        ensures { result ≡ record { boxes = boxes; inner = inner.items; face = face.value } }
+    {
+        MeasureInput { boxes, inner, face }
+    }
+
+    pub(crate) fn boxes(&self) -> &[BoxNode]
+        ensures boxes { result.now ≡ self.now.boxes }
+        ensures are { AreContextBoxes self.now.boxes }
+    {
+        self.boxes.as_slice()
+    }
+
+    pub(crate) fn inner(&self) -> &[PreferredWidths]
+        ensures { result.now ≡ self.now.inner }
+    {
+        self.inner.as_slice()
+    }
+
+    pub(crate) fn face(&self) -> &Face
+        ensures { result.now ≡ self.now.face }
+    {
+        &self.face
+    }
+}
+
+/// The boxes of a context, its preferred widths, and the containing block of its own box.
 #[derive(Drop)]
 pub struct SizeInput {
     boxes: ContextBoxes,
+    widths: PreferredWidths,
     containing: ContainingBlock,
 }
 
@@ -36,141 +81,45 @@ impl Model for SizeInput {
 
     ghost Value = { Plain };
 
-    ghost view = { λ i. record { boxes = i.boxes; containing = i.containing } };
+    ghost view = { λ i. record { boxes = i.boxes; widths = i.widths; containing = i.containing } };
 
-    ghost invariant = { λ i. SizeInputFits (record { boxes = i.boxes; containing = i.containing }) };
+    ghost invariant = { λ i. SizeInputFits (record { boxes = i.boxes; widths = i.widths; containing = i.containing }) };
 }
 
 impl SizeInput {
-    pub(crate) fn new(boxes: ContextBoxes, containing: ContainingBlock) -> SizeInput
-        requires { SizeInputFits (record { boxes = boxes; containing = containing }) }
-        ensures { result ≡ record { boxes = boxes; containing = containing } }
-    {
-        SizeInput { boxes, containing }
-    }
-
-    pub(crate) fn boxes(&self) -> &[BoxNode]
-        ensures boxes { result.now ≡ self.now.boxes }
-        ensures fits { SizeInputFits self.now }
-    {
-        self.boxes.as_slice()
-    }
-
-    /// The boxes, with what is known of them.
-    pub(crate) fn context_boxes(&self) -> &ContextBoxes
-        ensures boxes { result.now ≡ self.now.boxes }
-        ensures fits { SizeInputFits self.now }
-    {
-        &self.boxes
-    }
-
-    pub(crate) fn containing(&self) -> ContainingBlock
-        ensures { result ≡ self.now.containing }
-    {
-        self.containing
-    }
-}
-
-/// The boxes of a context, their used sizes, the boxes of inner contexts among them, and the face of texts.
-#[derive(Drop)]
-pub struct PlaceInput {
-    boxes: ContextBoxes,
-    sizes: ContextSizes,
-    inner: OwnBoxes,
-    face: Arc<Face>,
-}
-
-impl Model for PlaceInput {
-    ghost use Rattle.lay_context.specs.Inputs.{PlaceInput as Plain, PlaceInputFits};
-
-    ghost Value = { Plain };
-
-    ghost view = { λ i. record { boxes = i.boxes; sizes = i.sizes; inner = i.inner; face = i.face.value } };
-
-    ghost invariant = { λ i. PlaceInputFits (record { boxes = i.boxes; sizes = i.sizes; inner = i.inner; face = i.face.value }) };
-}
-
-impl PlaceInput {
     pub(crate) fn new(
         boxes: ContextBoxes,
-        sizes: ContextSizes,
-        inner: OwnBoxes,
-        face: Arc<Face>,
-    ) -> PlaceInput
-        requires { PlaceInputFits (record { boxes = boxes; sizes = sizes; inner = inner; face = face.value }) }
-        ensures { result ≡ record { boxes = boxes; sizes = sizes; inner = inner; face = face.value } }
+        widths: PreferredWidths,
+        containing: ContainingBlock,
+    ) -> SizeInput
+        requires { SizeInputFits (record { boxes = boxes; widths = widths; containing = containing }) }
+        ensures { result ≡ record { boxes = boxes; widths = widths; containing = containing } }
     {
-        PlaceInput {
+        SizeInput {
             boxes,
-            sizes,
-            inner,
-            face,
+            widths,
+            containing,
         }
     }
 
     /// The boxes, with what is known of them.
     pub(crate) fn context_boxes(&self) -> &ContextBoxes
         ensures boxes { result.now ≡ self.now.boxes }
-        ensures fits { PlaceInputFits self.now }
+        ensures fits { SizeInputFits self.now }
     {
         &self.boxes
     }
 
-    /// The face of texts.
-    pub(crate) fn face(&self) -> &Face
-        ensures { result.now ≡ self.now.face }
+    /// Its preferred widths.
+    pub(crate) fn widths(&self) -> PreferredWidths
+        ensures { result ≡ self.now.widths }
     {
-        &self.face
+        self.widths
     }
 
-    pub(crate) fn boxes(&self) -> &[BoxNode]
-        ensures boxes { result.now ≡ self.now.boxes }
-        ensures fits { PlaceInputFits self.now }
+    pub(crate) fn containing(&self) -> ContainingBlock
+        ensures { result ≡ self.now.containing }
     {
-        self.boxes.as_slice()
-    }
-
-    pub(crate) fn is_float(&self, k: usize) -> bool
-        requires { k < length self.now.boxes }
-        ensures { result ≡ is_float self.now.boxes k }
-    {
-        self.boxes.is_float(k)
-    }
-
-    /// What the box at k is in its formatting context.
-    pub(crate) fn role(&self, k: usize) -> Role
-        requires { k < length self.now.boxes }
-        ensures { result ≡ role_at self.now.boxes k }
-    {
-        self.boxes.role(k)
-    }
-
-    /// The place of the nearest block container of the box at k.
-    pub(crate) fn container(&self, k: usize) -> usize
-        requires { k < length self.now.boxes }
-        ensures container { result ≡ container_of self.now.boxes k }
-        ensures within { result < length self.now.boxes }
-        ensures before { 0 < k → result < k }
-    {
-        self.boxes.container(k)
-    }
-
-    pub(crate) fn clear(&self, k: usize) -> Clear
-        requires { k < length self.now.boxes }
-        ensures { result ≡ clear_at self.now.boxes k }
-    {
-        self.boxes.clear(k)
-    }
-
-    pub(crate) fn sizes(&self) -> &[BoxSizes]
-        ensures { result.now ≡ self.now.sizes }
-    {
-        self.sizes.as_slice()
-    }
-
-    pub(crate) fn inner(&self) -> &[OwnBox]
-        ensures { result.now ≡ self.now.inner }
-    {
-        self.inner.as_slice()
+        self.containing
     }
 }

@@ -1,0 +1,3 @@
+pub mod ContextNumbers
+pub mod ListedSteps
+pub mod SpotOrder
