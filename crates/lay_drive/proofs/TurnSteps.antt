@@ -134,11 +134,11 @@ round_over scripts index left s at = record {
   answered = λ editor. at.answered editor ∙ ap (script_calls editor 0) (fronts editor);
   rest = λ editor. at.rest editor ∙ rests editor;
   turns = at.turns;
-  earlier = λ c j d lt. next_index (at.earlier c j d lt);
+  earlier = λ c j d lt. next_index (slice_index_or (calls s.history) j d) c (at.earlier c j d lt);
 }
   where
-    next_index : {a : Call} {c : Cmd} → IsEarlier a (record { editor = length left + 1; index = index; command = c }) → IsEarlier a (record { editor = 0 + 1; index = index + 1; command = c })
-    next_index is = elim is [ inl low ↦ inl (omega (arith, low)) | inr same ↦ inl (let e = same.0 in omega (arith, e)) ]
+    next_index : (a : Call) (c : Cmd) → IsEarlier a (record { editor = length left + 1; index = index; command = c }) → IsEarlier a (record { editor = 0 + 1; index = index + 1; command = c })
+    next_index a c is = elim is [ inl low ↦ inl (omega (arith, low)) | inr same ↦ inl (let e = same.0 in omega (arith, e)) ]
 
     beyond : (xs : List (List Cmd)) (j : ℕ) → length xs ≤ j → slice_index_or xs j [] ≡ []
     beyond [] j le = refl
@@ -157,7 +157,7 @@ round_over scripts index left s at = record {
       | inr low ↦ ap (λ n. take n (script_of scripts (suc place))) (had index (length left) (suc place) (omega (arith, low)) ∙ sym (had_not (index + 1) 0 (suc place) (omega arith)))
     ]
 
-    drop_nil : (n : ℕ) → drop n ([] {X = Cmd}) ≡ []
+    drop_nil : (n : ℕ) → drop n (script_of scripts zero) ≡ script_of scripts zero
     drop_nil zero = refl
     drop_nil (suc n) = refl
 
@@ -242,7 +242,7 @@ at_start scripts s none = record {
     none_taken (suc place) = ap (λ n. take n (script_of scripts (suc place))) (sym (had_not 0 0 (suc place) (omega arith)))
 
     all_left : (editor : ℕ) → script_of scripts editor ≡ drop (turns_of 0 0 editor) (script_of scripts editor)
-    all_left zero = ap (λ n. drop n ([] {X = Cmd})) (sym (had 0 0 zero (omega arith)))
+    all_left zero = ap (λ n. drop n (script_of scripts zero)) (sym (had 0 0 zero (omega arith)))
     all_left (suc place) = ap (λ n. drop n (script_of scripts (suc place))) (sym (had_not 0 0 (suc place) (omega arith)))
 
 -- after as many turns as the longest script has commands all are answered
