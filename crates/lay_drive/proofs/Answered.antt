@@ -38,7 +38,7 @@ pub edit_answers : (s t : State) (editor index : ℕ) (edit : Change) (r : Reply
     → IsAnswered s editor index (command.Edit edit) t
 edit_answers s t editor index edit (Accepted v) some does =
     called_answers s s t editor index (command.Edit edit) (Edit editor index edit (Accepted v)) some (same_quiet s s refl) refl
-    (ap (λ x. x.init) does.1) (ap (λ x. x.face) does.1) (ap (λ x. x.calls_left) does.1) (ap (λ x. x.history) does.1)
+    (ap (λ x. x.init) does.2) (ap (λ x. x.face) does.2) (ap (λ x. x.calls_left) does.2) (ap (λ x. x.history) does.2)
 edit_answers s t editor index edit (Refused f) some does =
     called_answers s s t editor index (command.Edit edit) (Edit editor index edit (Refused f)) some (same_quiet s s refl) refl
     (ap (λ x. x.init) does.1) (ap (λ x. x.face) does.1) (ap (λ x. x.calls_left) does.1) (ap (λ x. x.history) does.1)

@@ -9,7 +9,7 @@ use Rattle.lay_doc.specs.declared.command.Cmd.{Cmd}
 use Rattle.lay_json.specs.Runs.{Run}
 use Rattle.lay_json.specs.Scripts.{IsWithinLimits, command_count}
 use Rattle.lay_history.specs.Calls.{AnswersScripts, Call, IsEarlier, TakesTurns, calls, calls_of, script_calls, script_of}
-use Rattle.lay_history.proofs.Lists.{not_none}
+use Rattle.lay_history.proofs.Lists.{not_none, take_front}
 use Rattle.lay_history.proofs.Turns.{AreInTurn, turn_more}
 use Rattle.lay_core.specs.State.{State}
 use Rattle.lay_core.specs.Steps.{new_core}
@@ -20,14 +20,14 @@ use Rattle.lay_drive.proofs.Fronts.{GoesOn, IsOver, front_calls, next_of, other_
 
 had : (index done editor : ℕ) → editor ≤ done → turns_of index done editor ≡ index + 1
 had index done editor le = elim (leb_tells editor done) [
-  | inl yes ↦ ap (λ b. if b then index + 1 else index) yes.0
-  | inr no ↦ absurd (let lt = no.1 in omega (arith, le, lt))
+  | inl within ↦ ap (λ b. if b then index + 1 else index) within.0
+  | inr beyond ↦ absurd (let lt = beyond.1 in omega (arith, le, lt))
 ]
 
 had_not : (index done editor : ℕ) → done < editor → turns_of index done editor ≡ index
 had_not index done editor lt = elim (leb_tells editor done) [
-  | inl yes ↦ absurd (let le = yes.1 in omega (arith, lt, le))
-  | inr no ↦ ap (λ b. if b then index + 1 else index) no.0
+  | inl within ↦ absurd (let le = within.1 in omega (arith, lt, le))
+  | inr beyond ↦ ap (λ b. if b then index + 1 else index) beyond.0
 ]
 
 -- the turn of the editor behind the first k changes nothing for the others
@@ -297,3 +297,31 @@ next_round run index left s rest t is turns = record {
   few = turns.few;
   at = turns.turns run.scripts is.at;
 }
+
+-- where the queue of an editor is empty
+pub no_turn : (s : State) (editor index : ℕ) (old new : List Cmd) → old ≡ [] → old ≡ new → TakesTurn s editor index old s new
+no_turn s editor index [] new none same = (refl, sym same)
+no_turn s editor index (c ∷ cs) new none same = absurd (let n = ap length none in omega (arith, n))
+
+-- the scripts up to a place have at most so many commands
+pub longest_more : (n m : ℕ) (xs : List (List Cmd)) (k : ℕ) (d : List Cmd) → k < length xs → length (slice_index_or xs k d) ≤ m → n ≤ m
+    → All (λ cs. length cs ≤ n) (take k xs) → All (λ cs. length cs ≤ m) (take (k + 1) xs)
+longest_more n m xs k d lt own le all =
+    subst (λ ys. All (λ cs. length cs ≤ m) ys) (sym (ap (λ n. take n xs) one ∙ take_next xs k d lt))
+    (All-push (λ cs. length cs ≤ m) (take k xs) (slice_index_or xs k d) (λ j e less. let a = all j e less in omega (arith, a, le)) own)
+  where
+    one : k + 1 ≡ suc k
+    one = omega arith
+
+    take_next : (ys : List (List Cmd)) (j : ℕ) (e : List Cmd) → j < length ys → take (suc j) ys ≡ take j ys ++ slice_index_or ys j e ∷ []
+    take_next [] j e less = absurd (omega (arith, less))
+    take_next (y ∷ ys) zero e less = refl
+    take_next (y ∷ ys) (suc j) e less = ap (λ zs. y ∷ zs) (take_next ys j e (omega (arith, less)))
+
+pub all_of_front : (n k : ℕ) (xs : List (List Cmd)) → length xs ≤ k → All (λ cs. length cs ≤ n) (take k xs) → All (λ cs. length cs ≤ n) xs
+all_of_front n k xs le all = subst (λ ys. All (λ cs. length cs ≤ n) ys) (take_all k xs le) all
+
+-- what is written back to a list of the same length
+pub written : {X : Type 0} (n : ℕ) (new old : List X) → n ≡ length old → length new ≡ length old → take n (new ++ drop (length new) old) ≡ new
+written n new old n_is same =
+    take_front n new (drop (length new) old) (omega (arith, n_is, same)) ∙ take_all n new (omega (arith, n_is, same))
