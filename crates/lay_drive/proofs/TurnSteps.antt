@@ -1,10 +1,10 @@
 -- The turns of editors, one by one.
-use Rattle.std.proofs.Common.{◌≡◌, ◌<◌, ◌≤◌, ℕ, ◌+◌, zero, suc, List, [], ◌∷◌, ◌++◌, length, take, drop, slice_index_or, slice_set, sum_by, refl, sym, ap, ◌∙◌, subst, arith, inl, inr, Bool, true, false, if◌then◌else◌, nat_le, All}
+use Rattle.std.proofs.Common.{◌≡◌, ◌<◌, ◌≤◌, ℕ, ◌+◌, zero, suc, List, [], ◌∷◌, ◌++◌, length, take, drop, slice_index_or, slice_set, refl, sym, ap, ◌∙◌, subst, arith, inl, inr, if◌then◌else◌, All}
 use Rattle.std.proofs.lemmas.Bool.{cases_eq, cases_lt}
 use Rattle.std.proofs.lemmas.Bool.Decides.{leb_tells}
 use Rattle.std.proofs.lemmas.List.{get_or-set_other, get_or-set_same, take_all}
 use Rattle.std.proofs.lemmas.List.Elements.{All-push}
-use Rattle.std.proofs.lemmas.List.Sums.{sum_by-cons, sum_by-set}
+use Rattle.std.proofs.lemmas.List.Sums.{sum_by-set}
 use Rattle.lay_doc.specs.declared.command.Cmd.{Cmd}
 use Rattle.lay_json.specs.Runs.{Run}
 use Rattle.lay_json.specs.Scripts.{IsWithinLimits, command_count}
@@ -13,8 +13,6 @@ use Rattle.lay_history.proofs.Lists.{not_none, take_front}
 use Rattle.lay_history.proofs.Turns.{AreInTurn, turn_more}
 use Rattle.lay_core.specs.State.{State}
 use Rattle.lay_core.specs.Steps.{new_core}
-use Rattle.lay_face.specs.FaceValue.{FaceValue}
-use Rattle.lay_doc.specs.Document.{Document}
 use Rattle.lay_drive.specs.Rounds.{HadTurns, IsAnswered, IsAtTurn, IsQuiet, TakesTurn, turns_of}
 use Rattle.lay_drive.proofs.Fronts.{GoesOn, IsOver, front_calls, next_of, other_more, over_of, own_more}
 

@@ -1,6 +1,6 @@
 use Rattle.std.proofs.Common.{◌+◌, rules, subst, sym}
 use Rattle.lay_core.proofs.Shown.{whole_of}
-use Rattle.lay_drive.proofs.Answered.{refresh_quiet}
+use Rattle.lay_drive.proofs.Quiet.{refresh_quiet}
 use Rattle.lay_drive.proofs.TurnSteps.{AfterRounds, all_answered, next_round, quiet_answers, quiet_turns, written}
 use Rattle.lay_drive.specs.Rounds.{IsAtTurn}
 use Rattle.lay_drive.proofs.turns.drive.Goals as goal

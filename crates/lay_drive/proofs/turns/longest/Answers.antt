@@ -1,4 +1,4 @@
-use Rattle.std.proofs.Common.{arith, rules}
+use Rattle.std.proofs.Common.{rules}
 use Rattle.lay_drive.proofs.TurnSteps.{all_of_front, longest_more}
 use Rattle.lay_drive.proofs.turns.longest.Goals as goal
 
