@@ -8,9 +8,10 @@ standard calls a hypothetical position is got by laying a context out once more 
 with `Flow`; then `margins` (8.3.1), `floats` (9.5), `lines` (9.4.2), `alignment` (10.8.1), `content` (16.4 and 16.6),
 `sizes` (10), `preferred` (10.3.5), `replaced` (10.3.2 and 10.4), `boxes` (9.2 and 9.7), `face` (15) and `styles` (6).
 
-Words: an atomic box is an inline-block, or a replaced element that is inline. A context is a block formatting context, and its own box is the one that establishes it. A solid box is a
-context's own box in the flow, which overlaps no float. The mark of a box is where the flow puts its top border edge,
-before floats move it. The start of a run of margins is the edge from which its margins are counted.
+Words: an atomic box is an inline-block, or a replaced element that is inline. A context is a block formatting context
+or a replaced element, and its own box is the one that establishes it. A solid box is a context's own box among the
+blocks in the flow, which overlaps no float. The mark of a box is where the flow puts its top border edge, before floats
+move it. The start of a run of margins is the edge from which its margins are counted.
 
 How open places of the standard are read
 - 8.3.1: the start of a run is the bottom border edge of the last box before it that isn't collapsed through, also where

@@ -95,7 +95,7 @@ class InlineBox:
 
 
 def generated(node):
-    """What the children of a node generate: text and inline boxes, and for blocks, floats and atomic boxes their nodes."""
+    """What the children of a node generate: texts, inline boxes, and the nodes of blocks, floats and atomic boxes."""
     for child in node.children:
         if child.is_hidden:
             continue

@@ -127,7 +127,7 @@ class Segment:
         return any(isinstance(part, (Cluster, Atomic)) for part in self.parts)
 
     def part_starts(self):
-        """Takes away the starts at its end, which stand right before an atomic box; gives the segment that they begin."""
+        """Takes away the starts at its end, right before an atomic box; gives the segment that they begin."""
         behind = Segment()
         while isinstance(self.parts[-1], Start):
             behind.parts.insert(0, self.parts.pop())

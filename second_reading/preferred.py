@@ -1,8 +1,8 @@
 """Preferred widths (CSS 2.2, 10.3.5): how narrow a box can be without overflow, and how wide where only forced breaks
 are made.
 
-They rest on styles alone: widths in percent count as `auto`, margins, paddings and indents in percent as 0. Each pair is
-the least width and the preferred one.
+They rest on styles alone: widths in percent count as `auto`, and margins, paddings and indents in percent as 0. Each
+pair is the least width and the preferred one.
 """
 from collections import namedtuple
 

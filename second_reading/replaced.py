@@ -1,4 +1,7 @@
-"""The used size of a replaced element (CSS 2.2, 10.3.2, 10.6.2 and the table of 10.4). None stands for `auto` or `none`."""
+"""The used size of a replaced element (CSS 2.2, 10.3.2, 10.6.2 and the table of 10.4).
+
+None stands for a size of `auto` and a greatest size of `none`.
+"""
 from collections import namedtuple
 
 # The least and the greatest size in one direction.

@@ -40,7 +40,7 @@ def shrunk_width(box, available_width):
 
 
 def solve_shrinking(box, containing_width, margin_left, margin_right, width, rest):
-    """The widths of a float or an atomic box: margins of `auto` are 0, and a width of `auto` shrinks (10.3.5, 10.3.9)."""
+    """The widths of a float or an atomic box (10.3.5, 10.3.9): margins of `auto` are 0, a width of `auto` shrinks."""
     margin_left, margin_right = margin_left or 0, margin_right or 0
     if width is None:
         width = shrunk_width(box, containing_width - margin_left - rest - margin_right)
