@@ -20,7 +20,7 @@ ATOMIC_PROFILES = {
     'baselines':   AtomicProfile(40, 8,  15, 30, 30, 5,  40, 25, 3),
     'breaks':      AtomicProfile(30, 25, 5,  20, 5,  3,  70, 5,  10),
     'mixed':       AtomicProfile(25, 15, 35, 50, 15, 20, 40, 25, 10),
-    'replaced':    AtomicProfile(5,  50, 25, 25, 10, 45, 50, 15, 5),
+    'replaced':    AtomicProfile(5,  60, 25, 25, 10, 65, 35, 15, 5),
     'shrinking':   AtomicProfile(35, 8,  5,  90, 8,  25, 15, 25, 25),
 }
 ATOMIC_PROFILE_NAMES = sorted(ATOMIC_PROFILES) + ['alignment', 'shrinking']
