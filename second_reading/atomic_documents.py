@@ -11,7 +11,7 @@ import sys
 from collections import namedtuple
 
 from styles import SIDES
-from text_documents import TextDocument
+from text_documents import PROFILES, Profile, TextDocument
 
 # How often something is drawn, in hundredths: children of a kind, and declarations.
 AtomicProfile = namedtuple('AtomicProfile', 'inline_block replaced align shrinking overflow bound size edge indent')
@@ -23,13 +23,19 @@ ATOMIC_PROFILES = {
     'replaced':    AtomicProfile(5,  60, 25, 25, 10, 65, 35, 15, 5),
     'shrinking':   AtomicProfile(35, 8,  5,  90, 8,  25, 15, 25, 25),
 }
+# Often these have the texts of a profile that shows them best.
+PROFILES_OF_TEXTS = {
+    'alignment': PROFILES['heights'],
+    'breaks':    PROFILES['white space'],
+    'shrinking': Profile(15, 30, 35, 5, 5, 20, 5, 3, 20, 5, 10, 5, 5, 15, 5, 5),
+}
 ATOMIC_PROFILE_NAMES = sorted(ATOMIC_PROFILES) + ['alignment', 'shrinking']
 
 ALIGNMENTS = ['baseline', 'sub', 'super', 'middle', 'text-top', 'text-bottom', 'top', 'bottom', 'top', 'bottom', '4px',
               '-4px', '20px', '-20px', '50%', '-25%', '33.33%', '0.3em', '0', 'inherit', '-0.01px']
 WIDTHS = ['8px', '16px', '20px', '24px', '30px', '40px', '48px', '60px', '100px', '0', '50%', '100%', '33.33%', 'auto',
           'inherit']
-HEIGHTS = ['0', '1px', '5px', '10px', '16px', '20px', '25px', '30px', '40px', '60px', '50%', '100%', 'auto']
+HEIGHTS = ['0', '1px', '5.015625px', '10px', '16px', '20px', '25px', '30px', '40px', '60px', '50%', '100%', 'auto']
 LEAST = ['0', '5px', '10px', '20px', '30px', '40px', '60px', '50%', '100%', '10%']
 MOST = ['none', '0', '5px', '10px', '20px', '30px', '40px', '60px', '50%', '100%', '10%']
 NATURAL_SIDES = [1, 3, 5, 8, 10, 16, 20, 20, 30, 40, 50, 90]
@@ -45,7 +51,10 @@ class AtomicDocument(TextDocument):
 
     def __init__(self, rng):
         super().__init__(rng)
-        self.atomic = ATOMIC_PROFILES[rng.choice(ATOMIC_PROFILE_NAMES)]
+        name = rng.choice(ATOMIC_PROFILE_NAMES)
+        self.atomic = ATOMIC_PROFILES[name]
+        if self.hit(60):
+            self.profile = PROFILES_OF_TEXTS.get(name, self.profile)
         self.left += 3
 
     def draw(self):

@@ -314,6 +314,13 @@ def piece_lines(box, left, top):
         parts[kind, ident] += 1
 
 
+def contexts_of_page(nodes, run):
+    """The contexts of a document that this reading lays out."""
+    if nodes[0].is_hidden:
+        return []
+    return list(contexts(*lay_out_page(nodes[0], run['viewport'], Face(run.get('face', {})))))
+
+
 def report(run):
     """The text that the program has to print for a run document, and its status."""
     nodes = read_nodes(run)
@@ -321,10 +328,14 @@ def report(run):
     if place is not None:
         return 'refused NotBuilt %d\n' % place, 1
     lines = ['publish 0', 'final 0']
-    if not nodes[0].is_hidden:
-        page = lay_out_page(nodes[0], run['viewport'], Face(run.get('face', {})))
-        lines += [line for context in contexts(*page) for line in piece_lines(*context)]
+    lines += [line for context in contexts_of_page(nodes, run) for line in piece_lines(*context)]
     return '\n'.join(lines) + '\n', 0
+
+
+def context_count(run):
+    """How many contexts a document has, or None where this reading doesn't lay it out."""
+    nodes = read_nodes(run)
+    return len(contexts_of_page(nodes, run)) if first_not_built(nodes) is None else None
 
 
 def main():
