@@ -51,8 +51,9 @@ class Document:
 
     def as_run(self):
         """A run document without editors, with the nodes in document order."""
-        nodes = [dict(node.fields, parent=node.parent.fields['id'] if node.parent else 0) for node in self.root.subtree()]
-        return dict(self.settings, nodes=nodes)
+        nodes = (dict(node.fields, parent=node.parent.fields['id'] if node.parent else 0)
+                 for node in self.root.subtree())
+        return dict(self.settings, nodes=list(nodes))
 
     # -- faults
 
