@@ -14,14 +14,14 @@ from styles import SIDES
 from text_documents import PROFILES, Profile, TextDocument
 
 # How often something is drawn, in hundredths: children of a kind, and declarations.
-AtomicProfile = namedtuple('AtomicProfile', 'inline_block replaced align shrinking overflow bound size edge indent')
+AtomicProfile = namedtuple('AtomicProfile', 'inline_block replaced align shrinking overflow bound size edge indent row')
 ATOMIC_PROFILES = {
-    'alignment':   AtomicProfile(20, 15, 85, 30, 10, 5,  45, 8,  3),
-    'baselines':   AtomicProfile(40, 8,  15, 30, 30, 5,  40, 25, 3),
-    'breaks':      AtomicProfile(30, 25, 5,  20, 5,  3,  70, 5,  10),
-    'mixed':       AtomicProfile(25, 15, 35, 50, 15, 20, 40, 25, 10),
-    'replaced':    AtomicProfile(5,  60, 25, 25, 10, 65, 35, 15, 5),
-    'shrinking':   AtomicProfile(35, 8,  5,  90, 8,  25, 15, 25, 25),
+    'alignment':   AtomicProfile(20, 15, 85, 30, 10, 5,  45, 8,  3, 2),
+    'baselines':   AtomicProfile(40, 8,  15, 30, 30, 5,  40, 25, 3, 2),
+    'breaks':      AtomicProfile(30, 25, 5,  20, 5,  3,  70, 5,  10, 2),
+    'mixed':       AtomicProfile(25, 15, 35, 50, 15, 20, 40, 25, 10, 5),
+    'replaced':    AtomicProfile(5,  60, 25, 25, 10, 65, 35, 15, 5, 2),
+    'shrinking':   AtomicProfile(35, 8,  5,  90, 8,  25, 15, 25, 25, 20),
 }
 # Often these have the texts of a profile that shows them best.
 PROFILES_OF_TEXTS = {
@@ -73,8 +73,16 @@ class AtomicDocument(TextDocument):
             self.add_box(parent, 'inline-block', depth)
         elif number < self.atomic.replaced:
             self.add_replaced(parent)
+        elif self.hit(self.atomic.row):
+            self.add_row(parent, depth)
         else:
             super().add_child(parent, kind, depth)
+
+    def add_row(self, parent, depth):
+        """Floats beside each other, with a block before or behind them, or between."""
+        for kind in self.choice(('float float block', 'block float float', 'float block float', 'float float')).split():
+            if self.left > 0:
+                self.add_box(parent, kind, depth)
 
     def add_replaced(self, parent):
         """A replaced element of any kind."""
