@@ -27,7 +27,7 @@ ATOMIC_PROFILES = {
 PROFILES_OF_TEXTS = {
     'alignment': PROFILES['heights'],
     'breaks':    PROFILES['white space'],
-    'shrinking': Profile(15, 30, 35, 5, 5, 20, 5, 3, 20, 5, 10, 5, 5, 15, 5, 5),
+    'shrinking': Profile(22, 25, 35, 5, 5, 40, 5, 3, 20, 5, 10, 5, 5, 15, 5, 5),
 }
 ATOMIC_PROFILE_NAMES = sorted(ATOMIC_PROFILES) + ['alignment', 'shrinking']
 
