@@ -38,6 +38,7 @@ WIDTHS = ['8px', '16px', '20px', '24px', '30px', '40px', '48px', '60px', '100px'
 HEIGHTS = ['0', '1px', '5.015625px', '10px', '16px', '20px', '25px', '30px', '40px', '60px', '50%', '100%', 'auto']
 LEAST = ['0', '5px', '10px', '20px', '30px', '40px', '60px', '50%', '100%', '10%']
 MOST = ['none', '0', '5px', '10px', '20px', '30px', '40px', '60px', '50%', '100%', '10%']
+BOUNDS = ('min-width', 'max-width', 'min-height', 'max-height')
 NATURAL_SIDES = [1, 3, 5, 8, 10, 16, 20, 20, 30, 40, 50, 90]
 GREAT_NATURAL_SIDES = [1, 20, 999999, 1000000]
 NEAR_THE_LIMIT = ['999999999px', '33554432px', '33554431.5px']
@@ -69,10 +70,14 @@ class AtomicDocument(TextDocument):
     def add_child(self, parent, kind, depth):
         """One child: an inline-block, a replaced element, or what has a text."""
         number = self.rng.random() * 100 - self.atomic.inline_block
+        if number < self.atomic.replaced and self.hit(8):
+            self.add_element(parent, {})
         if number < 0:
             self.add_box(parent, 'inline-block', depth)
         elif number < self.atomic.replaced:
             self.add_replaced(parent)
+            if self.hit(8):
+                self.add_text(self.add_element(parent, {'white-space': 'nowrap'}), ' bb' + self.blank() + 'aaa')
         elif self.hit(self.atomic.row):
             self.add_row(parent, depth)
         else:
@@ -91,7 +96,10 @@ class AtomicDocument(TextDocument):
             style['display'] = self.choice(REPLACED_DISPLAYS)
         if self.hit(15):
             style['float'] = self.choice(['left', 'left', 'right'])
-        self.add_sizes(style, self.atomic.size, self.atomic.size)
+        if self.hit(self.atomic.bound / 3):
+            style.update({name: self.choice(LEAST if name.startswith('min') else MOST) for name in BOUNDS})
+        else:
+            self.add_sizes(style, self.atomic.size, self.atomic.size)
         self.add_edges(style, self.atomic.edge, self.atomic.edge / 2)
         self.add_rare(style)
         self.left -= 1
