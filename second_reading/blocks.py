@@ -1,16 +1,17 @@
 #!/usr/bin/env python3
-"""A second reading of CSS 2.2: blocks with collapsing margins, floats, clearance and lines, as plain as can be.
+"""A second reading of CSS 2.2: blocks with collapsing margins, floats, clearance, lines, and what stands in them.
 
 usage: blocks.py < DOCUMENT      prints the report of `lay scratch` on a run document without faults
 
 It was written apart from the crates, so that each is a test of the other (`compare`). It is slow on purpose: what the
 standard calls a hypothetical position is got by laying a context out once more for each box with `clear`. Begin here,
-with `Flow`; then `margins` (8.3.1), `floats` (9.5), `lines` (9.4.2), `content` (16.4 and 16.6), `sizes` (10), `boxes`
-(9.2 and 9.7), `face` (15) and `styles` (6).
+with `Flow`; then `margins` (8.3.1), `floats` (9.5), `lines` (9.4.2), `alignment` (10.8.1), `content` (16.4 and 16.6),
+`sizes` (10), `preferred` (10.3.5), `replaced` (10.3.2 and 10.4), `boxes` (9.2 and 9.7), `face` (15) and `styles` (6).
 
-Words: a context is a block formatting context, and its own box is the one that establishes it. A solid box is a
-context's own box in the flow, which overlaps no float. The mark of a box is where the flow puts its top border edge,
-before floats move it. The start of a run of margins is the edge from which its margins are counted.
+Words: an atomic box is an inline-block, or a replaced element that is inline. A context is a block formatting context
+or a replaced element, and its own box is the one that establishes it. A solid box is a context's own box among the
+blocks in the flow, which overlaps no float. The mark of a box is where the flow puts its top border edge, before floats
+move it. The start of a run of margins is the edge from which its margins are counted.
 
 How open places of the standard are read
 - 8.3.1: the start of a run is the bottom border edge of the last box before it that isn't collapsed through, also where
@@ -33,6 +34,16 @@ How open places of the standard are read
   root that floats right ends at the viewport's right edge.
 - 10.4: the widths that are compared solve the equation as it stands, before they are held within the limit of lengths.
 - 10.5: percentages are of the height after 10.7.
+- 9.7: a replaced element whose `display` is `table` is a block, and with another value for tables or `inline-block` it
+  is inline.
+- 10.3.5: the least width is that of the widest segment or float. To the preferred width of a line the floats in it are
+  added; adjacent floats among blocks add up there, too. An indent is added to the first segment that is seen, and to
+  the first line that is. Widths in percent count as `auto`, other percentages as 0, bounds in percent not at all.
+- 10.4: a quotient by the natural ratio is rounded down.
+- 10.8.1: `sub` lowers by a fifth of the parent's font size and `super` raises by a third, both rounded down. `text-top`
+  and `text-bottom` move a box by its own extent and not by that of its aligned subtree. Subtrees that are `top` extend
+  the line downward, and after them those that are `bottom` upward.
+- 10.8.1: the last line box of an inline-block is the last one in document order of its own context that is seen.
 - 9.2.1.1: blocks in an inline box with nothing between them but blank texts and floats break it once. What stands
   beside blocks is wrapped whole, with its floats, where it is more than floats and blank texts.
 - 9.4.2: a line is seen, too, where an inline box on it has a margin, border or padding above or below.
@@ -42,6 +53,8 @@ How open places of the standard are read
 - 9.5: a line ends before the first segment that doesn't fit, also where a longer front would.
 - 16.1: each block container indents its first line that is seen, also an anonymous block.
 - 16.4: letter-spacing is added behind each cluster, word-spacing at each U+0020 and U+00A0; a tab has neither.
+- 16.6: a line may break on each side of an atomic box, by the `white-space` of the box that directly holds it. The
+  starts of inline boxes right before it go with it.
 - 16.6.1: what stands beside a linefeed is removed inside one text; a space behind a space, over texts. A space that
   surely begins a line is removed before there are segments. Where a space was removed there is no break.
 - 16.6.1: spaces at a line's end under `pre-wrap` don't count for what fits, and do count for alignment; those under
@@ -58,6 +71,7 @@ from face import Face
 from floats import ContainingBlock, bottoms_to_clear, clears, place_float, place_solid
 from lines import lay_lines
 from margins import MarginRuns, bottom_margin, top_margin
+from preferred import find_preferred_widths
 from sizes import find_sizes, used_height
 from styles import UNITS_PER_PX
 
@@ -92,9 +106,13 @@ class Flow:
 
     def place_content(self, box):
         """Places what is in a box whose content box is open: its lines, or its blocks and floats."""
-        if box.holds_lines():
+        if box.has_lines:
             lines, end = lay_lines(box.content, self.content_boxes[box], self.floats, self.keep_float)
             self.lines[box], self.lines_end[box] = lines, end
+            for line in lines:
+                for atomic, left, top in line.atomic_corners:
+                    self.left[atomic], self.top[atomic] = left, top
+                    self.height[atomic] = atomic.border_box_height
         for child in box.children:
             self.place(child)
 
@@ -186,7 +204,7 @@ class Flow:
         - else at the bottom border edge of the last one whose top margin doesn't collapse with that,
         - else at the top.
         """
-        if box.holds_lines():
+        if box.has_lines:
             return self.lines_end[box]
         children = box.children_in_flow()
         if children and not self.runs.adjoin(bottom_margin(children[-1]), bottom_margin(box)):
@@ -241,13 +259,18 @@ def lay_out_context(box):
 # -- the page
 
 def find_content(box, face):
-    """Sets what the lines of the block containers below a box hold; one without a line that is seen holds none."""
-    for child in box.children + box.line_floats:
+    """Sets what the lines of the block containers from a box on would hold."""
+    for child in box.children + box.line_boxes:
         find_content(child, face)
-    content = Content(box, face)
-    if content.has_seen_line():
-        box.content = content
-    else:
+    box.content = Content(box, face)
+
+
+def find_lines(box):
+    """Settles which block containers from a box on have lines; one without a line that is seen has none (9.4.2)."""
+    for child in box.children + box.line_boxes:
+        find_lines(child)
+    box.has_lines = box.content.has_seen_line()
+    if not box.has_lines:
         box.hold_no_lines()
 
 
@@ -255,8 +278,10 @@ def lay_out_page(root_node, viewport, face):
     """The root's box with all sizes and flows set, and the corner of its border box; the viewport is in px (10.1)."""
     width, height = (side * UNITS_PER_PX for side in viewport)
     root = Box(root_node, None)
-    find_sizes(root, width, height)
     find_content(root, face)
+    find_preferred_widths(root)
+    find_sizes(root, width, height)
+    find_lines(root)
     lay_out_context(root)
     left = width - root.margin.right - root.border_box_width if root.side == 'right' else root.margin.left
     return root, left, root.margin.top
@@ -289,6 +314,13 @@ def piece_lines(box, left, top):
         parts[kind, ident] += 1
 
 
+def contexts_of_page(nodes, run):
+    """The contexts of a document that this reading lays out."""
+    if nodes[0].is_hidden:
+        return []
+    return list(contexts(*lay_out_page(nodes[0], run['viewport'], Face(run.get('face', {})))))
+
+
 def report(run):
     """The text that the program has to print for a run document, and its status."""
     nodes = read_nodes(run)
@@ -296,10 +328,14 @@ def report(run):
     if place is not None:
         return 'refused NotBuilt %d\n' % place, 1
     lines = ['publish 0', 'final 0']
-    if not nodes[0].is_hidden:
-        page = lay_out_page(nodes[0], run['viewport'], Face(run.get('face', {})))
-        lines += [line for context in contexts(*page) for line in piece_lines(*context)]
+    lines += [line for context in contexts_of_page(nodes, run) for line in piece_lines(*context)]
     return '\n'.join(lines) + '\n', 0
+
+
+def context_count(run):
+    """How many contexts a document has, or None where this reading doesn't lay it out."""
+    nodes = read_nodes(run)
+    return len(contexts_of_page(nodes, run)) if first_not_built(nodes) is None else None
 
 
 def main():

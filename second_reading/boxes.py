@@ -1,9 +1,10 @@
 """The nodes of a run document and the boxes that they generate (CSS 2.2, 9.2, 9.4 and 9.7).
 
-A block container holds blocks, or it holds inline content: texts, inline boxes and the floats among them. Where both
-stand in it, inline boxes are broken round the blocks, and what stands beside blocks is put into anonymous blocks.
+A block container holds blocks, or it holds inline content: texts, inline boxes, and the atomic boxes and floats among
+them. Where both stand in it, inline boxes are broken round the blocks, and what stands beside blocks is put into
+anonymous blocks. An atomic box is an inline-block, or a replaced element that is inline (9.2.2).
 """
-from styles import computed_style
+from styles import UNITS_PER_PX, computed_style
 
 FLOATS = ('left', 'right')
 
@@ -14,6 +15,8 @@ class Node:
     def __init__(self, place, fields, parent):
         self.place, self.id, self.kind, self.parent = place, fields['id'], fields['kind'], parent
         self.text = fields.get('text', '')
+        self.is_replaced = self.kind == 'replaced'
+        self.natural = [side * UNITS_PER_PX for side in fields['natural']] if self.is_replaced else None
         self.children = []
         declarations = {} if self.kind == 'text' else fields.get('style', {})
         self.style = computed_style(declarations, parent.style if parent else None)
@@ -24,10 +27,15 @@ class Node:
         return self.style[name].amount
 
     def used_display(self):
-        """`display` after the table of 9.7; `list-item` is `block`, since there are no markers."""
+        """`display` after the table of 9.7; `list-item` is `block`, since there are no markers.
+
+        A replaced element is a block or inline.
+        """
         display = self.word('display')
-        if display == 'list-item':
+        if display == 'list-item' or (self.is_replaced and display == 'table'):
             display = 'block'
+        elif self.is_replaced and display not in ('block', 'none'):
+            display = 'inline'
         is_absolute = self.word('position') in ('absolute', 'fixed')
         if is_absolute or self.is_floating() or self.parent is None:
             if display == 'inline-table':
@@ -39,8 +47,9 @@ class Node:
     def is_floating(self):
         return self.word('float') in FLOATS
 
-    def is_block_in_flow(self):
-        return self.kind == 'element' and self.used_display() == 'block' and not self.is_floating()
+    def is_inline_level(self):
+        """It stands in a line as one box, or is an inline box."""
+        return not self.is_floating() and self.used_display() in ('inline', 'inline-block')
 
 
 def read_nodes(run):
@@ -57,16 +66,10 @@ def read_nodes(run):
 
 
 def is_built(node):
-    """This reading lays out texts, blocks, inline boxes on the baseline, and floats with a width of their own."""
+    """This reading lays out all but tables and boxes that are positioned."""
     if node.is_hidden or node.kind == 'text':
         return True
-    if node.kind != 'element' or node.word('position') != 'static':
-        return False
-    if node.used_display() == 'inline':
-        return node.word('vertical-align') == 'baseline'
-    if node.used_display() != 'block':
-        return False
-    return not (node.is_floating() and node.word('width') == 'auto')            # shrink-to-fit, 10.3.5
+    return node.word('position') == 'static' and node.used_display() in ('block', 'inline', 'inline-block')
 
 
 def first_not_built(nodes):
@@ -92,21 +95,21 @@ class InlineBox:
 
 
 def generated(node):
-    """What the children of a node generate: text and inline boxes, and for blocks and floats their nodes."""
+    """What the children of a node generate: texts, inline boxes, and the nodes of blocks, floats and atomic boxes."""
     for child in node.children:
         if child.is_hidden:
             continue
         if child.kind == 'text':
             if child.text:
                 yield TextBox(child)
-        elif child.used_display() == 'inline':
+        elif child.used_display() == 'inline' and not child.is_replaced:
             yield from broken(InlineBox(child, list(generated(child))))
         else:
             yield child
 
 
 def is_block(part):
-    return isinstance(part, Node) and not part.is_floating()
+    return isinstance(part, Node) and not part.is_floating() and not part.is_inline_level()
 
 
 def is_float(part):
@@ -148,10 +151,11 @@ def broken(inline):
 # -- boxes
 
 class Box:
-    """A block container. `sizes` adds its margins, borders, paddings and sizes, and whether it holds lines.
+    """A block container or a replaced box. `sizes` adds its margins, borders, paddings and sizes.
 
-    Its children are blocks and floats, or it has inline content. Where that comes to no line that is seen, its floats
-    are its children; else they are floats of its lines. `blocks` adds the flow of a context's own box.
+    Its children are blocks and floats, or it has inline content, with the atomic boxes and floats of its lines. Where
+    that comes to no line that is seen, its floats are its children. `preferred` adds its preferred widths, and `blocks`
+    the flow of a context's own box.
     """
 
     def __init__(self, node, parent, style=None):
@@ -159,9 +163,13 @@ class Box:
         self.is_anonymous = style is not None
         self.side = self.style['float'].amount
         self.is_floating = self.side != 'none'
-        self.is_context = parent is None or self.is_floating or self.style['overflow'].amount != 'visible'      # 9.4.1
-        self.clear = self.style['clear'].amount
-        self.children, self.line_floats, self.inline_content, self.content = [], [], [], None
+        self.is_replaced = node.is_replaced and not self.is_anonymous
+        self.is_atomic = parent is not None and not self.is_anonymous and node.is_inline_level()
+        self.is_context = (parent is None or self.is_floating or self.style['overflow'].amount != 'visible'     # 9.4.1
+                           or self.is_atomic or self.is_replaced)
+        self.clear = 'none' if self.is_atomic else self.style['clear'].amount                   # 9.5.2
+        self.children, self.line_boxes, self.inline_content = [], [], []
+        self.content, self.has_lines = None, False
         if not self.is_anonymous:
             self.fill(list(generated(node)))
 
@@ -190,26 +198,24 @@ class Box:
         self.children.append(block)
 
     def hold_inline_content(self, parts):
-        """Texts and inline boxes, and floats, whose containing block is this box."""
-        self.inline_content = self.with_boxes(parts)
+        """Texts and inline boxes, and atomic boxes and floats, whose containing block is this box."""
+        self.inline_content = self.with_boxes(parts, self)
 
-    def with_boxes(self, parts):
-        """The parts, with boxes for the nodes of floats."""
+    def with_boxes(self, parts, holder):
+        """The parts, with boxes for nodes; each part knows the box that holds it directly."""
         for place, part in enumerate(parts):
             if isinstance(part, InlineBox):
-                self.with_boxes(part.children)
-            elif is_float(part):
-                parts[place] = Box(part, self)
-                self.line_floats.append(parts[place])
+                self.with_boxes(part.children, part)
+            elif isinstance(part, Node):
+                part = parts[place] = Box(part, self)
+                self.line_boxes.append(part)
+            part.holder = holder
         return parts
-
-    def holds_lines(self):
-        return self.content is not None
 
     def hold_no_lines(self):
         """No line of the inline content is seen, so its floats are as those among blocks."""
-        self.children += self.line_floats
-        self.line_floats = []
+        self.children += self.line_boxes
+        self.line_boxes = []
 
     def children_in_flow(self):
         """The children that aren't floats (9.3)."""
@@ -218,7 +224,7 @@ class Box:
 
 def boxes_of_context(box):
     """The boxes below a context's own box that stand in it, inner contexts' own boxes among them, in document order."""
-    for child in box.children + box.line_floats:
+    for child in box.children + box.line_boxes:
         yield child
         if not child.is_context:
             yield from boxes_of_context(child)

@@ -1,18 +1,19 @@
 """The inline content of a block container: white space, clusters and stretches without breaks (CSS 2.2, 16.4 and 16.6).
 
-The content is one list of parts in document order: where inline boxes start and end, the clusters of the texts, and
-floats. A segment is what no line break may divide.
+The content is one list of parts in document order: where inline boxes start and end, the clusters of the texts, atomic
+boxes, and floats. A segment is what no line break may divide.
 """
 import re
 from collections import namedtuple
 
 from boxes import InlineBox, TextBox
 from face import clusters
-from sizes import has_vertical_edges
+from sizes import has_vertical_edges, used_edges
 
 Start = namedtuple('Start', 'box')
 End = namedtuple('End', 'box')
 Float = namedtuple('Float', 'box')
+Atomic = namedtuple('Atomic', 'box')
 
 # The kind is `space` for a collapsible space, `hanging` for a preserved space under `pre-wrap`, `tab` for a preserved
 # tab, `linefeed` for a preserved one, and `text` for all else.
@@ -28,7 +29,7 @@ def mode(box):
 
 
 def items(parts):
-    """What stands in the lines, in document order: starts, ends, floats, and texts as they are."""
+    """What stands in the lines, in document order: starts, ends, atomic boxes, floats, and texts as they are."""
     for part in parts:
         if isinstance(part, InlineBox):
             yield Start(part)
@@ -37,7 +38,7 @@ def items(parts):
         elif isinstance(part, TextBox):
             yield part
         else:
-            yield Float(part)
+            yield Float(part) if part.is_floating else Atomic(part)
 
 
 # -- white space, 16.6.1
@@ -85,13 +86,15 @@ def clusters_of(text, box, face):
 
 
 def collapsed_parts(parts, face):
-    """Starts, ends, floats and clusters, after 16.6.1 but for what it does line by line.
+    """Starts, ends, atomic boxes, floats and clusters, after 16.6.1 but for what it does line by line.
 
     A collapsible space that begins the content, or is the first after a preserved linefeed, is removed here.
     """
     is_after_space, begins_line = False, True
     for item in items(parts):
         if not isinstance(item, TextBox):
+            if isinstance(item, Atomic):
+                is_after_space = begins_line = False
             yield item
             continue
         text = without_removed(item.text, mode(item), is_after_space)
@@ -119,12 +122,27 @@ class Segment:
     def is_empty(self):
         return not (self.heads or self.parts)
 
-    def has_text(self):
-        return any(isinstance(part, Cluster) for part in self.parts)
+    def has_content(self):
+        """It has a text or an atomic box."""
+        return any(isinstance(part, (Cluster, Atomic)) for part in self.parts)
+
+    def part_starts(self):
+        """Takes away the starts at its end, right before an atomic box; gives the segment that they begin."""
+        behind = Segment()
+        while isinstance(self.parts[-1], Start):
+            behind.parts.insert(0, self.parts.pop())
+        return behind
+
+
+def breaks_beside(atomic):
+    """A line may break on each side of an atomic box, by the `white-space` of the box that directly holds it."""
+    return mode(atomic.box.holder) in BREAKING
 
 
 def breaks_behind(part, following):
     """A line may break behind a part: after a space, the last in a row under `pre-wrap`, and after U+200B."""
+    if isinstance(part, Atomic):
+        return breaks_beside(part)
     if not isinstance(part, Cluster) or mode(part.box) not in BREAKING:
         return False
     if part.kind == 'hanging':
@@ -135,14 +153,19 @@ def breaks_behind(part, following):
 def segments_of(parts):
     """The segments of the content.
 
-    Ends right behind a break stand before it, and so do floats behind one that isn't forced.
+    Ends right behind a break stand before it, and so do floats behind one that isn't forced. Starts right before an
+    atomic box stand behind the break there.
     """
     parts = list(parts)
     found, current = [], Segment()
     for part, following in zip(parts, parts[1:] + [None]):
         before = found[-1] if found else None
+        if isinstance(part, Atomic) and breaks_beside(part) and not all(isinstance(p, Start) for p in current.parts):
+            behind = current.part_starts()
+            found.append(current)
+            current = behind
         if isinstance(part, Float):
-            if current.has_text():
+            if current.has_content():
                 current.floats.append(part.box)
             elif before and not before.is_forced:
                 before.floats.append(part.box)
@@ -162,15 +185,15 @@ def segments_of(parts):
 
 # -- what is seen, 9.4.2
 
-def is_seen(part):
-    """A line with this part is seen: text, preserved white space, or an edge of an inline box that isn't 0."""
+def is_seen(part, edges_of=used_edges):
+    """A line with this part is seen: text, preserved white space, an atomic box, or an edge of an inline box, not 0."""
     if isinstance(part, Cluster):
         return part.kind != 'space'
     box = part.box
-    if has_vertical_edges(box):
+    if isinstance(part, Atomic) or has_vertical_edges(box, edges_of):
         return True
     side, has_side = ('left', box.is_first) if isinstance(part, Start) else ('right', box.is_last)
-    return has_side and any(getattr(edges, side) for edges in (box.margin, box.border, box.padding))
+    return has_side and any(getattr(edges, side) for edges in edges_of(box))
 
 
 class Content:

@@ -11,7 +11,6 @@ import random
 import sys
 from collections import namedtuple
 
-from boxes import first_not_built, read_nodes
 from styles import SIDES
 
 # How often a property is declared, in hundredths.
@@ -292,14 +291,6 @@ def root_style(rng, style):
     return style
 
 
-def repair(style, draw):
-    """Turns a node that isn't laid out, as a float that inherits a width of `auto`, into one that is."""
-    if style.get('width', 'auto') in ('auto', 'inherit'):
-        style['width'] = draw.size()
-    else:
-        style['display'] = 'block'
-
-
 def draw_styles(rng, draw, profile):
     """A function that draws the style of a node from its depth and whether it is the root."""
     any_styles = AnyStyles(draw, profile)
@@ -324,12 +315,7 @@ def document(seed, number):
         style = draw_style(depths[place], is_root)
         nodes.append({'id': ids[place], 'parent': 0 if is_root else ids[parents[place]], 'kind': 'element',
                       'style': root_style(rng, style) if is_root else style})
-    run = {'viewport': list(rng.choice(VIEWPORTS)), 'nodes': nodes}
-    place = first_not_built(read_nodes(run))
-    while place is not None:
-        repair(nodes[place]['style'], draw)
-        place = first_not_built(read_nodes(run))
-    return run
+    return {'viewport': list(rng.choice(VIEWPORTS)), 'nodes': nodes}
 
 
 def main():

@@ -37,6 +37,7 @@ class Face:
         fields = {**DEFAULT_FIELDS, **fields}
         self.normal, self.rest = fields['normal'], fields['default']
         self.ascent_number, self.descent_number = fields['ascent'], fields['descent']
+        self.x_height_number = fields['xheight']
         self.advances = {chr(code): advance for code, advance in fields.get('advance', [])
                          if not 0xd800 <= code <= 0xdfff}
 
@@ -49,6 +50,9 @@ class Face:
 
     def descent(self, size):
         return self.descent_number * size // 1000
+
+    def x_height(self, size):
+        return self.x_height_number * size // 1000
 
 
 # -- clusters

@@ -4,21 +4,15 @@ A line is filled from its start, a segment after the other, as long as each fits
 """
 from collections import namedtuple
 
-from content import Cluster, End, Start, is_seen
+from alignment import extent_of_atomic, extent_of_font, shape_of_line
+from boxes import InlineBox
+from content import Atomic, Cluster, End, Start, is_seen
 from floats import is_next_to, place_float, tops_from
 from sizes import has_vertical_edges
-from styles import used_line_height
 
 Room = namedtuple('Room', 'left right is_beside_floats')
-Line = namedtuple('Line', 'pieces')
-
-
-def extent(box, face):
-    """How far an inline box or a strut reaches above and below its baseline (10.8.1); half of the leading is above."""
-    size = box.style['font-size']
-    ascent, descent = face.ascent(size), face.descent(size)
-    leading = used_line_height(box.style, face) - (ascent + descent)
-    return ascent + leading // 2, descent + (leading - leading // 2)
+# The corners of the border boxes of the atomic boxes stand beside the pieces.
+Line = namedtuple('Line', 'pieces atomic_corners baseline')
 
 
 def start_width(box):
@@ -48,6 +42,8 @@ class Pen:
             return start_width(part.box)
         if isinstance(part, End):
             return end_width(part.box)
+        if isinstance(part, Atomic):
+            return part.box.margin.left + part.box.border_box_width + part.box.margin.right
         if part.kind == 'tab' and self.tab:
             return self.tab - self.place % self.tab
         return 0 if part.kind == 'space' and self.begins_line else part.width
@@ -56,6 +52,8 @@ class Pen:
         width = self.width(part)
         self.place += width
         self.is_seen = self.is_seen or is_seen(part)
+        if isinstance(part, Atomic):
+            self.hanging, self.removed, self.begins_line = 0, 0, False
         if not isinstance(part, Cluster) or part.kind == 'linefeed':
             return
         is_space = part.kind in ('space', 'hanging')
@@ -131,7 +129,7 @@ class Lines:
     def __init__(self, content, containing_block, floats, keep_float):
         self.content, self.containing_block = content, containing_block
         self.floats, self.keep_float = floats, keep_float
-        self.strut = extent(content.box, content.face)
+        self.strut = extent_of_font(content.box, content.face)
         self.open_boxes = []
         self.lines = []
         self.bottom = containing_block.top
@@ -176,22 +174,27 @@ class Lines:
 
     def end(self, line):
         """Keeps a line if it is seen; a float that was put off stands below it."""
-        boxes = list(self.open_boxes)
+        open_boxes = list(self.open_boxes)
+        boxes = open_boxes + [part.box for part in line.parts if isinstance(part, (Start, Atomic))]
         for part in line.parts:
             if isinstance(part, Start):
-                boxes.append(part.box)
                 self.open_boxes.append(part.box)
             elif isinstance(part, End):
                 self.open_boxes.remove(part.box)
-        if not line.pen.is_seen and not any(map(has_vertical_edges, boxes)):
+        if not line.pen.is_seen and not any(has_vertical_edges(box) for box in boxes if isinstance(box, InlineBox)):
             return
-        extents = [self.strut] + [extent(box, self.content.face) for box in boxes]
-        above, below = max(up for up, _ in extents), max(down for _, down in extents)
-        started = [part.box for part in line.parts if isinstance(part, Start)]
-        pieces = LinePieces(self, line, [box for box in boxes if box not in started])
-        self.lines.append(Line(pieces.all(line.top + above, above + below)))
-        self.bottom = line.top + above + below
+        shape = self.shape([self.content.box] + boxes)
+        pieces = LinePieces(self, line, open_boxes)
+        self.lines.append(pieces.line_box(shape))
+        self.bottom = line.top + sum(shape.extent)
         self.place_below(line.put_off, self.bottom)
+
+    def shape(self, boxes):
+        """The shape of a line with these boxes (10.8.1); the first is the block container, for its strut."""
+        face = self.content.face
+        extents = {box: extent_of_font(box, face) if isinstance(box, InlineBox) else extent_of_atomic(box)
+                   for box in boxes[1:]}
+        return shape_of_line(boxes, {boxes[0]: self.strut, **extents}, face)
 
 
 class LinePieces:
@@ -203,6 +206,7 @@ class LinePieces:
         width = line.pen.place - line.pen.removed - line.pen.start
         self.start = line.room.left + indent + self.shift(line.room.right - line.room.left - indent - width)
         self.spans = {box: [self.start, None] for box in open_boxes}         # the left and right edges of pieces
+        self.atomic_lefts = {}                                               # left border edges
         self.find_spans()
 
     def shift(self, rest):
@@ -214,7 +218,8 @@ class LinePieces:
     def kept_parts(self):
         """The parts without the collapsible spaces that are removed at the line's start and end."""
         texts = [place for place, part in enumerate(self.line.parts)
-                 if isinstance(part, Cluster) and part.kind not in ('space', 'linefeed')]
+                 if isinstance(part, Atomic)
+                 or (isinstance(part, Cluster) and part.kind not in ('space', 'linefeed'))]
         for place, part in enumerate(self.line.parts):
             is_space = isinstance(part, Cluster) and part.kind == 'space'
             if not is_space or (texts and texts[0] < place < texts[-1]):
@@ -231,26 +236,36 @@ class LinePieces:
                 self.spans[part.box] = [before + (part.box.margin.left if part.box.is_first else 0), None]
             elif isinstance(part, End):
                 self.spans[part.box][1] = pen.place + offset - (part.box.margin.right if part.box.is_last else 0)
+            elif isinstance(part, Atomic):
+                self.atomic_lefts[part.box] = before + part.box.margin.left
             elif part.kind != 'linefeed':
                 self.spans.setdefault(part.box, [before, None])[1] = pen.place + offset
         self.end = pen.place + offset
 
-    def all(self, baseline, height):
-        """The pieces, each as its kind, the id of its node, and its rectangle."""
-        line, face = self.line, self.lines.content.face
+    def line_box(self, shape):
+        """The line box, with its pieces: each is its kind, the id of its node, and its rectangle."""
+        line = self.line
+        baseline = line.top + shape.extent.above
         pieces = [('line', self.lines.content.box.node.id, line.room.left, line.top, line.room.right - line.room.left,
-                   height)]
+                   sum(shape.extent))]
         for box, (left, right) in self.spans.items():
-            size = box.style['font-size']
-            above, below = face.ascent(size), face.descent(size)
-            kind = 'text'
-            if hasattr(box, 'border'):
-                kind = 'box'
-                above += box.padding.top + box.border.top
-                below += box.padding.bottom + box.border.bottom
             right = self.end if right is None else right
-            pieces.append((kind, box.node.id, left, baseline - above, right - left, above + below))
-        return pieces
+            raised = shape.raises[box if isinstance(box, InlineBox) else box.holder]
+            pieces.append(self.piece(box, left, right, baseline - raised))
+        corners = [(box, left, baseline - shape.raises[box] - extent_of_atomic(box).above + box.margin.top)
+                   for box, left in self.atomic_lefts.items()]
+        return Line(pieces, corners, baseline)
+
+    def piece(self, box, left, right, baseline):
+        """The piece of a text or an inline box, with the height of its font and its edges above and below (10.6.1)."""
+        face, size = self.lines.content.face, box.style['font-size']
+        above, below = face.ascent(size), face.descent(size)
+        kind = 'text'
+        if isinstance(box, InlineBox):
+            kind = 'box'
+            above += box.padding.top + box.border.top
+            below += box.padding.bottom + box.border.bottom
+        return kind, box.node.id, left, baseline - above, right - left, above + below
 
 
 def lay_lines(content, containing_block, floats, keep_float):

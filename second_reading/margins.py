@@ -63,7 +63,7 @@ class MarginRuns:
             return True
         if box.is_context or box.border.top or box.padding.top or box.padding.bottom or box.border.bottom:
             return False
-        if box.holds_lines():
+        if box.has_lines:
             return False
         if box.min_height or box.given_height not in (None, 0):
             return False

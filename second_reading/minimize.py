@@ -7,6 +7,7 @@ from boxes import first_not_built, read_nodes
 PLAIN_WORDS = {'float': 'left', 'clear': 'left', 'overflow': 'hidden', '-style': 'solid'}
 KEYWORDS = ('display', 'text-align', 'white-space', 'vertical-align')        # without plainer values
 PLAIN_VIEWPORT = [100, 80]
+PLAIN_SIDES = [[20, 20], [20, 10], [10, 20]]
 
 
 def without_node(run, place, keeps_children):
@@ -96,6 +97,16 @@ def with_shorter_texts(run):
                 yield with_text(run, place, text[:at] + 'a' + text[at + 1:])
 
 
+def with_plainer_sides(run):
+    """With plain natural sizes of a replaced element."""
+    for place, node in enumerate(run['nodes']):
+        for sides in PLAIN_SIDES:
+            if node['kind'] == 'replaced' and node['natural'] not in PLAIN_SIDES[:PLAIN_SIDES.index(sides) + 1]:
+                other = copy.deepcopy(run)
+                other['nodes'][place]['natural'] = sides
+                yield other
+
+
 def with_plainer_face(run):
     """With the usual face, or with a number of the face less."""
     if 'face' not in run:
@@ -120,6 +131,7 @@ def smaller_documents(run):
     yield from with_fewer_nodes(run)
     yield from with_plainer_face(run)
     yield from with_plainer_styles(run)
+    yield from with_plainer_sides(run)
     yield from with_shorter_texts(run)
     yield from with_plainer_numbers(run)
 

@@ -1,11 +1,12 @@
 """Used margins, borders, paddings and widths, and heights as they are given (CSS 2.2, 8.3 to 8.5, 10.2 to 10.7).
 
-They depend on the containing block alone, so they are found before any box is placed. None stands for `auto`, and for a
-greatest size of `none`.
+They depend on the containing block and on preferred widths, so they are found before any box is placed. None stands for
+`auto`, and for a greatest size of `none`.
 """
 from collections import namedtuple
 
 from boxes import InlineBox
+from replaced import Bounds, replaced_size
 from styles import SIDES, resolve, size_within_limit, within_limit
 
 Edges = namedtuple('Edges', SIDES)
@@ -33,9 +34,28 @@ def solve_in_flow(containing_width, margin_left, margin_right, width, rest):
     return Widths(margin_left, room - margin_left, width)
 
 
-def solve_floating(containing_width, margin_left, margin_right, width, rest):
-    """The widths of a float with a width of its own: margins of `auto` are 0 (10.3.5)."""
-    return Widths(margin_left or 0, margin_right or 0, width)
+def shrunk_width(box, available_width):
+    """The shrink-to-fit width (10.3.5)."""
+    return min(max(box.least_width, available_width), box.preferred_width)
+
+
+def solve_shrinking(box, containing_width, margin_left, margin_right, width, rest):
+    """The widths of a float or an atomic box (10.3.5, 10.3.9): margins of `auto` are 0, a width of `auto` shrinks."""
+    margin_left, margin_right = margin_left or 0, margin_right or 0
+    if width is None:
+        width = shrunk_width(box, containing_width - margin_left - rest - margin_right)
+    return Widths(margin_left, margin_right, width)
+
+
+def find_replaced_size(box, containing_width, containing_height):
+    """Sets the used size of a replaced box; a percentage of a height that isn't definite is `auto`, 0 or `none`."""
+    style = box.style
+    width, most_width = (resolve(style[name], containing_width) for name in ('width', 'max-width'))
+    height, most_height = (resolve(style[name], containing_height) for name in ('height', 'max-height'))
+    widths = Bounds(resolve(style['min-width'], containing_width), most_width)
+    heights = Bounds(resolve(style['min-height'], containing_height) or 0, most_height)
+    size = replaced_size(box.node.natural, width, height, widths, heights)
+    box.replaced_width, box.replaced_height = map(size_within_limit, size)
 
 
 def used_widths(box, containing_width):
@@ -45,9 +65,12 @@ def used_widths(box, containing_width):
     rest = box.border.left + box.padding.left + box.padding.right + box.border.right
 
     def with_width(width):
-        solve = solve_floating if box.is_floating else solve_in_flow
-        return solve(containing_width, margin_left, margin_right, width, rest)
+        if box.is_floating or box.is_atomic:
+            return solve_shrinking(box, containing_width, margin_left, margin_right, width, rest)
+        return solve_in_flow(containing_width, margin_left, margin_right, width, rest)
 
+    if box.is_replaced:
+        return with_width(box.replaced_width)                       # 10.3.2, 10.3.4 and 10.3.6
     least = size_within_limit(resolve(style['min-width'], containing_width))
     most = resolve(style['max-width'], containing_width)
     widths = with_width(resolve(style['width'], containing_width))
@@ -100,8 +123,8 @@ def find_heights(box, containing_height):
     box.definite_height = None
     if box.given_height is not None:
         box.definite_height = size_within_limit(height_within(box.given_height, box.min_height, box.max_height))
-
-
+    if box.is_replaced:
+        box.definite_height = box.replaced_height
     box.percentage_base = containing_height if box.is_anonymous else box.definite_height        # 9.2.1.1
 
 
@@ -115,17 +138,24 @@ def find_inline_edges(parts, containing_width):
             find_inline_edges(part.children, containing_width)
 
 
-def has_vertical_edges(box):
+def used_edges(box):
+    """The used margins, borders and paddings."""
+    return box.margin, box.border, box.padding
+
+
+def has_vertical_edges(box, edges_of=used_edges):
     """A margin, border or padding above or below isn't 0."""
-    return any(edges.top or edges.bottom for edges in (box.margin, box.border, box.padding))
+    return any(edges.top or edges.bottom for edges in edges_of(box))
 
 
 def find_sizes(box, containing_width, containing_height):
     """Sets the sizes of a box and of all below it; the containing block's height is None where it isn't definite."""
     find_edges(box, containing_width)
+    if box.is_replaced:
+        find_replaced_size(box, containing_width, containing_height)
     find_widths(box, containing_width)
     find_heights(box, containing_height)
     box.indent = within_limit(resolve(box.style['text-indent'], containing_width))              # 16.1
     find_inline_edges(box.inline_content, box.width)
-    for child in box.children + box.line_floats:
+    for child in box.children + box.line_boxes:
         find_sizes(child, box.width, box.percentage_base)

@@ -1,6 +1,7 @@
 """What holds of every layout, tried on random documents."""
 import unittest
 
+from atomic_documents import atomic_document
 from blocks import lay_out_page
 from boxes import boxes_of_context, read_nodes
 from documents import document
@@ -22,10 +23,12 @@ def contexts(box):
 class Laws(unittest.TestCase):
     @classmethod
     def setUpClass(cls):
-        runs = [draw(SEED, number) for number in range(DOCUMENTS) for draw in (document, text_document)]
+        draws = (document, text_document, atomic_document)
+        runs = [draw(SEED, number) for number in range(DOCUMENTS) for draw in draws]
         roots = [(read_nodes(run)[0], run['viewport']) for run in runs]
         pages = [lay_out_page(root, viewport, Face({}))[0] for root, viewport in roots if not root.is_hidden]
-        cls.flows = [box.flow for root in pages for box in contexts(root)]
+        cls.context_boxes = [box for root in pages for box in contexts(root)]
+        cls.flows = [box.flow for box in cls.context_boxes]
 
     def test_run_is_a_stretch_of_the_sequence_of_margins(self):
         for flow in self.flows:
@@ -48,7 +51,9 @@ class Laws(unittest.TestCase):
         for flow in self.flows:
             for box in boxes_of_context(flow.context_box):
                 parent = box.parent
-                if parent is flow.context_box or any(map(flow.runs.collapses_through, (parent, box))):
+                if parent is flow.context_box or not flow.runs.has(top_margin(box)):
+                    continue
+                if any(map(flow.runs.collapses_through, (parent, box))):
                     continue
                 if flow.runs.adjoin(top_margin(parent), top_margin(box)):
                     self.assertEqual(flow.marks[parent], flow.marks[box])
@@ -68,6 +73,50 @@ class Laws(unittest.TestCase):
                 seen = {part.box.node.id for part in texts if part.kind not in ('space', 'linefeed')}
                 pieces = {piece[1] for line in flow.lines[box] for piece in line.pieces if piece[0] == 'text'}
                 self.assertLessEqual(seen, pieces)
+
+    def test_atomic_boxes_stand_within_their_lines(self):
+        for flow in self.flows:
+            for lines in flow.lines.values():
+                for line in lines:
+                    line_top, line_height = line.pieces[0][3], line.pieces[0][5]
+                    for box, _, top in line.atomic_corners:
+                        bottom = top + box.border_box_height + box.margin.bottom
+                        self.assertLessEqual(line_top, top - box.margin.top)
+                        self.assertLessEqual(bottom, line_top + line_height)
+                        align = box.style['vertical-align'].amount
+                        if align == 'top':
+                            self.assertEqual(line_top, top - box.margin.top)
+                        if align == 'bottom':
+                            self.assertEqual(bottom, line_top + line_height)
+
+    def test_replaced_size_is_within_its_bounds(self):
+        for box in self.context_boxes:
+            if box.is_replaced:
+                self.assertLessEqual(box.min_height, box.replaced_height)
+                most = box.max_height if box.max_height is None else max(box.min_height, box.max_height)
+                self.assertTrue(most is None or box.replaced_height <= most)
+
+    def test_box_that_shrinks_is_between_its_preferred_widths(self):
+        for box in self.context_boxes:
+            shrinks = (box.is_floating or box.is_atomic) and not box.is_replaced
+            widths = [box.style[name].amount for name in ('width', 'min-width', 'max-width')]
+            if shrinks and widths == ['auto', 0, 'none'] and 0 <= box.preferred_width < 2 ** 31:
+                self.assertLessEqual(box.width, box.preferred_width)
+                self.assertLessEqual(min(box.least_width, box.preferred_width), box.width)
+
+    def test_preferred_width_makes_no_line_but_the_forced_ones(self):
+        for box in self.context_boxes:
+            texts_alone = box.has_lines and not box.flow.floats and box.width == box.preferred_width
+            if texts_alone and box.is_floating and box.indent == 0 and not has_odd_widths(box.content):
+                forced = sum(segment.is_forced for segment in box.content.segments)
+                self.assertLessEqual(len(box.flow.lines[box]), forced + 1)
+
+
+def has_odd_widths(content):
+    """A part has a width that is negative, or is in percent of the box."""
+    texts = [part for segment in content.segments for part in segment.parts if hasattr(part, 'kind')]
+    return (any(part.width < 0 for part in texts)
+            or any(not hasattr(part, 'kind') for segment in content.segments for part in segment.parts))
 
 
 if __name__ == '__main__':

@@ -11,7 +11,6 @@ import random
 import sys
 from collections import namedtuple
 
-from boxes import first_not_built, read_nodes
 from styles import SIDES
 
 # How often something is drawn, in hundredths: children of a kind, and declarations.
@@ -90,7 +89,6 @@ class TextDocument:
         if self.hit(self.profile.face):
             run['face'] = self.face()
         run['nodes'] = self.nodes
-        self.repair(run)
         return run
 
     def add_element(self, parent, style):
@@ -130,8 +128,8 @@ class TextDocument:
         self.left -= 1
         self.nodes.append({'id': len(self.nodes) + 1, 'parent': parent, 'kind': 'text', 'text': text})
 
-    def add_box(self, parent, kind, depth):
-        """An element that makes an inline box, a float or a block, with what is in it."""
+    def style_of(self, kind):
+        """The declarations of a box, without those of its texts."""
         style = {'display': 'block'}
         if kind == 'inline':
             style = {}
@@ -140,11 +138,20 @@ class TextDocument:
             self.add_float_style(style)
         else:
             self.add_block_style(style)
+        return style
+
+    def add_box(self, parent, kind, depth):
+        """An element that makes an inline box, a float or a block, with what is in it."""
+        style = self.style_of(kind)
         if self.hit(100 if kind == 'block' else 60):
             self.add_text_style(style)
         ident = self.add_element(parent, style)
-        if depth < GREATEST_DEPTH and (kind != 'float' or self.hit(35)):
+        if depth < GREATEST_DEPTH and self.is_filled(kind):
             self.add_children(ident, kind, depth + 1)
+
+    def is_filled(self, kind):
+        """A box of this kind has children."""
+        return kind != 'float' or self.hit(35)
 
     # -- texts
 
@@ -249,13 +256,6 @@ class TextDocument:
             if self.hit(50):
                 face[name] = self.choice(numbers)
         return face
-
-    def repair(self, run):
-        """Makes a plain block of what isn't laid out."""
-        place = first_not_built(read_nodes(run))
-        while place is not None:
-            self.nodes[place]['style'] = {'display': 'block'}
-            place = first_not_built(read_nodes(run))
 
 
 def text_document(seed, number):

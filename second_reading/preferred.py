@@ -1,0 +1,152 @@
+"""Preferred widths (CSS 2.2, 10.3.5): how narrow a box can be without overflow, and how wide where only forced breaks
+are made.
+
+They rest on styles alone: widths in percent count as `auto`, and margins, paddings and indents in percent as 0. Each
+pair is the least width and the preferred one.
+"""
+from collections import namedtuple
+
+from content import Atomic, Cluster, End, Start, is_seen
+from replaced import Bounds, replaced_size, within
+from sizes import Edges
+from styles import SIDES, size_within_limit, within_limit
+
+Pair = namedtuple('Pair', 'least preferred')
+
+
+def length(value):
+    """A length, or None for a word or a percentage."""
+    return value.amount if value.kind == 'length' else None
+
+
+def edges_of_lengths(box):
+    """The margins, borders and paddings where percentages are 0, as `auto` is."""
+    margins, paddings = ([length(box.style['%s-%s' % (name, side)]) or 0 for side in SIDES]
+                         for name in ('margin', 'padding'))
+    borders = (box.style['border-%s-width' % side].amount for side in SIDES)
+    return (Edges(*map(within_limit, margins)), Edges(*map(size_within_limit, borders)),
+            Edges(*map(size_within_limit, paddings)))
+
+
+def edge_width(box, side):
+    return sum(getattr(edges, side) for edges in edges_of_lengths(box))
+
+
+def bounds_of_lengths(box, name):
+    """The bounds of the width or the height that are lengths."""
+    return Bounds(length(box.style['min-' + name]) or 0, length(box.style['max-' + name]))
+
+
+# -- contributions
+
+def content_widths(box):
+    """The widths of the content box that a box contributes."""
+    widths = bounds_of_lengths(box, 'width')
+    given = length(box.style['width'])
+    if box.is_replaced:
+        height = length(box.style['height'])
+        width, _ = replaced_size(box.node.natural, given, height, widths, bounds_of_lengths(box, 'height'))
+        return Pair(width, width)
+    pair = Pair(box.least_width, box.preferred_width) if given is None else Pair(given, given)
+    return Pair(*(within(width, widths) for width in pair))
+
+
+def contribution(box):
+    """The widths of the margin box."""
+    edges = edge_width(box, 'left') + edge_width(box, 'right')
+    return Pair(*(width + edges for width in content_widths(box)))
+
+
+# -- inline content
+
+def is_seen_here(parts):
+    return any(is_seen(part, edges_of_lengths) for part in parts)
+
+
+class WidthOfLine:
+    """The width of parts in a line that begins with an indent, as of a least or of a preferred width."""
+
+    def __init__(self, content, indent, name):
+        self.tab, self.place, self.name = content.tab, indent, name
+        self.hanging, self.begins_line = 0, True
+
+    def width(self, part):
+        if isinstance(part, Start):
+            return edge_width(part.box, 'left') if part.box.is_first else 0
+        if isinstance(part, End):
+            return edge_width(part.box, 'right') if part.box.is_last else 0
+        if isinstance(part, Atomic):
+            return getattr(contribution(part.box), self.name)
+        if part.kind == 'tab' and self.tab:
+            return self.tab - self.place % self.tab
+        return 0 if part.kind == 'space' and self.begins_line else part.width
+
+    def of(self, parts):
+        """The width with its indent, without the spaces at the end."""
+        for part in parts:
+            width = self.width(part)
+            self.place += width
+            is_space = isinstance(part, Cluster) and part.kind in ('space', 'hanging')
+            if isinstance(part, Atomic) or (isinstance(part, Cluster) and part.kind != 'linefeed'):
+                self.hanging = self.hanging + width if is_space else 0
+                self.begins_line = self.begins_line and isinstance(part, Cluster) and part.kind == 'space'
+        return self.place - self.hanging
+
+
+def widths_of_lines(content, lines, indent, name):
+    """The widths of lists of parts, each in a line of its own; the first that is seen has the indent."""
+    for parts in lines:
+        seen = is_seen_here(parts)
+        yield WidthOfLine(content, indent if seen else 0, name).of(parts)
+        indent = 0 if seen else indent
+
+
+def forced_lines(segments):
+    """The segments in lists, each up to a preserved linefeed."""
+    found = [[]]
+    for segment in segments:
+        found[-1].append(segment)
+        if segment.is_forced:
+            found.append([])
+    return [line for line in found if line]
+
+
+def floats_of(segments):
+    return [box for segment in segments for box in segment.heads + segment.floats]
+
+
+def widths_of_inline_content(content):
+    """The widest segment or float; the widest line between forced breaks, with its floats beside it."""
+    indent = within_limit(length(content.box.style['text-indent']) or 0)
+    segments = content.segments
+    floats = [contribution(box).least for box in floats_of(segments)]
+    least = list(widths_of_lines(content, [segment.parts for segment in segments], indent, 'least')) + floats
+    lines = forced_lines(segments)
+    parts_of_lines = [[part for segment in line for part in segment.parts] for line in lines]
+    preferred = [width + sum(contribution(box).preferred for box in floats_of(line))
+                 for line, width in zip(lines, widths_of_lines(content, parts_of_lines, indent, 'preferred'))]
+    return Pair(max([0] + least), max([0] + preferred))
+
+
+# -- blocks
+
+def widths_of_blocks(box):
+    """The greatest contribution of a child, where adjacent floats stand beside each other in the preferred width."""
+    least, preferred, before = [0], [0], None
+    for child in box.children:
+        pair = contribution(child)
+        least.append(pair.least)
+        if before and before.is_floating and child.is_floating:
+            preferred[-1] += pair.preferred
+        else:
+            preferred.append(pair.preferred)
+        before = child
+    return Pair(max(least), max(preferred))
+
+
+def find_preferred_widths(box):
+    """Sets the preferred widths of the content boxes from a box on, inner ones first."""
+    for child in box.children + box.line_boxes:
+        find_preferred_widths(child)
+    pair = widths_of_inline_content(box.content) if box.content.segments else widths_of_blocks(box)
+    box.least_width, box.preferred_width = pair

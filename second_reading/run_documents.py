@@ -1,0 +1,151 @@
+#!/usr/bin/env python3
+"""Random run documents with editors, and reports of them as a program may write them.
+
+usage: run_documents.py COUNT SEED      prints the documents 0 .. COUNT - 1 of a seed, one a line
+
+Several editors change the same few nodes, so that whether an edit has a fault depends on the order of the history.
+"""
+import json
+import random
+import sys
+
+from atomic_documents import atomic_document
+from blocks import context_count, report
+from documents import document
+from edits import Document
+from text_documents import text_document
+
+DRAWS = (document, text_document, atomic_document)
+EDITORS = [0, 1, 1, 2, 2, 3, 4, 16]
+COMMANDS = [0, 1, 2, 3, 4, 5, 6, 8]
+BAD_DECLARATIONS = [('colour', 'red'), ('Width', '1px'), ('width', '10'), ('width', '-1px'), ('display', 'flex'),
+                    ('margin-top', '1 px'), ('line-height', '-1'), ('float', ''), ('', ''), ('font-size', '1.px')]
+GOOD_DECLARATIONS = [('z-index', '-3'), ('visibility', 'hidden'), ('border-spacing', '1px 2px'), ('width', ' AUTO\n'),
+                     ('empty-cells', 'inherit'), ('caption-side', 'bottom'), ('height', '+.5Px'), ('line-height', '0')]
+
+
+class RunDocument:
+    """Draws a document and the commands of its editors."""
+
+    def __init__(self, rng):
+        self.rng, self.choice = rng, rng.choice
+        self.draw_document = rng.choice(DRAWS)
+        self.base = self.drawn_document()
+        self.kinds = {node['id']: node['kind'] for node in self.base['nodes']}
+        self.next_id = 1000
+
+    def hit(self, hundredths):
+        return self.rng.random() * 100 < hundredths
+
+    def drawn_document(self):
+        """A document without tables, also where a declaration comes to another node."""
+        run = self.draw_document(self.rng.randrange(10 ** 6), 0)
+        for node in run['nodes']:
+            if 'table' in node.get('style', {}).get('display', ''):
+                del node['style']['display']
+        return run
+
+    def draw(self):
+        editors = [[self.command() for _ in range(self.choice(COMMANDS))] for _ in range(self.choice(EDITORS))]
+        return dict(self.base, editors=editors)
+
+    def command(self):
+        kinds = ['set'] * 6 + ['clear'] * 2 + ['text'] * 2 + ['insert'] * 3 + ['remove'] * 2 + ['latest', 'sync'] * 2
+        return getattr(self, self.choice(kinds))()
+
+    def node(self, kind=None):
+        """The id of a node, of this kind where there is one; now and then of none."""
+        ids = [ident for ident in self.kinds if kind in (None, self.kinds[ident])]
+        return 999999 if self.hit(3) or not ids else self.choice(ids)
+
+    def declaration(self):
+        if self.hit(5):
+            return self.choice(BAD_DECLARATIONS)
+        if self.hit(5):
+            return self.choice(GOOD_DECLARATIONS)
+        declared = [item for node in self.drawn_document()['nodes'] for item in node.get('style', {}).items()]
+        return self.choice(declared) if declared else ('width', '20px')
+
+    # -- commands
+
+    def set(self):
+        name, text = self.declaration()
+        return {'do': 'set', 'node': self.node('element' if self.hit(80) else None), 'property': name, 'value': text}
+
+    def clear(self):
+        declared = [(node['id'], name) for node in self.base['nodes'] for name in node.get('style', {})]
+        if not declared or self.hit(20):
+            return {'do': 'clear', 'node': self.node(), 'property': self.declaration()[0]}
+        ident, name = self.choice(declared)
+        return {'do': 'clear', 'node': ident, 'property': name}
+
+    def text(self):
+        texts = [node['text'] for node in self.drawn_document()['nodes'] if 'text' in node] + ['a b']
+        return {'do': 'text', 'node': self.node('text' if self.hit(85) else None), 'text': self.choice(texts)}
+
+    def insert(self):
+        fields = self.choice(self.drawn_document()['nodes'][1:] or [{'kind': 'text', 'text': 'a'}])
+        ident = self.node() if self.hit(10) else self.next_id
+        self.next_id += 1
+        self.kinds.setdefault(ident, fields['kind'])
+        place = {'id': ident, 'parent': self.node('element' if self.hit(90) else None)}
+        return {'do': 'insert', 'index': self.choice([0, 0, 1, 2, 3]), **fields, **place}
+
+    def remove(self):
+        return {'do': 'remove', 'node': self.node() if self.hit(90) else 1}
+
+    def latest(self):
+        return {'do': 'latest'}
+
+    def sync(self):
+        return {'do': 'sync'}
+
+
+def run_document(seed, number):
+    """The run document of a seed and a number."""
+    return RunDocument(random.Random('runs %d/%d' % (seed, number))).draw()
+
+
+# -- a report that may be
+
+def tree_of(current):
+    return report(current.as_run())[0].splitlines()[2:]
+
+
+def possible_report(run, rng):
+    """A report of a run whose editors came to the lock in some order; what `latest` shows may be old."""
+    current, published, accepted, lines = Document(run), None, 0, []
+    tree = []
+    scripts = [list(enumerate(commands)) for commands in run['editors']]
+    turns = [editor for editor, commands in enumerate(scripts) for _ in commands]
+    rng.shuffle(turns)
+    for editor in turns:
+        index, command = scripts[editor].pop(0)
+        kind = command['do']
+        if kind in ('latest', 'sync'):
+            if published != accepted and (kind == 'sync' or published is None or rng.random() < 0.3):
+                published, tree = accepted, tree_of(current)
+                lines.append('publish %d' % published)
+            lines += ['%s %d %d %d' % (kind, editor + 1, index, published)] + tree
+            continue
+        fault = current.fault(command)
+        if not fault:
+            current.apply(command)
+            accepted += 1
+        verdict = 'refused %s' % fault if fault else 'accepted %d' % accepted
+        lines.append('edit %d %d %s' % (editor + 1, index, verdict))
+    if published != accepted:
+        tree = tree_of(current)
+        lines.append('publish %d' % accepted)
+    lines += ['final %d' % accepted] + tree + ['laid %d' % (3 * context_count(current.as_run()))]
+    return '\n'.join(lines) + '\n'
+
+
+def main():
+    count, seed = int(sys.argv[1]), int(sys.argv[2])
+    for number in range(count):
+        print(json.dumps(run_document(seed, number)))
+
+
+if __name__ == '__main__':
+    main()
