@@ -4,22 +4,17 @@ use Rattle.std.proofs.lemmas.Bool.{cases_lt}
 use Rattle.std.proofs.lemmas.Grind.{elements}
 use Rattle.lay_sizes.specs.declared.sizing.BoxSizes.{BoxSizes}
 use Rattle.lay_sizes.specs.declared.sizing.ContainingBlock.{ContainingBlock}
-use Rattle.lay_context.specs.declared.corner.Corner.{Corner}
-use Rattle.lay_context.specs.ContextPlaces.{Placement}
-use Rattle.lay_context.specs.Contexts.{Context, AreContexts, context_at}
-use Rattle.lay_context.specs.PlaceBounds.{AreNearCorners, IsCornerNear}
-use Rattle.lay_context.specs.DocumentLayout.{HasPageCorners, page_corner, corner_at}
+use Rattle.lay_placement.specs.declared.corner.Corner.{Corner}
+use Rattle.lay_placement.specs.ContextPlaces.{Placement}
+use Rattle.lay_contexts.specs.Contexts.{Context, AreContexts, context_at}
+use Rattle.lay_placement.proofs.CornerColumns.{read_before, read_last}
+use Rattle.lay_context.specs.DocumentLayout.{HasPageCorners, page_corner}
+use Rattle.lay_placement.specs.ContextPlaces.{corner_at}
 
 -- the contexts before n have their corners
 pub record PageCornersTo (viewport : ContainingBlock) (contexts : List Context) (sizes : List (List BoxSizes)) (places : List Placement) (corners : List Corner) (n : ℕ) : Type 0 where
   pub count : length corners ≡ n
   pub each : (i : ℕ) → i < n → corner_at corners i ≡ page_corner viewport contexts sizes places corners i
-
-read_before : (cs : List Corner) (c : Corner) (k : ℕ) → k < length cs → corner_at (cs ++ c ∷ []) k ≡ corner_at cs k
-read_before cs c k lt = grind (arith, elements)
-
-read_last : (cs : List Corner) (c : Corner) (k : ℕ) → k ≡ length cs → corner_at (cs ++ c ∷ []) k ≡ c
-read_last cs c k e = grind (arith, elements)
 
 page_corner_before : (viewport : ContainingBlock) (contexts : List Context) (sizes : List (List BoxSizes)) (places : List Placement) (cs : List Corner) (c : Corner) → AreContexts contexts
     → (i : ℕ) → i < length contexts → i ≤ length cs → page_corner viewport contexts sizes places (cs ++ c ∷ []) i ≡ page_corner viewport contexts sizes places cs i
@@ -42,9 +37,3 @@ one_more viewport contexts sizes places cs n c order within so_far is = record {
 pub all_corners : (viewport : ContainingBlock) (contexts : List Context) (sizes : List (List BoxSizes)) (places : List Placement) (cs : List Corner) (n : ℕ) → n ≡ length contexts
     → PageCornersTo viewport contexts sizes places cs n → HasPageCorners viewport contexts sizes places cs
 all_corners viewport contexts sizes places cs n e so_far = record { count = so_far.count ∙ e; each = λ i lt. so_far.each i (omega (arith, e, lt)) }
-
-pub one_more_near : (cs : List Corner) (c : Corner) → AreNearCorners cs → IsCornerNear c → AreNearCorners (cs ++ c ∷ [])
-one_more_near cs c are is i lt = elim (cases_lt i (length cs)) [
-  | inl low ↦ rw (read_before cs c i low) (are i low)
-  | inr high ↦ (let counted : length (cs ++ c ∷ []) ≡ length cs + 1 = length-append cs (c ∷ []) in rw (read_last cs c i (omega (arith, high, lt, counted))) is)
-]

@@ -6,15 +6,16 @@ use Rattle.std.proofs.lemmas.List.{map-append, take_more}
 use Rattle.std.proofs.lemmas.Int.{ints}
 use Rattle.lay_sizes.specs.declared.sizing.BoxSizes.{BoxSizes}
 use Rattle.lay_sizes.specs.declared.sizing.ContainingBlock.{ContainingBlock}
-use Rattle.lay_context.specs.declared.corner.Corner.{Corner}
-use Rattle.lay_context.specs.Contexts.{AreContexts, Context, boxes_in, context_at}
-use Rattle.lay_context.specs.Containing.{block_around, container_of}
-use Rattle.lay_context.proofs.ContainerSteps.{container_within}
-use Rattle.lay_context.specs.ContextPlaces.{Placement}
+use Rattle.lay_placement.specs.declared.corner.Corner.{Corner}
+use Rattle.lay_contexts.specs.Contexts.{AreContexts, Context, boxes_in, context_at}
+use Rattle.lay_context.specs.ContainingBlocks.{block_around}
+use Rattle.lay_context_boxes.specs.Containing.{container_of}
+use Rattle.lay_context_boxes.proofs.ContainerSteps.{container_within}
+use Rattle.lay_placement.specs.ContextPlaces.{Placement}
 use Rattle.lay_context.specs.DocumentLayout.{outer_block, own_box_in, sizes_in}
 use Rattle.lay_sizes.specs.declared.own_boxes.OwnBox.{OwnBox}
 use Rattle.lay_sizes.specs.OwnBoxes.{OwnBoxFits, OwnBoxesFit, own_box_at}
-use Rattle.lay_context.specs.PlaceBounds.{IsCornerNear, IsRectNear, PlacementFits}
+use Rattle.lay_placement.specs.PlaceBounds.{IsCornerNear, IsRectNear, PlacementFits}
 use Rattle.lay_context.specs.Solves.{own_rect}
 
 pub outer_is : (viewport : ContainingBlock) (contexts : List Context) (sizes : List (List BoxSizes)) (i : ℕ) → 0 < i

@@ -4,10 +4,11 @@ use Rattle.std.proofs.lemmas.Bool.{cases_lt}
 use Rattle.lay_doc.proofs.OneStyles.{same_list}
 use Rattle.lay_sizes.specs.declared.sizing.BoxSizes.{BoxSizes}
 use Rattle.lay_sizes.specs.declared.sizing.ContainingBlock.{ContainingBlock}
-use Rattle.lay_context.specs.declared.corner.Corner.{Corner}
-use Rattle.lay_context.specs.Contexts.{Context, AreContexts}
-use Rattle.lay_context.specs.ContextPlaces.{Placement}
-use Rattle.lay_context.specs.DocumentLayout.{HasPageCorners, page_corner, corner_at, no_corner}
+use Rattle.lay_placement.specs.declared.corner.Corner.{Corner}
+use Rattle.lay_contexts.specs.Contexts.{Context, AreContexts}
+use Rattle.lay_placement.specs.ContextPlaces.{Placement}
+use Rattle.lay_context.specs.DocumentLayout.{HasPageCorners, page_corner}
+use Rattle.lay_placement.specs.ContextPlaces.{corner_at, no_corner}
 
 module _ (viewport : ContainingBlock) (contexts : List Context) (sizes : List (List BoxSizes)) (places : List Placement) (are : AreContexts contexts) where
   corner_same : (x y : List Corner) (i : ℕ) → i < length contexts → ((j : ℕ) → j < i → corner_at x j ≡ corner_at y j) → page_corner viewport contexts sizes places x i ≡ page_corner viewport contexts sizes places y i

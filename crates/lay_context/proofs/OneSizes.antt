@@ -10,12 +10,14 @@ use Rattle.lay_boxgen.specs.BoxColumns.{box_styles}
 use Rattle.lay_sizes.specs.declared.sizing.BoxSizes.{BoxSizes}
 use Rattle.lay_sizes.specs.declared.sizing.ContainingBlock.{ContainingBlock}
 use Rattle.lay_sizes.proofs.OneSizes.{one_box_sizes_lem}
-use Rattle.lay_context.specs.Containing.{block_in, container_of, height_holder}
-use Rattle.lay_context.specs.ContextBoxes.{AreContextBoxes, is_inner}
+use Rattle.lay_context.specs.ContainingBlocks.{block_in, height_holder}
+use Rattle.lay_context_boxes.specs.Containing.{container_of}
+use Rattle.lay_context_boxes.specs.ContextBoxes.{AreContextBoxes, is_inner}
 use Rattle.lay_sizes.specs.SizeColumns.{no_sizes, sizes_at}
 use Rattle.lay_context.specs.ContextSizes.{HasSizes, IsBoxSized, containing_block, width_rule}
 use Rattle.lay_context.specs.Laws.{OneContextSizes}
-use Rattle.lay_context.proofs.ContainerSteps.{container_before, holder_before}
+use Rattle.lay_context_boxes.proofs.ContainerSteps.{container_before}
+use Rattle.lay_context.proofs.HolderSteps.{holder_before}
 
 block_in_same : (boxes : List BoxNode) (x y : List BoxSizes) → AreContextBoxes boxes → (c : ℕ) → c < length boxes → ((j : ℕ) → j ≤ c → sizes_at x j ≡ sizes_at y j) → block_in boxes x c ≡ block_in boxes y c
 block_in_same boxes x y are c within same =

@@ -11,17 +11,19 @@ use Rattle.lay_context.specs.declared.task.Phase.TheVariants.{Size, Place}
 use Rattle.lay_context.specs.declared.task.Task.{Task}
 use Rattle.lay_context.specs.declared.input.Input.{Input}
 use Rattle.lay_context.specs.declared.value.Value.TheVariants as value
-use Rattle.lay_context.specs.Contexts.{Context, AreContexts, boxes_in, Medium}
-use Rattle.lay_context.specs.ContextList.{AreContextsOf}
-use Rattle.lay_context.specs.ContextPlaces.{Placement}
-use Rattle.lay_context.specs.DocumentLayout.{HasPageCorners, inner_boxes, no_placement, outer_block, placement_in, sizes_in}
+use Rattle.lay_contexts.specs.Contexts.{Context, AreContexts, boxes_in}
+use Rattle.lay_context.specs.Medium.{Medium}
+use Rattle.lay_contexts.specs.ContextList.{AreContextsOf}
+use Rattle.lay_placement.specs.ContextPlaces.{Placement}
+use Rattle.lay_context.specs.DocumentLayout.{HasPageCorners, inner_boxes, outer_block, placement_in, sizes_in}
+use Rattle.lay_placement.specs.ContextPlaces.{no_placement}
 use Rattle.lay_context.specs.Needs.{task_at}
 use Rattle.lay_context.specs.Local.{Workings, IsLocal, IsTaskDone, input_by, input_of, value_by, value_of}
 use Rattle.lay_context.specs.Solves.{SolvesContexts, medium_of}
 use Rattle.lay_context.specs.Laws.{HadTurn, OneSolution}
-use Rattle.lay_context.proofs.ContextNumbers.{are_contexts, one_context_list}
+use Rattle.lay_contexts.proofs.ContextNumbers.{are_contexts, one_context_list}
 use Rattle.lay_context.proofs.OneCorners.{one_corner_column}
-use Rattle.lay_context.proofs.OnePlaces.{one_placement_lem}
+use Rattle.lay_placement.proofs.OnePlaces.{one_placement_lem}
 use Rattle.lay_context.proofs.OneSizes.{one_context_sizes_lem}
 use Rattle.lay_context.proofs.TaskInputs.{inputs_come_of_needs_lem, place_value, size_value}
 use Rattle.lay_context.proofs.TaskOrder.{had_place_turn, had_size_turn, needs_come_first_lem, task_within}

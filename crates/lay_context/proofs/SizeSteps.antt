@@ -9,11 +9,13 @@ use Rattle.lay_sizes.specs.declared.sizing.BoxSizes.{BoxSizes}
 use Rattle.lay_sizes.specs.declared.sizing.ContainingBlock.{ContainingBlock}
 use Rattle.lay_sizes.specs.BoxSizes.{content_block}
 use Rattle.lay_sizes.specs.SizeBounds.{SizeFits}
-use Rattle.lay_context.specs.Containing.{block_around, block_in, container_of, height_holder}
-use Rattle.lay_context.specs.ContextBoxes.{AreContextBoxes, is_inner}
+use Rattle.lay_context.specs.ContainingBlocks.{block_around, block_in, height_holder}
+use Rattle.lay_context_boxes.specs.Containing.{container_of}
+use Rattle.lay_context_boxes.specs.ContextBoxes.{AreContextBoxes, is_inner}
 use Rattle.lay_sizes.specs.SizeColumns.{HaveSizeBounds, no_sizes, sizes_at}
 use Rattle.lay_context.specs.ContextSizes.{HasSizes, IsBoxSized, containing_block}
-use Rattle.lay_context.proofs.ContainerSteps.{container_before, holder_before}
+use Rattle.lay_context_boxes.proofs.ContainerSteps.{container_before}
+use Rattle.lay_context.proofs.HolderSteps.{holder_before}
 
 -- the boxes before n have their sizes
 pub record SizesTo (outer : ContainingBlock) (boxes : List BoxNode) (sizes : List BoxSizes) (n : ℕ) : Type 0 where

@@ -6,9 +6,10 @@ use Rattle.lay_context.specs.declared.task.Phase.{Phase}
 use Rattle.lay_context.specs.declared.task.Phase.TheVariants.{Size, Place}
 use Rattle.lay_context.specs.declared.input.Input.TheVariants as input
 use Rattle.lay_context.specs.declared.value.Value.TheVariants as value
-use Rattle.lay_context.specs.Contexts.{Context, Medium, context_at, boxes_in}
-use Rattle.lay_context.specs.Containing.{block_around}
-use Rattle.lay_context.specs.ContextPlaces.{Placement}
+use Rattle.lay_contexts.specs.Contexts.{Context, context_at, boxes_in}
+use Rattle.lay_context.specs.Medium.{Medium}
+use Rattle.lay_context.specs.ContainingBlocks.{block_around}
+use Rattle.lay_placement.specs.ContextPlaces.{Placement}
 use Rattle.lay_context.specs.DocumentLayout.{inner_boxes, outer_block, own_box_in, placement_in, sizes_in}
 use Rattle.lay_context.specs.Needs.{needs_by}
 use Rattle.lay_context.specs.Local.{Workings, input_by, value_by}

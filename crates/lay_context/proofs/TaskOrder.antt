@@ -4,7 +4,7 @@ use Rattle.std.proofs.lemmas.Bool.{cases_lt}
 use Rattle.lay_context.specs.declared.task.Phase.{Phase}
 use Rattle.lay_context.specs.declared.task.Phase.TheVariants.{Size, Place}
 use Rattle.lay_context.specs.declared.task.Task.{Task}
-use Rattle.lay_context.specs.Contexts.{Context, AreContexts}
+use Rattle.lay_contexts.specs.Contexts.{Context, AreContexts}
 use Rattle.lay_context.specs.Needs.{Needs, needs_by, task_at}
 use Rattle.lay_context.specs.Laws.{HadTurn, NeedsComeFirst}
 

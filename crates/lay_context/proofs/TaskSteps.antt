@@ -9,8 +9,9 @@ use Rattle.lay_context.specs.declared.task.Phase.TheVariants.{Size, Place}
 use Rattle.lay_context.specs.declared.task.Task.{Task}
 use Rattle.lay_context.specs.declared.value.Value.{Value}
 use Rattle.lay_context.specs.declared.value.Value.TheVariants as value
-use Rattle.lay_context.specs.Contexts.{Context, AreContexts, Medium, boxes_in}
-use Rattle.lay_context.specs.ContextPlaces.{ContextPlaces, Placement, corners_to, corner_of_box}
+use Rattle.lay_contexts.specs.Contexts.{Context, AreContexts, boxes_in}
+use Rattle.lay_context.specs.Medium.{Medium}
+use Rattle.lay_placement.specs.ContextPlaces.{ContextPlaces, Placement, corners_to, corner_of_box}
 use Rattle.lay_context.specs.DocumentLayout.{placement_in, sizes_in}
 use Rattle.lay_context.specs.Needs.{task_at}
 use Rattle.lay_context.specs.Local.{Workings, IsLocal, IsTaskDone, input_by, input_of, value_by, value_of, with_value}

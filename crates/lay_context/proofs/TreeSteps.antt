@@ -4,10 +4,11 @@ use Rattle.std.proofs.lemmas.Bool.{cases_lt}
 use Rattle.std.proofs.lemmas.Grind.{elements}
 use Rattle.lay_frag.specs.Pieces.{Context as PageContext, frags_of, page_pieces, IsContextInRange, IsTreeInRange}
 use Rattle.lay_frag.proofs.PieceLemmas.{length-page_pieces}
-use Rattle.lay_context.specs.declared.corner.Corner.{Corner}
-use Rattle.lay_context.specs.Contexts.{Context, boxes_in}
-use Rattle.lay_context.specs.ContextPlaces.{Placement}
-use Rattle.lay_context.specs.DocumentLayout.{placement_in, corner_at}
+use Rattle.lay_placement.specs.declared.corner.Corner.{Corner}
+use Rattle.lay_contexts.specs.Contexts.{Context, boxes_in}
+use Rattle.lay_placement.specs.ContextPlaces.{Placement}
+use Rattle.lay_context.specs.DocumentLayout.{placement_in}
+use Rattle.lay_placement.specs.ContextPlaces.{corner_at}
 use Rattle.lay_context.specs.Solves.{context_of, IsTreeOf}
 
 -- the first n contexts are these, are in range, and have so many pieces, fewer than 2^32

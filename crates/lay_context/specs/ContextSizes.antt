@@ -16,8 +16,8 @@ use Rattle.lay_sizes.specs.declared.sizing.WidthRule.{WidthRule}
 use Rattle.lay_sizes.specs.declared.sizing.WidthRule.TheVariants.{Fills, Inline, ShrinksToFit}
 use Rattle.lay_sizes.specs.BoxSizes.{IsSized}
 use Rattle.lay_sizes.specs.SizeColumns.{no_sizes, sizes_at}
-use Rattle.lay_context.specs.Containing.{block_around}
-use Rattle.lay_context.specs.ContextBoxes.{is_inner}
+use Rattle.lay_context.specs.ContainingBlocks.{block_around}
+use Rattle.lay_context_boxes.specs.ContextBoxes.{is_inner}
 
 -- Which rule gives a box that isn't inline its width (10.3.3 and 10.3.5). Of a float the preferred widths of its content
 -- aren't known yet, and count as 0.

@@ -14,13 +14,13 @@ use Rattle.lay_flow.specs.Lengths.{no_length}
 use Rattle.lay_sizes.specs.declared.sizing.BoxSizes.{BoxSizes}
 use Rattle.lay_sizes.specs.declared.sizing.ContainingBlock.{ContainingBlock}
 use Rattle.lay_sizes.specs.BoxSizes.{border_width}
-use Rattle.lay_context.specs.declared.corner.Corner.{Corner}
+use Rattle.lay_placement.specs.declared.corner.Corner.{Corner}
 use Rattle.lay_sizes.specs.declared.own_boxes.OwnBox.{OwnBox}
-use Rattle.lay_context.specs.Containing.{block_around}
-use Rattle.lay_context.specs.Contexts.{Context, context_at, boxes_in}
+use Rattle.lay_context.specs.ContainingBlocks.{block_around}
+use Rattle.lay_contexts.specs.Contexts.{Context, context_at, boxes_in}
 use Rattle.lay_sizes.specs.SizeColumns.{sizes_at}
 use Rattle.lay_sizes.specs.OwnBoxes.{no_own_box}
-use Rattle.lay_context.specs.ContextPlaces.{Placement}
+use Rattle.lay_placement.specs.ContextPlaces.{Placement, corner_at, no_placement}
 
 -- the used sizes of the boxes of the context with this number
 abbrev pub sizes_in : List (List BoxSizes) → ℕ → List BoxSizes
@@ -33,9 +33,6 @@ outer_block viewport contexts sizes zero = viewport
 outer_block viewport contexts sizes (suc i) =
     let c = context_at contexts (suc i) in
     block_around (boxes_in contexts c.outer) (sizes_in sizes c.outer) c.outer_box
-
-abbrev pub no_placement : Placement
-no_placement = record { own = no_own_box; pieces = []; corners = [] }
 
 -- the answer of the context with this number
 abbrev pub placement_in : List Placement → ℕ → Placement
@@ -67,12 +64,6 @@ root_corner viewport s z = record { x = root_left viewport s z; y = z.margin_top
 -- a corner that is counted from another one
 abbrev pub beside : Corner → Corner → Corner
 beside outer inner = record { x = record { 0 = outer.x.0 +ℤ inner.x.0 }; y = record { 0 = outer.y.0 +ℤ inner.y.0 } }
-
-abbrev pub no_corner : Corner
-no_corner = record { x = no_length; y = no_length }
-
-abbrev pub corner_at : List Corner → ℕ → Corner
-corner_at corners i = slice_index_or corners i no_corner
 
 -- the corner of the border box of the context with the number i on the page
 abbrev pub page_corner : ContainingBlock → List Context → List (List BoxSizes) → List Placement → List Corner → ℕ → Corner

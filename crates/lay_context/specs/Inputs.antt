@@ -7,7 +7,7 @@ use Rattle.lay_face.specs.FaceValue.{FaceValue}
 use Rattle.lay_sizes.specs.declared.sizing.BoxSizes.{BoxSizes}
 use Rattle.lay_sizes.specs.declared.sizing.ContainingBlock.{ContainingBlock}
 use Rattle.lay_sizes.specs.declared.own_boxes.OwnBox.{OwnBox}
-use Rattle.lay_context.specs.ContextBoxes.{AreContextBoxes}
+use Rattle.lay_context_boxes.specs.ContextBoxes.{AreContextBoxes}
 use Rattle.lay_sizes.specs.SizeColumns.{HaveSizeBounds}
 use Rattle.lay_sizes.specs.OwnBoxes.{OwnBoxesFit}
 
@@ -15,19 +15,6 @@ pub record SizeInput : Type 0 where
   pub boxes : List BoxNode
   pub containing : ContainingBlock
 
-pub record PlaceInput : Type 0 where
-  pub boxes : List BoxNode
-  pub sizes : List BoxSizes
-  pub inner : List OwnBox
-  pub face : FaceValue
-
 pub record SizeInputFits (i : SizeInput) : Type 0 where
   pub boxes : AreContextBoxes i.boxes
   pub containing : IsPosition i.containing.width.0
-
-pub record PlaceInputFits (i : PlaceInput) : Type 0 where
-  pub boxes : AreContextBoxes i.boxes
-  pub size_count : length i.sizes ≡ length i.boxes
-  pub inner_count : length i.inner ≡ length i.boxes
-  pub size_bounds : HaveSizeBounds i.sizes
-  pub inner_bounds : OwnBoxesFit i.inner

@@ -11,34 +11,20 @@ use Rattle.lay_sizes.specs.declared.sizing.BoxSizes.{BoxSizes}
 use Rattle.lay_sizes.specs.declared.sizing.ContainingBlock.{ContainingBlock}
 use Rattle.lay_sizes.specs.declared.own_boxes.OwnBox.{OwnBox}
 use Rattle.lay_context.specs.declared.task.Task.{Task}
-use Rattle.lay_context.specs.ContextBoxes.{AreContextBoxes}
-use Rattle.lay_context.specs.Contexts.{Context, Medium, AreContexts}
-use Rattle.lay_context.specs.ContextList.{context_spots, document_spots, spot_at}
+use Rattle.lay_context_boxes.specs.ContextBoxes.{AreContextBoxes}
+use Rattle.lay_contexts.specs.Contexts.{Context, AreContexts}
+use Rattle.lay_context.specs.Medium.{Medium}
+use Rattle.lay_contexts.specs.ContextList.{context_spots, document_spots, spot_at}
 use Rattle.lay_context.specs.ContextSizes.{HasSizes}
-use Rattle.lay_context.specs.ContextPlaces.{Placement, IsPlacement}
+use Rattle.lay_placement.specs.ContextPlaces.{Placement, IsPlacement}
 use Rattle.lay_context.specs.Needs.{Needs, task_at}
 use Rattle.lay_context.specs.Local.{Workings, input_of, value_of}
 use Rattle.lay_context.specs.Solves.{Solves}
-
--- the node at each place in the list is a context (CSS 2.2, 9.4.1)
-abbrev pub SpotsAreContexts : Type 0
-SpotsAreContexts = (d : Document) (styles : List Style) → IsDocument d → (i : ℕ) → i < length (document_spots d.nodes styles)
-    → IsContextAt d.nodes styles (spot_at (document_spots d.nodes styles) i).place
-
--- more turns than a document has nodes reach no further context
-abbrev pub EnoughTurns : Type 0
-EnoughTurns = (d : Document) (styles : List Style) (more : ℕ) → IsDocument d
-    → context_spots d.nodes styles (length d.nodes + more) 0 0 0 0 ≡ document_spots d.nodes styles
 
 -- the boxes of a context have one column of used sizes
 abbrev pub OneContextSizes : Type 0
 OneContextSizes = (outer : ContainingBlock) (boxes : List BoxNode) (x y : List BoxSizes) → AreContextBoxes boxes
     → HasSizes outer boxes x → HasSizes outer boxes y → x ≡ y
-
--- beside the used sizes and the boxes of inner contexts a context has one placement in a face
-abbrev pub OnePlacement : Type 0
-OnePlacement = (face : FaceValue) (boxes : List BoxNode) (sizes : List BoxSizes) (inner : List OwnBox) (p q : Placement) → AreContextBoxes boxes
-    → IsPlacement face boxes sizes inner p → IsPlacement face boxes sizes inner q → p ≡ q
 
 -- where the values that a task needs are equal, it is given the same
 abbrev pub InputsComeOfNeeds : Type 0

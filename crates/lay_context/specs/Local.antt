@@ -9,9 +9,10 @@ use Rattle.lay_context.specs.declared.input.Input.{Input}
 use Rattle.lay_context.specs.declared.input.Input.TheVariants as input
 use Rattle.lay_context.specs.declared.value.Value.{Value}
 use Rattle.lay_context.specs.declared.value.Value.TheVariants as value
-use Rattle.lay_context.specs.Contexts.{Context, Medium, boxes_in}
+use Rattle.lay_contexts.specs.Contexts.{Context, boxes_in}
+use Rattle.lay_context.specs.Medium.{Medium}
 use Rattle.lay_context.specs.ContextSizes.{HasSizes}
-use Rattle.lay_context.specs.ContextPlaces.{Placement, IsPlacement}
+use Rattle.lay_placement.specs.ContextPlaces.{Placement, IsPlacement}
 use Rattle.lay_context.specs.DocumentLayout.{inner_boxes, outer_block, placement_in, sizes_in}
 
 -- a value is right beside what its task is given

@@ -5,7 +5,7 @@ use Rattle.std.specs.Prelude.{ℕ, ◌≡◌, ◌+◌, ◌-◌, ◌<◌, List, i
 use Rattle.lay_context.specs.declared.task.Phase.{Phase}
 use Rattle.lay_context.specs.declared.task.Phase.TheVariants.{Size, Place}
 use Rattle.lay_context.specs.declared.task.Task.{Task}
-use Rattle.lay_context.specs.Contexts.{Context, IsInside, context_at}
+use Rattle.lay_contexts.specs.Contexts.{Context, IsInside, context_at}
 
 abbrev pub needs_by : List Context → Phase → ℕ → Phase → ℕ → Type 0
 needs_by contexts Size i Size j = (0 < i) × (j ≡ (context_at contexts i).outer)

@@ -3,7 +3,8 @@ use Rattle.std.specs.Prelude.{ℕ, ◌≡◌, ◌<◌, List, length}
 use Rattle.lay_context.specs.declared.task.Phase.TheVariants.{Size}
 use Rattle.lay_context.specs.declared.task.Task.{Task}
 use Rattle.lay_context.specs.declared.value.Value.{Value}
-use Rattle.lay_context.specs.Contexts.{Context, Medium, boxes_in}
+use Rattle.lay_contexts.specs.Contexts.{Context, boxes_in}
+use Rattle.lay_context.specs.Medium.{Medium}
 use Rattle.lay_context.specs.DocumentLayout.{sizes_in, placement_in}
 use Rattle.lay_context.specs.Needs.{Needs, task_at}
 use Rattle.lay_context.specs.Local.{Workings, IsLocal, IsTaskDone, input_of, with_value}

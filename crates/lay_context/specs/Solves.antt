@@ -17,12 +17,14 @@ use Rattle.lay_frag.specs.Pieces.{Context as PageContext}
 use Rattle.lay_flow.specs.Lengths.{no_length}
 use Rattle.lay_sizes.specs.declared.sizing.BoxSizes.{BoxSizes}
 use Rattle.lay_sizes.specs.declared.sizing.ContainingBlock.{ContainingBlock}
-use Rattle.lay_context.specs.declared.corner.Corner.{Corner}
-use Rattle.lay_context.specs.Contexts.{Context, Medium, boxes_in}
-use Rattle.lay_context.specs.ContextList.{AreContextsOf}
+use Rattle.lay_placement.specs.declared.corner.Corner.{Corner}
+use Rattle.lay_contexts.specs.Contexts.{Context, boxes_in}
+use Rattle.lay_context.specs.Medium.{Medium}
+use Rattle.lay_contexts.specs.ContextList.{AreContextsOf}
 use Rattle.lay_context.specs.ContextSizes.{HasSizes}
-use Rattle.lay_context.specs.ContextPlaces.{Placement, IsPlacement}
-use Rattle.lay_context.specs.DocumentLayout.{HasPageCorners, inner_boxes, outer_block, sizes_in, placement_in, corner_at}
+use Rattle.lay_placement.specs.ContextPlaces.{Placement, IsPlacement}
+use Rattle.lay_context.specs.DocumentLayout.{HasPageCorners, inner_boxes, outer_block, sizes_in, placement_in}
+use Rattle.lay_placement.specs.ContextPlaces.{corner_at}
 
 -- the border box of a context whose corner on the page this is
 abbrev pub own_rect : Placement → Corner → Rect

@@ -3,19 +3,19 @@
 ghost use Rattle.std.specs.Prelude.{◌≡◌, ◌+◌, ◌^◌, ◌<◌, ◌≤◌, length, IfOk};
 ghost use Rattle.lay_units.specs.Units.{IsUsedSize};
 ghost use Rattle.lay_frag.specs.Pieces.{IsContextInRange};
-ghost use Rattle.lay_context.specs.Contexts.{boxes_in};
-ghost use Rattle.lay_context.specs.DocumentLayout.{corner_at, placement_in};
-ghost use Rattle.lay_context.specs.PlaceBounds.{AreNearCorners, IsCornerNear};
+ghost use Rattle.lay_contexts.specs.Contexts.{boxes_in};
+ghost use Rattle.lay_placement.specs.ContextPlaces.{corner_at};
+ghost use Rattle.lay_context.specs.DocumentLayout.{placement_in};
+ghost use Rattle.lay_placement.specs.PlaceBounds.{AreNearCorners, IsCornerNear};
 ghost use Rattle.lay_context.specs.Settling.{AreKnown};
 ghost use Rattle.lay_context.specs.Solves.{IsAssembled, IsTreeOf, context_of, own_rect};
 
-use crate::contexts::Contexts;
-use crate::corner::Corner;
 use crate::known::Known;
 use crate::page_corners::{corner_at, page_corners};
-use crate::value::Placement;
 use lay_boxgen::BoxNode;
+use lay_contexts::Contexts;
 use lay_frag::{Placed, Tree};
+use lay_placement::{Corner, Placement};
 use lay_sizes::ContainingBlock;
 use lay_units::{NoMemory, Rect, Unit};
 use std::alloc::Global;

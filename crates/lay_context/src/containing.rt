@@ -2,11 +2,11 @@
 
 ghost use Rattle.std.specs.Prelude.{◌≡◌, ◌<◌, ◌≤◌, length};
 ghost use Rattle.lay_units.specs.Units.{IsPosition};
-ghost use Rattle.lay_context.specs.Containing.{block_around, container_of, block_in, height_holder};
-ghost use Rattle.lay_sizes.specs.SizeColumns.{HaveSizeBounds};
+ghost use Rattle.lay_context.specs.ContainingBlocks.{block_around, block_in, height_holder};
+ghost use Rattle.lay_context_boxes.specs.Containing.{container_of};
+ghost use Rattle.lay_sizes.specs.SizeColumns.{HaveSizeBounds, sizes_at};
 
-use crate::box_columns::sizes_at;
-use crate::context_boxes::ContextBoxes;
+use lay_context_boxes::ContextBoxes;
 use lay_sizes::{BoxSizes, ContainingBlock, content_block};
 
 /// The containing block of the box at k, which isn't the context's own, where the sizes of its container and of the
@@ -46,4 +46,11 @@ fn height_holder(boxes: &ContextBoxes, c: usize) -> usize
         return boxes.container(c);
     }
     c
+}
+
+pub(crate) fn sizes_at(sizes: &[BoxSizes], k: usize) -> BoxSizes
+    requires { k < length sizes.now }
+    ensures { result ≡ sizes_at sizes.now k }
+{
+    sizes[k]
 }

@@ -3,63 +3,18 @@
 ghost use Rattle.std.specs.Prelude.{◌≡◌, ◌<◌, ◌≤◌, true, false, length, IfOk};
 ghost use Rattle.lay_units.specs.Units.{IsPosition};
 ghost use Rattle.lay_sizes.specs.SizeBounds.{SizeFits};
-ghost use Rattle.lay_context.specs.ContextBoxes.{is_inner};
+ghost use Rattle.lay_context_boxes.specs.ContextBoxes.{is_inner};
 ghost use Rattle.lay_sizes.specs.SizeColumns.{HaveSizeBounds, no_sizes};
 ghost use Rattle.lay_context.specs.ContextSizes.{HasSizes, IsBoxSized, block_rule, containing_block, width_rule};
 
-use crate::box_columns::{is_inner, style_at};
 use crate::containing::block_around;
-use crate::context_boxes::ContextBoxes;
 use crate::input::SizeInput;
 use lay_boxgen::{Flow, Role, flow_of};
+use lay_context_boxes::ContextBoxes;
+use lay_placement::ContextSizes;
 use lay_sizes::{BoxSizes, ContainingBlock, NO_SIZES, WidthRule, box_sizes};
 use lay_units::{NoMemory, Unit};
 use std::alloc::Global;
-use std::marker::Model;
-use std::sync::Arc;
-
-/// The used sizes of the boxes of a context, in their order. Whoever is given them shares them.
-#[derive(Drop)]
-pub struct ContextSizes {
-    items: Arc<Vec<BoxSizes>>,
-}
-
-impl Model for ContextSizes {
-    ghost use Rattle.std.specs.Prelude.{List};
-    ghost use Rattle.lay_sizes.specs.declared.sizing.BoxSizes.{BoxSizes};
-    ghost use Rattle.lay_sizes.specs.SizeColumns.{HaveSizeBounds};
-
-    ghost Value = { List BoxSizes };
-
-    ghost view = { λ s. s.items.value.items };
-
-    ghost invariant = { λ s. HaveSizeBounds s.items.value.items };
-}
-
-impl ContextSizes {
-    pub(crate) fn new(alloc: Global, items: Vec<BoxSizes>) -> Result<ContextSizes, NoMemory>
-        requires { HaveSizeBounds items.items }
-        ensures { IfOk result (λ s. s ≡ items.items) }
-    {
-        let items = Arc::new(alloc, items)?;
-        Ok(ContextSizes { items })
-    }
-
-    pub(crate) fn as_slice(&self) -> &[BoxSizes]
-        ensures sizes { result.now ≡ self.now }
-        ensures bounds { HaveSizeBounds self.now }
-    {
-        self.items.as_slice()
-    }
-
-    /// The same sizes, shared.
-    pub(crate) fn share(&self) -> Result<ContextSizes, NoMemory>
-        ensures { IfOk result (λ s. s ≡ self.now) }
-    {
-        let items = self.items.clone()?;
-        Ok(ContextSizes { items })
-    }
-}
 
 /// The used sizes of the boxes of a context.
 pub(crate) fn context_sizes(alloc: Global, input: &SizeInput) -> Result<ContextSizes, NoMemory>
@@ -96,10 +51,10 @@ fn sizes_beside(containing: ContainingBlock, boxes: &ContextBoxes, k: usize) -> 
     ensures inner { is_inner boxes.now k ≡ true → result ≡ no_sizes }
     ensures fits { SizeFits result }
 {
-    if is_inner(boxes.as_slice(), k) {
+    if boxes.is_inner(k) {
         return NO_SIZES;
     }
-    let style = style_at(boxes.as_slice(), k);
+    let style = boxes.style(k);
     box_sizes(containing, width_rule(boxes.role(k), flow_of(style)), style)
 }
 

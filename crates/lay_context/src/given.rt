@@ -9,12 +9,12 @@ ghost use Rattle.lay_context.specs.declared.task.Phase.TheVariants.{Size};
 ghost use Rattle.lay_sizes.specs.OwnBoxes.{OwnBoxFits};
 
 use crate::containing::block_around;
-use crate::contexts::Contexts;
-use crate::input::{Input, PlaceInput, SizeInput};
+use crate::input::{Input, SizeInput};
 use crate::known::Known;
 use crate::medium::Medium;
-use crate::own_boxes::OwnBoxes;
 use crate::task::{Phase, Task};
+use lay_contexts::Contexts;
+use lay_placement::{OwnBoxes, PlaceInput};
 use lay_sizes::{ContainingBlock, NO_OWN_BOX, OwnBox};
 use lay_units::NoMemory;
 use std::alloc::Global;

@@ -1,12 +1,13 @@
 //! The values of a layout's tasks, as far as they are known.
 
 ghost use Rattle.std.specs.Prelude.{◌≡◌, ◌<◌, [], length, replicate, IfOk};
-ghost use Rattle.lay_context.specs.DocumentLayout.{no_placement, placement_in, sizes_in};
+ghost use Rattle.lay_placement.specs.ContextPlaces.{no_placement};
+ghost use Rattle.lay_context.specs.DocumentLayout.{placement_in, sizes_in};
 ghost use Rattle.lay_context.specs.Local.{with_value};
 
-use crate::context_sizes::ContextSizes;
-use crate::value::{Placement, Value};
+use crate::value::Value;
 use lay_frag::Pieces;
+use lay_placement::{ContextSizes, Placement};
 use lay_units::NoMemory;
 use std::alloc::Global;
 use std::marker::Model;

@@ -3,43 +3,23 @@
 //! `Solves` of `specs/Solves.antt` is the meaning of a layout: one set of equations over the whole document
 //! (CSS 2.2, chapters 8 to 10). A context owes two things: the used sizes of its boxes beside its containing block
 //! (`specs/ContextSizes.antt`), and a placement beside those and the own boxes of the contexts inside it
-//! (`specs/ContextPlaces.antt`). Which of these needs which is the table of `specs/Needs.antt`, and one of them by
+//! (lay_placement). Which of these needs which is the table of `specs/Needs.antt`, and one of them by
 //! itself is `specs/Local.antt`. So far it speaks of block boxes, in flow or floating. `specs/Laws.antt` says that
 //! a document has one tree.
 #![tactic(auto)]
 
 mod assembling;
-mod box_columns;
 mod containing;
-mod context_blocks;
-mod context_boxes;
-mod context_list;
-mod context_places;
-mod context_shapes;
 mod context_sizes;
-mod context_spot;
-mod contexts;
-mod corner;
-mod corners;
 mod given;
-mod inline_containers;
 mod input;
 mod known;
 mod laws;
 mod layout;
-mod line_bounds;
-mod line_boxes;
 mod medium;
-mod own_boxes;
 mod page_corners;
-mod piece_list;
-mod pieces;
-mod placing;
 mod task;
 mod value;
 
-pub use laws::{
-    containers_are_nearest, enough_turns, inputs_come_of_needs, needs_come_first,
-    one_context_sizes, one_placement, one_solution, spots_are_contexts,
-};
+pub use laws::{inputs_come_of_needs, needs_come_first, one_context_sizes, one_solution};
 pub use layout::{scratch, scratch_styled};

@@ -19,7 +19,7 @@ pub(crate) struct Medium {
 
 impl Model for Medium {
     ghost use Rattle.lay_units.specs.Units.{IsUsedSize};
-    ghost use Rattle.lay_context.specs.Contexts.{Medium as Plain};
+    ghost use Rattle.lay_context.specs.Medium.{Medium as Plain};
 
     ghost Value = { Plain };
 

@@ -1,21 +1,21 @@
 //! Where contexts stand on the page.
 
-ghost use Rattle.std.specs.Prelude.{◌≡◌, ◌<◌, ◌≤◌, ◌-ℤ◌, length, IfOk};
+ghost use Rattle.std.specs.Prelude.{◌≡◌, ◌<◌, ◌≤◌, ◌+ℤ◌, ◌-ℤ◌, length, IfOk};
 ghost use Rattle.lay_units.specs.Units.{IsUsed, IsUsedSize};
+ghost use Rattle.lay_sizes.specs.BoxSizes.{border_width};
 ghost use Rattle.lay_sizes.specs.SizeBounds.{SizeFits};
-ghost use Rattle.lay_context.specs.DocumentLayout.{HasPageCorners, beside, corner_at, is_right, page_corner, root_corner, root_left};
-ghost use Rattle.lay_context.specs.PlaceBounds.{AreNearCorners, IsCornerNear, IsNear};
+ghost use Rattle.lay_context.specs.DocumentLayout.{HasPageCorners, beside, is_right, page_corner, root_corner, root_left};
+ghost use Rattle.lay_placement.specs.ContextPlaces.{corner_at};
+ghost use Rattle.lay_placement.specs.PlaceBounds.{AreNearCorners, IsCornerNear, IsNear};
 ghost use Rattle.lay_context.specs.Settling.{AreKnown};
 
-use crate::box_columns::{sizes_at, style_at};
-use crate::contexts::Contexts;
-use crate::corner::Corner;
-use crate::corners::{near_corner, position_sum};
+use crate::containing::sizes_at;
 use crate::known::Known;
-use crate::pieces::near_width;
 use lay_boxgen::{Flow, flow_of};
+use lay_contexts::Contexts;
 use lay_doc::{Float, Style};
-use lay_sizes::{BoxSizes, ContainingBlock};
+use lay_placement::{Corner, near_corner, near_position};
+use lay_sizes::{BoxSizes, ContainingBlock, border_width};
 use lay_units::{NoMemory, Unit};
 use std::alloc::Global;
 
@@ -57,7 +57,7 @@ fn page_corner(
 {
     let context = contexts.at(i);
     if i == 0 {
-        let style = style_at(context.boxes().as_slice(), 0);
+        let style = context.boxes().style(0);
         return root_corner(viewport, style, sizes_at(known.sizes(0).as_slice(), 0));
     }
     let outer = context.outer();
@@ -109,6 +109,27 @@ fn left_of_right(viewport: Unit, margin: Unit, width: Unit) -> Unit
     ensures { result ≡ record { 0 = viewport.0 -ℤ margin.0 -ℤ width.0 } }
 {
     Unit(viewport.0 - margin.0 - width.0)
+}
+
+/// The sum of two positions. NoMemory is the answer where it is more than 2^60 units from 0, which it is in no
+/// document within the limits.
+fn position_sum(a: Unit, b: Unit) -> Result<Unit, NoMemory>
+    ensures sum { IfOk result (λ v. v ≡ record { 0 = a.0 +ℤ b.0 }) }
+    ensures near { IfOk result (λ v. IsNear v.0) }
+{
+    match a.0.checked_add(b.0) {
+        Some(sum) => near_position(Unit(sum)),
+        None => Err(NoMemory),
+    }
+}
+
+/// The width of a border box.
+fn near_width(sizes: BoxSizes) -> Unit
+    requires { SizeFits sizes }
+    ensures value { result ≡ record { 0 = border_width sizes } }
+    ensures near { IsNear result.0 }
+{
+    border_width(&sizes)
 }
 
 fn is_right(flow: Flow, float: Float) -> bool

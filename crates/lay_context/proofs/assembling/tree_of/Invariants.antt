@@ -1,5 +1,6 @@
-use Rattle.lay_context.specs.Contexts.{boxes_in}
-use Rattle.lay_context.specs.DocumentLayout.{placement_in, corner_at}
+use Rattle.lay_contexts.specs.Contexts.{boxes_in}
+use Rattle.lay_context.specs.DocumentLayout.{placement_in}
+use Rattle.lay_placement.specs.ContextPlaces.{corner_at}
 use Rattle.lay_context.specs.Solves.{context_of}
 use Rattle.lay_context.proofs.TreeSteps.{TreeTo}
 use Rattle.lay_context.proofs.assembling.tree_of.Given as goal

@@ -1,5 +1,5 @@
 use Rattle.std.proofs.Common.{arith, sym, ◌∙◌}
-use Rattle.lay_context.proofs.ContainerSteps.{container_before}
+use Rattle.lay_context_boxes.proofs.ContainerSteps.{container_before}
 use Rattle.lay_context.proofs.SizeSteps.{containing_inner}
 use Rattle.lay_context.proofs.context_sizes.containing_block.Goals as goal
 

@@ -1,5 +1,5 @@
 use Rattle.std.proofs.Common.{◌<◌, arith, length, get_or}
-use Rattle.lay_context.specs.Contexts.{context_at}
+use Rattle.lay_contexts.specs.Contexts.{context_at}
 use Rattle.lay_context.proofs.GivenFacts.{inner_within, one_more_box, one_more_fits}
 use Rattle.lay_context.proofs.given.inner_boxes.Goals as goal
 

@@ -1,5 +1,5 @@
 use Rattle.std.proofs.Common.{arith, refl, sym}
-use Rattle.lay_context.specs.Contexts.{context_at}
+use Rattle.lay_contexts.specs.Contexts.{context_at}
 use Rattle.lay_context.proofs.GivenFacts.{outer_is, outer_known}
 use Rattle.lay_context.proofs.given.outer_block.Goals as goal
 

@@ -1,4 +1,4 @@
-use Rattle.lay_context.specs.PlaceBounds.{AreNearCorners}
+use Rattle.lay_placement.specs.PlaceBounds.{AreNearCorners}
 use Rattle.lay_context.proofs.CornerSteps.{PageCornersTo}
 use Rattle.lay_context.proofs.page_corners.page_corners.Given as goal
 

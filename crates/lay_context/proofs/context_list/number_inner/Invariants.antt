@@ -1,5 +1,0 @@
-use Rattle.lay_context.specs.ContextList.{AreNumberedTo}
-use Rattle.lay_context.proofs.context_list.number_inner.Given as goal
-
-abbrev pub invariant-loop-j : goal.invariant-loop-j
-invariant-loop-j l = AreNumberedTo l.list.spots.items l.list.boxes.items l.items.items l.j

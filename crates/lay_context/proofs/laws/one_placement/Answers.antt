@@ -1,5 +1,0 @@
-use Rattle.lay_context.proofs.OnePlaces.{one_placement_lem}
-use Rattle.lay_context.proofs.laws.one_placement.Goals as goal
-
-pub returns : goal.returns
-returns c = one_placement_lem

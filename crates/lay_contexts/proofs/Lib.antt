@@ -1,0 +1,5 @@
+pub mod ContextNumbers
+pub mod EnoughTurns
+pub mod SpotContexts
+pub mod SpotLists
+pub mod SpotOrder

@@ -1,0 +1,117 @@
+//! The contexts of a document.
+
+ghost use Rattle.std.specs.Prelude.{◌≡◌, ◌<◌, ◌≤◌, length, slice_set};
+ghost use Rattle.lay_contexts.specs.Contexts.{AreContexts, context_at};
+
+use crate::context_spot::ContextSpot;
+use lay_context_boxes::ContextBoxes;
+use std::marker::Model;
+
+/// A context: the place of its node in the document, the number of the context around it, the place of its box
+/// among the boxes of that, its own boxes, and for each of those the number of the inner context whose box it is,
+/// or 0.
+#[derive(Drop)]
+pub struct Context {
+    spot: ContextSpot,
+    boxes: ContextBoxes,
+    inner: Vec<usize>,
+}
+
+impl Model for Context {
+    ghost use Rattle.lay_contexts.specs.Contexts.{Context as Plain};
+
+    ghost Value = { Plain };
+
+    ghost view = { λ c. record { place = c.spot.place; outer = c.spot.around; outer_box = c.spot.at; boxes = c.boxes; inner = c.inner.items } };
+}
+
+impl Context {
+    /// The context at a spot, with these boxes and these numbers of inner contexts.
+    pub fn new(spot: ContextSpot, boxes: ContextBoxes, inner: Vec<usize>) -> Context
+        ensures { result ≡ record { place = spot.place; outer = spot.around; outer_box = spot.at; boxes = boxes; inner = inner.items } }
+    {
+        Context { spot, boxes, inner }
+    }
+
+    /// The number of the context around it.
+    pub fn outer(&self) -> usize
+        ensures { result ≡ self.now.outer }
+    {
+        self.spot.around
+    }
+
+    /// The place of its box among the boxes of that.
+    pub fn outer_box(&self) -> usize
+        ensures { result ≡ self.now.outer_box }
+    {
+        self.spot.at
+    }
+
+    /// Its boxes.
+    pub fn boxes(&self) -> &ContextBoxes
+        ensures { result.now ≡ self.now.boxes }
+    {
+        &self.boxes
+    }
+
+    /// For each of its boxes the number of the inner context whose box it is, or 0.
+    pub fn inner(&self) -> &[usize]
+        ensures { result.now ≡ self.now.inner }
+    {
+        self.inner.as_slice()
+    }
+
+    /// Notes which context's box the one at k is.
+    pub fn set_inner(&mut self, k: usize, number: usize)
+        requires { k < length self.old.inner }
+        ensures { self.new ≡ record self.old { inner = slice_set self.old.inner k number } }
+    {
+        self.inner[k] = number;
+    }
+}
+
+/// The contexts of a document, each behind the one around it.
+#[derive(Drop)]
+pub struct Contexts {
+    items: Vec<Context>,
+}
+
+impl Model for Contexts {
+    ghost use Rattle.std.specs.Prelude.{List, length, ◌≤◌};
+    ghost use Rattle.lay_contexts.specs.Contexts.{Context as Plain, AreContexts};
+
+    ghost Value = { List Plain };
+
+    ghost view = { λ c. c.items.items };
+
+    ghost invariant = { λ c. (length c.items.items ≤ 16384) × AreContexts c.items.items };
+}
+
+impl Contexts {
+    /// These contexts.
+    pub fn new(items: Vec<Context>) -> Contexts
+        requires few { length items.items ≤ 16384 }
+        requires are { AreContexts items.items }
+        ensures { result ≡ items.items }
+    {
+        Contexts { items }
+    }
+
+    /// How many they are.
+    pub fn len(&self) -> usize
+        ensures count { result ≡ length self.now }
+        ensures few { result ≤ 16384 }
+        ensures are { AreContexts self.now }
+    {
+        self.items.len()
+    }
+
+    /// The context with this number.
+    pub fn at(&self, i: usize) -> &Context
+        requires { i < length self.now }
+        ensures context { result.now ≡ context_at self.now i }
+        ensures are { AreContexts self.now }
+    {
+        &self.items[i]
+    }
+}

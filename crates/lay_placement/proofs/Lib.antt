@@ -1,0 +1,10 @@
+pub mod CornerColumns
+pub mod FlowBoxSteps
+pub mod FlowFacts
+pub mod InlineContainerSteps
+pub mod LeftSteps
+pub mod OnePlaces
+pub mod OutsideFacts
+pub mod PieceCountSteps
+pub mod PieceSteps
+pub mod PlaceFacts

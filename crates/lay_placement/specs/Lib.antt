@@ -1,0 +1,11 @@
+pub mod ContextBlocks
+pub mod ContextPieces
+pub mod ContextPlaces
+pub mod InlineContainers
+pub mod Laws
+pub mod LineBoxes
+pub mod Outside
+pub mod PieceCounts
+pub mod PieceParts
+pub mod PlaceBounds
+pub mod PlaceInputs
