@@ -2,6 +2,7 @@ mod Backward
 mod Content
 mod OpenBoxSteps
 mod PenPlaces
+mod RaisesWithin
 mod RemovedSpaces
 mod RowSteps
 mod Spreads

@@ -3,5 +3,6 @@ pub mod Bounds
 pub mod Laws
 pub mod LinePieces
 pub mod OpenBoxes
+pub mod Raises
 pub mod Spans
 pub mod Strokes

@@ -1,10 +1,12 @@
 -- The content of the lines of a block container, and its bounds.
-use Rattle.std.specs.Prelude.{ℕ, suc, ◌+◌, ◌≤◌, ◌^◌, ℤ, pos, negsuc, ◌≤ℤ◌, ⊤, List, [], ◌∷◌, length, All}
+use Rattle.std.specs.Prelude.{ℕ, suc, ◌+◌, ◌*◌, ◌/◌, ◌≤◌, ◌^◌, ℤ, pos, negsuc, ◌≤ℤ◌, List, [], ◌∷◌, length, All}
 use Rattle.lay_units.specs.Units.{IsUsed}
 use Rattle.lay_units.specs.declared.length.Unit.{Unit}
 use Rattle.lay_floats.specs.Within.{IsWithin}
+use Rattle.lay_valign.specs.declared.parts.Shift.{Shift}
+use Rattle.lay_valign.specs.PartsFit.{length_of}
 use Rattle.lay_lines.specs.declared.content.Part.{Part}
-use Rattle.lay_lines.specs.declared.content.Part.TheVariants.{Space, PreservedSpace, Tab, Linefeed, Text, Start, End}
+use Rattle.lay_lines.specs.declared.content.Part.TheVariants.{Space, PreservedSpace, Tab, Linefeed, Text, Start, End, Atomic}
 use Rattle.lay_lines.specs.declared.content.LineFloat.{LineFloat}
 use Rattle.lay_lines.specs.declared.content.Stretch.{Stretch}
 use Rattle.lay_lines.specs.declared.frame.Extent.{Extent}
@@ -33,6 +35,7 @@ spread_of_part tab Linefeed = 0
 spread_of_part tab (Text w) = distance w.width.0
 spread_of_part tab (Start b) = distance b.width.0
 spread_of_part tab (End b) = distance b.width.0
+spread_of_part tab (Atomic a) = distance a.width.0
 
 abbrev pub total : {X : Type 0} → (X → ℕ) → List X → ℕ
 total of [] = 0
@@ -51,23 +54,48 @@ weight_of_stretch s = length s.heads + length s.floats + 1
 abbrev pub weight_of : List Stretch → ℕ
 weight_of ss = total weight_of_stretch ss
 
--- its stretches and their floats, and one more
+-- how much an inline box or an atomic box can add to the extents of a line, by its own extent and its alignment
+abbrev pub lift_by : Extent → Shift → ℕ
+lift_by e shift = distance e.above.0 + distance e.below.0 + distance (length_of shift)
+
+abbrev pub lift_of_part : Part → ℕ
+lift_of_part (Space w) = 0
+lift_of_part (PreservedSpace w) = 0
+lift_of_part (Tab t) = 0
+lift_of_part Linefeed = 0
+lift_of_part (Text w) = 0
+lift_of_part (Start b) = lift_by b.extent b.shift
+lift_of_part (End b) = 0
+lift_of_part (Atomic a) = lift_by a.extent a.shift
+
+abbrev pub lift_of : List Stretch → ℕ
+lift_of ss = total (λ (s : Stretch). total lift_of_part s.parts) ss
+
+-- whether a part is one of those that a line's shape is made of: an inline box or an atomic box
+abbrev pub boxes_of_part : Part → ℕ
+boxes_of_part (Space w) = 0
+boxes_of_part (PreservedSpace w) = 0
+boxes_of_part (Tab t) = 0
+boxes_of_part Linefeed = 0
+boxes_of_part (Text w) = 0
+boxes_of_part (Start b) = 1
+boxes_of_part (End b) = 0
+boxes_of_part (Atomic a) = 1
+
+abbrev pub boxes_of : List Stretch → ℕ
+boxes_of ss = total (λ (s : Stretch). total boxes_of_part s.parts) ss
+
+-- its stretches and their floats, and one more, once and again for each 2^35 units that it can lift
+abbrev pub weight_by : List Stretch → ℕ
+weight_by ss = (weight_of ss + 1) * (lift_of ss / 34359738368 + 1)
+
 abbrev pub lines_weight : LineContentValue → ℕ
-lines_weight c = weight_of c.stretches + 1
+lines_weight c = weight_by c.stretches
 
 -- at most 2^36 units
 pub record ExtentWithin (e : Extent) : Type 0 where
   pub above : IsWithin (pos (2 ^ 36)) e.above.0
   pub below : IsWithin (pos (2 ^ 36)) e.below.0
-
-abbrev pub PartWithin : Part → Type 0
-PartWithin (Space w) = ⊤
-PartWithin (PreservedSpace w) = ⊤
-PartWithin (Tab t) = ⊤
-PartWithin Linefeed = ⊤
-PartWithin (Text w) = ⊤
-PartWithin (Start b) = ExtentWithin b.extent
-PartWithin (End b) = ⊤
 
 -- 0 to 2^45 units
 abbrev pub IsTabDistance : ℤ → Type 0
@@ -82,7 +110,6 @@ pub record LineFloatWithin (f : LineFloat) : Type 0 where
 
 pub record StretchWithin (s : Stretch) : Type 0 where
   pub heads : All LineFloatWithin s.heads
-  pub parts : All PartWithin s.parts
   pub floats : All LineFloatWithin s.floats
 
 pub record IsLineContent (c : LineContentValue) : Type 0 where
@@ -91,4 +118,5 @@ pub record IsLineContent (c : LineContentValue) : Type 0 where
   pub tab : IsTabDistance c.tab.0
   pub stretches : All StretchWithin c.stretches
   pub spread : spread_of c.tab.0 c.stretches ≤ 2 ^ 58
+  pub boxes : boxes_of c.stretches ≤ 2 ^ 31
   pub weight : lines_weight c ≤ 2 ^ 21

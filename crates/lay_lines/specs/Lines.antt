@@ -1,7 +1,7 @@
 -- The lines of a block container, from a top downward between two content edges, beside the floats that stand already
 -- (CSS 2.2, 9.4.2 and 9.5): the rows, the places of the floats that they met, in order, where what follows begins, and
 -- all floats that stand afterwards.
-use Rattle.std.specs.Prelude.{◌≡◌, ◌*◌, ◌^◌, ℕ, ℤ, List, [], map, All}
+use Rattle.std.specs.Prelude.{◌≡◌, ◌*◌, ◌^◌, ℕ, ℤ, pos, List, [], map, All}
 use Rattle.lay_units.specs.declared.length.Unit.{Unit}
 use Rattle.lay_floats.specs.declared.placed.Placed.{Placed}
 use Rattle.lay_floats.specs.declared.requests.NodePlace.{NodePlace}
@@ -9,7 +9,7 @@ use Rattle.lay_floats.specs.Within.{IsWithin, BoxWithin}
 use Rattle.lay_lines.specs.declared.frame.Frame.{Frame}
 use Rattle.lay_lines.specs.declared.row.Ended.{Ended}
 use Rattle.lay_lines.specs.declared.laying.Lines.{Lines}
-use Rattle.lay_lines.specs.LineContents.{LineContentValue, ExtentWithin, lines_weight}
+use Rattle.lay_lines.specs.LineContents.{LineContentValue, lines_weight}
 use Rattle.lay_lines.specs.Meeting.{none_met}
 use Rattle.lay_lines.specs.Rows.{Position, Laid, AreRows, position_of, ended_of}
 
@@ -37,16 +37,18 @@ pub record AreLines (c : LineContentValue) (left right : Unit) (top : ℤ) (befo
   pub end : laid.position.from ≡ v.end.0
   pub floats : laid.position.state.floats ≡ v.floats
 
--- how much further than what is given lines reach at most: 2^38 units for each stretch and each float, and once more
+-- how much further than what is given lines reach at most: 2^38 units for each weight of the content
 abbrev pub growth : LineContentValue → ℕ
 growth c = 2 ^ 38 * lines_weight c
 
--- a line, with its room and its extent
+-- a line, with its room, its extent and the baselines of its parts
 pub record RowWithin (m : ℤ) (e : Ended) : Type 0 where
   pub top : IsWithin m e.top.0
   pub start : IsWithin m e.reach.start.0
   pub end : IsWithin m e.reach.end.0
-  pub extent : ExtentWithin e.extent
+  pub above : IsWithin (pos (2 ^ 59)) e.extent.above.0
+  pub below : IsWithin (pos (2 ^ 59)) e.extent.below.0
+  pub shifts : All (λ (s : Unit). IsWithin (pos (2 ^ 59)) s.0) e.shifts
   pub to : IsWithin m e.to.0
 
 pub record NodePlaceWithin (m : ℤ) (p : NodePlace) : Type 0 where

@@ -5,7 +5,7 @@ use Rattle.std.specs.Prelude.{ℕ, zero, suc, ℤ, pos, negsuc, ◌+ℤ◌, ◌-
 use Rattle.std.specs.Int.{int_div_euclid}
 use Rattle.lay_units.specs.Units.{IsPosition}
 use Rattle.lay_lines.specs.declared.content.Part.{Part}
-use Rattle.lay_lines.specs.declared.content.Part.TheVariants.{Space, PreservedSpace, Tab, Linefeed, Text, Start, End}
+use Rattle.lay_lines.specs.declared.content.Part.TheVariants.{Space, PreservedSpace, Tab, Linefeed, Text, Start, End, Atomic}
 use Rattle.lay_lines.specs.declared.content.Stretch.{Stretch}
 use Rattle.lay_lines.specs.declared.frame.Frame.{Frame}
 use Rattle.lay_lines.specs.declared.pen.Pen.{Pen}
@@ -79,6 +79,7 @@ over fr p Linefeed = record { at = p.at; visible = p.visible; solid = p.solid; s
 over fr p (Text w) = went (p.at.0 +ℤ w.width.0)
 over fr p (Start b) = moved p b.width.0 b.seen
 over fr p (End b) = moved p b.width.0 b.seen
+over fr p (Atomic a) = went (p.at.0 +ℤ a.width.0)
 
 abbrev pub over_all : Frame → Pen → List Part → Pen
 over_all fr p [] = p

@@ -2,6 +2,11 @@
 -- nothing is seen has no height, and isn't the first line, which `text-indent` is for (16.1).
 use Rattle.std.specs.Prelude.{ℕ, ◌≡◌, ◌<◌, ℤ, pos, ◌+ℤ◌, Bool, ◌||◌, List, [], ◌∷◌, ◌++◌, length, drop, slice_get, Some, if◌then◌else◌}
 use Rattle.lay_units.specs.Units.{IsPosition}
+use Rattle.lay_units.specs.declared.length.Unit.{Unit}
+use Rattle.lay_valign.specs.declared.parts.LineShape.{LineShape}
+use Rattle.lay_valign.specs.declared.parts.Part.{Part as LinePart}
+use Rattle.lay_valign.specs.LineShape.{IsShape}
+use Rattle.lay_valign.specs.PartsFit.{PartsFit}
 use Rattle.lay_lines.specs.declared.content.Stretch.{Stretch}
 use Rattle.lay_lines.specs.declared.content.InlineStart.{InlineStart}
 use Rattle.lay_lines.specs.declared.frame.Extent.{Extent}
@@ -9,7 +14,7 @@ use Rattle.lay_lines.specs.declared.frame.Frame.{Frame}
 use Rattle.lay_lines.specs.declared.reach.Reach.{Reach}
 use Rattle.lay_lines.specs.declared.row.Ended.{Ended}
 use Rattle.lay_lines.specs.Pens.{pen_to, seen_to}
-use Rattle.lay_lines.specs.Extents.{any_shows, reading_to, height_of, ExtentFits}
+use Rattle.lay_lines.specs.Extents.{any_shows, reading_to, parts_to, shape_of, height_of}
 use Rattle.lay_lines.specs.Meeting.{State, Chain, IsLineRoom, Meets, CanMeetAll, RoomsFit, FrameFits}
 use Rattle.lay_lines.specs.Filling.{IsTop, Takes, Fills, CanFill}
 
@@ -22,13 +27,15 @@ pub record Position : Type 0 where
   pub rest : List Stretch
   pub state : State
 
--- a line: the floats before its content, its top, how far what it takes comes in its room, the floats then, its
--- extent, whether it is seen, where the next line begins, and the floats after those that waited
+-- a line: the floats before its content, its top, how far what it takes comes in its room, the floats then, how far
+-- the baselines of its parts stand above the strut's, its extent, whether it is seen, where the next line begins, and the
+-- floats after those that waited
 pub record Row : Type 0 where
   pub headed : State
   pub top : ℤ
   pub reach : Reach
   pub filled : State
+  pub shifts : List Unit
   pub extent : Extent
   pub seen : Bool
   pub to : ℤ
@@ -37,8 +44,8 @@ pub record Row : Type 0 where
 abbrev pub is_seen : Position → ℕ → Bool
 is_seen p count = any_shows p.open_boxes || seen_to p.frame p.rest count
 
-abbrev pub extent_of : Position → ℕ → Extent
-extent_of p count = (reading_to p.frame p.open_boxes p.rest count).extent
+abbrev pub parts_of : Position → ℕ → List LinePart
+parts_of p count = parts_to p.frame p.open_boxes p.rest count
 
 abbrev pub emptied : State → State
 emptied st = record { floats = st.floats; places = st.places; put_off = [] }
@@ -53,7 +60,7 @@ pub record IsFilled (p : Position) (r : Row) : Type 0 where
   pub filled_is : Fills p.frame r.top p.rest r.reach.count r.headed r.filled
   pub room_is : IsLineRoom p.frame r.top r.filled.floats r.reach.start.0 r.reach.end.0
   pub pen_is : r.reach.pen ≡ pen_to p.frame r.reach.start.0 p.rest r.reach.count
-  pub extent_is : r.extent ≡ extent_of p r.reach.count
+  pub shape_is : IsShape (parts_of p r.reach.count) (shape_of r.shifts r.extent)
   pub seen_is : r.seen ≡ is_seen p r.reach.count
   pub to_is : r.to ≡ (if r.seen then (r.top +ℤ height_of r.extent) else p.from)
 
@@ -108,7 +115,8 @@ pub record CanRow (p : Position) : Type 0 where
       → RoomsFit p.frame headed.floats p.rest
   pub fills : (s : Stretch) (headed : State) (top : ℤ) → slice_get p.rest 0 ≡ Some s → Meets p.frame p.from p.rest 0 s.heads p.state headed
       → IsTop p.frame p.from p.rest headed.floats top → CanFill p.frame top p.rest headed
-  pub extent : (count : ℕ) → ExtentFits (extent_of p count)
+  pub parts : (count : ℕ) → PartsFit (parts_of p count)
+  pub height : (count : ℕ) (shape : LineShape) → IsShape (parts_of p count) shape → IsPosition (shape.above.0 +ℤ shape.below.0)
   pub to : (r : Row) → IsFilled p r → IsPosition r.to
   pub later : (r : Row) → IsFilled p r → CanMeetAll p.frame r.to p.rest 0 r.filled.put_off (emptied r.filled)
 
@@ -127,6 +135,7 @@ row_of e headed filled after =
       top = e.top.0;
       reach = e.reach;
       filled = filled;
+      shifts = e.shifts;
       extent = e.extent;
       seen = e.seen;
       to = e.to.0;
@@ -135,4 +144,4 @@ row_of e headed filled after =
 
 -- what the code answers of a line
 abbrev pub ended_of : Row → Ended
-ended_of r = record { top = record { 0 = r.top }; reach = r.reach; extent = r.extent; seen = r.seen; to = record { 0 = r.to } }
+ended_of r = record { top = record { 0 = r.top }; reach = r.reach; shifts = r.shifts; extent = r.extent; seen = r.seen; to = record { 0 = r.to } }

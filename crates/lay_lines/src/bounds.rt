@@ -1,6 +1,6 @@
 //! Whether the content of lines is within its bounds.
 
-ghost use Rattle.std.specs.Prelude.{◌↔◌, ◌^◌, pos, IsTrue, All};
+ghost use Rattle.std.specs.Prelude.{◌≡◌, ◌↔◌, ◌^◌, pos, IsTrue, All, None, IfSome};
 ghost use Rattle.lay_units.specs.Units.{IsUsed};
 ghost use Rattle.lay_floats.specs.Within.{IsWithin};
 ghost use Rattle.lay_lines.specs.LineContents.{
@@ -8,26 +8,37 @@ ghost use Rattle.lay_lines.specs.LineContents.{
   content_of,
   ExtentWithin,
   IsTabDistance,
-  PartWithin,
   LineFloatWithin,
   StretchWithin,
+  lines_weight,
 };
 
-use crate::budgets::{is_spread_within, is_weight_within};
-use crate::content::{LineFloat, Part, Stretch};
+use crate::budgets::{are_boxes_few, is_spread_within, weight_within};
+use crate::content::{LineFloat, Stretch};
 use crate::frame::Extent;
 use lay_units::Unit;
 
-pub fn is_line_content(strut: Extent, indent: Unit, tab: Unit, stretches: &[Stretch]) -> bool
-    ensures { IsTrue result ↔ IsLineContent (content_of strut indent tab stretches.now) }
+/// The weight of content that is within its bounds.
+pub fn line_content_weight(
+    strut: Extent,
+    indent: Unit,
+    tab: Unit,
+    stretches: &[Stretch],
+) -> Option<u64>
+    ensures some { IfSome result (λ w. w ≡ lines_weight (content_of strut indent tab stretches.now)) }
+    ensures fits { IfSome result (λ _. IsLineContent (content_of strut indent tab stretches.now)) }
+    ensures none { result ≡ None → IsLineContent (content_of strut indent tab stretches.now) → ⊥ }
 {
     if !is_extent_within(strut) || !is_used(indent) || !is_tab_distance(tab) {
-        return false;
+        return None;
     }
     if !are_stretches_within(stretches) || !is_spread_within(tab, stretches) {
-        return false;
+        return None;
     }
-    is_weight_within(stretches)
+    if !are_boxes_few(stretches) {
+        return None;
+    }
+    weight_within(stretches)
 }
 
 fn is_used(length: Unit) -> bool
@@ -57,7 +68,6 @@ fn is_stretch_within(stretch: &Stretch) -> bool
     ensures { IsTrue result ↔ StretchWithin stretch.now }
 {
     are_floats_within(stretch.heads.as_slice())
-        && are_parts_within(stretch.parts.as_slice())
         && are_floats_within(stretch.floats.as_slice())
 }
 
@@ -92,26 +102,6 @@ fn is_float_edge(edge: Unit) -> bool
     ensures { IsTrue result ↔ IsWithin (pos (2 ^ 50)) edge.0 }
 {
     -1125899906842624 <= edge.0 && edge.0 <= 1125899906842624
-}
-
-fn are_parts_within(parts: &[Part]) -> bool
-    ensures { IsTrue result ↔ All PartWithin parts.now }
-{
-    for part in parts {
-        if !is_part_within(part) {
-            return false;
-        }
-    }
-    true
-}
-
-fn is_part_within(part: &Part) -> bool
-    ensures { IsTrue result ↔ PartWithin part.now }
-{
-    match part {
-        Part::Start(start) => is_extent_within(start.extent),
-        _ => true,
-    }
 }
 
 fn is_extent_within(extent: Extent) -> bool

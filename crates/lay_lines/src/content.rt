@@ -4,8 +4,9 @@ use crate::frame::Extent;
 use crate::lists::{LineFloatList, PartList};
 use lay_floats::FloatReq;
 use lay_units::Unit;
+use lay_valign::Shift;
 
-/// A part of a line's content, with its width. A text, and each inline box, is named by the number of its box.
+/// A part of a line's content, with its width. A text, each inline box and each atomic box is named by the number of its box.
 #[derive(Clone, Copy)]
 pub enum Part {
     /// A collapsible space.
@@ -19,6 +20,7 @@ pub enum Part {
     Text(Advance),
     Start(InlineStart),
     End(InlineEnd),
+    Atomic(AtomicBox),
 }
 
 /// Text of some width.
@@ -38,6 +40,7 @@ pub struct InlineStart {
     /// A vertical one isn't.
     pub shows: bool,
     pub extent: Extent,
+    pub shift: Shift,
 }
 
 /// The end of an inline box: its right margin, border and padding together.
@@ -47,6 +50,17 @@ pub struct InlineEnd {
     pub width: Unit,
     /// One of them isn't 0.
     pub seen: bool,
+}
+
+/// An atomic inline-level box (CSS 2.2, 9.2.2), with the number of its box.
+#[derive(Clone, Copy)]
+pub struct AtomicBox {
+    pub node: u32,
+    /// The width of its margin box.
+    pub width: Unit,
+    /// How far its margin box reaches above and below its baseline.
+    pub extent: Extent,
+    pub shift: Shift,
 }
 
 /// A float, with the number of its box. It is asked for at the top of the line that meets it, whatever the

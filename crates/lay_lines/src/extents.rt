@@ -1,20 +1,18 @@
 //! How high a line is, and which inline boxes are open after it.
 
-ghost use Rattle.std.specs.Prelude.{◌≡◌, ◌≤◌, length, IfOk};
-ghost use Rattle.lay_lines.specs.Extents.{
-  raised,
-  raised_by,
-  any_shows,
-  reading_of,
-  read,
-  read_all,
-  reading_to,
-};
+ghost use Rattle.std.specs.Prelude.{◌≡◌, ◌≤◌, ◌<◌, ◌^◌, ◌⊎◌, length, IsTrue, IfOk, OnOk};
+ghost use Rattle.lay_valign.specs.LineShape.{IsShape};
+ghost use Rattle.lay_valign.specs.PartsFit.{PartsFit};
+ghost use Rattle.lay_lines.specs.Extents.{any_shows, strut_alone, reading_of, read, read_all, reading_to, parts_to};
+ghost use Rattle.lay_lines.specs.LineContents.{boxes_of_part, total};
+ghost use Rattle.lay_lines.specs.Reaching.{HasNoBoxes};
 
-use crate::arithmetic::greater;
 use crate::content::{InlineStart, Part, Stretch};
 use crate::frame::{Extent, Frame};
-use lay_units::NoMemory;
+use crate::line_parts::LineParts;
+use lay_units::{NoMemory, Unit, UnitList};
+use lay_valign::{LineShape, align};
+use std::alloc::Global;
 
 /// Whether one of these inline boxes makes each line seen that it is on.
 pub fn any_shows(boxes: &[InlineStart]) -> bool
@@ -28,71 +26,125 @@ pub fn any_shows(boxes: &[InlineStart]) -> bool
     false
 }
 
-/// The extent of a line that takes the first stretches. The open boxes are then those after it.
-pub fn line_extent(
+/// The shape of a line that takes the first stretches. The open boxes are then those after it.
+pub fn line_shape(
+    alloc: Global,
     frame: &Frame,
     boxes: &mut Vec<InlineStart>,
     stretches: &[Stretch],
     count: usize,
-) -> Result<Extent, NoMemory>
+) -> Result<LineShape, NoMemory>
     requires count { count ≤ length stretches.now }
-    ensures { IfOk result (λ e. reading_of boxes.new.items e
+    requires fits { PartsFit (parts_to frame.now boxes.old.items stretches.now count) }
+    ensures shape { IfOk result (λ shape. IsShape
+        (parts_to frame.now boxes.old.items stretches.now count) shape) }
+    ensures boxes { IfOk result (λ _. boxes.new.items
+        ≡ (reading_to frame.now boxes.old.items stretches.now count).open_boxes) }
+{
+    if boxes.is_empty() && has_no_boxes(stretches, count) {
+        return strut_shape(alloc, frame.strut);
+    }
+    let line = line_parts(alloc, frame, boxes, stretches, count)?;
+    align(alloc, line.as_slice())
+}
+
+/// The shape of a line of text alone, in no inline box.
+fn strut_shape(alloc: Global, strut: Extent) -> Result<LineShape, NoMemory>
+    ensures { IfOk result (λ shape. IsShape (strut_alone strut).parts shape) }
+{
+    let mut shifts = Vec::new(alloc);
+    shifts.push(Unit(0))?;
+    Ok(LineShape {
+        shifts: UnitList::new(shifts),
+        above: strut.above,
+        below: strut.below,
+    })
+}
+
+fn has_no_boxes(stretches: &[Stretch], count: usize) -> bool
+    requires { count ≤ length stretches.now }
+    ensures { IsTrue result → HasNoBoxes stretches.now count }
+{
+    for k in 0..count {
+        if !is_text(stretches[k].parts.as_slice()) {
+            return false;
+        }
+    }
+    true
+}
+
+fn is_text(parts: &[Part]) -> bool
+    ensures { IsTrue result → total boxes_of_part parts.now ≡ 0 }
+{
+    for k in 0..parts.len() {
+        if is_box(parts[k]) {
+            return false;
+        }
+    }
+    true
+}
+
+fn is_box(part: Part) -> bool
+    ensures { IsTrue result ⊎ (boxes_of_part part ≡ 0) }
+{
+    match part {
+        Part::Start(_) | Part::Atomic(_) => true,
+        _ => false,
+    }
+}
+
+fn line_parts(
+    alloc: Global,
+    frame: &Frame,
+    boxes: &mut Vec<InlineStart>,
+    stretches: &[Stretch],
+    count: usize,
+) -> Result<LineParts, NoMemory>
+    requires count { count ≤ length stretches.now }
+    requires few { length (parts_to frame.now boxes.old.items stretches.now count) < 2 ^ 32 }
+    ensures { IfOk result (λ l. reading_of boxes.new.items l
         ≡ reading_to frame.now boxes.old.items stretches.now count) }
 {
-    let mut extent = raised_by(frame.strut, boxes.as_slice());
+    let mut line = LineParts::first(alloc, frame.strut, boxes.as_slice())?;
     for k in 0..count {
-        extent = read_all(extent, boxes, stretches[k].parts.as_slice())?;
+        read_all(&mut line, boxes, stretches[k].parts.as_slice())?;
     }
-    Ok(extent)
-}
-
-fn raised_by(extent: Extent, boxes: &[InlineStart]) -> Extent
-    ensures { result ≡ raised_by extent boxes.now }
-{
-    let mut extent = extent;
-    for k in 0..boxes.len() {
-        extent = raised(extent, boxes[k].extent);
-    }
-    extent
-}
-
-fn raised(extent: Extent, by: Extent) -> Extent
-    ensures { result ≡ raised extent by }
-{
-    Extent {
-        above: greater(extent.above, by.above),
-        below: greater(extent.below, by.below),
-    }
+    Ok(line)
 }
 
 fn read_all(
-    extent: Extent,
+    line: &mut LineParts,
     boxes: &mut Vec<InlineStart>,
     parts: &[Part],
-) -> Result<Extent, NoMemory>
-    ensures { IfOk result (λ e. reading_of boxes.new.items e
-        ≡ read_all (reading_of boxes.old.items extent) parts.now) }
+) -> Result<(), NoMemory>
+    requires { length (read_all (reading_of boxes.old.items line.old) parts.now).line.parts < 2 ^ 32 }
+    ensures { OnOk result (reading_of boxes.new.items line.new
+        ≡ read_all (reading_of boxes.old.items line.old) parts.now) }
 {
-    let mut extent = extent;
     for k in 0..parts.len() {
-        extent = read(extent, boxes, parts[k])?;
+        read(line, boxes, parts[k])?;
     }
-    Ok(extent)
+    Ok(())
 }
 
-fn read(extent: Extent, boxes: &mut Vec<InlineStart>, part: Part) -> Result<Extent, NoMemory>
-    ensures { IfOk result (λ e. reading_of boxes.new.items e
-        ≡ read (reading_of boxes.old.items extent) part) }
+fn read(line: &mut LineParts, boxes: &mut Vec<InlineStart>, part: Part) -> Result<(), NoMemory>
+    requires { length line.old.parts < 2 ^ 32 }
+    ensures { OnOk result (reading_of boxes.new.items line.new
+        ≡ read (reading_of boxes.old.items line.old) part) }
 {
     match part {
         Part::Start(start) => {
             boxes.push(start)?;
-            Ok(raised(extent, start.extent))
+            line.open(start.extent, start.shift)?;
         }
         Part::End(_) => {
             let _ = boxes.pop();
-            Ok(extent)
+            line.close();
         }
-        _ => Ok(extent),
+        Part::Atomic(atomic) => {
+            line.stand(atomic.extent, atomic.shift)?;
+        }
+        _ => {}
     }
+    Ok(())
 }

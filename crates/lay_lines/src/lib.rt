@@ -16,6 +16,7 @@ mod frame;
 mod laws;
 mod laying;
 mod line_content;
+mod line_parts;
 mod lists;
 mod meeting;
 mod met;
@@ -26,7 +27,7 @@ mod rows;
 mod taking;
 mod top;
 
-pub use content::{Advance, InlineArea, InlineEnd, InlineStart, LineFloat, Part, Stretch};
+pub use content::{Advance, AtomicBox, InlineArea, InlineEnd, InlineStart, LineFloat, Part, Stretch};
 pub use frame::{Extent, Frame};
 pub use laws::{lines_are_near, one_lines};
 pub use laying::{Lines, lay};

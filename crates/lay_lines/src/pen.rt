@@ -107,6 +107,7 @@ impl Pen {
             Part::Text(advance) => Pen::went(plus(self.at, advance.width)),
             Part::Start(start) => self.moved(start.width, start.seen),
             Part::End(end) => self.moved(end.width, end.seen),
+            Part::Atomic(atomic) => Pen::went(plus(self.at, atomic.width)),
         }
     }
 

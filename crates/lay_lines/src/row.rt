@@ -3,14 +3,14 @@
 ghost use Rattle.std.specs.Prelude.{◌≡◌, ◌<◌, ◌≤◌, ◌+ℤ◌, ◌||◌, true, if◌then◌else◌, List, length, slice_get, Some, IfOk, IfErr};
 ghost use Rattle.lay_units.specs.Units.{IsPosition};
 ghost use Rattle.lay_lines.specs.declared.content.Stretch.{Stretch as StretchValue};
-ghost use Rattle.lay_lines.specs.Extents.{any_shows, reading_to, height_of, ExtentFits};
+ghost use Rattle.lay_lines.specs.Extents.{any_shows, reading_to, height_of};
 ghost use Rattle.lay_lines.specs.Filling.{IsTop};
 ghost use Rattle.lay_lines.specs.Meeting.{State, state_of, Meets, CanMeetAll, RoomsFit, FrameFits, IsFront};
 ghost use Rattle.lay_lines.specs.Rows.{Position, Row, IsFilled, IsRow, CanRow, position_of, row_of};
 
 use crate::arithmetic::plus;
 use crate::content::{InlineStart, Stretch};
-use crate::extents::{any_shows, line_extent};
+use crate::extents::{any_shows, line_shape};
 use crate::frame::{Extent, Line};
 use crate::meeting::meet_all;
 use crate::met::Met;
@@ -18,18 +18,25 @@ use crate::reach::Reach;
 use crate::taking::take;
 use crate::top::line_top;
 use lay_floats::{Floats, one_float_place, one_room};
-use lay_units::{NoMemory, Unit};
+use lay_units::{NoMemory, Unit, UnitList};
+use lay_valign::one_shape;
 use std::alloc::Global;
 use std::mem;
 
-/// A line that ended: its top, how far its content comes in its room, its extent, whether it is seen, and
-/// where what follows begins.
-#[derive(Clone, Copy)]
+/// A line that ended.
+#[derive(Drop)]
 pub struct Ended {
     pub top: Unit,
+    /// How far its content comes in its room.
     pub reach: Reach,
+    /// How far the baseline of each part of the line stands above the strut's: of the strut itself, of the inline
+    /// boxes that are open at the line's start, outermost first, and then in order of each inline box that starts on
+    /// the line and each atomic box on it.
+    pub shifts: UnitList,
+    /// How far the line box reaches above and below the strut's baseline (CSS 2.2, 10.8.1).
     pub extent: Extent,
     pub seen: bool,
+    /// Where what follows begins.
     pub to: Unit,
 }
 
@@ -59,7 +66,8 @@ pub fn put_row(
 {
     one_float_place();
     one_room();
-    let ended = fill_row(floats, met, start, boxes, stretches)?;
+    one_shape();
+    let ended = fill_row(alloc, floats, met, start, boxes, stretches)?;
     let waiting = mem::replace(&mut met.put_off, Vec::new(alloc));
     let under = Line {
         frame: start.frame,
@@ -72,6 +80,7 @@ pub fn put_row(
 
 /// A line until the floats that wait are placed.
 fn fill_row(
+    alloc: Global,
     floats: &mut Floats,
     met: &mut Met,
     start: &Line,
@@ -93,6 +102,7 @@ fn fill_row(
 {
     one_float_place();
     one_room();
+    one_shape();
     let top = headed_top(floats, met, start, stretches)?;
     let line = Line {
         frame: start.frame,
@@ -100,11 +110,16 @@ fn fill_row(
     };
     let reach = take(floats, met, &line, stretches)?;
     let seen = is_seen(boxes, reach.is_seen(&start.frame, stretches));
-    let extent = line_extent(&start.frame, boxes, stretches, reach.count)?;
+    let shape = line_shape(alloc, &start.frame, boxes, stretches, reach.count)?;
+    let extent = Extent {
+        above: shape.above,
+        below: shape.below,
+    };
     let to = row_end(top, extent, seen, start.top);
     Ok(Ended {
         top,
         reach,
+        shifts: shape.shifts,
         extent,
         seen,
         to,
@@ -120,7 +135,7 @@ fn is_seen(boxes: &Vec<InlineStart>, taken: bool) -> bool
 
 /// Where what follows a line begins: an unseen one has no height, and doesn't move down.
 fn row_end(top: Unit, extent: Extent, seen: bool, from: Unit) -> Unit
-    requires extent { ExtentFits extent }
+    requires height { IsPosition (height_of extent) }
     requires end { IsPosition (if seen then (top.0 +ℤ height_of extent) else from.0) }
     ensures { result.0 ≡ (if seen then (top.0 +ℤ height_of extent) else from.0) }
 {

@@ -11,6 +11,7 @@ use crate::met::Met;
 use crate::row::{Ended, put_row};
 use lay_floats::{Floats, NodePlace, one_float_place, one_room};
 use lay_units::{NoMemory, Unit};
+use lay_valign::one_shape;
 use std::alloc::Global;
 
 /// The lines of a container so far.
@@ -40,6 +41,7 @@ pub fn lay_rows(
 {
     one_float_place();
     one_room();
+    one_shape();
     let mut rows = Vec::new(alloc);
     let mut boxes = Vec::new(alloc);
     let mut met = Met {
@@ -50,9 +52,9 @@ pub fn lay_rows(
     let mut rest = stretches;
     while !rest.is_empty() {
         let ended = put_row(alloc, floats, &mut met, &here, &mut boxes, rest)?;
-        rows.push(ended)?;
         here = next_line(&here, &ended);
         rest = rest_of(rest, ended.reach.count);
+        rows.push(ended)?;
     }
     Ok(Rows {
         rows,
