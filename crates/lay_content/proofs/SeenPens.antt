@@ -29,6 +29,7 @@ over_seen fr p part.Linefeed = sym (or_true p.seen)
 over_seen fr p (part.Text a) = sym (or_true p.seen)
 over_seen fr p (part.Start b) = refl
 over_seen fr p (part.End b) = refl
+over_seen fr p (part.Atomic a) = sym (or_true p.seen)
 
 over_all_seen : (fr : Frame) (p : Pen) (xs : List Part) → (over_all fr p xs).seen ≡ (p.seen || list_any is_seen xs)
 over_all_seen fr p [] = sym (or_false p.seen)

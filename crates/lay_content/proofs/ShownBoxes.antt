@@ -75,6 +75,7 @@ read_shows r part.Linefeed seen e = or_left (any_shows r.open_boxes) true e
 read_shows r (part.Text a) seen e = or_left (any_shows r.open_boxes) true e
 read_shows r (part.Start b) seen e = or_more (any_shows r.open_boxes) b.shows b.seen seen (sym (one_more r.open_boxes b) ∙ e)
 read_shows r (part.End b) seen e = or_left (any_shows r.open_boxes) b.seen (some_left _ r.open_boxes e)
+read_shows r (part.Atomic a) seen e = or_left (any_shows r.open_boxes) true e
 
 read_all_shows : (r : Reading) (xs : List Part) → AreSeen xs → any_shows (read_all r xs).open_boxes ≡ true
     → (any_shows r.open_boxes || list_any is_seen xs) ≡ true
@@ -128,7 +129,7 @@ item_seen : (m : BoxMeasuresValue) (x : Item) → AreSeen (parts_at m x)
 item_seen m (item.Text k text mode widths) = text_seen k mode text widths
 item_seen m (item.Start k) = (or_left (has_vertical_edges (sizes_at m.sizes k)) ((part_at m k).first && has_left_edges (sizes_at m.sizes k)), tt)
 item_seen m (item.End k) = (never_shows _, tt)
-item_seen m (item.Atomic k mode) = tt
+item_seen m (item.Atomic k mode) = (never_shows true, tt)
 item_seen m (item.Float k) = tt
 item_seen m (item.Anchor k) = tt
 

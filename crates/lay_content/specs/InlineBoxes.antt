@@ -18,8 +18,13 @@ use Rattle.lay_lines.specs.declared.content.InlineArea.{InlineArea}
 use Rattle.lay_lines.specs.declared.content.InlineStart.{InlineStart}
 use Rattle.lay_lines.specs.declared.content.InlineEnd.{InlineEnd}
 use Rattle.lay_lines.specs.declared.frame.Extent.{Extent}
+use Rattle.lay_sizes.specs.declared.own_boxes.OwnBox.{OwnBox}
+use Rattle.lay_sizes.specs.OwnBoxes.{own_box_at}
+use Rattle.lay_valign.specs.declared.parts.Shift.{Shift}
+use Rattle.lay_content.specs.AtomicBoxes.{atomic_area}
 use Rattle.lay_content.specs.BoxMeasuresValue.{BoxMeasuresValue, part_at}
 use Rattle.lay_content.specs.LineHeights.{ascent, descent, extent_of}
+use Rattle.lay_content.specs.VerticalAlignment.{shift_at}
 
 abbrev pub is_nonzero : Length → Bool
 is_nonzero u = nonzero u.0
@@ -46,18 +51,19 @@ extent_in face (Some b) = extent_of face b.style.text
 abbrev pub extent_at : BoxMeasuresValue → ℕ → Extent
 extent_at m k = extent_in m.face (slice_get m.boxes k)
 
-abbrev pub start_in : ℕ → BoxSizes → InlinePart → Extent → InlineStart
-start_in k z part extent = record {
+abbrev pub start_in : ℕ → BoxSizes → InlinePart → Extent → Shift → InlineStart
+start_in k z part extent shift = record {
   node = k;
   width = if part.first then record { 0 = z.widths.margin_left.0 +ℤ z.edges.left.0 } else no_length;
   seen = has_vertical_edges z || (part.first && has_left_edges z);
   shows = has_vertical_edges z;
   extent = extent;
+  shift = shift;
 }
 
 -- the start of the inline box at k
 abbrev pub start_at : BoxMeasuresValue → ℕ → InlineStart
-start_at m k = start_in k (sizes_at m.sizes k) (part_at m k) (extent_at m k)
+start_at m k = start_in k (sizes_at m.sizes k) (part_at m k) (extent_at m k) (shift_at m k)
 
 abbrev pub end_in : ℕ → BoxSizes → InlinePart → InlineEnd
 end_in k z part = record {
@@ -73,8 +79,8 @@ end_at m k = end_in k (sizes_at m.sizes k) (part_at m k)
 abbrev pub no_area : InlineArea
 no_area = record { above = no_length; below = no_length; margin_left = no_length; margin_right = no_length }
 
--- What is painted of a box on a line: the content area of a text, and the border box of an inline box, which is beside its
--- margins.
+-- What is painted of a box on a line: the content area of a text, and the border box of an inline box or of an atomic box,
+-- which is beside its margins.
 abbrev pub text_area : FaceValue → TextStyle → InlineArea
 text_area face s = record {
   above = record { 0 = ascent face s };
@@ -91,14 +97,15 @@ inline_area face s z part = record {
   margin_right = if part.last then z.widths.margin_right else no_length;
 }
 
-abbrev pub area_as : FaceValue → Role → TextStyle → BoxSizes → InlinePart → InlineArea
-area_as face role.Text s z part = text_area face s
-area_as face role.Inline s z part = inline_area face s z part
-area_as face _ s z part = no_area
+abbrev pub area_as : FaceValue → Role → TextStyle → BoxSizes → InlinePart → OwnBox → InlineArea
+area_as face role.Text s z part o = text_area face s
+area_as face role.Inline s z part o = inline_area face s z part
+area_as face role.Atomic s z part o = atomic_area o
+area_as face _ s z part o = no_area
 
 abbrev pub area_in : BoxMeasuresValue → ℕ → Option BoxNode → InlineArea
 area_in m k None = no_area
-area_in m k (Some b) = area_as m.face (role_of b) b.style.text (sizes_at m.sizes k) (part_at m k)
+area_in m k (Some b) = area_as m.face (role_of b) b.style.text (sizes_at m.sizes k) (part_at m k) (own_box_at m.inner k)
 
 -- the area of the box at k
 abbrev pub area_at : BoxMeasuresValue → ℕ → InlineArea

@@ -1,6 +1,8 @@
 pub mod AreaBounds
 pub mod BoxMeasuresValue
 pub mod LineHeights
+pub mod VerticalAlignment
+pub mod AtomicBoxes
 pub mod InlineBoxes
 pub mod LineFloats
 pub mod TextParts

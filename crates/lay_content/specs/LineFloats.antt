@@ -1,6 +1,6 @@
 -- Floats that stand in the content of lines (CSS 2.2, 9.5 and 9.5.1): a float is as large as its margin box and stands
 -- between the content edges of the container.
-use Rattle.std.specs.Prelude.{ℕ, ◌+ℤ◌, Option, Some, None, slice_get}
+use Rattle.std.specs.Prelude.{ℕ, Option, Some, None, slice_get}
 use Rattle.lay_doc.specs.declared.style_words.Clear.{Clear as ClearStyle}
 use Rattle.lay_doc.specs.declared.style_words.Clear.TheVariants as clear
 use Rattle.lay_boxgen.specs.Roles.{role_of, clear_of}
@@ -13,7 +13,7 @@ use Rattle.lay_floats.specs.declared.requests.FloatReq.{FloatReq}
 use Rattle.lay_floats.specs.declared.requests.Side.{Side}
 use Rattle.lay_floats.specs.declared.requests.Side.TheVariants as side
 use Rattle.lay_sizes.specs.declared.own_boxes.OwnBox.{OwnBox}
-use Rattle.lay_sizes.specs.OwnBoxes.{own_box_at}
+use Rattle.lay_sizes.specs.OwnBoxes.{margin_height, margin_width, own_box_at}
 use Rattle.lay_sizes.specs.UsedLengths.{no_length}
 use Rattle.lay_lines.specs.declared.content.LineFloat.{LineFloat}
 use Rattle.lay_content.specs.declared.container.Container.{Container}
@@ -41,8 +41,8 @@ clear_in (Some b) = cleared_sides (clear_of b)
 abbrev pub request_of : Side → Clear → OwnBox → Container → FloatReq
 request_of side clear o c = record {
   side = side;
-  width = record { 0 = o.margin.left.0 +ℤ o.width.0 +ℤ o.margin.right.0 };
-  height = record { 0 = o.margin.top.0 +ℤ o.height.0 +ℤ o.margin.bottom.0 };
+  width = record { 0 = margin_width o };
+  height = record { 0 = margin_height o };
   left = c.left;
   right = c.right;
   ceiling = no_length;

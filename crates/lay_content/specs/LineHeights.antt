@@ -22,6 +22,9 @@ ascent face s = thousandths_of face.ascent (font_size s)
 abbrev pub descent : FaceValue → TextStyle → ℤ
 descent face s = thousandths_of face.descent (font_size s)
 
+abbrev pub x_height : FaceValue → TextStyle → ℤ
+x_height face s = thousandths_of face.x_height (font_size s)
+
 -- A used line height beside a used font size. What `normal` is, the face says; a number is of the font size, in
 -- thousandths. A percentage was taken of the font size when the style was computed.
 abbrev pub line_height_in : FaceValue → ℤ → LineHeight → ℤ

@@ -15,6 +15,7 @@ is_seen part.Linefeed = true
 is_seen (part.Text a) = true
 is_seen (part.Start b) = b.seen
 is_seen (part.End b) = b.seen
+is_seen (part.Atomic a) = true
 
 abbrev pub has_seen_line : List Stretch → Bool
 has_seen_line stretches = list_any (λ s. list_any is_seen s.parts) stretches

@@ -11,16 +11,17 @@ use Rattle.lay_lines.specs.declared.content.Part.TheVariants as part
 use Rattle.lay_lines.specs.declared.content.Stretch.{Stretch}
 use Rattle.lay_content.specs.declared.container.Container.{Container}
 use Rattle.lay_content.specs.BoxMeasuresValue.{BoxMeasuresValue}
+use Rattle.lay_content.specs.AtomicBoxes.{atomic_at}
 use Rattle.lay_content.specs.InlineBoxes.{start_at, end_at}
 use Rattle.lay_content.specs.LineFloats.{float_at}
 use Rattle.lay_content.specs.TextParts.{text_parts}
 
--- What an item is in a line. An anchor takes no room, a float stands beside the line, and no atomic box is laid out yet.
+-- What an item is in a line. An anchor takes no room, and a float stands beside the line.
 abbrev pub parts_at : BoxMeasuresValue → Item → List Part
 parts_at m (item.Text k text mode widths) = text_parts k mode text widths
 parts_at m (item.Start k) = part.Start (start_at m k) ∷ []
 parts_at m (item.End k) = part.End (end_at m k) ∷ []
-parts_at m (item.Atomic k mode) = []
+parts_at m (item.Atomic k mode) = part.Atomic (atomic_at m k) ∷ []
 parts_at m (item.Float k) = []
 parts_at m (item.Anchor k) = []
 

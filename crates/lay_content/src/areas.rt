@@ -1,4 +1,4 @@
-//! What is painted of texts and inline boxes.
+//! What is painted of texts, inline boxes and atomic boxes.
 
 ghost use Rattle.std.specs.Prelude.{◌≡◌, ◌^◌, pos, ◌+ℤ◌, All, Some, IfOk, if◌then◌else◌};
 ghost use Rattle.lay_sizes.specs.UsedLengths.{no_length};
@@ -9,6 +9,7 @@ ghost use Rattle.lay_sizes.specs.SizeBounds.{IsInset, SizeFits};
 ghost use Rattle.lay_face.specs.Faces.{IsMeasure};
 ghost use Rattle.lay_floats.specs.Within.{IsWithin};
 
+use crate::atomic_boxes::atomic_area;
 use crate::box_measures::BoxMeasures;
 use crate::line_heights::{ascent, descent};
 use lay_box_parts::InlinePart;
@@ -21,8 +22,8 @@ use lay_units::{NoMemory, Unit};
 use std::alloc::Global;
 
 /// What is painted of each box of a context on its lines, by the place of the box (CSS 2.2, 10.6.1): the content area of
-/// a text, the border box of an inline box, and nothing of others. All lengths are in 1/64 px, and at most 2^36 of them
-/// from 0.
+/// a text, the border box of an inline box and of an atomic box, and nothing of others. All lengths are in 1/64 px, those
+/// above and below at most 2^60 of them from 0, and margins at most 2^36.
 pub fn inline_areas(alloc: Global, measures: &BoxMeasures<'_>) -> Result<Vec<InlineArea>, NoMemory>
     ensures areas { IfOk result (λ v. v.items ≡ areas_of measures.now) }
     ensures near { IfOk result (λ v. All AreaNear v.items) }
@@ -60,6 +61,7 @@ fn area_of(measures: &BoxMeasures<'_>, k: usize, node: &BoxNode) -> InlineArea
             measures.sizes_at(k),
             measures.part_at(k),
         ),
+        Role::Atomic => atomic_area(&measures.own_box_at(k)),
         _ => NO_AREA,
     }
 }

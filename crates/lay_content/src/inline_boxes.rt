@@ -9,10 +9,12 @@ ghost use Rattle.lay_content.specs.InlineBoxes.{end_at, end_in, extent_at, has_l
 use crate::box_measures::BoxMeasures;
 use crate::line_heights::extent_of;
 use crate::sums::sum_of;
+use crate::vertical_alignment::shift_at;
 use lay_box_parts::InlinePart;
 use lay_lines::{Extent, InlineEnd, InlineStart};
 use lay_sizes::BoxSizes;
 use lay_units::Unit;
+use lay_valign::Shift;
 
 /// The start of the inline box at a place.
 pub(crate) fn start_at(measures: &BoxMeasures<'_>, place: u32) -> InlineStart
@@ -24,12 +26,19 @@ pub(crate) fn start_at(measures: &BoxMeasures<'_>, place: u32) -> InlineStart
         measures.sizes_at(k),
         measures.part_at(k),
         extent_at(measures, k),
+        shift_at(measures, k),
     )
 }
 
-fn start_in(place: u32, sizes: BoxSizes, part: InlinePart, extent: Extent) -> InlineStart
+fn start_in(
+    place: u32,
+    sizes: BoxSizes,
+    part: InlinePart,
+    extent: Extent,
+    shift: Shift,
+) -> InlineStart
     requires { SizeFits sizes }
-    ensures { result ≡ start_in place sizes part extent }
+    ensures { result ≡ start_in place sizes part extent shift }
 {
     let shows = has_vertical_edges(&sizes);
     InlineStart {
@@ -38,6 +47,7 @@ fn start_in(place: u32, sizes: BoxSizes, part: InlinePart, extent: Extent) -> In
         seen: shows || (part.first && has_left_edges(&sizes)),
         shows,
         extent,
+        shift,
     }
 }
 

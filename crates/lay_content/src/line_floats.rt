@@ -1,9 +1,8 @@
 //! Floats in the content of lines.
 
-ghost use Rattle.std.specs.Prelude.{◌≡◌, ◌+ℤ◌, slice_get};
+ghost use Rattle.std.specs.Prelude.{◌≡◌, slice_get};
 ghost use Rattle.lay_boxgen.specs.Roles.{clear_of};
-ghost use Rattle.lay_sizes.specs.OwnBoxes.{IsBoxSize, OwnBoxFits};
-ghost use Rattle.lay_units.specs.Units.{IsUsed};
+ghost use Rattle.lay_sizes.specs.OwnBoxes.{OwnBoxFits};
 ghost use Rattle.lay_content.specs.LineFloats.{cleared_sides, clear_in, float_at, request_of, side_in};
 
 use crate::box_measures::BoxMeasures;
@@ -37,23 +36,13 @@ fn request_of(side: Side, clear: Clear, own: OwnBox, container: Container) -> Fl
 {
     FloatReq {
         side,
-        width: around(own.margin.left, own.width, own.margin.right),
-        height: around(own.margin.top, own.height, own.margin.bottom),
+        width: own.margin_width(),
+        height: own.margin_height(),
         left: container.left,
         right: container.right,
         ceiling: Unit(0),
         clear,
     }
-}
-
-/// A size of a border box with its margins.
-fn around(before: Unit, size: Unit, after: Unit) -> Unit
-    requires before { IsUsed before.0 }
-    requires size { IsBoxSize size.0 }
-    requires after { IsUsed after.0 }
-    ensures { result ≡ record { 0 = before.0 +ℤ size.0 +ℤ after.0 } }
-{
-    Unit(before.0 + size.0 + after.0)
 }
 
 /// The side to which the float at k goes.

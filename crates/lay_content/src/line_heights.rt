@@ -3,7 +3,7 @@
 ghost use Rattle.std.specs.Prelude.{◌≡◌, pos, ◌+ℤ◌, ◌-ℤ◌, ◌*ℤ◌, ◌≤ℤ◌};
 ghost use Rattle.lay_units.specs.Units.{IsPosition, IsSum, IsUsed, IsUsedSize, half_of};
 ghost use Rattle.lay_face.specs.Faces.{IsMeasure};
-ghost use Rattle.lay_content.specs.LineHeights.{ascent, descent, extent_of, font_size, leading, line_height, line_height_in, with_leading};
+ghost use Rattle.lay_content.specs.LineHeights.{ascent, descent, extent_of, font_size, leading, line_height, line_height_in, with_leading, x_height};
 
 use lay_doc::{LineHeight, TextStyle};
 use lay_face::Face;
@@ -44,6 +44,15 @@ pub(crate) fn descent(face: &Face, style: &TextStyle) -> Unit
     face.descent(size)
 }
 
+/// How high the letters are that rise no further than an x.
+pub(crate) fn x_height(face: &Face, style: &TextStyle) -> Unit
+    ensures { result.0 ≡ x_height face.now style.now }
+{
+    let size = font_size(style);
+    face.fits_at(size);
+    face.x_height(size)
+}
+
 /// The used font size.
 pub(crate) fn font_size(style: &TextStyle) -> Unit
     ensures value { result.0 ≡ font_size style.now }
@@ -53,7 +62,8 @@ pub(crate) fn font_size(style: &TextStyle) -> Unit
     clamp_size(i128::from(style.font_size.0))
 }
 
-fn line_height(face: &Face, style: &TextStyle) -> Unit
+/// The used line height.
+pub(crate) fn line_height(face: &Face, style: &TextStyle) -> Unit
     ensures value { result.0 ≡ line_height face.now style.now }
     ensures used { IsUsedSize result.0 }
 {

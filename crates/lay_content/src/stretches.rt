@@ -3,6 +3,7 @@
 ghost use Rattle.std.specs.Prelude.{◌≡◌, ◌++◌, [], true, ◌&&◌, not, if◌then◌else◌, IfOk, OnOk};
 ghost use Rattle.lay_content.specs.Stretches.{floats_at, is_content, parts_at, stretch_of, stretches_of};
 
+use crate::atomic_boxes::atomic_at;
 use crate::box_measures::BoxMeasures;
 use crate::container::Container;
 use crate::inline_boxes::{end_at, start_at};
@@ -111,7 +112,7 @@ impl Measured {
     }
 }
 
-/// Puts what an item is in a line. An atomic box would be a part; none is laid out yet.
+/// Puts what an item is in a line.
 fn put_parts(parts: &mut Vec<Part>, measures: &BoxMeasures<'_>, item: &Item) -> Result<(), NoMemory>
     ensures { OnOk result (parts.new.items ≡ parts.old.items ++ parts_at measures.now item.now) }
 {
@@ -132,7 +133,8 @@ fn put_parts(parts: &mut Vec<Part>, measures: &BoxMeasures<'_>, item: &Item) -> 
         ),
         Item::Start(place) => push_part(parts, Part::Start(start_at(measures, *place))),
         Item::End(place) => push_part(parts, Part::End(end_at(measures, *place))),
-        Item::Atomic(_, _) | Item::Float(_) | Item::Anchor(_) => Ok(()),
+        Item::Atomic(place, _) => push_part(parts, Part::Atomic(atomic_at(measures, *place))),
+        Item::Float(_) | Item::Anchor(_) => Ok(()),
     }
 }
 

@@ -3,16 +3,18 @@ use Rattle.std.proofs.Common.{◌≡◌, ℤ, refl, sym, ◌∙◌, Option}
 use Rattle.lay_units.specs.declared.length.Unit.{Unit as Length}
 use Rattle.lay_units.specs.declared.records.Len.{Len}
 use Rattle.lay_units.specs.declared.records.Sides.{Sides}
-use Rattle.lay_units.specs.declared.records.BlockIn.{BlockIn}
+use Rattle.lay_doc.specs.declared.style.Style.{Style}
 use Rattle.lay_widths.specs.declared.widths.BlockOut.{BlockOut}
 use Rattle.lay_widths.specs.declared.widths.UsedWidths.{UsedWidths}
 use Rattle.lay_widths.specs.BlockWidths.{IsHeld}
 use Rattle.lay_widths.proofs.Unique.{one_block_width_lem, one_float_width_lem}
 use Rattle.lay_sizes.specs.declared.sizing.BoxSizes.{BoxSizes}
 use Rattle.lay_sizes.specs.declared.sizing.WidthRule.{WidthRule}
-use Rattle.lay_sizes.specs.declared.sizing.WidthRule.TheVariants.{Fills, Inline, ShrinksToFit}
+use Rattle.lay_sizes.specs.declared.sizing.WidthRule.TheVariants.{Fills, Inline, ShrinksToFit, ReplacedBlock, Replaced}
+use Rattle.lay_sizes.specs.declared.sizing.ContainingBlock.{ContainingBlock}
 use Rattle.lay_sizes.specs.UsedLengths.{block_of}
-use Rattle.lay_sizes.specs.BoxSizes.{IsUsedWidth, inline_widths}
+use Rattle.lay_sizes.specs.ReplacedBoxes.{replaced_size_of}
+use Rattle.lay_sizes.specs.BoxSizes.{IsUsedWidth, inline_widths, widths_beside, with_width}
 use Rattle.lay_sizes.specs.Laws.{OneBoxSizes}
 
 abbrev widths_of : ℤ → ℤ → ℤ → BlockOut
@@ -26,10 +28,15 @@ held_same used x y p q =
     let e : widths_of x.margin_left.0 x.width.0 x.margin_right.0 ≡ widths_of y.margin_left.0 y.width.0 y.margin_right.0 = rw (left, width, right) refl in
     e
 
-one_used_width : (rule : WidthRule) (b : BlockIn) (x y : BlockOut) → IsUsedWidth rule b x → IsUsedWidth rule b y → x ≡ y
-one_used_width Fills b x y p q = one_block_width_lem b x y p q
-one_used_width Inline b x y p q = held_same (inline_widths b) x y p q
-one_used_width (ShrinksToFit preferred_minimum preferred) b x y p q = one_float_width_lem b preferred_minimum preferred x y p q
+one_used_width : (containing : ContainingBlock) (rule : WidthRule) (s : Style) (x y : BlockOut) → IsUsedWidth containing rule s x → IsUsedWidth containing rule s y → x ≡ y
+one_used_width containing Fills s x y p q = one_block_width_lem (block_of containing.width s) x y p q
+one_used_width containing Inline s x y p q = held_same (inline_widths (block_of containing.width s)) x y p q
+one_used_width containing (ShrinksToFit preferred_minimum preferred) s x y p q =
+    one_float_width_lem (block_of containing.width s) preferred_minimum preferred x y p q
+one_used_width containing (ReplacedBlock natural) s x y p q =
+    one_block_width_lem (with_width (block_of containing.width s) (replaced_size_of containing natural s).width) x y p q
+one_used_width containing (Replaced natural) s x y p q =
+    held_same (widths_beside (block_of containing.width s) (replaced_size_of containing natural s).width.0) x y p q
 
 abbrev sizes_of : Length → BlockOut → Sides → (margin_top margin_bottom : Length) → Len → Length → Option Length → BoxSizes
 sizes_of containing widths edges margin_top margin_bottom height min_height max_height = record {
@@ -46,7 +53,7 @@ sizes_of containing widths edges margin_top margin_bottom height min_height max_
 pub one_box_sizes_lem : OneBoxSizes
 one_box_sizes_lem containing rule s y z p q =
     let around = p.containing_is ∙ sym q.containing_is in
-    let widths = one_used_width rule (block_of containing.width s) y.widths z.widths p.widths q.widths in
+    let widths = one_used_width containing rule s y.widths z.widths p.widths q.widths in
     let edges = p.edges ∙ sym q.edges in
     let margin_top = p.margin_top ∙ sym q.margin_top in
     let margin_bottom = p.margin_bottom ∙ sym q.margin_bottom in

@@ -1,11 +1,11 @@
 -- Used sizes are within their bounds.
-use Rattle.std.proofs.Common.{ℤ, pos, arith}
+use Rattle.std.proofs.Common.{ℤ, pos, arith, Option, Some, None}
 use Rattle.std.proofs.lemmas.Int.{ints, clamps}
 use Rattle.lay_units.specs.Units.{clamp_of, clamp_size_of, percentage_of, IsUsed, IsUsedSize}
 use Rattle.lay_units.specs.declared.length.Unit.{Unit as Length}
 use Rattle.lay_units.specs.declared.records.Len.{Len}
 use Rattle.lay_units.specs.declared.records.Len.TheVariants.{Auto as auto, Of as of}
-use Rattle.lay_units.specs.declared.records.BlockIn.{BlockIn}
+use Rattle.lay_doc.specs.declared.style.Style.{Style}
 use Rattle.lay_doc.specs.declared.style_lengths.LengthPercentageOrAuto.{LengthPercentageOrAuto}
 use Rattle.lay_doc.specs.declared.style_lengths.LengthPercentageOrAuto.TheVariants as or_auto
 use Rattle.lay_doc.specs.declared.style_lengths.LengthPercentage.{LengthPercentage}
@@ -14,16 +14,19 @@ use Rattle.lay_widths.specs.declared.widths.BlockOut.{BlockOut}
 use Rattle.lay_widths.specs.declared.widths.UsedWidths.{UsedWidths}
 use Rattle.lay_widths.specs.BlockWidths.{IsHeld}
 use Rattle.lay_sizes.specs.declared.sizing.WidthRule.{WidthRule}
-use Rattle.lay_sizes.specs.declared.sizing.WidthRule.TheVariants.{Fills, Inline, ShrinksToFit}
+use Rattle.lay_sizes.specs.declared.sizing.WidthRule.TheVariants.{Fills, Inline, ShrinksToFit, ReplacedBlock, Replaced}
+use Rattle.lay_sizes.specs.declared.sizing.ContainingBlock.{ContainingBlock}
+use Rattle.lay_sizes.specs.declared.replaced.NaturalSize.{NaturalSize}
+use Rattle.lay_sizes.specs.ReplacedBoxes.{replaced_size_of}
 use Rattle.lay_sizes.specs.UsedLengths.{used_size, used_vertical_margin, used_height, used_min_height, edge_of, block_of}
-use Rattle.lay_sizes.specs.BoxSizes.{IsUsedWidth, inline_widths}
+use Rattle.lay_sizes.specs.BoxSizes.{IsUsedWidth, height_of, inline_widths, min_height_of, natural_of, widths_beside}
 use Rattle.lay_sizes.specs.SizeBounds.{IsInset, IsUsedSizeOrAuto}
 use Rattle.lay_sizes.specs.Laws.{SizesFit}
 
 margin_is_used : (v : ℤ) → IsUsed (clamp_of v)
 margin_is_used v = (omega (arith, ints, clamps), omega (arith, ints, clamps))
 
-size_is_used : (v : ℤ) → IsUsedSize (clamp_size_of v)
+pub size_is_used : (v : ℤ) → IsUsedSize (clamp_size_of v)
 size_is_used v = (omega (arith, ints, clamps), omega (arith, ints, clamps))
 
 zero_is_size : IsUsedSize (pos 0)
@@ -42,10 +45,13 @@ held_fit used out held = record {
   margin_right = let e = held.margin_right in rw e (margin_is_used used.margin_right);
 }
 
-widths_fit : (rule : WidthRule) (b : BlockIn) (out : BlockOut) → IsUsedWidth rule b out → WidthsFit out
-widths_fit Fills b out is = held_fit is.used out is.held
-widths_fit Inline b out is = held_fit (inline_widths b) out is
-widths_fit (ShrinksToFit preferred_minimum preferred) b out is = held_fit is.used out is.held
+widths_fit : (containing : ContainingBlock) (rule : WidthRule) (s : Style) (out : BlockOut) → IsUsedWidth containing rule s out → WidthsFit out
+widths_fit containing Fills s out is = held_fit is.used out is.held
+widths_fit containing Inline s out is = held_fit (inline_widths (block_of containing.width s)) out is
+widths_fit containing (ShrinksToFit preferred_minimum preferred) s out is = held_fit is.used out is.held
+widths_fit containing (ReplacedBlock natural) s out is = held_fit is.used out is.held
+widths_fit containing (Replaced natural) s out is =
+    held_fit (widths_beside (block_of containing.width s) (replaced_size_of containing natural s).width.0) out is
 
 vertical_margin_is_used : (containing : Length) (margin : LengthPercentageOrAuto) → IsUsed (used_vertical_margin containing margin).0
 vertical_margin_is_used containing or_auto.Auto = (omega (arith, ints), omega (arith, ints))
@@ -74,9 +80,17 @@ min_height_is_used containing (measure.Length u) = size_is_used u.0
 min_height_is_used auto (measure.Percent h) = zero_is_size
 min_height_is_used (of containing) (measure.Percent h) = size_is_used (percentage_of h.0 containing.0)
 
+height_fits : (containing : ContainingBlock) (natural : Option NaturalSize) (s : Style) → IsUsedSizeOrAuto (height_of containing natural s)
+height_fits containing None s = height_is_used containing.height s.sizing.height
+height_fits containing (Some natural) s = size_is_used _
+
+min_height_fits : (containing : ContainingBlock) (natural : Option NaturalSize) (s : Style) → IsUsedSize (min_height_of containing natural s).0
+min_height_fits containing None s = min_height_is_used containing.height s.sizing.min_height
+min_height_fits containing (Some natural) s = zero_is_size
+
 pub sizes_fit_lem : SizesFit
 sizes_fit_lem containing rule s z is =
-    let widths = widths_fit rule (block_of containing.width s) z.widths is.widths in
+    let widths = widths_fit containing rule s z.widths is.widths in
     let edges = is.edges in
     record {
       margin_left = widths.margin_left;
@@ -88,6 +102,6 @@ sizes_fit_lem containing rule s z is =
       left = rw edges (edge_is_inset containing.width s.border.width.left s.padding.left);
       margin_top = let e = is.margin_top in rw e (vertical_margin_is_used containing.width s.margin.top);
       margin_bottom = let e = is.margin_bottom in rw e (vertical_margin_is_used containing.width s.margin.bottom);
-      height = let e = is.height in rw e (height_is_used containing.height s.sizing.height);
-      min_height = let e = is.min_height in rw e (min_height_is_used containing.height s.sizing.min_height);
+      height = let e = is.height in rw e (height_fits containing (natural_of rule) s);
+      min_height = let e = is.min_height in rw e (min_height_fits containing (natural_of rule) s);
     }

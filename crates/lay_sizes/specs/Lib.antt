@@ -1,4 +1,5 @@
 pub mod UsedLengths
+pub mod ReplacedBoxes
 pub mod BoxSizes
 pub mod SizeBounds
 pub mod SizeColumns

@@ -1,19 +1,21 @@
 //! The used sizes of one box beside its containing block: margins, borders, paddings, width and height, and the
-//! content box as the containing block of what is inside (CSS 2.2, 8.3 to 8.5, 10.1 to 10.5 and 10.7).
+//! content box as the containing block of what is inside (CSS 2.2, 8.3 to 8.5, 10.1 to 10.7).
 //!
-//! Contracts cite `IsSized` of `specs/BoxSizes.antt`, whose lengths are those of `specs/UsedLengths.antt`. It is a
-//! relation, and has one value (`specs/Laws.antt`). Contexts size their boxes by it, and so will tables and
-//! absolute boxes; nothing of them is known here. What a context sees of the box of a context inside it is an
-//! `OwnBox` (`specs/OwnBoxes.antt`).
+//! Contracts cite `IsSized` of `specs/BoxSizes.antt`, whose lengths are those of `specs/UsedLengths.antt`; the sizes of
+//! replaced elements are those of `specs/ReplacedBoxes.antt`. It is a relation, and has one value (`specs/Laws.antt`).
+//! Contexts size their boxes by it, and so will tables and absolute boxes; nothing of them is known here. What a context
+//! sees of the box of a context inside it is an `OwnBox` (`specs/OwnBoxes.antt`).
 #![tactic(auto)]
 
 mod laws;
 mod own_boxes;
+mod replaced;
 mod sizing;
 mod used_lengths;
 
 pub use laws::{one_box_sizes, sizes_fit};
 pub use own_boxes::{NO_OWN_BOX, OwnBox, own_box};
+pub use replaced::NaturalSize;
 pub use sizing::{
     BoxSizes, ContainingBlock, NO_SIZES, WidthRule, border_width, box_sizes, content_block,
 };

@@ -1,12 +1,14 @@
 //! The used sizes of boxes.
 
 ghost use Rattle.std.specs.Prelude.{◌≡◌, ◌+ℤ◌};
-ghost use Rattle.lay_units.specs.Units.{IsPosition, clamp_of};
+ghost use Rattle.lay_units.specs.Units.{IsPosition, IsUsedSize, clamp_of};
 ghost use Rattle.lay_widths.specs.BlockWidths.{IsHeld};
+ghost use Rattle.lay_widths.specs.Lengths.{BlockFits};
 ghost use Rattle.lay_sizes.specs.UsedLengths.{block_of, or_zero};
-ghost use Rattle.lay_sizes.specs.BoxSizes.{IsSized, IsUsedWidth, border_width, content_block, inline_widths};
+ghost use Rattle.lay_sizes.specs.BoxSizes.{IsSized, IsUsedWidth, border_width, content_block, height_of, max_height_of, min_height_of, natural_of, widths_beside, with_width};
 ghost use Rattle.lay_sizes.specs.SizeBounds.{SizeFits};
 
+use crate::replaced::{NaturalSize, replaced_size_of};
 use crate::used_lengths::{
     block_of, definite_height, edges_of, or_zero, used_height, used_max_height, used_min_height,
     used_vertical_margin,
@@ -30,11 +32,17 @@ pub enum WidthRule {
     /// An inline box is as wide as what is in it on each line, `width` doesn't apply, and auto margins are zero
     /// (10.3.1). So is a text.
     Inline,
-    /// A float is as wide as its content, whose preferred widths these are in 1/64 px (10.3.5).
+    /// A float and an inline-block are as wide as their content, whose preferred widths these are in 1/64 px (10.3.5,
+    /// 10.3.9).
     ShrinksToFit {
         preferred_minimum: Unit,
         preferred: Unit,
     },
+    /// A replaced element that is a block in flow: its width is used as 10.3.2 says, and its margins come of the
+    /// equation (10.3.4).
+    ReplacedBlock(NaturalSize),
+    /// A replaced element that floats or is inline-level. Auto margins are zero (10.3.2, 10.3.6).
+    Replaced(NaturalSize),
 }
 
 /// What the used sizes of a box are beside its containing block (CSS 2.2, 8.3 to 8.5, 10.3, 10.5 and
@@ -84,43 +92,115 @@ pub fn box_sizes(containing: ContainingBlock, rule: WidthRule, style: &Style) ->
     ensures fits { SizeFits result }
 {
     let width = containing.width;
-    let height = containing.height;
+    let natural = natural_of(rule);
     BoxSizes {
         containing: width,
-        widths: used_widths(width, rule, style),
+        widths: used_widths(containing, rule, style),
         edges: edges_of(width, style),
         margin_top: used_vertical_margin(width, style.margin.top),
         margin_bottom: used_vertical_margin(width, style.margin.bottom),
-        height: used_height(height, style.sizing.height),
-        min_height: used_min_height(height, style.sizing.min_height),
-        max_height: used_max_height(height, style.sizing.max_height),
+        height: height_of(containing, natural, style),
+        min_height: min_height_of(containing, natural, style),
+        max_height: max_height_of(containing, natural, style),
     }
 }
 
-/// The used margins and width, for the width of the containing block.
-fn used_widths(containing: Unit, rule: WidthRule, style: &Style) -> BlockOut
-    requires { IsPosition containing.0 }
-    ensures { IsUsedWidth rule (block_of containing style.now) result }
+/// The used margins and width.
+fn used_widths(containing: ContainingBlock, rule: WidthRule, style: &Style) -> BlockOut
+    requires { IsPosition containing.width.0 }
+    ensures { IsUsedWidth containing rule style.now result }
 {
-    let block = block_of(containing, style);
+    let block = block_of(containing.width, style);
     match rule {
         WidthRule::Fills => solve_block(&block),
-        WidthRule::Inline => inline_widths(&block),
+        WidthRule::Inline => widths_beside(&block, Unit(0)),
         WidthRule::ShrinksToFit {
             preferred_minimum,
             preferred,
         } => solve_float(&block, preferred_minimum, preferred),
+        WidthRule::ReplacedBlock(natural) => {
+            let size = replaced_size_of(containing, natural, style);
+            solve_block(&with_width(&block, size.width))
+        }
+        WidthRule::Replaced(natural) => {
+            widths_beside(&block, replaced_size_of(containing, natural, style).width)
+        }
     }
 }
 
-/// The used margins of an inline box. Its width is in its lines.
-fn inline_widths(block: &BlockIn) -> BlockOut
-    ensures { IsHeld (inline_widths block.now) result }
+/// A width between margins of which auto ones are zero.
+fn widths_beside(block: &BlockIn, width: Unit) -> BlockOut
+    requires { IsUsedSize width.0 }
+    ensures { IsHeld (widths_beside block.now width.0) result }
 {
     BlockOut {
         margin_left: margin_or_zero(block.margin_left),
-        width: Unit(0),
+        width,
         margin_right: margin_or_zero(block.margin_right),
+    }
+}
+
+/// The same block, with this width given and no bounds.
+fn with_width(block: &BlockIn, width: Unit) -> BlockIn
+    requires fits { BlockFits block.now }
+    requires width { IsUsedSize width.0 }
+    ensures value { result ≡ with_width block.now width }
+    ensures fits { BlockFits result }
+{
+    BlockIn {
+        containing_width: block.containing_width,
+        margin_left: block.margin_left,
+        border_left: block.border_left,
+        padding_left: block.padding_left,
+        width: Len::Of(width),
+        padding_right: block.padding_right,
+        border_right: block.border_right,
+        margin_right: block.margin_right,
+        min_width: Unit(0),
+        max_width: None,
+    }
+}
+
+/// The natural size of a replaced element.
+fn natural_of(rule: WidthRule) -> Option<NaturalSize>
+    ensures { result ≡ natural_of rule }
+{
+    match rule {
+        WidthRule::ReplacedBlock(natural) | WidthRule::Replaced(natural) => Some(natural),
+        WidthRule::Fills | WidthRule::Inline | WidthRule::ShrinksToFit { .. } => None,
+    }
+}
+
+/// The height, as far as it doesn't depend on what is in the box: of a replaced element the used one.
+fn height_of(containing: ContainingBlock, natural: Option<NaturalSize>, style: &Style) -> Len
+    requires { IsPosition containing.width.0 }
+    ensures { result ≡ height_of containing natural style.now }
+{
+    match natural {
+        None => used_height(containing.height, style.sizing.height),
+        Some(natural) => Len::Of(replaced_size_of(containing, natural, style).height),
+    }
+}
+
+fn min_height_of(containing: ContainingBlock, natural: Option<NaturalSize>, style: &Style) -> Unit
+    ensures { result ≡ min_height_of containing natural style.now }
+{
+    match natural {
+        None => used_min_height(containing.height, style.sizing.min_height),
+        Some(_) => Unit(0),
+    }
+}
+
+fn max_height_of(
+    containing: ContainingBlock,
+    natural: Option<NaturalSize>,
+    style: &Style,
+) -> Option<Unit>
+    ensures { result ≡ max_height_of containing natural style.now }
+{
+    match natural {
+        None => used_max_height(containing.height, style.sizing.max_height),
+        Some(_) => None,
     }
 }
 

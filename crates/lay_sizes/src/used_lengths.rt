@@ -1,9 +1,9 @@
 //! Used lengths: percentages taken of the width or the height of the containing block.
 
-ghost use Rattle.std.specs.Prelude.{◌≡◌, ◌+ℤ◌, Option};
+ghost use Rattle.std.specs.Prelude.{◌≡◌, ◌+ℤ◌, Option, IfSome};
 ghost use Rattle.lay_units.specs.Units.{IsPosition, IsUsedSize, percentage_of};
 ghost use Rattle.lay_doc.specs.LengthValues.{length_of, size_of};
-ghost use Rattle.lay_widths.specs.Lengths.{BlockFits};
+ghost use Rattle.lay_widths.specs.Lengths.{BlockFits, IsSize, LenIsSize};
 ghost use Rattle.lay_sizes.specs.UsedLengths.{or_zero, used_margin, used_vertical_margin, used_width, used_size, used_limit, used_height, used_min_height, used_max_height, definite_height, block_of, edge_of, edges_of};
 
 use lay_doc::{LengthPercentage, LengthPercentageOrAuto, LengthPercentageOrNone, Style};
@@ -78,7 +78,8 @@ pub(crate) fn or_zero(length: Len) -> Unit
 
 /// A `height`, for the height of the containing block.
 pub(crate) fn used_height(containing: Len, height: LengthPercentageOrAuto) -> Len
-    ensures { result ≡ used_height containing height }
+    ensures value { result ≡ used_height containing height }
+    ensures size { LenIsSize result }
 {
     match (height, containing) {
         (LengthPercentageOrAuto::Auto, _) => Len::Auto,
@@ -91,7 +92,8 @@ pub(crate) fn used_height(containing: Len, height: LengthPercentageOrAuto) -> Le
 }
 
 pub(crate) fn used_min_height(containing: Len, height: LengthPercentage) -> Unit
-    ensures { result ≡ used_min_height containing height }
+    ensures value { result ≡ used_min_height containing height }
+    ensures size { IsSize result.0 }
 {
     match (height, containing) {
         (LengthPercentage::Length(length), _) => size_of(length),
@@ -101,7 +103,8 @@ pub(crate) fn used_min_height(containing: Len, height: LengthPercentage) -> Unit
 }
 
 pub(crate) fn used_max_height(containing: Len, height: LengthPercentageOrNone) -> Option<Unit>
-    ensures { result ≡ used_max_height containing height }
+    ensures value { result ≡ used_max_height containing height }
+    ensures size { IfSome result (λ v. IsSize v.0) }
 {
     match (height, containing) {
         (LengthPercentageOrNone::None, _) => None,
@@ -123,8 +126,9 @@ pub(crate) fn definite_height(height: Len, min: Unit, max: Option<Unit>) -> Len
     }
 }
 
-fn used_width(containing: Unit, width: LengthPercentageOrAuto) -> Len
-    ensures { result ≡ used_width containing width }
+pub(crate) fn used_width(containing: Unit, width: LengthPercentageOrAuto) -> Len
+    ensures value { result ≡ used_width containing width }
+    ensures size { LenIsSize result }
 {
     match width {
         LengthPercentageOrAuto::Auto => Len::Auto,
@@ -133,7 +137,7 @@ fn used_width(containing: Unit, width: LengthPercentageOrAuto) -> Len
     }
 }
 
-fn used_size(containing: Unit, size: LengthPercentage) -> Unit
+pub(crate) fn used_size(containing: Unit, size: LengthPercentage) -> Unit
     ensures value { result ≡ used_size containing size }
     ensures size { IsUsedSize result.0 }
 {
@@ -143,8 +147,9 @@ fn used_size(containing: Unit, size: LengthPercentage) -> Unit
     }
 }
 
-fn used_limit(containing: Unit, limit: LengthPercentageOrNone) -> Option<Unit>
-    ensures { result ≡ used_limit containing limit }
+pub(crate) fn used_limit(containing: Unit, limit: LengthPercentageOrNone) -> Option<Unit>
+    ensures value { result ≡ used_limit containing limit }
+    ensures size { IfSome result (λ v. IsSize v.0) }
 {
     match limit {
         LengthPercentageOrNone::None => None,

@@ -9,7 +9,7 @@ returns-clause-fits c = sizes_fit_lem c.args.containing c.args.rule c.args.style
   edges = c.edges_of.ensures;
   margin_top = c.used_vertical_margin.ensures;
   margin_bottom = c.used_vertical_margin-2.ensures;
-  height = c.used_height.ensures;
-  min_height = c.used_min_height.ensures;
-  max_height = c.used_max_height.ensures;
+  height = c.height_of.ensures;
+  min_height = c.min_height_of.ensures;
+  max_height = c.max_height_of.ensures;
 })
