@@ -1,7 +1,9 @@
+pub mod AtomicSteps
 pub mod CornerColumns
 pub mod FlowBoxSteps
 pub mod FlowFacts
 pub mod InlineContainerSteps
+pub mod LastSeen
 pub mod LeftSteps
 pub mod OnePlaces
 pub mod OutsideFacts
