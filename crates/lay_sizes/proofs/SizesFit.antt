@@ -13,11 +13,15 @@ use Rattle.lay_doc.specs.declared.style_lengths.LengthPercentage.TheVariants as 
 use Rattle.lay_widths.specs.declared.widths.BlockOut.{BlockOut}
 use Rattle.lay_widths.specs.declared.widths.UsedWidths.{UsedWidths}
 use Rattle.lay_widths.specs.BlockWidths.{IsHeld}
+use Rattle.lay_widths.specs.Lengths.{IsSize}
+use Rattle.lay_widths.specs.ReplacedSizes.{sizes_for}
+use Rattle.lay_widths.specs.declared.replaced.ReplacedIn.{ReplacedIn}
+use Rattle.lay_widths.specs.declared.replaced.Sizes.{Sizes}
 use Rattle.lay_sizes.specs.declared.sizing.WidthRule.{WidthRule}
 use Rattle.lay_sizes.specs.declared.sizing.WidthRule.TheVariants.{Fills, Inline, ShrinksToFit, ReplacedBlock, Replaced}
 use Rattle.lay_sizes.specs.declared.sizing.ContainingBlock.{ContainingBlock}
 use Rattle.lay_sizes.specs.declared.replaced.NaturalSize.{NaturalSize}
-use Rattle.lay_sizes.specs.ReplacedBoxes.{replaced_size_of}
+use Rattle.lay_sizes.specs.ReplacedBoxes.{replaced_of, replaced_size_of}
 use Rattle.lay_sizes.specs.UsedLengths.{used_size, used_vertical_margin, used_height, used_min_height, edge_of, block_of}
 use Rattle.lay_sizes.specs.BoxSizes.{IsUsedWidth, height_of, inline_widths, min_height_of, natural_of, widths_beside}
 use Rattle.lay_sizes.specs.SizeBounds.{IsInset, IsUsedSizeOrAuto}
@@ -28,6 +32,13 @@ margin_is_used v = (omega (arith, ints, clamps), omega (arith, ints, clamps))
 
 pub size_is_used : (v : ℤ) → IsUsedSize (clamp_size_of v)
 size_is_used v = (omega (arith, ints, clamps), omega (arith, ints, clamps))
+
+abbrev pub solved_of : ReplacedIn → Sizes
+solved_of r = sizes_for r r.width r.height
+
+-- a used size is a size that calls of lay_widths take
+pub used_is_size : (v : ℤ) → IsUsedSize v → IsSize v
+used_is_size v is = (is.0, omega (arith, ints, is.1))
 
 zero_is_size : IsUsedSize (pos 0)
 zero_is_size = (omega (arith, ints), omega (arith, ints))
@@ -82,7 +93,7 @@ min_height_is_used (of containing) (measure.Percent h) = size_is_used (percentag
 
 height_fits : (containing : ContainingBlock) (natural : Option NaturalSize) (s : Style) → IsUsedSizeOrAuto (height_of containing natural s)
 height_fits containing None s = height_is_used containing.height s.sizing.height
-height_fits containing (Some natural) s = size_is_used _
+height_fits containing (Some natural) s = size_is_used (solved_of (replaced_of containing natural s)).height
 
 min_height_fits : (containing : ContainingBlock) (natural : Option NaturalSize) (s : Style) → IsUsedSize (min_height_of containing natural s).0
 min_height_fits containing None s = min_height_is_used containing.height s.sizing.min_height

@@ -3,7 +3,7 @@
 ghost use Rattle.std.specs.Prelude.{◌≡◌, ◌+ℤ◌, Option, IfSome};
 ghost use Rattle.lay_units.specs.Units.{IsPosition, IsUsedSize, percentage_of};
 ghost use Rattle.lay_doc.specs.LengthValues.{length_of, size_of};
-ghost use Rattle.lay_widths.specs.Lengths.{BlockFits, IsSize, LenIsSize};
+ghost use Rattle.lay_widths.specs.Lengths.{BlockFits, IsSize, LenFits, LenIsSize};
 ghost use Rattle.lay_sizes.specs.UsedLengths.{or_zero, used_margin, used_vertical_margin, used_width, used_size, used_limit, used_height, used_min_height, used_max_height, definite_height, block_of, edge_of, edges_of};
 
 use lay_doc::{LengthPercentage, LengthPercentageOrAuto, LengthPercentageOrNone, Style};
@@ -49,7 +49,8 @@ fn edge_of(containing: Unit, border: Unit, padding: LengthPercentage) -> Unit
 }
 
 fn used_margin(containing: Unit, margin: LengthPercentageOrAuto) -> Len
-    ensures { result ≡ used_margin containing margin }
+    ensures value { result ≡ used_margin containing margin }
+    ensures fits { LenFits result }
 {
     match margin {
         LengthPercentageOrAuto::Auto => Len::Auto,
