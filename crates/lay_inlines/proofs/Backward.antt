@@ -26,17 +26,17 @@ pub edges_step : (areas : List InlineArea) (s : Stroke) (ss : List Stroke) (f : 
 edges_step areas s ss f edges new p q e = e ∙ (λ i. edges_before areas (shown_of s.part (stays s (p i))) (end_of s (p i)) (q i))
 
 -- the edges of the open boxes are taken one after the other, and their raises from the last one on
-pub open_step : (start end : ℤ) (edges raises : List Unit) (k n : ℕ) (ns : List ℕ) (now : List Unit) (spans before new : List Span)
-    → now ≡ drop (length ns) edges → before ≡ open_spans start end edges (drop (k + 1) raises) ns ++ spans
-    → new ≡ span_of Inline n (raise_at raises k) start (edge_at now 0 end) ∷ before
+pub open_step : (start end : ℤ) (edges raises : List Unit) (k m n : ℕ) (ns : List ℕ) (raise : Unit) (now : List Unit) (spans before new : List Span)
+    → raise ≡ raise_at raises k → m ≡ k + 1 → now ≡ drop (length ns) edges → before ≡ open_spans start end edges (drop m raises) ns ++ spans
+    → new ≡ span_of Inline n raise start (edge_at now 0 end) ∷ before
     → new ≡ open_spans start end edges (drop k raises) (n ∷ ns) ++ spans
-open_step start end edges raises k n ns now spans before new e f is =
-    is ∙ ap (λ (ss : List Span). span_of Inline n (raise_at raises k) start (edge_at now 0 end) ∷ ss) f
+open_step start end edges raises k m n ns raise now spans before new place next e f is =
+    is ∙ ap (λ (ss : List Span). span_of Inline n raise start (edge_at now 0 end) ∷ ss) f
     ∙ (λ i. span_of Inline n (raised i) start (same i) ∷ (open_spans start end edges (rest i) ns ++ spans))
   where
-    raised : raise_at raises k ≡ raise_at (drop k raises) 0
-    raised = ap (λ (j : ℕ). raise_at raises j) (sym (add-zero k)) ∙ sym (get_or-drop k raises 0 not_raised)
-    rest : drop (k + 1) raises ≡ drop 1 (drop k raises)
-    rest = ap (λ (j : ℕ). drop j raises) (omega arith) ∙ sym (drop-drop 1 k raises)
+    raised : raise ≡ raise_at (drop k raises) 0
+    raised = place ∙ ap (λ (i : ℕ). raise_at raises i) (sym (add-zero k)) ∙ sym (get_or-drop k raises 0 not_raised)
+    rest : drop m raises ≡ drop 1 (drop k raises)
+    rest = ap (λ (i : ℕ). drop i raises) next ∙ sym (drop-drop 1 k raises)
     same : edge_at now 0 end ≡ edge_at edges (length ns) end
     same = ap (λ (xs : List Unit). edge_at xs 0 end) e ∙ ap (λ (u : Unit). u.0) (get_or-drop (length ns) edges 0 (unit end)) ∙ ap (λ (k : ℕ). edge_at edges k end) (add-zero (length ns))

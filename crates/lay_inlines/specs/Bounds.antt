@@ -71,12 +71,15 @@ pub record SpanWithin (s : Span) : Type 0 where
   pub from : IsEdge s.from.0
   pub to : IsEdge s.to.0
 
--- where the pen's place 0 is, and a line's baseline
+-- where the pen's place 0 is, a line's baseline, and that of something on it
 abbrev pub IsOrigin : ℤ → Type 0
 IsOrigin v = IsWithin (pos (2 ^ 62 + 2 ^ 59 + 2 ^ 52)) v
 
 abbrev pub IsBaseline : ℤ → Type 0
 IsBaseline v = IsWithin (pos (2 ^ 61 + 2 ^ 59)) v
+
+abbrev pub IsRaised : ℤ → Type 0
+IsRaised v = IsWithin (pos (2 ^ 61 + 2 ^ 60)) v
 
 pub record LineWithin (c : Container) (fr : Frame) (r : Ended) (bs : List InlineArea) : Type 0 where
   pub left : IsWithin (pos (2 ^ 50)) c.left.0

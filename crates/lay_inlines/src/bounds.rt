@@ -33,12 +33,7 @@ pub fn is_area_within(area: &InlineArea) -> bool
 fn are_raises_within(raises: &[Unit]) -> bool
     ensures { IsTrue result ↔ All RaiseWithin raises.now }
 {
-    for raise in raises {
-        if !is_raise_within(raise) {
-            return false;
-        }
-    }
-    true
+    raises.iter().all(|raise| is_raise_within(raise))
 }
 
 fn is_raise_within(raise: &Unit) -> bool

@@ -1,7 +1,7 @@
 //! The pieces of one line.
 
 ghost use Rattle.std.specs.Prelude.{◌≡◌, ◌++◌, ◌+ℤ◌, ◌-ℤ◌, ℤ, pos, ◌^◌, [], List, All, map, reverse, OnOk};
-ghost use Rattle.lay_inlines.specs.Bounds.{IsPlace, RowWithin, AreaWithin, PensWithin, SpanWithin, IsOrigin, IsBaseline, LineWithin};
+ghost use Rattle.lay_inlines.specs.Bounds.{IsPlace, RowWithin, AreaWithin, PensWithin, SpanWithin, IsOrigin, IsBaseline, IsRaised, RaiseWithin, LineWithin};
 ghost use Rattle.lay_inlines.specs.LinePieces.{line_box, piece_of, baseline_of, origin_of, blank_of, content_end, line_pieces_of};
 ghost use Rattle.lay_inlines.specs.Strokes.{parts_of};
 
@@ -79,7 +79,7 @@ impl Sheet {
             nodes: open_boxes,
             raises: behind_strut(shifts),
         };
-        self.behind.fill(line.areas, strokes, open_boxes, ends)?;
+        self.behind.fill(line.areas, strokes, &open_boxes, ends)?;
         out.push(line_box(line.container.node, line.row))?;
         write(
             out,
@@ -158,9 +158,19 @@ fn piece_of(span: &Span, areas: &[InlineArea], origin: Origin) -> LinePiece
         node: span.node,
         rect: Rect {
             x: plus(origin.x, span.from),
-            y: minus(minus(origin.y, span.raise), area.above),
+            y: minus(raised(origin.y, span.raise), area.above),
             w: minus(span.to, span.from),
             h: plus(area.above, area.below),
         },
     }
+}
+
+/// The baseline that stands so far above another.
+fn raised(baseline: Unit, raise: Unit) -> Unit
+    requires baseline { IsBaseline baseline.0 }
+    requires raise { RaiseWithin raise }
+    ensures value { result.0 ≡ baseline.0 -ℤ raise.0 }
+    ensures within { IsRaised result.0 }
+{
+    minus(baseline, raise)
 }

@@ -1,7 +1,6 @@
 //! How far what stands on a line is raised above the line's baseline.
 
-ghost use Rattle.std.specs.Prelude.{◌≡◌, All, OnOk};
-ghost use Rattle.lay_inlines.specs.Bounds.{RaiseWithin, RaisesWithin};
+ghost use Rattle.std.specs.Prelude.{◌≡◌, IfOk, OnOk};
 ghost use Rattle.lay_inlines.specs.Raises.{
   behind_strut,
   innermost,

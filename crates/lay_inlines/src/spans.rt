@@ -74,17 +74,17 @@ impl Behind {
         &mut self,
         areas: &[InlineArea],
         strokes: &[Stroke],
-        open_boxes: OpenBoxes,
+        open_boxes: &OpenBoxes,
         ends: Ends,
     ) -> Result<(), NoMemory>
         requires areas { All AreaWithin areas.now }
-        requires raises { All RaiseWithin open_boxes.raises.now }
+        requires raises { All RaiseWithin open_boxes.now.raises.now }
         requires strokes { All StrokeWithin strokes.now }
         requires start { IsPlace ends.start.0 }
         requires end { IsPlace ends.end.0 }
         ensures spans { OnOk result (reverse self.new.spans.items
-            ≡ open_spans ends.start.0 ends.end.0 (right_edges areas.now strokes.now) open_boxes.raises.now
-            open_boxes.nodes.now ++ spans_of areas.now ends.end.0 strokes.now) }
+            ≡ open_spans ends.start.0 ends.end.0 (right_edges areas.now strokes.now) open_boxes.now.raises.now
+            open_boxes.now.nodes.now ++ spans_of areas.now ends.end.0 strokes.now) }
         ensures within { OnOk result (All SpanWithin self.new.spans.items) }
     {
         self.spans.clear();
@@ -192,22 +192,21 @@ impl Behind {
         ensures followed { self.new.followed ≡ self.old.followed }
         ensures within { OnOk result (BehindWithin self.new) }
     {
-        let mut span = Span {
-            kind: LinePieceKind::Text,
-            node: text,
-            raise: standing.raise,
-            from: standing.from,
-            to: standing.to,
-        };
+        let mut to = standing.to;
         if let Some(last) = self.spans.pop() {
             if is_text(last.kind) && last.node == text {
-                span.to = last.to;
+                to = last.to;
             } else {
                 self.spans.push(last)?;
             }
         }
-        self.spans.push(span)?;
-        Ok(())
+        self.put_span(Span {
+            kind: LinePieceKind::Text,
+            node: text,
+            raise: standing.raise,
+            from: standing.from,
+            to,
+        })
     }
 
     /// Puts an atomic box.
@@ -230,14 +229,13 @@ impl Behind {
         ensures within { OnOk result (BehindWithin self.new) }
     {
         let area = area_at(areas, node);
-        self.spans.push(Span {
+        self.put_span(Span {
             kind: LinePieceKind::Atomic,
             node,
             raise: standing.raise,
             from: plus(standing.from, area.margin_left),
             to: minus(standing.to, area.margin_right),
-        })?;
-        Ok(())
+        })
     }
 
     /// Puts an inline box that begins here.
@@ -263,14 +261,13 @@ impl Behind {
     {
         let to = self.next_edge(end);
         let margin = area_at(areas, node).margin_left;
-        self.spans.push(Span {
+        self.put_span(Span {
             kind: LinePieceKind::Inline,
             node,
             raise: standing.raise,
             from: plus(standing.from, margin),
             to,
-        })?;
-        Ok(())
+        })
     }
 
     /// Puts the end of an inline box.
@@ -290,14 +287,14 @@ impl Behind {
     }
 
     /// Puts the inline boxes that are open where the line's content begins.
-    fn put_open(&mut self, open_boxes: OpenBoxes, ends: Ends) -> Result<(), NoMemory>
+    fn put_open(&mut self, open_boxes: &OpenBoxes, ends: Ends) -> Result<(), NoMemory>
         requires within { BehindWithin self.old }
-        requires raises { All RaiseWithin open_boxes.raises.now }
+        requires raises { All RaiseWithin open_boxes.now.raises.now }
         requires start { IsPlace ends.start.0 }
         requires end { IsPlace ends.end.0 }
         ensures spans { OnOk result (reverse self.new.spans.items
-            ≡ open_spans ends.start.0 ends.end.0 (reverse self.old.edges.items) open_boxes.raises.now
-            open_boxes.nodes.now ++ reverse self.old.spans.items) }
+            ≡ open_spans ends.start.0 ends.end.0 (reverse self.old.edges.items) open_boxes.now.raises.now
+            open_boxes.now.nodes.now ++ reverse self.old.spans.items) }
         ensures within { OnOk result (BehindWithin self.new) }
     {
         let nodes = open_boxes.nodes;
@@ -323,13 +320,24 @@ impl Behind {
         ensures within { OnOk result (BehindWithin self.new) }
     {
         let to = self.next_edge(ends.end);
-        self.spans.push(Span {
+        self.put_span(Span {
             kind: LinePieceKind::Inline,
             node,
             raise,
             from: ends.start,
             to,
-        })?;
+        })
+    }
+
+    fn put_span(&mut self, span: Span) -> Result<(), NoMemory>
+        requires within { BehindWithin self.old }
+        requires span { SpanWithin span }
+        ensures spans { OnOk result (reverse self.new.spans.items ≡ span ∷ reverse self.old.spans.items) }
+        ensures edges { self.new.edges.items ≡ self.old.edges.items }
+        ensures followed { self.new.followed ≡ self.old.followed }
+        ensures within { OnOk result (BehindWithin self.new) }
+    {
+        self.spans.push(span)?;
         Ok(())
     }
 
