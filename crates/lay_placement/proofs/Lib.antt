@@ -5,6 +5,7 @@ pub mod FlowFacts
 pub mod InlineContainerSteps
 pub mod LastSeen
 pub mod LeftSteps
+pub mod OnLineSteps
 pub mod OnePlaces
 pub mod OutsideFacts
 pub mod PieceCountSteps

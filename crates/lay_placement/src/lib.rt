@@ -30,7 +30,7 @@ pub use context_answer::Placement;
 pub use context_sizes::ContextSizes;
 pub use corner::Corner;
 pub use corners::{near_corner, near_position};
-pub use laws::one_placement;
+pub use laws::{last_seen_line_gives_baseline, one_placement};
 pub use own_boxes::OwnBoxes;
 pub use place_input::PlaceInput;
 pub use placing::placement;

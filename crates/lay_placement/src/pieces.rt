@@ -1,7 +1,7 @@
 //! The pieces of the boxes of one context.
 
-ghost use Rattle.std.specs.Prelude.{◌≡◌, ◌<◌, ◌≤◌, length, IfOk, IfSome};
-ghost use Rattle.std.specs.List.{filter_map};
+ghost use Rattle.std.specs.Prelude.{◌≡◌, ◌<◌, ◌≤◌, [], length, IfOk, IfSome};
+ghost use Rattle.std.specs.List.{cons_option, filter_map};
 ghost use Rattle.lay_sizes.specs.BoxSizes.{border_width};
 ghost use Rattle.lay_sizes.specs.SizeBounds.{SizeFits};
 ghost use Rattle.lay_placement.specs.ContextPieces.{id_of, kind_on_line, piece_as, piece_of_box, piece_on_line, pieces_of_box, pieces_to};
@@ -79,11 +79,25 @@ fn with_lines(
 {
     let mut all = pieces;
     for k in 0..on_lines.len() {
-        if let Some(piece) = piece_on_line(boxes, on_lines[k])? {
-            all = all.with(piece)?;
-        }
+        all = with_piece(all, boxes, on_lines[k])?;
     }
     Ok(all)
+}
+
+/// These pieces, and behind them this one, where it is one of this context.
+fn with_piece(
+    pieces: PieceList,
+    boxes: &[BoxNode],
+    piece: LinePiece,
+) -> Result<PieceList, NoMemory>
+    requires near { AreNearPieces pieces }
+    ensures pieces { IfOk result (λ p. p ≡ with_pieces pieces (cons_option (piece_on_line boxes.now piece) [])) }
+    ensures near { IfOk result AreNearPieces }
+{
+    match piece_on_line(boxes, piece)? {
+        Some(piece) => pieces.with(piece),
+        None => Ok(pieces),
+    }
 }
 
 /// A piece on a line, where it is one of this context. NoMemory is also the answer where it stands more than 2^60 units
