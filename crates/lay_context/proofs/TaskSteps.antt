@@ -11,8 +11,9 @@ use Rattle.lay_context.specs.declared.value.Value.{Value}
 use Rattle.lay_context.specs.declared.value.Value.TheVariants as value
 use Rattle.lay_contexts.specs.Contexts.{Context, AreContexts, boxes_in}
 use Rattle.lay_context.specs.Medium.{Medium}
-use Rattle.lay_placement.specs.ContextPlaces.{ContextPlaces, Placement, corners_to, corner_of_box}
-use Rattle.lay_context.specs.DocumentLayout.{placement_in, sizes_in}
+use Rattle.lay_placement.specs.ContextPlaces.{Placement}
+use Rattle.lay_placement.proofs.PlaceFacts.{one_corner_each}
+use Rattle.lay_context.specs.DocumentLayout.{inner_boxes, placement_in, sizes_in}
 use Rattle.lay_context.specs.Needs.{task_at}
 use Rattle.lay_context.specs.Local.{Workings, IsLocal, IsTaskDone, input_by, input_of, value_by, value_of, with_value}
 use Rattle.lay_context.specs.Settling.{HasCounts, IsReady, AreDoneTo, AreKnown, IsSettled}
@@ -37,10 +38,6 @@ sizes_length xs i x = grind (arith, elements)
 
 places_length : (xs : List Placement) (i : ℕ) (x : Placement) → length (slice_set xs i x) ≡ length xs
 places_length xs i x = grind (arith, elements)
-
-length-corners : (p : ContextPlaces) (n : ℕ) → length (corners_to p n) ≡ n
-length-corners p zero = refl
-length-corners p (suc n) = omega (arith, length-corners p n, length-append (corners_to p n) (corner_of_box p n ∷ []))
 
 module _ (medium : Medium) (contexts : List Context) (w : Workings) where
   -- the value of the task itself
@@ -121,7 +118,7 @@ module _ (medium : Medium) (contexts : List Context) (are : AreContexts contexts
     known = record {
       counts = all.counts;
       sized = λ i lt. (sizes_done i lt).count;
-      cornered = λ i lt. (let is = places_done i lt in ap (λ (p : Placement). length p.corners) is.answer_is ∙ length-corners is.places (length (boxes_in contexts i)));
+      cornered = λ i lt. one_corner_each medium.face (boxes_in contexts i) (sizes_in w.sizes i) (inner_boxes contexts w.places i) (placement_in w.places i) (places_done i lt);
     }
 
     pub solved : (tree : List PageContext) → IsAssembled medium.viewport contexts w.sizes w.places tree → SolvesContexts medium contexts tree
