@@ -1,5 +1,5 @@
 -- The corners of boxes, with more and more pieces on lines.
-use Rattle.std.proofs.Common.{◌≡◌, ◌≢◌, ℕ, ◌<◌, ◌==◌, ◌&&◌, nat_lt, Bool, true, false, List, [], ◌∷◌, ◌++◌, length, reverse, slice_set, Option, Some, None, refl, sym, ap, ◌∙◌, arith, inl, inr}
+use Rattle.std.proofs.Common.{◌≡◌, ◌≢◌, ℕ, ◌<◌, ◌==◌, ◌&&◌, nat_lt, Bool, true, false, cond, List, [], ◌∷◌, ◌++◌, length, reverse, slice_set, Option, Some, None, refl, sym, ap, ◌∙◌, arith, inl, inr}
 use Rattle.std.specs.List.{find}
 use Rattle.std.specs.Option.{option_map, option_or, unwrap_or}
 use Rattle.std.proofs.lemmas.Bool.{cases_eq, eq-eqb, ne_eqb}
@@ -25,10 +25,10 @@ pub among_more : (xs ys : List LinePiece) (k : ℕ) (c : Corner) → corner_amon
 among_more xs ys k c = ap (λ (p : Option LinePiece). unwrap_or (option_map corner_of_piece p) c) (piece_more xs ys k) ∙ by_piece (atomic_piece ys k) (atomic_piece xs k) c
 
 other_piece : (p : LinePiece) (k : ℕ) (c : Corner) → is_atomic_of k p ≡ false → c ≡ corner_among (p ∷ []) k c
-other_piece p k c is = rw is refl
+other_piece p k c is = sym (ap (λ b. unwrap_or (option_map corner_of_piece (cond b (Some p) None)) c) is)
 
 this_piece : (p : LinePiece) (k : ℕ) (c : Corner) → is_atomic_of k p ≡ true → corner_of_piece p ≡ corner_among (p ∷ []) k c
-this_piece p k c is = rw is refl
+this_piece p k c is = sym (ap (λ b. unwrap_or (option_map corner_of_piece (cond b (Some p) None)) c) is)
 
 set_here : (cs : List Corner) (i : ℕ) (c : Corner) → i < length cs → corner_at (slice_set cs i c) i ≡ c
 set_here cs i c lt = grind (arith, elements, lt)

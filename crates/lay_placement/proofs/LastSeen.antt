@@ -1,5 +1,5 @@
 -- The baseline of the last line that is seen, of more and more lines.
-use Rattle.std.proofs.Common.{◌≡◌, ℕ, ◌||◌, Bool, true, false, List, [], ◌∷◌, ◌++◌, reverse, Option, Some, None, refl, sym, ap, ◌∙◌, if◌then◌else◌}
+use Rattle.std.proofs.Common.{◌≡◌, ℕ, ◌||◌, Bool, true, false, cond, List, [], ◌∷◌, ◌++◌, reverse, Option, Some, None, refl, sym, ap, ◌∙◌, if◌then◌else◌}
 use Rattle.std.specs.List.{find, list_any}
 use Rattle.std.specs.Option.{option_map, option_or}
 use Rattle.std.proofs.lemmas.List.{reverse-append}
@@ -21,18 +21,25 @@ or_or : {X : Type 0} (a b c : Option X) → option_or (option_or a b) c ≡ opti
 or_or None b c = refl
 or_or (Some x) b c = refl
 
-baseline_more : (xs ys : List Ended) → last_baseline (xs ++ ys) ≡ option_or (last_baseline ys) (last_baseline xs)
-baseline_more xs ys = ap (option_map (λ (row : Ended). let b : Length = record { 0 = baseline_of row } in b)) (last_more xs ys) ∙ map_or (λ (row : Ended). let b : Length = record { 0 = baseline_of row } in b) (last_seen ys) (last_seen xs)
+-- the baseline of a line
+abbrev line_baseline : Ended → Length
+line_baseline row = record { 0 = baseline_of row }
 
-by_seen : (row : Ended) (last : Option Length) (seen : Bool) → row.seen ≡ seen → (if seen then Some (record { 0 = baseline_of row }) else last) ≡ option_or (last_baseline (row ∷ [])) last
-by_seen row last true is = rw is refl
-by_seen row last false is = rw is refl
+baseline_more : (xs ys : List Ended) → last_baseline (xs ++ ys) ≡ option_or (last_baseline ys) (last_baseline xs)
+baseline_more xs ys = ap (option_map line_baseline) (last_more xs ys) ∙ map_or line_baseline (last_seen ys) (last_seen xs)
+
+by_seen : (seen : Bool) (row : Ended) (last : Option Length) → (if seen then Some (line_baseline row) else last) ≡ option_or (option_map line_baseline (cond seen (Some row) None)) last
+by_seen true row last = refl
+by_seen false row last = refl
+
+one_line : (row : Ended) (last : Option Length) → (if row.seen then Some (line_baseline row) else last) ≡ option_or (last_baseline (row ∷ [])) last
+one_line row last = by_seen row.seen row last
 
 -- one line more
 pub with_line : (before last next : Option Length) (rows : List Ended) (row : Ended) → last ≡ option_or (last_baseline rows) before → next ≡ (if row.seen then Some (record { 0 = baseline_of row }) else last)
     → next ≡ option_or (last_baseline (rows ++ row ∷ [])) before
 with_line before last next rows row so_far is =
-    is ∙ by_seen row last row.seen refl ∙ ap (option_or (last_baseline (row ∷ []))) so_far ∙ sym (or_or (last_baseline (row ∷ [])) (last_baseline rows) before)
+    is ∙ one_line row last ∙ ap (option_or (last_baseline (row ∷ []))) so_far ∙ sym (or_or (last_baseline (row ∷ [])) (last_baseline rows) before)
     ∙ sym (ap (λ (b : Option Length). option_or b before) (baseline_more rows (row ∷ [])))
 
 -- the lines of one box more
@@ -48,22 +55,22 @@ or_second true b h = absurd cc
 or_second false b h = h
 
 one_unseen : (row : Ended) → row.seen ≡ false → last_seen (row ∷ []) ≡ None
-one_unseen row is = rw is refl
+one_unseen row is = ap (λ b. cond b (Some row) None) is
 
 one_seen : (row : Ended) → row.seen ≡ true → last_seen (row ∷ []) ≡ Some row
-one_seen row is = rw is refl
+one_seen row is = ap (λ b. cond b (Some row) None) is
 
 none_seen : (rows : List Ended) → any_seen rows ≡ false → last_seen rows ≡ None
 none_seen [] none = refl
 none_seen (row ∷ rows) none =
     let here = or_first row.seen (any_seen rows) none in
     let behind = or_second row.seen (any_seen rows) none in
-    last_more (row ∷ []) rows ∙ rw (none_seen rows behind, one_unseen row here) refl
+    last_more (row ∷ []) rows ∙ ap (λ (o : Option Ended). option_or o (last_seen (row ∷ []))) (none_seen rows behind) ∙ one_unseen row here
 
 pub unseen_lines_lem : UnseenLinesGiveNone
-unseen_lines_lem rows none = ap (option_map (λ (row : Ended). let b : Length = record { 0 = baseline_of row } in b)) (none_seen rows none)
+unseen_lines_lem rows none = ap (option_map line_baseline) (none_seen rows none)
 
 pub last_seen_line_lem : LastSeenLineGivesBaseline
 last_seen_line_lem before after row seen none =
-    ap (option_map (λ (r : Ended). let b : Length = record { 0 = baseline_of r } in b))
-    (last_more before (row ∷ after) ∙ ap (λ (o : Option Ended). option_or o (last_seen before)) (last_more (row ∷ []) after ∙ rw (none_seen after none, one_seen row seen) refl))
+    ap (option_map line_baseline)
+    (last_more before (row ∷ after) ∙ ap (λ (o : Option Ended). option_or o (last_seen before)) (last_more (row ∷ []) after ∙ ap (λ (o : Option Ended). option_or o (last_seen (row ∷ []))) (none_seen after none) ∙ one_seen row seen))

@@ -1,6 +1,6 @@
 //! The corners of the boxes of one context.
 
-ghost use Rattle.std.specs.Prelude.{ℕ, ◌≡◌, ◌<◌, [], ◌∷◌, length, IfOk, OnOk};
+ghost use Rattle.std.specs.Prelude.{ℕ, ◌≡◌, ◌<◌, ◌&&◌, [], ◌∷◌, nat_lt, length, IfOk, OnOk};
 ghost use Rattle.lay_flow.specs.FlowPlaces.{box_place_at};
 ghost use Rattle.lay_placement.specs.AtomicCorners.{corner_among, corner_of_piece, is_atomic};
 ghost use Rattle.lay_placement.specs.ContextPlaces.{corner_at, corner_in_flow, corners_to};
@@ -74,17 +74,18 @@ fn put_atomic(corners: &mut Vec<Corner>, piece: LinePiece) -> Result<(), NoMemor
     ensures each { OnOk result ((k : ℕ) → k < length corners.old.items → corner_at corners.new.items k ≡ corner_among (piece ∷ []) k (corner_at corners.old.items k)) }
     ensures near { OnOk result (AreNearCorners corners.new.items) }
 {
-    let place = piece.node as usize;
-    if is_atomic(piece.kind) && place < corners.len() {
-        corners[place] = corner_of_piece(piece)?;
+    if !is_atomic_among(piece, corners.len()) {
+        return Ok(());
     }
+    corners[piece.node as usize] = corner_of_piece(piece)?;
     Ok(())
 }
 
-fn is_atomic(kind: LinePieceKind) -> bool
-    ensures { result ≡ is_atomic kind }
+/// Whether this is the piece of an atomic box that is one of so many boxes.
+fn is_atomic_among(piece: LinePiece, count: usize) -> bool
+    ensures { result ≡ (is_atomic piece.kind && nat_lt piece.node count) }
 {
-    matches!(kind, LinePieceKind::Atomic)
+    matches!(piece.kind, LinePieceKind::Atomic) && (piece.node as usize) < count
 }
 
 fn corner_of_piece(piece: LinePiece) -> Result<Corner, NoMemory>
