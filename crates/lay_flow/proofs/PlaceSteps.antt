@@ -185,7 +185,9 @@ lines_wider m n v le w = record {
     top = within_up m n e.top.0 le r.top;
     start = within_up m n e.reach.start.0 le r.start;
     end = within_up m n e.reach.end.0 le r.end;
-    extent = r.extent;
+    above = r.above;
+    below = r.below;
+    shifts = r.shifts;
     to = within_up m n e.to.0 le r.to;
   }) v.rows w.rows;
   places = All-weaker (NodePlaceWithin m) (NodePlaceWithin n) (λ p r. record { x = within_up m n p.place.x.0 le r.x; y = within_up m n p.place.y.0 le r.y }) v.places w.places;

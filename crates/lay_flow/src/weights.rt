@@ -1,14 +1,12 @@
 //! How much the boxes of a context have to lay out.
 
 ghost use Rattle.std.specs.Prelude.{◌≡◌, ◌↔◌, ◌+◌, ◌*◌, ◌≤◌, ◌<◌, IsTrue, length, None, IfSome};
-ghost use Rattle.lay_lines.specs.LineContents.{lines_weight, weight_of_stretch};
 ghost use Rattle.lay_flow.specs.Weights.{weight, weight_of};
 
 use crate::flow_box::{FlowBox, FlowKind};
-use lay_lines::{LineContent, Stretch};
 
 /// Whether boxes, with their lines, are few enough to be a context's: each counts once, and one that holds lines
-/// four times more for each stretch and each float of these, and once more. All together are at most 2^23.
+/// four times more for each weight of their content. All together are at most 2^23.
 pub fn is_light(boxes: &[FlowBox]) -> bool
     ensures { IsTrue result ↔ weight boxes.now (length boxes.now) ≤ 8388608 }
 {
@@ -34,30 +32,11 @@ fn box_weight(flow_box: &FlowBox) -> u64
     ensures { result ≡ weight_of flow_box.now.kind }
 {
     match &flow_box.kind {
-        FlowKind::Lines(l) => 1 + 4 * content_weight(&l.content),
+        FlowKind::Lines(l) => 1 + 4 * l.content.weight(),
         FlowKind::Block(_)
         | FlowKind::Solid(_)
         | FlowKind::Float(_)
         | FlowKind::LineFloat(_)
         | FlowKind::Inline => 1,
     }
-}
-
-fn content_weight(content: &LineContent) -> u64
-    ensures value { result ≡ lines_weight content.now }
-    ensures small { result ≤ 2097152 }
-{
-    let stretches = content.stretches();
-    let mut sum = 1;
-    for k in 0..stretches.len() {
-        sum += stretch_weight(&stretches[k]);
-    }
-    sum
-}
-
-fn stretch_weight(stretch: &Stretch) -> u64
-    requires { weight_of_stretch stretch.now ≤ 2097152 }
-    ensures { result ≡ weight_of_stretch stretch.now }
-{
-    stretch.heads.as_slice().len() as u64 + stretch.floats.as_slice().len() as u64 + 1
 }

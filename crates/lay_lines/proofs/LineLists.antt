@@ -3,6 +3,10 @@ use Rattle.std.proofs.Common.{◌≡◌, ◌∙◌, inl, inr, ℕ, ◌+◌, ◌<
 use Rattle.std.proofs.lemmas.Int.{ints}
 use Rattle.std.proofs.lemmas.Bool.{cases_lt}
 use Rattle.std.proofs.lemmas.Option.{same_Some, slice_get_within}
+use Rattle.lay_units.specs.declared.length.Unit.{Unit}
+use Rattle.lay_valign.specs.declared.parts.LineShape.{LineShape}
+use Rattle.lay_valign.specs.LineShape.{IsShape}
+use Rattle.lay_valign.proofs.OneShape.{one_shape_lem}
 use Rattle.lay_floats.specs.Laws.{OneFloatPlace, OneRoom}
 use Rattle.lay_floats.specs.declared.placed.Placed.{Placed}
 use Rattle.lay_lines.specs.declared.frame.Frame.{Frame}
@@ -11,12 +15,13 @@ use Rattle.lay_lines.specs.declared.content.Stretch.{Stretch}
 use Rattle.lay_lines.specs.declared.frame.Extent.{Extent}
 use Rattle.lay_lines.specs.declared.reach.Reach.{Reach}
 use Rattle.lay_lines.specs.declared.row.Ended.{Ended}
-use Rattle.lay_lines.specs.Extents.{height_of}
+use Rattle.lay_lines.specs.Extents.{shape_of, height_of}
 use Rattle.lay_lines.specs.Meeting.{State, IsFront, Meets}
 use Rattle.lay_lines.specs.Filling.{TakesNext, Fills, IsLongest, Takes, IsTop}
-use Rattle.lay_lines.specs.Rows.{Position, Row, Laid, is_seen, extent_of, emptied, IsFilled, IsRow, after_row, AddsRow, RowsTo, AreRows, position_of, ended_of}
+use Rattle.lay_lines.specs.Rows.{Position, Row, Laid, is_seen, parts_of, emptied, IsFilled, IsRow, after_row, AddsRow, RowsTo, AreRows, position_of, ended_of}
 use Rattle.lay_lines.specs.Laws.{OneListOfRows}
 use Rattle.lay_lines.specs.Reaching.{IsReach}
+use Rattle.lay_lines.proofs.LineParts.{are_parts}
 use Rattle.lay_lines.proofs.Chains.{chain_more, chain_one, chain_front, chain_keeps, chain_cut, front_trans}
 use Rattle.lay_lines.proofs.Steps.{one_meets, one_takes_next}
 use Rattle.lay_lines.proofs.Fronts.{floats_of, taken_front, meets_front}
@@ -40,12 +45,32 @@ pub record FloatLaws : Type 0 where
   pub place : OneFloatPlace
   pub room : OneRoom
 
+-- what a line takes, and what it meets by then, is one
+pub record SameTaken (r : Row) (headed : State) (top : ℤ) (count : ℕ) (filled : State) : Type 0 where
+  pub headed_is : r.headed ≡ headed
+  pub top_is : r.top ≡ top
+  pub count_is : r.reach.count ≡ count
+  pub filled_is : r.filled ≡ filled
+
+pub one_taken : FloatLaws → (p : Position) (r : Row) (s : Stretch) (headed : State) (top : ℤ) (count : ℕ) (filled : State) → IsFilled p r → slice_get p.rest 0 ≡ Some s
+    → Meets p.frame p.from p.rest 0 s.heads p.state headed → IsTop p.frame p.from p.rest headed.floats top → Takes p.frame top p.rest headed count → Fills p.frame top p.rest count headed filled
+    → SameTaken r headed top count filled
+one_taken one p r s headed top count filled f is heads top_is takes fills =
+    let es : s ≡ f.first = same_Some _ _ (sym is ∙ f.is) in
+    let eh : r.headed ≡ headed = one_meets one.place p.frame p.from p.rest 0 f.first.heads p.state r.headed headed f.heads
+    (subst (λ (t : Stretch). Meets p.frame p.from p.rest 0 t.heads p.state headed) es heads) in
+    let et : r.top ≡ top = one_top p.frame p.from p.rest r.headed.floats r.top top f.top_is (subst (λ (t : State). IsTop p.frame p.from p.rest t.floats top) (sym eh) top_is) in
+    let ec : r.reach.count ≡ count = one_longest _ _ r.reach.count count f.count_is (rw (et, eh) takes) in
+    let eg : r.filled ≡ filled = chain_one (TakesNext p.frame r.top p.rest) (one_takes_next one.place p.frame r.top p.rest) r.reach.count r.headed r.filled filled f.filled_is (rw (et, eh, ec) fills) in
+    record { headed_is = eh; top_is = et; count_is = ec; filled_is = eg }
+
 -- what two readings of a line agree on
 pub record SameFilled (r q : Row) : Type 0 where
   pub headed : r.headed ≡ q.headed
   pub top : r.top ≡ q.top
   pub reach : r.reach ≡ q.reach
   pub filled : r.filled ≡ q.filled
+  pub shifts : r.shifts ≡ q.shifts
   pub extent : r.extent ≡ q.extent
   pub seen : r.seen ≡ q.seen
   pub to : r.to ≡ q.to
@@ -53,20 +78,23 @@ pub record SameFilled (r q : Row) : Type 0 where
 same_reach : (a b : Reach) → a.count ≡ b.count → a.start.0 ≡ b.start.0 → a.end.0 ≡ b.end.0 → a.pen ≡ b.pen → a ≡ b
 same_reach a b c s e p = λ i. record { count = c i; start = record { 0 = s i }; end = record { 0 = e i }; pen = p i }
 
+abbrev extent_in : LineShape → Extent
+extent_in s = record { above = s.above; below = s.below }
+
 pub one_filled : FloatLaws → (p : Position) (r q : Row) → IsFilled p r → IsFilled p q → SameFilled r q
 one_filled one p r q f g =
-    let es : g.first ≡ f.first = same_Some _ _ (sym g.is ∙ f.is) in
-    let eh : r.headed ≡ q.headed = one_meets one.place p.frame p.from p.rest 0 f.first.heads p.state r.headed q.headed f.heads
-    (subst (λ (s : Stretch). Meets p.frame p.from p.rest 0 s.heads p.state q.headed) es g.heads) in
-    let et : r.top ≡ q.top = one_top p.frame p.from p.rest r.headed.floats r.top q.top f.top_is (subst (λ (s : State). IsTop p.frame p.from p.rest s.floats q.top) (sym eh) g.top_is) in
-    let ec : r.reach.count ≡ q.reach.count = one_longest _ _ r.reach.count q.reach.count f.count_is (rw (et, eh) g.count_is) in
-    let eg : r.filled ≡ q.filled = chain_one (TakesNext p.frame r.top p.rest) (one_takes_next one.place p.frame r.top p.rest) r.reach.count r.headed r.filled q.filled f.filled_is (rw (et, eh, ec) g.filled_is) in
+    let taken = one_taken one p r g.first q.headed q.top q.reach.count q.filled f g.is g.heads g.top_is g.count_is g.filled_is in
+    let et = taken.top_is in
+    let ec = taken.count_is in
+    let eg = taken.filled_is in
     let rooms = one.room _ _ _ _ _ _ _ _ _ f.room_is (rw (et, eg) g.room_is) in
     let ea = rooms.0 in
     let ep : r.reach.pen ≡ q.reach.pen = f.pen_is ∙ rw (ea, ec) refl ∙ sym g.pen_is in
-    let ex : r.extent ≡ q.extent = f.extent_is ∙ rw ec refl ∙ sym g.extent_is in
+    let es : shape_of r.shifts r.extent ≡ shape_of q.shifts q.extent = one_shape_lem (parts_of p r.reach.count) _ _ (are_parts p.frame p.open_boxes p.rest r.reach.count) f.shape_is
+    (subst (λ (n : ℕ). IsShape (parts_of p n) (shape_of q.shifts q.extent)) (sym ec) g.shape_is) in
+    let ex : r.extent ≡ q.extent = ap extent_in es in
     let en : r.seen ≡ q.seen = f.seen_is ∙ rw ec refl ∙ sym g.seen_is in
-    record { headed = eh; top = et; reach = same_reach r.reach q.reach ec ea rooms.1 ep; filled = eg; extent = ex; seen = en; to = f.to_is ∙ rw (et, ex, en) refl ∙ sym g.to_is }
+    record { headed = taken.headed_is; top = et; reach = same_reach r.reach q.reach ec ea rooms.1 ep; filled = eg; shifts = ap (λ (s : LineShape). s.shifts) es; extent = ex; seen = en; to = f.to_is ∙ rw (et, ex, en) refl ∙ sym g.to_is }
 
 pub one_row : FloatLaws → (p : Position) (r q : Row) → IsRow p r → IsRow p q → r ≡ q
 one_row one p r q a b =
@@ -75,11 +103,12 @@ one_row one p r q a b =
     let et = e.top in
     let er = e.reach in
     let eg = e.filled in
+    let eb = e.shifts in
     let ex = e.extent in
     let en = e.seen in
     let ed = e.to in
     let ea : r.after ≡ q.after = one_meets one.place p.frame r.to p.rest 0 r.filled.put_off (emptied r.filled) r.after q.after a.later (rw (ed, eg) b.later) in
-    λ i. record { headed = eh i; top = et i; reach = er i; filled = eg i; extent = ex i; seen = en i; to = ed i; after = ea i }
+    λ i. record { headed = eh i; top = et i; reach = er i; filled = eg i; shifts = eb i; extent = ex i; seen = en i; to = ed i; after = ea i }
 
 -- a line comes after what stood at its start
 pub filled_front : (p : Position) (r : Row) → IsFilled p r → IsFront r.headed.floats r.filled.floats
@@ -165,11 +194,11 @@ pub same_laid : (rows : List Row) (st : State) (fr fr' : Frame) (from from' : �
 same_laid rows st fr fr' from from' bs bs' ss ss' a b c d =
     λ i. record { rows = rows; position = record { frame = a i; from = b i; open_boxes = c i; rest = d i; state = st } }
 
-pub filled_by : (p : Position) (s : Stretch) (headed filled after : State) (top : ℤ) (reach : Reach) (extent : Extent) (seen : Bool) (to : ℤ) → slice_get p.rest 0 ≡ Some s
+pub filled_by : (p : Position) (s : Stretch) (headed filled after : State) (top : ℤ) (reach : Reach) (shifts : List Unit) (extent : Extent) (seen : Bool) (to : ℤ) → slice_get p.rest 0 ≡ Some s
     → Meets p.frame p.from p.rest 0 s.heads p.state headed → IsTop p.frame p.from p.rest headed.floats top → Takes p.frame top p.rest headed reach.count → Fills p.frame top p.rest reach.count headed filled
-    → IsReach p.frame top p.rest filled.floats reach → extent ≡ extent_of p reach.count → seen ≡ is_seen p reach.count → to ≡ (if seen then (top +ℤ height_of extent) else p.from)
-    → IsFilled p (record { headed = headed; top = top; reach = reach; filled = filled; extent = extent; seen = seen; to = to; after = after })
-filled_by p s headed filled after top reach extent seen to is heads top_is takes fills reach_is extent_is seen_is to_is = record {
+    → IsReach p.frame top p.rest filled.floats reach → IsShape (parts_of p reach.count) (shape_of shifts extent) → seen ≡ is_seen p reach.count → to ≡ (if seen then (top +ℤ height_of extent) else p.from)
+    → IsFilled p (record { headed = headed; top = top; reach = reach; filled = filled; shifts = shifts; extent = extent; seen = seen; to = to; after = after })
+filled_by p s headed filled after top reach shifts extent seen to is heads top_is takes fills reach_is shape_is seen_is to_is = record {
   first = s;
   is = is;
   heads = heads;
@@ -178,7 +207,7 @@ filled_by p s headed filled after top reach extent seen to is heads top_is takes
   filled_is = fills;
   room_is = reach_is.room;
   pen_is = reach_is.pen_is.pen;
-  extent_is = extent_is;
+  shape_is = shape_is;
   seen_is = seen_is;
   to_is = to_is;
 }

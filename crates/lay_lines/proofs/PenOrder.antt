@@ -13,7 +13,7 @@ use Rattle.lay_floats.specs.Standing.{IsNext}
 use Rattle.lay_floats.specs.Beside.{IsNextBottom}
 use Rattle.lay_floats.proofs.FirstPlace.{next_further_down}
 use Rattle.lay_lines.specs.declared.content.Part.{Part}
-use Rattle.lay_lines.specs.declared.content.Part.TheVariants.{Space, PreservedSpace, Tab, Linefeed, Text, Start, End}
+use Rattle.lay_lines.specs.declared.content.Part.TheVariants.{Space, PreservedSpace, Tab, Linefeed, Text, Start, End, Atomic}
 use Rattle.lay_lines.specs.declared.content.Stretch.{Stretch}
 use Rattle.lay_lines.specs.declared.frame.Frame.{Frame}
 use Rattle.lay_lines.specs.declared.pen.Pen.{Pen}
@@ -90,6 +90,7 @@ over_before fr p q Linefeed is = record { at = is.at; visible = is.visible; soli
 over_before fr p q (Text w) is = went_before _ _ (omega (arith, ints, is.at))
 over_before fr p q (Start b) is = moved_before p q b.width.0 b.seen is
 over_before fr p q (End b) is = moved_before p q b.width.0 b.seen is
+over_before fr p q (Atomic a) is = went_before _ _ (omega (arith, ints, is.at))
 
 all_before : (fr : Frame) (p q : Pen) (xs : List Part) → IsBefore p q → IsBefore (over_all fr p xs) (over_all fr q xs)
 all_before fr p q [] is = is

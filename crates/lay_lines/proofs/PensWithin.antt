@@ -6,12 +6,13 @@ use Rattle.std.proofs.lemmas.Int.{ints}
 use Rattle.lay_units.specs.Units.{IsPosition}
 use Rattle.lay_floats.specs.Within.{IsWithin}
 use Rattle.lay_lines.specs.declared.content.Part.{Part}
-use Rattle.lay_lines.specs.declared.content.Part.TheVariants.{Space, PreservedSpace, Tab, Linefeed, Text, Start, End}
+use Rattle.lay_lines.specs.declared.content.Part.TheVariants.{Space, PreservedSpace, Tab, Linefeed, Text, Start, End, Atomic}
 use Rattle.lay_lines.specs.declared.content.Stretch.{Stretch}
 use Rattle.lay_lines.specs.declared.frame.Frame.{Frame}
 use Rattle.lay_lines.specs.declared.pen.Pen.{Pen}
 use Rattle.lay_lines.specs.Pens.{next_stop, went, moved, over, over_all, past_at, start_of, pen_to, PenFits, PensFit, ContentFits}
-use Rattle.lay_lines.specs.LineContents.{distance, spread_of_part, spread_of_parts, spread_of}
+use Rattle.lay_lines.specs.LineContents.{spread_of_part, spread_of_parts, spread_of}
+use Rattle.lay_valign.specs.Near.{distance}
 use Rattle.lay_lines.proofs.PenOrder.{times_more}
 use Rattle.lay_lines.proofs.Totals.{part_of, total_to, total_next}
 
@@ -93,6 +94,7 @@ over_within fr n p Linefeed is = record { at = wider n (n + 0) _ (omega arith) i
 over_within fr n p (Text w) is = went_within _ _ (sum_within n p.at.0 w.width.0 is.at)
 over_within fr n p (Start b) is = moved_within n p b.width.0 b.seen is
 over_within fr n p (End b) is = moved_within n p b.width.0 b.seen is
+over_within fr n p (Atomic a) is = went_within _ _ (sum_within n p.at.0 a.width.0 is.at)
 
 pub all_within : (fr : Frame) (n : ℕ) (p : Pen) (xs : List Part) → PenWithin n p → PenWithin (n + spread_of_parts fr.tab.0 xs) (over_all fr p xs)
 all_within fr n p [] is = pen_wider n (n + 0) p (omega arith) is

@@ -1,114 +1,55 @@
 -- How far the lines of a container can stand, and that all that they can give is so within bounds.
 use Rattle.std.proofs.Common.{◌≡◌, ◌∙◌, ℕ, zero, suc, ◌+◌, ◌*◌, ◌<◌, ◌≤◌, ◌^◌, ℤ, pos, ◌+ℤ◌, Bool, true, false, if◌then◌else◌, List, [], ◌∷◌, ◌++◌, length, drop, map, slice_get, Option, Some, None, All, refl, sym, ap, subst, arith}
-use Rattle.std.specs.Int.{int_max}
-use Rattle.std.proofs.lemmas.Int.{ints, int_max_is}
-use Rattle.std.proofs.lemmas.List.Elements.{All-push, All-weaker, All-take, All-drop}
+use Rattle.std.proofs.Math.Nat.{mul-le-mul_left, mul-le-mul_right}
+use Rattle.std.proofs.lemmas.Int.{ints}
+use Rattle.std.proofs.lemmas.List.Elements.{All-push, All-weaker, All-drop}
 use Rattle.std.proofs.lemmas.Option.{slice_get_within}
 use Rattle.lay_units.specs.Units.{IsUsed, IsPosition}
+use Rattle.lay_valign.specs.declared.parts.LineShape.{LineShape}
+use Rattle.lay_valign.specs.LineShape.{IsShape}
+use Rattle.lay_valign.specs.PartsFit.{PartsFit}
 use Rattle.lay_floats.specs.Within.{IsWithin, PlaceWithin}
-use Rattle.lay_lines.specs.declared.content.InlineStart.{InlineStart}
 use Rattle.lay_lines.specs.declared.content.LineFloat.{LineFloat}
-use Rattle.lay_lines.specs.declared.content.Part.{Part}
-use Rattle.lay_lines.specs.declared.content.Part.TheVariants.{Space, PreservedSpace, Tab, Linefeed, Text, Start, End}
 use Rattle.lay_lines.specs.declared.content.Stretch.{Stretch}
 use Rattle.lay_lines.specs.declared.row.Ended.{Ended}
-use Rattle.lay_lines.specs.declared.frame.Extent.{Extent}
 use Rattle.lay_lines.specs.declared.frame.Frame.{Frame}
-use Rattle.lay_lines.specs.Extents.{raised, raised_by, Reading, read, read_all, read_at, reading_to, height_of, ExtentFits}
+use Rattle.lay_lines.specs.Extents.{reading_to, shape_of, height_of}
 use Rattle.lay_lines.specs.Meeting.{State, MeetsFloat, MeetsTo, Meets, CanMeetAll, RoomsFit, FrameFits}
 use Rattle.lay_lines.specs.Meeting.MeetsFloat.{stands, waits}
 use Rattle.lay_lines.specs.Filling.{IsTop, CanFill}
-use Rattle.lay_lines.specs.Rows.{Position, Row, Laid, extent_of, emptied, IsFilled, IsRow, next_frame, after_row, AddsRow, RowsTo, CanRow, CanLay, ended_of}
-use Rattle.lay_lines.specs.LineContents.{total, spread_of_parts, spread_of, weight_of_stretch, weight_of, ExtentWithin, PartWithin, StretchWithin}
+use Rattle.lay_lines.specs.Rows.{Position, Row, Laid, parts_of, emptied, IsFilled, IsRow, next_frame, after_row, AddsRow, RowsTo, CanRow, CanLay, ended_of}
+use Rattle.lay_lines.specs.LineContents.{total, spread_of_parts, spread_of, weight_of_stretch, weight_of, StretchWithin}
 use Rattle.lay_lines.specs.Lines.{RowWithin}
 use Rattle.lay_lines.proofs.Chains.{not_both}
 use Rattle.lay_lines.proofs.LineLists.{map_append_one}
+use Rattle.lay_lines.proofs.LineParts.{strut_part, box_lift, stretch_lift, stretch_boxes, Counted, to_counted}
+use Rattle.lay_lines.proofs.PartShapes.{ShapeWithin, parts_fit, height_near, shape_within}
 use Rattle.lay_lines.proofs.Steps.{takes_some, top_fits}
 use Rattle.lay_lines.proofs.PensWithin.{wider, position}
 use Rattle.lay_lines.proofs.FloatsWithin.{at_of, StateWithin, state_wider, FrameWithin, further, meets_within, can_meet_all, top_within, floats_to, fills_within, can_fill, room_start, room_end, rooms_fit}
 use Rattle.lay_lines.proofs.Totals.{part_of, total_to, total_to_most, total_split, drop_less}
 
-max_within : (n : ℕ) (v w : ℤ) → IsWithin (pos n) v → IsWithin (pos n) w → IsWithin (pos n) (int_max v w)
-max_within n v w a b =
-    let a0 = a.0 in
-    let a1 = a.1 in
-    let b0 = b.0 in
-    let b1 = b.1 in
-    let m = int_max_is v w in
-    (omega (arith, ints, m, a0, b0), omega (arith, ints, m, a1, b1))
+-- where the content of lines lifts at most t units, a line and each float add at most g
+pub record Grows (t g : ℕ) : Type 0 where
+  pub low : t < 72057594037927936
+  pub high : 137438953472 + 4 * t ≤ g
+  pub least : 274877906944 ≤ g
 
-raised_within : (e b : Extent) → ExtentWithin e → ExtentWithin b → ExtentWithin (raised e b)
-raised_within e b p q = record { above = max_within _ _ _ p.above q.above; below = max_within _ _ _ p.below q.below }
-
-abbrev pub BoxesWithin : List InlineStart → Type 0
-BoxesWithin bs = All (λ (b : InlineStart). ExtentWithin b.extent) bs
-
-boxes_first : (b : InlineStart) (bs : List InlineStart) → BoxesWithin (b ∷ bs) → ExtentWithin b.extent
-boxes_first b bs all = all 0 b (omega arith)
-
-boxes_rest : (b : InlineStart) (bs : List InlineStart) → BoxesWithin (b ∷ bs) → BoxesWithin bs
-boxes_rest b bs all k d lt = all (suc k) d (omega (arith, lt))
-
-raised_by_within : (e : Extent) (bs : List InlineStart) → ExtentWithin e → BoxesWithin bs → ExtentWithin (raised_by e bs)
-raised_by_within e [] is all = is
-raised_by_within e (b ∷ bs) is all = raised_by_within (raised e b.extent) bs (raised_within e b.extent is (boxes_first b bs all)) (boxes_rest b bs all)
-
-pub record ReadingWithin (r : Reading) : Type 0 where
-  pub open_boxes : BoxesWithin r.open_boxes
-  pub extent : ExtentWithin r.extent
-
-read_within : (r : Reading) (x : Part) → ReadingWithin r → PartWithin x → ReadingWithin (read r x)
-read_within r (Space w) is p = is
-read_within r (PreservedSpace w) is p = is
-read_within r (Tab t) is p = is
-read_within r Linefeed is p = is
-read_within r (Text w) is p = is
-read_within r (Start b) is p = record { open_boxes = All-push (λ (b : InlineStart). ExtentWithin b.extent) r.open_boxes b is.open_boxes p; extent = raised_within r.extent b.extent is.extent p }
-read_within r (End b) is p = record { open_boxes = All-take (λ (b : InlineStart). ExtentWithin b.extent) _ r.open_boxes is.open_boxes; extent = is.extent }
-
-read_all_within : (r : Reading) (xs : List Part) → ReadingWithin r → All PartWithin xs → ReadingWithin (read_all r xs)
-read_all_within r [] is all = is
-read_all_within r (x ∷ xs) is all = read_all_within (read r x) xs (read_within r x is (all 0 x (omega arith))) (λ k d lt. all (suc k) d (omega (arith, lt)))
-
-abbrev IsAt : List Stretch → Option Stretch → Type 0
-IsAt ss None = ℕ
-IsAt ss (Some s) = StretchWithin s
-
-at_any : (ss : List Stretch) (k : ℕ) (o : Option Stretch) → slice_get ss k ≡ o → All StretchWithin ss → IsAt ss o
-at_any ss k None is all = 0
-at_any ss k (Some s) is all = at_of StretchWithin ss k s all is
-
-read_at_within : (ss : List Stretch) (r : Reading) (o : Option Stretch) → IsAt ss o → ReadingWithin r → ReadingWithin (read_at r o)
-read_at_within ss r None at is = is
-read_at_within ss r (Some s) at is = read_all_within r s.parts is at.parts
-
-pub reading_within : (fr : Frame) (bs : List InlineStart) (ss : List Stretch) (k : ℕ) → ExtentWithin fr.strut → BoxesWithin bs → All StretchWithin ss → ReadingWithin (reading_to fr bs ss k)
-reading_within fr bs ss zero strut boxes all = record { open_boxes = boxes; extent = raised_by_within fr.strut bs strut boxes }
-reading_within fr bs ss (suc k) strut boxes all =
-    read_at_within ss (reading_to fr bs ss k) (slice_get ss k) (at_any ss k (slice_get ss k) refl all) (reading_within fr bs ss k strut boxes all)
-
-extent_fits : (e : Extent) → ExtentWithin e → ExtentFits e
-extent_fits e w =
-    let a0 = w.above.0 in
-    let a1 = w.above.1 in
-    let b0 = w.below.0 in
-    let b1 = w.below.1 in
-    record { above = (omega (arith, ints, a0), omega (arith, ints, a1)); below = (omega (arith, ints, b0), omega (arith, ints, b1)); height = (omega (arith, ints, a0, b0), omega (arith, ints, a1, b1)) }
-
--- where a line begins, with all that stands at most m units from the origin
-pub record PositionWithin (m : ℕ) (p : Position) : Type 0 where
+-- where a line begins, with all that stands at most m units from the origin, and content that lifts at most t units
+pub record PositionWithin (t m : ℕ) (p : Position) : Type 0 where
   pub least : 1125899906842624 ≤ m
   pub frame : FrameWithin p.frame
   pub from : IsWithin (pos m) p.from
-  pub open_boxes : BoxesWithin p.open_boxes
+  pub lifts : total box_lift p.open_boxes + total stretch_lift p.rest ≤ t
+  pub boxes : length p.open_boxes + total stretch_boxes p.rest ≤ 2147483648
   pub rest : All StretchWithin p.rest
   pub spread : spread_of p.frame.tab.0 p.rest ≤ 2 ^ 58
   pub state : StateWithin m p.state
   pub none : length p.state.put_off ≡ 0
 
 -- how far the lines from here can reach
-abbrev pub reach_from : ℕ → List Stretch → ℕ
-reach_from m ss = m + 274877906944 * weight_of ss
+abbrev pub reach_from : ℕ → ℕ → List Stretch → ℕ
+reach_from g m ss = m + g * weight_of ss
 
 abbrev weight_to : List Stretch → ℕ → ℕ
 weight_to ss k = total_to weight_of_stretch ss k
@@ -133,9 +74,9 @@ floats_in : (ss : List Stretch) → total (λ (s : Stretch). length s.floats) ss
 floats_in [] = omega arith
 floats_in (s ∷ ss) = let so_far = floats_in ss in omega (arith, so_far)
 
-all_counted : (ss : List Stretch) (first : Stretch) → slice_get ss 0 ≡ Some first → ((length first.heads + total (λ (s : Stretch). length s.floats) ss) + 1) ≤ weight_of ss
-all_counted [] first is = absurd (let w = slice_get_within {A = Stretch} [] 0 first is in omega (arith, w))
-all_counted (s ∷ ss) first is =
+floats_counted : (ss : List Stretch) (first : Stretch) → slice_get ss 0 ≡ Some first → ((length first.heads + total (λ (s : Stretch). length s.floats) ss) + 1) ≤ weight_of ss
+floats_counted [] first is = absurd (let w = slice_get_within {A = Stretch} [] 0 first is in omega (arith, w))
+floats_counted (s ∷ ss) first is =
     let rest = floats_in ss in
     let e = ap (λ (o : Option Stretch). part_of (λ (t : Stretch). length t.heads) o) is in
     omega (arith, rest, e)
@@ -149,31 +90,37 @@ none_waits fr y ss fs (suc n) st after c = stays c.0 c.2.0 after c.2.2 ∙ none_
     stays a f b (stands x z may e) = ap (λ (t : State). length t.put_off) e
     stays a f b (waits seen not e) = absurd (not_both false seen refl)
 
-height_within : (e : Extent) → ExtentWithin e → IsWithin (pos 137438953472) (height_of e)
-height_within e w =
-    let a0 = w.above.0 in
-    let a1 = w.above.1 in
-    let b0 = w.below.0 in
-    let b1 = w.below.1 in
-    (omega (arith, ints, a0, b0), omega (arith, ints, a1, b1))
-
-end_within : (b : Bool) (m : ℕ) (top height from to : ℤ) → IsWithin (pos m) top → IsWithin (pos 137438953472) height → IsWithin (pos m) from → to ≡ (if b then (top +ℤ height) else from) → IsWithin (pos (m + 137438953472)) to
-end_within true m top height from to a h f e = let a0 = a.0 in let a1 = a.1 in let h0 = h.0 in let h1 = h.1 in (omega (arith, ints, e, a0, h0), omega (arith, ints, e, a1, h1))
-end_within false m top height from to a h f e = let f0 = f.0 in let f1 = f.1 in (omega (arith, ints, e, f0), omega (arith, ints, e, f1))
+end_within : (b : Bool) (m h : ℕ) (top height from to : ℤ) → IsWithin (pos m) top → IsWithin (pos h) height → IsWithin (pos m) from → to ≡ (if b then (top +ℤ height) else from) → IsWithin (pos (m + h)) to
+end_within true m h top height from to a b f e = let a0 = a.0 in let a1 = a.1 in let h0 = b.0 in let h1 = b.1 in (omega (arith, ints, e, a0, h0), omega (arith, ints, e, a1, h1))
+end_within false m h top height from to a b f e = let f0 = f.0 in let f1 = f.1 in (omega (arith, ints, e, f0), omega (arith, ints, e, f1))
 
 frame_fits : (fr : Frame) → FrameWithin fr → FrameFits fr
 frame_fits fr w =
-    let e = extent_fits fr.strut w.strut in
+    let a0 = w.strut.above.0 in
+    let a1 = w.strut.above.1 in
+    let b0 = w.strut.below.0 in
+    let b1 = w.strut.below.1 in
     record {
       left = position 1125899906842624 _ (omega arith) w.left;
       right = position 1125899906842624 _ (omega arith) w.right;
-      above = e.above;
-      below = e.below;
-      height = e.height;
+      above = (omega (arith, ints, a0), omega (arith, ints, a1));
+      below = (omega (arith, ints, b0), omega (arith, ints, b1));
+      height = (omega (arith, ints, a0, b0), omega (arith, ints, a1, b1));
       indent = position 2147483648 _ (omega arith) w.indent;
     }
 
-module _ (law : PlaceWithin) (m : ℕ) (p : Position) (w : PositionWithin m p) (most : reach_from m p.rest ≤ 2305843009213693952) where
+module _ (law : PlaceWithin) (t g : ℕ) (grows : Grows t g) (m : ℕ) (p : Position) (w : PositionWithin t m p) (reach_most : reach_from g m p.rest ≤ 2305843009213693952) where
+  -- as if each float and each line added 2^38 units alone
+  most : m + 274877906944 * weight_of p.rest ≤ 2305843009213693952
+  most = let more = mul-le-mul_right (weight_of p.rest) grows.least in omega (arith, more, reach_most)
+
+  -- the parts of a line
+  abbrev lifts_to : ℕ → ℕ
+  lifts_to count = total box_lift p.open_boxes + total_to stretch_lift p.rest count
+
+  abbrev boxes_to : ℕ → ℕ
+  boxes_to count = length p.open_boxes + total_to stretch_boxes p.rest count
+
   headed_within : (first : Stretch) (headed : State) → slice_get p.rest 0 ≡ Some first → Meets p.frame p.from p.rest 0 first.heads p.state headed
       → StateWithin (further m (length first.heads)) headed × (length headed.put_off ≤ length first.heads)
   headed_within first headed is meets =
@@ -186,7 +133,7 @@ module _ (law : PlaceWithin) (m : ℕ) (p : Position) (w : PositionWithin m p) (
   heads_can : (first : Stretch) → slice_get p.rest 0 ≡ Some first → CanMeetAll p.frame p.from p.rest 0 first.heads p.state
   heads_can first is =
       let here = at_of StretchWithin p.rest 0 first w.rest is in
-      let few = all_counted p.rest first is in
+      let few = floats_counted p.rest first is in
       can_meet_all law m p.frame p.from p.rest 0 first.heads p.state w.least (omega (arith, few, most)) w.spread w.frame w.from here.heads w.state
 
   line_within : (first : Stretch) (headed : State) (top : ℤ) → slice_get p.rest 0 ≡ Some first → Meets p.frame p.from p.rest 0 first.heads p.state headed → IsTop p.frame p.from p.rest headed.floats top
@@ -196,26 +143,48 @@ module _ (law : PlaceWithin) (m : ℕ) (p : Position) (w : PositionWithin m p) (
 
   rooms_can : (first : Stretch) (headed : State) → slice_get p.rest 0 ≡ Some first → Meets p.frame p.from p.rest 0 first.heads p.state headed → RoomsFit p.frame headed.floats p.rest
   rooms_can first headed is meets =
-      let few = all_counted p.rest first is in
+      let few = floats_counted p.rest first is in
       let least = w.least in
       rooms_fit (further m (length first.heads)) p.frame headed.floats p.rest (omega (arith, least)) (omega (arith, few, most)) w.spread w.frame (headed_within first headed is meets).0.floats
 
   fills_can : (first : Stretch) (headed : State) (top : ℤ) → slice_get p.rest 0 ≡ Some first → Meets p.frame p.from p.rest 0 first.heads p.state headed → IsTop p.frame p.from p.rest headed.floats top
       → CanFill p.frame top p.rest headed
   fills_can first headed top is meets top_is =
-      let few = all_counted p.rest first is in
+      let few = floats_counted p.rest first is in
       let least = w.least in
       can_fill law (further m (length first.heads)) p.frame top p.rest headed (omega (arith, least)) (omega (arith, few, most)) w.spread w.frame (line_within first headed top is meets top_is) w.rest
       (headed_within first headed is meets).0
 
-  extent_within : (count : ℕ) → ExtentWithin (extent_of p count)
-  extent_within count = (reading_within p.frame p.open_boxes p.rest count w.frame.strut w.open_boxes w.rest).extent
+  few_lift : (count : ℕ) → lifts_to count ≤ t
+  few_lift count = let a = w.lifts in let b = total_to_most stretch_lift p.rest count in omega (arith, a, b)
 
-  ends_within : (r : Row) (f : IsFilled p r) → IsWithin (pos (further m (length f.first.heads) + 137438953472)) r.to
+  few_boxes : (count : ℕ) → boxes_to count ≤ 2147483648
+  few_boxes count = let a = w.boxes in let b = total_to_most stretch_boxes p.rest count in omega (arith, a, b)
+
+  line_of : (count : ℕ) → Counted (strut_part p.frame.strut) (lifts_to count) (boxes_to count) (reading_to p.frame p.open_boxes p.rest count).line
+  line_of count = (to_counted p.frame p.open_boxes p.rest count).line
+
+  parts_can : (count : ℕ) → PartsFit (parts_of p count)
+  parts_can count = parts_fit p.frame.strut w.frame.strut (lifts_to count) (boxes_to count) _ (line_of count)
+      (let a = few_lift count in let b = grows.low in omega (arith, a, b)) (few_boxes count)
+
+  shape_can : (count : ℕ) (shape : LineShape) → IsShape (parts_of p count) shape → ShapeWithin shape
+  shape_can count shape is = shape_within p.frame.strut w.frame.strut (lifts_to count) (boxes_to count) _ (line_of count)
+      (let a = few_lift count in let b = grows.low in omega (arith, a, b)) shape is
+
+  height_can : (count : ℕ) (shape : LineShape) → IsShape (parts_of p count) shape → IsWithin (pos (137438953472 + 4 * t)) (shape.above.0 +ℤ shape.below.0)
+  height_can count shape is =
+      wider (137438953472 + 4 * lifts_to count) (137438953472 + 4 * t) _ (let a = few_lift count in omega (arith, a))
+      (height_near p.frame.strut w.frame.strut (lifts_to count) (boxes_to count) _ (line_of count) shape is)
+
+  abbrev tall : ℕ
+  tall = 137438953472 + 4 * t
+
+  ends_within : (r : Row) (f : IsFilled p r) → IsWithin (pos (further m (length f.first.heads) + tall)) r.to
   ends_within r f =
       let far = further m (length f.first.heads) in
-      let height = height_within r.extent (subst ExtentWithin (sym f.extent_is) (extent_within r.reach.count)) in
-      end_within r.seen far r.top (height_of r.extent) p.from r.to (line_within f.first r.headed r.top f.is f.heads f.top_is) height (wider m far p.from (omega arith) w.from) f.to_is
+      end_within r.seen far tall r.top (height_of r.extent) p.from r.to (line_within f.first r.headed r.top f.is f.heads f.top_is) (height_can r.reach.count (shape_of r.shifts r.extent) f.shape_is)
+      (wider m far p.from (omega arith) w.from) f.to_is
 
   filled_within : (r : Row) (f : IsFilled p r)
       → StateWithin (further (further m (length f.first.heads)) (floats_to p.rest r.reach.count)) r.filled × (length r.filled.put_off ≤ length f.first.heads + floats_to p.rest r.reach.count)
@@ -235,13 +204,19 @@ module _ (law : PlaceWithin) (m : ℕ) (p : Position) (w : PositionWithin m p) (
 
   -- where a line ends, with all that it met and the line itself
   abbrev under : (r : Row) → IsFilled p r → ℕ
-  under r f = further (further m (length f.first.heads)) (floats_to p.rest r.reach.count) + 137438953472
+  under r f = further (further m (length f.first.heads)) (floats_to p.rest r.reach.count) + tall
 
-  few_wait : (r : Row) (f : IsFilled p r) → further (under r f) (length r.filled.put_off) ≤ m + 274877906944 * weight_to p.rest r.reach.count
+  few_wait : (r : Row) (f : IsFilled p r) → further (under r f) (length r.filled.put_off) ≤ m + g * weight_to p.rest r.reach.count
   few_wait r f =
       let few = (filled_within r f).1 in
-      let weigh = counted p.rest f.first r.reach.count (some_taken r f) f.is in
-      omega (arith, few, weigh)
+      wait_by (length f.first.heads) (floats_to p.rest r.reach.count) (length r.filled.put_off) (weight_to p.rest r.reach.count) few (counted p.rest f.first r.reach.count (some_taken r f) f.is)
+    where
+      wait_by : (heads floats waiting weight : ℕ) → waiting ≤ heads + floats → ((heads + floats) + 1) ≤ weight → further (further (further m heads) floats + tall) waiting ≤ m + g * weight
+      wait_by heads floats waiting weight few weigh =
+          let more = mul-le-mul_left g weigh in
+          let each = mul-le-mul_right (heads + floats) grows.least in
+          let high = grows.high in
+          omega (arith, few, more, each, high)
 
   under_least : (r : Row) (f : IsFilled p r) → 1125899906842624 ≤ under r f
   under_least r f = let least = w.least in omega (arith, least)
@@ -252,10 +227,10 @@ module _ (law : PlaceWithin) (m : ℕ) (p : Position) (w : PositionWithin m p) (
       record { floats = a.floats; places = a.places; put_off = λ k d lt. absurd (omega (arith, lt)) }
 
   under_end : (r : Row) (f : IsFilled p r) → IsWithin (pos (under r f)) r.to
-  under_end r f = wider (further m (length f.first.heads) + 137438953472) (under r f) r.to (omega arith) (ends_within r f)
+  under_end r f = wider (further m (length f.first.heads) + tall) (under r f) r.to (omega arith) (ends_within r f)
 
-  weight_most : (n : ℕ) → m + 274877906944 * weight_to p.rest n ≤ 2305843009213693952
-  weight_most n = let few = total_to_most weight_of_stretch p.rest n in omega (arith, few, most)
+  weight_most : (n : ℕ) → m + g * weight_to p.rest n ≤ 2305843009213693952
+  weight_most n = let few = mul-le-mul_left g (total_to_most weight_of_stretch p.rest n) in omega (arith, few, reach_most)
 
   later_can : (r : Row) (f : IsFilled p r) → CanMeetAll p.frame r.to p.rest 0 r.filled.put_off (emptied r.filled)
   later_can r f =
@@ -276,31 +251,35 @@ module _ (law : PlaceWithin) (m : ℕ) (p : Position) (w : PositionWithin m p) (
     heads = λ first is. heads_can first is;
     rooms = λ first headed is meets. rooms_can first headed is meets;
     fills = λ first headed top is meets top_is. fills_can first headed top is meets top_is;
-    extent = λ count. extent_fits (extent_of p count) (extent_within count);
+    parts = λ count. parts_can count;
+    height = λ count shape is. position tall _ (let low = grows.low in omega (arith, low)) (height_can count shape is);
     to = λ r f. to_fits r f;
     later = λ r f. later_can r f;
   }
 
-  later_within : (r : Row) → IsRow p r → StateWithin (m + 274877906944 * weight_to p.rest r.reach.count) r.after
+  later_within : (r : Row) → IsRow p r → StateWithin (m + g * weight_to p.rest r.reach.count) r.after
   later_within r row =
       let f = row.filled in
       let a = meets_within law (under r f) p.frame r.to p.rest 0 r.filled.put_off (emptied r.filled) r.after (length r.filled.put_off) (under_least r f) (under_end r f) (filled_within r f).0.put_off (under_state r f) row.later in
-      state_wider (further (under r f) (length r.filled.put_off)) (m + 274877906944 * weight_to p.rest r.reach.count) r.after (few_wait r f) a.0
+      state_wider (further (under r f) (length r.filled.put_off)) (m + g * weight_to p.rest r.reach.count) r.after (few_wait r f) a.0
 
-  pub row_within : (r : Row) → IsRow p r → RowWithin (pos (m + 274877906944 * weight_to p.rest r.reach.count)) (ended_of r)
+  pub row_within : (r : Row) → IsRow p r → RowWithin (pos (m + g * weight_to p.rest r.reach.count)) (ended_of r)
   row_within r row =
       let f = row.filled in
       let h = length f.first.heads in
-      let far = m + 274877906944 * weight_to p.rest r.reach.count in
+      let far = m + g * weight_to p.rest r.reach.count in
       let wait = few_wait r f in
       let least = w.least in
       let filled = filled_within r f in
       let reach = further (further m h) (floats_to p.rest r.reach.count) in
+      let shape = shape_can r.reach.count (shape_of r.shifts r.extent) f.shape_is in
       record {
         top = wider (further m h) far r.top (omega (arith, wait)) (line_within f.first r.headed r.top f.is f.heads f.top_is);
         start = wider reach far _ (omega (arith, wait)) (room_start reach p.frame r.top r.filled.floats _ _ (omega (arith, least)) w.frame filled.0.floats f.room_is);
         end = wider reach far _ (omega (arith, wait)) (room_end reach p.frame r.top r.filled.floats _ _ (omega (arith, least)) w.frame filled.0.floats f.room_is);
-        extent = subst ExtentWithin (sym f.extent_is) (extent_within r.reach.count);
+        above = shape.above;
+        below = shape.below;
+        shifts = shape.shifts;
         to = wider (under r f) far r.to (omega (arith, wait)) (under_end r f);
       }
 
@@ -308,9 +287,9 @@ module _ (law : PlaceWithin) (m : ℕ) (p : Position) (w : PositionWithin m p) (
   indent_used true = (omega (arith, ints), omega (arith, ints))
   indent_used false = w.frame.indent
 
-  pub next_within : (r : Row) → IsRow p r → PositionWithin (m + 274877906944 * weight_to p.rest r.reach.count) (after_row p r)
+  pub next_within : (r : Row) → IsRow p r → PositionWithin t (m + g * weight_to p.rest r.reach.count) (after_row p r)
   next_within r row =
-      let far = m + 274877906944 * weight_to p.rest r.reach.count in
+      let far = m + g * weight_to p.rest r.reach.count in
       let least = w.least in
       let spread = w.spread in
       let less = drop_less (λ (s : Stretch). spread_of_parts p.frame.tab.0 s.parts) p.rest r.reach.count in
@@ -318,7 +297,8 @@ module _ (law : PlaceWithin) (m : ℕ) (p : Position) (w : PositionWithin m p) (
         least = omega (arith, least);
         frame = record { left = w.frame.left; right = w.frame.right; strut = w.frame.strut; indent = indent_used r.seen };
         from = (row_within r row).to;
-        open_boxes = (reading_within p.frame p.open_boxes p.rest r.reach.count w.frame.strut w.open_boxes w.rest).open_boxes;
+        lifts = (let a = (to_counted p.frame p.open_boxes p.rest r.reach.count).open_lifts in let b = total_split stretch_lift p.rest r.reach.count in let c = w.lifts in omega (arith, a, b, c));
+        boxes = (let a = (to_counted p.frame p.open_boxes p.rest r.reach.count).open_count in let b = total_split stretch_boxes p.rest r.reach.count in let c = w.boxes in omega (arith, a, b, c));
         rest = All-drop StretchWithin r.reach.count p.rest w.rest;
         spread = omega (arith, spread, less);
         state = later_within r row;
@@ -326,42 +306,43 @@ module _ (law : PlaceWithin) (m : ℕ) (p : Position) (w : PositionWithin m p) (
       }
 
 -- what stands after some lines
-pub record LaidWithin (m : ℕ) (l : Laid) : Type 0 where
-  pub position : PositionWithin m l.position
+pub record LaidWithin (t m : ℕ) (l : Laid) : Type 0 where
+  pub position : PositionWithin t m l.position
   pub rows : All (RowWithin (pos m)) (map ended_of l.rows)
 
 pub row_wider : (n m : ℕ) → n ≤ m → (e : Ended) → RowWithin (pos n) e → RowWithin (pos m) e
-row_wider n m le e is = record { top = wider n m _ le is.top; start = wider n m _ le is.start; end = wider n m _ le is.end; extent = is.extent; to = wider n m _ le is.to }
+row_wider n m le e is = record { top = wider n m _ le is.top; start = wider n m _ le is.start; end = wider n m _ le is.end; above = is.above; below = is.below; shifts = is.shifts; to = wider n m _ le is.to }
 
 abbrev laid_with : List Row → Row → Position → Laid
 laid_with rows r p = record { rows = rows ++ r ∷ []; position = after_row p r }
 
-added_within : PlaceWithin → (m : ℕ) (a b : Laid) (k : ℕ) → LaidWithin m a → reach_from m a.position.rest ≤ 2305843009213693952 → AddsRow k a b
-    → (n : ℕ) × LaidWithin n b × (reach_from n b.position.rest ≡ reach_from m a.position.rest)
-added_within law m a b k is most s =
-    let p = a.position in
-    let r = s.row in
-    let n = m + 274877906944 * weight_to p.rest r.reach.count in
-    let next = next_within law m p is.position most r s.is in
-    let older = All-weaker (RowWithin (pos m)) (RowWithin (pos n)) (row_wider m n (omega arith)) (map ended_of a.rows) is.rows in
-    let rows = All-push (RowWithin (pos n)) (map ended_of a.rows) (ended_of r) older (row_within law m p is.position most r s.is) in
-    let all : LaidWithin n (laid_with a.rows r p) = record { position = next; rows = subst (All (RowWithin (pos n))) (sym (map_append_one a.rows r)) rows } in
-    let same = total_split weight_of_stretch p.rest r.reach.count in
-    let e : reach_from n (drop r.reach.count p.rest) ≡ reach_from m p.rest = omega (arith, same) in
-    (n, subst (LaidWithin n) (sym s.after) all, ap (λ (l : Laid). reach_from n l.position.rest) s.after ∙ e)
+module _ (law : PlaceWithin) (t g : ℕ) (grows : Grows t g) where
+  added_within : (m : ℕ) (a b : Laid) (k : ℕ) → LaidWithin t m a → reach_from g m a.position.rest ≤ 2305843009213693952 → AddsRow k a b
+      → (n : ℕ) × LaidWithin t n b × (reach_from g n b.position.rest ≡ reach_from g m a.position.rest)
+  added_within m a b k is most s =
+      let p = a.position in
+      let r = s.row in
+      let n = m + g * total_to weight_of_stretch p.rest r.reach.count in
+      let next = next_within law t g grows m p is.position most r s.is in
+      let older = All-weaker (RowWithin (pos m)) (RowWithin (pos n)) (row_wider m n (omega arith)) (map ended_of a.rows) is.rows in
+      let rows = All-push (RowWithin (pos n)) (map ended_of a.rows) (ended_of r) older (row_within law t g grows m p is.position most r s.is) in
+      let all : LaidWithin t n (laid_with a.rows r p) = record { position = next; rows = subst (All (RowWithin (pos n))) (sym (map_append_one a.rows r)) rows } in
+      let same = ap (λ (w : ℕ). g * w) (total_split weight_of_stretch p.rest r.reach.count) in
+      let e : reach_from g n (drop r.reach.count p.rest) ≡ reach_from g m p.rest = omega (arith, same) in
+      (n, subst (LaidWithin t n) (sym s.after) all, ap (λ (l : Laid). reach_from g n l.position.rest) s.after ∙ e)
 
-pub rows_within : PlaceWithin → (m n : ℕ) (a b : Laid) → LaidWithin m a → reach_from m a.position.rest ≤ 2305843009213693952 → RowsTo n a b
-    → (k : ℕ) × LaidWithin k b × (reach_from k b.position.rest ≡ reach_from m a.position.rest)
-rows_within law m zero a b is most c = (m, subst (LaidWithin m) (sym c) is, ap (λ (l : Laid). reach_from m l.position.rest) c)
-rows_within law m (suc n) a b is most c =
-    let before = rows_within law m n a c.0 is most c.1 in
-    let e = before.2 in
-    let after = added_within law before.0 c.0 b n before.1 (omega (arith, e, most)) c.2 in
-    (after.0, after.1, after.2 ∙ before.2)
+  pub rows_within : (m n : ℕ) (a b : Laid) → LaidWithin t m a → reach_from g m a.position.rest ≤ 2305843009213693952 → RowsTo n a b
+      → (k : ℕ) × LaidWithin t k b × (reach_from g k b.position.rest ≡ reach_from g m a.position.rest)
+  rows_within m zero a b is most c = (m, subst (LaidWithin t m) (sym c) is, ap (λ (l : Laid). reach_from g m l.position.rest) c)
+  rows_within m (suc n) a b is most c =
+      let before = rows_within m n a c.0 is most c.1 in
+      let e = before.2 in
+      let after = added_within before.0 c.0 b n before.1 (omega (arith, e, most)) c.2 in
+      (after.0, after.1, after.2 ∙ before.2)
 
--- all that the lines of a container can give is within bounds
-pub can_lay : PlaceWithin → (m : ℕ) (p : Position) → PositionWithin m p → reach_from m p.rest ≤ 2305843009213693952 → CanLay p
-can_lay law m p is most n mid rows some =
-    let w = rows_within law m n (record { rows = []; position = p }) mid (record { position = is; rows = λ k d lt. absurd (omega (arith, lt)) }) most rows in
-    let e = w.2 in
-    can_row law w.0 mid.position w.1.position (omega (arith, e, most))
+  -- all that the lines of a container can give is within bounds
+  pub can_lay : (m : ℕ) (p : Position) → PositionWithin t m p → reach_from g m p.rest ≤ 2305843009213693952 → CanLay p
+  can_lay m p is most n mid rows some =
+      let w = rows_within m n (record { rows = []; position = p }) mid (record { position = is; rows = λ k d lt. absurd (omega (arith, lt)) }) most rows in
+      let e = w.2 in
+      can_row law t g grows w.0 mid.position w.1.position (omega (arith, e, most))

@@ -1,15 +1,16 @@
 -- The content of the lines of a block container, and its bounds.
-use Rattle.std.specs.Prelude.{ℕ, suc, ◌+◌, ◌*◌, ◌/◌, ◌≤◌, ◌^◌, ℤ, pos, negsuc, ◌≤ℤ◌, List, [], ◌∷◌, length, All}
+use Rattle.std.specs.Prelude.{ℕ, ◌+◌, ◌*◌, ◌/◌, ◌≤◌, ◌^◌, ℤ, pos, ◌≤ℤ◌, List, [], ◌∷◌, length, All}
 use Rattle.lay_units.specs.Units.{IsUsed}
 use Rattle.lay_units.specs.declared.length.Unit.{Unit}
 use Rattle.lay_floats.specs.Within.{IsWithin}
 use Rattle.lay_valign.specs.declared.parts.Shift.{Shift}
-use Rattle.lay_valign.specs.PartsFit.{length_of}
+use Rattle.lay_valign.specs.Near.{distance, lift}
 use Rattle.lay_lines.specs.declared.content.Part.{Part}
 use Rattle.lay_lines.specs.declared.content.Part.TheVariants.{Space, PreservedSpace, Tab, Linefeed, Text, Start, End, Atomic}
 use Rattle.lay_lines.specs.declared.content.LineFloat.{LineFloat}
 use Rattle.lay_lines.specs.declared.content.Stretch.{Stretch}
 use Rattle.lay_lines.specs.declared.frame.Extent.{Extent}
+use Rattle.lay_lines.specs.Extents.{part_by}
 
 -- the container's strut (10.8.1), its `text-indent` (16.1), the distance between its tab stops, where 0 says that there
 -- are none (16.6.1), and its content, measured
@@ -21,10 +22,6 @@ pub record LineContentValue : Type 0 where
 
 abbrev pub content_of : Extent → Unit → Unit → List Stretch → LineContentValue
 content_of strut indent tab stretches = record { strut = strut; indent = indent; tab = tab; stretches = stretches }
-
-abbrev pub distance : ℤ → ℕ
-distance (pos n) = n
-distance (negsuc n) = suc n
 
 -- how far a part takes the end of content at most, where stops are this far apart
 abbrev pub spread_of_part : ℤ → Part → ℕ
@@ -56,7 +53,7 @@ weight_of ss = total weight_of_stretch ss
 
 -- how much an inline box or an atomic box can add to the extents of a line, by its own extent and its alignment
 abbrev pub lift_by : Extent → Shift → ℕ
-lift_by e shift = distance e.above.0 + distance e.below.0 + distance (length_of shift)
+lift_by e shift = lift (part_by e shift 0)
 
 abbrev pub lift_of_part : Part → ℕ
 lift_of_part (Space w) = 0

@@ -1,7 +1,6 @@
 //! Sums and comparisons of positions.
 
 ghost use Rattle.std.specs.Prelude.{◌≡◌, ◌↔◌, ◌+ℤ◌, ◌-ℤ◌, ◌≤ℤ◌, IsTrue};
-ghost use Rattle.std.specs.Int.{int_max};
 ghost use Rattle.lay_units.specs.Units.{IsPosition};
 
 use lay_units::Unit;
@@ -40,10 +39,4 @@ pub fn are_same(a: Unit, b: Unit) -> bool
     ensures { IsTrue result ↔ a.0 ≡ b.0 }
 {
     a.0 == b.0
-}
-
-pub fn greater(a: Unit, b: Unit) -> Unit
-    ensures { result.0 ≡ int_max a.0 b.0 }
-{
-    Unit(a.0.max(b.0))
 }

@@ -67,8 +67,7 @@ fn are_stretches_within(stretches: &[Stretch]) -> bool
 fn is_stretch_within(stretch: &Stretch) -> bool
     ensures { IsTrue result ↔ StretchWithin stretch.now }
 {
-    are_floats_within(stretch.heads.as_slice())
-        && are_floats_within(stretch.floats.as_slice())
+    are_floats_within(stretch.heads.as_slice()) && are_floats_within(stretch.floats.as_slice())
 }
 
 fn are_floats_within(floats: &[LineFloat]) -> bool

@@ -1,11 +1,11 @@
 //! Sums that stop where they pass their bound.
 
 ghost use Rattle.std.specs.Prelude.{◌≡◌, ◌↔◌, ◌+◌, ◌*◌, ◌/◌, ◌≤◌, ◌<◌, ◌^◌, IsTrue, length, None, IfSome};
+ghost use Rattle.lay_valign.specs.Near.{distance};
 ghost use Rattle.lay_valign.specs.PartsFit.{length_of};
 ghost use Rattle.lay_lines.specs.LineContents.{
   boxes_of,
   boxes_of_part,
-  distance,
   lift_by,
   lift_of,
   lift_of_part,
@@ -95,7 +95,8 @@ fn spend_boxes(left: u64, parts: &[Part]) -> Option<u64>
     Some(left)
 }
 
-fn boxes_of_part(part: Part) -> u64
+/// Whether a part is an inline box or an atomic box, as a number.
+pub fn boxes_of_part(part: Part) -> u64
     ensures { result ≡ boxes_of_part part }
 {
     match part {

@@ -1,12 +1,13 @@
 //! How high a line is, and which inline boxes are open after it.
 
-ghost use Rattle.std.specs.Prelude.{◌≡◌, ◌≤◌, ◌<◌, ◌^◌, ◌⊎◌, length, IsTrue, IfOk, OnOk};
+ghost use Rattle.std.specs.Prelude.{◌≡◌, ◌≤◌, ◌<◌, ◌^◌, length, IsTrue, IfOk, OnOk};
 ghost use Rattle.lay_valign.specs.LineShape.{IsShape};
 ghost use Rattle.lay_valign.specs.PartsFit.{PartsFit};
 ghost use Rattle.lay_lines.specs.Extents.{any_shows, strut_alone, reading_of, read, read_all, reading_to, parts_to};
 ghost use Rattle.lay_lines.specs.LineContents.{boxes_of_part, total};
 ghost use Rattle.lay_lines.specs.Reaching.{HasNoBoxes};
 
+use crate::budgets::boxes_of_part;
 use crate::content::{InlineStart, Part, Stretch};
 use crate::frame::{Extent, Frame};
 use crate::line_parts::LineParts;
@@ -48,7 +49,7 @@ pub fn line_shape(
     align(alloc, line.as_slice())
 }
 
-/// The shape of a line of text alone, in no inline box.
+/// The shape of a line of text alone, in no inline box: its only part is the strut.
 fn strut_shape(alloc: Global, strut: Extent) -> Result<LineShape, NoMemory>
     ensures { IfOk result (λ shape. IsShape (strut_alone strut).parts shape) }
 {
@@ -61,6 +62,7 @@ fn strut_shape(alloc: Global, strut: Extent) -> Result<LineShape, NoMemory>
     })
 }
 
+/// Whether no inline box starts and no atomic box stands in the first stretches.
 fn has_no_boxes(stretches: &[Stretch], count: usize) -> bool
     requires { count ≤ length stretches.now }
     ensures { IsTrue result → HasNoBoxes stretches.now count }
@@ -77,22 +79,14 @@ fn is_text(parts: &[Part]) -> bool
     ensures { IsTrue result → total boxes_of_part parts.now ≡ 0 }
 {
     for k in 0..parts.len() {
-        if is_box(parts[k]) {
+        if boxes_of_part(parts[k]) != 0 {
             return false;
         }
     }
     true
 }
 
-fn is_box(part: Part) -> bool
-    ensures { IsTrue result ⊎ (boxes_of_part part ≡ 0) }
-{
-    match part {
-        Part::Start(_) | Part::Atomic(_) => true,
-        _ => false,
-    }
-}
-
+/// The parts of a line that takes the first stretches. The open boxes are then those after it.
 fn line_parts(
     alloc: Global,
     frame: &Frame,

@@ -3,7 +3,6 @@
 ghost use Rattle.lay_lines.specs.Laws.{OneListOfRows, OneLines, LinesAreNear};
 
 use lay_floats::{one_float_place, one_room, place_within};
-use lay_valign::one_shape;
 
 /// A container has one list of lines.
 pub fn one_lines()
@@ -17,7 +16,6 @@ fn one_list_of_rows()
 {
     one_float_place();
     one_room();
-    one_shape();
 }
 
 /// Lines reach no further than their content lets them.

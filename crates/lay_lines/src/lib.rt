@@ -3,8 +3,8 @@
 //!
 //! Contracts cite `LineContentValue` of `specs/LineContents.antt` and `AreLines` of `specs/Lines.antt`, which stands
 //! on `specs/Rows.antt` (line after line), `specs/Pens.antt` (how far content comes), `specs/Meeting.antt` (the floats
-//! of a line), `specs/Filling.antt` (what a line takes, and its top) and `specs/Extents.antt` (how high it is). A
-//! container has one list of lines (`specs/Laws.antt`).
+//! of a line), `specs/Filling.antt` (what a line takes, and its top) and `specs/Extents.antt` (the parts of which lay_valign
+//! makes its shape). A container has one list of lines (`specs/Laws.antt`).
 #![tactic(auto)]
 
 mod arithmetic;
@@ -27,7 +27,9 @@ mod rows;
 mod taking;
 mod top;
 
-pub use content::{Advance, AtomicBox, InlineArea, InlineEnd, InlineStart, LineFloat, Part, Stretch};
+pub use content::{
+    Advance, AtomicBox, InlineArea, InlineEnd, InlineStart, LineFloat, Part, Stretch,
+};
 pub use frame::{Extent, Frame};
 pub use laws::{lines_are_near, one_lines};
 pub use laying::{Lines, lay};

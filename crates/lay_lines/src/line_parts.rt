@@ -27,11 +27,7 @@ impl Model for LineParts {
 
 impl LineParts {
     /// Those at the start of a line: the strut, and the inline boxes that are open.
-    pub fn first(
-        alloc: Global,
-        strut: Extent,
-        boxes: &[InlineStart],
-    ) -> Result<LineParts, NoMemory>
+    pub fn first(alloc: Global, strut: Extent, boxes: &[InlineStart]) -> Result<LineParts, NoMemory>
         requires { length (opened_all (strut_alone strut) boxes.now).parts < 2 ^ 32 }
         ensures { IfOk result (λ l. l ≡ opened_all (strut_alone strut) boxes.now) }
     {

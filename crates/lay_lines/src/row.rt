@@ -19,7 +19,6 @@ use crate::taking::take;
 use crate::top::line_top;
 use lay_floats::{Floats, one_float_place, one_room};
 use lay_units::{NoMemory, Unit, UnitList};
-use lay_valign::one_shape;
 use std::alloc::Global;
 use std::mem;
 
@@ -66,7 +65,6 @@ pub fn put_row(
 {
     one_float_place();
     one_room();
-    one_shape();
     let ended = fill_row(alloc, floats, met, start, boxes, stretches)?;
     let waiting = mem::replace(&mut met.put_off, Vec::new(alloc));
     let under = Line {
@@ -102,7 +100,6 @@ fn fill_row(
 {
     one_float_place();
     one_room();
-    one_shape();
     let top = headed_top(floats, met, start, stretches)?;
     let line = Line {
         frame: start.frame,

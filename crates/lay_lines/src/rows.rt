@@ -11,7 +11,6 @@ use crate::met::Met;
 use crate::row::{Ended, put_row};
 use lay_floats::{Floats, NodePlace, one_float_place, one_room};
 use lay_units::{NoMemory, Unit};
-use lay_valign::one_shape;
 use std::alloc::Global;
 
 /// The lines of a container so far.
@@ -41,7 +40,6 @@ pub fn lay_rows(
 {
     one_float_place();
     one_room();
-    one_shape();
     let mut rows = Vec::new(alloc);
     let mut boxes = Vec::new(alloc);
     let mut met = Met {

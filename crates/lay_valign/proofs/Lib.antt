@@ -2,3 +2,4 @@ pub mod Columns
 pub mod Widened
 pub mod Extents
 pub mod OneShape
+pub mod NearShapes

@@ -60,7 +60,7 @@ raised_same Of f g c d v w floors same p q =
     let b = raised_low Of g f d c w v (sym floors) (λ k of. sym (same k of)) q p in
     omega (arith, ints, a, b)
 
-aligned_begins : (edge : LineEdge) (shift : Shift) → is_aligned edge shift ≡ true → begins shift ≡ true
+pub aligned_begins : (edge : LineEdge) (shift : Shift) → is_aligned edge shift ≡ true → begins shift ≡ true
 aligned_begins TopEdge (By v) is = absurd (search rules)
 aligned_begins TopEdge (Middle v) is = absurd (search rules)
 aligned_begins TopEdge (TextTop v) is = absurd (search rules)

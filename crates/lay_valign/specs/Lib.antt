@@ -3,5 +3,6 @@ pub mod Raises
 pub mod Subtrees
 pub mod LineShape
 pub mod PartsFit
+pub mod Near
 pub mod Laws
 pub mod Pass

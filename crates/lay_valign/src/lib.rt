@@ -2,7 +2,8 @@
 //! line and their `vertical-align` come the place of each baseline and the extent of the line box.
 //!
 //! Contracts cite `IsShape` of `specs/LineShape.antt`, which stands on `AreSubtrees` of
-//! `specs/Subtrees.antt`. A line has one shape (`specs/Laws.antt`).
+//! `specs/Subtrees.antt`. A line has one shape (`specs/Laws.antt`), which reaches
+//! no further than its parts can lift it (`specs/Near.antt`).
 #![tactic(auto)]
 
 mod laws;
@@ -14,6 +15,6 @@ mod roots;
 mod subtrees;
 mod sums;
 
-pub use laws::one_shape;
+pub use laws::{one_shape, shapes_are_near};
 pub use line::align;
 pub use parts::{LineShape, Part, Shift};

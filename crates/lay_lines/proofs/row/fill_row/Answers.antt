@@ -1,12 +1,11 @@
 use Rattle.std.proofs.Common.{◌∙◌, ◌||◌, ◌+ℤ◌, if◌then◌else◌, refl, ap, sym, subst}
-use Rattle.lay_units.specs.Units.{IsPosition}
 use Rattle.lay_lines.specs.declared.frame.Extent.{Extent}
-use Rattle.lay_lines.specs.Extents.{Reading, any_shows, height_of, ExtentFits}
+use Rattle.lay_lines.specs.Extents.{any_shows, height_of}
 use Rattle.lay_lines.specs.Meeting.{State, state_of}
-use Rattle.lay_lines.specs.Rows.{is_seen, extent_of, position_of}
+use Rattle.lay_lines.specs.Rows.{position_of}
 use Rattle.lay_lines.proofs.Chains.{at_err, all_front, front_trans}
 use Rattle.lay_lines.proofs.PenOrder.{some_at}
-use Rattle.lay_lines.proofs.LineLists.{filled_front, filled_by, taking_stopped, one_filled}
+use Rattle.lay_lines.proofs.LineLists.{filled_front, filled_by, taking_stopped, one_taken}
 use Rattle.lay_lines.proofs.row.fill_row.Goals as goal
 
 pub returns-in_err-top-clause-stopped : goal.returns-in_err-top-clause-stopped
@@ -44,8 +43,11 @@ returns-in_err-reach-clause-stopped c =
     let heads = c.in_ok-top.ensures.heads w.0 w.1 in
     at_err c.from_residual-in_err-reach.result _ (λ r f. taking_stopped (record { place = c.one_float_place.ensures; room = c.one_room.ensures }) p w.0 headed top c.take.new.floats r w.1 heads c.in_ok-top.ensures.top c.in_err-reach.ensures.stopped f)
 
-pub returns-in_err-extent-clause-stopped : goal.returns-in_err-extent-clause-stopped
-returns-in_err-extent-clause-stopped c =
+pub line_shape-requires-clause-fits : goal.line_shape-requires-clause-fits
+line_shape-requires-clause-fits c = c.requires.can.parts c.in_ok-reach.reach.count
+
+pub returns-in_err-shape-clause-stopped : goal.returns-in_err-shape-clause-stopped
+returns-in_err-shape-clause-stopped c =
     let fr = c.args.start.now.frame in
     let from = c.args.start.now.top.0 in
     let ss = c.args.stretches.now in
@@ -56,16 +58,11 @@ returns-in_err-extent-clause-stopped c =
     let w = some_at ss 0 c.requires.some in
     let heads = c.in_ok-top.ensures.heads w.0 w.1 in
     let filled = state_of c.take.new.floats c.take.new.met in
-    let reach = c.in_ok-reach.reach in
-    let count = reach.count in
-    let reach_is = c.in_ok-reach.ensures.reach in
-    let seen = is_seen p count in
-    let ours = filled_by p w.0 headed filled st top reach (extent_of p count) seen (if seen then (top +ℤ height_of (extent_of p count)) else from) w.1 heads c.in_ok-top.ensures.top c.in_ok-reach.ensures.takes c.in_ok-reach.ensures.fills reach_is refl refl refl in
-    at_err c.from_residual-in_err-extent.result _ (λ r f. all_front _ _ (ap (λ (z : State). z.floats) (sym (one_filled (record { place = c.one_float_place.ensures; room = c.one_room.ensures }) p r _ f ours).filled)))
+    at_err c.from_residual-in_err-shape.result _ (λ r f. all_front _ _ (ap (λ (z : State). z.floats) (sym (one_taken (record { place = c.one_float_place.ensures; room = c.one_room.ensures }) p r w.0 headed top c.in_ok-reach.reach.count filled f w.1 heads
+    c.in_ok-top.ensures.top c.in_ok-reach.ensures.takes c.in_ok-reach.ensures.fills).filled_is)))
 
-pub row_end-to-requires-clause-extent : goal.row_end-to-requires-clause-extent
-row_end-to-requires-clause-extent c =
-    subst ExtentFits (sym (ap (λ (r : Reading). r.extent) c.in_ok-extent.ensures)) (c.requires.can.extent c.in_ok-reach.reach.count)
+pub row_end-to-requires-clause-height : goal.row_end-to-requires-clause-height
+row_end-to-requires-clause-height c = c.requires.can.height c.in_ok-reach.reach.count c.in_ok-shape.shape c.in_ok-shape.ensures.shape
 
 pub row_end-to-requires-clause-end : goal.row_end-to-requires-clause-end
 row_end-to-requires-clause-end c =
@@ -80,14 +77,13 @@ row_end-to-requires-clause-end c =
     let heads = c.in_ok-top.ensures.heads w.0 w.1 in
     let filled = state_of c.take.new.floats c.take.new.met in
     let reach = c.in_ok-reach.reach in
-    let count = reach.count in
-    let reach_is = c.in_ok-reach.ensures.reach in
     let seen = c.is_seen-seen.result in
     let seen_is = c.is_seen-seen.ensures ∙ ap (λ b. any_shows c.args.boxes.now.items || b) c.is_seen.ensures in
-    let extent_is = ap (λ (r : Reading). r.extent) c.in_ok-extent.ensures in
-    let to = if seen then (top +ℤ height_of (extent_of p count)) else from in
-    let ours = filled_by p w.0 headed filled st top reach (extent_of p count) seen to w.1 heads c.in_ok-top.ensures.top c.in_ok-reach.ensures.takes c.in_ok-reach.ensures.fills reach_is refl seen_is refl in
-    subst (λ (e : Extent). IsPosition (if seen then (top +ℤ height_of e) else from)) (sym extent_is) (c.requires.can.to _ ours)
+    let shape = c.in_ok-shape.shape in
+    let extent : Extent = record { above = shape.above; below = shape.below } in
+    let to = if seen then (top +ℤ height_of extent) else from in
+    let ours = filled_by p w.0 headed filled st top reach shape.shifts extent seen to w.1 heads c.in_ok-top.ensures.top c.in_ok-reach.ensures.takes c.in_ok-reach.ensures.fills c.in_ok-reach.ensures.reach c.in_ok-shape.ensures.shape seen_is refl in
+    c.requires.can.to _ ours
 
 pub returns-clause-filled : goal.returns-clause-filled
 returns-clause-filled c =
@@ -106,5 +102,6 @@ returns-clause-filled c =
     let reach_is = c.in_ok-reach.ensures.reach in
     let seen = c.is_seen-seen.result in
     let seen_is = c.is_seen-seen.ensures ∙ ap (λ b. any_shows c.args.boxes.now.items || b) c.is_seen.ensures in
-    let extent_is = ap (λ (r : Reading). r.extent) c.in_ok-extent.ensures in
-    (headed, λ after. filled_by p w.0 headed filled after top reach c.in_ok-extent.extent seen c.row_end-to.result.0 w.1 heads c.in_ok-top.ensures.top c.in_ok-reach.ensures.takes c.in_ok-reach.ensures.fills reach_is extent_is seen_is c.row_end-to.ensures)
+    let shape = c.in_ok-shape.shape in
+    let extent : Extent = record { above = shape.above; below = shape.below } in
+    (headed, λ after. filled_by p w.0 headed filled after top reach shape.shifts extent seen c.row_end-to.result.0 w.1 heads c.in_ok-top.ensures.top c.in_ok-reach.ensures.takes c.in_ok-reach.ensures.fills reach_is c.in_ok-shape.ensures.shape seen_is c.row_end-to.ensures)
