@@ -36,7 +36,9 @@ open_step start end edges raises k m n ns raise now spans before new place next 
   where
     raised : raise ≡ raise_at (drop k raises) 0
     raised = place ∙ ap (λ (i : ℕ). raise_at raises i) (sym (add-zero k)) ∙ sym (get_or-drop k raises 0 not_raised)
+
     rest : drop m raises ≡ drop 1 (drop k raises)
     rest = ap (λ (i : ℕ). drop i raises) next ∙ sym (drop-drop 1 k raises)
+
     same : edge_at now 0 end ≡ edge_at edges (length ns) end
     same = ap (λ (xs : List Unit). edge_at xs 0 end) e ∙ ap (λ (u : Unit). u.0) (get_or-drop (length ns) edges 0 (unit end)) ∙ ap (λ (k : ℕ). edge_at edges k end) (add-zero (length ns))

@@ -1,3 +1,4 @@
+mod AtomicPieces
 mod Backward
 mod Content
 mod OpenBoxSteps

@@ -1,5 +1,6 @@
 -- What the definitions come to. The content of a line ends where it did when the line was filled. A collapsible space
--- at the start or at the end of a line shows nothing, and moves nothing (CSS 2.2, 16.6.1).
+-- at the start or at the end of a line shows nothing, and moves nothing (CSS 2.2, 16.6.1). The pieces of a line that is seen
+-- are of each of its atomic boxes once, in order.
 use Rattle.std.specs.Prelude.{ℕ, ◌≡◌, List, [], ◌∷◌, ◌++◌, take}
 use Rattle.lay_lines.specs.declared.content.Advance.{Advance}
 use Rattle.lay_lines.specs.declared.content.InlineArea.{InlineArea}
@@ -9,6 +10,7 @@ use Rattle.lay_lines.specs.declared.frame.Frame.{Frame}
 use Rattle.lay_lines.specs.declared.row.Ended.{Ended}
 use Rattle.lay_lines.specs.Rows.{Position, Row, IsFilled, ended_of}
 use Rattle.lay_inlines.specs.declared.lines.Container.{Container}
+use Rattle.lay_inlines.specs.AtomicBoxes.{atomic_boxes, atomic_pieces}
 use Rattle.lay_inlines.specs.LinePieces.{content_end, line_pieces_of}
 use Rattle.lay_inlines.specs.Strokes.{parts_of}
 
@@ -25,3 +27,8 @@ abbrev pub SpacesAtTheEndAreRemoved : Type 0
 SpacesAtTheEndAreRemoved =
     (c : Container) (areas : List InlineArea) (fr : Frame) (row : Ended) (ns : List ℕ) (xs : List Part) (w : Advance)
     → line_pieces_of c areas fr row ns (xs ++ Space w ∷ []) ≡ line_pieces_of c areas fr row ns xs
+
+abbrev pub EachAtomicBoxHasOnePiece : Type 0
+EachAtomicBoxHasOnePiece =
+    (c : Container) (areas : List InlineArea) (fr : Frame) (row : Ended) (ns : List ℕ) (xs : List Part)
+    → atomic_pieces (line_pieces_of c areas fr row ns xs) ≡ atomic_boxes xs

@@ -1,3 +1,4 @@
+pub mod AtomicBoxes
 pub mod Behind
 pub mod Bounds
 pub mod Laws
