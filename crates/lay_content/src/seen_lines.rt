@@ -29,11 +29,8 @@ fn is_seen(part: Part) -> bool
 {
     match part {
         Part::Space(_) => false,
-        Part::PreservedSpace(_)
-        | Part::Tab(_)
-        | Part::Linefeed
-        | Part::Text(_)
-        | Part::Atomic(_) => true,
+        Part::PreservedSpace(_) | Part::Tab(_) | Part::Linefeed | Part::Text(_) | Part::Atomic(_) =>
+            true,
         Part::Start(start) => start.seen,
         Part::End(end) => end.seen,
     }
