@@ -1,8 +1,9 @@
 -- The baseline of the last line that is seen, of more and more lines.
 use Rattle.std.proofs.Common.{◌≡◌, ℕ, ◌||◌, Bool, true, false, cond, List, [], ◌∷◌, ◌++◌, reverse, Option, Some, None, refl, sym, ap, ◌∙◌, if◌then◌else◌}
-use Rattle.std.specs.List.{find, list_any}
+use Rattle.std.specs.List.{find, flat_map, list_any}
 use Rattle.std.specs.Option.{option_map, option_or}
-use Rattle.std.proofs.lemmas.List.{reverse-append}
+use Rattle.std.proofs.lemmas.List.{append-nil, reverse-append}
+use Rattle.std.proofs.lemmas.List.Concat.{flat_map-append}
 use Rattle.std.proofs.lemmas.List.Folds.{find-append}
 use Rattle.lay_units.specs.declared.length.Unit.{Unit as Length}
 use Rattle.lay_lines.specs.declared.row.Ended.{Ended}
@@ -45,6 +46,9 @@ with_line before last next rows row so_far is =
 -- the lines of one box more
 pub with_lines : (last next : Option Length) (rows more : List Ended) → last ≡ last_baseline rows → next ≡ option_or (last_baseline more) last → next ≡ last_baseline (rows ++ more)
 with_lines last next rows more so_far is = is ∙ ap (option_or (last_baseline more)) so_far ∙ sym (baseline_more rows more)
+
+pub one_box_more : (lines : List (List Ended)) (rows : List Ended) → flat_map (λ (r : List Ended). r) (lines ++ rows ∷ []) ≡ flat_map (λ (r : List Ended). r) lines ++ rows
+one_box_more lines rows = flat_map-append (λ (r : List Ended). r) lines (rows ∷ []) ∙ ap (λ (more : List Ended). flat_map (λ (r : List Ended). r) lines ++ more) (append-nil rows)
 
 or_first : (a b : Bool) → (a || b) ≡ false → a ≡ false
 or_first true b h = absurd cc

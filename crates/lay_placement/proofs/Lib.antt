@@ -1,3 +1,4 @@
+pub mod AreaFacts
 pub mod AtomicSteps
 pub mod CornerColumns
 pub mod FlowBoxSteps
