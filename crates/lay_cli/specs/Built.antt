@@ -1,8 +1,8 @@
--- Which nodes are laid out so far: texts, and elements whose boxes are blocks or inline boxes after the changes of 9.7, in
--- flow or floating, that aren't positioned (9.3.1), but no float that shrinks to fit (10.3.5) and no inline box that leaves
--- the baseline (10.8.1); and what is under `display: none`, which has no box. Others are refused by their place in the list
--- `nodes` of the run document.
-use Rattle.std.specs.Prelude.{ℕ, zero, suc, ◌≡◌, ◌<◌, ◌==◌, ◌&&◌, ◌||◌, not, List, [], ◌∷◌, length, slice_index, slice_index_or, Bool, true, false, Option, Some, None, option_map, if◌then◌else◌}
+-- Which nodes are laid out so far: all but those of tables, whose `display` after the changes of 9.7 is a table's or a part's
+-- (17.2), and those that are positioned (9.3.1); and what is under `display: none`, which has no box. Others are refused by
+-- their place in the list `nodes` of the run document.
+use Rattle.std.specs.Prelude.{ℕ, zero, suc, ◌≡◌, ◌<◌, ◌==◌, ◌&&◌, ◌||◌, not, List, [], ◌∷◌, length, slice_get, slice_index, slice_index_or, Bool, true, false, Option, Some, None, option_map, if◌then◌else◌}
+use Rattle.lay_doc.specs.declared.node.Kind.{Kind}
 use Rattle.lay_doc.specs.declared.node.NodeId.{NodeId}
 use Rattle.lay_doc.specs.declared.node.Node.{Node}
 use Rattle.lay_doc.specs.declared.style.Style.{Style}
@@ -10,48 +10,35 @@ use Rattle.lay_doc.specs.declared.style_words.Display.{Display}
 use Rattle.lay_doc.specs.declared.style_words.Display.TheVariants as display
 use Rattle.lay_doc.specs.declared.style_words.Position.{Position}
 use Rattle.lay_doc.specs.declared.style_words.Position.TheVariants as position
-use Rattle.lay_doc.specs.declared.style_lengths.LengthPercentageOrAuto.{LengthPercentageOrAuto}
-use Rattle.lay_doc.specs.declared.style_lengths.LengthPercentageOrAuto.TheVariants.{Auto}
-use Rattle.lay_doc.specs.declared.style_lengths.VerticalAlign.{VerticalAlign}
-use Rattle.lay_doc.specs.declared.style_lengths.VerticalAlign.TheVariants as valign
-use Rattle.lay_doc.specs.Document.{ids_of, place_of, is_element_at, is_text_at}
-use Rattle.lay_boxgen.specs.Display.{flow_of, used_display, is_floated, is_inline_display, is_none}
+use Rattle.lay_doc.specs.Document.{ids_of, place_of}
+use Rattle.lay_boxgen.specs.Display.{is_none, used_display_of}
 use Rattle.lay_doc.specs.ComputedStyle.{style_at}
 
--- whether an element's display is a block's, after the changes of 9.7
-abbrev pub is_block_display : Display → Bool
-is_block_display display.Block = true
-is_block_display display.ListItem = true
-is_block_display _ = false
-
--- the used display of an element
-abbrev pub display_of : Bool → Style → Display
-display_of is_root s = used_display is_root (flow_of s) s.display
-
--- 10.8.1: `vertical-align` is of inline boxes, and all of them stand on the baseline so far
-abbrev pub is_baseline : VerticalAlign → Bool
-is_baseline valign.Baseline = true
-is_baseline _ = false
-
--- an element with this used display and this style is a block or an inline box that is laid out
-abbrev pub is_built_display : Display → Style → Bool
-is_built_display d s = is_block_display d || (is_inline_display d && is_baseline s.text.vertical_align)
+-- whether a display is that of a table or of a part of one
+abbrev pub is_table_display : Display → Bool
+is_table_display display.Table = true
+is_table_display display.InlineTable = true
+is_table_display display.TableRowGroup = true
+is_table_display display.TableHeaderGroup = true
+is_table_display display.TableFooterGroup = true
+is_table_display display.TableRow = true
+is_table_display display.TableColumnGroup = true
+is_table_display display.TableColumn = true
+is_table_display display.TableCell = true
+is_table_display display.TableCaption = true
+is_table_display _ = false
 
 abbrev pub is_static : Position → Bool
 is_static position.Static = true
 is_static _ = false
 
-abbrev pub is_auto : LengthPercentageOrAuto → Bool
-is_auto Auto = true
-is_auto _ = false
+-- nodes of this kind with this style are laid out
+abbrev pub is_built_kind : Bool → Kind → Style → Bool
+is_built_kind is_root kind s = not (is_table_display (used_display_of is_root kind s)) && is_static s.position
 
--- 10.3.5: a float whose width is `auto` shrinks to fit what is in it
-abbrev pub shrinks_to_fit : Style → Bool
-shrinks_to_fit s = is_floated s.float && is_auto s.sizing.width
-
--- elements with this style are laid out
-abbrev pub is_built_style : Bool → Style → Bool
-is_built_style is_root s = is_built_display (display_of is_root s) s && is_static s.position && not (shrinks_to_fit s)
+abbrev pub is_built_node : Bool → Option Node → Style → Bool
+is_built_node is_root None s = false
+is_built_node is_root (Some n) s = is_built_kind is_root n.kind s
 
 -- a column that says of each node whether it is under `display: none`: it or a node above it has that value, and
 -- generates no box (9.2.4)
@@ -71,7 +58,7 @@ pub record AreHidden (parents : List ℕ) (styles : List Style) (hs : List Bool)
 
 -- whether the node at k of a document, with these computed styles, is laid out, or is rightly left out
 abbrev pub is_built_at : List Node → List Style → List Bool → ℕ → Bool
-is_built_at nodes styles hidden k = hidden_at hidden k || is_text_at nodes k || (is_element_at nodes k && is_built_style (k == 0) (style_at styles k))
+is_built_at nodes styles hidden k = hidden_at hidden k || is_built_node (k == 0) (slice_get nodes k) (style_at styles k)
 
 abbrev pub is_built_place : List Node → List Style → List Bool → Option ℕ → Bool
 is_built_place nodes styles hidden None = false

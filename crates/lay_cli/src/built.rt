@@ -1,16 +1,12 @@
 //! Which nodes are laid out so far.
 
-ghost use Rattle.std.specs.Prelude.{◌≡◌, ◌<◌, List, Bool, length, IfOk};
-ghost use Rattle.lay_doc.specs.Document.{IsDocument, is_text_at, parents_of};
-ghost use Rattle.lay_boxgen.specs.Display.{is_floated, is_inline_display};
-ghost use Rattle.lay_cli.specs.Built.{AreHidden, display_of, is_baseline, is_block_display, is_built_display, is_static, is_auto, shrinks_to_fit, is_built_style, is_built_at, is_built_place, is_built, first_unbuilt};
+ghost use Rattle.std.specs.Prelude.{◌≡◌, ◌<◌, ◌==◌, List, Bool, length, slice_get, IfOk};
+ghost use Rattle.lay_doc.specs.Document.{IsDocument, parents_of};
+ghost use Rattle.lay_cli.specs.Built.{AreHidden, first_unbuilt, is_built, is_built_at, is_built_kind, is_built_node, is_static, is_table_display};
 
 use crate::hidden::{hidden, hidden_at};
-use lay_boxgen::{flow_of, used_display};
-use lay_doc::{
-    Display, Doc, Float, LengthPercentageOrAuto, Node, NodeId, Position, Style, VerticalAlign,
-    is_element_at, style_at,
-};
+use lay_boxgen::used_display_of;
+use lay_doc::{Display, Doc, Kind, Node, NodeId, Position, Style, style_at};
 use lay_units::NoMemory;
 use std::alloc::Global;
 
@@ -69,80 +65,36 @@ fn is_built_at(nodes: &[Node], styles: &[Style], hidden: &[bool], place: usize) 
     requires hidden { place < length hidden.now }
     ensures { result ≡ is_built_at nodes.now styles.now hidden.now place }
 {
-    hidden_at(hidden, place)
-        || is_text_at(nodes, place)
-        || is_element_at(nodes, place) && is_built_style(place == 0, style_at(styles, place))
+    hidden_at(hidden, place) || is_built_node(nodes, place, style_at(styles, place))
 }
 
-fn is_text_at(nodes: &[Node], place: usize) -> bool
-    requires { place < length nodes.now }
-    ensures { result ≡ is_text_at nodes.now place }
+fn is_built_node(nodes: &[Node], place: usize, style: &Style) -> bool
+    ensures { result ≡ is_built_node (place == 0) (slice_get nodes.now place) style.now }
 {
-    nodes[place].kind.is_text()
+    match nodes.get(place) {
+        Some(node) => is_built_kind(place == 0, node.kind, style),
+        None => false,
+    }
 }
 
-fn is_built_style(is_root: bool, style: &Style) -> bool
-    ensures { result ≡ is_built_style is_root style.now }
+fn is_built_kind(is_root: bool, kind: Kind, style: &Style) -> bool
+    ensures { result ≡ is_built_kind is_root kind style.now }
 {
-    is_built_display(display_of(is_root, style), style)
-        && is_static(style.position)
-        && !shrinks_to_fit(style)
+    !is_table_display(used_display_of(is_root, kind, style)) && is_static(style.position)
 }
 
-/// The used display of an element.
-fn display_of(is_root: bool, style: &Style) -> Display
-    ensures { result ≡ display_of is_root style.now }
+/// Whether a display is that of a table or of a part of one.
+fn is_table_display(display: Display) -> bool
+    ensures { result ≡ is_table_display display }
 {
-    used_display(is_root, flow_of(style), style.display)
-}
-
-/// Whether an element of this used display is a block or an inline box that is laid out.
-fn is_built_display(display: Display, style: &Style) -> bool
-    ensures { result ≡ is_built_display display style.now }
-{
-    is_block_display(display)
-        || is_inline_display(display) && is_baseline(style.text.vertical_align)
-}
-
-fn is_block_display(display: Display) -> bool
-    ensures { result ≡ is_block_display display }
-{
-    matches!(display, Display::Block | Display::ListItem)
-}
-
-fn is_inline_display(display: Display) -> bool
-    ensures { result ≡ is_inline_display display }
-{
-    matches!(display, Display::Inline)
-}
-
-fn is_baseline(align: VerticalAlign) -> bool
-    ensures { result ≡ is_baseline align }
-{
-    matches!(align, VerticalAlign::Baseline)
+    !matches!(
+        display,
+        Display::Block | Display::ListItem | Display::Inline | Display::InlineBlock | Display::None
+    )
 }
 
 fn is_static(position: Position) -> bool
     ensures { result ≡ is_static position }
 {
     matches!(position, Position::Static)
-}
-
-/// Whether it is a float whose width is that of what is in it.
-fn shrinks_to_fit(style: &Style) -> bool
-    ensures { result ≡ shrinks_to_fit style.now }
-{
-    is_floated(style.float) && is_auto(style.sizing.width)
-}
-
-fn is_floated(float: Float) -> bool
-    ensures { result ≡ is_floated float }
-{
-    !matches!(float, Float::None)
-}
-
-fn is_auto(width: LengthPercentageOrAuto) -> bool
-    ensures { result ≡ is_auto width }
-{
-    matches!(width, LengthPercentageOrAuto::Auto)
 }

@@ -4,6 +4,7 @@ use Rattle.std.proofs.lemmas.Bool.{cases_lt}
 use Rattle.std.proofs.lemmas.Grind.{elements}
 use Rattle.std.proofs.lemmas.List.{map-append, take_more}
 use Rattle.std.proofs.lemmas.Int.{ints}
+use Rattle.lay_measure.specs.declared.preferred_widths.PreferredWidths.{PreferredWidths}
 use Rattle.lay_sizes.specs.declared.sizing.BoxSizes.{BoxSizes}
 use Rattle.lay_sizes.specs.declared.sizing.ContainingBlock.{ContainingBlock}
 use Rattle.lay_placement.specs.declared.corner.Corner.{Corner}
@@ -12,7 +13,7 @@ use Rattle.lay_context.specs.ContainingBlocks.{block_around}
 use Rattle.lay_context_boxes.specs.Containing.{container_of}
 use Rattle.lay_context_boxes.proofs.ContainerSteps.{container_within}
 use Rattle.lay_placement.specs.ContextPlaces.{Placement}
-use Rattle.lay_context.specs.DocumentLayout.{outer_block, own_box_in, sizes_in}
+use Rattle.lay_context.specs.DocumentLayout.{inner_widths_in, outer_block, own_box_in, sizes_in}
 use Rattle.lay_sizes.specs.declared.own_boxes.OwnBox.{OwnBox}
 use Rattle.lay_sizes.specs.OwnBoxes.{OwnBoxFits, OwnBoxesFit, own_box_at}
 use Rattle.lay_placement.specs.PlaceBounds.{IsCornerNear, IsRectNear, PlacementFits}
@@ -47,6 +48,13 @@ pub one_more_box : (places : List Placement) (numbers : List ℕ) (k : ℕ) (box
 one_more_box places numbers k boxes o lt are is =
     let more : take (k + 1) numbers ≡ take k numbers ++ slice_index numbers k ∷ [] = take_more numbers k 0 lt in
     rw (more, map-append (own_box_in places) (take k numbers) (slice_index numbers k ∷ []), are, is) refl
+
+-- the preferred widths of inner contexts, with one more
+pub one_more_widths : (all : List PreferredWidths) (numbers : List ℕ) (k : ℕ) (widths : List PreferredWidths) (w : PreferredWidths) → k < length numbers → widths ≡ map (inner_widths_in all) (take k numbers) → w ≡ inner_widths_in all (slice_index numbers k)
+    → widths ++ w ∷ [] ≡ map (inner_widths_in all) (take (k + 1) numbers)
+one_more_widths all numbers k widths w lt are is =
+    let more : take (k + 1) numbers ≡ take k numbers ++ slice_index numbers k ∷ [] = take_more numbers k 0 lt in
+    rw (more, map-append (inner_widths_in all) (take k numbers) (slice_index numbers k ∷ []), are, is) refl
 
 read_before : (os : List OwnBox) (o : OwnBox) (k : ℕ) → k < length os → own_box_at (os ++ o ∷ []) k ≡ own_box_at os k
 read_before os o k lt = grind (arith, elements)

@@ -4,6 +4,7 @@ pub mod HolderSteps
 pub mod OneCorners
 pub mod OneSizes
 pub mod OneTree
+pub mod OneWidths
 pub mod PieceRanges
 pub mod SizeSteps
 pub mod SizesFit

@@ -5,6 +5,7 @@ use Rattle.std.proofs.lemmas.Int.{ints}
 use Rattle.std.proofs.lemmas.Grind.{elements}
 use Rattle.lay_units.specs.Units.{IsPosition}
 use Rattle.lay_boxgen.specs.declared.box_tree.BoxNode.{BoxNode}
+use Rattle.lay_measure.specs.declared.preferred_widths.PreferredWidths.{PreferredWidths}
 use Rattle.lay_sizes.specs.declared.sizing.BoxSizes.{BoxSizes}
 use Rattle.lay_sizes.specs.declared.sizing.ContainingBlock.{ContainingBlock}
 use Rattle.lay_sizes.specs.BoxSizes.{content_block}
@@ -18,9 +19,9 @@ use Rattle.lay_context_boxes.proofs.ContainerSteps.{container_before}
 use Rattle.lay_context.proofs.HolderSteps.{holder_before}
 
 -- the boxes before n have their sizes
-pub record SizesTo (outer : ContainingBlock) (boxes : List BoxNode) (sizes : List BoxSizes) (n : ℕ) : Type 0 where
+pub record SizesTo (outer : ContainingBlock) (w : PreferredWidths) (boxes : List BoxNode) (sizes : List BoxSizes) (n : ℕ) : Type 0 where
   pub count : length sizes ≡ n
-  pub each : (k : ℕ) → k < n → is_inner boxes k ≡ false → IsBoxSized (containing_block outer boxes sizes k) boxes k (sizes_at sizes k)
+  pub each : (k : ℕ) → k < n → is_inner boxes k ≡ false → IsBoxSized (containing_block outer boxes sizes k) w boxes k (sizes_at sizes k)
   pub inner : (k : ℕ) → k < n → is_inner boxes k ≡ true → sizes_at sizes k ≡ no_sizes
   pub bounds : HaveSizeBounds sizes
 
@@ -48,10 +49,10 @@ pub containing_inner : (outer : ContainingBlock) (boxes : List BoxNode) (sizes :
 containing_inner outer boxes sizes zero positive = absurd (omega arith)
 containing_inner outer boxes sizes (suc k) positive = refl
 
-pub one_more : (outer : ContainingBlock) (boxes : List BoxNode) (sizes : List BoxSizes) (n : ℕ) (z : BoxSizes) → AreContextBoxes boxes → n < length boxes
-    → SizesTo outer boxes sizes n → (is_inner boxes n ≡ false → IsBoxSized (containing_block outer boxes sizes n) boxes n z) → (is_inner boxes n ≡ true → z ≡ no_sizes) → SizeFits z
-    → SizesTo outer boxes (sizes ++ z ∷ []) (n + 1)
-one_more outer boxes sizes n z are within so_far each inner fits = record {
+pub one_more : (outer : ContainingBlock) (w : PreferredWidths) (boxes : List BoxNode) (sizes : List BoxSizes) (n : ℕ) (z : BoxSizes) → AreContextBoxes boxes → n < length boxes
+    → SizesTo outer w boxes sizes n → (is_inner boxes n ≡ false → IsBoxSized (containing_block outer boxes sizes n) w boxes n z) → (is_inner boxes n ≡ true → z ≡ no_sizes) → SizeFits z
+    → SizesTo outer w boxes (sizes ++ z ∷ []) (n + 1)
+one_more outer w boxes sizes n z are within so_far each inner fits = record {
   count = grind (arith, elements, so_far.count);
   each = λ k lt own. elim (cases_lt k n) [
     | inl low ↦ (let e = containing_before outer boxes are sizes z k (omega arith) (omega (arith, so_far.count)) in
@@ -73,8 +74,8 @@ one_more outer boxes sizes n z are within so_far each inner fits = record {
   ];
 }
 
-pub all_sizes : (outer : ContainingBlock) (boxes : List BoxNode) (sizes : List BoxSizes) (n : ℕ) → n ≡ length boxes → SizesTo outer boxes sizes n → HasSizes outer boxes sizes
-all_sizes outer boxes sizes n e so_far = record {
+pub all_sizes : (outer : ContainingBlock) (w : PreferredWidths) (boxes : List BoxNode) (sizes : List BoxSizes) (n : ℕ) → n ≡ length boxes → SizesTo outer w boxes sizes n → HasSizes outer w boxes sizes
+all_sizes outer w boxes sizes n e so_far = record {
   count = so_far.count ∙ e;
   each = λ k lt. so_far.each k (omega arith);
   inner = λ k lt. so_far.inner k (omega arith);

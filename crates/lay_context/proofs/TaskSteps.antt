@@ -2,24 +2,31 @@
 use Rattle.std.proofs.Common.{◌≡◌, ◌≢◌, ◌<◌, ◌≤◌, ℕ, zero, suc, ◌+◌, List, [], ◌∷◌, length, length-append, slice_set, refl, ap, sym, subst, ◌∙◌, arith, inl, inr}
 use Rattle.std.proofs.lemmas.Bool.{cases_lt}
 use Rattle.std.proofs.lemmas.Grind.{elements}
+use Rattle.lay_measure.specs.declared.preferred_widths.PreferredWidths.{PreferredWidths}
 use Rattle.lay_sizes.specs.declared.sizing.BoxSizes.{BoxSizes}
 use Rattle.lay_frag.specs.Pieces.{Context as PageContext}
 use Rattle.lay_context.specs.declared.task.Phase.{Phase}
-use Rattle.lay_context.specs.declared.task.Phase.TheVariants.{Size, Place}
+use Rattle.lay_context.specs.declared.task.Phase.TheVariants.{Measure, Size, Place}
 use Rattle.lay_context.specs.declared.task.Task.{Task}
 use Rattle.lay_context.specs.declared.value.Value.{Value}
 use Rattle.lay_context.specs.declared.value.Value.TheVariants as value
 use Rattle.lay_contexts.specs.Contexts.{Context, AreContexts, boxes_in}
 use Rattle.lay_context.specs.Medium.{Medium}
 use Rattle.lay_placement.specs.ContextPlaces.{Placement}
-use Rattle.lay_placement.proofs.PlaceFacts.{one_corner_each}
-use Rattle.lay_context.specs.DocumentLayout.{inner_boxes, placement_in, sizes_in}
-use Rattle.lay_context.specs.Needs.{task_at}
+use Rattle.lay_placement.proofs.CornerCounts.{corner_count}
+use Rattle.lay_context.specs.DocumentLayout.{inner_boxes, placement_in, sizes_in, widths_in}
+use Rattle.lay_context.specs.Needs.{task_at, turns_of}
 use Rattle.lay_context.specs.Local.{Workings, IsLocal, IsTaskDone, input_by, input_of, value_by, value_of, with_value}
 use Rattle.lay_context.specs.Settling.{HasCounts, IsReady, AreDoneTo, AreKnown, IsSettled}
 use Rattle.lay_context.specs.Solves.{IsAssembled, SolvesContexts}
 use Rattle.lay_context.proofs.TaskInputs.{inputs_come_of_needs_lem}
-use Rattle.lay_context.proofs.TaskOrder.{needs_come_first_lem, one_turn, task_within, had_size_turn, had_place_turn}
+use Rattle.lay_context.proofs.TaskOrder.{needs_come_first_lem, one_turn, task_within, had_turn}
+
+widths_other : (xs : List PreferredWidths) (i j : ℕ) (x : PreferredWidths) → i ≢ j → widths_in (slice_set xs i x) j ≡ widths_in xs j
+widths_other xs i j x other = grind (arith, elements, other)
+
+widths_here : (xs : List PreferredWidths) (i : ℕ) (x : PreferredWidths) → i < length xs → widths_in (slice_set xs i x) i ≡ x
+widths_here xs i x lt = grind (arith, elements, lt)
 
 sizes_other : (xs : List (List BoxSizes)) (i j : ℕ) (x : List BoxSizes) → i ≢ j → sizes_in (slice_set xs i x) j ≡ sizes_in xs j
 sizes_other xs i j x other = grind (arith, elements, other)
@@ -33,6 +40,9 @@ places_other xs i j x other = grind (arith, elements, other)
 places_here : (xs : List Placement) (i : ℕ) (x : Placement) → i < length xs → placement_in (slice_set xs i x) i ≡ x
 places_here xs i x lt = grind (arith, elements, lt)
 
+widths_length : (xs : List PreferredWidths) (i : ℕ) (x : PreferredWidths) → length (slice_set xs i x) ≡ length xs
+widths_length xs i x = grind (arith, elements)
+
 sizes_length : (xs : List (List BoxSizes)) (i : ℕ) (x : List BoxSizes) → length (slice_set xs i x) ≡ length xs
 sizes_length xs i x = grind (arith, elements)
 
@@ -42,30 +52,45 @@ places_length xs i x = grind (arith, elements)
 module _ (medium : Medium) (contexts : List Context) (w : Workings) where
   -- the value of the task itself
   here : (phase : Phase) (i : ℕ) (v : Value) → i < length contexts → HasCounts contexts w → IsLocal (input_by medium contexts w phase i) v → value_by (with_value w i v) phase i ≡ v
+  here Measure i (value.Measure m) lt counts local = ap value.Measure (widths_here w.widths i m (omega (arith, counts.widths)))
+  here Measure i (value.Size z) lt counts local = absurd local
+  here Measure i (value.Place p) lt counts local = absurd local
+  here Size i (value.Measure m) lt counts local = absurd local
   here Size i (value.Size z) lt counts local = ap value.Size (sizes_here w.sizes i z (omega (arith, counts.sizes)))
   here Size i (value.Place p) lt counts local = absurd local
+  here Place i (value.Measure m) lt counts local = absurd local
   here Place i (value.Size z) lt counts local = absurd local
   here Place i (value.Place p) lt counts local = ap value.Place (places_here w.places i p (omega (arith, counts.places)))
 
   -- that of another one
   other : (phase : Phase) (i : ℕ) (v : Value) → IsLocal (input_by medium contexts w phase i) v → (q : Phase) (j : ℕ) → ((phase ≡ q) → i ≢ j) → value_by (with_value w i v) q j ≡ value_by w q j
+  other Measure i (value.Measure m) local Measure j differ = ap value.Measure (widths_other w.widths i j m (differ refl))
+  other Measure i (value.Measure m) local Size j differ = refl
+  other Measure i (value.Measure m) local Place j differ = refl
+  other Measure i (value.Size z) local q j differ = absurd local
+  other Measure i (value.Place p) local q j differ = absurd local
+  other Size i (value.Measure m) local q j differ = absurd local
+  other Size i (value.Size z) local Measure j differ = refl
   other Size i (value.Size z) local Size j differ = ap value.Size (sizes_other w.sizes i j z (differ refl))
   other Size i (value.Size z) local Place j differ = refl
   other Size i (value.Place p) local q j differ = absurd local
+  other Place i (value.Measure m) local q j differ = absurd local
   other Place i (value.Size z) local q j differ = absurd local
+  other Place i (value.Place p) local Measure j differ = refl
   other Place i (value.Place p) local Size j differ = refl
   other Place i (value.Place p) local Place j differ = ap value.Place (places_other w.places i j p (differ refl))
 
   counts_with : (i : ℕ) (v : Value) → HasCounts contexts w → HasCounts contexts (with_value w i v)
-  counts_with i (value.Size z) counts = record { sizes = sizes_length w.sizes i z ∙ counts.sizes; places = counts.places }
-  counts_with i (value.Place p) counts = record { sizes = counts.sizes; places = places_length w.places i p ∙ counts.places }
+  counts_with i (value.Measure m) counts = record { widths = widths_length w.widths i m ∙ counts.widths; sizes = counts.sizes; places = counts.places }
+  counts_with i (value.Size z) counts = record { widths = counts.widths; sizes = sizes_length w.sizes i z ∙ counts.sizes; places = counts.places }
+  counts_with i (value.Place p) counts = record { widths = counts.widths; sizes = counts.sizes; places = places_length w.places i p ∙ counts.places }
 
   other_task : (t u : Task) (v : Value) → IsLocal (input_of medium contexts w t) v → (t ≡ u → ⊥) → value_of (with_value w t.context v) u ≡ value_of w u
   other_task t u v local differ = other t.phase t.context v local u.phase u.context (λ same e. differ (rw (same, e) refl))
 
 module _ (medium : Medium) (contexts : List Context) (are : AreContexts contexts) where
   -- a needed size is as long as its boxes
-  pub ready : (w : Workings) (turn : ℕ) → turn < length contexts + length contexts → AreDoneTo medium contexts w turn → IsReady contexts w (task_at (length contexts) turn)
+  pub ready : (w : Workings) (turn : ℕ) → turn < turns_of (length contexts) → AreDoneTo medium contexts w turn → IsReady contexts w (task_at (length contexts) turn)
   ready w turn within so_far = record {
     within = task_within (length contexts) turn within;
     counts = so_far.counts;
@@ -74,7 +99,7 @@ module _ (medium : Medium) (contexts : List Context) (are : AreContexts contexts
         (subst (IsTaskDone medium contexts w) had.is (so_far.done had.turn had.earlier)).count;
   }
 
-  module _ (w : Workings) (turn : ℕ) (within : turn < length contexts + length contexts) (v : Value) (local : IsLocal (input_of medium contexts w (task_at (length contexts) turn)) v) where
+  module _ (w : Workings) (turn : ℕ) (within : turn < turns_of (length contexts)) (v : Value) (local : IsLocal (input_of medium contexts w (task_at (length contexts) turn)) v) where
     abbrev after : Workings
     after = with_value w (task_at (length contexts) turn).context v
 
@@ -89,7 +114,7 @@ module _ (medium : Medium) (contexts : List Context) (are : AreContexts contexts
         (let had = needs_come_first_lem contexts s needed are (omega arith) needs in
         subst (λ (u : Task). value_of after u ≡ value_of w u) had.is (value_stays had.turn (omega (arith, had.earlier, le)))))
 
-  pub one_more : (w next : Workings) (turn : ℕ) → turn < length contexts + length contexts → AreDoneTo medium contexts w turn → IsSettled medium contexts w (task_at (length contexts) turn) next → AreDoneTo medium contexts next (turn + 1)
+  pub one_more : (w next : Workings) (turn : ℕ) → turn < turns_of (length contexts) → AreDoneTo medium contexts w turn → IsSettled medium contexts w (task_at (length contexts) turn) next → AreDoneTo medium contexts next (turn + 1)
   one_more w next turn within so_far settled =
       let t : Task = task_at (length contexts) turn in
       let v : Value = settled.value in
@@ -107,26 +132,32 @@ module _ (medium : Medium) (contexts : List Context) (are : AreContexts contexts
       subst (λ (k : Workings). AreDoneTo medium contexts k (turn + 1)) (sym settled.noted) done
 
   -- when all had their turns, each context has its values
-  module _ (w : Workings) (all : AreDoneTo medium contexts w (length contexts + length contexts)) where
+  module _ (w : Workings) (all : AreDoneTo medium contexts w (turns_of (length contexts))) where
+    pub widths_done : (i : ℕ) → i < length contexts → IsTaskDone medium contexts w (record { context = i; phase = Measure })
+    widths_done i lt = let had = had_turn (length contexts) Measure i lt in subst (IsTaskDone medium contexts w) had.is (all.done had.turn had.earlier)
+
     pub sizes_done : (i : ℕ) → i < length contexts → IsTaskDone medium contexts w (record { context = i; phase = Size })
-    sizes_done i lt = let had = had_size_turn (length contexts) i lt in subst (IsTaskDone medium contexts w) had.is (all.done had.turn had.earlier)
+    sizes_done i lt = let had = had_turn (length contexts) Size i lt in subst (IsTaskDone medium contexts w) had.is (all.done had.turn had.earlier)
 
     pub places_done : (i : ℕ) → i < length contexts → IsTaskDone medium contexts w (record { context = i; phase = Place })
-    places_done i lt = let had = had_place_turn (length contexts) i lt in subst (IsTaskDone medium contexts w) had.is (all.done had.turn had.earlier)
+    places_done i lt = let had = had_turn (length contexts) Place i lt in subst (IsTaskDone medium contexts w) had.is (all.done had.turn had.earlier)
 
     pub known : AreKnown contexts w
     known = record {
       counts = all.counts;
       sized = λ i lt. (sizes_done i lt).count;
-      cornered = λ i lt. one_corner_each medium.face (boxes_in contexts i) (sizes_in w.sizes i) (inner_boxes contexts w.places i) (placement_in w.places i) (places_done i lt);
+      cornered = λ i lt. corner_count medium.face (boxes_in contexts i) (sizes_in w.sizes i) (inner_boxes contexts w.places i) (placement_in w.places i) (places_done i lt);
     }
 
     pub solved : (tree : List PageContext) → IsAssembled medium.viewport contexts w.sizes w.places tree → SolvesContexts medium contexts tree
     solved tree assembled = record {
+      widths = w.widths;
       sizes = w.sizes;
       places = w.places;
+      width_count = all.counts.widths;
       size_count = all.counts.sizes;
       place_count = all.counts.places;
+      has_widths = widths_done;
       has_sizes = sizes_done;
       has_places = places_done;
       assembled = assembled;

@@ -1,5 +1,6 @@
 -- What the contexts of a document are given by each other, each known by its number: the containing block of a context's own
--- box by the context around it (CSS 2.2, 10.1), the boxes of inner contexts by those, and where a context stands on the page.
+-- box by the context around it (CSS 2.2, 10.1), the preferred widths (10.3.5) and the boxes of inner contexts by those, and where
+-- a context stands on the page.
 use Rattle.std.specs.Prelude.{ℕ, zero, suc, ◌≡◌, ◌<◌, ◌+ℤ◌, ◌-ℤ◌, Bool, true, false, List, [], length, map, slice_index_or, if◌then◌else◌}
 use Rattle.lay_units.specs.declared.length.Unit.{Unit as Length}
 use Rattle.lay_doc.specs.declared.style.Style.{Style}
@@ -10,7 +11,8 @@ use Rattle.lay_boxgen.specs.declared.facts.Flow.{Flow}
 use Rattle.lay_boxgen.specs.declared.facts.Flow.TheVariants.{Floating}
 use Rattle.lay_boxgen.specs.Display.{flow_of}
 use Rattle.lay_boxgen.specs.BoxColumns.{box_styles}
-use Rattle.lay_flow.specs.Lengths.{no_length}
+use Rattle.lay_measure.specs.MeasureInValue.{no_widths}
+use Rattle.lay_measure.specs.declared.preferred_widths.PreferredWidths.{PreferredWidths}
 use Rattle.lay_sizes.specs.declared.sizing.BoxSizes.{BoxSizes}
 use Rattle.lay_sizes.specs.declared.sizing.ContainingBlock.{ContainingBlock}
 use Rattle.lay_sizes.specs.BoxSizes.{border_width}
@@ -21,6 +23,19 @@ use Rattle.lay_contexts.specs.Contexts.{Context, context_at, boxes_in}
 use Rattle.lay_sizes.specs.SizeColumns.{sizes_at}
 use Rattle.lay_sizes.specs.OwnBoxes.{no_own_box}
 use Rattle.lay_placement.specs.ContextPlaces.{Placement, corner_at, no_placement}
+
+-- the preferred widths of the context with this number
+abbrev pub widths_in : List PreferredWidths → ℕ → PreferredWidths
+widths_in widths i = slice_index_or widths i no_widths
+
+-- those of the inner context with this number, where 0 stands for none
+abbrev pub inner_widths_in : List PreferredWidths → ℕ → PreferredWidths
+inner_widths_in widths zero = no_widths
+inner_widths_in widths (suc j) = widths_in widths (suc j)
+
+-- those of the contexts inside the one with the number i, among its boxes
+abbrev pub inner_widths : List Context → List PreferredWidths → ℕ → List PreferredWidths
+inner_widths contexts widths i = map (inner_widths_in widths) (context_at contexts i).inner
 
 -- the used sizes of the boxes of the context with this number
 abbrev pub sizes_in : List (List BoxSizes) → ℕ → List BoxSizes

@@ -1,12 +1,12 @@
 -- A task has one value beside what it is given, and is given something by the tasks alone that it needs, of which each has its
--- turn before it. So a document has one layout. The nodes in the list of a document's contexts are contexts.
+-- turn before it. So a document has one layout.
 use Rattle.std.specs.Prelude.{ℕ, ◌≡◌, ◌+◌, ◌<◌, List, length}
 use Rattle.lay_doc.specs.declared.style.Style.{Style}
 use Rattle.lay_doc.specs.Document.{Document, IsDocument}
 use Rattle.lay_frag.specs.Pieces.{Context as PageContext}
 use Rattle.lay_boxgen.specs.declared.box_tree.BoxNode.{BoxNode}
-use Rattle.lay_boxgen.specs.Contexts.{IsContextAt}
 use Rattle.lay_face.specs.FaceValue.{FaceValue}
+use Rattle.lay_measure.specs.declared.preferred_widths.PreferredWidths.{PreferredWidths}
 use Rattle.lay_sizes.specs.declared.sizing.BoxSizes.{BoxSizes}
 use Rattle.lay_sizes.specs.declared.sizing.ContainingBlock.{ContainingBlock}
 use Rattle.lay_sizes.specs.declared.own_boxes.OwnBox.{OwnBox}
@@ -14,17 +14,22 @@ use Rattle.lay_context.specs.declared.task.Task.{Task}
 use Rattle.lay_context_boxes.specs.ContextBoxes.{AreContextBoxes}
 use Rattle.lay_contexts.specs.Contexts.{Context, AreContexts}
 use Rattle.lay_context.specs.Medium.{Medium}
-use Rattle.lay_contexts.specs.ContextList.{context_spots, document_spots, spot_at}
+use Rattle.lay_context.specs.ContextWidths.{HasWidths}
 use Rattle.lay_context.specs.ContextSizes.{HasSizes}
 use Rattle.lay_placement.specs.ContextPlaces.{Placement, IsPlacement}
-use Rattle.lay_context.specs.Needs.{Needs, task_at}
+use Rattle.lay_context.specs.Needs.{Needs, task_at, turns_of}
 use Rattle.lay_context.specs.Local.{Workings, input_of, value_of}
 use Rattle.lay_context.specs.Solves.{Solves}
 
+-- beside the preferred widths of the contexts inside it a context has one pair of them in a face
+abbrev pub OneContextWidths : Type 0
+OneContextWidths = (face : FaceValue) (boxes : List BoxNode) (inner : List PreferredWidths) (v w : PreferredWidths)
+    → HasWidths face boxes inner v → HasWidths face boxes inner w → v ≡ w
+
 -- the boxes of a context have one column of used sizes
 abbrev pub OneContextSizes : Type 0
-OneContextSizes = (outer : ContainingBlock) (boxes : List BoxNode) (x y : List BoxSizes) → AreContextBoxes boxes
-    → HasSizes outer boxes x → HasSizes outer boxes y → x ≡ y
+OneContextSizes = (outer : ContainingBlock) (w : PreferredWidths) (boxes : List BoxNode) (x y : List BoxSizes) → AreContextBoxes boxes
+    → HasSizes outer w boxes x → HasSizes outer w boxes y → x ≡ y
 
 -- where the values that a task needs are equal, it is given the same
 abbrev pub InputsComeOfNeeds : Type 0
@@ -39,7 +44,7 @@ pub record HadTurn (n before : ℕ) (task : Task) : Type 0 where
   pub is : task_at n turn ≡ task
 
 abbrev pub NeedsComeFirst : Type 0
-NeedsComeFirst = (contexts : List Context) (turn : ℕ) (needed : Task) → AreContexts contexts → turn < length contexts + length contexts
+NeedsComeFirst = (contexts : List Context) (turn : ℕ) (needed : Task) → AreContexts contexts → turn < turns_of (length contexts)
     → Needs contexts (task_at (length contexts) turn) needed → HadTurn (length contexts) turn needed
 
 -- two trees that solve one document in one face are equal

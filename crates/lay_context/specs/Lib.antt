@@ -1,5 +1,6 @@
 pub mod ContainingBlocks
 pub mod ContextSizes
+pub mod ContextWidths
 pub mod DocumentLayout
 pub mod Inputs
 pub mod Laws

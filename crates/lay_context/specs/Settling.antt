@@ -11,6 +11,7 @@ use Rattle.lay_context.specs.Local.{Workings, IsLocal, IsTaskDone, input_of, wit
 
 -- each context has a value of each phase, known or not
 pub record HasCounts (contexts : List Context) (w : Workings) : Type 0 where
+  pub widths : length w.widths ≡ length contexts
   pub sizes : length w.sizes ≡ length contexts
   pub places : length w.places ≡ length contexts
 

@@ -1,24 +1,78 @@
 //! What a task of a layout is given.
 
 ghost use Rattle.std.specs.Prelude.{◌≡◌};
+ghost use Rattle.lay_context_boxes.specs.ContextBoxes.{AreContextBoxes};
 ghost use Rattle.lay_context.specs.Inputs.{SizeInputFits};
 
+use lay_boxgen::BoxNode;
 use lay_context_boxes::ContextBoxes;
+use lay_face::Face;
+use lay_measure::PreferredWidths;
 use lay_placement::PlaceInput;
 use lay_sizes::ContainingBlock;
 use std::marker::Model;
+use std::sync::Arc;
 
 /// What a task is given.
 #[derive(Drop)]
 pub enum Input {
+    Measure(MeasureInput),
     Size(SizeInput),
     Place(PlaceInput),
 }
 
-/// The boxes of a context, and the containing block of its own one.
+/// The boxes of a context, the preferred widths of inner contexts at the places of their boxes, and the face of texts.
+#[derive(Drop)]
+pub struct MeasureInput {
+    boxes: ContextBoxes,
+    inner: Vec<PreferredWidths>,
+    face: Arc<Face>,
+}
+
+impl Model for MeasureInput {
+    ghost use Rattle.lay_context.specs.Inputs.{MeasureInput as Plain};
+
+    ghost Value = { Plain };
+
+    ghost view = { λ i. record { boxes = i.boxes; inner = i.inner.items; face = i.face.value } };
+}
+
+impl MeasureInput {
+    pub(crate) fn new(
+        boxes: ContextBoxes,
+        inner: Vec<PreferredWidths>,
+        face: Arc<Face>,
+    ) -> MeasureInput
+        ensures { result ≡ record { boxes = boxes; inner = inner.items; face = face.value } }
+    {
+        MeasureInput { boxes, inner, face }
+    }
+
+    pub(crate) fn boxes(&self) -> &[BoxNode]
+        ensures boxes { result.now ≡ self.now.boxes }
+        ensures are { AreContextBoxes self.now.boxes }
+    {
+        self.boxes.as_slice()
+    }
+
+    pub(crate) fn inner(&self) -> &[PreferredWidths]
+        ensures { result.now ≡ self.now.inner }
+    {
+        self.inner.as_slice()
+    }
+
+    pub(crate) fn face(&self) -> &Face
+        ensures { result.now ≡ self.now.face }
+    {
+        &self.face
+    }
+}
+
+/// The boxes of a context, its preferred widths, and the containing block of its own box.
 #[derive(Drop)]
 pub struct SizeInput {
     boxes: ContextBoxes,
+    widths: PreferredWidths,
     containing: ContainingBlock,
 }
 
@@ -27,17 +81,25 @@ impl Model for SizeInput {
 
     ghost Value = { Plain };
 
-    ghost view = { λ i. record { boxes = i.boxes; containing = i.containing } };
+    ghost view = { λ i. record { boxes = i.boxes; widths = i.widths; containing = i.containing } };
 
-    ghost invariant = { λ i. SizeInputFits (record { boxes = i.boxes; containing = i.containing }) };
+    ghost invariant = { λ i. SizeInputFits (record { boxes = i.boxes; widths = i.widths; containing = i.containing }) };
 }
 
 impl SizeInput {
-    pub(crate) fn new(boxes: ContextBoxes, containing: ContainingBlock) -> SizeInput
-        requires { SizeInputFits (record { boxes = boxes; containing = containing }) }
-        ensures { result ≡ record { boxes = boxes; containing = containing } }
+    pub(crate) fn new(
+        boxes: ContextBoxes,
+        widths: PreferredWidths,
+        containing: ContainingBlock,
+    ) -> SizeInput
+        requires { SizeInputFits (record { boxes = boxes; widths = widths; containing = containing }) }
+        ensures { result ≡ record { boxes = boxes; widths = widths; containing = containing } }
     {
-        SizeInput { boxes, containing }
+        SizeInput {
+            boxes,
+            widths,
+            containing,
+        }
     }
 
     /// The boxes, with what is known of them.
@@ -46,6 +108,13 @@ impl SizeInput {
         ensures fits { SizeInputFits self.now }
     {
         &self.boxes
+    }
+
+    /// Its preferred widths.
+    pub(crate) fn widths(&self) -> PreferredWidths
+        ensures { result ≡ self.now.widths }
+    {
+        self.widths
     }
 
     pub(crate) fn containing(&self) -> ContainingBlock

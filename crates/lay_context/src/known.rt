@@ -2,11 +2,12 @@
 
 ghost use Rattle.std.specs.Prelude.{◌≡◌, ◌<◌, [], length, replicate, IfOk};
 ghost use Rattle.lay_placement.specs.ContextPlaces.{no_placement};
-ghost use Rattle.lay_context.specs.DocumentLayout.{placement_in, sizes_in};
+ghost use Rattle.lay_context.specs.DocumentLayout.{placement_in, sizes_in, widths_in};
 ghost use Rattle.lay_context.specs.Local.{with_value};
 
 use crate::value::Value;
 use lay_frag::Pieces;
+use lay_measure::{NO_WIDTHS, PreferredWidths};
 use lay_placement::{ContextSizes, Placement};
 use lay_units::NoMemory;
 use std::alloc::Global;
@@ -16,6 +17,7 @@ use std::sync::Arc;
 /// A value for each context and phase; those that aren't known yet are empty.
 #[derive(Drop)]
 pub(crate) struct Known {
+    widths: Vec<PreferredWidths>,
     sizes: Vec<ContextSizes>,
     places: Vec<Placement>,
 }
@@ -25,15 +27,17 @@ impl Model for Known {
 
     ghost Value = { Workings };
 
-    ghost view = { λ k. record { sizes = k.sizes.items; places = k.places.items } };
+    ghost view = { λ k. record { widths = k.widths.items; sizes = k.sizes.items; places = k.places.items } };
 }
 
 impl Known {
     /// Nothing is known of so many contexts.
     pub(crate) fn new(alloc: Global, count: usize) -> Result<Known, NoMemory>
+        ensures widths { IfOk result (λ k. length k.widths ≡ count) }
         ensures sizes { IfOk result (λ k. length k.sizes ≡ count) }
         ensures places { IfOk result (λ k. length k.places ≡ count) }
     {
+        let widths = vec![in alloc; NO_WIDTHS; count]?;
         let mut sizes = Vec::with_capacity(alloc, count)?;
         let mut places = Vec::with_capacity(alloc, count)?;
         let no_sizes = ContextSizes::new(alloc, Vec::new(alloc))?;
@@ -42,7 +46,19 @@ impl Known {
             sizes.push(no_sizes.share()?)?;
             places.push(Placement::none(alloc, no_pieces.clone()?))?;
         }
-        Ok(Known { sizes, places })
+        Ok(Known {
+            widths,
+            sizes,
+            places,
+        })
+    }
+
+    /// The preferred widths of the context with this number.
+    pub(crate) fn widths(&self, i: usize) -> PreferredWidths
+        requires { i < length self.now.widths }
+        ensures { result ≡ widths_in self.now.widths i }
+    {
+        self.widths[i]
     }
 
     /// The used sizes of the boxes of the context with this number.
@@ -63,11 +79,13 @@ impl Known {
 
     /// Notes a value of the context with this number.
     pub(crate) fn set(&mut self, i: usize, value: Value)
+        requires widths { i < length self.old.widths }
         requires sizes { i < length self.old.sizes }
         requires places { i < length self.old.places }
         ensures { self.new ≡ with_value self.old i value }
     {
         match value {
+            Value::Measure(widths) => self.widths[i] = widths,
             Value::Size(sizes) => self.sizes[i] = sizes,
             Value::Place(placement) => self.places[i] = placement,
         }

@@ -1,10 +1,15 @@
 //! The laws of the definitions: a task has one value and needs what the table says, so that a document has one
-//! layout, and the nodes in the list of its contexts are contexts.
+//! layout.
 
 ghost use Rattle.lay_context_boxes.specs.Containing.{ContainersAreNearest};
 ghost use Rattle.lay_contexts.specs.Laws.{EnoughTurns, SpotsAreContexts};
-ghost use Rattle.lay_context.specs.Laws.{InputsComeOfNeeds, NeedsComeFirst, OneContextSizes, OneSolution};
+ghost use Rattle.lay_context.specs.Laws.{InputsComeOfNeeds, NeedsComeFirst, OneContextSizes, OneContextWidths, OneSolution};
 ghost use Rattle.lay_placement.specs.Laws.{OnePlacement};
+
+/// The preferred widths of a context are the only ones beside those of the contexts inside it.
+pub fn one_context_widths()
+    ensures { OneContextWidths }
+{}
 
 /// The used sizes of the boxes of a context are the only ones beside its containing block.
 pub fn one_context_sizes()

@@ -10,6 +10,7 @@ ghost use Rattle.lay_context.specs.Solves.{Solves, SolvesContexts, viewport_of};
 
 use crate::assembling::assemble;
 use crate::context_sizes::context_sizes;
+use crate::context_widths::context_widths;
 use crate::given::input;
 use crate::input::Input;
 use crate::known::Known;
@@ -68,7 +69,7 @@ fn lay_contexts(alloc: Global, medium: &Medium, contexts: &Contexts) -> Result<T
 {
     let count = contexts.len();
     let mut known = Known::new(alloc, count)?;
-    for turn in 0..count + count {
+    for turn in 0..count + count + count {
         settle(alloc, medium, contexts, &mut known, task_at(count, turn))?;
     }
     let tree = assemble(alloc, medium.viewport(), contexts, &known)?;
@@ -97,6 +98,7 @@ fn compute(alloc: Global, input: &Input) -> Result<Value, NoMemory>
     ensures { IfOk result (IsLocal input.now) }
 {
     match input {
+        Input::Measure(input) => Ok(Value::Measure(context_widths(alloc, input)?)),
         Input::Size(input) => Ok(Value::Size(context_sizes(alloc, input)?)),
         Input::Place(input) => Ok(Value::Place(placement(alloc, input)?)),
     }

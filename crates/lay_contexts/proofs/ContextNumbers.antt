@@ -2,13 +2,16 @@
 use Rattle.std.proofs.Common.{◌≡◌, ◌≢◌, ◌<◌, ◌==◌, ◌&&◌, ℕ, zero, suc, ◌+◌, Bool, true, false, List, [], ◌∷◌, ◌++◌, add-one, length, slice_index, slice_set, replicate, refl, ap, sym, ◌∙◌, arith, inl, inr, if◌then◌else◌}
 use Rattle.std.proofs.lemmas.Bool.{cases_eq, cases_lt}
 use Rattle.std.proofs.lemmas.Grind.{elements}
-use Rattle.lay_doc.specs.declared.node.Node.{Node}
 use Rattle.lay_doc.specs.declared.style.Style.{Style}
+use Rattle.lay_doc.specs.Document.{Document, IsDocument}
 use Rattle.lay_doc.proofs.OneStyles.{same_list}
 use Rattle.lay_boxgen.specs.declared.box_tree.BoxNode.{BoxNode}
-use Rattle.lay_contexts.specs.declared.context_spot.ContextSpot.{ContextSpot}
+use Rattle.lay_context_tree.specs.declared.context_spot.ContextSpot.{ContextSpot}
 use Rattle.lay_contexts.specs.Contexts.{Context, AreContexts, IsInside, context_at, no_context}
-use Rattle.lay_contexts.specs.ContextList.{AreContextsOf, AreNumberedTo, IsNumberedTo, boxes_at, boxes_of_spots, document_spots, number_before, spot_at, spot_of}
+use Rattle.lay_context_tree.specs.DocumentContexts.{spot_at}
+use Rattle.lay_context_tree.proofs.OneList.{one_list_of_contexts}
+use Rattle.lay_contexts.specs.ContextList.{AreContextsOf, AreNumberedTo, IsNumberedTo, boxes_at, boxes_of_spots, number_before, spot_of}
+use Rattle.lay_contexts.specs.Laws.{OneContextList}
 use Rattle.lay_contexts.specs.ContextOrder.{AreInOrder}
 use Rattle.lay_contexts.proofs.SpotOrder.{are_in_order}
 
@@ -47,9 +50,9 @@ numbered_contexts spots boxes contexts order are =
       within = λ i j lt has. (let there = inside i j lt has in omega (arith, there.before, are.count));
     }
 
-pub are_contexts : (nodes : List Node) (styles : List Style) (contexts : List Context) → AreContextsOf nodes styles contexts → AreContexts contexts
-are_contexts nodes styles contexts are =
-    numbered_contexts (document_spots nodes styles) (boxes_of_spots nodes styles (document_spots nodes styles)) contexts (are_in_order nodes styles) are
+pub are_contexts : (d : Document) (styles : List Style) (contexts : List Context) → IsDocument d → length styles ≡ length d.nodes → AreContextsOf d.nodes styles contexts → AreContexts contexts
+are_contexts d styles contexts doc same of =
+    numbered_contexts of.spots (boxes_of_spots d.nodes styles of.spots) contexts (are_in_order d styles doc same of.spots of.are) of.numbered
 
 abbrev context_with : (place outer outer_box : ℕ) → List BoxNode → List ℕ → Context
 context_with place outer outer_box boxes inner = record { place = place; outer = outer; outer_box = outer_box; boxes = boxes; inner = inner }
@@ -66,10 +69,15 @@ one_context spots boxes n i x y a b =
     let e : context_with x.place x.outer x.outer_box x.boxes x.inner ≡ context_with y.place y.outer y.outer_box y.boxes y.inner = rw (place, outer, outer_box, boxes_are, inner) refl in
     e
 
-pub one_context_list : (nodes : List Node) (styles : List Style) (x y : List Context) → AreContextsOf nodes styles x → AreContextsOf nodes styles y → x ≡ y
-one_context_list nodes styles x y a b =
-    let spots : List ContextSpot = document_spots nodes styles in
-    same_list no_context x y (a.count ∙ sym b.count) (λ i lt. one_context spots (boxes_of_spots nodes styles spots) (length spots) i (context_at x i) (context_at y i) (a.each i lt) (b.each i (omega (arith, a.count, b.count))))
+numbered_once : (spots : List ContextSpot) (boxes : List (List BoxNode)) (x y : List Context) → AreNumberedTo spots boxes x (length spots) → AreNumberedTo spots boxes y (length spots) → x ≡ y
+numbered_once spots boxes x y a b =
+    same_list no_context x y (a.count ∙ sym b.count) (λ i lt. one_context spots boxes (length spots) i (context_at x i) (context_at y i) (a.each i lt) (b.each i (omega (arith, a.count, b.count))))
+
+pub one_context_list_lem : OneContextList
+one_context_list_lem d styles x y doc same a b =
+    let spots = one_list_of_contexts d styles a.spots b.spots doc same a.are b.are in
+    let numbered : AreNumberedTo a.spots (boxes_of_spots d.nodes styles a.spots) y (length a.spots) = rw spots b.numbered in
+    numbered_once a.spots (boxes_of_spots d.nodes styles a.spots) x y a.numbered numbered
 
 -- a list that grows by contexts without numbers
 pub record AreBlankTo (spots : List ContextSpot) (boxes : List (List BoxNode)) (contexts : List Context) (n : ℕ) : Type 0 where

@@ -1,5 +1,3 @@
 pub mod ContextNumbers
-pub mod EnoughTurns
-pub mod SpotContexts
-pub mod SpotLists
+pub mod ListedSteps
 pub mod SpotOrder

@@ -1,131 +1,67 @@
--- The contexts of a document stand in order.
-use Rattle.std.proofs.Common.{◌≡◌, ◌<◌, ◌≤◌, ℕ, zero, suc, ◌+◌, Bool, true, false, List, [], ◌∷◌, ◌++◌, length, refl, sym, subst, arith, inl, inr, if◌then◌else◌, Option, Some, None}
-use Rattle.std.proofs.lemmas.Bool.{cases_lt}
-use Rattle.std.proofs.lemmas.Grind.{elements}
-use Rattle.std.proofs.lemmas.List.{append-nil, append_assoc, get_or-map, length-append, length-map, length_push}
-use Rattle.lay_doc.specs.declared.node.Node.{Node}
+-- The contexts of a document stand in order, and each has boxes.
+use Rattle.std.proofs.Common.{◌≡◌, ◌<◌, ℕ, List, [], ◌∷◌, length, refl, ap, sym, subst, ◌∙◌, ◌+◌, true, arith, Option, Some, None, IsTrue}
+use Rattle.std.proofs.lemmas.List.{get_or-map, length-map}
 use Rattle.lay_doc.specs.declared.style.Style.{Style}
-use Rattle.lay_doc.specs.Document.{ids_of, place_of}
-use Rattle.lay_boxgen.specs.declared.box_tree.BoxNode.{BoxNode}
-use Rattle.lay_boxgen.specs.Parts.{part}
+use Rattle.lay_doc.specs.Document.{Document, IsDocument}
+use Rattle.lay_boxgen.specs.Boxes.{Tree, tree, trees_of}
+use Rattle.lay_boxgen.specs.Contexts.{IsContextAt, box_at, is_marked}
+use Rattle.lay_boxgen.specs.Laws.{inner_boxes}
+use Rattle.lay_boxgen.specs.Listing.{listed_part}
+use Rattle.lay_boxgen.specs.NodeTrees.{as_child, as_own, box_with, children_of, tree_at}
+use Rattle.lay_boxgen.specs.Parts.{nothing, part, put_list, whole}
+use Rattle.lay_boxgen.specs.declared.facts.Facts.{Facts}
 use Rattle.lay_boxgen.proofs.BoxForests.{boxes_are_a_tree_lem}
 use Rattle.lay_boxgen.proofs.ListedLeaves.{inner_boxes_are_leaves_lem}
-use Rattle.lay_contexts.specs.declared.context_spot.ContextSpot.{ContextSpot}
-use Rattle.lay_contexts.specs.ContextList.{boxes_at, boxes_of_place, boxes_of_spots, context_spots, document_spots, if_found, inner_spots, no_spot, spot_at, with_inner}
-use Rattle.lay_contexts.specs.ContextOrder.{AreInOrder}
+use Rattle.lay_boxgen.proofs.NodeForms.{IsNodeBox, is-node_box}
+use Rattle.lay_boxgen.proofs.WholeParts.{context_is_one_box}
 use Rattle.lay_context_boxes.specs.ContextBoxes.{AreContextBoxes}
+use Rattle.lay_context_tree.specs.ContextTree.{boxes_of_place}
+use Rattle.lay_context_tree.specs.DocumentContexts.{AreDocumentContexts, root_spot, spot_at}
+use Rattle.lay_context_tree.specs.declared.context_spot.ContextSpot.{ContextSpot}
+use Rattle.lay_context_tree.proofs.Members.{forest, node-at, tree-is}
+use Rattle.lay_context_tree.proofs.OneList.{contexts_stand_in_order}
+use Rattle.lay_context_tree.proofs.OneStand.{marked-true, within}
+use Rattle.lay_contexts.specs.ContextList.{boxes_at, boxes_of_spots}
+use Rattle.lay_contexts.specs.ContextOrder.{AreInOrder}
 
-module _ (nodes : List Node) (styles : List Style) where
-  -- the boxes of the context with this number
-  abbrev boxes_here : List ContextSpot → ℕ → List BoxNode
-  boxes_here spots i = boxes_of_place nodes styles (spot_at spots i).place
+module _ (d : Document) (styles : List Style) (doc : IsDocument d) (same : length styles ≡ length d.nodes) where
+  -- the box of a node that has one
+  has_box : (o : Option Facts) → IsTrue (is_marked o) → (f : Facts) × (o ≡ Some f) × (f.inner ≡ true)
+  has_box None marked = absurd cc
+  has_box (Some f) marked = (f, refl, marked-true f.inner marked)
 
-  -- each context but the first has its box in one before it, and each has boxes
-  record SpotsInOrder (spots : List ContextSpot) : Type 0 where
-    around : (i : ℕ) → 0 < i → i < length spots → (spot_at spots i).around < i
-    within : (i : ℕ) → 0 < i → i < length spots → (spot_at spots i).at < length (boxes_here spots (spot_at spots i).around)
-    some : (i : ℕ) → i < length spots → 0 < length (boxes_here spots i)
-
-  -- behind these contexts there is one with a box at this place, unless there is none yet
-  record HasBoxAt (spots : List ContextSpot) (around at : ℕ) : Type 0 where
-    before : 0 < length spots → around < length spots
-    within : 0 < length spots → at < length (boxes_here spots around)
-
-  read_before : (ss ts : List ContextSpot) (k : ℕ) → k < length ss → spot_at (ss ++ ts) k ≡ spot_at ss k
-  read_before ss ts k lt = grind (arith, elements)
-
-  read_last : (ss : List ContextSpot) (s : ContextSpot) (k : ℕ) → k ≡ length ss → spot_at (ss ++ s ∷ []) k ≡ s
-  read_last ss s k e = grind (arith, elements)
-
-  one_more : (ss : List ContextSpot) (s : ContextSpot) → SpotsInOrder ss → HasBoxAt ss s.around s.at → 0 < length (boxes_of_place nodes styles s.place) → SpotsInOrder (ss ++ s ∷ [])
-  one_more ss s so_far there has_boxes =
-      let counted = length_push ss s in
-      record {
-        around = λ i later lt. elim (cases_lt i (length ss)) [
-          | inl low ↦ (let r = read_before ss (s ∷ []) i low in rw r (so_far.around i later low))
-          | inr high ↦ (let q : i ≡ length ss = omega (arith, counted) in let r = read_last ss s i q in let a = there.before (omega (arith, q)) in rw r (omega (arith, q, a)))
-        ];
-        within = λ i later lt. elim (cases_lt i (length ss)) [
-          | inl low ↦ (let r = read_before ss (s ∷ []) i low in let a = so_far.around i later low in let p = read_before ss (s ∷ []) (spot_at ss i).around (omega (arith, a)) in rw (r, p) (so_far.within i later low))
-          | inr high ↦ (let q : i ≡ length ss = omega (arith, counted) in let r = read_last ss s i q in let a = there.before (omega (arith, q)) in let p = read_before ss (s ∷ []) s.around a in rw (r, p) (there.within (omega (arith, q))))
-        ];
-        some = λ i lt. elim (cases_lt i (length ss)) [
-          | inl low ↦ (let r = read_before ss (s ∷ []) i low in rw r (so_far.some i low))
-          | inr high ↦ (let q : i ≡ length ss = omega (arith, counted) in let r = read_last ss s i q in rw r has_boxes)
-        ];
-      }
-
-  -- a way to add contexts keeps order, where their box is in the context `around`
-  abbrev KeepsOrder : ((place at number : ℕ) → List ContextSpot) → ℕ → Type 0
-  KeepsOrder spots around = (place at : ℕ) (ss : List ContextSpot) → SpotsInOrder ss → HasBoxAt ss around at → SpotsInOrder (ss ++ spots place at (length ss))
-
-  found_in_order : (spots : (place at number : ℕ) → List ContextSpot) (around : ℕ) → KeepsOrder spots around → (o : Option ℕ) (at : ℕ) (ss : List ContextSpot) → SpotsInOrder ss → HasBoxAt ss around at
-      → SpotsInOrder (ss ++ if_found o (λ place. spots place at (length ss)))
-  found_in_order spots around keeps None at ss so_far there = subst SpotsInOrder (sym (append-nil ss)) so_far
-  found_in_order spots around keeps (Some place) at ss so_far there = keeps place at ss so_far there
-
-  own_in_order : (spots : (place at number : ℕ) → List ContextSpot) (around : ℕ) → KeepsOrder spots around → (inner : Bool) (o : Option ℕ) (at : ℕ) (ss : List ContextSpot) → SpotsInOrder ss → HasBoxAt ss around at
-      → SpotsInOrder (ss ++ (if inner then if_found o (λ place. spots place at (length ss)) else []))
-  own_in_order spots around keeps true o at ss so_far there = found_in_order spots around keeps o at ss so_far there
-  own_in_order spots around keeps false o at ss so_far there = subst SpotsInOrder (sym (append-nil ss)) so_far
-
-  inner_in_order : (spots : (place at number : ℕ) → List ContextSpot) (around : ℕ) → KeepsOrder spots around → (boxes : List BoxNode) (at : ℕ) (ss : List ContextSpot) → SpotsInOrder ss
-      → around < length ss → at + length boxes ≤ length (boxes_here ss around) → SpotsInOrder (ss ++ inner_spots spots (ids_of nodes) at (length ss) boxes)
-  inner_in_order spots around keeps [] at ss so_far before fits = subst SpotsInOrder (sym (append-nil ss)) so_far
-  inner_in_order spots around keeps (b ∷ boxes) at ss so_far before fits =
-      let own : List ContextSpot = if b.inner then if_found (place_of b.node.0 (ids_of nodes)) (λ place. spots place at (length ss)) else [] in
-      let there : HasBoxAt ss around at = record { before = λ _. before; within = λ _. omega (arith, fits) } in
-      let with_own : SpotsInOrder (ss ++ own) = own_in_order spots around keeps b.inner (place_of b.node.0 (ids_of nodes)) at ss so_far there in
-      let counted = length-append ss own in
-      let same = read_before ss own around before in
-      let fits_on : (at + 1) + length boxes ≤ length (boxes_here (ss ++ own) around) = rw same (omega (arith, fits)) in
-      let all = inner_in_order spots around keeps boxes (at + 1) (ss ++ own) with_own (omega (arith, counted, before)) fits_on in
-      rw (← append_assoc ss own (inner_spots spots (ids_of nodes) (at + 1) (length ss + length own) boxes), ← counted) all
-
-  context_in_order : (turns place around at : ℕ) (ss : List ContextSpot) → SpotsInOrder ss → HasBoxAt ss around at → SpotsInOrder (ss ++ context_spots nodes styles turns place around at (length ss))
-  context_in_order zero place around at ss so_far there = subst SpotsInOrder (sym (append-nil ss)) so_far
-  context_in_order (suc turns) place around at ss so_far there =
-      go (λ p a ts ordered has. context_in_order turns p (length ss) a ts ordered has) (boxes_of_place nodes styles place) refl
+  -- a context has boxes, its own first
+  pub some_boxes : (k : ℕ) → IsContextAt d.nodes styles k → 0 < length (boxes_of_place d.nodes styles k)
+  some_boxes k context =
+      let lt = within d.nodes styles k (marked-true (is_marked (box_at d.nodes styles k)) context.establishes) in
+      let n = node-at d.nodes styles doc.tree same k lt in
+      let b = has_box (box_at d.nodes styles k) context.establishes in
+      let cs : List Tree = children_of as_child k (forest d.nodes styles doc.tree same (k + 1)) in
+      let mine : tree_at d.nodes styles k ≡ Some (tree b.0 (trees_of cs)) = tree-is d.nodes styles doc.tree same k n ∙ ap (λ (o : Option Facts). box_with o cs) (sym n.box ∙ b.1) in
+      let box = subst (IsNodeBox k n.node) (sym n.box ∙ b.1) (is-node_box k n.node n.style) in
+      let one = context_is_one_box d.nodes styles k b.0 (trees_of cs) mine (box.context b.2) in
+      listed (tree (as_own b.0) (inner_boxes d.nodes styles b.0)) one
     where
-      inner : List ContextSpot
-      inner = inner_spots (λ p a n. context_spots nodes styles turns p (length ss) a n) (ids_of nodes) 0 (length ss + 1) (boxes_of_place nodes styles place)
+      first : (t : Tree) → 0 < length (listed_part d.nodes styles (put_list nothing (t ∷ [])))
+      first (tree f us) = omega arith
 
-      spot : ContextSpot
-      spot = record { place = place; around = around; at = at }
+      listed : (t : Tree) → whole d.nodes styles k ≡ t ∷ [] → 0 < length (boxes_of_place d.nodes styles k)
+      listed t e = rw e (first t)
 
-      go : KeepsOrder (λ p a n. context_spots nodes styles turns p (length ss) a n) (length ss) → (boxes : List BoxNode) → boxes_of_place nodes styles place ≡ boxes → SpotsInOrder (ss ++ with_inner spot inner boxes)
-      go keeps [] e = subst SpotsInOrder (sym (append-nil ss)) so_far
-      go keeps (b ∷ boxes) e =
-          let has_boxes : 0 < length (boxes_of_place nodes styles place) = rw e (omega arith) in
-          let with_spot = one_more ss spot so_far there has_boxes in
-          let counted = length_push ss spot in
-          let same = read_last ss spot (length ss) refl in
-          let fits : 0 + length (boxes_of_place nodes styles place) ≤ length (boxes_here (ss ++ spot ∷ []) (length ss)) = rw same (omega arith) in
-          let all = inner_in_order (λ p a n. context_spots nodes styles turns p (length ss) a n) (length ss) keeps (boxes_of_place nodes styles place) 0 (ss ++ spot ∷ []) with_spot (omega (arith, counted)) fits in
-          rw (← append_assoc ss (spot ∷ []) inner, ← counted) all
+  pub context_boxes : (k : ℕ) → IsContextAt d.nodes styles k → AreContextBoxes (boxes_of_place d.nodes styles k)
+  context_boxes k context =
+      let leaves = inner_boxes_are_leaves_lem d.nodes styles k in
+      record { some = some_boxes k context; tree = boxes_are_a_tree_lem d.nodes styles (part d.nodes styles k); own = leaves.own; parents = leaves.parents }
 
-  none_in_order : SpotsInOrder []
-  none_in_order = record { around = λ i later lt. absurd (omega arith); within = λ i later lt. absurd (omega arith); some = λ i lt. absurd (omega arith) }
+  boxes_there : (spots : List ContextSpot) (i : ℕ) → i < length spots → boxes_at (boxes_of_spots d.nodes styles spots) i ≡ boxes_of_place d.nodes styles (spot_at spots i).place
+  boxes_there spots i lt = get_or-map (λ (s : ContextSpot). boxes_of_place d.nodes styles s.place) spots i root_spot [] lt
 
-  document_in_order : SpotsInOrder (document_spots nodes styles)
-  document_in_order = context_in_order (length nodes) 0 0 0 [] none_in_order (record { before = λ lt. absurd (omega arith); within = λ lt. absurd (omega arith) })
-
-  pub context_boxes : (place : ℕ) → 0 < length (boxes_of_place nodes styles place) → AreContextBoxes (boxes_of_place nodes styles place)
-  context_boxes place some =
-      let leaves = inner_boxes_are_leaves_lem nodes styles place in
-      record { some = some; tree = boxes_are_a_tree_lem nodes styles (part nodes styles place); own = leaves.own; parents = leaves.parents }
-
-  boxes_there : (spots : List ContextSpot) (i : ℕ) → i < length spots → boxes_at (boxes_of_spots nodes styles spots) i ≡ boxes_here spots i
-  boxes_there spots i lt = get_or-map (λ (s : ContextSpot). boxes_of_place nodes styles s.place) spots i no_spot [] lt
-
-  pub are_in_order : AreInOrder (document_spots nodes styles) (boxes_of_spots nodes styles (document_spots nodes styles))
-  are_in_order =
-      let spots : List ContextSpot = document_spots nodes styles in
-      let ordered = document_in_order in
-      let counted : length (boxes_of_spots nodes styles spots) ≡ length spots = length-map spots (λ (s : ContextSpot). boxes_of_place nodes styles s.place) in
+  pub are_in_order : (spots : List ContextSpot) → AreDocumentContexts d.nodes styles spots → AreInOrder spots (boxes_of_spots d.nodes styles spots)
+  are_in_order spots are =
+      let counted : length (boxes_of_spots d.nodes styles spots) ≡ length spots = length-map spots (λ (s : ContextSpot). boxes_of_place d.nodes styles s.place) in
       record {
         count = sym counted;
-        around = ordered.around;
-        within = λ i later lt. (let a = ordered.around i later lt in rw (boxes_there spots (spot_at spots i).around (omega (arith, a))) (ordered.within i later lt));
-        each = λ i lt. (let l : i < length spots = omega (arith, counted) in rw (boxes_there spots i l) (context_boxes (spot_at spots i).place (ordered.some i l)));
+        around = λ i later lt. contexts_stand_in_order d styles spots i doc same are later lt;
+        within = λ i later lt. rw (boxes_there spots (spot_at spots i).around (are.within i later lt)) (are.stands i later lt).within;
+        each = λ i lt. (let l : i < length spots = omega (arith, counted) in rw (boxes_there spots i l) (context_boxes (spot_at spots i).place (are.are i l)));
       }

@@ -1,5 +1,5 @@
 pub mod ContextList
 pub mod ContextOrder
 pub mod Contexts
-pub mod InnerContexts
 pub mod Laws
+pub mod ListedContexts

@@ -1,16 +1,21 @@
 //! The contexts of a document with their boxes, in document order.
 
-ghost use Rattle.std.specs.Prelude.{◌≡◌, ◌<◌, ◌++◌, ◌∷◌, [], IfOk, OnOk, Some, length, replicate};
-ghost use Rattle.lay_doc.specs.Document.{ids_of, place_of};
-ghost use Rattle.lay_contexts.specs.ContextList.{AreContextsOf, AreNumberedTo, boxes_at, spot_at, spot_of, boxes_of_spots, boxes_of_place, context_spots, document_spots};
+ghost use Rattle.std.specs.Prelude.{ℕ, ◌≡◌, ◌<◌, IfOk, length, replicate, slice_index};
+ghost use Rattle.lay_context_boxes.specs.ContextBoxes.{AreContextBoxes};
+ghost use Rattle.lay_context_tree.specs.ContextTree.{boxes_of_place};
+ghost use Rattle.lay_context_tree.specs.DocumentContexts.{AreDocumentContexts, root_spot, spot_at};
+ghost use Rattle.lay_contexts.specs.ContextList.{AreContextsOf, AreNumberedTo, boxes_at, boxes_of_spots, spot_of};
 ghost use Rattle.lay_contexts.specs.ContextOrder.{AreInOrder};
-ghost use Rattle.lay_contexts.specs.InnerContexts.{inner_contexts, spots_of_inner, spots_of_node};
+ghost use Rattle.lay_boxgen.specs.Contexts.{IsContextAt};
+ghost use Rattle.lay_contexts.specs.ListedContexts.{AreContextPlaces, AreSpots, IsSpot, boxes_of_places};
 
-use crate::context_spot::ContextSpot;
+use crate::context_places::{context_places, id_at};
 use crate::contexts::{Context, Contexts};
-use lay_boxgen::{BoxNode, boxes};
+use crate::standing::{Listed, Standing, boxes_at, stands_of};
+use lay_boxgen::boxes;
 use lay_context_boxes::ContextBoxes;
-use lay_doc::{Computed, Doc, NodeId};
+use lay_context_tree::ContextSpot;
+use lay_doc::{Computed, Doc};
 use lay_units::NoMemory;
 use std::alloc::Global;
 
@@ -24,15 +29,8 @@ struct ContextList {
     boxes: Vec<ContextBoxes>,
 }
 
-/// The node of an inner context, and the place of its box among the boxes of the context around it.
-#[derive(Clone, Copy)]
-struct InnerContext {
-    node: NodeId,
-    at: usize,
-}
-
 /// The contexts of a document, with a style for each node. NoMemory is also the answer for more than 16,384,
-/// which no document has.
+/// which no document has, and where a context stood in no other, which none does.
 pub fn contexts_of(alloc: Global, doc: &Doc, computed: &Computed) -> Result<Contexts, NoMemory>
     requires styles { length computed.now ≡ length doc.now.nodes }
     ensures { IfOk result (AreContextsOf doc.now.nodes computed.now) }
@@ -49,22 +47,118 @@ pub fn contexts_of(alloc: Global, doc: &Doc, computed: &Computed) -> Result<Cont
 /// Where the boxes of a document's contexts stand, and their boxes.
 fn context_list(alloc: Global, doc: &Doc, computed: &Computed) -> Result<ContextList, NoMemory>
     requires styles { length computed.now ≡ length doc.now.nodes }
-    ensures spots { IfOk result (λ l. l.spots.items ≡ document_spots doc.now.nodes computed.now) }
+    ensures spots { IfOk result (λ l. AreDocumentContexts doc.now.nodes computed.now l.spots.items) }
     ensures boxes { IfOk result (λ l. l.boxes.items ≡ boxes_of_spots doc.now.nodes computed.now l.spots.items) }
     ensures order { IfOk result (λ l. AreInOrder l.spots.items l.boxes.items) }
 {
-    let mut list = ContextList {
-        spots: Vec::new(alloc),
-        boxes: Vec::new(alloc),
+    let _ = doc.nodes();
+    let places = context_places(alloc, doc, computed)?;
+    let numbers = numbers_of(alloc, doc.len(), &places)?;
+    let boxes = boxes_of(alloc, doc, computed, &places)?;
+    let listed = Listed {
+        doc,
+        computed,
+        places: &places,
+        numbers: &numbers,
+        boxes: &boxes,
     };
-    let root = doc.nodes()[0].id;
-    let spot = ContextSpot {
+    let stands = stands_of(alloc, &listed)?;
+    let spots = spots_of(alloc, &places, &stands)?;
+    Ok(ContextList { spots, boxes })
+}
+
+/// For each of so many nodes that is at one of these places the number of that.
+fn numbers_of(alloc: Global, count: usize, places: &[usize]) -> Result<Vec<usize>, NoMemory> {
+    let mut numbers = vec![in alloc; 0; count]?;
+    for number in 0..places.len() {
+        let place = places[number];
+        if place < numbers.len() {
+            numbers[place] = number;
+        }
+    }
+    Ok(numbers)
+}
+
+/// The boxes of the contexts at these places.
+fn boxes_of(
+    alloc: Global,
+    doc: &Doc,
+    computed: &Computed,
+    places: &[usize],
+) -> Result<Vec<ContextBoxes>, NoMemory>
+    requires styles { length computed.now ≡ length doc.now.nodes }
+    requires places { AreContextPlaces doc.now.nodes computed.now places.now }
+    ensures { IfOk result (λ v. v.items ≡ boxes_of_places doc.now.nodes computed.now places.now) }
+{
+    let mut all = Vec::with_capacity(alloc, places.len())?;
+    for number in 0..places.len() {
+        let boxes = boxes_of_context(alloc, doc, computed, places[number])?;
+        all.push(boxes)?;
+    }
+    Ok(all)
+}
+
+/// The boxes of the context of the node at a place.
+fn boxes_of_context(
+    alloc: Global,
+    doc: &Doc,
+    computed: &Computed,
+    place: usize,
+) -> Result<ContextBoxes, NoMemory>
+    requires styles { length computed.now ≡ length doc.now.nodes }
+    requires context { IsContextAt doc.now.nodes computed.now place }
+    ensures { IfOk result (λ b. b ≡ boxes_of_place doc.now.nodes computed.now place) }
+{
+    let tree = boxes(alloc, doc, computed, id_at(doc.nodes(), place))?;
+    ContextBoxes::new(alloc, tree)
+}
+
+/// The contexts at these places, whose boxes stand there.
+fn spots_of(
+    alloc: Global,
+    places: &[usize],
+    stands: &[Option<Standing>],
+) -> Result<Vec<ContextSpot>, NoMemory>
+    requires { length stands.now ≡ length places.now }
+    ensures { IfOk result (λ v. AreSpots places.now stands.now v.items) }
+{
+    let mut spots = Vec::with_capacity(alloc, places.len())?;
+    for number in 0..places.len() {
+        spots.push(spot(number, places[number], stands[number])?)?;
+    }
+    Ok(spots)
+}
+
+/// The context with this number at a place, whose box stands there. NoMemory is the answer where that isn't found, and where
+/// the first context isn't the root's: no document has either.
+fn spot(number: usize, place: usize, standing: Option<Standing>) -> Result<ContextSpot, NoMemory>
+    ensures { IfOk result (IsSpot number place standing) }
+{
+    if number == 0 {
+        return root_spot(place);
+    }
+    match standing {
+        Some(standing) => Ok(ContextSpot {
+            place,
+            around: standing.around,
+            at: standing.at,
+        }),
+        None => Err(NoMemory),
+    }
+}
+
+/// The root's context, where it is at this place.
+fn root_spot(place: usize) -> Result<ContextSpot, NoMemory>
+    ensures { IfOk result (λ s. (s ≡ root_spot) × (place ≡ 0)) }
+{
+    if place > 0 {
+        return Err(NoMemory);
+    }
+    Ok(ContextSpot {
         place: 0,
         around: 0,
         at: 0,
-    };
-    add_context(alloc, doc, computed, &mut list, root, spot, doc.len())?;
-    Ok(list)
+    })
 }
 
 /// These contexts, in which no number of an inner one stands yet.
@@ -101,13 +195,6 @@ fn spot_at(spots: &[ContextSpot], i: usize) -> ContextSpot
     spots[i]
 }
 
-fn boxes_at(boxes: &[ContextBoxes], i: usize) -> &ContextBoxes
-    requires { i < length boxes.now }
-    ensures { result.now ≡ boxes_at boxes.now i }
-{
-    &boxes[i]
-}
-
 /// Notes the number of each context in the one around it.
 fn number_inner(list: &ContextList, items: &mut Vec<Context>)
     requires order { AreInOrder list.now.spots.items list.now.boxes.items }
@@ -118,103 +205,4 @@ fn number_inner(list: &ContextList, items: &mut Vec<Context>)
         let spot = list.spots[j];
         items[spot.around].set_inner(spot.at, j);
     }
-}
-
-/// Adds the context of the node with this id, if it has a box, and those in it.
-#[cycle(contexts)]
-fn add_node(
-    alloc: Global,
-    doc: &Doc,
-    computed: &Computed,
-    list: &mut ContextList,
-    inner: InnerContext,
-    around: usize,
-    turns: usize,
-) -> Result<(), NoMemory>
-    requires styles { length computed.now ≡ length doc.now.nodes }
-    requires boxes { list.old.boxes.items ≡ boxes_of_spots doc.now.nodes computed.now list.old.spots.items }
-    ensures spots { OnOk result (list.new.spots.items ≡ list.old.spots.items ++ spots_of_node doc.now.nodes computed.now turns inner.node.0 around inner.at (length list.old.spots.items)) }
-    ensures boxes { OnOk result (list.new.boxes.items ≡ boxes_of_spots doc.now.nodes computed.now list.new.spots.items) }
-{
-    match doc.find(inner.node) {
-        None => Ok(()),
-        Some(place) => {
-            let spot = ContextSpot {
-                place,
-                around,
-                at: inner.at,
-            };
-            add_context(alloc, doc, computed, list, inner.node, spot, turns)
-        }
-    }
-}
-
-/// Adds the context of a node at a spot, if the node has a box, and those in it: in at most so many turns.
-#[cycle(contexts)]
-fn add_context(
-    alloc: Global,
-    doc: &Doc,
-    computed: &Computed,
-    list: &mut ContextList,
-    node: NodeId,
-    spot: ContextSpot,
-    turns: usize,
-) -> Result<(), NoMemory>
-    requires styles { length computed.now ≡ length doc.now.nodes }
-    requires node { place_of node.0 (ids_of doc.now.nodes) ≡ Some spot.place }
-    requires boxes { list.old.boxes.items ≡ boxes_of_spots doc.now.nodes computed.now list.old.spots.items }
-    ensures spots { OnOk result (list.new.spots.items ≡ list.old.spots.items ++ context_spots doc.now.nodes computed.now turns spot.place spot.around spot.at (length list.old.spots.items)) }
-    ensures boxes { OnOk result (list.new.boxes.items ≡ boxes_of_spots doc.now.nodes computed.now list.new.spots.items) }
-{
-    if turns == 0 {
-        return Ok(());
-    }
-    let tree = boxes(alloc, doc, computed, node)?;
-    if tree.as_slice().is_empty() {
-        return Ok(());
-    }
-    let inner = inner_contexts(alloc, tree.as_slice())?;
-    let number = list.spots.len();
-    let boxes = ContextBoxes::new(alloc, tree)?;
-    list.spots.push(spot)?;
-    list.boxes.push(boxes)?;
-    add_inner(alloc, doc, computed, list, &inner, number, turns - 1)
-}
-
-/// Adds the contexts in a context, where these are its inner ones.
-#[cycle(contexts)]
-fn add_inner(
-    alloc: Global,
-    doc: &Doc,
-    computed: &Computed,
-    list: &mut ContextList,
-    inner: &[InnerContext],
-    around: usize,
-    turns: usize,
-) -> Result<(), NoMemory>
-    requires styles { length computed.now ≡ length doc.now.nodes }
-    requires boxes { list.old.boxes.items ≡ boxes_of_spots doc.now.nodes computed.now list.old.spots.items }
-    ensures spots { OnOk result (list.new.spots.items ≡ list.old.spots.items ++ spots_of_inner doc.now.nodes computed.now turns around (length list.old.spots.items) inner.now) }
-    ensures boxes { OnOk result (list.new.boxes.items ≡ boxes_of_spots doc.now.nodes computed.now list.new.spots.items) }
-{
-    for context in inner {
-        add_node(alloc, doc, computed, list, *context, around, turns)?;
-    }
-    Ok(())
-}
-
-/// The inner contexts of these boxes.
-fn inner_contexts(alloc: Global, boxes: &[BoxNode]) -> Result<Vec<InnerContext>, NoMemory>
-    ensures { IfOk result (λ v. v.items ≡ inner_contexts 0 boxes.now) }
-{
-    let mut inner = Vec::new(alloc);
-    for at in 0..boxes.len() {
-        if boxes[at].inner {
-            inner.push(InnerContext {
-                node: boxes[at].node,
-                at,
-            })?;
-        }
-    }
-    Ok(inner)
 }

@@ -3,8 +3,8 @@
 ghost use Rattle.std.specs.Prelude.{◌≡◌, ◌<◌, ◌≤◌, length, slice_set};
 ghost use Rattle.lay_contexts.specs.Contexts.{AreContexts, context_at};
 
-use crate::context_spot::ContextSpot;
 use lay_context_boxes::ContextBoxes;
+use lay_context_tree::ContextSpot;
 use std::marker::Model;
 
 /// A context: the place of its node in the document, the number of the context around it, the place of its box

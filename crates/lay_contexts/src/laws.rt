@@ -1,13 +1,8 @@
-//! The laws of the definitions. The functions do nothing.
+//! The law of the definition. The function does nothing.
 
-ghost use Rattle.lay_contexts.specs.Laws.{EnoughTurns, SpotsAreContexts};
+ghost use Rattle.lay_contexts.specs.Laws.{OneContextList};
 
-/// More turns than a document has nodes reach no further context.
-pub fn enough_turns()
-    ensures { EnoughTurns }
-{}
-
-/// Each node in the list of a document's contexts is a context.
-pub fn spots_are_contexts()
-    ensures { SpotsAreContexts }
+/// A document has one list of contexts with their boxes.
+pub fn one_context_list()
+    ensures { OneContextList }
 {}

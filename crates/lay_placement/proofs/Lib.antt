@@ -1,6 +1,7 @@
 pub mod AreaFacts
 pub mod AtomicSteps
 pub mod CornerColumns
+pub mod CornerCounts
 pub mod FlowBoxSteps
 pub mod FlowFacts
 pub mod InlineContainerSteps

@@ -1,4 +1,5 @@
 use Rattle.std.proofs.Common.{◌≡◌, ◌+◌, arith, length}
+use Rattle.lay_context.specs.Needs.{turns_of}
 use Rattle.lay_context.specs.Settling.{AreDoneTo}
 use Rattle.lay_context.proofs.TaskSteps.{one_more, known, ready, solved}
 use Rattle.lay_context.proofs.layout.lay_contexts.Goals as goal
@@ -16,12 +17,12 @@ loop-turn-preserved c =
 
 pub assemble-requires-clause-known : goal.assemble-requires-clause-known
 assemble-requires-clause-known c =
-    let all : c.loop-turn.turn ≡ length c.args.contexts.now + length c.args.contexts.now = omega arith in
-    let done : AreDoneTo c.args.medium.now c.args.contexts.now c.loop-turn.known (length c.args.contexts.now + length c.args.contexts.now) = rw (← all) c.loop-turn.invariant in
+    let all : c.loop-turn.turn ≡ turns_of (length c.args.contexts.now) = omega arith in
+    let done : AreDoneTo c.args.medium.now c.args.contexts.now c.loop-turn.known (turns_of (length c.args.contexts.now)) = rw (← all) c.loop-turn.invariant in
     known c.args.medium.now c.args.contexts.now c.len-count.ensures.are c.loop-turn.known done
 
 pub returns : goal.returns
 returns c =
-    let all : c.loop-turn.turn ≡ length c.args.contexts.now + length c.args.contexts.now = omega arith in
-    let done : AreDoneTo c.args.medium.now c.args.contexts.now c.loop-turn.known (length c.args.contexts.now + length c.args.contexts.now) = rw (← all) c.loop-turn.invariant in
+    let all : c.loop-turn.turn ≡ turns_of (length c.args.contexts.now) = omega arith in
+    let done : AreDoneTo c.args.medium.now c.args.contexts.now c.loop-turn.known (turns_of (length c.args.contexts.now)) = rw (← all) c.loop-turn.invariant in
     solved c.args.medium.now c.args.contexts.now c.len-count.ensures.are c.loop-turn.known done c.in_ok-tree.tree (rw c.viewport.ensures.viewport at (c.in_ok-tree.ensures {u = tt}))

@@ -1,4 +1,4 @@
-use Rattle.std.proofs.Common.{◌<◌, arith, length, subst, sym, ◌∙◌, ℕ}
+use Rattle.std.proofs.Common.{arith, ◌∙◌}
 use Rattle.lay_context_boxes.proofs.ContainerSteps.{container_before, container_is, container_within}
 use Rattle.lay_context_boxes.proofs.context_boxes.container_at.Goals as goal
 

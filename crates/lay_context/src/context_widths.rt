@@ -1,0 +1,30 @@
+//! The preferred widths of one context.
+
+ghost use Rattle.std.specs.Prelude.{IfOk};
+ghost use Rattle.lay_context.specs.ContextWidths.{HasWidths};
+
+use crate::input::MeasureInput;
+use lay_box_parts::inline_parts;
+use lay_measure::{MeasureIn, PreferredWidths, measure};
+use lay_units::NoMemory;
+use std::alloc::Global;
+
+/// The most boxes of a context that are measured. A document has fewer.
+const MOST_BOXES: usize = 4294967295;
+
+/// The preferred widths of a context. NoMemory is also the answer for more boxes than 4,294,967,295, and where a width
+/// isn't within 2^63 units of 0.
+pub(crate) fn context_widths(
+    alloc: Global,
+    input: &MeasureInput,
+) -> Result<PreferredWidths, NoMemory>
+    ensures { IfOk result (HasWidths input.now.face input.now.boxes input.now.inner) }
+{
+    let boxes = input.boxes();
+    if boxes.len() > MOST_BOXES {
+        return Err(NoMemory);
+    }
+    let parts = inline_parts(alloc, boxes)?;
+    let of = MeasureIn::new(boxes, &parts, input.inner(), input.face());
+    measure(alloc, &of)
+}

@@ -1,0 +1,47 @@
+//! Which nodes of a document are contexts.
+
+ghost use Rattle.std.specs.Prelude.{◌≡◌, ◌<◌, ◌↔◌, IsTrue, IfOk, length, slice_index};
+ghost use Rattle.lay_doc.specs.Document.{ids_of};
+ghost use Rattle.lay_boxgen.specs.Contexts.{IsContextAt};
+ghost use Rattle.lay_contexts.specs.ListedContexts.{AreContextPlaces};
+
+use lay_boxgen::is_context;
+use lay_doc::{Computed, Doc, Node, NodeId};
+use lay_units::NoMemory;
+use std::alloc::Global;
+
+/// The places of the nodes that are contexts, in document order.
+pub(crate) fn context_places(
+    alloc: Global,
+    doc: &Doc,
+    computed: &Computed,
+) -> Result<Vec<usize>, NoMemory>
+    requires styles { length computed.now ≡ length doc.now.nodes }
+    ensures { IfOk result (λ v. AreContextPlaces doc.now.nodes computed.now v.items) }
+{
+    let count = doc.nodes().len();
+    let mut places = Vec::new(alloc);
+    for k in 0..count {
+        if is_context_at(doc, computed, k) {
+            places.push(k)?;
+        }
+    }
+    Ok(places)
+}
+
+/// Whether the node at a place is a context.
+fn is_context_at(doc: &Doc, computed: &Computed, k: usize) -> bool
+    requires styles { length computed.now ≡ length doc.now.nodes }
+    requires place { k < length doc.now.nodes }
+    ensures { IsTrue result ↔ IsContextAt doc.now.nodes computed.now k }
+{
+    is_context(doc, computed, id_at(doc.nodes(), k))
+}
+
+/// The id of the node at a place.
+pub(crate) fn id_at(nodes: &[Node], k: usize) -> NodeId
+    requires { k < length nodes.now }
+    ensures { result.0 ≡ slice_index (ids_of nodes.now) k }
+{
+    nodes[k].id
+}
