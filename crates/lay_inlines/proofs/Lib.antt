@@ -2,6 +2,7 @@ mod AtomicPieces
 mod Backward
 mod Content
 mod OpenBoxSteps
+mod PartRaises
 mod PenPlaces
 mod RaisesWithin
 mod RemovedSpaces
