@@ -24,6 +24,10 @@ by_piece (Some p) b c = refl
 pub among_more : (xs ys : List LinePiece) (k : ℕ) (c : Corner) → corner_among (xs ++ ys) k c ≡ corner_among ys k (corner_among xs k c)
 among_more xs ys k c = ap (λ (p : Option LinePiece). unwrap_or (option_map corner_of_piece p) c) (piece_more xs ys k) ∙ by_piece (atomic_piece ys k) (atomic_piece xs k) c
 
+-- one piece more
+pub with_piece : (pieces : List LinePiece) (p : LinePiece) (k : ℕ) (c here next : Corner) → here ≡ corner_among pieces k c → next ≡ corner_among (p ∷ []) k here → next ≡ corner_among (pieces ++ p ∷ []) k c
+with_piece pieces p k c here next so_far is = is ∙ ap (corner_among (p ∷ []) k) so_far ∙ sym (among_more pieces (p ∷ []) k c)
+
 other_piece : (p : LinePiece) (k : ℕ) (c : Corner) → is_atomic_of k p ≡ false → c ≡ corner_among (p ∷ []) k c
 other_piece p k c is = sym (ap (λ b. unwrap_or (option_map corner_of_piece (cond b (Some p) None)) c) is)
 

@@ -52,8 +52,12 @@ pub all_corners : (m : BoxMeasuresValue) (p : ContextPlaces) (cs : List Corner) 
 all_corners m p cs counted each =
     same_list no_corner cs (corners_to m p (length m.boxes)) (counted ∙ sym (length_corners m p (length m.boxes))) (λ k lt. (let within : k < length m.boxes = omega (arith, lt, counted) in each k within ∙ sym (corner_in m p (length m.boxes) k within)))
 
+one_more_box : (m : BoxMeasuresValue) (flow_boxes : List FlowBox) (places : FlowPlacesValue) (n k : ℕ) (c : Corner)
+    → corner_among (pieces_on_lines m places n (box_at flow_boxes n).kind) k (corner_among (on_lines_to m flow_boxes places n) k c) ≡ corner_among (on_lines_to m flow_boxes places (n + 1)) k c
+one_more_box m flow_boxes places n k c = rw (add-one n) (sym (among_more (on_lines_to m flow_boxes places n) (pieces_on_lines m places n (box_at flow_boxes n).kind) k c))
+
 -- with what stands on the lines of one box more
-pub one_more_box : (m : BoxMeasuresValue) (flow_boxes : List FlowBox) (places : FlowPlacesValue) (n k : ℕ) (more : List LinePiece) (c : Corner) → more ≡ pieces_on_lines m places n (box_at flow_boxes n).kind
-    → corner_among more k (corner_among (on_lines_to m flow_boxes places n) k c) ≡ corner_among (on_lines_to m flow_boxes places (n + 1)) k c
-one_more_box m flow_boxes places n k more c is =
-    rw (is, add-one n) (sym (among_more (on_lines_to m flow_boxes places n) (pieces_on_lines m places n (box_at flow_boxes n).kind) k c))
+pub with_box : (m : BoxMeasuresValue) (flow_boxes : List FlowBox) (places : FlowPlacesValue) (n k : ℕ) (more : List LinePiece) (c here next : Corner) → more ≡ pieces_on_lines m places n (box_at flow_boxes n).kind
+    → here ≡ corner_among (on_lines_to m flow_boxes places n) k c → next ≡ corner_among more k here → next ≡ corner_among (on_lines_to m flow_boxes places (n + 1)) k c
+with_box m flow_boxes places n k more c here next said so_far is =
+    is ∙ ap (λ (ps : List LinePiece). corner_among ps k here) said ∙ ap (corner_among (pieces_on_lines m places n (box_at flow_boxes n).kind) k) so_far ∙ one_more_box m flow_boxes places n k c
