@@ -1,3 +1,4 @@
+pub mod AtomicExtents
 pub mod Disjunctions
 pub mod SeenPens
 pub mod ShownBoxes

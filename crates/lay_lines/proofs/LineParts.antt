@@ -1,6 +1,5 @@
 -- The parts of a line: they are those of a shape, and how many there are, and how much they lift.
-use Rattle.std.proofs.Common.{◌≡◌, ◌∙◌, ℕ, zero, suc, ◌+◌, ◌-◌, ◌<◌, ◌≤◌, List, [], ◌∷◌, ◌++◌, length, take, drop, slice_get, Option, Some, None, All, inl, inr, refl, sym, ap, subst, arith, add-one}
-use Rattle.std.specs.Prelude.{pos, slice_index}
+use Rattle.std.proofs.Common.{◌≡◌, ◌∙◌, ℕ, zero, suc, ◌+◌, ◌-◌, ◌<◌, ◌≤◌, List, [], ◌∷◌, ◌++◌, length, take, slice_get, Option, Some, None, All, inl, inr, refl, sym, ap, subst, arith, add-one}
 use Rattle.std.proofs.lemmas.Bool.{cases_lt}
 use Rattle.std.proofs.lemmas.Grind.{elements}
 use Rattle.std.proofs.lemmas.List.Elements.{All-push, All-take, All-weaker}
@@ -14,7 +13,7 @@ use Rattle.lay_lines.specs.declared.content.Part.TheVariants.{Space, PreservedSp
 use Rattle.lay_lines.specs.declared.content.Stretch.{Stretch}
 use Rattle.lay_lines.specs.declared.frame.Extent.{Extent}
 use Rattle.lay_lines.specs.declared.frame.Frame.{Frame}
-use Rattle.lay_lines.specs.Extents.{LineParts, part_by, innermost, all_but_last, strut_alone, stood, opened, opened_all, closed, Reading, reading_of, read, read_all, read_at, reading_to, parts_to}
+use Rattle.lay_lines.specs.Extents.{LineParts, part_by, innermost, strut_alone, stood, opened, opened_all, closed, Reading, read, read_all, read_at, reading_to, parts_to}
 use Rattle.lay_lines.specs.LineContents.{total, lift_by, lift_of_part, boxes_of_part}
 use Rattle.lay_lines.proofs.Totals.{part_of, total_to}
 

@@ -1,6 +1,6 @@
 -- How far the shape of a line reaches, whose parts lift so much.
-use Rattle.std.proofs.Common.{◌≡◌, ◌∙◌, ℕ, zero, suc, ◌+◌, ◌*◌, ◌^◌, ◌<◌, ◌≤◌, List, [], ◌∷◌, length, All, refl, sym, ap, subst, arith}
-use Rattle.std.specs.Prelude.{ℤ, pos, ◌+ℤ◌}
+use Rattle.std.proofs.Common.{◌≡◌, ℕ, zero, suc, ◌+◌, ◌*◌, ◌^◌, ◌<◌, ◌≤◌, List, [], ◌∷◌, length, All, sym, ap, subst, arith}
+use Rattle.std.specs.Prelude.{ℤ, ◌+ℤ◌}
 use Rattle.std.proofs.lemmas.Int.{ints}
 use Rattle.lay_units.specs.Units.{IsPosition}
 use Rattle.lay_units.specs.declared.length.Unit.{Unit}
@@ -9,7 +9,7 @@ use Rattle.lay_valign.specs.declared.parts.Part.{Part as LinePart}
 use Rattle.lay_valign.specs.Parts.{part_at, AreParts}
 use Rattle.lay_valign.specs.LineShape.{IsShape}
 use Rattle.lay_valign.specs.Near.{distance, IsNear, lift, lift_of as lift_of_list, ShapeNear}
-use Rattle.lay_valign.specs.PartsFit.{length_of, PartFits, ShapeFits, PartsFit}
+use Rattle.lay_valign.specs.PartsFit.{length_of, PartFits, PartsFit}
 use Rattle.lay_valign.proofs.NearShapes.{near, shapes_are_near_lem}
 use Rattle.lay_lines.specs.declared.frame.Extent.{Extent}
 use Rattle.lay_lines.specs.Extents.{LineParts}

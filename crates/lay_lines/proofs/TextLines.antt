@@ -1,14 +1,12 @@
 -- Lines of text alone, in no inline box.
-use Rattle.std.proofs.Common.{◌≡◌, ◌∙◌, inl, inr, ℕ, zero, suc, ◌+◌, ◌<◌, ◌≤◌, List, [], ◌∷◌, length, slice_get, Option, Some, None, refl, sym, ap, subst, arith}
-use Rattle.std.specs.Prelude.{ℤ, pos, ◌+ℤ◌, ◌≤ℤ◌, slice_index}
+use Rattle.std.proofs.Common.{◌≡◌, ◌∙◌, inl, inr, ℕ, zero, suc, ◌+◌, ◌<◌, List, [], ◌∷◌, slice_get, Option, Some, None, refl, sym, ap, subst, arith}
+use Rattle.std.specs.Prelude.{ℤ, pos, ◌≤ℤ◌, slice_index}
 use Rattle.std.proofs.lemmas.Int.{ints}
 use Rattle.std.proofs.lemmas.Bool.{cases_lt}
 use Rattle.std.proofs.lemmas.Option.{same_Some}
-use Rattle.lay_units.specs.declared.length.Unit.{Unit}
 use Rattle.lay_valign.specs.declared.parts.LineShape.{LineShape}
-use Rattle.lay_valign.specs.declared.parts.Part.{Part as LinePart}
 use Rattle.lay_valign.specs.Parts.{at, shift_at}
-use Rattle.lay_valign.specs.Subtrees.{Subtrees, root_of, rise_of, IsGreatest, InSubtree, HasReaches, above_of, below_of}
+use Rattle.lay_valign.specs.Subtrees.{Subtrees, root_of, rise_of, IsGreatest, InSubtree, above_of, below_of}
 use Rattle.lay_valign.specs.LineShape.{IsShape, shift_of}
 use Rattle.lay_lines.specs.declared.content.Part.{Part}
 use Rattle.lay_lines.specs.declared.content.Part.TheVariants.{Space, PreservedSpace, Tab, Linefeed, Text, Start, End, Atomic}

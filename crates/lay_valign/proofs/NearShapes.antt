@@ -1,6 +1,6 @@
 -- A line's shape reaches no further than its strut, and what its other parts can lift.
-use Rattle.std.proofs.Common.{◌≡◌, ℕ, zero, suc, ◌+◌, ◌*◌, ◌<◌, ◌≤◌, ℤ, pos, negsuc, ◌+ℤ◌, ◌-ℤ◌, ◌≤ℤ◌, neg_ℤ, List, [], ◌∷◌, inl, inr, length, refl, sym, ap, ◌∙◌, arith, subst, get_or}
-use Rattle.std.proofs.Common.{Bool, true, false, if◌then◌else◌}
+use Rattle.std.proofs.Common.{◌≡◌, ℕ, zero, suc, ◌+◌, ◌*◌, ◌<◌, ◌≤◌, ℤ, pos, negsuc, ◌+ℤ◌, ◌-ℤ◌, ◌≤ℤ◌, neg_ℤ, List, [], ◌∷◌, inl, inr, length, refl, sym, ◌∙◌, arith, subst}
+use Rattle.std.proofs.Common.{Bool, true, false}
 use Rattle.std.specs.Prelude.{slice_index}
 use Rattle.std.proofs.lemmas.Int.{ints}
 use Rattle.std.proofs.lemmas.List.{get_or_default}
@@ -9,15 +9,14 @@ use Rattle.lay_units.specs.Units.{half_of}
 use Rattle.lay_units.specs.declared.length.Unit.{Unit}
 use Rattle.lay_valign.specs.declared.parts.LineEdge.{LineEdge}
 use Rattle.lay_valign.specs.declared.parts.LineEdge.TheVariants.{TopEdge, BottomEdge}
-use Rattle.lay_valign.specs.declared.parts.LineShape.{LineShape}
 use Rattle.lay_valign.specs.declared.parts.Part.{Part}
 use Rattle.lay_valign.specs.declared.parts.Shift.{Shift}
 use Rattle.lay_valign.specs.declared.parts.Shift.TheVariants.{By, Middle, TextTop, TextBottom, Top, Bottom}
-use Rattle.lay_valign.specs.Parts.{part_at, at, no_length, begins, is_aligned, AreParts}
+use Rattle.lay_valign.specs.Parts.{part_at, at, no_length, begins, AreParts}
 use Rattle.lay_valign.specs.PartsFit.{length_of}
 use Rattle.lay_valign.specs.Raises.{raise_by, raise_of}
-use Rattle.lay_valign.specs.Subtrees.{Subtrees, AreSubtrees, HasRoots, HasRises, HasReaches, IsGreatest, InSubtree, above_of, below_of, rise_of}
-use Rattle.lay_valign.specs.LineShape.{IsAligned, IsLine, IsRaised, IsShape, beyond, base_by, base_of, shift_of}
+use Rattle.lay_valign.specs.Subtrees.{Subtrees, AreSubtrees, HasRises, IsGreatest, InSubtree, above_of, below_of, rise_of}
+use Rattle.lay_valign.specs.LineShape.{IsAligned, IsLine, IsRaised, beyond, base_by, base_of, shift_of}
 use Rattle.lay_valign.specs.Near.{distance, IsNear, lift, lift_of, ShapesAreNear}
 use Rattle.lay_valign.proofs.Columns.{root_own, root_first, own_root}
 use Rattle.lay_valign.proofs.OneShape.{aligned_begins}

@@ -1,10 +1,9 @@
-use Rattle.std.proofs.Common.{◌≡◌, ◌∙◌, List, [], IfOk, Result, refl, sym, ap, subst, rules}
+use Rattle.std.proofs.Common.{◌≡◌, List, [], IfOk, sym, ap, subst, rules}
 use Rattle.std.proofs.lemmas.List.{nil_from_length}
-use Rattle.lay_valign.specs.declared.parts.LineShape.{LineShape}
 use Rattle.lay_valign.specs.declared.parts.Part.{Part as LinePart}
 use Rattle.lay_valign.specs.LineShape.{IsShape}
 use Rattle.lay_lines.specs.declared.content.InlineStart.{InlineStart}
-use Rattle.lay_lines.specs.Extents.{Reading, strut_alone, reading_to, parts_to}
+use Rattle.lay_lines.specs.Extents.{Reading, reading_to, parts_to}
 use Rattle.lay_lines.proofs.Chains.{at_ok}
 use Rattle.lay_lines.proofs.TextLines.{text_reading}
 use Rattle.lay_lines.proofs.extents.line_shape.Goals as goal

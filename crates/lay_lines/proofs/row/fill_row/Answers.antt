@@ -1,4 +1,4 @@
-use Rattle.std.proofs.Common.{◌∙◌, ◌||◌, ◌+ℤ◌, if◌then◌else◌, refl, ap, sym, subst}
+use Rattle.std.proofs.Common.{◌∙◌, ◌||◌, ◌+ℤ◌, if◌then◌else◌, refl, ap, sym}
 use Rattle.lay_lines.specs.declared.frame.Extent.{Extent}
 use Rattle.lay_lines.specs.Extents.{any_shows, height_of}
 use Rattle.lay_lines.specs.Meeting.{State, state_of}
