@@ -10,6 +10,7 @@ ghost use Rattle.lay_placement.specs.PlaceBounds.{AreNearCorners, HaveCounts, Is
 
 use crate::context_places::BoxPlaces;
 use crate::corner::Corner;
+use crate::on_lines::on_lines_at;
 use crate::place_input::PlaceInput;
 use lay_flow::BoxPlace;
 use lay_inlines::{LinePiece, LinePieceKind, LinePieceList};
@@ -34,7 +35,7 @@ pub(crate) fn corners_of(
 {
     let mut corners = corners_in_flow(alloc, places)?;
     for k in 0..on_lines.len() {
-        put_atomics(&mut corners, on_lines[k].as_slice())?;
+        put_atomics(&mut corners, on_lines_at(on_lines, k))?;
     }
     Ok(corners)
 }

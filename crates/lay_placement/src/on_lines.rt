@@ -7,7 +7,7 @@ ghost use Rattle.lay_flow.specs.FlowBoxes.{KindFits};
 ghost use Rattle.lay_inlines.specs.Bounds.{AreaWithin, RowWithin};
 ghost use Rattle.lay_placement.specs.ContextPieces.{align_of, line_container, pieces_on_lines, rows_at};
 ghost use Rattle.lay_placement.specs.LineBoxes.{measures_in};
-ghost use Rattle.lay_placement.specs.OnLines.{AreOnLines};
+ghost use Rattle.lay_placement.specs.OnLines.{AreOnLines, on_lines_at};
 ghost use Rattle.lay_placement.specs.PlaceBounds.{HaveCounts};
 
 use crate::box_columns::style_at;
@@ -16,7 +16,9 @@ use crate::place_input::PlaceInput;
 use lay_content::{BoxMeasures, inline_areas};
 use lay_doc::TextAlign;
 use lay_flow::{BlockBox, FlowBox, FlowBoxes, FlowKind};
-use lay_inlines::{Align, Container, LinePieceList, LinesGeometry, is_row_within, line_pieces};
+use lay_inlines::{
+    Align, Container, LinePiece, LinePieceList, LinesGeometry, is_row_within, line_pieces,
+};
 use lay_lines::{Ended, InlineArea};
 use lay_units::NoMemory;
 use std::alloc::Global;
@@ -41,7 +43,16 @@ pub(crate) fn on_lines_of(
     Ok(all)
 }
 
+/// What stands on the lines of the box at k, where this is kept of all.
+pub(crate) fn on_lines_at(on_lines: &[LinePieceList], k: usize) -> &[LinePiece]
+    requires { k < length on_lines.now }
+    ensures { result.now ≡ on_lines_at on_lines.now k }
+{
+    on_lines[k].as_slice()
+}
+
 /// What is painted of each box on its lines.
+#[tactic(auto, using(crate::proofs::AreaFacts::areas_within))]
 fn areas_of(
     alloc: Global,
     input: &PlaceInput,

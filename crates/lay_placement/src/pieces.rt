@@ -13,6 +13,7 @@ ghost use Rattle.lay_placement.specs.PlaceBounds.{AreNearPieces, HaveCounts, IsN
 use crate::box_columns::{is_inner, sizes_at};
 use crate::context_places::BoxPlaces;
 use crate::corners::{corner_in_flow, near_position, place_at};
+use crate::on_lines::on_lines_at;
 use crate::piece_list::PieceList;
 use crate::place_input::PlaceInput;
 use lay_boxgen::BoxNode;
@@ -64,7 +65,7 @@ fn with_box(
         return Ok(pieces);
     }
     let pieces = pieces.with(piece_of_box(input, places, k)?)?;
-    with_lines(pieces, input.boxes(), on_lines[k].as_slice())
+    with_lines(pieces, input.boxes(), on_lines_at(on_lines, k))
 }
 
 /// These pieces, and behind them those that stand on lines.

@@ -12,7 +12,7 @@ loop-i-preserved c =
     grind (arith, common_steps, c.index-pieces-i.is, c.loop-i-test.true) in
     record {
       count = put.count ∙ inv.count;
-      each = λ k lt. rw stepped (with_piece (take c.loop-i.i c.args.pieces.now) c.index-pieces-i.result k (corner_at c.args.corners.items k) (corner_at c.loop-i.corners.items k) (corner_at c.put_atomic.new.corners.items k)
+      each = λ k lt. rw stepped (with_piece (take c.loop-i.i c.args.pieces.now) c.index-pieces-i.result k _ (corner_at c.loop-i.corners.items k) _
           (inv.each k lt) (put.each k (omega (arith, lt, inv.count))));
       near = put.near;
     }
