@@ -154,13 +154,13 @@ def segments_of(parts):
     """The segments of the content.
 
     Ends right behind a break stand before it, and so do floats behind one that isn't forced. Starts right before an
-    atomic box stand behind the break there.
+    atomic box stand behind the break there, which parts it from a text or another atomic box.
     """
     parts = list(parts)
     found, current = [], Segment()
     for part, following in zip(parts, parts[1:] + [None]):
         before = found[-1] if found else None
-        if isinstance(part, Atomic) and breaks_beside(part) and not all(isinstance(p, Start) for p in current.parts):
+        if isinstance(part, Atomic) and breaks_beside(part) and current.has_content():
             behind = current.part_starts()
             found.append(current)
             current = behind
