@@ -1,0 +1,38 @@
+//! The laws of the core: what a call leaves is the only state that it may leave, but for want of memory.
+
+ghost use Rattle.lay_core.specs.Laws.{OneEdit, OneLatest, OneRefreshing, OneSettling, OneSync};
+
+use lay_context::one_solution;
+
+/// A core that is dirty is laid out in one way.
+pub fn one_settling()
+    ensures { OneSettling }
+{
+    one_solution();
+}
+
+/// The present version is published in one way.
+pub fn one_refreshing()
+    ensures { OneRefreshing }
+{
+    one_settling();
+}
+
+/// An edit has one reply, and leaves one state.
+pub fn one_edit()
+    ensures { OneEdit }
+{}
+
+/// So has `Latest`.
+pub fn one_latest()
+    ensures { OneLatest }
+{
+    one_refreshing();
+}
+
+/// So has `Sync`.
+pub fn one_sync()
+    ensures { OneSync }
+{
+    one_refreshing();
+}

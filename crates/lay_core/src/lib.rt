@@ -1,0 +1,15 @@
+//! The core of an editing session: a document, the history of what its editors did to it, and the trees of the versions
+//! that were published.
+//!
+//! `specs/State.antt` says what a core keeps, whatever calls came before: its history is legal, its document is that of
+//! the history, and each version that the history publishes has its tree, which solves the version's document.
+//! `specs/Steps.antt` says what each call leaves, and `specs/Laws.antt` that it is the only such state, but for want of
+//! memory. Histories are those of lay_history, and trees those of lay_context.
+#![tactic(auto)]
+
+mod core_state;
+mod editing;
+mod laws;
+
+pub use core_state::Core;
+pub use laws::{one_edit, one_latest, one_refreshing, one_settling, one_sync};

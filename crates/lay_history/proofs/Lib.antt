@@ -1,0 +1,5 @@
+pub mod Lists
+pub mod OneMore
+pub mod Versions
+pub mod Shown
+pub mod Turns

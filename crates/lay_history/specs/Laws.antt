@@ -1,0 +1,42 @@
+-- What follows of legal histories, and what determines a history.
+use Rattle.std.specs.Prelude.{ℕ, ◌≡◌, ◌+◌, ◌<◌, ◌≤◌, ⊤, List, [], ◌∷◌, length, slice_get, Some}
+use Rattle.std.specs.List.{All}
+use Rattle.lay_doc.specs.declared.command.Cmd.{Cmd}
+use Rattle.lay_doc.specs.declared.history.Entry.{Entry}
+use Rattle.lay_doc.specs.declared.history.Entry.TheVariants.{Edit, Publish, Latest, Sync}
+use Rattle.lay_doc.specs.Document.{Document}
+use Rattle.lay_history.specs.Histories.{accepted, published}
+use Rattle.lay_history.specs.Legal.{IsLegal}
+use Rattle.lay_history.specs.Calls.{AnswersScripts, TakesTurns, calls}
+
+-- the versions that a legal history publishes rise, and none is greater than the number of accepted edits
+abbrev pub VersionsRise : Type 0
+VersionsRise = (init : Document) (history : List Entry) → IsLegal init history
+    → ((j k v w : ℕ) → j < k → slice_get (published history) j ≡ Some v → slice_get (published history) k ≡ Some w → v < w)
+    × All (λ v. v ≤ accepted history) (published history)
+
+-- so there are at most one more than accepted edits
+abbrev pub FewVersions : Type 0
+FewVersions = (init : Document) (history : List Entry) → IsLegal init history → length (published history) ≤ accepted history + 1
+
+-- the lines of a report show the same of these entries: all but what an edit was
+abbrev pub ShowsSame : Entry → Entry → Type 0
+ShowsSame (Edit editor index edit reply) (Edit editor' index' edit' reply') = (editor ≡ editor') × (index ≡ index') × (reply ≡ reply')
+ShowsSame (Publish version) (Publish version') = version ≡ version'
+ShowsSame (Latest editor index reply) (Latest editor' index' reply') = (editor ≡ editor') × (index ≡ index') × (reply ≡ reply')
+ShowsSame (Sync editor index reply) (Sync editor' index' reply') = (editor ≡ editor') × (index ≡ index') × (reply ≡ reply')
+ShowsSame _ _ = ⊥
+
+abbrev pub ShowSame : List Entry → List Entry → Type 0
+ShowSame [] [] = ⊤
+ShowSame (x ∷ xs) (y ∷ ys) = ShowsSame x y × ShowSame xs ys
+ShowSame _ _ = ⊥
+
+-- what the lines show of a history and the scripts of its editors determine it
+abbrev pub OneHistory : Type 0
+OneHistory = (scripts : List (List Cmd)) (g h : List Entry) → AnswersScripts g scripts → AnswersScripts h scripts → ShowSame g h → g ≡ h
+
+-- where editors take turns, their scripts determine the order of all calls
+abbrev pub OneOrder : Type 0
+OneOrder = (scripts : List (List Cmd)) (g h : List Entry) → AnswersScripts g scripts → AnswersScripts h scripts
+    → TakesTurns g → TakesTurns h → calls g ≡ calls h

@@ -1,0 +1,5 @@
+pub mod Histories
+pub mod Legal
+pub mod Calls
+pub mod Trees
+pub mod Laws

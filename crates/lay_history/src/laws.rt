@@ -1,0 +1,23 @@
+//! The laws of histories.
+
+ghost use Rattle.lay_history.specs.Laws.{FewVersions, OneHistory, OneOrder, VersionsRise};
+
+/// The versions that a legal history publishes rise to the number of accepted edits.
+pub fn versions_rise()
+    ensures { VersionsRise }
+{}
+
+/// A legal history publishes at most one version more than edits are accepted.
+pub fn few_versions()
+    ensures { FewVersions }
+{}
+
+/// What the lines of a report show of a history and the scripts of its editors determine it.
+pub fn one_history()
+    ensures { OneHistory }
+{}
+
+/// Where editors take turns, their scripts determine the order of all calls.
+pub fn one_order()
+    ensures { OneOrder }
+{}

@@ -1,0 +1,13 @@
+//! Histories of a document that editors change.
+//!
+//! A history is a list of entries (`specs/Histories.antt`). It is legal where each reply is right for the document as
+//! it was then (`specs/Legal.antt`); it answers the commands of editors, and in turn where they take turns
+//! (`specs/Calls.antt`). The versions that it publishes have trees (`specs/Trees.antt`). `specs/Laws.antt` says what
+//! follows of these definitions.
+#![tactic(auto)]
+
+mod laws;
+mod published_tree;
+
+pub use laws::{few_versions, one_history, one_order, versions_rise};
+pub use published_tree::{PublishedTree, tree_at};
