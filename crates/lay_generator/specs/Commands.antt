@@ -1,6 +1,6 @@
 -- The scripts of the generator's four editors. Editor e changes the block of each fourth section, and then asks for the
 -- last version.
-use Rattle.std.specs.Prelude.{ℕ, zero, suc, ◌+◌, ◌-◌, ◌*◌, ◌%◌, ◌==◌, List, [], ◌∷◌, ◌++◌, length}
+use Rattle.std.specs.Prelude.{ℕ, zero, suc, ◌+◌, ◌-◌, ◌*◌, ◌%◌, ◌==◌, Bool, List, [], ◌∷◌, ◌++◌, length}
 use Rattle.std.specs.List.{filter, range_with_len}
 use Rattle.lay_doc.specs.declared.property.Property.TheVariants.{PaddingLeft}
 use Rattle.lay_doc.specs.declared.edit.Edit.TheVariants.{SetStyle}
@@ -18,9 +18,13 @@ abbrev pub paddings : List ℕ → ℕ → List Cmd
 paddings [] state = []
 paddings (section ∷ sections) state = set_padding section state ∷ paddings sections (next state)
 
+-- whether an editor changes a section
+abbrev pub is_of : ℕ → ℕ → Bool
+is_of editor section = section % 4 == editor - 1
+
 -- the sections that an editor changes, among so many
 abbrev pub sections_of : ℕ → ℕ → List ℕ
-sections_of size editor = filter (λ section. section % 4 == editor - 1) (range_with_len 0 size)
+sections_of size editor = filter (is_of editor) (range_with_len 0 size)
 
 abbrev pub script : ℕ → ℕ → ℕ → List Cmd
 script size editor state = paddings (sections_of size editor) state ++ Sync ∷ []

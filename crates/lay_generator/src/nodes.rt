@@ -135,8 +135,10 @@ fn push_words(
     ensures text { OnOk result (string_bytes text.new ≡ string_bytes text.old ++ more_words more draws.old) }
     ensures state { OnOk result (draws.new ≡ state_after more draws.old) }
 {
-    for _k in 0..more {
+    let mut left = more;
+    while left > 0 {
         push_word(alloc, draws, text)?;
+        left -= 1;
     }
     Ok(())
 }
