@@ -1,5 +1,5 @@
 -- What a core keeps after each kind of step.
-use Rattle.std.proofs.Common.{◌≡◌, ◌<◌, ◌≤◌, ◌*◌, ℕ, ◌+◌, ◌-◌, ◌^◌, zero, suc, List, [], ◌∷◌, ◌++◌, length, map, Option, Some, None, IfSome, fold, refl, sym, ap, ◌∙◌, subst, arith, append-nil, length-append, All, slice_index_or, option_map}
+use Rattle.std.proofs.Common.{◌≡◌, ◌<◌, ◌≤◌, ◌*◌, ℕ, ◌+◌, ◌-◌, ◌^◌, zero, suc, List, [], ◌∷◌, ◌++◌, length, Option, Some, None, IfSome, fold, refl, sym, ap, ◌∙◌, subst, arith, append-nil, length-append, All, slice_index_or, option_map}
 use Rattle.std.proofs.lemmas.List.Elements.{All-push}
 use Rattle.lay_doc.specs.declared.edit.Edit.{Edit as Change}
 use Rattle.lay_doc.specs.declared.command.Reply.{Reply}
@@ -11,16 +11,16 @@ use Rattle.lay_doc.specs.Edits.{after, fault}
 use Rattle.lay_face.specs.FaceValue.{FaceValue}
 use Rattle.lay_frag.specs.Pieces.{Context}
 use Rattle.lay_history.specs.Histories.{accepted, doc_at, edit_in, edits, last_or, last_published, published, version_in}
-use Rattle.lay_history.specs.Legal.{MayFollow, doc_after}
+use Rattle.lay_history.specs.Legal.{MayFollow}
 use Rattle.lay_history.specs.Calls.{call_in, calls}
 use Rattle.lay_history.specs.Trees.{PublishedTreeValue, versions_of}
-use Rattle.lay_history.proofs.OneMore.{accepted_more, call_count_more, doc_after_more, doc_before, edits_more, legal_more, published_more}
+use Rattle.lay_history.proofs.OneMore.{accepted_more, call_count_more, doc_after_more, doc_before, legal_more, published_more}
 use Rattle.lay_history.proofs.Lists.{not_none}
 use Rattle.lay_history.proofs.Versions.{all_below, entries_are, few_versions, none_greater}
 use Rattle.lay_context.specs.Solves.{Solves}
 use Rattle.lay_core.specs.Changes.{ChangesTo}
 use Rattle.lay_core.specs.State.{AreSolved, IsCore, IsCounted, IsKept, State}
-use Rattle.lay_core.specs.Steps.{IsRead, called, with_layout, with_tree}
+use Rattle.lay_core.specs.Steps.{IsRead, called, with_tree}
 
 version_at : (trees : List PublishedTreeValue) (k : ℕ) (d : PublishedTreeValue) → slice_index_or (versions_of trees) k d.version ≡ (slice_index_or trees k d).version
 version_at [] k d = refl

@@ -1,17 +1,15 @@
 -- The state that a call leaves is the only one, but for want of memory.
-use Rattle.std.proofs.Common.{◌≡◌, ℕ, Bool, true, false, List, Option, Some, None, refl, sym, ap, ◌∙◌}
-use Rattle.lay_doc.specs.declared.edit.Edit.{Edit as Change}
+use Rattle.std.proofs.Common.{◌≡◌, Bool, true, false, List, Option, Some, None, refl, sym, ap, ◌∙◌}
 use Rattle.lay_doc.specs.declared.command.Reply.{Reply}
 use Rattle.lay_doc.specs.declared.command.Reply.TheVariants.{Accepted, Refused, Shown, NoMemory}
 use Rattle.lay_doc.specs.declared.history.Entry.TheVariants.{Edit, Latest, Sync}
 use Rattle.lay_doc.specs.Document.{IsDocument}
 use Rattle.lay_doc.specs.Edits.{after}
 use Rattle.lay_frag.specs.Pieces.{Context}
-use Rattle.lay_history.specs.Histories.{accepted}
 use Rattle.lay_history.proofs.Lists.{not_none, some_is}
 use Rattle.lay_context.specs.Laws.{OneSolution}
 use Rattle.lay_core.specs.State.{State}
-use Rattle.lay_core.specs.Steps.{EditsTo, IsLaidOut, LatestTo, RefreshesTo, SettlesFrom, ShowsLatest, ShowsPresent, SyncTo, called, is_due, with_layout, with_published}
+use Rattle.lay_core.specs.Steps.{IsLaidOut, SettlesFrom, ShowsLatest, ShowsPresent, called, is_due, with_layout, with_published}
 use Rattle.lay_core.specs.Laws.{OneEdit, OneLatest, OneRefreshing, OneSettling, OneSync}
 
 one_layout : OneSolution → (s t u : State) → IsDocument s.document → IsLaidOut s t → IsLaidOut s u → t ≡ u
@@ -29,14 +27,14 @@ one_refreshing one s t u valid a b = a.state ∙ (ap with_published (one s a.set
 
 pub one_edit : OneEdit
 one_edit s t u editor index edit (Accepted v) (Accepted w) q r a b =
-    let same : v ≡ w = a.0.1 ∙ sym b.0.1 in (
+    let same : v ≡ w = a.1 ∙ sym b.1 in (
       ap (λ n. Accepted n) same,
-      a.1 ∙ (ap (λ n. record (called s (Edit editor index edit (Accepted n))) { document = after s.document edit; fresh = None }) same ∙ sym b.1),
+      a.2 ∙ (ap (λ n. record (called s (Edit editor index edit (Accepted n))) { document = after s.document edit; fresh = None }) same ∙ sym b.2),
     )
-one_edit s t u editor index edit (Accepted v) (Refused g) q r a b = absurd (not_none g (sym a.0.0 ∙ b.0))
+one_edit s t u editor index edit (Accepted v) (Refused g) q r a b = absurd (not_none g (sym a.0 ∙ b.0))
 one_edit s t u editor index edit (Accepted v) (Shown w) q r a b = absurd b
 one_edit s t u editor index edit (Accepted v) NoMemory q r a b = absurd (r refl)
-one_edit s t u editor index edit (Refused f) (Accepted w) q r a b = absurd (not_none f (sym b.0.0 ∙ a.0))
+one_edit s t u editor index edit (Refused f) (Accepted w) q r a b = absurd (not_none f (sym b.0 ∙ a.0))
 one_edit s t u editor index edit (Refused f) (Refused g) q r a b =
     let same : f ≡ g = some_is f g (sym a.0 ∙ b.0) in
     (ap (λ x. Refused x) same, a.1 ∙ (ap (λ x. called s (Edit editor index edit (Refused x))) same ∙ sym b.1))

@@ -1,14 +1,15 @@
 -- What a core shows, and what that makes of the history.
-use Rattle.std.proofs.Common.{◌≡◌, ℕ, ◌+◌, ◌==◌, List, [], ◌∷◌, ◌++◌, length, Bool, true, false, if◌then◌else◌, Option, Some, None, IsSome, refl, sym, ap, ◌∙◌, subst, append-nil, inl, inr, eqb-eq, rules}
+use Rattle.std.proofs.Common.{◌≡◌, ℕ, List, Bool, true, false, if◌then◌else◌, Option, Some, None, IsSome, refl, sym, ap, ◌∙◌, subst, arith, rules}
+use Rattle.std.proofs.lemmas.Bool.{eqb-true}
 use Rattle.lay_doc.specs.declared.command.Reply.{Reply}
 use Rattle.lay_doc.specs.declared.command.Reply.TheVariants.{Accepted, Refused, Shown, NoMemory}
-use Rattle.lay_doc.specs.declared.history.Entry.TheVariants.{Publish, Latest, Sync}
+use Rattle.lay_doc.specs.declared.history.Entry.TheVariants.{Publish}
 use Rattle.lay_frag.specs.Pieces.{Context}
 use Rattle.lay_history.specs.Histories.{accepted, last_or, last_published, published}
 use Rattle.lay_history.specs.Legal.{AnswersLatest, AnswersSync, IsWhole}
 use Rattle.lay_history.proofs.OneMore.{accepted_more, last_of_more, published_more}
 use Rattle.lay_core.specs.State.{State}
-use Rattle.lay_core.specs.Steps.{IsLaidOut, LatestTo, MaySettle, RefreshesTo, SettlesFrom, SettlesTo, ShowsLast, ShowsLatest, ShowsPresent, SyncTo, called, is_due, is_last, is_version, published_from, with_published, with_tree}
+use Rattle.lay_core.specs.Steps.{RefreshesTo, SettlesFrom, SettlesTo, ShowsLatest, ShowsPresent, is_due, is_last, is_version, published_from, with_published, with_tree}
 
 -- the present version of s was published last
 pub record IsPresent (s t : State) : Type 0 where
@@ -17,7 +18,7 @@ pub record IsPresent (s t : State) : Type 0 where
 
 last_is : (o : Option ℕ) (n : ℕ) → is_version o n ≡ true → o ≡ Some n
 last_is None n e = absurd (search rules)
-last_is (Some v) n e = ap (λ m. Some m) (eqb-eq v n e)
+last_is (Some v) n e = ap (λ m. Some m) (eqb-true v n e)
 
 present_by : (s : State) (tree : List Context) (b : Bool) → is_last s ≡ b → IsPresent s (if b then s else with_tree s tree)
 present_by s tree true e = record { last = last_is (last_published s.history) (accepted s.history) e; count = refl }
@@ -27,7 +28,7 @@ present_by s tree false e = record {
 }
 
 published_present : (o : Option (List Context)) (s : State) → IsSome o → IsPresent s (published_from o s)
-published_present None s some = absurd some
+published_present None s some = absurd (search rules)
 published_present (Some tree) s some = present_by s tree (is_last s) refl
 
 -- a settled core has the same history, and isn't dirty
@@ -38,11 +39,11 @@ pub record IsSettled (s t : State) : Type 0 where
 settled_by : (o : Option (List Context)) (s t : State) → s.fresh ≡ o → SettlesFrom o s t → IsSettled s t
 settled_by (Some tree) s t fresh does = record {
   history = ap (λ x. x.history) does;
-  fresh = subst (λ x. IsSome x) (sym (ap (λ x. x.fresh) does ∙ fresh)) tt;
+  fresh = subst (λ x. IsSome x) (sym (ap (λ x. x.fresh) does ∙ fresh)) refl;
 }
 settled_by None s t fresh does = record {
   history = ap (λ x. x.history) does.state;
-  fresh = subst (λ x. IsSome x) (sym (ap (λ x. x.fresh) does.state)) tt;
+  fresh = subst (λ x. IsSome x) (sym (ap (λ x. x.fresh) does.state)) refl;
 }
 
 pub is_settled : (s t : State) → SettlesTo s t → IsSettled s t

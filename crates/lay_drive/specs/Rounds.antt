@@ -1,5 +1,5 @@
 -- How far the scripts of editors are answered, while the editors take turns.
-use Rattle.std.specs.Prelude.{ℕ, ◌≡◌, ◌+◌, ◌≤◌, List, [], ◌∷◌, ◌++◌, take, drop, nat_le, if◌then◌else◌}
+use Rattle.std.specs.Prelude.{ℕ, ◌≡◌, ◌+◌, ◌≤◌, List, [], ◌∷◌, ◌++◌, length, take, drop, nat_le, if◌then◌else◌}
 use Rattle.std.specs.List.{All}
 use Rattle.lay_doc.specs.declared.command.Cmd.{Cmd}
 use Rattle.lay_json.specs.Scripts.{command_count}
@@ -41,5 +41,6 @@ pub record IsAtTurn (scripts : List (List Cmd)) (index done : ℕ) (left : List 
 pub record HadTurns (index : ℕ) (left : List (List Cmd)) (s : State) (rest : List (List Cmd)) (t : State) : Type 0 where
   pub init : t.init ≡ s.init
   pub face : t.face ≡ s.face
+  pub editors : length rest ≡ length left
   pub few : command_count rest ≤ t.calls_left
   pub turns : (scripts : List (List Cmd)) → IsAtTurn scripts index 0 left s → IsAtTurn scripts (index + 1) 0 rest t
