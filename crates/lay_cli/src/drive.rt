@@ -13,7 +13,7 @@ use crate::status::Status;
 use crate::telling::{status_of, told};
 use lay_core::Core;
 use lay_drive::drive;
-use lay_generator::{generated_run, summary};
+use lay_generator::{generated_run, run_summary};
 use lay_json::RunDoc;
 use lay_outside::{Sink, Source};
 use lay_report::write_run;
@@ -109,7 +109,7 @@ fn last_summary(alloc: Global, core: &Core) -> Result<Text, NoMemory>
     ensures { IfOk result (IsSummaryOf core.now) }
 {
     match core.tree(core.accepted()) {
-        Some(tree) => summary(alloc, core.doc().len() as u64, core.accepted(), tree),
+        Some(tree) => run_summary(alloc, core.doc().len() as u64, core.accepted(), tree),
         None => unreachable!(),
     }
 }

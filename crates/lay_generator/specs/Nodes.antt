@@ -1,6 +1,7 @@
 -- The nodes of the generator's document, in its own order, each with the id of its parent. Node 1 is the root. Behind it
 -- come sections of four nodes each: a block formatting context with a float and a block that holds a text.
-use Rattle.std.specs.Prelude.{ℕ, zero, suc, ◌+◌, ◌*◌, ◌%◌, ◌==◌, pos, List, [], ◌∷◌, ◌++◌, repeat, codes, if◌then◌else◌}
+use Rattle.std.specs.Prelude.{ℕ, zero, suc, ◌+◌, ◌*◌, ◌%◌, ◌==◌, pos, List, [], ◌∷◌, ◌++◌, codes, if◌then◌else◌}
+use Rattle.std.specs.List.{repeat}
 use Rattle.lay_doc.specs.declared.node.NodeId.{NodeId}
 use Rattle.lay_doc.specs.declared.node.Kind.TheVariants.{Element, Text}
 use Rattle.lay_doc.specs.declared.property.Property.TheVariants.{Display, Float, Height, MarginTop, Overflow, Width}

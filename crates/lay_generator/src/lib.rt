@@ -11,4 +11,4 @@ mod nodes;
 mod summary;
 
 pub use generated::generated_run;
-pub use summary::summary;
+pub use summary::run_summary;
