@@ -29,5 +29,14 @@ fn words(rt: &(impl Env + AllocGlobal)) -> io::Result<Vec<String>> {
 fn run<R: Threads + Wait + Sync + Input + Print + AllocGlobal>(rt: &R, words: &[String]) -> Status {
     let mut source = InputSource::new(rt.reader());
     let mut sink = OutputSink::new(io::writer(rt));
-    top(rt, rt.alloc(), words, &mut source, &mut sink, &OpenGate)
+    let mut kept = None;
+    top(
+        rt,
+        rt.alloc(),
+        words,
+        &mut source,
+        &mut sink,
+        &OpenGate,
+        &mut kept,
+    )
 }

@@ -31,7 +31,8 @@ fn status<R: Threads + Wait + Sync>(
     source: &mut MemSource,
     sink: &mut MemSink,
 ) -> Status {
-    top(rt, alloc, words, source, sink, &OpenGate)
+    let mut kept = None;
+    top(rt, alloc, words, source, sink, &OpenGate, &mut kept)
 }
 
 /// The words between blanks; none where the line is `-` alone.

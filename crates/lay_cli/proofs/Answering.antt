@@ -1,4 +1,4 @@
--- Answers to runs and to bytes.
+-- What bytes spell.
 use Rattle.std.proofs.Common.{◌≡◌, ◌≢◌, ℕ, ◌<◌, List, length, codes, refl, Option, Some, None, IfSome, Bool, Ok, Err, Result, IfOk}
 use Rattle.lay_units.specs.declared.memory.NoMemory.{NoMemory}
 use Rattle.lay_doc.specs.declared.style.Style.{Style}
@@ -10,9 +10,9 @@ use Rattle.lay_json.specs.declared.fault.InputFault.TheVariants.{TooLong, NoMemo
 use Rattle.lay_json.specs.Runs.{Run}
 use Rattle.lay_json.specs.Reading.{IsReading, too_long}
 use Rattle.lay_cli.proofs.HiddenSteps.{one_hidden_column}
-use Rattle.lay_cli.specs.declared.answer.Answer.{Answer}
-use Rattle.lay_cli.specs.declared.answer.Answer.TheVariants.{Report, Refusal}
-use Rattle.lay_cli.specs.Answers.{AreStyles, AreHiddenNodes, IsFaultAnswer, IsUnbuiltPlace, unbuilt_place, AnswersRun, AnswersBytes, IsRefusal, IsAnswer, faulty, unbuilt, refused}
+use Rattle.lay_cli.specs.declared.run_input.Input.{Input}
+use Rattle.lay_cli.specs.declared.run_input.Input.TheVariants.{Run as a_run, Refusal}
+use Rattle.lay_cli.specs.Answers.{AreStyles, AreHiddenNodes, IsFaultInput, IsInput, IsRefusal, IsRunInput, IsUnbuiltPlace, Spells, unbuilt_place, faulty, unbuilt}
 
 -- the computed styles decide which node isn't laid out
 pub decides : (run : Run) (styles : List Style) (hidden : List Bool) (place : Option ℕ) → IsDocument run.doc → AreStyles run styles → AreHiddenNodes run styles hidden → unbuilt_place run styles hidden ≡ place → IsUnbuiltPlace run place
@@ -28,29 +28,23 @@ decides run styles hidden place document are none is = record {
       rw (same, alike) is;
 }
 
-answers_bytes : (bytes : List ℕ) (run : Run) (answer : Answer) → IsReading bytes (Ok run) → AnswersRun run answer → AnswersBytes bytes answer
-answers_bytes bytes run (Report text) reading is = record { run = run; reading = reading; report = is }
-answers_bytes bytes run (Refusal line) reading is = unbuilt run reading is
+input_known : (bytes : List ℕ) (run : Run) (input : Input) → IsReading bytes (Ok run) → IsRunInput run input → IsInput bytes input
+input_known bytes run (a_run read computed) reading is =
+    let same = is.0 in (rw same (reading, rw same is.1), rw same is.2)
+input_known bytes run (Refusal line) reading is = unbuilt run reading is
 
--- what answers a run, answers the bytes that say it
-pub all_answers : (bytes : List ℕ) (run : Run) (result : Result Answer NoMemory) → IsReading bytes (Ok run) → IfOk result (AnswersRun run) → IfOk result (AnswersBytes bytes)
-all_answers bytes run (Ok answer) reading is = answers_bytes bytes run answer reading is
-all_answers bytes run (Err e) reading is = tt
+-- what a run gives, the bytes give that say it
+pub input_of_run : (bytes : List ℕ) (run : Run) (result : Result Input NoMemory) → IsReading bytes (Ok run) → IfOk result (IsRunInput run) → IfOk result (IsInput bytes)
+input_of_run bytes run (Ok input) reading is = input_known bytes run input reading is
+input_of_run bytes run (Err e) reading is = tt
 
--- what answers a fault, answers the bytes that have it
-pub fault_answers : (bytes : List ℕ) (fault : InputFault) (result : Result Answer NoMemory) → (fault ≢ ran_out → IsReading bytes (Err fault)) → IfOk result (IsFaultAnswer fault) → IfOk result (AnswersBytes bytes)
-fault_answers bytes fault (Ok (Report text)) reading is = absurd is
-fault_answers bytes fault (Ok (Refusal line)) reading is = faulty fault is.0 (reading is.0) is.1
-fault_answers bytes fault (Err e) reading is = tt
-
-too_many : (bytes : List ℕ) → 16777216 < length bytes → IsRefusal bytes (codes "refused I1\n")
-too_many bytes over = faulty TooLong (λ e. absurd cc) (too_long over refl) refl
+-- what a fault gives, the bytes give that have it
+pub input_of_fault : (bytes : List ℕ) (fault : InputFault) (result : Result Input NoMemory) → (fault ≢ ran_out → IsReading bytes (Err fault)) → IfOk result (IsFaultInput fault) → IfOk result (IsInput bytes)
+input_of_fault bytes fault (Ok (a_run run computed)) reading is = absurd is
+input_of_fault bytes fault (Ok (Refusal line)) reading is = faulty fault is.0 (reading is.0) is.1
+input_of_fault bytes fault (Err e) reading is = tt
 
 -- too many bytes are refused
-pub too_many_refused : (left : Option (List ℕ)) (Told : List ℕ → Type 0) → IfSome left (λ all. 16777216 < length all) → Told (codes "refused I1\n") → IfSome left (λ bytes. (line : List ℕ) × IsRefusal bytes line × Told line)
-too_many_refused None Told over told = tt
-too_many_refused (Some bytes) Told over told = (codes "refused I1\n", too_many bytes over, told)
-
-pub too_many_answered : (left : Option (List ℕ)) (Told : List ℕ → Type 0) → IfSome left (λ all. 16777216 < length all) → Told (codes "refused I1\n") → IfSome left (λ bytes. (text : List ℕ) × IsAnswer bytes text × Told text)
-too_many_answered None Told over told = tt
-too_many_answered (Some bytes) Told over told = (codes "refused I1\n", refused (too_many bytes over), told)
+pub too_many : (left : Option (List ℕ)) (line : List ℕ) → IfSome left (λ all. 16777216 < length all) → line ≡ codes "refused I1\n" → IfSome left (λ bytes. IsInput bytes (Refusal line))
+too_many None line over is = tt
+too_many (Some bytes) line over is = faulty TooLong (λ e. absurd cc) (too_long over refl) is

@@ -3,9 +3,13 @@ use Rattle.std.proofs.Common.{◌≡◌, ◌⊎◌, ℕ, List, refl, inl, inr, O
 use Rattle.lay_json.specs.Runs.{Run}
 use Rattle.lay_json.specs.Reading.{IsReading}
 use Rattle.lay_json.proofs.OneReading.{one_reading_lem}
-use Rattle.lay_cli.specs.Answers.{Spells, IsBuilt, IsUnbuiltPlace, IsReport, IsRefusal, faulty, unbuilt, unbuilt_place}
-use Rattle.lay_cli.specs.declared.call.Status.{Status}
-use Rattle.lay_cli.specs.declared.call.Status.TheVariants.{Ok as ok, Refused as refused, Usage as usage, ReadFault as read_fault, WriteFault as write_fault, NoMemory as no_memory}
+use Rattle.lay_core.specs.State.{State}
+use Rattle.lay_words.specs.declared.form.Form.{Form}
+use Rattle.lay_words.specs.declared.form.Form.TheVariants as form
+use Rattle.lay_cli.specs.Answers.{IsAskedWell, IsBuilt, IsRefusal, IsRefused, IsUnbuiltPlace, OfRun, Refuses, Reports, faulty, unbuilt, unbuilt_place}
+use Rattle.lay_cli.specs.Endings.{Ends, SinkValue}
+use Rattle.lay_cli.specs.declared.status.Status.{Status}
+use Rattle.lay_cli.specs.declared.status.Status.TheVariants.{Ok as ok, Refused as refused, Usage as usage, ReadFault as read_fault, WriteFault as write_fault, NoMemory as no_memory}
 
 not_both : (bytes line : List ℕ) (run : Run) → IsReading bytes (Ok run) → IsBuilt run → IsRefusal bytes line → ⊥
 not_both bytes line run reading built (faulty fault named other is) =
@@ -18,28 +22,53 @@ not_both bytes line run reading built (unbuilt other read refusal) =
     let some : unbuilt_place run built.styles built.hidden ≡ Some refusal.place = unbuilt_there.decided built.styles built.hidden built.are_styles built.are_hidden in
     absurd cc
 
+-- words that ask well of these bytes aren't refused
+never_refused : (asked : Form) (bytes line : List ℕ) → IsAskedWell asked bytes → Refuses asked (Some bytes) line → ⊥
+never_refused form.Scratch bytes line well refusal = not_both bytes line well.0 well.1 well.2 refusal
+never_refused (form.Run workers) bytes line well refusal = not_both bytes line well.0 well.1 well.2 refusal
+never_refused (form.Gen size seed workers) bytes line well refusal = refusal
+
+-- bytes that are refused have no report
+of_run : (bytes line : List ℕ) (P : Run → Type 0) → OfRun bytes P → IsRefusal bytes line → ⊥
+of_run bytes line P r refusal = not_both bytes line r.run r.spells.0 r.spells.1 refusal
+
+never_reported : (asked : Form) (bytes line text : List ℕ) (kept : Option State) → Reports asked (Some bytes) kept text → IsRefused asked bytes line → ⊥
+never_reported form.Scratch bytes line text kept report refusal = of_run bytes line _ report.1 refusal
+never_reported (form.Run workers) bytes line text None report refusal = report
+never_reported (form.Run workers) bytes line text (Some s) report refusal = of_run bytes line _ report refusal
+never_reported (form.Gen size seed workers) bytes line text kept report refusal = refusal
+
 -- a run that is laid out is reported
-pub reported : (left : Option (List ℕ)) (status : Status) (Told : List ℕ → Type 0)
-    → (status ≡ refused → IfSome left (λ bytes. (line : List ℕ) × IsRefusal bytes line × Told line))
+pub reported : (asked : Form) (left : Option (List ℕ)) (status : Status) (s t : SinkValue) (kept : Option State) → Ends (Reports asked left) (Refuses asked left) status s t kept
     → (status ≡ usage → ⊥) → (status ≡ read_fault → ⊥) → (status ≡ write_fault → ⊥)
-    → IfSome left (λ bytes. (run : Run) → Spells bytes run → (status ≡ ok) ⊎ (status ≡ no_memory))
-reported None status Told is_refused not_usage not_read not_write = tt
-reported (Some bytes) ok Told is_refused not_usage not_read not_write = λ run spells. inl refl
-reported (Some bytes) refused Told is_refused not_usage not_read not_write = λ run spells. let r = is_refused refl in absurd (not_both bytes r.0 run spells.0 spells.1 r.1)
-reported (Some bytes) usage Told is_refused not_usage not_read not_write = λ run spells. absurd (not_usage refl)
-reported (Some bytes) read_fault Told is_refused not_usage not_read not_write = λ run spells. absurd (not_read refl)
-reported (Some bytes) write_fault Told is_refused not_usage not_read not_write = λ run spells. absurd (not_write refl)
-reported (Some bytes) no_memory Told is_refused not_usage not_read not_write = λ run spells. inr refl
+    → IfSome left (λ bytes. IsAskedWell asked bytes → (status ≡ ok) ⊎ (status ≡ no_memory))
+reported asked None status s t kept ends not_usage not_read not_write = tt
+reported asked (Some bytes) ok s t kept ends not_usage not_read not_write = λ well. inl refl
+reported asked (Some bytes) refused s t kept ends not_usage not_read not_write = λ well. let r = ends.refused refl in absurd (never_refused asked bytes r.0 well r.1)
+reported asked (Some bytes) usage s t kept ends not_usage not_read not_write = λ well. absurd (not_usage refl)
+reported asked (Some bytes) read_fault s t kept ends not_usage not_read not_write = λ well. absurd (not_read refl)
+reported asked (Some bytes) write_fault s t kept ends not_usage not_read not_write = λ well. absurd (not_write refl)
+reported asked (Some bytes) no_memory s t kept ends not_usage not_read not_write = λ well. inr refl
+
+-- a generated run is reported
+pub generated_reported : (size seed workers : ℕ) (left : Option (List ℕ)) (status : Status) (s t : SinkValue) (kept : Option State)
+    → Ends (Reports (form.Gen size seed workers) left) (Refuses (form.Gen size seed workers) left) status s t kept
+    → (status ≡ usage → ⊥) → (status ≡ read_fault → ⊥) → (status ≡ write_fault → ⊥) → (status ≡ ok) ⊎ (status ≡ no_memory)
+generated_reported size seed workers left ok s t kept ends not_usage not_read not_write = inl refl
+generated_reported size seed workers left refused s t kept ends not_usage not_read not_write = let r = ends.refused refl in absurd r.1
+generated_reported size seed workers left usage s t kept ends not_usage not_read not_write = absurd (not_usage refl)
+generated_reported size seed workers left read_fault s t kept ends not_usage not_read not_write = absurd (not_read refl)
+generated_reported size seed workers left write_fault s t kept ends not_usage not_read not_write = absurd (not_write refl)
+generated_reported size seed workers left no_memory s t kept ends not_usage not_read not_write = inr refl
 
 -- what is refused has its line
-pub refuses : (left : Option (List ℕ)) (status : Status) (Told : List ℕ → Type 0)
-    → (status ≡ ok → IfSome left (λ bytes. (text : List ℕ) × IsReport bytes text × Told text))
+pub refuses : (asked : Form) (left : Option (List ℕ)) (status : Status) (s t : SinkValue) (kept : Option State) → Ends (Reports asked left) (Refuses asked left) status s t kept
     → (status ≡ usage → ⊥) → (status ≡ read_fault → ⊥) → (status ≡ write_fault → ⊥)
-    → IfSome left (λ bytes. (line : List ℕ) → IsRefusal bytes line → (status ≡ refused) ⊎ (status ≡ no_memory))
-refuses None status Told is_ok not_usage not_read not_write = tt
-refuses (Some bytes) ok Told is_ok not_usage not_read not_write = λ line refusal. let r = is_ok refl in absurd (not_both bytes line r.1.run r.1.reading r.1.report.built refusal)
-refuses (Some bytes) refused Told is_ok not_usage not_read not_write = λ line refusal. inl refl
-refuses (Some bytes) usage Told is_ok not_usage not_read not_write = λ line refusal. absurd (not_usage refl)
-refuses (Some bytes) read_fault Told is_ok not_usage not_read not_write = λ line refusal. absurd (not_read refl)
-refuses (Some bytes) write_fault Told is_ok not_usage not_read not_write = λ line refusal. absurd (not_write refl)
-refuses (Some bytes) no_memory Told is_ok not_usage not_read not_write = λ line refusal. inr refl
+    → IfSome left (λ bytes. (line : List ℕ) → IsRefused asked bytes line → (status ≡ refused) ⊎ (status ≡ no_memory))
+refuses asked None status s t kept ends not_usage not_read not_write = tt
+refuses asked (Some bytes) ok s t kept ends not_usage not_read not_write = λ line refusal. let r = ends.ok refl in absurd (never_reported asked bytes line r.0 kept r.1 refusal)
+refuses asked (Some bytes) refused s t kept ends not_usage not_read not_write = λ line refusal. inl refl
+refuses asked (Some bytes) usage s t kept ends not_usage not_read not_write = λ line refusal. absurd (not_usage refl)
+refuses asked (Some bytes) read_fault s t kept ends not_usage not_read not_write = λ line refusal. absurd (not_read refl)
+refuses asked (Some bytes) write_fault s t kept ends not_usage not_read not_write = λ line refusal. absurd (not_write refl)
+refuses asked (Some bytes) no_memory s t kept ends not_usage not_read not_write = λ line refusal. inr refl

@@ -1,29 +1,44 @@
 -- Which text answers which words and which bytes.
--- The words are the one word `scratch`, or else wrong. The bytes are a run document whose nodes are all laid
--- out, and whose answer is the report of a tree that solves its document, its editors taken as none; or they
--- are refused with one line: for the first fault that they have, or else for the first node that isn't laid
--- out.
-use Rattle.std.specs.Prelude.{ℕ, Bool, ◌≡◌, ◌≢◌, ◌≤◌, List, [], ◌∷◌, length, take, map, codes, string_bytes, String, Option, Some, None, Ok, Err}
+-- `scratch` and `run` read a run document whose nodes are all laid out, or else the bytes are refused with one line: for the
+-- first fault that they have, or else for the first node that isn't laid out. The report of `scratch` is that of a tree
+-- which solves the document, its editors taken as none. The report of `run` is that of one legal history which answers
+-- each editor's commands once and in order, with trees that solve the documents of their versions. `gen` reads nothing
+-- and writes the summary of such a history of the run that the generator makes.
+use Rattle.std.specs.Prelude.{ℕ, Bool, ◌≡◌, ◌≢◌, ◌⊎◌, List, length, map, string_bytes, String, Option, Some, None, IfSome, Ok, Err}
 use Rattle.std.specs.declared.alloc.Global.{Global}
-use Rattle.lay_outside.specs.Outside.{Took}
 use Rattle.lay_doc.specs.declared.style.Style.{Style}
 use Rattle.lay_doc.specs.Document.{parents_of}
 use Rattle.lay_doc.specs.ComputedStyle.{HasStyles, declarations_of}
 use Rattle.lay_frag.specs.Pieces.{Context}
 use Rattle.lay_context.specs.Solves.{Solves}
-use Rattle.lay_report.specs.Report.{scratch_report}
+use Rattle.lay_history.specs.Histories.{accepted}
+use Rattle.lay_history.specs.Calls.{AnswersScripts, TakesTurns}
+use Rattle.lay_history.specs.Legal.{IsWhole}
+use Rattle.lay_history.specs.Trees.{tree_at}
+use Rattle.lay_core.specs.State.{IsCore, State}
+use Rattle.lay_report.specs.Report.{run_report, scratch_report}
 use Rattle.lay_json.specs.declared.fault.InputFault.{InputFault}
 use Rattle.lay_json.specs.declared.fault.InputFault.TheVariants.{NoMemory}
 use Rattle.lay_json.specs.Runs.{Run}
 use Rattle.lay_json.specs.Reading.{IsReading}
+use Rattle.lay_generator.specs.Generated.{generated}
+use Rattle.lay_generator.specs.Summary.{summary}
+use Rattle.lay_words.specs.declared.form.Form.{Form}
+use Rattle.lay_words.specs.declared.form.Form.TheVariants as form
+use Rattle.lay_words.specs.Grammar.{form_of}
 use Rattle.lay_cli.specs.Built.{AreHidden, first_unbuilt}
+use Rattle.lay_cli.specs.Input.{IsDrained}
 use Rattle.lay_cli.specs.Refusals.{fault_line, unbuilt_line}
-use Rattle.lay_cli.specs.declared.answer.Answer.{Answer}
-use Rattle.lay_cli.specs.declared.answer.Answer.TheVariants.{Report, Refusal}
+use Rattle.lay_cli.specs.declared.run_input.Input.{Input}
+use Rattle.lay_cli.specs.declared.run_input.Input.TheVariants.{Run as a_run, Refusal as a_refusal}
 
--- the one word `scratch`
-abbrev pub IsScratch : List (String Global) → Type 0
-IsScratch words = map string_bytes words ≡ codes "scratch" ∷ []
+-- the words have this form
+abbrev pub HaveForm : List (String Global) → Form → Type 0
+HaveForm words wanted = form_of (map string_bytes words) ≡ Some wanted
+
+-- the words have none of the forms
+abbrev pub HaveNoForm : List (String Global) → Type 0
+HaveNoForm words = form_of (map string_bytes words) ≡ None
 
 -- these are the computed styles of the run's nodes
 abbrev pub AreStyles : Run → List Style → Type 0
@@ -53,49 +68,110 @@ IsBuilt run = IsUnbuiltPlace run None
 abbrev pub Spells : List ℕ → Run → Type 0
 Spells bytes run = IsReading bytes (Ok run) × IsBuilt run
 
--- the text is the report of a tree that solves the run's document
-pub record IsRunReport (run : Run) (text : List ℕ) : Type 0 where
-  pub built : IsBuilt run
-  pub tree : List Context
-  pub solves : Solves run.doc run.face tree
-  pub text_is : text ≡ scratch_report tree
-
 -- the line names the first node of the run that isn't laid out
 pub record IsRunRefusal (run : Run) (line : List ℕ) : Type 0 where
   pub place : ℕ
   pub unbuilt : IsUnbuiltPlace run (Some place)
   pub line_is : line ≡ unbuilt_line place
 
--- the text is the report of a tree that solves the document which the bytes spell
-pub record IsReport (bytes text : List ℕ) : Type 0 where
-  pub run : Run
-  pub reading : IsReading bytes (Ok run)
-  pub report : IsRunReport run text
-
 -- why bytes are refused, and the line that says so
 pub data IsRefusal (bytes line : List ℕ) : Type 0 where
   faulty : (fault : InputFault) → fault ≢ NoMemory → IsReading bytes (Err fault) → line ≡ fault_line fault → IsRefusal bytes line
   unbuilt : (run : Run) → IsReading bytes (Ok run) → IsRunRefusal run line → IsRefusal bytes line
 
--- a text that answers the bytes
-pub data IsAnswer (bytes text : List ℕ) : Type 0 where
-  report : IsReport bytes text → IsAnswer bytes text
-  refused : IsRefusal bytes text → IsAnswer bytes text
+-- the text is the report of a tree that solves the run's document
+pub record IsScratchReport (run : Run) (text : List ℕ) : Type 0 where
+  pub tree : List Context
+  pub solves : Solves run.doc run.face tree
+  pub text_is : text ≡ scratch_report tree
+
+-- A core that answered a run's editors. Its history is legal: each edit has the reply of the document at that point. Each
+-- published version has one tree, and that solves the document of the version (`core`). Each editor's commands are
+-- answered once and in order, and the editors take turns. The last version is published.
+pub record IsDriven (run : Run) (s : State) : Type 0 where
+  pub init : s.init ≡ run.doc
+  pub face : s.face ≡ run.face
+  pub core : IsCore s
+  pub scripts : AnswersScripts s.history run.scripts
+  pub turns : TakesTurns s.history
+  pub whole : IsWhole s.history
+
+-- the text is the report of a core that answered the run's editors
+pub record IsRunReport (run : Run) (s : State) (text : List ℕ) : Type 0 where
+  pub driven : IsDriven run s
+  pub text_is : text ≡ run_report s.history s.trees s.laid
+
+-- the text is the summary of a core whose last version has a tree
+pub record IsSummaryOf (s : State) (text : List ℕ) : Type 0 where
+  pub tree : List Context
+  pub last : tree_at (accepted s.history) s.trees ≡ Some tree
+  pub text_is : text ≡ summary (length s.document.nodes) (accepted s.history) tree
+
+-- the text is the summary of a core that answered the editors of the generated run
+abbrev pub IsSummary : ℕ → ℕ → State → List ℕ → Type 0
+IsSummary size seed s text = IsDriven (generated size seed) s × IsSummaryOf s text
+
+-- what holds of the run that the bytes spell, where all its nodes are laid out
+pub record OfRun (bytes : List ℕ) (P : Run → Type 0) : Type 0 where
+  pub run : Run
+  pub spells : Spells bytes run
+  pub holds : P run
+
+-- what holds of the core that is kept
+abbrev pub OfKept : Option State → (State → Type 0) → Type 0
+OfKept None P = ⊥
+OfKept (Some s) P = P s
+
+-- the text reports what these words ask of the bytes, where they are told, and this core is kept
+abbrev pub Reports : Form → Option (List ℕ) → Option State → List ℕ → Type 0
+Reports form.Scratch left kept text = (kept ≡ None) × IfSome left (λ bytes. OfRun bytes (λ run. IsScratchReport run text))
+Reports (form.Run workers) left kept text = OfKept kept (λ s. IfSome left (λ bytes. OfRun bytes (λ run. IsRunReport run s text)))
+Reports (form.Gen size seed workers) left kept text = OfKept kept (λ s. IsSummary size seed s text)
+
+-- the line says why the bytes are refused; `gen` reads none
+abbrev pub Refuses : Form → Option (List ℕ) → List ℕ → Type 0
+Refuses form.Scratch left line = IfSome left (λ bytes. IsRefusal bytes line)
+Refuses (form.Run workers) left line = IfSome left (λ bytes. IsRefusal bytes line)
+Refuses (form.Gen size seed workers) left line = ⊥
+
+-- the bytes spell a run whose nodes are all laid out; `gen` needs none
+abbrev pub IsAskedWell : Form → List ℕ → Type 0
+IsAskedWell form.Scratch bytes = (run : Run) × Spells bytes run
+IsAskedWell (form.Run workers) bytes = (run : Run) × Spells bytes run
+IsAskedWell (form.Gen size seed workers) bytes = Unit {0}
+
+-- what was read of the bytes: the run that they spell with its computed styles, or why they are refused
+abbrev pub IsInput : List ℕ → Input → Type 0
+IsInput bytes (a_run run computed) = Spells bytes run × AreStyles run computed
+IsInput bytes (a_refusal line) = IsRefusal bytes line
+
+abbrev pub IsRunInput : Run → Input → Type 0
+IsRunInput run (a_run read computed) = (read ≡ run) × IsBuilt run × AreStyles run computed
+IsRunInput run (a_refusal line) = IsRunRefusal run line
 
 -- the line for a fault, which isn't that memory ran out
-abbrev pub IsFaultAnswer : InputFault → Answer → Type 0
-IsFaultAnswer fault (Report text) = ⊥
-IsFaultAnswer fault (Refusal line) = (fault ≢ NoMemory) × (line ≡ fault_line fault)
+abbrev pub IsFaultInput : InputFault → Input → Type 0
+IsFaultInput fault (a_run run computed) = ⊥
+IsFaultInput fault (a_refusal line) = (fault ≢ NoMemory) × (line ≡ fault_line fault)
 
--- the report or the line of a refusal, for a run, and for bytes
-abbrev pub AnswersRun : Run → Answer → Type 0
-AnswersRun run (Report text) = IsRunReport run text
-AnswersRun run (Refusal line) = IsRunRefusal run line
+-- all bytes were read, where they spell a run; for `gen` none is
+abbrev pub AreRead : Form → Option (List ℕ) → Option (List ℕ) → Type 0
+AreRead form.Scratch left now = IsDrained left now
+AreRead (form.Run workers) left now = IsDrained left now
+AreRead (form.Gen size seed workers) left now = now ≡ left
 
-abbrev pub AnswersBytes : List ℕ → Answer → Type 0
-AnswersBytes bytes (Report text) = IsReport bytes text
-AnswersBytes bytes (Refusal line) = IsRefusal bytes line
+abbrev pub IsRun : Input → Type 0
+IsRun (a_run run computed) = Unit {0}
+IsRun (a_refusal line) = ⊥
 
--- a front of the text was taken
-abbrev pub TookFront : Option (List ℕ) → Option (List ℕ) → List ℕ → Type 0
-TookFront old new text = (n : ℕ) × (n ≤ length text) × Took old new (take n text)
+-- the line says why these bytes are refused; `gen` reads none
+abbrev pub IsRefused : Form → List ℕ → List ℕ → Type 0
+IsRefused form.Scratch bytes line = IsRefusal bytes line
+IsRefused (form.Run workers) bytes line = IsRefusal bytes line
+IsRefused (form.Gen size seed workers) bytes line = ⊥
+
+-- words of this form read the source
+abbrev pub IsReader : Form → Type 0
+IsReader form.Scratch = Unit {0}
+IsReader (form.Run workers) = Unit {0}
+IsReader (form.Gen size seed workers) = ⊥

@@ -1,5 +1,6 @@
+pub mod Statuses
 pub mod Built
 pub mod Refusals
 pub mod Input
 pub mod Answers
-pub mod Statuses
+pub mod Endings

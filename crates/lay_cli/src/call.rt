@@ -1,56 +1,28 @@
 //! The call that the program makes.
 
-ghost use Rattle.std.specs.Prelude.{◌≡◌, ◌≢◌, ◌⊎◌, ◌↔◌, ℕ, ◌<◌, List, [], ◌∷◌, codes, Some, Option, IfSome, IsTrue};
-ghost use Rattle.lay_outside.specs.Outside.{Rose, Took, IsQuiet};
-ghost use Rattle.lay_json.specs.Runs.{Run};
-ghost use Rattle.lay_cli.specs.Input.{IsDrained};
-ghost use Rattle.lay_cli.specs.Answers.{IsScratch, Spells, IsReport, IsRefusal, IsAnswer, TookFront};
+ghost use Rattle.std.specs.Prelude.{◌≡◌, ◌≢◌, ◌⊎◌, ℕ, List, codes, None, IfSome};
+ghost use Rattle.lay_outside.specs.Outside.{Rose, Took, TookFront, IsQuiet};
+ghost use Rattle.lay_words.specs.declared.form.Form.{Form};
+ghost use Rattle.lay_words.specs.declared.form.Form.TheVariants as form;
+ghost use Rattle.lay_words.specs.Grammar.{IsInRange};
+ghost use Rattle.lay_cli.specs.Answers.{AreRead, HaveForm, HaveNoForm, IsAskedWell, IsReader, IsRefused, Refuses, Reports};
+ghost use Rattle.lay_cli.specs.Endings.{Ends, TookFrontOf, TookWhole};
 
-use crate::answer::{Answer, answer_to};
-use crate::input::{SourceFault, read_all};
-use crate::output::write_all;
+use crate::drive::{generate, run};
+use crate::scratch::scratch;
+use crate::status::Status;
+use crate::telling::told;
+use lay_core::Core;
 use lay_outside::{Gate, Sink, Source};
+use lay_words::{Form, read_words};
 use std::alloc::Global;
 use std::sync::Wait;
 use std::thread::Threads;
 
-/// How a call ended.
-#[derive(Clone, Copy, Debug)]
-pub enum Status {
-    /// The source was read to its end, and the whole report was written.
-    Ok,
-    /// The bytes are refused, and the line that says why was written.
-    Refused,
-    /// The words are wrong, nothing was read, and the line `usage` was written.
-    Usage,
-    /// A read failed, and nothing was written.
-    ReadFault,
-    /// A write failed. What was written is the front of an answer.
-    WriteFault,
-    /// Memory ran out, and nothing was written.
-    NoMemory,
-}
-
-impl Status {
-    ghost use Rattle.lay_cli.specs.Statuses.{number_of};
-
-    /// The number that the program ends with.
-    pub fn number(self) -> u8
-        ensures { result ≡ number_of self }
-    {
-        match self {
-            Status::Ok => 0,
-            Status::Refused => 1,
-            Status::Usage => 2,
-            Status::ReadFault => 3,
-            Status::WriteFault => 4,
-            Status::NoMemory => 5,
-        }
-    }
-}
-
-/// Lays out the run document that the source has left, its editors taken as none, and writes the report
-/// into the sink; or writes the line of the bytes' first fault, or of the first node that isn't laid out yet.
+/// Answers the words. `scratch` lays out the run document that the source has left, its editors taken as none; `run` drives
+/// its editors; `gen` drives those of the run that the generator makes, and reads nothing. The report goes into the sink, or
+/// else the line of the bytes' first fault or of the first node that isn't laid out yet. After `run` and `gen` with the
+/// status Ok the core that the report is of is kept.
 pub fn top<R: Threads + Wait + Sync, S: Source, K: Sink, G: Gate + Sync>(
     _rt: &R,
     alloc: Global,
@@ -58,82 +30,76 @@ pub fn top<R: Threads + Wait + Sync, S: Source, K: Sink, G: Gate + Sync>(
     source: &mut S,
     sink: &mut K,
     _gate: &G,
+    kept: &mut Option<Core>,
 ) -> Status
-    // The report is that of a tree which solves the document that the bytes spell, and nothing is left.
-    ensures ok { result ≡ Status.Ok → IsScratch words.now × IsDrained (S.left source.old) (S.left source.new)
-        × IfSome (S.left source.old) (λ bytes. (text : List ℕ) × IsReport bytes text × Took (K.taken sink.old) (K.taken sink.new) text) }
-    ensures refused { result ≡ Status.Refused → IsScratch words.now
-        × IfSome (S.left source.old) (λ bytes. (line : List ℕ) × IsRefusal bytes line × Took (K.taken sink.old) (K.taken sink.new) line) }
-    ensures usage { result ≡ Status.Usage → (IsScratch words.now → ⊥) × Took (K.taken sink.old) (K.taken sink.new) (codes "usage\n") }
-    ensures read_fault { result ≡ Status.ReadFault → IsScratch words.now × Rose (S.faults source.old) (S.faults source.new) × (K.taken sink.new ≡ K.taken sink.old) }
-    ensures write_fault { result ≡ Status.WriteFault → Rose (K.faults sink.old) (K.faults sink.new) }
-    ensures no_memory { result ≡ Status.NoMemory → IsScratch words.now × (K.taken sink.new ≡ K.taken sink.old) }
+    requires nothing_kept { kept.old ≡ None }
 
-    // After a fault of the sink it has a front of an answer.
-    ensures front { result ≡ Status.WriteFault → IsScratch words.now
-        → IfSome (S.left source.old) (λ bytes. (text : List ℕ) × IsAnswer bytes text × TookFront (K.taken sink.old) (K.taken sink.new) text) }
-    ensures usage_front { result ≡ Status.WriteFault → (IsScratch words.now → ⊥) → TookFront (K.taken sink.old) (K.taken sink.new) (codes "usage\n") }
-
-    // Wrong words read nothing.
-    ensures unread { (IsScratch words.now → ⊥) → (S.left source.new ≡ S.left source.old) × (S.faults source.new ≡ S.faults source.old) }
-    ensures wrong_words { (IsScratch words.now → ⊥) → (result ≡ Status.Usage) ⊎ (result ≡ Status.WriteFault) }
-
-    // Without faults, a run whose nodes are all laid out has its report and any other input its refusal, but
-    // for want of memory.
-    ensures complete { IsScratch words.now → IsQuiet (S.faults source.old) (S.faults source.new) → IsQuiet (K.faults sink.old) (K.faults sink.new)
-        → IfSome (S.left source.old) (λ bytes. (run : Run) → Spells bytes run → (result ≡ Status.Ok) ⊎ (result ≡ Status.NoMemory)) }
-    ensures refuses { IsScratch words.now → IsQuiet (S.faults source.old) (S.faults source.new) → IsQuiet (K.faults sink.old) (K.faults sink.new)
-        → IfSome (S.left source.old) (λ bytes. (line : List ℕ) → IsRefusal bytes line → (result ≡ Status.Refused) ⊎ (result ≡ Status.NoMemory)) }
-{
-    if !is_scratch(words) {
-        return told(sink, "usage\n", Status::Usage);
-    }
-    answered(alloc, source, sink)
-}
-
-/// Reads the source and writes the answer to its bytes.
-fn answered<S: Source, K: Sink>(alloc: Global, source: &mut S, sink: &mut K) -> Status
-    ensures ok { result ≡ Status.Ok → IsDrained (S.left source.old) (S.left source.new)
-        × IfSome (S.left source.old) (λ bytes. (text : List ℕ) × IsReport bytes text × Took (K.taken sink.old) (K.taken sink.new) text) }
-    ensures refused { result ≡ Status.Refused → IfSome (S.left source.old) (λ bytes. (line : List ℕ) × IsRefusal bytes line × Took (K.taken sink.old) (K.taken sink.new) line) }
-    ensures never_usage { result ≢ Status.Usage }
+    // What was written is the report for the words and the bytes, of the core that is kept.
+    ensures ok { result ≡ Status.Ok → (asked : Form) × HaveForm words.now asked × AreRead asked (S.left source.old) (S.left source.new)
+        × TookWhole (Reports asked (S.left source.old) kept.new)
+        (record { taken = K.taken sink.old; faults = K.faults sink.old }) (record { taken = K.taken sink.new; faults = K.faults sink.new }) }
+    ensures kept { result ≢ Status.Ok → kept.new ≡ None }
+    ensures refused { result ≡ Status.Refused → (asked : Form) × HaveForm words.now asked
+        × TookWhole (Refuses asked (S.left source.old))
+        (record { taken = K.taken sink.old; faults = K.faults sink.old }) (record { taken = K.taken sink.new; faults = K.faults sink.new }) }
+    ensures usage { result ≡ Status.Usage → HaveNoForm words.now × Took (K.taken sink.old) (K.taken sink.new) (codes "usage\n") }
     ensures read_fault { result ≡ Status.ReadFault → Rose (S.faults source.old) (S.faults source.new) × (K.taken sink.new ≡ K.taken sink.old) }
     ensures write_fault { result ≡ Status.WriteFault → Rose (K.faults sink.old) (K.faults sink.new) }
-    ensures no_memory { result ≡ Status.NoMemory → K.taken sink.new ≡ K.taken sink.old }
-    ensures front { result ≡ Status.WriteFault
-        → IfSome (S.left source.old) (λ bytes. (text : List ℕ) × IsAnswer bytes text × TookFront (K.taken sink.old) (K.taken sink.new) text) }
+
+    // After a fault of the sink and for want of memory it has a front of an answer, or nothing.
+    ensures front { result ≡ Status.WriteFault → (asked : Form) → HaveForm words.now asked
+        → TookFrontOf (Reports asked (S.left source.old)) (Refuses asked (S.left source.old))
+        (record { taken = K.taken sink.old; faults = K.faults sink.old }) (record { taken = K.taken sink.new; faults = K.faults sink.new }) }
+    ensures usage_front { result ≡ Status.WriteFault → HaveNoForm words.now → TookFront (K.taken sink.old) (K.taken sink.new) (codes "usage\n") }
+    ensures no_memory { result ≡ Status.NoMemory → (K.taken sink.new ≡ K.taken sink.old) ⊎ ((asked : Form) × HaveForm words.now asked
+        × TookFrontOf (Reports asked (S.left source.old)) (Refuses asked (S.left source.old))
+        (record { taken = K.taken sink.old; faults = K.faults sink.old }) (record { taken = K.taken sink.new; faults = K.faults sink.new })) }
+
+    // Wrong words and `gen` read nothing.
+    ensures unread { HaveNoForm words.now → (S.left source.new ≡ S.left source.old) × (S.faults source.new ≡ S.faults source.old) }
+    ensures gen_reads_none { (size seed workers : ℕ) → HaveForm words.now (form.Gen size seed workers) → (S.left source.new ≡ S.left source.old) × (S.faults source.new ≡ S.faults source.old) }
+    ensures wrong_words { HaveNoForm words.now → (result ≡ Status.Usage) ⊎ (result ≡ Status.WriteFault) ⊎ (result ≡ Status.NoMemory) }
+
+    // Without faults, a run whose nodes are all laid out has its report and any other input its refusal, but for want of
+    // memory; and so has a generated run.
+    ensures complete { (asked : Form) → HaveForm words.now asked → IsQuiet (S.faults source.old) (S.faults source.new) → IsQuiet (K.faults sink.old) (K.faults sink.new)
+        → IfSome (S.left source.old) (λ bytes. IsAskedWell asked bytes → (result ≡ Status.Ok) ⊎ (result ≡ Status.NoMemory)) }
+    ensures gen_complete { (size seed workers : ℕ) → HaveForm words.now (form.Gen size seed workers) → IsQuiet (K.faults sink.old) (K.faults sink.new)
+        → (result ≡ Status.Ok) ⊎ (result ≡ Status.NoMemory) }
+    ensures refuses { (asked : Form) → HaveForm words.now asked → IsQuiet (S.faults source.old) (S.faults source.new) → IsQuiet (K.faults sink.old) (K.faults sink.new)
+        → IfSome (S.left source.old) (λ bytes. (line : List ℕ) → IsRefused asked bytes line → (result ≡ Status.Refused) ⊎ (result ≡ Status.NoMemory)) }
 {
-    let bytes = match read_all(alloc, source) {
-        Ok(bytes) => bytes,
-        Err(SourceFault::TooLong) => return told(sink, "refused I1\n", Status::Refused),
-        Err(SourceFault::Failed) => return Status::ReadFault,
-        Err(SourceFault::NoMemory) => return Status::NoMemory,
-    };
-    match answer_to(alloc, &bytes) {
-        Ok(Answer::Report(text)) => told(sink, text.as_str(), Status::Ok),
-        Ok(Answer::Refusal(line)) => told(sink, line.as_str(), Status::Refused),
+    match read_words(alloc, words) {
+        Ok(Some(form)) => asked(alloc, form, source, sink, kept),
+        Ok(None) => told(sink, "usage\n", Status::Usage),
         Err(_) => Status::NoMemory,
     }
 }
 
-fn is_scratch(words: &[String]) -> bool
-    ensures { IsTrue result ↔ IsScratch words.now }
+/// Answers words of this form.
+fn asked<S: Source, K: Sink>(
+    alloc: Global,
+    form: Form,
+    source: &mut S,
+    sink: &mut K,
+    kept: &mut Option<Core>,
+) -> Status
+    requires range { IsInRange form }
+    requires kept { kept.old ≡ None }
+    ensures ends { Ends (Reports form (S.left source.old)) (Refuses form (S.left source.old)) result
+        (record { taken = K.taken sink.old; faults = K.faults sink.old }) (record { taken = K.taken sink.new; faults = K.faults sink.new }) kept.new }
+    ensures read { result ≡ Status.Ok → AreRead form (S.left source.old) (S.left source.new) }
+    ensures read_fault { result ≡ Status.ReadFault → IsReader form × Rose (S.faults source.old) (S.faults source.new) × (K.taken sink.new ≡ K.taken sink.old) }
+    ensures never_usage { result ≢ Status.Usage }
+    ensures gen_reads_none { (size seed workers : ℕ) → form ≡ form.Gen size seed workers → (S.left source.new ≡ S.left source.old) × (S.faults source.new ≡ S.faults source.old) }
 {
-    match words {
-        [word] => word.as_str() == "scratch",
-        _ => false,
-    }
-}
-
-/// Writes a text and answers the status, or that the sink failed.
-fn told<K: Sink>(sink: &mut K, text: &str, status: Status) -> Status
-    ensures told { result ≢ Status.WriteFault → (result ≡ status) × Took (K.taken sink.old) (K.taken sink.new) text.now }
-    ensures failed { status ≢ Status.WriteFault → result ≡ Status.WriteFault → Rose (K.faults sink.old) (K.faults sink.new) }
-    ensures front { status ≢ Status.WriteFault → result ≡ Status.WriteFault → TookFront (K.taken sink.old) (K.taken sink.new) text.now }
-    ensures either { (result ≡ status) ⊎ (result ≡ Status.WriteFault) }
-{
-    match write_all(sink, text.as_bytes()) {
-        Ok(()) => status,
-        Err(_) => Status::WriteFault,
+    match form {
+        Form::Scratch => scratch(alloc, source, sink),
+        Form::Run { workers: _ } => run(alloc, source, sink, kept),
+        Form::Gen {
+            size,
+            seed,
+            workers: _,
+        } => generate(alloc, size, seed, sink, kept),
     }
 }

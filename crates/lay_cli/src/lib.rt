@@ -1,17 +1,21 @@
-//! The top call of `lay`: from the words of a command line and the bytes of a run document to the bytes
-//! of a report.
+//! The top call: from words and the bytes of a run document to a report, or to the line of a refusal.
 //!
-//! `specs/Answers.antt` says which text answers which words and bytes: the report of a tree that solves
-//! the document which the bytes spell, or the one line of a refusal (`specs/Refusals.antt`), which names the
-//! first fault of the run document or the first node that isn't laid out yet (`specs/Built.antt`).
+//! `top` reads the words (lay_words) and the source, takes the bytes for a run document (lay_json), lays it out from scratch
+//! (lay_context) or drives its editors (lay_drive), and writes the report (lay_report) into the sink. Its contract is in
+//! the words of `specs/Answers.antt`: which text answers which words and bytes; `specs/Endings.antt` says what a status says
+//! of the sink.
 #![tactic(auto)]
 
-mod answer;
 mod built;
 mod call;
+mod drive;
 mod hidden;
 mod input;
-mod output;
 mod refusal;
+mod run_input;
+mod scratch;
+mod status;
+mod telling;
 
-pub use call::{Status, top};
+pub use call::top;
+pub use status::Status;

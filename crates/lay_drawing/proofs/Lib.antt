@@ -1,7 +1,6 @@
 pub mod Numerals
 pub mod Splitting
 pub mod LineReading
-pub mod Streams
 pub mod LineSteps
 pub mod ByteSteps
 pub mod WordLemmas

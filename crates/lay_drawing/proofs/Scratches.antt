@@ -37,9 +37,9 @@ all_lines : (fs : List Frag) → All IsPiece fs → All IsLine (map Piece fs)
 all_lines [] all = All-nil IsLine
 all_lines (f ∷ fs) all = All-cons IsLine (Piece f) (map Piece fs) (All-head IsPiece f fs all) (all_lines fs (All-tail IsPiece f fs all))
 
--- nothing at two ends
-ends : (x y : List ℕ) → (x ++ []) ++ y ≡ (x ++ y) ++ []
-ends x y = ap (λ (ys : List ℕ). ys ++ y) (append-nil x) ∙ sym (append-nil (x ++ y))
+-- nothing at its ends
+ends : (x y : List ℕ) → ((x ++ []) ++ []) ++ y ≡ (x ++ y) ++ []
+ends x y = ap (λ (ys : List ℕ). ys ++ y) (append-nil (x ++ []) ∙ append-nil x) ∙ sym (append-nil (x ++ y))
 
 lines_of : List Context → List Line
 lines_of tree = Publish 0 ∷ Final 0 ∷ map Piece (frags_of tree)

@@ -12,19 +12,9 @@ use Rattle.clap.specs.declared.parser.matches.MatchedArg.{MatchedArg}
 use Rattle.clap.specs.Walk.{row_of, rows_of}
 use Rattle.clap.specs.Words.{fault_of, matches_of, is_simple, is_simple_and_free}
 use Rattle.lay_drawing.specs.declared.words.Wish.TheVariants.{Nothing}
-use Rattle.lay_drawing.specs.Words.{our_app, values_at, wish_with, wish_of}
+use Rattle.lay_words.specs.Agree.{values_at}
+use Rattle.lay_drawing.specs.Words.{our_app, wish_with, wish_of}
 use Rattle.lay_drawing.proofs.Numerals.{by_bool}
-
-same_values : (id : List ℕ) (es : List Entry) → option_map_or raw_values (option_map (λ (e : Entry). e.1) (find (λ (e : Entry). bytes_eq e.0.now id) es)) [] ≡ values_at id (map row_of es)
-same_values id [] = refl
-same_values id (e ∷ es) = by_bool (bytes_eq e.0.now id) (λ q. rw q refl) (λ q. rw q (same_values id es))
-
-or_of : (o : Option MatchedArg) → unwrap_or (option_map raw_values o) [] ≡ option_map_or raw_values o []
-or_of None = refl
-or_of (Some a) = refl
-
-pub values_are : (r : Option (List (List ℕ))) (f : Found) (id : List ℕ) → r ≡ option_map raw_values (matched_of f id) → unwrap_or r [] ≡ values_at id (rows_of f)
-values_are r f id e = ap (λ o. unwrap_or o []) e ∙ (or_of (matched_of f id) ∙ same_values id f.entries.items)
 
 pub is_ours_simple : is_simple_and_free our_app ≡ true
 is_ours_simple = refl

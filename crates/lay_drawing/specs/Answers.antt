@@ -1,8 +1,8 @@
 -- Which text answers which bytes: the picture of the tree that is asked for; or one line, for the first line that is none
 -- of a report, or for the version that the report doesn't show.
-use Rattle.std.specs.Prelude.{ℕ, ◌≡◌, ◌≤◌, true, false, List, ◌++◌, length, take, codes, Option, Some, IfSome}
+use Rattle.std.specs.Prelude.{ℕ, ◌≡◌, true, false, List, ◌++◌, codes, Option, Some, IfSome}
 use Rattle.std.specs.Fmt.{decimal}
-use Rattle.lay_outside.specs.Outside.{Rose, Took}
+use Rattle.lay_outside.specs.Outside.{Rose}
 use Rattle.lay_frag.specs.declared.frag.Frag.{Frag}
 use Rattle.lay_drawing.specs.declared.answer.Answer.{Answer}
 use Rattle.lay_drawing.specs.declared.answer.Answer.TheVariants.{Picture, Refusal}
@@ -40,10 +40,6 @@ AnswersBytes bytes wanted (Refusal line) = IsRefusal bytes wanted line
 abbrev pub AnswersReading : Reading → Answer → Type 0
 AnswersReading s (Picture text) = IfSome s.wanted (λ version. s.is_shown ≡ true) × (text ≡ picture s.pieces.items)
 AnswersReading s (Refusal line) = (version : ℕ) × (s.wanted ≡ Some version) × (s.is_shown ≡ false) × (line ≡ refusal (codes "refused version ") version)
-
--- a front of the text was taken
-abbrev pub TookFront : Option (List ℕ) → Option (List ℕ) → List ℕ → Type 0
-TookFront old new text = (n : ℕ) × (n ≤ length text) × Took old new (take n text)
 
 -- a picture is there once all was read
 abbrev pub DrainsFor : Option (List ℕ) → Option (List ℕ) → Answer → Type 0

@@ -1,11 +1,10 @@
 -- What the words of the command line ask for, as `clap` reads them: the option `--version`, given once at most, with a
 -- number that is written as a report writes it. Without it the last tree is asked for.
-use Rattle.std.specs.Prelude.{ℕ, ◌≡◌, ◌==◌, true, List, [], ◌∷◌, length, codes, map, string_bytes, String, find, Option, Some, None, if◌then◌else◌}
-use Rattle.std.specs.Option.{option_map_or}
-use Rattle.std.specs.Str.{bytes_eq}
+use Rattle.std.specs.Prelude.{ℕ, ◌≡◌, ◌==◌, true, List, [], ◌∷◌, length, codes, map, string_bytes, String, Option, Some, None, if◌then◌else◌}
 use Rattle.std.specs.declared.alloc.Global.{Global}
-use Rattle.clap.specs.Words.{App, Row, Rule, new_app, new_rule, with_rule, fault_of, matches_of}
+use Rattle.clap.specs.Words.{App, Rule, new_app, new_rule, with_rule, fault_of, matches_of}
 use Rattle.clap.specs.declared.builder.action.ArgAction.TheVariants.{Append}
+use Rattle.lay_words.specs.Agree.{values_at}
 use Rattle.lay_drawing.specs.declared.words.Wish.{Wish}
 use Rattle.lay_drawing.specs.declared.words.Wish.TheVariants.{Tree, Nothing}
 use Rattle.lay_drawing.specs.Reading.{number_of}
@@ -19,10 +18,6 @@ bare_app = let a = new_app (codes "lay_picture") in record a { top = record a.to
 -- the command with its one option
 abbrev pub our_app : App
 our_app = with_rule bare_app version_rule
-
--- the values that were found for an option
-abbrev pub values_at : List ℕ → List Row → List (List ℕ)
-values_at id rows = option_map_or (λ r. r.values) (find (λ r. bytes_eq r.id id) rows) []
 
 abbrev pub wish_at : Option ℕ → Wish
 wish_at None = Nothing

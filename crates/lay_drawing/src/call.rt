@@ -1,16 +1,15 @@
 //! The call that the program makes.
 
 ghost use Rattle.std.specs.Prelude.{◌≡◌, ◌≢◌, ◌⊎◌, ℕ, List, codes, Option, Some, IfSome};
-ghost use Rattle.lay_outside.specs.Outside.{Rose, Took, IsQuiet};
+ghost use Rattle.lay_outside.specs.Outside.{Rose, Took, TookFront, IsQuiet};
 ghost use Rattle.lay_frag.specs.declared.frag.Frag.{Frag};
 ghost use Rattle.lay_drawing.specs.Input.{IsDrained};
 ghost use Rattle.lay_drawing.specs.Words.{AskFor, AreWrong};
-ghost use Rattle.lay_drawing.specs.Answers.{IsPicture, IsRefusal, IsAnswer, TookFront};
+ghost use Rattle.lay_drawing.specs.Answers.{IsPicture, IsRefusal, IsAnswer};
 
 use crate::answer::{Answer, Lack, answer_to};
-use crate::output::write_all;
 use crate::words::{Wish, read_words};
-use lay_outside::{Sink, Source};
+use lay_outside::{Sink, Source, write_all};
 use std::alloc::Global;
 
 /// How a call ended.

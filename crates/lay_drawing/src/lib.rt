@@ -13,7 +13,6 @@ mod input;
 mod laws;
 mod line;
 mod numbers;
-mod output;
 mod picture;
 mod pixels;
 mod places;

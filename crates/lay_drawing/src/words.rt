@@ -3,7 +3,8 @@
 ghost use Rattle.std.specs.Prelude.{◌≡◌, IfOk, map, string_bytes, codes};
 ghost use Rattle.clap.specs.Words.{app_of, found_of, rows_of};
 ghost use Rattle.lay_drawing.specs.Reading.{number_of};
-ghost use Rattle.lay_drawing.specs.Words.{our_app, values_at, wish_at, wish_with, wish_of};
+ghost use Rattle.lay_words.specs.Agree.{values_at};
+ghost use Rattle.lay_drawing.specs.Words.{our_app, wish_at, wish_with, wish_of};
 
 use crate::numbers::number;
 use clap::error::ErrorKind;

@@ -11,6 +11,6 @@ mod placed;
 mod tree;
 
 pub use frag::{Frag, FragKind};
-pub use lines::text_of;
+pub use lines::{push_frag, text_of};
 pub use placed::{Pieces, Placed};
 pub use tree::Tree;

@@ -49,7 +49,8 @@ fn word(kind: FragKind) -> &'static str
     }
 }
 
-fn push_frag(text: &mut String, frag: &Frag) -> Result<(), NoMemory>
+/// Adds the line of a piece in page coordinates.
+pub fn push_frag(text: &mut String, frag: &Frag) -> Result<(), NoMemory>
     ensures { OnOk result (string_bytes text.new ≡ string_bytes text.old ++ frag_line frag.now) }
 {
     text.push_str(word(frag.kind))?;

@@ -115,7 +115,7 @@ listed_more listed id ids at is =
     rw (map-append (λ (i : NodeId). i.0) listed (id ∷ [])) (IsPermutation-push_more (map (λ (i : NodeId). i.0) listed) ids (insert ids at id.0) id.0 is (IsPermutation-insert ids at id.0))
 
 -- a document that a node was put into without a fault lists the node after the others
-put_listed : (d e : Document) (node : NodeId × NewNodeValue) (listed : List NodeId) → IsListed d listed → put_last d node ≡ Ok e → IsListed e (listed ++ node.1.id ∷ [])
+pub put_listed : (d e : Document) (node : NodeId × NewNodeValue) (listed : List NodeId) → IsListed d listed → put_last d node ≡ Ok e → IsListed e (listed ++ node.1.id ∷ [])
 put_listed d e node listed is put = of_place (place_of node.0.0 (ids_of d.nodes)) refl
   where
     index : ℕ

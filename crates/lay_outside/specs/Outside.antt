@@ -18,3 +18,7 @@ pub record GivesNext (old new : Option (List ℕ)) (given : List ℕ) (n : ℕ) 
 -- the piece was added to what was taken
 abbrev pub Took : Option (List ℕ) → Option (List ℕ) → List ℕ → Type 0
 Took old new piece = IfSome old (λ bytes. new ≡ Some (bytes ++ piece))
+
+-- a front of the text was added to what was taken
+abbrev pub TookFront : Option (List ℕ) → Option (List ℕ) → List ℕ → Type 0
+TookFront old new text = (n : ℕ) × (n ≤ length text) × Took old new (take n text)

@@ -12,6 +12,7 @@ mod memory_source;
 mod sink;
 mod source;
 mod streams;
+mod writing;
 
 pub use gate::{Gate, OpenGate, Point};
 pub use memory_sink::{FixedSink, MemSink};
@@ -19,3 +20,4 @@ pub use memory_source::{MemSource, SafeSource};
 pub use sink::Sink;
 pub use source::{Failed, Source};
 pub use streams::{InputSource, OutputSink};
+pub use writing::write_all;

@@ -1,9 +1,10 @@
--- The text of a report: a line for each entry of a history, then the number of the last version and the
--- lines of its tree. A run without editors has the history of one entry: version 0 is published.
+-- The text of a report: a line for each entry of a history, and after each entry that shows a version the lines of its
+-- tree; then the number of the last version and the lines of its tree. The report of a run of editors has one line
+-- more, with how much was laid out.
 -- The line of an entry names its command, with the editor and the command's index, and the reply, as
 -- `edit 1 0 accepted 1`, `edit 2 3 refused E6`, `publish 1` or `latest 1 1 nomemory`. In place of `shown` a
 -- reply has the version alone, as `sync 1 2 1`.
-use Rattle.std.specs.Prelude.{ℕ, List, [], ◌∷◌, ◌++◌, codes}
+use Rattle.std.specs.Prelude.{ℕ, List, [], ◌∷◌, ◌++◌, codes, Option, Some, None}
 use Rattle.std.specs.List.{flat_map}
 use Rattle.std.specs.Fmt.{decimal}
 use Rattle.lay_doc.specs.declared.history.Entry.{Entry}
@@ -14,6 +15,8 @@ use Rattle.lay_doc.specs.declared.edit.EditFault.{EditFault}
 use Rattle.lay_doc.specs.declared.edit.EditFault.TheVariants.{NoNode, NotElement, NotText, IdTaken, BadIndex, RootFixed, TooManyNodes, TooDeep, TextTooLong, BadProperty, BadValue}
 use Rattle.lay_frag.specs.Pieces.{Context}
 use Rattle.lay_frag.specs.Lines.{tree_text}
+use Rattle.lay_history.specs.Histories.{accepted}
+use Rattle.lay_history.specs.Trees.{PublishedTreeValue, tree_at}
 
 -- the number of a fault, as E1 to E11
 abbrev pub fault_number : EditFault → ℕ
@@ -45,16 +48,49 @@ entry_line (Publish version) = codes "publish " ++ decimal version ++ codes "\n"
 entry_line (Latest editor index reply) = command_line (codes "latest ") editor index reply
 entry_line (Sync editor index reply) = command_line (codes "sync ") editor index reply
 
-abbrev pub history_text : List Entry → List ℕ
-history_text entries = flat_map entry_line entries
+-- the lines of a tree that is there
+abbrev pub tree_lines : Option (List Context) → List ℕ
+tree_lines None = []
+tree_lines (Some tree) = tree_text tree
 
-abbrev pub final_text : ℕ → List Context → List ℕ
-final_text version tree = codes "final " ++ decimal version ++ codes "\n" ++ tree_text tree
+-- the version that a reply shows
+abbrev pub shown_by : Reply → Option ℕ
+shown_by (Shown version) = Some version
+shown_by _ = None
 
--- the history of a run without editors
-abbrev pub scratch_history : List Entry
-scratch_history = Publish 0 ∷ []
+-- the version that an entry shows
+abbrev pub shown_version : Entry → Option ℕ
+shown_version (Latest editor index reply) = shown_by reply
+shown_version (Sync editor index reply) = shown_by reply
+shown_version _ = None
 
--- the report of that history and the tree of version 0
+-- the lines of the tree of a version that is shown
+abbrev pub shown_lines : List PublishedTreeValue → Option ℕ → List ℕ
+shown_lines trees None = []
+shown_lines trees (Some version) = tree_lines (tree_at version trees)
+
+-- the line of an entry, and the lines of the tree that it shows
+abbrev pub entry_text : List PublishedTreeValue → Entry → List ℕ
+entry_text trees entry = entry_line entry ++ shown_lines trees (shown_version entry)
+
+abbrev pub final_line : ℕ → List ℕ
+final_line version = codes "final " ++ decimal version ++ codes "\n"
+
+-- the last version, and its tree
+abbrev pub final_text : ℕ → List PublishedTreeValue → List ℕ
+final_text version trees = final_line version ++ shown_lines trees (Some version)
+
+abbrev pub laid_line : ℕ → List ℕ
+laid_line laid = codes "laid " ++ decimal laid ++ codes "\n"
+
+-- the report of a history and of the trees that it published: its entries, and the last version with its tree
+abbrev pub history_text : List Entry → List PublishedTreeValue → List ℕ
+history_text history trees = flat_map (entry_text trees) history ++ final_text (accepted history) trees
+
+-- the report of a run of editors
+abbrev pub run_report : List Entry → List PublishedTreeValue → ℕ → List ℕ
+run_report history trees laid = history_text history trees ++ laid_line laid
+
+-- the report of a run without editors, whose history is one entry: version 0 is published, with this tree
 abbrev pub scratch_report : List Context → List ℕ
-scratch_report tree = history_text scratch_history ++ final_text 0 tree
+scratch_report tree = history_text (Publish 0 ∷ []) (record { version = 0; tree = tree } ∷ [])

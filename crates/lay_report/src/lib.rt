@@ -1,10 +1,18 @@
-//! The text of a report: the entries of a history, and the lines of a tree.
+//! The text of a report: the entries of a history, and the lines of the trees that it shows.
 //!
-//! The contracts cite `entry_line` and `scratch_report` of `specs/Report.antt`.
+//! The contracts cite `entry_line`, `history_text`, `run_report` and `scratch_report` of `specs/Report.antt`. A report
+//! goes into a sink through a buffer of bounded size, so that no whole report stands in memory; where a write fails or
+//! memory runs out, the sink has taken a front of it.
 #![tactic(auto)]
 
+mod buffer;
 mod entry;
+mod fault;
+mod pieces;
 mod report;
+mod writing;
 
 pub use entry::{fault_number, push_entry, push_number};
-pub use report::scratch_report;
+pub use fault::ReportFault;
+pub use report::{write_run, write_scratch};
+pub use writing::{write_entry, write_tree};

@@ -1,29 +1,177 @@
-//! The report of a run without editors.
+//! The report of a run.
 
-ghost use Rattle.std.specs.Prelude.{◌≡◌, ◌++◌, IfOk, OnOk, string_bytes};
-ghost use Rattle.lay_report.specs.Report.{final_text, scratch_report};
+ghost use Rattle.std.specs.Prelude.{◌≡◌, ◌≤◌, IfErr, OnErr, OnOk, length, string_bytes, if◌then◌else◌};
+ghost use Rattle.lay_history.specs.Histories.{accepted, edit_in};
+ghost use Rattle.lay_history.specs.Trees.{tree_at};
+ghost use Rattle.lay_outside.specs.Outside.{Rose, Took, TookFront};
+ghost use Rattle.lay_report.specs.Report.{entry_text, final_text, history_text, run_report, scratch_report, shown_by, shown_lines, shown_version, tree_lines};
+ghost use Rattle.lay_report.specs.Writing.{Pushes};
 
+use crate::buffer::hand_on;
 use crate::entry::{push_entry, push_version};
-use lay_doc::Entry;
-use lay_frag::{Tree, text_of};
-use lay_units::{NoMemory, Text};
+use crate::fault::ReportFault;
+use crate::pieces::push_tree;
+use lay_doc::{Entry, Reply};
+use lay_frag::Tree;
+use lay_history::{PublishedTree, tree_at};
+use lay_outside::Sink;
 use std::alloc::Global;
 
-/// The report of a run without editors: version 0 is published, and its tree is the last one.
-pub fn scratch_report(alloc: Global, tree: &Tree) -> Result<Text, NoMemory>
-    ensures { IfOk result (λ t. t ≡ scratch_report tree.now) }
+/// Writes the report of a run of editors: its history with the trees that it shows, the last version with its tree, and
+/// how much was laid out. WriteFault comes only where the sink's count of faults rose; after an error the sink has taken
+/// a front of the report.
+pub fn write_run<K: Sink>(
+    alloc: Global,
+    history: &[Entry],
+    trees: &[PublishedTree],
+    laid: u64,
+    sink: &mut K,
+) -> Result<(), ReportFault>
+    ensures ok { OnOk result (Took (K.taken sink.old) (K.taken sink.new) (run_report history.now trees.now laid)) }
+    ensures front { OnErr result (TookFront (K.taken sink.old) (K.taken sink.new) (run_report history.now trees.now laid)) }
+    ensures failed { IfErr result (λ e. e ≡ ReportFault.WriteFault → Rose (K.faults sink.old) (K.faults sink.new)) }
+    ensures never_falls { K.faults sink.old ≤ K.faults sink.new }
 {
-    let mut text = String::new(alloc);
-    push_entry(alloc, &mut text, &Entry::Publish { version: 0 })?;
-    push_final(alloc, &mut text, 0, tree)?;
-    Ok(Text::new(text))
+    let mut buffer = String::new(alloc);
+    push_history(alloc, history, trees, &mut buffer, sink)?;
+    push_version(&mut buffer, "laid ", laid)?;
+    hand_on(&mut buffer, sink)
 }
 
-fn push_final(alloc: Global, text: &mut String, version: u64, tree: &Tree) -> Result<(), NoMemory>
-    ensures { OnOk result (string_bytes text.new ≡ string_bytes text.old ++ final_text version tree.now) }
+/// Writes the report of a run without editors: version 0 is published, with this tree, and nothing says how much was
+/// laid out. WriteFault comes only where the sink's count of faults rose; after an error the sink has taken a front of
+/// the report.
+pub fn write_scratch<K: Sink>(alloc: Global, tree: &Tree, sink: &mut K) -> Result<(), ReportFault>
+    ensures ok { OnOk result (Took (K.taken sink.old) (K.taken sink.new) (scratch_report tree.now)) }
+    ensures front { OnErr result (TookFront (K.taken sink.old) (K.taken sink.new) (scratch_report tree.now)) }
+    ensures failed { IfErr result (λ e. e ≡ ReportFault.WriteFault → Rose (K.faults sink.old) (K.faults sink.new)) }
+    ensures never_falls { K.faults sink.old ≤ K.faults sink.new }
 {
-    push_version(text, "final ", version)?;
-    let lines = text_of(alloc, tree)?;
-    text.push_str(lines.as_str())?;
-    Ok(())
+    let mut buffer = String::new(alloc);
+    push_entry(alloc, &mut buffer, &Entry::Publish { version: 0 })?;
+    push_version(&mut buffer, "final ", 0)?;
+    push_tree(tree, &mut buffer, sink)?;
+    hand_on(&mut buffer, sink)
+}
+
+/// Writes a history with the trees that it shows, and the last version with its tree.
+fn push_history<K: Sink>(
+    alloc: Global,
+    history: &[Entry],
+    trees: &[PublishedTree],
+    buffer: &mut String,
+    sink: &mut K,
+) -> Result<(), ReportFault>
+    ensures { Pushes (record { taken = K.taken sink.old; faults = K.faults sink.old; held = string_bytes buffer.old })
+        (record { taken = K.taken sink.new; faults = K.faults sink.new; held = string_bytes buffer.new }) (history_text history.now trees.now) result }
+{
+    for entry in history {
+        push_entry_text(alloc, entry, trees, buffer, sink)?;
+    }
+    push_final(accepted(history), trees, buffer, sink)
+}
+
+/// Writes the last version and its tree.
+fn push_final<K: Sink>(
+    version: u64,
+    trees: &[PublishedTree],
+    buffer: &mut String,
+    sink: &mut K,
+) -> Result<(), ReportFault>
+    ensures { Pushes (record { taken = K.taken sink.old; faults = K.faults sink.old; held = string_bytes buffer.old })
+        (record { taken = K.taken sink.new; faults = K.faults sink.new; held = string_bytes buffer.new }) (final_text version trees.now) result }
+{
+    push_version(buffer, "final ", version)?;
+    push_shown(Some(version), trees, buffer, sink)
+}
+
+/// Writes the line of an entry, and the lines of the tree that it shows.
+fn push_entry_text<K: Sink>(
+    alloc: Global,
+    entry: &Entry,
+    trees: &[PublishedTree],
+    buffer: &mut String,
+    sink: &mut K,
+) -> Result<(), ReportFault>
+    ensures { Pushes (record { taken = K.taken sink.old; faults = K.faults sink.old; held = string_bytes buffer.old })
+        (record { taken = K.taken sink.new; faults = K.faults sink.new; held = string_bytes buffer.new }) (entry_text trees.now entry.now) result }
+{
+    push_entry(alloc, buffer, entry)?;
+    push_shown(shown_version(entry), trees, buffer, sink)
+}
+
+/// Writes the lines of the tree of a version that is shown.
+fn push_shown<K: Sink>(
+    version: Option<u64>,
+    trees: &[PublishedTree],
+    buffer: &mut String,
+    sink: &mut K,
+) -> Result<(), ReportFault>
+    ensures { Pushes (record { taken = K.taken sink.old; faults = K.faults sink.old; held = string_bytes buffer.old })
+        (record { taken = K.taken sink.new; faults = K.faults sink.new; held = string_bytes buffer.new }) (shown_lines trees.now version) result }
+{
+    match version {
+        Some(version) => push_tree_at(version, trees, buffer, sink),
+        None => Ok(()),
+    }
+}
+
+/// Writes the lines of the tree of a version.
+fn push_tree_at<K: Sink>(
+    version: u64,
+    trees: &[PublishedTree],
+    buffer: &mut String,
+    sink: &mut K,
+) -> Result<(), ReportFault>
+    ensures { Pushes (record { taken = K.taken sink.old; faults = K.faults sink.old; held = string_bytes buffer.old })
+        (record { taken = K.taken sink.new; faults = K.faults sink.new; held = string_bytes buffer.new }) (tree_lines (tree_at version trees.now)) result }
+{
+    match tree_at(trees, version) {
+        Some(tree) => push_tree(tree, buffer, sink),
+        None => Ok(()),
+    }
+}
+
+/// The version that an entry shows.
+fn shown_version(entry: &Entry) -> Option<u64>
+    ensures { result ≡ shown_version entry.now }
+{
+    match entry {
+        Entry::Latest { reply, .. } | Entry::Sync { reply, .. } => shown_by(*reply),
+        _ => None,
+    }
+}
+
+fn shown_by(reply: Reply) -> Option<u64>
+    ensures { result ≡ shown_by reply }
+{
+    match reply {
+        Reply::Shown(version) => Some(version),
+        _ => None,
+    }
+}
+
+/// How many edits a history has accepted.
+fn accepted(history: &[Entry]) -> u64
+    ensures { result ≡ accepted history.now }
+{
+    let mut count = 0;
+    for entry in history {
+        if is_accepted(entry) {
+            count += 1;
+        }
+    }
+    count
+}
+
+fn is_accepted(entry: &Entry) -> bool
+    ensures { (if result then 1 else 0) ≡ length (edit_in entry.now) }
+{
+    matches!(
+        entry,
+        Entry::Edit {
+            reply: Reply::Accepted(_),
+            ..
+        }
+    )
 }

@@ -1,5 +1,4 @@
-use Rattle.lay_outside.specs.Outside.{Took}
-use Rattle.lay_drawing.specs.Answers.{TookFront}
+use Rattle.lay_outside.specs.Outside.{Took, TookFront}
 use Rattle.lay_drawing.proofs.Answering.{refused_with, refused_front}
 use Rattle.lay_drawing.proofs.call.drawn.Goals as goal
 

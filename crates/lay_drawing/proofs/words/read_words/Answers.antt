@@ -1,7 +1,8 @@
 use Rattle.std.proofs.Common.{rules, ap, ◌∙◌, ◌≡◌, map, sym, subst, true, [], inl, inr, string_bytes, codes}
 use Rattle.clap.specs.Words.{fault_of, matches_of, rows_of, found_of, is_simple, is_simple_and_free, kind_of, HasKind}
 use Rattle.clap.specs.declared.error.kind.ErrorKind.TheVariants as kind
-use Rattle.lay_drawing.specs.Words.{values_at, wish_with}
+use Rattle.lay_words.specs.Agree.{values_at}
+use Rattle.lay_drawing.specs.Words.{wish_with}
 use Rattle.lay_drawing.proofs.WordLemmas.{is_ours_simple, is_ours_plain, taken, refused}
 use Rattle.lay_drawing.proofs.words.read_words.Goals as goal
 

@@ -1,7 +1,7 @@
 use Rattle.std.proofs.Common.{ap, ◌∙◌, map, Some, None, codes}
 use Rattle.clap.specs.Words.{found_of}
 use Rattle.lay_drawing.specs.Words.{wish_with}
-use Rattle.lay_drawing.proofs.WordLemmas.{values_are}
+use Rattle.lay_words.proofs.Found.{values_are}
 use Rattle.lay_drawing.proofs.words.wish_found.Goals as goal
 
 pub returns-in-Some : goal.returns-in-Some

@@ -1,0 +1,115 @@
+//! The answers to `run` and `gen`.
+
+ghost use Rattle.std.specs.Prelude.{◌≡◌, ◌≢◌, ◌<◌, ◌≤◌, ◌^◌, ℕ, IfOk, None};
+ghost use Rattle.lay_history.specs.Legal.{IsWhole};
+ghost use Rattle.lay_outside.specs.Outside.{Rose};
+ghost use Rattle.lay_words.specs.declared.form.Form.TheVariants as form;
+ghost use Rattle.lay_cli.specs.Answers.{IsRunReport, IsSummary, IsSummaryOf, OfKept, Refuses, Reports};
+ghost use Rattle.lay_cli.specs.Endings.{Ends};
+ghost use Rattle.lay_cli.specs.Input.{IsDrained};
+
+use crate::run_input::{Input, Lack, run_input};
+use crate::status::Status;
+use crate::telling::{status_of, told};
+use lay_core::Core;
+use lay_drive::drive;
+use lay_generator::{generated_run, run_summary};
+use lay_json::RunDoc;
+use lay_outside::{Sink, Source};
+use lay_report::write_run;
+use lay_units::{NoMemory, Text};
+use std::alloc::Global;
+
+/// Drives the editors of the run document that the source has left, writes the report and keeps the core.
+pub(crate) fn run<S: Source, K: Sink>(
+    alloc: Global,
+    source: &mut S,
+    sink: &mut K,
+    kept: &mut Option<Core>,
+) -> Status
+    requires { kept.old ≡ None }
+    ensures ends { (workers : ℕ) → Ends (Reports (form.Run workers) (S.left source.old)) (Refuses (form.Run workers) (S.left source.old)) result
+        (record { taken = K.taken sink.old; faults = K.faults sink.old }) (record { taken = K.taken sink.new; faults = K.faults sink.new }) kept.new }
+    ensures drained { result ≡ Status.Ok → IsDrained (S.left source.old) (S.left source.new) }
+    ensures read_fault { result ≡ Status.ReadFault → Rose (S.faults source.old) (S.faults source.new) × (K.taken sink.new ≡ K.taken sink.old) }
+    ensures never_usage { result ≢ Status.Usage }
+{
+    match run_input(alloc, source) {
+        Ok(Input::Run { run, computed: _ }) => driven(alloc, run, sink, kept),
+        Ok(Input::Refusal(line)) => told(sink, line.as_str(), Status::Refused),
+        Err(Lack::Failed) => Status::ReadFault,
+        Err(Lack::NoMemory) => Status::NoMemory,
+    }
+}
+
+/// Drives the editors of a run, writes the report and keeps the core.
+fn driven<K: Sink>(alloc: Global, run: RunDoc, sink: &mut K, kept: &mut Option<Core>) -> Status
+    requires { kept.old ≡ None }
+    ensures ends { Ends (λ kept text. OfKept kept (λ s. IsRunReport run s text)) (λ line. ⊥) result
+        (record { taken = K.taken sink.old; faults = K.faults sink.old }) (record { taken = K.taken sink.new; faults = K.faults sink.new }) kept.new }
+    ensures never_usage { result ≢ Status.Usage }
+    ensures never_read_fault { result ≢ Status.ReadFault }
+{
+    let core = match drive(alloc, run) {
+        Ok(core) => core,
+        Err(_) => return Status::NoMemory,
+    };
+    match write_run(alloc, core.history(), core.trees(), core.laid(), sink) {
+        Ok(()) => {
+            *kept = Some(core);
+            Status::Ok
+        }
+        Err(fault) => status_of(fault),
+    }
+}
+
+/// Drives the editors of the run that the generator makes, writes the summary and keeps the core.
+pub(crate) fn generate<K: Sink>(
+    alloc: Global,
+    size: u32,
+    seed: u32,
+    sink: &mut K,
+    kept: &mut Option<Core>,
+) -> Status
+    requires size { size ≤ 1000 }
+    requires seed { seed < 2 ^ 31 }
+    requires kept { kept.old ≡ None }
+    ensures ends { Ends (λ kept text. OfKept kept (λ s. IsSummary size seed s text)) (λ line. ⊥) result
+        (record { taken = K.taken sink.old; faults = K.faults sink.old }) (record { taken = K.taken sink.new; faults = K.faults sink.new }) kept.new }
+    ensures never_usage { result ≢ Status.Usage }
+    ensures never_read_fault { result ≢ Status.ReadFault }
+{
+    match summarized(alloc, size, seed) {
+        Ok((core, text)) => {
+            let status = told(sink, text.as_str(), Status::Ok);
+            if status == Status::Ok {
+                *kept = Some(core);
+            }
+            status
+        }
+        Err(_) => Status::NoMemory,
+    }
+}
+
+/// The core that answered the editors of the generated run, and the summary of that run.
+fn summarized(alloc: Global, size: u32, seed: u32) -> Result<(Core, Text), NoMemory>
+    requires size { size ≤ 1000 }
+    requires seed { seed < 2 ^ 31 }
+    ensures { IfOk result (λ r. IsSummary size seed r.0 r.1) }
+{
+    let run = generated_run(alloc, size, seed)?;
+    let core = drive(alloc, run)?;
+    let text = last_summary(alloc, &core)?;
+    Ok((core, text))
+}
+
+/// The summary of a core whose last version is published.
+fn last_summary(alloc: Global, core: &Core) -> Result<Text, NoMemory>
+    requires { IsWhole core.now.history }
+    ensures { IfOk result (IsSummaryOf core.now) }
+{
+    match core.tree(core.accepted()) {
+        Some(tree) => run_summary(alloc, core.doc().len() as u64, core.accepted(), tree),
+        None => unreachable!(),
+    }
+}

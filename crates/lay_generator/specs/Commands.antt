@@ -1,0 +1,38 @@
+-- The scripts of the generator's four editors. Editor e changes the block of each fourth section, and then asks for the
+-- last version.
+use Rattle.std.specs.Prelude.{ℕ, zero, suc, ◌+◌, ◌-◌, ◌*◌, ◌%◌, ◌==◌, Bool, List, [], ◌∷◌, ◌++◌, length}
+use Rattle.std.specs.List.{filter, range_with_len}
+use Rattle.lay_doc.specs.declared.property.Property.TheVariants.{PaddingLeft}
+use Rattle.lay_doc.specs.declared.edit.Edit.TheVariants.{SetStyle}
+use Rattle.lay_doc.specs.declared.command.Cmd.{Cmd}
+use Rattle.lay_doc.specs.declared.command.Cmd.TheVariants.{Edit, Sync}
+use Rattle.lay_generator.specs.Draws.{draw, next, state_after}
+use Rattle.lay_generator.specs.Nodes.{id, px}
+
+-- the left padding of a section's block is the next draw
+abbrev pub set_padding : ℕ → ℕ → Cmd
+set_padding section state = Edit (SetStyle (id (4 + 4 * section)) (record { property = PaddingLeft; value = px (draw 1 state % 30) }))
+
+-- a command for each of these sections, with a draw each
+abbrev pub paddings : List ℕ → ℕ → List Cmd
+paddings [] state = []
+paddings (section ∷ sections) state = set_padding section state ∷ paddings sections (next state)
+
+-- whether an editor changes a section
+abbrev pub is_of : ℕ → ℕ → Bool
+is_of editor section = section % 4 == editor - 1
+
+-- the sections that an editor changes, among so many
+abbrev pub sections_of : ℕ → ℕ → List ℕ
+sections_of size editor = filter (is_of editor) (range_with_len 0 size)
+
+abbrev pub script : ℕ → ℕ → ℕ → List Cmd
+script size editor state = paddings (sections_of size editor) state ++ Sync ∷ []
+
+abbrev pub script_end : ℕ → ℕ → ℕ → ℕ
+script_end size editor state = state_after (length (sections_of size editor)) state
+
+-- the scripts of so many editors, from one on
+abbrev pub scripts : ℕ → ℕ → ℕ → ℕ → List (List Cmd)
+scripts size zero editor state = []
+scripts size (suc n) editor state = script size editor state ∷ scripts size n (editor + 1) (script_end size editor state)

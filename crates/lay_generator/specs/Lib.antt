@@ -1,0 +1,5 @@
+pub mod Draws
+pub mod Nodes
+pub mod Commands
+pub mod Generated
+pub mod Summary
