@@ -160,7 +160,7 @@ def segments_of(parts):
     found, current = [], Segment()
     for part, following in zip(parts, parts[1:] + [None]):
         before = found[-1] if found else None
-        if isinstance(part, Atomic) and breaks_beside(part) and not all(isinstance(p, Start) for p in current.parts):
+        if isinstance(part, Atomic) and breaks_beside(part) and current.has_content():
             behind = current.part_starts()
             found.append(current)
             current = behind
