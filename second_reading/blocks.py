@@ -54,7 +54,8 @@ How open places of the standard are read
 - 16.1: each block container indents its first line that is seen, also an anonymous block.
 - 16.4: letter-spacing is added behind each cluster, word-spacing at each U+0020 and U+00A0; a tab has neither.
 - 16.6: a line may break on each side of an atomic box, by the `white-space` of the box that directly holds it. The
-  starts of inline boxes right before it go with it.
+  starts of inline boxes right before it go with it. Where nothing but starts and ends of inline boxes stands between
+  two such places they are one, the first: an empty inline box between two atomic boxes goes with the second.
 - 16.6.1: what stands beside a linefeed is removed inside one text; a space behind a space, over texts. A space that
   surely begins a line is removed before there are segments. Where a space was removed there is no break.
 - 16.6.1: spaces at a line's end under `pre-wrap` don't count for what fits, and do count for alignment; those under
