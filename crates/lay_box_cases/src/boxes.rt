@@ -76,7 +76,7 @@ pub(crate) fn with_styles(alloc: Global, text: &str) -> Result<String> {
 }
 
 /// The boxes of the root's context.
-pub fn root_boxes(alloc: Global, text: &str) -> Result<BoxTree> {
+pub(crate) fn root_boxes(alloc: Global, text: &str) -> Result<BoxTree> {
     let page = styled(alloc, text)?;
     ample(boxes(alloc, &page.doc, &page.style, NodeId(1)))
 }
@@ -90,7 +90,7 @@ pub(crate) fn count(alloc: Global, text: &str) -> Result<String> {
 }
 
 /// The text without the space at its end.
-pub fn trimmed(alloc: Global, text: &String) -> Result<String> {
+pub(crate) fn trimmed(alloc: Global, text: &String) -> Result<String> {
     Ok(String::from_str(alloc, text.as_str().trim())?)
 }
 
@@ -142,7 +142,7 @@ fn push_brackets(out: &mut String, from: u32, to: u32) -> Result<()> {
 }
 
 /// Writes a box.
-pub fn push_box(out: &mut String, node: &BoxNode) -> Result<()> {
+pub(crate) fn push_box(out: &mut String, node: &BoxNode) -> Result<()> {
     if node.anonymous {
         out.push('*')?;
     }

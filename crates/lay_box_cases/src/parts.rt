@@ -9,7 +9,7 @@ use lay_broken_inlines::former_parents;
 use std::alloc::Global;
 
 /// First and last parts.
-pub fn of_inlines(alloc: Global, text: &str) -> Result<String> {
+pub(crate) fn of_inlines(alloc: Global, text: &str) -> Result<String> {
     let tree = root_boxes(alloc, text)?;
     let boxes = tree.as_slice();
     let parts = ample(inline_parts(alloc, boxes))?;
@@ -28,7 +28,7 @@ pub fn of_inlines(alloc: Global, text: &str) -> Result<String> {
 }
 
 /// Former parents.
-pub fn former(alloc: Global, text: &str) -> Result<String> {
+pub(crate) fn former(alloc: Global, text: &str) -> Result<String> {
     let tree = root_boxes(alloc, text)?;
     let parents = ample(former_parents(alloc, &tree))?;
     let mut out = String::new(alloc);

@@ -15,13 +15,13 @@ pub struct Answer {
 
 impl Answer {
     /// What was written.
-    pub fn bytes(&self) -> &[u8] {
+    pub(crate) fn bytes(&self) -> &[u8] {
         self.bytes.as_slice()
     }
 }
 
 /// The name of how it ended.
-pub fn ending(answer: &Answer) -> &'static str {
+pub(crate) fn ending(answer: &Answer) -> &'static str {
     match answer.ending {
         Ending::Drawn => "drawn",
         Ending::Refused => "refused",
@@ -33,7 +33,7 @@ pub fn ending(answer: &Answer) -> &'static str {
 }
 
 /// Makes the call on these terms, over the bytes of a report.
-pub fn answer_to(alloc: Global, terms: &Terms<'_>, report: Vec<u8>) -> Result<Answer> {
+pub(crate) fn answer_to(alloc: Global, terms: &Terms<'_>, report: Vec<u8>) -> Result<Answer> {
     let words = words(alloc, terms.words)?;
     let failing_reads = vec![in alloc; terms.failing_read]?;
     let failing_writes = vec![in alloc; terms.failing_write]?;

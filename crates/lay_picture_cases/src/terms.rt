@@ -13,7 +13,7 @@ pub struct Terms<'a> {
 
 impl<'a> Terms<'a> {
     /// What the lines say; None where one can't be read.
-    pub fn read(text: &'a str) -> Option<Terms<'a>> {
+    pub(crate) fn read(text: &'a str) -> Option<Terms<'a>> {
         let mut terms = Terms {
             words: "",
             most: 4096,
