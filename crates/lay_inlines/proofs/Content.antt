@@ -7,6 +7,7 @@ use Rattle.lay_lines.specs.declared.frame.Frame.{Frame}
 use Rattle.lay_lines.specs.declared.pen.Pen.{Pen}
 use Rattle.lay_lines.specs.Pens.{over, over_all}
 use Rattle.lay_inlines.specs.declared.strokes.Stroke.{Stroke}
+use Rattle.lay_inlines.specs.Raises.{RaisesValue, raise_of, raises_after, raises_after_all}
 use Rattle.lay_inlines.specs.Strokes.{parts_of, strokes, stroke_of}
 
 pub parts_more : (ss : List Stretch) (k : ℕ) (d : Stretch) → k < length ss → parts_of (drop k ss) ≡ (get_or ss k d).parts ++ parts_of (drop (k + 1) ss)
@@ -16,11 +17,19 @@ pub over_all-append : (fr : Frame) (p : Pen) (xs ys : List Part) → over_all fr
 over_all-append fr p [] ys = refl
 over_all-append fr p (x ∷ xs) ys = over_all-append fr (over fr p x) xs ys
 
-pub strokes-append : (fr : Frame) (p : Pen) (xs ys : List Part) → strokes fr p (xs ++ ys) ≡ strokes fr p xs ++ strokes fr (over_all fr p xs) ys
-strokes-append fr p [] ys = refl
-strokes-append fr p (x ∷ xs) ys = ap (λ (ss : List Stroke). stroke_of x p (over fr p x) ∷ ss) (strokes-append fr (over fr p x) xs ys)
+pub strokes-append : (fr : Frame) (p : Pen) (r : RaisesValue) (xs ys : List Part)
+    → strokes fr p r (xs ++ ys) ≡ strokes fr p r xs ++ strokes fr (over_all fr p xs) (raises_after_all r xs) ys
+strokes-append fr p r [] ys = refl
+strokes-append fr p r (x ∷ xs) ys =
+    ap (λ (ss : List Stroke). stroke_of x (raise_of r x) p (over fr p x) ∷ ss) (strokes-append fr (over fr p x) (raises_after r x) xs ys)
+
+pub raises-append : (r : RaisesValue) (xs ys : List Part) → raises_after_all r (xs ++ ys) ≡ raises_after_all (raises_after_all r xs) ys
+raises-append r [] ys = refl
+raises-append r (x ∷ xs) ys = raises-append (raises_after r x) xs ys
 
 -- the strokes of some parts, and then those of the rest
-pub draw_more : (fr : Frame) (p q : Pen) (xs ys : List Part) (out new : List Stroke) → new ≡ out ++ strokes fr p xs → q ≡ over_all fr p xs → new ++ strokes fr q ys ≡ out ++ strokes fr p (xs ++ ys)
-draw_more fr p q xs ys out new e f =
-    (λ i. e i ++ strokes fr (f i) ys) ∙ append_assoc out (strokes fr p xs) (strokes fr (over_all fr p xs) ys) ∙ ap (λ (ss : List Stroke). out ++ ss) (sym (strokes-append fr p xs ys))
+pub draw_more : (fr : Frame) (p q : Pen) (r s : RaisesValue) (xs ys : List Part) (out new : List Stroke)
+    → new ≡ out ++ strokes fr p r xs → q ≡ over_all fr p xs → s ≡ raises_after_all r xs → new ++ strokes fr q s ys ≡ out ++ strokes fr p r (xs ++ ys)
+draw_more fr p q r s xs ys out new e f g =
+    (λ i. e i ++ strokes fr (f i) (g i) ys) ∙ append_assoc out (strokes fr p r xs) (strokes fr (over_all fr p xs) (raises_after_all r xs) ys)
+    ∙ ap (λ (ss : List Stroke). out ++ ss) (sym (strokes-append fr p r xs ys))

@@ -1,7 +1,10 @@
+mod AtomicPieces
 mod Backward
 mod Content
 mod OpenBoxSteps
+mod PartRaises
 mod PenPlaces
+mod RaisesWithin
 mod RemovedSpaces
 mod RowSteps
 mod Spreads

@@ -1,16 +1,13 @@
 -- Pens that are within bounds.
 use Rattle.std.proofs.Common.{ℕ, ◌+◌, ◌<◌, ℤ, List, [], ◌∷◌, ◌++◌, length, drop, get_or, subst, arith}
-use Rattle.std.specs.List.{All}
 use Rattle.std.proofs.lemmas.Int.{ints}
 use Rattle.std.proofs.lemmas.List.{drop_more}
-use Rattle.std.proofs.lemmas.List.Elements.{All-nil, All-cons}
 use Rattle.lay_units.specs.Units.{IsPosition}
 use Rattle.lay_lines.specs.declared.content.Part.{Part}
 use Rattle.lay_lines.specs.declared.frame.Frame.{Frame}
 use Rattle.lay_lines.specs.declared.pen.Pen.{Pen}
 use Rattle.lay_lines.specs.Pens.{over, over_all, PenFits}
-use Rattle.lay_inlines.specs.Bounds.{IsPlace, PenWithin, PensWithin, StrokeWithin}
-use Rattle.lay_inlines.specs.Strokes.{strokes, stroke_of}
+use Rattle.lay_inlines.specs.Bounds.{IsPlace, PenWithin, PensWithin}
 
 place_fits : (v : ℤ) → IsPlace v → IsPosition v
 place_fits v is = let a = is.0 in let b = is.1 in (omega (arith, ints, a), omega (arith, ints, b))
@@ -41,9 +38,3 @@ next_within fr p xs k d lt is = (subst (λ (ys : List Part). PensWithin fr p ys)
 
 pub over_fits : (fr : Frame) (p : Pen) (xs : List Part) (k : ℕ) (d : Part) → k < length xs → PensWithin fr p (drop k xs) → PenFits (over fr p (get_or xs k d))
 over_fits fr p xs k d lt is = pen_fits _ (first_within fr (over fr p (get_or xs k d)) (drop (k + 1) xs) (next_within fr p xs k d lt is))
-
-pub strokes_within : (fr : Frame) (p : Pen) (xs : List Part) → PensWithin fr p xs → All StrokeWithin (strokes fr p xs)
-strokes_within fr p [] is = All-nil StrokeWithin
-strokes_within fr p (x ∷ xs) is =
-    All-cons StrokeWithin (stroke_of x p (over fr p x)) (strokes fr (over fr p x) xs) (record { before = is.0; after = first_within fr (over fr p x) xs is.1 })
-    (strokes_within fr (over fr p x) xs is.1)

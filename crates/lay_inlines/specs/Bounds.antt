@@ -1,29 +1,39 @@
 -- How far from the origin lines and the areas of their boxes are at most, in units. What is made of them is then below
 -- 2^63.
 use Rattle.std.specs.Prelude.{◌≡◌, ℤ, pos, ◌^◌, ◌+◌, List, [], ◌∷◌, All}
+use Rattle.lay_units.specs.declared.length.Unit.{Unit}
 use Rattle.lay_floats.specs.Within.{IsWithin}
 use Rattle.lay_lines.specs.declared.content.InlineArea.{InlineArea}
 use Rattle.lay_lines.specs.declared.content.Part.{Part}
 use Rattle.lay_lines.specs.declared.frame.Frame.{Frame}
 use Rattle.lay_lines.specs.declared.pen.Pen.{Pen}
 use Rattle.lay_lines.specs.declared.row.Ended.{Ended}
-use Rattle.lay_lines.specs.LineContents.{ExtentWithin}
 use Rattle.lay_lines.specs.Pens.{over}
 use Rattle.lay_inlines.specs.declared.lines.Container.{Container}
 use Rattle.lay_inlines.specs.declared.spans.Span.{Span}
 use Rattle.lay_inlines.specs.declared.strokes.Stroke.{Stroke}
+use Rattle.lay_inlines.specs.Raises.{RaisesValue}
+
+-- an extent of a line, a shift of a part of it, or a margin
+abbrev pub IsReach : ℤ → Type 0
+IsReach v = IsWithin (pos (2 ^ 59)) v
+
+abbrev pub RaiseWithin : Unit → Type 0
+RaiseWithin raise = IsReach raise.0
 
 pub record RowWithin (row : Ended) : Type 0 where
   pub top : IsWithin (pos (2 ^ 61)) row.top.0
   pub start : IsWithin (pos (2 ^ 61)) row.reach.start.0
   pub end : IsWithin (pos (2 ^ 61)) row.reach.end.0
-  pub extent : ExtentWithin row.extent
+  pub above : IsReach row.extent.above.0
+  pub below : IsReach row.extent.below.0
+  pub shifts : All RaiseWithin row.shifts
 
 pub record AreaWithin (a : InlineArea) : Type 0 where
-  pub above : IsWithin (pos (2 ^ 36)) a.above.0
-  pub below : IsWithin (pos (2 ^ 36)) a.below.0
-  pub margin_left : IsWithin (pos (2 ^ 36)) a.margin_left.0
-  pub margin_right : IsWithin (pos (2 ^ 36)) a.margin_right.0
+  pub above : IsWithin (pos (2 ^ 60)) a.above.0
+  pub below : IsWithin (pos (2 ^ 60)) a.below.0
+  pub margin_left : IsReach a.margin_left.0
+  pub margin_right : IsReach a.margin_right.0
 
 pub record GeometryWithin (c : Container) (rs : List Ended) (bs : List InlineArea) : Type 0 where
   pub left : IsWithin (pos (2 ^ 50)) c.left.0
@@ -47,20 +57,29 @@ abbrev pub PensWithin : Frame → Pen → List Part → Type 0
 PensWithin fr p [] = PenWithin p
 PensWithin fr p (x ∷ xs) = PenWithin p × PensWithin fr (over fr p x) xs
 
+pub record RaisesWithin (r : RaisesValue) : Type 0 where
+  pub open_boxes : All RaiseWithin r.open_boxes
+  pub coming : All RaiseWithin r.coming
+
 pub record StrokeWithin (s : Stroke) : Type 0 where
+  pub raise : RaiseWithin s.raise
   pub before : PenWithin s.before
   pub after : PenWithin s.after
 
 pub record SpanWithin (s : Span) : Type 0 where
+  pub raise : RaiseWithin s.raise
   pub from : IsEdge s.from.0
   pub to : IsEdge s.to.0
 
--- where the pen's place 0 is, and a baseline
+-- where the pen's place 0 is, a line's baseline, and that of something on it
 abbrev pub IsOrigin : ℤ → Type 0
 IsOrigin v = IsWithin (pos (2 ^ 62 + 2 ^ 59 + 2 ^ 52)) v
 
 abbrev pub IsBaseline : ℤ → Type 0
-IsBaseline v = IsWithin (pos (2 ^ 61 + 2 ^ 36)) v
+IsBaseline v = IsWithin (pos (2 ^ 61 + 2 ^ 59)) v
+
+abbrev pub IsRaised : ℤ → Type 0
+IsRaised v = IsWithin (pos (2 ^ 61 + 2 ^ 60)) v
 
 pub record LineWithin (c : Container) (fr : Frame) (r : Ended) (bs : List InlineArea) : Type 0 where
   pub left : IsWithin (pos (2 ^ 50)) c.left.0

@@ -1,8 +1,9 @@
 -- The pieces of the lines of a block container (CSS 2.2, 9.4.2, 10.8 and 16.2): for each line that is seen the line box,
--- as wide as the room that floats leave it and as high as its extent, and then in document order the inline boxes and
--- the texts on it. These stand on the line's baseline, and are moved where `text-align` says so and the line is wider
--- than its content. An inline box is as high as its border box, whatever the height of the line.
-use Rattle.std.specs.Prelude.{ℕ, ℤ, pos, ◌+ℤ◌, ◌-ℤ◌, if◌then◌else◌, List, [], ◌∷◌, ◌++◌, drop, take, map}
+-- as wide as the room that floats leave it and as high as its extent, and then in document order the inline boxes, the
+-- atomic boxes and the texts on it. Each stands on its own baseline, which `vertical-align` raises above the line's
+-- (10.8.1), and all are moved where `text-align` says so and the line is wider than its content. A box on a line is as
+-- high as its border box, whatever the height of the line.
+use Rattle.std.specs.Prelude.{ℕ, ℤ, pos, ◌+ℤ◌, ◌-ℤ◌, if◌then◌else◌, List, [], ◌∷◌, ◌++◌, drop, take, length, map}
 use Rattle.std.specs.Int.{int_max}
 use Rattle.lay_units.specs.Units.{half_of}
 use Rattle.lay_units.specs.declared.records.Rect.{Rect}
@@ -23,7 +24,9 @@ use Rattle.lay_inlines.specs.declared.line_piece.LinePieceKind.TheVariants.{Line
 use Rattle.lay_inlines.specs.declared.lines.Container.{Container}
 use Rattle.lay_inlines.specs.declared.spans.Span.{Span}
 use Rattle.lay_inlines.specs.Strokes.{parts_of, strokes}
+use Rattle.lay_inlines.specs.declared.strokes.Stroke.{Stroke}
 use Rattle.lay_inlines.specs.Spans.{unit, area_at, right_edges, spans_of, open_spans}
+use Rattle.lay_inlines.specs.Raises.{behind_strut, raises_of}
 use Rattle.lay_inlines.specs.OpenBoxes.{open_after}
 
 -- how far content moves that leaves this width of its line free (16.2): nowhere where it leaves none
@@ -42,12 +45,12 @@ line_box node row = record {
   rect = rect_of row.reach.start.0 row.top.0 (row.reach.end.0 -ℤ row.reach.start.0) (row.extent.above.0 +ℤ row.extent.below.0);
 }
 
--- what a span shows, with the pen's place 0 at `origin`
+-- what a span shows, with the pen's place 0 at `origin`, on a line with this baseline
 abbrev pub piece_of : List InlineArea → ℤ → ℤ → Span → LinePiece
 piece_of areas origin baseline s = record {
   kind = s.kind;
   node = s.node;
-  rect = rect_of (origin +ℤ s.from.0) (baseline -ℤ (area_at areas s.node).above.0) (s.to.0 -ℤ s.from.0)
+  rect = rect_of (origin +ℤ s.from.0) ((baseline -ℤ s.raise.0) -ℤ (area_at areas s.node).above.0) (s.to.0 -ℤ s.from.0)
       ((area_at areas s.node).above.0 +ℤ (area_at areas s.node).below.0);
 }
 
@@ -66,11 +69,15 @@ blank_of fr row = blank (start_of fr row.reach.start.0)
 abbrev pub content_end : Frame → Ended → List Part → ℤ
 content_end fr row xs = (over_all fr (blank_of fr row) xs).solid.0
 
--- the boxes and texts of a line with these parts, on which these inline boxes are open from its start
+-- the strokes of a line with these parts, on which these inline boxes are open from its start
+abbrev pub line_strokes : Frame → Ended → List ℕ → List Part → List Stroke
+line_strokes fr row ns xs = strokes fr (blank_of fr row) (raises_of row.shifts (length ns)) xs
+
+-- and its boxes and texts
 abbrev pub line_spans : List InlineArea → Frame → Ended → List ℕ → List Part → List Span
 line_spans areas fr row ns xs =
-    open_spans (start_of fr row.reach.start.0) (content_end fr row xs) (right_edges areas (strokes fr (blank_of fr row) xs)) ns
-    ++ spans_of areas (content_end fr row xs) (strokes fr (blank_of fr row) xs)
+    open_spans (start_of fr row.reach.start.0) (content_end fr row xs) (right_edges areas (line_strokes fr row ns xs)) (behind_strut row.shifts) ns
+    ++ spans_of areas (content_end fr row xs) (line_strokes fr row ns xs)
 
 abbrev pub line_pieces_of : Container → List InlineArea → Frame → Ended → List ℕ → List Part → List LinePiece
 line_pieces_of c areas fr row ns xs =

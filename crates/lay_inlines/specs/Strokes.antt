@@ -3,29 +3,31 @@
 -- follows them there, as the end of an inline box, stands as if they weren't there.
 use Rattle.std.specs.Prelude.{ℤ, Bool, true, false, ◌||◌, ◌&&◌, if◌then◌else◌, List, [], ◌∷◌, ◌++◌}
 use Rattle.lay_lines.specs.declared.content.Part.{Part}
-use Rattle.lay_lines.specs.declared.content.Part.TheVariants.{Space, PreservedSpace, Tab, Linefeed, Text, Start, End}
+use Rattle.lay_lines.specs.declared.content.Part.TheVariants.{Space, PreservedSpace, Tab, Linefeed, Text, Start, End, Atomic}
 use Rattle.lay_lines.specs.declared.content.Stretch.{Stretch}
 use Rattle.lay_lines.specs.declared.frame.Frame.{Frame}
 use Rattle.lay_lines.specs.declared.pen.Pen.{Pen}
 use Rattle.lay_lines.specs.Pens.{over}
+use Rattle.lay_units.specs.declared.length.Unit.{Unit}
 use Rattle.lay_inlines.specs.declared.strokes.Stroke.{Stroke}
 use Rattle.lay_inlines.specs.declared.strokes.Shown.{Shown}
-use Rattle.lay_inlines.specs.declared.strokes.Shown.TheVariants.{OfText, Opens, Closes, Nothing}
+use Rattle.lay_inlines.specs.Raises.{RaisesValue, raise_of, raises_after}
+use Rattle.lay_inlines.specs.declared.strokes.Shown.TheVariants.{OfText, OfAtomic, Opens, Closes, Nothing}
 
 -- the content of these stretches
 abbrev pub parts_of : List Stretch → List Part
 parts_of [] = []
 parts_of (s ∷ ss) = s.parts ++ parts_of ss
 
-abbrev pub stroke_of : Part → Pen → Pen → Stroke
-stroke_of x before after = record { part = x; before = before; after = after }
+abbrev pub stroke_of : Part → Unit → Pen → Pen → Stroke
+stroke_of x raise before after = record { part = x; raise = raise; before = before; after = after }
 
--- each part, with the pen before it and after it
-abbrev pub strokes : Frame → Pen → List Part → List Stroke
-strokes fr p [] = []
-strokes fr p (x ∷ xs) = stroke_of x p (over fr p x) ∷ strokes fr (over fr p x) xs
+-- each part, with how far it is raised, and the pen before it and after it
+abbrev pub strokes : Frame → Pen → RaisesValue → List Part → List Stroke
+strokes fr p r [] = []
+strokes fr p r (x ∷ xs) = stroke_of x (raise_of r x) p (over fr p x) ∷ strokes fr (over fr p x) (raises_after r x) xs
 
--- text that collapsible spaces stay beside
+-- text and atomic boxes, which collapsible spaces stay beside
 abbrev pub is_content : Part → Bool
 is_content (Space w) = false
 is_content (PreservedSpace w) = true
@@ -34,6 +36,7 @@ is_content Linefeed = false
 is_content (Text w) = true
 is_content (Start b) = false
 is_content (End b) = false
+is_content (Atomic b) = true
 
 abbrev pub has_content : List Stroke → Bool
 has_content [] = false
@@ -63,3 +66,4 @@ shown_of Linefeed kept = Nothing
 shown_of (Text w) kept = OfText w.text
 shown_of (Start b) kept = Opens b.node
 shown_of (End b) kept = Closes b.node
+shown_of (Atomic b) kept = OfAtomic b.node

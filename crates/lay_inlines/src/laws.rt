@@ -1,6 +1,6 @@
 //! The laws of the definitions. The functions do nothing.
 
-ghost use Rattle.lay_inlines.specs.Laws.{ContentEndsWithItsPen, SpacesAtTheStartAreRemoved, SpacesAtTheEndAreRemoved};
+ghost use Rattle.lay_inlines.specs.Laws.{ContentEndsWithItsPen, EachAtomicBoxHasOnePiece, RaisesAreShiftsOfParts, SpacesAtTheEndAreRemoved, SpacesAtTheStartAreRemoved};
 
 /// The content of a line ends where the pen stood that filled the line.
 pub fn content_ends_with_its_pen()
@@ -11,4 +11,14 @@ pub fn content_ends_with_its_pen()
 pub fn removed_spaces_show_nothing()
     ensures start { SpacesAtTheStartAreRemoved }
     ensures end { SpacesAtTheEndAreRemoved }
+{}
+
+/// The pieces of a line are of each of its atomic boxes once, in order.
+pub fn each_atomic_box_has_one_piece()
+    ensures { EachAtomicBoxHasOnePiece }
+{}
+
+/// Each raise is the shift of the part of the line that an inline box or an atomic box is.
+pub fn raises_are_shifts_of_parts()
+    ensures { RaisesAreShiftsOfParts }
 {}

@@ -1,7 +1,7 @@
 //! The pieces of one line.
 
 ghost use Rattle.std.specs.Prelude.{◌≡◌, ◌++◌, ◌+ℤ◌, ◌-ℤ◌, ℤ, pos, ◌^◌, [], List, All, map, reverse, OnOk};
-ghost use Rattle.lay_inlines.specs.Bounds.{IsPlace, RowWithin, AreaWithin, PensWithin, SpanWithin, IsOrigin, IsBaseline, LineWithin};
+ghost use Rattle.lay_inlines.specs.Bounds.{IsPlace, RowWithin, AreaWithin, PensWithin, SpanWithin, IsOrigin, IsBaseline, IsRaised, RaiseWithin, LineWithin};
 ghost use Rattle.lay_inlines.specs.LinePieces.{line_box, piece_of, baseline_of, origin_of, blank_of, content_end, line_pieces_of};
 ghost use Rattle.lay_inlines.specs.Strokes.{parts_of};
 
@@ -9,7 +9,8 @@ use crate::align::shift_of;
 use crate::arithmetic::{minus, plus};
 use crate::line_piece::{LinePiece, LinePieceKind};
 use crate::lines::Container;
-use crate::spans::{Behind, Ends, Span, area_at};
+use crate::raises::{Raises, behind_strut};
+use crate::spans::{Behind, Ends, OpenBoxes, Span, area_at};
 use crate::strokes::{Stroke, draw};
 use lay_lines::{Ended, Frame, InlineArea, Pen, Stretch};
 use lay_units::{NoMemory, Rect, Unit};
@@ -20,7 +21,7 @@ use std::alloc::Global;
 pub struct Line<'a> {
     pub container: Container,
     pub frame: Frame,
-    pub row: Ended,
+    pub row: &'a Ended,
     pub areas: &'a [InlineArea],
 }
 
@@ -34,6 +35,7 @@ pub struct Origin {
 /// What is kept of one line while its pieces are found, in memory that serves one line after the other.
 #[derive(Drop)]
 pub(crate) struct Sheet {
+    alloc: Global,
     strokes: Vec<Stroke>,
     behind: Behind,
 }
@@ -43,6 +45,7 @@ impl Sheet {
         ensures { result.strokes.items ≡ [] }
     {
         Sheet {
+            alloc,
             strokes: Vec::new(alloc),
             behind: Behind::new(alloc),
         }
@@ -56,22 +59,28 @@ impl Sheet {
         open_boxes: &[u32],
         taken: &[Stretch],
     ) -> Result<(), NoMemory>
-        requires line { LineWithin line.now.container line.now.frame line.now.row line.now.areas.now }
-        requires pens { PensWithin line.now.frame (blank_of line.now.frame line.now.row) (parts_of taken.now) }
+        requires line { LineWithin line.now.container line.now.frame line.now.row.now line.now.areas.now }
+        requires pens { PensWithin line.now.frame (blank_of line.now.frame line.now.row.now) (parts_of taken.now) }
         ensures { OnOk result (out.new.items
-            ≡ out.old.items ++ line_pieces_of line.now.container line.now.areas.now line.now.frame line.now.row open_boxes.now
+            ≡ out.old.items ++ line_pieces_of line.now.container line.now.areas.now line.now.frame line.now.row.now open_boxes.now
             (parts_of taken.now)) }
     {
         let blank = Pen::blank(&line.frame, line.row.reach.start);
         self.strokes.clear();
-        let last = draw(&mut self.strokes, &line.frame, blank, taken)?;
+        let shifts = line.row.shifts.as_slice();
+        let mut raises = Raises::new(self.alloc, shifts, open_boxes.len())?;
+        let last = draw(&mut self.strokes, &mut raises, &line.frame, blank, taken)?;
         let ends = Ends {
             start: blank.at,
             end: last.solid,
         };
         let strokes = self.strokes.as_slice();
-        self.behind.fill(line.areas, strokes, open_boxes, ends)?;
-        out.push(line_box(line.container.node, &line.row))?;
+        let open_boxes = OpenBoxes {
+            nodes: open_boxes,
+            raises: behind_strut(shifts),
+        };
+        self.behind.fill(line.areas, strokes, &open_boxes, ends)?;
+        out.push(line_box(line.container.node, line.row))?;
         write(
             out,
             &mut self.behind.spans,
@@ -84,10 +93,10 @@ impl Sheet {
 impl Line<'_> {
     /// Where the pen's place 0 is, if content ends here.
     fn origin(&self, end: Unit) -> Origin
-        requires line { LineWithin self.now.container self.now.frame self.now.row self.now.areas.now }
+        requires line { LineWithin self.now.container self.now.frame self.now.row.now self.now.areas.now }
         requires end { IsPlace end.0 }
-        ensures x { result.x.0 ≡ origin_of self.now.container self.now.row end.0 }
-        ensures y { result.y.0 ≡ baseline_of self.now.row }
+        ensures x { result.x.0 ≡ origin_of self.now.container self.now.row.now end.0 }
+        ensures y { result.y.0 ≡ baseline_of self.now.row.now }
         ensures x_within { IsOrigin result.x.0 }
         ensures y_within { IsBaseline result.y.0 }
     {
@@ -149,9 +158,19 @@ fn piece_of(span: &Span, areas: &[InlineArea], origin: Origin) -> LinePiece
         node: span.node,
         rect: Rect {
             x: plus(origin.x, span.from),
-            y: minus(origin.y, area.above),
+            y: minus(raised(origin.y, span.raise), area.above),
             w: minus(span.to, span.from),
             h: plus(area.above, area.below),
         },
     }
+}
+
+/// The baseline that stands so far above another.
+fn raised(baseline: Unit, raise: Unit) -> Unit
+    requires baseline { IsBaseline baseline.0 }
+    requires raise { RaiseWithin raise }
+    ensures value { result.0 ≡ baseline.0 -ℤ raise.0 }
+    ensures within { IsRaised result.0 }
+{
+    minus(baseline, raise)
 }

@@ -14,10 +14,12 @@ pub enum LinePieceKind {
     Inline,
     /// The part of a text on a line.
     Text,
+    /// The border box of an atomic inline-level box.
+    Atomic,
 }
 
 /// A piece on a line, in 1/64 px. A line box has the number of the block container, the others those of their own
-/// boxes. The width of an inline box or a text may be negative.
+/// boxes. The width of an inline box, an atomic box or a text may be negative.
 #[derive(Clone, Copy, Debug, PartialEq, Eq)]
 pub struct LinePiece {
     pub kind: LinePieceKind,

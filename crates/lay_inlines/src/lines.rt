@@ -1,6 +1,6 @@
 //! The pieces of the lines of a block container.
 
-ghost use Rattle.std.specs.Prelude.{◌≡◌, ◌++◌, take, drop, IfOk, OnOk};
+ghost use Rattle.std.specs.Prelude.{◌≡◌, ◌++◌, IfOk, OnOk};
 ghost use Rattle.lay_lines.specs.Lines.{frame_of};
 ghost use Rattle.lay_lines.specs.Rows.{next_frame};
 ghost use Rattle.lay_inlines.specs.Bounds.{GeometryWithin, LineWithin, PensWithin};
@@ -12,6 +12,7 @@ use crate::align::Align;
 use crate::line::{Line, Sheet};
 use crate::line_piece::{LinePiece, LinePieceList};
 use crate::open_boxes::pass;
+use crate::slices::{back, front};
 use lay_lines::{Ended, Frame, InlineArea, LineContent, Stretch};
 use lay_units::{NoMemory, Unit};
 use std::alloc::Global;
@@ -35,10 +36,10 @@ pub struct LinesGeometry<'a> {
     pub areas: &'a [InlineArea],
 }
 
-/// The pieces of these lines (CSS 2.2, 9.4.2, 10.8, 16.2): line by line the line box, and then in document order its
-/// inline boxes and texts. A line that isn't seen has none. All lengths are in 1/64 px; the left edge is within 2^50
-/// of 0, tops and rooms of lines within 2^61, and heights and margins within 2^36. It gives NoMemory where memory
-/// runs out.
+/// The pieces of these lines (CSS 2.2, 9.4.2, 10.8.1, 16.2): line by line the line box, and then in document order its
+/// inline boxes, atomic boxes and texts, each on its own baseline. A line that isn't seen has none. All lengths are in
+/// 1/64 px; the left edge is within 2^50 of 0, and lines and areas within the bounds of `is_row_within` and
+/// `is_area_within`. It gives NoMemory where memory runs out.
 pub fn line_pieces(alloc: Global, lines: &LinesGeometry) -> Result<LinePieceList, NoMemory>
     requires { GeometryWithin lines.now.container lines.now.rows.now lines.now.areas.now }
     ensures { IfOk result (λ l. l
@@ -50,7 +51,7 @@ pub fn line_pieces(alloc: Global, lines: &LinesGeometry) -> Result<LinePieceList
     let mut frame = first_frame(lines);
     let mut rest = lines.content.stretches();
     for k in 0..lines.rows.len() {
-        let row = lines.rows[k];
+        let row = &lines.rows[k];
         let line = Line {
             container: lines.container,
             frame,
@@ -73,10 +74,10 @@ fn put_row(
     line: &Line,
     taken: &[Stretch],
 ) -> Result<(), NoMemory>
-    requires line { LineWithin line.now.container line.now.frame line.now.row line.now.areas.now }
-    requires pens { PensWithin line.now.frame (blank_of line.now.frame line.now.row) (parts_of taken.now) }
+    requires line { LineWithin line.now.container line.now.frame line.now.row.now line.now.areas.now }
+    requires pens { PensWithin line.now.frame (blank_of line.now.frame line.now.row.now) (parts_of taken.now) }
     ensures pieces { OnOk result (out.new.items
-        ≡ out.old.items ++ pieces_if_seen line.now.container line.now.areas.now line.now.frame line.now.row open_boxes.old.items
+        ≡ out.old.items ++ pieces_if_seen line.now.container line.now.areas.now line.now.frame line.now.row.now open_boxes.old.items
         (parts_of taken.now)) }
     ensures open_boxes { OnOk result (open_boxes.new.items
         ≡ open_after open_boxes.old.items (parts_of taken.now)) }
@@ -85,20 +86,6 @@ fn put_row(
         sheet.put_line(out, line, open_boxes.as_slice(), taken)?;
     }
     pass(open_boxes, taken)
-}
-
-/// The first so many of these, or all.
-fn front(stretches: &[Stretch], count: usize) -> &[Stretch]
-    ensures { result.now ≡ take count stretches.now }
-{
-    &stretches[..count.min(stretches.len())]
-}
-
-/// What is left after these.
-fn back(stretches: &[Stretch], count: usize) -> &[Stretch]
-    ensures { result.now ≡ drop count stretches.now }
-{
-    &stretches[count.min(stretches.len())..]
 }
 
 fn first_frame(lines: &LinesGeometry) -> Frame

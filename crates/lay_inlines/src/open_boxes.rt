@@ -1,4 +1,4 @@
-//! The inline boxes that are open_boxes, line after line.
+//! The inline boxes that are open, line after line.
 
 ghost use Rattle.std.specs.Prelude.{◌≡◌, OnOk};
 ghost use Rattle.lay_inlines.specs.OpenBoxes.{open_after, open_after_part};

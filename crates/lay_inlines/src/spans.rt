@@ -1,23 +1,26 @@
-//! From where to where boxes and texts reach on a line. They are found from the line's end to its start.
+//! From where to where boxes and texts reach on a line, and how far they are raised. They are found from the line's end to its start.
 
-ghost use Rattle.std.specs.Prelude.{◌≡◌, ◌||◌, ◌&&◌, ◌++◌, ◌∷◌, ◌<◌, ◌+◌, ◌-◌, ℕ, [], List, All, length, drop, reverse, IfOk, OnOk};
-ghost use Rattle.lay_inlines.specs.Bounds.{IsPlace, AreaWithin, StrokeWithin, SpanWithin};
+ghost use Rattle.std.specs.Prelude.{◌≡◌, ◌||◌, ◌&&◌, ◌++◌, ◌∷◌, [], All, drop, reverse, OnOk};
+ghost use Rattle.lay_inlines.specs.Bounds.{IsPlace, AreaWithin, RaiseWithin, StrokeWithin, SpanWithin};
 ghost use Rattle.lay_inlines.specs.Behind.{BehindWithin, Within};
-ghost use Rattle.lay_inlines.specs.Spans.{area_at, edge_at, edges_before, right_edges, is_text, with_text, with_shown, span_of, inline_span, spans_of, open_spans};
+ghost use Rattle.lay_inlines.specs.Spans.{area_at, edge_at, edges_before, right_edges, is_text, with_text, with_shown, span_of, inline_span, atomic_span, spans_of, open_spans};
 ghost use Rattle.lay_inlines.specs.Strokes.{is_content, stays, shown_of, begin_of, end_of, has_content};
 
 use crate::arithmetic::{minus, plus};
 use crate::line_piece::LinePieceKind;
+use crate::raises::raise_at;
+use crate::slices::from_end;
 use crate::strokes::{Shown, Stroke, is_content, place, shown_of};
 use lay_lines::InlineArea;
 use lay_units::{NoMemory, Unit};
 use std::alloc::Global;
 
-/// From where to where a box or a text reaches on its line, in places of the pen.
+/// From where to where a box or a text reaches on its line, in places of the pen, and how far it is raised.
 #[derive(Clone, Copy)]
 pub struct Span {
     pub kind: LinePieceKind,
     pub node: u32,
+    pub raise: Unit,
     pub from: Unit,
     pub to: Unit,
 }
@@ -27,6 +30,21 @@ pub struct Span {
 pub struct Ends {
     pub start: Unit,
     pub end: Unit,
+}
+
+/// How far something is raised, and where it begins and ends, in places of the pen.
+#[derive(Clone, Copy)]
+pub struct Standing {
+    pub raise: Unit,
+    pub from: Unit,
+    pub to: Unit,
+}
+
+/// The inline boxes that are open where a line begins, outermost first, by number, and how far they are raised.
+#[derive(Clone, Copy)]
+pub struct OpenBoxes<'a> {
+    pub nodes: &'a [u32],
+    pub raises: &'a [Unit],
 }
 
 /// What stands behind some part of a line, the last of it first: the boxes and texts that begin there, the right
@@ -56,16 +74,17 @@ impl Behind {
         &mut self,
         areas: &[InlineArea],
         strokes: &[Stroke],
-        open_boxes: &[u32],
+        open_boxes: &OpenBoxes,
         ends: Ends,
     ) -> Result<(), NoMemory>
         requires areas { All AreaWithin areas.now }
+        requires raises { All RaiseWithin open_boxes.now.raises.now }
         requires strokes { All StrokeWithin strokes.now }
         requires start { IsPlace ends.start.0 }
         requires end { IsPlace ends.end.0 }
         ensures spans { OnOk result (reverse self.new.spans.items
-            ≡ open_spans ends.start.0 ends.end.0 (right_edges areas.now strokes.now) open_boxes.now
-            ++ spans_of areas.now ends.end.0 strokes.now) }
+            ≡ open_spans ends.start.0 ends.end.0 (right_edges areas.now strokes.now) open_boxes.now.raises.now
+            open_boxes.now.nodes.now ++ spans_of areas.now ends.end.0 strokes.now) }
         ensures within { OnOk result (All SpanWithin self.new.spans.items) }
     {
         self.spans.clear();
@@ -106,7 +125,7 @@ impl Behind {
         requires end { IsPlace end.0 }
         ensures spans { OnOk result (reverse self.new.spans.items
             ≡ with_shown areas.now
-            (shown_of stroke.now.part (stays stroke.now self.old.followed))
+            (shown_of stroke.now.part (stays stroke.now self.old.followed)) stroke.now.raise
             (begin_of stroke.now self.old.followed)
             (end_of stroke.now self.old.followed) (edge_at (reverse self.old.edges.items) 0 end.0)
             (reverse self.old.spans.items)) }
@@ -120,76 +139,103 @@ impl Behind {
     {
         let has_content = is_content(stroke.part) || self.followed;
         let shown = shown_of(stroke.part, stroke.before.started && self.followed);
-        let from = place(stroke.before, has_content);
-        let to = place(stroke.after, self.followed);
-        self.put_shown(
-            areas,
-            shown,
-            Ends {
-                start: from,
-                end: to,
-            },
-            end,
-        )?;
+        let standing = Standing {
+            raise: stroke.raise,
+            from: place(stroke.before, has_content),
+            to: place(stroke.after, self.followed),
+        };
+        self.put_shown(areas, shown, standing, end)?;
         self.followed = has_content;
         Ok(())
     }
 
-    /// Puts what a part shows, which reaches so far.
+    /// Puts what a part shows, which stands there.
     fn put_shown(
         &mut self,
         areas: &[InlineArea],
         shown: Shown,
-        reach: Ends,
+        standing: Standing,
         end: Unit,
     ) -> Result<(), NoMemory>
         requires within { BehindWithin self.old }
         requires areas { All AreaWithin areas.now }
-        requires from { IsPlace reach.start.0 }
-        requires to { IsPlace reach.end.0 }
+        requires raise { RaiseWithin standing.raise }
+        requires from { IsPlace standing.from.0 }
+        requires to { IsPlace standing.to.0 }
         requires end { IsPlace end.0 }
         ensures spans { OnOk result (reverse self.new.spans.items
-            ≡ with_shown areas.now shown reach.start.0 reach.end.0
+            ≡ with_shown areas.now shown standing.raise standing.from.0 standing.to.0
             (edge_at (reverse self.old.edges.items) 0 end.0) (reverse self.old.spans.items)) }
         ensures edges { OnOk result (reverse self.new.edges.items
-            ≡ edges_before areas.now shown reach.end.0 (reverse self.old.edges.items)) }
+            ≡ edges_before areas.now shown standing.to.0 (reverse self.old.edges.items)) }
         ensures followed { self.new.followed ≡ self.old.followed }
         ensures within { OnOk result (BehindWithin self.new) }
     {
         match shown {
-            Shown::OfText(text) => self.put_text(text, reach),
-            Shown::Opens(node) => self.put_start(areas, node, reach.start, end),
-            Shown::Closes(node) => self.put_end(areas, node, reach.end),
+            Shown::OfText(text) => self.put_text(text, standing),
+            Shown::OfAtomic(node) => self.put_atomic(areas, node, standing),
+            Shown::Opens(node) => self.put_start(areas, node, standing, end),
+            Shown::Closes(node) => self.put_end(areas, node, standing.to),
             Shown::Nothing => Ok(()),
         }
     }
 
     /// Puts a bit of a text: with what is left of the text on its line it makes one.
-    fn put_text(&mut self, text: u32, reach: Ends) -> Result<(), NoMemory>
+    fn put_text(&mut self, text: u32, standing: Standing) -> Result<(), NoMemory>
         requires within { BehindWithin self.old }
-        requires from { IsPlace reach.start.0 }
-        requires to { IsPlace reach.end.0 }
+        requires raise { RaiseWithin standing.raise }
+        requires from { IsPlace standing.from.0 }
+        requires to { IsPlace standing.to.0 }
         ensures spans { OnOk result (reverse self.new.spans.items
-            ≡ with_text text reach.start.0 reach.end.0 (reverse self.old.spans.items)) }
+            ≡ with_text text standing.raise standing.from.0 standing.to.0 (reverse self.old.spans.items)) }
         ensures edges { self.new.edges.items ≡ self.old.edges.items }
         ensures followed { self.new.followed ≡ self.old.followed }
         ensures within { OnOk result (BehindWithin self.new) }
     {
-        let mut span = Span {
-            kind: LinePieceKind::Text,
-            node: text,
-            from: reach.start,
-            to: reach.end,
-        };
+        let mut to = standing.to;
         if let Some(last) = self.spans.pop() {
             if is_text(last.kind) && last.node == text {
-                span.to = last.to;
+                to = last.to;
             } else {
                 self.spans.push(last)?;
             }
         }
-        self.spans.push(span)?;
-        Ok(())
+        self.put_span(Span {
+            kind: LinePieceKind::Text,
+            node: text,
+            raise: standing.raise,
+            from: standing.from,
+            to,
+        })
+    }
+
+    /// Puts an atomic box.
+    fn put_atomic(
+        &mut self,
+        areas: &[InlineArea],
+        node: u32,
+        standing: Standing,
+    ) -> Result<(), NoMemory>
+        requires within { BehindWithin self.old }
+        requires areas { All AreaWithin areas.now }
+        requires raise { RaiseWithin standing.raise }
+        requires from { IsPlace standing.from.0 }
+        requires to { IsPlace standing.to.0 }
+        ensures spans { OnOk result (reverse self.new.spans.items
+            ≡ atomic_span areas.now node standing.raise standing.from.0 standing.to.0
+            ∷ reverse self.old.spans.items) }
+        ensures edges { self.new.edges.items ≡ self.old.edges.items }
+        ensures followed { self.new.followed ≡ self.old.followed }
+        ensures within { OnOk result (BehindWithin self.new) }
+    {
+        let area = area_at(areas, node);
+        self.put_span(Span {
+            kind: LinePieceKind::Atomic,
+            node,
+            raise: standing.raise,
+            from: plus(standing.from, area.margin_left),
+            to: minus(standing.to, area.margin_right),
+        })
     }
 
     /// Puts an inline box that begins here.
@@ -197,15 +243,16 @@ impl Behind {
         &mut self,
         areas: &[InlineArea],
         node: u32,
-        from: Unit,
+        standing: Standing,
         end: Unit,
     ) -> Result<(), NoMemory>
         requires within { BehindWithin self.old }
         requires areas { All AreaWithin areas.now }
-        requires from { IsPlace from.0 }
+        requires raise { RaiseWithin standing.raise }
+        requires from { IsPlace standing.from.0 }
         requires end { IsPlace end.0 }
         ensures spans { OnOk result (reverse self.new.spans.items
-            ≡ inline_span areas.now node from.0 (edge_at (reverse self.old.edges.items) 0 end.0)
+            ≡ inline_span areas.now node standing.raise standing.from.0 (edge_at (reverse self.old.edges.items) 0 end.0)
             ∷ reverse self.old.spans.items) }
         ensures edges { OnOk result (reverse self.new.edges.items
             ≡ drop 1 (reverse self.old.edges.items)) }
@@ -214,13 +261,13 @@ impl Behind {
     {
         let to = self.next_edge(end);
         let margin = area_at(areas, node).margin_left;
-        self.spans.push(Span {
+        self.put_span(Span {
             kind: LinePieceKind::Inline,
             node,
-            from: plus(from, margin),
+            raise: standing.raise,
+            from: plus(standing.from, margin),
             to,
-        })?;
-        Ok(())
+        })
     }
 
     /// Puts the end of an inline box.
@@ -240,28 +287,32 @@ impl Behind {
     }
 
     /// Puts the inline boxes that are open where the line's content begins.
-    fn put_open(&mut self, open_boxes: &[u32], ends: Ends) -> Result<(), NoMemory>
+    fn put_open(&mut self, open_boxes: &OpenBoxes, ends: Ends) -> Result<(), NoMemory>
         requires within { BehindWithin self.old }
+        requires raises { All RaiseWithin open_boxes.now.raises.now }
         requires start { IsPlace ends.start.0 }
         requires end { IsPlace ends.end.0 }
         ensures spans { OnOk result (reverse self.new.spans.items
-            ≡ open_spans ends.start.0 ends.end.0 (reverse self.old.edges.items) open_boxes.now
-            ++ reverse self.old.spans.items) }
+            ≡ open_spans ends.start.0 ends.end.0 (reverse self.old.edges.items) open_boxes.now.raises.now
+            open_boxes.now.nodes.now ++ reverse self.old.spans.items) }
         ensures within { OnOk result (BehindWithin self.new) }
     {
-        for done in 0..open_boxes.len() {
-            self.put_one_open(*from_end(open_boxes, done), ends)?;
+        let nodes = open_boxes.nodes;
+        for done in 0..nodes.len() {
+            let raise = raise_at(open_boxes.raises, nodes.len() - 1 - done);
+            self.put_one_open(*from_end(nodes, done), raise, ends)?;
         }
         Ok(())
     }
 
     /// Puts the innermost of these that is left.
-    fn put_one_open(&mut self, node: u32, ends: Ends) -> Result<(), NoMemory>
+    fn put_one_open(&mut self, node: u32, raise: Unit, ends: Ends) -> Result<(), NoMemory>
         requires within { BehindWithin self.old }
+        requires raise { RaiseWithin raise }
         requires start { IsPlace ends.start.0 }
         requires end { IsPlace ends.end.0 }
         ensures spans { OnOk result (reverse self.new.spans.items
-            ≡ span_of LinePieceKind.Inline node ends.start.0
+            ≡ span_of LinePieceKind.Inline node raise ends.start.0
             (edge_at (reverse self.old.edges.items) 0 ends.end.0)
             ∷ reverse self.old.spans.items) }
         ensures edges { OnOk result (reverse self.new.edges.items
@@ -269,12 +320,24 @@ impl Behind {
         ensures within { OnOk result (BehindWithin self.new) }
     {
         let to = self.next_edge(ends.end);
-        self.spans.push(Span {
+        self.put_span(Span {
             kind: LinePieceKind::Inline,
             node,
+            raise,
             from: ends.start,
             to,
-        })?;
+        })
+    }
+
+    fn put_span(&mut self, span: Span) -> Result<(), NoMemory>
+        requires within { BehindWithin self.old }
+        requires span { SpanWithin span }
+        ensures spans { OnOk result (reverse self.new.spans.items ≡ span ∷ reverse self.old.spans.items) }
+        ensures edges { self.new.edges.items ≡ self.old.edges.items }
+        ensures followed { self.new.followed ≡ self.old.followed }
+        ensures within { OnOk result (BehindWithin self.new) }
+    {
+        self.spans.push(span)?;
         Ok(())
     }
 
@@ -296,20 +359,11 @@ impl Behind {
     }
 }
 
-/// The item before these last ones.
-fn from_end<T>(items: &[T], done: usize) -> &T
-    requires { done < length items.now }
-    ensures { drop (length items.now - (done + 1)) items.now
-        ≡ result.now ∷ drop (length items.now - done) items.now }
-{
-    &items[items.len() - 1 - done]
-}
-
 fn is_text(kind: LinePieceKind) -> bool
     ensures { result ≡ is_text kind }
 {
     match kind {
-        LinePieceKind::Line | LinePieceKind::Inline => false,
+        LinePieceKind::Line | LinePieceKind::Inline | LinePieceKind::Atomic => false,
         LinePieceKind::Text => true,
     }
 }

@@ -2,57 +2,65 @@
 
 ghost use Rattle.std.specs.Prelude.{◌≡◌, ◌++◌, ◌||◌, IfOk, OnOk};
 ghost use Rattle.lay_inlines.specs.Bounds.{PensWithin};
+ghost use Rattle.lay_inlines.specs.Raises.{raises_after_all};
 ghost use Rattle.lay_inlines.specs.Strokes.{is_content, shown_of, place, strokes, parts_of};
 ghost use Rattle.lay_lines.specs.Pens.{over_all};
 
+use crate::raises::Raises;
 use lay_lines::{Frame, Part, Pen, Stretch};
 use lay_units::{NoMemory, Unit};
 
-/// A part of a line's content, with how far content comes before it and after it.
+/// A part of a line's content, with how far it is raised, and how far content comes before it and after it.
 #[derive(Clone, Copy)]
 pub struct Stroke {
     pub part: Part,
+    pub raise: Unit,
     pub before: Pen,
     pub after: Pen,
 }
 
-/// What a part shows on its line, with the number of the text or the inline box: a bit of a text, or where an inline
-/// box begins or ends.
+/// What a part shows on its line, with the number of the text or the box: a bit of a text, an atomic box, or where an
+/// inline box begins or ends.
 #[derive(Clone, Copy)]
 pub enum Shown {
     OfText(u32),
+    OfAtomic(u32),
     Opens(u32),
     Closes(u32),
     Nothing,
 }
 
-/// Adds the strokes of these stretches, from a pen. The answer is the pen after them.
+/// Adds the strokes of these stretches, from a pen. The answer is the pen after them, and the raises are then those there.
 pub fn draw(
     out: &mut Vec<Stroke>,
+    raises: &mut Raises,
     frame: &Frame,
     pen: Pen,
     stretches: &[Stretch],
 ) -> Result<Pen, NoMemory>
     requires { PensWithin frame.now pen (parts_of stretches.now) }
     ensures strokes { OnOk result (out.new.items
-        ≡ out.old.items ++ strokes frame.now pen (parts_of stretches.now)) }
+        ≡ out.old.items ++ strokes frame.now pen raises.old (parts_of stretches.now)) }
+    ensures raises { OnOk result (raises.new ≡ raises_after_all raises.old (parts_of stretches.now)) }
     ensures pen { IfOk result (λ p. p ≡ over_all frame.now pen (parts_of stretches.now)) }
 {
     let mut pen = pen;
     for k in 0..stretches.len() {
-        pen = draw_parts(out, frame, pen, stretches[k].parts.as_slice())?;
+        pen = draw_parts(out, raises, frame, pen, stretches[k].parts.as_slice())?;
     }
     Ok(pen)
 }
 
 fn draw_parts(
     out: &mut Vec<Stroke>,
+    raises: &mut Raises,
     frame: &Frame,
     pen: Pen,
     parts: &[Part],
 ) -> Result<Pen, NoMemory>
     requires { PensWithin frame.now pen parts.now }
-    ensures strokes { OnOk result (out.new.items ≡ out.old.items ++ strokes frame.now pen parts.now) }
+    ensures strokes { OnOk result (out.new.items ≡ out.old.items ++ strokes frame.now pen raises.old parts.now) }
+    ensures raises { OnOk result (raises.new ≡ raises_after_all raises.old parts.now) }
     ensures pen { IfOk result (λ p. p ≡ over_all frame.now pen parts.now) }
 {
     let mut before = pen;
@@ -61,9 +69,11 @@ fn draw_parts(
         let after = before.over(frame, part);
         out.push(Stroke {
             part,
+            raise: raises.of(part),
             before,
             after,
         })?;
+        raises.pass(part)?;
         before = after;
     }
     Ok(before)
@@ -74,7 +84,7 @@ pub fn is_content(part: Part) -> bool
     ensures { result ≡ is_content part }
 {
     match part {
-        Part::PreservedSpace(_) | Part::Tab(_) | Part::Text(_) => true,
+        Part::PreservedSpace(_) | Part::Tab(_) | Part::Text(_) | Part::Atomic(_) => true,
         Part::Space(_) | Part::Linefeed | Part::Start(_) | Part::End(_) => false,
     }
 }
@@ -90,6 +100,7 @@ pub fn shown_of(part: Part, stays: bool) -> Shown
         Part::Text(text) => Shown::OfText(text.text),
         Part::Start(start) => Shown::Opens(start.node),
         Part::End(end) => Shown::Closes(end.node),
+        Part::Atomic(atomic) => Shown::OfAtomic(atomic.node),
         Part::Space(_) | Part::Linefeed => Shown::Nothing,
     }
 }

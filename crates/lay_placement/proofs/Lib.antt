@@ -1,9 +1,13 @@
+pub mod AreaFacts
+pub mod AtomicSteps
 pub mod CornerColumns
 pub mod CornerCounts
 pub mod FlowBoxSteps
 pub mod FlowFacts
 pub mod InlineContainerSteps
+pub mod LastSeen
 pub mod LeftSteps
+pub mod OnLineSteps
 pub mod OnePlaces
 pub mod OutsideFacts
 pub mod PieceCountSteps

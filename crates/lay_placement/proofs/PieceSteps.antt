@@ -35,6 +35,14 @@ with_more before (x ∷ xs) f = with_more (before ++ numbered before x ∷ []) x
 pub one_more_piece : (before fs : List Frag) (f : Frag) (pieces more : List Frag) → pieces ≡ with_pieces before fs → more ≡ pieces ++ numbered pieces f ∷ [] → more ≡ with_pieces before (fs ++ f ∷ [])
 one_more_piece before fs f pieces more so_far is = is ∙ ap (λ (ps : List Frag). ps ++ numbered ps f ∷ []) so_far ∙ sym (with_more before fs f)
 
+-- pieces behind pieces behind others
+with_all : (before fs gs : List Frag) → with_pieces before (fs ++ gs) ≡ with_pieces (with_pieces before fs) gs
+with_all before [] gs = refl
+with_all before (x ∷ xs) gs = with_all (before ++ numbered before x ∷ []) xs gs
+
+pub more_pieces : (before fs gs : List Frag) (pieces more : List Frag) → pieces ≡ with_pieces before fs → more ≡ with_pieces pieces gs → more ≡ with_pieces before (fs ++ gs)
+more_pieces before fs gs pieces more so_far is = is ∙ ap (λ (ps : List Frag). with_pieces ps gs) so_far ∙ sym (with_all before fs gs)
+
 -- the pieces of the first boxes with those of the next one
 pub one_more_box : (m : BoxMeasuresValue) (flow_boxes : List FlowBox) (places : FlowPlacesValue) (n : ℕ) (pieces more : List Frag) → pieces ≡ pieces_to m flow_boxes places n
     → more ≡ with_pieces pieces (pieces_of_box m flow_boxes places n) → more ≡ pieces_to m flow_boxes places (n + 1)

@@ -1,9 +1,9 @@
 -- The boxes of one context as its block formatting context takes them (CSS 2.2, 9.4.1, 9.4.2 and 9.5). Each stands in its
 -- nearest block container. A block box holds lines, where it contains inline-level boxes and something on a line of it is
 -- seen; then its lines know the boxes in it, and place its floats. Without a seen line its inline boxes and texts take no room,
--- and its floats are like others. The box of an inner context floats, or is solid: no float of this context overlaps it. The
--- others are blocks, and the context's own box is one. Horizontal positions are counted from the left border edge of the
--- context's own box.
+-- and its floats are like others. The box of an inner context floats, or stands in lines as an atomic box, or is solid: no
+-- float of this context overlaps it. The others are blocks, and the context's own box is one. Horizontal positions are counted
+-- from the left border edge of the context's own box.
 use Rattle.std.specs.Prelude.{ℕ, zero, suc, ◌≡◌, ◌<◌, ◌+ℤ◌, ◌&&◌, Bool, true, false, List, length, nat_lt, Option, Some, None, if◌then◌else◌}
 use Rattle.lay_units.specs.declared.length.Unit.{Unit as Length}
 use Rattle.lay_doc.specs.declared.style_words.Float.{Float}

@@ -1,8 +1,10 @@
 -- The pieces of one context, counted from the corner of its own border box: its own border box and then, in the order of its
 -- box tree, the border boxes of its blocks, and behind that of a block with lines, line by line, the line, its inline boxes and
--- its texts (CSS 2.2, 9.2.1, 9.4.1 and 9.4.2). The boxes of inner contexts are pieces of those. An anonymous box is a piece of
--- the nearest element. On a line without anything seen nothing is.
-use Rattle.std.specs.Prelude.{ℕ, zero, suc, ◌||◌, List, [], ◌∷◌, ◌++◌, map, slice_index, slice_index_or, if◌then◌else◌}
+-- its texts (CSS 2.2, 9.2.1, 9.4.1 and 9.4.2). The boxes of inner contexts are pieces of those, also the atomic ones on lines.
+-- An anonymous box is a piece of the nearest element. On a line without anything seen nothing is.
+use Rattle.std.specs.Prelude.{ℕ, zero, suc, ◌||◌, List, [], ◌∷◌, ◌++◌, slice_index, slice_index_or, Option, Some, None, if◌then◌else◌}
+use Rattle.std.specs.List.{filter_map}
+use Rattle.std.specs.Option.{option_map}
 use Rattle.lay_doc.specs.declared.style_words.TextAlign.{TextAlign}
 use Rattle.lay_doc.specs.declared.style_words.TextAlign.TheVariants as align
 use Rattle.lay_doc.specs.ComputedStyle.{style_at}
@@ -44,19 +46,24 @@ align_of align.Justify = aligned.Left
 abbrev pub id_of : List BoxNode → ℕ → ℕ
 id_of boxes k = slice_index (box_ids boxes) k
 
-abbrev pub kind_on_line : LinePieceKind → FragKind
-kind_on_line on_line.Line = kind.Line
-kind_on_line on_line.Inline = kind.Box
-kind_on_line on_line.Text = kind.Text
+-- as what a piece on a line is painted: an atomic box is none of this context
+abbrev pub kind_on_line : LinePieceKind → Option FragKind
+kind_on_line on_line.Line = Some kind.Line
+kind_on_line on_line.Inline = Some kind.Box
+kind_on_line on_line.Text = Some kind.Text
+kind_on_line on_line.Atomic = None
 
--- a piece on a line, whose part isn't known yet
-abbrev pub piece_on_line : List BoxNode → LinePiece → Frag
-piece_on_line boxes p = record {
-  kind = kind_on_line p.kind;
+-- a piece on a line that is painted as this, whose part isn't known yet
+abbrev pub piece_as : List BoxNode → LinePiece → FragKind → Frag
+piece_as boxes p kind = record {
+  kind = kind;
   node = record { 0 = id_of boxes p.node };
   part = 0;
   rect = p.rect;
 }
+
+abbrev pub piece_on_line : List BoxNode → LinePiece → Option Frag
+piece_on_line boxes p = option_map (piece_as boxes p) (kind_on_line p.kind)
 
 -- the border box of the box at k
 abbrev pub piece_of_box : List BoxNode → List BoxSizes → FlowPlacesValue → ℕ → Frag
@@ -84,11 +91,11 @@ line_container boxes k b = record {
   align = align_of (style_at (box_styles boxes) k).text.text_align;
 }
 
--- the pieces of the lines of the box at k, where it is this in its flow
-abbrev pub pieces_on_lines : BoxMeasuresValue → FlowPlacesValue → ℕ → FlowKind → List Frag
+-- what stands on the lines of the box at k, where it is this in its flow
+abbrev pub pieces_on_lines : BoxMeasuresValue → FlowPlacesValue → ℕ → FlowKind → List LinePiece
 pieces_on_lines m places k (block b) = []
 pieces_on_lines m places k (lines l) =
-    map (piece_on_line m.boxes) (pieces_of (line_container m.boxes k l.block) l.content (rows_at places k) (areas_of m))
+    pieces_of (line_container m.boxes k l.block) l.content (rows_at places k) (areas_of m)
 pieces_on_lines m places k (solid b) = []
 pieces_on_lines m places k (float b) = []
 pieces_on_lines m places k (line_float b) = []
@@ -98,10 +105,17 @@ pieces_on_lines m places k inline = []
 abbrev pub pieces_of_box : BoxMeasuresValue → List FlowBox → FlowPlacesValue → ℕ → List Frag
 pieces_of_box m flow_boxes places k =
     if is_inner m.boxes k || is_inline_level (role_at m.boxes k) then []
-    else piece_of_box m.boxes m.sizes places k ∷ pieces_on_lines m places k (box_at flow_boxes k).kind
+    else piece_of_box m.boxes m.sizes places k
+        ∷ filter_map (piece_on_line m.boxes) (pieces_on_lines m places k (box_at flow_boxes k).kind)
 
 -- the pieces of the first n boxes, each with its part
 abbrev pub pieces_to : BoxMeasuresValue → List FlowBox → FlowPlacesValue → ℕ → List Frag
 pieces_to m flow_boxes places zero = []
 pieces_to m flow_boxes places (suc k) =
     with_pieces (pieces_to m flow_boxes places k) (pieces_of_box m flow_boxes places k)
+
+-- what stands on the lines of the first n boxes
+abbrev pub on_lines_to : BoxMeasuresValue → List FlowBox → FlowPlacesValue → ℕ → List LinePiece
+on_lines_to m flow_boxes places zero = []
+on_lines_to m flow_boxes places (suc k) =
+    on_lines_to m flow_boxes places k ++ pieces_on_lines m places k (box_at flow_boxes k).kind

@@ -16,8 +16,10 @@ use Rattle.lay_sizes.specs.OwnBoxes.{no_own_box, own_box}
 use Rattle.lay_sizes.specs.UsedLengths.{no_length}
 use Rattle.lay_sizes.specs.SizeColumns.{sizes_at}
 use Rattle.lay_placement.specs.declared.corner.Corner.{Corner}
+use Rattle.lay_placement.specs.AtomicCorners.{corner_among}
+use Rattle.lay_placement.specs.Baselines.{own_baseline}
 use Rattle.lay_placement.specs.ContextBlocks.{AreFlowBoxesOf, HasLefts}
-use Rattle.lay_placement.specs.ContextPieces.{pieces_to}
+use Rattle.lay_placement.specs.ContextPieces.{on_lines_to, pieces_to}
 
 pub record ContextPlaces : Type 0 where
   -- which parts of inline boxes the boxes are (8.6)
@@ -40,18 +42,22 @@ pub record HasPlaces (face : FaceValue) (boxes : List BoxNode) (sizes : List Box
   pub are_flow_boxes : AreFlowBoxesOf (measures_of face boxes sizes inner p) p.lefts p.flow_boxes
   pub is_flow : IsFlowOf p.flow_boxes p.places
 
--- the corner of the border box of the box at k
-abbrev pub corner_of_box : ContextPlaces → ℕ → Corner
-corner_of_box p k = record { x = (box_place_at p.places.boxes k).corner.x; y = (box_place_at p.places.boxes k).corner.y }
+-- where the flow puts the border box of the box at k
+abbrev pub corner_in_flow : FlowPlacesValue → ℕ → Corner
+corner_in_flow places k = record { x = (box_place_at places.boxes k).corner.x; y = (box_place_at places.boxes k).corner.y }
+
+-- the corner of the border box of the box at k, where content is measured by this
+abbrev pub corner_of_box : BoxMeasuresValue → ContextPlaces → ℕ → Corner
+corner_of_box m p k = corner_among (on_lines_to m p.flow_boxes p.places (length m.boxes)) k (corner_in_flow p.places k)
 
 -- the height of the border box of the context's own box
 abbrev pub own_height : ContextPlaces → Length
 own_height p = (box_place_at p.places.boxes 0).height
 
 -- the corners of the first n boxes, in order
-abbrev pub corners_to : ContextPlaces → ℕ → List Corner
-corners_to p zero = []
-corners_to p (suc k) = corners_to p k ++ corner_of_box p k ∷ []
+abbrev pub corners_to : BoxMeasuresValue → ContextPlaces → ℕ → List Corner
+corners_to m p zero = []
+corners_to m p (suc k) = corners_to m p k ++ corner_of_box m p k ∷ []
 
 -- What a context answers: its own box as the context around it takes it, its pieces, and where the border boxes of its boxes
 -- stand, among them those of inner contexts.
@@ -71,9 +77,9 @@ corner_at corners i = slice_index_or corners i no_corner
 
 abbrev pub placement_of : FaceValue → List BoxNode → List BoxSizes → List OwnBox → ContextPlaces → Placement
 placement_of face boxes sizes inner p = record {
-  own = own_box (sizes_at sizes 0) (own_height p);
+  own = own_box (sizes_at sizes 0) (own_height p) (own_baseline boxes p.places);
   pieces = pieces_to (measures_of face boxes sizes inner p) p.flow_boxes p.places (length boxes);
-  corners = corners_to p (length boxes);
+  corners = corners_to (measures_of face boxes sizes inner p) p (length boxes);
 }
 
 -- this is the answer

@@ -1,9 +1,12 @@
+pub mod AtomicCorners
+pub mod Baselines
 pub mod ContextBlocks
 pub mod ContextPieces
 pub mod ContextPlaces
 pub mod InlineContainers
 pub mod Laws
 pub mod LineBoxes
+pub mod OnLines
 pub mod Outside
 pub mod PieceCounts
 pub mod PieceParts

@@ -64,7 +64,7 @@ pub(crate) fn outside(boxes: &[BoxNode], sizes: &[BoxSizes], inner: &[OwnBox], k
     if is_inner(boxes, k) {
         return own_box_at(inner, k);
     }
-    own_box(sizes_at(sizes, k), Unit(0))
+    own_box(sizes_at(sizes, k), Unit(0), None)
 }
 
 pub(crate) fn own_box_at(inner: &[OwnBox], k: usize) -> OwnBox

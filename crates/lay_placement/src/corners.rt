@@ -1,44 +1,106 @@
 //! The corners of the boxes of one context.
 
-ghost use Rattle.std.specs.Prelude.{◌≡◌, ◌<◌, ◌+ℤ◌, length, IfOk};
+ghost use Rattle.std.specs.Prelude.{ℕ, ◌≡◌, ◌<◌, ◌&&◌, [], ◌∷◌, nat_lt, length, IfOk, OnOk};
 ghost use Rattle.lay_flow.specs.FlowPlaces.{box_place_at};
-ghost use Rattle.lay_placement.specs.ContextPlaces.{corner_of_box, corners_to};
+ghost use Rattle.lay_placement.specs.AtomicCorners.{corner_among, corner_of_piece, is_atomic};
+ghost use Rattle.lay_placement.specs.ContextPlaces.{corner_at, corner_in_flow, corners_to};
+ghost use Rattle.lay_placement.specs.LineBoxes.{measures_in};
+ghost use Rattle.lay_placement.specs.OnLines.{AreOnLines};
 ghost use Rattle.lay_placement.specs.PlaceBounds.{AreNearCorners, HaveCounts, IsCornerNear, IsNear};
 
 use crate::context_places::BoxPlaces;
 use crate::corner::Corner;
+use crate::on_lines::on_lines_at;
 use crate::place_input::PlaceInput;
 use lay_flow::BoxPlace;
+use lay_inlines::{LinePiece, LinePieceKind, LinePieceList};
 use lay_units::{NoMemory, Unit};
 use std::alloc::Global;
 
 /// The greatest distance of an edge from the origin.
 const FAR: i64 = 1152921504606846976;
 
-/// The corners of the border boxes of all boxes, in order.
+/// The corners of the border boxes of all boxes, in order, where these stand on lines. NoMemory is also the answer where one
+/// is more than 2^60 units away from that of the context's own box, which it is in no document within the limits.
 pub(crate) fn corners_of(
     alloc: Global,
     input: &PlaceInput,
     places: &BoxPlaces,
+    on_lines: &[LinePieceList],
 ) -> Result<Vec<Corner>, NoMemory>
     requires counts { HaveCounts input.now.boxes places.now }
-    ensures corners { IfOk result (λ v. v.items ≡ corners_to places.now (length input.now.boxes)) }
+    requires on_lines { AreOnLines (measures_in input.now places.now.parts) places.now.flow_boxes places.now.places on_lines.now }
+    ensures corners { IfOk result (λ v. v.items ≡ corners_to (measures_in input.now places.now.parts) places.now (length input.now.boxes)) }
     ensures near { IfOk result (λ v. AreNearCorners v.items) }
 {
-    let boxes = input.boxes();
-    let mut corners = Vec::with_capacity(alloc, boxes.len())?;
-    for k in 0..boxes.len() {
-        let corner = corner_of_box(places, k)?;
+    let mut corners = corners_in_flow(alloc, places)?;
+    for k in 0..on_lines.len() {
+        put_atomics(&mut corners, on_lines_at(on_lines, k))?;
+    }
+    Ok(corners)
+}
+
+/// Where the flow puts the border box of each box.
+fn corners_in_flow(alloc: Global, places: &BoxPlaces) -> Result<Vec<Corner>, NoMemory>
+    ensures count { IfOk result (λ v. length v.items ≡ length places.now.places.boxes) }
+    ensures each { IfOk result (λ v. (k : ℕ) → k < length places.now.places.boxes → corner_at v.items k ≡ corner_in_flow places.now.places k) }
+    ensures near { IfOk result (λ v. AreNearCorners v.items) }
+{
+    let count = places.places.boxes().len();
+    let mut corners = Vec::with_capacity(alloc, count)?;
+    for k in 0..count {
+        let corner = corner_in_flow(places, k)?;
         corners.push(corner)?;
     }
     Ok(corners)
 }
 
-/// The corner of the border box of the box at k, counted from that of the context's own. NoMemory is the
+/// Puts each atomic box among these pieces where it stands.
+fn put_atomics(corners: &mut Vec<Corner>, pieces: &[LinePiece]) -> Result<(), NoMemory>
+    requires near { AreNearCorners corners.old.items }
+    ensures count { OnOk result (length corners.new.items ≡ length corners.old.items) }
+    ensures each { OnOk result ((k : ℕ) → k < length corners.old.items → corner_at corners.new.items k ≡ corner_among pieces.now k (corner_at corners.old.items k)) }
+    ensures near { OnOk result (AreNearCorners corners.new.items) }
+{
+    for i in 0..pieces.len() {
+        put_atomic(corners, pieces[i])?;
+    }
+    Ok(())
+}
+
+/// The same for one piece.
+fn put_atomic(corners: &mut Vec<Corner>, piece: LinePiece) -> Result<(), NoMemory>
+    requires near { AreNearCorners corners.old.items }
+    ensures count { OnOk result (length corners.new.items ≡ length corners.old.items) }
+    ensures each { OnOk result ((k : ℕ) → k < length corners.old.items → corner_at corners.new.items k ≡ corner_among (piece ∷ []) k (corner_at corners.old.items k)) }
+    ensures near { OnOk result (AreNearCorners corners.new.items) }
+{
+    if !is_atomic_among(piece, corners.len()) {
+        return Ok(());
+    }
+    corners[piece.node as usize] = corner_of_piece(piece)?;
+    Ok(())
+}
+
+/// Whether this is the piece of an atomic box that is one of so many boxes.
+fn is_atomic_among(piece: LinePiece, count: usize) -> bool
+    ensures { result ≡ (is_atomic piece.kind && nat_lt piece.node count) }
+{
+    matches!(piece.kind, LinePieceKind::Atomic) && (piece.node as usize) < count
+}
+
+fn corner_of_piece(piece: LinePiece) -> Result<Corner, NoMemory>
+    ensures corner { IfOk result (λ c. c ≡ corner_of_piece piece) }
+    ensures near { IfOk result IsCornerNear }
+{
+    near_corner(piece.rect.x, piece.rect.y)
+}
+
+/// Where the flow puts the border box of the box at k, counted from the corner of the context's own. NoMemory is the
 /// answer where it is more than 2^60 units away, which it is in no document within the limits.
-pub(crate) fn corner_of_box(places: &BoxPlaces, k: usize) -> Result<Corner, NoMemory>
+pub(crate) fn corner_in_flow(places: &BoxPlaces, k: usize) -> Result<Corner, NoMemory>
     requires { k < length places.now.places.boxes }
-    ensures corner { IfOk result (λ c. c ≡ corner_of_box places.now k) }
+    ensures corner { IfOk result (λ c. c ≡ corner_in_flow places.now.places k) }
     ensures near { IfOk result IsCornerNear }
 {
     let corner = place_at(places.places.boxes(), k).corner;

@@ -1,11 +1,13 @@
-//! The placement of one context: where its boxes stand, and its pieces (CSS 2.2, 8.3.1, 9.4.1, 9.4.2, 9.5 and 10.6), beside
+//! The placement of one context: where its boxes stand, and its pieces (CSS 2.2, 8.3.1, 9.4.1, 9.4.2, 9.5, 10.6 and 10.8.1), beside
 //! the used sizes of its boxes and the own boxes of the contexts inside it.
 //!
 //! `placement` answers by `IsPlacement` of `specs/ContextPlaces.antt`. It stands on `specs/InlineContainers.antt` and
-//! `specs/ContextBlocks.antt` (what the boxes are to block flow), and on `specs/ContextPieces.antt` and
-//! `specs/PieceParts.antt` (what is painted). A context has one placement (`specs/Laws.antt`).
+//! `specs/ContextBlocks.antt` (what the boxes are to block flow), on `specs/ContextPieces.antt` and
+//! `specs/PieceParts.antt` (what is painted), on `specs/AtomicCorners.antt` (where lines put atomic boxes) and on
+//! `specs/Baselines.antt` (on what line the own box stands, 10.8.1). A context has one placement (`specs/Laws.antt`).
 #![tactic(auto)]
 
+mod baselines;
 mod box_columns;
 mod context_answer;
 mod context_blocks;
@@ -16,8 +18,8 @@ mod corner;
 mod corners;
 mod inline_containers;
 mod laws;
-mod line_bounds;
 mod line_boxes;
+mod on_lines;
 mod own_boxes;
 mod piece_list;
 mod pieces;
@@ -28,7 +30,7 @@ pub use context_answer::Placement;
 pub use context_sizes::ContextSizes;
 pub use corner::Corner;
 pub use corners::{near_corner, near_position};
-pub use laws::one_placement;
+pub use laws::{last_seen_line_gives_baseline, one_placement};
 pub use own_boxes::OwnBoxes;
 pub use place_input::PlaceInput;
 pub use placing::placement;

@@ -3,10 +3,12 @@
 ghost use Rattle.std.specs.Prelude.{IfOk};
 ghost use Rattle.lay_placement.specs.ContextPlaces.{IsPlacement};
 
+use crate::baselines::own_baseline;
 use crate::box_columns::sizes_at;
 use crate::context_answer::Placement;
 use crate::context_places::context_places;
 use crate::corners::{corners_of, place_at};
+use crate::on_lines::on_lines_of;
 use crate::pieces::pieces_of;
 use crate::place_input::PlaceInput;
 use lay_frag::Pieces;
@@ -21,11 +23,13 @@ pub fn placement(alloc: Global, input: &PlaceInput) -> Result<Placement, NoMemor
 {
     let _ = input.boxes();
     let places = context_places(alloc, input)?;
-    let pieces = pieces_of(alloc, input, &places)?;
-    let corners = corners_of(alloc, input, &places)?;
+    let on_lines = on_lines_of(alloc, input, &places)?;
+    let pieces = pieces_of(alloc, input, &places, &on_lines)?;
+    let corners = corners_of(alloc, input, &places, &on_lines)?;
     let own = own_box(
         sizes_at(input.sizes(), 0),
         place_at(places.places.boxes(), 0).height,
+        own_baseline(input, &places)?,
     );
     let pieces = Arc::new(alloc, Pieces::new(pieces))?;
     Ok(Placement::new(own, pieces, corners))

@@ -3,8 +3,9 @@ use Rattle.lay_lines.specs.declared.content.Part.{Part}
 use Rattle.lay_lines.specs.declared.pen.Pen.{Pen}
 use Rattle.lay_lines.specs.Pens.{over_all}
 use Rattle.lay_inlines.specs.Bounds.{PensWithin}
+use Rattle.lay_inlines.specs.Raises.{RaisesValue, raises_after_all}
 use Rattle.lay_inlines.specs.Strokes.{parts_of, strokes}
-use Rattle.lay_inlines.proofs.Content.{parts_more, over_all-append, draw_more}
+use Rattle.lay_inlines.proofs.Content.{parts_more, over_all-append, raises-append, draw_more}
 use Rattle.lay_inlines.proofs.PenPlaces.{front_within, back_within}
 use Rattle.lay_inlines.proofs.strokes.draw.Goals as goal
 
@@ -23,14 +24,18 @@ loop-k-preserved c =
     let rest = parts_of (drop (c.loop-k.k + 1) c.args.stretches.now) in
     let fr = c.args.frame.now in
     let p = c.loop-k.pen in
+    let r = c.loop-k.raises in
     let more = parts_more c.args.stretches.now c.loop-k.k c.index-stretches-k.result (search rules) in
     let same = c.as_slice.ensures in
     let pen = c.in_ok-pen.ensures.pen ∙ ap (λ (xs : List Part). over_all fr p xs) same in
+    let raises = c.in_ok-pen.ensures.raises ∙ ap (λ (xs : List Part). raises_after_all r xs) same in
     let all = subst (λ (xs : List Part). PensWithin fr p xs) more c.loop-k.invariant.fits in
     record {
-      strokes = draw_more fr p c.in_ok-pen.pen here.parts rest c.loop-k.out.items c.draw_parts.new.out.items
-          (c.in_ok-pen.ensures.strokes ∙ ap (λ (xs : List Part). c.loop-k.out.items ++ strokes fr p xs) same) pen
-          ∙ ap (λ (xs : List Part). c.loop-k.out.items ++ strokes fr p xs) (sym more) ∙ c.loop-k.invariant.strokes;
+      strokes = draw_more fr p c.in_ok-pen.pen r c.draw_parts.new.raises here.parts rest c.loop-k.out.items c.draw_parts.new.out.items
+          (c.in_ok-pen.ensures.strokes ∙ ap (λ (xs : List Part). c.loop-k.out.items ++ strokes fr p r xs) same) pen raises
+          ∙ ap (λ (xs : List Part). c.loop-k.out.items ++ strokes fr p r xs) (sym more) ∙ c.loop-k.invariant.strokes;
+      raises = ap (λ (s : RaisesValue). raises_after_all s rest) raises ∙ sym (raises-append r here.parts rest)
+          ∙ ap (λ (xs : List Part). raises_after_all r xs) (sym more) ∙ c.loop-k.invariant.raises;
       pen = ap (λ (q : Pen). over_all fr q rest) pen ∙ sym (over_all-append fr p here.parts rest) ∙ ap (λ (xs : List Part). over_all fr p xs) (sym more) ∙ c.loop-k.invariant.pen;
       fits = subst (λ (q : Pen). PensWithin fr q rest) (sym pen) (back_within fr p here.parts rest all);
     }

@@ -1,6 +1,6 @@
 use Rattle.std.proofs.Common.{◌≡◌, ◌+◌, ◌-◌, ◌∷◌, ◌∙◌, ℕ, ap, drop, length, arith}
 use Rattle.lay_inlines.proofs.Backward.{drop_before}
-use Rattle.lay_inlines.proofs.spans.from_end.Goals as goal
+use Rattle.lay_inlines.proofs.slices.from_end.Goals as goal
 
 pub returns : goal.returns
 returns g c =

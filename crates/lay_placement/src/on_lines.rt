@@ -1,0 +1,161 @@
+//! What stands on the lines of the boxes of one context.
+
+ghost use Rattle.std.specs.Prelude.{◌≡◌, ◌<◌, ◌≤◌, All, length, IfOk};
+ghost use Rattle.lay_content.specs.InlineBoxes.{areas_of};
+ghost use Rattle.lay_flow.specs.Boxes.{box_at};
+ghost use Rattle.lay_flow.specs.FlowBoxes.{KindFits};
+ghost use Rattle.lay_inlines.specs.Bounds.{AreaWithin, RowWithin};
+ghost use Rattle.lay_placement.specs.ContextPieces.{align_of, line_container, pieces_on_lines, rows_at};
+ghost use Rattle.lay_placement.specs.LineBoxes.{measures_in};
+ghost use Rattle.lay_placement.specs.OnLines.{AreOnLines, on_lines_at};
+ghost use Rattle.lay_placement.specs.PlaceBounds.{HaveCounts};
+
+use crate::box_columns::style_at;
+use crate::context_places::BoxPlaces;
+use crate::place_input::PlaceInput;
+use lay_content::{BoxMeasures, inline_areas};
+use lay_doc::TextAlign;
+use lay_flow::{BlockBox, FlowBox, FlowBoxes, FlowKind};
+use lay_inlines::{
+    Align, Container, LinePiece, LinePieceList, LinesGeometry, is_row_within, line_pieces,
+};
+use lay_lines::{Ended, InlineArea};
+use lay_units::NoMemory;
+use std::alloc::Global;
+
+/// What stands on the lines of each box of a context, in the order of the boxes. NoMemory is also the answer where a line
+/// is out of the bounds of `is_row_within`, which it is in no document within the limits.
+pub(crate) fn on_lines_of(
+    alloc: Global,
+    input: &PlaceInput,
+    places: &BoxPlaces,
+) -> Result<Vec<LinePieceList>, NoMemory>
+    requires counts { HaveCounts input.now.boxes places.now }
+    ensures { IfOk result (λ v. AreOnLines (measures_in input.now places.now.parts) places.now.flow_boxes places.now.places v.items) }
+{
+    let areas = areas_of(alloc, input, places)?;
+    let count = input.boxes().len();
+    let mut all = Vec::with_capacity(alloc, count)?;
+    for k in 0..count {
+        let pieces = pieces_on_lines(alloc, input, places, &areas, k)?;
+        all.push(pieces)?;
+    }
+    Ok(all)
+}
+
+/// What stands on the lines of the box at k, where this is kept of all.
+pub(crate) fn on_lines_at(on_lines: &[LinePieceList], k: usize) -> &[LinePiece]
+    requires { k < length on_lines.now }
+    ensures { result.now ≡ on_lines_at on_lines.now k }
+{
+    on_lines[k].as_slice()
+}
+
+/// What is painted of each box on its lines.
+#[tactic(auto, using(crate::proofs::AreaFacts::areas_within))]
+fn areas_of(
+    alloc: Global,
+    input: &PlaceInput,
+    places: &BoxPlaces,
+) -> Result<Vec<InlineArea>, NoMemory>
+    ensures areas { IfOk result (λ v. v.items ≡ areas_of (measures_in input.now places.now.parts)) }
+    ensures within { IfOk result (λ v. All AreaWithin v.items) }
+{
+    let measures = BoxMeasures::new(
+        input.boxes(),
+        &places.parts,
+        input.sizes(),
+        input.inner(),
+        input.face(),
+    );
+    inline_areas(alloc, &measures)
+}
+
+/// What stands on the lines of the box at k.
+fn pieces_on_lines(
+    alloc: Global,
+    input: &PlaceInput,
+    places: &BoxPlaces,
+    areas: &[InlineArea],
+    k: usize,
+) -> Result<LinePieceList, NoMemory>
+    requires place { k < length input.now.boxes }
+    requires counts { HaveCounts input.now.boxes places.now }
+    requires areas { areas.now ≡ areas_of (measures_in input.now places.now.parts) }
+    requires within { All AreaWithin areas.now }
+    ensures { IfOk result (λ l. l ≡ pieces_on_lines (measures_in input.now places.now.parts) places.now.places k (box_at places.now.flow_boxes k).kind) }
+{
+    match kind_at(&places.flow_boxes, k) {
+        FlowKind::Lines(lines) => {
+            let geometry = LinesGeometry {
+                container: line_container(input, k, &lines.block),
+                content: &lines.content,
+                rows: rows_at(places, k)?,
+                areas,
+            };
+            line_pieces(alloc, &geometry)
+        }
+        FlowKind::Block(_)
+        | FlowKind::Solid(_)
+        | FlowKind::Float(_)
+        | FlowKind::LineFloat(_)
+        | FlowKind::Inline => Ok(LinePieceList::new(Vec::new(alloc))),
+    }
+}
+
+/// What the box at k is to its flow.
+fn kind_at(flow_boxes: &FlowBoxes, k: usize) -> &FlowKind
+    requires { k < length flow_boxes.now }
+    ensures kind { result.now ≡ (box_at flow_boxes.now k).kind }
+    ensures fits { KindFits (box_at flow_boxes.now k).kind }
+{
+    kind_in(flow_boxes.as_slice(), k)
+}
+
+fn kind_in(flow_boxes: &[FlowBox], k: usize) -> &FlowKind
+    requires { k < length flow_boxes.now }
+    ensures { result.now ≡ (box_at flow_boxes.now k).kind }
+{
+    &flow_boxes[k].kind
+}
+
+/// The lines of the box at k. NoMemory is also the answer where one is out of the bounds of `is_row_within`.
+fn rows_at(places: &BoxPlaces, k: usize) -> Result<&[Ended], NoMemory>
+    ensures rows { IfOk result (λ r. r.now ≡ rows_at places.now.places k) }
+    ensures within { IfOk result (λ r. All RowWithin r.now) }
+{
+    let rows = match places.places.lines().get(k) {
+        Some(rows) => rows.as_slice(),
+        None => &[],
+    };
+    if rows.iter().all(|row| is_row_within(row)) {
+        Ok(rows)
+    } else {
+        Err(NoMemory)
+    }
+}
+
+/// The block box at k, as its lines take it.
+fn line_container(input: &PlaceInput, k: usize, block: &BlockBox) -> Container
+    requires place { k < length input.now.boxes }
+    requires few { k ≤ 65536 }
+    ensures { result ≡ line_container input.now.boxes k block.now }
+{
+    Container {
+        node: k as u32,
+        left: block.content.left,
+        right: block.content.right,
+        align: align_of(style_at(input.boxes(), k).text.text_align),
+    }
+}
+
+/// The used value of `text-align`. Lines aren't justified.
+fn align_of(align: TextAlign) -> Align
+    ensures { result ≡ align_of align }
+{
+    match align {
+        TextAlign::Left | TextAlign::Justify => Align::Left,
+        TextAlign::Right => Align::Right,
+        TextAlign::Center => Align::Center,
+    }
+}
