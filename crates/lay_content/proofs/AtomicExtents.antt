@@ -1,5 +1,5 @@
 -- An atomic box is as high in its line as its margin box.
-use Rattle.std.proofs.Common.{◌≡◌, ℤ, pos, ◌+ℤ◌, Option, Some, None, arith}
+use Rattle.std.proofs.Common.{◌≡◌, pos, ◌+ℤ◌, Option, Some, None, arith}
 use Rattle.std.proofs.lemmas.Int.{ints}
 use Rattle.lay_units.specs.declared.length.Unit.{Unit as Length}
 use Rattle.lay_sizes.specs.declared.own_boxes.OwnBox.{OwnBox}

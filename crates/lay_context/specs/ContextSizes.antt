@@ -14,20 +14,28 @@ use Rattle.lay_measure.specs.declared.preferred_widths.PreferredWidths.{Preferre
 use Rattle.lay_sizes.specs.declared.sizing.BoxSizes.{BoxSizes}
 use Rattle.lay_sizes.specs.declared.sizing.ContainingBlock.{ContainingBlock}
 use Rattle.lay_sizes.specs.declared.sizing.WidthRule.{WidthRule}
-use Rattle.lay_sizes.specs.declared.sizing.WidthRule.TheVariants.{Fills, Inline, ShrinksToFit}
+use Rattle.lay_sizes.specs.declared.sizing.WidthRule.TheVariants.{Fills, Inline, Replaced, ReplacedBlock, ShrinksToFit}
 use Rattle.lay_sizes.specs.BoxSizes.{IsSized}
 use Rattle.lay_sizes.specs.SizeColumns.{no_sizes, sizes_at}
 use Rattle.lay_context.specs.ContainingBlocks.{block_around}
 use Rattle.lay_context_boxes.specs.ContextBoxes.{is_inner}
 
--- Which rule gives the context's own box its width, where these are its preferred widths: an inline-block shrinks to fit
--- (10.3.9), and so does what floats (10.3.5), and a block in flow fills its containing block (10.3.3).
+-- Which rule gives the context's own box its width, where these are its preferred widths. In flow an inline-block shrinks to fit
+-- (10.3.9), and a block fills its containing block (10.3.3). A replaced element has the width of the rules for these, which is
+-- block-level or inline-level (10.3.4 and 10.3.2).
 abbrev pub rule_in_flow : PreferredWidths → BoxKind → WidthRule
 rule_in_flow w kind.InlineBlock = ShrinksToFit w.minimum w.preferred
+rule_in_flow w (kind.Replaced width height true) = Replaced (record { width = width; height = height })
+rule_in_flow w (kind.Replaced width height false) = ReplacedBlock (record { width = width; height = height })
 rule_in_flow w _ = Fills
 
+-- what floats shrinks to fit (10.3.5), but for a replaced element (10.3.6)
+abbrev pub floating_rule : PreferredWidths → BoxKind → WidthRule
+floating_rule w (kind.Replaced width height inline) = Replaced (record { width = width; height = height })
+floating_rule w _ = ShrinksToFit w.minimum w.preferred
+
 abbrev pub own_rule : PreferredWidths → Flow → BoxKind → WidthRule
-own_rule w Floating kind = ShrinksToFit w.minimum w.preferred
+own_rule w Floating kind = floating_rule w kind
 own_rule w _ kind = rule_in_flow w kind
 
 abbrev pub own_rule_of : PreferredWidths → Option BoxNode → WidthRule

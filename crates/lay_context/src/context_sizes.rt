@@ -5,7 +5,7 @@ ghost use Rattle.lay_units.specs.Units.{IsPosition};
 ghost use Rattle.lay_sizes.specs.SizeBounds.{SizeFits};
 ghost use Rattle.lay_context_boxes.specs.ContextBoxes.{is_inner};
 ghost use Rattle.lay_sizes.specs.SizeColumns.{HaveSizeBounds, no_sizes};
-ghost use Rattle.lay_context.specs.ContextSizes.{HasSizes, IsBoxSized, containing_block, own_rule, own_rule_of, width_rule};
+ghost use Rattle.lay_context.specs.ContextSizes.{HasSizes, IsBoxSized, containing_block, floating_rule, own_rule, own_rule_of, rule_in_flow, width_rule};
 
 use crate::containing::block_around;
 use crate::input::SizeInput;
@@ -13,8 +13,8 @@ use lay_boxgen::{BoxKind, Flow};
 use lay_context_boxes::ContextBoxes;
 use lay_measure::PreferredWidths;
 use lay_placement::ContextSizes;
-use lay_sizes::{BoxSizes, ContainingBlock, NO_SIZES, WidthRule, box_sizes};
-use lay_units::NoMemory;
+use lay_sizes::{BoxSizes, ContainingBlock, NO_SIZES, NaturalSize, WidthRule, box_sizes};
+use lay_units::{NoMemory, Unit};
 use std::alloc::Global;
 
 /// The used sizes of the boxes of a context.
@@ -118,11 +118,47 @@ fn own_rule_of(widths: PreferredWidths, boxes: &ContextBoxes) -> WidthRule
 fn own_rule(widths: PreferredWidths, flow: Flow, kind: &BoxKind) -> WidthRule
     ensures { result ≡ own_rule widths flow kind.now }
 {
-    match (flow, kind) {
-        (Flow::Floating, _) | (_, BoxKind::InlineBlock) => WidthRule::ShrinksToFit {
-            preferred_minimum: widths.minimum,
-            preferred: widths.preferred,
-        },
+    match flow {
+        Flow::Floating => floating_rule(widths, kind),
+        Flow::InFlow | Flow::Absolute => rule_in_flow(widths, kind),
+    }
+}
+
+fn rule_in_flow(widths: PreferredWidths, kind: &BoxKind) -> WidthRule
+    ensures { result ≡ rule_in_flow widths kind.now }
+{
+    match kind {
+        BoxKind::InlineBlock => shrinks_to_fit(widths),
+        BoxKind::Replaced { w, h, inline: true } => WidthRule::Replaced(natural_size(*w, *h)),
+        BoxKind::Replaced {
+            w,
+            h,
+            inline: false,
+        } => { WidthRule::ReplacedBlock(natural_size(*w, *h)) }
         _ => WidthRule::Fills,
     }
+}
+
+fn floating_rule(widths: PreferredWidths, kind: &BoxKind) -> WidthRule
+    ensures { result ≡ floating_rule widths kind.now }
+{
+    match kind {
+        BoxKind::Replaced { w, h, .. } => WidthRule::Replaced(natural_size(*w, *h)),
+        _ => shrinks_to_fit(widths),
+    }
+}
+
+fn shrinks_to_fit(widths: PreferredWidths) -> WidthRule
+    ensures { result ≡ WidthRule.ShrinksToFit widths.minimum widths.preferred }
+{
+    WidthRule::ShrinksToFit {
+        preferred_minimum: widths.minimum,
+        preferred: widths.preferred,
+    }
+}
+
+fn natural_size(width: Unit, height: Unit) -> NaturalSize
+    ensures { result ≡ record { width = width; height = height } }
+{
+    NaturalSize { width, height }
 }

@@ -1,10 +1,7 @@
 //! The laws of the definitions: a task has one value and needs what the table says, so that a document has one
 //! layout.
 
-ghost use Rattle.lay_context_boxes.specs.Containing.{ContainersAreNearest};
-ghost use Rattle.lay_contexts.specs.Laws.{EnoughTurns, SpotsAreContexts};
 ghost use Rattle.lay_context.specs.Laws.{InputsComeOfNeeds, NeedsComeFirst, OneContextSizes, OneContextWidths, OneSolution};
-ghost use Rattle.lay_placement.specs.Laws.{OnePlacement};
 
 /// The preferred widths of a context are the only ones beside those of the contexts inside it.
 pub fn one_context_widths()

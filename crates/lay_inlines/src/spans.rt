@@ -1,4 +1,5 @@
-//! From where to where boxes and texts reach on a line, and how far they are raised. They are found from the line's end to its start.
+//! From where to where boxes and texts reach on a line, and how far they are raised. They are found from the line's end
+//! to its start.
 
 ghost use Rattle.std.specs.Prelude.{◌≡◌, ◌||◌, ◌&&◌, ◌++◌, ◌∷◌, [], All, drop, reverse, OnOk};
 ghost use Rattle.lay_inlines.specs.Bounds.{IsPlace, AreaWithin, RaiseWithin, StrokeWithin, SpanWithin};
