@@ -1,12 +1,11 @@
 -- Two workings that meet the equations of a document are equal, task by task in their order, and so are their trees.
-use Rattle.std.proofs.Common.{◌≡◌, ℕ, zero, suc, ◌+◌, ◌<◌, ◌≤◌, List, [], ◌∷◌, length, refl, sym, ap, subst, ◌∙◌, arith, slice_get, inl, inr}
+use Rattle.std.proofs.Common.{◌≡◌, ℕ, zero, suc, ◌<◌, ◌≤◌, List, [], ◌∷◌, length, refl, sym, ap, subst, ◌∙◌, arith, slice_get, inl, inr}
 use Rattle.std.proofs.lemmas.Bool.{cases_lt}
 use Rattle.lay_doc.specs.Document.{parents_of}
 use Rattle.lay_doc.specs.ComputedStyle.{declarations_of}
 use Rattle.lay_doc.proofs.OneStyles.{one_style_column_lem, same_list}
 use Rattle.lay_boxgen.proofs.NodeColumns.{length-parents}
 use Rattle.lay_frag.specs.Pieces.{Context as PageContext}
-use Rattle.lay_measure.specs.MeasureInValue.{no_widths}
 use Rattle.lay_measure.specs.declared.preferred_widths.PreferredWidths.{PreferredWidths}
 use Rattle.lay_sizes.specs.declared.sizing.BoxSizes.{BoxSizes}
 use Rattle.lay_context.specs.declared.task.Phase.{Phase}
@@ -29,7 +28,7 @@ use Rattle.lay_context.proofs.OneCorners.{one_corner_column}
 use Rattle.lay_placement.proofs.OnePlaces.{one_placement_lem}
 use Rattle.lay_context.proofs.OneSizes.{one_context_sizes_lem}
 use Rattle.lay_context.proofs.OneWidths.{one_context_widths_lem}
-use Rattle.lay_context.proofs.TaskInputs.{inputs_come_of_needs_lem, place_value, size_value, width_value}
+use Rattle.lay_context.proofs.TaskInputs.{inputs_come_of_needs_lem, place_value, size_value}
 use Rattle.lay_context.proofs.TaskOrder.{had_turn, needs_come_first_lem, task_within}
 
 same_members : {X : Type 0} (xs ys : List X) → length xs ≡ length ys → ((k : ℕ) → k < length xs → slice_get xs k ≡ slice_get ys k) → xs ≡ ys

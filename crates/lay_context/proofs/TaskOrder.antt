@@ -5,7 +5,7 @@ use Rattle.lay_context.specs.declared.task.Phase.{Phase}
 use Rattle.lay_context.specs.declared.task.Phase.TheVariants.{Measure, Size, Place}
 use Rattle.lay_context.specs.declared.task.Task.{Task}
 use Rattle.lay_contexts.specs.Contexts.{Context, AreContexts}
-use Rattle.lay_context.specs.Needs.{Needs, needs_by, task_at, turns_of}
+use Rattle.lay_context.specs.Needs.{needs_by, task_at, turns_of}
 use Rattle.lay_context.specs.Laws.{HadTurn, NeedsComeFirst}
 
 below : (a b : ℕ) → a < b → nat_lt a b ≡ true

@@ -1,7 +1,6 @@
 -- A task has one value beside what it is given, and is given something by the tasks alone that it needs, of which each has its
 -- turn before it. So a document has one layout.
-use Rattle.std.specs.Prelude.{ℕ, ◌≡◌, ◌+◌, ◌<◌, List, length}
-use Rattle.lay_doc.specs.declared.style.Style.{Style}
+use Rattle.std.specs.Prelude.{ℕ, ◌≡◌, ◌<◌, List, length}
 use Rattle.lay_doc.specs.Document.{Document, IsDocument}
 use Rattle.lay_frag.specs.Pieces.{Context as PageContext}
 use Rattle.lay_boxgen.specs.declared.box_tree.BoxNode.{BoxNode}
@@ -9,14 +8,12 @@ use Rattle.lay_face.specs.FaceValue.{FaceValue}
 use Rattle.lay_measure.specs.declared.preferred_widths.PreferredWidths.{PreferredWidths}
 use Rattle.lay_sizes.specs.declared.sizing.BoxSizes.{BoxSizes}
 use Rattle.lay_sizes.specs.declared.sizing.ContainingBlock.{ContainingBlock}
-use Rattle.lay_sizes.specs.declared.own_boxes.OwnBox.{OwnBox}
 use Rattle.lay_context.specs.declared.task.Task.{Task}
 use Rattle.lay_context_boxes.specs.ContextBoxes.{AreContextBoxes}
 use Rattle.lay_contexts.specs.Contexts.{Context, AreContexts}
 use Rattle.lay_context.specs.Medium.{Medium}
 use Rattle.lay_context.specs.ContextWidths.{HasWidths}
 use Rattle.lay_context.specs.ContextSizes.{HasSizes}
-use Rattle.lay_placement.specs.ContextPlaces.{Placement, IsPlacement}
 use Rattle.lay_context.specs.Needs.{Needs, task_at, turns_of}
 use Rattle.lay_context.specs.Local.{Workings, input_of, value_of}
 use Rattle.lay_context.specs.Solves.{Solves}

@@ -1,11 +1,11 @@
 -- The corners of boxes, with more and more pieces on lines.
-use Rattle.std.proofs.Common.{◌≡◌, ◌≢◌, ℕ, ◌<◌, ◌==◌, ◌&&◌, nat_lt, Bool, true, false, cond, List, [], ◌∷◌, ◌++◌, length, reverse, slice_set, Option, Some, None, refl, sym, ap, ◌∙◌, arith, inl, inr}
+use Rattle.std.proofs.Common.{◌≡◌, ◌≢◌, ℕ, ◌<◌, ◌==◌, ◌&&◌, nat_lt, Bool, true, false, cond, List, [], ◌∷◌, ◌++◌, length, reverse, take, ◌+◌, slice_index_or, slice_set, Option, Some, None, refl, sym, ap, ◌∙◌, arith, inl, inr}
 use Rattle.std.specs.List.{find}
 use Rattle.std.specs.Option.{option_map, option_or, unwrap_or}
 use Rattle.std.proofs.lemmas.Bool.{cases_eq, eq-eqb, ne_eqb}
 use Rattle.std.proofs.lemmas.Bool.Decides.{nat_tests}
 use Rattle.std.proofs.lemmas.Grind.{elements}
-use Rattle.std.proofs.lemmas.List.{reverse-append}
+use Rattle.std.proofs.lemmas.List.{reverse-append, take_more}
 use Rattle.std.proofs.lemmas.List.Folds.{find-append}
 use Rattle.lay_inlines.specs.declared.line_piece.LinePiece.{LinePiece}
 use Rattle.lay_placement.specs.declared.corner.Corner.{Corner}
@@ -27,6 +27,11 @@ among_more xs ys k c = ap (λ (p : Option LinePiece). unwrap_or (option_map corn
 -- one piece more
 pub with_piece : (pieces : List LinePiece) (p : LinePiece) (k : ℕ) (c here next : Corner) → here ≡ corner_among pieces k c → next ≡ corner_among (p ∷ []) k here → next ≡ corner_among (pieces ++ p ∷ []) k c
 with_piece pieces p k c here next so_far is = is ∙ ap (corner_among (p ∷ []) k) so_far ∙ sym (among_more pieces (p ∷ []) k c)
+
+pub at_piece : (pieces : List LinePiece) (i : ℕ) (d : LinePiece) (k : ℕ) (c here next : Corner) → i < length pieces → here ≡ corner_among (take i pieces) k c → next ≡ corner_among (slice_index_or pieces i d ∷ []) k here
+    → next ≡ corner_among (take (i + 1) pieces) k c
+at_piece pieces i d k c here next lt so_far is =
+    with_piece (take i pieces) (slice_index_or pieces i d) k c here next so_far is ∙ ap (λ (ps : List LinePiece). corner_among ps k c) (sym (take_more pieces i d lt))
 
 other_piece : (p : LinePiece) (k : ℕ) (c : Corner) → is_atomic_of k p ≡ false → c ≡ corner_among (p ∷ []) k c
 other_piece p k c is = sym (ap (λ b. unwrap_or (option_map corner_of_piece (cond b (Some p) None)) c) is)

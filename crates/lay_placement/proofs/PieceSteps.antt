@@ -1,5 +1,9 @@
 -- A list of pieces that grows, piece by piece and box by box.
-use Rattle.std.proofs.Common.{◌≡◌, ℕ, ◌+◌, ◌<◌, List, [], ◌∷◌, ◌++◌, length, map, take, refl, sym, ap, ◌∙◌, arith, inl, inr, Some, slice_get, length-append, add-one}
+use Rattle.std.proofs.Common.{◌≡◌, ℕ, ◌+◌, ◌<◌, List, [], ◌∷◌, ◌++◌, length, map, take, refl, sym, ap, ◌∙◌, arith, inl, inr, Some, slice_get, slice_index_or, length-append, add-one, Result, Ok, Err, IfOk}
+use Rattle.std.specs.List.{cons_option, filter_map}
+use Rattle.std.proofs.lemmas.List.Elements.{filter_map-append}
+use Rattle.lay_boxgen.specs.declared.box_tree.BoxNode.{BoxNode}
+use Rattle.lay_inlines.specs.declared.line_piece.LinePiece.{LinePiece}
 use Rattle.std.proofs.lemmas.Bool.{cases_lt}
 use Rattle.std.proofs.lemmas.Grind.{elements}
 use Rattle.std.proofs.lemmas.List.{map-append, take_more}
@@ -7,7 +11,7 @@ use Rattle.lay_frag.specs.declared.frag.Frag.{Frag}
 use Rattle.lay_flow.specs.declared.flow_box.FlowBox.{FlowBox}
 use Rattle.lay_flow.specs.FlowPlaces.{FlowPlacesValue}
 use Rattle.lay_content.specs.BoxMeasuresValue.{BoxMeasuresValue}
-use Rattle.lay_placement.specs.ContextPieces.{pieces_of_box, pieces_to}
+use Rattle.lay_placement.specs.ContextPieces.{piece_on_line, pieces_of_box, pieces_to}
 use Rattle.lay_placement.specs.PieceParts.{numbered, with_pieces}
 use Rattle.lay_placement.specs.PlaceBounds.{AreNearPieces, IsRectNear}
 
@@ -42,6 +46,20 @@ with_all before (x ∷ xs) gs = with_all (before ++ numbered before x ∷ []) xs
 
 pub more_pieces : (before fs gs : List Frag) (pieces more : List Frag) → pieces ≡ with_pieces before fs → more ≡ with_pieces pieces gs → more ≡ with_pieces before (fs ++ gs)
 more_pieces before fs gs pieces more so_far is = is ∙ ap (λ (ps : List Frag). with_pieces ps gs) so_far ∙ sym (with_all before fs gs)
+
+-- those of one piece on lines more
+pub at_line_piece : (boxes : List BoxNode) (before : List Frag) (on_lines : List LinePiece) (k : ℕ) (d : LinePiece) (pieces more : List Frag) → k < length on_lines
+    → pieces ≡ with_pieces before (filter_map (piece_on_line boxes) (take k on_lines)) → more ≡ with_pieces pieces (cons_option (piece_on_line boxes (slice_index_or on_lines k d)) [])
+    → more ≡ with_pieces before (filter_map (piece_on_line boxes) (take (k + 1) on_lines))
+at_line_piece boxes before on_lines k d pieces more lt so_far is =
+    let x : LinePiece = slice_index_or on_lines k d in
+    let step : filter_map (piece_on_line boxes) (take (k + 1) on_lines) ≡ filter_map (piece_on_line boxes) (take k on_lines) ++ cons_option (piece_on_line boxes x) [] =
+    ap (filter_map (piece_on_line boxes)) (take_more on_lines k d lt) ∙ filter_map-append (piece_on_line boxes) (take k on_lines) (x ∷ []) in
+    more_pieces before (filter_map (piece_on_line boxes) (take k on_lines)) (cons_option (piece_on_line boxes x) []) pieces more so_far is ∙ ap (with_pieces before) (sym step)
+
+pub near_if_ok : {E : Type 0} (fs : List Frag) (f : Frag) (r : Result (List Frag) E) → AreNearPieces fs → IsRectNear f.rect → IfOk r (λ gs. gs ≡ fs ++ numbered fs f ∷ []) → IfOk r AreNearPieces
+near_if_ok fs f (Ok gs) near own is = one_more_near fs gs f is near own
+near_if_ok fs f (Err e) near own is = tt
 
 -- the pieces of the first boxes with those of the next one
 pub one_more_box : (m : BoxMeasuresValue) (flow_boxes : List FlowBox) (places : FlowPlacesValue) (n : ℕ) (pieces more : List Frag) → pieces ≡ pieces_to m flow_boxes places n

@@ -106,7 +106,7 @@ abbrev pub pieces_of_box : BoxMeasuresValue → List FlowBox → FlowPlacesValue
 pieces_of_box m flow_boxes places k =
     if is_inner m.boxes k || is_inline_level (role_at m.boxes k) then []
     else piece_of_box m.boxes m.sizes places k
-        ∷ filter_map (piece_on_line m.boxes) (pieces_on_lines m places k (box_at flow_boxes k).kind)
+    ∷ filter_map (piece_on_line m.boxes) (pieces_on_lines m places k (box_at flow_boxes k).kind)
 
 -- the pieces of the first n boxes, each with its part
 abbrev pub pieces_to : BoxMeasuresValue → List FlowBox → FlowPlacesValue → ℕ → List Frag

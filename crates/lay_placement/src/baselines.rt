@@ -20,10 +20,7 @@ const FARTHEST: i64 = 576460752303423488;
 /// The baseline of a context's own box as an inline-block, downward from the top of its border box, in 1/64 px: that of
 /// its last line in flow. None where no line is seen, or its `overflow` isn't `visible`. NoMemory is also the answer where
 /// it is more than 2^59 units away, which it is in no document within the limits.
-pub(crate) fn own_baseline(
-    input: &PlaceInput,
-    places: &BoxPlaces,
-) -> Result<Option<Unit>, NoMemory>
+pub(crate) fn own_baseline(input: &PlaceInput, places: &BoxPlaces) -> Result<Option<Unit>, NoMemory>
     ensures value { IfOk result (λ b. b ≡ own_baseline input.now.boxes places.now.places) }
     ensures near { IfOk result (λ b. IfSome b (λ u. IsBaseline u.0)) }
 {

@@ -86,11 +86,7 @@ fn with_lines(
 }
 
 /// These pieces, and behind them this one, where it is one of this context.
-fn with_piece(
-    pieces: PieceList,
-    boxes: &[BoxNode],
-    piece: LinePiece,
-) -> Result<PieceList, NoMemory>
+fn with_piece(pieces: PieceList, boxes: &[BoxNode], piece: LinePiece) -> Result<PieceList, NoMemory>
     requires near { AreNearPieces pieces }
     ensures pieces { IfOk result (λ p. p ≡ with_pieces pieces (cons_option (piece_on_line boxes.now piece) [])) }
     ensures near { IfOk result AreNearPieces }

@@ -1,4 +1,3 @@
-use Rattle.std.proofs.Common.{arith}
 use Rattle.lay_context.proofs.TreeSteps.{one_more, tree_in_range}
 use Rattle.lay_context.proofs.assembling.tree_of.Goals as goal
 

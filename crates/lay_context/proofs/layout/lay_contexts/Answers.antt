@@ -1,4 +1,4 @@
-use Rattle.std.proofs.Common.{◌≡◌, ◌+◌, arith, length}
+use Rattle.std.proofs.Common.{◌≡◌, arith, length}
 use Rattle.lay_context.specs.Needs.{turns_of}
 use Rattle.lay_context.specs.Settling.{AreDoneTo}
 use Rattle.lay_context.proofs.TaskSteps.{one_more, known, ready, solved}

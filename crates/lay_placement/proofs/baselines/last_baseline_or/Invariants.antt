@@ -6,6 +6,6 @@ use Rattle.lay_placement.proofs.baselines.last_baseline_or.Given as goal
 
 abbrev pub invariant-loop-k : goal.invariant-loop-k
 invariant-loop-k l = record {
-  value : l.last ≡ option_or (last_baseline (take l.k l.rows)) l.before;
+  value : l.last ≡ option_or (last_baseline (take l.k l.rows)) l.fn.before;
   near : IfSome l.last (λ b. IsBaseline b.0);
 }

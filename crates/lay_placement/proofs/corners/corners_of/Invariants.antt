@@ -1,4 +1,4 @@
-use Rattle.std.proofs.Common.{◌≡◌, ◌<◌, ℕ, length}
+use Rattle.std.proofs.Common.{◌≡◌, ◌<◌, ◌≤◌, ℕ, length}
 use Rattle.lay_placement.specs.AtomicCorners.{corner_among}
 use Rattle.lay_placement.specs.ContextPieces.{on_lines_to}
 use Rattle.lay_placement.specs.ContextPlaces.{corner_at, corner_in_flow}
@@ -12,4 +12,5 @@ invariant-loop-k l = record {
   each : (j : ℕ) → j < length l.input.boxes → corner_at l.corners.items j
       ≡ corner_among (on_lines_to (measures_in l.input l.places.parts) l.places.flow_boxes l.places.places l.k) j (corner_in_flow l.places.places j);
   near : AreNearCorners l.corners.items;
+  within : l.k ≤ length l.on_lines;
 }
