@@ -79,21 +79,21 @@ pub fn top<R: Threads + Wait + Sync, S: Source, K: Sink, G: Gate + Sync>(
 /// Answers words of this form.
 fn asked<S: Source, K: Sink>(
     alloc: Global,
-    form: Form,
+    wanted: Form,
     source: &mut S,
     sink: &mut K,
     kept: &mut Option<Core>,
 ) -> Status
-    requires range { IsInRange form }
+    requires range { IsInRange wanted }
     requires kept { kept.old ≡ None }
-    ensures ends { Ends (Reports form (S.left source.old)) (Refuses form (S.left source.old)) result
+    ensures ends { Ends (Reports wanted (S.left source.old)) (Refuses wanted (S.left source.old)) result
         (record { taken = K.taken sink.old; faults = K.faults sink.old }) (record { taken = K.taken sink.new; faults = K.faults sink.new }) kept.new }
-    ensures read { result ≡ Status.Ok → AreRead form (S.left source.old) (S.left source.new) }
-    ensures read_fault { result ≡ Status.ReadFault → IsReader form × Rose (S.faults source.old) (S.faults source.new) × (K.taken sink.new ≡ K.taken sink.old) }
+    ensures read { result ≡ Status.Ok → AreRead wanted (S.left source.old) (S.left source.new) }
+    ensures read_fault { result ≡ Status.ReadFault → IsReader wanted × Rose (S.faults source.old) (S.faults source.new) × (K.taken sink.new ≡ K.taken sink.old) }
     ensures never_usage { result ≢ Status.Usage }
-    ensures gen_reads_none { (size seed workers : ℕ) → form ≡ form.Gen size seed workers → (S.left source.new ≡ S.left source.old) × (S.faults source.new ≡ S.faults source.old) }
+    ensures gen_reads_none { (size seed workers : ℕ) → wanted ≡ form.Gen size seed workers → (S.left source.new ≡ S.left source.old) × (S.faults source.new ≡ S.faults source.old) }
 {
-    match form {
+    match wanted {
         Form::Scratch => scratch(alloc, source, sink),
         Form::Run { workers: _ } => run(alloc, source, sink, kept),
         Form::Gen {
