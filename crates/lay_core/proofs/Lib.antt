@@ -1,4 +1,5 @@
 pub mod Kept
 pub mod Shown
 pub mod Trees
+pub mod LastTree
 pub mod One

@@ -1,10 +1,15 @@
--- The state that a call leaves is the only one, but for want of memory.
-use Rattle.std.specs.Prelude.{ℕ, ◌≡◌}
+-- The state that a call leaves is the only one, but for want of memory; and what a core has whose last version is published.
+use Rattle.std.specs.Prelude.{ℕ, ◌≡◌, List, Some}
 use Rattle.lay_doc.specs.declared.edit.Edit.{Edit as Change}
 use Rattle.lay_doc.specs.declared.command.Reply.{Reply}
 use Rattle.lay_doc.specs.declared.command.Reply.TheVariants.{NoMemory}
 use Rattle.lay_doc.specs.Document.{IsDocument}
-use Rattle.lay_core.specs.State.{State}
+use Rattle.lay_frag.specs.Pieces.{Context}
+use Rattle.lay_history.specs.Histories.{accepted}
+use Rattle.lay_history.specs.Legal.{IsWhole}
+use Rattle.lay_history.specs.Trees.{tree_at}
+use Rattle.lay_context.specs.Solves.{Solves}
+use Rattle.lay_core.specs.State.{IsCore, IsCounted, State}
 use Rattle.lay_core.specs.Steps.{EditsTo, LatestTo, RefreshesTo, SettlesTo, SyncTo}
 
 -- a layout of the document
@@ -27,3 +32,13 @@ OneLatest = (s t u : State) (editor index : ℕ) (q r : Reply) → IsDocument s.
 abbrev pub OneSync : Type 0
 OneSync = (s t u : State) (editor index : ℕ) (q r : Reply) → IsDocument s.document → (q ≡ NoMemory → ⊥) → (r ≡ NoMemory → ⊥)
     → SyncTo s editor index q t → SyncTo s editor index r u → (q ≡ r) × (t ≡ u)
+
+-- the last version has a tree, which is the layout of the document, and each of whose contexts was counted
+pub record HasLastTree (s : State) : Type 0 where
+  pub tree : List Context
+  pub at : tree_at (accepted s.history) s.trees ≡ Some tree
+  pub solves : Solves s.document s.face tree
+  pub counted : IsCounted s.laid tree
+
+abbrev pub LastTree : Type 0
+LastTree = (s : State) → IsCore s → IsWhole s.history → HasLastTree s

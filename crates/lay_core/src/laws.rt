@@ -1,6 +1,6 @@
 //! The laws of the core: what a call leaves is the only state that it may leave, but for want of memory.
 
-ghost use Rattle.lay_core.specs.Laws.{OneEdit, OneLatest, OneRefreshing, OneSettling, OneSync};
+ghost use Rattle.lay_core.specs.Laws.{LastTree, OneEdit, OneLatest, OneRefreshing, OneSettling, OneSync};
 
 use lay_context::one_solution;
 
@@ -36,3 +36,8 @@ pub fn one_sync()
 {
     one_refreshing();
 }
+
+/// A core whose last version is published has the tree of its document.
+pub fn last_tree()
+    ensures { LastTree }
+{}

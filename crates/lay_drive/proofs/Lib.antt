@@ -1,3 +1,3 @@
-pub mod Answered
+pub mod Quiet
 pub mod Fronts
-pub mod Turns
+pub mod TurnSteps

@@ -6,7 +6,7 @@
 //! are answered meanwhile is said in `specs/Rounds.antt`.
 #![tactic(auto)]
 
-mod drive;
 mod queue;
+mod turns;
 
-pub use drive::drive;
+pub use turns::drive;

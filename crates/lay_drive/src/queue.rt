@@ -1,6 +1,6 @@
 //! What is left of a script.
 
-ghost use Rattle.std.specs.Prelude.{◌≡◌, ◌++◌, IfOk, option_to_list};
+ghost use Rattle.std.specs.Prelude.{◌≡◌, ◌++◌, [], IfNone, IfOk, option_to_list};
 
 use lay_doc::{Cmd, CmdList};
 use lay_json::ScriptList;
@@ -36,7 +36,8 @@ impl Queue {
 
     /// Takes the first command, if any is left.
     pub(crate) fn next(&mut self) -> Option<Cmd>
-        ensures { self.old ≡ option_to_list result ++ self.new }
+        ensures items { self.old ≡ option_to_list result ++ self.new }
+        ensures last { IfNone result (self.old ≡ []) }
     {
         self.commands.pop_front()
     }

@@ -1,10 +1,9 @@
 -- Calls in turn: one more call, and the scripts determine their order.
-use Rattle.std.proofs.Common.{◌≡◌, ◌<◌, ◌⊎◌, ℕ, ◌+◌, ◌==◌, zero, suc, List, [], ◌∷◌, ◌++◌, length, Bool, true, false, if◌then◌else◌, Some, refl, sym, ap, ◌∙◌, subst, arith, inl, inr, ne_eqb, slice_get, All}
+use Rattle.std.proofs.Common.{◌≡◌, ◌<◌, ℕ, ◌==◌, suc, List, [], ◌∷◌, ◌++◌, Bool, true, false, if◌then◌else◌, Some, refl, sym, ap, ◌∙◌, subst, arith, inl, inr, ne_eqb, slice_get, All}
 use Rattle.std.proofs.lemmas.Bool.{cases_eq}
-use Rattle.lay_doc.specs.declared.command.Cmd.{Cmd}
 use Rattle.lay_history.specs.Calls.{Call, IsEarlier, calls, calls_of}
 use Rattle.lay_history.specs.Laws.{OneOrder}
-use Rattle.lay_history.proofs.Lists.{all_at, get_more, not_none, some_is}
+use Rattle.lay_history.proofs.Lists.{all_at, get_more, not_none}
 use Rattle.lay_history.proofs.Shown.{first_same, own_first, rest_same}
 
 -- each of these calls comes before those behind it
