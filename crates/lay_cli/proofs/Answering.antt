@@ -1,5 +1,5 @@
 -- What bytes spell.
-use Rattle.std.proofs.Common.{◌≡◌, ◌≢◌, ℕ, ◌<◌, List, length, codes, refl, Option, Some, None, IfSome, Bool, Ok, Err, Result, IfOk}
+use Rattle.std.proofs.Common.{◌≡◌, ◌≢◌, ℕ, ◌<◌, List, length, codes, refl, sym, subst, Option, Some, None, IfSome, Bool, Ok, Err, Result, IfOk}
 use Rattle.lay_units.specs.declared.memory.NoMemory.{NoMemory}
 use Rattle.lay_doc.specs.declared.style.Style.{Style}
 use Rattle.lay_doc.specs.Document.{IsDocument, parents_of}
@@ -30,7 +30,7 @@ decides run styles hidden place document are none is = record {
 
 input_known : (bytes : List ℕ) (run : Run) (input : Input) → IsReading bytes (Ok run) → IsRunInput run input → IsInput bytes input
 input_known bytes run (a_run read computed) reading is =
-    let same = is.0 in (rw same (reading, rw same is.1), rw same is.2)
+    subst (λ (r : Run). Spells bytes r × AreStyles r computed) (sym is.0) ((reading, is.1), is.2)
 input_known bytes run (Refusal line) reading is = unbuilt run reading is
 
 -- what a run gives, the bytes give that say it

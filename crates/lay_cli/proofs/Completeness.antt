@@ -24,8 +24,8 @@ not_both bytes line run reading built (unbuilt other read refusal) =
 
 -- words that ask well of these bytes aren't refused
 never_refused : (asked : Form) (bytes line : List ℕ) → IsAskedWell asked bytes → Refuses asked (Some bytes) line → ⊥
-never_refused form.Scratch bytes line well refusal = not_both bytes line well.0 well.1 well.2 refusal
-never_refused (form.Run workers) bytes line well refusal = not_both bytes line well.0 well.1 well.2 refusal
+never_refused form.Scratch bytes line well refusal = not_both bytes line well.0 well.1.0 well.1.1 refusal
+never_refused (form.Run workers) bytes line well refusal = not_both bytes line well.0 well.1.0 well.1.1 refusal
 never_refused (form.Gen size seed workers) bytes line well refusal = refusal
 
 -- bytes that are refused have no report
