@@ -12,7 +12,7 @@ use Rattle.lay_json.specs.Reading.{IsReading, too_long}
 use Rattle.lay_cli.proofs.HiddenSteps.{one_hidden_column}
 use Rattle.lay_cli.specs.declared.run_input.Input.{Input}
 use Rattle.lay_cli.specs.declared.run_input.Input.TheVariants.{Run as a_run, Refusal}
-use Rattle.lay_cli.specs.Answers.{AreStyles, AreHiddenNodes, IsFaultInput, IsInput, IsRefusal, IsRunInput, IsUnbuiltPlace, Spells, unbuilt_place, faulty, unbuilt}
+use Rattle.lay_cli.specs.Answers.{AreStyles, AreHiddenNodes, HasStylesOf, IsFaultInput, IsInput, IsRefusal, IsRunInput, IsUnbuiltPlace, Spells, unbuilt_place, faulty, unbuilt}
 
 -- the computed styles decide which node isn't laid out
 pub decides : (run : Run) (styles : List Style) (hidden : List Bool) (place : Option ℕ) → IsDocument run.doc → AreStyles run styles → AreHiddenNodes run styles hidden → unbuilt_place run styles hidden ≡ place → IsUnbuiltPlace run place
@@ -48,3 +48,17 @@ input_of_fault bytes fault (Err e) reading is = tt
 pub too_many : (left : Option (List ℕ)) (line : List ℕ) → IfSome left (λ all. 16777216 < length all) → line ≡ codes "refused I1\n" → IfSome left (λ bytes. IsInput bytes (Refusal line))
 too_many None line over is = tt
 too_many (Some bytes) line over is = faulty TooLong (λ e. absurd cc) (too_long over refl) is
+
+-- a run has the computed styles of its document
+styles_known : (run : Run) (input : Input) → IsRunInput run input → HasStylesOf input
+styles_known run (a_run read computed) is = subst (λ (r : Run). AreStyles r computed) (sym is.0) is.2
+styles_known run (Refusal line) is = tt
+
+pub styles_of_run : (run : Run) (result : Result Input NoMemory) → IfOk result (IsRunInput run) → IfOk result HasStylesOf
+styles_of_run run (Ok input) is = styles_known run input is
+styles_of_run run (Err e) is = tt
+
+pub styles_of_fault : (fault : InputFault) (result : Result Input NoMemory) → IfOk result (IsFaultInput fault) → IfOk result HasStylesOf
+styles_of_fault fault (Ok (a_run run computed)) is = absurd is
+styles_of_fault fault (Ok (Refusal line)) is = tt
+styles_of_fault fault (Err e) is = tt

@@ -68,6 +68,11 @@ ends_broken R F s t core text ran_out is front rose = record {
   no_memory = λ r. inr (record { text = text; answers = inl (core, is); front = front });
 }
 
+-- a front of a summary was written, and the sink failed
+pub ends_failed : (R : Option State → List ℕ → Type 0) (F : List ℕ → Type 0) (s t : SinkValue) (core : Option State) (text : List ℕ) → R core text → TookFront s.taken t.taken text → Rose s.faults t.faults
+    → Ends R F WriteFault s t None
+ends_failed R F s t core text is front rose = ends_broken R F s t core text write_failed is front (λ e. rose)
+
 -- the line of a refusal was told
 pub ends_refused : (R : Option State → List ℕ → Type 0) (F : List ℕ → Type 0) (s t : SinkValue) (line : List ℕ) (status : Status) → F line
     → (status ≢ WriteFault → (status ≡ Refused) × Took s.taken t.taken line) → (status ≡ WriteFault → Rose s.faults t.faults) → (status ≡ WriteFault → TookFront s.taken t.taken line)

@@ -145,6 +145,11 @@ abbrev pub IsInput : List ℕ → Input → Type 0
 IsInput bytes (a_run run computed) = Spells bytes run × AreStyles run computed
 IsInput bytes (a_refusal line) = IsRefusal bytes line
 
+-- a run with the computed styles of its document, where one was read
+abbrev pub HasStylesOf : Input → Type 0
+HasStylesOf (a_run run computed) = AreStyles run computed
+HasStylesOf (a_refusal line) = Unit {0}
+
 abbrev pub IsRunInput : Run → Input → Type 0
 IsRunInput run (a_run read computed) = (read ≡ run) × IsBuilt run × AreStyles run computed
 IsRunInput run (a_refusal line) = IsRunRefusal run line

@@ -15,7 +15,7 @@ use lay_core::Core;
 use lay_drive::drive;
 use lay_generator::{generated_run, run_summary};
 use lay_json::RunDoc;
-use lay_outside::{Sink, Source};
+use lay_outside::{Sink, Source, write_all};
 use lay_report::write_run;
 use lay_units::{NoMemory, Text};
 use std::alloc::Global;
@@ -80,13 +80,13 @@ pub(crate) fn generate<K: Sink>(
     ensures never_read_fault { result ≢ Status.ReadFault }
 {
     match summarized(alloc, size, seed) {
-        Ok((core, text)) => {
-            let status = told(sink, text.as_str(), Status::Ok);
-            if status == Status::Ok {
+        Ok((core, text)) => match write_all(sink, text.as_str().as_bytes()) {
+            Ok(()) => {
                 *kept = Some(core);
+                Status::Ok
             }
-            status
-        }
+            Err(_) => Status::WriteFault,
+        },
         Err(_) => Status::NoMemory,
     }
 }

@@ -2,7 +2,7 @@
 
 ghost use Rattle.std.specs.Prelude.{◌≡◌, IfOk, IfErr, IfSome, Option};
 ghost use Rattle.lay_outside.specs.Outside.{Rose};
-ghost use Rattle.lay_cli.specs.Answers.{AreStyles, IsFaultInput, IsInput, IsRun, IsRunInput, IsUnbuiltPlace};
+ghost use Rattle.lay_cli.specs.Answers.{AreStyles, HasStylesOf, IsFaultInput, IsInput, IsRun, IsRunInput, IsUnbuiltPlace};
 ghost use Rattle.lay_cli.specs.Input.{IsDrained};
 
 use crate::built::first_unbuilt;
@@ -47,6 +47,7 @@ impl From<NoMemory> for Lack {
 /// What the bytes that a source has left spell.
 pub(crate) fn run_input<S: Source>(alloc: Global, source: &mut S) -> Result<Input, Lack>
     ensures input { IfOk result (λ input. IfSome (S.left source.old) (λ bytes. IsInput bytes input)) }
+    ensures styles { IfOk result HasStylesOf }
     ensures drained { IfOk result (λ input. IsRun input → IsDrained (S.left source.old) (S.left source.new)) }
     ensures failed { IfErr result (λ e. e ≡ Lack.Failed → Rose (S.faults source.old) (S.faults source.new)) }
 {
@@ -60,7 +61,8 @@ pub(crate) fn run_input<S: Source>(alloc: Global, source: &mut S) -> Result<Inpu
 
 /// What these bytes spell.
 fn input_in(alloc: Global, bytes: &[u8]) -> Result<Input, NoMemory>
-    ensures { IfOk result (IsInput bytes.now) }
+    ensures input { IfOk result (IsInput bytes.now) }
+    ensures styles { IfOk result HasStylesOf }
 {
     match read_run(alloc, bytes) {
         Ok(run) => input_of(alloc, run),

@@ -1,0 +1,15 @@
+use Rattle.lay_cli.specs.Answers.{IsInput}
+use Rattle.lay_cli.proofs.Answering.{too_many}
+use Rattle.lay_cli.proofs.Streams.{all_gives}
+use Rattle.lay_cli.proofs.run_input.run_input.Goals as goal
+
+pub returns-in_ok-fault_line-in-Err-TooLong-clause-input :
+    goal.returns-in_ok-fault_line-in-Err-TooLong-clause-input
+returns-in_ok-fault_line-in-Err-TooLong-clause-input g c =
+    let over = rw c.in-Err-TooLong.field-0-is at (c.in-Err-TooLong.ensures {u = tt}).cause in
+    too_many (g.S.Source.left c.args.source.now) c.in_ok-fault_line-in-Err-TooLong.field-0 over (c.in_ok-fault_line-in-Err-TooLong.ensures {u = tt})
+
+pub returns-in_ok-input_in-in-Ok-clause-input : goal.returns-in_ok-input_in-in-Ok-clause-input
+returns-in_ok-input_in-in-Ok-clause-input g c =
+    let is = rw c.deref.ensures.value at (c.in_ok-input_in-in-Ok.ensures {u = tt}).input in
+    all_gives (g.S.Source.left c.args.source.now) c.in-Ok.bytes.items (λ bytes. IsInput bytes c.in_ok-input_in-in-Ok.field-0) (c.in-Ok.ensures {u = tt}).all is
