@@ -5,11 +5,10 @@ usage: atomic_documents.py COUNT SEED      prints the documents 0 .. COUNT - 1 o
 
 They are those of `text_documents` with such boxes among them and in each other.
 """
-import json
 import random
-import sys
 from collections import namedtuple
 
+from documents import print_documents
 from styles import SIDES
 from text_documents import PROFILES, Profile, TextDocument
 
@@ -182,11 +181,5 @@ def atomic_document(seed, number):
     return AtomicDocument(random.Random('atomic boxes %d/%d' % (seed, number))).draw()
 
 
-def main():
-    count, seed = int(sys.argv[1]), int(sys.argv[2])
-    for number in range(count):
-        print(json.dumps(atomic_document(seed, number)))
-
-
 if __name__ == '__main__':
-    main()
+    print_documents(atomic_document)

@@ -318,11 +318,12 @@ def document(seed, number):
     return {'viewport': list(rng.choice(VIEWPORTS)), 'nodes': nodes}
 
 
-def main():
+def print_documents(draw):
+    """Prints the documents 0 .. COUNT - 1 of a seed, one a line, as the command line asks."""
     count, seed = int(sys.argv[1]), int(sys.argv[2])
     for number in range(count):
-        print(json.dumps(document(seed, number)))
+        print(json.dumps(draw(seed, number)))
 
 
 if __name__ == '__main__':
-    main()
+    print_documents(document)

@@ -5,13 +5,11 @@ usage: run_documents.py COUNT SEED      prints the documents 0 .. COUNT - 1 of a
 
 Several editors change the same few nodes, so that whether an edit has a fault depends on the order of the history.
 """
-import json
 import random
-import sys
 
 from atomic_documents import atomic_document
 from blocks import context_count, report
-from documents import document
+from documents import document, print_documents
 from edits import Document
 from text_documents import text_document
 
@@ -141,11 +139,5 @@ def possible_report(run, rng):
     return '\n'.join(lines) + '\n'
 
 
-def main():
-    count, seed = int(sys.argv[1]), int(sys.argv[2])
-    for number in range(count):
-        print(json.dumps(run_document(seed, number)))
-
-
 if __name__ == '__main__':
-    main()
+    print_documents(run_document)

@@ -6,11 +6,10 @@ usage: text_documents.py COUNT SEED      prints the documents 0 .. COUNT - 1 of 
 They are small, and most values are from short lists that are near the widths of a few characters, so that what just
 fits and what just doesn't are common. Each is a document that `blocks` lays out.
 """
-import json
 import random
-import sys
 from collections import namedtuple
 
+from documents import print_documents
 from styles import SIDES
 
 # How often something is drawn, in hundredths: children of a kind, and declarations.
@@ -263,11 +262,5 @@ def text_document(seed, number):
     return TextDocument(random.Random('texts %d/%d' % (seed, number))).draw()
 
 
-def main():
-    count, seed = int(sys.argv[1]), int(sys.argv[2])
-    for number in range(count):
-        print(json.dumps(text_document(seed, number)))
-
-
 if __name__ == '__main__':
-    main()
+    print_documents(text_document)
