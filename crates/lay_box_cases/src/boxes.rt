@@ -8,8 +8,9 @@ use crate::cells::ample;
 use crate::documents::document;
 use anyhow::{Result, bail};
 use lay_boxgen::{BoxKind, BoxNode, BoxTree, boxes, is_context};
-use lay_doc::{Computed, Display, Doc, LengthPercentageOrAuto, NodeId, Style};
+use lay_doc::{Doc, NodeId};
 use lay_inherit::computed;
+use lay_style::{Computed, Display, LengthPercentageOrAuto, Style};
 use lay_units::Unit;
 use std::alloc::Global;
 

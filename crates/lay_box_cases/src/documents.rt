@@ -10,7 +10,8 @@
 
 use crate::cells::ample;
 use anyhow::{Result, bail};
-use lay_doc::{Decls, Doc, NewNode, NodeId};
+use lay_doc::{Doc, NewNode, NodeId};
+use lay_style::Decls;
 use lay_units::{Text, Unit};
 use lay_values::read;
 use std::alloc::Global;

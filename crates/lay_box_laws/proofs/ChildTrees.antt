@@ -2,10 +2,10 @@
 use Rattle.std.proofs.Common.{◌≡◌, inl, inr, ℕ, zero, suc, ◌+◌, ◌-◌, ◌<◌, ◌≤◌, ◌==◌, nat_lt, true, false, List, [], ◌∷◌, length, map, filter, drop, slice_get, slice_index, slice_index_or, refl, ap, sym, ◌∙◌, arith, Option, None, Some}
 use Rattle.std.proofs.lemmas.Bool.{cases_lt, cases_eq}
 use Rattle.std.proofs.lemmas.List.{drop_all}
+use Rattle.lay_style.specs.declared.style.Style.{Style}
+use Rattle.lay_style.specs.ComputedStyle.{style_at}
+use Rattle.lay_style.specs.InitialStyle.{initial_style}
 use Rattle.lay_doc.specs.declared.node.Node.{Node}
-use Rattle.lay_doc.specs.declared.style.Style.{Style}
-use Rattle.lay_doc.specs.ComputedStyle.{style_at}
-use Rattle.lay_doc.specs.InitialStyle.{initial_style}
 use Rattle.lay_doc.specs.Document.{parents_of}
 use Rattle.lay_doc.specs.Tree.{IsTree}
 use Rattle.lay_boxgen.specs.Contexts.{box_at, box_of_node}

@@ -2,8 +2,8 @@
 -- in document order, each as a parent has it. A node without a box has no tree, whatever is below it, for `display: none`
 -- takes its descendants along (9.2.4). So the tree of each node is determined by those of the nodes behind it.
 use Rattle.std.specs.Prelude.{ℕ, zero, suc, ◌≡◌, ◌+◌, ◌-◌, ◌<◌, ◌==◌, List, [], ◌∷◌, length, filter, slice_index}
+use Rattle.lay_style.specs.declared.style.Style.{Style}
 use Rattle.lay_doc.specs.declared.node.Node.{Node}
-use Rattle.lay_doc.specs.declared.style.Style.{Style}
 use Rattle.lay_doc.specs.Document.{Document, IsDocument, parents_of}
 use Rattle.lay_boxgen.specs.Boxes.{Tree}
 use Rattle.lay_boxgen.specs.Contexts.{box_at}

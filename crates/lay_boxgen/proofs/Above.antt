@@ -1,7 +1,7 @@
 -- A node generates a box where its parent does and keeps it.
 use Rattle.std.proofs.Common.{◌≡◌, ◌<◌, ℕ, List, IsTrue, slice_index, arith, subst, sym}
+use Rattle.lay_style.specs.declared.style.Style.{Style}
 use Rattle.lay_doc.specs.declared.node.Node.{Node}
-use Rattle.lay_doc.specs.declared.style.Style.{Style}
 use Rattle.lay_doc.specs.Document.{parents_of}
 use Rattle.lay_boxgen.specs.Contexts.{box_at, has_box, keeps, GeneratesBox, root, below}
 

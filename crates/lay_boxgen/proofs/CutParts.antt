@@ -1,7 +1,7 @@
 -- What is generated of a context's tree with nothing in the boxes of inner contexts is its part.
 use Rattle.std.proofs.Common.{◌≡◌, List, [], ◌∷◌, refl, ap, sym, ◌∙◌, Option, None, Some, option_map, slice_get}
+use Rattle.lay_style.specs.declared.style.Style.{Style}
 use Rattle.lay_doc.specs.declared.node.Node.{Node}
-use Rattle.lay_doc.specs.declared.style.Style.{Style}
 use Rattle.lay_boxgen.specs.Boxes.{Tree, tree, trees_of, facts_of}
 use Rattle.lay_boxgen.specs.CutTrees.{cut_own, generated_cut}
 use Rattle.lay_boxgen.specs.Generation.{generated}

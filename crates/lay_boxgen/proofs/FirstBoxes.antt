@@ -1,8 +1,8 @@
 -- The first box that is generated of a node's tree has its facts, so that a context's own box isn't marked as inner.
 use Rattle.std.proofs.Common.{◌≡◌, Bool, true, false, ◌&&◌, ℕ, List, [], ◌∷◌, ◌++◌, refl, ap, if◌then◌else◌, Option, None, Some}
 use Rattle.std.specs.List.{list_any}
+use Rattle.lay_style.specs.declared.style.Style.{Style}
 use Rattle.lay_doc.specs.declared.node.Node.{Node}
-use Rattle.lay_doc.specs.declared.style.Style.{Style}
 use Rattle.lay_boxgen.specs.Boxes.{Tree, Trees, tree, trees_of, facts_of, all_remade, in_box}
 use Rattle.lay_boxgen.specs.BrokenInlines.{is_block_box, part_over, parts_from, broken}
 use Rattle.lay_boxgen.specs.Forms.{is_inline}

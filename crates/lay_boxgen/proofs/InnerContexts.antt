@@ -1,9 +1,9 @@
 -- The boxes of inner contexts are those of contexts.
 use Rattle.std.proofs.Common.{◌≡◌, ◌<◌, ◌≤◌, ℕ, zero, suc, ◌+◌, ◌==◌, Bool, true, false, ◌&&◌, ◌||◌, not, List, [], ◌∷◌, ◌++◌, refl, ap, sym, subst, ◌∙◌, if◌then◌else◌, Option, None, Some, drop, length, map, slice_index, slice_index_or, slice_get, IsTrue, arith}
+use Rattle.lay_style.specs.declared.style.Style.{Style}
+use Rattle.lay_style.specs.ComputedStyle.{style_at}
+use Rattle.lay_style.specs.InitialStyle.{initial_style}
 use Rattle.lay_doc.specs.declared.node.Node.{Node}
-use Rattle.lay_doc.specs.declared.style.Style.{Style}
-use Rattle.lay_doc.specs.ComputedStyle.{style_at}
-use Rattle.lay_doc.specs.InitialStyle.{initial_style}
 use Rattle.lay_doc.specs.Document.{ids_of, parents_of}
 use Rattle.lay_boxgen.specs.Boxes.{Tree, Trees, tree, no_trees, also, trees_of, all_remade, remade, in_box}
 use Rattle.lay_boxgen.specs.Contexts.{box_at, box_of_node, is_marked, keeps, keeps_form, GeneratesBox, below}

@@ -1,7 +1,8 @@
 -- In the list of a context's boxes those of inner contexts are of contexts.
 use Rattle.std.proofs.Common.{◌≡◌, ◌<◌, ℕ, zero, suc, ◌+◌, ◌==◌, Bool, true, false, All, List, [], ◌∷◌, ◌++◌, refl, ap, sym, subst, ◌∙◌, if◌then◌else◌, Option, None, Some, option_map, length, slice_index, arith}
-use Rattle.lay_doc.specs.declared.style.Style.{Style}
-use Rattle.lay_doc.specs.Document.{Document, IsDocument, ids_of, place_of}
+use Rattle.lay_style.specs.declared.style.Style.{Style}
+use Rattle.lay_style.specs.Places.{place_of}
+use Rattle.lay_doc.specs.Document.{Document, IsDocument, ids_of}
 use Rattle.lay_boxgen.specs.Boxes.{Tree, Trees, tree, no_trees, also, trees_of, facts_of}
 use Rattle.lay_boxgen.specs.Contexts.{IsContextAt, IsContextThere}
 use Rattle.lay_boxgen.specs.InnerBoxes.{AllBoxes, AllIn, AllOf, IsInnerContext, LeadsOn, IsBehind, BoxesLeadOn}

@@ -1,12 +1,12 @@
 -- What the box of a node is and isn't.
 use Rattle.std.proofs.Common.{◌≡◌, ℕ, Bool, true, false, ◌||◌, not, List, [], ◌∷◌, refl, sym, Option, None, Some, option_map, ◌==◌, subst, if◌then◌else◌}
+use Rattle.lay_style.specs.declared.style.Style.{Style}
+use Rattle.lay_style.specs.declared.style_words.Display.{Display}
+use Rattle.lay_style.specs.declared.style_words.Display.TheVariants as display
+use Rattle.lay_style.specs.declared.style_words.Overflow.{Overflow}
 use Rattle.lay_doc.specs.declared.node.Kind.{Kind}
 use Rattle.lay_doc.specs.declared.node.Kind.TheVariants as kind
 use Rattle.lay_doc.specs.declared.node.Node.{Node}
-use Rattle.lay_doc.specs.declared.style.Style.{Style}
-use Rattle.lay_doc.specs.declared.style_words.Display.{Display}
-use Rattle.lay_doc.specs.declared.style_words.Display.TheVariants as display
-use Rattle.lay_doc.specs.declared.style_words.Overflow.{Overflow}
 use Rattle.lay_boxgen.specs.Display.{element_form, as_block, used_display, replaced_display, flow_of}
 use Rattle.lay_boxgen.specs.Forms.{is_anchor, is_white, is_inline, is_in_flow, is_absolute}
 use Rattle.lay_boxgen.specs.NodeBoxes.{form_of, replaced_form, node_flow, facts_with, is_context_form, establishes_context, node_box}

@@ -1,7 +1,7 @@
 -- What stands in the boxes of contexts in the trees of a document's nodes.
 use Rattle.std.proofs.Common.{◌≡◌, ℕ, zero, suc, ◌+◌, ◌==◌, Bool, true, false, List, [], ◌∷◌, refl, ap, subst, ◌∙◌, if◌then◌else◌, Option, None, Some, drop, arith}
+use Rattle.lay_style.specs.declared.style.Style.{Style}
 use Rattle.lay_doc.specs.declared.node.Node.{Node}
-use Rattle.lay_doc.specs.declared.style.Style.{Style}
 use Rattle.lay_boxgen.specs.Boxes.{Tree, Trees, tree, no_trees, also, trees_of}
 use Rattle.lay_boxgen.specs.Forms.{is_absolute, is_anchor, is_inline, is_white}
 use Rattle.lay_boxgen.specs.Laws.{below, alone}

@@ -1,7 +1,7 @@
 -- The parts of all contexts together are the document's boxes.
 use Rattle.std.proofs.Common.{◌≡◌, true, false, List, [], ◌∷◌, refl, ap, sym, ◌∙◌, Option, None, Some}
+use Rattle.lay_style.specs.declared.style.Style.{Style}
 use Rattle.lay_doc.specs.declared.node.Node.{Node}
-use Rattle.lay_doc.specs.declared.style.Style.{Style}
 use Rattle.lay_boxgen.specs.Boxes.{Tree, Trees, tree, no_trees, also, trees_of}
 use Rattle.lay_boxgen.specs.Forms.{is_absolute, is_inline, is_in_flow, is_white}
 use Rattle.lay_boxgen.specs.Generation.{generated}

@@ -2,15 +2,15 @@
 -- enclosing non-anonymous box. Non-inherited properties have their initial value." It is that of a child
 -- for which nothing is declared.
 use Rattle.std.specs.Prelude.{[]}
-use Rattle.lay_doc.specs.ComputedStyle.{computed_style, text_style, table_style}
-use Rattle.lay_doc.specs.InitialStyle.{all_sides, initial_style}
-use Rattle.lay_doc.specs.LengthValues.{px}
-use Rattle.lay_doc.specs.declared.style.Borders.{Borders}
-use Rattle.lay_doc.specs.declared.style.Sizing.{Sizing}
-use Rattle.lay_doc.specs.declared.style.Style.{Style}
-use Rattle.lay_doc.specs.declared.style.TableStyle.{TableStyle}
-use Rattle.lay_doc.specs.declared.style.TextStyle.{TextStyle}
-use Rattle.lay_doc.specs.declared.style_words.BorderStyle.TheVariants as border
+use Rattle.lay_style.specs.ComputedStyle.{computed_style, text_style, table_style}
+use Rattle.lay_style.specs.InitialStyle.{all_sides, initial_style}
+use Rattle.lay_style.specs.LengthValues.{px}
+use Rattle.lay_style.specs.declared.style.Borders.{Borders}
+use Rattle.lay_style.specs.declared.style.Sizing.{Sizing}
+use Rattle.lay_style.specs.declared.style.Style.{Style}
+use Rattle.lay_style.specs.declared.style.TableStyle.{TableStyle}
+use Rattle.lay_style.specs.declared.style.TextStyle.{TextStyle}
+use Rattle.lay_style.specs.declared.style_words.BorderStyle.TheVariants as border
 
 abbrev pub anonymous_style : Style → Style
 anonymous_style s = computed_style s []

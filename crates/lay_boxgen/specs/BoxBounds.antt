@@ -2,7 +2,7 @@
 -- come from the rules one after the other, at most a few for each; and each child of an inline box breaks the inline
 -- boxes round it once at most (9.2.1.1), of which there are no more than the document is deep.
 use Rattle.std.specs.Prelude.{ℕ, ◌+◌, ◌*◌, ◌≤◌, List, length}
-use Rattle.lay_doc.specs.declared.style.Style.{Style}
+use Rattle.lay_style.specs.declared.style.Style.{Style}
 use Rattle.lay_doc.specs.Document.{Document, IsDocument}
 use Rattle.lay_units.specs.Limits.{most_depth, most_nodes}
 use Rattle.lay_boxgen.specs.Listing.{boxes_of}

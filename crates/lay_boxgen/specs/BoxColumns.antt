@@ -2,7 +2,7 @@
 -- of an inner context. The boxes stand in a tree: each parent before its children, and the boxes of each subtree
 -- together. In it the boxes of inner contexts and anchors, which are marked as inner, are leaves.
 use Rattle.std.specs.Prelude.{◌≡◌, ◌<◌, ℕ, Bool, false, List, length, map, slice_index, slice_index_or}
-use Rattle.lay_doc.specs.declared.style.Style.{Style}
+use Rattle.lay_style.specs.declared.style.Style.{Style}
 use Rattle.lay_doc.specs.Tree.{IsTree}
 use Rattle.lay_boxgen.specs.declared.box_tree.BoxNode.{BoxNode}
 

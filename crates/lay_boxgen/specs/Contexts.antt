@@ -1,10 +1,11 @@
 -- Contexts: the elements that establish a new block formatting context (9.4.1), and the replaced elements,
 -- where they generate a box.
 use Rattle.std.specs.Prelude.{ℕ, ◌<◌, Bool, true, false, ◌&&◌, ◌||◌, not, List, slice_get, slice_index, IsTrue, Option, None, Some}
+use Rattle.lay_style.specs.declared.style.Style.{Style}
+use Rattle.lay_style.specs.ComputedStyle.{style_at}
+use Rattle.lay_style.specs.Places.{place_of}
 use Rattle.lay_doc.specs.declared.node.Node.{Node}
-use Rattle.lay_doc.specs.declared.style.Style.{Style}
-use Rattle.lay_doc.specs.ComputedStyle.{style_at}
-use Rattle.lay_doc.specs.Document.{Document, ids_of, parents_of, place_of}
+use Rattle.lay_doc.specs.Document.{Document, ids_of, parents_of}
 use Rattle.lay_boxgen.specs.Forms.{is_column, is_column_group}
 use Rattle.lay_boxgen.specs.NodeBoxes.{node_box}
 use Rattle.lay_boxgen.specs.declared.facts.Facts.{Facts}

@@ -1,7 +1,7 @@
 -- The trees of a context's part from the start: a parent has the boxes of inner contexts and anchors alone.
 use Rattle.std.specs.Prelude.{ℕ, Option, None, Some, List, [], ◌∷◌, if◌then◌else◌, option_map}
+use Rattle.lay_style.specs.declared.style.Style.{Style}
 use Rattle.lay_doc.specs.declared.node.Node.{Node}
-use Rattle.lay_doc.specs.declared.style.Style.{Style}
 use Rattle.lay_boxgen.specs.Boxes.{Tree, tree, no_trees}
 use Rattle.lay_boxgen.specs.Forms.{is_absolute}
 use Rattle.lay_boxgen.specs.Generation.{generated}

@@ -1,14 +1,14 @@
 -- The used value of `display` (9.7, 9.2.4 and 17.2), and the form of box that it gives.
 use Rattle.std.specs.Prelude.{ℕ, Bool, true, false, ◌||◌, not, Option, None, Some, if◌then◌else◌}
+use Rattle.lay_style.specs.declared.style_words.Display.{Display}
+use Rattle.lay_style.specs.declared.style_words.Display.TheVariants as display
+use Rattle.lay_style.specs.declared.style_words.Position.{Position}
+use Rattle.lay_style.specs.declared.style_words.Position.TheVariants as position
+use Rattle.lay_style.specs.declared.style_words.Float.{Float}
+use Rattle.lay_style.specs.declared.style_words.Float.TheVariants as float
+use Rattle.lay_style.specs.declared.style.Style.{Style}
 use Rattle.lay_doc.specs.declared.node.Kind.{Kind}
 use Rattle.lay_doc.specs.declared.node.Kind.TheVariants as kind
-use Rattle.lay_doc.specs.declared.style_words.Display.{Display}
-use Rattle.lay_doc.specs.declared.style_words.Display.TheVariants as display
-use Rattle.lay_doc.specs.declared.style_words.Position.{Position}
-use Rattle.lay_doc.specs.declared.style_words.Position.TheVariants as position
-use Rattle.lay_doc.specs.declared.style_words.Float.{Float}
-use Rattle.lay_doc.specs.declared.style_words.Float.TheVariants as float
-use Rattle.lay_doc.specs.declared.style.Style.{Style}
 use Rattle.lay_boxgen.specs.declared.facts.Flow.{Flow}
 use Rattle.lay_boxgen.specs.declared.facts.Flow.TheVariants.{InFlow, Floating, Absolute}
 use Rattle.lay_boxgen.specs.declared.facts.Form.{Form}

@@ -2,9 +2,10 @@
 -- document. So whoever goes from a context's part to the parts of its inner contexts meets contexts alone,
 -- and comes to an end. What is inside the boxes of inner contexts stands in their own lists alone.
 use Rattle.std.specs.Prelude.{◌≡◌, ◌<◌, ℕ, true, All, Option, Some, List, [], ◌∷◌, length, slice_index}
+use Rattle.lay_style.specs.declared.style.Style.{Style}
+use Rattle.lay_style.specs.Places.{place_of}
 use Rattle.lay_doc.specs.declared.node.Node.{Node}
-use Rattle.lay_doc.specs.declared.style.Style.{Style}
-use Rattle.lay_doc.specs.Document.{Document, IsDocument, ids_of, place_of}
+use Rattle.lay_doc.specs.Document.{Document, IsDocument, ids_of}
 use Rattle.lay_boxgen.specs.Boxes.{Tree, Trees, tree, no_trees, also}
 use Rattle.lay_boxgen.specs.Contexts.{GeneratesBox, IsContextAt, IsContext}
 use Rattle.lay_boxgen.specs.Listing.{boxes_of}

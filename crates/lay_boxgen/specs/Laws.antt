@@ -1,7 +1,7 @@
 -- The parts of all contexts together are the boxes of the whole document.
 use Rattle.std.specs.Prelude.{◌≡◌, ℕ, Bool, true, false, List, [], ◌∷◌, if◌then◌else◌, Option, None, Some}
+use Rattle.lay_style.specs.declared.style.Style.{Style}
 use Rattle.lay_doc.specs.declared.node.Node.{Node}
-use Rattle.lay_doc.specs.declared.style.Style.{Style}
 use Rattle.lay_boxgen.specs.Boxes.{Tree, Trees, tree, no_trees, also, trees_of, all_remade, in_box}
 use Rattle.lay_boxgen.specs.Forms.{is_inline, is_anchor, is_absolute}
 use Rattle.lay_boxgen.specs.Irrelevant.{relevant}

@@ -1,9 +1,10 @@
 -- A part's trees as a list of boxes: each box before its children, with the place of its parent box.
 use Rattle.std.specs.Prelude.{ℕ, ◌+◌, List, [], ◌∷◌, ◌++◌, length, slice_get, if◌then◌else◌, Option, None, Some}
+use Rattle.lay_style.specs.declared.style.Style.{Style}
+use Rattle.lay_style.specs.ComputedStyle.{style_at}
+use Rattle.lay_style.specs.Places.{place_of}
 use Rattle.lay_doc.specs.declared.node.Node.{Node}
-use Rattle.lay_doc.specs.declared.style.Style.{Style}
-use Rattle.lay_doc.specs.ComputedStyle.{style_at}
-use Rattle.lay_doc.specs.Document.{Document, ids_of, place_of}
+use Rattle.lay_doc.specs.Document.{Document, ids_of}
 use Rattle.lay_boxgen.specs.AnonymousStyle.{anonymous_style}
 use Rattle.lay_boxgen.specs.Boxes.{Tree, Trees, tree, no_trees, also, trees_of, facts_of}
 use Rattle.lay_boxgen.specs.Forms.{is_anchor}

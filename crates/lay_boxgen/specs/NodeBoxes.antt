@@ -1,12 +1,12 @@
 -- The box that a node of a document generates by itself (9.2), and which elements are contexts (9.4.1).
 use Rattle.std.specs.Prelude.{ℕ, Bool, true, false, ◌||◌, not, ◌==◌, List, [], ◌∷◌, Option, None, Some, option_map, if◌then◌else◌}
+use Rattle.lay_style.specs.declared.style.Style.{Style}
+use Rattle.lay_style.specs.declared.style_words.Display.{Display}
+use Rattle.lay_style.specs.declared.style_words.Overflow.{Overflow}
+use Rattle.lay_style.specs.declared.style_words.Overflow.TheVariants.{Visible}
 use Rattle.lay_doc.specs.declared.node.Kind.{Kind}
 use Rattle.lay_doc.specs.declared.node.Kind.TheVariants as kind
 use Rattle.lay_doc.specs.declared.node.Node.{Node}
-use Rattle.lay_doc.specs.declared.style.Style.{Style}
-use Rattle.lay_doc.specs.declared.style_words.Display.{Display}
-use Rattle.lay_doc.specs.declared.style_words.Overflow.{Overflow}
-use Rattle.lay_doc.specs.declared.style_words.Overflow.TheVariants.{Visible}
 use Rattle.lay_units.specs.declared.length.Unit.{Unit as Length}
 use Rattle.lay_boxgen.specs.declared.facts.Facts.{Facts}
 use Rattle.lay_boxgen.specs.declared.facts.Flow.{Flow}

@@ -1,7 +1,7 @@
 -- From a document to a tree of boxes, before any rule: each node's box, with the boxes of its children in it.
 use Rattle.std.specs.Prelude.{ℕ, ◌+◌, ◌==◌, true, false, List, [], ◌∷◌, drop, if◌then◌else◌, Option, None, Some}
+use Rattle.lay_style.specs.declared.style.Style.{Style}
 use Rattle.lay_doc.specs.declared.node.Node.{Node}
-use Rattle.lay_doc.specs.declared.style.Style.{Style}
 use Rattle.lay_boxgen.specs.Boxes.{Tree, tree, trees_of, no_trees, also}
 use Rattle.lay_boxgen.specs.Forms.{is_absolute}
 use Rattle.lay_boxgen.specs.NodeBoxes.{node_box}

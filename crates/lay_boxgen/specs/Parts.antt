@@ -4,8 +4,8 @@
 -- theirs, and an anchor has the box of its absolute or fixed element in it. The part of a context is what is
 -- left when nothing is put inside the boxes of inner contexts.
 use Rattle.std.specs.Prelude.{ℕ, Bool, ◌&&◌, not, List, [], ◌∷◌, if◌then◌else◌, Option, None, Some}
+use Rattle.lay_style.specs.declared.style.Style.{Style}
 use Rattle.lay_doc.specs.declared.node.Node.{Node}
-use Rattle.lay_doc.specs.declared.style.Style.{Style}
 use Rattle.lay_boxgen.specs.Boxes.{Tree, Trees, tree, no_trees, also}
 use Rattle.lay_boxgen.specs.Forms.{is_inline}
 use Rattle.lay_boxgen.specs.Generation.{generated}

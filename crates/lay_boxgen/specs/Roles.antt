@@ -6,10 +6,10 @@
 -- An anchor has the style of its parent box, and a wrapper that of the whole table. So whether a box floats is said by
 -- its flow, and `clear` doesn't act on every box that has it.
 use Rattle.std.specs.Prelude.{ℕ, ◌==◌, Bool, true, false, List, map, slice_index_or, if◌then◌else◌}
-use Rattle.lay_doc.specs.declared.style_words.Clear.{Clear}
-use Rattle.lay_doc.specs.declared.style_words.Clear.TheVariants as clear
-use Rattle.lay_doc.specs.declared.style_words.Float.{Float}
-use Rattle.lay_doc.specs.declared.style_words.Float.TheVariants as float
+use Rattle.lay_style.specs.declared.style_words.Clear.{Clear}
+use Rattle.lay_style.specs.declared.style_words.Clear.TheVariants as clear
+use Rattle.lay_style.specs.declared.style_words.Float.{Float}
+use Rattle.lay_style.specs.declared.style_words.Float.TheVariants as float
 use Rattle.lay_boxgen.specs.Kinds.{is_wrapper}
 use Rattle.lay_boxgen.specs.declared.box_role.Role.{Role}
 use Rattle.lay_boxgen.specs.declared.box_role.Role.TheVariants as role

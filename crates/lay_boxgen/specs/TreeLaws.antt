@@ -1,7 +1,7 @@
 -- What is listed of a context's part is a tree of boxes.
 use Rattle.std.specs.Prelude.{ℕ, List}
+use Rattle.lay_style.specs.declared.style.Style.{Style}
 use Rattle.lay_doc.specs.declared.node.Node.{Node}
-use Rattle.lay_doc.specs.declared.style.Style.{Style}
 use Rattle.lay_doc.specs.Tree.{IsTree}
 use Rattle.lay_boxgen.specs.Boxes.{Tree}
 use Rattle.lay_boxgen.specs.BoxColumns.{box_parents, HasInnerLeaves}

@@ -2,8 +2,8 @@
 -- away where it stands alone in its lines (9.2.2.1).
 use Rattle.std.specs.Prelude.{ℕ, Bool, false, ◌&&◌, ◌||◌, not, List, ◌==◌, if◌then◌else◌}
 use Rattle.std.specs.List.{list_any, list_all}
-use Rattle.lay_doc.specs.declared.style_words.WhiteSpace.{WhiteSpace}
-use Rattle.lay_doc.specs.declared.style_words.WhiteSpace.TheVariants.{Normal, Pre, Nowrap, PreWrap, PreLine}
+use Rattle.lay_style.specs.declared.style_words.WhiteSpace.{WhiteSpace}
+use Rattle.lay_style.specs.declared.style_words.WhiteSpace.TheVariants.{Normal, Pre, Nowrap, PreWrap, PreLine}
 use Rattle.lay_boxgen.specs.declared.facts.TextForm.{TextForm}
 use Rattle.lay_boxgen.specs.declared.facts.TextForm.TheVariants.{Seen, White, Blank}
 

@@ -1,10 +1,10 @@
 //! The styles of anonymous boxes (CSS 2.2, 9.2.1.1).
 
 ghost use Rattle.std.specs.Prelude.{◌≡◌};
-ghost use Rattle.lay_doc.specs.InitialStyle.{all_sides};
+ghost use Rattle.lay_style.specs.InitialStyle.{all_sides};
 ghost use Rattle.lay_boxgen.specs.AnonymousStyle.{anonymous_style, no_border, initial_sizing, inherited_text, inherited_table};
 
-use lay_doc::{
+use lay_style::{
     BorderStyle, Borders, Clear, Display, Edges, Float, LengthPercentage, LengthPercentageOrAuto,
     LengthPercentageOrNone, Overflow, Position, Sizing, Style, TableLayout, TableStyle, TextStyle,
     VerticalAlign, ZIndex,

@@ -5,7 +5,7 @@ ghost use Rattle.lay_boxgen.specs.Roles.{role_of_kind, float_role};
 
 use crate::box_tree::{BoxKind, BoxNode, BoxTree};
 use crate::facts::Flow;
-use lay_doc::{Clear, Float};
+use lay_style::{Clear, Float};
 
 /// What a box is in the formatting context that it stands in.
 #[derive(Clone, Copy)]

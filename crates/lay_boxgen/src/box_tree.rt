@@ -3,7 +3,8 @@
 ghost use Rattle.std.specs.Prelude.{◌≡◌};
 
 use crate::facts::Flow;
-use lay_doc::{NodeId, Style};
+use lay_doc::NodeId;
+use lay_style::Style;
 use lay_units::{Sides, Text, Unit};
 use std::marker::Model;
 

@@ -12,7 +12,8 @@ use crate::generation::generate;
 use crate::listing::{Sources, listed_part};
 use crate::node_trees::context_tree;
 use crate::subtree::Subtree;
-use lay_doc::{Computed, Doc, Node, NodeId, Style};
+use lay_doc::{Doc, Node, NodeId};
+use lay_style::{Computed, Style};
 use lay_units::NoMemory;
 use std::alloc::Global;
 

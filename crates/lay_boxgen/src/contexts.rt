@@ -8,7 +8,8 @@ ghost use Rattle.lay_boxgen.specs.Contexts.{box_at, has_box, keeps_form, keeps, 
 use crate::facts::{Facts, Form};
 use crate::forms::{is_column, is_column_group};
 use crate::node_boxes::node_box;
-use lay_doc::{Computed, Doc, Node, NodeId, Style, parent_at};
+use lay_doc::{Doc, Node, NodeId, parent_at};
+use lay_style::{Computed, Style};
 
 /// Whether the node with this id is a context: an element that generates a box and establishes a new block
 /// formatting context, or a replaced element that generates a box. A style is given for each node.

@@ -5,7 +5,8 @@ ghost use Rattle.lay_boxgen.specs.Display.{flow_of, as_block, used_display, repl
 
 use crate::facts::{Flow, Form};
 use crate::forms::is_in_flow;
-use lay_doc::{Display, Float, Kind, Position, Style};
+use lay_doc::Kind;
+use lay_style::{Display, Float, Position, Style};
 
 /// Whether what has this style is in flow. `float` counts as `none` where `position` is absolute or fixed.
 pub fn flow_of(style: &Style) -> Flow

@@ -11,7 +11,8 @@ use crate::facts::{Facts, Form};
 use crate::forms::is_anchor;
 use crate::node_trees::is_closed;
 use crate::subtree::Subtree;
-use lay_doc::{Node, Style};
+use lay_doc::Node;
+use lay_style::Style;
 use lay_units::{NoMemory, Text};
 use std::alloc::Global;
 

@@ -7,7 +7,8 @@ use crate::display::{element_form, flow_of, used_display_of};
 use crate::facts::{Facts, Flow, Form};
 use crate::forms::is_in_flow;
 use crate::white_space::text_form;
-use lay_doc::{Display, Kind, Node, Overflow, Style};
+use lay_doc::{Kind, Node};
+use lay_style::{Display, Overflow, Style};
 use lay_units::Unit;
 
 /// The box of a replaced element of this used `display`.

@@ -12,7 +12,8 @@ use crate::facts::{Facts, Flow, Form};
 use crate::forms::{is_absolute, is_inline};
 use crate::node_boxes::node_box;
 use crate::subtree::Subtree;
-use lay_doc::{Node, Style};
+use lay_doc::Node;
+use lay_style::Style;
 use lay_units::NoMemory;
 use std::alloc::Global;
 

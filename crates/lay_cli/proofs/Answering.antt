@@ -1,9 +1,8 @@
 -- What bytes spell.
 use Rattle.std.proofs.Common.{◌≡◌, ◌≢◌, ℕ, ◌<◌, List, length, codes, refl, sym, subst, Option, Some, None, IfSome, Bool, Ok, Err, Result, IfOk}
 use Rattle.lay_units.specs.declared.memory.NoMemory.{NoMemory}
-use Rattle.lay_doc.specs.declared.style.Style.{Style}
-use Rattle.lay_doc.specs.Document.{IsDocument, parents_of}
-use Rattle.lay_doc.specs.ComputedStyle.{declarations_of}
+use Rattle.lay_style.specs.declared.style.Style.{Style}
+use Rattle.lay_doc.specs.Document.{IsDocument, parents_of, declarations_of}
 use Rattle.lay_doc.proofs.OneStyles.{one_style_column_lem}
 use Rattle.lay_json.specs.declared.fault.InputFault.{InputFault}
 use Rattle.lay_json.specs.declared.fault.InputFault.TheVariants.{TooLong, NoMemory as ran_out}

@@ -6,9 +6,9 @@
 -- and writes the summary of such a history of the run that the generator makes.
 use Rattle.std.specs.Prelude.{ℕ, Bool, ◌≡◌, ◌≢◌, ◌⊎◌, List, length, map, string_bytes, String, Option, Some, None, IfSome, Ok, Err}
 use Rattle.std.specs.declared.alloc.Global.{Global}
-use Rattle.lay_doc.specs.declared.style.Style.{Style}
-use Rattle.lay_doc.specs.Document.{parents_of}
-use Rattle.lay_doc.specs.ComputedStyle.{HasStyles, declarations_of}
+use Rattle.lay_style.specs.declared.style.Style.{Style}
+use Rattle.lay_style.specs.ComputedStyle.{HasStyles}
+use Rattle.lay_doc.specs.Document.{parents_of, declarations_of}
 use Rattle.lay_frag.specs.Pieces.{Context}
 use Rattle.lay_context.specs.Solves.{Solves}
 use Rattle.lay_history.specs.Histories.{accepted}

@@ -2,17 +2,18 @@
 -- (17.2), and those that are positioned (9.3.1); and what is under `display: none`, which has no box. Others are refused by
 -- their place in the list `nodes` of the run document.
 use Rattle.std.specs.Prelude.{ℕ, zero, suc, ◌≡◌, ◌<◌, ◌==◌, ◌&&◌, ◌||◌, not, List, [], ◌∷◌, length, slice_get, slice_index, slice_index_or, Bool, true, false, Option, Some, None, option_map, if◌then◌else◌}
+use Rattle.lay_style.specs.declared.style.Style.{Style}
+use Rattle.lay_style.specs.declared.style_words.Display.{Display}
+use Rattle.lay_style.specs.declared.style_words.Display.TheVariants as display
+use Rattle.lay_style.specs.declared.style_words.Position.{Position}
+use Rattle.lay_style.specs.declared.style_words.Position.TheVariants as position
+use Rattle.lay_style.specs.Places.{place_of}
 use Rattle.lay_doc.specs.declared.node.Kind.{Kind}
 use Rattle.lay_doc.specs.declared.node.NodeId.{NodeId}
 use Rattle.lay_doc.specs.declared.node.Node.{Node}
-use Rattle.lay_doc.specs.declared.style.Style.{Style}
-use Rattle.lay_doc.specs.declared.style_words.Display.{Display}
-use Rattle.lay_doc.specs.declared.style_words.Display.TheVariants as display
-use Rattle.lay_doc.specs.declared.style_words.Position.{Position}
-use Rattle.lay_doc.specs.declared.style_words.Position.TheVariants as position
-use Rattle.lay_doc.specs.Document.{ids_of, place_of}
+use Rattle.lay_doc.specs.Document.{ids_of}
 use Rattle.lay_boxgen.specs.Display.{is_none, used_display_of}
-use Rattle.lay_doc.specs.ComputedStyle.{style_at}
+use Rattle.lay_style.specs.ComputedStyle.{style_at}
 
 -- whether a display is that of a table or of a part of one
 abbrev pub is_table_display : Display → Bool

@@ -6,7 +6,8 @@ ghost use Rattle.lay_cli.specs.Built.{AreHidden, first_unbuilt, is_built, is_bui
 
 use crate::hidden::{hidden, hidden_at};
 use lay_boxgen::used_display_of;
-use lay_doc::{Display, Doc, Kind, Node, NodeId, Position, Style, style_at};
+use lay_doc::{Doc, Kind, Node, NodeId};
+use lay_style::{Display, Position, Style, style_at};
 use lay_units::NoMemory;
 use std::alloc::Global;
 

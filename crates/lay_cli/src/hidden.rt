@@ -6,7 +6,8 @@ ghost use Rattle.lay_doc.specs.Document.{parents_of};
 ghost use Rattle.lay_boxgen.specs.Display.{is_none};
 ghost use Rattle.lay_cli.specs.Built.{AreHidden, hidden_at, is_hidden_above, is_hidden};
 
-use lay_doc::{Display, Node, Style, parent_at, style_at};
+use lay_doc::{Node, parent_at};
+use lay_style::{Display, Style, style_at};
 use lay_units::NoMemory;
 use std::alloc::Global;
 

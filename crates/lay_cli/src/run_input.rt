@@ -8,10 +8,10 @@ ghost use Rattle.lay_cli.specs.Input.{IsDrained};
 use crate::built::first_unbuilt;
 use crate::input::{SourceFault, read_all};
 use crate::refusal::{fault_line, unbuilt_line};
-use lay_doc::Computed;
 use lay_inherit::computed;
 use lay_json::{InputFault, RunDoc, read_run};
 use lay_outside::Source;
+use lay_style::Computed;
 use lay_units::{NoMemory, Text};
 use std::alloc::Global;
 

@@ -4,9 +4,9 @@
 use Rattle.std.specs.Prelude.{ℤ, pos, ◌*ℤ◌, true, List, Option, Some, None, slice_get}
 use Rattle.lay_units.specs.Units.{percentage_of}
 use Rattle.lay_units.specs.declared.length.Unit.{Unit as Length}
-use Rattle.lay_doc.specs.LengthValues.{length_of}
-use Rattle.lay_doc.specs.declared.style_lengths.LengthPercentage.{LengthPercentage}
-use Rattle.lay_doc.specs.declared.style_lengths.LengthPercentage.TheVariants as measure
+use Rattle.lay_style.specs.LengthValues.{length_of}
+use Rattle.lay_style.specs.declared.style_lengths.LengthPercentage.{LengthPercentage}
+use Rattle.lay_style.specs.declared.style_lengths.LengthPercentage.TheVariants as measure
 use Rattle.lay_boxgen.specs.declared.box_tree.BoxNode.{BoxNode}
 use Rattle.lay_face.specs.FaceValue.{FaceValue}
 use Rattle.lay_face.specs.Faces.{entry_of, thousandths_of}

@@ -4,7 +4,7 @@
 -- margins, padding, or borders": such an edge makes its line seen, one above or below each line that the box is on.
 use Rattle.std.specs.Prelude.{ℕ, ◌==◌, ℤ, pos, negsuc, ◌+ℤ◌, Bool, true, not, ◌&&◌, ◌||◌, List, [], ◌∷◌, ◌++◌, zero, suc, length, Option, Some, None, slice_get, if◌then◌else◌}
 use Rattle.lay_units.specs.declared.length.Unit.{Unit as Length}
-use Rattle.lay_doc.specs.declared.style.TextStyle.{TextStyle}
+use Rattle.lay_style.specs.declared.style.TextStyle.{TextStyle}
 use Rattle.lay_boxgen.specs.Roles.{role_of}
 use Rattle.lay_boxgen.specs.declared.box_role.Role.{Role}
 use Rattle.lay_boxgen.specs.declared.box_role.Role.TheVariants as role

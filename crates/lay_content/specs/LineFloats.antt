@@ -1,8 +1,8 @@
 -- Floats that stand in the content of lines (CSS 2.2, 9.5 and 9.5.1): a float is as large as its margin box and stands
 -- between the content edges of the container.
 use Rattle.std.specs.Prelude.{ℕ, Option, Some, None, slice_get}
-use Rattle.lay_doc.specs.declared.style_words.Clear.{Clear as ClearStyle}
-use Rattle.lay_doc.specs.declared.style_words.Clear.TheVariants as clear
+use Rattle.lay_style.specs.declared.style_words.Clear.{Clear as ClearStyle}
+use Rattle.lay_style.specs.declared.style_words.Clear.TheVariants as clear
 use Rattle.lay_boxgen.specs.Roles.{role_of, clear_of}
 use Rattle.lay_boxgen.specs.declared.box_role.Role.{Role}
 use Rattle.lay_boxgen.specs.declared.box_role.Role.TheVariants as role

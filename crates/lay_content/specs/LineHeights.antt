@@ -4,9 +4,9 @@
 -- rounded down, is added above.
 use Rattle.std.specs.Prelude.{ℤ, ◌+ℤ◌, ◌-ℤ◌, ◌*ℤ◌}
 use Rattle.lay_units.specs.Units.{clamp_size_of, floor_div, half_of}
-use Rattle.lay_doc.specs.declared.style.TextStyle.{TextStyle}
-use Rattle.lay_doc.specs.declared.style_lengths.LineHeight.{LineHeight}
-use Rattle.lay_doc.specs.declared.style_lengths.LineHeight.TheVariants as line
+use Rattle.lay_style.specs.declared.style.TextStyle.{TextStyle}
+use Rattle.lay_style.specs.declared.style_lengths.LineHeight.{LineHeight}
+use Rattle.lay_style.specs.declared.style_lengths.LineHeight.TheVariants as line
 use Rattle.lay_face.specs.FaceValue.{FaceValue}
 use Rattle.lay_face.specs.Faces.{thousandths_of}
 use Rattle.lay_lines.specs.declared.frame.Extent.{Extent}

@@ -4,9 +4,9 @@
 -- percentage is of the line height "of the element itself". A box of 16px in one of 15px that is `sub` stands 3px lower.
 use Rattle.std.specs.Prelude.{ℕ, ℤ, pos, neg_ℤ, List, Option, Some, None, slice_get, if◌then◌else◌}
 use Rattle.lay_units.specs.Units.{clamp_of, floor_div, percentage_of}
-use Rattle.lay_doc.specs.declared.style.TextStyle.{TextStyle}
-use Rattle.lay_doc.specs.declared.style_lengths.VerticalAlign.{VerticalAlign}
-use Rattle.lay_doc.specs.declared.style_lengths.VerticalAlign.TheVariants as align
+use Rattle.lay_style.specs.declared.style.TextStyle.{TextStyle}
+use Rattle.lay_style.specs.declared.style_lengths.VerticalAlign.{VerticalAlign}
+use Rattle.lay_style.specs.declared.style_lengths.VerticalAlign.TheVariants as align
 use Rattle.lay_boxgen.specs.Kinds.{is_wrapper}
 use Rattle.lay_boxgen.specs.declared.box_tree.BoxNode.{BoxNode}
 use Rattle.lay_face.specs.FaceValue.{FaceValue}

@@ -14,10 +14,10 @@ use crate::box_measures::BoxMeasures;
 use crate::line_heights::{ascent, descent};
 use lay_box_parts::InlinePart;
 use lay_boxgen::{BoxNode, Role};
-use lay_doc::TextStyle;
 use lay_face::Face;
 use lay_lines::InlineArea;
 use lay_sizes::BoxSizes;
+use lay_style::TextStyle;
 use lay_units::{NoMemory, Unit};
 use std::alloc::Global;
 

@@ -12,10 +12,10 @@ use crate::inline_boxes::extent_at;
 use crate::line_heights::font_size;
 use crate::stretches::stretches_of;
 use lay_boxgen::BoxNode;
-use lay_doc::{LengthPercentage, TextStyle};
 use lay_face::Face;
 use lay_lines::{LineContent, StretchList};
 use lay_space::Segment;
+use lay_style::{LengthPercentage, TextStyle};
 use lay_units::{NoMemory, Unit, clamp, percent_of};
 use std::alloc::Global;
 

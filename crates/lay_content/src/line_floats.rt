@@ -68,22 +68,22 @@ fn clear_at(boxes: &[BoxNode], k: usize) -> Clear
     }
 }
 
-fn clear_of(node: &BoxNode) -> lay_doc::Clear
+fn clear_of(node: &BoxNode) -> lay_style::Clear
     ensures { result ≡ clear_of node.now }
 {
     match node.kind {
-        BoxKind::Wrapper | BoxKind::InlineWrapper => lay_doc::Clear::None,
+        BoxKind::Wrapper | BoxKind::InlineWrapper => lay_style::Clear::None,
         _ => node.style.clear,
     }
 }
 
-fn cleared_sides(clear: lay_doc::Clear) -> Clear
+fn cleared_sides(clear: lay_style::Clear) -> Clear
     ensures { result ≡ cleared_sides clear }
 {
     match clear {
-        lay_doc::Clear::None => Clear::None,
-        lay_doc::Clear::Left => Clear::Left,
-        lay_doc::Clear::Right => Clear::Right,
-        lay_doc::Clear::Both => Clear::Both,
+        lay_style::Clear::None => Clear::None,
+        lay_style::Clear::Left => Clear::Left,
+        lay_style::Clear::Right => Clear::Right,
+        lay_style::Clear::Both => Clear::Both,
     }
 }

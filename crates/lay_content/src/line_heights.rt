@@ -5,9 +5,9 @@ ghost use Rattle.lay_units.specs.Units.{IsPosition, IsSum, IsUsed, IsUsedSize, h
 ghost use Rattle.lay_face.specs.Faces.{IsMeasure};
 ghost use Rattle.lay_content.specs.LineHeights.{ascent, descent, extent_of, font_size, leading, line_height, line_height_in, with_leading, x_height};
 
-use lay_doc::{LineHeight, TextStyle};
 use lay_face::Face;
 use lay_lines::Extent;
+use lay_style::{LineHeight, TextStyle};
 use lay_units::{Unit, clamp_size};
 
 /// How far an inline box of this style reaches above and below the baseline, and so the strut of a container

@@ -2,7 +2,7 @@
 -- That of the context's own box is given, and so are the preferred widths of the context. The boxes of inner contexts are sized
 -- there.
 use Rattle.std.specs.Prelude.{ℕ, zero, suc, ◌≡◌, ◌<◌, true, false, List, length, slice_get, Option, Some, None, if◌then◌else◌}
-use Rattle.lay_doc.specs.ComputedStyle.{style_at}
+use Rattle.lay_style.specs.ComputedStyle.{style_at}
 use Rattle.lay_boxgen.specs.declared.box_tree.BoxNode.{BoxNode}
 use Rattle.lay_boxgen.specs.declared.facts.Flow.{Flow}
 use Rattle.lay_boxgen.specs.declared.facts.Flow.TheVariants.{Floating}

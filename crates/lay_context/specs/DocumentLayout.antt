@@ -3,10 +3,10 @@
 -- a context stands on the page.
 use Rattle.std.specs.Prelude.{ℕ, zero, suc, ◌≡◌, ◌<◌, ◌+ℤ◌, ◌-ℤ◌, Bool, true, false, List, [], length, map, slice_index_or, if◌then◌else◌}
 use Rattle.lay_units.specs.declared.length.Unit.{Unit as Length}
-use Rattle.lay_doc.specs.declared.style.Style.{Style}
-use Rattle.lay_doc.specs.declared.style_words.Float.{Float}
-use Rattle.lay_doc.specs.declared.style_words.Float.TheVariants as float
-use Rattle.lay_doc.specs.ComputedStyle.{style_at}
+use Rattle.lay_style.specs.declared.style.Style.{Style}
+use Rattle.lay_style.specs.declared.style_words.Float.{Float}
+use Rattle.lay_style.specs.declared.style_words.Float.TheVariants as float
+use Rattle.lay_style.specs.ComputedStyle.{style_at}
 use Rattle.lay_boxgen.specs.declared.facts.Flow.{Flow}
 use Rattle.lay_boxgen.specs.declared.facts.Flow.TheVariants.{Floating}
 use Rattle.lay_boxgen.specs.Display.{flow_of}

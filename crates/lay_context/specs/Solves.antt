@@ -6,10 +6,10 @@
 use Rattle.std.specs.Prelude.{ℕ, ◌≡◌, ◌<◌, List, length, slice_get, slice_index, Some}
 use Rattle.lay_units.specs.declared.records.Len.TheVariants.{Of as of}
 use Rattle.lay_units.specs.declared.records.Rect.{Rect}
-use Rattle.lay_doc.specs.declared.style.Style.{Style}
-use Rattle.lay_doc.specs.Document.{Document, parents_of}
-use Rattle.lay_doc.specs.LengthValues.{px}
-use Rattle.lay_doc.specs.ComputedStyle.{HasStyles, declarations_of}
+use Rattle.lay_style.specs.declared.style.Style.{Style}
+use Rattle.lay_style.specs.LengthValues.{px}
+use Rattle.lay_style.specs.ComputedStyle.{HasStyles}
+use Rattle.lay_doc.specs.Document.{Document, parents_of, declarations_of}
 use Rattle.lay_boxgen.specs.declared.box_tree.BoxNode.{BoxNode}
 use Rattle.lay_boxgen.specs.BoxColumns.{box_ids}
 use Rattle.lay_face.specs.FaceValue.{FaceValue}

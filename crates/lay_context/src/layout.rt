@@ -2,8 +2,8 @@
 
 ghost use Rattle.std.specs.Prelude.{◌≡◌, IfOk, OnOk};
 ghost use Rattle.lay_units.specs.Units.{IsUsedSize};
-ghost use Rattle.lay_doc.specs.ComputedStyle.{HasStyles, declarations_of};
-ghost use Rattle.lay_doc.specs.Document.{parents_of};
+ghost use Rattle.lay_style.specs.ComputedStyle.{HasStyles};
+ghost use Rattle.lay_doc.specs.Document.{parents_of, declarations_of};
 ghost use Rattle.lay_context.specs.Local.{IsLocal};
 ghost use Rattle.lay_context.specs.Settling.{IsReady, IsSettled};
 ghost use Rattle.lay_context.specs.Solves.{Solves, SolvesContexts, viewport_of};
@@ -18,12 +18,13 @@ use crate::medium::Medium;
 use crate::task::{Task, task_at};
 use crate::value::Value;
 use lay_contexts::{Contexts, contexts_of};
-use lay_doc::{Computed, Doc};
+use lay_doc::Doc;
 use lay_face::Face;
 use lay_frag::Tree;
 use lay_inherit::computed;
 use lay_placement::placement;
 use lay_sizes::ContainingBlock;
+use lay_style::Computed;
 use lay_units::{Len, NoMemory, Unit};
 use std::alloc::Global;
 use std::sync::Arc;

@@ -13,9 +13,9 @@ use crate::containing::sizes_at;
 use crate::known::Known;
 use lay_boxgen::{Flow, flow_of};
 use lay_contexts::Contexts;
-use lay_doc::{Float, Style};
 use lay_placement::{Corner, near_corner, near_position};
 use lay_sizes::{BoxSizes, ContainingBlock, border_width};
+use lay_style::{Float, Style};
 use lay_units::{NoMemory, Unit};
 use std::alloc::Global;
 

@@ -1,7 +1,7 @@
 //! The boxes of one context.
 
 ghost use Rattle.std.specs.Prelude.{◌≡◌, ◌<◌, length, slice_index, IfOk};
-ghost use Rattle.lay_doc.specs.ComputedStyle.{style_at};
+ghost use Rattle.lay_style.specs.ComputedStyle.{style_at};
 ghost use Rattle.lay_boxgen.specs.BoxColumns.{box_styles};
 ghost use Rattle.lay_boxgen.specs.Containers.{AreContainers};
 ghost use Rattle.lay_boxgen.specs.Roles.{clear_at, role_at};
@@ -9,7 +9,7 @@ ghost use Rattle.lay_context_boxes.specs.Containing.{container_of, is_anonymous}
 ghost use Rattle.lay_context_boxes.specs.ContextBoxes.{AreContextBoxes, is_float, is_inner};
 
 use lay_boxgen::{BoxNode, BoxTree, Role};
-use lay_doc::{Clear, Style};
+use lay_style::{Clear, Style};
 use lay_units::NoMemory;
 use std::alloc::Global;
 use std::marker::Model;

@@ -1,16 +1,16 @@
 -- What the box of a node of some kind is not.
 use Rattle.std.proofs.Common.{◌≡◌, ◌<◌, ℕ, zero, suc, ◌==◌, Bool, true, false, ◌||◌, not, List, [], ◌∷◌, refl, ap, sym, subst, ◌∙◌, Option, None, Some, option_map, slice_get, arith}
+use Rattle.lay_style.specs.declared.style.Style.{Style}
+use Rattle.lay_style.specs.declared.style_words.Display.{Display}
+use Rattle.lay_style.specs.declared.style_words.Display.TheVariants as display
 use Rattle.lay_doc.specs.declared.node.Kind.{Kind}
 use Rattle.lay_doc.specs.declared.node.Kind.TheVariants as kind
 use Rattle.lay_doc.specs.declared.node.Node.{Node}
-use Rattle.lay_doc.specs.declared.style.Style.{Style}
-use Rattle.lay_doc.specs.declared.style_words.Display.{Display}
-use Rattle.lay_doc.specs.declared.style_words.Display.TheVariants as display
 use Rattle.lay_doc.specs.Document.{is_element_at}
 use Rattle.lay_doc.specs.NewNodes.{is_element}
 use Rattle.lay_boxgen.specs.Display.{as_block, element_form, flow_of, replaced_display, used_display}
 use Rattle.lay_boxgen.specs.Forms.{is_absolute, is_column, is_text}
-use Rattle.lay_doc.specs.declared.style_words.Overflow.{Overflow}
+use Rattle.lay_style.specs.declared.style_words.Overflow.{Overflow}
 use Rattle.lay_boxgen.specs.NodeBoxes.{establishes_context, facts_with, form_of, node_box, node_flow, replaced_form}
 use Rattle.lay_boxgen.specs.declared.facts.Facts.{Facts}
 use Rattle.lay_boxgen.specs.declared.facts.Flow.{Flow}

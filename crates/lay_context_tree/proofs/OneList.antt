@@ -1,8 +1,8 @@
 -- A document has one list of contexts, in which each stands behind the one around it.
 use Rattle.std.proofs.Common.{◌≡◌, inl, inr, ℕ, zero, suc, ◌<◌, List, [], ◌∷◌, length, map, get_or, refl, ap, sym, subst, ◌∙◌, arith}
 use Rattle.std.proofs.lemmas.Bool.{cases_lt}
+use Rattle.lay_style.specs.declared.style.Style.{Style}
 use Rattle.lay_doc.specs.declared.node.Node.{Node}
-use Rattle.lay_doc.specs.declared.style.Style.{Style}
 use Rattle.lay_doc.specs.Document.{parents_of}
 use Rattle.lay_doc.specs.Tree.{IsTree}
 use Rattle.lay_boxgen.specs.Contexts.{IsContextAt, box_at, is_marked}

@@ -1,8 +1,8 @@
 -- The children of an own node of a context that is no inner context are own nodes.
 use Rattle.std.proofs.Common.{◌≡◌, ◌⊎◌, inl, inr, ℕ, zero, suc, ◌+◌, ◌-◌, ◌<◌, ◌≤◌, ◌==◌, true, false, List, [], ◌∷◌, length, map, filter, refl, ap, sym, subst, ◌∙◌, arith, slice_index, slice_index_or}
 use Rattle.std.proofs.lemmas.Bool.{cases_lt, eqb-true}
+use Rattle.lay_style.specs.declared.style.Style.{Style}
 use Rattle.lay_doc.specs.declared.node.Node.{Node}
-use Rattle.lay_doc.specs.declared.style.Style.{Style}
 use Rattle.lay_doc.specs.Document.{parents_of}
 use Rattle.lay_doc.specs.Tree.{IsTree}
 use Rattle.lay_boxgen.specs.Contexts.{box_at, is_marked}

@@ -1,8 +1,8 @@
 -- The tree of contexts (9.4.1). Around a context is the nearest element above it that is a context, and there, among that
 -- one's boxes, its own box stands, or its anchor where it is absolute or fixed (9.6): once, and in no other context.
 use Rattle.std.specs.Prelude.{ℕ, ◌≡◌, ◌<◌, true, false, List, length, slice_index, slice_index_or}
+use Rattle.lay_style.specs.declared.style.Style.{Style}
 use Rattle.lay_doc.specs.declared.node.Node.{Node}
-use Rattle.lay_doc.specs.declared.style.Style.{Style}
 use Rattle.lay_doc.specs.Document.{Document, IsDocument, ids_of, parents_of}
 use Rattle.lay_boxgen.specs.BoxColumns.{box_ids, box_inner}
 use Rattle.lay_boxgen.specs.Contexts.{IsContextAt, box_at, is_marked}

@@ -4,8 +4,8 @@
 -- For example a table has a row with a cell, and behind the row a caption. Its box tree has the caption first (17.4); the
 -- list has the table's context, then that of the cell and then that of the caption.
 use Rattle.std.specs.Prelude.{ℕ, ◌≡◌, ◌<◌, List, length, slice_index_or}
+use Rattle.lay_style.specs.declared.style.Style.{Style}
 use Rattle.lay_doc.specs.declared.node.Node.{Node}
-use Rattle.lay_doc.specs.declared.style.Style.{Style}
 use Rattle.lay_doc.specs.Document.{Document, IsDocument}
 use Rattle.lay_boxgen.specs.Contexts.{IsContextAt}
 use Rattle.lay_context_tree.specs.ContextTree.{StandsIn}

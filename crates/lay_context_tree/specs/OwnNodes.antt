@@ -2,14 +2,14 @@
 -- nearest context, and so the elements of its inner contexts; and of each node what it is, its computed style, and which own
 -- node is its parent. What is inside inner contexts, and where in the document the nodes stand, makes no difference.
 use Rattle.std.specs.Prelude.{ℕ, ◌≡◌, ◌<◌, ◌==◌, Bool, false, List, [], length, slice_get, slice_index, slice_index_or, Some}
+use Rattle.lay_style.specs.declared.style.Style.{Style}
+use Rattle.lay_style.specs.ComputedStyle.{style_at}
+use Rattle.lay_style.specs.InitialStyle.{initial_style}
 use Rattle.lay_doc.specs.declared.node.Kind.{Kind}
 use Rattle.lay_doc.specs.declared.node.Kind.TheVariants.{Text}
 use Rattle.lay_doc.specs.declared.node.Node.{Node}
 use Rattle.lay_doc.specs.declared.node.NodeId.{NodeId}
-use Rattle.lay_doc.specs.declared.style.Style.{Style}
-use Rattle.lay_doc.specs.ComputedStyle.{style_at}
 use Rattle.lay_doc.specs.Document.{Document, IsDocument}
-use Rattle.lay_doc.specs.InitialStyle.{initial_style}
 use Rattle.lay_boxgen.specs.Contexts.{IsContextAt}
 use Rattle.lay_context_tree.specs.ContextTree.{IsAround, boxes_of_place, parent_of}
 

@@ -2,7 +2,7 @@
 use Rattle.std.proofs.Common.{◌≡◌, ◌≢◌, ◌<◌, ◌==◌, ◌&&◌, ℕ, zero, suc, ◌+◌, Bool, true, false, List, [], ◌∷◌, ◌++◌, add-one, length, slice_index, slice_set, replicate, refl, ap, sym, ◌∙◌, arith, inl, inr, if◌then◌else◌}
 use Rattle.std.proofs.lemmas.Bool.{cases_eq, cases_lt}
 use Rattle.std.proofs.lemmas.Grind.{elements}
-use Rattle.lay_doc.specs.declared.style.Style.{Style}
+use Rattle.lay_style.specs.declared.style.Style.{Style}
 use Rattle.lay_doc.specs.Document.{Document, IsDocument}
 use Rattle.lay_doc.proofs.OneStyles.{same_list}
 use Rattle.lay_boxgen.specs.declared.box_tree.BoxNode.{BoxNode}

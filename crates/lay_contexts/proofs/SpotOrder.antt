@@ -1,7 +1,7 @@
 -- The contexts of a document stand in order, and each has boxes.
 use Rattle.std.proofs.Common.{◌≡◌, ◌<◌, ℕ, List, [], ◌∷◌, length, refl, ap, sym, subst, ◌∙◌, ◌+◌, true, arith, Option, Some, None, IsTrue}
 use Rattle.std.proofs.lemmas.List.{get_or-map, length-map}
-use Rattle.lay_doc.specs.declared.style.Style.{Style}
+use Rattle.lay_style.specs.declared.style.Style.{Style}
 use Rattle.lay_doc.specs.Document.{Document, IsDocument}
 use Rattle.lay_boxgen.specs.Boxes.{Tree, tree, trees_of}
 use Rattle.lay_boxgen.specs.Contexts.{IsContextAt, box_at, is_marked}

@@ -6,8 +6,8 @@
 -- those of the first float and of the float in it with 1 and 2, and that of the second float with 3. The second float's box is
 -- at the place 2 in the context 0, behind the root's own box and that of the first float.
 use Rattle.std.specs.Prelude.{ℕ, zero, suc, ◌≡◌, ◌<◌, ◌==◌, ◌&&◌, List, [], length, map, slice_index, slice_index_or, if◌then◌else◌}
+use Rattle.lay_style.specs.declared.style.Style.{Style}
 use Rattle.lay_doc.specs.declared.node.Node.{Node}
-use Rattle.lay_doc.specs.declared.style.Style.{Style}
 use Rattle.lay_boxgen.specs.declared.box_tree.BoxNode.{BoxNode}
 use Rattle.lay_context_tree.specs.ContextTree.{boxes_of_place}
 use Rattle.lay_context_tree.specs.DocumentContexts.{AreDocumentContexts, spot_at}

@@ -1,6 +1,6 @@
 -- A document has one list of contexts with their boxes.
 use Rattle.std.specs.Prelude.{◌≡◌, List, length}
-use Rattle.lay_doc.specs.declared.style.Style.{Style}
+use Rattle.lay_style.specs.declared.style.Style.{Style}
 use Rattle.lay_doc.specs.Document.{Document, IsDocument}
 use Rattle.lay_contexts.specs.Contexts.{Context}
 use Rattle.lay_contexts.specs.ContextList.{AreContextsOf}

@@ -1,8 +1,8 @@
 -- What is known of the contexts of a document while they are listed (CSS 2.2, 9.4.1): the places of their nodes, and of each the
 -- box that it has in another context, as far as that is found.
 use Rattle.std.specs.Prelude.{ℕ, zero, suc, ◌≡◌, ◌<◌, List, length, map, slice_index, slice_index_or, Option, None, Some, IfSome}
+use Rattle.lay_style.specs.declared.style.Style.{Style}
 use Rattle.lay_doc.specs.declared.node.Node.{Node}
-use Rattle.lay_doc.specs.declared.style.Style.{Style}
 use Rattle.lay_boxgen.specs.Contexts.{IsContextAt}
 use Rattle.lay_boxgen.specs.declared.box_tree.BoxNode.{BoxNode}
 use Rattle.lay_context_tree.specs.ContextTree.{StandsIn, boxes_of_place}

@@ -15,7 +15,8 @@ use crate::standing::{Listed, Standing, boxes_at, stands_of};
 use lay_boxgen::boxes;
 use lay_context_boxes::ContextBoxes;
 use lay_context_tree::ContextSpot;
-use lay_doc::{Computed, Doc};
+use lay_doc::Doc;
+use lay_style::Computed;
 use lay_units::NoMemory;
 use std::alloc::Global;
 

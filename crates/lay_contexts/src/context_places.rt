@@ -6,7 +6,8 @@ ghost use Rattle.lay_boxgen.specs.Contexts.{IsContextAt};
 ghost use Rattle.lay_contexts.specs.ListedContexts.{AreContextPlaces};
 
 use lay_boxgen::is_context;
-use lay_doc::{Computed, Doc, Node, NodeId};
+use lay_doc::{Doc, Node, NodeId};
+use lay_style::Computed;
 use lay_units::NoMemory;
 use std::alloc::Global;
 

@@ -8,7 +8,8 @@ ghost use Rattle.lay_contexts.specs.ContextList.{boxes_at};
 ghost use Rattle.lay_contexts.specs.ListedContexts.{AreStanding, boxes_of_places};
 
 use lay_context_boxes::ContextBoxes;
-use lay_doc::{Computed, Doc, NodeId};
+use lay_doc::{Doc, NodeId};
+use lay_style::Computed;
 use lay_units::NoMemory;
 use std::alloc::Global;
 

@@ -6,11 +6,11 @@ use Rattle.std.proofs.lemmas.List.Elements.{All-cons}
 use Rattle.std.proofs.lemmas.List.Sums.{sum_by-cons}
 use Rattle.std.specs.List.{All}
 use Rattle.lay_units.specs.Limits.{longest_text, most_text}
+use Rattle.lay_style.specs.Values.{Declaration}
 use Rattle.lay_doc.specs.declared.node.Node.{Node}
 use Rattle.lay_doc.specs.declared.node.Kind.{Kind}
 use Rattle.lay_doc.specs.declared.node.Kind.TheVariants.{Element, Text, Replaced}
 use Rattle.lay_doc.specs.declared.index.IdIndex.{IdIndex}
-use Rattle.lay_doc.specs.Values.{Declaration}
 use Rattle.lay_doc.specs.NewNodes.{IsNodeForm, is_element, is_text}
 use Rattle.lay_doc.specs.Document.{Document, IsDocument, IsNode, parents_of, ids_of, depths_of, text_lengths_of, text_size, is_element_at, is_text_at}
 use Rattle.lay_doc.specs.Changes.{changed_at, with_text, text_fault_at}

@@ -4,6 +4,8 @@ use Rattle.std.specs.List.{remove_range}
 use Rattle.std.proofs.lemmas.Bool.{leb-false, ltb-false, eqb-false}
 use Rattle.std.proofs.lemmas.List.Sums.{sum_by-cons}
 use Rattle.lay_units.specs.Limits.{longest_text, most_depth, most_nodes, most_text}
+use Rattle.lay_style.specs.Places.{place_of}
+use Rattle.lay_style.proofs.Places.{place_within}
 use Rattle.lay_doc.specs.declared.node.Node.{Node}
 use Rattle.lay_doc.specs.declared.edit.Edit.{Edit}
 use Rattle.lay_doc.specs.declared.edit.Edit.TheVariants.{SetStyle, ClearStyle, SetText, Insert, Remove, Bad}
@@ -11,7 +13,7 @@ use Rattle.lay_doc.specs.declared.edit.EditFault.{EditFault}
 use Rattle.lay_doc.specs.declared.edit.EditFault.TheVariants.{NoNode, NotElement, IdTaken, BadIndex, TooManyNodes, TooDeep, TextTooLong, RootFixed}
 use Rattle.lay_doc.specs.NewNodes.{NewNodeValue, IsNodeForm}
 use Rattle.lay_doc.specs.Tree.{IsTree, IsSlot, child_count, children_before, slot_of, end_of}
-use Rattle.lay_doc.specs.Document.{Document, IsDocument, parents_of, ids_of, depths_of, text_lengths_of, text_size, is_element_at, is_text_at, is_too_long, place_of, becomes}
+use Rattle.lay_doc.specs.Document.{Document, IsDocument, parents_of, ids_of, depths_of, text_lengths_of, text_size, is_element_at, is_text_at, is_too_long, becomes}
 use Rattle.lay_doc.specs.Changes.{style_fault, text_fault, after_change, with_style, without_style, with_text, changed_at}
 use Rattle.lay_doc.specs.Edits.{fault_below, insert_fault, after_insert, inserted_below}
 use Rattle.lay_doc.specs.Removal.{remove_fault, after_remove, removed_between}
@@ -20,7 +22,6 @@ use Rattle.lay_doc.proofs.Changed.{KeepsTree, styled_document, texted_document, 
 use Rattle.lay_doc.proofs.FoundSlots.{slot_found}
 use Rattle.lay_doc.proofs.Inserted.{HasRoom, put_document}
 use Rattle.lay_doc.proofs.NodeColumns.{length-parents, length-ids}
-use Rattle.lay_doc.proofs.Places.{place_within}
 use Rattle.lay_doc.proofs.Removed.{CutsSubtree, removed_document}
 use Rattle.lay_doc.proofs.Subtrees.{end_is_slot}
 

@@ -5,11 +5,11 @@ use Rattle.std.proofs.lemmas.Bool.{cases_eq, cases_lt, eq-eqb, ne_eqb}
 use Rattle.std.proofs.lemmas.Grind.{elements}
 use Rattle.std.proofs.lemmas.List.{get_or-map, length-append}
 use Rattle.std.proofs.lemmas.List.Edits.{length-insert}
+use Rattle.lay_style.specs.Places.{place_of}
+use Rattle.lay_style.proofs.Places.{map_none, place_here, place_later}
 use Rattle.lay_doc.specs.declared.index.IdIndex.{IdIndex}
 use Rattle.lay_doc.specs.Tree.{shifted}
-use Rattle.lay_doc.specs.Document.{place_of}
 use Rattle.lay_doc.specs.Index.{number_in, IsIndexOf}
-use Rattle.lay_doc.proofs.Places.{map_none, place_here, place_later}
 use Rattle.lay_doc.proofs.PutTrees.{shifted_low, shifted_high}
 use Rattle.lay_doc.proofs.NodeColumns.{length-column}
 

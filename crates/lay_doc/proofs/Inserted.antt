@@ -9,13 +9,14 @@ use Rattle.std.proofs.lemmas.List.Edits.{map_over_more, length-insert, get_or-in
 use Rattle.std.proofs.lemmas.List.Sums.{sum-map, sum_by-insert}
 use Rattle.std.proofs.lemmas.Grind.{common_steps}
 use Rattle.lay_units.specs.Limits.{longest_text, most_depth, most_nodes, most_text}
+use Rattle.lay_style.specs.Places.{place_of}
+use Rattle.lay_style.proofs.Places.{place_none}
 use Rattle.lay_doc.specs.declared.node.Node.{Node}
 use Rattle.lay_doc.specs.NewNodes.{is_element}
 use Rattle.lay_doc.specs.Tree.{IsSlot, IsTree, children_before, shifted}
-use Rattle.lay_doc.specs.Document.{Document, IsDocument, IsNode, parents_of, ids_of, depths_of, text_lengths_of, text_size, is_element_at, place_of, moved, inserted}
+use Rattle.lay_doc.specs.Document.{Document, IsDocument, IsNode, parents_of, ids_of, depths_of, text_lengths_of, text_size, is_element_at, moved, inserted}
 use Rattle.lay_doc.proofs.PutTrees.{Puts, puts_tree, shifted_low, shifted_high}
 use Rattle.lay_doc.proofs.NodeColumns.{length-column, length-parents, length-ids, length-depths, length-texts, length-elements, elements_of, element_column}
-use Rattle.lay_doc.proofs.Places.{place_none}
 
 map-insert : {X Y : Type 0} (f : X → Y) (xs : List X) (i : ℕ) (x : X) → map f (insert xs i x) ≡ insert (map f xs) i (f x)
 map-insert f xs i x = map-append f (take i xs) (x ∷ drop i xs) ∙ rw (take-map f i xs, drop-map f i xs) refl

@@ -1,6 +1,3 @@
-pub mod Places
-pub mod Declared
-pub mod Cleared
 pub mod NodeColumns
 pub mod Changed
 pub mod Slots

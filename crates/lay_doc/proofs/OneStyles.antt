@@ -1,11 +1,11 @@
 -- Two lists of computed styles of one document are equal: each style rests on its parent's.
 use Rattle.std.proofs.Common.{◌≡◌, ℕ, zero, suc, ◌<◌, ◌≤◌, List, [], ◌∷◌, length, get_or, refl, sym, ap, ◌∙◌, arith, inl, inr}
 use Rattle.std.proofs.lemmas.Bool.{cases_lt}
-use Rattle.lay_doc.specs.declared.style.Style.{Style}
-use Rattle.lay_doc.specs.Values.{Declaration}
+use Rattle.lay_style.specs.declared.style.Style.{Style}
+use Rattle.lay_style.specs.Values.{Declaration}
+use Rattle.lay_style.specs.InitialStyle.{initial_style}
+use Rattle.lay_style.specs.ComputedStyle.{HasStyles, style_at, parent_style, computed_style, declarations_at}
 use Rattle.lay_doc.specs.Tree.{IsTree}
-use Rattle.lay_doc.specs.InitialStyle.{initial_style}
-use Rattle.lay_doc.specs.ComputedStyle.{HasStyles, style_at, parent_style, computed_style, declarations_at}
 use Rattle.lay_doc.specs.Laws.{OneStyleColumn}
 
 -- lists that agree at each place are equal

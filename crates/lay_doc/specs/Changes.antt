@@ -1,12 +1,13 @@
 -- A change of one node, of its declarations or its text: its first fault, and the document after it.
 use Rattle.std.specs.Prelude.{ℕ, zero, suc, ◌-◌, not, List, [], ◌∷◌, slice_index, Option, Some, None, if◌then◌else◌}
+use Rattle.lay_style.specs.declared.property.Property.{Property}
+use Rattle.lay_style.specs.Values.{Declaration}
+use Rattle.lay_style.specs.Declarations.{with_declaration, without_declaration}
+use Rattle.lay_style.specs.Places.{place_of}
 use Rattle.lay_doc.specs.declared.node.Node.{Node}
-use Rattle.lay_doc.specs.declared.property.Property.{Property}
 use Rattle.lay_doc.specs.declared.edit.EditFault.{EditFault}
 use Rattle.lay_doc.specs.declared.edit.EditFault.TheVariants.{NoNode, NotElement, NotText, TextTooLong}
-use Rattle.lay_doc.specs.Values.{Declaration}
-use Rattle.lay_doc.specs.Declarations.{with_declaration, without_declaration}
-use Rattle.lay_doc.specs.Document.{Document, ids_of, text_lengths_of, text_size, is_text_at, is_too_long, place_of}
+use Rattle.lay_doc.specs.Document.{Document, ids_of, text_lengths_of, text_size, is_text_at, is_too_long}
 
 -- the first fault of changing the declarations of the node with this id: a text has none
 abbrev pub style_fault : Document → ℕ → Option EditFault

@@ -1,7 +1,8 @@
 -- A document: a viewport in px, and its nodes in document order, each with the place of its parent.
-use Rattle.std.specs.Prelude.{ℕ, zero, ◌≡◌, ◌+◌, ◌<◌, ◌≤◌, List, [], ◌∷◌, map, length, sum_by, slice_index, Option, Some, None, option_map, suc, ◌==◌, ◌||◌, nat_lt, Bool, true, false, if◌then◌else◌}
+use Rattle.std.specs.Prelude.{ℕ, zero, ◌≡◌, ◌+◌, ◌<◌, ◌≤◌, List, [], ◌∷◌, map, length, sum_by, slice_index, suc, ◌||◌, nat_lt, Bool, true, false}
 use Rattle.std.specs.List.{All, insert}
 use Rattle.lay_units.specs.Limits.{longest_text, most_depth, most_nodes, most_text}
+use Rattle.lay_style.specs.Values.{Declaration}
 use Rattle.lay_doc.specs.declared.node.Node.{Node}
 use Rattle.lay_doc.specs.NewNodes.{NewNodeValue, IsNodeForm, is_element, is_text}
 use Rattle.lay_doc.specs.Tree.{IsTree, shifted}
@@ -23,6 +24,10 @@ depths_of nodes = map (λ n. n.depth) nodes
 abbrev pub text_lengths_of : List Node → List ℕ
 text_lengths_of nodes = map (λ n. length n.text) nodes
 
+-- the declarations of a document's nodes
+abbrev pub declarations_of : List Node → List (List Declaration)
+declarations_of nodes = map (λ n. n.decls) nodes
+
 -- the bytes of all texts together
 abbrev pub text_size : List Node → ℕ
 text_size nodes = sum_by (λ n. length n.text) nodes
@@ -42,11 +47,6 @@ abbrev pub is_text_at : List Node → ℕ → Bool
 is_text_at [] k = false
 is_text_at (n ∷ ns) zero = is_text n.kind
 is_text_at (n ∷ ns) (suc k) = is_text_at ns k
-
--- the place of the first of these ids that is `id`
-abbrev pub place_of : ℕ → List ℕ → Option ℕ
-place_of id [] = None
-place_of id (x ∷ xs) = if x == id then Some 0 else option_map suc (place_of id xs)
 
 -- the node is what one of its kind may be
 abbrev pub IsNode : Node → Type 0

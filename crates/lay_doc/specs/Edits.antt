@@ -1,6 +1,7 @@
 -- The first fault of an edit, and the document after an edit that has none.
 use Rattle.std.specs.Prelude.{ℕ, ◌+◌, ◌==◌, ◌||◌, not, List, length, slice_index, Option, Some, None, nat_lt, nat_le, is_some, if◌then◌else◌}
 use Rattle.lay_units.specs.Limits.{most_depth, most_nodes}
+use Rattle.lay_style.specs.Places.{place_of}
 use Rattle.lay_doc.specs.declared.node.Node.{Node}
 use Rattle.lay_doc.specs.declared.edit.Edit.{Edit}
 use Rattle.lay_doc.specs.declared.edit.Edit.TheVariants.{SetStyle, ClearStyle, SetText, Insert, Remove, Bad}
@@ -10,7 +11,7 @@ use Rattle.lay_doc.specs.declared.edit.EditFault.{EditFault}
 use Rattle.lay_doc.specs.declared.edit.EditFault.TheVariants.{NoNode, NotElement, IdTaken, BadIndex, TooManyNodes, TooDeep, TextTooLong, BadProperty, BadValue}
 use Rattle.lay_doc.specs.NewNodes.{NewNodeValue, is_element}
 use Rattle.lay_doc.specs.Tree.{child_count, slot_of}
-use Rattle.lay_doc.specs.Document.{Document, parents_of, ids_of, depths_of, text_size, is_element_at, is_too_long, place_of, inserted, becomes}
+use Rattle.lay_doc.specs.Document.{Document, parents_of, ids_of, depths_of, text_size, is_element_at, is_too_long, inserted, becomes}
 use Rattle.lay_doc.specs.Changes.{style_fault, text_fault, with_style, without_style, with_text, after_change}
 use Rattle.lay_doc.specs.Removal.{remove_fault, after_remove}
 

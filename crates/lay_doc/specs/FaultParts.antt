@@ -2,10 +2,11 @@
 -- the limits. The fault of the index stands between them.
 use Rattle.std.specs.Prelude.{ℕ, ◌==◌, ◌||◌, not, List, length, slice_index, Option, Some, None, nat_le, is_some, if◌then◌else◌}
 use Rattle.lay_units.specs.Limits.{most_depth, most_nodes}
+use Rattle.lay_style.specs.Places.{place_of}
 use Rattle.lay_doc.specs.declared.node.Node.{Node}
 use Rattle.lay_doc.specs.declared.edit.EditFault.{EditFault}
 use Rattle.lay_doc.specs.declared.edit.EditFault.TheVariants.{NotElement, IdTaken, TooManyNodes, TooDeep, TextTooLong}
-use Rattle.lay_doc.specs.Document.{ids_of, depths_of, is_element_at, is_too_long, place_of}
+use Rattle.lay_doc.specs.Document.{ids_of, depths_of, is_element_at, is_too_long}
 
 abbrev pub parent_or_id_fault : List Node → ℕ → ℕ → Option EditFault
 parent_or_id_fault nodes p id =

@@ -3,8 +3,9 @@
 use Rattle.std.specs.Prelude.{ℕ, ◌≡◌, ◌<◌, List, length, slice_index, Option, option_map, IfSome}
 use Rattle.std.specs.BTreeMap.{get}
 use Rattle.std.specs.Ordering.{nat_cmp}
+use Rattle.lay_style.specs.Places.{place_of}
 use Rattle.lay_doc.specs.declared.index.IdIndex.{IdIndex}
-use Rattle.lay_doc.specs.Document.{Document, IsDocument, ids_of, text_size, place_of}
+use Rattle.lay_doc.specs.Document.{Document, IsDocument, ids_of, text_size}
 
 -- the number of the insertion of this id
 abbrev pub number_in : IdIndex → ℕ → Option ℕ

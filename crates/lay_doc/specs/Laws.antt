@@ -1,15 +1,15 @@
 -- An edit without a fault leaves a document, and the computed styles of a document's nodes are the only ones that meet
 -- their definition.
 use Rattle.std.specs.Prelude.{ℕ, ◌≡◌, List, None}
+use Rattle.lay_style.specs.declared.style.Style.{Style}
+use Rattle.lay_style.specs.Values.{Declaration}
+use Rattle.lay_style.specs.ComputedStyle.{HasStyles}
 use Rattle.lay_doc.specs.declared.edit.Edit.{Edit}
 use Rattle.lay_doc.specs.declared.edit.Edit.TheVariants.{Insert}
 use Rattle.lay_doc.specs.Document.{Document, IsDocument}
 use Rattle.lay_doc.specs.Edits.{fault, after}
 use Rattle.lay_doc.specs.NewNodes.{IsNodeForm}
-use Rattle.lay_doc.specs.declared.style.Style.{Style}
-use Rattle.lay_doc.specs.Values.{Declaration}
 use Rattle.lay_doc.specs.Tree.{IsTree}
-use Rattle.lay_doc.specs.ComputedStyle.{HasStyles}
 
 abbrev pub OneStyleColumn : Type 0
 OneStyleColumn = (parents : List ℕ) (decls : List (List Declaration)) (ss ts : List Style) → IsTree parents → HasStyles parents decls ss → HasStyles parents decls ts → ss ≡ ts

@@ -1,7 +1,3 @@
-pub mod PropertyNumbers
-pub mod Words
-pub mod Values
-pub mod Declarations
 pub mod NewNodes
 pub mod Tree
 pub mod Document
@@ -11,10 +7,4 @@ pub mod Edits
 pub mod NodeRefs
 pub mod Index
 pub mod FaultParts
-pub mod Inheritance
-pub mod KeywordValues
-pub mod LengthValues
-pub mod InitialStyle
-pub mod ComputedStyle
 pub mod Laws
-pub mod NumberKinds

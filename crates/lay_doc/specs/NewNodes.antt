@@ -1,6 +1,6 @@
 -- What a node may be: an element with spans, a text, or a replaced element with a natural size.
 use Rattle.std.specs.Prelude.{ℕ, ◌≤◌, List, ◌≡◌, [], Bool, true, false, pos, ◌≤ℤ◌}
-use Rattle.lay_doc.specs.Values.{Declaration}
+use Rattle.lay_style.specs.Values.{Declaration}
 use Rattle.lay_doc.specs.declared.node.NodeId.{NodeId}
 use Rattle.lay_doc.specs.declared.node.Kind.{Kind}
 use Rattle.lay_doc.specs.declared.node.Kind.TheVariants.{Element, Text, Replaced}

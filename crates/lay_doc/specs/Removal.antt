@@ -1,11 +1,12 @@
 -- The removal of a node with its descendants: its first fault, and the document after it.
 use Rattle.std.specs.Prelude.{ℕ, ◌-◌, ◌==◌, List, map, Option, Some, None, nat_lt, if◌then◌else◌}
 use Rattle.std.specs.List.{remove_range}
+use Rattle.lay_style.specs.Places.{place_of}
 use Rattle.lay_doc.specs.declared.node.Node.{Node}
 use Rattle.lay_doc.specs.declared.edit.EditFault.{EditFault}
 use Rattle.lay_doc.specs.declared.edit.EditFault.TheVariants.{NoNode, RootFixed}
 use Rattle.lay_doc.specs.Tree.{end_of}
-use Rattle.lay_doc.specs.Document.{Document, parents_of, ids_of, place_of}
+use Rattle.lay_doc.specs.Document.{Document, parents_of, ids_of}
 
 -- the first fault of removing the node with this id: the root, which stands at place 0, stays
 abbrev pub remove_fault : Document → ℕ → Option EditFault

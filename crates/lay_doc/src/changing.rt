@@ -3,9 +3,8 @@
 ghost use Rattle.std.specs.Prelude.{◌≡◌, ◌<◌, length, OnOk, OnErr};
 ghost use Rattle.lay_doc.specs.Changes.{with_style, without_style, with_text, changed_at};
 
-use crate::declaration::Decl;
 use crate::node::Node;
-use crate::property::Property;
+use lay_style::{Decl, Property};
 use lay_units::{NoMemory, Text};
 
 /// Sets a declaration of the node at a place. On an error all is as before.

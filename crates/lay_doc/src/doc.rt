@@ -2,7 +2,8 @@
 
 ghost use Rattle.std.specs.Prelude.{◌≡◌, ◌↔◌, ◌+◌, ◌<◌, ◌≤◌, ◌==◌, length, slice_index, true, false, Some, None, Err, IfOk, IfErr, IfSome, OnOk, OnErr};
 ghost use Rattle.lay_units.specs.Limits.{longest_text, most_depth, most_nodes, most_text};
-ghost use Rattle.lay_doc.specs.Document.{IsDocument, ids_of, parents_of, depths_of, text_size, is_element_at, is_text_at, place_of, inserted, becomes, root_document};
+ghost use Rattle.lay_style.specs.Places.{place_of};
+ghost use Rattle.lay_doc.specs.Document.{IsDocument, ids_of, parents_of, depths_of, text_size, is_element_at, is_text_at, inserted, becomes, root_document};
 ghost use Rattle.lay_doc.specs.NodeRefs.{node_at, parent_id};
 ghost use Rattle.lay_doc.specs.Tree.{IsSlot, children_before, child_count, end_of};
 ghost use Rattle.lay_doc.specs.Changes.{style_fault, text_fault, text_fault_at, with_style, without_style, with_text, changed_at, after_change};
@@ -11,7 +12,6 @@ ghost use Rattle.lay_doc.specs.Edits.{root_fault, fault, after, insert_fault, fa
 
 use crate::changing::{clear_style, set_style, set_text};
 use crate::columns::{depth_at, id_at, is_element_at, is_text_at, parent_at, text_bytes_at};
-use crate::declaration::Decl;
 use crate::edit::{Edit, EditFault};
 use crate::faults::{limit_fault, parent_or_id_fault, text_fault_at};
 use crate::index::IdIndex;
@@ -19,8 +19,8 @@ use crate::insertion::put_node;
 use crate::node::{NewNode, Node, NodeId, copy_nodes};
 use crate::node_ref::NodeRef;
 use crate::placing::{child_count, last_slot, slot};
-use crate::property::Property;
 use crate::removal::{remove_between, text_bytes_between};
+use lay_style::{Decl, Property};
 use lay_units::{NoMemory, Text};
 use std::alloc::Global;
 use std::marker::Model;

@@ -3,9 +3,8 @@
 ghost use Rattle.std.specs.Prelude.{◌≡◌};
 ghost use Rattle.lay_doc.specs.Edits.{bad_fault};
 
-use crate::declaration::Decl;
 use crate::node::{NewNode, NodeId};
-use crate::property::Property;
+use lay_style::{Decl, Property};
 use lay_units::Text;
 
 /// A change of a document.

@@ -3,7 +3,8 @@
 ghost use Rattle.std.specs.Prelude.{◌≡◌, ◌<◌, ◌≤◌, ℕ, None, length, map, slice_index, slice_index_or, slice_set, vec_capacity, vec_len, OnOk, OnErr};
 ghost use Rattle.std.specs.List.{insert};
 ghost use Rattle.lay_units.specs.Limits.{most_nodes};
-ghost use Rattle.lay_doc.specs.Document.{ids_of, parents_of, place_of, moved, inserted};
+ghost use Rattle.lay_style.specs.Places.{place_of};
+ghost use Rattle.lay_doc.specs.Document.{ids_of, parents_of, moved, inserted};
 ghost use Rattle.lay_doc.specs.Tree.{IsTree};
 ghost use Rattle.lay_doc.specs.declared.node.Node.{Node};
 ghost use Rattle.lay_doc.specs.Index.{IsIndexOf};

@@ -1,22 +1,11 @@
 //! Laws of the definitions.
 
-ghost use Rattle.lay_doc.specs.Declarations.{SetsOne, ClearsOne};
 ghost use Rattle.lay_doc.specs.Tree.{OneSlot, HasSubtree};
 ghost use Rattle.lay_doc.specs.Laws.{EditsLeaveDocuments, OneStyleColumn};
 
 /// In a tree the slot of an index is the only one.
 pub fn one_slot()
     ensures { OneSlot }
-{}
-
-/// To set a declaration changes what is declared for its property alone.
-pub fn sets_one()
-    ensures { SetsOne }
-{}
-
-/// To take a declaration away changes what is declared for its property alone.
-pub fn clears_one()
-    ensures { ClearsOne }
 {}
 
 /// A node and its descendants stand together, up to the node's end.

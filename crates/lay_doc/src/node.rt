@@ -4,7 +4,7 @@ ghost use Rattle.std.specs.Prelude.{◌≡◌, ◌≤◌, [], ℤ, pos, ◌≤�
 ghost use Rattle.lay_doc.specs.Document.{becomes};
 ghost use Rattle.lay_doc.specs.NewNodes.{is_element, is_text};
 
-use crate::declaration::Decls;
+use lay_style::Decls;
 use lay_units::{NoMemory, Text, Unit};
 use std::alloc::Global;
 use std::marker::Model;

@@ -2,8 +2,8 @@
 
 ghost use Rattle.std.specs.Prelude.{◌≡◌};
 
-use crate::declaration::Decls;
 use crate::node::{Kind, Node, NodeId};
+use lay_style::Decls;
 use lay_units::Text;
 use std::marker::Model;
 

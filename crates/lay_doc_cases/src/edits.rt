@@ -16,7 +16,8 @@
 use crate::case::Subject;
 use crate::notation::{declaration, done, shown, two_numbers};
 use anyhow::{Result, bail};
-use lay_doc::{Decls, Doc, Edit, NewNode, NodeId, NodeRef};
+use lay_doc::{Doc, Edit, NewNode, NodeId, NodeRef};
+use lay_style::Decls;
 use lay_units::{NoMemory, Text};
 use lay_values::property_of;
 use std::alloc::Global;

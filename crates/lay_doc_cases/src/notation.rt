@@ -1,6 +1,6 @@
 //! What several kinds of calls write alike.
 
-use lay_doc::{Decl, Decls};
+use lay_style::{Decl, Decls};
 use lay_units::NoMemory;
 use lay_values::read;
 use std::alloc::{AllocError, Global};

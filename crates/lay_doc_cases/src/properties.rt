@@ -1,7 +1,7 @@
 //! The values of a computed style, property by property.
 
 use crate::notation::shown;
-use lay_doc::{Property, Style};
+use lay_style::{Property, Style};
 use std::alloc::{AllocError, Global};
 
 /// The properties, by their names.

@@ -7,8 +7,9 @@
 use crate::case::Subject;
 use crate::notation::declarations;
 use crate::properties::{PROPERTIES, computed_value};
-use lay_doc::{Decls, Doc, NewNode, NodeId, Style};
+use lay_doc::{Doc, NewNode, NodeId};
 use lay_inherit::computed;
+use lay_style::{Decls, Style};
 use lay_units::NoMemory;
 use lay_values::property_of;
 use std::alloc::Global;

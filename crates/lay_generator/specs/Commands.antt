@@ -2,7 +2,7 @@
 -- last version.
 use Rattle.std.specs.Prelude.{ℕ, zero, suc, ◌+◌, ◌-◌, ◌*◌, ◌%◌, ◌==◌, Bool, List, [], ◌∷◌, ◌++◌, length}
 use Rattle.std.specs.List.{filter, range_with_len}
-use Rattle.lay_doc.specs.declared.property.Property.TheVariants.{PaddingLeft}
+use Rattle.lay_style.specs.declared.property.Property.TheVariants.{PaddingLeft}
 use Rattle.lay_doc.specs.declared.edit.Edit.TheVariants.{SetStyle}
 use Rattle.lay_doc.specs.declared.command.Cmd.{Cmd}
 use Rattle.lay_doc.specs.declared.command.Cmd.TheVariants.{Edit, Sync}

@@ -2,13 +2,13 @@
 -- come sections of four nodes each: a block formatting context with a float and a block that holds a text.
 use Rattle.std.specs.Prelude.{ℕ, zero, suc, ◌+◌, ◌*◌, ◌%◌, ◌==◌, pos, List, [], ◌∷◌, ◌++◌, codes, if◌then◌else◌}
 use Rattle.std.specs.List.{repeat}
+use Rattle.lay_style.specs.declared.property.Property.TheVariants.{Display, Float, Height, MarginTop, Overflow, Width}
+use Rattle.lay_style.specs.declared.property.Word.TheVariants.{Block, Hidden, Left, Right}
+use Rattle.lay_style.specs.declared.property.Given.{Given}
+use Rattle.lay_style.specs.declared.property.Given.TheVariants.{Keyword, Length}
+use Rattle.lay_style.specs.Values.{Declaration}
 use Rattle.lay_doc.specs.declared.node.NodeId.{NodeId}
 use Rattle.lay_doc.specs.declared.node.Kind.TheVariants.{Element, Text}
-use Rattle.lay_doc.specs.declared.property.Property.TheVariants.{Display, Float, Height, MarginTop, Overflow, Width}
-use Rattle.lay_doc.specs.declared.property.Word.TheVariants.{Block, Hidden, Left, Right}
-use Rattle.lay_doc.specs.declared.property.Given.{Given}
-use Rattle.lay_doc.specs.declared.property.Given.TheVariants.{Keyword, Length}
-use Rattle.lay_doc.specs.Values.{Declaration}
 use Rattle.lay_doc.specs.NewNodes.{NewNodeValue}
 use Rattle.lay_generator.specs.Draws.{draw, next, state_after}
 

@@ -8,8 +8,9 @@ ghost use Rattle.lay_generator.specs.Commands.{is_of, paddings, script, script_e
 
 use crate::draws::Draws;
 use crate::nodes::{decl, px};
-use lay_doc::{Cmd, CmdList, Edit, NodeId, Property};
+use lay_doc::{Cmd, CmdList, Edit, NodeId};
 use lay_json::ScriptList;
+use lay_style::Property;
 use lay_units::NoMemory;
 use std::alloc::Global;
 

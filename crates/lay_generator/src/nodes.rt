@@ -1,13 +1,14 @@
 //! The nodes of a generated document.
 
 ghost use Rattle.std.specs.Prelude.{◌≡◌, ◌+◌, ◌*◌, ◌%◌, ◌<◌, ◌≤◌, ◌^◌, ◌++◌, IfOk, OnOk, IsTrue, codes, if◌then◌else◌, ◌==◌, string_bytes};
-ghost use Rattle.lay_doc.specs.Values.{is_value_of};
-ghost use Rattle.lay_doc.specs.Declarations.{with_declaration};
+ghost use Rattle.lay_style.specs.Values.{is_value_of};
+ghost use Rattle.lay_style.specs.Declarations.{with_declaration};
 ghost use Rattle.lay_generator.specs.Draws.{draw, next, state_after};
 ghost use Rattle.lay_generator.specs.Nodes.{block, container, element, float_box, more_count, more_words, px, root, text, word, words};
 
 use crate::draws::Draws;
-use lay_doc::{Decl, Decls, Given, NewNode, NodeId, Property, Word};
+use lay_doc::{NewNode, NodeId};
+use lay_style::{Decl, Decls, Given, Property, Word};
 use lay_units::{NoMemory, Text, Unit};
 use std::alloc::Global;
 

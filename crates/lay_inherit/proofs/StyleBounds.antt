@@ -3,21 +3,21 @@ use Rattle.std.proofs.Common.{◌≡◌, ℕ, zero, suc, ◌<◌, ◌≤◌, Lis
 use Rattle.std.proofs.lemmas.Int.{ints}
 use Rattle.std.proofs.lemmas.Bool.{cases_lt}
 use Rattle.lay_units.specs.declared.length.Unit.{Unit as Length}
-use Rattle.lay_doc.specs.declared.property.Property.TheVariants.{Top, Right, Bottom, Left, Width, Height, MinWidth, MinHeight, MaxWidth, MaxHeight, MarginTop, MarginRight, MarginBottom, MarginLeft, PaddingTop, PaddingRight, PaddingBottom, PaddingLeft, BorderTopWidth, BorderRightWidth, BorderBottomWidth, BorderLeftWidth, FontSize, LineHeight, TextIndent, LetterSpacing, WordSpacing, VerticalAlign, BorderSpacing}
-use Rattle.lay_doc.specs.declared.style.Edges.{Edges}
-use Rattle.lay_doc.specs.declared.style.Sizing.{Sizing}
-use Rattle.lay_doc.specs.declared.style.TextStyle.{TextStyle}
-use Rattle.lay_doc.specs.declared.style.Style.{Style}
-use Rattle.lay_doc.specs.declared.style_words.BorderStyle.{BorderStyle}
-use Rattle.lay_doc.specs.declared.style_words.BorderStyle.TheVariants as border
-use Rattle.lay_doc.specs.declared.style_lengths.LengthPercentageOrAuto.{LengthPercentageOrAuto}
-use Rattle.lay_doc.specs.declared.style_lengths.LengthPercentage.{LengthPercentage}
+use Rattle.lay_style.specs.declared.property.Property.TheVariants.{Top, Right, Bottom, Left, Width, Height, MinWidth, MinHeight, MaxWidth, MaxHeight, MarginTop, MarginRight, MarginBottom, MarginLeft, PaddingTop, PaddingRight, PaddingBottom, PaddingLeft, BorderTopWidth, BorderRightWidth, BorderBottomWidth, BorderLeftWidth, FontSize, LineHeight, TextIndent, LetterSpacing, WordSpacing, VerticalAlign, BorderSpacing}
+use Rattle.lay_style.specs.declared.style.Edges.{Edges}
+use Rattle.lay_style.specs.declared.style.Sizing.{Sizing}
+use Rattle.lay_style.specs.declared.style.TextStyle.{TextStyle}
+use Rattle.lay_style.specs.declared.style.Style.{Style}
+use Rattle.lay_style.specs.declared.style_words.BorderStyle.{BorderStyle}
+use Rattle.lay_style.specs.declared.style_words.BorderStyle.TheVariants as border
+use Rattle.lay_style.specs.declared.style_lengths.LengthPercentageOrAuto.{LengthPercentageOrAuto}
+use Rattle.lay_style.specs.declared.style_lengths.LengthPercentage.{LengthPercentage}
+use Rattle.lay_style.specs.Values.{Declaration}
+use Rattle.lay_style.specs.Inheritance.{cascaded}
+use Rattle.lay_style.specs.LengthValues.{px, offset_of, size_or_auto_of, size_measure_of, size_or_none_of, indent_of, spacing_of, border_width_of, font_size_of, line_height_of, vertical_align_of, border_spacing_of}
+use Rattle.lay_style.specs.InitialStyle.{initial_style}
+use Rattle.lay_style.specs.ComputedStyle.{HasStyles, font_size, offsets, margins, paddings, width_of_style, border_styles, border_widths, sizing, text_style, styled, computed_style, style_at, parent_style, declarations_at}
 use Rattle.lay_doc.specs.Tree.{IsTree}
-use Rattle.lay_doc.specs.Values.{Declaration}
-use Rattle.lay_doc.specs.Inheritance.{cascaded}
-use Rattle.lay_doc.specs.LengthValues.{px, offset_of, size_or_auto_of, size_measure_of, size_or_none_of, indent_of, spacing_of, border_width_of, font_size_of, line_height_of, vertical_align_of, border_spacing_of}
-use Rattle.lay_doc.specs.InitialStyle.{initial_style}
-use Rattle.lay_doc.specs.ComputedStyle.{HasStyles, font_size, offsets, margins, paddings, width_of_style, border_styles, border_widths, sizing, text_style, styled, computed_style, style_at, parent_style, declarations_at}
 use Rattle.lay_inherit.specs.StylesFit.{SizeFits, LengthFits, OffsetFits, SizeOrAutoFits, SizeMeasureFits, SizeOrNoneFits, IndentFits, LineHeightFits, VerticalAlignFits, SpacingFits, EdgesFit, SizingFits, TextFits, StyleFits, StylesFit}
 use Rattle.lay_inherit.proofs.ValuesFit.{cascaded_fits, offset_fits, size_or_auto_fits, size_measure_fits, size_or_none_fits, indent_fits, spacing_fits, border_width_fits, font_size_fits, line_height_fits, vertical_align_fits, border_spacing_fits}
 

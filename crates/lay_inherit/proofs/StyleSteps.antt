@@ -2,10 +2,10 @@
 use Rattle.std.proofs.Common.{◌≡◌, ℕ, zero, suc, ◌+◌, ◌<◌, ◌≤◌, List, [], ◌∷◌, ◌++◌, length, get_or, map, refl, sym, ap, ◌∙◌, arith, inl, inr}
 use Rattle.std.proofs.lemmas.Bool.{cases_lt}
 use Rattle.std.proofs.lemmas.Grind.{elements}
+use Rattle.lay_style.specs.Values.{Declaration}
+use Rattle.lay_style.specs.declared.style.Style.{Style}
+use Rattle.lay_style.specs.ComputedStyle.{HasStyles, style_at, computed_style, parent_style, declarations_at}
 use Rattle.lay_doc.specs.Tree.{IsTree}
-use Rattle.lay_doc.specs.Values.{Declaration}
-use Rattle.lay_doc.specs.declared.style.Style.{Style}
-use Rattle.lay_doc.specs.ComputedStyle.{HasStyles, style_at, computed_style, parent_style, declarations_at}
 use Rattle.lay_inherit.specs.StylesTo.{StylesTo}
 
 pub length-column : {X Y : Type 0} (f : X → Y) (xs : List X) → length (map f xs) ≡ length xs

@@ -3,16 +3,16 @@ use Rattle.std.proofs.Common.{ℤ, pos, ◌*ℤ◌, arith, Bool, true, false, Op
 use Rattle.std.proofs.lemmas.Int.{ints, clamps}
 use Rattle.lay_units.specs.declared.length.Unit.{Unit as Length}
 use Rattle.lay_units.specs.Units.{clamp_of, clamp_size_of, floor_div, IsUsed, IsUsedSize}
-use Rattle.lay_doc.specs.declared.property.Word.TheVariants as word
-use Rattle.lay_doc.specs.declared.property.OneLength.{OneLength}
-use Rattle.lay_doc.specs.declared.property.OneLength.TheVariants as one
-use Rattle.lay_doc.specs.declared.property.Property.{Property}
-use Rattle.lay_doc.specs.declared.property.Given.{Given}
-use Rattle.lay_doc.specs.declared.property.Given.TheVariants as given
-use Rattle.lay_doc.specs.Values.{Declaration}
-use Rattle.lay_doc.specs.Declarations.{declared_value}
-use Rattle.lay_doc.specs.Inheritance.{is_inherited, value_from, cascaded}
-use Rattle.lay_doc.specs.LengthValues.{ems_of, percents_of, offset_of, size_or_auto_of, size_measure_of, size_or_none_of, indent_of, spacing_of, border_width_of, font_size_of, line_height_of, vertical_align_of, one_spacing_of, border_spacing_of}
+use Rattle.lay_style.specs.declared.property.Word.TheVariants as word
+use Rattle.lay_style.specs.declared.property.OneLength.{OneLength}
+use Rattle.lay_style.specs.declared.property.OneLength.TheVariants as one
+use Rattle.lay_style.specs.declared.property.Property.{Property}
+use Rattle.lay_style.specs.declared.property.Given.{Given}
+use Rattle.lay_style.specs.declared.property.Given.TheVariants as given
+use Rattle.lay_style.specs.Values.{Declaration}
+use Rattle.lay_style.specs.Declarations.{declared_value}
+use Rattle.lay_style.specs.Inheritance.{is_inherited, value_from, cascaded}
+use Rattle.lay_style.specs.LengthValues.{ems_of, percents_of, offset_of, size_or_auto_of, size_measure_of, size_or_none_of, indent_of, spacing_of, border_width_of, font_size_of, line_height_of, vertical_align_of, one_spacing_of, border_spacing_of}
 use Rattle.lay_inherit.specs.StylesFit.{LengthFits, SizeFits, OffsetFits, SizeOrAutoFits, SizeMeasureFits, SizeOrNoneFits, IndentFits, LineHeightFits, VerticalAlignFits, SpacingFits}
 
 length_fits : (v : ℤ) → IsUsed (clamp_of v)

@@ -4,24 +4,24 @@
 use Rattle.std.specs.Prelude.{ℕ, List, ⊤}
 use Rattle.lay_units.specs.Units.{IsUsed, IsUsedSize}
 use Rattle.lay_units.specs.declared.length.Unit.{Unit as Length}
-use Rattle.lay_doc.specs.declared.style.Edges.{Edges}
-use Rattle.lay_doc.specs.declared.style.Sizing.{Sizing}
-use Rattle.lay_doc.specs.declared.style.TextStyle.{TextStyle}
-use Rattle.lay_doc.specs.declared.style.Style.{Style}
-use Rattle.lay_doc.specs.declared.style_lengths.LengthPercentageOrAuto.{LengthPercentageOrAuto}
-use Rattle.lay_doc.specs.declared.style_lengths.LengthPercentageOrAuto.TheVariants as or_auto
-use Rattle.lay_doc.specs.declared.style_lengths.LengthPercentage.{LengthPercentage}
-use Rattle.lay_doc.specs.declared.style_lengths.LengthPercentage.TheVariants as measure
-use Rattle.lay_doc.specs.declared.style_lengths.LengthPercentageOrNone.{LengthPercentageOrNone}
-use Rattle.lay_doc.specs.declared.style_lengths.LengthPercentageOrNone.TheVariants as or_none
-use Rattle.lay_doc.specs.declared.style_lengths.LineHeight.{LineHeight}
-use Rattle.lay_doc.specs.declared.style_lengths.LineHeight.TheVariants as line
-use Rattle.lay_doc.specs.declared.style_lengths.VerticalAlign.{VerticalAlign}
-use Rattle.lay_doc.specs.declared.style_lengths.VerticalAlign.TheVariants as vertical
-use Rattle.lay_doc.specs.declared.style_lengths.BorderSpacing.{BorderSpacing}
+use Rattle.lay_style.specs.declared.style.Edges.{Edges}
+use Rattle.lay_style.specs.declared.style.Sizing.{Sizing}
+use Rattle.lay_style.specs.declared.style.TextStyle.{TextStyle}
+use Rattle.lay_style.specs.declared.style.Style.{Style}
+use Rattle.lay_style.specs.declared.style_lengths.LengthPercentageOrAuto.{LengthPercentageOrAuto}
+use Rattle.lay_style.specs.declared.style_lengths.LengthPercentageOrAuto.TheVariants as or_auto
+use Rattle.lay_style.specs.declared.style_lengths.LengthPercentage.{LengthPercentage}
+use Rattle.lay_style.specs.declared.style_lengths.LengthPercentage.TheVariants as measure
+use Rattle.lay_style.specs.declared.style_lengths.LengthPercentageOrNone.{LengthPercentageOrNone}
+use Rattle.lay_style.specs.declared.style_lengths.LengthPercentageOrNone.TheVariants as or_none
+use Rattle.lay_style.specs.declared.style_lengths.LineHeight.{LineHeight}
+use Rattle.lay_style.specs.declared.style_lengths.LineHeight.TheVariants as line
+use Rattle.lay_style.specs.declared.style_lengths.VerticalAlign.{VerticalAlign}
+use Rattle.lay_style.specs.declared.style_lengths.VerticalAlign.TheVariants as vertical
+use Rattle.lay_style.specs.declared.style_lengths.BorderSpacing.{BorderSpacing}
+use Rattle.lay_style.specs.Values.{Declaration}
+use Rattle.lay_style.specs.ComputedStyle.{HasStyles, style_at}
 use Rattle.lay_doc.specs.Tree.{IsTree}
-use Rattle.lay_doc.specs.Values.{Declaration}
-use Rattle.lay_doc.specs.ComputedStyle.{HasStyles, style_at}
 
 abbrev pub LengthFits : Length → Type 0
 LengthFits u = IsUsed u.0

@@ -1,11 +1,11 @@
 //! Where a property's value on a node comes from (CSS 2.2, 6.1.1, 6.2 and 6.2.1).
 
 ghost use Rattle.std.specs.Prelude.{◌≡◌};
-ghost use Rattle.lay_doc.specs.Inheritance.{is_inherited, cascaded};
-ghost use Rattle.lay_doc.specs.declared.property.Given.{Given};
+ghost use Rattle.lay_style.specs.Inheritance.{is_inherited, cascaded};
+ghost use Rattle.lay_style.specs.declared.property.Given.{Given};
 ghost use Rattle.lay_inherit.specs.Rules.{Follows};
 
-use lay_doc::{Decls, Given, Property};
+use lay_style::{Decls, Given, Property};
 
 /// Whether the parent's value is taken where nothing is declared.
 fn is_inherited(property: Property) -> bool

@@ -1,10 +1,10 @@
 //! Initial values (CSS 2.2, 6.1.1), as the table of the properties has them.
 
 ghost use Rattle.std.specs.Prelude.{◌≡◌};
-ghost use Rattle.lay_doc.specs.InitialStyle.{all_sides, initial_style};
+ghost use Rattle.lay_style.specs.InitialStyle.{all_sides, initial_style};
 
 use crate::lengths::px;
-use lay_doc::{
+use lay_style::{
     BorderCollapse, BorderSpacing, BorderStyle, Borders, CaptionSide, Clear, Display, Edges,
     EmptyCells, Float, LengthPercentage, LengthPercentageOrAuto, LengthPercentageOrNone,
     LineHeight, Overflow, Position, Sizing, Style, TableLayout, TableStyle, TextAlign, TextStyle,

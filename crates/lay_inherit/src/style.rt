@@ -2,13 +2,13 @@
 //! initial one.
 
 ghost use Rattle.std.specs.Prelude.{◌≡◌};
-ghost use Rattle.lay_doc.specs.ComputedStyle.{font_size, offsets, margins, paddings, border_styles, width_of_style, border_widths, borders, sizing, text_style, table_style, styled, computed_style};
+ghost use Rattle.lay_style.specs.ComputedStyle.{font_size, offsets, margins, paddings, border_styles, width_of_style, border_widths, borders, sizing, text_style, table_style, styled, computed_style};
 
 use crate::cascade::cascaded;
 use crate::initial::initial_style;
 use crate::lengths::{font_size_of, px};
 use crate::own::Own;
-use lay_doc::{
+use lay_style::{
     BorderStyle, Borders, Decls, Edges, LengthPercentage, LengthPercentageOrAuto, Property, Sizing,
     Style, TableStyle, TextStyle,
 };

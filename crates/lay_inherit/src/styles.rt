@@ -1,14 +1,15 @@
 //! The styles of a document's nodes, from outer to inner ones.
 
 ghost use Rattle.std.specs.Prelude.{◌≡◌, ◌+◌, ◌<◌, ◌∷◌, [], ◌++◌, length, IfOk, OnOk};
+ghost use Rattle.lay_style.specs.ComputedStyle.{HasStyles, computed_style, parent_style, declarations_at};
 ghost use Rattle.lay_doc.specs.Tree.{IsTree};
-ghost use Rattle.lay_doc.specs.Document.{parents_of};
-ghost use Rattle.lay_doc.specs.ComputedStyle.{HasStyles, computed_style, parent_style, declarations_of, declarations_at};
+ghost use Rattle.lay_doc.specs.Document.{parents_of, declarations_of};
 ghost use Rattle.lay_inherit.specs.StylesTo.{StylesTo};
 
 use crate::initial::initial_style;
 use crate::style::computed_style;
-use lay_doc::{Computed, Decls, Doc, Node, Style, parent_at, style_at};
+use lay_doc::{Doc, Node, parent_at};
+use lay_style::{Computed, Decls, Style, style_at};
 use lay_units::NoMemory;
 use std::alloc::Global;
 

@@ -5,9 +5,9 @@
 -- A container with the text "a", an inline box that holds a float and the text "b", and the text "c" has the items
 -- "a", the start of the inline box, the float, "b", the end of the inline box, "c".
 use Rattle.std.specs.Prelude.{ℕ, ◌+◌, ◌==◌, List, [], ◌∷◌, ◌++◌, drop, if◌then◌else◌}
-use Rattle.lay_doc.specs.declared.style_words.WhiteSpace.{WhiteSpace}
-use Rattle.lay_doc.specs.declared.style_words.WhiteSpace.TheVariants as space
-use Rattle.lay_doc.specs.ComputedStyle.{style_at}
+use Rattle.lay_style.specs.declared.style_words.WhiteSpace.{WhiteSpace}
+use Rattle.lay_style.specs.declared.style_words.WhiteSpace.TheVariants as space
+use Rattle.lay_style.specs.ComputedStyle.{style_at}
 use Rattle.lay_boxgen.specs.BoxColumns.{box_styles}
 use Rattle.lay_boxgen.specs.Roles.{role_of}
 use Rattle.lay_boxgen.specs.declared.box_role.Role.{Role}

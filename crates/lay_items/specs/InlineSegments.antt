@@ -2,8 +2,8 @@
 -- space processing leaves of its items, each text with the widths of its words and spaces in its own box's font and spacings.
 use Rattle.std.specs.Prelude.{ℕ, List, [], false, Option, Some, None, slice_get, map}
 use Rattle.lay_units.specs.declared.records.ClusterWidth.{ClusterWidth}
-use Rattle.lay_doc.specs.declared.style.TextStyle.{TextStyle}
-use Rattle.lay_doc.specs.LengthValues.{length_of, size_of}
+use Rattle.lay_style.specs.declared.style.TextStyle.{TextStyle}
+use Rattle.lay_style.specs.LengthValues.{length_of, size_of}
 use Rattle.lay_boxgen.specs.declared.box_tree.BoxNode.{BoxNode}
 use Rattle.lay_face.specs.FaceValue.{FaceValue}
 use Rattle.lay_face.specs.Clusters.{widths_of}

@@ -2,16 +2,16 @@
 
 ghost use Rattle.std.specs.Prelude.{◌≡◌, slice_get, IfOk};
 ghost use Rattle.lay_units.specs.Units.{IsUsed};
-ghost use Rattle.lay_doc.specs.LengthValues.{length_of, size_of};
+ghost use Rattle.lay_style.specs.LengthValues.{length_of, size_of};
 ghost use Rattle.lay_face.specs.Clusters.{widths_of};
 ghost use Rattle.lay_items.specs.InlineSegments.{measured, measured_item, setting_of, widths_in};
 
 use crate::gathered::gathered;
 use crate::open_boxes::push_item;
 use lay_boxgen::BoxNode;
-use lay_doc::TextStyle;
 use lay_face::Face;
 use lay_space::{Item, ItemList};
+use lay_style::TextStyle;
 use lay_units::{MOST_TEXT, NoMemory, Unit, WidthList, clamp, clamp_size};
 use std::alloc::Global;
 

@@ -3,8 +3,8 @@
 ghost use Rattle.std.specs.Prelude.{◌≡◌};
 ghost use Rattle.lay_items.specs.InlineItems.{mode_of};
 
-use lay_doc::WhiteSpace;
 use lay_space::Mode;
+use lay_style::WhiteSpace;
 
 /// How a value of `white-space` treats white space (CSS 2.2, 16.6).
 pub fn mode_of(value: WhiteSpace) -> Mode

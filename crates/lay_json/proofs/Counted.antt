@@ -2,12 +2,13 @@
 use Rattle.std.proofs.Common.{◌≡◌, ◌+◌, ◌==◌, ℕ, List, length, refl, sym, ap, ◌∙◌, arith, Bool, true, false, Option, Some, None, Result, Ok, Err, if◌then◌else◌}
 use Rattle.std.specs.List.{insert}
 use Rattle.std.proofs.lemmas.Grind.{common_steps}
+use Rattle.lay_style.specs.Places.{place_of}
 use Rattle.lay_doc.specs.declared.node.NodeId.{NodeId}
 use Rattle.lay_doc.specs.declared.node.Node.{Node}
 use Rattle.lay_doc.specs.declared.edit.EditFault.{EditFault}
 use Rattle.lay_doc.specs.declared.edit.EditFault.TheVariants.{NoNode}
 use Rattle.lay_doc.specs.NewNodes.{NewNodeValue}
-use Rattle.lay_doc.specs.Document.{Document, ids_of, place_of, moved, inserted, root_document}
+use Rattle.lay_doc.specs.Document.{Document, ids_of, moved, inserted, root_document}
 use Rattle.lay_doc.specs.Edits.{insert_fault, after_insert, last_index, root_fault}
 use Rattle.lay_doc.proofs.NodeColumns.{length-column}
 use Rattle.lay_json.specs.declared.fault.InputFault.{InputFault}

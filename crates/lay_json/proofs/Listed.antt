@@ -4,6 +4,8 @@ use Rattle.std.specs.List.{insert}
 use Rattle.std.proofs.lemmas.List.{map-append, take-map, drop-map}
 use Rattle.std.proofs.lemmas.List.Sorted.{IsPermutation-refl, IsPermutation-insert, IsPermutation-push_more}
 use Rattle.serde_json.specs.Data.{Data, Members, Items, no_items, item}
+use Rattle.lay_style.specs.Values.{Declaration}
+use Rattle.lay_style.specs.Places.{place_of}
 use Rattle.lay_doc.specs.declared.node.NodeId.{NodeId}
 use Rattle.lay_doc.specs.declared.node.Node.{Node}
 use Rattle.lay_doc.specs.declared.node.Kind.{Kind}
@@ -11,9 +13,8 @@ use Rattle.lay_doc.specs.declared.node.Kind.TheVariants.{Element, Text, Replaced
 use Rattle.lay_doc.specs.declared.edit.EditFault.{EditFault}
 use Rattle.lay_doc.specs.declared.edit.EditFault.TheVariants.{NoNode}
 use Rattle.lay_doc.specs.declared.edit.BadDeclaration.{BadDeclaration}
-use Rattle.lay_doc.specs.Values.{Declaration}
 use Rattle.lay_doc.specs.NewNodes.{NewNodeValue}
-use Rattle.lay_doc.specs.Document.{Document, ids_of, place_of, moved, inserted, root_document}
+use Rattle.lay_doc.specs.Document.{Document, ids_of, moved, inserted, root_document}
 use Rattle.lay_doc.specs.Edits.{insert_fault, after_insert, last_index, root_fault}
 use Rattle.lay_json.specs.declared.fault.Field.{Field}
 use Rattle.lay_json.specs.declared.fault.Field.TheVariants.{Id, Parent, Nodes, Text as in_text}

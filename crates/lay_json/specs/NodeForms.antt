@@ -6,12 +6,12 @@ use Rattle.std.specs.Str.{bytes_eq}
 use Rattle.serde_json.specs.Data.{Data, Members, no_members, member}
 use Rattle.serde_json.specs.Find.{as_str, as_object}
 use Rattle.lay_units.specs.declared.length.Unit.{Unit}
+use Rattle.lay_style.specs.Values.{Declaration}
+use Rattle.lay_style.specs.Declarations.{with_declaration}
 use Rattle.lay_doc.specs.declared.node.Kind.{Kind as NodeKind}
 use Rattle.lay_doc.specs.declared.node.Kind.TheVariants.{Element, Text as text_kind, Replaced}
 use Rattle.lay_doc.specs.declared.edit.BadDeclaration.{BadDeclaration}
 use Rattle.lay_doc.specs.declared.edit.BadDeclaration.TheVariants.{Property as no_property, Value as no_value}
-use Rattle.lay_doc.specs.Values.{Declaration}
-use Rattle.lay_doc.specs.Declarations.{with_declaration}
 use Rattle.lay_doc.specs.NewNodes.{NewNodeValue}
 use Rattle.lay_values.specs.declared.reading.ValueFault.{ValueFault}
 use Rattle.lay_values.specs.declared.reading.ValueFault.TheVariants.{BadProperty}

@@ -9,7 +9,8 @@ ghost use Rattle.lay_json.specs.NodeForms.{bad_declaration, declaration_of, text
 use crate::fault::Field;
 use crate::fields::value_in;
 use crate::node_form::NodeForm;
-use lay_doc::{BadDeclaration, Decl, Decls, Kind, NewNode};
+use lay_doc::{BadDeclaration, Kind, NewNode};
+use lay_style::{Decl, Decls};
 use lay_units::{NoMemory, Text, Unit};
 use lay_values::{ValueFault, read};
 use serde_json::{Map, Value};

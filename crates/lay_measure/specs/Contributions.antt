@@ -4,14 +4,14 @@
 -- percentage counts as `auto` in `width`, as `none` in `max-width`, and else as 0; margins that are `auto` are 0 too.
 use Rattle.std.specs.Prelude.{ℤ, ◌+ℤ◌, Option, Some, None}
 use Rattle.lay_units.specs.declared.length.Unit.{Unit as Length}
-use Rattle.lay_doc.specs.LengthValues.{length_of, size_of}
-use Rattle.lay_doc.specs.declared.style.Style.{Style}
-use Rattle.lay_doc.specs.declared.style_lengths.LengthPercentage.{LengthPercentage}
-use Rattle.lay_doc.specs.declared.style_lengths.LengthPercentage.TheVariants as measure
-use Rattle.lay_doc.specs.declared.style_lengths.LengthPercentageOrAuto.{LengthPercentageOrAuto}
-use Rattle.lay_doc.specs.declared.style_lengths.LengthPercentageOrAuto.TheVariants as or_auto
-use Rattle.lay_doc.specs.declared.style_lengths.LengthPercentageOrNone.{LengthPercentageOrNone}
-use Rattle.lay_doc.specs.declared.style_lengths.LengthPercentageOrNone.TheVariants as or_none
+use Rattle.lay_style.specs.LengthValues.{length_of, size_of}
+use Rattle.lay_style.specs.declared.style.Style.{Style}
+use Rattle.lay_style.specs.declared.style_lengths.LengthPercentage.{LengthPercentage}
+use Rattle.lay_style.specs.declared.style_lengths.LengthPercentage.TheVariants as measure
+use Rattle.lay_style.specs.declared.style_lengths.LengthPercentageOrAuto.{LengthPercentageOrAuto}
+use Rattle.lay_style.specs.declared.style_lengths.LengthPercentageOrAuto.TheVariants as or_auto
+use Rattle.lay_style.specs.declared.style_lengths.LengthPercentageOrNone.{LengthPercentageOrNone}
+use Rattle.lay_style.specs.declared.style_lengths.LengthPercentageOrNone.TheVariants as or_none
 use Rattle.lay_heights.specs.MinMax.{with_min_max_of}
 use Rattle.lay_measure.specs.MeasureInValue.{no_length}
 

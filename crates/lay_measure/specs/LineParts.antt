@@ -4,8 +4,8 @@
 use Rattle.std.specs.Prelude.{ℕ, ◌+◌, ◌==◌, ℤ, pos, negsuc, Bool, true, false, not, ◌&&◌, ◌||◌, List, [], ◌∷◌, ◌++◌, Option, Some, None, slice_get, if◌then◌else◌}
 use Rattle.lay_units.specs.declared.length.Unit.{Unit as Length}
 use Rattle.lay_units.specs.declared.records.ClusterWidth.{ClusterWidth}
-use Rattle.lay_doc.specs.LengthValues.{size_of}
-use Rattle.lay_doc.specs.declared.style.Style.{Style}
+use Rattle.lay_style.specs.LengthValues.{size_of}
+use Rattle.lay_style.specs.declared.style.Style.{Style}
 use Rattle.lay_boxgen.specs.declared.box_tree.BoxKind.{BoxKind}
 use Rattle.lay_boxgen.specs.declared.box_tree.BoxKind.TheVariants as kind
 use Rattle.lay_boxgen.specs.declared.box_tree.BoxNode.{BoxNode}

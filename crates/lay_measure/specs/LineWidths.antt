@@ -9,10 +9,10 @@ use Rattle.std.specs.Prelude.{zero, suc, ℤ, pos, negsuc, ◌+ℤ◌, ◌*ℤ�
 use Rattle.std.specs.List.{list_any}
 use Rattle.std.specs.Int.{int_max, int_div_euclid}
 use Rattle.lay_units.specs.declared.length.Unit.{Unit as Length}
-use Rattle.lay_doc.specs.LengthValues.{length_of, size_of}
-use Rattle.lay_doc.specs.declared.style.TextStyle.{TextStyle}
-use Rattle.lay_doc.specs.declared.style_lengths.LengthPercentage.{LengthPercentage}
-use Rattle.lay_doc.specs.declared.style_lengths.LengthPercentage.TheVariants as measure
+use Rattle.lay_style.specs.LengthValues.{length_of, size_of}
+use Rattle.lay_style.specs.declared.style.TextStyle.{TextStyle}
+use Rattle.lay_style.specs.declared.style_lengths.LengthPercentage.{LengthPercentage}
+use Rattle.lay_style.specs.declared.style_lengths.LengthPercentage.TheVariants as measure
 use Rattle.lay_face.specs.FaceValue.{FaceValue}
 use Rattle.lay_face.specs.Faces.{entry_of, thousandths_of}
 use Rattle.lay_space.specs.declared.segment.Segment.{Segment}

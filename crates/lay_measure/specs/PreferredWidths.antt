@@ -4,7 +4,7 @@
 -- Tables don't have theirs here yet: the content of a table's wrapper counts for nothing, and where a wrapper stands
 -- among other boxes, its widths are given.
 use Rattle.std.specs.Prelude.{ℕ, ◌+◌, ◌==◌, List, [], ◌∷◌, ◌++◌, Option, Some, None, drop, slice_get, if◌then◌else◌}
-use Rattle.lay_doc.specs.declared.style.Style.{Style}
+use Rattle.lay_style.specs.declared.style.Style.{Style}
 use Rattle.lay_boxgen.specs.Roles.{role_of}
 use Rattle.lay_boxgen.specs.declared.box_tree.BoxKind.{BoxKind}
 use Rattle.lay_boxgen.specs.declared.box_tree.BoxKind.TheVariants as kind

@@ -8,12 +8,12 @@ use Rattle.lay_units.specs.Units.{clamp_size_of}
 use Rattle.lay_units.specs.declared.length.Unit.{Unit as Length}
 use Rattle.lay_units.specs.declared.records.Len.{Len}
 use Rattle.lay_units.specs.declared.records.Len.TheVariants.{Auto as auto, Of as of}
-use Rattle.lay_doc.specs.declared.style.Style.{Style}
-use Rattle.lay_doc.specs.declared.style_lengths.LengthPercentageOrAuto.{LengthPercentageOrAuto}
-use Rattle.lay_doc.specs.declared.style_lengths.LengthPercentageOrAuto.TheVariants as or_auto
+use Rattle.lay_style.specs.declared.style.Style.{Style}
+use Rattle.lay_style.specs.declared.style_lengths.LengthPercentageOrAuto.{LengthPercentageOrAuto}
+use Rattle.lay_style.specs.declared.style_lengths.LengthPercentageOrAuto.TheVariants as or_auto
 use Rattle.lay_widths.specs.ReplacedSizes.{sizes_for}
 use Rattle.lay_widths.specs.declared.replaced.ReplacedIn.{ReplacedIn}
-use Rattle.lay_doc.specs.LengthValues.{size_of}
+use Rattle.lay_style.specs.LengthValues.{size_of}
 use Rattle.lay_measure.specs.Contributions.{limit_of, size_or_zero}
 
 abbrev pub length_or_auto : LengthPercentageOrAuto → Len

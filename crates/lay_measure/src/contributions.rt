@@ -3,15 +3,15 @@
 ghost use Rattle.std.specs.Prelude.{◌≡◌, slice_get, IfOk};
 ghost use Rattle.lay_measure.specs.Contributions.{around_border, bounded_width, given_or, left_edges, limit_of, margin_box, margin_or_zero, right_edges, size_or_zero};
 ghost use Rattle.lay_measure.specs.LineParts.{contribution, contribution_at};
-ghost use Rattle.lay_doc.specs.LengthValues.{size_of};
+ghost use Rattle.lay_style.specs.LengthValues.{size_of};
 
 use crate::measure_in::MeasureIn;
 use crate::preferred_widths::{NO_WIDTHS, PreferredWidths};
 use crate::replaced_widths::replaced_width;
 use crate::sums::sum_of_three;
 use lay_boxgen::{BoxKind, BoxNode};
-use lay_doc::{LengthPercentage, LengthPercentageOrAuto, LengthPercentageOrNone, Style};
 use lay_heights::with_min_max;
+use lay_style::{LengthPercentage, LengthPercentageOrAuto, LengthPercentageOrNone, Style};
 use lay_units::{NoMemory, Unit, clamp, clamp_size};
 
 /// What the atomic box or the float at a place takes.

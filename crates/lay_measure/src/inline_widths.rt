@@ -10,9 +10,9 @@ use crate::measure_in::MeasureIn;
 use crate::pen::{Breaking, ends_line, line_width};
 use crate::preferred_widths::PreferredWidths;
 use crate::sums::greater;
-use lay_doc::{LengthPercentage, TextStyle};
 use lay_face::Face;
 use lay_space::Segment;
+use lay_style::{LengthPercentage, TextStyle};
 use lay_units::{NoMemory, Unit, clamp, clamp_size};
 use std::alloc::Global;
 

@@ -10,8 +10,8 @@ use crate::contributions::{
 use crate::measure_in::MeasureIn;
 use crate::preferred_widths::PreferredWidths;
 use lay_box_parts::InlinePart;
-use lay_doc::Style;
 use lay_space::{ClusterKind, Item, Mode, Segment, cluster_kind};
+use lay_style::Style;
 use lay_units::{ClusterWidth, NoMemory, Unit};
 use std::alloc::Global;
 

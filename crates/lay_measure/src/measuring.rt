@@ -18,8 +18,8 @@ use crate::measure_in::MeasureIn;
 use crate::preferred_widths::{NO_WIDTHS, PreferredWidths};
 use crate::replaced_widths::replaced_width;
 use lay_boxgen::{BoxKind, BoxNode, Role};
-use lay_doc::{Style, TextStyle};
 use lay_items::inline_segments;
+use lay_style::{Style, TextStyle};
 use lay_units::{NoMemory, Unit};
 use std::alloc::Global;
 

@@ -7,7 +7,7 @@ ghost use Rattle.lay_measure.specs.ReplacedWidths.{length_or_auto, natural_size,
 ghost use Rattle.lay_measure.specs.Contributions.{limit_of, size_or_zero};
 
 use crate::contributions::{limit_of, size_of, size_or_zero};
-use lay_doc::{LengthPercentage, LengthPercentageOrAuto, LengthPercentageOrNone, Style};
+use lay_style::{LengthPercentage, LengthPercentageOrAuto, LengthPercentageOrNone, Style};
 use lay_units::{Len, Unit, clamp_size};
 use lay_widths::{ReplacedIn, replaced_size};
 

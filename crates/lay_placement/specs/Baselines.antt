@@ -7,9 +7,9 @@ use Rattle.std.specs.Prelude.{Bool, true, false, List, reverse, Option, None, if
 use Rattle.std.specs.List.{find, flat_map}
 use Rattle.std.specs.Option.{option_map}
 use Rattle.lay_units.specs.declared.length.Unit.{Unit as Length}
-use Rattle.lay_doc.specs.declared.style_words.Overflow.{Overflow}
-use Rattle.lay_doc.specs.declared.style_words.Overflow.TheVariants as overflow
-use Rattle.lay_doc.specs.ComputedStyle.{style_at}
+use Rattle.lay_style.specs.declared.style_words.Overflow.{Overflow}
+use Rattle.lay_style.specs.declared.style_words.Overflow.TheVariants as overflow
+use Rattle.lay_style.specs.ComputedStyle.{style_at}
 use Rattle.lay_boxgen.specs.declared.box_tree.BoxNode.{BoxNode}
 use Rattle.lay_boxgen.specs.BoxColumns.{box_styles}
 use Rattle.lay_lines.specs.declared.row.Ended.{Ended}

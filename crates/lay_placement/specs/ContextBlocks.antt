@@ -6,11 +6,11 @@
 -- from the left border edge of the context's own box.
 use Rattle.std.specs.Prelude.{ℕ, zero, suc, ◌≡◌, ◌<◌, ◌+ℤ◌, ◌&&◌, Bool, true, false, List, length, nat_lt, Option, Some, None, if◌then◌else◌}
 use Rattle.lay_units.specs.declared.length.Unit.{Unit as Length}
-use Rattle.lay_doc.specs.declared.style_words.Float.{Float}
-use Rattle.lay_doc.specs.declared.style_words.Float.TheVariants as floating
-use Rattle.lay_doc.specs.declared.style_words.Clear.{Clear as ClearStyle}
-use Rattle.lay_doc.specs.declared.style_words.Clear.TheVariants as clear
-use Rattle.lay_doc.specs.ComputedStyle.{style_at}
+use Rattle.lay_style.specs.declared.style_words.Float.{Float}
+use Rattle.lay_style.specs.declared.style_words.Float.TheVariants as floating
+use Rattle.lay_style.specs.declared.style_words.Clear.{Clear as ClearStyle}
+use Rattle.lay_style.specs.declared.style_words.Clear.TheVariants as clear
+use Rattle.lay_style.specs.ComputedStyle.{style_at}
 use Rattle.lay_boxgen.specs.declared.box_tree.BoxNode.{BoxNode}
 use Rattle.lay_boxgen.specs.BoxColumns.{box_styles}
 use Rattle.lay_boxgen.specs.Roles.{clear_at, is_inline_level, role_at}

@@ -5,9 +5,9 @@
 use Rattle.std.specs.Prelude.{ℕ, zero, suc, ◌||◌, List, [], ◌∷◌, ◌++◌, slice_index, slice_index_or, Option, Some, None, if◌then◌else◌}
 use Rattle.std.specs.List.{filter_map}
 use Rattle.std.specs.Option.{option_map}
-use Rattle.lay_doc.specs.declared.style_words.TextAlign.{TextAlign}
-use Rattle.lay_doc.specs.declared.style_words.TextAlign.TheVariants as align
-use Rattle.lay_doc.specs.ComputedStyle.{style_at}
+use Rattle.lay_style.specs.declared.style_words.TextAlign.{TextAlign}
+use Rattle.lay_style.specs.declared.style_words.TextAlign.TheVariants as align
+use Rattle.lay_style.specs.ComputedStyle.{style_at}
 use Rattle.lay_frag.specs.declared.frag.Frag.{Frag}
 use Rattle.lay_frag.specs.declared.frag.FragKind.{FragKind}
 use Rattle.lay_frag.specs.declared.frag.FragKind.TheVariants as kind

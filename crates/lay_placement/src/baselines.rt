@@ -10,8 +10,8 @@ ghost use Rattle.lay_placement.specs.Baselines.{is_visible, last_baseline, own_b
 use crate::box_columns::style_at;
 use crate::context_places::BoxPlaces;
 use crate::place_input::PlaceInput;
-use lay_doc::Overflow;
 use lay_lines::{Ended, RowList};
+use lay_style::Overflow;
 use lay_units::{NoMemory, Unit};
 
 /// The greatest distance of a baseline from the top of its box: 2^59.

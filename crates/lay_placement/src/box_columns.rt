@@ -2,7 +2,7 @@
 
 ghost use Rattle.std.specs.Prelude.{◌≡◌, ◌+ℤ◌, ◌<◌, length, slice_index};
 ghost use Rattle.lay_units.specs.Units.{IsPosition};
-ghost use Rattle.lay_doc.specs.ComputedStyle.{style_at};
+ghost use Rattle.lay_style.specs.ComputedStyle.{style_at};
 ghost use Rattle.lay_boxgen.specs.BoxColumns.{box_parents, box_styles};
 ghost use Rattle.lay_flow.specs.Lengths.{length_at};
 ghost use Rattle.lay_sizes.specs.SizeColumns.{HaveSizeBounds, sizes_at};
@@ -11,8 +11,8 @@ ghost use Rattle.lay_placement.specs.Outside.{outside};
 ghost use Rattle.lay_context_boxes.specs.ContextBoxes.{is_inner};
 
 use lay_boxgen::BoxNode;
-use lay_doc::Style;
 use lay_sizes::{BoxSizes, OwnBox, own_box};
+use lay_style::Style;
 use lay_units::Unit;
 
 pub(crate) fn parent_at(boxes: &[BoxNode], k: usize) -> usize

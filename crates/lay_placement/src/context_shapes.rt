@@ -15,12 +15,12 @@ use crate::inline_containers::inline_containers;
 use crate::line_boxes::{Shaping, lines_in};
 use crate::place_input::PlaceInput;
 use lay_box_parts::InlinePart;
-use lay_doc::Float;
 use lay_floats::{Clear, Side};
 use lay_flow::{
     Across, BlockBox, FloatBox, FlowBox, FlowKind, HeightRule, LinesBox, SolidBox, Vertical,
 };
 use lay_sizes::{BoxSizes, OwnBox};
+use lay_style::Float;
 use lay_units::{Len, NoMemory, Unit};
 use std::alloc::Global;
 
@@ -256,13 +256,13 @@ fn cleared_by(input: &PlaceInput, k: usize) -> Clear
     cleared_sides(input.clear(k))
 }
 
-fn cleared_sides(clear: lay_doc::Clear) -> Clear
+fn cleared_sides(clear: lay_style::Clear) -> Clear
     ensures { result ≡ cleared_sides clear }
 {
     match clear {
-        lay_doc::Clear::None => Clear::None,
-        lay_doc::Clear::Left => Clear::Left,
-        lay_doc::Clear::Right => Clear::Right,
-        lay_doc::Clear::Both => Clear::Both,
+        lay_style::Clear::None => Clear::None,
+        lay_style::Clear::Left => Clear::Left,
+        lay_style::Clear::Right => Clear::Right,
+        lay_style::Clear::Both => Clear::Both,
     }
 }

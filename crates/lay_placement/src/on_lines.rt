@@ -14,12 +14,12 @@ use crate::box_columns::style_at;
 use crate::context_places::BoxPlaces;
 use crate::place_input::PlaceInput;
 use lay_content::{BoxMeasures, inline_areas};
-use lay_doc::TextAlign;
 use lay_flow::{BlockBox, FlowBox, FlowBoxes, FlowKind};
 use lay_inlines::{
     Align, Container, LinePiece, LinePieceList, LinesGeometry, is_row_within, line_pieces,
 };
 use lay_lines::{Ended, InlineArea};
+use lay_style::TextAlign;
 use lay_units::NoMemory;
 use std::alloc::Global;
 

@@ -10,9 +10,9 @@ use crate::context_sizes::ContextSizes;
 use crate::own_boxes::OwnBoxes;
 use lay_boxgen::{BoxNode, Role};
 use lay_context_boxes::ContextBoxes;
-use lay_doc::Clear;
 use lay_face::Face;
 use lay_sizes::{BoxSizes, OwnBox};
+use lay_style::Clear;
 use std::marker::Model;
 use std::sync::Arc;
 

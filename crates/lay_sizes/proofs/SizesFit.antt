@@ -5,11 +5,11 @@ use Rattle.lay_units.specs.Units.{clamp_of, clamp_size_of, percentage_of, IsUsed
 use Rattle.lay_units.specs.declared.length.Unit.{Unit as Length}
 use Rattle.lay_units.specs.declared.records.Len.{Len}
 use Rattle.lay_units.specs.declared.records.Len.TheVariants.{Auto as auto, Of as of}
-use Rattle.lay_doc.specs.declared.style.Style.{Style}
-use Rattle.lay_doc.specs.declared.style_lengths.LengthPercentageOrAuto.{LengthPercentageOrAuto}
-use Rattle.lay_doc.specs.declared.style_lengths.LengthPercentageOrAuto.TheVariants as or_auto
-use Rattle.lay_doc.specs.declared.style_lengths.LengthPercentage.{LengthPercentage}
-use Rattle.lay_doc.specs.declared.style_lengths.LengthPercentage.TheVariants as measure
+use Rattle.lay_style.specs.declared.style.Style.{Style}
+use Rattle.lay_style.specs.declared.style_lengths.LengthPercentageOrAuto.{LengthPercentageOrAuto}
+use Rattle.lay_style.specs.declared.style_lengths.LengthPercentageOrAuto.TheVariants as or_auto
+use Rattle.lay_style.specs.declared.style_lengths.LengthPercentage.{LengthPercentage}
+use Rattle.lay_style.specs.declared.style_lengths.LengthPercentage.TheVariants as measure
 use Rattle.lay_widths.specs.declared.widths.BlockOut.{BlockOut}
 use Rattle.lay_widths.specs.declared.widths.UsedWidths.{UsedWidths}
 use Rattle.lay_widths.specs.BlockWidths.{IsHeld}

@@ -1,6 +1,6 @@
 -- A box has one set of used sizes beside its containing block, and they are within their bounds.
 use Rattle.std.specs.Prelude.{◌≡◌}
-use Rattle.lay_doc.specs.declared.style.Style.{Style}
+use Rattle.lay_style.specs.declared.style.Style.{Style}
 use Rattle.lay_sizes.specs.declared.sizing.BoxSizes.{BoxSizes}
 use Rattle.lay_sizes.specs.declared.sizing.ContainingBlock.{ContainingBlock}
 use Rattle.lay_sizes.specs.declared.sizing.WidthRule.{WidthRule}

@@ -5,7 +5,7 @@ use Rattle.std.specs.Prelude.{pos}
 use Rattle.std.specs.Int.{int_max}
 use Rattle.lay_units.specs.Units.{clamp_size_of}
 use Rattle.lay_units.specs.declared.length.Unit.{Unit as Length}
-use Rattle.lay_doc.specs.declared.style.Style.{Style}
+use Rattle.lay_style.specs.declared.style.Style.{Style}
 use Rattle.lay_widths.specs.declared.replaced.ReplacedIn.{ReplacedIn}
 use Rattle.lay_widths.specs.declared.replaced.ReplacedSize.{ReplacedSize}
 use Rattle.lay_widths.specs.ReplacedSizes.{sizes_for}

@@ -8,14 +8,14 @@ use Rattle.lay_units.specs.declared.records.Len.{Len}
 use Rattle.lay_units.specs.declared.records.Len.TheVariants.{Auto as auto, Of as of}
 use Rattle.lay_units.specs.declared.records.Sides.{Sides}
 use Rattle.lay_units.specs.declared.records.BlockIn.{BlockIn}
-use Rattle.lay_doc.specs.declared.style.Style.{Style}
-use Rattle.lay_doc.specs.declared.style_lengths.LengthPercentageOrAuto.{LengthPercentageOrAuto}
-use Rattle.lay_doc.specs.declared.style_lengths.LengthPercentageOrAuto.TheVariants as or_auto
-use Rattle.lay_doc.specs.declared.style_lengths.LengthPercentage.{LengthPercentage}
-use Rattle.lay_doc.specs.declared.style_lengths.LengthPercentage.TheVariants as measure
-use Rattle.lay_doc.specs.declared.style_lengths.LengthPercentageOrNone.{LengthPercentageOrNone}
-use Rattle.lay_doc.specs.declared.style_lengths.LengthPercentageOrNone.TheVariants as or_none
-use Rattle.lay_doc.specs.LengthValues.{length_of, size_of}
+use Rattle.lay_style.specs.declared.style.Style.{Style}
+use Rattle.lay_style.specs.declared.style_lengths.LengthPercentageOrAuto.{LengthPercentageOrAuto}
+use Rattle.lay_style.specs.declared.style_lengths.LengthPercentageOrAuto.TheVariants as or_auto
+use Rattle.lay_style.specs.declared.style_lengths.LengthPercentage.{LengthPercentage}
+use Rattle.lay_style.specs.declared.style_lengths.LengthPercentage.TheVariants as measure
+use Rattle.lay_style.specs.declared.style_lengths.LengthPercentageOrNone.{LengthPercentageOrNone}
+use Rattle.lay_style.specs.declared.style_lengths.LengthPercentageOrNone.TheVariants as or_none
+use Rattle.lay_style.specs.LengthValues.{length_of, size_of}
 use Rattle.lay_heights.specs.MinMax.{with_min_max_of}
 
 abbrev pub no_length : Length

@@ -10,7 +10,7 @@ use crate::sizing::ContainingBlock;
 use crate::used_lengths::{
     used_height, used_limit, used_max_height, used_min_height, used_size, used_width,
 };
-use lay_doc::Style;
+use lay_style::Style;
 use lay_units::{Unit, clamp_size};
 use lay_widths::{ReplacedIn, ReplacedSize, replaced_size};
 

@@ -13,7 +13,7 @@ use crate::used_lengths::{
     block_of, definite_height, edges_of, or_zero, used_height, used_max_height, used_min_height,
     used_vertical_margin,
 };
-use lay_doc::Style;
+use lay_style::Style;
 use lay_units::{BlockIn, Len, Sides, Unit, clamp};
 use lay_widths::{BlockOut, solve_block, solve_float};
 

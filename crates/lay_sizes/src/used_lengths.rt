@@ -2,12 +2,12 @@
 
 ghost use Rattle.std.specs.Prelude.{◌≡◌, ◌+ℤ◌, Option, IfSome};
 ghost use Rattle.lay_units.specs.Units.{IsPosition, IsUsedSize, percentage_of};
-ghost use Rattle.lay_doc.specs.LengthValues.{length_of, size_of};
+ghost use Rattle.lay_style.specs.LengthValues.{length_of, size_of};
 ghost use Rattle.lay_widths.specs.Lengths.{BlockFits, IsSize, LenFits, LenIsSize};
 ghost use Rattle.lay_sizes.specs.UsedLengths.{or_zero, used_margin, used_vertical_margin, used_width, used_size, used_limit, used_height, used_min_height, used_max_height, definite_height, block_of, edge_of, edges_of};
 
-use lay_doc::{LengthPercentage, LengthPercentageOrAuto, LengthPercentageOrNone, Style};
 use lay_heights::with_min_max;
+use lay_style::{LengthPercentage, LengthPercentageOrAuto, LengthPercentageOrNone, Style};
 use lay_units::{BlockIn, Len, Percent, Sides, Unit, clamp, clamp_size, percent_of};
 
 /// What the used widths of a block depend on, for the width of its containing block.

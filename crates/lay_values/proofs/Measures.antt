@@ -3,7 +3,7 @@ use Rattle.std.proofs.Common.{◌≡◌, ℕ, refl, ap, ◌∙◌, Bool, true, f
 use Rattle.std.specs.List.{list_all}
 use Rattle.std.proofs.lemmas.List.Folds.{list_all-append}
 use Rattle.std.proofs.lemmas.Grind.{common_steps}
-use Rattle.lay_doc.specs.declared.property.Property.{Property}
+use Rattle.lay_style.specs.declared.property.Property.{Property}
 use Rattle.lay_values.specs.declared.numbers.Decimal.{Decimal}
 use Rattle.lay_values.specs.declared.lengths.Suffix.{Suffix}
 use Rattle.lay_values.specs.declared.lengths.Suffix.TheVariants.{Nothing, Percent, Em, Px, In, Cm, Mm, Pt, Pc}

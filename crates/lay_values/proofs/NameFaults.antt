@@ -2,8 +2,8 @@
 use Rattle.std.proofs.Common.{◌≡◌, ℕ, refl, subst, List, Option, Some, None, Err, arith}
 use Rattle.std.proofs.lemmas.Grind.{common_steps}
 use Rattle.std.specs.Prelude.{ok_or}
-use Rattle.lay_doc.specs.declared.property.Property.{Property}
-use Rattle.lay_doc.specs.Values.{Declaration}
+use Rattle.lay_style.specs.declared.property.Property.{Property}
+use Rattle.lay_style.specs.Values.{Declaration}
 use Rattle.lay_values.specs.declared.reading.ValueFault.TheVariants.{BadProperty, BadValue}
 use Rattle.lay_values.specs.Names.{name_of, property_of}
 use Rattle.lay_values.specs.Reading.{declared_for, declared_value, read_declaration}

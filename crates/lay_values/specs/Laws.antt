@@ -1,8 +1,8 @@
 -- What the definitions of this crate must meet.
 use Rattle.std.specs.Prelude.{ℕ, ◌≡◌, ◌++◌, List, map, Some, Err}
 use Rattle.std.specs.Char.{to_ascii_lowercase}
-use Rattle.lay_doc.specs.declared.property.Property.{Property}
-use Rattle.lay_doc.specs.declared.property.Word.{Word}
+use Rattle.lay_style.specs.declared.property.Property.{Property}
+use Rattle.lay_style.specs.declared.property.Word.{Word}
 use Rattle.lay_values.specs.declared.numbers.Decimal.{Decimal}
 use Rattle.lay_values.specs.declared.lengths.Suffix.{Suffix}
 use Rattle.lay_values.specs.declared.reading.ValueFault.TheVariants.{BadProperty}

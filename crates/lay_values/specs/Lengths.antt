@@ -7,10 +7,10 @@ use Rattle.std.specs.Prelude.{ℕ, ◌*◌, ◌^◌, ◌==◌, ℤ, pos, neg_ℤ
 use Rattle.std.specs.Int.{int_min, int_max}
 use Rattle.std.specs.Str.{str_eq_ignore_ascii_case}
 use Rattle.lay_units.specs.Units.{clamp_of}
-use Rattle.lay_doc.specs.declared.property.Property.{Property}
-use Rattle.lay_doc.specs.declared.property.Property.TheVariants.{ZIndex, LineHeight}
-use Rattle.lay_doc.specs.declared.property.Given.{Given}
-use Rattle.lay_doc.specs.declared.property.Given.TheVariants as given
+use Rattle.lay_style.specs.declared.property.Property.{Property}
+use Rattle.lay_style.specs.declared.property.Property.TheVariants.{ZIndex, LineHeight}
+use Rattle.lay_style.specs.declared.property.Given.{Given}
+use Rattle.lay_style.specs.declared.property.Given.TheVariants as given
 use Rattle.lay_values.specs.declared.numbers.Decimal.{Decimal}
 use Rattle.lay_values.specs.declared.lengths.Suffix.{Suffix}
 use Rattle.lay_values.specs.declared.lengths.Suffix.TheVariants.{Nothing, Percent, Em, Px, In, Cm, Mm, Pt, Pc}

@@ -2,8 +2,8 @@
 -- A name that differs in a letter's case or in a white space is no property's.
 use Rattle.std.specs.Prelude.{ℕ, List, [], ◌∷◌, Option, codes, find}
 use Rattle.std.specs.Str.{bytes_eq}
-use Rattle.lay_doc.specs.declared.property.Property.{Property}
-use Rattle.lay_doc.specs.declared.property.Property.TheVariants.{Display, Position, Float, Clear, Top, Right, Bottom, Left, ZIndex, Width, Height, MinWidth, MinHeight, MaxWidth, MaxHeight, MarginTop, MarginRight, MarginBottom, MarginLeft, PaddingTop, PaddingRight, PaddingBottom, PaddingLeft, BorderTopWidth, BorderRightWidth, BorderBottomWidth, BorderLeftWidth, BorderTopStyle, BorderRightStyle, BorderBottomStyle, BorderLeftStyle, Overflow, FontSize, LineHeight, TextIndent, TextAlign, WhiteSpace, LetterSpacing, WordSpacing, VerticalAlign, TableLayout, BorderCollapse, BorderSpacing, CaptionSide, Visibility, EmptyCells}
+use Rattle.lay_style.specs.declared.property.Property.{Property}
+use Rattle.lay_style.specs.declared.property.Property.TheVariants.{Display, Position, Float, Clear, Top, Right, Bottom, Left, ZIndex, Width, Height, MinWidth, MinHeight, MaxWidth, MaxHeight, MarginTop, MarginRight, MarginBottom, MarginLeft, PaddingTop, PaddingRight, PaddingBottom, PaddingLeft, BorderTopWidth, BorderRightWidth, BorderBottomWidth, BorderLeftWidth, BorderTopStyle, BorderRightStyle, BorderBottomStyle, BorderLeftStyle, Overflow, FontSize, LineHeight, TextIndent, TextAlign, WhiteSpace, LetterSpacing, WordSpacing, VerticalAlign, TableLayout, BorderCollapse, BorderSpacing, CaptionSide, Visibility, EmptyCells}
 
 abbrev pub name_of : Property → List ℕ
 name_of Display = codes "display"

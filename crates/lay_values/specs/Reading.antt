@@ -6,13 +6,13 @@
 use Rattle.std.specs.Prelude.{ℕ, ◌-◌, ◌==◌, ◌||◌, List, [], ◌∷◌, length, take, drop, Bool, false, not, Option, Some, None, option_map, option_and_then, ok_or, Result, Err, if◌then◌else◌}
 use Rattle.std.specs.List.{prefix_len, suffix_len}
 use Rattle.std.specs.Char.{is_ascii_alphabetic, is_ascii_whitespace}
-use Rattle.lay_doc.specs.declared.property.Property.{Property}
-use Rattle.lay_doc.specs.declared.property.Property.TheVariants.{BorderSpacing}
-use Rattle.lay_doc.specs.declared.property.Given.{Given}
-use Rattle.lay_doc.specs.declared.property.Given.TheVariants.{Length, Em, Pair}
-use Rattle.lay_doc.specs.declared.property.OneLength.{OneLength}
-use Rattle.lay_doc.specs.declared.property.OneLength.TheVariants.{Length as one_length, Em as one_em}
-use Rattle.lay_doc.specs.Values.{Declaration, declaration_of}
+use Rattle.lay_style.specs.declared.property.Property.{Property}
+use Rattle.lay_style.specs.declared.property.Property.TheVariants.{BorderSpacing}
+use Rattle.lay_style.specs.declared.property.Given.{Given}
+use Rattle.lay_style.specs.declared.property.Given.TheVariants.{Length, Em, Pair}
+use Rattle.lay_style.specs.declared.property.OneLength.{OneLength}
+use Rattle.lay_style.specs.declared.property.OneLength.TheVariants.{Length as one_length, Em as one_em}
+use Rattle.lay_style.specs.Values.{Declaration, declaration_of}
 use Rattle.lay_values.specs.declared.reading.ValueFault.{ValueFault}
 use Rattle.lay_values.specs.declared.reading.ValueFault.TheVariants.{BadProperty, BadValue}
 use Rattle.lay_values.specs.Names.{property_of}

@@ -2,10 +2,10 @@
 -- `inherit` is apart, since each property takes it (6.2.1).
 use Rattle.std.specs.Prelude.{ℕ, List, [], ◌∷◌, Option, option_map, codes, find, if◌then◌else◌, Some}
 use Rattle.std.specs.Str.{str_eq_ignore_ascii_case}
-use Rattle.lay_doc.specs.declared.property.Given.{Given}
-use Rattle.lay_doc.specs.declared.property.Given.TheVariants.{Keyword, Inherit}
-use Rattle.lay_doc.specs.declared.property.Word.{Word}
-use Rattle.lay_doc.specs.declared.property.Word.TheVariants as word
+use Rattle.lay_style.specs.declared.property.Given.{Given}
+use Rattle.lay_style.specs.declared.property.Given.TheVariants.{Keyword, Inherit}
+use Rattle.lay_style.specs.declared.property.Word.{Word}
+use Rattle.lay_style.specs.declared.property.Word.TheVariants as word
 
 abbrev pub word_name : Word → List ℕ
 word_name word.Inline = codes "inline"

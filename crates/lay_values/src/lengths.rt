@@ -7,7 +7,7 @@ ghost use Rattle.lay_values.specs.Lengths.{suffix_name, all_suffixes, suffix_of,
 
 use crate::numbers::{Decimal, scaled};
 use crate::words::is_spelled;
-use lay_doc::{Given, Property};
+use lay_style::{Given, Property};
 use lay_units::{Percent, Unit, clamp};
 use std::array;
 

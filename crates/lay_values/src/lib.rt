@@ -3,7 +3,7 @@
 //!
 //! The contract of `read` cites `read_declaration` of `specs/Reading.antt`, which goes from the text to a
 //! keyword (`specs/Words.antt`), a number (`specs/Numbers.antt`) or a length or percentage
-//! (`specs/Lengths.antt`). Which of them a property takes is `is_value_of` of lay_doc.
+//! (`specs/Lengths.antt`). Which of them a property takes is `is_value_of` of lay_style.
 #![tactic(auto)]
 
 mod laws;

@@ -4,7 +4,7 @@ ghost use Rattle.std.specs.Prelude.{◌≡◌};
 ghost use Rattle.std.specs.Array.Iter.{array_into_iter_items};
 ghost use Rattle.lay_values.specs.Names.{name_of, all_properties, property_of};
 
-use lay_doc::Property;
+use lay_style::Property;
 use std::array;
 
 /// The property's name.

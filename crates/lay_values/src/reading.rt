@@ -1,7 +1,7 @@
 //! The text of a property's value.
 
 ghost use Rattle.std.specs.Prelude.{◌≡◌};
-ghost use Rattle.lay_doc.specs.declared.property.Property.TheVariants.{BorderSpacing};
+ghost use Rattle.lay_style.specs.declared.property.Property.TheVariants.{BorderSpacing};
 ghost use Rattle.lay_values.specs.Numbers.{leading, behind};
 ghost use Rattle.lay_values.specs.Reading.{without_front, trimmed, is_of_number, measure_of, one_length_of, spacing_of, spacings_of, is_of_word, numeric_of, begins_with_letter, value_of, declared_value, read_declaration};
 
@@ -9,7 +9,7 @@ use crate::lengths::{suffix_of, value_with};
 use crate::names::property_of;
 use crate::numbers::number_of;
 use crate::words::keyword_of;
-use lay_doc::{Decl, Given, OneLength, Property};
+use lay_style::{Decl, Given, OneLength, Property};
 use std::alloc::Global;
 
 /// Why a name and a text give no declaration.

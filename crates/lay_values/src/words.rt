@@ -5,7 +5,7 @@ ghost use Rattle.std.specs.Str.{str_eq_ignore_ascii_case};
 ghost use Rattle.std.specs.Array.Iter.{array_into_iter_items};
 ghost use Rattle.lay_values.specs.Words.{word_name, all_words, word_of, keyword_of};
 
-use lay_doc::{Given, Word};
+use lay_style::{Given, Word};
 use std::array;
 
 /// The keyword as the standard writes it.

@@ -1,5 +1,6 @@
 use Rattle.std.proofs.Common.{rules, ◌≡◌, Some, slice_index}
-use Rattle.lay_doc.specs.Document.{ids_of, place_of}
+use Rattle.lay_style.specs.Places.{place_of}
+use Rattle.lay_doc.specs.Document.{ids_of}
 use Rattle.lay_contexts.proofs.ListedSteps.{place_is}
 use Rattle.lay_contexts.proofs.standing.number_of.Goals as goal
 

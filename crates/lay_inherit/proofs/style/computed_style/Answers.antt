@@ -1,8 +1,8 @@
 use Rattle.std.proofs.Common.{ap, ◌∙◌}
 use Rattle.lay_units.specs.declared.length.Unit.{Unit as Length}
-use Rattle.lay_doc.specs.declared.style.Style.{Style}
-use Rattle.lay_doc.specs.ComputedStyle.{styled}
-use Rattle.lay_doc.specs.InitialStyle.{initial_style}
+use Rattle.lay_style.specs.declared.style.Style.{Style}
+use Rattle.lay_style.specs.ComputedStyle.{styled}
+use Rattle.lay_style.specs.InitialStyle.{initial_style}
 use Rattle.lay_inherit.proofs.style.computed_style.Goals as goal
 
 pub returns : goal.returns

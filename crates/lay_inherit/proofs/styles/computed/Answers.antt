@@ -1,7 +1,6 @@
 use Rattle.std.proofs.Common.{◌≡◌, ap, arith, length}
 use Rattle.lay_doc.specs.declared.node.Node.{Node}
-use Rattle.lay_doc.specs.Document.{parents_of}
-use Rattle.lay_doc.specs.ComputedStyle.{declarations_of}
+use Rattle.lay_doc.specs.Document.{parents_of, declarations_of}
 use Rattle.lay_inherit.proofs.StyleSteps.{length-column, all_known}
 use Rattle.lay_inherit.proofs.styles.computed.Goals as goal
 

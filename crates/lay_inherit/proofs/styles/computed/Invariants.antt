@@ -1,5 +1,4 @@
-use Rattle.lay_doc.specs.Document.{parents_of}
-use Rattle.lay_doc.specs.ComputedStyle.{declarations_of}
+use Rattle.lay_doc.specs.Document.{parents_of, declarations_of}
 use Rattle.lay_inherit.specs.StylesTo.{StylesTo}
 use Rattle.lay_inherit.proofs.styles.computed.Given as goal
 

@@ -1,8 +1,8 @@
 use Rattle.std.proofs.Common.{◌≡◌, ◌<◌, length, ap, ◌∙◌, arith, List}
+use Rattle.lay_style.specs.declared.style.Style.{Style}
+use Rattle.lay_style.specs.ComputedStyle.{computed_style, parent_style, declarations_at}
 use Rattle.lay_doc.specs.declared.node.Node.{Node}
-use Rattle.lay_doc.specs.declared.style.Style.{Style}
-use Rattle.lay_doc.specs.Document.{parents_of}
-use Rattle.lay_doc.specs.ComputedStyle.{computed_style, parent_style, declarations_of, declarations_at}
+use Rattle.lay_doc.specs.Document.{parents_of, declarations_of}
 use Rattle.lay_inherit.proofs.StyleSteps.{length-column, one_more}
 use Rattle.lay_inherit.proofs.styles.push_style.Goals as goal
 

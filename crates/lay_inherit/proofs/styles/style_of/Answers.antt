@@ -1,6 +1,6 @@
 use Rattle.std.proofs.Common.{ap, sym, ◌∙◌, arith}
-use Rattle.lay_doc.specs.Document.{parents_of}
-use Rattle.lay_doc.specs.ComputedStyle.{style_at, parent_style, declarations_of, declarations_at}
+use Rattle.lay_style.specs.ComputedStyle.{style_at, parent_style, declarations_at}
+use Rattle.lay_doc.specs.Document.{parents_of, declarations_of}
 use Rattle.lay_inherit.proofs.StyleSteps.{inner, outer, same_style}
 use Rattle.lay_inherit.proofs.styles.style_of.Goals as goal
 

@@ -1,0 +1,34 @@
+-- Where a property's value on a node comes from (CSS 2.2, 6.1.1, 6.2 and 6.2.1).
+use Rattle.std.specs.Prelude.{Bool, true, false, List, Option, Some, None, if◌then◌else◌}
+use Rattle.lay_style.specs.declared.property.Property.{Property}
+use Rattle.lay_style.specs.declared.property.Property.TheVariants.{FontSize, LineHeight, TextIndent, TextAlign, WhiteSpace, LetterSpacing, WordSpacing, BorderCollapse, BorderSpacing, CaptionSide, Visibility, EmptyCells}
+use Rattle.lay_style.specs.declared.property.Given.{Given}
+use Rattle.lay_style.specs.declared.property.Given.TheVariants.{Inherit}
+use Rattle.lay_style.specs.Values.{Declaration}
+use Rattle.lay_style.specs.Declarations.{declared_value}
+
+-- the properties that are inherited where nothing is declared
+abbrev pub is_inherited : Property → Bool
+is_inherited FontSize = true
+is_inherited LineHeight = true
+is_inherited TextIndent = true
+is_inherited TextAlign = true
+is_inherited WhiteSpace = true
+is_inherited LetterSpacing = true
+is_inherited WordSpacing = true
+is_inherited BorderCollapse = true
+is_inherited BorderSpacing = true
+is_inherited CaptionSide = true
+is_inherited Visibility = true
+is_inherited EmptyCells = true
+is_inherited _ = false
+
+-- a property's value: that of its declaration, where `inherit` takes the parent's; without one the parent's
+-- for an inherited property, and else the initial one
+abbrev pub value_from : {A : Type 0} → Option Given → Bool → A → A → (Given → A) → A
+value_from None inherited parent initial computed = if inherited then parent else initial
+value_from (Some Inherit) inherited parent initial computed = parent
+value_from (Some v) inherited parent initial computed = computed v
+
+abbrev pub cascaded : {A : Type 0} → Property → List Declaration → A → A → (Given → A) → A
+cascaded p ds parent initial computed = value_from (declared_value p ds) (is_inherited p) parent initial computed

@@ -1,0 +1,11 @@
+pub mod PropertyNumbers
+pub mod Words
+pub mod Values
+pub mod Places
+pub mod Declarations
+pub mod Inheritance
+pub mod KeywordValues
+pub mod LengthValues
+pub mod InitialStyle
+pub mod ComputedStyle
+pub mod NumberKinds
