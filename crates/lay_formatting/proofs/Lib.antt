@@ -5,3 +5,5 @@ pub mod WholeBoxes
 pub mod RootNumbers
 pub mod ContextFacts
 pub mod ListLaws
+pub mod GrowingColumns
+pub mod GrowingList
