@@ -7,3 +7,4 @@ pub mod ContextFacts
 pub mod ListLaws
 pub mod GrowingColumns
 pub mod GrowingList
+pub mod PartingFacts
