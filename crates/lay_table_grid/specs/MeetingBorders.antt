@@ -10,10 +10,10 @@
 use Rattle.std.specs.Prelude.{ℕ, zero, suc, ◌+◌, ◌==◌, ◌&&◌, nat_le, nat_lt, Bool, true, false}
 use Rattle.std.specs.Prelude.{Option, Some, None, List, [], ◌∷◌, ◌++◌, length, map, slice_get, if◌then◌else◌}
 use Rattle.lay_units.specs.declared.length.Unit.{Unit as Length}
-use Rattle.lay_doc.specs.declared.style.Style.{Style}
-use Rattle.lay_doc.specs.declared.style_words.BorderStyle.{BorderStyle as Computed}
-use Rattle.lay_doc.specs.declared.style_words.BorderStyle.TheVariants as computed
-use Rattle.lay_doc.specs.LengthValues.{size_of}
+use Rattle.lay_style.specs.declared.style.Style.{Style}
+use Rattle.lay_style.specs.declared.style_words.BorderStyle.{BorderStyle as Computed}
+use Rattle.lay_style.specs.declared.style_words.BorderStyle.TheVariants as computed
+use Rattle.lay_style.specs.LengthValues.{size_of}
 use Rattle.lay_boxgen.specs.declared.box_tree.BoxNode.{BoxNode}
 use Rattle.lay_grid.specs.Places.{right_edge}
 use Rattle.lay_borders.specs.declared.candidate.BorderStyle.{BorderStyle}

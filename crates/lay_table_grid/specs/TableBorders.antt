@@ -6,7 +6,7 @@
 use Rattle.std.specs.Prelude.{ℕ, ◌≡◌, ◌⊎◌, ◌+◌, ◌<◌, ℤ, ◌≤ℤ◌, Bool, true, false, Option, Some, None, List, length, slice_get}
 use Rattle.lay_units.specs.declared.records.Sides.{Sides}
 use Rattle.lay_boxgen.specs.declared.box_tree.BoxNode.{BoxNode}
-use Rattle.lay_doc.specs.declared.style.Style.{Style}
+use Rattle.lay_style.specs.declared.style.Style.{Style}
 use Rattle.lay_borders.specs.declared.candidate.Cand.{Cand}
 use Rattle.lay_borders.specs.Edges.{IsEdge}
 use Rattle.lay_borders.specs.Halves.{edge_width, first_half, second_half}

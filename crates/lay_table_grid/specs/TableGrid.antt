@@ -4,10 +4,10 @@
 use Rattle.std.specs.Prelude.{ℕ, ◌≡◌, ◌+◌, max, Bool, true, false, Option, Some, None}
 use Rattle.std.specs.Prelude.{List, [], length, map, slice_get, if◌then◌else◌}
 use Rattle.lay_units.specs.declared.records.Sides.{Sides}
-use Rattle.lay_doc.specs.declared.style.TableStyle.{TableStyle}
-use Rattle.lay_doc.specs.declared.style_words.BorderCollapse.{BorderCollapse}
-use Rattle.lay_doc.specs.declared.style_words.BorderCollapse.TheVariants as borders
-use Rattle.lay_doc.specs.LengthValues.{size_of}
+use Rattle.lay_style.specs.declared.style.TableStyle.{TableStyle}
+use Rattle.lay_style.specs.declared.style_words.BorderCollapse.{BorderCollapse}
+use Rattle.lay_style.specs.declared.style_words.BorderCollapse.TheVariants as borders
+use Rattle.lay_style.specs.LengthValues.{size_of}
 use Rattle.lay_boxgen.specs.declared.box_tree.BoxNode.{BoxNode}
 use Rattle.lay_grid.specs.declared.cells.Cell.{Cell}
 use Rattle.lay_grid.specs.Areas.{areas_from}
