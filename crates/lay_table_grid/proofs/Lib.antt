@@ -1,2 +1,3 @@
 pub mod ColumnSteps
 pub mod PlacedCells
+pub mod CoveringCells

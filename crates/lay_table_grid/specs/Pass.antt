@@ -3,3 +3,4 @@ pub mod ColumnMarks
 pub mod PlacedBounds
 pub mod Runs
 pub mod Slots
+pub mod EdgeBounds

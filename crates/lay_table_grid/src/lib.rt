@@ -8,9 +8,12 @@
 
 mod cells;
 mod columns;
+mod edges;
 mod elements;
 mod grid;
 mod kinds;
+mod meeting;
+mod parts;
 mod placed;
 mod places;
 mod rows;
