@@ -1,3 +1,5 @@
 pub mod ColumnSteps
 pub mod PlacedCells
 pub mod CoveringCells
+pub mod UsedBorders
+pub mod WidestEdges

@@ -4,3 +4,4 @@ pub mod PlacedBounds
 pub mod Runs
 pub mod Slots
 pub mod EdgeBounds
+pub mod UsedBorders

@@ -19,6 +19,7 @@ mod places;
 mod rows;
 mod runs;
 mod slots;
+mod widest;
 
 pub use elements::{Element, Side};
 pub use grid::{Spacing, TableCell, TableGrid, TableRow};
