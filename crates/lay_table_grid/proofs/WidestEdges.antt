@@ -49,3 +49,19 @@ widest_same meeting n v w p q =
 
 pub half_same : (half : ℤ → ℤ) (meeting : ℕ → List Cand) (n : ℕ) (v w : ℤ) → IsHalf half meeting n v → IsHalf half meeting n w → v ≡ w
 half_same half meeting n v w p q = p.2 ∙ ap half (widest_same meeting n p.0 q.0 p.1 q.1) ∙ sym q.2
+
+-- a half of the widest edge, where the edges are those of another list as well
+pub half_along : (half : ℤ → ℤ) (f g : ℕ → List Cand) (n m : ℕ) (width border : ℤ) → ((k : ℕ) → f k ≡ g k) → n ≡ m
+    → IsWidest f n width → border ≡ half width → IsHalf half g m border
+half_along half f g n m width border same count widest is = (
+  width,
+  record {
+    one_of = let h = widest.one_of in let lt = h.1 in (h.0, omega (arith, count, lt), subst (λ (borders : List Cand). IsEdgeWidth borders width) (same h.0) h.2);
+    most = λ k other less at.
+        widest.most k other (omega (arith, count, less)) (subst (λ (borders : List Cand). IsEdgeWidth borders other) (sym (same k)) at);
+  },
+  is,
+)
+
+pub from_zero : (k : ℕ) → 0 + k ≡ k
+from_zero k = omega arith

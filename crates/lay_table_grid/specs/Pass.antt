@@ -5,3 +5,4 @@ pub mod Runs
 pub mod Slots
 pub mod EdgeBounds
 pub mod UsedBorders
+pub mod PartsOf

@@ -10,6 +10,8 @@ use Rattle.lay_style.specs.declared.style_words.BorderCollapse.TheVariants as bo
 use Rattle.lay_style.specs.LengthValues.{size_of}
 use Rattle.lay_boxgen.specs.declared.box_tree.BoxNode.{BoxNode}
 use Rattle.lay_sizes.specs.UsedLengths.{no_length}
+use Rattle.lay_grid.specs.declared.cells.Cell.{Cell}
+use Rattle.lay_table_grid.specs.declared.grid.CellArea.{CellArea}
 use Rattle.lay_table_grid.specs.declared.grid.Spacing.{Spacing}
 use Rattle.lay_table_grid.specs.declared.grid.TableCell.{TableCell}
 use Rattle.lay_table_grid.specs.declared.grid.TableRow.{TableRow}
@@ -34,14 +36,14 @@ pub record TableGridValue : Type 0 where
   pub borders : Sides
 
 -- a cell where it stands
+abbrev pub area_of : TableCell → CellArea
+area_of cell = record { row = cell.row; column = cell.column; rows = cell.rows; columns = cell.columns }
+
+abbrev pub stand_of : CellArea → Cell
+stand_of a = record { area = record { row = a.row; end = a.row + a.rows; columns = a.columns }; left = a.column }
+
 abbrev pub placed_of : TableCell → PlacedCell
-placed_of cell = record {
-  place = cell.place;
-  cell = record {
-    area = record { row = cell.row; end = cell.row + cell.rows; columns = cell.columns };
-    left = cell.column;
-  };
-}
+placed_of cell = record { place = cell.place; cell = stand_of (area_of cell) }
 
 abbrev pub placed_cells : TableGridValue → List PlacedCell
 placed_cells grid = map placed_of grid.cells
@@ -84,7 +86,7 @@ pub record HaveBorders (boxes : List BoxNode) (grid : TableGridValue) : Type 0 w
       → slice_get grid.cells k ≡ Some cell → AreSeparate boxes cell.place cell.borders
   pub separate_table : grid.collapses ≡ false → AreSeparate boxes grid.table grid.borders
   pub collapsed_cells : grid.collapses ≡ true → (k : ℕ) (cell : TableCell)
-      → slice_get grid.cells k ≡ Some cell → AreCellBorders (parts_of boxes grid) cell cell.borders
+      → slice_get grid.cells k ≡ Some cell → AreCellBorders (parts_of boxes grid) (area_of cell) cell.borders
   pub collapsed_table : grid.collapses ≡ true → AreTableBorders (parts_of boxes grid) grid.borders
 
 pub record IsTableGrid (boxes : List BoxNode) (grid : TableGridValue) : Type 0 where

@@ -111,6 +111,13 @@ impl<'a> Edges<'a> {
     }
 
     /// How many columns there are.
+    pub fn columns(&self) -> u32
+        ensures { result ≡ self.now.columns }
+    {
+        self.columns
+    }
+
+    /// The same as a place.
     pub fn column_count(&self) -> usize
         ensures { result ≡ self.now.columns }
     {

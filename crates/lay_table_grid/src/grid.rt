@@ -24,6 +24,15 @@ pub struct TableCell {
     pub borders: Sides,
 }
 
+/// The slots that a cell covers: from which row and column on, and how many of both.
+#[derive(Clone, Copy)]
+pub struct CellArea {
+    pub row: u32,
+    pub column: u32,
+    pub rows: u32,
+    pub columns: u32,
+}
+
 /// What is between columns and between rows (CSS 2.2, 17.6.1), in 1/64 px, from 0. 0 where borders
 /// collapse.
 #[derive(Clone, Copy, Debug, PartialEq, Eq)]

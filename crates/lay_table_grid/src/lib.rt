@@ -7,6 +7,7 @@
 #![tactic(auto)]
 
 mod cells;
+mod collapsed;
 mod columns;
 mod edges;
 mod elements;
@@ -18,9 +19,10 @@ mod placed;
 mod places;
 mod rows;
 mod runs;
+mod separate;
 mod slots;
 mod widest;
 
 pub use elements::{Element, Side};
-pub use grid::{Spacing, TableCell, TableGrid, TableRow};
+pub use grid::{CellArea, Spacing, TableCell, TableGrid, TableRow};
 pub use placed::PlacedCell;
