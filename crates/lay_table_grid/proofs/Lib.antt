@@ -3,3 +3,4 @@ pub mod PlacedCells
 pub mod CoveringCells
 pub mod UsedBorders
 pub mod WidestEdges
+pub mod Assembled

@@ -25,9 +25,6 @@ own_borders (Some box) = record {
   left = width_on side.Left box.style;
 }
 
-abbrev pub AreSeparate : List BoxNode → ℕ → Sides → Type 0
-AreSeparate boxes place sides = sides ≡ own_borders (slice_get boxes place)
-
 -- how wide the border of an edge is drawn where these meet
 abbrev pub IsEdgeWidth : List Cand → ℤ → Type 0
 IsEdgeWidth borders width = (edge : Option Cand) × IsEdge borders edge × (width ≡ edge_width edge)

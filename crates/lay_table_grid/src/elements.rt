@@ -2,6 +2,7 @@
 
 ghost use Rattle.std.specs.Prelude.{◌≡◌, ◌++◌, slice_get, IfSome, OnOk};
 ghost use Rattle.lay_units.specs.Units.{IsUsedSize};
+ghost use Rattle.lay_style.specs.LengthValues.{size_of};
 ghost use Rattle.lay_table_grid.specs.MeetingBorders.{border_of, border_of_box, border_on, cell_element};
 ghost use Rattle.lay_table_grid.specs.MeetingBorders.{conflict_style, place_of, style_on, width_on};
 ghost use Rattle.lay_table_grid.specs.Pass.EdgeBounds.{IsCounted};
@@ -111,13 +112,20 @@ pub fn width_on(side: Side, style: &Style) -> Unit
     ensures size { IsUsedSize result.0 }
 {
     let widths = style.border.width;
-    let width = match side {
+    size_of(match side {
         Side::Top => widths.top,
         Side::Right => widths.right,
         Side::Bottom => widths.bottom,
         Side::Left => widths.left,
-    };
-    clamp_size(i128::from(width.0))
+    })
+}
+
+/// A length of a style that can't be negative, as it is used.
+pub fn size_of(length: Unit) -> Unit
+    ensures value { result ≡ size_of length.0 }
+    ensures size { IsUsedSize result.0 }
+{
+    clamp_size(i128::from(length.0))
 }
 
 fn conflict_style(style: ComputedBorderStyle) -> BorderStyle

@@ -45,14 +45,14 @@ pub struct Spacing {
 /// formatting context.
 #[derive(Drop)]
 pub struct TableGrid {
-    table: usize,
-    rows: Vec<TableRow>,
-    cells: Vec<TableCell>,
-    column_boxes: Vec<usize>,
-    columns: u32,
-    spacing: Spacing,
-    collapses: bool,
-    borders: Sides,
+    pub(crate) table: usize,
+    pub(crate) rows: Vec<TableRow>,
+    pub(crate) cells: Vec<TableCell>,
+    pub(crate) column_boxes: Vec<usize>,
+    pub(crate) columns: u32,
+    pub(crate) spacing: Spacing,
+    pub(crate) collapses: bool,
+    pub(crate) borders: Sides,
 }
 
 impl Model for TableGrid {

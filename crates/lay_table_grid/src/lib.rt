@@ -6,6 +6,7 @@
 //! meet at which edge is said in `specs/MeetingBorders.antt`. It is a relation, and has one value (`specs/Laws.antt`).
 #![tactic(auto)]
 
+mod bordered;
 mod cells;
 mod collapsed;
 mod columns;
@@ -13,6 +14,7 @@ mod edges;
 mod elements;
 mod grid;
 mod kinds;
+mod laws;
 mod meeting;
 mod parts;
 mod placed;
@@ -21,8 +23,9 @@ mod rows;
 mod runs;
 mod separate;
 mod slots;
+mod table_grid;
 mod widest;
 
-pub use elements::{Element, Side};
-pub use grid::{CellArea, Spacing, TableCell, TableGrid, TableRow};
-pub use placed::PlacedCell;
+pub use grid::{Spacing, TableCell, TableGrid, TableRow};
+pub use laws::{grids_are_of_boxes, one_table_grid};
+pub use table_grid::table_grid;
