@@ -31,8 +31,11 @@ use Rattle.lay_table_sizes.specs.declared.table_rule.TableRule.{TableRule}
 use Rattle.lay_table_sizes.specs.declared.table_rule.TableRule.TheVariants.{Fills, ShrinksToFit}
 
 -- used widths of columns
+abbrev pub held_width : Length → Length
+held_width width = record { 0 = clamp_size_of width.0 }
+
 abbrev pub held : List Length → List Length
-held widths = map (λ width. record { 0 = clamp_size_of width.0 }) widths
+held widths = map held_width widths
 
 -- the used width of the content of a table box that is to have the width `wanted` and has these columns
 abbrev pub table_width : TableGridValue → (wanted : Length) → List Length → Length
