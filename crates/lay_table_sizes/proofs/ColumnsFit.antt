@@ -1,9 +1,9 @@
 -- What gives columns their widths meets what lay_grid asks, and so the columns are positions.
-use Rattle.std.proofs.Common.{◌≡◌, ℕ, zero, suc, ◌+◌, ◌*◌, ◌<◌, ◌≤◌, ◌==◌, ◌^◌, Bool, true, false, ℤ, pos, ◌+ℤ◌, ◌≤ℤ◌, Option, None, Some, List, [], ◌∷◌, ◌++◌, length, slice_get, slice_index_or, if◌then◌else◌, refl, sym, subst, ◌∙◌, arith}
+use Rattle.std.proofs.Common.{ℕ, zero, suc, ◌+◌, ◌*◌, ◌≤◌, ◌==◌, ◌^◌, Bool, true, false, ℤ, Option, None, Some, List, [], ◌∷◌, length, slice_get, slice_index_or, if◌then◌else◌, sym, subst, arith}
 use Rattle.std.specs.List.{All}
 use Rattle.std.proofs.lemmas.Int.{ints}
 use Rattle.std.proofs.lemmas.List.Elements.{All-append, All-cons, All-head, All-nil, All-tail}
-use Rattle.lay_units.specs.Units.{IsPosition, IsUsedSize, percentage_of}
+use Rattle.lay_units.specs.Units.{IsUsedSize, percentage_of}
 use Rattle.lay_units.specs.declared.length.Unit.{Unit as Length}
 use Rattle.lay_units.specs.declared.records.Len.{Len}
 use Rattle.lay_units.specs.declared.records.Len.TheVariants.{Auto as auto, Of as of}
@@ -18,12 +18,11 @@ use Rattle.lay_boxgen.specs.declared.box_tree.BoxKind.TheVariants as kind
 use Rattle.lay_boxgen.specs.declared.box_tree.BoxNode.{BoxNode}
 use Rattle.lay_sizes.specs.SizeBounds.{IsUsedSizeOrAuto}
 use Rattle.lay_sizes.proofs.SizesFit.{size_is_used, used_size_is_used}
-use Rattle.lay_grid.specs.Columns.{AreColumns}
 use Rattle.lay_grid.specs.ColumnsFit.{CellFits, ColumnsFit}
 use Rattle.lay_grid.specs.Lengths.{ArePositions, MayBePosition}
 use Rattle.lay_grid.specs.Shares.{own_width}
 use Rattle.lay_grid.specs.declared.columns.FirstCell.{FirstCell}
-use Rattle.lay_grid.specs.Within.{AreUpTo, CellUpTo, IsUpTo, TakeUpTo}
+use Rattle.lay_grid.specs.Within.{AreUpTo, CellUpTo, IsUpTo}
 use Rattle.lay_grid.proofs.WidthsWithin.{widths_are_within_lem}
 use Rattle.lay_table_grid.specs.GridBounds.{AreUsedSides, CellFits as GridCellFits, TableGridFits}
 use Rattle.lay_table_grid.specs.TableGrid.{TableGridValue}

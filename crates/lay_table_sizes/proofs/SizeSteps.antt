@@ -1,5 +1,5 @@
 -- Used sizes of boxes that are within their bounds, box by box.
-use Rattle.std.proofs.Common.{◌≡◌, ℕ, zero, suc, ◌+◌, ◌<◌, ◌≤◌, ◌==◌, pos, true, List, [], ◌∷◌, ◌++◌, length, length-append, drop, slice_get, Some, ◌+ℤ◌, ◌-ℤ◌, append_assoc, arith, inl, inr, refl, sym, ◌∙◌}
+use Rattle.std.proofs.Common.{◌≡◌, ℕ, zero, suc, ◌+◌, ◌<◌, ◌==◌, pos, true, List, [], ◌∷◌, ◌++◌, length, length-append, drop, slice_get, Some, ◌+ℤ◌, ◌-ℤ◌, append_assoc, arith, inl, inr, refl, sym, ◌∙◌}
 use Rattle.std.specs.List.{All}
 use Rattle.std.proofs.lemmas.Bool.{cases_lt}
 use Rattle.std.proofs.lemmas.List.Elements.{All-append, All-cons, All-nil}

@@ -4,7 +4,7 @@
 -- 10.3.3 with that width as a given one; those of another one are 0 where they are `auto` (10.3.5). Captions don't widen a table.
 -- All are held within the bounds of used lengths (4.3.2). The boxes of captions and cells are sized in their own formatting
 -- contexts, and rows, row groups and columns have no sizes of a box.
-use Rattle.std.specs.Prelude.{◌≡◌, ℕ, zero, suc, ◌<◌, ◌==◌, ◌+ℤ◌, List, length, map, Some, None, if◌then◌else◌, slice_index_or}
+use Rattle.std.specs.Prelude.{◌≡◌, ℕ, zero, suc, ◌<◌, ◌==◌, List, length, map, Some, None, if◌then◌else◌}
 use Rattle.std.specs.Int.{int_max}
 use Rattle.lay_units.specs.Units.{clamp_size_of}
 use Rattle.lay_units.specs.declared.length.Unit.{Unit as Length}

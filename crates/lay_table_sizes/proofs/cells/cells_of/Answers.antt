@@ -1,4 +1,4 @@
-use Rattle.std.proofs.Common.{◌≡◌, ◌+◌, ◌-◌, length, ap, arith}
+use Rattle.std.proofs.Common.{◌≡◌, ◌+◌, ◌-◌, length, arith}
 use Rattle.lay_table_sizes.proofs.CellSteps.{cells_step}
 use Rattle.lay_table_sizes.proofs.cells.cells_of.Goals as goal
 
