@@ -1,0 +1,70 @@
+-- How many pieces are of a kind and a node, with one more.
+use Rattle.std.proofs.Common.{◌≡◌, ◌≢◌, ℕ, ◌+◌, ◌<◌, ◌≤◌, ◌==◌, ◌&&◌, List, [], ◌∷◌, ◌++◌, length, length-append, refl, sym, arith, inl, inr, Bool, true, false, if◌then◌else◌}
+use Rattle.std.specs.BTreeMap.{BTreeMap}
+use Rattle.std.proofs.lemmas.Bool.{cases_eq, eq-eqb, ne_eqb}
+use Rattle.lay_frag.specs.declared.frag.Frag.{Frag}
+use Rattle.lay_frag.specs.declared.frag.FragKind.{FragKind}
+use Rattle.lay_frag.specs.declared.frag.FragKind.TheVariants.{Box, Line, Text}
+use Rattle.lay_pieces.specs.declared.piece_list.Counts.{Counts}
+use Rattle.lay_pieces.specs.PieceCounts.{AreCounted, count_in, counts_in, with_one}
+use Rattle.lay_pieces.specs.PieceParts.{count_of, is_kind, numbered}
+
+pub count_more : (kind : FragKind) (id : ℕ) (fs : List Frag) (f : Frag) → count_of kind id (fs ++ f ∷ []) ≡ count_of kind id fs + (if is_kind f.kind kind && f.node.0 == id then 1 else 0)
+count_more kind id [] f = omega arith
+count_more kind id (x ∷ xs) f = let h = count_more kind id xs f in omega (arith, h)
+
+counted_by : (b : Bool) → (if b then 1 else 0) ≤ 1
+counted_by true = omega arith
+counted_by false = omega arith
+
+pub count_few : (kind : FragKind) (id : ℕ) (fs : List Frag) → count_of kind id fs ≤ length fs
+count_few kind id [] = omega arith
+count_few kind id (f ∷ fs) = let h = count_few kind id fs in let b = counted_by (is_kind f.kind kind && f.node.0 == id) in omega (arith, h, b)
+
+-- with one more of a kind
+more_in : (counts : Counts) (kind other : FragKind) → count_in (with_one counts kind) other ≡ count_in counts other + (if is_kind kind other then 1 else 0)
+more_in counts Box Box = refl
+more_in counts Box Line = omega arith
+more_in counts Box Text = omega arith
+more_in counts Line Box = omega arith
+more_in counts Line Line = refl
+more_in counts Line Text = omega arith
+more_in counts Text Box = omega arith
+more_in counts Text Line = omega arith
+more_in counts Text Text = refl
+
+same_eq : (k : ℕ) → (k == k) ≡ true
+same_eq k = eq-eqb k k refl
+
+other_eq : (j k : ℕ) → j ≢ k → (j == k) ≡ false
+other_eq j k other = ne_eqb j k other
+
+both_true : (a b : Bool) → b ≡ true → (a && b) ≡ a
+both_true true b e = e
+both_true false b e = refl
+
+both_false : (a b : Bool) → b ≡ false → (a && b) ≡ false
+both_false true b e = e
+both_false false b e = refl
+
+-- a map in which the counts of a piece's node have one more of its kind counts it too
+pub one_more : (fs : List Frag) (f : Frag) (map next : BTreeMap ℕ Counts) → AreCounted fs map → length fs < 2147483648
+    → counts_in next f.node.0 ≡ with_one (counts_in map f.node.0) f.kind → ((id : ℕ) → id ≢ f.node.0 → counts_in next id ≡ counts_in map id)
+    → AreCounted (fs ++ numbered fs f ∷ []) next
+one_more fs f map next so_far room here others = record {
+  each = λ kind id. elim (cases_eq id f.node.0) [
+    | inl same ↦ (let is : (f.node.0 == id) ≡ true = rw same (same_eq f.node.0) in
+        let more = count_more kind id fs (numbered fs f) in
+        let one = more_in (counts_in map f.node.0) f.kind kind in
+        let was = so_far.each kind f.node.0 in
+        let both = both_true (is_kind f.kind kind) (f.node.0 == id) is in
+        rw (more, both, same, here) (rw (one, was) refl))
+    | inr other ↦ (let is : (f.node.0 == id) ≡ false = other_eq f.node.0 id (λ e. other (sym e)) in
+        let more = count_more kind id fs (numbered fs f) in
+        let both = both_false (is_kind f.kind kind) (f.node.0 == id) is in
+        let kept = others id other in
+        let was = so_far.each kind id in
+        rw (more, both, kept) (omega (arith, was)))
+  ];
+  few = omega (arith, room, length-append fs (numbered fs f ∷ []));
+}

@@ -1,0 +1,33 @@
+-- What is kept of pieces while they are put together, so that the part of the next one is at hand.
+use Rattle.std.specs.Prelude.{ℕ, ◌≡◌, ◌+◌, ◌≤◌, List, length}
+use Rattle.std.specs.Option.{unwrap_or}
+use Rattle.std.specs.Ordering.{nat_cmp}
+use Rattle.std.specs.BTreeMap.{BTreeMap, get}
+use Rattle.lay_frag.specs.declared.frag.Frag.{Frag}
+use Rattle.lay_frag.specs.declared.frag.FragKind.{FragKind}
+use Rattle.lay_frag.specs.declared.frag.FragKind.TheVariants.{Box, Line, Text}
+use Rattle.lay_pieces.specs.declared.piece_list.Counts.{Counts}
+use Rattle.lay_pieces.specs.PieceParts.{count_of}
+
+abbrev pub no_counts : Counts
+no_counts = record { boxes = 0; lines = 0; texts = 0 }
+
+abbrev pub count_in : Counts → FragKind → ℕ
+count_in counts Box = counts.boxes
+count_in counts Line = counts.lines
+count_in counts Text = counts.texts
+
+-- with one more of this kind
+abbrev pub with_one : Counts → FragKind → Counts
+with_one counts Box = record { boxes = counts.boxes + 1; lines = counts.lines; texts = counts.texts }
+with_one counts Line = record { boxes = counts.boxes; lines = counts.lines + 1; texts = counts.texts }
+with_one counts Text = record { boxes = counts.boxes; lines = counts.lines; texts = counts.texts + 1 }
+
+-- what a map says of the node with this id
+abbrev pub counts_in : BTreeMap ℕ Counts → ℕ → Counts
+counts_in map id = unwrap_or (get nat_cmp map id) no_counts
+
+-- a map says of each node how many of these pieces are its own, and they are few
+pub record AreCounted (pieces : List Frag) (map : BTreeMap ℕ Counts) : Type 0 where
+  pub each : (kind : FragKind) (id : ℕ) → count_in (counts_in map id) kind ≡ count_of kind id pieces
+  pub few : length pieces ≤ 2147483648
