@@ -4,3 +4,5 @@ pub mod CoveringCells
 pub mod UsedBorders
 pub mod WidestEdges
 pub mod Assembled
+pub mod PlacesBelow
+pub mod OneTableGrid

@@ -72,12 +72,12 @@ used_above p r c =
     let group = above_and_below p (group_element p (before r)) (group_element p (Some r)) in
     let row = above_and_below p (row_element p (before r)) (row_element p (Some r)) in
     let lines = both row (unless (is_inside_group p r) group) (stacked p (row_element p (before r)) (row_element p (Some r)))
-        (used_unless (is_inside_group p r) group (stacked p (group_element p (before r)) (group_element p (Some r)))) in
+    (used_unless (is_inside_group p r) group (stacked p (group_element p (before r)) (group_element p (Some r)))) in
     let top = used_where (r == 0) (column_ends p side.Top c) (three p.boxes side.Top (column_element p (Some c)) (column_group_element p (Some c)) (table_element p)) in
     let bottom = used_where (r == length p.rows) (column_ends p side.Bottom c) (three p.boxes side.Bottom (column_element p (Some c)) (column_group_element p (Some c)) (table_element p)) in
     let rim = both (where_so (r == 0) (column_ends p side.Top c)) (where_so (r == length p.rows) (column_ends p side.Bottom c)) top bottom in
     let all = both (cells_above p above below) (lines_above p r ++ rim_above p r c) (stacked p (cell_element above) (cell_element below))
-        (both (lines_above p r) (rim_above p r c) lines rim) in
+    (both (lines_above p r) (rim_above p r c) lines rim) in
     used_at (meeting_above p r c)
     (used_unless (are_one (place_of above) (place_of below)) (cells_above p above below ++ (lines_above p r ++ rim_above p r c)) all)
 
@@ -88,12 +88,12 @@ used_left p r c =
     let group = left_and_right p (column_group_element p (before c)) (column_group_element p (Some c)) in
     let column = left_and_right p (column_element p (before c)) (column_element p (Some c)) in
     let lines = both column (unless (is_inside_column_group p c) group) (abreast p (column_element p (before c)) (column_element p (Some c)))
-        (used_unless (is_inside_column_group p c) group (abreast p (column_group_element p (before c)) (column_group_element p (Some c)))) in
+    (used_unless (is_inside_column_group p c) group (abreast p (column_group_element p (before c)) (column_group_element p (Some c)))) in
     let first = used_where (c == 0) (row_ends p side.Left r) (three p.boxes side.Left (row_element p (Some r)) (group_element p (Some r)) (table_element p)) in
     let last = used_where (c == p.columns) (row_ends p side.Right r) (three p.boxes side.Right (row_element p (Some r)) (group_element p (Some r)) (table_element p)) in
     let rim = both (where_so (c == 0) (row_ends p side.Left r)) (where_so (c == p.columns) (row_ends p side.Right r)) first last in
     let all = both (cells_left p left right) (lines_left p c ++ rim_left p r c) (abreast p (cell_element left) (cell_element right))
-        (both (lines_left p c) (rim_left p r c) lines rim) in
+    (both (lines_left p c) (rim_left p r c) lines rim) in
     used_at (meeting_left p r c)
     (used_unless (are_one (place_of left) (place_of right)) (cells_left p left right ++ (lines_left p c ++ rim_left p r c)) all)
 

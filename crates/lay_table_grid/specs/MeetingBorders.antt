@@ -246,14 +246,14 @@ meeting_above p r c =
     let above = covering_in p.cells (before r) (Some c) in
     let below = covering_in p.cells (among (length p.rows) r) (Some c) in
     unless (are_one (place_of above) (place_of below))
-        (cells_above p above below ++ (lines_above p r ++ rim_above p r c))
+    (cells_above p above below ++ (lines_above p r ++ rim_above p r c))
 
 -- the borders of columns and column groups on the left of the column c
 abbrev pub lines_left : TableParts → ℕ → List Cand
 lines_left p c =
     left_and_right p (column_element p (before c)) (column_element p (Some c))
     ++ unless (is_inside_column_group p c)
-        (left_and_right p (column_group_element p (before c)) (column_group_element p (Some c)))
+    (left_and_right p (column_group_element p (before c)) (column_group_element p (Some c)))
 
 -- those of rows, row groups and the table there
 abbrev pub rim_left : TableParts → ℕ → ℕ → List Cand
@@ -269,4 +269,4 @@ meeting_left p r c =
     let left = covering_in p.cells (Some r) (before c) in
     let right = covering_in p.cells (Some r) (among p.columns c) in
     unless (are_one (place_of left) (place_of right))
-        (cells_left p left right ++ (lines_left p c ++ rim_left p r c))
+    (cells_left p left right ++ (lines_left p c ++ rim_left p r c))

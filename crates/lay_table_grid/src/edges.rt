@@ -54,21 +54,21 @@ impl<'a> Model for Edges<'a> {
     } };
 
     ghost invariant = { λ e. AreKnown
-      (record {
-        boxes = e.boxes.now;
-        table = e.table;
-        rows = e.rows.now;
-        cells = e.cells.now;
-        column_boxes = e.column_boxes.now;
-        columns = e.columns;
-      })
-      (record {
-        slots = e.slots.items;
-        groups = e.groups.items;
-        group_starts = e.group_starts.items;
-        column_groups = e.column_groups.items;
-        column_group_starts = e.column_group_starts.items;
-      }) };
+        (record {
+          boxes = e.boxes.now;
+          table = e.table;
+          rows = e.rows.now;
+          cells = e.cells.now;
+          column_boxes = e.column_boxes.now;
+          columns = e.columns;
+        })
+        (record {
+          slots = e.slots.items;
+          groups = e.groups.items;
+          group_starts = e.group_starts.items;
+          column_groups = e.column_groups.items;
+          column_group_starts = e.column_group_starts.items;
+        }) };
 }
 
 impl<'a> Edges<'a> {

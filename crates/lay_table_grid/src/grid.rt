@@ -62,25 +62,25 @@ impl Model for TableGrid {
     ghost Value = { TableGridValue };
 
     ghost view = { λ g. record {
-        table = g.table;
-        rows = g.rows.items;
-        cells = g.cells.items;
-        column_boxes = g.column_boxes.items;
-        columns = g.columns;
-        spacing = g.spacing;
-        collapses = g.collapses;
-        borders = g.borders;
+      table = g.table;
+      rows = g.rows.items;
+      cells = g.cells.items;
+      column_boxes = g.column_boxes.items;
+      columns = g.columns;
+      spacing = g.spacing;
+      collapses = g.collapses;
+      borders = g.borders;
     } };
 
     ghost invariant = { λ g. TableGridFits (record {
-        table = g.table;
-        rows = g.rows.items;
-        cells = g.cells.items;
-        column_boxes = g.column_boxes.items;
-        columns = g.columns;
-        spacing = g.spacing;
-        collapses = g.collapses;
-        borders = g.borders;
+      table = g.table;
+      rows = g.rows.items;
+      cells = g.cells.items;
+      column_boxes = g.column_boxes.items;
+      columns = g.columns;
+      spacing = g.spacing;
+      collapses = g.collapses;
+      borders = g.borders;
     }) };
 }
 

@@ -6,6 +6,7 @@
 //! meet at which edge is said in `specs/MeetingBorders.antt`. It is a relation, and has one value (`specs/Laws.antt`).
 #![tactic(auto)]
 
+mod assembly;
 mod bordered;
 mod cells;
 mod collapsed;
@@ -23,9 +24,8 @@ mod rows;
 mod runs;
 mod separate;
 mod slots;
-mod table_grid;
 mod widest;
 
+pub use assembly::table_grid;
 pub use grid::{Spacing, TableCell, TableGrid, TableRow};
 pub use laws::{grids_are_of_boxes, one_table_grid};
-pub use table_grid::table_grid;

@@ -51,18 +51,24 @@ fn push_cells_above(
 }
 
 /// Adds the borders of rows and row groups above a row.
-fn push_lines_above(
-    borders: &mut Vec<Cand>,
-    edges: &Edges<'_>,
-    row: usize,
-) -> Result<(), NoMemory>
+fn push_lines_above(borders: &mut Vec<Cand>, edges: &Edges<'_>, row: usize) -> Result<(), NoMemory>
     ensures { OnOk result (borders.new.items ≡ borders.old.items ++ lines_above edges.now row) }
 {
     let above = before(row);
     let below = Some(row);
-    push_stacked(borders, edges, edges.row_element(above), edges.row_element(below))?;
+    push_stacked(
+        borders,
+        edges,
+        edges.row_element(above),
+        edges.row_element(below),
+    )?;
     if !edges.is_inside_group(row) {
-        push_stacked(borders, edges, edges.group_element(above), edges.group_element(below))?;
+        push_stacked(
+            borders,
+            edges,
+            edges.group_element(above),
+            edges.group_element(below),
+        )?;
     }
     Ok(())
 }
@@ -95,7 +101,12 @@ fn push_column_ends(
 {
     let boxes = edges.boxes();
     push_border(borders, boxes, side, edges.column_element(Some(column)))?;
-    push_border(borders, boxes, side, edges.column_group_element(Some(column)))?;
+    push_border(
+        borders,
+        boxes,
+        side,
+        edges.column_group_element(Some(column)),
+    )?;
     push_border(borders, boxes, side, edges.table_element())?;
     Ok(())
 }
@@ -160,7 +171,12 @@ fn push_lines_left(
 {
     let left = before(column);
     let right = Some(column);
-    push_abreast(borders, edges, edges.column_element(left), edges.column_element(right))?;
+    push_abreast(
+        borders,
+        edges,
+        edges.column_element(left),
+        edges.column_element(right),
+    )?;
     if !edges.is_inside_column_group(column) {
         let left = edges.column_group_element(left);
         push_abreast(borders, edges, left, edges.column_group_element(right))?;
