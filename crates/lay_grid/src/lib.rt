@@ -29,3 +29,4 @@ pub use laws::{
     columns_are_within, heights_are_within, one_columns, one_grid, one_heights, widths_are_within,
 };
 pub use lists::{FirstCells, RowCells, SlotList, SpanList, WidthOptions};
+pub use placing::standing_cells;

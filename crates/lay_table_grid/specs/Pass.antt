@@ -1,0 +1,8 @@
+pub mod CellLists
+pub mod ColumnMarks
+pub mod PlacedBounds
+pub mod Runs
+pub mod Slots
+pub mod EdgeBounds
+pub mod UsedBorders
+pub mod PartsOf
