@@ -1,5 +1,5 @@
 -- A column of moves that grows, from outer to inner boxes.
-use Rattle.std.proofs.Common.{◌≡◌, ℕ, zero, suc, ◌+◌, ◌<◌, ◌≤◌, List, [], ◌∷◌, ◌++◌, length, length-append, Option, None, Some, refl, sym, ap, ◌∙◌, arith, inl, inr}
+use Rattle.std.proofs.Common.{◌≡◌, ℕ, zero, suc, ◌+◌, ◌<◌, List, [], ◌∷◌, ◌++◌, length, length-append, Option, None, Some, refl, sym, ap, ◌∙◌, arith, inl, inr}
 use Rattle.std.specs.Option.{unwrap_or}
 use Rattle.std.proofs.lemmas.Bool.{cases_lt}
 use Rattle.std.proofs.lemmas.Grind.{elements}
@@ -27,6 +27,11 @@ former_before boxes k up (Some p) above is = is.0.before
 pub carrier_before : (boxes : List BoxNode) (formers : List (Option ℕ)) (k : ℕ) → AreContextBoxes boxes → AreFormerParents boxes formers → 0 < k → k < length boxes → carrier boxes formers k < k
 carrier_before boxes formers k are of positive within =
     former_before boxes k (box_parent boxes k) _ (are.tree.before k positive (omega (arith, within, length-parents boxes))) (of.each k within)
+
+-- by how much another box than the own one is moved
+pub positive_move : (boxes : List BoxNode) (sizes : List BoxSizes) (formers : List (Option ℕ)) (ms : List Offset) (k : ℕ) → 0 < k → move_of boxes sizes formers ms k ≡ sum_of (own_offset boxes sizes k) (move_at ms (carrier boxes formers k))
+positive_move boxes sizes formers ms zero positive = absurd (omega arith)
+positive_move boxes sizes formers ms (suc k) positive = refl
 
 -- a move rests on those before it alone
 pub move_before : (boxes : List BoxNode) (sizes : List BoxSizes) (formers : List (Option ℕ)) (ms ns : List Offset) (k : ℕ) → AreContextBoxes boxes → AreFormerParents boxes formers → k < length boxes

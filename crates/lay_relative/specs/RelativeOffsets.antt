@@ -3,7 +3,7 @@
 -- and "if neither 'left' nor 'right' is 'auto', the position is over-constrained": `left` wins, as `top` wins over `bottom`. A
 -- percentage is of the width of the containing block, or of its height; where that depends on what is in it, it counts as
 -- `auto` (10.5). In a block 100px wide `left: 10%` and `right: 5px` move a box 10px to the right.
-use Rattle.std.specs.Prelude.{pos, neg_ℤ, Bool, true, false, ⊤, if◌then◌else◌}
+use Rattle.std.specs.Prelude.{neg_ℤ, Bool, true, false, ⊤, if◌then◌else◌}
 use Rattle.lay_units.specs.Units.{IsUsed, percentage_of}
 use Rattle.lay_units.specs.declared.length.Unit.{Unit as Length}
 use Rattle.lay_units.specs.declared.records.Len.{Len}

@@ -82,6 +82,7 @@ fn own_offset(boxes: &ContextBoxes, sizes: &[BoxSizes], k: usize) -> Offset
     if !is_movable(boxes.role(k)) {
         return NO_OFFSET;
     }
+    let _ = boxes.container(k);
     relative_offset(block_around(boxes, sizes, k), boxes.style(k))
 }
 
@@ -99,6 +100,15 @@ fn carrier(boxes: &ContextBoxes, formers: &[Option<usize>], k: usize) -> usize
     requires formers { AreFormerParents boxes.now formers.now }
     ensures value { result ≡ carrier boxes.now formers.now k }
     ensures before { result < k }
+{
+    let _ = boxes.as_slice();
+    former_or_parent(boxes, formers, k)
+}
+
+fn former_or_parent(boxes: &ContextBoxes, formers: &[Option<usize>], k: usize) -> usize
+    requires place { k < length boxes.now }
+    requires formers { AreFormerParents boxes.now formers.now }
+    ensures { result ≡ carrier boxes.now formers.now k }
 {
     match formers[k] {
         Some(part) => part,

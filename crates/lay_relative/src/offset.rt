@@ -31,8 +31,14 @@ pub fn relative_offset(containing: ContainingBlock, style: &Style) -> Offset
     let height = containing.height;
     let offset = &style.offset;
     Offset {
-        right: distance_of(used_offset(width, offset.left), used_offset(width, offset.right)),
-        down: distance_of(used_offset(height, offset.top), used_offset(height, offset.bottom)),
+        right: distance_of(
+            used_offset(width, offset.left),
+            used_offset(width, offset.right),
+        ),
+        down: distance_of(
+            used_offset(height, offset.top),
+            used_offset(height, offset.bottom),
+        ),
     }
 }
 
