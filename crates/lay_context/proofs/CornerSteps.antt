@@ -1,9 +1,9 @@
 -- A column of corners on the page that grows, from outer to inner formatting contexts.
-use Rattle.std.proofs.Common.{◌≡◌, ℕ, ◌+◌, ◌<◌, ◌≤◌, List, [], ◌∷◌, ◌++◌, length, refl, sym, ◌∙◌, arith, inl, inr}
+use Rattle.std.proofs.Common.{◌≡◌, ℕ, ◌+◌, ◌<◌, ◌≤◌, List, [], ◌∷◌, ◌++◌, length, length-append, refl, sym, ◌∙◌, arith, inl, inr}
 use Rattle.std.proofs.lemmas.Bool.{cases_lt}
 use Rattle.std.proofs.lemmas.Grind.{elements}
 use Rattle.lay_formatting.specs.FormattingContexts.{FormattingContext, AreFormattingContexts, formatting_context_at}
-use Rattle.lay_pieces.specs.Corners.{corner_at}
+use Rattle.lay_pieces.specs.Corners.{AreNearCorners, IsCornerNear, corner_at}
 use Rattle.lay_pieces.specs.declared.corner.Corner.{Corner}
 use Rattle.lay_pieces.specs.Placements.{Placement}
 use Rattle.lay_context.specs.PageCorners.{HasPageCorners, inner_corner}
@@ -41,6 +41,12 @@ one_more root contexts places cs n c are within so_far first inner = record {
         rw q (read_last cs c n (sym so_far.count) ∙ inner more ∙ sym (inner_before contexts places cs c are n more within (omega (arith, so_far.count)))))
   ];
 }
+
+pub one_more_near : (cs : List Corner) (c : Corner) → AreNearCorners cs → IsCornerNear c → AreNearCorners (cs ++ c ∷ [])
+one_more_near cs c near more i lt = elim (cases_lt i (length cs)) [
+  | inl low ↦ rw (read_before cs c i low) (near i low)
+  | inr high ↦ (let counted = length-append cs (c ∷ []) in rw (read_last cs c i (omega (arith, high, lt, counted))) more)
+]
 
 pub all_corners : (root : Corner) (contexts : List FormattingContext) (places : List Placement) (cs : List Corner) (n : ℕ) → n ≡ length contexts
     → PageCornersTo root contexts places cs n → HasPageCorners root contexts places cs

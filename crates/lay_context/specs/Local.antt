@@ -6,10 +6,10 @@ use Rattle.lay_measure.specs.declared.preferred_widths.PreferredWidths.{Preferre
 use Rattle.lay_table_sizes.specs.TableSizesValue.{TableSizesValue}
 use Rattle.lay_formatting.specs.FormattingContexts.{FormattingContext, boxes_in}
 use Rattle.lay_pieces.specs.Placements.{Placement}
-use Rattle.lay_placement.specs.ContextPlaces.{IsPlacement}
-use Rattle.lay_placement.specs.PlaceInputs.{PlaceInput}
+use Rattle.lay_flow_boxes.specs.PlaceInputs.{PlaceInput}
+use Rattle.lay_placement.specs.ContextPlacements.{IsPlacement}
 use Rattle.lay_table.specs.TableInputs.{TableInput}
-use Rattle.lay_table.specs.TablePlaces.{IsTablePlacement}
+use Rattle.lay_table.specs.TablePlacements.{IsTablePlacement}
 use Rattle.lay_context.specs.declared.task.Phase.{Phase}
 use Rattle.lay_context.specs.declared.task.Phase.TheVariants as phase
 use Rattle.lay_context.specs.declared.task.Task.{Task}

@@ -7,22 +7,20 @@ use Rattle.lay_boxgen.specs.declared.box_tree.BoxKind.{BoxKind}
 use Rattle.lay_boxgen.specs.declared.box_tree.BoxKind.TheVariants as kind
 use Rattle.lay_boxgen.specs.declared.box_tree.BoxNode.{BoxNode}
 use Rattle.lay_flow.specs.declared.flow_box.HeightRule.{HeightRule}
+use Rattle.lay_flow_boxes.specs.PlaceInputs.{height_rule_of}
 use Rattle.lay_sizes.specs.declared.sizing.BoxSizes.{BoxSizes}
 use Rattle.lay_sizes.specs.SizeColumns.{sizes_at}
 use Rattle.lay_sizes.specs.UsedLengths.{no_length}
-
-abbrev pub height_rule : BoxSizes → HeightRule
-height_rule z = record { given = z.height; min = z.min_height; max = z.max_height }
 
 abbrev pub height_of_content : HeightRule
 height_of_content = record { given = auto; min = no_length; max = None }
 
 abbrev pub height_rule_as : BoxKind → BoxSizes → HeightRule
 height_rule_as (kind.Cell colspan rowspan) z = height_of_content
-height_rule_as _ z = height_rule z
+height_rule_as _ z = height_rule_of z
 
 abbrev pub own_box_height_rule : Option BoxNode → BoxSizes → HeightRule
-own_box_height_rule None z = height_rule z
+own_box_height_rule None z = height_rule_of z
 own_box_height_rule (Some b) z = height_rule_as b.kind z
 
 -- that of the own box among these boxes, which have these sizes

@@ -9,17 +9,13 @@ use Rattle.lay_sizes.specs.declared.sizing.BoxSizes.{BoxSizes}
 use Rattle.lay_sizes.specs.declared.sizing.ContainingBlock.{ContainingBlock}
 use Rattle.lay_sizes.specs.BoxSizes.{content_block}
 use Rattle.lay_sizes.specs.SizeColumns.{sizes_at}
-use Rattle.lay_table_sizes.specs.TableSizesValue.{TableSizesValue}
+use Rattle.lay_table_sizes.specs.TableSizesValue.{TableSizesValue, cell_at}
 use Rattle.lay_table_sizes.specs.declared.cell_size.CellSize.{CellSize}
 use Rattle.lay_formatting.specs.FormattingContexts.{FormattingContext, formatting_context_at, boxes_in}
 use Rattle.lay_context.specs.ContainingBlocks.{block_around}
 use Rattle.lay_context.specs.ContextSizes.{SizedContext, not_sized}
 use Rattle.lay_context.specs.declared.setting.Setting.{Setting}
 use Rattle.lay_context.specs.declared.setting.Setting.TheVariants.{Block, Cell}
-
--- what the cell with the box at k is given by its table; other boxes are given nothing
-abbrev pub cell_size_at : TableSizesValue → ℕ → Option CellSize
-cell_size_at table k = slice_index_or table.cells k None
 
 -- the wrapper of these sizes, as the containing block of its captions
 abbrev pub caption_block : BoxSizes → ContainingBlock
@@ -33,7 +29,7 @@ setting_in_table sizes table None = Block (caption_block (sizes_at sizes 0))
 -- the setting of the box at k among boxes of these sizes
 abbrev pub setting_as : List BoxNode → List BoxSizes → Option TableSizesValue → ℕ → Setting
 setting_as boxes sizes None k = Block (block_around boxes sizes k)
-setting_as boxes sizes (Some table) k = setting_in_table sizes table (cell_size_at table k)
+setting_as boxes sizes (Some table) k = setting_in_table sizes table (cell_at table k)
 
 abbrev pub setting_in : List BoxNode → SizedContext → ℕ → Setting
 setting_in boxes sized k = setting_as boxes sized.boxes sized.table k

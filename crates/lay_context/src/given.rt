@@ -18,7 +18,7 @@ use lay_formatting::FormattingContexts;
 use lay_frag::Pieces;
 use lay_measure::{NO_WIDTHS, PreferredWidths};
 use lay_pieces::{InnerPieces, OwnBoxes};
-use lay_placement::PlaceInput;
+use lay_flow_boxes::PlaceInput;
 use lay_sizes::{NO_OWN_BOX, OwnBox};
 use lay_table::TableInput;
 use lay_units::NoMemory;
@@ -97,8 +97,8 @@ fn place_input(
         None => {
             let own_height = own_height_rule(boxes.as_slice(), sizes.as_slice());
             let face = medium.face()?;
-            let flow = PlaceInput::new(boxes, sizes, inner, pieces, own_height, face);
-            Ok(Input::Place(flow))
+            let flow = PlaceInput::new(boxes, sizes, inner, pieces, face);
+            Ok(Input::Place(flow.with_own_height(own_height)))
         }
     }
 }

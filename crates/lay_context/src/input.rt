@@ -9,7 +9,7 @@ use lay_boxgen::BoxNode;
 use lay_context_boxes::ContextBoxes;
 use lay_face::Face;
 use lay_measure::PreferredWidths;
-use lay_placement::PlaceInput;
+use lay_flow_boxes::PlaceInput;
 use lay_table::TableInput;
 use std::marker::Model;
 use std::sync::Arc;

@@ -1,8 +1,10 @@
 //! How high the own box of a formatting context is to be.
 
 ghost use Rattle.std.specs.Prelude.{◌≡◌, ◌<◌, length, slice_get};
-ghost use Rattle.lay_sizes.specs.SizeColumns.{HaveSizeBounds, sizes_at};
-ghost use Rattle.lay_context.specs.OwnHeights.{height_of_content, height_rule, height_rule_as, own_height_rule};
+ghost use Rattle.lay_sizes.specs.SizeBounds.{SizeFits};
+ghost use Rattle.lay_sizes.specs.SizeColumns.{HaveSizeBounds};
+ghost use Rattle.lay_flow_boxes.specs.PlaceInputs.{HeightRuleFits, height_rule_of};
+ghost use Rattle.lay_context.specs.OwnHeights.{height_of_content, height_rule_as, own_height_rule};
 
 use lay_boxgen::{BoxKind, BoxNode};
 use lay_flow::HeightRule;
@@ -13,17 +15,21 @@ use lay_units::{Len, Unit};
 pub(crate) fn own_height_rule(boxes: &[BoxNode], sizes: &[BoxSizes]) -> HeightRule
     requires boxes { 0 < length boxes.now }
     requires sizes { 0 < length sizes.now }
-    ensures { result ≡ own_height_rule boxes.now sizes.now }
+    requires bounds { HaveSizeBounds sizes.now }
+    ensures rule { result ≡ own_height_rule boxes.now sizes.now }
+    ensures fits { HeightRuleFits result }
 {
     height_rule_as(&boxes[0].kind, sizes[0])
 }
 
 fn height_rule_as(kind: &BoxKind, sizes: BoxSizes) -> HeightRule
-    ensures { result ≡ height_rule_as kind.now sizes }
+    requires { SizeFits sizes }
+    ensures rule { result ≡ height_rule_as kind.now sizes }
+    ensures fits { HeightRuleFits result }
 {
     match kind {
         BoxKind::Cell { .. } => AS_HIGH_AS_CONTENT,
-        _ => height_rule(sizes),
+        _ => height_rule_of(sizes),
     }
 }
 
@@ -33,8 +39,8 @@ const AS_HIGH_AS_CONTENT: HeightRule = HeightRule {
     max: None,
 };
 
-fn height_rule(sizes: BoxSizes) -> HeightRule
-    ensures { result ≡ height_rule sizes }
+fn height_rule_of(sizes: BoxSizes) -> HeightRule
+    ensures { result ≡ height_rule_of sizes }
 {
     HeightRule {
         given: sizes.height,

@@ -53,8 +53,8 @@ fn page_corner(
     requires known { AreKnown contexts.now known.now }
     requires within { i < length contexts.now }
     requires before { i ≤ length corners.now }
-    ensures first { i ≡ 0 → IfOk result (λ c. c ≡ root_corner_of viewport contexts.now (sizes_in known.now.sizes 0).boxes) }
-    ensures inner { 0 < i → IfOk result (λ c. c ≡ inner_corner contexts.now known.now.places corners.now i) }
+    ensures first { IfOk result (λ c. i ≡ 0 → c ≡ root_corner_of viewport contexts.now (sizes_in known.now.sizes 0).boxes) }
+    ensures inner { IfOk result (λ c. 0 < i → c ≡ inner_corner contexts.now known.now.places corners.now i) }
     ensures near { IfOk result IsCornerNear }
 {
     if i == 0 {

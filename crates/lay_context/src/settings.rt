@@ -5,7 +5,7 @@ ghost use Rattle.lay_units.specs.Units.{IsPosition, IsUsedSize};
 ghost use Rattle.lay_sizes.specs.SizeBounds.{SizeFits};
 ghost use Rattle.lay_sizes.specs.SizeColumns.{HaveSizeBounds, sizes_at};
 ghost use Rattle.lay_context.specs.Inputs.{containing_block_in};
-ghost use Rattle.lay_context.specs.Settings.{caption_block, cell_size_at, setting_as, setting_in_table, setting_of};
+ghost use Rattle.lay_context.specs.Settings.{caption_block, setting_as, setting_in_table, setting_of};
 ghost use Rattle.lay_context.specs.Settling.{IsReady};
 ghost use Rattle.lay_context.specs.declared.task.Phase.TheVariants.{Size};
 
@@ -54,7 +54,7 @@ fn setting_as(
 {
     match table {
         None => Setting::Block(block_around(boxes, sizes, k)),
-        Some(table) => setting_in_table(sizes, table, cell_size_at(table, k)),
+        Some(table) => setting_in_table(sizes, table, table.cell(k)),
     }
 }
 
@@ -80,16 +80,6 @@ fn caption_block(wrapper: BoxSizes) -> ContainingBlock
     ContainingBlock {
         width: wrapper.widths.width,
         height: Len::Auto,
-    }
-}
-
-/// What the cell with the box at k is given by its table.
-fn cell_size_at(table: &TableSizes, k: usize) -> Option<CellSize>
-    ensures { result ≡ cell_size_at table.now k }
-{
-    match table.cells().get(k) {
-        Some(cell) => *cell,
-        None => None,
     }
 }
 

@@ -24,7 +24,7 @@ pub struct Task {
 /// The task whose turn it is, of three for each of n formatting contexts: preferred widths from inner to outer
 /// ones, sizes from outer to inner ones, and then placements from inner to outer ones.
 pub(crate) fn task_at(n: usize, turn: usize) -> Task
-    requires few { n ≤ 16384 }
+    requires few { n ≤ 16777216 }
     requires within { turn < turns_of n }
     ensures { result ≡ task_at n turn }
 {
