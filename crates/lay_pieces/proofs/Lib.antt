@@ -1,3 +1,5 @@
+pub mod CornerColumns
 pub mod PieceCountSteps
 pub mod PieceSteps
 pub mod SplicedPieces
+pub mod StandingColumns

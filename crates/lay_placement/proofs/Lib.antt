@@ -1,15 +1,10 @@
 pub mod AreaFacts
 pub mod AtomicSteps
 pub mod CornerColumns
-pub mod CornerCounts
-pub mod FlowBoxSteps
-pub mod FlowFacts
-pub mod InlineContainerSteps
+pub mod FirstSeen
 pub mod LastSeen
-pub mod LeftSteps
 pub mod OnLineSteps
 pub mod OnePlaces
-pub mod OutsideFacts
-pub mod PieceCountSteps
 pub mod PieceSteps
 pub mod PlaceFacts
+pub mod StandingCounts

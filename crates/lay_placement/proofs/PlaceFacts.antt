@@ -1,17 +1,21 @@
--- What follows for the columns of one context from what they are.
-use Rattle.std.proofs.Common.{List, ◌≤◌, ◌∙◌, length}
-use Rattle.lay_boxgen.specs.declared.box_tree.BoxNode.{BoxNode}
-use Rattle.lay_face.specs.FaceValue.{FaceValue}
-use Rattle.lay_sizes.specs.declared.sizing.BoxSizes.{BoxSizes}
-use Rattle.lay_sizes.specs.declared.own_boxes.OwnBox.{OwnBox}
-use Rattle.lay_placement.specs.ContextPlaces.{ContextPlaces, HasPlaces}
-use Rattle.lay_placement.specs.PlaceBounds.{HaveCounts}
+-- What follows for the columns of one formatting context from what they are.
+use Rattle.std.proofs.Common.{◌≤◌, ◌<◌, ◌∙◌, arith, length}
+use Rattle.lay_flow.specs.FlowPlaces.{AreNearPlaces}
+use Rattle.lay_sizes.specs.OwnBoxes.{IsBoxSize}
+use Rattle.lay_flow_boxes.specs.PlaceInputs.{PlaceInput}
+use Rattle.lay_placement.specs.ContextPlaces.{ContextPlaces, HasPlaces, own_height}
+use Rattle.lay_placement.specs.Counts.{HaveCounts}
 
 -- places have an entry for each box
-pub place_counts : (face : FaceValue) (boxes : List BoxNode) (sizes : List BoxSizes) (inner : List OwnBox) (p : ContextPlaces) → length boxes ≤ 65536 → HasPlaces face boxes sizes inner p → HaveCounts boxes p
-place_counts face boxes sizes inner p few has = record {
+pub place_counts : (i : PlaceInput) (p : ContextPlaces) → length i.boxes ≤ 65536 → HasPlaces i p → HaveCounts i.boxes p
+place_counts i p few has = record {
   few = few;
-  left_count = has.has_lefts.count;
-  box_count = has.are_flow_boxes.count;
-  place_count = has.is_flow.places.count ∙ has.are_flow_boxes.count;
+  left_count = has.is_shape.has_lefts.count;
+  box_count = has.is_shape.are_flow_boxes.count;
+  place_count = has.is_flow.places.count ∙ has.is_shape.are_flow_boxes.count;
 }
+
+-- the height of its own border box is within its bounds
+pub own_height_fits : (i : PlaceInput) (p : ContextPlaces) → 0 < length i.boxes → HasPlaces i p → AreNearPlaces p.places.boxes → IsBoxSize (own_height p).0
+own_height_fits i p some has near =
+    (near 0 (omega (arith, some, has.is_flow.places.count, has.is_shape.are_flow_boxes.count))).height

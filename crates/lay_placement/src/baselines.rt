@@ -1,15 +1,16 @@
-//! The baseline of a context's own box (CSS 2.2, 10.8.1).
+//! The baseline of the own box of a formatting context (CSS 2.2, 10.8.1 and 17.5.3).
 
-ghost use Rattle.std.specs.Prelude.{◌≡◌, Some, IfOk, IfSome, if◌then◌else◌};
+ghost use Rattle.std.specs.Prelude.{◌≡◌, ◌+ℤ◌, Some, IfOk, IfSome, if◌then◌else◌};
 ghost use Rattle.std.specs.List.{flat_map};
 ghost use Rattle.std.specs.Option.{option_or};
 ghost use Rattle.lay_inlines.specs.LinePieces.{baseline_of};
 ghost use Rattle.lay_sizes.specs.OwnBoxes.{IsBaseline};
 ghost use Rattle.lay_placement.specs.Baselines.{is_visible, last_baseline, own_baseline};
+ghost use Rattle.lay_placement.specs.Counts.{HaveCounts};
 
-use crate::box_columns::style_at;
 use crate::context_places::BoxPlaces;
-use crate::place_input::PlaceInput;
+use crate::first_baselines::{first_baseline_of, is_of_cell};
+use lay_flow_boxes::PlaceInput;
 use lay_lines::{Ended, RowList};
 use lay_style::Overflow;
 use lay_units::{NoMemory, Unit};
@@ -17,14 +18,20 @@ use lay_units::{NoMemory, Unit};
 /// The greatest distance of a baseline from the top of its box: 2^59.
 const FARTHEST: i64 = 576460752303423488;
 
-/// The baseline of a context's own box as an inline-block, downward from the top of its border box, in 1/64 px: that of
-/// its last line in flow. None where no line is seen, or its `overflow` isn't `visible`. NoMemory is also the answer where
-/// it is more than 2^59 units away, which it is in no document within the limits.
+/// The baseline of the own box, downward from the top of its border box, in 1/64 px: of a table cell that of its first line or
+/// row in flow, and otherwise that of its last line in flow, as an inline-block has it. None where there is none, or where
+/// the `overflow` of what isn't a cell isn't `visible`. NoMemory is also the answer where it is more than 2^59 units away,
+/// which it is in no document within the limits.
 pub(crate) fn own_baseline(input: &PlaceInput, places: &BoxPlaces) -> Result<Option<Unit>, NoMemory>
-    ensures value { IfOk result (λ b. b ≡ own_baseline input.now.boxes places.now.places) }
+    requires { HaveCounts input.now.boxes places.now }
+    ensures value { IfOk result (λ b. b ≡ own_baseline input.now places.now.places) }
     ensures near { IfOk result (λ b. IfSome b (λ u. IsBaseline u.0)) }
 {
-    if is_visible(style_at(input.boxes(), 0).overflow) {
+    let _ = input.boxes();
+    if is_of_cell(input) {
+        return first_baseline_of(input, places);
+    }
+    if is_visible(input.context_boxes().style(0).overflow) {
         last_baseline(places.places.lines())
     } else {
         Ok(None)
@@ -75,11 +82,19 @@ fn baseline_or(row: &Ended, before: Option<Unit>) -> Result<Option<Unit>, NoMemo
 }
 
 /// The baseline of this line. NoMemory is the answer where it is more than 2^59 units away.
-fn baseline_of(row: &Ended) -> Result<Unit, NoMemory>
+pub(crate) fn baseline_of(row: &Ended) -> Result<Unit, NoMemory>
     ensures value { IfOk result (λ u. u ≡ record { 0 = baseline_of row.now }) }
     ensures near { IfOk result (λ u. IsBaseline u.0) }
 {
-    match row.top.0.checked_add(row.extent.above.0) {
+    baseline_below(row.top, row.extent.above)
+}
+
+/// What is so far below this. NoMemory is the answer where it is more than 2^59 units away.
+pub(crate) fn baseline_below(top: Unit, above: Unit) -> Result<Unit, NoMemory>
+    ensures value { IfOk result (λ u. u ≡ record { 0 = top.0 +ℤ above.0 }) }
+    ensures near { IfOk result (λ u. IsBaseline u.0) }
+{
+    match top.0.checked_add(above.0) {
         Some(y) if -FARTHEST <= y && y <= FARTHEST => Ok(Unit(y)),
         Some(_) | None => Err(NoMemory),
     }

@@ -1,24 +1,21 @@
-//! The corners of the boxes of one context.
+//! The corners of the boxes of one formatting context.
 
 ghost use Rattle.std.specs.Prelude.{ℕ, ◌≡◌, ◌<◌, ◌&&◌, [], ◌∷◌, nat_lt, length, IfOk, OnOk};
 ghost use Rattle.lay_flow.specs.FlowPlaces.{box_place_at};
 ghost use Rattle.lay_placement.specs.AtomicCorners.{corner_among, corner_of_piece, is_atomic};
-ghost use Rattle.lay_placement.specs.ContextPlaces.{corner_at, corner_in_flow, corners_to};
-ghost use Rattle.lay_placement.specs.LineBoxes.{measures_in};
+ghost use Rattle.lay_pieces.specs.Corners.{AreNearCorners, IsCornerNear, corner_at};
+ghost use Rattle.lay_placement.specs.BoxStandings.{corner_in_flow, corner_of_box};
+ghost use Rattle.lay_placement.specs.Counts.{HaveCounts};
 ghost use Rattle.lay_placement.specs.OnLines.{AreOnLines};
-ghost use Rattle.lay_placement.specs.PlaceBounds.{AreNearCorners, HaveCounts, IsCornerNear, IsNear};
 
 use crate::context_places::BoxPlaces;
-use crate::corner::Corner;
 use crate::on_lines::on_lines_at;
-use crate::place_input::PlaceInput;
 use lay_flow::BoxPlace;
+use lay_flow_boxes::PlaceInput;
 use lay_inlines::{LinePiece, LinePieceKind, LinePieceList};
-use lay_units::{NoMemory, Unit};
+use lay_pieces::{Corner, near_corner};
+use lay_units::NoMemory;
 use std::alloc::Global;
-
-/// The greatest distance of an edge from the origin.
-const FAR: i64 = 1152921504606846976;
 
 /// The corners of the border boxes of all boxes, in order, where these stand on lines. NoMemory is also the answer where one
 /// is more than 2^60 units away from that of the context's own box, which it is in no document within the limits.
@@ -29,8 +26,9 @@ pub(crate) fn corners_of(
     on_lines: &[LinePieceList],
 ) -> Result<Vec<Corner>, NoMemory>
     requires counts { HaveCounts input.now.boxes places.now }
-    requires on_lines { AreOnLines (measures_in input.now places.now.parts) places.now.flow_boxes places.now.places on_lines.now }
-    ensures corners { IfOk result (λ v. v.items ≡ corners_to (measures_in input.now places.now.parts) places.now (length input.now.boxes)) }
+    requires on_lines { AreOnLines input.now places.now on_lines.now }
+    ensures count { IfOk result (λ v. length v.items ≡ length input.now.boxes) }
+    ensures each { IfOk result (λ v. (k : ℕ) → k < length input.now.boxes → corner_at v.items k ≡ corner_of_box input.now places.now k) }
     ensures near { IfOk result (λ v. AreNearCorners v.items) }
 {
     let mut corners = corners_in_flow(alloc, places)?;
@@ -105,27 +103,6 @@ pub(crate) fn corner_in_flow(places: &BoxPlaces, k: usize) -> Result<Corner, NoM
 {
     let corner = place_at(places.places.boxes(), k).corner;
     near_corner(corner.x, corner.y)
-}
-
-/// A corner. NoMemory is the answer where it is more than 2^60 units away.
-pub fn near_corner(x: Unit, y: Unit) -> Result<Corner, NoMemory>
-    ensures corner { IfOk result (λ c. c ≡ record { x = x; y = y }) }
-    ensures near { IfOk result IsCornerNear }
-{
-    let x = near_position(x)?;
-    let y = near_position(y)?;
-    Ok(Corner { x, y })
-}
-
-/// A position. NoMemory is the answer where it is more than 2^60 units from 0.
-pub fn near_position(v: Unit) -> Result<Unit, NoMemory>
-    ensures value { IfOk result (λ u. u ≡ v) }
-    ensures near { IfOk result (λ u. IsNear u.0) }
-{
-    if v.0 < -FAR || v.0 > FAR {
-        return Err(NoMemory);
-    }
-    Ok(v)
 }
 
 pub(crate) fn place_at(places: &[BoxPlace], k: usize) -> BoxPlace

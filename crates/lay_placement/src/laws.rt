@@ -1,8 +1,8 @@
 //! The laws of the definitions.
 
-ghost use Rattle.lay_placement.specs.Laws.{LastSeenLineGivesBaseline, OnePlacement, UnseenLinesGiveNone};
+ghost use Rattle.lay_placement.specs.Laws.{FirstBoxGivesBaseline, FirstSeenLineGivesBaseline, LastSeenLineGivesBaseline, OnePlacement, UnseenLinesGiveNone};
 
-/// The placement of a context is the only one beside its used sizes and the boxes of inner contexts.
+/// The placement of a formatting context is the only one beside what it is given.
 pub fn one_placement()
     ensures { OnePlacement }
 {}
@@ -11,4 +11,11 @@ pub fn one_placement()
 pub fn last_seen_line_gives_baseline()
     ensures seen { LastSeenLineGivesBaseline }
     ensures unseen { UnseenLinesGiveNone }
+{}
+
+/// The baseline of a cell is that of a box which has one, with none before it that has; that of a box is that of a line which
+/// is seen, with none before it that is.
+pub fn first_baseline_is_first()
+    ensures line { FirstSeenLineGivesBaseline }
+    ensures in_box { FirstBoxGivesBaseline }
 {}

@@ -1,20 +1,18 @@
-//! What stands on the lines of the boxes of one context.
+//! What stands on the lines of the boxes of one formatting context.
 
 ghost use Rattle.std.specs.Prelude.{◌≡◌, ◌<◌, ◌≤◌, All, length, IfOk};
 ghost use Rattle.lay_content.specs.InlineBoxes.{areas_of};
 ghost use Rattle.lay_flow.specs.Boxes.{box_at};
 ghost use Rattle.lay_flow.specs.FlowBoxes.{KindFits};
 ghost use Rattle.lay_inlines.specs.Bounds.{AreaWithin, RowWithin};
-ghost use Rattle.lay_placement.specs.ContextPieces.{align_of, line_container, pieces_on_lines, rows_at};
-ghost use Rattle.lay_placement.specs.LineBoxes.{measures_in};
-ghost use Rattle.lay_placement.specs.OnLines.{AreOnLines, on_lines_at};
-ghost use Rattle.lay_placement.specs.PlaceBounds.{HaveCounts};
+ghost use Rattle.lay_placement.specs.ContextPlaces.{measures_of, rows_at};
+ghost use Rattle.lay_placement.specs.Counts.{HaveCounts};
+ghost use Rattle.lay_placement.specs.OnLines.{AreOnLines, align_of, line_container, on_lines_at, on_lines_of};
 
-use crate::box_columns::style_at;
-use crate::context_places::BoxPlaces;
-use crate::place_input::PlaceInput;
+use crate::context_places::{BoxPlaces, rows_at};
 use lay_content::{BoxMeasures, inline_areas};
 use lay_flow::{BlockBox, FlowBox, FlowBoxes, FlowKind};
+use lay_flow_boxes::PlaceInput;
 use lay_inlines::{
     Align, Container, LinePiece, LinePieceList, LinesGeometry, is_row_within, line_pieces,
 };
@@ -31,7 +29,7 @@ pub(crate) fn on_lines_of(
     places: &BoxPlaces,
 ) -> Result<Vec<LinePieceList>, NoMemory>
     requires counts { HaveCounts input.now.boxes places.now }
-    ensures { IfOk result (λ v. AreOnLines (measures_in input.now places.now.parts) places.now.flow_boxes places.now.places v.items) }
+    ensures { IfOk result (λ v. AreOnLines input.now places.now v.items) }
 {
     let areas = areas_of(alloc, input, places)?;
     let count = input.boxes().len();
@@ -58,12 +56,12 @@ fn areas_of(
     input: &PlaceInput,
     places: &BoxPlaces,
 ) -> Result<Vec<InlineArea>, NoMemory>
-    ensures areas { IfOk result (λ v. v.items ≡ areas_of (measures_in input.now places.now.parts)) }
+    ensures areas { IfOk result (λ v. v.items ≡ areas_of (measures_of input.now places.now)) }
     ensures within { IfOk result (λ v. All AreaWithin v.items) }
 {
     let measures = BoxMeasures::new(
         input.boxes(),
-        &places.parts,
+        places.shape.parts(),
         input.sizes(),
         input.inner(),
         input.face(),
@@ -81,16 +79,16 @@ fn pieces_on_lines(
 ) -> Result<LinePieceList, NoMemory>
     requires place { k < length input.now.boxes }
     requires counts { HaveCounts input.now.boxes places.now }
-    requires areas { areas.now ≡ areas_of (measures_in input.now places.now.parts) }
+    requires areas { areas.now ≡ areas_of (measures_of input.now places.now) }
     requires within { All AreaWithin areas.now }
-    ensures { IfOk result (λ l. l ≡ pieces_on_lines (measures_in input.now places.now.parts) places.now.places k (box_at places.now.flow_boxes k).kind) }
+    ensures { IfOk result (λ l. l ≡ on_lines_of input.now places.now k) }
 {
-    match kind_at(&places.flow_boxes, k) {
+    match kind_at(places.shape.flow_boxes(), k) {
         FlowKind::Lines(lines) => {
             let geometry = LinesGeometry {
                 container: line_container(input, k, &lines.block),
                 content: &lines.content,
-                rows: rows_at(places, k)?,
+                rows: rows_within(places, k)?,
                 areas,
             };
             line_pieces(alloc, &geometry)
@@ -119,15 +117,12 @@ fn kind_in(flow_boxes: &[FlowBox], k: usize) -> &FlowKind
     &flow_boxes[k].kind
 }
 
-/// The lines of the box at k. NoMemory is also the answer where one is out of the bounds of `is_row_within`.
-fn rows_at(places: &BoxPlaces, k: usize) -> Result<&[Ended], NoMemory>
+/// The lines of the box at k. NoMemory is the answer where one is out of the bounds of `is_row_within`.
+fn rows_within(places: &BoxPlaces, k: usize) -> Result<&[Ended], NoMemory>
     ensures rows { IfOk result (λ r. r.now ≡ rows_at places.now.places k) }
     ensures within { IfOk result (λ r. All RowWithin r.now) }
 {
-    let rows = match places.places.lines().get(k) {
-        Some(rows) => rows.as_slice(),
-        None => &[],
-    };
+    let rows = rows_at(&places.places, k);
     if rows.iter().all(|row| is_row_within(row)) {
         Ok(rows)
     } else {
@@ -145,7 +140,7 @@ fn line_container(input: &PlaceInput, k: usize, block: &BlockBox) -> Container
         node: k as u32,
         left: block.content.left,
         right: block.content.right,
-        align: align_of(style_at(input.boxes(), k).text.text_align),
+        align: align_of(input.context_boxes().style(k).text.text_align),
     }
 }
 

@@ -1,7 +1,7 @@
 use Rattle.std.proofs.Common.{arith}
 use Rattle.std.proofs.lemmas.Grind.{elements}
-use Rattle.lay_placement.specs.ContextPlaces.{corner_in_flow}
-use Rattle.lay_placement.proofs.CornerColumns.{one_more, one_more_near}
+use Rattle.lay_pieces.proofs.CornerColumns.{one_more, one_more_near}
+use Rattle.lay_placement.specs.BoxStandings.{corner_in_flow}
 use Rattle.lay_placement.proofs.corners.corners_in_flow.Goals as goal
 
 pub loop-k-preserved : goal.loop-k-preserved

@@ -1,8 +1,6 @@
-use Rattle.std.proofs.Common.{ℕ, arith}
+use Rattle.std.proofs.Common.{arith}
 use Rattle.std.proofs.lemmas.Grind.{elements}
-use Rattle.lay_flow.specs.Boxes.{box_at}
-use Rattle.lay_placement.specs.ContextPieces.{pieces_on_lines}
-use Rattle.lay_placement.specs.LineBoxes.{measures_in}
+use Rattle.lay_placement.specs.OnLines.{on_lines_of}
 use Rattle.lay_placement.proofs.OnLineSteps.{one_more}
 use Rattle.lay_placement.proofs.on_lines.on_lines_of.Goals as goal
 
@@ -11,6 +9,5 @@ loop-k-preserved c =
     let pushed = (c.in_ok-push.ensures {u = tt}).items in
     record {
       count = rw pushed (grind (arith, elements, c.loop-k.invariant.count));
-      each = rw pushed (one_more (λ (j : ℕ). pieces_on_lines (measures_in c.args.input.now c.args.places.now.parts) c.args.places.now.places j (box_at c.args.places.now.flow_boxes j).kind)
-          c.loop-k.all.items c.loop-k.k c.in_ok-pieces.pieces c.loop-k.invariant.count c.loop-k.invariant.each (c.in_ok-pieces.ensures {u = tt}));
+      each = rw pushed (one_more (on_lines_of c.args.input.now c.args.places.now) c.loop-k.all.items c.loop-k.k c.in_ok-pieces.pieces c.loop-k.invariant.count c.loop-k.invariant.each (c.in_ok-pieces.ensures {u = tt}));
     }

@@ -11,10 +11,9 @@ new-requires-3 c =
     let made = (c.in_ok-pieces-2.ensures {u = tt}).ok ∙ c.new.ensures in
     let counted = ap length made in
     let pieces = c.in_ok-pieces.ensures {u = tt} in
-    let places = c.in_ok-places.ensures {u = tt} in
     record {
       own = c.own_box-own.ensures.fits;
       pieces = rw made pieces.near;
       few = omega (arith, counted, pieces.few);
-      corners = (c.in_ok-corners.ensures {u = tt}).near;
+      standings = (c.in_ok-standings.ensures {u = tt}).near;
     }

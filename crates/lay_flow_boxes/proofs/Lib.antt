@@ -1,0 +1,6 @@
+pub mod FlowBoxSteps
+pub mod FlowFacts
+pub mod InlineContainerSteps
+pub mod LeftSteps
+pub mod OneShapes
+pub mod OutsideFacts

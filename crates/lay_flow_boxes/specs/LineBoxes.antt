@@ -1,0 +1,15 @@
+-- What flow boxes are made of, while they are made.
+use Rattle.std.specs.Prelude.{ℕ, ◌≡◌, ◌<◌, ◌≤◌, Bool, List, length}
+use Rattle.lay_units.specs.declared.length.Unit.{Unit as Length}
+use Rattle.lay_boxgen.specs.declared.box_tree.BoxNode.{BoxNode}
+use Rattle.lay_flow.specs.Children.{flag_at}
+use Rattle.lay_flow_boxes.specs.InlineContainers.{is_inline_container}
+use Rattle.lay_flow_boxes.specs.NearLefts.{AreNearLefts}
+
+-- the columns are as long as the boxes, and say what they ought to
+pub record IsShaping (boxes : List BoxNode) (lefts : List Length) (inline_containers : List Bool) : Type 0 where
+  pub few : length boxes ≤ 65536
+  pub lefts_count : length lefts ≡ length boxes
+  pub near : AreNearLefts lefts
+  pub flags_count : length inline_containers ≡ length boxes
+  pub flags : (k : ℕ) → k < length boxes → flag_at inline_containers k ≡ is_inline_container boxes k

@@ -1,0 +1,9 @@
+-- Left border edges within bounds.
+use Rattle.std.specs.Prelude.{ℕ, ◌<◌, pos, List, length}
+use Rattle.lay_units.specs.declared.length.Unit.{Unit as Length}
+use Rattle.lay_floats.specs.Within.{IsWithin}
+use Rattle.lay_flow.specs.Lengths.{length_at}
+
+-- at most 2^49 units away
+abbrev pub AreNearLefts : List Length → Type 0
+AreNearLefts lefts = (k : ℕ) → k < length lefts → IsWithin (pos 562949953421312) (length_at lefts k)

@@ -1,0 +1,20 @@
+//! The boxes of one formatting context as its block flow takes them (CSS 2.2, 9.2.1, 9.4.1, 9.4.2, 9.5 and 10.3.3), beside
+//! the used sizes of its boxes and the own boxes of the formatting contexts inside it.
+//!
+//! `flow_shape` answers by `IsFlowShape` of `specs/FlowShapes.antt`. It stands on `specs/InlineContainers.antt` (which boxes
+//! hold lines alone) and `specs/ContextBlocks.antt` (blocks, lines, solid boxes and floats). There is one such shape
+//! (`specs/Laws.antt`).
+#![tactic(auto)]
+
+mod box_columns;
+mod context_blocks;
+mod context_shapes;
+mod shape;
+mod inline_containers;
+mod laws;
+mod line_boxes;
+mod place_input;
+
+pub use shape::{FlowShape, flow_shape};
+pub use laws::one_flow_shape;
+pub use place_input::PlaceInput;

@@ -1,0 +1,82 @@
+//! The boxes of one context that hold lines.
+
+ghost use Rattle.std.specs.Prelude.{◌≡◌, ◌<◌, Some, None, length, IfOk, if◌then◌else◌};
+ghost use Rattle.lay_content.specs.SeenLines.{has_seen_line};
+ghost use Rattle.lay_flow_boxes.specs.ContextBlocks.{content_of_box, line_container, lines_in};
+ghost use Rattle.lay_flow_boxes.specs.FlowShapes.{measures_in};
+ghost use Rattle.lay_flow_boxes.specs.LineBoxes.{IsShaping};
+
+use crate::box_columns::{length_at, sizes_at};
+use crate::context_blocks::{content_right, inside_edge};
+use crate::place_input::PlaceInput;
+use lay_box_parts::InlinePart;
+use lay_content::{BoxMeasures, Container, has_seen_line, line_content};
+use lay_items::inline_segments;
+use lay_lines::LineContent;
+use lay_units::{NoMemory, Unit};
+use std::alloc::Global;
+
+/// What flow boxes are made of: what the placement is given, which parts of inline boxes the boxes are, their left
+/// border edges, and which of them hold inline-level boxes alone.
+#[derive(Clone, Copy)]
+pub(crate) struct Shaping<'a> {
+    pub input: &'a PlaceInput,
+    pub parts: &'a [InlinePart],
+    pub lefts: &'a [Unit],
+    pub inline_containers: &'a [bool],
+}
+
+/// What the lines of the box at k hold, where one of them is seen (CSS 2.2, 9.4.2).
+pub(crate) fn lines_in(
+    alloc: Global,
+    of: &Shaping<'_>,
+    k: usize,
+) -> Result<Option<LineContent>, NoMemory>
+    requires shaping { IsShaping of.now.input.now.boxes of.now.lefts.now of.now.inline_containers.now }
+    requires place { k < length of.now.input.now.boxes }
+    ensures { IfOk result (λ o. o ≡ lines_in (measures_in of.now.input.now of.now.parts.now) of.now.lefts.now k) }
+{
+    if !of.inline_containers[k] {
+        return Ok(None);
+    }
+    let content = content_of_box(alloc, of, k)?;
+    if has_seen_line(content.stretches()) {
+        Ok(Some(content))
+    } else {
+        Ok(None)
+    }
+}
+
+/// What lines of the box at k would hold. NoMemory is also the answer where that is out of the bounds of lines.
+fn content_of_box(alloc: Global, of: &Shaping<'_>, k: usize) -> Result<LineContent, NoMemory>
+    requires shaping { IsShaping of.now.input.now.boxes of.now.lefts.now of.now.inline_containers.now }
+    requires place { k < length of.now.input.now.boxes }
+    ensures { IfOk result (λ c. c ≡ content_of_box (measures_in of.now.input.now of.now.parts.now) of.now.lefts.now k) }
+{
+    let input = of.input;
+    let boxes = input.boxes();
+    let measures = BoxMeasures::new(boxes, of.parts, input.sizes(), input.inner(), input.face());
+    let segments = inline_segments(alloc, boxes, k, input.face())?;
+    let container = line_container(of, k);
+    match line_content(alloc, &measures, container, segments.as_slice())? {
+        Some(content) => Ok(content),
+        None => Err(NoMemory),
+    }
+}
+
+/// The box at k, as the content of its lines takes it.
+fn line_container(of: &Shaping<'_>, k: usize) -> Container
+    requires shaping { IsShaping of.now.input.now.boxes of.now.lefts.now of.now.inline_containers.now }
+    requires place { k < length of.now.input.now.boxes }
+    ensures { result ≡ line_container (measures_in of.now.input.now of.now.parts.now) of.now.lefts.now k }
+{
+    let _ = of.input.context_boxes();
+    let sizes = sizes_at(of.input.sizes(), k);
+    let left = inside_edge(length_at(of.lefts, k), sizes);
+    Container {
+        place: k,
+        containing: sizes.containing,
+        left,
+        right: content_right(left, sizes),
+    }
+}

@@ -1,0 +1,45 @@
+-- The first baseline, of lines and of boxes.
+use Rattle.std.proofs.Common.{◌≡◌, ℕ, zero, suc, ◌+◌, ◌<◌, ◌≤◌, ◌||◌, Bool, true, false, cond, List, [], ◌∷◌, ◌++◌, Option, Some, None, refl, sym, ap, ◌∙◌, arith, inl, inr, add-one}
+use Rattle.std.specs.List.{find, list_any}
+use Rattle.std.specs.Option.{option_map, option_or}
+use Rattle.std.proofs.lemmas.Bool.{cases_lt}
+use Rattle.lay_units.specs.declared.length.Unit.{Unit as Length}
+use Rattle.lay_lines.specs.declared.row.Ended.{Ended}
+use Rattle.lay_inlines.specs.LinePieces.{baseline_of}
+use Rattle.lay_flow.specs.FlowPlaces.{FlowPlacesValue}
+use Rattle.lay_flow_boxes.specs.PlaceInputs.{PlaceInput}
+use Rattle.lay_placement.specs.Baselines.{baseline_in, first_baseline, first_baseline_to}
+use Rattle.lay_placement.specs.Laws.{FirstBoxGivesBaseline, FirstSeenLineGivesBaseline, any_seen}
+
+or_first : (a b : Bool) → (a || b) ≡ false → a ≡ false
+or_first true b h = absurd cc
+or_first false b h = refl
+
+or_second : (a b : Bool) → (a || b) ≡ false → b ≡ false
+or_second true b h = absurd cc
+or_second false b h = h
+
+first_found : (before after : List Ended) (row : Ended) → row.seen ≡ true → any_seen before ≡ false → find (λ (r : Ended). r.seen) (before ++ row ∷ after) ≡ Some row
+first_found [] after row seen none = ap (λ b. cond b (Some row) (find (λ (r : Ended). r.seen) after)) seen
+first_found (x ∷ xs) after row seen none =
+    ap (λ b. cond b (Some x) (find (λ (r : Ended). r.seen) (xs ++ row ∷ after))) (or_first x.seen (any_seen xs) none) ∙ first_found xs after row seen (or_second x.seen (any_seen xs) none)
+
+pub first_seen_line_lem : FirstSeenLineGivesBaseline
+first_seen_line_lem before after row seen none =
+    ap (option_map (λ (r : Ended). let u : Length = record { 0 = baseline_of r } in u)) (first_found before after row seen none)
+
+-- no box before n has one
+pub none_before : (i : PlaceInput) (places : FlowPlacesValue) (n : ℕ) → ((j : ℕ) → j < n → baseline_in i places j ≡ None) → first_baseline_to i places n ≡ None
+none_before i places zero none = refl
+none_before i places (suc n) none = rw (none_before i places n (λ j lt. none j (omega arith))) (none n (omega arith))
+
+or_some : {X : Type 0} (a : Option X) (b : X) (c : Option X) → a ≡ Some b → option_or a c ≡ Some b
+or_some None b c is = absurd cc
+or_some (Some x) b c is = is
+
+pub first_box_lem : FirstBoxGivesBaseline
+first_box_lem i places k zero b lt is none = absurd (omega arith)
+first_box_lem i places k (suc n) b lt is none = elim (cases_lt k n) [
+  | inl low ↦ or_some (first_baseline_to i places n) b (baseline_in i places n) (first_box_lem i places k n b low is none)
+  | inr high ↦ (let q : n ≡ k = omega arith in rw (none_before i places n (λ j jl. none j (omega arith)), q) is)
+]
