@@ -1,0 +1,6 @@
+pub mod TableBoxes
+pub mod MeetingBorders
+pub mod TableBorders
+pub mod TableGrid
+pub mod GridBounds
+pub mod Laws

@@ -1,0 +1,107 @@
+-- The structure of a table (CSS 2.2, 17.2 to 17.6): its rows as they are drawn, its cells where they stand in the grid
+-- (17.5), its columns, what is between them, and the borders of the table and of each cell. All of it follows from the
+-- boxes and their styles alone.
+use Rattle.std.specs.Prelude.{ℕ, ◌≡◌, ◌+◌, max, Bool, true, false, Option, Some, None}
+use Rattle.std.specs.Prelude.{List, [], length, map, slice_get, if◌then◌else◌}
+use Rattle.lay_units.specs.declared.records.Sides.{Sides}
+use Rattle.lay_style.specs.declared.style.TableStyle.{TableStyle}
+use Rattle.lay_style.specs.declared.style_words.BorderCollapse.{BorderCollapse}
+use Rattle.lay_style.specs.declared.style_words.BorderCollapse.TheVariants as borders
+use Rattle.lay_style.specs.LengthValues.{size_of}
+use Rattle.lay_boxgen.specs.declared.box_tree.BoxNode.{BoxNode}
+use Rattle.lay_grid.specs.declared.cells.Cell.{Cell}
+use Rattle.lay_grid.specs.Areas.{areas_from}
+use Rattle.lay_grid.specs.Places.{StandAfter, areas_of}
+use Rattle.lay_grid.specs.Slots.{columns_of}
+use Rattle.lay_sizes.specs.UsedLengths.{no_length}
+use Rattle.lay_table_grid.specs.declared.grid.Spacing.{Spacing}
+use Rattle.lay_table_grid.specs.declared.grid.TableCell.{TableCell}
+use Rattle.lay_table_grid.specs.declared.grid.TableRow.{TableRow}
+use Rattle.lay_table_grid.specs.declared.placed.PlacedCell.{PlacedCell}
+use Rattle.lay_table_grid.specs.MeetingBorders.{TableParts}
+use Rattle.lay_table_grid.specs.TableBorders.{AreCellBorders, AreSeparate, AreTableBorders}
+use Rattle.lay_table_grid.specs.TableBoxes.{cells_of_rows, column_boxes_of, row_specs, rows_of, table_place}
+
+pub record TableGridValue : Type 0 where
+  -- the place of the table box
+  pub table : ℕ
+  -- the rows as they are drawn, and the cells row by row
+  pub rows : List TableRow
+  pub cells : List TableCell
+  -- for each column that has a box, the place of that
+  pub column_boxes : List ℕ
+  pub columns : ℕ
+  pub spacing : Spacing
+  pub collapses : Bool
+  -- the used border widths of the table box
+  pub borders : Sides
+
+-- where a cell stands
+abbrev pub stand_of : TableCell → Cell
+stand_of cell = record {
+  area = record { row = cell.row; end = cell.row + cell.rows; columns = cell.columns };
+  left = cell.column;
+}
+
+abbrev pub stands_of : List TableCell → List Cell
+stands_of cells = map stand_of cells
+
+abbrev pub placed_of : TableCell → PlacedCell
+placed_of cell = record { place = cell.place; cell = stand_of cell }
+
+abbrev pub parts_of : List BoxNode → TableGridValue → TableParts
+parts_of boxes grid = record {
+  boxes = boxes;
+  table = grid.table;
+  rows = grid.rows;
+  cells = map placed_of grid.cells;
+  column_boxes = grid.column_boxes;
+  columns = grid.columns;
+}
+
+-- whether borders collapse, by the style of the table box
+abbrev pub collapsing : BorderCollapse → Bool
+collapsing borders.Collapse = true
+collapsing borders.Separate = false
+
+abbrev pub collapses_in : Option BoxNode → Bool
+collapses_in None = false
+collapses_in (Some box) = collapsing box.style.table.border_collapse
+
+abbrev pub no_spacing : Spacing
+no_spacing = record { across = no_length; down = no_length }
+
+-- 17.6.1, in the collapsing model there are no spacings
+abbrev pub spacing_by : TableStyle → Spacing
+spacing_by style =
+    if collapsing style.border_collapse then no_spacing
+    else record { across = size_of style.border_spacing.horizontal.0; down = size_of style.border_spacing.vertical.0 }
+
+abbrev pub spacing_in : Option BoxNode → Spacing
+spacing_in None = no_spacing
+spacing_in (Some box) = spacing_by box.style.table
+
+-- these cells stand in the grid
+pub record AreStanding (boxes : List BoxNode) (rows : List TableRow) (cells : List TableCell) : Type 0 where
+  pub places : map (λ cell. cell.place) cells ≡ cells_of_rows boxes rows
+  pub areas : areas_of (stands_of cells) ≡ areas_from 0 (row_specs boxes rows)
+  pub stand : StandAfter [] (stands_of cells)
+
+-- the cells and the table box have these borders
+pub record HaveBorders (boxes : List BoxNode) (grid : TableGridValue) : Type 0 where
+  pub separate_cells : grid.collapses ≡ false → (k : ℕ) (cell : TableCell)
+      → slice_get grid.cells k ≡ Some cell → AreSeparate boxes cell.place cell.borders
+  pub separate_table : grid.collapses ≡ false → AreSeparate boxes grid.table grid.borders
+  pub collapsed_cells : grid.collapses ≡ true → (k : ℕ) (cell : TableCell)
+      → slice_get grid.cells k ≡ Some cell → AreCellBorders (parts_of boxes grid) cell cell.borders
+  pub collapsed_table : grid.collapses ≡ true → AreTableBorders (parts_of boxes grid) grid.borders
+
+pub record IsTableGrid (boxes : List BoxNode) (grid : TableGridValue) : Type 0 where
+  pub table : grid.table ≡ table_place boxes
+  pub rows : grid.rows ≡ rows_of boxes
+  pub cells : AreStanding boxes grid.rows grid.cells
+  pub column_boxes : grid.column_boxes ≡ column_boxes_of boxes
+  pub columns : grid.columns ≡ max (length grid.column_boxes) (columns_of (stands_of grid.cells))
+  pub collapses : grid.collapses ≡ collapses_in (slice_get boxes grid.table)
+  pub spacing : grid.spacing ≡ spacing_in (slice_get boxes grid.table)
+  pub borders : HaveBorders boxes grid

@@ -1,0 +1,15 @@
+//! The structure of a table (CSS 2.2, 17.2 to 17.6), read off the boxes of its formatting context and their styles: its
+//! rows as they are drawn, its cells where they stand in the grid (17.5), its columns, the spacing between them, and the
+//! borders of the table and its cells, separate (17.6.1) or collapsed (17.6.2).
+//!
+//! Contracts cite `IsTableGrid` of `specs/TableGrid.antt`, whose boxes are those of `specs/TableBoxes.antt`. Which borders
+//! meet at which edge is said in `specs/MeetingBorders.antt`. It is a relation, and has one value (`specs/Laws.antt`).
+#![tactic(auto)]
+
+mod elements;
+mod grid;
+mod placed;
+
+pub use elements::{Element, Side};
+pub use grid::{Spacing, TableCell, TableGrid, TableRow};
+pub use placed::PlacedCell;
