@@ -16,7 +16,7 @@ use Rattle.lay_table_sizes.proofs.OneTable.{one_cell_sizes_lem, one_table_sizes_
 use Rattle.lay_context_boxes.specs.Containing.{container_of}
 use Rattle.lay_context_boxes.specs.ContextBoxes.{AreContextBoxes, is_inner}
 use Rattle.lay_context_boxes.proofs.ContainerSteps.{container_before}
-use Rattle.lay_context.specs.ContainingBlocks.{block_around, block_in, height_holder}
+use Rattle.lay_context_boxes.specs.ContainingBlocks.{block_around, block_in, height_holder}
 use Rattle.lay_context.specs.ContextSizes.{SizedContext, IsSizedAs, table_rule}
 use Rattle.lay_context.specs.FlowSizes.{HasFlowSizes, IsBoxSized, IsOwnSized, inside_rule, own_rule_of}
 use Rattle.lay_context.specs.Inputs.{SizeInput, containing_block_in}

@@ -12,7 +12,7 @@ use Rattle.lay_sizes.specs.SizeColumns.{HaveSizeBounds, no_sizes, sizes_at}
 use Rattle.lay_context_boxes.specs.Containing.{container_of}
 use Rattle.lay_context_boxes.specs.ContextBoxes.{AreContextBoxes, is_inner}
 use Rattle.lay_context_boxes.proofs.ContainerSteps.{container_before}
-use Rattle.lay_context.specs.ContainingBlocks.{block_around, height_holder}
+use Rattle.lay_context_boxes.specs.ContainingBlocks.{block_around, height_holder}
 use Rattle.lay_context.specs.FlowSizes.{HaveInsideSizes, IsBoxSized}
 use Rattle.lay_context.proofs.HolderSteps.{holder_before}
 

@@ -18,7 +18,7 @@ use Rattle.lay_sizes.specs.BoxSizes.{IsSized}
 use Rattle.lay_sizes.specs.SizeColumns.{no_sizes, sizes_at}
 use Rattle.lay_table_sizes.specs.CellSizes.{IsCellSized}
 use Rattle.lay_context_boxes.specs.ContextBoxes.{is_inner}
-use Rattle.lay_context.specs.ContainingBlocks.{block_around}
+use Rattle.lay_context_boxes.specs.ContainingBlocks.{block_around}
 use Rattle.lay_context.specs.Inputs.{SizeInput}
 use Rattle.lay_context.specs.declared.setting.Setting.{Setting}
 use Rattle.lay_context.specs.declared.setting.Setting.TheVariants.{Block, Cell}

@@ -12,7 +12,7 @@ use Rattle.lay_sizes.specs.SizeColumns.{sizes_at}
 use Rattle.lay_table_sizes.specs.TableSizesValue.{TableSizesValue, cell_at}
 use Rattle.lay_table_sizes.specs.declared.cell_size.CellSize.{CellSize}
 use Rattle.lay_formatting.specs.FormattingContexts.{FormattingContext, formatting_context_at, boxes_in}
-use Rattle.lay_context.specs.ContainingBlocks.{block_around}
+use Rattle.lay_context_boxes.specs.ContainingBlocks.{block_around}
 use Rattle.lay_context.specs.ContextSizes.{SizedContext, not_sized}
 use Rattle.lay_context.specs.declared.setting.Setting.{Setting}
 use Rattle.lay_context.specs.declared.setting.Setting.TheVariants.{Block, Cell}

@@ -7,11 +7,10 @@ ghost use Rattle.lay_sizes.specs.SizeColumns.{HaveSizeBounds, no_sizes, sizes_at
 ghost use Rattle.lay_context_boxes.specs.ContextBoxes.{is_inner};
 ghost use Rattle.lay_context.specs.FlowSizes.{HasFlowSizes, HaveInsideSizes, IsBoxSized, IsOwnSized, floating_rule, inside_rule, own_rule, own_rule_of, rule_in_flow};
 
-use crate::containing::block_around;
 use crate::input::SizeInput;
 use crate::setting::Setting;
 use lay_boxgen::{BoxKind, Flow};
-use lay_context_boxes::ContextBoxes;
+use lay_context_boxes::{ContextBoxes, block_around};
 use lay_measure::PreferredWidths;
 use lay_pieces::ContextSizes;
 use lay_sizes::{BoxSizes, NO_SIZES, NaturalSize, WidthRule, box_sizes};

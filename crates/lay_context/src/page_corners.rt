@@ -4,13 +4,13 @@ ghost use Rattle.std.specs.Prelude.{◌≡◌, ◌<◌, ◌≤◌, ◌+ℤ◌, �
 ghost use Rattle.lay_units.specs.Units.{IsUsed, IsUsedSize};
 ghost use Rattle.lay_sizes.specs.BoxSizes.{border_width};
 ghost use Rattle.lay_sizes.specs.SizeBounds.{SizeFits};
+ghost use Rattle.lay_sizes.specs.SizeColumns.{sizes_at};
 ghost use Rattle.lay_pieces.specs.Corners.{AreNearCorners, IsCornerNear, IsNear, corner_at};
 ghost use Rattle.lay_pieces.specs.Standings.{IsStandingNear, standing_at};
 ghost use Rattle.lay_context.specs.PageCorners.{HasPageCorners, beside, inner_corner, is_right, lowered, root_corner, root_corner_of, root_left, root_standing, standing_of};
 ghost use Rattle.lay_context.specs.Settings.{sizes_in};
 ghost use Rattle.lay_context.specs.Settling.{AreKnown};
 
-use crate::containing::sizes_at;
 use crate::known::Known;
 use lay_boxgen::{Flow, flow_of};
 use lay_formatting::FormattingContexts;
@@ -225,4 +225,11 @@ pub(crate) fn corner_at(corners: &[Corner], i: usize) -> Corner
     ensures { result ≡ corner_at corners.now i }
 {
     corners[i]
+}
+
+fn sizes_at(sizes: &[BoxSizes], k: usize) -> BoxSizes
+    requires { k < length sizes.now }
+    ensures { result ≡ sizes_at sizes.now k }
+{
+    sizes[k]
 }

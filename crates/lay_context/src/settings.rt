@@ -9,10 +9,9 @@ ghost use Rattle.lay_context.specs.Settings.{caption_block, setting_as, setting_
 ghost use Rattle.lay_context.specs.Settling.{IsReady};
 ghost use Rattle.lay_context.specs.declared.task.Phase.TheVariants.{Size};
 
-use crate::containing::block_around;
 use crate::known::Known;
 use crate::setting::Setting;
-use lay_context_boxes::ContextBoxes;
+use lay_context_boxes::{ContextBoxes, block_around};
 use lay_formatting::FormattingContexts;
 use lay_sizes::{BoxSizes, ContainingBlock, NO_SIZES, content_block};
 use lay_table_sizes::{CellSize, TableSizes};
