@@ -52,6 +52,19 @@ module _ (homes : List ℕ) (r : ℕ) where
   pub count_yes : (n : ℕ) → is_at_home homes r n ≡ true → length (at_home_before homes r (n + 1)) ≡ length (at_home_before homes r n) + 1
   count_yes n e = ap length (more_yes n e) ∙ length-append (at_home_before homes r n) (n ∷ [])
 
+  -- not one for each box before, for the own box isn't at home anywhere
+  few_by : (n m : ℕ) (b : Bool) → is_at_home homes r n ≡ b → length (at_home_before homes r n) ≤ m → length (at_home_before homes r (n + 1)) ≤ m + 1
+  few_by n m true e le = omega (arith, count_yes n e, le)
+  few_by n m false e le = omega (arith, ap length (more_no n e), le)
+
+  pub count_few : (n : ℕ) → length (at_home_before homes r (n + 1)) ≤ n
+  count_few zero = (let e = ap length (more_no 0 refl) in omega (arith, e))
+  count_few (suc n) =
+      let le = count_few n in
+      let q = ap (λ (m : ℕ). length (at_home_before homes r m)) (add-one n) in
+      let more = few_by (suc n) n (is_at_home homes r (suc n)) refl (omega (arith, le, q)) in
+      omega (arith, more)
+
   count_step : (n : ℕ) (b : Bool) → is_at_home homes r n ≡ b → length (at_home_before homes r n) ≤ length (at_home_before homes r (n + 1))
   count_step n true e = omega (arith, count_yes n e)
   count_step n false e = omega (arith, ap length (more_no n e))

@@ -5,3 +5,6 @@ pub mod WholeBoxes
 pub mod RootNumbers
 pub mod ContextFacts
 pub mod ListLaws
+pub mod GrowingColumns
+pub mod GrowingList
+pub mod PartingFacts

@@ -1,5 +1,5 @@
 -- The boxes of the formatting context of a root are a tree, as those of a context are.
-use Rattle.std.proofs.Common.{◌≡◌, ℕ, zero, suc, ◌+◌, ◌<◌, ◌≤◌, ◌||◌, Bool, true, false, List, [], ◌∷◌, length, map, slice_index, refl, ap, sym, subst, ◌∙◌, arith, inl, inr, if◌then◌else◌}
+use Rattle.std.proofs.Common.{◌≡◌, ℕ, zero, suc, ◌+◌, ◌<◌, ◌≤◌, ◌||◌, Bool, true, false, List, [], ◌∷◌, add-one, length, map, slice_index, refl, ap, sym, subst, ◌∙◌, arith, inl, inr, if◌then◌else◌}
 use Rattle.std.proofs.lemmas.Bool.{cases_lt}
 use Rattle.std.proofs.lemmas.List.{get_or-map, length-map}
 use Rattle.lay_doc.specs.Tree.{IsTree}
@@ -10,7 +10,7 @@ use Rattle.lay_boxgen.proofs.BoxForests.{length-parents}
 use Rattle.lay_context_boxes.specs.ContextBoxes.{AreContextBoxes, is_inner}
 use Rattle.lay_formatting.specs.FormattingBoxes.{as_member, as_own, at_home_before, box_at, boxes_of_root, is_at_home, no_box, place_inside, rank}
 use Rattle.lay_formatting.specs.Homes.{AreHomes, IsHome, is_root}
-use Rattle.lay_formatting.proofs.AtHome.{Stands, count_le, count_lt, home_is, is_home, place_there, stands_there}
+use Rattle.lay_formatting.proofs.AtHome.{Stands, count_few, count_le, count_lt, home_is, is_home, place_there, stands_there}
 use Rattle.lay_formatting.proofs.NearestRoots.{home_before, not_own, parent_low, root_home, same_home}
 
 pub parent_of : (boxes : List BoxNode) (k : ℕ) → (box_at boxes k).parent ≡ box_parent boxes k
@@ -23,6 +23,10 @@ inner_of [] k = refl
 inner_of (b ∷ bs) zero = refl
 inner_of (b ∷ bs) (suc k) = inner_of bs k
 
+pub parent_within : (boxes : List BoxNode) → AreContextBoxes boxes → (k : ℕ) → k < length boxes → (box_at boxes k).parent < length boxes
+parent_within boxes are zero lt = (let e = parent_of boxes 0 ∙ are.tree.root in omega (arith, e, lt))
+parent_within boxes are (suc k) lt = (let e = parent_of boxes (suc k) in let low = parent_low boxes are.tree (suc k) (omega arith) lt in omega (arith, e, low, lt))
+
 or_no : (a b : Bool) → a ≡ false → b ≡ false → (a || b) ≡ false
 or_no a b e f = rw (e, f) refl
 
@@ -30,6 +34,14 @@ or_no a b e f = rw (e, f) refl
 pub rank_is : (homes : List ℕ) (r k : ℕ) → is_at_home homes r k ≡ true → rank homes k ≡ 1 + length (at_home_before homes r k)
 rank_is homes r zero home = absurd cc
 rank_is homes r (suc k) home = ap (λ (h : ℕ). 1 + length (at_home_before homes h (suc k))) (home_is homes r (suc k) home).1
+
+pub rank_low : (homes : List ℕ) (k : ℕ) → rank homes k ≤ k
+rank_low homes zero = omega arith
+rank_low homes (suc k) =
+    let h : ℕ = slice_index homes (suc k) in
+    let le = count_few homes h k in
+    let q = ap (λ (m : ℕ). length (at_home_before homes h m)) (add-one k) in
+    omega (arith, le, q)
 
 rank_next : (homes : List ℕ) (r k : ℕ) → is_at_home homes r k ≡ true → rank homes k ≡ suc (length (at_home_before homes r k))
 rank_next homes r k home = (let e = rank_is homes r k home in omega (arith, e))

@@ -9,7 +9,7 @@ use Rattle.lay_formatting.specs.FormattingBoxes.{as_member, as_own, at_home_befo
 use Rattle.lay_formatting.specs.Homes.{AreHomes, is_root}
 use Rattle.lay_formatting.proofs.AtHome.{count_yes, is_home, more_no, place_there}
 use Rattle.lay_formatting.proofs.NearestRoots.{home_before, home_is_root, parent_low}
-use Rattle.lay_formatting.proofs.RootBoxes.{inner_of, length_is, member_at, parent_of, place_other, place_root, rank_is}
+use Rattle.lay_formatting.proofs.RootBoxes.{inner_of, length_is, member_at, parent_of, parent_within, place_other, place_root, rank_is}
 
 same_placed : (b : BoxNode) → placed b b.parent b.inner ≡ b
 same_placed b = refl
@@ -61,14 +61,10 @@ module _ (boxes : List BoxNode) (homes : List ℕ) (are : AreContextBoxes boxes)
   place_same zero lt = refl
   place_same (suc p) lt = place_other boxes homes (suc p) (not_root (suc p) (is_root boxes (suc p)) (omega arith) lt refl) ∙ rank_same (suc p) (omega arith) lt
 
-  parent_within : (k : ℕ) → k < length boxes → box_parent boxes k < length boxes
-  parent_within zero lt = rw are.tree.root lt
-  parent_within (suc k) lt = (let low = parent_low boxes are.tree (suc k) (omega arith) lt in omega (arith, low, lt))
-
   member_same : (k : ℕ) → 0 < k → k < length boxes → as_member boxes homes k ≡ box_at boxes k
   member_same k positive lt =
       let b : BoxNode = box_at boxes k in
-      let within : b.parent < length boxes = rw (parent_of boxes k) (parent_within k lt) in
+      let within = parent_within boxes are k lt in
       placed_as b (place_inside boxes homes b.parent) (b.inner || is_root boxes k) (place_same b.parent within) (or_none b.inner (is_root boxes k) (not_root k (is_root boxes k) positive lt refl))
 
   length_same : length (boxes_of_root boxes homes 0) ≡ length boxes
@@ -98,3 +94,7 @@ module _ (boxes : List BoxNode) (homes : List ℕ) (are : AreContextBoxes boxes)
 
   pub whole_boxes : boxes_of_root boxes homes 0 ≡ boxes
   whole_boxes = same_list no_box (boxes_of_root boxes homes 0) boxes length_same each_same
+
+  pub whole_root : (r : ℕ) → r < length boxes → is_root boxes r ≡ true → boxes_of_root boxes homes r ≡ boxes
+  whole_root zero lt root = whole_boxes
+  whole_root (suc r) lt root = absurd (whole (suc r) (omega arith) lt root)
