@@ -12,7 +12,7 @@ use Rattle.lay_sizes.specs.BoxSizes.{IsSized}
 use Rattle.lay_sizes.specs.SizeColumns.{no_sizes, sizes_at}
 use Rattle.lay_sizes.proofs.OneSizes.{one_box_sizes_lem}
 use Rattle.lay_table_sizes.specs.TableSizesValue.{TableSizesValue}
-use Rattle.lay_table_sizes.proofs.OneTable.{one_cell_sizes_lem, one_table_sizes_lem}
+use Rattle.lay_table_sizes.specs.Laws.{OneCellSizes, OneTableSizes}
 use Rattle.lay_context_boxes.specs.Containing.{container_of}
 use Rattle.lay_context_boxes.specs.ContextBoxes.{AreContextBoxes, is_inner}
 use Rattle.lay_context_boxes.proofs.ContainerSteps.{container_before}
@@ -36,11 +36,11 @@ block_around_same boxes x y are k inside within same =
     let other = same (height_holder boxes c) (omega arith) in
     rw (one, other) refl
 
-one_own : (setting : Setting) (w : PreferredWidths) (boxes : List BoxNode) (y z : BoxSizes) → IsOwnSized setting w boxes y → IsOwnSized setting w boxes z → y ≡ z
-one_own (Block containing) w boxes y z a b = one_box_sizes_lem containing _ _ y z a b
-one_own (Cell containing cell) w boxes y z a b = one_cell_sizes_lem containing cell _ y z a b
+one_own : OneCellSizes → (setting : Setting) (w : PreferredWidths) (boxes : List BoxNode) (y z : BoxSizes) → IsOwnSized setting w boxes y → IsOwnSized setting w boxes z → y ≡ z
+one_own one_cell (Block containing) w boxes y z a b = one_box_sizes_lem containing _ _ y z a b
+one_own one_cell (Cell containing cell) w boxes y z a b = one_cell containing cell _ y z a b
 
-module _ (i : SizeInput) (x y : List BoxSizes) (are : AreContextBoxes i.boxes) (a : HasFlowSizes i x) (b : HasFlowSizes i y) where
+module _ (one_cell : OneCellSizes) (i : SizeInput) (x y : List BoxSizes) (are : AreContextBoxes i.boxes) (a : HasFlowSizes i x) (b : HasFlowSizes i y) where
   -- a box that isn't that of an inner context has its sizes, and another has none
   size_by : (k : ℕ) → 0 < k → k < length i.boxes → ((j : ℕ) → j < k → sizes_at x j ≡ sizes_at y j) → (inner : Bool) → is_inner i.boxes k ≡ inner → sizes_at x k ≡ sizes_at y k
   size_by k inside within same true is = a.inside.inner k inside within is ∙ sym (b.inside.inner k inside within is)
@@ -50,7 +50,7 @@ module _ (i : SizeInput) (x y : List BoxSizes) (are : AreContextBoxes i.boxes) (
       one_box_sizes_lem (block_around i.boxes y k) (inside_rule i.boxes k) (style_at (box_styles i.boxes) k) (sizes_at x k) (sizes_at y k) here (b.inside.each k inside within own)
 
   size_at : (k : ℕ) → k < length i.boxes → ((j : ℕ) → j < k → sizes_at x j ≡ sizes_at y j) → sizes_at x k ≡ sizes_at y k
-  size_at zero within same = one_own i.setting i.widths i.boxes (sizes_at x 0) (sizes_at y 0) a.own b.own
+  size_at zero within same = one_own one_cell i.setting i.widths i.boxes (sizes_at x 0) (sizes_at y 0) a.own b.own
   size_at (suc k) within same = size_by (suc k) (omega arith) within same (is_inner i.boxes (suc k)) refl
 
   -- sizes agree from the own box on, since each rests on its parent's
@@ -64,20 +64,20 @@ module _ (i : SizeInput) (x y : List BoxSizes) (are : AreContextBoxes i.boxes) (
   one_flow : x ≡ y
   one_flow = same_list no_sizes x y (a.inside.count ∙ sym b.inside.count) (λ k lt. sizes_to (length i.boxes) (omega arith) k (omega (arith, a.inside.count)))
 
-one_as : (b : Bool) (i : SizeInput) (x y : List BoxSizes) (t u : Option TableSizesValue) → AreContextBoxes i.boxes → IsSizedAs b i x t → IsSizedAs b i y u → (x ≡ y) × (t ≡ u)
-one_as true i x y (Some t) (Some u) are p q =
-    let both = one_table_sizes_lem (containing_block_in i.setting) _ i.boxes x y t u p q in
+one_as : OneTableSizes → OneCellSizes → (b : Bool) (i : SizeInput) (x y : List BoxSizes) (t u : Option TableSizesValue) → AreContextBoxes i.boxes → IsSizedAs b i x t → IsSizedAs b i y u → (x ≡ y) × (t ≡ u)
+one_as one_table one_cell true i x y (Some t) (Some u) are p q =
+    let both = one_table (containing_block_in i.setting) _ i.boxes x y t u p q in
     (both.0, ap Some both.1)
-one_as true i x y (Some t) None are p q = absurd q
-one_as true i x y None u are p q = absurd p
-one_as false i x y None None are p q = (one_flow i x y are p q, refl)
-one_as false i x y None (Some u) are p q = absurd q
-one_as false i x y (Some t) u are p q = absurd p
+one_as one_table one_cell true i x y (Some t) None are p q = absurd q
+one_as one_table one_cell true i x y None u are p q = absurd p
+one_as one_table one_cell false i x y None None are p q = (one_flow one_cell i x y are p q, refl)
+one_as one_table one_cell false i x y None (Some u) are p q = absurd q
+one_as one_table one_cell false i x y (Some t) u are p q = absurd p
 
 same_sized : (x y : SizedContext) → x.boxes ≡ y.boxes → x.table ≡ y.table → x ≡ y
 same_sized x y boxes table = cc
 
-pub one_context_sizes_lem : OneContextSizes
-one_context_sizes_lem i x y are a b =
-    let both = one_as (is_table i.boxes) i x.boxes y.boxes x.table y.table are a b in
+pub one_context_sizes_lem : OneTableSizes → OneCellSizes → OneContextSizes
+one_context_sizes_lem one_table one_cell i x y are a b =
+    let both = one_as one_table one_cell (is_table i.boxes) i x.boxes y.boxes x.table y.table are a b in
     same_sized x y both.0 both.1

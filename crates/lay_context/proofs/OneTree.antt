@@ -10,8 +10,10 @@ use Rattle.lay_contexts.specs.ContextList.{AreContextsOf}
 use Rattle.lay_contexts.proofs.ContextNumbers.{are_contexts, one_context_list_lem}
 use Rattle.lay_formatting.specs.FormattingContexts.{FormattingContext, AreFormattingContexts, boxes_in}
 use Rattle.lay_formatting.specs.FormattingContextList.{AreFormattingContextsOf}
-use Rattle.lay_formatting.proofs.OneList.{formatting_contexts_stand_in_order_lem, one_formatting_context_list_lem}
+use Rattle.lay_formatting.specs.Laws.{FormattingContextsStandInOrder, OneFormattingContextList}
 use Rattle.lay_pieces.specs.Placements.{Placement, no_placement}
+use Rattle.lay_placement.specs.Laws.{OnePlacement}
+use Rattle.lay_table.specs.Laws.{OneTablePlacement}
 use Rattle.lay_context.specs.declared.task.Phase.{Phase}
 use Rattle.lay_context.specs.declared.task.Phase.TheVariants.{Measure, Size, Place}
 use Rattle.lay_context.specs.declared.task.Task.{Task}
@@ -19,7 +21,7 @@ use Rattle.lay_context.specs.declared.input.Input.{Input}
 use Rattle.lay_context.specs.declared.value.Value.TheVariants as value
 use Rattle.lay_context.specs.ContextSizes.{SizedContext, not_sized}
 use Rattle.lay_context.specs.DocumentLayout.{placement_in, widths_in}
-use Rattle.lay_context.specs.Laws.{HadTurn, OneSolution}
+use Rattle.lay_context.specs.Laws.{HadTurn, OneContextSizes, OneContextWidths, OneSolution}
 use Rattle.lay_context.specs.Local.{Workings, IsLocal, IsTaskDone, flow_input, input_by, input_of, measure_input, size_input, table_input, value_by, value_of}
 use Rattle.lay_context.specs.Medium.{Medium}
 use Rattle.lay_context.specs.Needs.{task_at, turns_of}
@@ -27,13 +29,18 @@ use Rattle.lay_context.specs.PageCorners.{HasPageCorners, root_corner_of}
 use Rattle.lay_context.specs.Settings.{sizes_in}
 use Rattle.lay_context.specs.Solves.{SolvesContexts, medium_of, page_contexts}
 use Rattle.lay_context.proofs.OneCorners.{one_corner_column}
-use Rattle.lay_context.proofs.OneSizes.{one_context_sizes_lem}
-use Rattle.lay_context.proofs.OneWidths.{one_context_widths_lem}
 use Rattle.lay_context.proofs.PlaceFacts.{one_placed}
 use Rattle.lay_context.proofs.TaskInputs.{inputs_come_of_needs_lem, place_value, size_value}
 use Rattle.lay_context.proofs.TaskOrder.{had_turn, needs_come_first_lem, task_within}
 
-module _ (medium : Medium) (contexts : List FormattingContext) (are : AreFormattingContexts contexts) where
+-- what a task of each phase answers is the only answer
+pub record OneAnswer : Type 0 where
+  pub widths : OneContextWidths
+  pub sizes : OneContextSizes
+  pub placement : OnePlacement
+  pub table_placement : OneTablePlacement
+
+module _ (one : OneAnswer) (medium : Medium) (contexts : List FormattingContext) (are : AreFormattingContexts contexts) where
   -- all tasks are done with these values
   abbrev AllDone : Workings → Type 0
   AllDone w = (task : Task) → task.context < length contexts → IsTaskDone medium contexts w task
@@ -41,10 +48,10 @@ module _ (medium : Medium) (contexts : List FormattingContext) (are : AreFormatt
   -- a task has one value, where it is given the same
   by_phase : (v w : Workings) (phase : Phase) (i : ℕ) → i < length contexts → IsLocal (input_by medium contexts v phase i) (value_by v phase i) → IsLocal (input_by medium contexts v phase i) (value_by w phase i)
       → value_by v phase i ≡ value_by w phase i
-  by_phase v w Measure i lt a b = ap value.Measure (one_context_widths_lem (measure_input medium contexts v i) (widths_in v.widths i) (widths_in w.widths i) a b)
-  by_phase v w Size i lt a b = ap value.Size (one_context_sizes_lem (size_input medium contexts v i) (sizes_in v.sizes i) (sizes_in w.sizes i) (are.boxes i lt) a b)
+  by_phase v w Measure i lt a b = ap value.Measure (one.widths (measure_input medium contexts v i) (widths_in v.widths i) (widths_in w.widths i) a b)
+  by_phase v w Size i lt a b = ap value.Size (one.sizes (size_input medium contexts v i) (sizes_in v.sizes i) (sizes_in w.sizes i) (are.boxes i lt) a b)
   by_phase v w Place i lt a b =
-      ap value.Place (one_placed (flow_input medium contexts v i) (table_input contexts v i) (λ t. refl) (sizes_in v.sizes i).table (placement_in v.places i) (placement_in w.places i) (are.boxes i lt) a b)
+      ap value.Place (one_placed (flow_input medium contexts v i) (table_input contexts v i) (λ t. refl) one.placement one.table_placement (sizes_in v.sizes i).table (placement_in v.places i) (placement_in w.places i) (are.boxes i lt) a b)
 
   one_value : (v w : Workings) (task : Task) → task.context < length contexts → IsTaskDone medium contexts v task → IsTaskDone medium contexts w task
       → input_of medium contexts v task ≡ input_of medium contexts w task → value_of v task ≡ value_of w task
@@ -83,14 +90,14 @@ module _ (medium : Medium) (contexts : List FormattingContext) (are : AreFormatt
       let corners : x.corners ≡ y.corners = one_corner_column (root_corner_of medium.viewport contexts (sizes_in v.sizes 0).boxes) contexts v.places are x.corners y.corners x.has_corners cornered in
       x.tree_is ∙ (rw (places, corners) refl) ∙ sym y.tree_is
 
-pub one_solution_lem : OneSolution
-one_solution_lem d face s t is a b =
+pub one_solution_lem : OneAnswer → OneFormattingContextList → FormattingContextsStandInOrder → OneSolution
+one_solution_lem one one_list stand_in_order d face s t is a b =
     let styles = one_style_column_lem (parents_of d.nodes) (declarations_of d.nodes) a.styles b.styles is.tree a.has_styles b.has_styles in
     let listed : AreContextsOf d.nodes a.styles b.contexts = rw styles b.are_contexts in
     let counted : length a.styles ≡ length d.nodes = a.has_styles.length_is ∙ length-parents d.nodes in
     let contexts = one_context_list_lem d a.styles a.contexts b.contexts is counted a.are_contexts listed in
     let in_order = are_contexts d a.styles a.contexts is counted a.are_contexts in
     let parted : AreFormattingContextsOf a.contexts b.formatting_contexts = rw contexts b.are_formatting_contexts in
-    let formatting = one_formatting_context_list_lem a.contexts a.formatting_contexts b.formatting_contexts in_order a.are_formatting_contexts parted in
+    let formatting = one_list a.contexts a.formatting_contexts b.formatting_contexts in_order a.are_formatting_contexts parted in
     let other : SolvesContexts (medium_of d face) a.formatting_contexts t = rw formatting b.solves_contexts in
-    one_tree (medium_of d face) a.formatting_contexts (formatting_contexts_stand_in_order_lem a.contexts a.formatting_contexts in_order a.are_formatting_contexts) s t a.solves_contexts other
+    one_tree one (medium_of d face) a.formatting_contexts (stand_in_order a.contexts a.formatting_contexts in_order a.are_formatting_contexts) s t a.solves_contexts other

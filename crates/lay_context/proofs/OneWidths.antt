@@ -7,7 +7,7 @@ use Rattle.lay_box_parts.specs.InlineParts.{AreInlineParts, no_part}
 use Rattle.lay_measure.specs.MeasureInValue.{MeasureInValue}
 use Rattle.lay_measure.specs.PreferredWidths.{preferred_of}
 use Rattle.lay_measure.specs.declared.preferred_widths.PreferredWidths.{PreferredWidths}
-use Rattle.lay_table_sizes.proofs.OneTable.{one_table_widths_lem}
+use Rattle.lay_table_sizes.specs.Laws.{OneTableWidths}
 use Rattle.lay_context.specs.ContextWidths.{HasFlowWidths, HasWidthsAs}
 use Rattle.lay_context.specs.Inputs.{MeasureInput}
 use Rattle.lay_context.specs.Laws.{OneContextWidths}
@@ -22,9 +22,9 @@ one_flow_widths i v w a b =
     let parts = one_part_list i.boxes a.parts b.parts a.are_parts b.are_parts in
     a.widths_are ∙ ap (λ (p : List InlinePart). let m : MeasureInValue = record { boxes = i.boxes; parts = p; inner = i.inner; face = i.face } in preferred_of m) parts ∙ sym b.widths_are
 
-one_as : (b : Bool) (i : MeasureInput) (v w : PreferredWidths) → HasWidthsAs b i v → HasWidthsAs b i w → v ≡ w
-one_as true i v w x y = one_table_widths_lem i.boxes i.inner v w x y
-one_as false i v w x y = one_flow_widths i v w x y
+one_as : OneTableWidths → (b : Bool) (i : MeasureInput) (v w : PreferredWidths) → HasWidthsAs b i v → HasWidthsAs b i w → v ≡ w
+one_as one_table true i v w x y = one_table i.boxes i.inner v w x y
+one_as one_table false i v w x y = one_flow_widths i v w x y
 
-pub one_context_widths_lem : OneContextWidths
-one_context_widths_lem i v w a b = one_as (is_table i.boxes) i v w a b
+pub one_context_widths_lem : OneTableWidths → OneContextWidths
+one_context_widths_lem one_table i v w a b = one_as one_table (is_table i.boxes) i v w a b

@@ -1,7 +1,7 @@
 -- Used sizes are of the boxes that they are beside.
 use Rattle.std.proofs.Common.{◌≡◌, ◌<◌, Bool, true, false, List, length, Option, None, Some}
 use Rattle.lay_sizes.specs.declared.sizing.BoxSizes.{BoxSizes}
-use Rattle.lay_table_grid.proofs.GridPlaces.{grids_are_of_boxes_lem}
+use Rattle.lay_table_grid.specs.Laws.{GridsAreOfBoxes}
 use Rattle.lay_table_sizes.specs.TableSizesValue.{TableSizesValue}
 use Rattle.lay_context_boxes.specs.ContextBoxes.{AreContextBoxes}
 use Rattle.lay_context.specs.ContextSizes.{SizedContext, HasSizes, IsSizedAs}
@@ -9,15 +9,15 @@ use Rattle.lay_context.specs.Inputs.{SizeInput}
 use Rattle.lay_context.specs.Settling.{AreOfBoxes}
 use Rattle.lay_context.specs.TableContexts.{is_table}
 
-of_boxes_as : (b : Bool) (i : SizeInput) (sizes : List BoxSizes) (table : Option TableSizesValue) → AreContextBoxes i.boxes → IsSizedAs b i sizes table
+of_boxes_as : GridsAreOfBoxes → (b : Bool) (i : SizeInput) (sizes : List BoxSizes) (table : Option TableSizesValue) → AreContextBoxes i.boxes → IsSizedAs b i sizes table
     → AreOfBoxes i.boxes (record { boxes = sizes; table = table })
-of_boxes_as true i sizes (Some table) are sized = record {
+of_boxes_as below true i sizes (Some table) are sized = record {
   count = sized.count;
-  grid = grids_are_of_boxes_lem i.boxes table.grid are.some sized.is_grid;
+  grid = below i.boxes table.grid are.some sized.grid;
 }
-of_boxes_as true i sizes None are sized = absurd sized
-of_boxes_as false i sizes None are sized = record { count = sized.inside.count; grid = tt }
-of_boxes_as false i sizes (Some table) are sized = absurd sized
+of_boxes_as below true i sizes None are sized = absurd sized
+of_boxes_as below false i sizes None are sized = record { count = sized.inside.count; grid = tt }
+of_boxes_as below false i sizes (Some table) are sized = absurd sized
 
-pub sizes_are_of_boxes : (i : SizeInput) (sized : SizedContext) → AreContextBoxes i.boxes → HasSizes i sized → AreOfBoxes i.boxes sized
-sizes_are_of_boxes i sized are has = of_boxes_as (is_table i.boxes) i sized.boxes sized.table are has
+pub sizes_are_of_boxes : GridsAreOfBoxes → (i : SizeInput) (sized : SizedContext) → AreContextBoxes i.boxes → HasSizes i sized → AreOfBoxes i.boxes sized
+sizes_are_of_boxes below i sized are has = of_boxes_as below (is_table i.boxes) i sized.boxes sized.table are has

@@ -4,6 +4,7 @@ use Rattle.std.proofs.lemmas.Bool.{cases_lt}
 use Rattle.std.proofs.lemmas.Grind.{elements}
 use Rattle.lay_measure.specs.declared.preferred_widths.PreferredWidths.{PreferredWidths}
 use Rattle.lay_frag.specs.Pieces.{Context as PageContext}
+use Rattle.lay_table_grid.specs.Laws.{GridsAreOfBoxes}
 use Rattle.lay_formatting.specs.FormattingContexts.{FormattingContext, AreFormattingContexts, boxes_in}
 use Rattle.lay_pieces.specs.Placements.{Placement}
 use Rattle.lay_context.specs.declared.task.Phase.{Phase}
@@ -90,9 +91,9 @@ module _ (medium : Medium) (contexts : List FormattingContext) (w : Workings) wh
   other_task : (t u : Task) (v : Value) → IsLocal (input_of medium contexts w t) v → (t ≡ u → ⊥) → value_of (with_value w t.context v) u ≡ value_of w u
   other_task t u v local differ = other t.phase t.context v local u.phase u.context (λ same e. differ (rw (same, e) refl))
 
-module _ (medium : Medium) (contexts : List FormattingContext) (are : AreFormattingContexts contexts) where
+module _ (medium : Medium) (contexts : List FormattingContext) (are : AreFormattingContexts contexts) (below : GridsAreOfBoxes) where
   sized_done : (w : Workings) (j : ℕ) → j < length contexts → IsTaskDone medium contexts w (record { context = j; phase = Size }) → AreOfBoxes (boxes_in contexts j) (sizes_in w.sizes j)
-  sized_done w j lt done = sizes_are_of_boxes (size_input medium contexts w j) (sizes_in w.sizes j) (are.boxes j lt) done
+  sized_done w j lt done = sizes_are_of_boxes below (size_input medium contexts w j) (sizes_in w.sizes j) (are.boxes j lt) done
 
   -- needed sizes are of their boxes
   pub ready : (w : Workings) (turn : ℕ) → turn < turns_of (length contexts) → AreDoneTo medium contexts w turn → IsReady contexts w (task_at (length contexts) turn)

@@ -27,6 +27,7 @@ use lay_placement::placement;
 use lay_sizes::ContainingBlock;
 use lay_style::Computed;
 use lay_table::table_placement;
+use lay_table_grid::grids_are_of_boxes;
 use lay_units::{Len, NoMemory, Unit};
 use std::alloc::Global;
 use std::sync::Arc;
@@ -75,6 +76,7 @@ fn lay_contexts(
 ) -> Result<Tree, NoMemory>
     ensures { IfOk result (SolvesContexts medium.now contexts.now) }
 {
+    grids_are_of_boxes();
     let count = contexts.len();
     let mut known = Known::new(alloc, count)?;
     for turn in 0..count + count + count {
