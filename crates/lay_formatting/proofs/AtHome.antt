@@ -6,7 +6,7 @@ use Rattle.std.proofs.lemmas.Grind.{elements}
 use Rattle.std.proofs.lemmas.List.Elements.{filter-append}
 use Rattle.std.proofs.lemmas.List.{map-id}
 use Rattle.std.proofs.lemmas.List.FromFn.{map-range_with_len_more}
-use Rattle.lay_formatting.specs.FormattingBoxes.{at_home_before, is_at_home, rank}
+use Rattle.lay_formatting.specs.FormattingBoxes.{at_home_before, is_at_home}
 
 front : (hs gs : List ℕ) (k : ℕ) → k < length hs → slice_index (hs ++ gs) k ≡ slice_index hs k
 front hs gs k lt = grind (arith, elements)

@@ -1,18 +1,18 @@
 -- The formatting contexts of contexts stand in order, each behind the one around it, and each has boxes.
-use Rattle.std.proofs.Common.{◌≡◌, ℕ, zero, suc, ◌+◌, ◌<◌, ◌≤◌, Bool, true, false, List, [], ◌∷◌, length, map, slice_index, refl, ap, sym, subst, ◌∙◌, arith, inl, inr}
+use Rattle.std.proofs.Common.{◌≡◌, ℕ, zero, suc, ◌<◌, Bool, true, false, List, length, map, slice_index, refl, ap, sym, ◌∙◌, arith}
 use Rattle.std.proofs.lemmas.List.{get_or-map, length-map}
 use Rattle.lay_boxgen.specs.declared.box_tree.BoxNode.{BoxNode}
 use Rattle.lay_context_boxes.specs.ContextBoxes.{AreContextBoxes}
 use Rattle.lay_contexts.specs.Contexts.{AreContexts, Context, IsInside as IsInsideContext, boxes_in, context_at}
-use Rattle.lay_formatting.specs.FormattingBoxes.{as_member, at_home_before, box_at, boxes_of_root, rank}
+use Rattle.lay_formatting.specs.FormattingBoxes.{at_home_before, boxes_of_root, rank}
 use Rattle.lay_formatting.specs.FormattingContexts.{AreFormattingContexts, FormattingContext, IsInside, boxes_in as boxes_of, formatting_context_at}
-use Rattle.lay_formatting.specs.FormattingContextList.{AreFormattingContextsOf, AreHomesOf, first_number, formatting_context_of, homes_in, inner_number, inner_numbers, number_at, number_of, rank_at, spot_of}
-use Rattle.lay_formatting.specs.Homes.{AreHomes, is_root}
+use Rattle.lay_formatting.specs.FormattingContextList.{AreFormattingContextsOf, AreHomesOf, first_number, formatting_context_of, homes_in, inner_number, inner_numbers, number_at, number_of, spot_of}
+use Rattle.lay_formatting.specs.Homes.{is_root}
 use Rattle.lay_formatting.specs.declared.spot.Spot.{Spot}
-use Rattle.lay_formatting.proofs.AtHome.{Stands, home_is, is_home, place_there, stands_there}
+use Rattle.lay_formatting.proofs.AtHome.{home_is, is_home, place_there, stands_there}
 use Rattle.lay_formatting.proofs.NearestRoots.{home_before, home_is_root, home_within}
-use Rattle.lay_formatting.proofs.RootBoxes.{at_rank, length_is, rank_is, root_boxes}
-use Rattle.lay_formatting.proofs.RootNumbers.{Numbered, first_le, number_lt, numbered, roots_lt}
+use Rattle.lay_formatting.proofs.RootBoxes.{length_is, rank_is, root_boxes}
+use Rattle.lay_formatting.proofs.RootNumbers.{Numbered, number_lt, numbered, roots_lt}
 
 -- a box of a context
 pub record IsThere (contexts : List Context) (s : Spot) : Type 0 where

@@ -1,5 +1,5 @@
 -- The columns that say where boxes go, while they grow.
-use Rattle.std.proofs.Common.{◌≡◌, ◌≢◌, ℕ, zero, suc, ◌+◌, ◌<◌, ◌≤◌, ◌==◌, Bool, true, false, List, [], ◌∷◌, ◌++◌, add-one, length, length-append, map, slice_index, slice_index_or, slice_set, refl, ap, sym, subst, ◌∙◌, arith, inl, inr, if◌then◌else◌}
+use Rattle.std.proofs.Common.{◌≡◌, ◌≢◌, ℕ, zero, suc, ◌+◌, ◌<◌, ◌≤◌, ◌==◌, Bool, true, false, List, [], ◌∷◌, ◌++◌, add-one, length, length-append, slice_index, slice_index_or, slice_set, refl, ap, sym, subst, ◌∙◌, arith, inl, inr, if◌then◌else◌}
 use Rattle.std.proofs.lemmas.Bool.{cases_eq, cases_lt}
 use Rattle.std.proofs.lemmas.Grind.{elements}
 use Rattle.std.proofs.lemmas.List.{length-map}
@@ -7,7 +7,7 @@ use Rattle.lay_boxgen.specs.declared.box_tree.BoxNode.{BoxNode}
 use Rattle.lay_contexts.specs.Contexts.{Context, boxes_in}
 use Rattle.lay_formatting.specs.FormattingBoxes.{at_home_before, is_at_home, rank}
 use Rattle.lay_formatting.specs.FormattingContextList.{AreHomesOf, first_number, homes_in, roots_before}
-use Rattle.lay_formatting.specs.Homes.{AreHomes, is_root}
+use Rattle.lay_formatting.specs.Homes.{is_root}
 use Rattle.lay_formatting.specs.Partings.{AreNumbersTo, ArePartings, ArePartingsTo, IsParting, Parting, homes_of, most_formatting_contexts, parting_at}
 use Rattle.lay_formatting.proofs.AtHome.{is_home, more_no, more_yes}
 use Rattle.lay_formatting.proofs.RootBoxes.{rank_is}

@@ -1,16 +1,15 @@
 -- The laws of the list of formatting contexts.
-use Rattle.std.proofs.Common.{◌≡◌, ℕ, zero, suc, ◌+◌, ◌<◌, ◌≤◌, Bool, true, false, not, nat_lt, List, [], ◌∷◌, ◌++◌, add-one, append-nil, length, get_or, map, slice_index, take, refl, ap, sym, subst, ◌∙◌, arith, inl, inr}
-use Rattle.std.specs.List.{filter}
+use Rattle.std.proofs.Common.{◌≡◌, ℕ, zero, suc, ◌+◌, ◌<◌, ◌≤◌, Bool, true, false, not, nat_lt, List, [], ◌∷◌, ◌++◌, add-one, append-nil, length, map, slice_index, take, refl, ap, sym, ◌∙◌, arith}
 use Rattle.std.proofs.lemmas.List.{map-append, take_all, take_more}
 use Rattle.std.proofs.lemmas.List.Elements.{filter-append}
 use Rattle.lay_doc.proofs.OneStyles.{same_list}
 use Rattle.lay_boxgen.specs.declared.box_tree.BoxNode.{BoxNode}
 use Rattle.lay_contexts.specs.Contexts.{AreContexts, Context, boxes_in, context_at, no_context}
-use Rattle.lay_formatting.specs.FormattingBoxes.{as_member, as_own, box_at, boxes_of_root, rank}
-use Rattle.lay_formatting.specs.FormattingContexts.{FormattingContext, boxes_in as boxes_of, formatting_context_at, no_formatting_context}
-use Rattle.lay_formatting.specs.FormattingContextList.{AreFormattingContextsOf, AreHomesOf, first_number, formatting_context_of, homes_in, inner_numbers, number_at, number_of, rank_at, roots_before, spot_of}
+use Rattle.lay_formatting.specs.FormattingBoxes.{box_at, boxes_of_root, rank}
+use Rattle.lay_formatting.specs.FormattingContexts.{FormattingContext, formatting_context_at, no_formatting_context}
+use Rattle.lay_formatting.specs.FormattingContextList.{AreFormattingContextsOf, AreHomesOf, first_number, formatting_context_of, homes_in, inner_numbers, number_at, number_of, rank_at, spot_of}
 use Rattle.lay_formatting.specs.Homes.{AreHomes, is_root}
-use Rattle.lay_formatting.specs.Laws.{BoxesStandAtHome, ElementsAreContexts, OneFormattingContextList, StandsAt, WholeContextsKeepBoxes, of_elements}
+use Rattle.lay_formatting.specs.Laws.{BoxesStandAtHome, OneFormattingContextList, WholeContextsKeepBoxes, of_elements}
 use Rattle.lay_formatting.specs.declared.spot.Spot.{Spot}
 use Rattle.lay_formatting.proofs.AtHome.{is_home}
 use Rattle.lay_formatting.proofs.ContextFacts.{boxes_around, home_there, home_root, rank_there, some_box, spot_there}
@@ -113,8 +112,8 @@ module _ (contexts : List Context) (all : List FormattingContext) (are : AreCont
       let zero_is : number_of contexts i 0 ≡ first_number contexts i = omega arith in
       let same : box_at f.boxes 0 ≡ box_at (boxes_in contexts i) 0 = own_same (boxes_in contexts i) (are.boxes i lt) in
       let left = ap (λ (n : ℕ). owns (take n all)) one ∙ ap owns (with_root i 0 lt some refl) ∙ owns_more (take (number_of contexts i 0) all) f
-          ∙ ap (λ (bs : List BoxNode). bs ++ owns (f ∷ [])) (ap (λ (n : ℕ). owns (take n all)) zero_is ∙ before)
-          ∙ ap (λ (bs : List BoxNode). context_owns (take i contexts) ++ bs) (element_owns f refl ∙ ap (λ (b : BoxNode). b ∷ []) same) in
+      ∙ ap (λ (bs : List BoxNode). bs ++ owns (f ∷ [])) (ap (λ (n : ℕ). owns (take n all)) zero_is ∙ before)
+      ∙ ap (λ (bs : List BoxNode). context_owns (take i contexts) ++ bs) (element_owns f refl ∙ ap (λ (b : BoxNode). b ∷ []) same) in
       let right = ap context_owns (take_more contexts i no_context lt) ∙ context_owns_more (take i contexts) (context_at contexts i) in
       left ∙ sym right
 

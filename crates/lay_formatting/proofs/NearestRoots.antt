@@ -1,5 +1,5 @@
 -- The home of a box is the nearest root above it, and the only one.
-use Rattle.std.proofs.Common.{◌≡◌, ℕ, zero, suc, ◌+◌, ◌<◌, ◌≤◌, Bool, true, false, List, [], ◌∷◌, ◌++◌, length, slice_index, refl, sym, subst, ◌∙◌, arith, inl, inr}
+use Rattle.std.proofs.Common.{◌≡◌, ℕ, zero, suc, ◌+◌, ◌<◌, Bool, true, false, List, [], ◌∷◌, ◌++◌, length, slice_index, refl, sym, arith, inl, inr}
 use Rattle.std.proofs.lemmas.Bool.{cases_lt}
 use Rattle.std.proofs.lemmas.Grind.{elements}
 use Rattle.lay_doc.specs.Tree.{IsTree}
@@ -7,7 +7,7 @@ use Rattle.lay_boxgen.specs.BoxColumns.{box_parents}
 use Rattle.lay_boxgen.specs.Containers.{box_parent}
 use Rattle.lay_boxgen.specs.declared.box_tree.BoxNode.{BoxNode}
 use Rattle.lay_boxgen.proofs.BoxForests.{length-parents}
-use Rattle.lay_formatting.specs.Homes.{AreHomes, IsHome, OneHome, further, is_root, own, parent}
+use Rattle.lay_formatting.specs.Homes.{IsHome, OneHome, further, is_root, own, parent}
 
 pub never : (b : Bool) → b ≡ true → b ≡ false → ⊥
 never true h e = cc

@@ -1,14 +1,13 @@
 -- The boxes of the formatting context of a root are a tree, as those of a context are.
-use Rattle.std.proofs.Common.{◌≡◌, ℕ, zero, suc, ◌+◌, ◌<◌, ◌≤◌, ◌||◌, Bool, true, false, List, [], ◌∷◌, add-one, length, map, slice_index, refl, ap, sym, subst, ◌∙◌, arith, inl, inr, if◌then◌else◌}
+use Rattle.std.proofs.Common.{◌≡◌, ℕ, zero, suc, ◌+◌, ◌<◌, ◌≤◌, ◌||◌, Bool, true, false, List, [], ◌∷◌, add-one, length, slice_index, refl, ap, sym, subst, ◌∙◌, arith, inl, inr}
 use Rattle.std.proofs.lemmas.Bool.{cases_lt}
 use Rattle.std.proofs.lemmas.List.{get_or-map, length-map}
-use Rattle.lay_doc.specs.Tree.{IsTree}
 use Rattle.lay_boxgen.specs.BoxColumns.{box_parents}
 use Rattle.lay_boxgen.specs.Containers.{box_parent}
 use Rattle.lay_boxgen.specs.declared.box_tree.BoxNode.{BoxNode}
 use Rattle.lay_boxgen.proofs.BoxForests.{length-parents}
 use Rattle.lay_context_boxes.specs.ContextBoxes.{AreContextBoxes, is_inner}
-use Rattle.lay_formatting.specs.FormattingBoxes.{as_member, as_own, at_home_before, box_at, boxes_of_root, is_at_home, no_box, place_inside, rank}
+use Rattle.lay_formatting.specs.FormattingBoxes.{as_member, at_home_before, box_at, boxes_of_root, is_at_home, no_box, place_inside, rank}
 use Rattle.lay_formatting.specs.Homes.{AreHomes, IsHome, is_root}
 use Rattle.lay_formatting.proofs.AtHome.{Stands, count_few, count_le, count_lt, home_is, is_home, place_there, stands_there}
 use Rattle.lay_formatting.proofs.NearestRoots.{home_before, not_own, parent_low, root_home, same_home}

@@ -1,15 +1,14 @@
 -- Where a context has no root but its own box, all its boxes are at home there, and stay what they are.
-use Rattle.std.proofs.Common.{◌≡◌, ℕ, zero, suc, ◌+◌, ◌<◌, ◌≤◌, ◌||◌, Bool, true, false, List, [], ◌∷◌, add-one, length, slice_index, refl, ap, sym, subst, ◌∙◌, arith, inl, inr}
+use Rattle.std.proofs.Common.{◌≡◌, ℕ, zero, suc, ◌+◌, ◌<◌, ◌||◌, Bool, true, false, List, add-one, length, slice_index, refl, ap, sym, ◌∙◌, arith, inl, inr}
 use Rattle.std.proofs.lemmas.Bool.{cases_lt}
 use Rattle.lay_doc.proofs.OneStyles.{same_list}
-use Rattle.lay_boxgen.specs.Containers.{box_parent}
 use Rattle.lay_boxgen.specs.declared.box_tree.BoxNode.{BoxNode}
 use Rattle.lay_context_boxes.specs.ContextBoxes.{AreContextBoxes}
 use Rattle.lay_formatting.specs.FormattingBoxes.{as_member, as_own, at_home_before, box_at, boxes_of_root, is_at_home, no_box, place_inside, placed, rank}
 use Rattle.lay_formatting.specs.Homes.{AreHomes, is_root}
 use Rattle.lay_formatting.proofs.AtHome.{count_yes, is_home, more_no, place_there}
-use Rattle.lay_formatting.proofs.NearestRoots.{home_before, home_is_root, parent_low}
-use Rattle.lay_formatting.proofs.RootBoxes.{inner_of, length_is, member_at, parent_of, parent_within, place_other, place_root, rank_is}
+use Rattle.lay_formatting.proofs.NearestRoots.{home_before, home_is_root}
+use Rattle.lay_formatting.proofs.RootBoxes.{inner_of, length_is, member_at, parent_of, parent_within, place_other, rank_is}
 
 same_placed : (b : BoxNode) → placed b b.parent b.inner ≡ b
 same_placed b = refl

@@ -89,12 +89,7 @@ fn place_inside(boxes: &[BoxNode], parting: &Parting, p: usize) -> usize
 }
 
 /// A box with another parent.
-fn placed(
-    alloc: Global,
-    node: &BoxNode,
-    parent: u32,
-    inner: bool,
-) -> Result<BoxNode, NoMemory>
+fn placed(alloc: Global, node: &BoxNode, parent: u32, inner: bool) -> Result<BoxNode, NoMemory>
     ensures { IfOk result (λ b. b ≡ placed node.now parent inner) }
 {
     Ok(BoxNode {

@@ -1,6 +1,6 @@
-use Rattle.std.proofs.Common.{rules, ◌≡◌, length, ap, arith}
-use Rattle.lay_formatting.specs.FormattingContextList.{first_number, number_of}
-use Rattle.lay_formatting.specs.Partings.{ArePartings, homes_of}
+use Rattle.std.proofs.Common.{◌≡◌, length, ap, arith}
+use Rattle.lay_formatting.specs.FormattingContextList.{first_number}
+use Rattle.lay_formatting.specs.Partings.{homes_of}
 use Rattle.lay_formatting.proofs.ContextFacts.{in_order}
 use Rattle.lay_formatting.proofs.GrowingColumns.{few_numbers, homes_found}
 use Rattle.lay_formatting.proofs.GrowingList.{all_listed}

@@ -1,6 +1,6 @@
-use Rattle.std.proofs.Common.{rules, ◌≡◌, ◌<◌, ◌∙◌, ℕ, zero, suc, false, length, slice_index, ap, refl, sym, arith}
-use Rattle.lay_contexts.specs.Contexts.{AreContexts, Context, IsInside, boxes_in, context_at}
-use Rattle.lay_formatting.specs.FormattingContextList.{first_number, inner_number}
+use Rattle.std.proofs.Common.{rules, ◌≡◌, ◌∙◌, false, length, slice_index, ap, sym, arith}
+use Rattle.lay_contexts.specs.Contexts.{boxes_in, context_at}
+use Rattle.lay_formatting.specs.FormattingContextList.{first_number}
 use Rattle.lay_formatting.specs.Homes.{is_root}
 use Rattle.lay_formatting.specs.Partings.{parting_at}
 use Rattle.lay_formatting.proofs.PartingFacts.{first_is, inner_else, inner_within, numbers_there}

@@ -1,4 +1,4 @@
-use Rattle.std.proofs.Common.{rules, ◌≡◌, ◌<◌, ◌∙◌, ◌∷◌, length, slice_index, take, map, List, ℕ, ap, arith}
+use Rattle.std.proofs.Common.{◌≡◌, ◌∙◌, ◌∷◌, length, map, List, ℕ, ap, arith}
 use Rattle.std.proofs.lemmas.List.{take_all}
 use Rattle.lay_contexts.specs.Contexts.{boxes_in}
 use Rattle.lay_formatting.specs.FormattingBoxes.{at_home_before}

@@ -1,6 +1,5 @@
-use Rattle.std.proofs.Common.{rules, ◌≡◌, ◌++◌, ◌∷◌, [], true, false, length, ap, sym, ◌∙◌, arith}
+use Rattle.std.proofs.Common.{rules, ◌≡◌, ◌++◌, ◌∷◌, [], length, ap, sym, ◌∙◌, arith}
 use Rattle.lay_contexts.specs.Contexts.{boxes_in}
-use Rattle.lay_formatting.specs.FormattingContextList.{formatting_context_of}
 use Rattle.lay_formatting.specs.Homes.{is_root}
 use Rattle.lay_formatting.specs.Partings.{homes_of}
 use Rattle.lay_formatting.proofs.GrowingList.{next_listed, one_listed, one_passed}

@@ -1,4 +1,4 @@
-use Rattle.std.proofs.Common.{rules, ◌≡◌, ◌<◌, ◌∙◌, length, slice_index, ap, arith}
+use Rattle.std.proofs.Common.{rules, ◌≡◌, ◌∙◌, length, slice_index, ap, arith}
 use Rattle.lay_formatting.specs.Partings.{parting_at}
 use Rattle.lay_formatting.proofs.PartingFacts.{home_within_boxes, number_around, numbers_there}
 use Rattle.lay_formatting.proofs.formatting_context_list.number_at.Goals as goal

@@ -1,4 +1,4 @@
-use Rattle.std.proofs.Common.{rules, ◌≡◌, ◌++◌, ◌∷◌, [], ◌+◌, length, slice_index, ap, ◌∙◌, arith}
+use Rattle.std.proofs.Common.{rules, ◌≡◌, length, slice_index, ◌∙◌, arith}
 use Rattle.lay_contexts.specs.Contexts.{boxes_in}
 use Rattle.lay_formatting.specs.FormattingContextList.{first_number}
 use Rattle.lay_formatting.specs.Partings.{IsParting}

@@ -1,6 +1,6 @@
 use Rattle.std.proofs.Common.{rules, ◌≡◌, ◌<◌, ℕ, [], ◌∷◌, ◌++◌, length, slice_index, slice_index_or, length-append, List, ap, ◌∙◌, arith}
 use Rattle.std.proofs.lemmas.List.{get_or_read}
-use Rattle.lay_formatting.specs.FormattingBoxes.{at_home_before, rank}
+use Rattle.lay_formatting.specs.FormattingBoxes.{at_home_before}
 use Rattle.lay_formatting.proofs.GrowingColumns.{lists_next, rank_next}
 use Rattle.lay_formatting.proofs.ranks.rank.Goals as goal
 

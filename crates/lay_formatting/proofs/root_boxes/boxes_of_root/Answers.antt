@@ -1,6 +1,4 @@
-use Rattle.std.proofs.Common.{rules, ◌≡◌, ◌≤◌, ◌<◌, ℕ, zero, suc, true, length, slice_index, ap, sym, ◌∙◌, ◌+◌, arith}
-use Rattle.lay_context_boxes.specs.ContextBoxes.{AreContextBoxes}
-use Rattle.lay_formatting.specs.FormattingBoxes.{boxes_of_root}
+use Rattle.std.proofs.Common.{◌≡◌, ◌≤◌, length, slice_index, ap, sym, ◌∙◌, arith}
 use Rattle.lay_formatting.specs.FormattingContextList.{roots_before}
 use Rattle.lay_formatting.proofs.RootBoxes.{root_boxes}
 use Rattle.lay_formatting.proofs.RootNumbers.{one_root}

@@ -1,4 +1,4 @@
-use Rattle.std.proofs.Common.{rules, ◌≡◌, ◌≤◌, ◌<◌, length, slice_index, ap, arith}
+use Rattle.std.proofs.Common.{rules, ◌≡◌, length, slice_index}
 use Rattle.lay_formatting.specs.FormattingBoxes.{at_home_before}
 use Rattle.lay_formatting.proofs.AtHome.{place_there}
 use Rattle.lay_formatting.proofs.RootBoxes.{parent_within}

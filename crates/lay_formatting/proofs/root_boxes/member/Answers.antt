@@ -1,4 +1,4 @@
-use Rattle.std.proofs.Common.{rules, ◌≡◌, ◌≤◌, arith}
+use Rattle.std.proofs.Common.{arith}
 use Rattle.lay_formatting.proofs.root_boxes.member.Goals as goal
 
 pub overflow_cast-parent : goal.overflow_cast-parent

@@ -1,4 +1,4 @@
-use Rattle.std.proofs.Common.{rules, ◌≡◌, ◌≤◌, slice_index, arith}
+use Rattle.std.proofs.Common.{rules, ◌≡◌, arith}
 use Rattle.lay_formatting.specs.FormattingBoxes.{rank}
 use Rattle.lay_formatting.proofs.RootBoxes.{rank_low}
 use Rattle.lay_formatting.proofs.root_boxes.place_inside.Goals as goal

@@ -1,8 +1,6 @@
-use Rattle.std.proofs.Common.{rules, ◌≡◌, ◌<◌, ℕ, length, slice_index, arith}
+use Rattle.std.proofs.Common.{rules, slice_index, arith}
 use Rattle.lay_formatting.specs.Homes.{AreHomes}
 use Rattle.lay_formatting.proofs.NearestRoots.{home_within}
-use Rattle.lay_formatting.proofs.GrowingColumns.{one_parting}
-use Rattle.lay_formatting.proofs.GrowingList.{all_listed}
 use Rattle.lay_formatting.proofs.parting.Parting.new.Goals as goal
 
 pub ranks-requires : goal.ranks-requires
