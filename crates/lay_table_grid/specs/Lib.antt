@@ -4,3 +4,4 @@ pub mod TableBorders
 pub mod TableGrid
 pub mod GridBounds
 pub mod Laws
+pub mod Pass

@@ -4,7 +4,7 @@
 --
 -- The rows of the first header group come first and those of the first footer group last. All other rows stand between
 -- them as in the document.
-use Rattle.std.specs.Prelude.{ℕ, ◌+◌, ◌==◌, ◌&&◌, ◌||◌, max, Bool, true, false, not, Option, Some, None}
+use Rattle.std.specs.Prelude.{ℕ, ◌+◌, ◌==◌, ◌&&◌, max, Bool, true, false, Option, Some, None}
 use Rattle.std.specs.Prelude.{List, [], ◌∷◌, ◌++◌, map, replicate, slice_get, slice_index, slice_index_or, if◌then◌else◌}
 use Rattle.std.specs.List.{list_any}
 use Rattle.lay_boxgen.specs.BoxColumns.{box_parents}
@@ -81,21 +81,20 @@ abbrev pub is_in : Option ℕ → BoxNode → Bool
 is_in None box = false
 is_in (Some place) box = box.parent == place
 
-abbrev pub is_header_row : List BoxNode → BoxNode → Bool
-is_header_row boxes box = is_row box.kind && is_in (header_place boxes) box
+-- where a row is drawn: 0 in the first header group, 2 in the first footer group, and 1 elsewhere
+abbrev pub rank_of : Option ℕ → Option ℕ → BoxNode → ℕ
+rank_of header footer box = if is_in header box then 0 else (if is_in footer box then 2 else 1)
 
-abbrev pub is_footer_row : List BoxNode → BoxNode → Bool
-is_footer_row boxes box = is_row box.kind && is_in (footer_place boxes) box
+abbrev pub is_ranked : List BoxNode → ℕ → BoxNode → Bool
+is_ranked boxes rank box =
+    is_row box.kind && (rank_of (header_place boxes) (footer_place boxes) box == rank)
 
-abbrev pub is_other_row : List BoxNode → BoxNode → Bool
-is_other_row boxes box =
-    is_row box.kind && not (is_in (header_place boxes) box || is_in (footer_place boxes) box)
+abbrev pub ranked_places : List BoxNode → ℕ → List ℕ
+ranked_places boxes rank = places_of (is_ranked boxes rank) boxes
 
 -- the places of the rows as they are drawn
 abbrev pub row_places : List BoxNode → List ℕ
-row_places boxes =
-    places_of (is_header_row boxes) boxes
-    ++ (places_of (is_other_row boxes) boxes ++ places_of (is_footer_row boxes) boxes)
+row_places boxes = ranked_places boxes 0 ++ (ranked_places boxes 1 ++ ranked_places boxes 2)
 
 -- a row, and what it stands in: its row group or the table box
 abbrev pub row_at : List BoxNode → ℕ → TableRow

@@ -6,9 +6,13 @@
 //! meet at which edge is said in `specs/MeetingBorders.antt`. It is a relation, and has one value (`specs/Laws.antt`).
 #![tactic(auto)]
 
+mod cells;
 mod elements;
 mod grid;
+mod kinds;
 mod placed;
+mod places;
+mod rows;
 
 pub use elements::{Element, Side};
 pub use grid::{Spacing, TableCell, TableGrid, TableRow};
