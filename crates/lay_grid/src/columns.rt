@@ -7,8 +7,8 @@ ghost use Rattle.lay_grid.specs.Lengths.{IsWithin};
 ghost use Rattle.lay_grid.specs.Columns.{AreColumns};
 ghost use Rattle.lay_grid.specs.ColumnsFit.{ColumnsFit};
 
+use crate::given_widths::own_widths;
 use crate::lists::{FirstCells, WidthOptions};
-use crate::own_widths::own_widths;
 use crate::shares::share_out;
 use crate::spacing::spacings;
 use lay_units::{NoMemory, Unit, UnitList};

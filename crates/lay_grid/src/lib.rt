@@ -9,12 +9,12 @@
 mod baselines;
 mod cells;
 mod columns;
+mod given_widths;
 mod grid;
 mod heights;
 mod laws;
 mod lists;
 mod needs;
-mod own_widths;
 mod placing;
 mod scan;
 mod shares;
@@ -23,6 +23,7 @@ mod spacing;
 pub use baselines::row_baselines;
 pub use cells::{Area, Cell, Grid, RowSpec, Slot, Span};
 pub use columns::{ColumnsIn, FirstCell, columns_fixed};
+pub use given_widths::own_widths;
 pub use grid::slots;
 pub use heights::{RowCell, RowsIn, rows};
 pub use laws::{

@@ -94,8 +94,8 @@ pub(crate) fn right_edges(style: &Style) -> Result<Unit, NoMemory>
     )
 }
 
-/// The width of a box with this content, between its bounds.
-fn bounded_width(style: &Style, content: Unit) -> Unit
+/// The width of a box with this content, or its `width` where that is a length, between its bounds.
+pub fn bounded_width(style: &Style, content: Unit) -> Unit
     ensures { result.0 ≡ bounded_width style.now content }
 {
     let width = given_or(style.sizing.width, content);
@@ -105,7 +105,7 @@ fn bounded_width(style: &Style, content: Unit) -> Unit
 }
 
 /// A `width` that is a length, in place of the content's width.
-fn given_or(width: LengthPercentageOrAuto, content: Unit) -> Unit
+pub fn given_or(width: LengthPercentageOrAuto, content: Unit) -> Unit
     ensures { result ≡ given_or width content }
 {
     match width {
@@ -115,7 +115,7 @@ fn given_or(width: LengthPercentageOrAuto, content: Unit) -> Unit
 }
 
 /// A padding or a `min-width`, of which a percentage is 0.
-pub(crate) fn size_or_zero(size: LengthPercentage) -> Unit
+pub fn size_or_zero(size: LengthPercentage) -> Unit
     ensures { result ≡ size_or_zero size }
 {
     match size {
@@ -135,7 +135,7 @@ pub(crate) fn margin_or_zero(margin: LengthPercentageOrAuto) -> Unit
 }
 
 /// A `max-width`, of which a percentage is none.
-pub(crate) fn limit_of(limit: LengthPercentageOrNone) -> Option<Unit>
+pub fn limit_of(limit: LengthPercentageOrNone) -> Option<Unit>
     ensures { result ≡ limit_of limit }
 {
     match limit {

@@ -17,6 +17,9 @@ mod preferred_widths;
 mod replaced_widths;
 mod sums;
 
+pub use contributions::{bounded_width, given_or, limit_of, size_or_zero};
 pub use measure_in::MeasureIn;
 pub use measuring::measure;
 pub use preferred_widths::{NO_WIDTHS, PreferredWidths};
+pub use replaced_widths::length_or_auto;
+pub use sums::{greater, sum};

@@ -45,7 +45,7 @@ fn natural_size(size: Unit) -> Unit
 }
 
 /// A `width` or a `height`, of which a percentage is `auto`.
-fn length_or_auto(size: LengthPercentageOrAuto) -> Len
+pub fn length_or_auto(size: LengthPercentageOrAuto) -> Len
     ensures value { result ≡ length_or_auto size }
     ensures size { LenIsSize result }
 {

@@ -7,7 +7,7 @@ use lay_units::{NoMemory, Unit};
 
 /// The sum of two lengths. NoMemory is the answer where it isn't within 2^63 units of 0, as no sum of a document
 /// within its limits is.
-pub(crate) fn sum(a: Unit, b: Unit) -> Result<Unit, NoMemory>
+pub fn sum(a: Unit, b: Unit) -> Result<Unit, NoMemory>
     ensures { IfOk result (λ v. v ≡ record { 0 = a.0 +ℤ b.0 }) }
 {
     match a.0.checked_add(b.0) {
@@ -24,7 +24,7 @@ pub(crate) fn sum_of_three(a: Unit, b: Unit, c: Unit) -> Result<Unit, NoMemory>
 }
 
 /// The greater of two.
-pub(crate) fn greater(a: Unit, b: Unit) -> Unit
+pub fn greater(a: Unit, b: Unit) -> Unit
     ensures { result ≡ record { 0 = int_max a.0 b.0 } }
 {
     Unit(a.0.max(b.0))

@@ -18,4 +18,9 @@ pub use own_boxes::{NO_OWN_BOX, OwnBox, own_box};
 pub use replaced::NaturalSize;
 pub use sizing::{
     BoxSizes, ContainingBlock, NO_SIZES, WidthRule, border_width, box_sizes, content_block,
+    widths_beside,
+};
+pub use used_lengths::{
+    edge_of, used_height, used_limit, used_margin, used_max_height, used_min_height, used_size,
+    used_vertical_margin, used_width,
 };

@@ -129,7 +129,7 @@ fn used_widths(containing: ContainingBlock, rule: WidthRule, style: &Style) -> B
 }
 
 /// A width between margins of which auto ones are zero.
-fn widths_beside(block: &BlockIn, width: Unit) -> BlockOut
+pub fn widths_beside(block: &BlockIn, width: Unit) -> BlockOut
     requires { IsUsedSize width.0 }
     ensures { IsHeld (widths_beside block.now width.0) result }
 {

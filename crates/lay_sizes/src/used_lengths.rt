@@ -42,13 +42,15 @@ pub(crate) fn edges_of(containing: Unit, style: &Style) -> Sides
     }
 }
 
-fn edge_of(containing: Unit, border: Unit, padding: LengthPercentage) -> Unit
+/// A border and a padding together, for the width of the containing block, from 0.
+pub fn edge_of(containing: Unit, border: Unit, padding: LengthPercentage) -> Unit
     ensures { result ≡ edge_of containing border padding }
 {
     Unit(size_of(border).0 + used_size(containing, padding).0)
 }
 
-fn used_margin(containing: Unit, margin: LengthPercentageOrAuto) -> Len
+/// A margin, for the width of the containing block.
+pub fn used_margin(containing: Unit, margin: LengthPercentageOrAuto) -> Len
     ensures value { result ≡ used_margin containing margin }
     ensures fits { LenFits result }
 {
@@ -61,8 +63,8 @@ fn used_margin(containing: Unit, margin: LengthPercentageOrAuto) -> Len
     }
 }
 
-/// A margin above or below.
-pub(crate) fn used_vertical_margin(containing: Unit, margin: LengthPercentageOrAuto) -> Unit
+/// A margin above or below, for the width of the containing block. An auto one is 0 (CSS 2.2, 10.6.3).
+pub fn used_vertical_margin(containing: Unit, margin: LengthPercentageOrAuto) -> Unit
     ensures { result ≡ used_vertical_margin containing margin }
 {
     or_zero(used_margin(containing, margin))
@@ -78,7 +80,7 @@ pub(crate) fn or_zero(length: Len) -> Unit
 }
 
 /// A `height`, for the height of the containing block.
-pub(crate) fn used_height(containing: Len, height: LengthPercentageOrAuto) -> Len
+pub fn used_height(containing: Len, height: LengthPercentageOrAuto) -> Len
     ensures value { result ≡ used_height containing height }
     ensures size { LenIsSize result }
 {
@@ -92,7 +94,8 @@ pub(crate) fn used_height(containing: Len, height: LengthPercentageOrAuto) -> Le
     }
 }
 
-pub(crate) fn used_min_height(containing: Len, height: LengthPercentage) -> Unit
+/// A `min-height`, for the height of the containing block.
+pub fn used_min_height(containing: Len, height: LengthPercentage) -> Unit
     ensures value { result ≡ used_min_height containing height }
     ensures size { IsSize result.0 }
 {
@@ -103,7 +106,8 @@ pub(crate) fn used_min_height(containing: Len, height: LengthPercentage) -> Unit
     }
 }
 
-pub(crate) fn used_max_height(containing: Len, height: LengthPercentageOrNone) -> Option<Unit>
+/// A `max-height`, for the height of the containing block; None where there is none.
+pub fn used_max_height(containing: Len, height: LengthPercentageOrNone) -> Option<Unit>
     ensures value { result ≡ used_max_height containing height }
     ensures size { IfSome result (λ v. IsSize v.0) }
 {
@@ -127,7 +131,8 @@ pub(crate) fn definite_height(height: Len, min: Unit, max: Option<Unit>) -> Len
     }
 }
 
-pub(crate) fn used_width(containing: Unit, width: LengthPercentageOrAuto) -> Len
+/// A `width`, for the width of the containing block.
+pub fn used_width(containing: Unit, width: LengthPercentageOrAuto) -> Len
     ensures value { result ≡ used_width containing width }
     ensures size { LenIsSize result }
 {
@@ -138,7 +143,8 @@ pub(crate) fn used_width(containing: Unit, width: LengthPercentageOrAuto) -> Len
     }
 }
 
-pub(crate) fn used_size(containing: Unit, size: LengthPercentage) -> Unit
+/// A padding or a `min-width`, for the width of the containing block, from 0.
+pub fn used_size(containing: Unit, size: LengthPercentage) -> Unit
     ensures value { result ≡ used_size containing size }
     ensures size { IsUsedSize result.0 }
 {
@@ -148,7 +154,8 @@ pub(crate) fn used_size(containing: Unit, size: LengthPercentage) -> Unit
     }
 }
 
-pub(crate) fn used_limit(containing: Unit, limit: LengthPercentageOrNone) -> Option<Unit>
+/// A `max-width`, for the width of the containing block; None where there is none.
+pub fn used_limit(containing: Unit, limit: LengthPercentageOrNone) -> Option<Unit>
     ensures value { result ≡ used_limit containing limit }
     ensures size { IfSome result (λ v. IsSize v.0) }
 {

@@ -1,6 +1,6 @@
 use Rattle.std.proofs.Common.{◌∙◌}
 use Rattle.lay_grid.proofs.OwnSteps.{own_more}
-use Rattle.lay_grid.proofs.own_widths.own_widths.Goals as goal
+use Rattle.lay_grid.proofs.given_widths.own_widths.Goals as goal
 
 pub loop-cell-preserved : goal.loop-cell-preserved
 loop-cell-preserved c =

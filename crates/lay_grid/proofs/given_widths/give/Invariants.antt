@@ -3,7 +3,7 @@ use Rattle.std.specs.List.{All}
 use Rattle.lay_grid.specs.Shares.{own_at}
 use Rattle.lay_grid.specs.Lengths.{MayBePosition}
 use Rattle.lay_grid.specs.Columns.{or_else, part_of}
-use Rattle.lay_grid.proofs.own_widths.give.Given as goal
+use Rattle.lay_grid.proofs.given_widths.give.Given as goal
 
 abbrev pub invariant-loop-k : goal.invariant-loop-k
 invariant-loop-k l = record {

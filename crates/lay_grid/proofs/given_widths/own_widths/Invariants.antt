@@ -3,7 +3,7 @@ use Rattle.std.specs.List.{All}
 use Rattle.lay_grid.specs.Shares.{own_at}
 use Rattle.lay_grid.specs.Lengths.{MayBePosition}
 use Rattle.lay_grid.specs.Columns.{or_else, by_cells}
-use Rattle.lay_grid.proofs.own_widths.own_widths.Given as goal
+use Rattle.lay_grid.proofs.given_widths.own_widths.Given as goal
 
 abbrev pub invariant-loop-cell : goal.invariant-loop-cell
 invariant-loop-cell l = record {

@@ -2,7 +2,7 @@ use Rattle.std.specs.Int.{w64}
 use Rattle.std.proofs.Common.{◌≡◌, ◌∙◌, ◌+◌, ◌/◌, pos, to_z, ap, arith}
 use Rattle.std.proofs.lemmas.Int.{ints}
 use Rattle.lay_grid.proofs.Products.{part_below, greater_part_below, greater_part, lesser_part}
-use Rattle.lay_grid.proofs.own_widths.part.Goals as goal
+use Rattle.lay_grid.proofs.given_widths.part.Goals as goal
 
 pub returns-then-k-width-clause-value : goal.returns-then-k-width-clause-value
 returns-then-k-width-clause-value c =

@@ -2,7 +2,7 @@ use Rattle.std.specs.Int.{w128}
 use Rattle.std.proofs.Common.{◌-◌, ◌*◌, ◌^◌, pos, ◌-ℤ◌, ◌*ℤ◌, to_z, of_z, arith}
 use Rattle.std.proofs.lemmas.Int.{ints, clamps}
 use Rattle.lay_grid.proofs.Products.{product_least, from_max, from_zero_below}
-use Rattle.lay_grid.proofs.own_widths.divided_width.Goals as goal
+use Rattle.lay_grid.proofs.given_widths.divided_width.Goals as goal
 
 pub returns-clause-value : goal.returns-clause-value
 returns-clause-value c =

@@ -1,0 +1,9 @@
+pub mod Bounds
+pub mod TableBoxes
+pub mod WantedWidth
+pub mod ColumnWidths
+pub mod CellSizes
+pub mod TableSizesValue
+pub mod TableSizes
+pub mod PreferredWidths
+pub mod Laws

@@ -1,0 +1,113 @@
+-- The used sizes of a table (CSS 2.2, 17.4 and 17.5.2.1): its columns, as wide as the fixed table layout makes them for the
+-- width that the table is to have; the content of its table box, which "is at least as wide as its columns"; its cells; and its
+-- wrapper, as wide as the border box of the table box. The margins of a table that is a block in flow come of the equation of
+-- 10.3.3 with that width as a given one; those of another one are 0 where they are `auto` (10.3.5). Captions don't widen a table.
+-- All are held within the bounds of used lengths (4.3.2). The boxes of captions and cells are sized in their own formatting
+-- contexts, and rows, row groups and columns have no sizes of a box.
+use Rattle.std.specs.Prelude.{◌≡◌, ℕ, zero, suc, ◌<◌, ◌==◌, ◌+ℤ◌, List, length, map, Some, None, if◌then◌else◌, slice_index_or}
+use Rattle.std.specs.Int.{int_max}
+use Rattle.lay_units.specs.Units.{clamp_size_of}
+use Rattle.lay_units.specs.declared.length.Unit.{Unit as Length}
+use Rattle.lay_units.specs.declared.records.BlockIn.{BlockIn}
+use Rattle.lay_units.specs.declared.records.Len.TheVariants.{Auto as auto, Of as of}
+use Rattle.lay_style.specs.declared.style.Style.{Style}
+use Rattle.lay_boxgen.specs.declared.box_tree.BoxNode.{BoxNode}
+use Rattle.lay_widths.specs.BlockWidths.{IsHeld, IsUsedBlock}
+use Rattle.lay_widths.specs.declared.widths.BlockOut.{BlockOut}
+use Rattle.lay_sizes.specs.BoxSizes.{border_width, widths_beside}
+use Rattle.lay_sizes.specs.SizeColumns.{no_edges, no_sizes, sizes_at}
+use Rattle.lay_sizes.specs.UsedLengths.{no_length, used_height, used_margin, used_max_height, used_min_height, used_vertical_margin}
+use Rattle.lay_sizes.specs.declared.sizing.BoxSizes.{BoxSizes}
+use Rattle.lay_sizes.specs.declared.sizing.ContainingBlock.{ContainingBlock}
+use Rattle.lay_grid.specs.Columns.{AreColumns}
+use Rattle.lay_grid.specs.Shares.{sum_of}
+use Rattle.lay_table_grid.specs.TableGrid.{IsTableGrid, TableGridValue}
+use Rattle.lay_table_sizes.specs.CellSizes.{cell_size_at}
+use Rattle.lay_table_sizes.specs.ColumnWidths.{columns_in, with_spacings}
+use Rattle.lay_table_sizes.specs.TableBoxes.{table_edges, table_style, wrapper_style}
+use Rattle.lay_table_sizes.specs.TableSizesValue.{TableSizesValue, cell_at}
+use Rattle.lay_table_sizes.specs.WantedWidth.{IsWanted}
+use Rattle.lay_table_sizes.specs.declared.table_rule.TableRule.{TableRule}
+use Rattle.lay_table_sizes.specs.declared.table_rule.TableRule.TheVariants.{Fills, ShrinksToFit}
+
+-- used widths of columns
+abbrev pub held : List Length → List Length
+held widths = map (λ width. record { 0 = clamp_size_of width.0 }) widths
+
+-- the used width of the content of a table box that is to have the width `wanted` and has these columns
+abbrev pub table_width : TableGridValue → (wanted : Length) → List Length → Length
+table_width g wanted columns =
+    record { 0 = clamp_size_of (int_max wanted.0 (with_spacings g.spacing.across g.columns (sum_of columns))) }
+
+-- the table box in its wrapper: it has no margins there, and its height is beside the wrapper's containing block
+abbrev pub table_box : TableGridValue → ContainingBlock → Style → (width : Length) → BoxSizes
+table_box g containing s width = record {
+  containing = containing.width;
+  widths = record { margin_left = no_length; width = width; margin_right = no_length };
+  edges = table_edges g containing.width s;
+  margin_top = no_length;
+  margin_bottom = no_length;
+  height = used_height containing.height s.sizing.height;
+  min_height = used_min_height containing.height s.sizing.min_height;
+  max_height = used_max_height containing.height s.sizing.max_height;
+}
+
+-- a wrapper of this width is a block with a given one
+abbrev pub wrapper_block : Length → Style → (width : Length) → BlockIn
+wrapper_block containing s width = record {
+  containing_width = containing;
+  margin_left = used_margin containing s.margin.left;
+  border_left = no_length;
+  padding_left = no_length;
+  width = of width;
+  padding_right = no_length;
+  border_right = no_length;
+  margin_right = used_margin containing s.margin.right;
+  min_width = no_length;
+  max_width = None;
+}
+
+abbrev pub AreWrapperWidths : TableRule → Length → Style → (width : Length) → BlockOut → Type 0
+AreWrapperWidths Fills containing s width out = IsUsedBlock (wrapper_block containing s width) out
+AreWrapperWidths (ShrinksToFit preferred_minimum preferred) containing s width out =
+    IsHeld (widths_beside (wrapper_block containing s width) width.0) out
+
+-- how wide the wrapper of a table box of these sizes is
+abbrev pub wrapper_width : BoxSizes → Length
+wrapper_width table = record { 0 = clamp_size_of (border_width table) }
+
+pub record IsWrapperSized (rule : TableRule) (containing : ContainingBlock) (s : Style) (table z : BoxSizes) : Type 0 where
+  pub containing_is : z.containing ≡ containing.width
+  pub widths : AreWrapperWidths rule containing.width s (wrapper_width table) z.widths
+  pub edges : z.edges ≡ no_edges
+  pub margin_top : z.margin_top ≡ used_vertical_margin containing.width s.margin.top
+  pub margin_bottom : z.margin_bottom ≡ used_vertical_margin containing.width s.margin.bottom
+  pub height : z.height ≡ auto
+  pub min_height : z.min_height ≡ no_length
+  pub max_height : z.max_height ≡ None
+
+-- the sizes of the box at k, where those of the wrapper and of the table box are these
+abbrev pub sizes_of_box : (place : ℕ) (wrapper table : BoxSizes) → ℕ → BoxSizes
+sizes_of_box place wrapper table zero = wrapper
+sizes_of_box place wrapper table (suc k) = if suc k == place then table else no_sizes
+
+-- `width` is that which the table is to have and `widths` are those of its columns, before they are held
+pub record AreTableWidths (containing : Length) (rule : TableRule) (boxes : List BoxNode) (g : TableGridValue) (wanted : BlockOut) (widths : List Length) : Type 0 where
+  pub is_wanted : IsWanted rule boxes g containing wanted
+  pub are_columns : AreColumns (columns_in (Some wanted.width) boxes g wanted.width) widths
+
+-- the used sizes of the boxes of a table's formatting context, and its columns and cells
+pub record HasTableSizes (containing : ContainingBlock) (rule : TableRule) (boxes : List BoxNode) (sizes : List BoxSizes) (t : TableSizesValue) : Type 0 where
+  pub grid : IsTableGrid boxes t.grid
+  pub wanted : BlockOut
+  pub widths : List Length
+  pub are_widths : AreTableWidths containing.width rule boxes t.grid wanted widths
+  pub columns : t.columns ≡ held widths
+  pub cell_count : length t.cells ≡ length boxes
+  pub cells : (k : ℕ) → k < length boxes → cell_at t k ≡ cell_size_at t.grid.spacing.across t.columns t.grid.cells k
+  pub table : BoxSizes
+  pub table_is : table ≡ table_box t.grid containing (table_style boxes t.grid) (table_width t.grid wanted.width widths)
+  pub wrapper : BoxSizes
+  pub wrapper_is : IsWrapperSized rule containing (wrapper_style boxes) table wrapper
+  pub count : length sizes ≡ length boxes
+  pub each : (k : ℕ) → k < length boxes → sizes_at sizes k ≡ sizes_of_box t.grid.table wrapper table k

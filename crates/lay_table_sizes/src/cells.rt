@@ -1,0 +1,84 @@
+//! The sizes of cells.
+
+ghost use Rattle.std.specs.Prelude.{◌≡◌, ◌≢◌, ◌<◌, ◌≤◌, ◌+◌, ◌-◌, ◌*ℤ◌, ℕ, IfOk, OnOk, All, drop, length, pos, slice_index_or, None};
+ghost use Rattle.lay_units.specs.Units.{IsUsedSize};
+ghost use Rattle.lay_grid.specs.Shares.{sum_of};
+ghost use Rattle.lay_table_grid.specs.declared.grid.TableCell.{TableCell};
+ghost use Rattle.lay_table_sizes.specs.CellSizes.{cell_size, cell_size_at, columns_width};
+
+use crate::cell_size::CellSize;
+use lay_measure::sum;
+use lay_table_grid::{TableCell, TableGrid};
+use lay_units::{NoMemory, Unit};
+use std::alloc::Global;
+
+/// For each of so many boxes the size of the cell whose box it is, where the columns have these widths.
+pub(crate) fn cells_of(
+    alloc: Global,
+    count: usize,
+    grid: &TableGrid,
+    columns: &[Unit],
+) -> Result<Vec<Option<CellSize>>, NoMemory>
+    requires { length columns.now ≡ grid.now.columns }
+    ensures count { IfOk result (λ v. length v.items ≡ count) }
+    ensures cells { IfOk result (λ v. (k : ℕ) → k < count → slice_index_or v.items k None ≡ cell_size_at grid.now.spacing.across columns.now grid.now.cells k) }
+{
+    let cells = grid.cells();
+    let mut sizes = Vec::from_elem(alloc, None, count)?;
+    for done in 0..cells.len() {
+        let cell = cells[cells.len() - 1 - done];
+        let size = cell_size(grid.spacing().across, columns, cell)?;
+        put_cell(sizes.as_mut_slice(), cell.place, size);
+    }
+    Ok(sizes)
+}
+
+fn put_cell(sizes: &mut [Option<CellSize>], place: usize, size: CellSize)
+    ensures count { length sizes.new ≡ length sizes.old }
+    ensures here { place < length sizes.old → slice_index_or sizes.new place None ≡ Some size }
+    ensures others { (k : ℕ) → k ≢ place → slice_index_or sizes.new k None ≡ slice_index_or sizes.old k None }
+{
+    if place < sizes.len() {
+        sizes[place] = Some(size);
+    }
+}
+
+/// The size of a cell. NoMemory is the answer where its columns aren't within 2^63 units together, as those of a document
+/// within its limits are.
+fn cell_size(spacing: Unit, columns: &[Unit], cell: TableCell) -> Result<CellSize, NoMemory>
+    requires some { 1 ≤ cell.columns }
+    requires inside { cell.column + cell.columns ≤ length columns.now }
+    requires spacing { IsUsedSize spacing.0 }
+    ensures { IfOk result (λ size. size ≡ cell_size spacing columns.now cell) }
+{
+    let first = cell.column as usize;
+    let count = cell.columns as usize;
+    let between = spacings(spacing, count - 1)?;
+    let width = sum(sum_of(&columns[first..first + count])?, between)?;
+    Ok(CellSize {
+        width,
+        borders: cell.borders,
+    })
+}
+
+/// So many spacings.
+pub(crate) fn spacings(spacing: Unit, count: usize) -> Result<Unit, NoMemory>
+    requires { count < 2 ^ 33 }
+    ensures { IfOk result (λ v. v ≡ record { 0 = spacing.0 *ℤ pos count }) }
+{
+    match spacing.0.checked_mul(count as i64) {
+        Some(together) => Ok(Unit(together)),
+        None => Err(NoMemory),
+    }
+}
+
+/// The sum of these widths.
+pub(crate) fn sum_of(widths: &[Unit]) -> Result<Unit, NoMemory>
+    ensures { IfOk result (λ v. v ≡ record { 0 = sum_of widths.now }) }
+{
+    let mut total = Unit(0);
+    for done in 0..widths.len() {
+        total = sum(widths[widths.len() - 1 - done], total)?;
+    }
+    Ok(total)
+}

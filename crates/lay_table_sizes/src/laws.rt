@@ -1,0 +1,18 @@
+//! Laws of the definitions. The functions do nothing.
+
+ghost use Rattle.lay_table_sizes.specs.Laws.{OneCellSizes, OneTableSizes, OneTableWidths};
+
+/// A table has one set of used sizes beside its containing block.
+pub fn one_table_sizes()
+    ensures { OneTableSizes }
+{}
+
+/// A table has one pair of preferred widths.
+pub fn one_table_widths()
+    ensures { OneTableWidths }
+{}
+
+/// The box of a cell has one set of used sizes.
+pub fn one_cell_sizes()
+    ensures { OneCellSizes }
+{}

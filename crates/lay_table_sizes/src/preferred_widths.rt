@@ -1,0 +1,115 @@
+//! The preferred widths of a table.
+
+ghost use Rattle.std.specs.Prelude.{◌≡◌, ◌<◌, ◌≤◌, ◌+ℤ◌, ℕ, IfOk, length, drop};
+ghost use Rattle.std.specs.Int.{int_max};
+ghost use Rattle.lay_grid.specs.Shares.{own_at};
+ghost use Rattle.lay_table_grid.specs.GridBounds.{PlacesAreBelow};
+ghost use Rattle.lay_table_sizes.specs.PreferredWidths.{AreColumnWidths, HasTableWidths, all_beside, beside, bounded_content, own_or, table_part};
+
+use crate::column_widths::columns_in;
+use crate::content_widths::content_widths;
+use crate::sizing::with_spacings;
+use crate::table_box::{preferred_edges, style_of_box};
+use lay_boxgen::BoxNode;
+use lay_grid::own_widths;
+use lay_heights::with_min_max;
+use lay_measure::{NO_WIDTHS, PreferredWidths, given_or, greater, limit_of, size_or_zero, sum};
+use lay_style::Style;
+use lay_table_grid::{TableGrid, grids_are_of_boxes, table_grid};
+use lay_units::{NoMemory, Unit};
+use std::alloc::Global;
+
+/// The preferred widths of the border box of a table (CSS 2.2, 10.3.5 and 17.5.2), in 1/64 px: of that whose formatting context
+/// has these boxes, beside those of the content of its cells, which stand at the places of their boxes. NoMemory is also the
+/// answer where the table has more than 2^24 columns or a width isn't within 2^63 units of 0; no table of a document within its
+/// limits is such.
+pub fn table_preferred_widths(
+    alloc: Global,
+    boxes: &[BoxNode],
+    inner: &[PreferredWidths],
+) -> Result<PreferredWidths, NoMemory>
+    requires { 0 < length boxes.now }
+    ensures { IfOk result (HasTableWidths boxes.now inner.now) }
+{
+    grids_are_of_boxes();
+    let grid = table_grid(alloc, boxes)?;
+    let columns = column_widths(alloc, boxes, inner, &grid)?;
+    let together = all_beside(columns.as_slice())?;
+    let style = style_of_box(boxes, grid.table());
+    Ok(PreferredWidths {
+        minimum: table_part(&grid, style, together.minimum)?,
+        preferred: table_part(&grid, style, together.preferred)?,
+    })
+}
+
+/// The preferred widths of the columns.
+fn column_widths(
+    alloc: Global,
+    boxes: &[BoxNode],
+    inner: &[PreferredWidths],
+    grid: &TableGrid,
+) -> Result<Vec<PreferredWidths>, NoMemory>
+    requires { PlacesAreBelow (length boxes.now) grid.now }
+    ensures { IfOk result (λ v. AreColumnWidths boxes.now inner.now grid.now v.items) }
+{
+    let columns = columns_in(alloc, None, boxes, grid, Unit(0))?;
+    let owns = own_widths(alloc, &columns)?;
+    let contents = content_widths(alloc, boxes, inner, grid)?;
+    let mut widths = Vec::with_capacity(alloc, owns.len())?;
+    for i in 0..owns.len() {
+        widths.push(own_or(owns[i], contents[i]))?;
+    }
+    Ok(widths)
+}
+
+/// A column with a width of its own, or with the widths of its cells.
+fn own_or(own: Option<Unit>, content: PreferredWidths) -> PreferredWidths
+    ensures { result ≡ own_or own content }
+{
+    match own {
+        Some(width) => PreferredWidths {
+            minimum: width,
+            preferred: width,
+        },
+        None => content,
+    }
+}
+
+/// All of them beside each other.
+fn all_beside(widths: &[PreferredWidths]) -> Result<PreferredWidths, NoMemory>
+    ensures { IfOk result (λ w. w ≡ all_beside widths.now) }
+{
+    let mut total = NO_WIDTHS;
+    for done in 0..widths.len() {
+        total = beside(widths[widths.len() - 1 - done], total)?;
+    }
+    Ok(total)
+}
+
+fn beside(v: PreferredWidths, w: PreferredWidths) -> Result<PreferredWidths, NoMemory>
+    ensures { IfOk result (λ b. b ≡ beside v w) }
+{
+    Ok(PreferredWidths {
+        minimum: sum(v.minimum, w.minimum)?,
+        preferred: sum(v.preferred, w.preferred)?,
+    })
+}
+
+/// The width of the border box of a table whose columns come to so much.
+fn table_part(grid: &TableGrid, style: &Style, columns: Unit) -> Result<Unit, NoMemory>
+    ensures { IfOk result (λ v. v ≡ table_part grid.now style.now columns) }
+{
+    let content = bounded_content(style, with_spacings(grid, columns)?);
+    sum(content, preferred_edges(grid, style))
+}
+
+/// A width of a table's content, or its `width` where that is a greater length, between its bounds.
+fn bounded_content(style: &Style, content: Unit) -> Unit
+    ensures { result.0 ≡ bounded_content style.now content.0 }
+{
+    let sizing = &style.sizing;
+    let width = greater(content, given_or(sizing.width, Unit(0)));
+    let least = size_or_zero(sizing.min_width);
+    let most = limit_of(sizing.max_width);
+    with_min_max(width, least, most)
+}

@@ -1,0 +1,195 @@
+//! The used sizes of a table.
+
+ghost use Rattle.std.specs.Prelude.{◌≡◌, ◌<◌, ◌≤◌, ℕ, All, IfOk, List, length};
+ghost use Rattle.std.specs.Int.{int_max};
+ghost use Rattle.lay_units.specs.declared.length.Unit.{Unit as Length};
+ghost use Rattle.lay_units.specs.Units.{IsPosition, IsUsedSize};
+ghost use Rattle.lay_widths.specs.declared.widths.BlockOut.{BlockOut};
+ghost use Rattle.lay_sizes.specs.SizeBounds.{SizeFits};
+ghost use Rattle.lay_sizes.specs.SizeColumns.{HaveSizeBounds, sizes_at};
+ghost use Rattle.lay_table_grid.specs.GridBounds.{PlacesAreBelow};
+ghost use Rattle.lay_table_grid.specs.TableGrid.{IsTableGrid};
+ghost use Rattle.lay_table_sizes.specs.Bounds.{most_columns};
+ghost use Rattle.lay_table_sizes.specs.ColumnWidths.{with_spacings};
+ghost use Rattle.lay_table_sizes.specs.TableBoxes.{table_style, wrapper_style};
+ghost use Rattle.lay_table_sizes.specs.TableSizes.{AreTableWidths, HasTableSizes, IsWrapperSized, held, sizes_of_box, table_box, table_width};
+
+use crate::cells::{cells_of, spacings, sum_of};
+use crate::column_widths::columns_in;
+use crate::sizes::TableSizes;
+use crate::table_box::{style_of_box, table_edges};
+use crate::table_rule::TableRule;
+use crate::wanted_width::wanted_width;
+use crate::wrapper::wrapper_sizes;
+use lay_boxgen::BoxNode;
+use lay_grid::columns_fixed;
+use lay_measure::sum;
+use lay_sizes::{
+    BoxSizes, ContainingBlock, NO_SIZES, used_height, used_max_height, used_min_height,
+};
+use lay_style::Style;
+use lay_table_grid::{TableGrid, grids_are_of_boxes, table_grid};
+use lay_units::{NoMemory, Unit, UnitList, clamp_size};
+use lay_widths::BlockOut;
+use std::alloc::Global;
+
+/// A table that has its used sizes.
+#[derive(Drop)]
+pub struct SizedTable {
+    /// Those of the boxes of its formatting context, in order.
+    pub boxes: Vec<BoxSizes>,
+    /// Its columns and cells.
+    pub table: TableSizes,
+}
+
+/// The width that a table is to have, with the margins beside that, and the widths of its columns.
+#[derive(Drop)]
+struct TableWidths {
+    wanted: BlockOut,
+    columns: UnitList,
+}
+
+/// The used sizes of the boxes of a table's formatting context, and its columns and cells (CSS 2.2, 17.5.2.1). The own box is
+/// the table's wrapper, and this is its containing block. NoMemory is also the answer where the table has more than 2^24 columns
+/// or its width isn't within 2^63 units; no table of a document within its limits is such.
+pub fn table_sizes(
+    alloc: Global,
+    boxes: &[BoxNode],
+    containing: ContainingBlock,
+    rule: TableRule,
+) -> Result<SizedTable, NoMemory>
+    requires some { 0 < length boxes.now }
+    requires containing { IsPosition containing.width.0 }
+    ensures sizes { IfOk result (λ s. HasTableSizes containing rule boxes.now s.boxes.items s.table) }
+    ensures bounds { IfOk result (λ s. HaveSizeBounds s.boxes.items) }
+{
+    grids_are_of_boxes();
+    let grid = table_grid(alloc, boxes)?;
+    let widths = table_widths(alloc, boxes, &grid, containing.width, rule)?;
+    let width = table_width(&grid, widths.wanted.width, widths.columns.as_slice())?;
+    let table = table_box(&grid, containing, style_of_box(boxes, grid.table()), width);
+    let wrapper = wrapper_sizes(rule, containing, style_of_box(boxes, 0), &table);
+    let sizes = sizes_of_boxes(alloc, boxes.len(), grid.table(), wrapper, table)?;
+    let columns = held(alloc, widths.columns.as_slice())?;
+    let cells = cells_of(alloc, boxes.len(), &grid, columns.as_slice())?;
+    Ok(SizedTable {
+        boxes: sizes,
+        table: TableSizes::new(alloc, grid, columns, cells)?,
+    })
+}
+
+fn table_widths(
+    alloc: Global,
+    boxes: &[BoxNode],
+    grid: &TableGrid,
+    containing: Unit,
+    rule: TableRule,
+) -> Result<TableWidths, NoMemory>
+    requires some { 0 < length boxes.now }
+    requires places { PlacesAreBelow (length boxes.now) grid.now }
+    requires containing { IsPosition containing.0 }
+    ensures { IfOk result (λ w. AreTableWidths containing rule boxes.now grid.now w.wanted w.columns) }
+{
+    let wrapper = style_of_box(boxes, 0);
+    let style = style_of_box(boxes, grid.table());
+    let wanted = wanted_width(rule, grid, containing, wrapper, style)?;
+    let columns = columns_in(alloc, Some(wanted.width), boxes, grid, wanted.width)?;
+    Ok(TableWidths {
+        wanted,
+        columns: columns_fixed(alloc, &columns)?,
+    })
+}
+
+/// The used width of the content of a table box that is to have the width `wanted` and has these columns.
+fn table_width(grid: &TableGrid, wanted: Unit, columns: &[Unit]) -> Result<Unit, NoMemory>
+    ensures value { IfOk result (λ v. v ≡ table_width grid.now wanted columns.now) }
+    ensures size { IfOk result (λ v. IsUsedSize v.0) }
+{
+    let columns = with_spacings(grid, sum_of(columns)?)?;
+    Ok(clamp_size(i128::from(wanted.0.max(columns.0))))
+}
+
+/// How wide columns are that come to so much, with the spacings beside them. NoMemory is the answer where that isn't within 2^63
+/// units, as it is in a document within its limits.
+pub(crate) fn with_spacings(grid: &TableGrid, columns: Unit) -> Result<Unit, NoMemory>
+    ensures { IfOk result (λ v. v ≡ record { 0 = with_spacings grid.now.spacing.across grid.now.columns columns.0 }) }
+{
+    let count = grid.columns();
+    if count == 0 {
+        return Ok(columns);
+    }
+    sum(
+        columns,
+        spacings(grid.spacing().across, count as usize + 1)?,
+    )
+}
+
+/// The table box in its wrapper.
+fn table_box(grid: &TableGrid, containing: ContainingBlock, style: &Style, width: Unit) -> BoxSizes
+    requires { IsUsedSize width.0 }
+    ensures value { result ≡ table_box grid.now containing style.now width }
+    ensures fits { SizeFits result }
+{
+    BoxSizes {
+        containing: containing.width,
+        widths: BlockOut {
+            margin_left: Unit(0),
+            width,
+            margin_right: Unit(0),
+        },
+        edges: table_edges(grid, containing.width, style),
+        margin_top: Unit(0),
+        margin_bottom: Unit(0),
+        height: used_height(containing.height, style.sizing.height),
+        min_height: used_min_height(containing.height, style.sizing.min_height),
+        max_height: used_max_height(containing.height, style.sizing.max_height),
+    }
+}
+
+/// The sizes of so many boxes, of which the first is the wrapper and the one at `place` the table box.
+fn sizes_of_boxes(
+    alloc: Global,
+    count: usize,
+    place: usize,
+    wrapper: BoxSizes,
+    table: BoxSizes,
+) -> Result<Vec<BoxSizes>, NoMemory>
+    requires wrapper { SizeFits wrapper }
+    requires table { SizeFits table }
+    ensures count { IfOk result (λ v. length v.items ≡ count) }
+    ensures each { IfOk result (λ v. (k : ℕ) → k < count → sizes_at v.items k ≡ sizes_of_box place wrapper table k) }
+    ensures bounds { IfOk result (λ v. HaveSizeBounds v.items) }
+{
+    let mut sizes = Vec::with_capacity(alloc, count)?;
+    for k in 0..count {
+        sizes.push(sizes_of_box(place, wrapper, table, k))?;
+    }
+    Ok(sizes)
+}
+
+fn sizes_of_box(place: usize, wrapper: BoxSizes, table: BoxSizes, k: usize) -> BoxSizes
+    requires wrapper { SizeFits wrapper }
+    requires table { SizeFits table }
+    ensures value { result ≡ sizes_of_box place wrapper table k }
+    ensures fits { SizeFits result }
+{
+    if k == 0 {
+        return wrapper;
+    }
+    if k == place {
+        return table;
+    }
+    NO_SIZES
+}
+
+/// Used widths of columns.
+fn held(alloc: Global, widths: &[Unit]) -> Result<Vec<Unit>, NoMemory>
+    ensures value { IfOk result (λ v. v.items ≡ held widths.now) }
+    ensures sizes { IfOk result (λ v. All (λ (width : Length). IsUsedSize width.0) v.items) }
+{
+    let mut used = Vec::with_capacity(alloc, widths.len())?;
+    for width in widths {
+        used.push(clamp_size(i128::from(width.0)))?;
+    }
+    Ok(used)
+}
