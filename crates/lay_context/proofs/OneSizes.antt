@@ -9,7 +9,7 @@ use Rattle.lay_measure.specs.declared.preferred_widths.PreferredWidths.{Preferre
 use Rattle.lay_sizes.specs.declared.sizing.BoxSizes.{BoxSizes}
 use Rattle.lay_sizes.specs.declared.sizing.ContainingBlock.{ContainingBlock}
 use Rattle.lay_sizes.proofs.OneSizes.{one_box_sizes_lem}
-use Rattle.lay_context.specs.ContainingBlocks.{block_in, height_holder}
+use Rattle.lay_context_boxes.specs.ContainingBlocks.{block_in, height_holder}
 use Rattle.lay_context_boxes.specs.Containing.{container_of}
 use Rattle.lay_context_boxes.specs.ContextBoxes.{AreContextBoxes, is_inner}
 use Rattle.lay_sizes.specs.SizeColumns.{no_sizes, sizes_at}

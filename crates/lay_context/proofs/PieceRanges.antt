@@ -28,17 +28,9 @@ moved_piece right down shift (Some f) across along further near = record {
   h = near_position f.rect.h.0 near.h;
 }
 
-own_piece : (right down : ℤ) (f : Frag) → IsNear right → IsNear down → IsRectNear f.rect → IsRectInRange (moved right down f).rect
-own_piece right down f across along near = record {
-  x = (omega (arith, ints, across.0, near.x.0), omega (arith, ints, across.1, near.x.1));
-  y = (omega (arith, ints, along.0, near.y.0), omega (arith, ints, along.1, near.y.1));
-  w = near_position f.rect.w.0 near.w;
-  h = near_position f.rect.h.0 near.h;
-}
-
 page_pieces_in_range : (r : Rect) (shift : Length) (fs : List Frag) → IsRectNear r → IsNear shift.0 → ((k : ℕ) → IfSome (slice_get fs k) (λ f. IsRectNear f.rect)) → AreInRange (pieces_at r shift fs)
 page_pieces_in_range r shift [] near further pieces k lt = absurd (omega arith)
-page_pieces_in_range r shift (own ∷ inner) near further pieces zero lt = own_piece r.x.0 r.y.0 own near.x near.y (pieces 0)
+page_pieces_in_range r shift (own ∷ inner) near further pieces zero lt = near_rect r near
 page_pieces_in_range r shift (own ∷ inner) near further pieces (suc k) lt =
     subst (λ o. IfSome o (λ f. IsRectInRange f.rect)) (sym (slice_get-map (moved r.x.0 (r.y.0 +ℤ shift.0)) inner k))
     (moved_piece r.x.0 r.y.0 shift.0 (slice_get inner k) near.x near.y further (pieces (suc k)))

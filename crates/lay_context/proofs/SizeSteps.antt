@@ -10,7 +10,7 @@ use Rattle.lay_sizes.specs.declared.sizing.BoxSizes.{BoxSizes}
 use Rattle.lay_sizes.specs.declared.sizing.ContainingBlock.{ContainingBlock}
 use Rattle.lay_sizes.specs.BoxSizes.{content_block}
 use Rattle.lay_sizes.specs.SizeBounds.{SizeFits}
-use Rattle.lay_context.specs.ContainingBlocks.{block_around, block_in, height_holder}
+use Rattle.lay_context_boxes.specs.ContainingBlocks.{block_around, block_in, height_holder}
 use Rattle.lay_context_boxes.specs.Containing.{container_of}
 use Rattle.lay_context_boxes.specs.ContextBoxes.{AreContextBoxes, is_inner}
 use Rattle.lay_sizes.specs.SizeColumns.{HaveSizeBounds, no_sizes, sizes_at}

@@ -7,7 +7,7 @@ use Rattle.lay_context.specs.declared.task.Phase.TheVariants.{Measure, Size, Pla
 use Rattle.lay_context.specs.declared.value.Value.TheVariants as value
 use Rattle.lay_contexts.specs.Contexts.{Context, context_at, boxes_in}
 use Rattle.lay_context.specs.Medium.{Medium}
-use Rattle.lay_context.specs.ContainingBlocks.{block_around}
+use Rattle.lay_context_boxes.specs.ContainingBlocks.{block_around}
 use Rattle.lay_placement.specs.ContextPlaces.{Placement}
 use Rattle.lay_context.specs.DocumentLayout.{inner_boxes, inner_widths, inner_widths_in, outer_block, own_box_in, placement_in, sizes_in, widths_in}
 use Rattle.lay_context.specs.Needs.{needs_by}

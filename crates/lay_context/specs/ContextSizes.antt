@@ -17,7 +17,7 @@ use Rattle.lay_sizes.specs.declared.sizing.WidthRule.{WidthRule}
 use Rattle.lay_sizes.specs.declared.sizing.WidthRule.TheVariants.{Fills, Inline, Replaced, ReplacedBlock, ShrinksToFit}
 use Rattle.lay_sizes.specs.BoxSizes.{IsSized}
 use Rattle.lay_sizes.specs.SizeColumns.{no_sizes, sizes_at}
-use Rattle.lay_context.specs.ContainingBlocks.{block_around}
+use Rattle.lay_context_boxes.specs.ContainingBlocks.{block_around}
 use Rattle.lay_context_boxes.specs.ContextBoxes.{is_inner}
 
 -- Which rule gives the context's own box its width, where these are its preferred widths. In flow an inline-block shrinks to fit

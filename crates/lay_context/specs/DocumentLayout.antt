@@ -18,7 +18,7 @@ use Rattle.lay_sizes.specs.declared.sizing.ContainingBlock.{ContainingBlock}
 use Rattle.lay_sizes.specs.BoxSizes.{border_width}
 use Rattle.lay_placement.specs.declared.corner.Corner.{Corner}
 use Rattle.lay_sizes.specs.declared.own_boxes.OwnBox.{OwnBox}
-use Rattle.lay_context.specs.ContainingBlocks.{block_around}
+use Rattle.lay_context_boxes.specs.ContainingBlocks.{block_around}
 use Rattle.lay_contexts.specs.Contexts.{Context, context_at, boxes_in}
 use Rattle.lay_sizes.specs.SizeColumns.{sizes_at}
 use Rattle.lay_sizes.specs.OwnBoxes.{no_own_box}

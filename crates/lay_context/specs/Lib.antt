@@ -1,4 +1,3 @@
-pub mod ContainingBlocks
 pub mod ContextSizes
 pub mod ContextWidths
 pub mod DocumentLayout

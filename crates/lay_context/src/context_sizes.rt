@@ -7,10 +7,9 @@ ghost use Rattle.lay_context_boxes.specs.ContextBoxes.{is_inner};
 ghost use Rattle.lay_sizes.specs.SizeColumns.{HaveSizeBounds, no_sizes};
 ghost use Rattle.lay_context.specs.ContextSizes.{HasSizes, IsBoxSized, containing_block, floating_rule, own_rule, own_rule_of, rule_in_flow, width_rule};
 
-use crate::containing::block_around;
 use crate::input::SizeInput;
 use lay_boxgen::{BoxKind, Flow};
-use lay_context_boxes::ContextBoxes;
+use lay_context_boxes::{ContextBoxes, block_around};
 use lay_measure::PreferredWidths;
 use lay_placement::ContextSizes;
 use lay_sizes::{BoxSizes, ContainingBlock, NO_SIZES, NaturalSize, WidthRule, box_sizes};

@@ -8,11 +8,11 @@ ghost use Rattle.lay_context.specs.Settling.{IsReady};
 ghost use Rattle.lay_context.specs.declared.task.Phase.TheVariants.{Size};
 ghost use Rattle.lay_sizes.specs.OwnBoxes.{OwnBoxFits};
 
-use crate::containing::block_around;
 use crate::input::{Input, MeasureInput, SizeInput};
 use crate::known::Known;
 use crate::medium::Medium;
 use crate::task::{Phase, Task};
+use lay_context_boxes::block_around;
 use lay_contexts::Contexts;
 use lay_measure::{NO_WIDTHS, PreferredWidths};
 use lay_placement::{OwnBoxes, PlaceInput};

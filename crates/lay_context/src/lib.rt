@@ -10,7 +10,6 @@
 #![tactic(auto)]
 
 mod assembling;
-mod containing;
 mod context_sizes;
 mod context_widths;
 mod given;

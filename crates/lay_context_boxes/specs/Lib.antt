@@ -1,2 +1,3 @@
 pub mod Containing
+pub mod ContainingBlocks
 pub mod ContextBoxes

@@ -109,7 +109,10 @@ impl Placed {
     {
         let piece = piece_at(self.pieces.as_slice(), k);
         if k == 0 {
-            return moved(piece, self.rect.x, self.rect.y);
+            return Frag {
+                rect: self.rect,
+                ..piece
+            };
         }
         moved(piece, self.rect.x, further(self.rect.y, self.shift))
     }

@@ -5,37 +5,20 @@ use Rattle.lay_frag.proofs.placed.Placed.page_piece.Goals as goal
 
 pub returns-then-k-eq0 : goal.returns-then-k-eq0
 returns-then-k-eq0 c =
-    let x = ap (λ (p : Context). p.rect.x.0) c.self.view_is in
-    let y = ap (λ (p : Context). p.rect.y.0) c.self.view_is in
+    let rect = ap (λ (p : Context). p.rect) c.self.view_is in
     let pieces = ap (λ (p : Context). p.pieces) c.self.view_is in
     let piece = rw (c.as_slice.ensures, c.deref.ensures, pieces, c.if-k-eq0.true) at c.piece_at-piece.ensures in
-    rw (c.moved.ensures, x, y, c.if-k-eq0.true) (own_piece c.args.self.now c.piece_at-piece.result piece)
+    rw (rect, c.if-k-eq0.true) (own_piece c.args.self.now c.piece_at-piece.result piece)
 
 pub moved-requires-clause-right : goal.moved-requires-clause-right
 moved-requires-clause-right c =
     let x = ap (λ (p : Context). p.rect.x.0) c.self.view_is in
     let pieces = ap (λ (p : Context). p.pieces) c.self.view_is in
-    let piece = rw (c.as_slice.ensures, c.deref.ensures, pieces, c.if-k-eq0.true) at c.piece_at-piece.ensures in
-    let place = rw (c.if-k-eq0.true) at c.requires.place in
-    rw x (page_in_range c.args.self.now 0 _ c.requires.range place (own_piece c.args.self.now c.piece_at-piece.result piece)).x
-
-pub moved-requires-clause-down : goal.moved-requires-clause-down
-moved-requires-clause-down c =
-    let y = ap (λ (p : Context). p.rect.y.0) c.self.view_is in
-    let pieces = ap (λ (p : Context). p.pieces) c.self.view_is in
-    let piece = rw (c.as_slice.ensures, c.deref.ensures, pieces, c.if-k-eq0.true) at c.piece_at-piece.ensures in
-    let place = rw (c.if-k-eq0.true) at c.requires.place in
-    rw y (page_in_range c.args.self.now 0 _ c.requires.range place (own_piece c.args.self.now c.piece_at-piece.result piece)).y
-
-pub moved-requires-2-clause-right : goal.moved-requires-2-clause-right
-moved-requires-2-clause-right c =
-    let x = ap (λ (p : Context). p.rect.x.0) c.self.view_is in
-    let pieces = ap (λ (p : Context). p.pieces) c.self.view_is in
     let piece = rw (c.as_slice.ensures, c.deref.ensures, pieces) at c.piece_at-piece.ensures in
     rw x (page_in_range c.args.self.now c.args.k _ c.requires.range c.requires.place (inner_piece c.args.self.now c.args.k c.piece_at-piece.result (omega (arith, c.if-k-eq0.false)) piece)).x
 
-pub moved-requires-2-clause-down : goal.moved-requires-2-clause-down
-moved-requires-2-clause-down c =
+pub moved-requires-clause-down : goal.moved-requires-clause-down
+moved-requires-clause-down c =
     let y = ap (λ (p : Context). p.rect.y.0) c.self.view_is in
     let shift = ap (λ (p : Context). p.shift.0) c.self.view_is in
     let pieces = ap (λ (p : Context). p.pieces) c.self.view_is in
@@ -49,4 +32,4 @@ returns c =
     let shift = ap (λ (p : Context). p.shift.0) c.self.view_is in
     let pieces = ap (λ (p : Context). p.pieces) c.self.view_is in
     let piece = rw (c.as_slice.ensures, c.deref.ensures, pieces) at c.piece_at-piece.ensures in
-    rw (c.moved-2.ensures, c.further.ensures, x, y, shift) (inner_piece c.args.self.now c.args.k c.piece_at-piece.result (omega (arith, c.if-k-eq0.false)) piece)
+    rw (c.moved.ensures, c.further.ensures, x, y, shift) (inner_piece c.args.self.now c.args.k c.piece_at-piece.result (omega (arith, c.if-k-eq0.false)) piece)

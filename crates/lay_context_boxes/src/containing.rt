@@ -2,16 +2,16 @@
 
 ghost use Rattle.std.specs.Prelude.{◌≡◌, ◌<◌, ◌≤◌, length};
 ghost use Rattle.lay_units.specs.Units.{IsPosition};
-ghost use Rattle.lay_context.specs.ContainingBlocks.{block_around, block_in, height_holder};
+ghost use Rattle.lay_context_boxes.specs.ContainingBlocks.{block_around, block_in, height_holder};
 ghost use Rattle.lay_context_boxes.specs.Containing.{container_of};
 ghost use Rattle.lay_sizes.specs.SizeColumns.{HaveSizeBounds, sizes_at};
 
-use lay_context_boxes::ContextBoxes;
+use crate::context_boxes::ContextBoxes;
 use lay_sizes::{BoxSizes, ContainingBlock, content_block};
 
 /// The containing block of the box at k, which isn't the context's own, where the sizes of its container and of the
 /// boxes before that are known (CSS 2.2, 10.1).
-pub(crate) fn block_around(boxes: &ContextBoxes, sizes: &[BoxSizes], k: usize) -> ContainingBlock
+pub fn block_around(boxes: &ContextBoxes, sizes: &[BoxSizes], k: usize) -> ContainingBlock
     requires place { k < length boxes.now }
     requires known { container_of boxes.now k < length sizes.now }
     requires bounds { HaveSizeBounds sizes.now }
@@ -22,7 +22,7 @@ pub(crate) fn block_around(boxes: &ContextBoxes, sizes: &[BoxSizes], k: usize) -
 }
 
 /// The containing block that the block container at c is to what is in it.
-fn block_in(boxes: &ContextBoxes, sizes: &[BoxSizes], c: usize) -> ContainingBlock
+pub fn block_in(boxes: &ContextBoxes, sizes: &[BoxSizes], c: usize) -> ContainingBlock
     requires place { c < length boxes.now }
     requires known { c < length sizes.now }
     requires bounds { HaveSizeBounds sizes.now }
@@ -48,7 +48,7 @@ fn height_holder(boxes: &ContextBoxes, c: usize) -> usize
     c
 }
 
-pub(crate) fn sizes_at(sizes: &[BoxSizes], k: usize) -> BoxSizes
+fn sizes_at(sizes: &[BoxSizes], k: usize) -> BoxSizes
     requires { k < length sizes.now }
     ensures { result ≡ sizes_at sizes.now k }
 {

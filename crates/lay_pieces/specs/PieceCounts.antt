@@ -6,8 +6,8 @@ use Rattle.std.specs.BTreeMap.{BTreeMap, get}
 use Rattle.lay_frag.specs.declared.frag.Frag.{Frag}
 use Rattle.lay_frag.specs.declared.frag.FragKind.{FragKind}
 use Rattle.lay_frag.specs.declared.frag.FragKind.TheVariants.{Box, Line, Text}
-use Rattle.lay_placement.specs.declared.piece_list.Counts.{Counts}
-use Rattle.lay_placement.specs.PieceParts.{count_of}
+use Rattle.lay_pieces.specs.declared.piece_list.Counts.{Counts}
+use Rattle.lay_pieces.specs.PieceParts.{count_of}
 
 abbrev pub no_counts : Counts
 no_counts = record { boxes = 0; lines = 0; texts = 0 }

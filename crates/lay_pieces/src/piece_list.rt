@@ -1,11 +1,13 @@
-//! The pieces of a context as they come, each with its part.
+//! The pieces of a formatting context as they come, each with its part.
 
 ghost use Rattle.std.specs.Prelude.{ℕ, ◌≡◌, ◌≢◌, ◌≤◌, ◌∷◌, ◌++◌, [], length, IfOk, OnOk};
-ghost use Rattle.lay_placement.specs.PieceParts.{numbered};
-ghost use Rattle.lay_placement.specs.PieceCounts.{AreCounted, count_in, counts_in, with_one};
+ghost use Rattle.lay_pieces.specs.NearPieces.{AreNearPieces, IsRectNear};
+ghost use Rattle.lay_pieces.specs.PieceParts.{numbered};
+ghost use Rattle.lay_pieces.specs.PieceCounts.{AreCounted, count_in, counts_in, with_one};
 
+use crate::corner::near_position;
 use lay_frag::{Frag, FragKind};
-use lay_units::NoMemory;
+use lay_units::{NoMemory, Rect};
 use std::alloc::Global;
 use std::collections::BTreeMap;
 use std::marker::Model;
@@ -21,9 +23,10 @@ pub struct Counts {
     pub texts: u32,
 }
 
-/// Pieces of one context, each with its part, and how many each node has. They are at most 2^31.
+/// Pieces of one formatting context, each with its part, and how many each node has. They are at most 2^31, and their edges
+/// and sizes are at most 2^60 units from 0.
 #[derive(Drop)]
-pub(crate) struct PieceList {
+pub struct PieceList {
     items: Vec<Frag>,
     counts: BTreeMap<u32, Counts>,
 }
@@ -31,18 +34,19 @@ pub(crate) struct PieceList {
 impl Model for PieceList {
     ghost use Rattle.std.specs.Prelude.{List};
     ghost use Rattle.lay_frag.specs.declared.frag.Frag.{Frag};
-    ghost use Rattle.lay_placement.specs.PieceCounts.{AreCounted};
+    ghost use Rattle.lay_pieces.specs.NearPieces.{AreNearPieces};
+    ghost use Rattle.lay_pieces.specs.PieceCounts.{AreCounted};
 
     ghost Value = { List Frag };
 
     ghost view = { λ p. p.items.items };
 
-    ghost invariant = { λ p. AreCounted p.items.items p.counts };
+    ghost invariant = { λ p. AreCounted p.items.items p.counts × AreNearPieces p.items.items };
 }
 
 impl PieceList {
     /// No piece.
-    pub(crate) fn new(alloc: Global) -> PieceList
+    pub fn new(alloc: Global) -> PieceList
         ensures { result ≡ [] }
     {
         PieceList {
@@ -52,17 +56,20 @@ impl PieceList {
     }
 
     /// These, and behind them a piece that counts those of its kind and node before it. NoMemory is also the answer
-    /// for more than 2^31.
-    pub(crate) fn with(self, piece: Frag) -> Result<PieceList, NoMemory>
+    /// where it stands more than 2^60 units away, which it does in no document within the limits, and for more than 2^31
+    /// pieces.
+    pub fn with(self, piece: Frag) -> Result<PieceList, NoMemory>
         ensures { IfOk result (λ p. p ≡ self ++ numbered self piece ∷ []) }
     {
-        added(self.items, self.counts, piece)
+        let rect = near_rect(piece.rect)?;
+        added(self.items, self.counts, Frag { rect, ..piece })
     }
 
     /// The pieces, in order.
-    pub(crate) fn into_vec(self) -> Vec<Frag>
+    pub fn into_vec(self) -> Vec<Frag>
         ensures pieces { result.items ≡ self }
         ensures few { length result.items ≤ 2147483648 }
+        ensures near { AreNearPieces result.items }
     {
         self.items
     }
@@ -74,7 +81,9 @@ fn added(
     counts: BTreeMap<u32, Counts>,
     piece: Frag,
 ) -> Result<PieceList, NoMemory>
-    requires { AreCounted items.items counts }
+    requires counted { AreCounted items.items counts }
+    requires all_near { AreNearPieces items.items }
+    requires near { IsRectNear piece.rect }
     ensures { IfOk result (λ p. p ≡ items.items ++ numbered items.items piece ∷ []) }
 {
     let mut items = items;
@@ -89,6 +98,18 @@ fn added(
     })?;
     put(&mut counts, piece.node.0, with_one(node, piece.kind))?;
     Ok(PieceList { items, counts })
+}
+
+/// A rectangle. NoMemory is the answer where one of its numbers is more than 2^60 units from 0.
+fn near_rect(rect: Rect) -> Result<Rect, NoMemory>
+    ensures value { IfOk result (λ r. r ≡ rect) }
+    ensures near { IfOk result IsRectNear }
+{
+    let x = near_position(rect.x)?;
+    let y = near_position(rect.y)?;
+    let w = near_position(rect.w)?;
+    let h = near_position(rect.h)?;
+    Ok(Rect { x, y, w, h })
 }
 
 /// What these say of the node with this id.

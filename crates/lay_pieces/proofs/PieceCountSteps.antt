@@ -1,13 +1,13 @@
 -- How many pieces are of a kind and a node, with one more.
-use Rattle.std.proofs.Common.{◌≡◌, ◌≢◌, ℕ, ◌+◌, ◌<◌, ◌≤◌, ◌==◌, ◌&&◌, List, [], ◌∷◌, ◌++◌, length, length-append, refl, sym, ap, ◌∙◌, arith, inl, inr, Bool, true, false, if◌then◌else◌}
+use Rattle.std.proofs.Common.{◌≡◌, ◌≢◌, ℕ, ◌+◌, ◌<◌, ◌≤◌, ◌==◌, ◌&&◌, List, [], ◌∷◌, ◌++◌, length, length-append, refl, sym, arith, inl, inr, Bool, true, false, if◌then◌else◌}
 use Rattle.std.specs.BTreeMap.{BTreeMap}
 use Rattle.std.proofs.lemmas.Bool.{cases_eq, eq-eqb, ne_eqb}
 use Rattle.lay_frag.specs.declared.frag.Frag.{Frag}
 use Rattle.lay_frag.specs.declared.frag.FragKind.{FragKind}
 use Rattle.lay_frag.specs.declared.frag.FragKind.TheVariants.{Box, Line, Text}
-use Rattle.lay_placement.specs.declared.piece_list.Counts.{Counts}
-use Rattle.lay_placement.specs.PieceCounts.{AreCounted, count_in, counts_in, with_one}
-use Rattle.lay_placement.specs.PieceParts.{count_of, is_kind, numbered}
+use Rattle.lay_pieces.specs.declared.piece_list.Counts.{Counts}
+use Rattle.lay_pieces.specs.PieceCounts.{AreCounted, count_in, counts_in, with_one}
+use Rattle.lay_pieces.specs.PieceParts.{count_of, is_kind, numbered}
 
 pub count_more : (kind : FragKind) (id : ℕ) (fs : List Frag) (f : Frag) → count_of kind id (fs ++ f ∷ []) ≡ count_of kind id fs + (if is_kind f.kind kind && f.node.0 == id then 1 else 0)
 count_more kind id [] f = omega arith

@@ -1,0 +1,3 @@
+pub mod PieceCountSteps
+pub mod PieceSteps
+pub mod SplicedPieces
