@@ -76,6 +76,15 @@ pub(crate) fn table_sizes(input: &TableInput) -> BoxSizes
     sizes_at(input.sizes(), input.grid().table())
 }
 
+/// The used sizes of the wrapper.
+pub(crate) fn wrapper_sizes(input: &TableInput) -> BoxSizes
+    ensures value { result ≡ sizes_at input.now.sizes 0 }
+    ensures fits { SizeFits result }
+{
+    let _ = input.boxes();
+    sizes_at(input.sizes(), 0)
+}
+
 pub(crate) fn sizes_at(sizes: &[BoxSizes], k: usize) -> BoxSizes
     requires { k < length sizes.now }
     ensures { result ≡ sizes_at sizes.now k }

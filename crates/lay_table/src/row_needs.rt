@@ -206,7 +206,7 @@ fn baseline_if(align: CellAlign, baseline: Unit) -> Option<Unit>
 }
 
 /// The border box around a content of this height.
-fn border_height(sizes: BoxSizes, height: Unit) -> Unit
+pub(crate) fn border_height(sizes: BoxSizes, height: Unit) -> Unit
     requires sizes { SizeFits sizes }
     requires height { IsUsedSize height.0 }
     ensures { result ≡ border_height sizes height }

@@ -98,8 +98,7 @@ fn bottoms_of(
     cells: &[BoxSizes],
     tracks: &Tracks,
 ) -> Result<Vec<RowCell>, NoMemory>
-    requires count { length cells.now ≡ length input.now.table.grid.cells }
-    requires rows { length tracks.now.lengths ≡ length input.now.table.grid.rows }
+    requires { length cells.now ≡ length input.now.table.grid.cells }
     ensures bottoms { IfOk result (λ v. v.items ≡ bottoms_of input.now cells.now tracks.now) }
     ensures fit { IfOk result (λ v. All (RowCellFits (length input.now.table.grid.rows)) v.items) }
 {
@@ -118,7 +117,6 @@ fn bottom_of(
     c: usize,
 ) -> Result<RowCell, NoMemory>
     requires count { length cells.now ≡ length input.now.table.grid.cells }
-    requires rows { length tracks.now.lengths ≡ length input.now.table.grid.rows }
     requires cell { c < length cells.now }
     ensures bottom { IfOk result (λ r. r ≡ bottom_of input.now cells.now tracks.now c) }
     ensures fits { IfOk result (RowCellFits (length input.now.table.grid.rows)) }
@@ -135,8 +133,7 @@ pub(crate) fn cell_height(
     tracks: &Tracks,
     c: usize,
 ) -> Result<Unit, NoMemory>
-    requires cell { c < length input.now.table.grid.cells }
-    requires rows { length tracks.now.lengths ≡ length input.now.table.grid.rows }
+    requires { c < length input.now.table.grid.cells }
     ensures height { IfOk result (λ u. u ≡ cell_height input.now tracks.now c) }
     ensures near { IfOk result (λ u. IsNear u.0) }
 {

@@ -17,3 +17,4 @@ mod rows;
 pub use elements::{Element, Side};
 pub use grid::{Spacing, TableCell, TableGrid, TableRow};
 pub use placed::PlacedCell;
+pub use rows::{footer_place, header_place};
