@@ -44,12 +44,12 @@ zero_is_size : IsUsedSize (pos 0)
 zero_is_size = (omega (arith, ints), omega (arith, ints))
 
 -- margins and a width that are held within the bounds of used lengths
-record WidthsFit (out : BlockOut) : Type 0 where
-  margin_left : IsUsed out.margin_left.0
-  width : IsUsedSize out.width.0
-  margin_right : IsUsed out.margin_right.0
+pub record WidthsFit (out : BlockOut) : Type 0 where
+  pub margin_left : IsUsed out.margin_left.0
+  pub width : IsUsedSize out.width.0
+  pub margin_right : IsUsed out.margin_right.0
 
-held_fit : (used : UsedWidths) (out : BlockOut) → IsHeld used out → WidthsFit out
+pub held_fit : (used : UsedWidths) (out : BlockOut) → IsHeld used out → WidthsFit out
 held_fit used out held = record {
   margin_left = let e = held.margin_left in rw e (margin_is_used used.margin_left);
   width = let e = held.width in rw e (size_is_used used.width);
@@ -64,29 +64,29 @@ widths_fit containing (ReplacedBlock natural) s out is = held_fit is.used out is
 widths_fit containing (Replaced natural) s out is =
     held_fit (widths_beside (block_of containing.width s) (replaced_size_of containing natural s).width.0) out is
 
-vertical_margin_is_used : (containing : Length) (margin : LengthPercentageOrAuto) → IsUsed (used_vertical_margin containing margin).0
+pub vertical_margin_is_used : (containing : Length) (margin : LengthPercentageOrAuto) → IsUsed (used_vertical_margin containing margin).0
 vertical_margin_is_used containing or_auto.Auto = (omega (arith, ints), omega (arith, ints))
 vertical_margin_is_used containing (or_auto.Length u) = margin_is_used u.0
 vertical_margin_is_used containing (or_auto.Percent h) = margin_is_used (percentage_of h.0 containing.0)
 
-used_size_is_used : (containing : Length) (size : LengthPercentage) → IsUsedSize (used_size containing size).0
+pub used_size_is_used : (containing : Length) (size : LengthPercentage) → IsUsedSize (used_size containing size).0
 used_size_is_used containing (measure.Length u) = size_is_used u.0
 used_size_is_used containing (measure.Percent h) = size_is_used (percentage_of h.0 containing.0)
 
 -- a border and a padding are two used sizes
-edge_is_inset : (containing border : Length) (padding : LengthPercentage) → IsInset (edge_of containing border padding).0
+pub edge_is_inset : (containing border : Length) (padding : LengthPercentage) → IsInset (edge_of containing border padding).0
 edge_is_inset containing border padding =
     let a = size_is_used border.0 in
     let b = used_size_is_used containing padding in
     (omega (arith, ints, a.0, b.0), omega (arith, ints, a.1, b.1))
 
-height_is_used : (containing : Len) (height : LengthPercentageOrAuto) → IsUsedSizeOrAuto (used_height containing height)
+pub height_is_used : (containing : Len) (height : LengthPercentageOrAuto) → IsUsedSizeOrAuto (used_height containing height)
 height_is_used containing or_auto.Auto = tt
 height_is_used containing (or_auto.Length u) = size_is_used u.0
 height_is_used auto (or_auto.Percent h) = tt
 height_is_used (of containing) (or_auto.Percent h) = size_is_used (percentage_of h.0 containing.0)
 
-min_height_is_used : (containing : Len) (height : LengthPercentage) → IsUsedSize (used_min_height containing height).0
+pub min_height_is_used : (containing : Len) (height : LengthPercentage) → IsUsedSize (used_min_height containing height).0
 min_height_is_used containing (measure.Length u) = size_is_used u.0
 min_height_is_used auto (measure.Percent h) = zero_is_size
 min_height_is_used (of containing) (measure.Percent h) = size_is_used (percentage_of h.0 containing.0)

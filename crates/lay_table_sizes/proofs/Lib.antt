@@ -1,0 +1,4 @@
+pub mod ColumnSteps
+pub mod OneCellSizes
+pub mod OneTableSizes
+pub mod OneTableWidths

@@ -23,7 +23,7 @@ use Rattle.lay_grid.specs.declared.columns.ColumnsIn.{ColumnsIn}
 use Rattle.lay_grid.specs.declared.columns.FirstCell.{FirstCell}
 use Rattle.lay_table_grid.specs.TableGrid.{TableGridValue}
 use Rattle.lay_table_grid.specs.declared.grid.TableCell.{TableCell}
-use Rattle.lay_table_sizes.specs.TableBoxes.{style_of_box}
+use Rattle.lay_table_sizes.specs.TableBoxes.{inset, style_of_box}
 
 -- a `width` and a padding beside the width of the table, which is None where it isn't known yet
 abbrev pub given_width : Option Length → LengthPercentageOrAuto → Len
@@ -65,7 +65,7 @@ element_widths table boxes places (suc n) =
 -- the borders and paddings of a cell on its left and right
 abbrev pub cell_edges : Option Length → Sides → Style → ℤ
 cell_edges table borders s =
-    borders.left.0 +ℤ (given_padding table s.padding.left).0 +ℤ (given_padding table s.padding.right).0 +ℤ borders.right.0
+    (inset borders.left (given_padding table s.padding.left)).0 +ℤ (inset borders.right (given_padding table s.padding.right)).0
 
 -- the width of a cell's border box, where its `width` says one
 abbrev pub cell_width : Option Length → Sides → Style → Option Length

@@ -1,7 +1,7 @@
 -- A table box and its wrapper beside their containing block (CSS 2.2, 17.4, 17.5.2 and 17.6). Margins are used on the wrapper,
 -- and `width`, `height`, their bounds, borders and paddings on the table box, whose percentages are of the containing block of
 -- the wrapper. "In the collapsing border model ... a table does not have padding" (17.6.2).
-use Rattle.std.specs.Prelude.{◌+ℤ◌, ℤ, Bool, List, if◌then◌else◌}
+use Rattle.std.specs.Prelude.{ℕ, ◌+ℤ◌, ℤ, List, if◌then◌else◌}
 use Rattle.lay_units.specs.declared.length.Unit.{Unit as Length}
 use Rattle.lay_units.specs.declared.records.BlockIn.{BlockIn}
 use Rattle.lay_units.specs.declared.records.Sides.{Sides}
@@ -62,4 +62,4 @@ preferred_padding g padding = if g.collapses then no_length else size_or_zero pa
 
 abbrev pub preferred_edges : TableGridValue → Style → ℤ
 preferred_edges g s =
-    g.borders.left.0 +ℤ (preferred_padding g s.padding.left).0 +ℤ (preferred_padding g s.padding.right).0 +ℤ g.borders.right.0
+    (inset g.borders.left (preferred_padding g s.padding.left)).0 +ℤ (inset g.borders.right (preferred_padding g s.padding.right)).0

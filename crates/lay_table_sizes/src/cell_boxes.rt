@@ -1,10 +1,11 @@
 //! The used sizes of the boxes of cells.
 
-ghost use Rattle.std.specs.Prelude.{◌≡◌, ◌+ℤ◌, ◌-ℤ◌};
+ghost use Rattle.std.specs.Prelude.{◌≡◌, ◌-ℤ◌};
 ghost use Rattle.lay_sizes.specs.SizeBounds.{IsInset, SizeFits};
 ghost use Rattle.lay_table_sizes.specs.CellSizes.{IsCellSized, cell_insets, content_width};
 
 use crate::cell_size::CellSize;
+use crate::table_box::together;
 use lay_sizes::{BoxSizes, ContainingBlock, edge_of, used_height};
 use lay_style::Style;
 use lay_units::{Sides, Unit, clamp_size};
@@ -56,15 +57,7 @@ fn content_width(cell: CellSize, edges: Sides) -> Unit
     requires right { IsInset edges.right.0 }
     ensures { result.0 ≡ content_width cell edges }
 {
-    clamp_size(difference(cell.width, across(edges)))
-}
-
-fn across(edges: Sides) -> Unit
-    requires left { IsInset edges.left.0 }
-    requires right { IsInset edges.right.0 }
-    ensures { result.0 ≡ edges.left.0 +ℤ edges.right.0 }
-{
-    Unit(edges.left.0 + edges.right.0)
+    clamp_size(difference(cell.width, together(edges.left, edges.right)))
 }
 
 fn difference(a: Unit, b: Unit) -> i128

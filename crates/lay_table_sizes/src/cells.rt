@@ -1,6 +1,6 @@
 //! The sizes of cells.
 
-ghost use Rattle.std.specs.Prelude.{◌≡◌, ◌≢◌, ◌<◌, ◌≤◌, ◌+◌, ◌-◌, ◌*ℤ◌, ℕ, IfOk, OnOk, All, drop, length, pos, slice_index_or, None};
+ghost use Rattle.std.specs.Prelude.{◌≡◌, ◌≢◌, ◌<◌, ◌≤◌, ◌+◌, ◌-◌, ◌^◌, ◌*ℤ◌, ℕ, Some, IfOk, OnOk, All, drop, length, pos, slice_index_or, None};
 ghost use Rattle.lay_units.specs.Units.{IsUsedSize};
 ghost use Rattle.lay_grid.specs.Shares.{sum_of};
 ghost use Rattle.lay_table_grid.specs.declared.grid.TableCell.{TableCell};
@@ -25,8 +25,9 @@ pub(crate) fn cells_of(
 {
     let cells = grid.cells();
     let mut sizes = Vec::from_elem(alloc, None, count)?;
-    for done in 0..cells.len() {
-        let cell = cells[cells.len() - 1 - done];
+    let last = cells.len();
+    for done in 0..last {
+        let cell = cells[last - 1 - done];
         let size = cell_size(grid.spacing().across, columns, cell)?;
         put_cell(sizes.as_mut_slice(), cell.place, size);
     }
@@ -77,8 +78,8 @@ pub(crate) fn sum_of(widths: &[Unit]) -> Result<Unit, NoMemory>
     ensures { IfOk result (λ v. v ≡ record { 0 = sum_of widths.now }) }
 {
     let mut total = Unit(0);
-    for done in 0..widths.len() {
-        total = sum(widths[widths.len() - 1 - done], total)?;
+    for k in 0..widths.len() {
+        total = sum(total, widths[k])?;
     }
     Ok(total)
 }

@@ -8,7 +8,7 @@ ghost use Rattle.lay_table_grid.specs.GridBounds.{AreUsedSides, CellFits};
 ghost use Rattle.lay_table_sizes.specs.ColumnWidths.{cell_edges, cell_width, columns_in, element_widths, first_cell, first_cells, given_padding, given_width, or_none, width_by_box, width_by_kind, width_by_place, with_edges};
 ghost use Rattle.lay_table_sizes.specs.Bounds.{ArePlaced, IsEdge, most_columns};
 
-use crate::table_box::style_of_box;
+use crate::table_box::{inset, style_of_box, together};
 use lay_boxgen::{BoxKind, BoxNode};
 use lay_grid::{ColumnsIn, FirstCell, FirstCells, WidthOptions};
 use lay_measure::{length_or_auto, size_or_zero};
@@ -161,7 +161,7 @@ pub(crate) fn cell_edges(table: Option<Unit>, borders: Sides, style: &Style) -> 
 {
     let left = given_padding(table, style.padding.left);
     let right = given_padding(table, style.padding.right);
-    Unit(borders.left.0 + left.0 + right.0 + borders.right.0)
+    together(inset(borders.left, left), inset(borders.right, right))
 }
 
 /// A `width` beside the width of the table, which is None where it isn't known yet.

@@ -4,7 +4,7 @@ ghost use Rattle.std.specs.Prelude.{◌≡◌, ◌≢◌, ◌<◌, ◌+ℤ◌, �
 ghost use Rattle.std.specs.Int.{int_max};
 ghost use Rattle.lay_table_grid.specs.GridBounds.{AreUsedSides};
 ghost use Rattle.lay_table_sizes.specs.Bounds.{ArePlaced};
-ghost use Rattle.lay_table_sizes.specs.PreferredWidths.{cell_part, cell_widths, content_widths, stands_alone, wider, widths_at};
+ghost use Rattle.lay_table_sizes.specs.PreferredWidths.{cell_part, cell_widths, content_widths, wider, widths_at};
 
 use crate::column_widths::cell_edges;
 use crate::table_box::style_of_box;
@@ -28,8 +28,9 @@ pub(crate) fn content_widths(
 {
     let cells = grid.cells();
     let mut widths = Vec::from_elem(alloc, NO_WIDTHS, grid.columns() as usize)?;
-    for done in 0..cells.len() {
-        let cell = cells[cells.len() - 1 - done];
+    let last = cells.len();
+    for done in 0..last {
+        let cell = cells[last - 1 - done];
         if cell.columns == 1 {
             let of_cell = cell_widths(boxes, inner, cell)?;
             put_wider(widths.as_mut_slice(), cell.column as usize, of_cell);

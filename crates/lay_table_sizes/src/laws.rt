@@ -2,15 +2,21 @@
 
 ghost use Rattle.lay_table_sizes.specs.Laws.{OneCellSizes, OneTableSizes, OneTableWidths};
 
+use lay_table_grid::one_table_grid;
+
 /// A table has one set of used sizes beside its containing block.
 pub fn one_table_sizes()
     ensures { OneTableSizes }
-{}
+{
+    one_table_grid();
+}
 
 /// A table has one pair of preferred widths.
 pub fn one_table_widths()
     ensures { OneTableWidths }
-{}
+{
+    one_table_grid();
+}
 
 /// The box of a cell has one set of used sizes.
 pub fn one_cell_sizes()

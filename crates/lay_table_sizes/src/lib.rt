@@ -12,6 +12,7 @@ mod cell_size;
 mod cells;
 mod column_widths;
 mod content_widths;
+mod grid;
 mod laws;
 mod preferred_widths;
 mod sizes;

@@ -4,10 +4,12 @@ ghost use Rattle.std.specs.Prelude.{◌≡◌, ◌<◌, ◌≤◌, ◌+ℤ◌, �
 ghost use Rattle.std.specs.Int.{int_max};
 ghost use Rattle.lay_grid.specs.Shares.{own_at};
 ghost use Rattle.lay_table_grid.specs.GridBounds.{PlacesAreBelow};
+ghost use Rattle.lay_table_sizes.specs.Bounds.{most_columns};
 ghost use Rattle.lay_table_sizes.specs.PreferredWidths.{AreColumnWidths, HasTableWidths, all_beside, beside, bounded_content, own_or, table_part};
 
 use crate::column_widths::columns_in;
 use crate::content_widths::content_widths;
+use crate::grid::grid_of;
 use crate::sizing::with_spacings;
 use crate::table_box::{preferred_edges, style_of_box};
 use lay_boxgen::BoxNode;
@@ -15,7 +17,7 @@ use lay_grid::own_widths;
 use lay_heights::with_min_max;
 use lay_measure::{NO_WIDTHS, PreferredWidths, given_or, greater, limit_of, size_or_zero, sum};
 use lay_style::Style;
-use lay_table_grid::{TableGrid, grids_are_of_boxes, table_grid};
+use lay_table_grid::TableGrid;
 use lay_units::{NoMemory, Unit};
 use std::alloc::Global;
 
@@ -31,8 +33,7 @@ pub fn table_preferred_widths(
     requires { 0 < length boxes.now }
     ensures { IfOk result (HasTableWidths boxes.now inner.now) }
 {
-    grids_are_of_boxes();
-    let grid = table_grid(alloc, boxes)?;
+    let grid = grid_of(alloc, boxes)?;
     let columns = column_widths(alloc, boxes, inner, &grid)?;
     let together = all_beside(columns.as_slice())?;
     let style = style_of_box(boxes, grid.table());
@@ -49,7 +50,8 @@ fn column_widths(
     inner: &[PreferredWidths],
     grid: &TableGrid,
 ) -> Result<Vec<PreferredWidths>, NoMemory>
-    requires { PlacesAreBelow (length boxes.now) grid.now }
+    requires places { PlacesAreBelow (length boxes.now) grid.now }
+    requires few { grid.now.columns ≤ most_columns }
     ensures { IfOk result (λ v. AreColumnWidths boxes.now inner.now grid.now v.items) }
 {
     let columns = columns_in(alloc, None, boxes, grid, Unit(0))?;
@@ -80,8 +82,9 @@ fn all_beside(widths: &[PreferredWidths]) -> Result<PreferredWidths, NoMemory>
     ensures { IfOk result (λ w. w ≡ all_beside widths.now) }
 {
     let mut total = NO_WIDTHS;
-    for done in 0..widths.len() {
-        total = beside(widths[widths.len() - 1 - done], total)?;
+    let count = widths.len();
+    for done in 0..count {
+        total = beside(widths[count - 1 - done], total)?;
     }
     Ok(total)
 }

@@ -8,7 +8,6 @@ ghost use Rattle.lay_widths.specs.declared.widths.BlockOut.{BlockOut};
 ghost use Rattle.lay_sizes.specs.SizeBounds.{SizeFits};
 ghost use Rattle.lay_sizes.specs.SizeColumns.{HaveSizeBounds, sizes_at};
 ghost use Rattle.lay_table_grid.specs.GridBounds.{PlacesAreBelow};
-ghost use Rattle.lay_table_grid.specs.TableGrid.{IsTableGrid};
 ghost use Rattle.lay_table_sizes.specs.Bounds.{most_columns};
 ghost use Rattle.lay_table_sizes.specs.ColumnWidths.{with_spacings};
 ghost use Rattle.lay_table_sizes.specs.TableBoxes.{table_style, wrapper_style};
@@ -16,6 +15,7 @@ ghost use Rattle.lay_table_sizes.specs.TableSizes.{AreTableWidths, HasTableSizes
 
 use crate::cells::{cells_of, spacings, sum_of};
 use crate::column_widths::columns_in;
+use crate::grid::grid_of;
 use crate::sizes::TableSizes;
 use crate::table_box::{style_of_box, table_edges};
 use crate::table_rule::TableRule;
@@ -28,7 +28,7 @@ use lay_sizes::{
     BoxSizes, ContainingBlock, NO_SIZES, used_height, used_max_height, used_min_height,
 };
 use lay_style::Style;
-use lay_table_grid::{TableGrid, grids_are_of_boxes, table_grid};
+use lay_table_grid::TableGrid;
 use lay_units::{NoMemory, Unit, UnitList, clamp_size};
 use lay_widths::BlockOut;
 use std::alloc::Global;
@@ -63,8 +63,7 @@ pub fn table_sizes(
     ensures sizes { IfOk result (λ s. HasTableSizes containing rule boxes.now s.boxes.items s.table) }
     ensures bounds { IfOk result (λ s. HaveSizeBounds s.boxes.items) }
 {
-    grids_are_of_boxes();
-    let grid = table_grid(alloc, boxes)?;
+    let grid = grid_of(alloc, boxes)?;
     let widths = table_widths(alloc, boxes, &grid, containing.width, rule)?;
     let width = table_width(&grid, widths.wanted.width, widths.columns.as_slice())?;
     let table = table_box(&grid, containing, style_of_box(boxes, grid.table()), width);
@@ -87,6 +86,7 @@ fn table_widths(
 ) -> Result<TableWidths, NoMemory>
     requires some { 0 < length boxes.now }
     requires places { PlacesAreBelow (length boxes.now) grid.now }
+    requires few { grid.now.columns ≤ most_columns }
     requires containing { IsPosition containing.0 }
     ensures { IfOk result (λ w. AreTableWidths containing rule boxes.now grid.now w.wanted w.columns) }
 {

@@ -82,7 +82,8 @@ fn table_padding(grid: &TableGrid, containing: Unit, padding: LengthPercentage) 
     used_size(containing, padding)
 }
 
-fn inset(border: Unit, padding: Unit) -> Unit
+/// A border and a padding.
+pub(crate) fn inset(border: Unit, padding: Unit) -> Unit
     requires border { IsUsedSize border.0 }
     requires padding { IsUsedSize padding.0 }
     ensures value { result ≡ inset border padding }
@@ -91,14 +92,24 @@ fn inset(border: Unit, padding: Unit) -> Unit
     Unit(border.0 + padding.0)
 }
 
+/// The borders and paddings of both sides.
+pub(crate) fn together(left: Unit, right: Unit) -> Unit
+    requires left { IsInset left.0 }
+    requires right { IsInset right.0 }
+    ensures value { result.0 ≡ left.0 +ℤ right.0 }
+    ensures fits { IsEdge result.0 }
+{
+    Unit(left.0 + right.0)
+}
+
 /// The borders and paddings of the left and the right side, of which percentages are 0.
 pub(crate) fn preferred_edges(grid: &TableGrid, style: &Style) -> Unit
-    ensures { result ≡ record { 0 = preferred_edges grid.now style.now } }
+    ensures { result.0 ≡ preferred_edges grid.now style.now }
 {
     let borders = grid.borders();
     let left = preferred_padding(grid, style.padding.left);
     let right = preferred_padding(grid, style.padding.right);
-    Unit(borders.left.0 + left.0 + right.0 + borders.right.0)
+    together(inset(borders.left, left), inset(borders.right, right))
 }
 
 fn preferred_padding(grid: &TableGrid, padding: LengthPercentage) -> Unit

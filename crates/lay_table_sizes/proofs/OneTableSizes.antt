@@ -1,0 +1,90 @@
+-- A table has one set of used sizes.
+use Rattle.std.proofs.Common.{◌≡◌, ℕ, zero, suc, ◌<◌, ℤ, List, length, Option, None, Some, refl, sym, ap, subst, ◌∙◌, arith}
+use Rattle.std.proofs.lemmas.List.{ext_get_or}
+use Rattle.lay_units.specs.declared.length.Unit.{Unit as Length}
+use Rattle.lay_style.specs.declared.style.Style.{Style}
+use Rattle.lay_boxgen.specs.declared.box_tree.BoxNode.{BoxNode}
+use Rattle.lay_widths.specs.BlockWidths.{IsHeld}
+use Rattle.lay_widths.specs.declared.widths.BlockOut.{BlockOut}
+use Rattle.lay_widths.specs.declared.widths.UsedWidths.{UsedWidths}
+use Rattle.lay_widths.proofs.Unique.{one_block_width_lem, one_float_width_lem}
+use Rattle.lay_sizes.specs.BoxSizes.{widths_beside}
+use Rattle.lay_sizes.specs.SizeColumns.{no_sizes, sizes_at}
+use Rattle.lay_sizes.specs.declared.sizing.BoxSizes.{BoxSizes}
+use Rattle.lay_sizes.specs.declared.sizing.ContainingBlock.{ContainingBlock}
+use Rattle.lay_grid.specs.Columns.{AreColumns}
+use Rattle.lay_grid.proofs.OneColumns.{one_columns_lem}
+use Rattle.lay_table_grid.specs.Laws.{OneTableGrid}
+use Rattle.lay_table_grid.specs.TableGrid.{TableGridValue}
+use Rattle.lay_table_sizes.specs.declared.cell_size.CellSize.{CellSize}
+use Rattle.lay_table_sizes.specs.declared.table_rule.TableRule.{TableRule}
+use Rattle.lay_table_sizes.specs.declared.table_rule.TableRule.TheVariants.{Fills, ShrinksToFit}
+use Rattle.lay_table_sizes.specs.CellSizes.{cell_size_at}
+use Rattle.lay_table_sizes.specs.ColumnWidths.{columns_in}
+use Rattle.lay_table_sizes.specs.Laws.{OneTableSizes}
+use Rattle.lay_table_sizes.specs.TableBoxes.{table_block, table_style, wrapper_style}
+use Rattle.lay_table_sizes.specs.TableSizes.{AreTableWidths, AreWrapperWidths, HasTableSizes, IsWrapperSized, held, sizes_of_box, table_box, table_width, wrapper_block, wrapper_width}
+use Rattle.lay_table_sizes.specs.TableSizesValue.{TableSizesValue, cell_at}
+use Rattle.lay_table_sizes.specs.WantedWidth.{IsWanted, IsWantedAs, content_part}
+use Rattle.lay_table_sizes.proofs.OneCellSizes.{same_sizes}
+
+one_wanted : (rule : TableRule) (g : TableGridValue) (containing : Length) (wrapper s : Style) (x y : BlockOut) → IsWantedAs rule g containing wrapper s x → IsWantedAs rule g containing wrapper s y → x ≡ y
+one_wanted Fills g containing wrapper s x y p q = one_block_width_lem (table_block g containing wrapper s) x y p q
+one_wanted (ShrinksToFit minimum preferred) g containing wrapper s x y p q =
+    one_float_width_lem (table_block g containing wrapper s) (content_part g s minimum) (content_part g s preferred) x y p q
+
+abbrev out_of : Length → Length → Length → BlockOut
+out_of left width right = record { margin_left = left; width = width; margin_right = right }
+
+abbrev length_of : ℤ → Length
+length_of v = record { 0 = v }
+
+held_same : (used : UsedWidths) (x y : BlockOut) → IsHeld used x → IsHeld used y → x ≡ y
+held_same used x y p q =
+    let left = ap length_of (p.margin_left ∙ sym q.margin_left) in
+    let width = ap length_of (p.width ∙ sym q.width) in
+    let right = ap length_of (p.margin_right ∙ sym q.margin_right) in
+    let e : out_of x.margin_left x.width x.margin_right ≡ out_of y.margin_left y.width y.margin_right = rw (left, width, right) refl in
+    e
+
+one_wrapper_width : (rule : TableRule) (containing : Length) (s : Style) (width : Length) (x y : BlockOut) → AreWrapperWidths rule containing s width x → AreWrapperWidths rule containing s width y → x ≡ y
+one_wrapper_width Fills containing s width x y p q = one_block_width_lem (wrapper_block containing s width) x y p q
+one_wrapper_width (ShrinksToFit minimum preferred) containing s width x y p q =
+    held_same (widths_beside (wrapper_block containing s width) width.0) x y p q
+
+one_wrapper : (rule : TableRule) (containing : ContainingBlock) (s : Style) (table y z : BoxSizes) → IsWrapperSized rule containing s table y → IsWrapperSized rule containing s table z → y ≡ z
+one_wrapper rule containing s table y z p q =
+    same_sizes y z (p.containing_is ∙ sym q.containing_is) (one_wrapper_width rule containing.width s (wrapper_width table) y.widths z.widths p.widths q.widths)
+    (p.edges ∙ sym q.edges) (p.margin_top ∙ sym q.margin_top) (p.margin_bottom ∙ sym q.margin_bottom)
+    (p.height ∙ sym q.height) (p.min_height ∙ sym q.min_height) (p.max_height ∙ sym q.max_height)
+
+abbrev value_of : TableGridValue → List Length → List (Option CellSize) → TableSizesValue
+value_of g columns cells = record { grid = g; columns = columns; cells = cells }
+
+-- two solutions with one grid
+one_by_grid : (containing : ContainingBlock) (rule : TableRule) (boxes : List BoxNode) (x y : List BoxSizes) (g : TableGridValue) (v w : List Length) (cs ds : List (Option CellSize))
+    → HasTableSizes containing rule boxes x (value_of g v cs) → HasTableSizes containing rule boxes y (value_of g w ds) → (x ≡ y) × (value_of g v cs ≡ value_of g w ds)
+one_by_grid containing rule boxes x y g v w cs ds p q =
+    let wanted : p.wanted ≡ q.wanted = one_wanted rule g containing.width (wrapper_style boxes) (table_style boxes g) p.wanted q.wanted p.are_widths.is_wanted q.are_widths.is_wanted in
+    let there : AreColumns (columns_in (Some q.wanted.width) boxes g q.wanted.width) p.widths = rw wanted at p.are_widths.are_columns in
+    let widths : p.widths ≡ q.widths = one_columns_lem (columns_in (Some q.wanted.width) boxes g q.wanted.width) p.widths q.widths there q.are_widths.are_columns in
+    let columns : v ≡ w = p.columns ∙ ap held widths ∙ sym q.columns in
+    let pc = p.cell_count in
+    let cells : cs ≡ ds = ext_get_or None cs ds (p.cell_count ∙ sym q.cell_count) (λ k lt.
+    p.cells k (omega (arith, pc, lt)) ∙ ap (λ (v : List Length). cell_size_at g.spacing.across v g.cells k) columns ∙ sym (q.cells k (omega (arith, pc, lt)))) in
+    let table : p.table ≡ q.table = p.table_is ∙ rw (wanted, widths) refl ∙ sym q.table_is in
+    let wrapped : IsWrapperSized rule containing (wrapper_style boxes) q.table p.wrapper = subst (λ (z : BoxSizes). IsWrapperSized rule containing (wrapper_style boxes) z p.wrapper) table p.wrapper_is in
+    let wrapper : p.wrapper ≡ q.wrapper = one_wrapper rule containing (wrapper_style boxes) q.table p.wrapper q.wrapper wrapped q.wrapper_is in
+    let counted = p.count in
+    let sizes : x ≡ y = ext_get_or no_sizes x y (p.count ∙ sym q.count) (λ k lt.
+    p.each k (omega (arith, counted, lt)) ∙ rw (wrapper, table) refl ∙ sym (q.each k (omega (arith, counted, lt)))) in
+    (sizes, rw (columns, cells) refl)
+
+pub one_table_sizes_lem : OneTableGrid → OneTableSizes
+one_table_sizes_lem one_grid containing rule boxes x y t u p q =
+    let e : t.grid ≡ u.grid = one_grid boxes t.grid u.grid p.grid q.grid in
+    let moved : HasTableSizes containing rule boxes x (value_of u.grid t.columns t.cells) =
+    subst (λ (g : TableGridValue). HasTableSizes containing rule boxes x (value_of g t.columns t.cells)) e p in
+    let same = one_by_grid containing rule boxes x y u.grid t.columns u.columns t.cells u.cells moved q in
+    let first : value_of t.grid t.columns t.cells ≡ value_of u.grid t.columns t.cells = ap (λ (g : TableGridValue). value_of g t.columns t.cells) e in
+    (same.0, first ∙ same.1)
