@@ -10,7 +10,7 @@ ghost use Rattle.lay_grid.specs.Slots.{slots_from, slots_in_row, slots_of_cell};
 
 use crate::cells::{Cell, Grid, RowSpec, Slot};
 use crate::lists::SlotList;
-use crate::placing::place;
+use crate::placing::standing_cells;
 use lay_units::NoMemory;
 use std::alloc::Global;
 
@@ -22,7 +22,7 @@ pub fn slots(alloc: Global, rows: &[RowSpec]) -> Result<Grid, NoMemory>
     requires columns { (grid : Grid) → IsGrid rows.now grid → grid.columns < 2 ^ 32 }
     ensures { IfOk result (λ grid. IsGrid rows.now grid) }
 {
-    let cells = place(alloc, rows)?;
+    let cells = standing_cells(alloc, rows)?;
     let slots = slots_of(alloc, cells.as_slice())?;
     let columns = needed_columns(cells.as_slice());
     Ok(Grid {

@@ -31,3 +31,4 @@ pub use laws::{
     widths_are_within,
 };
 pub use lists::{FirstCells, RowCells, SlotList, SpanList, WidthOptions};
+pub use placing::standing_cells;

@@ -14,8 +14,8 @@ use crate::scan::{free_left, occupy};
 use lay_units::NoMemory;
 use std::alloc::Global;
 
-/// The cells of the rows, where they stand.
-pub fn place(alloc: Global, rows: &[RowSpec]) -> Result<Vec<Cell>, NoMemory>
+/// The cells of the rows, row by row, where they stand (CSS 2.2, 17.5).
+pub fn standing_cells(alloc: Global, rows: &[RowSpec]) -> Result<Vec<Cell>, NoMemory>
     requires { SpanRows rows.now }
     ensures areas { IfOk result (λ cells. areas_of cells.items ≡ areas_from 0 rows.now) }
     ensures places { IfOk result (λ cells. StandAfter [] cells.items) }

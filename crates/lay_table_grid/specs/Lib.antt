@@ -1,4 +1,5 @@
 pub mod TableBoxes
+pub mod PlacedCells
 pub mod MeetingBorders
 pub mod TableBorders
 pub mod TableGrid

@@ -1,1 +1,5 @@
 pub mod CellLists
+pub mod ColumnMarks
+pub mod PlacedBounds
+pub mod Runs
+pub mod Slots

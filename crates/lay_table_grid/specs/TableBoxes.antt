@@ -131,21 +131,21 @@ row_spec boxes row = record {
 abbrev pub row_specs : List BoxNode → List TableRow → List RowSpec
 row_specs boxes rows = map (row_spec boxes) rows
 
--- the column group at this place has columns in it
+-- columns are in the box at this place
 abbrev pub has_columns : List BoxNode → ℕ → Bool
 has_columns boxes k = list_any (λ b. is_column b.kind && (b.parent == k)) boxes
 
 -- for how many columns a box stands: a column group with columns in it for none
-abbrev pub column_count : List BoxNode → ℕ → BoxKind → ℕ
-column_count boxes k (kind.Column span) = span
-column_count boxes k (kind.ColumnGroup span) = if has_columns boxes k then 0 else span
-column_count boxes k _ = 0
+abbrev pub column_count : (divided : Bool) → BoxKind → ℕ
+column_count divided (kind.Column span) = span
+column_count divided (kind.ColumnGroup span) = if divided then 0 else span
+column_count divided _ = 0
 
 -- the box of each column that has one, where the first of the boxes `rest` stands at k
 abbrev pub columns_from : List BoxNode → ℕ → List BoxNode → List ℕ
 columns_from boxes k [] = []
 columns_from boxes k (box ∷ rest) =
-    replicate (column_count boxes k box.kind) k ++ columns_from boxes (k + 1) rest
+    replicate (column_count (has_columns boxes k) box.kind) k ++ columns_from boxes (k + 1) rest
 
 abbrev pub column_boxes_of : List BoxNode → List ℕ
 column_boxes_of boxes = columns_from boxes 0 boxes

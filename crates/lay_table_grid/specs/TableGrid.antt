@@ -1,26 +1,23 @@
 -- The structure of a table (CSS 2.2, 17.2 to 17.6): its rows as they are drawn, its cells where they stand in the grid
 -- (17.5), its columns, what is between them, and the borders of the table and of each cell. All of it follows from the
 -- boxes and their styles alone.
-use Rattle.std.specs.Prelude.{ℕ, ◌≡◌, ◌+◌, max, Bool, true, false, Option, Some, None}
-use Rattle.std.specs.Prelude.{List, [], length, map, slice_get, if◌then◌else◌}
+use Rattle.std.specs.Prelude.{ℕ, ◌≡◌, ◌+◌, Bool, true, false, Option, Some, None}
+use Rattle.std.specs.Prelude.{List, map, slice_get, if◌then◌else◌}
 use Rattle.lay_units.specs.declared.records.Sides.{Sides}
 use Rattle.lay_style.specs.declared.style.TableStyle.{TableStyle}
 use Rattle.lay_style.specs.declared.style_words.BorderCollapse.{BorderCollapse}
 use Rattle.lay_style.specs.declared.style_words.BorderCollapse.TheVariants as borders
 use Rattle.lay_style.specs.LengthValues.{size_of}
 use Rattle.lay_boxgen.specs.declared.box_tree.BoxNode.{BoxNode}
-use Rattle.lay_grid.specs.declared.cells.Cell.{Cell}
-use Rattle.lay_grid.specs.Areas.{areas_from}
-use Rattle.lay_grid.specs.Places.{StandAfter, areas_of}
-use Rattle.lay_grid.specs.Slots.{columns_of}
 use Rattle.lay_sizes.specs.UsedLengths.{no_length}
 use Rattle.lay_table_grid.specs.declared.grid.Spacing.{Spacing}
 use Rattle.lay_table_grid.specs.declared.grid.TableCell.{TableCell}
 use Rattle.lay_table_grid.specs.declared.grid.TableRow.{TableRow}
 use Rattle.lay_table_grid.specs.declared.placed.PlacedCell.{PlacedCell}
 use Rattle.lay_table_grid.specs.MeetingBorders.{TableParts}
+use Rattle.lay_table_grid.specs.PlacedCells.{ArePlaced, column_total}
 use Rattle.lay_table_grid.specs.TableBorders.{AreCellBorders, AreSeparate, AreTableBorders}
-use Rattle.lay_table_grid.specs.TableBoxes.{cells_of_rows, column_boxes_of, row_specs, rows_of, table_place}
+use Rattle.lay_table_grid.specs.TableBoxes.{column_boxes_of, rows_of, table_place}
 
 pub record TableGridValue : Type 0 where
   -- the place of the table box
@@ -36,25 +33,25 @@ pub record TableGridValue : Type 0 where
   -- the used border widths of the table box
   pub borders : Sides
 
--- where a cell stands
-abbrev pub stand_of : TableCell → Cell
-stand_of cell = record {
-  area = record { row = cell.row; end = cell.row + cell.rows; columns = cell.columns };
-  left = cell.column;
+-- a cell where it stands
+abbrev pub placed_of : TableCell → PlacedCell
+placed_of cell = record {
+  place = cell.place;
+  cell = record {
+    area = record { row = cell.row; end = cell.row + cell.rows; columns = cell.columns };
+    left = cell.column;
+  };
 }
 
-abbrev pub stands_of : List TableCell → List Cell
-stands_of cells = map stand_of cells
-
-abbrev pub placed_of : TableCell → PlacedCell
-placed_of cell = record { place = cell.place; cell = stand_of cell }
+abbrev pub placed_cells : TableGridValue → List PlacedCell
+placed_cells grid = map placed_of grid.cells
 
 abbrev pub parts_of : List BoxNode → TableGridValue → TableParts
 parts_of boxes grid = record {
   boxes = boxes;
   table = grid.table;
   rows = grid.rows;
-  cells = map placed_of grid.cells;
+  cells = placed_cells grid;
   column_boxes = grid.column_boxes;
   columns = grid.columns;
 }
@@ -81,12 +78,6 @@ abbrev pub spacing_in : Option BoxNode → Spacing
 spacing_in None = no_spacing
 spacing_in (Some box) = spacing_by box.style.table
 
--- these cells stand in the grid
-pub record AreStanding (boxes : List BoxNode) (rows : List TableRow) (cells : List TableCell) : Type 0 where
-  pub places : map (λ cell. cell.place) cells ≡ cells_of_rows boxes rows
-  pub areas : areas_of (stands_of cells) ≡ areas_from 0 (row_specs boxes rows)
-  pub stand : StandAfter [] (stands_of cells)
-
 -- the cells and the table box have these borders
 pub record HaveBorders (boxes : List BoxNode) (grid : TableGridValue) : Type 0 where
   pub separate_cells : grid.collapses ≡ false → (k : ℕ) (cell : TableCell)
@@ -99,9 +90,9 @@ pub record HaveBorders (boxes : List BoxNode) (grid : TableGridValue) : Type 0 w
 pub record IsTableGrid (boxes : List BoxNode) (grid : TableGridValue) : Type 0 where
   pub table : grid.table ≡ table_place boxes
   pub rows : grid.rows ≡ rows_of boxes
-  pub cells : AreStanding boxes grid.rows grid.cells
+  pub cells : ArePlaced boxes grid.rows (placed_cells grid)
   pub column_boxes : grid.column_boxes ≡ column_boxes_of boxes
-  pub columns : grid.columns ≡ max (length grid.column_boxes) (columns_of (stands_of grid.cells))
+  pub columns : grid.columns ≡ column_total grid.column_boxes (placed_cells grid)
   pub collapses : grid.collapses ≡ collapses_in (slice_get boxes grid.table)
   pub spacing : grid.spacing ≡ spacing_in (slice_get boxes grid.table)
   pub borders : HaveBorders boxes grid

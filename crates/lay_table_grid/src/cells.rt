@@ -5,6 +5,7 @@ ghost use Rattle.lay_grid.specs.declared.cells.Span.{Span};
 ghost use Rattle.lay_grid.specs.Slots.{SpanRows};
 ghost use Rattle.lay_table_grid.specs.TableBoxes.{cells_of_rows, kind_at, row_spec, row_specs, span_of};
 ghost use Rattle.lay_table_grid.specs.Pass.CellLists.{AreCellLists, Adds, CellListsTo, IsRowOf};
+ghost use Rattle.lay_table_grid.specs.Pass.PlacedBounds.{SpanColumns};
 
 use crate::grid::TableRow;
 use crate::kinds::{is_cell, span_of};
@@ -66,7 +67,8 @@ pub fn row_specs(
     requires rows { All (IsRowOf boxes.now) rows.now }
     requires lists { AreCellLists boxes.now lists.now }
     ensures specs { IfOk result (λ specs. specs.items ≡ row_specs boxes.now rows.now) }
-    ensures spans { IfOk result (λ specs. SpanRows specs.items) }
+    ensures rows { IfOk result (λ specs. SpanRows specs.items) }
+    ensures columns { IfOk result (λ specs. SpanColumns specs.items) }
 {
     let mut specs = Vec::new(alloc);
     for row in rows {
@@ -84,7 +86,8 @@ fn row_spec(
     requires row { IsRowOf boxes.now row }
     requires lists { AreCellLists boxes.now lists.now }
     ensures spec { IfOk result (λ spec. spec ≡ row_spec boxes.now row) }
-    ensures spans { IfOk result (λ spec. All (λ (span : Span). 1 ≤ span.rows) spec.cells) }
+    ensures rows { IfOk result (λ spec. All (λ (span : Span). 1 ≤ span.rows) spec.cells) }
+    ensures columns { IfOk result (λ spec. All (λ (span : Span). 1 ≤ span.columns) spec.cells) }
 {
     let spans = spans_of(alloc, boxes, lists[row.place].as_slice())?;
     Ok(RowSpec {
@@ -97,6 +100,7 @@ fn row_spec(
 fn spans_of(alloc: Global, boxes: &[BoxNode], places: &[usize]) -> Result<Vec<Span>, NoMemory>
     ensures spans { IfOk result (λ spans. spans.items ≡ map (λ k. span_of (kind_at boxes.now k)) places.now) }
     ensures rows { IfOk result (λ spans. All (λ (span : Span). 1 ≤ span.rows) spans.items) }
+    ensures columns { IfOk result (λ spans. All (λ (span : Span). 1 ≤ span.columns) spans.items) }
 {
     let mut spans = Vec::new(alloc);
     for place in places {
@@ -108,6 +112,7 @@ fn spans_of(alloc: Global, boxes: &[BoxNode], places: &[usize]) -> Result<Vec<Sp
 fn span_at(boxes: &[BoxNode], k: usize) -> Span
     ensures value { result ≡ span_of (kind_at boxes.now k) }
     ensures rows { 1 ≤ result.rows }
+    ensures columns { 1 ≤ result.columns }
 {
     match boxes.get(k) {
         Some(node) => span_of(&node.kind),

@@ -7,12 +7,15 @@
 #![tactic(auto)]
 
 mod cells;
+mod columns;
 mod elements;
 mod grid;
 mod kinds;
 mod placed;
 mod places;
 mod rows;
+mod runs;
+mod slots;
 
 pub use elements::{Element, Side};
 pub use grid::{Spacing, TableCell, TableGrid, TableRow};

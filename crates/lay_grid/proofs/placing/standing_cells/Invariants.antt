@@ -2,7 +2,7 @@ use Rattle.std.proofs.Common.{◌≡◌, ◌+◌, ◌<◌, ◌++◌, drop}
 use Rattle.lay_grid.specs.Areas.{areas_from, rows_left}
 use Rattle.lay_grid.specs.Places.{areas_of}
 use Rattle.lay_grid.specs.Pass.Known.{Known}
-use Rattle.lay_grid.proofs.placing.place.Given as goal
+use Rattle.lay_grid.proofs.placing.standing_cells.Given as goal
 
 abbrev pub invariant-loop-row : goal.invariant-loop-row
 invariant-loop-row l = record {
