@@ -1,14 +1,16 @@
 -- How many rows are drawn before a row group, by what is counted of them.
 use Rattle.std.proofs.Common.{◌≡◌, ℕ, zero, suc, ◌+◌, ◌-◌, ◌<◌, ◌≤◌, ◌==◌, ◌&&◌, ◌||◌, not, nat_lt, cond, Bool, true, false, List, [], ◌∷◌, length, slice_index, take, get_or, refl, sym, ap, ◌∙◌, subst, arith, if◌then◌else◌}
 use Rattle.std.specs.List.{count_by}
+use Rattle.std.proofs.Math.Seq.{take-length}
 use Rattle.std.proofs.lemmas.Bool.Decides.{nat_tests}
 use Rattle.std.proofs.lemmas.List.Sums.{count_by-le-length, count_by_more_no, count_by_more_yes, sum_by-cons}
 use Rattle.lay_boxgen.specs.declared.box_tree.BoxNode.{BoxNode}
 use Rattle.lay_table_grid.specs.declared.grid.TableRow.{TableRow}
+use Rattle.lay_table.specs.declared.groups.OuterGroups.{OuterGroups}
 use Rattle.lay_table.specs.GroupCounts.{AreBodyRows, AreGroupCounts, AreRowsWithin, GroupCounts, is_body_row_at, sum_before}
-use Rattle.lay_table.specs.Groups.{OuterGroups, is_at, is_body_row, is_body_row_before, is_drawn_before, is_header_row, is_row_in, outer_groups, rows_before, rows_within}
+use Rattle.lay_table.specs.Groups.{is_at, is_body_row, is_body_row_before, is_drawn_before, is_header_row, is_row_in, outer_groups, rows_before, rows_within}
 
-one_if : Bool → ℕ
+abbrev pub one_if : Bool → ℕ
 one_if b = if b then 1 else 0
 
 -- one more row
@@ -75,7 +77,7 @@ one_further true place k = by (nat_lt place (suc k)) (nat_lt place k) (place == 
     by false false true e f g = absurd (grind (arith, nat_tests, e, f, g))
 
 never_before : (b : Bool) (place : ℕ) → (b && nat_lt place 0) ≡ false
-never_before true place = refl
+never_before true place = grind (arith, nat_tests)
 never_before false place = refl
 
 pub body_before : (outer : OuterGroups) (rows : List TableRow) (counts : List ℕ) → AreBodyRows outer rows (length rows) counts → (k : ℕ) → k ≤ length counts
@@ -84,13 +86,9 @@ body_before outer rows counts are zero le = sym (count_none (is_body_row_before 
 body_before outer rows counts are (suc k) le =
     let before = body_before outer rows counts are k (omega (arith, le)) in
     let here = are.each k (omega (arith, le)) in
-    let all = ap (count_by (is_body_row_at outer k)) (whole rows) in
+    let all = ap (count_by (is_body_row_at outer k)) (take-length rows) in
     let split = count_split (is_body_row_before outer (suc k)) (is_body_row_before outer k) (is_body_row_at outer k) (λ row. one_further (is_body_row outer row) row.place k) rows in
     omega (arith, before, here, all, split)
-  where
-    whole : (rows : List TableRow) → take (length rows) rows ≡ rows
-    whole [] = refl
-    whole (row ∷ rows) = ap (λ (rs : List TableRow). row ∷ rs) (whole rows)
 
 header_or_body : (h f l : Bool) → one_if (h || (not (h || f) && l)) ≡ one_if h + one_if (not (h || f) && l)
 header_or_body true f l = refl
@@ -120,3 +118,43 @@ before_body outer rows k e f =
 
 pub few_before : (boxes : List BoxNode) (rows : List TableRow) (k : ℕ) → rows_before boxes rows k ≤ length rows
 few_before boxes rows k = count_by-le-length (is_drawn_before (outer_groups boxes) k) rows
+
+-- the counts of these rows
+pub are_counts : (boxes : List BoxNode) (rows : List TableRow) (outer : OuterGroups) (header_rows : ℕ) (within body before : List ℕ) → outer ≡ outer_groups boxes → header_rows ≡ count_by (is_header_row outer) rows
+    → length within ≡ length boxes → AreRowsWithin rows (length rows) within → length body ≡ length boxes → AreBodyRows outer rows (length rows) body
+    → length before ≡ length body → ((k : ℕ) → k < length body → slice_index before k ≡ sum_before body k)
+    → AreGroupCounts boxes rows (record { outer = outer; header_rows = header_rows; within = within; body_before = before })
+are_counts boxes rows outer header_rows within body before is header counted are body_counted body_are before_counted sums = record {
+  outer = is;
+  header_rows = header;
+  within_count = counted;
+  within = λ k less. are.each k (omega (arith, less, counted)) ∙ ap (count_by (is_row_in k)) (take-length rows);
+  body_count = before_counted ∙ body_counted;
+  body_before = λ k less. sums k (omega (arith, less, body_counted)) ∙ body_before outer rows body body_are k (omega (arith, less, body_counted));
+}
+
+module _ (boxes : List BoxNode) (rows : List TableRow) (g : GroupCounts) (are : AreGroupCounts boxes rows g) (k : ℕ) where
+  by_outer : (outer : OuterGroups) → outer ≡ outer_groups boxes → rows_before boxes rows k ≡ count_by (is_drawn_before outer k) rows
+  by_outer outer is = rw is refl
+
+  pub counted_header : is_at g.outer.header k ≡ true → rows_before boxes rows k ≡ 0
+  counted_header e = by_outer g.outer are.outer ∙ before_header g.outer rows k e
+
+  pub counted_footer : is_at g.outer.header k ≡ false → is_at g.outer.footer k ≡ true → k < length boxes → rows_before boxes rows k ≡ length rows - slice_index g.within k
+  counted_footer e f less =
+      let before = by_outer g.outer are.outer ∙ before_footer g.outer rows k e f in
+      let within = are.within k less in
+      rw within before
+
+  pub counted_body : is_at g.outer.header k ≡ false → is_at g.outer.footer k ≡ false → k < length boxes → rows_before boxes rows k ≡ g.header_rows + slice_index g.body_before k
+  counted_body e f less =
+      let before = by_outer g.outer are.outer ∙ before_body g.outer rows k e f in
+      let header = are.header_rows in
+      let body = are.body_before k less in
+      omega (arith, before, header, body)
+
+  pub few_within : k < length boxes → slice_index g.within k ≤ length rows
+  few_within less =
+      let within = are.within k less in
+      let few = count_by-le-length (is_row_in k) rows in
+      omega (arith, within, few)

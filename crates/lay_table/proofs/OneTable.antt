@@ -11,8 +11,7 @@ use Rattle.lay_grid.proofs.RowBaselines.{one_row_baselines_lem}
 use Rattle.lay_sizes.specs.declared.sizing.BoxSizes.{BoxSizes}
 use Rattle.lay_sizes.specs.declared.sizing.ContainingBlock.{ContainingBlock}
 use Rattle.lay_sizes.specs.SizeColumns.{no_sizes, sizes_at}
-use Rattle.lay_table_sizes.specs.declared.cell_size.CellSize.{CellSize}
-use Rattle.lay_table_sizes.specs.CellSizes.{IsCellSized, content_width}
+use Rattle.lay_table_sizes.proofs.OneCellSizes.{one_cell_sizes_lem}
 use Rattle.lay_table.specs.Laws.{OneTablePlacement}
 use Rattle.lay_table.specs.RowNeeds.{needs_of, rows_in}
 use Rattle.lay_table.specs.TableInputs.{TableInput, grid_of}
@@ -32,29 +31,10 @@ same_list d (x ∷ xs) (y ∷ ys) e same =
     let tail : xs ≡ ys = same_list d xs ys (omega arith) (λ k lt. same (suc k) (omega arith)) in
     rw (head, tail) refl
 
-unit : ℤ → Length
-unit v = record { 0 = v }
-
--- a cell has one set of used sizes
-one_cell : (containing : ContainingBlock) (cell : CellSize) (s : Style) (y z : BoxSizes) → IsCellSized containing cell s y → IsCellSized containing cell s z → y ≡ z
-one_cell containing cell s y z a b =
-    let edges : y.edges ≡ z.edges = a.edges ∙ sym b.edges in
-    let width : y.widths.width.0 ≡ z.widths.width.0 = a.width ∙ ap (content_width cell) edges ∙ sym b.width in
-    λ i. record {
-      containing = (a.containing_is ∙ sym b.containing_is) i;
-      widths = record { margin_left = (a.margin_left ∙ sym b.margin_left) i; width = ap unit width i; margin_right = (a.margin_right ∙ sym b.margin_right) i };
-      edges = edges i;
-      margin_top = (a.margin_top ∙ sym b.margin_top) i;
-      margin_bottom = (a.margin_bottom ∙ sym b.margin_bottom) i;
-      height = (a.height ∙ sym b.height) i;
-      min_height = (a.min_height ∙ sym b.min_height) i;
-      max_height = (a.max_height ∙ sym b.max_height) i;
-    }
-
 one_cell_list : (i : TableInput) (x y : List BoxSizes) → HaveCellSizes i x → HaveCellSizes i y → x ≡ y
 one_cell_list i x y a b =
     same_list no_sizes x y (a.count ∙ sym b.count)
-    (λ c less. (let within : c < length (grid_of i).cells = omega (arith, less, a.count) in one_cell _ _ _ _ _ (a.each c within) (b.each c within)))
+    (λ c less. (let within : c < length (grid_of i).cells = omega (arith, less, a.count) in one_cell_sizes_lem _ _ _ _ _ (a.each c within) (b.each c within)))
 
 one_tracks : (rows : RowsIn) (t u : Tracks) → AreTracks rows t → AreTracks rows u → t ≡ u
 one_tracks rows t u a b =

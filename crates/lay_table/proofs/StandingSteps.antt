@@ -1,5 +1,5 @@
 -- Where boxes stand, one after another.
-use Rattle.std.proofs.Common.{◌≡◌, ℕ, zero, suc, ◌+◌, ◌<◌, ◌≤◌, ◌==◌, Bool, true, false, List, [], ◌∷◌, ◌++◌, length, slice_index, get_or, Option, Some, None, refl, sym, ap, ◌∙◌, subst, arith, inl, inr, if◌then◌else◌}
+use Rattle.std.proofs.Common.{◌≡◌, ℕ, zero, suc, ◌+◌, ◌<◌, ◌≤◌, ◌==◌, Bool, true, false, List, [], ◌∷◌, ◌++◌, length, length-append, slice_index, get_or, Option, Some, None, refl, sym, ap, ◌∙◌, subst, arith, inl, inr, if◌then◌else◌}
 use Rattle.std.proofs.Math.ListN.{get_or-append}
 use Rattle.std.proofs.Math.Seq.{get_or-append_seam}
 use Rattle.std.proofs.lemmas.Bool.{cases_lt}
@@ -13,7 +13,7 @@ use Rattle.lay_table.specs.TableStandings.{TablePlaces, number_in, standing_by, 
 -- one more of them
 pub one_more : (places : List ℕ) (f : ℕ → Standing) (k n : ℕ) (old s : Standing) → s ≡ f n
     → (if slice_index places n == k then s else standing_by f old (number_in places k n)) ≡ standing_by f old (number_in places k (n + 1))
-one_more places f k n old s is = subst (λ (m : ℕ). (if slice_index places n == k then s else standing_by f old (number_in places k n)) ≡ standing_by f old (number_in places k m)) (omega arith) (by (slice_index places n == k))
+one_more places f k n old s is = let e : n + 1 ≡ suc n = omega arith in rw e (by (slice_index places n == k))
   where
     by : (b : Bool) → (if b then s else standing_by f old (number_in places k n)) ≡ standing_by f old (if b then Some n else number_in places k n)
     by true = is
@@ -21,7 +21,7 @@ one_more places f k n old s is = subst (λ (m : ℕ). (if slice_index places n =
 
 count_to : (i : TableInput) (p : TablePlaces) (n : ℕ) → length (standings_to i p n) ≡ n
 count_to i p zero = refl
-count_to i p (suc n) = let more = count_to i p n in omega (arith, more)
+count_to i p (suc n) = let more = count_to i p n in rw (length-append, more) (omega arith)
 
 each_to : (i : TableInput) (p : TablePlaces) (n k : ℕ) → k < n → standing_at (standings_to i p n) k ≡ standing_of i p k
 each_to i p zero k less = absurd (omega (arith, less))

@@ -1,5 +1,5 @@
 -- One more track.
-use Rattle.std.proofs.Common.{◌≡◌, ℕ, suc, ◌+◌, ◌<◌, ◌≤◌, ℤ, List, [], ◌∷◌, ◌++◌, length, sym, ap, ◌∙◌, subst, arith, inl, inr}
+use Rattle.std.proofs.Common.{◌≡◌, ℕ, suc, ◌+◌, ◌<◌, ◌≤◌, ℤ, List, [], ◌∷◌, ◌++◌, length, length-append, sym, ap, ◌∙◌, subst, arith, inl, inr}
 use Rattle.std.proofs.Math.ListN.{get_or-append}
 use Rattle.std.proofs.Math.Seq.{get_or-append_seam}
 use Rattle.std.proofs.lemmas.Bool.{cases_lt}
@@ -11,7 +11,7 @@ use Rattle.lay_table.specs.TrackStarts.{AreStarts}
 
 pub starts_more : (t : Tracks) (n : ℕ) (starts : List Length) (u : Length) → AreStarts t n starts → u.0 ≡ start_of t (n + 1) → IsNear u.0 → AreStarts t (n + 1) (starts ++ u ∷ [])
 starts_more t n starts u are is near = record {
-  count = omega (arith, are.count);
+  count = (let counted = are.count in rw (length-append, counted) (omega arith));
   each = λ k le. elim (cases_lt k (n + 1)) [
     | inl low ↦ old k low ∙ are.each k (omega (arith, low))
     | inr high ↦ (let q : k ≡ n + 1 = omega (arith, high, le) in subst (λ (j : ℕ). length_at (starts ++ u ∷ []) j ≡ start_of t j) (sym q) (new ∙ is))

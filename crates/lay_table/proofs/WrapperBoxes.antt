@@ -33,31 +33,27 @@ record Inside (b : FlowBox) : Type 0 where
 inside : (left : Length) (o : OwnBox) → Inside (box_inside left o)
 inside left o = record { parent = refl; alone = refl }
 
-captions_are_inside : (i : TableInput) (places : List ℕ) → All Inside (captions_inside i places)
-captions_are_inside i [] = λ k d less. absurd (omega (arith, less))
-captions_are_inside i (place ∷ places) = λ k d less. from k d less
-  where
-    from : (k : ℕ) (d : FlowBox) → k < length (captions_inside i (place ∷ places)) → Inside (get_or (captions_inside i (place ∷ places)) k d)
-    from zero d less = inside _ _
-    from (suc k) d less = captions_are_inside i places k d (omega (arith, less))
-
--- the boxes behind the wrapper
-others : TableInput → Tracks → List FlowBox
-others i rows =
-    captions_inside i (captions_of i.boxes).above
-    ++ box_inside (sizes_at i.sizes 0).edges.left (table_box (table_sizes i) rows)
-    ∷ captions_inside i (captions_of i.boxes).below
-
-cons_all : {P : FlowBox → Type 0} (b : FlowBox) (bs : List FlowBox) → P b → All P bs → All P (b ∷ bs)
-cons_all {P} b bs p all = from
+cons_all : (P : FlowBox → Type 0) (b : FlowBox) (bs : List FlowBox) → P b → All P bs → All P (b ∷ bs)
+cons_all P b bs p all = from
   where
     from : (k : ℕ) (d : FlowBox) → k < length (b ∷ bs) → P (get_or (b ∷ bs) k d)
     from zero d less = p
     from (suc k) d less = all k d (omega (arith, less))
 
+captions_are_inside : (i : TableInput) (places : List ℕ) → All Inside (captions_inside i places)
+captions_are_inside i [] = λ k d less. absurd (omega (arith, less))
+captions_are_inside i (place ∷ places) = cons_all Inside (caption_inside i place) (captions_inside i places) (inside _ _) (captions_are_inside i places)
+
+-- the boxes behind the wrapper
+abbrev others : TableInput → Tracks → List FlowBox
+others i rows =
+    captions_inside i (captions_of i.boxes).above
+    ++ box_inside (sizes_at i.sizes 0).edges.left (table_box (table_sizes i) rows)
+    ∷ captions_inside i (captions_of i.boxes).below
+
 others_inside : (i : TableInput) (rows : Tracks) → All Inside (others i rows)
 others_inside i rows =
-    All-append Inside _ _ (captions_are_inside i _) (cons_all {Inside} _ _ (inside _ _) (captions_are_inside i _))
+    All-append Inside _ _ (captions_are_inside i _) (cons_all Inside _ _ (inside _ _) (captions_are_inside i _))
 
 held_by : (z : BoxSizes) (b : FlowBox) → Inside b → may_hold (wrapper_box z).kind b.kind ≡ true
 held_by z b is = let e = is.alone in rw e refl
@@ -125,20 +121,20 @@ inside_fits left o inset own = record {
   height = own.height;
 }
 
-Fits : FlowBox → Type 0
+abbrev Fits : FlowBox → Type 0
 Fits b = KindFits b.kind
 
 captions_fit : (i : TableInput) (places : List ℕ) → IsInset (sizes_at i.sizes 0).edges.left.0 → OwnBoxesFit i.inner → ArePlaces (length i.inner) places → All Fits (captions_inside i places)
 captions_fit i [] inset own are = λ k d less. absurd (omega (arith, less))
 captions_fit i (place ∷ places) inset own are =
-    cons_all {Fits} (caption_inside i place) (captions_inside i places) (inside_fits _ _ inset (own place (are 0 (omega arith))))
+    cons_all Fits (caption_inside i place) (captions_inside i places) (inside_fits _ _ inset (own place (are 0 (omega arith))))
     (captions_fit i places inset own (λ n less. are (suc n) (omega (arith, less))))
 
 module _ (i : TableInput) (rows : Tracks) (own : OwnBoxesFit i.inner) (wrapper : SizeFits (sizes_at i.sizes 0)) (table : OwnBoxFits (table_box (table_sizes i) rows)) where
   all_fit : ArePlaces (length i.inner) (captions_of i.boxes).above → ArePlaces (length i.inner) (captions_of i.boxes).below → All Fits (boxes_in_wrapper i rows)
   all_fit above below =
-      cons_all {Fits} (wrapper_box (sizes_at i.sizes 0)) (others i rows) (wrapper_fits _ wrapper)
-      (All-append Fits _ _ (captions_fit i _ wrapper.left own above) (cons_all {Fits} _ _ (inside_fits _ _ wrapper.left table) (captions_fit i _ wrapper.left own below)))
+      cons_all Fits (wrapper_box (sizes_at i.sizes 0)) (others i rows) (wrapper_fits _ wrapper)
+      (All-append Fits _ _ (captions_fit i _ wrapper.left own above) (cons_all Fits _ _ (inside_fits _ _ wrapper.left table) (captions_fit i _ wrapper.left own below)))
 
   pub are_wrapper_boxes : ArePlaces (length i.inner) (captions_of i.boxes).above → ArePlaces (length i.inner) (captions_of i.boxes).below → weight (boxes_in_wrapper i rows) (length (boxes_in_wrapper i rows)) ≤ 8388608 → AreFlowBoxes (boxes_in_wrapper i rows)
   are_wrapper_boxes above below light = record {

@@ -3,7 +3,8 @@ use Rattle.std.specs.Prelude.{ℕ, zero, suc, ◌≡◌, ◌<◌, ◌≤◌, ◌
 use Rattle.std.specs.List.{count_by}
 use Rattle.lay_boxgen.specs.declared.box_tree.BoxNode.{BoxNode}
 use Rattle.lay_table_grid.specs.declared.grid.TableRow.{TableRow}
-use Rattle.lay_table.specs.Groups.{OuterGroups, is_body_row, is_body_row_before, is_header_row, is_row_in, outer_groups, rows_within}
+use Rattle.lay_table.specs.declared.groups.OuterGroups.{OuterGroups}
+use Rattle.lay_table.specs.Groups.{is_body_row, is_body_row_before, is_header_row, is_row_in, outer_groups, rows_within}
 
 -- for each box how many of the first n rows stand in it
 pub record AreRowsWithin (rows : List TableRow) (n : ℕ) (counts : List ℕ) : Type 0 where

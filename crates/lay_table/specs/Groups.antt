@@ -8,13 +8,10 @@ use Rattle.std.specs.Prelude.{ℕ, ◌==◌, ◌&&◌, ◌||◌, nat_lt, not, Bo
 use Rattle.std.specs.List.{count_by}
 use Rattle.lay_boxgen.specs.declared.box_tree.BoxNode.{BoxNode}
 use Rattle.lay_table_grid.specs.declared.grid.TableRow.{TableRow}
+use Rattle.lay_table.specs.declared.groups.OuterGroups.{OuterGroups}
 use Rattle.lay_table_grid.specs.TableBoxes.{footer_place, header_place}
 
 -- the header group and the footer group, if there are any
-pub record OuterGroups : Type 0 where
-  pub header : Option ℕ
-  pub footer : Option ℕ
-
 abbrev pub outer_groups : List BoxNode → OuterGroups
 outer_groups boxes = record { header = header_place boxes; footer = footer_place boxes }
 

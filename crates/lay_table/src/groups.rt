@@ -12,18 +12,10 @@ use std::alloc::Global;
 use std::marker::Model;
 
 /// The header group and the footer group of a table, if it has any.
-#[derive(Clone, Copy)]
-pub(crate) struct OuterGroups {
+#[derive(Clone, Copy, Drop)]
+pub struct OuterGroups {
     pub header: Option<usize>,
     pub footer: Option<usize>,
-}
-
-impl Model for OuterGroups {
-    ghost use Rattle.lay_table.specs.Groups.{OuterGroups as Plain};
-
-    ghost Value = { Plain };
-
-    ghost view = { λ g. record { header = g.header; footer = g.footer } };
 }
 
 /// How many rows stand in each box, and how many that are in neither of the outer groups stand before it.
@@ -186,14 +178,48 @@ fn sums_before(alloc: Global, counts: &[usize]) -> Result<Vec<usize>, NoMemory>
     Ok(sums)
 }
 
+impl GroupCounts {
+    fn outer(&self) -> OuterGroups
+        ensures { result ≡ self.now.outer }
+    {
+        self.outer
+    }
+
+    fn header_rows(&self) -> usize
+        ensures { result ≡ self.now.header_rows }
+    {
+        self.header_rows
+    }
+
+    fn within(&self, k: usize) -> usize
+        requires { k < length self.now.within }
+        ensures { result ≡ slice_index self.now.within k }
+    {
+        self.within[k]
+    }
+
+    fn body_before(&self, k: usize) -> usize
+        requires { k < length self.now.body_before }
+        ensures { result ≡ slice_index self.now.body_before k }
+    {
+        self.body_before[k]
+    }
+}
+
 /// How many rows stand in the box at k, where these are the counts of the rows.
-pub(crate) fn rows_within_box(counts: &GroupCounts, boxes: &[BoxNode], rows: &[TableRow], k: usize) -> usize
+pub(crate) fn rows_within_box(
+    counts: &GroupCounts,
+    boxes: &[BoxNode],
+    rows: &[TableRow],
+    k: usize,
+) -> usize
     requires counts { AreGroupCounts boxes.now rows.now counts.now }
     requires place { k < length boxes.now }
     ensures { result ≡ rows_within rows.now k }
 {
-    let _ = (boxes, rows);
-    counts.within[k]
+    let _ = boxes;
+    let _ = rows;
+    counts.within(k)
 }
 
 /// How many rows are drawn before the row group at k, where these are the counts of the rows.
@@ -209,11 +235,12 @@ pub(crate) fn rows_before(
     ensures few { result ≤ length rows.now }
 {
     let _ = boxes;
-    if is_at(counts.outer.header, k) {
+    let outer = counts.outer();
+    if is_at(outer.header, k) {
         return 0;
     }
-    if is_at(counts.outer.footer, k) {
-        return rows.len() - counts.within[k];
+    if is_at(outer.footer, k) {
+        return rows.len() - counts.within(k);
     }
-    counts.header_rows + counts.body_before[k]
+    counts.header_rows() + counts.body_before(k)
 }

@@ -108,7 +108,8 @@ fn standing_at(
     ensures value { result ≡ standing_of input.now places.now k }
     ensures near { IsStandingNear result }
 {
-    let _ = (input, places);
+    let _ = input;
+    let _ = places;
     standings[k]
 }
 

@@ -77,9 +77,7 @@ fn copied(alloc: Global, lengths: &[Unit]) -> Result<Vec<Unit>, NoMemory>
     ensures { IfOk result (λ v. v.items ≡ lengths.now) }
 {
     let mut copy = Vec::new(alloc);
-    for length in lengths {
-        copy.push(*length)?;
-    }
+    copy.extend_from_slice(lengths)?;
     Ok(copy)
 }
 

@@ -5,6 +5,7 @@ ghost use Rattle.lay_units.specs.Units.{IsUsedSize};
 ghost use Rattle.lay_grid.specs.RowsFit.{RowCellFits, RowsFit};
 ghost use Rattle.lay_pieces.specs.Corners.{IsNear};
 ghost use Rattle.lay_sizes.specs.SizeBounds.{SizeFits};
+ghost use Rattle.lay_sizes.specs.SizeColumns.{HaveSizeBounds};
 ghost use Rattle.lay_table.specs.RowBounds.{RowsFitTable};
 ghost use Rattle.lay_table.specs.TableRows.{AreTracks, HasRows, bottom_of, bottoms_of, cell_height, table_content, used_size};
 
@@ -98,7 +99,8 @@ fn bottoms_of(
     cells: &[BoxSizes],
     tracks: &Tracks,
 ) -> Result<Vec<RowCell>, NoMemory>
-    requires { length cells.now ≡ length input.now.table.grid.cells }
+    requires count { length cells.now ≡ length input.now.table.grid.cells }
+    requires sizes { HaveSizeBounds cells.now }
     ensures bottoms { IfOk result (λ v. v.items ≡ bottoms_of input.now cells.now tracks.now) }
     ensures fit { IfOk result (λ v. All (RowCellFits (length input.now.table.grid.rows)) v.items) }
 {
@@ -117,6 +119,7 @@ fn bottom_of(
     c: usize,
 ) -> Result<RowCell, NoMemory>
     requires count { length cells.now ≡ length input.now.table.grid.cells }
+    requires sizes { HaveSizeBounds cells.now }
     requires cell { c < length cells.now }
     ensures bottom { IfOk result (λ r. r ≡ bottom_of input.now cells.now tracks.now c) }
     ensures fits { IfOk result (RowCellFits (length input.now.table.grid.rows)) }

@@ -21,6 +21,7 @@ pub(crate) struct Tracks {
 }
 
 impl Model for Tracks {
+    ghost use Rattle.std.specs.Prelude.{length};
     ghost use Rattle.lay_table.specs.TrackStarts.{AreStarts};
     ghost use Rattle.lay_table.specs.Tracks.{Tracks as Plain};
 

@@ -9,6 +9,7 @@ ghost use Rattle.lay_table.specs.WrapperFlow.{box_inside, boxes_in_wrapper, capt
 
 use crate::captions::Captions;
 use crate::cells::{own_box_at, table_sizes, wrapper_sizes};
+use crate::near::sum_of;
 use crate::row_needs::border_height;
 use crate::table_input::TableInput;
 use crate::table_rows::table_content;
@@ -119,7 +120,7 @@ fn wrapper_box(sizes: BoxSizes) -> FlowBox
             },
             content: Across {
                 left,
-                right: Unit(left.0 + sizes.widths.width.0),
+                right: sum_of(left, sizes.widths.width),
             },
             height: HeightRule {
                 given: sizes.height,
@@ -140,7 +141,7 @@ fn box_inside(left: Unit, own: OwnBox) -> FlowBox
         parent: 0,
         kind: FlowKind::Solid(SolidBox {
             clear: Clear::None,
-            x: Unit(left.0 + own.margin.left.0),
+            x: sum_of(left, own.margin.left),
             margin: Vertical {
                 top: own.margin.top,
                 bottom: own.margin.bottom,
