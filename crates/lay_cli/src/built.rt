@@ -1,13 +1,12 @@
 //! Which nodes are laid out so far.
 
-ghost use Rattle.std.specs.Prelude.{◌≡◌, ◌<◌, ◌==◌, List, Bool, length, slice_get, IfOk};
+ghost use Rattle.std.specs.Prelude.{◌≡◌, ◌<◌, List, Bool, length, IfOk};
 ghost use Rattle.lay_doc.specs.Document.{IsDocument, parents_of};
-ghost use Rattle.lay_cli.specs.Built.{AreHidden, first_unbuilt, is_built, is_built_at, is_built_kind, is_built_node, is_static, is_table_display};
+ghost use Rattle.lay_cli.specs.Built.{AreHidden, first_unbuilt, is_built, is_built_at, is_static};
 
 use crate::hidden::{hidden, hidden_at};
-use lay_boxgen::used_display_of;
-use lay_doc::{Doc, Kind, Node, NodeId};
-use lay_style::{Display, Position, Style, style_at};
+use lay_doc::{Doc, Node, NodeId};
+use lay_style::{Position, Style, style_at};
 use lay_units::NoMemory;
 use std::alloc::Global;
 
@@ -55,43 +54,17 @@ fn is_built(doc: &Doc, nodes: &[Node], styles: &[Style], hidden: &[bool], id: No
     ensures { result ≡ is_built nodes.now styles.now hidden.now id }
 {
     match doc.find(id) {
-        Some(place) => is_built_at(nodes, styles, hidden, place),
+        Some(place) => is_built_at(styles, hidden, place),
         None => false,
     }
 }
 
-fn is_built_at(nodes: &[Node], styles: &[Style], hidden: &[bool], place: usize) -> bool
-    requires node { place < length nodes.now }
+fn is_built_at(styles: &[Style], hidden: &[bool], place: usize) -> bool
     requires style { place < length styles.now }
     requires hidden { place < length hidden.now }
-    ensures { result ≡ is_built_at nodes.now styles.now hidden.now place }
+    ensures { result ≡ is_built_at styles.now hidden.now place }
 {
-    hidden_at(hidden, place) || is_built_node(nodes, place, style_at(styles, place))
-}
-
-fn is_built_node(nodes: &[Node], place: usize, style: &Style) -> bool
-    ensures { result ≡ is_built_node (place == 0) (slice_get nodes.now place) style.now }
-{
-    match nodes.get(place) {
-        Some(node) => is_built_kind(place == 0, node.kind, style),
-        None => false,
-    }
-}
-
-fn is_built_kind(is_root: bool, kind: Kind, style: &Style) -> bool
-    ensures { result ≡ is_built_kind is_root kind style.now }
-{
-    !is_table_display(used_display_of(is_root, kind, style)) && is_static(style.position)
-}
-
-/// Whether a display is that of a table or of a part of one.
-fn is_table_display(display: Display) -> bool
-    ensures { result ≡ is_table_display display }
-{
-    !matches!(
-        display,
-        Display::Block | Display::ListItem | Display::Inline | Display::InlineBlock | Display::None
-    )
+    hidden_at(hidden, place) || is_static(style_at(styles, place).position)
 }
 
 fn is_static(position: Position) -> bool

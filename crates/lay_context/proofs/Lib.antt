@@ -6,7 +6,9 @@ pub mod OneSizes
 pub mod OneTree
 pub mod OneWidths
 pub mod PieceRanges
+pub mod PlaceFacts
 pub mod SizeSteps
+pub mod SizedFacts
 pub mod SizesFit
 pub mod TaskInputs
 pub mod TaskOrder

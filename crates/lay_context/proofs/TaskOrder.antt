@@ -4,7 +4,7 @@ use Rattle.std.proofs.lemmas.Bool.{cases_lt}
 use Rattle.lay_context.specs.declared.task.Phase.{Phase}
 use Rattle.lay_context.specs.declared.task.Phase.TheVariants.{Measure, Size, Place}
 use Rattle.lay_context.specs.declared.task.Task.{Task}
-use Rattle.lay_contexts.specs.Contexts.{Context, AreContexts}
+use Rattle.lay_formatting.specs.FormattingContexts.{FormattingContext, AreFormattingContexts}
 use Rattle.lay_context.specs.Needs.{needs_by, task_at, turns_of}
 use Rattle.lay_context.specs.Laws.{HadTurn, NeedsComeFirst}
 
@@ -47,7 +47,7 @@ task_of_turn n Place i lt =
 had_before : (n before : ℕ) (phase : Phase) (i : ℕ) → i < n → turn_of n phase i < before → HadTurn n before (task i phase)
 had_before n before phase i lt earlier = record { turn = turn_of n phase i; earlier = earlier; is = task_of_turn n phase i lt }
 
-module _ (contexts : List Context) (are : AreContexts contexts) where
+module _ (contexts : List FormattingContext) (are : AreFormattingContexts contexts) where
   abbrev n : ℕ
   n = length contexts
 

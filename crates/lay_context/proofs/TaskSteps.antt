@@ -1,24 +1,27 @@
 -- The loop over tasks: each is given a value in its turn, and those that had theirs stay done.
-use Rattle.std.proofs.Common.{◌≡◌, ◌≢◌, ◌<◌, ◌≤◌, ℕ, ◌+◌, List, length, slice_set, refl, ap, sym, subst, ◌∙◌, arith, inl, inr}
+use Rattle.std.proofs.Common.{◌≡◌, ◌≢◌, ◌<◌, ◌≤◌, ℕ, ◌+◌, List, length, slice_set, refl, ap, sym, subst, ◌∙◌, arith, inl, inr, option_map}
 use Rattle.std.proofs.lemmas.Bool.{cases_lt}
 use Rattle.std.proofs.lemmas.Grind.{elements}
 use Rattle.lay_measure.specs.declared.preferred_widths.PreferredWidths.{PreferredWidths}
-use Rattle.lay_sizes.specs.declared.sizing.BoxSizes.{BoxSizes}
 use Rattle.lay_frag.specs.Pieces.{Context as PageContext}
+use Rattle.lay_table_grid.specs.Laws.{GridsAreOfBoxes}
+use Rattle.lay_formatting.specs.FormattingContexts.{FormattingContext, AreFormattingContexts, boxes_in}
+use Rattle.lay_pieces.specs.Placements.{Placement}
 use Rattle.lay_context.specs.declared.task.Phase.{Phase}
 use Rattle.lay_context.specs.declared.task.Phase.TheVariants.{Measure, Size, Place}
 use Rattle.lay_context.specs.declared.task.Task.{Task}
 use Rattle.lay_context.specs.declared.value.Value.{Value}
 use Rattle.lay_context.specs.declared.value.Value.TheVariants as value
-use Rattle.lay_contexts.specs.Contexts.{Context, AreContexts, boxes_in}
+use Rattle.lay_context.specs.ContextSizes.{SizedContext}
+use Rattle.lay_context.specs.DocumentLayout.{placement_in, widths_in}
+use Rattle.lay_context.specs.Local.{HasCounts, Workings, IsLocal, IsTaskDone, flow_input, input_by, input_of, size_input, table_input, value_by, value_of, with_value}
 use Rattle.lay_context.specs.Medium.{Medium}
-use Rattle.lay_placement.specs.ContextPlaces.{Placement}
-use Rattle.lay_placement.proofs.CornerCounts.{corner_count}
-use Rattle.lay_context.specs.DocumentLayout.{inner_boxes, placement_in, sizes_in, widths_in}
 use Rattle.lay_context.specs.Needs.{task_at, turns_of}
-use Rattle.lay_context.specs.Local.{Workings, IsLocal, IsTaskDone, input_by, input_of, value_by, value_of, with_value}
-use Rattle.lay_context.specs.Settling.{HasCounts, IsReady, AreDoneTo, AreKnown, IsSettled}
+use Rattle.lay_context.specs.Settings.{sizes_in}
+use Rattle.lay_context.specs.Settling.{AreOfBoxes, IsReady, AreDoneTo, AreKnown, IsSettled}
 use Rattle.lay_context.specs.Solves.{IsAssembled, SolvesContexts}
+use Rattle.lay_context.proofs.PlaceFacts.{not_measured, not_sized, stands}
+use Rattle.lay_context.proofs.SizedFacts.{sizes_are_of_boxes}
 use Rattle.lay_context.proofs.TaskInputs.{inputs_come_of_needs_lem}
 use Rattle.lay_context.proofs.TaskOrder.{needs_come_first_lem, one_turn, task_within, had_turn}
 
@@ -28,10 +31,10 @@ widths_other xs i j x other = grind (arith, elements, other)
 widths_here : (xs : List PreferredWidths) (i : ℕ) (x : PreferredWidths) → i < length xs → widths_in (slice_set xs i x) i ≡ x
 widths_here xs i x lt = grind (arith, elements, lt)
 
-sizes_other : (xs : List (List BoxSizes)) (i j : ℕ) (x : List BoxSizes) → i ≢ j → sizes_in (slice_set xs i x) j ≡ sizes_in xs j
+sizes_other : (xs : List SizedContext) (i j : ℕ) (x : SizedContext) → i ≢ j → sizes_in (slice_set xs i x) j ≡ sizes_in xs j
 sizes_other xs i j x other = grind (arith, elements, other)
 
-sizes_here : (xs : List (List BoxSizes)) (i : ℕ) (x : List BoxSizes) → i < length xs → sizes_in (slice_set xs i x) i ≡ x
+sizes_here : (xs : List SizedContext) (i : ℕ) (x : SizedContext) → i < length xs → sizes_in (slice_set xs i x) i ≡ x
 sizes_here xs i x lt = grind (arith, elements, lt)
 
 places_other : (xs : List Placement) (i j : ℕ) (x : Placement) → i ≢ j → placement_in (slice_set xs i x) j ≡ placement_in xs j
@@ -43,13 +46,13 @@ places_here xs i x lt = grind (arith, elements, lt)
 widths_length : (xs : List PreferredWidths) (i : ℕ) (x : PreferredWidths) → length (slice_set xs i x) ≡ length xs
 widths_length xs i x = grind (arith, elements)
 
-sizes_length : (xs : List (List BoxSizes)) (i : ℕ) (x : List BoxSizes) → length (slice_set xs i x) ≡ length xs
+sizes_length : (xs : List SizedContext) (i : ℕ) (x : SizedContext) → length (slice_set xs i x) ≡ length xs
 sizes_length xs i x = grind (arith, elements)
 
 places_length : (xs : List Placement) (i : ℕ) (x : Placement) → length (slice_set xs i x) ≡ length xs
 places_length xs i x = grind (arith, elements)
 
-module _ (medium : Medium) (contexts : List Context) (w : Workings) where
+module _ (medium : Medium) (contexts : List FormattingContext) (w : Workings) where
   -- the value of the task itself
   here : (phase : Phase) (i : ℕ) (v : Value) → i < length contexts → HasCounts contexts w → IsLocal (input_by medium contexts w phase i) v → value_by (with_value w i v) phase i ≡ v
   here Measure i (value.Measure m) lt counts local = ap value.Measure (widths_here w.widths i m (omega (arith, counts.widths)))
@@ -58,8 +61,8 @@ module _ (medium : Medium) (contexts : List Context) (w : Workings) where
   here Size i (value.Measure m) lt counts local = absurd local
   here Size i (value.Size z) lt counts local = ap value.Size (sizes_here w.sizes i z (omega (arith, counts.sizes)))
   here Size i (value.Place p) lt counts local = absurd local
-  here Place i (value.Measure m) lt counts local = absurd local
-  here Place i (value.Size z) lt counts local = absurd local
+  here Place i (value.Measure m) lt counts local = absurd (not_measured (flow_input medium contexts w i) (option_map (table_input contexts w i) (sizes_in w.sizes i).table) m local)
+  here Place i (value.Size z) lt counts local = absurd (not_sized (flow_input medium contexts w i) (option_map (table_input contexts w i) (sizes_in w.sizes i).table) z local)
   here Place i (value.Place p) lt counts local = ap value.Place (places_here w.places i p (omega (arith, counts.places)))
 
   -- that of another one
@@ -74,8 +77,8 @@ module _ (medium : Medium) (contexts : List Context) (w : Workings) where
   other Size i (value.Size z) local Size j differ = ap value.Size (sizes_other w.sizes i j z (differ refl))
   other Size i (value.Size z) local Place j differ = refl
   other Size i (value.Place p) local q j differ = absurd local
-  other Place i (value.Measure m) local q j differ = absurd local
-  other Place i (value.Size z) local q j differ = absurd local
+  other Place i (value.Measure m) local q j differ = absurd (not_measured (flow_input medium contexts w i) (option_map (table_input contexts w i) (sizes_in w.sizes i).table) m local)
+  other Place i (value.Size z) local q j differ = absurd (not_sized (flow_input medium contexts w i) (option_map (table_input contexts w i) (sizes_in w.sizes i).table) z local)
   other Place i (value.Place p) local Measure j differ = refl
   other Place i (value.Place p) local Size j differ = refl
   other Place i (value.Place p) local Place j differ = ap value.Place (places_other w.places i j p (differ refl))
@@ -88,15 +91,19 @@ module _ (medium : Medium) (contexts : List Context) (w : Workings) where
   other_task : (t u : Task) (v : Value) → IsLocal (input_of medium contexts w t) v → (t ≡ u → ⊥) → value_of (with_value w t.context v) u ≡ value_of w u
   other_task t u v local differ = other t.phase t.context v local u.phase u.context (λ same e. differ (rw (same, e) refl))
 
-module _ (medium : Medium) (contexts : List Context) (are : AreContexts contexts) where
-  -- a needed size is as long as its boxes
+module _ (medium : Medium) (contexts : List FormattingContext) (are : AreFormattingContexts contexts) (below : GridsAreOfBoxes) where
+  sized_done : (w : Workings) (j : ℕ) → j < length contexts → IsTaskDone medium contexts w (record { context = j; phase = Size }) → AreOfBoxes (boxes_in contexts j) (sizes_in w.sizes j)
+  sized_done w j lt done = sizes_are_of_boxes below (size_input medium contexts w j) (sizes_in w.sizes j) (are.boxes j lt) done
+
+  -- needed sizes are of their boxes
   pub ready : (w : Workings) (turn : ℕ) → turn < turns_of (length contexts) → AreDoneTo medium contexts w turn → IsReady contexts w (task_at (length contexts) turn)
   ready w turn within so_far = record {
     within = task_within (length contexts) turn within;
     counts = so_far.counts;
     sized = λ j needs.
         let had = needs_come_first_lem contexts turn (record { context = j; phase = Size }) are within needs in
-        (subst (IsTaskDone medium contexts w) had.is (so_far.done had.turn had.earlier)).count;
+        let there : j < length contexts = subst (λ (u : Task). u.context < length contexts) had.is (task_within (length contexts) had.turn (omega (arith, had.earlier, within))) in
+        sized_done w j there (subst (IsTaskDone medium contexts w) had.is (so_far.done had.turn had.earlier));
   }
 
   module _ (w : Workings) (turn : ℕ) (within : turn < turns_of (length contexts)) (v : Value) (local : IsLocal (input_of medium contexts w (task_at (length contexts) turn)) v) where
@@ -131,34 +138,22 @@ module _ (medium : Medium) (contexts : List Context) (are : AreContexts contexts
       } in
       subst (λ (k : Workings). AreDoneTo medium contexts k (turn + 1)) (sym settled.noted) done
 
-  -- when all had their turns, each context has its values
+  -- when all had their turns, each has its values
   module _ (w : Workings) (all : AreDoneTo medium contexts w (turns_of (length contexts))) where
-    pub widths_done : (i : ℕ) → i < length contexts → IsTaskDone medium contexts w (record { context = i; phase = Measure })
-    widths_done i lt = let had = had_turn (length contexts) Measure i lt in subst (IsTaskDone medium contexts w) had.is (all.done had.turn had.earlier)
-
-    pub sizes_done : (i : ℕ) → i < length contexts → IsTaskDone medium contexts w (record { context = i; phase = Size })
-    sizes_done i lt = let had = had_turn (length contexts) Size i lt in subst (IsTaskDone medium contexts w) had.is (all.done had.turn had.earlier)
-
-    pub places_done : (i : ℕ) → i < length contexts → IsTaskDone medium contexts w (record { context = i; phase = Place })
-    places_done i lt = let had = had_turn (length contexts) Place i lt in subst (IsTaskDone medium contexts w) had.is (all.done had.turn had.earlier)
+    each_done : (phase : Phase) (i : ℕ) → i < length contexts → IsTaskDone medium contexts w (record { context = i; phase = phase })
+    each_done phase i lt = let had = had_turn (length contexts) phase i lt in subst (IsTaskDone medium contexts w) had.is (all.done had.turn had.earlier)
 
     pub known : AreKnown contexts w
     known = record {
       counts = all.counts;
-      sized = λ i lt. (sizes_done i lt).count;
-      cornered = λ i lt. corner_count medium.face (boxes_in contexts i) (sizes_in w.sizes i) (inner_boxes contexts w.places i) (placement_in w.places i) (places_done i lt);
+      sized = λ i lt. (sized_done w i lt (each_done Size i lt)).count;
+      standing = λ i lt. stands (flow_input medium contexts w i) (table_input contexts w i) (λ t. refl) (sizes_in w.sizes i).table (placement_in w.places i) (each_done Place i lt);
     }
 
-    pub solved : (tree : List PageContext) → IsAssembled medium.viewport contexts w.sizes w.places tree → SolvesContexts medium contexts tree
+    pub solved : (tree : List PageContext) → IsAssembled medium.viewport contexts w tree → SolvesContexts medium contexts tree
     solved tree assembled = record {
-      widths = w.widths;
-      sizes = w.sizes;
-      places = w.places;
-      width_count = all.counts.widths;
-      size_count = all.counts.sizes;
-      place_count = all.counts.places;
-      has_widths = widths_done;
-      has_sizes = sizes_done;
-      has_places = places_done;
+      workings = w;
+      counts = all.counts;
+      done = λ task lt. each_done task.phase task.context lt;
       assembled = assembled;
     }

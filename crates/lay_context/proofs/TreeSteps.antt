@@ -1,21 +1,19 @@
 -- A tree of contexts that grows.
-use Rattle.std.proofs.Common.{◌≡◌, ℕ, ◌+◌, ◌^◌, ◌<◌, List, [], ◌∷◌, ◌++◌, length, sym, ◌∙◌, ap, arith, inl, inr, subst, Some, slice_get, IfSome, length-append}
+use Rattle.std.proofs.Common.{◌≡◌, ℕ, ◌+◌, ◌^◌, ◌<◌, true, false, List, [], ◌∷◌, ◌++◌, length, refl, sym, add-one, ◌∙◌, ap, arith, inl, inr, subst, Some, slice_get, IfSome, length-append}
 use Rattle.std.proofs.lemmas.Bool.{cases_lt}
+use Rattle.std.proofs.lemmas.List.{append-nil}
 use Rattle.std.proofs.lemmas.Grind.{elements}
 use Rattle.lay_frag.specs.Pieces.{Context as PageContext, frags_of, page_pieces, IsContextInRange, IsTreeInRange}
 use Rattle.lay_frag.proofs.PieceLemmas.{length-page_pieces}
-use Rattle.lay_placement.specs.declared.corner.Corner.{Corner}
-use Rattle.lay_contexts.specs.Contexts.{Context, boxes_in}
-use Rattle.lay_placement.specs.ContextPlaces.{Placement}
-use Rattle.lay_context.specs.DocumentLayout.{placement_in}
-use Rattle.lay_placement.specs.ContextPlaces.{corner_at}
-use Rattle.lay_context.specs.Solves.{context_of, IsTreeOf}
+use Rattle.lay_formatting.specs.FormattingContexts.{FormattingContext, formatting_context_at}
+use Rattle.lay_pieces.specs.declared.corner.Corner.{Corner}
+use Rattle.lay_pieces.specs.Placements.{Placement}
+use Rattle.lay_context.specs.Solves.{page_context_of, page_contexts}
 
--- the first n contexts are these, are in range, and have so many pieces, fewer than 2^32
-pub record TreeTo (of : ℕ → PageContext) (tree : List PageContext) (n pieces : ℕ) : Type 0 where
-  pub count : length tree ≡ n
-  pub each : (i : ℕ) → i < n → slice_get tree i ≡ Some (of i)
-  pub range : (i : ℕ) → i < n → IfSome (slice_get tree i) IsContextInRange
+-- the tree is this one, its contexts are in range, and they have so many pieces, fewer than 2^32
+pub record TreeTo (listed tree : List PageContext) (pieces : ℕ) : Type 0 where
+  pub is : tree ≡ listed
+  pub range : (i : ℕ) → i < length tree → IfSome (slice_get tree i) IsContextInRange
   pub total : length (frags_of tree) ≡ pieces
   pub few : pieces < 2 ^ 32
 
@@ -31,27 +29,36 @@ frags-append (x ∷ xs) c =
     let rest = frags-append xs c in
     omega (arith, rest, length-append (page_pieces x) (frags_of (xs ++ c ∷ [])), length-append (page_pieces x) (frags_of xs))
 
-pub one_more : (of : ℕ → PageContext) (cs : List PageContext) (n pieces more : ℕ) (c : PageContext) → TreeTo of cs n pieces → c ≡ of n → IsContextInRange c → more ≡ pieces + length c.pieces → more < 2 ^ 32 → TreeTo of (cs ++ c ∷ []) (n + 1) more
-one_more of cs n pieces more c so_far is range sum few = record {
-  count = grind (arith, elements, so_far.count);
-  each = λ i lt. elim (cases_lt i n) [
-    | inl low ↦ read_before cs c i (omega (arith, low, so_far.count)) ∙ so_far.each i low
-    | inr high ↦ (let q : i ≡ n = omega (arith, high, lt) in read_last cs c i (q ∙ sym so_far.count) ∙ ap Some is ∙ ap (λ (m : ℕ). Some (of m)) (sym q))
-  ];
-  range = λ i lt. elim (cases_lt i n) [
-    | inl low ↦ subst (λ o. IfSome o IsContextInRange) (sym (read_before cs c i (omega (arith, low, so_far.count)))) (so_far.range i low)
-    | inr high ↦ (let q : i ≡ n = omega (arith, high, lt) in subst (λ o. IfSome o IsContextInRange) (sym (read_last cs c i (q ∙ sym so_far.count))) range)
+pub one_more : (listed cs : List PageContext) (pieces more : ℕ) (c : PageContext) → TreeTo listed cs pieces → IsContextInRange c → more ≡ pieces + length c.pieces → more < 2 ^ 32 → TreeTo (listed ++ c ∷ []) (cs ++ c ∷ []) more
+one_more listed cs pieces more c so_far range sum few = record {
+  is = ap (λ (t : List PageContext). t ++ c ∷ []) so_far.is;
+  range = λ i lt. elim (cases_lt i (length cs)) [
+    | inl low ↦ subst (λ o. IfSome o IsContextInRange) (sym (read_before cs c i low)) (so_far.range i low)
+    | inr high ↦ (let counted = length-append cs (c ∷ []) in
+        let q : i ≡ length cs = omega (arith, high, lt, counted) in subst (λ o. IfSome o IsContextInRange) (sym (read_last cs c i q)) range)
   ];
   total = omega (arith, so_far.total, frags-append cs c, sum);
   few = few;
 }
 
-pub tree_in_range : (of : ℕ → PageContext) (tree : List PageContext) (n pieces : ℕ) → TreeTo of tree n pieces → IsTreeInRange tree
-tree_in_range of tree n pieces so_far = record {
-  contexts = λ j lt. so_far.range j (omega (arith, lt, so_far.count));
+-- an element's formatting context is listed, and an anonymous one isn't
+pub list_next : (contexts : List FormattingContext) (places : List Placement) (corners : List Corner) (i : ℕ) (tree : List PageContext) (pieces more : ℕ) (c : PageContext)
+    → (formatting_context_at contexts i).anonymous ≡ false → c ≡ page_context_of contexts places corners i
+    → TreeTo (page_contexts contexts places corners i) tree pieces → IsContextInRange c → more ≡ pieces + length c.pieces → more < 2 ^ 32
+    → TreeTo (page_contexts contexts places corners (i + 1)) (tree ++ c ∷ []) more
+list_next contexts places corners i tree pieces more c of_element is so_far range sum few =
+    let next : page_contexts contexts places corners (i + 1) ≡ page_contexts contexts places corners i ++ c ∷ [] = rw (add-one i, of_element, is) refl in
+    rw next (one_more (page_contexts contexts places corners i) tree pieces more c so_far range sum few)
+
+pub skip_next : (contexts : List FormattingContext) (places : List Placement) (corners : List Corner) (i : ℕ) (tree : List PageContext) (pieces : ℕ)
+    → (formatting_context_at contexts i).anonymous ≡ true → TreeTo (page_contexts contexts places corners i) tree pieces
+    → TreeTo (page_contexts contexts places corners (i + 1)) tree pieces
+skip_next contexts places corners i tree pieces anonymous so_far =
+    let next : page_contexts contexts places corners (i + 1) ≡ page_contexts contexts places corners i = rw (add-one i, anonymous) (append-nil (page_contexts contexts places corners i)) in
+    rw next so_far
+
+pub tree_in_range : (listed tree : List PageContext) (pieces : ℕ) → TreeTo listed tree pieces → IsTreeInRange tree
+tree_in_range listed tree pieces so_far = record {
+  contexts = so_far.range;
   few = let e = so_far.total in omega (arith, e, so_far.few);
 }
-
-pub all_contexts : (contexts : List Context) (places : List Placement) (corners : List Corner) (tree : List PageContext) (n pieces : ℕ) → n ≡ length contexts
-    → TreeTo (λ i. context_of (boxes_in contexts i) (placement_in places i) (corner_at corners i)) tree n pieces → IsTreeOf contexts places corners tree
-all_contexts contexts places corners tree n pieces e so_far = record { count = so_far.count ∙ e; each = λ i lt. so_far.each i (omega (arith, e, lt)) }

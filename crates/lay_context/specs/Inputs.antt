@@ -1,6 +1,6 @@
--- What the tasks of one context are given: its boxes with the preferred widths of inner contexts and the face of texts for its
--- own preferred widths (CSS 2.2, 10.3.5), its boxes with these and its containing block for sizes (10.1). What its placement is
--- given is of lay_placement.
+-- What the tasks of one formatting context are given: its boxes with the preferred widths of inner ones and the face of texts for
+-- its own preferred widths (CSS 2.2, 10.3.5), and its boxes with these and the setting of its own box for sizes (10.1). What its
+-- placement is given is of lay_placement and of lay_table.
 use Rattle.std.specs.Prelude.{List}
 use Rattle.lay_units.specs.Units.{IsPosition}
 use Rattle.lay_boxgen.specs.declared.box_tree.BoxNode.{BoxNode}
@@ -8,6 +8,8 @@ use Rattle.lay_face.specs.FaceValue.{FaceValue}
 use Rattle.lay_measure.specs.declared.preferred_widths.PreferredWidths.{PreferredWidths}
 use Rattle.lay_sizes.specs.declared.sizing.ContainingBlock.{ContainingBlock}
 use Rattle.lay_context_boxes.specs.ContextBoxes.{AreContextBoxes}
+use Rattle.lay_context.specs.declared.setting.Setting.{Setting}
+use Rattle.lay_context.specs.declared.setting.Setting.TheVariants.{Block, Cell}
 
 pub record MeasureInput : Type 0 where
   pub boxes : List BoxNode
@@ -17,8 +19,13 @@ pub record MeasureInput : Type 0 where
 pub record SizeInput : Type 0 where
   pub boxes : List BoxNode
   pub widths : PreferredWidths
-  pub containing : ContainingBlock
+  pub setting : Setting
+
+-- the containing block of an own box (10.1)
+abbrev pub containing_block_in : Setting → ContainingBlock
+containing_block_in (Block containing) = containing
+containing_block_in (Cell containing cell) = containing
 
 pub record SizeInputFits (i : SizeInput) : Type 0 where
   pub boxes : AreContextBoxes i.boxes
-  pub containing : IsPosition i.containing.width.0
+  pub containing : IsPosition (containing_block_in i.setting).width.0

@@ -3,34 +3,30 @@
 use Rattle.std.specs.Prelude.{ℕ, ◌≡◌, ◌<◌, List, length}
 use Rattle.lay_doc.specs.Document.{Document, IsDocument}
 use Rattle.lay_frag.specs.Pieces.{Context as PageContext}
-use Rattle.lay_boxgen.specs.declared.box_tree.BoxNode.{BoxNode}
 use Rattle.lay_face.specs.FaceValue.{FaceValue}
 use Rattle.lay_measure.specs.declared.preferred_widths.PreferredWidths.{PreferredWidths}
-use Rattle.lay_sizes.specs.declared.sizing.BoxSizes.{BoxSizes}
-use Rattle.lay_sizes.specs.declared.sizing.ContainingBlock.{ContainingBlock}
-use Rattle.lay_context.specs.declared.task.Task.{Task}
 use Rattle.lay_context_boxes.specs.ContextBoxes.{AreContextBoxes}
-use Rattle.lay_contexts.specs.Contexts.{Context, AreContexts}
-use Rattle.lay_context.specs.Medium.{Medium}
+use Rattle.lay_formatting.specs.FormattingContexts.{FormattingContext, AreFormattingContexts}
+use Rattle.lay_context.specs.declared.task.Task.{Task}
+use Rattle.lay_context.specs.ContextSizes.{SizedContext, HasSizes}
 use Rattle.lay_context.specs.ContextWidths.{HasWidths}
-use Rattle.lay_context.specs.ContextSizes.{HasSizes}
-use Rattle.lay_context.specs.Needs.{Needs, task_at, turns_of}
+use Rattle.lay_context.specs.Inputs.{MeasureInput, SizeInput}
 use Rattle.lay_context.specs.Local.{Workings, input_of, value_of}
+use Rattle.lay_context.specs.Medium.{Medium}
+use Rattle.lay_context.specs.Needs.{Needs, task_at, turns_of}
 use Rattle.lay_context.specs.Solves.{Solves}
 
--- beside the preferred widths of the contexts inside it a context has one pair of them in a face
+-- beside what it is given a formatting context has one pair of preferred widths
 abbrev pub OneContextWidths : Type 0
-OneContextWidths = (face : FaceValue) (boxes : List BoxNode) (inner : List PreferredWidths) (v w : PreferredWidths)
-    → HasWidths face boxes inner v → HasWidths face boxes inner w → v ≡ w
+OneContextWidths = (i : MeasureInput) (v w : PreferredWidths) → HasWidths i v → HasWidths i w → v ≡ w
 
--- the boxes of a context have one column of used sizes
+-- the boxes of a formatting context have one column of used sizes
 abbrev pub OneContextSizes : Type 0
-OneContextSizes = (outer : ContainingBlock) (w : PreferredWidths) (boxes : List BoxNode) (x y : List BoxSizes) → AreContextBoxes boxes
-    → HasSizes outer w boxes x → HasSizes outer w boxes y → x ≡ y
+OneContextSizes = (i : SizeInput) (x y : SizedContext) → AreContextBoxes i.boxes → HasSizes i x → HasSizes i y → x ≡ y
 
 -- where the values that a task needs are equal, it is given the same
 abbrev pub InputsComeOfNeeds : Type 0
-InputsComeOfNeeds = (medium : Medium) (contexts : List Context) (v w : Workings) (task : Task)
+InputsComeOfNeeds = (medium : Medium) (contexts : List FormattingContext) (v w : Workings) (task : Task)
     → ((needed : Task) → Needs contexts task needed → value_of v needed ≡ value_of w needed)
     → input_of medium contexts v task ≡ input_of medium contexts w task
 
@@ -41,8 +37,9 @@ pub record HadTurn (n before : ℕ) (task : Task) : Type 0 where
   pub is : task_at n turn ≡ task
 
 abbrev pub NeedsComeFirst : Type 0
-NeedsComeFirst = (contexts : List Context) (turn : ℕ) (needed : Task) → AreContexts contexts → turn < turns_of (length contexts)
-    → Needs contexts (task_at (length contexts) turn) needed → HadTurn (length contexts) turn needed
+NeedsComeFirst = (contexts : List FormattingContext) (turn : ℕ) (needed : Task) → AreFormattingContexts contexts
+    → turn < turns_of (length contexts) → Needs contexts (task_at (length contexts) turn) needed
+    → HadTurn (length contexts) turn needed
 
 -- two trees that solve one document in one face are equal
 abbrev pub OneSolution : Type 0

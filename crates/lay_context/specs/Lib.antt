@@ -1,10 +1,15 @@
 pub mod ContextSizes
 pub mod ContextWidths
 pub mod DocumentLayout
+pub mod FlowSizes
 pub mod Inputs
 pub mod Laws
 pub mod Local
 pub mod Medium
 pub mod Needs
+pub mod OwnHeights
+pub mod PageCorners
+pub mod Settings
 pub mod Settling
 pub mod Solves
+pub mod TableContexts

@@ -1,8 +1,15 @@
--- One task of a layout by itself: what it is given, and which values are right beside that (CSS 2.2, chapters 8 to 10). What is
--- given is plain data, in which no document and no number of a context stands, and the value is its answer to that alone.
-use Rattle.std.specs.Prelude.{ℕ, List, slice_set}
+-- One task of a layout by itself: what it is given, and which values are right beside that (CSS 2.2, chapters 8 to 10 and 17). What
+-- is given is plain data, in which no document and no number of a formatting context stands, and the value is its answer to that
+-- alone.
+use Rattle.std.specs.Prelude.{ℕ, ◌≡◌, List, length, slice_set, Option, None, Some, option_map}
 use Rattle.lay_measure.specs.declared.preferred_widths.PreferredWidths.{PreferredWidths}
-use Rattle.lay_sizes.specs.declared.sizing.BoxSizes.{BoxSizes}
+use Rattle.lay_table_sizes.specs.TableSizesValue.{TableSizesValue}
+use Rattle.lay_formatting.specs.FormattingContexts.{FormattingContext, boxes_in}
+use Rattle.lay_pieces.specs.Placements.{Placement}
+use Rattle.lay_flow_boxes.specs.PlaceInputs.{PlaceInput}
+use Rattle.lay_placement.specs.ContextPlacements.{IsPlacement}
+use Rattle.lay_table.specs.TableInputs.{TableInput}
+use Rattle.lay_table.specs.TablePlacements.{IsTablePlacement}
 use Rattle.lay_context.specs.declared.task.Phase.{Phase}
 use Rattle.lay_context.specs.declared.task.Phase.TheVariants as phase
 use Rattle.lay_context.specs.declared.task.Task.{Task}
@@ -10,45 +17,81 @@ use Rattle.lay_context.specs.declared.input.Input.{Input}
 use Rattle.lay_context.specs.declared.input.Input.TheVariants as input
 use Rattle.lay_context.specs.declared.value.Value.{Value}
 use Rattle.lay_context.specs.declared.value.Value.TheVariants as value
-use Rattle.lay_contexts.specs.Contexts.{Context, boxes_in}
-use Rattle.lay_context.specs.Medium.{Medium}
+use Rattle.lay_context.specs.ContextSizes.{SizedContext, HasSizes}
 use Rattle.lay_context.specs.ContextWidths.{HasWidths}
-use Rattle.lay_context.specs.ContextSizes.{HasSizes}
-use Rattle.lay_placement.specs.ContextPlaces.{Placement, IsPlacement}
-use Rattle.lay_context.specs.DocumentLayout.{inner_boxes, inner_widths, outer_block, placement_in, sizes_in, widths_in}
+use Rattle.lay_context.specs.DocumentLayout.{inner_boxes, inner_pieces, inner_widths, placement_in, widths_in}
+use Rattle.lay_context.specs.Inputs.{MeasureInput, SizeInput}
+use Rattle.lay_context.specs.Medium.{Medium}
+use Rattle.lay_context.specs.OwnHeights.{own_height_rule}
+use Rattle.lay_context.specs.Settings.{setting_of, sizes_in}
 
 -- a value is right beside what its task is given
 abbrev pub IsLocal : Input → Value → Type 0
-IsLocal (input.Measure i) (value.Measure widths) = HasWidths i.face i.boxes i.inner widths
-IsLocal (input.Size i) (value.Size sizes) = HasSizes i.containing i.widths i.boxes sizes
-IsLocal (input.Place i) (value.Place answer) = IsPlacement i.face i.boxes i.sizes i.inner answer
+IsLocal (input.Measure i) (value.Measure widths) = HasWidths i widths
+IsLocal (input.Size i) (value.Size sizes) = HasSizes i sizes
+IsLocal (input.Place i) (value.Place answer) = IsPlacement i answer
+IsLocal (input.PlaceTable i) (value.Place answer) = IsTablePlacement i answer
 IsLocal _ _ = ⊥
 
--- columns of values, with one for each context
+-- columns of values, with one for each formatting context
 pub record Workings : Type 0 where
   pub widths : List PreferredWidths
-  pub sizes : List (List BoxSizes)
+  pub sizes : List SizedContext
   pub places : List Placement
 
-abbrev pub input_by : Medium → List Context → Workings → Phase → ℕ → Input
-input_by medium contexts w phase.Measure i =
-    input.Measure (record { boxes = boxes_in contexts i; inner = inner_widths contexts w.widths i; face = medium.face })
-input_by medium contexts w phase.Size i =
-    input.Size (record {
-      boxes = boxes_in contexts i;
-      widths = widths_in w.widths i;
-      containing = outer_block medium.viewport contexts w.sizes i;
-    })
-input_by medium contexts w phase.Place i =
-    input.Place (record {
-      boxes = boxes_in contexts i;
-      sizes = sizes_in w.sizes i;
-      inner = inner_boxes contexts w.places i;
-      face = medium.face;
-    })
+-- there are as many of each
+pub record HasCounts (contexts : List FormattingContext) (w : Workings) : Type 0 where
+  pub widths : length w.widths ≡ length contexts
+  pub sizes : length w.sizes ≡ length contexts
+  pub places : length w.places ≡ length contexts
+
+abbrev pub measure_input : Medium → List FormattingContext → Workings → ℕ → MeasureInput
+measure_input medium contexts w i =
+    record { boxes = boxes_in contexts i; inner = inner_widths contexts w.widths i; face = medium.face }
+
+abbrev pub size_input : Medium → List FormattingContext → Workings → ℕ → SizeInput
+size_input medium contexts w i = record {
+  boxes = boxes_in contexts i;
+  widths = widths_in w.widths i;
+  setting = setting_of medium.viewport contexts w.sizes i;
+}
+
+-- what the placement of boxes in block flow is given
+abbrev pub flow_input : Medium → List FormattingContext → Workings → ℕ → PlaceInput
+flow_input medium contexts w i = record {
+  boxes = boxes_in contexts i;
+  sizes = (sizes_in w.sizes i).boxes;
+  inner = inner_boxes contexts w.places i;
+  pieces = inner_pieces contexts w.places i;
+  own_height = own_height_rule (boxes_in contexts i) (sizes_in w.sizes i).boxes;
+  face = medium.face;
+}
+
+-- and that of a table
+abbrev pub table_input : List FormattingContext → Workings → ℕ → TableSizesValue → TableInput
+table_input contexts w i table = record {
+  boxes = boxes_in contexts i;
+  sizes = (sizes_in w.sizes i).boxes;
+  table = table;
+  inner = inner_boxes contexts w.places i;
+  pieces = inner_pieces contexts w.places i;
+}
+
+abbrev pub place_as : PlaceInput → Option TableInput → Input
+place_as flow None = input.Place flow
+place_as flow (Some table) = input.PlaceTable table
+
+abbrev pub place_input : Medium → List FormattingContext → Workings → ℕ → Input
+place_input medium contexts w i =
+    place_as (flow_input medium contexts w i) (option_map (table_input contexts w i) (sizes_in w.sizes i).table)
+
+abbrev pub input_by : Medium → List FormattingContext → Workings → Phase → ℕ → Input
+input_by medium contexts w phase.Measure i = input.Measure (measure_input medium contexts w i)
+input_by medium contexts w phase.Size i = input.Size (size_input medium contexts w i)
+input_by medium contexts w phase.Place i = place_input medium contexts w i
 
 -- what a task is given, from these values
-abbrev pub input_of : Medium → List Context → Workings → Task → Input
+abbrev pub input_of : Medium → List FormattingContext → Workings → Task → Input
 input_of medium contexts w task = input_by medium contexts w task.phase task.context
 
 abbrev pub value_by : Workings → Phase → ℕ → Value
@@ -60,12 +103,12 @@ value_by w phase.Place i = value.Place (placement_in w.places i)
 abbrev pub value_of : Workings → Task → Value
 value_of w task = value_by w task.phase task.context
 
--- these values with another one for a context
+-- these values with another one for a formatting context
 abbrev pub with_value : Workings → ℕ → Value → Workings
 with_value w i (value.Measure widths) = record { widths = slice_set w.widths i widths; sizes = w.sizes; places = w.places }
 with_value w i (value.Size sizes) = record { widths = w.widths; sizes = slice_set w.sizes i sizes; places = w.places }
 with_value w i (value.Place answer) = record { widths = w.widths; sizes = w.sizes; places = slice_set w.places i answer }
 
 -- the value of this task is right beside what the others give it
-abbrev pub IsTaskDone : Medium → List Context → Workings → Task → Type 0
+abbrev pub IsTaskDone : Medium → List FormattingContext → Workings → Task → Type 0
 IsTaskDone medium contexts w task = IsLocal (input_of medium contexts w task) (value_of w task)

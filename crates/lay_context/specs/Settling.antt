@@ -1,40 +1,42 @@
 -- What the loop over tasks keeps: the tasks that had their turn are done, and so what the next one needs is there.
-use Rattle.std.specs.Prelude.{ℕ, ◌≡◌, ◌<◌, List, length}
+use Rattle.std.specs.Prelude.{ℕ, ◌≡◌, ◌<◌, List, length, IfSome}
+use Rattle.lay_boxgen.specs.declared.box_tree.BoxNode.{BoxNode}
+use Rattle.lay_table_grid.specs.GridBounds.{PlacesAreBelow}
+use Rattle.lay_formatting.specs.FormattingContexts.{FormattingContext, boxes_in}
 use Rattle.lay_context.specs.declared.task.Phase.TheVariants.{Size}
 use Rattle.lay_context.specs.declared.task.Task.{Task}
 use Rattle.lay_context.specs.declared.value.Value.{Value}
-use Rattle.lay_contexts.specs.Contexts.{Context, boxes_in}
+use Rattle.lay_context.specs.ContextSizes.{SizedContext}
+use Rattle.lay_context.specs.DocumentLayout.{placement_in}
+use Rattle.lay_context.specs.Local.{HasCounts, Workings, IsLocal, IsTaskDone, input_of, with_value}
 use Rattle.lay_context.specs.Medium.{Medium}
-use Rattle.lay_context.specs.DocumentLayout.{sizes_in, placement_in}
 use Rattle.lay_context.specs.Needs.{Needs, task_at}
-use Rattle.lay_context.specs.Local.{Workings, IsLocal, IsTaskDone, input_of, with_value}
+use Rattle.lay_context.specs.Settings.{sizes_in}
 
--- each context has a value of each phase, known or not
-pub record HasCounts (contexts : List Context) (w : Workings) : Type 0 where
-  pub widths : length w.widths ≡ length contexts
-  pub sizes : length w.sizes ≡ length contexts
-  pub places : length w.places ≡ length contexts
+-- the sizes of a formatting context are of its boxes: there are as many, and the boxes of a table's grid are some of them
+pub record AreOfBoxes (boxes : List BoxNode) (sized : SizedContext) : Type 0 where
+  pub count : length sized.boxes ≡ length boxes
+  pub grid : IfSome sized.table (λ table. PlacesAreBelow (length boxes) table.grid)
 
--- the columns that a task reads are as long as the boxes that they are of
-pub record IsReady (contexts : List Context) (w : Workings) (task : Task) : Type 0 where
+-- the sizes that a task reads are of the boxes that they are beside
+pub record IsReady (contexts : List FormattingContext) (w : Workings) (task : Task) : Type 0 where
   pub within : task.context < length contexts
   pub counts : HasCounts contexts w
-  pub sized : (j : ℕ) → Needs contexts task (record { context = j; phase = Size })
-      → length (sizes_in w.sizes j) ≡ length (boxes_in contexts j)
+  pub sized : (j : ℕ) → Needs contexts task (record { context = j; phase = Size }) → AreOfBoxes (boxes_in contexts j) (sizes_in w.sizes j)
 
 -- the tasks before this turn are done
-pub record AreDoneTo (medium : Medium) (contexts : List Context) (w : Workings) (turn : ℕ) : Type 0 where
+pub record AreDoneTo (medium : Medium) (contexts : List FormattingContext) (w : Workings) (turn : ℕ) : Type 0 where
   pub counts : HasCounts contexts w
   pub done : (t : ℕ) → t < turn → IsTaskDone medium contexts w (task_at (length contexts) t)
 
 -- a task has been given a value that is right beside the others
-pub record IsSettled (medium : Medium) (contexts : List Context) (before : Workings) (task : Task) (after : Workings) : Type 0 where
+pub record IsSettled (medium : Medium) (contexts : List FormattingContext) (before : Workings) (task : Task) (after : Workings) : Type 0 where
   pub value : Value
   pub local : IsLocal (input_of medium contexts before task) value
   pub noted : after ≡ with_value before task.context value
 
 -- the columns that a tree is put together of are as long as the boxes that they are of
-pub record AreKnown (contexts : List Context) (w : Workings) : Type 0 where
+pub record AreKnown (contexts : List FormattingContext) (w : Workings) : Type 0 where
   pub counts : HasCounts contexts w
-  pub sized : (i : ℕ) → i < length contexts → length (sizes_in w.sizes i) ≡ length (boxes_in contexts i)
-  pub cornered : (i : ℕ) → i < length contexts → length (placement_in w.places i).corners ≡ length (boxes_in contexts i)
+  pub sized : (i : ℕ) → i < length contexts → length (sizes_in w.sizes i).boxes ≡ length (boxes_in contexts i)
+  pub standing : (i : ℕ) → i < length contexts → length (placement_in w.places i).standings ≡ length (boxes_in contexts i)

@@ -1,73 +1,88 @@
--- What it means that a tree solves a document: there are workings, a column of a value per context for each quantity, that
--- meet their equations, and the tree's rectangles are theirs. They are computed styles (CSS 2.2, 6.1), the contexts and the
--- boxes that they generate (9.2 and 9.4.1), preferred widths, each context's beside those of the contexts inside it (10.3.5), used
--- sizes, each beside the containing block that the context around gives (10.1 to 10.5), the placement of each context beside those
--- inside it (8.3.1, 9.4.1, 9.5 and 10.6), and the places of contexts on the page. A document whose root generates no box has the tree without contexts.
-use Rattle.std.specs.Prelude.{ℕ, ◌≡◌, ◌<◌, List, length, slice_get, slice_index, Some}
+-- What it means that a tree solves a document: there are workings, a column of a value per formatting context for each quantity,
+-- that meet their equations, and the tree's rectangles are theirs. They are computed styles (CSS 2.2, 6.1), the contexts and the
+-- boxes that they generate (9.2 and 9.4.1), the formatting contexts of these, with those of anonymous tables and cells (17.2.1),
+-- preferred widths, each one's beside those of the ones inside it (10.3.5, 17.5.2), used sizes, each beside the containing block
+-- that the one around gives (10.1 to 10.5, 17.5.2), the placement of each beside those inside it (8.3.1, 9.4, 9.5, 10.6, 17.5.3),
+-- and where they stand on the page. `Local` says of each value what it is right beside. A document whose root generates no box has
+-- the tree without contexts.
+use Rattle.std.specs.Prelude.{ℕ, zero, suc, ◌≡◌, ◌<◌, Bool, true, false, List, [], ◌∷◌, ◌++◌, length, slice_index, Option, None, Some}
+use Rattle.lay_units.specs.declared.length.Unit.{Unit as Length}
 use Rattle.lay_units.specs.declared.records.Len.TheVariants.{Of as of}
 use Rattle.lay_units.specs.declared.records.Rect.{Rect}
 use Rattle.lay_style.specs.declared.style.Style.{Style}
 use Rattle.lay_style.specs.LengthValues.{px}
 use Rattle.lay_style.specs.ComputedStyle.{HasStyles}
 use Rattle.lay_doc.specs.Document.{Document, parents_of, declarations_of}
-use Rattle.lay_boxgen.specs.declared.box_tree.BoxNode.{BoxNode}
 use Rattle.lay_boxgen.specs.BoxColumns.{box_ids}
 use Rattle.lay_face.specs.FaceValue.{FaceValue}
 use Rattle.lay_frag.specs.Pieces.{Context as PageContext}
-use Rattle.lay_sizes.specs.UsedLengths.{no_length}
-use Rattle.lay_measure.specs.declared.preferred_widths.PreferredWidths.{PreferredWidths}
-use Rattle.lay_sizes.specs.declared.sizing.BoxSizes.{BoxSizes}
+use Rattle.lay_sizes.specs.declared.own_boxes.OwnBox.{OwnBox}
 use Rattle.lay_sizes.specs.declared.sizing.ContainingBlock.{ContainingBlock}
-use Rattle.lay_placement.specs.declared.corner.Corner.{Corner}
-use Rattle.lay_contexts.specs.Contexts.{Context, boxes_in}
-use Rattle.lay_context.specs.Medium.{Medium}
+use Rattle.lay_contexts.specs.Contexts.{Context}
 use Rattle.lay_contexts.specs.ContextList.{AreContextsOf}
-use Rattle.lay_context.specs.ContextWidths.{HasWidths}
-use Rattle.lay_context.specs.ContextSizes.{HasSizes}
-use Rattle.lay_placement.specs.ContextPlaces.{Placement, IsPlacement}
-use Rattle.lay_context.specs.DocumentLayout.{HasPageCorners, inner_boxes, outer_block, sizes_in, placement_in, inner_widths, widths_in}
-use Rattle.lay_placement.specs.ContextPlaces.{corner_at}
+use Rattle.lay_formatting.specs.FormattingContexts.{FormattingContext, boxes_in, formatting_context_at}
+use Rattle.lay_formatting.specs.FormattingContextList.{AreFormattingContextsOf}
+use Rattle.lay_table_sizes.specs.declared.cell_size.CellSize.{CellSize}
+use Rattle.lay_pieces.specs.declared.corner.Corner.{Corner}
+use Rattle.lay_pieces.specs.declared.standing.Standing.{Standing}
+use Rattle.lay_pieces.specs.Corners.{corner_at}
+use Rattle.lay_pieces.specs.Placements.{Placement}
+use Rattle.lay_context.specs.declared.task.Task.{Task}
+use Rattle.lay_context.specs.DocumentLayout.{placement_in}
+use Rattle.lay_context.specs.Local.{HasCounts, IsTaskDone, Workings}
+use Rattle.lay_context.specs.Medium.{Medium}
+use Rattle.lay_context.specs.PageCorners.{HasPageCorners, root_corner_of, standing_of}
+use Rattle.lay_context.specs.Settings.{cell_of, sizes_in}
 
--- the border box of a context whose corner on the page this is
-abbrev pub own_rect : Placement → Corner → Rect
-own_rect p corner = record { x = corner.x; y = corner.y; w = p.own.width; h = p.own.height }
+-- A cell is as wide as its columns, also where these are narrower than its borders and paddings (17.5.2.1). Others are as wide as
+-- they laid themselves out.
+abbrev pub page_width : Option CellSize → OwnBox → Length
+page_width None own = own.width
+page_width (Some cell) own = cell.width
 
--- a context of a tree: its own border box on the page, and its pieces
-abbrev pub context_of : List BoxNode → Placement → Corner → PageContext
-context_of boxes p corner = record {
-  node = record { 0 = slice_index (box_ids boxes) 0 };
-  rect = own_rect p corner;
-  shift = no_length;
-  pieces = p.pieces;
+-- the border box of the formatting context with the number i on the page, as high as it stands outside, since a cell is stretched to
+-- its rows (17.5.3)
+abbrev pub page_rect : List FormattingContext → Workings → List Corner → ℕ → Rect
+page_rect contexts w corners i = record {
+  x = (corner_at corners i).x;
+  y = (corner_at corners i).y;
+  w = page_width (cell_of contexts w.sizes i) (placement_in w.places i).own;
+  h = (standing_of contexts w.places i).height;
 }
 
--- the tree has these contexts, in their order
-pub record IsTreeOf (contexts : List Context) (places : List Placement) (corners : List Corner) (tree : List PageContext) : Type 0 where
-  pub count : length tree ≡ length contexts
-  pub each : (i : ℕ) → i < length contexts
-      → slice_get tree i ≡ Some (context_of (boxes_in contexts i) (placement_in places i) (corner_at corners i))
+-- it as a context of a tree: its node, that border box, how far what is in it is moved down, and its pieces
+abbrev pub page_context : List FormattingContext → Workings → List Corner → ℕ → PageContext
+page_context contexts w corners i = record {
+  node = record { 0 = slice_index (box_ids (boxes_in contexts i)) 0 };
+  rect = page_rect contexts w corners i;
+  shift = (standing_of contexts w.places i).shift;
+  pieces = (placement_in w.places i).pieces;
+}
 
--- the tree is put together of the values of these contexts, each where it stands on the page
-pub record IsAssembled (viewport : ContainingBlock) (contexts : List Context) (sizes : List (List BoxSizes)) (places : List Placement) (tree : List PageContext) : Type 0 where
+-- an anonymous formatting context is none of a tree, since the one around paints it
+abbrev pub listed : (is_anonymous : Bool) → PageContext → List PageContext
+listed true c = []
+listed false c = c ∷ []
+
+-- the contexts of the first n
+abbrev pub page_contexts : List FormattingContext → Workings → List Corner → (n : ℕ) → List PageContext
+page_contexts contexts w corners zero = []
+page_contexts contexts w corners (suc n) =
+    page_contexts contexts w corners n
+    ++ listed (formatting_context_at contexts n).anonymous (page_context contexts w corners n)
+
+-- the tree is put together of these values, each where it stands on the page
+pub record IsAssembled (viewport : ContainingBlock) (contexts : List FormattingContext) (w : Workings) (tree : List PageContext) : Type 0 where
   pub corners : List Corner
-  pub has_corners : HasPageCorners viewport contexts sizes places corners
-  pub tree_is : IsTreeOf contexts places corners tree
+  pub has_corners : HasPageCorners (root_corner_of viewport contexts (sizes_in w.sizes 0).boxes) contexts w.places corners
+  pub tree_is : tree ≡ page_contexts contexts w corners (length contexts)
 
--- the tree of these contexts, on a medium, has the rectangles of workings that meet their equations
-pub record SolvesContexts (medium : Medium) (contexts : List Context) (tree : List PageContext) : Type 0 where
-  pub widths : List PreferredWidths
-  pub sizes : List (List BoxSizes)
-  pub places : List Placement
-  pub width_count : length widths ≡ length contexts
-  pub size_count : length sizes ≡ length contexts
-  pub place_count : length places ≡ length contexts
-  pub has_widths : (i : ℕ) → i < length contexts
-      → HasWidths medium.face (boxes_in contexts i) (inner_widths contexts widths i) (widths_in widths i)
-  pub has_sizes : (i : ℕ) → i < length contexts
-      → HasSizes (outer_block medium.viewport contexts sizes i) (widths_in widths i) (boxes_in contexts i) (sizes_in sizes i)
-  pub has_places : (i : ℕ) → i < length contexts
-      → IsPlacement medium.face (boxes_in contexts i) (sizes_in sizes i) (inner_boxes contexts places i) (placement_in places i)
-  pub assembled : IsAssembled medium.viewport contexts sizes places tree
+-- the tree of these formatting contexts, on a medium, has the rectangles of workings that meet their equations
+pub record SolvesContexts (medium : Medium) (contexts : List FormattingContext) (tree : List PageContext) : Type 0 where
+  pub workings : Workings
+  pub counts : HasCounts contexts workings
+  pub done : (task : Task) → task.context < length contexts → IsTaskDone medium contexts workings task
+  pub assembled : IsAssembled medium.viewport contexts workings tree
 
 -- the viewport as the root's containing block (10.1)
 abbrev pub viewport_of : Document → ContainingBlock
@@ -83,4 +98,6 @@ pub record Solves (d : Document) (face : FaceValue) (tree : List PageContext) : 
   pub has_styles : HasStyles (parents_of d.nodes) (declarations_of d.nodes) styles
   pub contexts : List Context
   pub are_contexts : AreContextsOf d.nodes styles contexts
-  pub solves_contexts : SolvesContexts (medium_of d face) contexts tree
+  pub formatting_contexts : List FormattingContext
+  pub are_formatting_contexts : AreFormattingContextsOf contexts formatting_contexts
+  pub solves_contexts : SolvesContexts (medium_of d face) formatting_contexts tree

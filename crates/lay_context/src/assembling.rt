@@ -1,64 +1,66 @@
-//! The tree of a document, put together of the values of its contexts.
+//! The tree of a document, put together of the values of its formatting contexts.
 
 ghost use Rattle.std.specs.Prelude.{◌≡◌, ◌+◌, ◌^◌, ◌<◌, ◌≤◌, length, IfOk};
 ghost use Rattle.lay_units.specs.Units.{IsUsedSize};
 ghost use Rattle.lay_frag.specs.Pieces.{IsContextInRange};
-ghost use Rattle.lay_contexts.specs.Contexts.{boxes_in};
-ghost use Rattle.lay_placement.specs.ContextPlaces.{corner_at};
-ghost use Rattle.lay_context.specs.DocumentLayout.{placement_in};
-ghost use Rattle.lay_placement.specs.PlaceBounds.{AreNearCorners, IsCornerNear};
+ghost use Rattle.lay_sizes.specs.OwnBoxes.{OwnBoxFits};
+ghost use Rattle.lay_table_sizes.specs.TableSizesValue.{MayFit};
+ghost use Rattle.lay_pieces.specs.Corners.{AreNearCorners, IsNear};
+ghost use Rattle.lay_pieces.specs.NearPieces.{IsRectNear};
 ghost use Rattle.lay_context.specs.Settling.{AreKnown};
-ghost use Rattle.lay_context.specs.Solves.{IsAssembled, IsTreeOf, context_of, own_rect};
+ghost use Rattle.lay_context.specs.Solves.{IsAssembled, page_context, page_contexts, page_rect, page_width};
 
 use crate::known::Known;
-use crate::page_corners::{corner_at, page_corners};
-use lay_boxgen::BoxNode;
-use lay_contexts::Contexts;
+use crate::page_corners::{corner_at, page_corners, standing_of};
+use crate::settings::cell_of;
+use lay_formatting::FormattingContexts;
 use lay_frag::{Placed, Tree};
-use lay_placement::{Corner, Placement};
-use lay_sizes::ContainingBlock;
+use lay_pieces::Corner;
+use lay_sizes::{ContainingBlock, OwnBox};
+use lay_table_sizes::CellSize;
 use lay_units::{NoMemory, Rect, Unit};
 use std::alloc::Global;
 
 /// More pieces than a report can number.
 const TOO_MANY_PIECES: usize = 4294967296;
 
-/// The tree of these contexts, whose values are known.
+/// The tree of these formatting contexts, whose values are known.
 pub(crate) fn assemble(
     alloc: Global,
     viewport: ContainingBlock,
-    contexts: &Contexts,
+    contexts: &FormattingContexts,
     known: &Known,
 ) -> Result<Tree, NoMemory>
     requires viewport { IsUsedSize viewport.width.0 }
     requires known { AreKnown contexts.now known.now }
-    ensures { IfOk result (IsAssembled viewport contexts.now known.now.sizes known.now.places) }
+    ensures { IfOk result (IsAssembled viewport contexts.now known.now) }
 {
     let corners = page_corners(alloc, viewport, contexts, known)?;
     tree_of(alloc, contexts, known, &corners)
 }
 
-/// The tree of these contexts, whose corners on the page are known. NoMemory is also the answer for 2^32 pieces or
-/// more.
+/// The tree of these formatting contexts, whose corners on the page are known. NoMemory is also the answer for 2^32
+/// pieces or more.
 fn tree_of(
     alloc: Global,
-    contexts: &Contexts,
+    contexts: &FormattingContexts,
     known: &Known,
     corners: &[Corner],
 ) -> Result<Tree, NoMemory>
-    requires places { length known.now.places ≡ length contexts.now }
+    requires known { AreKnown contexts.now known.now }
     requires corners { length corners.now ≡ length contexts.now }
     requires near { AreNearCorners corners.now }
-    ensures { IfOk result (IsTreeOf contexts.now known.now.places corners.now) }
+    ensures { IfOk result (λ t. t ≡ page_contexts contexts.now known.now corners.now (length contexts.now)) }
 {
     let count = contexts.len();
     let mut tree = Vec::with_capacity(alloc, count)?;
     let mut pieces = 0;
     for i in 0..count {
-        let boxes = contexts.at(i).boxes().as_slice();
-        let context = placed(boxes, known.placement(i), corner_at(corners, i))?;
-        pieces = with_few(pieces, &context)?;
-        tree.push(context)?;
+        if !contexts.at(i).is_anonymous() {
+            let context = page_context(contexts, known, corners, i)?;
+            pieces = with_few(pieces, &context)?;
+            tree.push(context)?;
+        }
     }
     Ok(Tree::new(tree))
 }
@@ -77,28 +79,61 @@ fn with_few(before: usize, context: &Placed) -> Result<usize, NoMemory>
     Ok(count)
 }
 
-/// A context on the page, whose border box has this corner.
-fn placed(boxes: &[BoxNode], placement: &Placement, corner: Corner) -> Result<Placed, NoMemory>
-    requires some { 0 < length boxes.now }
-    requires near { IsCornerNear corner }
-    ensures value { IfOk result (λ c. c ≡ context_of boxes.now placement.now corner) }
+/// The formatting context with this number on the page.
+fn page_context(
+    contexts: &FormattingContexts,
+    known: &Known,
+    corners: &[Corner],
+    i: usize,
+) -> Result<Placed, NoMemory>
+    requires known { AreKnown contexts.now known.now }
+    requires within { i < length contexts.now }
+    requires corners { length corners.now ≡ length contexts.now }
+    requires near { AreNearCorners corners.now }
+    ensures value { IfOk result (λ c. c ≡ page_context contexts.now known.now corners.now i) }
     ensures range { IfOk result IsContextInRange }
     ensures few { IfOk result (λ c. length c.pieces ≤ 2147483648) }
 {
-    let rect = own_rect(placement, corner);
-    let pieces = placement.pieces()?;
-    Ok(Placed::new(boxes[0].node, rect, Unit(0), pieces))
+    let rect = page_rect(contexts, known, corners, i);
+    let shift = standing_of(contexts, known, i).shift;
+    let pieces = known.placement(i).pieces()?;
+    let boxes = contexts.at(i).boxes().as_slice();
+    Ok(Placed::new(boxes[0].node, rect, shift, pieces))
 }
 
-/// The border box of a context on the page.
-fn own_rect(placement: &Placement, corner: Corner) -> Rect
-    ensures { result ≡ own_rect placement.now corner }
+/// The border box of the formatting context with this number on the page.
+fn page_rect(
+    contexts: &FormattingContexts,
+    known: &Known,
+    corners: &[Corner],
+    i: usize,
+) -> Rect
+    requires known { AreKnown contexts.now known.now }
+    requires within { i < length contexts.now }
+    requires corners { length corners.now ≡ length contexts.now }
+    requires near { AreNearCorners corners.now }
+    ensures rect { result ≡ page_rect contexts.now known.now corners.now i }
+    ensures near { IsRectNear result }
 {
-    let own = placement.own();
+    let corner = corner_at(corners, i);
+    let own = known.placement(i).own();
     Rect {
         x: corner.x,
         y: corner.y,
-        w: own.width,
-        h: own.height,
+        w: page_width(cell_of(contexts, known, i), own),
+        h: standing_of(contexts, known, i).height,
+    }
+}
+
+/// A cell is as wide as its columns.
+fn page_width(cell: Option<CellSize>, own: OwnBox) -> Unit
+    requires cell { MayFit cell }
+    requires own { OwnBoxFits own }
+    ensures width { result ≡ page_width cell own }
+    ensures near { IsNear result.0 }
+{
+    match cell {
+        Some(cell) => cell.width,
+        None => own.width,
     }
 }

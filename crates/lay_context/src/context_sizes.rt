@@ -1,163 +1,61 @@
-//! The used sizes of the boxes of one context, from outer to inner boxes.
+//! The used sizes of one formatting context.
 
-ghost use Rattle.std.specs.Prelude.{◌≡◌, ◌<◌, ◌≤◌, true, false, length, slice_get, IfOk};
-ghost use Rattle.lay_units.specs.Units.{IsPosition};
-ghost use Rattle.lay_sizes.specs.SizeBounds.{SizeFits};
-ghost use Rattle.lay_context_boxes.specs.ContextBoxes.{is_inner};
-ghost use Rattle.lay_sizes.specs.SizeColumns.{HaveSizeBounds, no_sizes};
-ghost use Rattle.lay_context.specs.ContextSizes.{HasSizes, IsBoxSized, containing_block, floating_rule, own_rule, own_rule_of, rule_in_flow, width_rule};
+ghost use Rattle.std.specs.Prelude.{◌≡◌, true, IfOk, slice_get};
+ghost use Rattle.lay_context.specs.ContextSizes.{HasSizes, table_rule, table_rule_as};
+ghost use Rattle.lay_context.specs.TableContexts.{is_table};
 
+use crate::flow_sizes::flow_sizes;
 use crate::input::SizeInput;
-use lay_boxgen::{BoxKind, Flow};
-use lay_context_boxes::{ContextBoxes, block_around};
+use crate::sized_context::SizedContext;
+use crate::table_contexts::is_table;
+use lay_boxgen::{BoxKind, BoxNode, Flow};
 use lay_measure::PreferredWidths;
-use lay_placement::ContextSizes;
-use lay_sizes::{BoxSizes, ContainingBlock, NO_SIZES, NaturalSize, WidthRule, box_sizes};
-use lay_units::{NoMemory, Unit};
+use lay_table_sizes::{SizedTable, TableRule, table_sizes};
+use lay_pieces::ContextSizes;
+use lay_units::NoMemory;
 use std::alloc::Global;
 
-/// The used sizes of the boxes of a context.
-pub(crate) fn context_sizes(alloc: Global, input: &SizeInput) -> Result<ContextSizes, NoMemory>
-    ensures { IfOk result (HasSizes input.now.containing input.now.widths input.now.boxes) }
+/// The used sizes of a formatting context.
+pub(crate) fn context_sizes(alloc: Global, input: &SizeInput) -> Result<SizedContext, NoMemory>
+    ensures { IfOk result (HasSizes input.now) }
 {
-    let sizes = sizes_of(
-        alloc,
-        input.containing(),
-        input.widths(),
-        input.context_boxes(),
-    )?;
-    ContextSizes::new(alloc, sizes)
+    if is_table(input.boxes()) {
+        return sized_table(alloc, input);
+    }
+    let boxes = flow_sizes(alloc, input)?;
+    Ok(SizedContext::new(boxes, None))
 }
 
-/// The used sizes of these boxes, for the containing block and the preferred widths of the first one, which is the
-/// context's own.
-fn sizes_of(
-    alloc: Global,
-    outer: ContainingBlock,
-    widths: PreferredWidths,
-    boxes: &ContextBoxes,
-) -> Result<Vec<BoxSizes>, NoMemory>
-    requires outer { IsPosition outer.width.0 }
-    ensures sizes { IfOk result (λ v. HasSizes outer widths boxes.now v.items) }
-    ensures bounds { IfOk result (λ v. HaveSizeBounds v.items) }
+/// Those of a table.
+fn sized_table(alloc: Global, input: &SizeInput) -> Result<SizedContext, NoMemory>
+    requires { is_table input.now.boxes ≡ true }
+    ensures { IfOk result (HasSizes input.now) }
 {
-    let count = boxes.as_slice().len();
-    let mut sizes = Vec::with_capacity(alloc, count)?;
-    for k in 0..count {
-        let containing = containing_block(outer, boxes, &sizes, k);
-        sizes.push(sizes_beside(containing, widths, boxes, k))?;
-    }
-    Ok(sizes)
+    let boxes = input.boxes();
+    let rule = table_rule(input.widths(), boxes);
+    let sized = table_sizes(alloc, boxes, input.setting().containing(), rule)?;
+    let sizes = ContextSizes::new(alloc, sized.boxes)?;
+    Ok(SizedContext::new(sizes, Some(sized.table)))
 }
 
-/// The used sizes of the box at k beside its containing block.
-fn sizes_beside(
-    containing: ContainingBlock,
-    widths: PreferredWidths,
-    boxes: &ContextBoxes,
-    k: usize,
-) -> BoxSizes
-    requires place { k < length boxes.now }
-    requires containing { IsPosition containing.width.0 }
-    ensures each { is_inner boxes.now k ≡ false → IsBoxSized containing widths boxes.now k result }
-    ensures inner { is_inner boxes.now k ≡ true → result ≡ no_sizes }
-    ensures fits { SizeFits result }
+/// Which rule gives a table its width, where these are its preferred widths.
+fn table_rule(widths: PreferredWidths, boxes: &[BoxNode]) -> TableRule
+    ensures { result ≡ table_rule widths (slice_get boxes.now 0) }
 {
-    if boxes.is_inner(k) {
-        return NO_SIZES;
-    }
-    box_sizes(containing, width_rule(widths, boxes, k), boxes.style(k))
-}
-
-/// The containing block of the box at k, where the sizes of those before it are known.
-fn containing_block(
-    outer: ContainingBlock,
-    boxes: &ContextBoxes,
-    sizes: &[BoxSizes],
-    k: usize,
-) -> ContainingBlock
-    requires outer { IsPosition outer.width.0 }
-    requires place { k < length boxes.now }
-    requires known { k ≤ length sizes.now }
-    requires bounds { HaveSizeBounds sizes.now }
-    ensures block { result ≡ containing_block outer boxes.now sizes.now k }
-    ensures near { IsPosition result.width.0 }
-{
-    let _ = boxes.as_slice();
-    if k == 0 {
-        return outer;
-    }
-    block_around(boxes, sizes, k)
-}
-
-/// Which rule gives the box at k its width.
-fn width_rule(widths: PreferredWidths, boxes: &ContextBoxes, k: usize) -> WidthRule
-    requires { k < length boxes.now }
-    ensures { result ≡ width_rule widths boxes.now k }
-{
-    if k == 0 {
-        return own_rule_of(widths, boxes);
-    }
-    if boxes.role(k).is_inline_level() {
-        return WidthRule::Inline;
-    }
-    WidthRule::Fills
-}
-
-/// Which rule gives the context's own box its width, where these are its preferred widths.
-fn own_rule_of(widths: PreferredWidths, boxes: &ContextBoxes) -> WidthRule
-    ensures { result ≡ own_rule_of widths (slice_get boxes.now 0) }
-{
-    match boxes.as_slice().get(0) {
-        Some(node) => own_rule(widths, node.flow, &node.kind),
-        None => WidthRule::Fills,
+    match boxes.get(0) {
+        Some(node) => table_rule_as(widths, node.flow, &node.kind),
+        None => TableRule::Fills,
     }
 }
 
-fn own_rule(widths: PreferredWidths, flow: Flow, kind: &BoxKind) -> WidthRule
-    ensures { result ≡ own_rule widths flow kind.now }
+fn table_rule_as(widths: PreferredWidths, flow: Flow, kind: &BoxKind) -> TableRule
+    ensures { result ≡ table_rule_as widths flow kind.now }
 {
-    match flow {
-        Flow::Floating => floating_rule(widths, kind),
-        Flow::InFlow | Flow::Absolute => rule_in_flow(widths, kind),
+    match (flow, kind) {
+        (Flow::InFlow, BoxKind::Wrapper) => TableRule::Fills,
+        _ => TableRule::ShrinksToFit {
+            preferred_minimum: widths.minimum,
+            preferred: widths.preferred,
+        },
     }
-}
-
-fn rule_in_flow(widths: PreferredWidths, kind: &BoxKind) -> WidthRule
-    ensures { result ≡ rule_in_flow widths kind.now }
-{
-    match kind {
-        BoxKind::InlineBlock => shrinks_to_fit(widths),
-        BoxKind::Replaced { w, h, inline: true } => WidthRule::Replaced(natural_size(*w, *h)),
-        BoxKind::Replaced {
-            w,
-            h,
-            inline: false,
-        } => { WidthRule::ReplacedBlock(natural_size(*w, *h)) }
-        _ => WidthRule::Fills,
-    }
-}
-
-fn floating_rule(widths: PreferredWidths, kind: &BoxKind) -> WidthRule
-    ensures { result ≡ floating_rule widths kind.now }
-{
-    match kind {
-        BoxKind::Replaced { w, h, .. } => WidthRule::Replaced(natural_size(*w, *h)),
-        _ => shrinks_to_fit(widths),
-    }
-}
-
-fn shrinks_to_fit(widths: PreferredWidths) -> WidthRule
-    ensures { result ≡ WidthRule.ShrinksToFit widths.minimum widths.preferred }
-{
-    WidthRule::ShrinksToFit {
-        preferred_minimum: widths.minimum,
-        preferred: widths.preferred,
-    }
-}
-
-fn natural_size(width: Unit, height: Unit) -> NaturalSize
-    ensures { result ≡ record { width = width; height = height } }
-{
-    NaturalSize { width, height }
 }

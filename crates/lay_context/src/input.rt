@@ -4,12 +4,13 @@ ghost use Rattle.std.specs.Prelude.{◌≡◌};
 ghost use Rattle.lay_context_boxes.specs.ContextBoxes.{AreContextBoxes};
 ghost use Rattle.lay_context.specs.Inputs.{SizeInputFits};
 
+use crate::setting::Setting;
 use lay_boxgen::BoxNode;
 use lay_context_boxes::ContextBoxes;
 use lay_face::Face;
 use lay_measure::PreferredWidths;
-use lay_placement::PlaceInput;
-use lay_sizes::ContainingBlock;
+use lay_flow_boxes::PlaceInput;
+use lay_table::TableInput;
 use std::marker::Model;
 use std::sync::Arc;
 
@@ -19,9 +20,11 @@ pub enum Input {
     Measure(MeasureInput),
     Size(SizeInput),
     Place(PlaceInput),
+    PlaceTable(TableInput),
 }
 
-/// The boxes of a context, the preferred widths of inner contexts at the places of their boxes, and the face of texts.
+/// The boxes of a formatting context, the preferred widths of inner ones at the places of their boxes, and the face of
+/// texts.
 #[derive(Drop)]
 pub struct MeasureInput {
     boxes: ContextBoxes,
@@ -68,12 +71,12 @@ impl MeasureInput {
     }
 }
 
-/// The boxes of a context, its preferred widths, and the containing block of its own box.
+/// The boxes of a formatting context, its preferred widths, and the setting of its own box.
 #[derive(Drop)]
 pub struct SizeInput {
     boxes: ContextBoxes,
     widths: PreferredWidths,
-    containing: ContainingBlock,
+    setting: Setting,
 }
 
 impl Model for SizeInput {
@@ -81,24 +84,24 @@ impl Model for SizeInput {
 
     ghost Value = { Plain };
 
-    ghost view = { λ i. record { boxes = i.boxes; widths = i.widths; containing = i.containing } };
+    ghost view = { λ i. record { boxes = i.boxes; widths = i.widths; setting = i.setting } };
 
-    ghost invariant = { λ i. SizeInputFits (record { boxes = i.boxes; widths = i.widths; containing = i.containing }) };
+    ghost invariant = { λ i. SizeInputFits (record { boxes = i.boxes; widths = i.widths; setting = i.setting }) };
 }
 
 impl SizeInput {
     pub(crate) fn new(
         boxes: ContextBoxes,
         widths: PreferredWidths,
-        containing: ContainingBlock,
+        setting: Setting,
     ) -> SizeInput
-        requires { SizeInputFits (record { boxes = boxes; widths = widths; containing = containing }) }
-        ensures { result ≡ record { boxes = boxes; widths = widths; containing = containing } }
+        requires { SizeInputFits (record { boxes = boxes; widths = widths; setting = setting }) }
+        ensures { result ≡ record { boxes = boxes; widths = widths; setting = setting } }
     {
         SizeInput {
             boxes,
             widths,
-            containing,
+            setting,
         }
     }
 
@@ -110,6 +113,13 @@ impl SizeInput {
         &self.boxes
     }
 
+    pub(crate) fn boxes(&self) -> &[BoxNode]
+        ensures boxes { result.now ≡ self.now.boxes }
+        ensures fits { SizeInputFits self.now }
+    {
+        self.boxes.as_slice()
+    }
+
     /// Its preferred widths.
     pub(crate) fn widths(&self) -> PreferredWidths
         ensures { result ≡ self.now.widths }
@@ -117,9 +127,11 @@ impl SizeInput {
         self.widths
     }
 
-    pub(crate) fn containing(&self) -> ContainingBlock
-        ensures { result ≡ self.now.containing }
+    /// The setting of its own box.
+    pub(crate) fn setting(&self) -> Setting
+        ensures setting { result ≡ self.now.setting }
+        ensures fits { SizeInputFits self.now }
     {
-        self.containing
+        self.setting
     }
 }

@@ -3,15 +3,25 @@
 
 ghost use Rattle.lay_context.specs.Laws.{InputsComeOfNeeds, NeedsComeFirst, OneContextSizes, OneContextWidths, OneSolution};
 
-/// The preferred widths of a context are the only ones beside those of the contexts inside it.
+use lay_formatting::{formatting_contexts_stand_in_order, one_formatting_context_list};
+use lay_placement::one_placement;
+use lay_table::one_table_placement;
+use lay_table_sizes::{one_cell_sizes, one_table_sizes, one_table_widths};
+
+/// The preferred widths of a formatting context are the only ones beside what it is given.
 pub fn one_context_widths()
     ensures { OneContextWidths }
-{}
+{
+    one_table_widths();
+}
 
-/// The used sizes of the boxes of a context are the only ones beside its containing block.
+/// The used sizes of the boxes of a formatting context are the only ones beside what it is given.
 pub fn one_context_sizes()
     ensures { OneContextSizes }
-{}
+{
+    one_table_sizes();
+    one_cell_sizes();
+}
 
 /// A task is given nothing but what the tasks that it needs give it.
 pub fn inputs_come_of_needs()
@@ -26,4 +36,11 @@ pub fn needs_come_first()
 /// Two trees that solve one document are equal.
 pub fn one_solution()
     ensures { OneSolution }
-{}
+{
+    one_context_widths();
+    one_context_sizes();
+    one_placement();
+    one_table_placement();
+    one_formatting_context_list();
+    formatting_contexts_stand_in_order();
+}

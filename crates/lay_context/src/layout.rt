@@ -17,14 +17,17 @@ use crate::known::Known;
 use crate::medium::Medium;
 use crate::task::{Task, task_at};
 use crate::value::Value;
-use lay_contexts::{Contexts, contexts_of};
+use lay_contexts::contexts_of;
 use lay_doc::Doc;
 use lay_face::Face;
+use lay_formatting::{FormattingContexts, formatting_contexts};
 use lay_frag::Tree;
 use lay_inherit::computed;
 use lay_placement::placement;
 use lay_sizes::ContainingBlock;
 use lay_style::Computed;
+use lay_table::table_placement;
+use lay_table_grid::grids_are_of_boxes;
 use lay_units::{Len, NoMemory, Unit};
 use std::alloc::Global;
 use std::sync::Arc;
@@ -48,8 +51,9 @@ pub fn scratch_styled(
     ensures { IfOk result (Solves doc.now face.now.value) }
 {
     let contexts = contexts_of(alloc, doc, computed)?;
+    let formatting_contexts = formatting_contexts(alloc, &contexts)?;
     let medium = Medium::new(viewport_of(doc), face.clone()?);
-    lay_contexts(alloc, &medium, &contexts)
+    lay_contexts(alloc, &medium, &formatting_contexts)
 }
 
 /// The viewport as the root's containing block.
@@ -64,10 +68,15 @@ fn viewport_of(doc: &Doc) -> ContainingBlock
     }
 }
 
-/// The layout of these contexts: each task in its turn, and the tree put together of the values.
-fn lay_contexts(alloc: Global, medium: &Medium, contexts: &Contexts) -> Result<Tree, NoMemory>
+/// The layout of these formatting contexts: each task in its turn, and the tree put together of the values.
+fn lay_contexts(
+    alloc: Global,
+    medium: &Medium,
+    contexts: &FormattingContexts,
+) -> Result<Tree, NoMemory>
     ensures { IfOk result (SolvesContexts medium.now contexts.now) }
 {
+    grids_are_of_boxes();
     let count = contexts.len();
     let mut known = Known::new(alloc, count)?;
     for turn in 0..count + count + count {
@@ -81,7 +90,7 @@ fn lay_contexts(alloc: Global, medium: &Medium, contexts: &Contexts) -> Result<T
 fn settle(
     alloc: Global,
     medium: &Medium,
-    contexts: &Contexts,
+    contexts: &FormattingContexts,
     known: &mut Known,
     task: Task,
 ) -> Result<(), NoMemory>
@@ -102,5 +111,6 @@ fn compute(alloc: Global, input: &Input) -> Result<Value, NoMemory>
         Input::Measure(input) => Ok(Value::Measure(context_widths(alloc, input)?)),
         Input::Size(input) => Ok(Value::Size(context_sizes(alloc, input)?)),
         Input::Place(input) => Ok(Value::Place(placement(alloc, input)?)),
+        Input::PlaceTable(input) => Ok(Value::Place(table_placement(alloc, input)?)),
     }
 }

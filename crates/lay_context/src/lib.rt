@@ -1,24 +1,30 @@
-//! Layout of a document: the workings of its contexts, and the tree of which they are the rectangles.
+//! Layout of a document: the workings of its formatting contexts, and the tree of which they are the rectangles.
 //!
 //! `Solves` of `specs/Solves.antt` is the meaning of a layout: one set of equations over the whole document
-//! (CSS 2.2, chapters 8 to 10). A context owes three things: its preferred widths beside those of the contexts inside it
-//! (`specs/ContextWidths.antt`), the used sizes of its boxes beside these and its containing block
-//! (`specs/ContextSizes.antt`), and a placement beside those and the own boxes of the contexts inside it
-//! (lay_placement). Which of these needs which is the table of `specs/Needs.antt`, and one of them by
-//! itself is `specs/Local.antt`. So far it speaks of boxes in flow or floating. `specs/Laws.antt` says that a document
-//! has one tree.
+//! (CSS 2.2, chapters 8 to 10 and 17). A formatting context owes three things: its preferred widths beside those of the
+//! ones inside it (`specs/ContextWidths.antt`), the used sizes of its boxes beside these and the setting that the one
+//! around gives (`specs/Settings.antt`, `specs/ContextSizes.antt`), and a placement beside those and the own boxes of
+//! the ones inside it (lay_placement, and lay_table of a table). Which of these needs which is the table of
+//! `specs/Needs.antt`, and one of them by itself is `specs/Local.antt`. So far it speaks of boxes in flow or floating.
+//! `specs/Laws.antt` says that a document has one tree.
 #![tactic(auto)]
 
 mod assembling;
 mod context_sizes;
 mod context_widths;
+mod flow_sizes;
 mod given;
 mod input;
 mod known;
 mod laws;
 mod layout;
 mod medium;
+mod own_heights;
 mod page_corners;
+mod setting;
+mod settings;
+mod sized_context;
+mod table_contexts;
 mod task;
 mod value;
 

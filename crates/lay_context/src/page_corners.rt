@@ -1,34 +1,35 @@
-//! Where contexts stand on the page.
+//! Where formatting contexts stand on the page.
 
 ghost use Rattle.std.specs.Prelude.{◌≡◌, ◌<◌, ◌≤◌, ◌+ℤ◌, ◌-ℤ◌, length, IfOk};
 ghost use Rattle.lay_units.specs.Units.{IsUsed, IsUsedSize};
 ghost use Rattle.lay_sizes.specs.BoxSizes.{border_width};
 ghost use Rattle.lay_sizes.specs.SizeBounds.{SizeFits};
-ghost use Rattle.lay_context.specs.DocumentLayout.{HasPageCorners, beside, is_right, page_corner, root_corner, root_left};
-ghost use Rattle.lay_placement.specs.ContextPlaces.{corner_at};
-ghost use Rattle.lay_placement.specs.PlaceBounds.{AreNearCorners, IsCornerNear, IsNear};
+ghost use Rattle.lay_sizes.specs.SizeColumns.{sizes_at};
+ghost use Rattle.lay_pieces.specs.Corners.{AreNearCorners, IsCornerNear, IsNear, corner_at};
+ghost use Rattle.lay_pieces.specs.Standings.{IsStandingNear, standing_at};
+ghost use Rattle.lay_context.specs.PageCorners.{HasPageCorners, beside, inner_corner, is_right, lowered, root_corner, root_corner_of, root_left, root_standing, standing_of};
+ghost use Rattle.lay_context.specs.Settings.{sizes_in};
 ghost use Rattle.lay_context.specs.Settling.{AreKnown};
 
-use crate::containing::sizes_at;
 use crate::known::Known;
 use lay_boxgen::{Flow, flow_of};
-use lay_contexts::Contexts;
-use lay_placement::{Corner, near_corner, near_position};
-use lay_sizes::{BoxSizes, ContainingBlock, border_width};
+use lay_formatting::FormattingContexts;
+use lay_pieces::{Corner, Standing, near_corner, near_position};
+use lay_sizes::{BoxSizes, ContainingBlock, OwnBox, border_width};
 use lay_style::{Float, Style};
 use lay_units::{NoMemory, Unit};
 use std::alloc::Global;
 
-/// The corners of the contexts' border boxes on the page, in the order of the contexts.
+/// The corners of the border boxes of formatting contexts on the page, in their order.
 pub(crate) fn page_corners(
     alloc: Global,
     viewport: ContainingBlock,
-    contexts: &Contexts,
+    contexts: &FormattingContexts,
     known: &Known,
 ) -> Result<Vec<Corner>, NoMemory>
     requires viewport { IsUsedSize viewport.width.0 }
     requires known { AreKnown contexts.now known.now }
-    ensures corners { IfOk result (λ v. HasPageCorners viewport contexts.now known.now.sizes known.now.places v.items) }
+    ensures corners { IfOk result (λ v. HasPageCorners (root_corner_of viewport contexts.now (sizes_in known.now.sizes 0).boxes) contexts.now known.now.places v.items) }
     ensures near { IfOk result (λ v. AreNearCorners v.items) }
 {
     let count = contexts.len();
@@ -40,10 +41,10 @@ pub(crate) fn page_corners(
     Ok(corners)
 }
 
-/// The corner of the context with this number on the page, where those of the contexts before it are known.
+/// The corner of the formatting context with this number on the page, where those of the ones before it are known.
 fn page_corner(
     viewport: ContainingBlock,
-    contexts: &Contexts,
+    contexts: &FormattingContexts,
     known: &Known,
     corners: &[Corner],
     i: usize,
@@ -52,17 +53,88 @@ fn page_corner(
     requires known { AreKnown contexts.now known.now }
     requires within { i < length contexts.now }
     requires before { i ≤ length corners.now }
-    ensures corner { IfOk result (λ c. c ≡ page_corner viewport contexts.now known.now.sizes known.now.places corners.now i) }
+    ensures first { IfOk result (λ c. i ≡ 0 → c ≡ root_corner_of viewport contexts.now (sizes_in known.now.sizes 0).boxes) }
+    ensures inner { IfOk result (λ c. 0 < i → c ≡ inner_corner contexts.now known.now.places corners.now i) }
     ensures near { IfOk result IsCornerNear }
+{
+    if i == 0 {
+        return root_corner_of(viewport, contexts, known);
+    }
+    inner_corner(contexts, known, corners, i)
+}
+
+/// The corner of the root's border box on the page.
+fn root_corner_of(
+    viewport: ContainingBlock,
+    contexts: &FormattingContexts,
+    known: &Known,
+) -> Result<Corner, NoMemory>
+    requires viewport { IsUsedSize viewport.width.0 }
+    requires known { AreKnown contexts.now known.now }
+    requires some { 0 < length contexts.now }
+    ensures corner { IfOk result (λ c. c ≡ root_corner_of viewport contexts.now (sizes_in known.now.sizes 0).boxes) }
+    ensures near { IfOk result IsCornerNear }
+{
+    let boxes = contexts.at(0).boxes();
+    let _ = boxes.as_slice();
+    let sizes = sizes_at(known.sizes(0).boxes().as_slice(), 0);
+    root_corner(viewport, boxes.style(0), sizes)
+}
+
+/// The corner of the formatting context with this number on the page, which isn't the root's, where those of the ones
+/// before it are known.
+fn inner_corner(
+    contexts: &FormattingContexts,
+    known: &Known,
+    corners: &[Corner],
+    i: usize,
+) -> Result<Corner, NoMemory>
+    requires known { AreKnown contexts.now known.now }
+    requires inner { 0 < i }
+    requires within { i < length contexts.now }
+    requires before { i ≤ length corners.now }
+    ensures corner { IfOk result (λ c. c ≡ inner_corner contexts.now known.now.places corners.now i) }
+    ensures near { IfOk result IsCornerNear }
+{
+    let outer = contexts.at(i).outer();
+    let shift = standing_of(contexts, known, outer).shift;
+    let content = lowered(shift, corner_at(corners, outer))?;
+    beside(content, standing_of(contexts, known, i).corner)
+}
+
+/// How the formatting context with this number stands in the one around it.
+pub(crate) fn standing_of(contexts: &FormattingContexts, known: &Known, i: usize) -> Standing
+    requires known { AreKnown contexts.now known.now }
+    requires within { i < length contexts.now }
+    ensures standing { result ≡ standing_of contexts.now known.now.places i }
+    ensures fits { IsStandingNear result }
 {
     let context = contexts.at(i);
     if i == 0 {
-        let style = context.boxes().style(0);
-        return root_corner(viewport, style, sizes_at(known.sizes(0).as_slice(), 0));
+        return root_standing(known.placement(0).own());
     }
-    let outer = context.outer();
-    let inside = corner_at(known.placement(outer).corners(), context.outer_box());
-    beside(corner_at(corners, outer), inside)
+    standing_at(known.placement(context.outer()).standings(), context.outer_box())
+}
+
+fn standing_at(standings: &[Standing], k: usize) -> Standing
+    requires { k < length standings.now }
+    ensures { result ≡ standing_at standings.now k }
+{
+    standings[k]
+}
+
+/// Nothing is around the root.
+fn root_standing(own: OwnBox) -> Standing
+    ensures { result ≡ root_standing own }
+{
+    Standing {
+        corner: Corner {
+            x: Unit(0),
+            y: Unit(0),
+        },
+        height: own.height,
+        shift: Unit(0),
+    }
 }
 
 /// A corner that is counted from another one.
@@ -73,6 +145,16 @@ fn beside(outer: Corner, inner: Corner) -> Result<Corner, NoMemory>
     Ok(Corner {
         x: position_sum(outer.x, inner.x)?,
         y: position_sum(outer.y, inner.y)?,
+    })
+}
+
+/// A corner so much further down.
+fn lowered(shift: Unit, corner: Corner) -> Result<Corner, NoMemory>
+    ensures { IfOk result (λ c. c ≡ lowered shift corner) }
+{
+    Ok(Corner {
+        x: corner.x,
+        y: position_sum(corner.y, shift)?,
     })
 }
 
@@ -143,4 +225,11 @@ pub(crate) fn corner_at(corners: &[Corner], i: usize) -> Corner
     ensures { result ≡ corner_at corners.now i }
 {
     corners[i]
+}
+
+fn sizes_at(sizes: &[BoxSizes], k: usize) -> BoxSizes
+    requires { k < length sizes.now }
+    ensures { result ≡ sizes_at sizes.now k }
+{
+    sizes[k]
 }

@@ -3,7 +3,7 @@
 ghost use Rattle.std.specs.Prelude.{◌≡◌, ◌+◌, ◌<◌, ◌≤◌};
 ghost use Rattle.lay_context.specs.Needs.{task_at, turns_of};
 
-/// What a context is to be given.
+/// What a formatting context is to be given.
 #[derive(Clone, Copy)]
 pub enum Phase {
     /// Its preferred widths.
@@ -14,17 +14,17 @@ pub enum Phase {
     Place,
 }
 
-/// One phase of the context with this number.
+/// One phase of the formatting context with this number.
 #[derive(Clone, Copy)]
 pub struct Task {
     pub context: usize,
     pub phase: Phase,
 }
 
-/// The task whose turn it is, of three for each of n contexts: preferred widths from inner to outer contexts, sizes from
-/// outer to inner ones, and then placements from inner to outer ones.
+/// The task whose turn it is, of three for each of n formatting contexts: preferred widths from inner to outer
+/// ones, sizes from outer to inner ones, and then placements from inner to outer ones.
 pub(crate) fn task_at(n: usize, turn: usize) -> Task
-    requires few { n ≤ 16384 }
+    requires few { n ≤ 16777216 }
     requires within { turn < turns_of n }
     ensures { result ≡ task_at n turn }
 {

@@ -1,5 +1,5 @@
 -- The baselines of rows, cell by cell.
-use Rattle.std.proofs.Common.{◌≡◌, ◌⊎◌, inl, inr, ℕ, zero, suc, ◌+◌, ◌<◌, ℤ, pos, ◌≤ℤ◌, Option, Some, None, List, length, get_or, slice_get, refl, sym, ap, ◌∙◌, subst, below_more, arith}
+use Rattle.std.proofs.Common.{◌≡◌, ◌⊎◌, inl, inr, ℕ, zero, suc, ◌+◌, ◌<◌, ℤ, pos, ◌≤ℤ◌, Option, Some, None, List, [], ◌∷◌, length, get_or, slice_get, refl, sym, ap, ◌∙◌, subst, below_more, arith}
 use Rattle.std.specs.Int.{int_max}
 use Rattle.std.specs.List.{All}
 use Rattle.std.proofs.lemmas.Int.{ints, clamps, by_lt_z}
@@ -9,6 +9,8 @@ use Rattle.lay_units.specs.declared.length.Unit.{Unit}
 use Rattle.lay_grid.specs.declared.heights.RowCell.{RowCell}
 use Rattle.lay_grid.specs.Heights.{HasBaseline, IsRowBaseline}
 use Rattle.lay_grid.specs.Lengths.{MayBePosition}
+use Rattle.lay_grid.specs.RowBaselines.{AreRowBaselines, IsBaselineOf}
+use Rattle.lay_grid.specs.Laws.{OneRowBaselines}
 use Rattle.lay_grid.specs.Pass.Baselines.{lower_of, BaselineTo, BaselinesTo}
 
 first : (a b : ℤ) → a ≤ℤ int_max a b
@@ -123,3 +125,36 @@ baseline_exists cells row (suc n) less = next (baseline_exists cells row n (omeg
 
 pub baseline_same : (cells : List RowCell) (row : ℕ) (a b : ℤ) → IsRowBaseline cells row a → IsRowBaseline cells row b → a ≡ b
 baseline_same cells row a b p q = let x = p.lowest b q.one_of in let y = q.lowest a p.one_of in omega (arith, ints, x, y)
+
+-- so of all rows
+is_baseline : (cells : List RowCell) (row : ℕ) (o : Option Unit) → BaselineTo cells row (length cells) o → IsBaselineOf cells row o
+is_baseline cells row None to =
+    λ b has. let e = to has.0 (slice_get_within cells has.0 has.1 has.2) has.1 has.2 has.3 in absurd (cc (e, has.4))
+is_baseline cells row (Some b) to = row_baseline cells row b to
+
+pub are_row_baselines : (cells : List RowCell) (rows : ℕ) (found : List (Option Unit)) → BaselinesTo cells (length cells) rows found → AreRowBaselines cells rows found
+are_row_baselines cells rows found to = record {
+  as_many = to.as_many;
+  each = λ row less. is_baseline cells row _ (to.each row less);
+}
+
+-- and they are the only ones
+one_baseline : (cells : List RowCell) (row : ℕ) (a b : Option Unit) → IsBaselineOf cells row a → IsBaselineOf cells row b → a ≡ b
+one_baseline cells row None None p q = refl
+one_baseline cells row None (Some b) p q = absurd (p b.0 q.one_of)
+one_baseline cells row (Some a) None p q = absurd (q a.0 p.one_of)
+one_baseline cells row (Some a) (Some b) p q =
+    ap (λ (v : ℤ). let u : Unit = record { 0 = v } in Some u) (baseline_same cells row a.0 b.0 p q)
+
+same_entries : (xs ys : List (Option Unit)) → length xs ≡ length ys → ((k : ℕ) → k < length xs → get_or xs k None ≡ get_or ys k None) → xs ≡ ys
+same_entries [] [] e same = refl
+same_entries [] (y ∷ ys) e same = absurd (omega arith)
+same_entries (x ∷ xs) [] e same = absurd (omega arith)
+same_entries (x ∷ xs) (y ∷ ys) e same =
+    let head : x ≡ y = same 0 (omega arith) in
+    let tail : xs ≡ ys = same_entries xs ys (omega arith) (λ k lt. same (suc k) (omega arith)) in
+    rw (head, tail) refl
+
+pub one_row_baselines_lem : OneRowBaselines
+one_row_baselines_lem cells rows v w a b =
+    same_entries v w (a.as_many ∙ sym b.as_many) (λ row less. (let within : row < rows = omega (arith, less, a.as_many) in one_baseline cells row _ _ (a.each row within) (b.each row within)))

@@ -6,6 +6,7 @@ pub mod Shares
 pub mod Columns
 pub mod ColumnsFit
 pub mod Heights
+pub mod RowBaselines
 pub mod RowsFit
 pub mod Within
 pub mod Laws

@@ -2,6 +2,7 @@
 
 ghost use Rattle.std.specs.Prelude.{◌≡◌, ◌<◌, length, IfOk, All};
 ghost use Rattle.lay_grid.specs.Lengths.{MayBePosition};
+ghost use Rattle.lay_grid.specs.RowBaselines.{AreRowBaselines};
 ghost use Rattle.lay_grid.specs.RowsFit.{RowCellFits};
 ghost use Rattle.lay_grid.specs.Pass.Baselines.{BaselinesTo, Lowers, lower_of};
 
@@ -9,14 +10,16 @@ use crate::heights::RowCell;
 use lay_units::{NoMemory, Unit};
 use std::alloc::Global;
 
-/// The baseline of each of so many rows: the lowest of those of the cells that begin there.
+/// The baseline of each of so many rows, in 1/64 px (CSS 2.2, 17.5.3): the lowest of those of the cells that begin there.
+/// NoMemory is the answer for want of memory alone.
 pub fn row_baselines(
     alloc: Global,
     cells: &[RowCell],
     rows: usize,
 ) -> Result<Vec<Option<Unit>>, NoMemory>
     requires { All (RowCellFits rows) cells.now }
-    ensures { IfOk result (λ found. BaselinesTo cells.now (length cells.now) rows found.items) }
+    ensures baselines { IfOk result (λ found. AreRowBaselines cells.now rows found.items) }
+    ensures found { IfOk result (λ found. BaselinesTo cells.now (length cells.now) rows found.items) }
 {
     let mut baselines = vec![in alloc; None; rows]?;
     for cell in cells {

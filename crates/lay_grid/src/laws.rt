@@ -1,7 +1,7 @@
 //! Laws of the definitions. The functions do nothing.
 
 ghost use Rattle.lay_grid.specs.Laws.{ColumnsHaveWidths, OneColumns, OneGrid, OneHeights};
-ghost use Rattle.lay_grid.specs.Laws.{RowsHaveHeights};
+ghost use Rattle.lay_grid.specs.Laws.{OneRowBaselines, RowsHaveHeights};
 ghost use Rattle.lay_grid.specs.Within.{ColumnsAreWithin, HeightsAreWithin, WidthsAreWithin};
 
 /// Rows have one grid.
@@ -17,6 +17,11 @@ pub fn one_columns()
 /// Rows have one list of heights.
 pub fn one_heights()
     ensures { OneHeights }
+{}
+
+/// Rows have one list of baselines.
+pub fn one_row_baselines()
+    ensures { OneRowBaselines }
 {}
 
 /// Columns have widths, whatever is asked of them.

@@ -1,9 +1,9 @@
 //! The grid of a table: the slots that its cells cover (CSS 2.2, 17.5), the widths of its columns
 //! in the fixed table layout (17.5.2.1) and the heights of its rows (17.5.3).
 //!
-//! Contracts cite `IsGrid` of `specs/Slots.antt`, `AreColumns` of `specs/Columns.antt` and
-//! `AreHeights` of `specs/Heights.antt`. They are relations, and have one value each
-//! (`specs/Laws.antt`).
+//! Contracts cite `IsGrid` of `specs/Slots.antt`, `AreColumns` of `specs/Columns.antt`, `AreHeights`
+//! of `specs/Heights.antt` and `AreRowBaselines` of `specs/RowBaselines.antt`. They are relations,
+//! and have one value each (`specs/Laws.antt`).
 #![tactic(auto)]
 
 mod baselines;
@@ -20,13 +20,15 @@ mod scan;
 mod shares;
 mod spacing;
 
+pub use baselines::row_baselines;
 pub use cells::{Area, Cell, Grid, RowSpec, Slot, Span};
 pub use columns::{ColumnsIn, FirstCell, columns_fixed};
 pub use given_widths::own_widths;
 pub use grid::slots;
 pub use heights::{RowCell, RowsIn, rows};
 pub use laws::{
-    columns_are_within, heights_are_within, one_columns, one_grid, one_heights, widths_are_within,
+    columns_are_within, heights_are_within, one_columns, one_grid, one_heights, one_row_baselines,
+    widths_are_within,
 };
 pub use lists::{FirstCells, RowCells, SlotList, SpanList, WidthOptions};
 pub use placing::standing_cells;

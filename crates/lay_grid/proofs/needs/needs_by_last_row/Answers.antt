@@ -16,7 +16,7 @@ loop-cell-preserved c =
     let some = f.some in let inside = f.inside in
     let n = c.need_of.ensures in
     let b = subst (λ (xs : List (Option Unit)). BaselinesTo c.args.cells.now (length c.args.cells.now) c.args.rows xs) (sym c.as_slice.ensures.value)
-    c.in_ok-baselines.ensures in
+    c.in_ok-baselines.ensures.found in
     let a = c.in_ok-add_need.ensures {u = tt} in
     let r = n.row in let s = n.span in
     needs_more _ _ _ _ c.need_of.result _ _ c.loop-cell-test.true (omega arith)

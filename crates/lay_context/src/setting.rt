@@ -1,0 +1,31 @@
+//! In which setting the own box of a formatting context is sized.
+
+ghost use Rattle.std.specs.Prelude.{◌≡◌};
+ghost use Rattle.lay_context.specs.Inputs.{containing_block_in};
+
+use lay_sizes::ContainingBlock;
+use lay_table_sizes::CellSize;
+
+/// What an own box is given by where it stands.
+#[derive(Clone, Copy)]
+pub enum Setting {
+    /// Its containing block.
+    Block(ContainingBlock),
+    /// What its table gives a cell: a containing block, and its width and borders.
+    Cell {
+        containing: ContainingBlock,
+        cell: CellSize,
+    },
+}
+
+impl Setting {
+    /// Its containing block.
+    pub(crate) fn containing(self) -> ContainingBlock
+        ensures { result ≡ containing_block_in self }
+    {
+        match self {
+            Setting::Block(containing) => containing,
+            Setting::Cell { containing, .. } => containing,
+        }
+    }
+}
