@@ -1,6 +1,6 @@
 //! The used sizes of a table.
 
-ghost use Rattle.std.specs.Prelude.{◌≡◌, ◌<◌, ◌≤◌, ℕ, All, IfOk, List, length};
+ghost use Rattle.std.specs.Prelude.{◌≡◌, ◌<◌, ◌≤◌, ℕ, All, IfOk, List, length, slice_get, Some};
 ghost use Rattle.std.specs.Int.{int_max};
 ghost use Rattle.lay_units.specs.declared.length.Unit.{Unit as Length};
 ghost use Rattle.lay_units.specs.Units.{IsPosition, IsUsedSize};
@@ -11,7 +11,7 @@ ghost use Rattle.lay_table_grid.specs.GridBounds.{PlacesAreBelow};
 ghost use Rattle.lay_table_sizes.specs.Bounds.{most_columns};
 ghost use Rattle.lay_table_sizes.specs.ColumnWidths.{with_spacings};
 ghost use Rattle.lay_table_sizes.specs.TableBoxes.{table_style, wrapper_style};
-ghost use Rattle.lay_table_sizes.specs.TableSizes.{AreTableWidths, HasTableSizes, IsWrapperSized, held, sizes_of_box, table_box, table_width};
+ghost use Rattle.lay_table_sizes.specs.TableSizes.{AreTableWidths, HasTableSizes, IsWrapperSized, held, held_width, sizes_of_box, table_box, table_width};
 
 use crate::cells::{cells_of, spacings, sum_of};
 use crate::column_widths::columns_in;
@@ -88,7 +88,8 @@ fn table_widths(
     requires places { PlacesAreBelow (length boxes.now) grid.now }
     requires few { grid.now.columns ≤ most_columns }
     requires containing { IsPosition containing.0 }
-    ensures { IfOk result (λ w. AreTableWidths containing rule boxes.now grid.now w.wanted w.columns) }
+    ensures widths { IfOk result (λ w. AreTableWidths containing rule boxes.now grid.now w.wanted w.columns) }
+    ensures count { IfOk result (λ w. length w.columns ≡ grid.now.columns) }
 {
     let wrapper = style_of_box(boxes, 0);
     let style = style_of_box(boxes, grid.table());
@@ -185,11 +186,26 @@ fn sizes_of_box(place: usize, wrapper: BoxSizes, table: BoxSizes, k: usize) -> B
 /// Used widths of columns.
 fn held(alloc: Global, widths: &[Unit]) -> Result<Vec<Unit>, NoMemory>
     ensures value { IfOk result (λ v. v.items ≡ held widths.now) }
+    ensures count { IfOk result (λ v. length v.items ≡ length widths.now) }
     ensures sizes { IfOk result (λ v. All (λ (width : Length). IsUsedSize width.0) v.items) }
 {
     let mut used = Vec::with_capacity(alloc, widths.len())?;
-    for width in widths {
-        used.push(clamp_size(i128::from(width.0)))?;
+    for k in 0..widths.len() {
+        used.push(held_width(width_at(widths, k)))?;
     }
     Ok(used)
+}
+
+fn width_at(widths: &[Unit], k: usize) -> Unit
+    requires { k < length widths.now }
+    ensures { slice_get widths.now k ≡ Some result }
+{
+    widths[k]
+}
+
+fn held_width(width: Unit) -> Unit
+    ensures value { result ≡ held_width width }
+    ensures size { IsUsedSize result.0 }
+{
+    clamp_size(i128::from(width.0))
 }
