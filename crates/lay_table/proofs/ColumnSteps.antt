@@ -10,9 +10,9 @@ pub one_more : {X : Type 0} (P : ℕ → X → Type 0) (d : X) (xs : List X) (x 
 one_more P d xs x n counted each last k less = elim (cases_lt k n) [
   | inl low ↦ subst (P k) (sym (get_or-append xs (x ∷ []) d k (omega (arith, low, counted)))) (each k low)
   | inr high ↦ (
-        let q : k ≡ n = omega (arith, less, high) in
-        let read : get_or (xs ++ x ∷ []) k d ≡ x = subst (λ (j : ℕ). get_or (xs ++ x ∷ []) j d ≡ x) (counted ∙ sym q) (get_or-append_seam xs x [] d) in
-        subst (P k) (sym read) (subst (λ (j : ℕ). P j x) (sym q) last))
+      let q : k ≡ n = omega (arith, less, high) in
+      let read : get_or (xs ++ x ∷ []) k d ≡ x = subst (λ (j : ℕ). get_or (xs ++ x ∷ []) j d ≡ x) (counted ∙ sym q) (get_or-append_seam xs x [] d) in
+      subst (P k) (sym read) (subst (λ (j : ℕ). P j x) (sym q) last))
 ]
 
 -- columns that agree at each place are one

@@ -29,8 +29,8 @@ each_to i p zero k less = absurd (omega (arith, less))
 each_to i p (suc n) k less = elim (cases_lt k n) [
   | inl low ↦ get_or-append (standings_to i p n) (standing_of i p n ∷ []) no_standing k (omega (arith, low, count_to i p n)) ∙ each_to i p n k low
   | inr high ↦ (
-        let q : k ≡ n = omega (arith, less, high) in
-        subst (λ (j : ℕ). standing_at (standings_to i p (suc n)) j ≡ standing_of i p k) (count_to i p n ∙ sym q) (get_or-append_seam (standings_to i p n) (standing_of i p n) [] no_standing ∙ ap (standing_of i p) (sym q)))
+      let q : k ≡ n = omega (arith, less, high) in
+      subst (λ (j : ℕ). standing_at (standings_to i p (suc n)) j ≡ standing_of i p k) (count_to i p n ∙ sym q) (get_or-append_seam (standings_to i p n) (standing_of i p n) [] no_standing ∙ ap (standing_of i p) (sym q)))
 ]
 
 pub are_all : (i : TableInput) (p : TablePlaces) (standings : List Standing) → AreStandings i p standings → standings ≡ standings_to i p (length i.boxes)

@@ -49,11 +49,7 @@ pub(crate) fn captions_of(alloc: Global, boxes: &[BoxNode]) -> Result<Captions, 
 }
 
 /// The places of the captions on this side of the table.
-fn captions_on(
-    alloc: Global,
-    side: CaptionSide,
-    boxes: &[BoxNode],
-) -> Result<Vec<usize>, NoMemory>
+fn captions_on(alloc: Global, side: CaptionSide, boxes: &[BoxNode]) -> Result<Vec<usize>, NoMemory>
     ensures captions { IfOk result (λ v. v.items ≡ captions_on side boxes.now) }
     ensures within { IfOk result (λ v. ArePlaces (length boxes.now) v.items) }
 {

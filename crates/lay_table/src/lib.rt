@@ -26,8 +26,8 @@ mod tracks;
 mod wrapper_flow;
 
 pub use cell_align::CellAlign;
-pub use laws::one_table_placement;
 pub use groups::OuterGroups;
+pub use laws::one_table_placement;
 pub use pieces::Extent;
 pub use placing::table_placement;
 pub use table_input::TableInput;

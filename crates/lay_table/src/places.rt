@@ -35,7 +35,7 @@ pub(crate) struct TablePlaces {
 
 impl Model for TablePlaces {
     ghost use Rattle.lay_table.specs.WrapperFlow.{places_in_wrapper};
-ghost use Rattle.lay_table.specs.TableStandings.{TablePlaces as Plain};
+    ghost use Rattle.lay_table.specs.TableStandings.{TablePlaces as Plain};
 
     ghost Value = { Plain };
 

@@ -118,11 +118,7 @@ fn own_height(style: &Style) -> Unit
 }
 
 /// What the cells need of their rows.
-fn needs_of(
-    alloc: Global,
-    input: &TableInput,
-    cells: &[BoxSizes],
-) -> Result<Vec<RowCell>, NoMemory>
+fn needs_of(alloc: Global, input: &TableInput, cells: &[BoxSizes]) -> Result<Vec<RowCell>, NoMemory>
     requires count { length cells.now ≡ length input.now.table.grid.cells }
     requires sizes { HaveSizeBounds cells.now }
     ensures needs { IfOk result (λ v. v.items ≡ needs_of input.now cells.now) }
@@ -186,12 +182,7 @@ fn height_need(input: &TableInput, cells: &[BoxSizes], c: usize, height: Unit) -
 }
 
 /// What the content of a cell needs.
-fn need_by_content(
-    cell: TableCell,
-    align: CellAlign,
-    natural: OwnBox,
-    sizes: BoxSizes,
-) -> RowCell
+fn need_by_content(cell: TableCell, align: CellAlign, natural: OwnBox, sizes: BoxSizes) -> RowCell
     requires natural { OwnBoxFits natural }
     requires sizes { SizeFits sizes }
     ensures { result ≡ need_by_content cell align natural sizes }

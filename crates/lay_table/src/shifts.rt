@@ -40,11 +40,7 @@ fn baseline_at(baselines: &[Option<Unit>], r: usize) -> Option<Unit>
 }
 
 /// How far the content of the cell c is moved down in it. NoMemory is the answer where it is more than 2^60 units.
-pub(crate) fn shift_of(
-    input: &TableInput,
-    rows: &TableRows,
-    c: usize,
-) -> Result<Unit, NoMemory>
+pub(crate) fn shift_of(input: &TableInput, rows: &TableRows, c: usize) -> Result<Unit, NoMemory>
     requires fit { RowsFitTable input.now rows.now }
     requires cell { c < length input.now.table.grid.cells }
     ensures shift { IfOk result (λ u. u ≡ shift_of input.now rows.now c) }
@@ -54,7 +50,13 @@ pub(crate) fn shift_of(
     let row = row_baseline(rows, cell.row as usize);
     let own = own_baseline(input, rows, c);
     let height = cell_height(input, &rows.tracks, c)?;
-    shift_by(align_of(input, c), row, own, natural_box(input, c).height, height)
+    shift_by(
+        align_of(input, c),
+        row,
+        own,
+        natural_box(input, c).height,
+        height,
+    )
 }
 
 /// The baseline of the cell c itself.

@@ -177,11 +177,7 @@ fn cell_place(input: &TableInput, c: usize) -> usize
 }
 
 /// The cell c.
-fn cell_standing(
-    input: &TableInput,
-    places: &TablePlaces,
-    c: usize,
-) -> Result<Standing, NoMemory>
+fn cell_standing(input: &TableInput, places: &TablePlaces, c: usize) -> Result<Standing, NoMemory>
     requires fit { PlacesFit input.now places.now }
     requires cell { c < length input.now.table.grid.cells }
     ensures standing { IfOk result (λ s. s ≡ cell_standing input.now places.now c) }

@@ -35,7 +35,7 @@ pub(crate) struct TableRows {
 
 impl Model for TableRows {
     ghost use Rattle.lay_table.specs.RowBounds.{RowsFitTable};
-ghost use Rattle.lay_table.specs.TableRows.{TableRows as Plain};
+    ghost use Rattle.lay_table.specs.TableRows.{TableRows as Plain};
 
     ghost Value = { Plain };
 
@@ -131,11 +131,7 @@ fn bottom_of(
 }
 
 /// The height of the border box of the cell c.
-pub(crate) fn cell_height(
-    input: &TableInput,
-    tracks: &Tracks,
-    c: usize,
-) -> Result<Unit, NoMemory>
+pub(crate) fn cell_height(input: &TableInput, tracks: &Tracks, c: usize) -> Result<Unit, NoMemory>
     requires { c < length input.now.table.grid.cells }
     ensures height { IfOk result (λ u. u ≡ cell_height input.now tracks.now c) }
     ensures near { IfOk result (λ u. IsNear u.0) }

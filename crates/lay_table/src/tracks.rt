@@ -34,11 +34,7 @@ impl Model for Tracks {
 
 impl Tracks {
     /// Tracks of these lengths. NoMemory is also the answer where one begins more than 2^60 units away.
-    pub(crate) fn new(
-        alloc: Global,
-        lengths: Vec<Unit>,
-        spacing: Unit,
-    ) -> Result<Tracks, NoMemory>
+    pub(crate) fn new(alloc: Global, lengths: Vec<Unit>, spacing: Unit) -> Result<Tracks, NoMemory>
         ensures { IfOk result (λ t. t ≡ record { lengths = lengths.items; spacing = spacing }) }
     {
         let starts = starts_of(alloc, &lengths, spacing)?;

@@ -91,7 +91,7 @@ cell_same x y e borders =
     let column = ap (λ (p : PlacedCell). p.cell.left) e in
     let rows : x.rows ≡ y.rows = omega arith in
     let f : cell_with x.place x.row x.column x.rows x.columns x.borders ≡ cell_with y.place y.row y.column y.rows y.columns y.borders =
-        rw (place, row, column, rows, columns, borders) refl in f
+    rw (place, row, column, rows, columns, borders) refl in f
 
 area_same : (x y : TableCell) → placed_of x ≡ placed_of y → area_of x ≡ area_of y
 area_same x y e =
@@ -151,7 +151,7 @@ same_but boxes g h p q =
     let rows = p.rows ∙ sym q.rows in
     let column_boxes = p.column_boxes ∙ sym q.column_boxes in
     let placed = placing_same boxes h.rows (placed_cells g) (placed_cells h)
-        (subst (λ (rs : List TableRow). ArePlaced boxes rs (placed_cells g)) rows p.cells) q.cells in
+    (subst (λ (rs : List TableRow). ArePlaced boxes rs (placed_cells g)) rows p.cells) q.cells in
     record {
       table = table;
       rows = rows;
@@ -167,15 +167,15 @@ parts_same : (boxes : List BoxNode) (g h : TableGridValue) → SameBut g h → p
 parts_same boxes g h s =
     let table = s.table in let rows = s.rows in let placed = s.placed in let column_boxes = s.column_boxes in let columns = s.columns in
     let e : parts_with boxes g.table g.rows (placed_cells g) g.column_boxes g.columns
-        ≡ parts_with boxes h.table h.rows (placed_cells h) h.column_boxes h.columns = rw (table, rows, placed, column_boxes, columns) refl in e
+    ≡ parts_with boxes h.table h.rows (placed_cells h) h.column_boxes h.columns = rw (table, rows, placed, column_boxes, columns) refl in e
 
 value_same : (g h : TableGridValue) → SameBut g h → g.cells ≡ h.cells → g.borders ≡ h.borders → g ≡ h
 value_same g h s cells borders =
     let table = s.table in let rows = s.rows in let column_boxes = s.column_boxes in let columns = s.columns in
     let spacing = s.spacing in let collapses = s.collapses in
     let e : value_of g.table g.rows g.cells g.column_boxes g.columns g.spacing g.collapses g.borders
-        ≡ value_of h.table h.rows h.cells h.column_boxes h.columns h.spacing h.collapses h.borders =
-        rw (table, rows, cells, column_boxes, columns, spacing, collapses, borders) refl in e
+    ≡ value_of h.table h.rows h.cells h.column_boxes h.columns h.spacing h.collapses h.borders =
+    rw (table, rows, cells, column_boxes, columns, spacing, collapses, borders) refl in e
 
 by_model : (boxes : List BoxNode) (g h : TableGridValue) → SameBut g h → HaveBorders boxes g → HaveBorders boxes h → (b : Bool) → h.collapses ≡ b → g ≡ h
 by_model boxes g h s p q false is =
@@ -187,9 +187,9 @@ by_model boxes g h s p q true is =
     let other = s.collapses ∙ is in
     let parts = parts_same boxes g h s in
     let cells = cells_with (IsCollapsed (parts_of boxes h)) (collapsed_one (parts_of boxes h)) g.cells h.cells s.placed
-        (subst (λ (x : TableParts). All (IsCollapsed x) g.cells) parts (p.collapsed_cells other)) (q.collapsed_cells is) in
+    (subst (λ (x : TableParts). All (IsCollapsed x) g.cells) parts (p.collapsed_cells other)) (q.collapsed_cells is) in
     let borders = table_borders_same (parts_of boxes h) g.borders h.borders
-        (subst (λ (x : TableParts). AreTableBorders x g.borders) parts (p.collapsed_table other)) (q.collapsed_table is) in
+    (subst (λ (x : TableParts). AreTableBorders x g.borders) parts (p.collapsed_table other)) (q.collapsed_table is) in
     value_same g h s cells borders
 
 pub one_table_grid_lem : OneTableGrid
