@@ -3,6 +3,7 @@ use Rattle.std.proofs.Common.{◌≡◌, sym, ap, ◌∙◌}
 use Rattle.lay_flow.specs.FlowPlaces.{IsFlowOf}
 use Rattle.lay_flow.proofs.OneContextFlow.{one_flow_of_lem}
 use Rattle.lay_context_boxes.specs.ContextBoxes.{AreContextBoxes}
+use Rattle.lay_relative.proofs.OneMoves.{one_column_of_moves_lem}
 use Rattle.lay_flow_boxes.specs.FlowShapes.{measures_in}
 use Rattle.lay_flow_boxes.specs.PlaceInputs.{PlaceInput}
 use Rattle.lay_flow_boxes.proofs.FlowFacts.{is_flow_tree}
@@ -17,7 +18,8 @@ one_places i p q are a b =
     let flows : IsFlowOf p.shape.flow_boxes q.places = rw shape b.is_flow in
     let tree = is_flow_tree (measures_in i p.shape.parts) i.own_height p.shape.lefts p.shape.flow_boxes are a.is_shape.are_flow_boxes in
     let places = one_flow_of_lem p.shape.flow_boxes p.places q.places tree a.is_flow flows in
-    λ n. record { shape = shape n; places = places n }
+    let moves = one_column_of_moves_lem i.boxes i.sizes p.moves q.moves are a.has_moves b.has_moves in
+    λ n. record { shape = shape n; places = places n; moves = moves n }
 
 pub one_placement_lem : OnePlacement
 one_placement_lem i p q are a b =

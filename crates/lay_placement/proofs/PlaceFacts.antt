@@ -13,6 +13,7 @@ place_counts i p few has = record {
   left_count = has.is_shape.has_lefts.count;
   box_count = has.is_shape.are_flow_boxes.count;
   place_count = has.is_flow.places.count ∙ has.is_shape.are_flow_boxes.count;
+  move_count = has.has_moves.count;
 }
 
 -- the height of its own border box is within its bounds

@@ -3,8 +3,9 @@
 -- boxes and its texts (CSS 2.2, 9.2.1, 9.4.1 and 9.4.2). The boxes of elements inside it that have formatting contexts of their
 -- own are pieces of those. An anonymous one is of the same element, and its pieces stand where its box does: in box order, or
 -- on its line. An anonymous box is a piece of the nearest element. On a line without anything seen nothing is.
-use Rattle.std.specs.Prelude.{ℕ, zero, suc, List, [], ◌∷◌, slice_index, if◌then◌else◌}
+use Rattle.std.specs.Prelude.{ℕ, zero, suc, ◌+ℤ◌, List, [], ◌∷◌, slice_index, if◌then◌else◌}
 use Rattle.std.specs.List.{flat_map}
+use Rattle.lay_units.specs.declared.records.Rect.{Rect}
 use Rattle.lay_frag.specs.declared.frag.Frag.{Frag}
 use Rattle.lay_frag.specs.declared.frag.FragKind.{FragKind}
 use Rattle.lay_frag.specs.declared.frag.FragKind.TheVariants as kind
@@ -18,6 +19,8 @@ use Rattle.lay_sizes.specs.BoxSizes.{border_width}
 use Rattle.lay_sizes.specs.OwnBoxes.{own_box_at}
 use Rattle.lay_sizes.specs.SizeColumns.{sizes_at}
 use Rattle.lay_context_boxes.specs.ContextBoxes.{is_inner}
+use Rattle.lay_relative.specs.declared.offset.Offset.{Offset}
+use Rattle.lay_relative.specs.Moves.{move_at}
 use Rattle.lay_flow_boxes.specs.PlaceInputs.{PlaceInput}
 use Rattle.lay_pieces.specs.InnerPieces.{inner_pieces_at}
 use Rattle.lay_pieces.specs.PieceParts.{with_pieces}
@@ -29,13 +32,17 @@ use Rattle.lay_placement.specs.OnLines.{on_lines_of}
 abbrev pub id_of : List BoxNode → ℕ → ℕ
 id_of boxes k = slice_index (box_ids boxes) k
 
--- a piece on a line that is painted as this, whose part isn't known yet
-abbrev pub piece_as : List BoxNode → LinePiece → FragKind → Frag
-piece_as boxes p kind = record {
+-- a rectangle that is moved so far
+abbrev pub moved_rect : Offset → Rect → Rect
+moved_rect o r = record { x = record { 0 = o.right.0 +ℤ r.x.0 }; y = record { 0 = o.down.0 +ℤ r.y.0 }; w = r.w; h = r.h }
+
+-- a piece on a line that is painted as this, whose part isn't known yet: it is moved with its box
+abbrev pub piece_as : PlaceInput → ContextPlaces → LinePiece → FragKind → Frag
+piece_as i p piece kind = record {
   kind = kind;
-  node = record { 0 = id_of boxes p.node };
+  node = record { 0 = id_of i.boxes piece.node };
   part = 0;
-  rect = p.rect;
+  rect = moved_rect (move_at p.moves piece.node) piece.rect;
 }
 
 -- the pieces of the anonymous formatting context whose own box is the one at k, if it is that of one
@@ -44,9 +51,9 @@ spliced_at i p k = spliced (own_box_at i.inner k).width (standing_of_box i p k) 
 
 -- what is painted of a piece of this kind on a line
 abbrev pub painted : PlaceInput → ContextPlaces → LinePiece → LinePieceKind → List Frag
-painted i p piece on_line.Line = piece_as i.boxes piece kind.Line ∷ []
-painted i p piece on_line.Inline = piece_as i.boxes piece kind.Box ∷ []
-painted i p piece on_line.Text = piece_as i.boxes piece kind.Text ∷ []
+painted i p piece on_line.Line = piece_as i p piece kind.Line ∷ []
+painted i p piece on_line.Inline = piece_as i p piece kind.Box ∷ []
+painted i p piece on_line.Text = piece_as i p piece kind.Text ∷ []
 painted i p piece on_line.Atomic = spliced_at i p piece.node
 
 abbrev pub pieces_on_line : PlaceInput → ContextPlaces → LinePiece → List Frag

@@ -1,10 +1,12 @@
--- Where the boxes of one formatting context stand, counted from the corner of its own border box (CSS 2.2, 9.4.1, 9.4.2 and
--- 9.5): what they are to its block flow, and where that puts them.
+-- Where the boxes of one formatting context stand, counted from the corner of its own border box (CSS 2.2, 9.4.1 to 9.4.3 and
+-- 9.5): what they are to its block flow, where that puts them, and by how much they are moved from there.
 use Rattle.std.specs.Prelude.{ℕ, List, [], slice_index_or}
 use Rattle.lay_units.specs.declared.length.Unit.{Unit as Length}
 use Rattle.lay_content.specs.BoxMeasuresValue.{BoxMeasuresValue}
 use Rattle.lay_lines.specs.declared.row.Ended.{Ended}
 use Rattle.lay_flow.specs.FlowPlaces.{FlowPlacesValue, IsFlowOf, box_place_at}
+use Rattle.lay_relative.specs.declared.offset.Offset.{Offset}
+use Rattle.lay_relative.specs.Moves.{HasMoves}
 use Rattle.lay_flow_boxes.specs.FlowShapes.{FlowShape, IsFlowShape, measures_in}
 use Rattle.lay_flow_boxes.specs.PlaceInputs.{PlaceInput}
 
@@ -13,6 +15,8 @@ pub record ContextPlaces : Type 0 where
   pub shape : FlowShape
   -- the corners and the heights of border boxes, and the lines of each box
   pub places : FlowPlacesValue
+  -- by how much relative positioning moves them
+  pub moves : List Offset
 
 -- what the content of lines is measured by
 abbrev pub measures_of : PlaceInput → ContextPlaces → BoxMeasuresValue
@@ -22,6 +26,7 @@ measures_of i p = measures_in i p.shape.parts
 pub record HasPlaces (i : PlaceInput) (p : ContextPlaces) : Type 0 where
   pub is_shape : IsFlowShape i p.shape
   pub is_flow : IsFlowOf p.shape.flow_boxes p.places
+  pub has_moves : HasMoves i.boxes i.sizes p.moves
 
 -- the lines of the box at k
 abbrev pub rows_at : FlowPlacesValue → ℕ → List Ended

@@ -9,3 +9,4 @@ pub record HaveCounts (boxes : List BoxNode) (p : ContextPlaces) : Type 0 where
   pub left_count : length p.shape.lefts ≡ length boxes
   pub box_count : length p.shape.flow_boxes ≡ length boxes
   pub place_count : length p.places.boxes ≡ length boxes
+  pub move_count : length p.moves ≡ length boxes

@@ -1,16 +1,22 @@
--- A formatting context has one placement. And what the baseline of its own box is (CSS 2.2, 10.8.1 and 17.5.3), said once more
--- without a search.
-use Rattle.std.specs.Prelude.{ℕ, ◌≡◌, ◌<◌, Bool, true, false, List, ◌∷◌, ◌++◌, Some, None}
+-- A formatting context has one placement, of which relative positioning changes corners alone (CSS 2.2, 9.4.3). And what the
+-- baseline of its own box is (10.8.1 and 17.5.3), said once more without a search.
+use Rattle.std.specs.Prelude.{ℕ, ◌≡◌, ◌<◌, Bool, true, false, List, map, ◌∷◌, ◌++◌, Some, None}
 use Rattle.std.specs.List.{list_any}
 use Rattle.lay_units.specs.declared.length.Unit.{Unit as Length}
+use Rattle.lay_frag.specs.declared.frag.Frag.{Frag}
 use Rattle.lay_lines.specs.declared.row.Ended.{Ended}
 use Rattle.lay_inlines.specs.LinePieces.{baseline_of}
 use Rattle.lay_flow.specs.FlowPlaces.{FlowPlacesValue}
+use Rattle.lay_sizes.specs.UsedLengths.{no_length}
 use Rattle.lay_context_boxes.specs.ContextBoxes.{AreContextBoxes}
 use Rattle.lay_flow_boxes.specs.PlaceInputs.{PlaceInput}
+use Rattle.lay_relative.specs.declared.offset.Offset.{Offset}
+use Rattle.lay_pieces.specs.declared.standing.Standing.{Standing}
+use Rattle.lay_pieces.specs.Corners.{no_corner}
 use Rattle.lay_pieces.specs.Placements.{Placement}
 use Rattle.lay_placement.specs.Baselines.{baseline_in, first_baseline, first_baseline_to, last_baseline}
-use Rattle.lay_placement.specs.ContextPlacements.{IsPlacement}
+use Rattle.lay_placement.specs.ContextPlacements.{IsPlacement, placement_of}
+use Rattle.lay_placement.specs.ContextPlaces.{ContextPlaces}
 
 -- beside what it is given, a formatting context has one placement
 abbrev pub OnePlacement : Type 0
@@ -37,3 +43,29 @@ FirstSeenLineGivesBaseline = (before after : List Ended) (row : Ended) → row.s
 abbrev pub FirstBoxGivesBaseline : Type 0
 FirstBoxGivesBaseline = (i : PlaceInput) (places : FlowPlacesValue) (k n : ℕ) (b : Length) → k < n → baseline_in i places k ≡ Some b → ((j : ℕ) → j < k → baseline_in i places j ≡ None)
     → first_baseline_to i places n ≡ Some b
+
+-- boxes in the same places that are moved by so much
+abbrev pub moved_by : List Offset → ContextPlaces → ContextPlaces
+moved_by moves p = record { shape = p.shape; places = p.places; moves = moves }
+
+-- a piece and a standing but for their corners
+abbrev pub without_corner : Frag → Frag
+without_corner f = record {
+  kind = f.kind;
+  node = f.node;
+  part = f.part;
+  rect = record { x = no_length; y = no_length; w = f.rect.w; h = f.rect.h };
+}
+
+abbrev pub standing_without_corner : Standing → Standing
+standing_without_corner s = record { corner = no_corner; height = s.height; shift = s.shift }
+
+-- Two ways to move the same boxes give the same own box, the same pieces but for their corners, and the same standings but for
+-- theirs: so no offset changes a height, a baseline or what is painted.
+pub record DifferInCorners (a b : Placement) : Type 0 where
+  pub own : a.own ≡ b.own
+  pub pieces : map without_corner a.pieces ≡ map without_corner b.pieces
+  pub standings : map standing_without_corner a.standings ≡ map standing_without_corner b.standings
+
+abbrev pub OffsetsChangeCornersAlone : Type 0
+OffsetsChangeCornersAlone = (i : PlaceInput) (p : ContextPlaces) (m n : List Offset) → DifferInCorners (placement_of i (moved_by m p)) (placement_of i (moved_by n p))

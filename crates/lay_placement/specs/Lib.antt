@@ -1,3 +1,4 @@
+pub mod AnchorLines
 pub mod AtomicCorners
 pub mod Baselines
 pub mod BoxStandings
@@ -8,3 +9,5 @@ pub mod Counts
 pub mod Laws
 pub mod OnLines
 pub mod Paintings
+pub mod Restings
+pub mod StaticPositions

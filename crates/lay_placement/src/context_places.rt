@@ -2,15 +2,24 @@
 
 ghost use Rattle.std.specs.Prelude.{◌≡◌, IfOk};
 ghost use Rattle.lay_sizes.specs.OwnBoxes.{IsBoxSize};
+ghost use Rattle.lay_relative.specs.MoveBounds.{IsMoveNear};
+ghost use Rattle.lay_relative.specs.Moves.{move_at};
 ghost use Rattle.lay_placement.specs.ContextPlaces.{HasPlaces, own_height, rows_at};
 ghost use Rattle.lay_placement.specs.Counts.{HaveCounts};
 
 use lay_flow::{FlowPlaces, flow};
 use lay_flow_boxes::{FlowShape, PlaceInput, flow_shape};
 use lay_lines::Ended;
-use lay_units::NoMemory;
+use lay_relative::{Offset, relative_moves};
+use lay_units::{NoMemory, Unit};
 use std::alloc::Global;
 use std::marker::Model;
+
+/// Not moved.
+const NO_OFFSET: Offset = Offset {
+    right: Unit(0),
+    down: Unit(0),
+};
 
 /// Where the boxes of one formatting context stand, in the order of the boxes, in 1/64 px. Positions are counted from the
 /// corner of its own border box.
@@ -20,14 +29,19 @@ pub(crate) struct BoxPlaces {
     pub shape: FlowShape,
     /// The corners and the heights of border boxes, and the lines of each box.
     pub places: FlowPlaces,
+    /// By how much relative positioning moves them.
+    pub moves: Vec<Offset>,
 }
 
 impl Model for BoxPlaces {
+    ghost use Rattle.lay_relative.specs.MoveBounds.{AreNearMoves};
     ghost use Rattle.lay_placement.specs.ContextPlaces.{ContextPlaces};
 
     ghost Value = { ContextPlaces };
 
-    ghost view = { λ p. record { shape = p.shape; places = p.places } };
+    ghost view = { λ p. record { shape = p.shape; places = p.places; moves = p.moves.items } };
+
+    ghost invariant = { λ p. AreNearMoves p.moves.items };
 }
 
 /// Where the boxes of one formatting context stand. NoMemory is also the answer for more boxes than 65,536, and where lines
@@ -40,7 +54,12 @@ pub(crate) fn context_places(alloc: Global, input: &PlaceInput) -> Result<BoxPla
     let _ = input.boxes();
     let shape = flow_shape(alloc, input)?;
     let places = flow(alloc, shape.flow_boxes())?;
-    Ok(BoxPlaces { shape, places })
+    let moves = relative_moves(alloc, input.context_boxes(), input.sizes())?;
+    Ok(BoxPlaces {
+        shape,
+        places,
+        moves,
+    })
 }
 
 /// The lines of the box at k.
@@ -50,5 +69,16 @@ pub(crate) fn rows_at(places: &FlowPlaces, k: usize) -> &[Ended]
     match places.lines().get(k) {
         Some(rows) => rows.as_slice(),
         None => &[],
+    }
+}
+
+/// By how much the box at k is moved, if there is one.
+pub(crate) fn move_of(places: &BoxPlaces, k: usize) -> Offset
+    ensures value { result ≡ move_at places.now.moves k }
+    ensures near { IsMoveNear result }
+{
+    match places.moves.get(k) {
+        Some(offset) => *offset,
+        None => NO_OFFSET,
     }
 }

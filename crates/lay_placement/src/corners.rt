@@ -1,16 +1,15 @@
 //! The corners of the boxes of one formatting context.
 
 ghost use Rattle.std.specs.Prelude.{ℕ, ◌≡◌, ◌<◌, ◌&&◌, [], ◌∷◌, nat_lt, length, IfOk, OnOk};
-ghost use Rattle.lay_flow.specs.FlowPlaces.{box_place_at};
 ghost use Rattle.lay_placement.specs.AtomicCorners.{corner_among, corner_of_piece, is_atomic};
 ghost use Rattle.lay_pieces.specs.Corners.{AreNearCorners, IsCornerNear, corner_at};
 ghost use Rattle.lay_placement.specs.BoxStandings.{corner_in_flow, corner_of_box};
 ghost use Rattle.lay_placement.specs.Counts.{HaveCounts};
 ghost use Rattle.lay_placement.specs.OnLines.{AreOnLines};
 
+use crate::columns::place_at;
 use crate::context_places::BoxPlaces;
 use crate::on_lines::on_lines_at;
-use lay_flow::BoxPlace;
 use lay_flow_boxes::PlaceInput;
 use lay_inlines::{LinePiece, LinePieceKind, LinePieceList};
 use lay_pieces::{Corner, near_corner};
@@ -103,11 +102,4 @@ pub(crate) fn corner_in_flow(places: &BoxPlaces, k: usize) -> Result<Corner, NoM
 {
     let corner = place_at(places.places.boxes(), k).corner;
     near_corner(corner.x, corner.y)
-}
-
-pub(crate) fn place_at(places: &[BoxPlace], k: usize) -> BoxPlace
-    requires { k < length places.now }
-    ensures { result ≡ box_place_at places.now k }
-{
-    places[k]
 }

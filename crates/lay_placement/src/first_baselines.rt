@@ -7,9 +7,8 @@ ghost use Rattle.lay_placement.specs.Baselines.{baseline_in, first_baseline, fir
 ghost use Rattle.lay_placement.specs.Counts.{HaveCounts};
 
 use crate::baselines::{baseline_below, baseline_of};
+use crate::columns::{own_box_at, place_at};
 use crate::context_places::{BoxPlaces, rows_at};
-use crate::corners::place_at;
-use crate::standings::own_box_at;
 use lay_boxgen::{BoxKind, Role};
 use lay_flow_boxes::PlaceInput;
 use lay_lines::Ended;

@@ -1,6 +1,6 @@
 //! The laws of the definitions.
 
-ghost use Rattle.lay_placement.specs.Laws.{FirstBoxGivesBaseline, FirstSeenLineGivesBaseline, LastSeenLineGivesBaseline, OnePlacement, UnseenLinesGiveNone};
+ghost use Rattle.lay_placement.specs.Laws.{FirstBoxGivesBaseline, FirstSeenLineGivesBaseline, LastSeenLineGivesBaseline, OffsetsChangeCornersAlone, OnePlacement, UnseenLinesGiveNone};
 
 /// The placement of a formatting context is the only one beside what it is given.
 pub fn one_placement()
@@ -18,4 +18,9 @@ pub fn last_seen_line_gives_baseline()
 pub fn first_baseline_is_first()
     ensures line { FirstSeenLineGivesBaseline }
     ensures in_box { FirstBoxGivesBaseline }
+{}
+
+/// Relative positioning changes no height, no baseline and nothing that is painted but where it stands.
+pub fn offsets_change_corners_alone()
+    ensures { OffsetsChangeCornersAlone }
 {}

@@ -1,14 +1,17 @@
-//! The placement of one formatting context: where its boxes stand, and its pieces (CSS 2.2, 8.3.1, 9.4.1, 9.4.2, 9.5, 10.6,
-//! 10.8.1 and 17.5.3), beside the used sizes of its boxes and what is known of the formatting contexts inside it.
+//! The placement of one formatting context: where its boxes stand, and its pieces (CSS 2.2, 8.3.1, 9.4.1 to 9.4.3, 9.5, 9.6,
+//! 10.6, 10.8.1 and 17.5.3), beside the used sizes of its boxes and what is known of the formatting contexts inside it.
 //!
 //! `placement` answers by `IsPlacement` of `specs/ContextPlacements.antt`. What its boxes are to block flow is of
-//! lay_flow_boxes, and where they stand then is `specs/ContextPlaces.antt`. From there `specs/OnLines.antt` says what stands on
-//! lines, `specs/BoxStandings.antt` where each box stands (with `specs/AtomicCorners.antt` for those on lines),
+//! lay_flow_boxes, by how much they are moved is of lay_relative, and where they stand then is `specs/ContextPlaces.antt`. From
+//! there `specs/OnLines.antt` says what stands on lines, `specs/BoxStandings.antt` where each box stands (with
+//! `specs/AtomicCorners.antt` for atomic boxes on lines and `specs/StaticPositions.antt` for anchors),
 //! `specs/ContextPieces.antt` what is painted, and `specs/Baselines.antt` on what line the own box stands. A formatting context
-//! has one placement (`specs/Laws.antt`).
+//! has one placement, of which offsets change corners alone (`specs/Laws.antt`).
 #![tactic(auto)]
 
+mod anchor_lines;
 mod baselines;
+mod columns;
 mod context_places;
 mod corners;
 mod first_baselines;
@@ -18,5 +21,8 @@ mod pieces;
 mod placing;
 mod standings;
 
-pub use laws::{first_baseline_is_first, last_seen_line_gives_baseline, one_placement};
+pub use laws::{
+    first_baseline_is_first, last_seen_line_gives_baseline, offsets_change_corners_alone,
+    one_placement,
+};
 pub use placing::placement;

@@ -7,20 +7,22 @@ ghost use Rattle.lay_sizes.specs.SizeColumns.{sizes_at};
 ghost use Rattle.lay_pieces.specs.NearPieces.{AreNearPieces};
 ghost use Rattle.lay_pieces.specs.PieceParts.{with_pieces};
 ghost use Rattle.lay_pieces.specs.Standings.{IsStandingNear};
+ghost use Rattle.lay_relative.specs.MoveBounds.{IsMoveNear};
 ghost use Rattle.lay_placement.specs.BoxStandings.{standing_of_box};
-ghost use Rattle.lay_placement.specs.ContextPieces.{id_of, piece_as, piece_of_box, pieces_of_box, pieces_on_line, pieces_to, spliced_at};
+ghost use Rattle.lay_placement.specs.ContextPieces.{id_of, moved_rect, piece_as, piece_of_box, pieces_of_box, pieces_on_line, pieces_to, spliced_at};
 ghost use Rattle.lay_placement.specs.Paintings.{IsPainting};
 
-use crate::context_places::BoxPlaces;
+use crate::columns::{own_box_at, sizes_at, sum_of};
+use crate::context_places::{BoxPlaces, move_of};
 use crate::on_lines::on_lines_at;
-use crate::standings::own_box_at;
 use lay_boxgen::BoxNode;
 use lay_doc::NodeId;
 use lay_flow_boxes::PlaceInput;
 use lay_frag::{Frag, FragKind};
 use lay_inlines::{LinePiece, LinePieceKind, LinePieceList};
-use lay_pieces::{PieceList, Standing};
-use lay_sizes::{BoxSizes, border_width};
+use lay_pieces::{PieceList, Standing, near_position};
+use lay_relative::Offset;
+use lay_sizes::border_width;
 use lay_units::{NoMemory, Rect, Unit};
 use std::alloc::Global;
 
@@ -102,25 +104,41 @@ fn with_line_piece(
     requires { IsPainting of.now.input.now of.now.places.now of.now.on_lines.now of.now.standings.now }
     ensures { IfOk result (λ p. p ≡ with_pieces pieces (pieces_on_line of.now.input.now of.now.places.now piece)) }
 {
-    let boxes = of.input.boxes();
     match piece.kind {
-        LinePieceKind::Line => pieces.with(piece_as(boxes, piece, FragKind::Line)),
-        LinePieceKind::Inline => pieces.with(piece_as(boxes, piece, FragKind::Box)),
-        LinePieceKind::Text => pieces.with(piece_as(boxes, piece, FragKind::Text)),
+        LinePieceKind::Line => pieces.with(piece_as(of, piece, FragKind::Line)?),
+        LinePieceKind::Inline => pieces.with(piece_as(of, piece, FragKind::Box)?),
+        LinePieceKind::Text => pieces.with(piece_as(of, piece, FragKind::Text)?),
         LinePieceKind::Atomic => with_inner(pieces, of, piece.node as usize),
     }
 }
 
-/// A piece on a line that is painted as this.
-fn piece_as(boxes: &[BoxNode], piece: LinePiece, kind: FragKind) -> Frag
-    ensures { result ≡ piece_as boxes.now piece kind }
+/// A piece on a line that is painted as this, moved with its box. NoMemory is the answer where it stands more than 2^60 units
+/// away.
+fn piece_as(of: &Painting<'_>, piece: LinePiece, kind: FragKind) -> Result<Frag, NoMemory>
+    requires { IsPainting of.now.input.now of.now.places.now of.now.on_lines.now of.now.standings.now }
+    ensures { IfOk result (λ f. f ≡ piece_as of.now.input.now of.now.places.now piece kind) }
 {
-    Frag {
+    let k = piece.node as usize;
+    Ok(Frag {
         kind,
-        node: NodeId(id_of(boxes, piece.node as usize)),
+        node: NodeId(id_of(of.input.boxes(), k)),
         part: 0,
-        rect: piece.rect,
-    }
+        rect: moved_rect(move_of(of.places, k), piece.rect)?,
+    })
+}
+
+/// A rectangle that is moved so far. NoMemory is the answer where it was more than 2^60 units away.
+fn moved_rect(by: Offset, rect: Rect) -> Result<Rect, NoMemory>
+    requires { IsMoveNear by }
+    ensures { IfOk result (λ r. r ≡ moved_rect by rect) }
+{
+    let x = near_position(rect.x)?;
+    let y = near_position(rect.y)?;
+    Ok(Rect {
+        x: sum_of(by.right, x),
+        y: sum_of(by.down, y),
+        ..rect
+    })
 }
 
 /// The id of the node of the box at k.
@@ -171,11 +189,4 @@ fn border_width_at(input: &PlaceInput, k: usize) -> Unit
 {
     let _ = input.boxes();
     border_width(&sizes_at(input.sizes(), k))
-}
-
-pub(crate) fn sizes_at(sizes: &[BoxSizes], k: usize) -> BoxSizes
-    requires { k < length sizes.now }
-    ensures { result ≡ sizes_at sizes.now k }
-{
-    sizes[k]
 }

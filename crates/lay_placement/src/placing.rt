@@ -4,10 +4,10 @@ ghost use Rattle.std.specs.Prelude.{IfOk};
 ghost use Rattle.lay_placement.specs.ContextPlacements.{IsPlacement};
 
 use crate::baselines::own_baseline;
+use crate::columns::{place_at, sizes_at};
 use crate::context_places::context_places;
-use crate::corners::place_at;
 use crate::on_lines::on_lines_of;
-use crate::pieces::{Painting, pieces_of, sizes_at};
+use crate::pieces::{Painting, pieces_of};
 use crate::standings::standings_of;
 use lay_flow_boxes::PlaceInput;
 use lay_frag::Pieces;

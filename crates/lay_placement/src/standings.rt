@@ -1,23 +1,38 @@
 //! Where the boxes of one formatting context stand.
 
-ghost use Rattle.std.specs.Prelude.{◌≡◌, ◌<◌, length, IfOk};
-ghost use Rattle.lay_sizes.specs.OwnBoxes.{own_box_at};
-ghost use Rattle.lay_flow_boxes.specs.ContextBlocks.{is_anchor};
+ghost use Rattle.std.specs.Prelude.{◌≡◌, ◌<◌, true, length, IfOk};
+ghost use Rattle.lay_boxgen.specs.Roles.{role_at};
+ghost use Rattle.lay_relative.specs.MoveBounds.{IsMoveNear};
+ghost use Rattle.lay_flow_boxes.specs.ContextBlocks.{content_left, is_anchor};
 ghost use Rattle.lay_pieces.specs.Corners.{IsCornerNear};
 ghost use Rattle.lay_pieces.specs.Standings.{AreNearStandings, IsStandingNear};
-ghost use Rattle.lay_placement.specs.BoxStandings.{border_height, corner_of_box, standing_of_box, standings_to};
+ghost use Rattle.lay_placement.specs.BoxStandings.{border_height, moved_corner, resting_corner, standing_of_box, standings_to};
 ghost use Rattle.lay_placement.specs.Counts.{HaveCounts};
 ghost use Rattle.lay_placement.specs.OnLines.{AreOnLines};
+ghost use Rattle.lay_placement.specs.Restings.{IsResting};
+ghost use Rattle.lay_placement.specs.StaticPositions.{static_position};
 
-use crate::context_places::BoxPlaces;
-use crate::corners::{corners_of, place_at};
+use crate::anchor_lines::anchor_lines;
+use crate::columns::{length_at, own_box_at, place_at, sizes_at, sum_of};
+use crate::context_places::{BoxPlaces, move_of};
+use crate::corners::corners_of;
 use lay_boxgen::Role;
 use lay_flow_boxes::PlaceInput;
 use lay_inlines::LinePieceList;
-use lay_pieces::{Corner, Standing, near_position};
-use lay_sizes::OwnBox;
+use lay_pieces::{Corner, Standing, near_corner, near_position};
+use lay_relative::Offset;
 use lay_units::{NoMemory, Unit};
 use std::alloc::Global;
+
+/// Where boxes come to rest: what the placement is given, where the flow and lines put its boxes, and the tops of the lines
+/// that have its anchors.
+#[derive(Clone, Copy)]
+struct Resting<'a> {
+    input: &'a PlaceInput,
+    places: &'a BoxPlaces,
+    corners: &'a [Corner],
+    tops: &'a [Option<Unit>],
+}
 
 /// Where all boxes stand, in order, where these stand on lines. NoMemory is also the answer where one is more than 2^60 units
 /// away from the own box, which it is in no document within the limits.
@@ -33,35 +48,89 @@ pub(crate) fn standings_of(
     ensures near { IfOk result (λ v. AreNearStandings v.items) }
 {
     let corners = corners_of(alloc, input, places, on_lines)?;
+    let tops = anchor_lines(alloc, input, places)?;
+    let of = Resting {
+        input,
+        places,
+        corners: &corners,
+        tops: &tops,
+    };
     let count = input.boxes().len();
     let mut standings = Vec::with_capacity(alloc, count)?;
     for k in 0..count {
-        let standing = standing_of_box(input, places, corners[k], k)?;
+        let standing = standing_of_box(&of, k)?;
         standings.push(standing)?;
     }
     Ok(standings)
 }
 
-/// Where the box at k stands, whose border box has this corner.
-fn standing_of_box(
-    input: &PlaceInput,
-    places: &BoxPlaces,
-    corner: Corner,
-    k: usize,
-) -> Result<Standing, NoMemory>
-    requires counts { HaveCounts input.now.boxes places.now }
-    requires place { k < length input.now.boxes }
-    requires corner { corner ≡ corner_of_box input.now places.now k }
-    requires near { IsCornerNear corner }
-    ensures standing { IfOk result (λ s. s ≡ standing_of_box input.now places.now k) }
+/// Where the box at k stands.
+fn standing_of_box(of: &Resting<'_>, k: usize) -> Result<Standing, NoMemory>
+    requires resting { IsResting of.now.input.now of.now.places.now of.now.corners.now of.now.tops.now }
+    requires place { k < length of.now.input.now.boxes }
+    ensures standing { IfOk result (λ s. s ≡ standing_of_box of.now.input.now of.now.places.now k) }
     ensures near { IfOk result IsStandingNear }
 {
-    let height = near_position(border_height(input, places, k))?;
+    let corner = moved_corner(move_of(of.places, k), resting_corner(of, k)?)?;
+    let height = near_position(border_height(of.input, of.places, k))?;
     Ok(Standing {
         corner,
         height,
         shift: Unit(0),
     })
+}
+
+/// A corner that is moved so far.
+fn moved_corner(by: Offset, corner: Corner) -> Result<Corner, NoMemory>
+    requires by { IsMoveNear by }
+    requires corner { IsCornerNear corner }
+    ensures value { IfOk result (λ c. c ≡ moved_corner by corner) }
+    ensures near { IfOk result IsCornerNear }
+{
+    near_corner(sum_of(by.right, corner.x), sum_of(by.down, corner.y))
+}
+
+/// Where the border box of the box at k comes to rest.
+fn resting_corner(of: &Resting<'_>, k: usize) -> Result<Corner, NoMemory>
+    requires resting { IsResting of.now.input.now of.now.places.now of.now.corners.now of.now.tops.now }
+    requires place { k < length of.now.input.now.boxes }
+    ensures corner { IfOk result (λ c. c ≡ resting_corner of.now.input.now of.now.places.now k) }
+    ensures near { IfOk result IsCornerNear }
+{
+    if is_anchor(of.input.role(k)) {
+        return static_position(of, k);
+    }
+    Ok(of.corners[k])
+}
+
+/// Where an absolutely positioned box would stand in flow, whose anchor is the box at k (CSS 2.2, 9.6).
+fn static_position(of: &Resting<'_>, k: usize) -> Result<Corner, NoMemory>
+    requires resting { IsResting of.now.input.now of.now.places.now of.now.corners.now of.now.tops.now }
+    requires place { k < length of.now.input.now.boxes }
+    requires anchor { is_anchor (role_at of.now.input.now.boxes k) ≡ true }
+    ensures corner { IfOk result (λ c. c ≡ static_position of.now.input.now of.now.places.now k) }
+    ensures near { IfOk result IsCornerNear }
+{
+    let places = of.places;
+    let left = content_left(of.input, places, of.input.container(k));
+    let top = match of.tops[k] {
+        Some(top) => top,
+        None => place_at(places.places.boxes(), k).corner.y,
+    };
+    near_corner(left, top)
+}
+
+/// The left content edge of the box at c.
+fn content_left(input: &PlaceInput, places: &BoxPlaces, c: usize) -> Unit
+    requires counts { HaveCounts input.now.boxes places.now }
+    requires place { c < length input.now.boxes }
+    ensures { result ≡ content_left places.now.shape.lefts input.now.sizes c }
+{
+    let _ = input.boxes();
+    sum_of(
+        length_at(places.shape.lefts(), c),
+        sizes_at(input.sizes(), c).edges.left,
+    )
 }
 
 /// The height of the border box of the box at k.
@@ -79,16 +148,9 @@ fn border_height(input: &PlaceInput, places: &BoxPlaces, k: usize) -> Unit
     place_at(places.places.boxes(), k).height
 }
 
-fn is_anchor(role: Role) -> bool
+/// Whether a box of this role is an anchor.
+pub(crate) fn is_anchor(role: Role) -> bool
     ensures { result ≡ is_anchor role }
 {
     matches!(role, Role::Anchor)
-}
-
-/// The own box of the inner formatting context of the box at k.
-pub(crate) fn own_box_at(inner: &[OwnBox], k: usize) -> OwnBox
-    requires { k < length inner.now }
-    ensures { result ≡ own_box_at inner.now k }
-{
-    inner[k]
 }

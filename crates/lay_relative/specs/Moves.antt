@@ -1,8 +1,8 @@
 -- By how much the boxes of one formatting context are moved from where they stand in it (CSS 2.2, 9.4.3): a relatively
 -- positioned box by its own offset, and each with the box that it stands in. What is in an inline box before a block breaks
 -- that is moved with it: "any resulting translation also affects the block-level box contained in the inline box" (9.2.1.1).
--- The own box isn't moved here: the formatting context around it does that. Nor is an anchor by itself, which stands for what
--- isn't in flow, nor a part of a table, on which relative positioning has no effect.
+-- The own box isn't moved here: the formatting context around it does that. By themselves neither is an anchor, which stands
+-- for what isn't in flow, nor a text, nor a part of a table, on which relative positioning has no effect.
 use Rattle.std.specs.Prelude.{ℕ, zero, suc, ◌≡◌, ◌<◌, ◌+ℤ◌, Bool, true, false, List, length, slice_index_or, Option, None, if◌then◌else◌}
 use Rattle.std.specs.Option.{unwrap_or}
 use Rattle.lay_style.specs.ComputedStyle.{style_at}
@@ -23,6 +23,7 @@ abbrev pub is_movable : Role → Bool
 is_movable role.Own = false
 is_movable role.Anchor = false
 is_movable role.TablePart = false
+is_movable role.Text = false
 is_movable _ = true
 
 -- by how much the box at k is moved by itself

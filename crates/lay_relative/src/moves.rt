@@ -90,7 +90,10 @@ fn own_offset(boxes: &ContextBoxes, sizes: &[BoxSizes], k: usize) -> Offset
 fn is_movable(role: Role) -> bool
     ensures { result ≡ is_movable role }
 {
-    !matches!(role, Role::Own | Role::Anchor | Role::TablePart)
+    !matches!(
+        role,
+        Role::Own | Role::Anchor | Role::TablePart | Role::Text
+    )
 }
 
 /// The box with which the box at k is moved.

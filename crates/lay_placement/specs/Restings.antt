@@ -1,0 +1,22 @@
+-- Where boxes come to rest, while that is put together.
+use Rattle.std.specs.Prelude.{ℕ, ◌≡◌, ◌<◌, true, List, length, Option}
+use Rattle.lay_units.specs.declared.length.Unit.{Unit as Length}
+use Rattle.lay_boxgen.specs.Roles.{role_at}
+use Rattle.lay_flow_boxes.specs.ContextBlocks.{is_anchor}
+use Rattle.lay_flow_boxes.specs.PlaceInputs.{PlaceInput}
+use Rattle.lay_pieces.specs.declared.corner.Corner.{Corner}
+use Rattle.lay_pieces.specs.Corners.{AreNearCorners, corner_at}
+use Rattle.lay_placement.specs.AnchorLines.{top_at}
+use Rattle.lay_placement.specs.BoxStandings.{corner_of_box}
+use Rattle.lay_placement.specs.ContextPlaces.{ContextPlaces}
+use Rattle.lay_placement.specs.Counts.{HaveCounts}
+use Rattle.lay_placement.specs.StaticPositions.{anchor_line}
+
+-- the corners where the flow or lines put boxes, and the tops of the lines that have the anchors
+pub record IsResting (i : PlaceInput) (p : ContextPlaces) (corners : List Corner) (tops : List (Option Length)) : Type 0 where
+  pub counts : HaveCounts i.boxes p
+  pub corner_count : length corners ≡ length i.boxes
+  pub each_corner : (k : ℕ) → k < length i.boxes → corner_at corners k ≡ corner_of_box i p k
+  pub near : AreNearCorners corners
+  pub top_count : length tops ≡ length i.boxes
+  pub each_top : (k : ℕ) → k < length i.boxes → is_anchor (role_at i.boxes k) ≡ true → top_at tops k ≡ anchor_line i p k
