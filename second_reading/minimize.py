@@ -2,7 +2,7 @@
 import copy
 import json
 
-from boxes import first_not_built, read_nodes
+from nodes import read_nodes
 
 PLAIN_WORDS = {'float': 'left', 'clear': 'left', 'overflow': 'hidden', '-style': 'solid'}
 KEYWORDS = ('display', 'text-align', 'white-space', 'vertical-align')        # without plainer values
@@ -136,12 +136,13 @@ def smaller_documents(run):
     yield from with_plainer_numbers(run)
 
 
-def is_laid_out(run):
-    """The change has left a document that `blocks` lays out."""
+def is_document(run):
+    """The change has left a document."""
     try:
-        return first_not_built(read_nodes(run)) is None
+        read_nodes(run)
     except (KeyError, ValueError, IndexError, TypeError):
         return False
+    return True
 
 
 def minimize(run, shows):
@@ -153,7 +154,7 @@ def minimize(run, shows):
             if text in tried:
                 continue
             tried.add(text)
-            if is_laid_out(smaller) and shows(smaller):
+            if is_document(smaller) and shows(smaller):
                 run = smaller
                 break
         else:

@@ -4,7 +4,7 @@ python3 -m unittest discover second_reading
 """
 import unittest
 
-from blocks import report
+from page import report
 
 FLOAT = 'float: left; width: 50px; height: 10px'
 
@@ -41,19 +41,17 @@ class LayoutCase(unittest.TestCase):
 
     def assert_boxes(self, root, *boxes):
         """The report of a document with this root has these boxes."""
-        text, status = report({'viewport': [100, 80], 'nodes': list(nodes_of(root))})
+        text = report({'viewport': [100, 80], 'nodes': list(nodes_of(root))})
         lines = [line.split() for line in text.splitlines()[2:]]
         got = [' '.join([line[1]] + ['%g' % (int(number) / 64) for number in line[3:]]) for line in lines]
         self.assertEqual(list(boxes), got)
-        self.assertEqual(0, status)
 
     def assert_texts(self, root, *texts):
         """The report of a document with this root has these texts, each as `id x y width height`."""
-        text, status = report({'viewport': [100, 80], 'nodes': list(nodes_of(root))})
+        text = report({'viewport': [100, 80], 'nodes': list(nodes_of(root))})
         lines = [line.split() for line in text.splitlines() if line.startswith('text')]
         got = [' '.join([line[1]] + ['%g' % (int(number) / 64) for number in line[3:]]) for line in lines]
         self.assertEqual(list(texts), got)
-        self.assertEqual(0, status)
 
 
 class Margins(LayoutCase):

@@ -2,22 +2,22 @@
 import unittest
 
 from atomic_documents import atomic_document
-from blocks import lay_out_page
-from boxes import boxes_of_context, read_nodes
+from boxes import boxes_of_context
 from documents import document
 from face import Face
 from margins import top_margin
+from nodes import read_nodes
+from page import Page
 from text_documents import text_document
 
 SEED, DOCUMENTS = 99, 400
 
 
-def contexts(box):
-    """The own boxes of a context and of all in it."""
+def boxes_from(box):
+    """A box and all in it."""
     yield box
-    for child in boxes_of_context(box):
-        if child.is_context:
-            yield from contexts(child)
+    for child in box.children + box.line_boxes:
+        yield from boxes_from(child)
 
 
 class Laws(unittest.TestCase):
@@ -25,10 +25,10 @@ class Laws(unittest.TestCase):
     def setUpClass(cls):
         draws = (document, text_document, atomic_document)
         runs = [draw(SEED, number) for number in range(DOCUMENTS) for draw in draws]
-        roots = [(read_nodes(run)[0], run['viewport']) for run in runs]
-        pages = [lay_out_page(root, viewport, Face({}))[0] for root, viewport in roots if not root.is_hidden]
-        cls.context_boxes = [box for root in pages for box in contexts(root)]
-        cls.flows = [box.flow for box in cls.context_boxes]
+        roots = [(read_nodes(run), run['viewport']) for run in runs]
+        pages = [Page(root, viewport, Face({})) for root, viewport in roots if not root.is_hidden]
+        cls.context_boxes = [box for page in pages for box in boxes_from(page.root) if box.is_context]
+        cls.flows = [box.flow for box in cls.context_boxes if box.flow]
 
     def test_run_is_a_stretch_of_the_sequence_of_margins(self):
         for flow in self.flows:
@@ -44,7 +44,7 @@ class Laws(unittest.TestCase):
     def test_box_that_is_collapsed_through_has_no_height(self):
         for flow in self.flows:
             for box in boxes_of_context(flow.context_box):
-                if flow.runs.collapses_through(box) and not box.is_floating:
+                if not box.is_out_of_flow() and flow.runs.collapses_through(box):
                     self.assertEqual(0, flow.height[box])
 
     def test_top_margins_that_collapse_bring_boxes_to_one_top(self):
@@ -61,8 +61,8 @@ class Laws(unittest.TestCase):
     def test_lines_of_a_block_stand_below_each_other_and_end_in_it(self):
         for flow in self.flows:
             for box, lines in flow.lines.items():
-                tops = [line.pieces[0][3] for line in lines]
-                bottoms = [line.pieces[0][3] + line.pieces[0][5] for line in lines]
+                tops = [line.pieces[0].top for line in lines]
+                bottoms = [line.pieces[0].top + line.pieces[0].height for line in lines]
                 self.assertTrue(all(bottom <= top for bottom, top in zip(bottoms, tops[1:])))
                 self.assertEqual(flow.lines_end[box], bottoms[-1])
 
@@ -70,15 +70,15 @@ class Laws(unittest.TestCase):
         for flow in self.flows:
             for box in flow.lines:
                 texts = [part for segment in box.content.segments for part in segment.parts if hasattr(part, 'kind')]
-                seen = {part.box.node.id for part in texts if part.kind not in ('space', 'linefeed')}
-                pieces = {piece[1] for line in flow.lines[box] for piece in line.pieces if piece[0] == 'text'}
+                seen = {part.box for part in texts if part.kind not in ('space', 'linefeed')}
+                pieces = {piece.box for line in flow.lines[box] for piece in line.pieces if piece.kind == 'text'}
                 self.assertLessEqual(seen, pieces)
 
     def test_atomic_boxes_stand_within_their_lines(self):
         for flow in self.flows:
             for lines in flow.lines.values():
                 for line in lines:
-                    line_top, line_height = line.pieces[0][3], line.pieces[0][5]
+                    line_top, line_height = line.pieces[0].top, line.pieces[0].height
                     for box, _, top in line.atomic_corners:
                         bottom = top + box.border_box_height + box.margin.bottom
                         self.assertLessEqual(line_top, top - box.margin.top)
