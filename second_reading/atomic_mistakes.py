@@ -17,7 +17,8 @@ ATOMIC_MISTAKES = {
          "        elif self.is_replaced and display not in ('block', 'none'):"),
     ],
     'boxes': [
-        ('clear acts on an atomic box', "'none' if self.is_atomic or self.display in TABLES", "'none' if self.display in TABLES"),
+        ('clear acts on an atomic box', "'none' if self.is_atomic or self.display in TABLES",
+         "'none' if self.display in TABLES"),
         ('a replaced block overlaps floats', 'or self.is_absolute or self.is_atomic or self.is_replaced\n',
          'or self.is_absolute or self.is_atomic\n'),
     ],

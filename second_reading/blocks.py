@@ -1,66 +1,7 @@
-#!/usr/bin/env python3
-"""A second reading of CSS 2.2: blocks with collapsing margins, floats, clearance, lines, and what stands in them.
+"""Block formatting contexts: blocks whose margins collapse, floats and clearance (CSS 2.2, 9.4.1, 9.5, 9.5.2, 10.6).
 
-usage: blocks.py < DOCUMENT      prints the report of `lay scratch` on a run document without faults
-
-It was written apart from the crates, so that each is a test of the other (`compare`). It is slow on purpose: what the
-standard calls a hypothetical position is got by laying a context out once more for each box with `clear`. Begin here,
-with `Flow`; then `margins` (8.3.1), `floats` (9.5), `lines` (9.4.2), `alignment` (10.8.1), `content` (16.4 and 16.6),
-`sizes` (10), `preferred` (10.3.5), `replaced` (10.3.2 and 10.4), `boxes` (9.2 and 9.7), `face` (15) and `styles` (6).
-
-Words: an atomic box is an inline-block, or a replaced element that is inline. A context is a block formatting context
-or a replaced element, and its own box is the one that establishes it. A solid box is a context's own box among the
-blocks in the flow, which overlaps no float. The mark of a box is where the flow puts its top border edge, before floats
-move it. The start of a run of margins is the edge from which its margins are counted.
-
-How open places of the standard are read
-- 8.3.1: the start of a run is the bottom border edge of the last box before it that isn't collapsed through, also where
-  that edge is inside what the box holds (`max-height`), or the content would have a negative height. A box with
-  clearance sets the start so that it comes to stand at its clear edge: by all margins of its run, or where it is
-  collapsed through by those before its own bottom margin.
-- 8.3.1: that margins with clearance keep off the parent's bottom margin holds where one of the last children in the
-  flow has clearance, and it and all after it are collapsed through. It keeps apart no other margins.
-- 8.3.1: a padding in percent parts margins only where its used value isn't 0.
-- 9.5.1: boxes are next to each other where their vertical ranges share a point. A box to be placed that is less than
-  one unit high is the line of its top, and an earlier float of such a height is next to nothing. The range of a float
-  is that of its margin box, and the range of a solid box that of its border box.
-- 9.5.1, rule 5: a float isn't above its own mark, which is that of an empty block without margins in its place.
-- 9.5.1, rule 7: a left float has "another left float to its left" where the right edge of that one isn't right of its
-  own left edge, so also where the margin box of that one has a negative width.
-- 9.5.2: the hypothetical edge of a solid box is its mark, and not the edge to which floats would move it.
-- 9.5.2: a box also has clearance where a float to clear has its mark in the run of the box's top margin, also a float
-  before the first margin of that run: without clearance the two would move together.
-- 10.1: the root's containing block is the viewport, also for percentages of its height and of the bounds of that. A
-  root that floats right ends at the viewport's right edge.
-- 10.4: the widths that are compared solve the equation as it stands, before they are held within the limit of lengths.
-- 10.5: percentages are of the height after 10.7.
-- 9.7: a replaced element whose `display` is `table` is a block, and with another value for tables or `inline-block` it
-  is inline.
-- 10.3.5: the least width is that of the widest segment or float. To the preferred width of a line the floats in it are
-  added; adjacent floats among blocks add up there, too. An indent is added to the first segment that is seen, and to
-  the first line that is. Widths in percent count as `auto`, other percentages as 0, bounds in percent not at all.
-- 10.4: a quotient by the natural ratio is rounded down.
-- 10.8.1: `sub` lowers by a fifth of the parent's font size and `super` raises by a third, both rounded down. `text-top`
-  and `text-bottom` move a box by its own extent and not by that of its aligned subtree. Subtrees that are `top` extend
-  the line downward, and after them those that are `bottom` upward.
-- 10.8.1: the last line box of an inline-block is the last one in document order of its own context that is seen.
-- 9.2.1.1: blocks in an inline box with nothing between them but blank texts and floats break it once. What stands
-  beside blocks is wrapped whole, with its floats, where it is more than floats and blank texts.
-- 9.4.2: a line is seen, too, where an inline box on it has a margin, border or padding above or below.
-- 9.5: what is beside a line is asked over the height of its strut. A line with nothing in it goes down also where the
-  floats beside it leave the whole width. A float inside a segment is met at its end, and one right behind a break that
-  isn't forced before it; once a float of a line is put off, so are the later ones.
-- 9.5: a line ends before the first segment that doesn't fit, also where a longer front would.
-- 16.1: each block container indents its first line that is seen, also an anonymous block.
-- 16.4: letter-spacing is added behind each cluster, word-spacing at each U+0020 and U+00A0; a tab has neither.
-- 16.6: a line may break on each side of an atomic box, by the `white-space` of the box that directly holds it. The
-  starts of inline boxes right before it go with it. Where nothing but starts and ends of inline boxes stands between
-  two such places they are one, the first: an empty inline box between two atomic boxes goes with the second.
-- 16.6.1: what stands beside a linefeed is removed inside one text; a space behind a space, over texts. A space that
-  surely begins a line is removed before there are segments. Where a space was removed there is no break.
-- 16.6.1: spaces at a line's end under `pre-wrap` don't count for what fits, and do count for alignment; those under
-  `pre` count for both. A space with a combining mark is no space.
-- 6.2.1 and 8.5.1: on the root `inherit` is the initial value, so `border-top-width: inherit` is `medium`.
+It is slow on purpose: what the standard calls a hypothetical position is got by laying a context out once more for each
+box with `clear`.
 """
 from boxes import boxes_of_context
 from floats import ContainingBlock, bottoms_to_clear, clears, place_float, place_solid

@@ -108,11 +108,10 @@ class Wrapper(Box):
 
 
 class InnerBox:
-    """A row group, a row, a column group or a column, with the boxes in it; `page` adds its place."""
+    """A row group, a row, a column group or a column, with the boxes in it."""
 
     def __init__(self, part, children):
-        self.is_anonymous = isinstance(part, Anonymous)
-        self.node = part.node if self.is_anonymous else part
+        self.node = part.node if isinstance(part, Anonymous) else part
         self.style, self.display, self.children = part.style, part.display, children
 
 

@@ -19,11 +19,9 @@ def border_between(sides, cells, lines, groups, ending):
     """The width of the border at an edge.
 
     Each pair is what stands before the edge and behind it, None for nothing: cells, lines, which are rows or columns,
-    and their groups. The sides are those by which these meet the edge. Two slots of one cell have no border between
-    them, and lines of one group none of the group's. `ending` has for each side what ends there with the grid.
+    and their groups. The sides are those by which these meet the edge. Lines of one group have none of the group's
+    borders between them. `ending` has for each side what ends there with the grid.
     """
-    if cells[0] and cells[0] is cells[1]:
-        return 0
     pairs = [cells, lines] + ([groups] if groups[0] is not groups[1] else [])
     candidates = [(box, side) for pair in pairs for box, side in zip(pair, sides)]
     candidates += [(box, side) for boxes, side in zip(ending, sides) for box in boxes]

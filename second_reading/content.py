@@ -153,8 +153,8 @@ def breaks_behind(part, following):
 def segments_of(parts):
     """The segments of the content.
 
-    Ends right behind a break stand before it, and so do boxes out of the flow behind one that isn't forced. Starts right
-    before an atomic box stand behind the break there, which parts it from a text or another atomic box.
+    Ends right behind a break stand before it, and so do boxes out of the flow behind one that isn't forced. Starts
+    right before an atomic box stand behind the break there, which parts it from a text or another atomic box.
     """
     parts = list(parts)
     found, current = [], Segment()

@@ -8,7 +8,7 @@ The draws are those of a small generator of numbers, settled by the seed.
 import json
 import sys
 
-from page import report
+from report import report
 
 EDITORS = 4
 

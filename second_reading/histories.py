@@ -14,7 +14,7 @@ import subprocess
 import sys
 
 from edits import Document
-from page import context_count, report
+from report import context_count, report
 
 EDIT = re.compile(r'edit ([0-9]+) ([0-9]+) (accepted|refused) (E?[0-9]+)')
 READ = re.compile(r'(latest|sync) ([0-9]+) ([0-9]+) ([0-9]+)')

@@ -5,7 +5,8 @@ import json
 from nodes import read_nodes
 
 PLAIN_WORDS = {'float': 'left', 'clear': 'left', 'overflow': 'hidden', '-style': 'solid'}
-KEYWORDS = ('display', 'text-align', 'white-space', 'vertical-align')        # without plainer values
+KEYWORDS = ('display', 'text-align', 'white-space', 'vertical-align', 'position', 'border-collapse',
+            'caption-side', 'table-layout')                                 # without plainer values
 PLAIN_VIEWPORT = [100, 80]
 PLAIN_SIDES = [[20, 20], [20, 10], [10, 20]]
 
@@ -107,6 +108,24 @@ def with_plainer_sides(run):
                 yield other
 
 
+def with_span(run, place, name, span):
+    """The document with another span of a cell or a column, or with none."""
+    other = copy.deepcopy(run)
+    other['nodes'][place][name] = span
+    if span == 1:
+        del other['nodes'][place][name]
+    return other
+
+
+def with_smaller_spans(run):
+    """With a span of 1, or with one that is smaller by one."""
+    for place, node in enumerate(run['nodes']):
+        for name in ('colspan', 'rowspan'):
+            for span in sorted({1, node.get(name, 1) - 1}):
+                if 0 < span and name in node:
+                    yield with_span(run, place, name, span)
+
+
 def with_plainer_face(run):
     """With the usual face, or with a number of the face less."""
     if 'face' not in run:
@@ -132,6 +151,7 @@ def smaller_documents(run):
     yield from with_plainer_face(run)
     yield from with_plainer_styles(run)
     yield from with_plainer_sides(run)
+    yield from with_smaller_spans(run)
     yield from with_shorter_texts(run)
     yield from with_plainer_numbers(run)
 

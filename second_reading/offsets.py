@@ -26,6 +26,30 @@ def relative_offset(style, containing_width, containing_height):
             first_offset(style, ('top', 'bottom'), containing_height))
 
 
+def offset_of_inlines(node, container):
+    """How far the inline boxes of a node and around it move what is in it, in a block container.
+
+    They move also a block that has broken them; there are none where the node generates another box.
+    """
+    left = top = 0
+    while node and node.is_inline_box():
+        offset = relative_offset(node.style, container.width, container.percentage_base)
+        left, top, node = left + offset[0], top + offset[1], node.parent
+    return left, top
+
+
+def offset_in(container, box):
+    """How far a box is moved in its block container, by its own offsets and by those of the inline boxes around it.
+
+    In a wrapper nothing is moved; the table's offsets are used on the wrapper.
+    """
+    if container.table:
+        return 0, 0
+    left, top = relative_offset(box.style, container.width, container.percentage_base)
+    inlines = offset_of_inlines(box.node if box.is_anonymous else box.node.parent, container)
+    return left + inlines[0], top + inlines[1]
+
+
 def shared_margins(before, after, room, are_always_equal):
     """The margins where nothing else is `auto`; both share the room, the first one rounded down.
 
@@ -46,8 +70,8 @@ def solve_absolute(room, start, end, before, after, size, static, content_size, 
 
     - With start, size and end given, margins of `auto` follow; if there are none, the end isn't heeded.
     - Else margins of `auto` are 0. Where start and end are `auto`, the start is the static position.
-    - A size of `auto` is that of the content where an offset still is `auto`, by what is available; else it follows, and
-      is at least 0.
+    - A size of `auto` is that of the content where an offset still is `auto`, by what is available; else it follows,
+      and is at least 0.
     - A start of `auto` follows.
     """
     if None not in (start, size, end):

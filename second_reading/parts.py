@@ -3,7 +3,7 @@
 A part is a text, an inline box with its parts, a node that generates another box, or an anonymous box of a table. Each
 has its `display`.
 """
-from missing_tables import TABLES, Anonymous, with_table_boxes
+from missing_tables import Anonymous, with_table_boxes
 from nodes import Node
 
 
@@ -45,10 +45,6 @@ def children_of(part):
     if isinstance(part, Anonymous):
         return with_table_boxes(part.display, part.children, part.node)
     return with_table_boxes(part.display, list(generated(part)), part)
-
-
-def is_float(part):
-    return isinstance(part, Node) and part.is_floating()
 
 
 def is_out_of_flow(part):

@@ -149,7 +149,7 @@ def widths_of_blocks(box):
 
 
 def widths_of_columns(table):
-    """The sum over the columns, each with its own width or the greatest contribution of its cells that span no other."""
+    """The sum over the columns, each with its own width or the greatest contribution of its cells that span one."""
     own = own_widths(table, None)
     pairs = [Pair(width or 0, width or 0) for width in own]
     for cell, area in table.grid.areas.items():

@@ -10,7 +10,7 @@ import random
 from atomic_documents import atomic_document
 from documents import document, print_documents
 from edits import Document
-from page import context_count, report
+from report import context_count, report
 from text_documents import text_document
 
 DRAWS = (document, text_document, atomic_document)

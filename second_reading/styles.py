@@ -35,7 +35,7 @@ INHERITED = ('line-height', 'text-indent', 'text-align', 'white-space', 'letter-
 
 NUMBER_AND_UNIT = re.compile(r'^([+-]?(?:[0-9]+|[0-9]*\.[0-9]+))([a-z%]*)$')
 
-# The kind is `length` (of units), `percentage` (of hundredths), `number` (of thousandths), `word`, or `lengths` (of pairs).
+# The kind is `length` (of units), `percentage` (of hundredths), `number` (of thousandths), `word`, or `lengths` of two.
 Value = namedtuple('Value', 'kind amount')
 # What a box has on each of its sides.
 Edges = namedtuple('Edges', SIDES)

@@ -10,7 +10,7 @@ import json
 import sys
 
 from edits import Document
-from page import context_count, report
+from report import context_count, report
 
 CELLS_OF_A_CONTEXT = 3
 
