@@ -249,7 +249,6 @@ ATOMIC_MISTAKES = {
         ('an indent counts in a line that is not seen',
          'WidthOfLine(content, indent if seen else 0, name)', 'WidthOfLine(content, indent, name)',
          'indent = 0 if seen else indent', 'indent = 0'),
-        ('an indent counts in the first line alone, seen or not', 'indent = 0 if seen else indent', 'indent = 0'),
         ('a linefeed ends no line', '        if segment.is_forced:\n            found.append([])\n', ''),
         ('floats in lines do not count in the least width',
          "indent, 'least')) + floats", "indent, 'least'))"),

@@ -76,6 +76,14 @@ class PositionStyles:
             style['display'] = self.choice(['block', 'inline-block', 'table', 'table-cell'])
         return {'id': ident, 'parent': parent, 'kind': 'element', 'style': style}
 
+    def floats_in_a_float(self, ident, parent):
+        """Nodes of a float that shrinks to fit floats and a block in it, among which absolute boxes may come to stand."""
+        floats = [{'display': 'block', 'float': side, 'width': self.choice(['10px', '20px', '30px']), 'height': '5px'}
+                  for side in (self.choice(['left', 'right']) for _ in range(self.choice([2, 2, 3])))]
+        styles = [{'display': 'block', 'float': 'left'}, {'display': 'block', 'height': '3px'}, *floats]
+        return [{'id': ident + place, 'parent': ident if place else parent, 'kind': 'element', 'style': style}
+                for place, style in enumerate(styles)]
+
     def add_offsets(self, style):
         for side in SIDES:
             if self.hit(self.profile.offset):
@@ -105,10 +113,13 @@ def positioned_document(seed, number):
     rng = random.Random('positions %d/%d' % (seed, number))
     run = rng.choice(DRAWS)(rng)
     styles = PositionStyles(rng)
-    for place, node in enumerate(run['nodes']):
+    nodes = list(run['nodes'])
+    if styles.hit(10):
+        nodes += styles.floats_in_a_float(max(node['id'] for node in nodes) + 1, nodes[0]['id'])
+    for place, node in enumerate(nodes):
         if node['kind'] != 'text':
             styles.add(node, place == 0)
-    return dict(run, nodes=with_small_boxes(styles, run['nodes']))
+    return dict(run, nodes=with_small_boxes(styles, nodes))
 
 
 def with_small_boxes(styles, nodes):
