@@ -6,6 +6,7 @@ number one of thousandths. Each is rounded down once, when its text is read, and
 import re
 from collections import namedtuple
 from fractions import Fraction
+from functools import lru_cache
 
 LIMIT = 2 ** 31
 PERCENTAGE_LIMIT = 2 ** 30
@@ -60,6 +61,7 @@ def resolve(value, base):
     return None
 
 
+@lru_cache(maxsize=10000)
 def read_value(text, font_size):
     """The computed value that a text gives, `em` being of the font size (4.3.2 and 4.3.3)."""
     if not re.match(r'^[+-.0-9]', text):
