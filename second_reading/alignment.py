@@ -4,7 +4,8 @@ Above is positive here: a raise of 1 puts a baseline one unit above another one.
 """
 from collections import namedtuple
 
-from styles import resolve, used_line_height, within_limit
+from baselines import baseline_of_atomic
+from styles import Value, resolve, used_line_height, within_limit
 
 # How far a box reaches above and below its baseline.
 Extent = namedtuple('Extent', 'above below')
@@ -12,6 +13,7 @@ Extent = namedtuple('Extent', 'above below')
 Shape = namedtuple('Shape', 'extent raises')
 
 EDGES_OF_LINES = ('top', 'bottom')
+BASELINE = Value('word', 'baseline')
 
 
 def extent_of_font(box, face):
@@ -22,30 +24,23 @@ def extent_of_font(box, face):
     return Extent(ascent + leading // 2, descent + (leading - leading // 2))
 
 
-def last_baseline(flow, box):
-    """The baseline of the last line in the flow that a box has, from the top of its context, or None."""
-    if flow.lines.get(box):
-        return flow.lines[box][-1].baseline
-    baselines = [last_baseline(flow, child) for child in box.children if not child.is_context]
-    return next((baseline for baseline in reversed(baselines) if baseline is not None), None)
-
-
 def extent_of_atomic(box):
-    """The extent of the margin box of an atomic box, which is laid out.
-
-    An inline-block has the baseline of its last line in the flow. Without one, or where its overflow isn't visible, its
-    bottom margin edge stands on the baseline, as that of a replaced element does.
-    """
+    """The extent of the margin box of an atomic box, which is laid out."""
     height = box.margin.top + box.border_box_height + box.margin.bottom
-    baseline = last_baseline(box.flow, box) if box.style['overflow'].amount == 'visible' else None
-    if box.is_replaced or baseline is None:
+    baseline = baseline_of_atomic(box)
+    if baseline is None:
         return Extent(height, 0)
     return Extent(box.margin.top + baseline, height - box.margin.top - baseline)
 
 
+def vertical_align(box):
+    """The value for a box in a line; that of an inline-table is used on the table box inside the wrapper (17.4)."""
+    return BASELINE if box.display == 'inline-table' else box.style['vertical-align']
+
+
 def raise_over_parent(box, extent, parent, face):
     """How far the baseline of a box stands above that of its parent, for all values but `top` and `bottom`."""
-    align = box.style['vertical-align']
+    align = vertical_align(box)
     size = parent.style['font-size']
     if align.kind == 'length':
         return within_limit(align.amount)
@@ -63,7 +58,7 @@ def raise_over_parent(box, extent, parent, face):
 
 def edge_of_line(box, strut):
     """The edge of the line at which a box stands, `top` or `bottom`, or None."""
-    align = box.style['vertical-align'].amount
+    align = vertical_align(box).amount
     return align if box is not strut and align in EDGES_OF_LINES else None
 
 

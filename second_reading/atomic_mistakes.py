@@ -4,7 +4,7 @@ They are written as those of `mistakes` are.
 """
 
 ATOMIC_MISTAKES = {
-    'boxes': [
+    'nodes': [
         ('a replaced table is inline', "or (self.is_replaced and display == 'table')", ''),
         ('a replaced list item is inline', "if display == 'list-item' or (self.is_replaced and display == 'table'):",
          "if (display == 'list-item' and not self.is_replaced) or (self.is_replaced and display == 'table'):"),
@@ -15,8 +15,12 @@ ATOMIC_MISTAKES = {
         ('a replaced inline-block shows as a block', "elif self.is_replaced and display not in ('block', 'none'):",
          "elif self.is_replaced and display == 'inline-block':\n            display = 'block'\n"
          "        elif self.is_replaced and display not in ('block', 'none'):"),
-        ('clear acts on an atomic box', "'none' if self.is_atomic else self.style", 'self.style'),
-        ('a replaced block overlaps floats', 'or self.is_atomic or self.is_replaced)', 'or self.is_atomic)'),
+    ],
+    'boxes': [
+        ('clear acts on an atomic box', "'none' if self.is_atomic or self.display in TABLES",
+         "'none' if self.display in TABLES"),
+        ('a replaced block overlaps floats', 'or self.is_absolute or self.is_atomic or self.is_replaced\n',
+         'or self.is_absolute or self.is_atomic\n'),
     ],
     'content': [
         ('no break beside an atomic box', 'return mode(atomic.box.holder) in BREAKING', 'return False'),
@@ -49,13 +53,11 @@ ATOMIC_MISTAKES = {
         ('a space between a text and an atomic box ends the line',
          'if isinstance(part, Atomic)\n                 or (isinstance(part, Cluster) and part.kind not in'
          " ('space', 'linefeed'))]", "if (isinstance(part, Cluster) and part.kind not in ('space', 'linefeed'))]"),
-        ('an atomic box stands left by its margin', 'before + part.box.margin.left\n            elif',
-         'before\n            elif'),
+        ('an atomic box stands left by its margin', '[before + part.box.margin.left, None]', '[before, None]'),
         ('an atomic box stands up by its margin', 'extent_of_atomic(box).above + box.margin.top)',
          'extent_of_atomic(box).above)'),
-        ('a text stands on the baseline of the line',
-         'shape.raises[box if isinstance(box, InlineBox) else box.holder]',
-         '(shape.raises[box] if isinstance(box, InlineBox) else 0)'),
+        ('a text stands on the baseline of the line', 'shape.raises[box.holder if isinstance(box, TextBox) else box]',
+         '(0 if isinstance(box, TextBox) else shape.raises[box])'),
     ],
     'sizes': [
         ('a box shrinks to its preferred width',
@@ -134,9 +136,7 @@ ATOMIC_MISTAKES = {
         ('a quotient rounds up', 'within(width * natural_height // natural_width, heights)',
          'within(-(-width * natural_height // natural_width), heights)'),
     ],
-    'alignment': [
-        ('half of the leading rounds up', 'ascent + leading // 2, descent + (leading - leading // 2)',
-         'ascent - -leading // 2, descent + (leading + -leading // 2)'),
+    'baselines': [
         ('an inline-block has the baseline of its first line', '[-1].baseline', '[0].baseline',
          'in reversed(baselines)', 'in baselines'),
         ('an inline-block has the baseline of its own lines alone',
@@ -144,11 +144,14 @@ ATOMIC_MISTAKES = {
         ('lines of inner contexts give an inline-block its baseline',
          'return next((baseline for baseline in reversed(baselines) if baseline is not None), None)',
          'baselines += [flow.top[child] + last_baseline(child.flow, child) for child in box.children\n'
-         '                  if child.is_context and last_baseline(child.flow, child) is not None]\n'
+         '                  if child.flow and not child.is_absolute and last_baseline(child.flow, child) is not None]\n'
          '    return next((baseline for baseline in reversed(baselines) if baseline is not None), None)'),
         ('an inline-block has a baseline whatever its overflow',
-         "last_baseline(box.flow, box) if box.style['overflow'].amount == 'visible' else None",
-         'last_baseline(box.flow, box)'),
+         "if box.is_replaced or box.style['overflow'].amount != 'visible':", 'if box.is_replaced:'),
+    ],
+    'alignment': [
+        ('half of the leading rounds up', 'ascent + leading // 2, descent + (leading - leading // 2)',
+         'ascent - -leading // 2, descent + (leading + -leading // 2)'),
         ('a box without a baseline stands with its border edge', 'return Extent(height, 0)',
          'return Extent(height - box.margin.bottom, box.margin.bottom)'),
         ('a margin above is not in the extent',
@@ -205,12 +208,13 @@ ATOMIC_MISTAKES = {
          "        'baseline': 0,\n", "        'baseline': 0, 'top': 0, 'bottom': 0,\n"),
     ],
     'preferred': [
-        ('an auto margin has a length', "length(box.style['%s-%s' % (name, side)]) or 0",
-         "length(box.style['%s-%s' % (name, side)]) or 64 * (box.style['%s-%s' % (name, side)].amount == 'auto')"),
+        ('an auto margin has a length', 'return margins(box, None), borders(box), paddings(box, None)\n',
+         "lefts = {name: 64 * (box.style['margin-' + name].amount == 'auto') for name in ('left', 'right')}\n"
+         '    return margins(box, None)._replace(**lefts), borders(box), paddings(box, None)\n'),
         ('edges do not count', 'return Pair(*(width + edges for width in content_widths(box)))',
          'return content_widths(box)'),
-        ('negative margins do not count', 'Edges(*map(within_limit, margins))',
-         'Edges(*map(size_within_limit, margins))'),
+        ('negative margins do not count', 'return margins(box, None), borders(box), paddings(box, None)\n',
+         'return borders(box)._make(max(0, edge) for edge in margins(box, None)), borders(box), paddings(box, None)\n'),
         ('bounds do not count', 'return Pair(*(within(width, widths) for width in pair))', 'return pair'),
         ('given widths do not count', 'if given is None else Pair(given, given)', ''),
         ('heights of replaced boxes do not count', "height = length(box.style['height'])", 'height = None'),
@@ -245,7 +249,6 @@ ATOMIC_MISTAKES = {
         ('an indent counts in a line that is not seen',
          'WidthOfLine(content, indent if seen else 0, name)', 'WidthOfLine(content, indent, name)',
          'indent = 0 if seen else indent', 'indent = 0'),
-        ('an indent counts in the first line alone, seen or not', 'indent = 0 if seen else indent', 'indent = 0'),
         ('a linefeed ends no line', '        if segment.is_forced:\n            found.append([])\n', ''),
         ('floats in lines do not count in the least width',
          "indent, 'least')) + floats", "indent, 'least'))"),

@@ -1,86 +1,22 @@
-#!/usr/bin/env python3
-"""A second reading of CSS 2.2: blocks with collapsing margins, floats, clearance, lines, and what stands in them.
+"""Block formatting contexts: blocks whose margins collapse, floats and clearance (CSS 2.2, 9.4.1, 9.5, 9.5.2, 10.6).
 
-usage: blocks.py < DOCUMENT      prints the report of `lay scratch` on a run document without faults
-
-It was written apart from the crates, so that each is a test of the other (`compare`). It is slow on purpose: what the
-standard calls a hypothetical position is got by laying a context out once more for each box with `clear`. Begin here,
-with `Flow`; then `margins` (8.3.1), `floats` (9.5), `lines` (9.4.2), `alignment` (10.8.1), `content` (16.4 and 16.6),
-`sizes` (10), `preferred` (10.3.5), `replaced` (10.3.2 and 10.4), `boxes` (9.2 and 9.7), `face` (15) and `styles` (6).
-
-Words: an atomic box is an inline-block, or a replaced element that is inline. A context is a block formatting context
-or a replaced element, and its own box is the one that establishes it. A solid box is a context's own box among the
-blocks in the flow, which overlaps no float. The mark of a box is where the flow puts its top border edge, before floats
-move it. The start of a run of margins is the edge from which its margins are counted.
-
-How open places of the standard are read
-- 8.3.1: the start of a run is the bottom border edge of the last box before it that isn't collapsed through, also where
-  that edge is inside what the box holds (`max-height`), or the content would have a negative height. A box with
-  clearance sets the start so that it comes to stand at its clear edge: by all margins of its run, or where it is
-  collapsed through by those before its own bottom margin.
-- 8.3.1: that margins with clearance keep off the parent's bottom margin holds where one of the last children in the
-  flow has clearance, and it and all after it are collapsed through. It keeps apart no other margins.
-- 8.3.1: a padding in percent parts margins only where its used value isn't 0.
-- 9.5.1: boxes are next to each other where their vertical ranges share a point. A box to be placed that is less than
-  one unit high is the line of its top, and an earlier float of such a height is next to nothing. The range of a float
-  is that of its margin box, and the range of a solid box that of its border box.
-- 9.5.1, rule 5: a float isn't above its own mark, which is that of an empty block without margins in its place.
-- 9.5.1, rule 7: a left float has "another left float to its left" where the right edge of that one isn't right of its
-  own left edge, so also where the margin box of that one has a negative width.
-- 9.5.2: the hypothetical edge of a solid box is its mark, and not the edge to which floats would move it.
-- 9.5.2: a box also has clearance where a float to clear has its mark in the run of the box's top margin, also a float
-  before the first margin of that run: without clearance the two would move together.
-- 10.1: the root's containing block is the viewport, also for percentages of its height and of the bounds of that. A
-  root that floats right ends at the viewport's right edge.
-- 10.4: the widths that are compared solve the equation as it stands, before they are held within the limit of lengths.
-- 10.5: percentages are of the height after 10.7.
-- 9.7: a replaced element whose `display` is `table` is a block, and with another value for tables or `inline-block` it
-  is inline.
-- 10.3.5: the least width is that of the widest segment or float. To the preferred width of a line the floats in it are
-  added; adjacent floats among blocks add up there, too. An indent is added to the first segment that is seen, and to
-  the first line that is. Widths in percent count as `auto`, other percentages as 0, bounds in percent not at all.
-- 10.4: a quotient by the natural ratio is rounded down.
-- 10.8.1: `sub` lowers by a fifth of the parent's font size and `super` raises by a third, both rounded down. `text-top`
-  and `text-bottom` move a box by its own extent and not by that of its aligned subtree. Subtrees that are `top` extend
-  the line downward, and after them those that are `bottom` upward.
-- 10.8.1: the last line box of an inline-block is the last one in document order of its own context that is seen.
-- 9.2.1.1: blocks in an inline box with nothing between them but blank texts and floats break it once. What stands
-  beside blocks is wrapped whole, with its floats, where it is more than floats and blank texts.
-- 9.4.2: a line is seen, too, where an inline box on it has a margin, border or padding above or below.
-- 9.5: what is beside a line is asked over the height of its strut. A line with nothing in it goes down also where the
-  floats beside it leave the whole width. A float inside a segment is met at its end, and one right behind a break that
-  isn't forced before it; once a float of a line is put off, so are the later ones.
-- 9.5: a line ends before the first segment that doesn't fit, also where a longer front would.
-- 16.1: each block container indents its first line that is seen, also an anonymous block.
-- 16.4: letter-spacing is added behind each cluster, word-spacing at each U+0020 and U+00A0; a tab has neither.
-- 16.6: a line may break on each side of an atomic box, by the `white-space` of the box that directly holds it. The
-  starts of inline boxes right before it go with it. Where nothing but starts and ends of inline boxes stands between
-  two such places they are one, the first: an empty inline box between two atomic boxes goes with the second.
-- 16.6.1: what stands beside a linefeed is removed inside one text; a space behind a space, over texts. A space that
-  surely begins a line is removed before there are segments. Where a space was removed there is no break.
-- 16.6.1: spaces at a line's end under `pre-wrap` don't count for what fits, and do count for alignment; those under
-  `pre` count for both. A space with a combining mark is no space.
-- 6.2.1 and 8.5.1: on the root `inherit` is the initial value, so `border-top-width: inherit` is `medium`.
+It is slow on purpose: what the standard calls a hypothetical position is got by laying a context out once more for each
+box with `clear`.
 """
-import collections
-import json
-import sys
-
-from boxes import Box, boxes_of_context, first_not_built, read_nodes
-from content import Content
-from face import Face
+from boxes import boxes_of_context
 from floats import ContainingBlock, bottoms_to_clear, clears, place_float, place_solid
 from lines import lay_lines
 from margins import MarginRuns, bottom_margin, top_margin
-from preferred import find_preferred_widths
-from sizes import find_sizes, used_height
-from styles import UNITS_PER_PX
+from rows import Rows, edges_down
+from sizes import used_height
+from styles import size_within_limit
 
 
 class Flow:
     """The places and heights of the boxes of a context (9.4.1), from the top left corner of its own border box.
 
-    The boxes with clearance are given, each with its hypothetical edge. Inner contexts are laid out before.
+    The boxes with clearance are given, each with its hypothetical edge. Inner contexts are laid out before. Of absolute
+    boxes there are static positions: at the content edge, where an empty block would stand, or at the top of a line.
     """
 
     def __init__(self, context_box, hypothetical_edges):
@@ -103,17 +39,19 @@ class Flow:
         end = self.start + self.runs.whole(bottom_margin(children[-1])) if children else content_top
         end = self.lines_end.get(self.context_box, end)
         bottom = max([end] + [other.bottom for other in self.floats])
-        return used_height(self.context_box, bottom - content_top)
+        self.auto_height = size_within_limit(bottom - content_top)
+        return used_height(self.context_box, self.auto_height)
 
     def place_content(self, box):
         """Places what is in a box whose content box is open: its lines, or its blocks and floats."""
         if box.has_lines:
-            lines, end = lay_lines(box.content, self.content_boxes[box], self.floats, self.keep_float)
-            self.lines[box], self.lines_end[box] = lines, end
-            for line in lines:
+            lines = lay_lines(box.content, self.content_boxes[box], self.floats, self.keep_float)
+            self.lines[box], self.lines_end[box] = lines.lines, lines.bottom
+            for line in lines.lines:
                 for atomic, left, top in line.atomic_corners:
                     self.left[atomic], self.top[atomic] = left, top
-                    self.height[atomic] = atomic.border_box_height
+            for anchored, top in lines.static_tops.items():
+                self.left[anchored], self.top[anchored] = self.content_boxes[box].left, top
         for child in box.children:
             self.place(child)
 
@@ -154,6 +92,9 @@ class Flow:
         if box.is_floating:
             self.place_float(box)
             return
+        if box.is_absolute:
+            self.left[box], self.top[box] = self.content_boxes[box.parent].left, self.mark(box)
+            return
         self.clear(box)
         self.marks[box] = self.mark(box)
         if box.is_context:
@@ -174,7 +115,6 @@ class Flow:
         self.floats.append(margin_box)
         self.left[box] = margin_box.left + box.margin.left
         self.top[box] = margin_box.top + box.margin.top
-        self.height[box] = box.border_box_height
 
     def place_solid(self, box):
         """A solid box, after which the flow goes on from its bottom border edge (9.5)."""
@@ -238,7 +178,7 @@ def find_clearance(context_box):
     """
     hypothetical_edges = {}
     for box in boxes_of_context(context_box):
-        if box.is_floating or box.clear == 'none':
+        if box.is_out_of_flow() or box.clear == 'none':
             continue
         hypothetical_flow = Flow(context_box, hypothetical_edges)
         hypothetical_edge = hypothetical_flow.marks[box]
@@ -248,102 +188,24 @@ def find_clearance(context_box):
 
 
 def lay_out_context(box):
-    """Sets the flow of a context's own box and the height of its border box, inner contexts first."""
+    """Sets the flow of a context's own box and the height of its border box, inner contexts first.
+
+    Absolute boxes stand in no flow, and are laid out once they have places.
+    """
     for inner in boxes_of_context(box):
-        if inner.is_context:
+        if inner is box.table:
+            lay_out_table(inner)
+        elif inner.is_context and not inner.is_absolute:
             lay_out_context(inner)
     box.flow = Flow(box, find_clearance(box))
-    box.border_box_height = (box.border.top + box.padding.top + box.flow.content_height
-                             + box.padding.bottom + box.border.bottom)
+    box.border_box_height = box.flow.content_height + edges_down(box)
 
 
-# -- the page
-
-def find_content(box, face):
-    """Sets what the lines of the block containers from a box on would hold."""
-    for child in box.children + box.line_boxes:
-        find_content(child, face)
-    box.content = Content(box, face)
-
-
-def find_lines(box):
-    """Settles which block containers from a box on have lines; one without a line that is seen has none (9.4.2)."""
-    for child in box.children + box.line_boxes:
-        find_lines(child)
-    box.has_lines = box.content.has_seen_line()
-    if not box.has_lines:
-        box.hold_no_lines()
-
-
-def lay_out_page(root_node, viewport, face):
-    """The root's box with all sizes and flows set, and the corner of its border box; the viewport is in px (10.1)."""
-    width, height = (side * UNITS_PER_PX for side in viewport)
-    root = Box(root_node, None)
-    find_content(root, face)
-    find_preferred_widths(root)
-    find_sizes(root, width, height)
-    find_lines(root)
-    lay_out_context(root)
-    left = width - root.margin.right - root.border_box_width if root.side == 'right' else root.margin.left
-    return root, left, root.margin.top
-
-
-def pieces_in_flow(flow, box):
-    """The pieces in a box that are of its context, from the context's corner, in the order of the tree of boxes."""
-    for line in flow.lines.get(box, []):
-        yield from line.pieces
-    for child in box.children:
-        if not child.is_context:
-            yield ('box', child.node.id, flow.left[child], flow.top[child], child.border_box_width, flow.height[child])
-            yield from pieces_in_flow(flow, child)
-
-
-def contexts(box, left, top):
-    """The contexts in document order, each as its own box and the corner of that on the page."""
-    yield box, left, top
-    for child in boxes_of_context(box):
-        if child.is_context:
-            yield from contexts(child, left + box.flow.left[child], top + box.flow.top[child])
-
-
-def piece_lines(box, left, top):
-    """The lines of the report for a context; the part counts its earlier pieces of the same kind and node."""
-    parts = collections.Counter()
-    own = ('box', box.node.id, 0, 0, box.border_box_width, box.border_box_height)
-    for kind, ident, x, y, width, height in [own, *pieces_in_flow(box.flow, box)]:
-        yield '%s %d %d %d %d %d %d' % (kind, ident, parts[kind, ident], left + x, top + y, width, height)
-        parts[kind, ident] += 1
-
-
-def contexts_of_page(nodes, run):
-    """The contexts of a document that this reading lays out."""
-    if nodes[0].is_hidden:
-        return []
-    return list(contexts(*lay_out_page(nodes[0], run['viewport'], Face(run.get('face', {})))))
-
-
-def report(run):
-    """The text that the program has to print for a run document, and its status."""
-    nodes = read_nodes(run)
-    place = first_not_built(nodes)
-    if place is not None:
-        return 'refused NotBuilt %d\n' % place, 1
-    lines = ['publish 0', 'final 0']
-    lines += [line for context in contexts_of_page(nodes, run) for line in piece_lines(*context)]
-    return '\n'.join(lines) + '\n', 0
-
-
-def context_count(run):
-    """How many contexts a document has, or None where this reading doesn't lay it out."""
-    nodes = read_nodes(run)
-    return len(contexts_of_page(nodes, run)) if first_not_built(nodes) is None else None
-
-
-def main():
-    text, status = report(json.loads(sys.stdin.buffer.read()))
-    sys.stdout.write(text)
-    sys.exit(status)
-
-
-if __name__ == '__main__':
-    main()
+def lay_out_table(table):
+    """Sets the rows of a table box and the heights of its border box and its cells, all cells first."""
+    for cell in table.children:
+        lay_out_context(cell)
+    table.rows = Rows(table)
+    for cell in table.children:
+        cell.border_box_height, cell.shift = table.rows.height_of_cell(cell), table.rows.shift(cell)
+    table.border_box_height = table.rows.content_height() + edges_down(table)

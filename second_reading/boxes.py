@@ -1,177 +1,54 @@
-"""The nodes of a run document and the boxes that they generate (CSS 2.2, 9.2, 9.4 and 9.7).
+"""The boxes of a document (CSS 2.2, 9.2, 9.4 and 17.4).
 
 A block container holds blocks, or it holds inline content: texts, inline boxes, and the atomic boxes and floats among
-them. Where both stand in it, inline boxes are broken round the blocks, and what stands beside blocks is put into
-anonymous blocks. An atomic box is an inline-block, or a replaced element that is inline (9.2.2).
+them. What stands beside blocks is put into anonymous blocks. A table is two boxes: the wrapper is a block container
+that holds the captions and the table box, and the table box holds rows of cells.
 """
-from styles import UNITS_PER_PX, computed_style
+from collections import namedtuple
 
-FLOATS = ('left', 'right')
+from collapsed_borders import collapse_borders
+from grid import Band, Grid
+from missing_tables import ROW_GROUPS, TABLES, Anonymous
+from nodes import Node
+from parts import InlineBox, children_of, is_atomic, is_blank, is_block, is_out_of_flow
 
+# The boxes of a column of the grid, None for one that isn't there.
+Column = namedtuple('Column', 'element group')
 
-class Node:
-    """A node of the document, with its computed style; a text has that of an element without declarations."""
-
-    def __init__(self, place, fields, parent):
-        self.place, self.id, self.kind, self.parent = place, fields['id'], fields['kind'], parent
-        self.text = fields.get('text', '')
-        self.is_replaced = self.kind == 'replaced'
-        self.natural = [side * UNITS_PER_PX for side in fields['natural']] if self.is_replaced else None
-        self.children = []
-        declarations = {} if self.kind == 'text' else fields.get('style', {})
-        self.style = computed_style(declarations, parent.style if parent else None)
-        self.is_hidden = self.word('display') == 'none' or (parent is not None and parent.is_hidden)
-
-    def word(self, name):
-        """The keyword of a property."""
-        return self.style[name].amount
-
-    def used_display(self):
-        """`display` after the table of 9.7; `list-item` is `block`, since there are no markers.
-
-        A replaced element is a block or inline.
-        """
-        display = self.word('display')
-        if display == 'list-item' or (self.is_replaced and display == 'table'):
-            display = 'block'
-        elif self.is_replaced and display not in ('block', 'none'):
-            display = 'inline'
-        is_absolute = self.word('position') in ('absolute', 'fixed')
-        if is_absolute or self.is_floating() or self.parent is None:
-            if display == 'inline-table':
-                return 'table'
-            if display in ('inline', 'inline-block') or (display.startswith('table') and display != 'table'):
-                return 'block'
-        return display
-
-    def is_floating(self):
-        return self.word('float') in FLOATS
-
-    def is_inline_level(self):
-        """It stands in a line as one box, or is an inline box."""
-        return not self.is_floating() and self.used_display() in ('inline', 'inline-block')
-
-
-def read_nodes(run):
-    """The nodes of a run document in the order of its list, linked to their parents and children."""
-    nodes, by_id = [], {}
-    for place, fields in enumerate(run['nodes']):
-        parent = by_id[fields['parent']] if place > 0 else None
-        node = Node(place, fields, parent)
-        if parent:
-            parent.children.append(node)
-        by_id[node.id] = node
-        nodes.append(node)
-    return nodes
-
-
-def is_built(node):
-    """This reading lays out all but tables and boxes that are positioned."""
-    if node.is_hidden or node.kind == 'text':
-        return True
-    return node.word('position') == 'static' and node.used_display() in ('block', 'inline', 'inline-block')
-
-
-def first_not_built(nodes):
-    """The place of the first node that this reading doesn't lay out, or None."""
-    return next((node.place for node in nodes if not is_built(node)), None)
-
-
-# -- inline content
-
-class TextBox:
-    """A text."""
-
-    def __init__(self, node):
-        self.node, self.style, self.text = node, node.style, node.text
-
-
-class InlineBox:
-    """An inline box, or a part of one that blocks break; `sizes` adds its margins, borders and paddings."""
-
-    def __init__(self, node, children, is_first=True, is_last=True):
-        self.node, self.style, self.children = node, node.style, children
-        self.is_first, self.is_last = is_first, is_last
-
-
-def generated(node):
-    """What the children of a node generate: texts, inline boxes, and the nodes of blocks, floats and atomic boxes."""
-    for child in node.children:
-        if child.is_hidden:
-            continue
-        if child.kind == 'text':
-            if child.text:
-                yield TextBox(child)
-        elif child.used_display() == 'inline' and not child.is_replaced:
-            yield from broken(InlineBox(child, list(generated(child))))
-        else:
-            yield child
-
-
-def is_block(part):
-    return isinstance(part, Node) and not part.is_floating() and not part.is_inline_level()
-
-
-def is_float(part):
-    return isinstance(part, Node) and part.is_floating()
-
-
-def is_blank(part):
-    """A text that is white space which is collapsed away where it stands alone (9.2.2.1, 16.6.1).
-
-    A carriage return is an ordinary character where no linefeed is beside it.
-    """
-    if not isinstance(part, TextBox) or part.text.strip(' \t\r\n'):
-        return False
-    mode = part.style['white-space'].amount
-    if mode in ('normal', 'nowrap'):
-        return '\r' not in part.text or '\n' in part.text
-    return mode == 'pre-line' and '\r' not in part.text and '\n' not in part.text
-
-
-def broken(inline):
-    """The parts of an inline box and the blocks that break it (9.2.1.1), or the box whole.
-
-    Blocks with nothing between them but blank texts and floats are one break; these floats stay between them.
-    """
-    places = [place for place, child in enumerate(inline.children) if is_block(child)]
-    if not places:
-        return [inline]
-    found, begin, is_first = [], 0, True
-    while places:
-        first = last = places.pop(0)
-        while places and all(is_float(child) or is_blank(child) for child in inline.children[last + 1:places[0]]):
-            last = places.pop(0)
-        found.append(InlineBox(inline.node, inline.children[begin:first], is_first, False))
-        found += [child for child in inline.children[first:last + 1] if not is_blank(child)]
-        begin, is_first = last + 1, False
-    return found + [InlineBox(inline.node, inline.children[begin:], False, True)]
-
-
-# -- boxes
 
 class Box:
     """A block container or a replaced box. `sizes` adds its margins, borders, paddings and sizes.
 
-    Its children are blocks and floats, or it has inline content, with the atomic boxes and floats of its lines. Where
-    that comes to no line that is seen, its floats are its children. `preferred` adds its preferred widths, and `blocks`
-    the flow of a context's own box.
+    Its children are blocks and boxes out of the flow, or it has inline content, with the atomic boxes of its lines and
+    the boxes out of the flow that are met there. Where that comes to no line that is seen, these are its children.
+    `preferred` adds its preferred widths, `blocks` the flow of a context's own box, and `page` its corner on the page.
+    The shift is that of what a cell holds.
     """
 
-    def __init__(self, node, parent, style=None):
-        self.node, self.parent, self.style = node, parent, style or node.style
-        self.is_anonymous = style is not None
-        self.side = self.style['float'].amount
-        self.is_floating = self.side != 'none'
-        self.is_replaced = node.is_replaced and not self.is_anonymous
-        self.is_atomic = parent is not None and not self.is_anonymous and node.is_inline_level()
+    table, collapsed_border, shift, flow = None, None, 0, None
+
+    def __init__(self, part, parent):
+        self.is_anonymous = isinstance(part, Anonymous)
+        self.node = part.node if self.is_anonymous else part
+        self.parent, self.style, self.display = parent, part.style, part.display
+        self.is_absolute = not self.is_anonymous and part.is_absolute()
+        self.is_floating = not self.is_anonymous and part.is_floating()
+        self.is_replaced = not self.is_anonymous and part.is_replaced
+        self.is_atomic = parent is not None and is_atomic(part)
         self.is_context = (parent is None or self.is_floating or self.style['overflow'].amount != 'visible'     # 9.4.1
-                           or self.is_atomic or self.is_replaced)
-        self.clear = 'none' if self.is_atomic else self.style['clear'].amount                   # 9.5.2
+                           or self.is_absolute or self.is_atomic or self.is_replaced
+                           or self.display in TABLES + ('table-cell', 'table-caption'))
+        self.side = self.style['float'].amount if self.is_floating else 'none'
+        self.clear = 'none' if self.is_atomic or self.display in TABLES else self.style['clear'].amount    # 9.5.2, 17.4
         self.children, self.line_boxes, self.inline_content = [], [], []
         self.content, self.has_lines = None, False
+        self.colspan, self.rowspan = (1, 1) if self.is_anonymous else (self.node.colspan, self.node.rowspan)
         if not self.is_anonymous:
-            self.fill(list(generated(node)))
+            self.node.box = self
+        self.fill(children_of(part))
+
+    def is_out_of_flow(self):
+        return self.is_floating or self.is_absolute
 
     def fill(self, parts):
         """Gives the box what its node's children generate (9.2.1.1)."""
@@ -182,48 +59,130 @@ class Box:
         for part in parts:
             if is_block(part):
                 self.end_run(run)
-                self.children.append(Box(part, self))
+                self.children.append(make_box(part, self))
                 run = []
             else:
                 run.append(part)
         self.end_run(run)
 
     def end_run(self, run):
-        """Wraps what stands beside blocks in an anonymous block, if it is more than floats and blank texts."""
-        if all(is_float(part) or is_blank(part) for part in run):
-            self.children += [Box(part, self) for part in run if is_float(part)]
-            return
-        block = Box(self.node, self, computed_style({}, self.style))
-        block.hold_inline_content(run)
-        self.children.append(block)
+        """Wraps what stands beside blocks in an anonymous block, if some of it is in the flow and not blank."""
+        if all(is_out_of_flow(part) or is_blank(part) for part in run):
+            self.children += [make_box(part, self) for part in run if is_out_of_flow(part)]
+        else:
+            self.children.append(Box(Anonymous('block', self.node, run), self))
 
     def hold_inline_content(self, parts):
-        """Texts and inline boxes, and atomic boxes and floats, whose containing block is this box."""
+        """Texts and inline boxes, atomic boxes and boxes out of the flow, whose containing block is this box."""
         self.inline_content = self.with_boxes(parts, self)
 
     def with_boxes(self, parts, holder):
-        """The parts, with boxes for nodes; each part knows the box that holds it directly."""
+        """The parts, with boxes for those that have boxes of their own; each part knows what holds it directly."""
         for place, part in enumerate(parts):
             if isinstance(part, InlineBox):
                 self.with_boxes(part.children, part)
-            elif isinstance(part, Node):
-                part = parts[place] = Box(part, self)
+            elif isinstance(part, (Node, Anonymous)):
+                part = parts[place] = make_box(part, self)
                 self.line_boxes.append(part)
             part.holder = holder
         return parts
 
     def hold_no_lines(self):
-        """No line of the inline content is seen, so its floats are as those among blocks."""
+        """No line of the inline content is seen, so what is out of the flow is as that among blocks."""
         self.children += self.line_boxes
         self.line_boxes = []
 
     def children_in_flow(self):
-        """The children that aren't floats (9.3)."""
-        return [child for child in self.children if not child.is_floating]
+        """The children that are in the flow (9.3)."""
+        return [child for child in self.children if not child.is_out_of_flow()]
+
+
+class Wrapper(Box):
+    """The wrapper of a table (17.4): the captions above it, the table box, and those below it."""
+
+    def fill(self, parts):
+        captions = [Box(part, self) for part in parts if part.display == 'table-caption']
+        self.table = Table(self, [part for part in parts if part.display != 'table-caption'])
+        below = [caption for caption in captions if caption.style['caption-side'].amount == 'bottom']
+        self.children = [caption for caption in captions if caption not in below] + [self.table] + below
+
+
+class InnerBox:
+    """A row group, a row, a column group or a column, with the boxes in it."""
+
+    def __init__(self, part, children):
+        self.node = part.node if isinstance(part, Anonymous) else part
+        self.style, self.display, self.children = part.style, part.display, children
+
+
+class Table(Box):
+    """A table box (17.5). Its children are its cells; its row boxes are its row groups, and its rows that are in none.
+
+    Both are in document order, and the bands and rows of the grid in visual order.
+    """
+
+    def __init__(self, wrapper, parts):
+        self.parent, self.node, self.style, self.display = wrapper, wrapper.node, wrapper.style, 'table-box'
+        self.is_anonymous = self.is_context = True
+        self.is_floating = self.is_absolute = self.is_replaced = self.is_atomic = self.has_lines = False
+        self.side = self.clear = 'none'
+        self.children, self.line_boxes, self.inline_content = [], [], []
+        self.collapses = self.style['border-collapse'].amount == 'collapse'
+        inner_boxes = [self.inner_box(part) for part in parts]
+        self.row_boxes = [box for box in inner_boxes if box.display in ROW_GROUPS + ('table-row',)]
+        self.columns = columns_of([box for box in inner_boxes if box not in self.row_boxes])
+        self.grid = Grid(bands_of(self.row_boxes), len(self.columns))
+        self.columns += [Column(None, None)] * (self.grid.column_count - len(self.columns))
+        if self.collapses:
+            collapse_borders(self)
+
+    def inner_box(self, part):
+        """The box of a row group, a row, a column group or a column; cells become children of the table box."""
+        if part.display != 'table-row':
+            return InnerBox(part, [self.inner_box(child) for child in children_of(part)])
+        cells = [Box(cell, self) for cell in children_of(part)]
+        self.children += cells
+        return InnerBox(part, cells)
+
+
+def columns_of(column_boxes):
+    """The columns for which there are elements; a group without columns stands for as many as it spans (17.3)."""
+    found = []
+    for box in column_boxes:
+        if box.display == 'table-column':
+            found += [Column(box, None)] * box.node.colspan
+        elif box.children:
+            found += [Column(element, box) for element in box.children for _ in range(element.node.colspan)]
+        else:
+            found += [Column(None, box)] * box.node.colspan
+    return found
+
+
+def bands_of(row_boxes):
+    """The bands in visual order: the first header group stands first, and the first footer group last (17.2)."""
+    heads = [box for box in row_boxes if box.display == 'table-header-group'][:1]
+    feet = [box for box in row_boxes if box.display == 'table-footer-group'][:1]
+    bands = []
+    for box in heads + [box for box in row_boxes if box not in heads + feet] + feet:
+        if box.display != 'table-row':
+            bands.append(Band(box, box.children))
+        elif bands and bands[-1].group is None:
+            bands[-1].rows.append(box)
+        else:
+            bands.append(Band(None, [box]))
+    return bands
+
+
+def make_box(part, parent):
+    """The box of a node, or an anonymous one; of a table its wrapper."""
+    return Wrapper(part, parent) if part.display in TABLES else Box(part, parent)
 
 
 def boxes_of_context(box):
-    """The boxes below a context's own box that stand in it, inner contexts' own boxes among them, in document order."""
+    """The boxes below a context's own box that stand in it, inner contexts' own boxes among them, in document order.
+
+    Those of captions and table box are in the order in which they stand.
+    """
     for child in box.children + box.line_boxes:
         yield child
         if not child.is_context:

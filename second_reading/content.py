@@ -1,18 +1,18 @@
 """The inline content of a block container: white space, clusters and stretches without breaks (CSS 2.2, 16.4 and 16.6).
 
 The content is one list of parts in document order: where inline boxes start and end, the clusters of the texts, atomic
-boxes, and floats. A segment is what no line break may divide.
+boxes, and boxes out of the flow. A segment is what no line break may divide.
 """
 import re
 from collections import namedtuple
 
-from boxes import InlineBox, TextBox
 from face import clusters
+from parts import InlineBox, TextBox
 from sizes import has_vertical_edges, used_edges
 
 Start = namedtuple('Start', 'box')
 End = namedtuple('End', 'box')
-Float = namedtuple('Float', 'box')
+OutOfFlow = namedtuple('OutOfFlow', 'box')
 Atomic = namedtuple('Atomic', 'box')
 
 # The kind is `space` for a collapsible space, `hanging` for a preserved space under `pre-wrap`, `tab` for a preserved
@@ -29,7 +29,7 @@ def mode(box):
 
 
 def items(parts):
-    """What stands in the lines, in document order: starts, ends, atomic boxes, floats, and texts as they are."""
+    """What stands in the lines, in document order: starts, ends, atomic boxes, texts as they are, and what is met."""
     for part in parts:
         if isinstance(part, InlineBox):
             yield Start(part)
@@ -38,7 +38,7 @@ def items(parts):
         elif isinstance(part, TextBox):
             yield part
         else:
-            yield Float(part) if part.is_floating else Atomic(part)
+            yield Atomic(part) if part.is_atomic else OutOfFlow(part)
 
 
 # -- white space, 16.6.1
@@ -86,7 +86,7 @@ def clusters_of(text, box, face):
 
 
 def collapsed_parts(parts, face):
-    """Starts, ends, atomic boxes, floats and clusters, after 16.6.1 but for what it does line by line.
+    """Starts, ends, atomic boxes, boxes out of the flow and clusters, after 16.6.1 but for what it does line by line.
 
     A collapsible space that begins the content, or is the first after a preserved linefeed, is removed here.
     """
@@ -112,12 +112,12 @@ def collapsed_parts(parts, face):
 class Segment:
     """Parts between two places where a line may break.
 
-    Its floats are met behind it. Heads are floats that stand before all else where a line surely begins. A forced
-    segment ends with a preserved linefeed, and so its line ends.
+    Boxes out of the flow are met behind it. Heads are those that stand before all else where a line surely begins. A
+    forced segment ends with a preserved linefeed, and so its line ends.
     """
 
     def __init__(self):
-        self.heads, self.parts, self.floats, self.is_forced = [], [], [], False
+        self.heads, self.parts, self.met, self.is_forced = [], [], [], False
 
     def is_empty(self):
         return not (self.heads or self.parts)
@@ -153,8 +153,8 @@ def breaks_behind(part, following):
 def segments_of(parts):
     """The segments of the content.
 
-    Ends right behind a break stand before it, and so do floats behind one that isn't forced. Starts right before an
-    atomic box stand behind the break there, which parts it from a text or another atomic box.
+    Ends right behind a break stand before it, and so do boxes out of the flow behind one that isn't forced. Starts
+    right before an atomic box stand behind the break there, which parts it from a text or another atomic box.
     """
     parts = list(parts)
     found, current = [], Segment()
@@ -164,11 +164,11 @@ def segments_of(parts):
             behind = current.part_starts()
             found.append(current)
             current = behind
-        if isinstance(part, Float):
+        if isinstance(part, OutOfFlow):
             if current.has_content():
-                current.floats.append(part.box)
+                current.met.append(part.box)
             elif before and not before.is_forced:
-                before.floats.append(part.box)
+                before.met.append(part.box)
             else:
                 current.heads.append(part.box)
         elif isinstance(part, End) and before and current.is_empty():

@@ -4,7 +4,7 @@
 usage: documents.py COUNT SEED      prints the documents 0 .. COUNT - 1 of a seed, one a line
 
 They are small trees, of 1 to 14 nodes and a depth of at most 6, in which the hard cases are common: most values are
-from short lists, so that edges often meet. Each is a document that `blocks` lays out.
+from short lists, so that edges often meet.
 """
 import json
 import random

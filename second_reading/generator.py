@@ -8,7 +8,7 @@ The draws are those of a small generator of numbers, settled by the seed.
 import json
 import sys
 
-from blocks import report
+from report import report
 
 EDITORS = 4
 
@@ -76,7 +76,7 @@ def mark(pieces):
 def summary(size, seed):
     """The four lines of `lay gen`."""
     document, accepted = edited(generated_run(size, seed))
-    pieces = report(document)[0].splitlines()[2:]
+    pieces = report(document).splitlines()[2:]
     return 'nodes %d\naccepted %d\npieces %d\nmark %d\n' % (len(document['nodes']), accepted, len(pieces), mark(pieces))
 
 

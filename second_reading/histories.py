@@ -13,8 +13,8 @@ import re
 import subprocess
 import sys
 
-from blocks import context_count, report
 from edits import Document
+from report import context_count, report
 
 EDIT = re.compile(r'edit ([0-9]+) ([0-9]+) (accepted|refused) (E?[0-9]+)')
 READ = re.compile(r'(latest|sync) ([0-9]+) ([0-9]+) ([0-9]+)')
@@ -36,9 +36,7 @@ def require(holds, what):
 
 def reading_tree(run):
     """The lines of a document's tree by the second reading."""
-    text, status = report(run)
-    require(status == 0, 'the second reading does not lay the document out: %s' % text.strip())
-    return text.splitlines()[2:]
+    return report(run).splitlines()[2:]
 
 
 def program_tree(program):
@@ -144,7 +142,7 @@ class Checker:
     def laid(self):
         number, = self.fields(LAID)
         contexts = context_count(self.document.as_run())
-        require(contexts is None or number >= CELLS_OF_A_CONTEXT * contexts, '%d contexts' % (contexts or 0))
+        require(number >= CELLS_OF_A_CONTEXT * contexts, '%d contexts' % contexts)
         require(number < 2 ** 64, 'a number that is too great')
         self.place += 1
 

@@ -1,18 +1,21 @@
 """The lines of a block container, beside floats (CSS 2.2, 9.4.2, 9.5, 10.8.1, 16.1, 16.2 and 16.6.1).
 
-A line is filled from its start, a segment after the other, as long as each fits; a float is placed where it is met.
+A line is filled from its start, a segment after the other, as long as each fits; a float is placed where it is met, and
+an absolute box has its static position in the line that meets it.
 """
 from collections import namedtuple
 
 from alignment import extent_of_atomic, extent_of_font, shape_of_line
-from boxes import InlineBox
 from content import Atomic, Cluster, End, Start, is_seen
 from floats import is_next_to, place_float, tops_from
+from parts import InlineBox, TextBox
 from sizes import has_vertical_edges
 
 Room = namedtuple('Room', 'left right is_beside_floats')
 # The corners of the border boxes of the atomic boxes stand beside the pieces.
 Line = namedtuple('Line', 'pieces atomic_corners baseline')
+# The kind is `line`, `box`, `text`, or `atomic` where the pieces of an atomic box stand that no node generates.
+Piece = namedtuple('Piece', 'kind box left top width height')
 
 
 def start_width(box):
@@ -72,7 +75,7 @@ class LineFill:
 
     def __init__(self, lines, top):
         self.lines, self.top = lines, top
-        self.parts, self.put_off = [], []
+        self.parts, self.put_off, self.anchored = [], [], []
         self.room = lines.room(top)
         self.pen = self.new_pen()
 
@@ -98,8 +101,11 @@ class LineFill:
     def take(self, segment):
         self.pen = self.pen_with(segment.parts)
         self.parts += segment.parts
-        for box in segment.floats:
-            self.meet(box)
+        for box in segment.met:
+            if box.is_absolute:
+                self.anchored.append(box)
+            else:
+                self.meet(box)
 
     def meet(self, box):
         """Places a float that the line meets, or puts it off behind the line.
@@ -129,6 +135,7 @@ class Lines:
     def __init__(self, content, containing_block, floats, keep_float):
         self.content, self.containing_block = content, containing_block
         self.floats, self.keep_float = floats, keep_float
+        self.static_tops = {}
         self.strut = extent_of_font(content.box, content.face)
         self.open_boxes = []
         self.lines = []
@@ -159,11 +166,13 @@ class Lines:
         The line goes down to where its first segment fits, or no float is beside it.
         """
         segments = self.content.segments
-        self.place_below(segments[first].heads, self.bottom)
+        heads = segments[first].heads
+        self.place_below([box for box in heads if box.is_floating], self.bottom)
         for top in tops_from(self.bottom, self.floats):
             line = LineFill(self, top)
             if line.fits(segments[first]) or not line.room.is_beside_floats:
                 break
+        line.anchored += [box for box in heads if box.is_absolute]
         line.take(segments[first])
         behind = first + 1
         while behind < len(segments) and not segments[behind - 1].is_forced and line.fits(segments[behind]):
@@ -174,6 +183,7 @@ class Lines:
 
     def end(self, line):
         """Keeps a line if it is seen; a float that was put off stands below it."""
+        self.static_tops.update(dict.fromkeys(line.anchored, line.top))
         open_boxes = list(self.open_boxes)
         boxes = open_boxes + [part.box for part in line.parts if isinstance(part, (Start, Atomic))]
         for part in line.parts:
@@ -205,8 +215,7 @@ class LinePieces:
         indent = lines.next_indent()
         width = line.pen.place - line.pen.removed - line.pen.start
         self.start = line.room.left + indent + self.shift(line.room.right - line.room.left - indent - width)
-        self.spans = {box: [self.start, None] for box in open_boxes}         # the left and right edges of pieces
-        self.atomic_lefts = {}                                               # left border edges
+        self.spans = {box: [self.start, None] for box in open_boxes}         # left and right edges, without margins
         self.find_spans()
 
     def shift(self, rest):
@@ -237,23 +246,26 @@ class LinePieces:
             elif isinstance(part, End):
                 self.spans[part.box][1] = pen.place + offset - (part.box.margin.right if part.box.is_last else 0)
             elif isinstance(part, Atomic):
-                self.atomic_lefts[part.box] = before + part.box.margin.left
+                self.spans[part.box] = [before + part.box.margin.left, None]
             elif part.kind != 'linefeed':
                 self.spans.setdefault(part.box, [before, None])[1] = pen.place + offset
         self.end = pen.place + offset
 
     def line_box(self, shape):
-        """The line box, with its pieces: each is its kind, the id of its node, and its rectangle."""
+        """The line box, with its pieces."""
         line = self.line
         baseline = line.top + shape.extent.above
-        pieces = [('line', self.lines.content.box.node.id, line.room.left, line.top, line.room.right - line.room.left,
-                   sum(shape.extent))]
+        pieces = [Piece('line', self.lines.content.box, line.room.left, line.top, line.room.right - line.room.left,
+                        sum(shape.extent))]
+        corners = []
         for box, (left, right) in self.spans.items():
-            right = self.end if right is None else right
-            raised = shape.raises[box if isinstance(box, InlineBox) else box.holder]
-            pieces.append(self.piece(box, left, right, baseline - raised))
-        corners = [(box, left, baseline - shape.raises[box] - extent_of_atomic(box).above + box.margin.top)
-                   for box, left in self.atomic_lefts.items()]
+            box_baseline = baseline - shape.raises[box.holder if isinstance(box, TextBox) else box]
+            if isinstance(box, (TextBox, InlineBox)):
+                pieces.append(self.piece(box, left, self.end if right is None else right, box_baseline))
+                continue
+            corners.append((box, left, box_baseline - extent_of_atomic(box).above + box.margin.top))
+            if box.is_anonymous:
+                pieces.append(Piece('atomic', box, None, None, None, None))
         return Line(pieces, corners, baseline)
 
     def piece(self, box, left, right, baseline):
@@ -265,13 +277,13 @@ class LinePieces:
             kind = 'box'
             above += box.padding.top + box.border.top
             below += box.padding.bottom + box.border.bottom
-        return kind, box.node.id, left, baseline - above, right - left, above + below
+        return Piece(kind, box, left, baseline - above, right - left, above + below)
 
 
 def lay_lines(content, containing_block, floats, keep_float):
-    """The lines of a block container, and the bottom of the last one; floats that they place are kept."""
+    """The lines of a block container, filled from the first segment on; floats that they place are kept."""
     lines = Lines(content, containing_block, floats, keep_float)
     next_segment = 0
     while next_segment < len(content.segments):
         next_segment = lines.next_line(next_segment)
-    return lines.lines, lines.bottom
+    return lines

@@ -24,8 +24,8 @@ def collapsed(amounts):
 
 
 def amount(margin):
-    """The used margin; a float stands in the sequence as an empty block without margins."""
-    if margin.box.is_floating:
+    """The used margin; a box out of the flow stands in the sequence as an empty block without margins."""
+    if margin.box.is_out_of_flow():
         return 0
     return margin.box.margin.top if margin.edge == 'top' else margin.box.margin.bottom
 
@@ -59,7 +59,7 @@ class MarginRuns:
 
     def collapses_through(self, box):
         """The box's own margins adjoin: it has no height, and neither has what is in it."""
-        if box.is_floating:
+        if box.is_out_of_flow():
             return True
         if box.is_context or box.border.top or box.padding.top or box.padding.bottom or box.border.bottom:
             return False
@@ -117,7 +117,7 @@ class MarginRuns:
         return self.run(margin) == self.run(other)
 
     def has(self, margin):
-        """The margin stands in the sequence; those of floats in lines don't."""
+        """The margin stands in the sequence; those of boxes in lines don't."""
         return margin in self.places
 
     def stands_before(self, margin, other):

@@ -2,10 +2,11 @@
 import copy
 import json
 
-from boxes import first_not_built, read_nodes
+from nodes import read_nodes
 
 PLAIN_WORDS = {'float': 'left', 'clear': 'left', 'overflow': 'hidden', '-style': 'solid'}
-KEYWORDS = ('display', 'text-align', 'white-space', 'vertical-align')        # without plainer values
+KEYWORDS = ('display', 'text-align', 'white-space', 'vertical-align', 'position', 'border-collapse',
+            'caption-side', 'table-layout')                                 # without plainer values
 PLAIN_VIEWPORT = [100, 80]
 PLAIN_SIDES = [[20, 20], [20, 10], [10, 20]]
 
@@ -107,6 +108,24 @@ def with_plainer_sides(run):
                 yield other
 
 
+def with_span(run, place, name, span):
+    """The document with another span of a cell or a column, or with none."""
+    other = copy.deepcopy(run)
+    other['nodes'][place][name] = span
+    if span == 1:
+        del other['nodes'][place][name]
+    return other
+
+
+def with_smaller_spans(run):
+    """With a span of 1, or with one that is smaller by one."""
+    for place, node in enumerate(run['nodes']):
+        for name in ('colspan', 'rowspan'):
+            for span in sorted({1, node.get(name, 1) - 1}):
+                if 0 < span and name in node:
+                    yield with_span(run, place, name, span)
+
+
 def with_plainer_face(run):
     """With the usual face, or with a number of the face less."""
     if 'face' not in run:
@@ -132,16 +151,18 @@ def smaller_documents(run):
     yield from with_plainer_face(run)
     yield from with_plainer_styles(run)
     yield from with_plainer_sides(run)
+    yield from with_smaller_spans(run)
     yield from with_shorter_texts(run)
     yield from with_plainer_numbers(run)
 
 
-def is_laid_out(run):
-    """The change has left a document that `blocks` lays out."""
+def is_document(run):
+    """The change has left a document."""
     try:
-        return first_not_built(read_nodes(run)) is None
+        read_nodes(run)
     except (KeyError, ValueError, IndexError, TypeError):
         return False
+    return True
 
 
 def minimize(run, shows):
@@ -153,7 +174,7 @@ def minimize(run, shows):
             if text in tried:
                 continue
             tried.add(text)
-            if is_laid_out(smaller) and shows(smaller):
+            if is_document(smaller) and shows(smaller):
                 run = smaller
                 break
         else:

@@ -35,16 +35,16 @@ MISTAKES = {
         ('each character is a cluster', '    if text.isascii():\n', '    return list(text)\n    if text.isascii():\n'),
         ('joined pictographs are clusters of their own', "if after == 'pictograph' and last == 'joiner':", 'if False:'),
     ],
-    'boxes': [
-        ('a blank beside a block is wrapped', 'if all(is_float(part) or is_blank(part) for part in run):',
-         'if all(is_float(part) for part in run):'),
-        ('a float beside a block is wrapped', 'if all(is_float(part) or is_blank(part) for part in run):',
-         'if all(is_blank(part) for part in run):'),
+    'nodes': [
+        ('an anonymous block inherits nothing', 'computed_style({}, self.style)', 'computed_style({}, None)'),
+    ],
+    'parts': [
         ('each block breaks its inline box',
-         '        while places and all(is_float(child) or is_blank(child) for child in'
-         ' inline.children[last + 1:places[0]]):\n            last = places.pop(0)\n', ''),
+         '        while places and all(is_out_of_flow(child) or is_blank(child)\n'
+         '                             for child in inline.children[last + 1:places[0]]):\n'
+         '            last = places.pop(0)\n', ''),
         ('a float between blocks breaks their inline box',
-         'all(is_float(child) or is_blank(child) for child', 'all(is_blank(child) for child'),
+         'all(is_out_of_flow(child) or is_blank(child)\n', 'all(is_blank(child)\n'),
         ('empty sides of a broken inline box go',
          'return found + [InlineBox(inline.node, inline.children[begin:], False, True)]',
          'return [part for part in found + [InlineBox(inline.node, inline.children[begin:], False, True)]\n'
@@ -54,7 +54,12 @@ MISTAKES = {
         ('a carriage return is always blank', "return '\\r' not in part.text or '\\n' in part.text", 'return True'),
         ('a linefeed under pre-line is blank',
          "'\\r' not in part.text and '\\n' not in part.text", "'\\r' not in part.text"),
-        ('an anonymous block inherits nothing', 'computed_style({}, self.style)', 'computed_style({}, None)'),
+    ],
+    'boxes': [
+        ('a blank beside a block is wrapped', 'if all(is_out_of_flow(part) or is_blank(part) for part in run):',
+         'if all(is_out_of_flow(part) for part in run):'),
+        ('a float beside a block is wrapped', 'if all(is_out_of_flow(part) or is_blank(part) for part in run):',
+         'if all(is_blank(part) for part in run):'),
     ],
     'content': [
         ('blanks beside a linefeed stay under pre-line', "text = re.sub('[ \\t\\r]*\\n[ \\t\\r]*', '\\n', text)",
@@ -173,8 +178,8 @@ MISTAKES = {
          'find_inline_edges(box.inline_content, containing_width)'),
         ('the right one of two auto margins is the floor', 'margin_left = room // 2', 'margin_left = -(-room // 2)'),
         ('auto margins are negative', 'if (margin_left or 0) + (margin_right or 0) > room:', 'if False:'),
-        ('max-width keeps the margins', 'widths = with_width(most)', 'widths = widths._replace(width=most)'),
-        ('min-width keeps the margins', 'widths = with_width(least)', 'widths = widths._replace(width=least)'),
+        ('max-width keeps the margins', 'solved = equation(most)', 'solved = solved._replace(size=most)'),
+        ('min-width keeps the margins', 'solved = equation(least)', 'solved = solved._replace(size=least)'),
         ('max-height wins over min-height',
          '    if most is not None and height > most:\n        height = most\n'
          '    if height < least:\n        height = least\n',
@@ -185,8 +190,8 @@ MISTAKES = {
         ('percentages are of the height before its bounds',
          'containing_height if box.is_anonymous else box.definite_height',
          'containing_height if box.is_anonymous else box.given_height'),
-        ('a percentage of margin-top is of the height', '    find_heights(box, containing_height)\n',
-         "    find_heights(box, containing_height)\n"
+        ('a percentage of margin-top is of the height', '    find_heights(sized, containing_height)\n',
+         "    find_heights(sized, containing_height)\n"
          "    margin_top = resolve(box.style['margin-top'], containing_height)\n"
          "    box.margin = box.margin._replace(top=within_limit(margin_top or 0))\n"),
         ('a float has no height in percent', "resolve(style['height'], containing_height)",
@@ -259,8 +264,6 @@ MISTAKES = {
     ],
     'blocks': [
         ('lines do not part margins', 'return self.lines_end[box]', 'return self.content_boxes[box].top'),
-        ('a line that is not seen makes its block hold lines', 'box.has_lines = box.content.has_seen_line()',
-         'box.has_lines = bool(box.content.segments)'),
         ('a box that is collapsed through stands at the end of its run',
          'self.marks[box] = self.mark(box)', 'self.marks[box] = self.start + self.runs.whole(top_margin(box))'),
         ('a box that is collapsed through stands apart from its parent',
@@ -306,10 +309,10 @@ MISTAKES = {
         ('a cleared box counts no later margins',
          'clear_edge - self.runs.whole(top_margin(box))', 'clear_edge - self.runs.before(bottom_margin(box))'),
         ('inner boxes are cleared before outer ones',
-         '    for box in boxes_of_context(context_box):\n        if box.is_floating or',
+         '    for box in boxes_of_context(context_box):\n        if box.is_out_of_flow() or',
          '    def inner_first(box):\n        for child in box.children:\n            if not child.is_context:\n'
          '                yield from inner_first(child)\n            yield child\n'
-         '    for box in inner_first(context_box):\n        if box.is_floating or'),
+         '    for box in inner_first(context_box):\n        if box.is_out_of_flow() or'),
         ('a float of the other side moves with the box', 'any(clears(box.clear, other.side)\n', 'any(True\n'),
         ('a float of the other side moves with the box that clears some',
          'any(clears(box.clear, other.side)\n', 'any(hypothetical_flow.bottoms_to_clear[box]\n'),
@@ -333,6 +336,11 @@ MISTAKES = {
          '[other.bottom - other.box.margin.bottom for other in self.floats]'),
         ('a height of auto ends before the last margin',
          'return self.start + self.runs.whole(bottom_margin(children[-1]))', 'return self.start'),
-        ('the root has no height in percent', 'find_sizes(root, width, height)', 'find_sizes(root, width, None)'),
+    ],
+    'page': [
+        ('a line that is not seen makes its block hold lines', 'box.has_lines = box.content.has_seen_line()',
+         'box.has_lines = bool(box.content.segments)'),
+        ('the root has no height in percent', 'find_sizes(root, viewport.width, viewport.height)',
+         'find_sizes(root, viewport.width, None)'),
     ],
 }

@@ -6,10 +6,11 @@ pair is the least width and the preferred one.
 """
 from collections import namedtuple
 
+from columns import all_spacings_across, own_widths
 from content import Atomic, Cluster, End, Start, is_seen
+from edges import borders, margins, paddings
 from replaced import Bounds, replaced_size, within
-from sizes import Edges
-from styles import SIDES, size_within_limit, within_limit
+from styles import within_limit
 
 Pair = namedtuple('Pair', 'least preferred')
 
@@ -21,11 +22,7 @@ def length(value):
 
 def edges_of_lengths(box):
     """The margins, borders and paddings where percentages are 0, as `auto` is."""
-    margins, paddings = ([length(box.style['%s-%s' % (name, side)]) or 0 for side in SIDES]
-                         for name in ('margin', 'padding'))
-    borders = (box.style['border-%s-width' % side].amount for side in SIDES)
-    return (Edges(*map(within_limit, margins)), Edges(*map(size_within_limit, borders)),
-            Edges(*map(size_within_limit, paddings)))
+    return margins(box, None), borders(box), paddings(box, None)
 
 
 def edge_width(box, side):
@@ -48,12 +45,14 @@ def content_widths(box):
         width, _ = replaced_size(box.node.natural, given, height, widths, bounds_of_lengths(box, 'height'))
         return Pair(width, width)
     pair = Pair(box.least_width, box.preferred_width) if given is None else Pair(given, given)
+    if box.table:                                                   # its columns make a table wider than it is given
+        pair = Pair(max(pair.least, box.least_width), max(pair.preferred, box.preferred_width))
     return Pair(*(within(width, widths) for width in pair))
 
 
 def contribution(box):
     """The widths of the margin box."""
-    edges = edge_width(box, 'left') + edge_width(box, 'right')
+    edges = sum(edge_width(each, side) for each in (box, box.table) if each for side in ('left', 'right'))
     return Pair(*(width + edges for width in content_widths(box)))
 
 
@@ -112,7 +111,7 @@ def forced_lines(segments):
 
 
 def floats_of(segments):
-    return [box for segment in segments for box in segment.heads + segment.floats]
+    return [box for segment in segments for box in segment.heads + segment.met if box.is_floating]
 
 
 def widths_of_inline_content(content):
@@ -128,12 +127,17 @@ def widths_of_inline_content(content):
     return Pair(max([0] + least), max([0] + preferred))
 
 
-# -- blocks
+# -- blocks and tables
 
 def widths_of_blocks(box):
-    """The greatest contribution of a child, where adjacent floats stand beside each other in the preferred width."""
+    """The greatest contribution of a child, where adjacent floats stand beside each other in the preferred width.
+
+    Absolute boxes contribute nothing, and don't part floats.
+    """
     least, preferred, before = [0], [0], None
     for child in box.children:
+        if child.is_absolute:
+            continue
         pair = contribution(child)
         least.append(pair.least)
         if before and before.is_floating and child.is_floating:
@@ -144,9 +148,22 @@ def widths_of_blocks(box):
     return Pair(max(least), max(preferred))
 
 
+def widths_of_columns(table):
+    """The sum over the columns, each with its own width or the greatest contribution of its cells that span one."""
+    own = own_widths(table, None)
+    pairs = [Pair(width or 0, width or 0) for width in own]
+    for cell, area in table.grid.areas.items():
+        if area.columns == 1 and own[area.column] is None:
+            pairs[area.column] = Pair(*map(max, pairs[area.column], contribution(cell)))
+    return Pair(*(all_spacings_across(table) + sum(getattr(pair, name) for pair in pairs) for name in Pair._fields))
+
+
 def find_preferred_widths(box):
-    """Sets the preferred widths of the content boxes from a box on, inner ones first."""
+    """Sets the preferred widths of the content boxes from a box on, inner ones first; a table box has its wrapper's."""
     for child in box.children + box.line_boxes:
         find_preferred_widths(child)
-    pair = widths_of_inline_content(box.content) if box.content.segments else widths_of_blocks(box)
+    if box.table:
+        pair = widths_of_columns(box.table)
+    else:
+        pair = widths_of_inline_content(box.content) if box.content.segments else widths_of_blocks(box)
     box.least_width, box.preferred_width = pair

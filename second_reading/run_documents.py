@@ -8,9 +8,9 @@ Several editors change the same few nodes, so that whether an edit has a fault d
 import random
 
 from atomic_documents import atomic_document
-from blocks import context_count, report
 from documents import document, print_documents
 from edits import Document
+from report import context_count, report
 from text_documents import text_document
 
 DRAWS = (document, text_document, atomic_document)
@@ -107,7 +107,7 @@ def run_document(seed, number):
 # -- a report that may be
 
 def tree_of(current):
-    return report(current.as_run())[0].splitlines()[2:]
+    return report(current.as_run()).splitlines()[2:]
 
 
 def possible_report(run, rng):

@@ -1,16 +1,19 @@
-"""Used margins, borders, paddings and widths, and heights as they are given (CSS 2.2, 8.3 to 8.5, 10.2 to 10.7).
+"""Used widths, and heights as they are given (CSS 2.2, 8.3 to 8.5, 10.2 to 10.7 and 17.5.2).
 
 They depend on the containing block and on preferred widths, so they are found before any box is placed. None stands for
 `auto`, and for a greatest size of `none`.
 """
 from collections import namedtuple
 
-from boxes import InlineBox
+from columns import all_spacings_across, column_widths, width_over_columns
+from edges import NO_EDGES, borders, margins, paddings
+from offsets import solve_absolute
+from parts import InlineBox
 from replaced import Bounds, replaced_size
-from styles import SIDES, resolve, size_within_limit, within_limit
+from styles import resolve, size_within_limit, within_limit
 
-Edges = namedtuple('Edges', SIDES)
-Widths = namedtuple('Widths', 'margin_left margin_right width')
+# The margins at left and right, and the width.
+Widths = namedtuple('Widths', 'before after size')
 
 
 def solve_in_flow(containing_width, margin_left, margin_right, width, rest):
@@ -47,6 +50,34 @@ def solve_shrinking(box, containing_width, margin_left, margin_right, width, res
     return Widths(margin_left, margin_right, width)
 
 
+def equation_in_flow(box, rest, containing_width):
+    """A function from a width to the used widths of a box in the flow or a float."""
+    margin_left, margin_right = (resolve(box.style[name], containing_width) for name in ('margin-left', 'margin-right'))
+
+    def with_width(width):
+        if box.is_floating or box.is_atomic:
+            return solve_shrinking(box, containing_width, margin_left, margin_right, width, rest)
+        return solve_in_flow(containing_width, margin_left, margin_right, width, rest)
+    return with_width
+
+
+def equation_out_of_flow(box, rest, containing_width, static_left):
+    """A function from a width to the used offset and widths of an absolute box (10.3.7, 10.3.8).
+
+    A table shrinks to fit also between two offsets.
+    """
+    left, right, margin_left, margin_right = (resolve(box.style[name], containing_width)
+                                              for name in ('left', 'right', 'margin-left', 'margin-right'))
+
+    def with_width(width):
+        return solve_absolute(containing_width - rest, left, right, margin_left, margin_right, width, static_left,
+                              lambda available: shrunk_width(box, available))
+
+    def with_width_of_table(width):
+        return with_width(shrunk_width(box, with_width(None).size) if width is None else width)
+    return with_width_of_table if box.table else with_width
+
+
 def find_replaced_size(box, containing_width, containing_height):
     """Sets the used size of a replaced box; a percentage of a height that isn't definite is `auto`, 0 or `none`."""
     style = box.style
@@ -58,27 +89,28 @@ def find_replaced_size(box, containing_width, containing_height):
     box.replaced_width, box.replaced_height = map(size_within_limit, size)
 
 
-def used_widths(box, containing_width):
-    """The used width and horizontal margins, after the three steps of 10.4, each of which solves the widths anew."""
-    style = box.style
-    margin_left, margin_right = (resolve(style[name], containing_width) for name in ('margin-left', 'margin-right'))
-    rest = box.border.left + box.padding.left + box.padding.right + box.border.right
+def within_bounds(equation, size, least, most):
+    """The three steps of 10.4 and 10.7, each of which solves the equation anew."""
+    solved = equation(size)
+    if most is not None and solved.size > most:
+        solved = equation(most)
+    if solved.size < least:
+        solved = equation(least)
+    return solved
 
-    def with_width(width):
-        if box.is_floating or box.is_atomic:
-            return solve_shrinking(box, containing_width, margin_left, margin_right, width, rest)
-        return solve_in_flow(containing_width, margin_left, margin_right, width, rest)
 
+def used_widths(box, equation, containing_width):
+    """The widths that solve an equation; those of a table after its columns have made it wider (17.5.2.1)."""
     if box.is_replaced:
-        return with_width(box.replaced_width)                       # 10.3.2, 10.3.4 and 10.3.6
-    least = size_within_limit(resolve(style['min-width'], containing_width))
-    most = resolve(style['max-width'], containing_width)
-    widths = with_width(resolve(style['width'], containing_width))
-    if most is not None and widths.width > most:
-        widths = with_width(most)
-    if widths.width < least:
-        widths = with_width(least)
-    return widths
+        return equation(box.replaced_width)                         # 10.3.2, 10.3.4, 10.3.6 and 10.3.8
+    width, most = (resolve(box.style[name], containing_width) for name in ('width', 'max-width'))
+    least = size_within_limit(resolve(box.style['min-width'], containing_width))
+    widths = within_bounds(equation, width, least, most)
+    if not box.table:
+        return widths
+    wanted = size_within_limit(widths.size)
+    box.table.column_widths = column_widths(box.table, wanted)
+    return equation(max(wanted, sum(box.table.column_widths) + all_spacings_across(box.table)))
 
 
 def height_within(height, least, most):
@@ -99,19 +131,28 @@ def used_height(box, auto_height):
 
 def find_edges(box, containing_width):
     """Sets the used borders and paddings; percentages above and below are of the width, too (8.4)."""
-    style = box.style
-    box.border = Edges(*(size_within_limit(style['border-%s-width' % side].amount) for side in SIDES))
-    box.padding = Edges(*(size_within_limit(resolve(style['padding-' + side], containing_width)) for side in SIDES))
+    box.border, box.padding = borders(box), paddings(box, containing_width)
 
 
-def find_widths(box, containing_width):
-    """Sets the used margins, width and width of the border box; vertical margins of `auto` are 0 (8.3 and 10.6.3)."""
-    widths = used_widths(box, containing_width)
-    top, bottom = (resolve(box.style[name], containing_width) for name in ('margin-top', 'margin-bottom'))
-    box.margin = Edges(within_limit(top or 0), within_limit(widths.margin_right),
-                       within_limit(bottom or 0), within_limit(widths.margin_left))
-    box.width = size_within_limit(widths.width)
-    box.border_box_width = box.border.left + box.padding.left + box.width + box.padding.right + box.border.right
+def edges_across(box):
+    """What borders and paddings take of the width."""
+    return box.border.left + box.padding.left + box.padding.right + box.border.right
+
+
+def find_widths(box, equation, containing_width):
+    """Sets the used margins, width and width of the border box; vertical margins of `auto` are 0 (8.3 and 10.6.3).
+
+    A wrapper is as wide as its table box (17.4).
+    """
+    widths = used_widths(box, equation, containing_width)
+    box.margin = margins(box, containing_width)._replace(left=within_limit(widths.before),
+                                                         right=within_limit(widths.after))
+    sized = box.table or box
+    sized.width = size_within_limit(widths.size)
+    sized.border_box_width = sized.width + edges_across(sized)
+    if box.table:
+        box.width = box.border_box_width = box.table.border_box_width
+    return widths
 
 
 def find_heights(box, containing_height):
@@ -128,13 +169,18 @@ def find_heights(box, containing_height):
     box.percentage_base = containing_height if box.is_anonymous else box.definite_height        # 9.2.1.1
 
 
+def have_height_of_content(box):
+    """Sets the heights of a box that isn't given one, and has no bounds."""
+    box.given_height = box.definite_height = box.percentage_base = box.max_height = None
+    box.min_height = 0
+
+
 def find_inline_edges(parts, containing_width):
     """Sets margins, borders and paddings of the inline boxes among the parts; margins of `auto` are 0 (10.3.1)."""
     for part in parts:
         if isinstance(part, InlineBox):
             find_edges(part, containing_width)
-            margins = (resolve(part.style['margin-' + side], containing_width) for side in SIDES)
-            part.margin = Edges(*(within_limit(margin or 0) for margin in margins))
+            part.margin = margins(part, containing_width)
             find_inline_edges(part.children, containing_width)
 
 
@@ -148,14 +194,55 @@ def has_vertical_edges(box, edges_of=used_edges):
     return any(edges.top or edges.bottom for edges in edges_of(box))
 
 
-def find_sizes(box, containing_width, containing_height):
-    """Sets the sizes of a box and of all below it; the containing block's height is None where it isn't definite."""
-    find_edges(box, containing_width)
-    if box.is_replaced:
-        find_replaced_size(box, containing_width, containing_height)
-    find_widths(box, containing_width)
-    find_heights(box, containing_height)
+def find_sizes_of_cell(cell, table):
+    """Sets the sizes of a cell, whose containing block is the table box; it takes the spacings that it covers (17.5.2).
+
+    Its bounds have no effect, and margins don't apply.
+    """
+    find_edges(cell, table.width)
+    cell.margin = NO_EDGES
+    area = table.grid.areas[cell]
+    cell.border_box_width = width_over_columns(table, area.column, area.columns)
+    cell.width = size_within_limit(cell.border_box_width - edges_across(cell))
+    have_height_of_content(cell)
+    height = resolve(cell.style['height'], table.definite_height)
+    cell.definite_height = cell.percentage_base = None if height is None else size_within_limit(height)
+    find_sizes_inside(cell, table.width)
+
+
+def find_sizes_inside(box, containing_width):
+    """Sets the sizes of all in a box whose sizes are set; those of absolute boxes come once they have places."""
+    if box.table:
+        for child in box.children:
+            if child is not box.table:
+                find_sizes(child, box.width, None)
+        for cell in box.table.children:
+            find_sizes_of_cell(cell, box.table)
+        return
     box.indent = within_limit(resolve(box.style['text-indent'], containing_width))              # 16.1
     find_inline_edges(box.inline_content, box.width)
     for child in box.children + box.line_boxes:
-        find_sizes(child, box.width, box.percentage_base)
+        if not child.is_absolute:
+            find_sizes(child, box.width, box.percentage_base)
+
+
+def find_sizes_with(equation_of, box, containing_width, containing_height):
+    """Sets the sizes of a box and of all below it, its widths by an equation; gives the solved widths."""
+    sized = box.table or box
+    find_edges(box, containing_width)
+    if box.table:
+        find_edges(box.table, containing_width)
+    if box.is_replaced:
+        find_replaced_size(box, containing_width, containing_height)
+    widths = find_widths(box, equation_of(box, edges_across(sized), containing_width), containing_width)
+    find_heights(sized, containing_height)
+    if box.table:
+        box.table.margin = NO_EDGES
+        have_height_of_content(box)
+    find_sizes_inside(box, containing_width)
+    return widths
+
+
+def find_sizes(box, containing_width, containing_height):
+    """Sets the sizes of a box and of all below it; the containing block's height is None where it isn't definite."""
+    find_sizes_with(equation_in_flow, box, containing_width, containing_height)

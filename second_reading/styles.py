@@ -1,4 +1,4 @@
-"""Values and computed styles of blocks, inline boxes and texts (CSS 2.2, 4.3, 6.1, 6.2, 10.8.1, 15.7 and 16).
+"""Values and computed styles of elements and texts (CSS 2.2, 4.3, 6.1, 6.2, 10.8.1, 15.7, 16 and 17.6.1).
 
 A length is a whole number of units of 1/64 px, a percentage one of hundredths of a percent, and a factor of `em` or a
 number one of thousandths. Each is rounded down once, when its text is read, and then held within its bounds.
@@ -6,6 +6,7 @@ number one of thousandths. Each is rounded down once, when its text is read, and
 import re
 from collections import namedtuple
 from fractions import Fraction
+from functools import lru_cache
 
 LIMIT = 2 ** 31
 PERCENTAGE_LIMIT = 2 ** 30
@@ -25,15 +26,20 @@ INITIAL_VALUES = {
     **{'padding-%s' % side: '0' for side in SIDES},
     **{'border-%s-style' % side: 'none' for side in SIDES},
     **{'border-%s-width' % side: 'medium' for side in SIDES},
+    **{side: 'auto' for side in SIDES},
     'vertical-align': 'baseline', 'line-height': 'normal', 'text-indent': '0', 'text-align': 'left',
     'white-space': 'normal', 'letter-spacing': 'normal', 'word-spacing': 'normal',
+    'border-collapse': 'separate', 'border-spacing': '0', 'caption-side': 'top',
 }
-INHERITED = ('line-height', 'text-indent', 'text-align', 'white-space', 'letter-spacing', 'word-spacing')
+INHERITED = ('line-height', 'text-indent', 'text-align', 'white-space', 'letter-spacing', 'word-spacing',
+             'border-collapse', 'border-spacing', 'caption-side')
 
 NUMBER_AND_UNIT = re.compile(r'^([+-]?(?:[0-9]+|[0-9]*\.[0-9]+))([a-z%]*)$')
 
-# The kind is `length` (of units), `percentage` (of hundredths), `number` (of thousandths) or `word`.
+# The kind is `length` (of units), `percentage` (of hundredths), `number` (of thousandths), `word`, or `lengths` of two.
 Value = namedtuple('Value', 'kind amount')
+# What a box has on each of its sides.
+Edges = namedtuple('Edges', SIDES)
 
 
 def within_limit(number):
@@ -55,6 +61,7 @@ def resolve(value, base):
     return None
 
 
+@lru_cache(maxsize=10000)
 def read_value(text, font_size):
     """The computed value that a text gives, `em` being of the font size (4.3.2 and 4.3.3)."""
     if not re.match(r'^[+-.0-9]', text):
@@ -104,6 +111,12 @@ def read_spacing(text, font_size):
     return Value('length', 0) if text == 'normal' else read_value(text, font_size)
 
 
+def read_border_spacing(text, font_size):
+    """The computed distances between cells across and down (17.6.1); one length is both."""
+    lengths = [read_value(part, font_size).amount for part in text.split()]
+    return Value('lengths', (lengths[0], lengths[-1]))
+
+
 def used_line_height(style, face):
     """The line height in units (10.8.1)."""
     kind, amount = style['line-height']
@@ -129,6 +142,8 @@ def computed_style(declarations, parents_style):
             style[name] = Value('length', BORDER_WIDTHS[text] * UNITS_PER_PX)
         elif name == 'line-height':
             style[name] = read_line_height(text, style['font-size'])
+        elif name == 'border-spacing':
+            style[name] = read_border_spacing(text, style['font-size'])
         elif name.endswith('-spacing'):
             style[name] = read_spacing(text, style['font-size'])
         else:

@@ -4,7 +4,7 @@ python3 -m unittest discover second_reading
 """
 import unittest
 
-from blocks import report
+from report import report
 
 FLOAT = 'float: left; width: 50px; height: 10px'
 
@@ -12,7 +12,7 @@ FLOAT = 'float: left; width: 50px; height: 10px'
 def block(ident, declarations='', *children):
     """A block with its id, what is declared beside `display: block`, and its children."""
     style = {'display': 'block'}
-    for declaration in filter(None, declarations.split(';')):
+    for declaration in filter(str.strip, declarations.split(';')):
         name, text = declaration.split(':')
         style[name.strip()] = text.strip()
     return ident, style, children
@@ -39,21 +39,20 @@ def nodes_of(tree, parent=0):
 class LayoutCase(unittest.TestCase):
     """Roots in a viewport of 100 by 80; a box is `id x y width height`, in the order of the report."""
 
+    spans = {}                      # of cells, by their ids
+
+    def boxes_of(self, root, kinds=('box', 'line', 'text')):
+        """What the report of a document with this root has of these kinds."""
+        nodes = [{**node, **self.spans.get(node['id'], {})} for node in nodes_of(root)]
+        lines = [line.split() for line in report({'viewport': [100, 80], 'nodes': nodes}).splitlines()]
+        return [' '.join([line[1]] + ['%.9g' % (int(number) / 64) for number in line[3:]])
+                for line in lines if line[0] in kinds]
+
     def assert_boxes(self, root, *boxes):
-        """The report of a document with this root has these boxes."""
-        text, status = report({'viewport': [100, 80], 'nodes': list(nodes_of(root))})
-        lines = [line.split() for line in text.splitlines()[2:]]
-        got = [' '.join([line[1]] + ['%g' % (int(number) / 64) for number in line[3:]]) for line in lines]
-        self.assertEqual(list(boxes), got)
-        self.assertEqual(0, status)
+        self.assertEqual(list(boxes), self.boxes_of(root))
 
     def assert_texts(self, root, *texts):
-        """The report of a document with this root has these texts, each as `id x y width height`."""
-        text, status = report({'viewport': [100, 80], 'nodes': list(nodes_of(root))})
-        lines = [line.split() for line in text.splitlines() if line.startswith('text')]
-        got = [' '.join([line[1]] + ['%g' % (int(number) / 64) for number in line[3:]]) for line in lines]
-        self.assertEqual(list(texts), got)
-        self.assertEqual(0, status)
+        self.assertEqual(list(texts), self.boxes_of(root, ('text',)))
 
 
 class Margins(LayoutCase):

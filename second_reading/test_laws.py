@@ -2,33 +2,42 @@
 import unittest
 
 from atomic_documents import atomic_document
-from blocks import lay_out_page
-from boxes import boxes_of_context, read_nodes
+from boxes import boxes_of_context
+from columns import all_spacings_across
 from documents import document
 from face import Face
+from grid import slots_of
 from margins import top_margin
+from nodes import read_nodes
+from page import Page
+from positioned_documents import positioned_document
+from report import report
+from rows import content_height
+from styles import LIMIT
+from table_documents import table_document
 from text_documents import text_document
 
-SEED, DOCUMENTS = 99, 400
+SEED, DOCUMENTS = 99, 300
 
 
-def contexts(box):
-    """The own boxes of a context and of all in it."""
+def boxes_from(box):
+    """A box and all in it."""
     yield box
-    for child in boxes_of_context(box):
-        if child.is_context:
-            yield from contexts(child)
+    for child in box.children + box.line_boxes:
+        yield from boxes_from(child)
 
 
 class Laws(unittest.TestCase):
     @classmethod
     def setUpClass(cls):
-        draws = (document, text_document, atomic_document)
+        draws = (document, text_document, atomic_document, table_document, positioned_document)
         runs = [draw(SEED, number) for number in range(DOCUMENTS) for draw in draws]
-        roots = [(read_nodes(run)[0], run['viewport']) for run in runs]
-        pages = [lay_out_page(root, viewport, Face({}))[0] for root, viewport in roots if not root.is_hidden]
-        cls.context_boxes = [box for root in pages for box in contexts(root)]
-        cls.flows = [box.flow for box in cls.context_boxes]
+        roots = [(read_nodes(run), run['viewport']) for run in runs]
+        pages = [Page(root, viewport, Face({})) for root, viewport in roots if not root.is_hidden]
+        cls.context_boxes = [box for page in pages for box in boxes_from(page.root) if box.is_context]
+        cls.flows = [box.flow for box in cls.context_boxes if box.flow]
+        cls.tables = [box for box in cls.context_boxes if box.display == 'table-box']
+        cls.absolute_boxes = [(page, box) for page in pages for box in page.contexts if box.is_absolute]
 
     def test_run_is_a_stretch_of_the_sequence_of_margins(self):
         for flow in self.flows:
@@ -44,7 +53,7 @@ class Laws(unittest.TestCase):
     def test_box_that_is_collapsed_through_has_no_height(self):
         for flow in self.flows:
             for box in boxes_of_context(flow.context_box):
-                if flow.runs.collapses_through(box) and not box.is_floating:
+                if not box.is_out_of_flow() and flow.runs.collapses_through(box):
                     self.assertEqual(0, flow.height[box])
 
     def test_top_margins_that_collapse_bring_boxes_to_one_top(self):
@@ -61,8 +70,8 @@ class Laws(unittest.TestCase):
     def test_lines_of_a_block_stand_below_each_other_and_end_in_it(self):
         for flow in self.flows:
             for box, lines in flow.lines.items():
-                tops = [line.pieces[0][3] for line in lines]
-                bottoms = [line.pieces[0][3] + line.pieces[0][5] for line in lines]
+                tops = [line.pieces[0].top for line in lines]
+                bottoms = [line.pieces[0].top + line.pieces[0].height for line in lines]
                 self.assertTrue(all(bottom <= top for bottom, top in zip(bottoms, tops[1:])))
                 self.assertEqual(flow.lines_end[box], bottoms[-1])
 
@@ -70,15 +79,15 @@ class Laws(unittest.TestCase):
         for flow in self.flows:
             for box in flow.lines:
                 texts = [part for segment in box.content.segments for part in segment.parts if hasattr(part, 'kind')]
-                seen = {part.box.node.id for part in texts if part.kind not in ('space', 'linefeed')}
-                pieces = {piece[1] for line in flow.lines[box] for piece in line.pieces if piece[0] == 'text'}
+                seen = {part.box for part in texts if part.kind not in ('space', 'linefeed')}
+                pieces = {piece.box for line in flow.lines[box] for piece in line.pieces if piece.kind == 'text'}
                 self.assertLessEqual(seen, pieces)
 
     def test_atomic_boxes_stand_within_their_lines(self):
         for flow in self.flows:
             for lines in flow.lines.values():
                 for line in lines:
-                    line_top, line_height = line.pieces[0][3], line.pieces[0][5]
+                    line_top, line_height = line.pieces[0].top, line.pieces[0].height
                     for box, _, top in line.atomic_corners:
                         bottom = top + box.border_box_height + box.margin.bottom
                         self.assertLessEqual(line_top, top - box.margin.top)
@@ -98,7 +107,7 @@ class Laws(unittest.TestCase):
 
     def test_box_that_shrinks_is_between_its_preferred_widths(self):
         for box in self.context_boxes:
-            shrinks = (box.is_floating or box.is_atomic) and not box.is_replaced
+            shrinks = (box.is_floating or box.is_atomic) and not box.is_replaced and not box.table
             widths = [box.style[name].amount for name in ('width', 'min-width', 'max-width')]
             if shrinks and widths == ['auto', 0, 'none'] and 0 <= box.preferred_width < 2 ** 31:
                 self.assertLessEqual(box.width, box.preferred_width)
@@ -110,6 +119,86 @@ class Laws(unittest.TestCase):
             if texts_alone and box.is_floating and box.indent == 0 and not has_odd_widths(box.content):
                 forced = sum(segment.is_forced for segment in box.content.segments)
                 self.assertLessEqual(len(box.flow.lines[box]), forced + 1)
+
+
+    # -- tables
+
+    def test_slot_has_one_cell(self):
+        for table in self.tables:
+            slots = [slot for area in table.grid.areas.values() for slot in slots_of(area)]
+            self.assertEqual(len(slots), len(set(slots)))
+
+    def test_columns_and_spacings_come_to_the_width_of_the_table(self):
+        for table in self.tables:
+            if table.columns and table.width < LIMIT:
+                self.assertEqual(table.width, sum(table.column_widths) + all_spacings_across(table))
+
+    def test_cell_has_room_for_its_content(self):
+        for table in self.tables:
+            for cell in table.children:
+                self.assertLessEqual(0, cell.shift)
+                self.assertLessEqual(cell.shift + content_height(cell), cell.border_box_height)
+
+    def test_table_ends_below_its_last_row(self):
+        for table in self.tables:
+            rows = table.rows
+            if rows.heights:
+                self.assertEqual(rows.bottom(rows.count - 1) + rows.spacing,
+                                 table.border_box_height - table.border.bottom - table.padding.bottom)
+
+    def test_cells_beside_each_other_have_halves_of_one_border(self):
+        for table in self.tables:
+            slots = table.grid.slots if table.collapses else {}
+            for (row, column), cell in slots.items():
+                other = slots.get((row, column + 1))
+                if other and all(table.grid.areas[each].rows == 1 for each in (cell, other)) and other is not cell:
+                    self.assertIn(other.border.left - cell.border.right, (0, 1))
+
+    # -- positions
+
+    def test_absolute_box_stands_at_its_offsets(self):
+        for page, box in self.absolute_boxes:
+            containing_block, margin = page.containing_block(box), box.margin
+            offsets = {side: box.style[side] for side in ('left', 'top', 'right', 'bottom')}
+            for side, start, at in (('left', containing_block.left, box.corner.left),
+                                    ('top', containing_block.top, box.corner.top)):
+                if offsets[side].kind == 'length':
+                    self.assertEqual(start + offsets[side].amount + getattr(margin, side), at)
+            if offsets['right'].kind == 'length' and offsets['left'].amount == 'auto':
+                right = box.corner.left + box.border_box_width + margin.right + offsets['right'].amount
+                self.assertEqual(containing_block.left + containing_block.width, right)
+
+    def test_relative_offsets_change_no_size(self):
+        for run in self.positioned_runs():
+            static = [with_style(node, position='static') if node.get('style', {}).get('position') == 'relative' else node
+                      for node in run['nodes']]
+            if all(node.get('style', {}).get('position') not in ('absolute', 'fixed') for node in run['nodes']):
+                sizes, static_sizes = ([line.split()[:3] + line.split()[5:] for line in report(each).splitlines()]
+                                       for each in (run, dict(run, nodes=static)))
+                self.assertEqual(static_sizes, sizes)
+
+    def test_absolute_boxes_change_nothing_else(self):
+        for run in self.positioned_runs():
+            declared = [word for node in run['nodes'] for word in node.get('style', {}).values()]
+            if any('table' in word or word.startswith('pre') or word == 'inherit' for word in declared):
+                continue
+            gone = set()
+            for node in run['nodes']:
+                if node['parent'] in gone or node.get('style', {}).get('position') in ('absolute', 'fixed'):
+                    gone.add(node['id'])
+            if run['nodes'][0]['id'] in gone:
+                continue
+            kept = [node for node in run['nodes'] if node['id'] not in gone]
+            lines = [line for line in report(run).splitlines()[2:] if int(line.split()[1]) not in gone]
+            self.assertEqual(report(dict(run, nodes=kept)).splitlines()[2:], lines)
+
+    def positioned_runs(self):
+        return [positioned_document(SEED, number) for number in range(DOCUMENTS)]
+
+
+def with_style(node, **declarations):
+    """A node with other declarations beside its own."""
+    return dict(node, style={**node['style'], **declarations})
 
 
 def has_odd_widths(content):

@@ -4,7 +4,7 @@
 usage: text_documents.py COUNT SEED      prints the documents 0 .. COUNT - 1 of a seed, one a line
 
 They are small, and most values are from short lists that are near the widths of a few characters, so that what just
-fits and what just doesn't are common. Each is a document that `blocks` lays out.
+fits and what just doesn't are common.
 """
 import random
 from collections import namedtuple

@@ -9,8 +9,8 @@ beside each other come to may differ from it and be legal all the same (`histori
 import json
 import sys
 
-from blocks import context_count, report
 from edits import Document
+from report import context_count, report
 
 CELLS_OF_A_CONTEXT = 3
 
@@ -29,7 +29,7 @@ class Session:
         if self.is_settled:
             return
         current = self.document.as_run()
-        self.settled_tree = report(current)[0].splitlines()[2:]
+        self.settled_tree = report(current).splitlines()[2:]
         self.laid += CELLS_OF_A_CONTEXT * context_count(current)
         self.is_settled = True
 
