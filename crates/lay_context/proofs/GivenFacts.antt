@@ -1,6 +1,7 @@
 -- What a formatting context is given by the one around it, and where it stands.
 use Rattle.std.proofs.Common.{◌≡◌, ◌<◌, ℕ, zero, suc, ◌+◌, ◌≤◌, List, [], ◌∷◌, ◌++◌, length, length-append, map, take, slice_index, refl, arith, inl, inr}
 use Rattle.std.proofs.lemmas.Bool.{cases_lt}
+use Rattle.std.proofs.Math.ListN.{get_or-eq_default}
 use Rattle.std.proofs.lemmas.Grind.{elements}
 use Rattle.std.proofs.lemmas.List.{map-append, take_more}
 use Rattle.lay_frag.specs.declared.frag.Frag.{Frag}
@@ -45,7 +46,7 @@ pieces_last : (all : List (List Frag)) (p : List Frag) (k : ℕ) → k ≡ lengt
 pieces_last all p k e = grind (arith, elements)
 
 pieces_behind : (all : List (List Frag)) (k : ℕ) → length all ≤ k → inner_pieces_at all k ≡ []
-pieces_behind all k le = grind (arith, elements)
+pieces_behind all k le = get_or-eq_default all [] le
 
 pub no_pieces_are_near : AreNearPieces []
 no_pieces_are_near k lt = absurd (omega (arith, lt))
