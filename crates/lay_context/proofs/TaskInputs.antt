@@ -102,7 +102,7 @@ module _ (medium : Medium) (contexts : List FormattingContext) (v w : Workings) 
   input_same Place i same =
       let sizes = size_value (sizes_in v.sizes i) (sizes_in w.sizes i) (same Size i refl) in
       let places : (k : ℕ) → k < length (formatting_context_at contexts i).inner → 0 < slice_index (formatting_context_at contexts i).inner k
-          → placement_in v.places (slice_index (formatting_context_at contexts i).inner k) ≡ placement_in w.places (slice_index (formatting_context_at contexts i).inner k) = λ k lt some.
+      → placement_in v.places (slice_index (formatting_context_at contexts i).inner k) ≡ placement_in w.places (slice_index (formatting_context_at contexts i).inner k) = λ k lt some.
       (let j : ℕ = slice_index (formatting_context_at contexts i).inner k in
       place_value (placement_in v.places j) (placement_in w.places j) (same Place j (record { box = k; within = lt; number = refl; some = some }))) in
       let inner : inner_boxes contexts v.places i ≡ inner_boxes contexts w.places i = boxes_same v.places w.places (formatting_context_at contexts i).inner places in

@@ -10,8 +10,8 @@ use crate::sized_context::SizedContext;
 use crate::table_contexts::is_table;
 use lay_boxgen::{BoxKind, BoxNode, Flow};
 use lay_measure::PreferredWidths;
-use lay_table_sizes::{SizedTable, TableRule, table_sizes};
 use lay_pieces::ContextSizes;
+use lay_table_sizes::{SizedTable, TableRule, table_sizes};
 use lay_units::NoMemory;
 use std::alloc::Global;
 

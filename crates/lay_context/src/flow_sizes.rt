@@ -36,18 +36,18 @@ fn own_sizes(input: &SizeInput) -> BoxSizes
     let boxes = input.context_boxes();
     match input.setting() {
         Setting::Block(containing) => {
-            box_sizes(containing, own_rule_of(input.widths(), boxes), boxes.style(0))
+            box_sizes(
+                containing,
+                own_rule_of(input.widths(), boxes),
+                boxes.style(0),
+            )
         }
         Setting::Cell { containing, cell } => cell_sizes(containing, cell, boxes.style(0)),
     }
 }
 
 /// The used sizes of these boxes, of which the own one has these.
-fn sizes_from(
-    alloc: Global,
-    own: BoxSizes,
-    boxes: &ContextBoxes,
-) -> Result<Vec<BoxSizes>, NoMemory>
+fn sizes_from(alloc: Global, own: BoxSizes, boxes: &ContextBoxes) -> Result<Vec<BoxSizes>, NoMemory>
     requires own { SizeFits own }
     ensures own { IfOk result (λ v. sizes_at v.items 0 ≡ own) }
     ensures inside { IfOk result (λ v. HaveInsideSizes boxes.now v.items) }

@@ -1,8 +1,8 @@
 //! What a task is given, from the values of the tasks that it needs.
 
 ghost use Rattle.std.specs.Prelude.{◌≡◌, ◌<◌, IfOk, length};
-ghost use Rattle.lay_sizes.specs.OwnBoxes.{OwnBoxFits};
-ghost use Rattle.lay_pieces.specs.InnerPieces.{pieces_or_none};
+ghost use Rattle.lay_sizes.specs.OwnBoxes.{OwnBoxFits, OwnBoxesFit};
+ghost use Rattle.lay_pieces.specs.InnerPieces.{AreNearInnerPieces, pieces_or_none};
 ghost use Rattle.lay_pieces.specs.NearPieces.{AreNearPieces};
 ghost use Rattle.lay_context.specs.DocumentLayout.{inner_boxes, inner_pieces, inner_widths, inner_widths_in, own_box_in, pieces_in};
 ghost use Rattle.lay_context.specs.Local.{input_of, measure_input, place_input, size_input};
@@ -15,11 +15,11 @@ use crate::medium::Medium;
 use crate::own_heights::own_height_rule;
 use crate::settings::setting_of;
 use crate::task::{Phase, Task};
+use lay_flow_boxes::PlaceInput;
 use lay_formatting::FormattingContexts;
 use lay_frag::Pieces;
 use lay_measure::{NO_WIDTHS, PreferredWidths};
 use lay_pieces::{InnerPieces, OwnBoxes};
-use lay_flow_boxes::PlaceInput;
 use lay_sizes::{NO_OWN_BOX, OwnBox};
 use lay_table::TableInput;
 use lay_units::NoMemory;
@@ -88,6 +88,7 @@ fn place_input(
 {
     let boxes = contexts.at(i).boxes().share()?;
     let sizes = known.sizes(i).boxes().share()?;
+    let own_height = own_height_rule(boxes.as_slice(), sizes.as_slice());
     let inner = inner_boxes(alloc, contexts, known, i)?;
     let pieces = inner_pieces(alloc, contexts, known, i)?;
     match known.sizes(i).shared_table()? {
@@ -96,7 +97,6 @@ fn place_input(
             Ok(Input::PlaceTable(table))
         }
         None => {
-            let own_height = own_height_rule(boxes.as_slice(), sizes.as_slice());
             let face = medium.face()?;
             let flow = PlaceInput::new(boxes, sizes, inner, pieces, face);
             Ok(Input::Place(flow.with_own_height(own_height)))
@@ -143,7 +143,8 @@ fn inner_boxes(
 ) -> Result<OwnBoxes, NoMemory>
     requires within { i < length contexts.now }
     requires places { length known.now.places ≡ length contexts.now }
-    ensures { IfOk result (λ b. b ≡ inner_boxes contexts.now known.now.places i) }
+    ensures boxes { IfOk result (λ b. b ≡ inner_boxes contexts.now known.now.places i) }
+    ensures fit { IfOk result OwnBoxesFit }
 {
     let numbers = contexts.at(i).inner();
     let mut boxes = Vec::with_capacity(alloc, numbers.len())?;
@@ -174,7 +175,8 @@ fn inner_pieces(
 ) -> Result<InnerPieces, NoMemory>
     requires within { i < length contexts.now }
     requires places { length known.now.places ≡ length contexts.now }
-    ensures { IfOk result (λ p. p ≡ inner_pieces contexts.now known.now.places i) }
+    ensures pieces { IfOk result (λ p. p ≡ inner_pieces contexts.now known.now.places i) }
+    ensures near { IfOk result AreNearInnerPieces }
 {
     let numbers = contexts.at(i).inner();
     let mut pieces = Vec::with_capacity(alloc, numbers.len())?;

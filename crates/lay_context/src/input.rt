@@ -8,8 +8,8 @@ use crate::setting::Setting;
 use lay_boxgen::BoxNode;
 use lay_context_boxes::ContextBoxes;
 use lay_face::Face;
-use lay_measure::PreferredWidths;
 use lay_flow_boxes::PlaceInput;
+use lay_measure::PreferredWidths;
 use lay_table::TableInput;
 use std::marker::Model;
 use std::sync::Arc;
@@ -90,11 +90,7 @@ impl Model for SizeInput {
 }
 
 impl SizeInput {
-    pub(crate) fn new(
-        boxes: ContextBoxes,
-        widths: PreferredWidths,
-        setting: Setting,
-    ) -> SizeInput
+    pub(crate) fn new(boxes: ContextBoxes, widths: PreferredWidths, setting: Setting) -> SizeInput
         requires { SizeInputFits (record { boxes = boxes; widths = widths; setting = setting }) }
         ensures { result ≡ record { boxes = boxes; widths = widths; setting = setting } }
     {

@@ -113,7 +113,10 @@ pub(crate) fn standing_of(contexts: &FormattingContexts, known: &Known, i: usize
     if i == 0 {
         return root_standing(known.placement(0).own());
     }
-    standing_at(known.placement(context.outer()).standings(), context.outer_box())
+    standing_at(
+        known.placement(context.outer()).standings(),
+        context.outer_box(),
+    )
 }
 
 fn standing_at(standings: &[Standing], k: usize) -> Standing

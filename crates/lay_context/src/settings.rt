@@ -5,7 +5,6 @@ ghost use Rattle.lay_units.specs.Units.{IsPosition, IsUsedSize};
 ghost use Rattle.lay_sizes.specs.SizeBounds.{SizeFits};
 ghost use Rattle.lay_sizes.specs.SizeColumns.{HaveSizeBounds, sizes_at};
 ghost use Rattle.lay_context.specs.Inputs.{containing_block_in};
-ghost use Rattle.lay_table_sizes.specs.TableSizesValue.{MayFit};
 ghost use Rattle.lay_context.specs.Settings.{caption_block, cell_given, cell_of, setting_as, setting_in_table, setting_of};
 ghost use Rattle.lay_context.specs.Settling.{IsReady};
 ghost use Rattle.lay_context.specs.declared.task.Phase.TheVariants.{Size};
@@ -36,31 +35,30 @@ pub(crate) fn setting_of(
     let context = contexts.at(i);
     let boxes = contexts.at(context.outer()).boxes();
     let sized = known.sizes(context.outer());
-    setting_as(boxes, sized.boxes().as_slice(), sized.table(), context.outer_box())
+    setting_as(
+        boxes,
+        sized.boxes().as_slice(),
+        sized.table(),
+        context.outer_box(),
+    )
 }
 
 /// What the formatting context with this number is given as a cell.
-pub(crate) fn cell_of(
-    contexts: &FormattingContexts,
-    known: &Known,
-    i: usize,
-) -> Option<CellSize>
+pub(crate) fn cell_of(contexts: &FormattingContexts, known: &Known, i: usize) -> Option<CellSize>
     requires within { i < length contexts.now }
     requires sizes { length known.now.sizes ≡ length contexts.now }
-    ensures cell { result ≡ cell_of contexts.now known.now.sizes i }
-    ensures fits { MayFit result }
+    ensures { result ≡ cell_of contexts.now known.now.sizes i }
 {
     let context = contexts.at(i);
-    if i == 0 {
-        return None;
+    if i > 0 {
+        return cell_given(known.sizes(context.outer()).table(), context.outer_box());
     }
-    cell_given(known.sizes(context.outer()).table(), context.outer_box())
+    None
 }
 
 /// What the cell with the box at k is given, where that is a box of a table.
 fn cell_given(table: &Option<TableSizes>, k: usize) -> Option<CellSize>
-    ensures cell { result ≡ cell_given table.now k }
-    ensures fits { MayFit result }
+    ensures { result ≡ cell_given table.now k }
 {
     match table {
         Some(table) => table.cell(k),
