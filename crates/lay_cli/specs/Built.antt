@@ -5,9 +5,10 @@ use Rattle.lay_style.specs.declared.style.Style.{Style}
 use Rattle.lay_style.specs.declared.style_words.Position.{Position}
 use Rattle.lay_style.specs.declared.style_words.Position.TheVariants as position
 use Rattle.lay_style.specs.ComputedStyle.{style_at}
+use Rattle.lay_style.specs.Places.{place_of}
 use Rattle.lay_doc.specs.declared.node.NodeId.{NodeId}
 use Rattle.lay_doc.specs.declared.node.Node.{Node}
-use Rattle.lay_doc.specs.Document.{ids_of, place_of}
+use Rattle.lay_doc.specs.Document.{ids_of}
 use Rattle.lay_boxgen.specs.Display.{is_none}
 
 abbrev pub is_static : Position → Bool
