@@ -76,7 +76,7 @@ impl BoxTree {
     ghost use Rattle.lay_boxgen.specs.BoxColumns.{IsBoxTree};
 
     /// The tree of these boxes, which are taken over without a copy.
-    pub(crate) fn new(items: Vec<BoxNode>) -> BoxTree
+    pub fn new(items: Vec<BoxNode>) -> BoxTree
         requires { IsBoxTree items.items }
         ensures { result ≡ items.items }
     {
