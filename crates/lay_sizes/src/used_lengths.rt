@@ -11,7 +11,7 @@ use lay_style::{LengthPercentage, LengthPercentageOrAuto, LengthPercentageOrNone
 use lay_units::{BlockIn, Len, Percent, Sides, Unit, clamp, clamp_size, percent_of};
 
 /// What the used widths of a block depend on, for the width of its containing block.
-pub(crate) fn block_of(containing: Unit, style: &Style) -> BlockIn
+pub fn block_of(containing: Unit, style: &Style) -> BlockIn
     requires { IsPosition containing.0 }
     ensures value { result ≡ block_of containing style.now }
     ensures fits { BlockFits result }
@@ -31,7 +31,7 @@ pub(crate) fn block_of(containing: Unit, style: &Style) -> BlockIn
 }
 
 /// The border and the padding of each side together, for the width of the containing block.
-pub(crate) fn edges_of(containing: Unit, style: &Style) -> Sides
+pub fn edges_of(containing: Unit, style: &Style) -> Sides
     ensures { result ≡ edges_of containing style.now }
 {
     Sides {
@@ -48,7 +48,8 @@ fn edge_of(containing: Unit, border: Unit, padding: LengthPercentage) -> Unit
     Unit(size_of(border).0 + used_size(containing, padding).0)
 }
 
-fn used_margin(containing: Unit, margin: LengthPercentageOrAuto) -> Len
+/// A margin or an offset, for the length that its percentages are of.
+pub fn used_margin(containing: Unit, margin: LengthPercentageOrAuto) -> Len
     ensures value { result ≡ used_margin containing margin }
     ensures fits { LenFits result }
 {
@@ -138,7 +139,8 @@ pub(crate) fn used_width(containing: Unit, width: LengthPercentageOrAuto) -> Len
     }
 }
 
-pub(crate) fn used_size(containing: Unit, size: LengthPercentage) -> Unit
+/// A padding or a `min-width`, for the width of the containing block.
+pub fn used_size(containing: Unit, size: LengthPercentage) -> Unit
     ensures value { result ≡ used_size containing size }
     ensures size { IsUsedSize result.0 }
 {

@@ -11,7 +11,7 @@ returns-clause-fits c =
       edges = c.edges_of.ensures;
       margin_top = c.used_vertical_margin.ensures;
       margin_bottom = c.used_vertical_margin-2.ensures;
-      height = rw natural at c.height_of.ensures;
-      min_height = rw natural at c.min_height_of.ensures;
-      max_height = rw natural at c.max_height_of.ensures;
+      height = rw natural at c.height_of.ensures.value;
+      min_height = rw natural at c.min_height_of.ensures.value;
+      max_height = rw natural at c.max_height_of.ensures.value;
     })
