@@ -5,7 +5,6 @@ use Rattle.std.specs.Prelude.{◌-ℤ◌, Option, None, Some}
 use Rattle.lay_units.specs.declared.length.Unit.{Unit as Length}
 use Rattle.lay_units.specs.declared.records.BlockIn.{BlockIn}
 use Rattle.lay_units.specs.declared.records.Len.{Len}
-use Rattle.lay_units.specs.declared.records.Len.TheVariants.{Of as of}
 use Rattle.lay_style.specs.declared.style.Style.{Style}
 use Rattle.lay_style.specs.LengthValues.{size_of}
 use Rattle.lay_boxgen.specs.declared.box_tree.BoxKind.{BoxKind}
@@ -18,7 +17,6 @@ use Rattle.lay_sizes.specs.UsedLengths.{block_of, edges_of, no_length, used_marg
 use Rattle.lay_abspos.specs.declared.axis.Axis.{Axis}
 use Rattle.lay_abspos.specs.declared.axis.ContentSize.{ContentSize}
 use Rattle.lay_positioned.specs.declared.settings.AbsoluteSetting.{AbsoluteSetting}
-use Rattle.lay_positioned.specs.Settings.{block_in}
 
 -- this block between these offsets
 abbrev pub axis_across : AbsoluteSetting → Style → BlockIn → ContentSize → Axis

@@ -4,7 +4,6 @@
 use Rattle.std.specs.Prelude.{◌≡◌, ◌+ℤ◌, ◌&&◌, Bool, true, false, not, Option, None, Some}
 use Rattle.lay_units.specs.declared.length.Unit.{Unit as Length}
 use Rattle.lay_units.specs.declared.records.AbsOut.{AbsOut}
-use Rattle.lay_units.specs.declared.records.BlockIn.{BlockIn}
 use Rattle.lay_units.specs.declared.records.Len.{Len}
 use Rattle.lay_units.specs.declared.records.Len.TheVariants.{Auto as auto, Of as of}
 use Rattle.lay_boxgen.specs.declared.box_tree.BoxNode.{BoxNode}

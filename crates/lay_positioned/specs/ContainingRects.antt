@@ -2,7 +2,7 @@
 -- nearest box that can be one, in the formatting context of its anchor or in one further out; where there is none, the viewport.
 -- That of a fixed box is the viewport. The rectangle is counted as where the anchor stands: from the content of its formatting
 -- context, and so it is found step by step from the outside.
-use Rattle.std.specs.Prelude.{ℕ, ◌<◌, pos, ◌-ℤ◌, Bool, List, Option, None, Some}
+use Rattle.std.specs.Prelude.{ℕ, ◌<◌, ◌-ℤ◌, Bool, List, None, Some}
 use Rattle.lay_units.specs.declared.records.Rect.{Rect}
 use Rattle.lay_sizes.specs.declared.sizing.ContainingBlock.{ContainingBlock}
 use Rattle.lay_sizes.specs.UsedLengths.{no_length, or_zero}

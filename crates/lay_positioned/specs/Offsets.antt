@@ -21,9 +21,12 @@ abbrev pub axis_of_height : (is_table : Bool) → AbsoluteSetting → BoxNode �
 axis_of_height true s own height = axis_down s own.style (wrapper_down s own.style (of height)) (stands no_length)
 axis_of_height false s own height = own_axis_down s own (content_height (block_in s) own.style height)
 
+-- so far from the left and the top edge of a containing block
+abbrev pub corner_inside : AbsoluteSetting → Length → Length → Corner
+corner_inside s left top = record { x = record { 0 = s.rect.x.0 +ℤ left.0 }; y = record { 0 = s.rect.y.0 +ℤ top.0 } }
+
 -- the box, whose left border edge is so far from that of its containing block, and whose border box is so high, stands there
 pub record IsOffset (s : AbsoluteSetting) (own : BoxNode) (left height : Length) (corner : Corner) : Type 0 where
   pub out : AbsOut
   pub down : IsUsedAxis (axis_of_height (is_wrapper own.kind) s own height) out
-  pub x : corner.x.0 ≡ s.rect.x.0 +ℤ left.0
-  pub y : corner.y.0 ≡ s.rect.y.0 +ℤ (border_start out).0
+  pub corner_is : corner ≡ corner_inside s left (border_start out)

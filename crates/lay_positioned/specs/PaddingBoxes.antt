@@ -1,7 +1,6 @@
 -- The padding box of a box (CSS 2.2, 8.1), where its formatting context is laid out: its border box, less the used widths of its
 -- borders. The borders of a table are those of the table box, so the padding box of its wrapper is its border box (17.4).
 use Rattle.std.specs.Prelude.{ℕ, Bool, true, false, ◌+ℤ◌, ◌-ℤ◌, List, map, slice_index_or}
-use Rattle.lay_units.specs.declared.length.Unit.{Unit as Length}
 use Rattle.lay_units.specs.declared.records.Rect.{Rect}
 use Rattle.lay_units.specs.declared.records.Sides.{Sides}
 use Rattle.lay_style.specs.declared.style.Style.{Style}
@@ -43,4 +42,4 @@ inside_borders standing z borders = record {
 abbrev pub padding_box : List BoxNode → Layout → ℕ → Rect
 padding_box boxes layout k =
     inside_borders (standing_at layout.standings k) (sizes_at layout.sizes k)
-      (borders_of (is_wrapper_at boxes k) (style_at (box_styles boxes) k))
+    (borders_of (is_wrapper_at boxes k) (style_at (box_styles boxes) k))

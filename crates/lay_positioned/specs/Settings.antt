@@ -1,7 +1,7 @@
 -- What an absolutely positioned box is given from outside (CSS 2.2, 10.1 and 10.3.7): its containing block, and where it would stand
 -- in flow, its static position. The containing block is a rectangle that is counted as where the anchor stands; the static position
 -- is counted from the corner of that. Where the root is absolutely positioned, both are the viewport's.
-use Rattle.std.specs.Prelude.{ℕ, zero, suc, ◌≡◌, ◌-ℤ◌, ◌^◌, List}
+use Rattle.std.specs.Prelude.{ℕ, zero, suc, ◌≡◌, ◌-ℤ◌, List}
 use Rattle.lay_units.specs.Units.{IsPosition}
 use Rattle.lay_units.specs.declared.records.Rect.{Rect}
 use Rattle.lay_units.specs.declared.records.Len.TheVariants.{Of as of}

@@ -8,6 +8,7 @@ ghost use Rattle.lay_abspos.specs.AbsoluteFits.{AxisFits};
 ghost use Rattle.lay_positioned.specs.AbsoluteAxes.{axis_across, axis_down, block_across, block_down, content_height, natural_in, wrapper_across, wrapper_block, wrapper_down};
 ghost use Rattle.lay_positioned.specs.Settings.{SettingFits};
 
+use crate::rects::inside;
 use crate::settings::AbsoluteSetting;
 use lay_abspos::{Axis, ContentSize};
 use lay_boxgen::BoxKind;
@@ -132,7 +133,7 @@ pub(crate) fn content_height(containing: ContainingBlock, style: &Style, height:
     ensures { result ≡ content_height containing style.now height }
 {
     let edges = edges_of(containing.width, style);
-    Unit(height.0 - edges.top.0 - edges.bottom.0)
+    inside(height, edges.top, edges.bottom)
 }
 
 /// The wrapper of a table, across.

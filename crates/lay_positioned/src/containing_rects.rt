@@ -2,6 +2,7 @@
 
 ghost use Rattle.std.specs.Prelude.{◌≡◌, ◌<◌, None, IfOk, length};
 ghost use Rattle.lay_units.specs.Units.{IsUsedSize};
+ghost use Rattle.lay_sizes.specs.UsedLengths.{or_zero};
 ghost use Rattle.lay_formatting.specs.FormattingContexts.{boxes_in, formatting_context_at};
 ghost use Rattle.lay_pieces.specs.NearPieces.{IsRectNear};
 ghost use Rattle.lay_positioned.specs.ContainingRects.{IsContainingRect, viewport_rect};

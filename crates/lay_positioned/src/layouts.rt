@@ -100,5 +100,8 @@ fn content_corner(standing: Standing) -> Result<Corner, NoMemory>
     ensures corner { IfOk result (λ c. c ≡ content_corner standing) }
     ensures near { IfOk result IsCornerNear }
 {
-    near_corner(standing.corner.x, Unit(standing.corner.y.0 + standing.shift.0))
+    near_corner(
+        standing.corner.x,
+        Unit(standing.corner.y.0 + standing.shift.0),
+    )
 }

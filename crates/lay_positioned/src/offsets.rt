@@ -3,12 +3,14 @@
 ghost use Rattle.std.specs.Prelude.{◌≡◌, ◌+ℤ◌, IfOk};
 ghost use Rattle.lay_abspos.specs.AbsoluteFits.{AxisFits};
 ghost use Rattle.lay_pieces.specs.Corners.{IsCornerNear};
+ghost use Rattle.lay_boxgen.specs.Kinds.{is_wrapper};
 ghost use Rattle.lay_sizes.specs.OwnBoxes.{IsBoxSize};
 ghost use Rattle.lay_positioned.specs.OffsetBounds.{IsStart};
 ghost use Rattle.lay_positioned.specs.Offsets.{IsOffset, axis_of_height};
 ghost use Rattle.lay_positioned.specs.Settings.{SettingFits};
 
 use crate::axes::{axis_down, content_height, wrapper_down};
+use crate::rects::moved;
 use crate::settings::{AbsoluteSetting, block_in};
 use crate::sizes::{border_start, is_wrapper, own_axis_down, solved};
 use lay_abspos::{Axis, ContentSize};
@@ -33,10 +35,8 @@ pub fn own_offset(
 {
     let axis = axis_of_height(is_wrapper(&own.kind), setting, own, height);
     let top = border_start(&solved(&axis));
-    near_corner(
-        Unit(setting.rect.x.0 + left.0),
-        Unit(setting.rect.y.0 + top.0),
-    )
+    let rect = setting.rect;
+    near_corner(moved(rect.x, left), moved(rect.y, top))
 }
 
 /// The equation down, of a box whose border box is so high.

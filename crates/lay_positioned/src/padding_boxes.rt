@@ -4,16 +4,16 @@ ghost use Rattle.std.specs.Prelude.{◌≡◌, ◌<◌, ◌+ℤ◌, ◌-ℤ◌, 
 ghost use Rattle.lay_units.specs.Units.{IsUsedSize};
 ghost use Rattle.lay_style.specs.LengthValues.{size_of};
 ghost use Rattle.lay_sizes.specs.BoxSizes.{border_width};
-ghost use Rattle.lay_sizes.specs.OwnBoxes.{IsBoxSize};
 ghost use Rattle.lay_sizes.specs.SizeBounds.{SizeFits};
 ghost use Rattle.lay_sizes.specs.SizeColumns.{HaveSizeBounds, sizes_at};
+ghost use Rattle.lay_pieces.specs.Corners.{IsNear};
 ghost use Rattle.lay_pieces.specs.NearPieces.{IsRectNear};
 ghost use Rattle.lay_pieces.specs.Standings.{IsStandingNear};
 ghost use Rattle.lay_positioned.specs.PaddingBoxes.{borders_of, inside_borders, is_wrapper_at, padding_box};
 ghost use Rattle.lay_positioned.specs.RectBounds.{AreUsedSizes};
 
 use crate::layouts::{Layouts, standing_at};
-use crate::rects::near_rect;
+use crate::rects::{inside, moved, near_rect};
 use lay_boxgen::{BoxKind, BoxNode};
 use lay_context_boxes::ContextBoxes;
 use lay_pieces::Standing;
@@ -91,30 +91,27 @@ fn size_of(length: Unit) -> Unit
 }
 
 /// The padding box of a box that stands so, with these sizes and these borders.
-fn inside_borders(
-    standing: Standing,
-    sizes: &BoxSizes,
-    borders: Sides,
-) -> Result<Rect, NoMemory>
+fn inside_borders(standing: Standing, sizes: &BoxSizes, borders: Sides) -> Result<Rect, NoMemory>
     requires standing { IsStandingNear standing }
     requires sizes { SizeFits sizes.now }
     requires borders { AreUsedSizes borders }
     ensures rect { IfOk result (λ r. r ≡ inside_borders standing sizes.now borders) }
     ensures near { IfOk result IsRectNear }
 {
-    near_rect(Rect {
-        x: Unit(standing.corner.x.0 + borders.left.0),
-        y: Unit(standing.corner.y.0 + borders.top.0),
-        w: Unit(width_of(sizes).0 - borders.left.0 - borders.right.0),
-        h: Unit(standing.height.0 - borders.top.0 - borders.bottom.0),
-    })
+    let rect = Rect {
+        x: moved(standing.corner.x, borders.left),
+        y: moved(standing.corner.y, borders.top),
+        w: inside(width_of(sizes), borders.left, borders.right),
+        h: inside(standing.height, borders.top, borders.bottom),
+    };
+    near_rect(rect)
 }
 
 /// The width of a border box.
 fn width_of(sizes: &BoxSizes) -> Unit
     requires { SizeFits sizes.now }
     ensures value { result ≡ record { 0 = border_width sizes.now } }
-    ensures size { IsBoxSize result.0 }
+    ensures near { IsNear result.0 }
 {
     border_width(sizes)
 }

@@ -1,7 +1,9 @@
 //! Rectangles that are counted from one corner or another.
 
-ghost use Rattle.std.specs.Prelude.{◌≡◌, ◌-ℤ◌, IfOk};
-ghost use Rattle.lay_pieces.specs.Corners.{IsCornerNear};
+ghost use Rattle.std.specs.Prelude.{◌≡◌, ◌+ℤ◌, ◌-ℤ◌, IfOk};
+ghost use Rattle.lay_units.specs.Units.{IsPosition};
+ghost use Rattle.lay_sizes.specs.SizeBounds.{IsInset};
+ghost use Rattle.lay_pieces.specs.Corners.{IsCornerNear, IsNear};
 ghost use Rattle.lay_pieces.specs.NearPieces.{IsRectNear};
 ghost use Rattle.lay_positioned.specs.ContainingRects.{seen_from};
 
@@ -27,10 +29,40 @@ pub(crate) fn seen_from(corner: Corner, r: Rect) -> Result<Rect, NoMemory>
     ensures rect { IfOk result (λ n. n ≡ seen_from corner r) }
     ensures near { IfOk result IsRectNear }
 {
-    near_rect(Rect {
-        x: Unit(r.x.0 - corner.x.0),
-        y: Unit(r.y.0 - corner.y.0),
+    let rect = Rect {
+        x: difference(r.x, corner.x),
+        y: difference(r.y, corner.y),
         w: r.w,
         h: r.h,
-    })
+    };
+    near_rect(rect)
+}
+
+/// A position, counted from another one.
+pub(crate) fn difference(position: Unit, from: Unit) -> Unit
+    requires position { IsNear position.0 }
+    requires from { IsNear from.0 }
+    ensures value { result ≡ record { 0 = position.0 -ℤ from.0 } }
+    ensures fits { IsPosition result.0 }
+{
+    Unit(position.0 - from.0)
+}
+
+/// What is left of a length between two others.
+pub(crate) fn inside(length: Unit, before: Unit, after: Unit) -> Unit
+    requires length { IsPosition length.0 }
+    requires before { IsInset before.0 }
+    requires after { IsInset after.0 }
+    ensures { result ≡ record { 0 = length.0 -ℤ before.0 -ℤ after.0 } }
+{
+    Unit(length.0 - before.0 - after.0)
+}
+
+/// A position so much further.
+pub(crate) fn moved(position: Unit, by: Unit) -> Unit
+    requires position { IsPosition position.0 }
+    requires by { IsPosition by.0 }
+    ensures { result ≡ record { 0 = position.0 +ℤ by.0 } }
+{
+    Unit(position.0 + by.0)
 }

@@ -9,6 +9,7 @@ ghost use Rattle.lay_positioned.specs.ViewportBounds.{ViewportFits};
 use crate::absolute::is_fixed;
 use crate::containing_rects::{Anchor, containing_rect, viewport_rect};
 use crate::layouts::{Layouts, standing_of};
+use crate::rects::difference;
 use lay_formatting::FormattingContexts;
 use lay_pieces::Corner;
 use lay_sizes::ContainingBlock;
@@ -84,8 +85,8 @@ fn setting_beside(rect: Rect, anchor: Corner) -> AbsoluteSetting
 {
     AbsoluteSetting {
         rect,
-        static_left: Unit(anchor.x.0 - rect.x.0),
-        static_top: Unit(anchor.y.0 - rect.y.0),
+        static_left: difference(anchor.x, rect.x),
+        static_top: difference(anchor.y, rect.y),
     }
 }
 

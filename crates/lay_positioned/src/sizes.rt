@@ -4,6 +4,8 @@ ghost use Rattle.std.specs.Prelude.{◌≡◌, ◌+ℤ◌, Option, IfSome};
 ghost use Rattle.lay_units.specs.Units.{IsUsed, IsUsedSize};
 ghost use Rattle.lay_abspos.specs.AbsoluteAxis.{IsUsedAxis};
 ghost use Rattle.lay_abspos.specs.AbsoluteFits.{AxisFits};
+ghost use Rattle.lay_boxgen.specs.Kinds.{is_wrapper};
+ghost use Rattle.lay_sizes.specs.BoxSizes.{natural_of};
 ghost use Rattle.lay_sizes.specs.SizeBounds.{SizeFits};
 ghost use Rattle.lay_positioned.specs.AbsoluteSizes.{IsAbsoluteSized, IsAxisSize, IsStretchedHeight, border_start, is_auto, is_stretched, own_axis_across, own_axis_down, widths_in};
 ghost use Rattle.lay_positioned.specs.OffsetBounds.{AbsOutFits, IsStart};
@@ -59,11 +61,7 @@ pub fn absolute_sizes(
 }
 
 /// A rule of widths for what has this natural size, or these preferred widths.
-fn width_rule(
-    natural: Option<NaturalSize>,
-    preferred_minimum: Unit,
-    preferred: Unit,
-) -> WidthRule
+fn width_rule(natural: Option<NaturalSize>, preferred_minimum: Unit, preferred: Unit) -> WidthRule
     ensures { natural_of result ≡ natural }
 {
     match natural {

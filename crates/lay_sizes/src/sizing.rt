@@ -184,7 +184,11 @@ pub fn height_of(containing: ContainingBlock, natural: Option<NaturalSize>, styl
 }
 
 /// The least height that it may have.
-pub fn min_height_of(containing: ContainingBlock, natural: Option<NaturalSize>, style: &Style) -> Unit
+pub fn min_height_of(
+    containing: ContainingBlock,
+    natural: Option<NaturalSize>,
+    style: &Style,
+) -> Unit
     ensures value { result ≡ min_height_of containing natural style.now }
     ensures size { IsSize result.0 }
 {

@@ -4,6 +4,7 @@ ghost use Rattle.std.specs.Prelude.{◌≡◌, ◌+ℤ◌, Option, IfSome};
 ghost use Rattle.lay_units.specs.Units.{IsPosition, IsUsedSize, percentage_of};
 ghost use Rattle.lay_style.specs.LengthValues.{length_of, size_of};
 ghost use Rattle.lay_widths.specs.Lengths.{BlockFits, IsSize, LenFits, LenIsSize};
+ghost use Rattle.lay_sizes.specs.SizeBounds.{AreInsets, IsInset};
 ghost use Rattle.lay_sizes.specs.UsedLengths.{or_zero, used_margin, used_vertical_margin, used_width, used_size, used_limit, used_height, used_min_height, used_max_height, definite_height, block_of, edge_of, edges_of};
 
 use lay_heights::with_min_max;
@@ -32,7 +33,8 @@ pub fn block_of(containing: Unit, style: &Style) -> BlockIn
 
 /// The border and the padding of each side together, for the width of the containing block.
 pub fn edges_of(containing: Unit, style: &Style) -> Sides
-    ensures { result ≡ edges_of containing style.now }
+    ensures value { result ≡ edges_of containing style.now }
+    ensures insets { AreInsets result }
 {
     Sides {
         top: edge_of(containing, style.border.width.top, style.padding.top),
@@ -43,7 +45,8 @@ pub fn edges_of(containing: Unit, style: &Style) -> Sides
 }
 
 fn edge_of(containing: Unit, border: Unit, padding: LengthPercentage) -> Unit
-    ensures { result ≡ edge_of containing border padding }
+    ensures value { result ≡ edge_of containing border padding }
+    ensures inset { IsInset result.0 }
 {
     Unit(size_of(border).0 + used_size(containing, padding).0)
 }
