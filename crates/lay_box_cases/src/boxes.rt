@@ -16,13 +16,14 @@ use std::alloc::Global;
 
 /// A document and the computed styles of its nodes.
 #[derive(Drop)]
-struct Page {
-    doc: Doc,
-    style: Computed,
+pub(crate) struct Page {
+    pub doc: Doc,
+    pub style: Computed,
     ghost each: { length style ≡ length doc.nodes },
 }
 
-fn styled(alloc: Global, text: &str) -> Result<Page> {
+/// The document that a text is.
+pub(crate) fn styled(alloc: Global, text: &str) -> Result<Page> {
     let doc = document(alloc, text)?;
     let style = ample(computed(alloc, &doc))?;
     if style.as_slice().len() != doc.len() {
@@ -110,7 +111,8 @@ fn push_style(out: &mut String, style: &Style) -> Result<()> {
     Ok(())
 }
 
-fn draw(alloc: Global, out: &mut String, boxes: &[BoxNode]) -> Result<()> {
+/// Writes boxes as a tree.
+pub(crate) fn draw(alloc: Global, out: &mut String, boxes: &[BoxNode]) -> Result<()> {
     let mut depths = Vec::new(alloc);
     let mut before = 0;
     for node in boxes {

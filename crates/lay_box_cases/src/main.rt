@@ -11,6 +11,7 @@ mod boxes;
 mod cells;
 mod documents;
 mod floats;
+mod formatting;
 mod heights;
 mod margins;
 mod parts;
@@ -90,6 +91,7 @@ fn answer(alloc: Global, call: &str, text: &str) -> Result<String> {
         "box-nodes" => boxes::with_nodes(alloc, text),
         "box-styles" => boxes::with_styles(alloc, text),
         "box-counts" => boxes::count(alloc, text),
+        "formatting-contexts" => formatting::of_document(alloc, text),
         "inline-parts" => parts::of_inlines(alloc, text),
         "former-parents" => parts::former(alloc, text),
         "block-widths" => widths::of_block(alloc, text),

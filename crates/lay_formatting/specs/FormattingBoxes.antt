@@ -1,7 +1,7 @@
 -- The boxes of the formatting context of a root (CSS 2.2, 9.4.1): the root as its own box, and behind it in the order of the
 -- context all boxes that are at home there. A root among these is a leaf, marked as the box of an inner formatting context:
 -- what is in it belongs to that. So a root stands in two lists, and another box in one.
-use Rattle.std.specs.Prelude.{ℕ, zero, suc, ◌+◌, ◌==◌, ◌||◌, Bool, true, false, List, [], ◌∷◌, length, map, slice_index, slice_index_or, if◌then◌else◌}
+use Rattle.std.specs.Prelude.{ℕ, zero, suc, ◌+◌, ◌==◌, ◌||◌, Bool, false, List, ◌∷◌, length, map, slice_index, slice_index_or, if◌then◌else◌}
 use Rattle.std.specs.List.{filter, range_with_len}
 use Rattle.lay_style.specs.InitialStyle.{initial_style}
 use Rattle.lay_boxgen.specs.declared.box_tree.BoxKind.TheVariants.{Block}

@@ -1,9 +1,9 @@
 -- What holds of the formatting contexts of a document.
-use Rattle.std.specs.Prelude.{ℕ, ◌≡◌, ◌<◌, Bool, true, not, List, length, map, slice_index}
+use Rattle.std.specs.Prelude.{ℕ, ◌≡◌, ◌<◌, true, not, List, length, map, slice_index}
 use Rattle.std.specs.List.{filter}
-use Rattle.lay_contexts.specs.Contexts.{Context, AreContexts, boxes_in, context_at}
+use Rattle.lay_contexts.specs.Contexts.{Context, AreContexts, boxes_in}
 use Rattle.lay_formatting.specs.FormattingBoxes.{as_member, as_own, box_at, rank}
-use Rattle.lay_formatting.specs.FormattingContexts.{FormattingContext, AreFormattingContexts, boxes_in as boxes_of, formatting_context_at}
+use Rattle.lay_formatting.specs.FormattingContexts.{FormattingContext, AreFormattingContexts, boxes_in as boxes_of}
 use Rattle.lay_formatting.specs.FormattingContextList.{AreFormattingContextsOf, homes_in, number_of}
 use Rattle.lay_formatting.specs.Homes.{is_root}
 

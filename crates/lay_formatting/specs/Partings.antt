@@ -3,7 +3,7 @@ use Rattle.std.specs.Prelude.{ℕ, ◌≡◌, ◌+◌, ◌<◌, ◌≤◌, List,
 use Rattle.lay_boxgen.specs.declared.box_tree.BoxNode.{BoxNode}
 use Rattle.lay_contexts.specs.Contexts.{Context, boxes_in}
 use Rattle.lay_formatting.specs.FormattingBoxes.{at_home_before, rank}
-use Rattle.lay_formatting.specs.FormattingContextList.{first_number, number_of, roots_before}
+use Rattle.lay_formatting.specs.FormattingContextList.{first_number, roots_before}
 use Rattle.lay_formatting.specs.Homes.{AreHomes}
 
 pub record Parting : Type 0 where

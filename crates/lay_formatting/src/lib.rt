@@ -6,8 +6,8 @@
 //! lay_contexts. `specs/FormattingContexts.antt` says what a list of formatting contexts is.
 #![tactic(auto)]
 
-mod formatting_context_list;
 mod formatting_context;
+mod formatting_context_list;
 mod homes;
 mod laws;
 mod numbers;
@@ -17,8 +17,8 @@ mod root_boxes;
 mod roots;
 mod spot;
 
-pub use formatting_context_list::formatting_contexts;
 pub use formatting_context::{FormattingContext, FormattingContexts};
+pub use formatting_context_list::formatting_contexts;
 pub use laws::{
     boxes_stand_at_home, elements_are_contexts, formatting_contexts_stand_in_order,
     one_formatting_context_list, one_home, roots_stand_first, whole_contexts_keep_boxes,

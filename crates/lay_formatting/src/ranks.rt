@@ -1,6 +1,6 @@
 //! The places of the boxes of a context in the lists of their homes.
 
-ghost use Rattle.std.specs.Prelude.{ℕ, ◌≡◌, ◌<◌, ◌++◌, ◌∷◌, [], List, IfOk, OnOk, length, slice_index};
+ghost use Rattle.std.specs.Prelude.{ℕ, ◌≡◌, ◌<◌, ◌+◌, ◌++◌, ◌∷◌, [], List, IfOk, OnOk, length, slice_index, slice_index_or};
 ghost use Rattle.lay_formatting.specs.FormattingBoxes.{at_home_before, rank};
 ghost use Rattle.lay_formatting.specs.Partings.{AreRanksTo};
 
@@ -96,5 +96,7 @@ fn rank(homes: &[usize], at_home: &mut Vec<Places>, k: usize) -> Result<usize, N
     if k == 0 {
         return Ok(0);
     }
-    at_home[place_at(homes, k)].add(k)
+    let home = place_at(homes, k);
+    let count = at_home[home].add(k)?;
+    Ok(count)
 }

@@ -1,6 +1,7 @@
 //! The boxes of the formatting context of a root.
 
-ghost use Rattle.std.specs.Prelude.{ℕ, ◌≡◌, ◌<◌, true, IfOk, length};
+ghost use Rattle.std.specs.Prelude.{ℕ, ◌≡◌, ◌<◌, ◌≤◌, true, IfOk, length};
+ghost use Rattle.lay_context_boxes.specs.ContextBoxes.{AreContextBoxes};
 ghost use Rattle.lay_formatting.specs.FormattingBoxes.{as_member, as_own, box_at, boxes_of_root, place_inside, placed};
 ghost use Rattle.lay_formatting.specs.Homes.{is_root};
 ghost use Rattle.lay_formatting.specs.Partings.{IsParting};
@@ -28,7 +29,8 @@ pub(crate) fn boxes_of_root(
 {
     let all = boxes.as_slice();
     if parting.number(all.len()) == first + 1 {
-        return boxes.share();
+        let shared = boxes.share()?;
+        return Ok(shared);
     }
     let items = listed(alloc, all, parting, r)?;
     ContextBoxes::new(alloc, BoxTree::new(items))
@@ -41,6 +43,7 @@ fn listed(
     parting: &Parting,
     r: usize,
 ) -> Result<Vec<BoxNode>, NoMemory>
+    requires are { AreContextBoxes boxes.now }
     requires parting { (first : ℕ) × IsParting boxes.now first parting.now }
     requires within { r < length boxes.now }
     ensures { IfOk result (λ v. v.items ≡ boxes_of_root boxes.now parting.now.homes r) }
@@ -86,12 +89,7 @@ fn place_inside(boxes: &[BoxNode], parting: &Parting, p: usize) -> usize
 }
 
 /// A box with another parent.
-fn placed(
-    alloc: Global,
-    node: &BoxNode,
-    parent: u32,
-    inner: bool,
-) -> Result<BoxNode, NoMemory>
+fn placed(alloc: Global, node: &BoxNode, parent: u32, inner: bool) -> Result<BoxNode, NoMemory>
     ensures { IfOk result (λ b. b ≡ placed node.now parent inner) }
 {
     Ok(BoxNode {

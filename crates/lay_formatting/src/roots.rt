@@ -1,6 +1,6 @@
 //! The roots among the boxes of a context.
 
-ghost use Rattle.std.specs.Prelude.{◌≡◌, ◌<◌, length};
+ghost use Rattle.std.specs.Prelude.{◌≡◌, ◌<◌, ◌^◌, length};
 ghost use Rattle.lay_boxgen.specs.Containers.{box_parent};
 ghost use Rattle.lay_formatting.specs.FormattingBoxes.{box_at};
 ghost use Rattle.lay_formatting.specs.Homes.{is_anonymous_root, is_root, is_wrapper_or_cell};
@@ -36,6 +36,7 @@ pub(crate) fn box_parent(boxes: &[BoxNode], k: usize) -> usize
     requires { k < length boxes.now }
     ensures parent { result ≡ box_parent boxes.now k }
     ensures same { result ≡ (box_at boxes.now k).parent }
+    ensures small { result < 2 ^ 32 }
 {
     boxes[k].parent as usize
 }

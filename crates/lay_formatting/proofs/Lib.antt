@@ -1,0 +1,10 @@
+pub mod NearestRoots
+pub mod AtHome
+pub mod RootBoxes
+pub mod WholeBoxes
+pub mod RootNumbers
+pub mod ContextFacts
+pub mod ListLaws
+pub mod GrowingColumns
+pub mod GrowingList
+pub mod PartingFacts
