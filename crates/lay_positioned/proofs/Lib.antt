@@ -1,0 +1,6 @@
+pub mod ContainingSteps
+pub mod LevelSteps
+pub mod OneAbsoluteBox
+pub mod OneLevels
+pub mod OneSetting
+pub mod ParentSteps

@@ -1,0 +1,47 @@
+//! How many absolutely positioned formatting contexts are around each.
+
+ghost use Rattle.std.specs.Prelude.{ℕ, ◌≡◌, ◌<◌, ◌≤◌, ◌+◌, IfOk, length, slice_index};
+ghost use Rattle.lay_positioned.specs.Levels.{HasLevels, level_of, one_if};
+
+use crate::absolute::is_absolute;
+use lay_formatting::FormattingContexts;
+use lay_units::NoMemory;
+use std::alloc::Global;
+
+/// The level of each formatting context: how many absolutely positioned ones there are from it out to the root's.
+pub fn levels(alloc: Global, contexts: &FormattingContexts) -> Result<Vec<usize>, NoMemory>
+    ensures { IfOk result (λ v. HasLevels contexts.now v.items) }
+{
+    let count = contexts.len();
+    let mut levels = Vec::with_capacity(alloc, count)?;
+    for i in 0..count {
+        let level = level_of(contexts, &levels, i);
+        levels.push(level)?;
+    }
+    Ok(levels)
+}
+
+/// The level of the formatting context with this number, where those of the ones before it are known.
+fn level_of(contexts: &FormattingContexts, levels: &[usize], i: usize) -> usize
+    requires within { i < length contexts.now }
+    requires before { i ≤ length levels.now }
+    requires few { (k : ℕ) → k < length levels.now → slice_index levels.now k ≤ k + 1 }
+    ensures level { result ≡ level_of contexts.now levels.now i }
+    ensures few { result ≤ i + 1 }
+{
+    let own = one_if(is_absolute(contexts, i));
+    if i == 0 {
+        return own;
+    }
+    levels[contexts.at(i).outer()] + own
+}
+
+fn one_if(holds: bool) -> usize
+    ensures value { result ≡ one_if holds }
+    ensures few { result ≤ 1 }
+{
+    if holds {
+        return 1;
+    }
+    0
+}
