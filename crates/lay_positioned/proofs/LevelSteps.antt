@@ -3,13 +3,13 @@ use Rattle.std.proofs.Common.{◌≡◌, ℕ, zero, suc, ◌+◌, ◌<◌, ◌�
 use Rattle.std.proofs.lemmas.Bool.{cases_lt}
 use Rattle.std.proofs.lemmas.Grind.{elements}
 use Rattle.lay_formatting.specs.FormattingContexts.{AreFormattingContexts, FormattingContext, formatting_context_at}
-use Rattle.lay_positioned.specs.Levels.{level_of}
+use Rattle.lay_positioned.specs.Levels.{AreFewLevels, level_of}
 
 -- the first n have their levels, which are few
 pub record LevelsTo (contexts : List FormattingContext) (levels : List ℕ) (n : ℕ) : Type 0 where
   pub count : length levels ≡ n
   pub each : (k : ℕ) → k < n → slice_index levels k ≡ level_of contexts levels k
-  pub few : (k : ℕ) → k < length levels → slice_index levels k ≤ k + 1
+  pub few : AreFewLevels levels
 
 read_before : (xs : List ℕ) (x k : ℕ) → k < length xs → slice_index (xs ++ x ∷ []) k ≡ slice_index xs k
 read_before xs x k lt = grind (arith, elements)

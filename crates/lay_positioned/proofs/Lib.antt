@@ -4,3 +4,4 @@ pub mod OneAbsoluteBox
 pub mod OneLevels
 pub mod OneSetting
 pub mod ParentSteps
+pub mod SettingValues

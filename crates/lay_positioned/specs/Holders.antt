@@ -1,7 +1,7 @@
 -- The boxes that can be the containing block of an absolutely positioned one (CSS 2.2, 10.1, case 4): "the nearest ancestor with
 -- a 'position' of 'absolute', 'relative' or 'fixed'" that is a block container. The wrapper of a table is one. On cells, captions
 -- and the other boxes in a table `position` has no effect, and an inline box is none.
-use Rattle.std.specs.Prelude.{ℕ, ◌≡◌, ◌<◌, ◌&&◌, Bool, true, false, List, map, slice_index_or, Option, None, Some}
+use Rattle.std.specs.Prelude.{ℕ, zero, suc, ◌≡◌, ◌<◌, ◌&&◌, Bool, true, false, List, map, slice_index_or, Option, None, Some, if◌then◌else◌}
 use Rattle.lay_style.specs.declared.style_words.Position.{Position}
 use Rattle.lay_style.specs.declared.style_words.Position.TheVariants as position
 use Rattle.lay_boxgen.specs.declared.box_tree.BoxKind.{BoxKind}
@@ -37,3 +37,13 @@ pub data IsNearestHolder (boxes : List BoxNode) : ℕ → Option ℕ → Type 0 
 abbrev pub IsHolderFor : (is_fixed : Bool) → List BoxNode → ℕ → Option ℕ → Type 0
 IsHolderFor true boxes k holder = holder ≡ None
 IsHolderFor false boxes k holder = IsNearestHolder boxes k holder
+
+-- It is found outward in so many turns: there are no more boxes around one than stand before it.
+abbrev pub nearest_in : (turns : ℕ) → List BoxNode → ℕ → Option ℕ
+nearest_in zero boxes k = None
+nearest_in (suc turns) boxes k =
+    if is_holder_at boxes (box_parent boxes k) then Some (box_parent boxes k) else nearest_in turns boxes (box_parent boxes k)
+
+abbrev pub holder_for : (is_fixed : Bool) → List BoxNode → ℕ → Option ℕ
+holder_for true boxes k = None
+holder_for false boxes k = nearest_in k boxes k

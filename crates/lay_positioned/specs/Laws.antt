@@ -15,7 +15,7 @@ use Rattle.lay_positioned.specs.AbsoluteTables.{IsTableLeft}
 use Rattle.lay_positioned.specs.Layouts.{Layout}
 use Rattle.lay_positioned.specs.Levels.{HasLevels}
 use Rattle.lay_positioned.specs.Offsets.{IsOffset}
-use Rattle.lay_positioned.specs.Settings.{IsSetting}
+use Rattle.lay_positioned.specs.Settings.{IsSetting, absolute_setting}
 use Rattle.lay_positioned.specs.Ways.{IsOnWay}
 
 -- formatting contexts have one column of levels
@@ -37,6 +37,11 @@ abbrev pub SettingsComeOfWays : Type 0
 SettingsComeOfWays = (viewport : ContainingBlock) (contexts : List FormattingContext) (v w : ℕ → Layout) (i : ℕ) (s t : AbsoluteSetting)
     → ((j : ℕ) → IsOnWay contexts i j → v j ≡ w j)
     → IsSetting viewport contexts v i s → IsSetting viewport contexts w i t → s ≡ t
+
+-- it is the value of `absolute_setting`
+abbrev pub SettingsAreValues : Type 0
+SettingsAreValues = (viewport : ContainingBlock) (contexts : List FormattingContext) (laid : ℕ → Layout) (i : ℕ) → AreFormattingContexts contexts
+    → i < length contexts → IsSetting viewport contexts laid i (absolute_setting viewport contexts laid i)
 
 abbrev pub OneAbsoluteSizes : Type 0
 OneAbsoluteSizes = (s : AbsoluteSetting) (own : BoxNode) (minimum preferred : Length) (x y : BoxSizes) (a b : Length)

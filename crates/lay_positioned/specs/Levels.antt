@@ -1,6 +1,6 @@
 -- The level of a formatting context: how many absolutely positioned ones there are from it, itself included, out to the root's.
 -- What is positioned by another one (CSS 2.2, 10.1) has a higher level, so layout goes from level to level.
-use Rattle.std.specs.Prelude.{ℕ, zero, suc, ◌≡◌, ◌+◌, ◌<◌, Bool, true, false, List, length, slice_index}
+use Rattle.std.specs.Prelude.{ℕ, zero, suc, ◌≡◌, ◌+◌, ◌<◌, ◌≤◌, Bool, true, false, List, length, slice_index}
 use Rattle.lay_formatting.specs.FormattingContexts.{FormattingContext, formatting_context_at}
 use Rattle.lay_positioned.specs.Absolute.{is_absolute}
 
@@ -17,3 +17,7 @@ level_of contexts levels (suc i) =
 pub record HasLevels (contexts : List FormattingContext) (levels : List ℕ) : Type 0 where
   pub count : length levels ≡ length contexts
   pub each : (i : ℕ) → i < length contexts → slice_index levels i ≡ level_of contexts levels i
+
+-- they are few: no level is greater than the number of formatting contexts out to the first one
+abbrev pub AreFewLevels : List ℕ → Type 0
+AreFewLevels levels = (k : ℕ) → k < length levels → slice_index levels k ≤ k + 1

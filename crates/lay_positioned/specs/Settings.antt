@@ -11,7 +11,7 @@ use Rattle.lay_formatting.specs.FormattingContexts.{FormattingContext, formattin
 use Rattle.lay_pieces.specs.declared.corner.Corner.{Corner}
 use Rattle.lay_positioned.specs.declared.settings.AbsoluteSetting.{AbsoluteSetting}
 use Rattle.lay_positioned.specs.Absolute.{is_fixed}
-use Rattle.lay_positioned.specs.ContainingRects.{IsContainingRect, viewport_rect}
+use Rattle.lay_positioned.specs.ContainingRects.{IsContainingRect, containing_in, viewport_rect}
 use Rattle.lay_positioned.specs.Layouts.{Layout, standing_of}
 
 -- an anchor in a containing block
@@ -35,6 +35,13 @@ pub record IsInnerSetting (viewport : ContainingBlock) (contexts : List Formatti
 abbrev pub IsSetting : ContainingBlock → List FormattingContext → (ℕ → Layout) → ℕ → AbsoluteSetting → Type 0
 IsSetting viewport contexts laid zero s = s ≡ root_setting viewport
 IsSetting viewport contexts laid (suc i) s = IsInnerSetting viewport contexts laid (suc i) s
+
+-- that setting as a value
+abbrev pub absolute_setting : ContainingBlock → List FormattingContext → (ℕ → Layout) → ℕ → AbsoluteSetting
+absolute_setting viewport contexts laid zero = root_setting viewport
+absolute_setting viewport contexts laid (suc i) =
+    let c = formatting_context_at contexts (suc i) in
+    setting_beside (containing_in (suc i) viewport (is_fixed contexts (suc i)) contexts laid c.outer c.outer_box) (standing_of contexts laid (suc i)).corner
 
 -- the containing block as other rules take one; its height doesn't depend on what is in the box
 abbrev pub block_in : AbsoluteSetting → ContainingBlock

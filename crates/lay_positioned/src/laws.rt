@@ -1,6 +1,6 @@
 //! The laws of the definitions. The functions do nothing.
 
-ghost use Rattle.lay_positioned.specs.Laws.{OneAbsoluteSizes, OneLevels, OneOffset, OneStretchedHeight, OneTableLeft, SettingsComeOfWays, WaysLeadDown, WaysLeadOut};
+ghost use Rattle.lay_positioned.specs.Laws.{OneAbsoluteSizes, OneLevels, OneOffset, OneStretchedHeight, OneTableLeft, SettingsAreValues, SettingsComeOfWays, WaysLeadDown, WaysLeadOut};
 
 /// Formatting contexts have one column of levels.
 pub fn one_levels()
@@ -20,6 +20,11 @@ pub fn ways_lead_out()
 /// What an absolutely positioned box is given comes of the formatting contexts on the way to its containing block alone.
 pub fn settings_come_of_ways()
     ensures { SettingsComeOfWays }
+{}
+
+/// It is given what is found outward in so many steps as formatting contexts and boxes stand before it.
+pub fn settings_are_values()
+    ensures { SettingsAreValues }
 {}
 
 /// An absolutely positioned box has one set of used sizes.

@@ -24,10 +24,10 @@ mod tables;
 pub use absolute::{is_absolute, is_fixed};
 pub use laws::{
     one_absolute_sizes, one_levels, one_offset, one_stretched_height, one_table_left,
-    settings_come_of_ways, ways_lead_down, ways_lead_out,
+    settings_are_values, settings_come_of_ways, ways_lead_down, ways_lead_out,
 };
 pub use layouts::Layouts;
-pub use level_column::levels;
+pub use level_column::{level_count, levels};
 pub use offsets::own_offset;
 pub use settings::{AbsoluteSetting, setting};
 pub use sizes::{AbsoluteSizes, absolute_sizes, stretched_height};

@@ -3,7 +3,7 @@
 ghost use Rattle.std.specs.Prelude.{◌≡◌, ◌<◌, ◌-ℤ◌, IfOk, length};
 ghost use Rattle.lay_pieces.specs.Corners.{IsCornerNear};
 ghost use Rattle.lay_pieces.specs.NearPieces.{IsRectNear};
-ghost use Rattle.lay_positioned.specs.Settings.{IsInnerSetting, IsSetting, SettingFits, block_in, setting_beside};
+ghost use Rattle.lay_positioned.specs.Settings.{IsInnerSetting, IsSetting, SettingFits, absolute_setting, block_in, setting_beside};
 ghost use Rattle.lay_positioned.specs.ViewportBounds.{ViewportFits};
 
 use crate::absolute::is_fixed;
@@ -29,6 +29,23 @@ pub struct AbsoluteSetting {
 /// block are laid out. NoMemory is the answer where one is more than 2^60 units from another, which it is in no document
 /// within the limits.
 pub fn setting<L: Layouts>(
+    viewport: ContainingBlock,
+    contexts: &FormattingContexts,
+    layouts: &L,
+    i: usize,
+) -> Result<AbsoluteSetting, NoMemory>
+    requires viewport { ViewportFits viewport }
+    requires known { L.count layouts.now ≡ length contexts.now }
+    requires within { i < length contexts.now }
+    ensures setting { IfOk result (IsSetting viewport contexts.now (L.laid layouts.now) i) }
+    ensures value { IfOk result (λ s. s ≡ absolute_setting viewport contexts.now (L.laid layouts.now) i) }
+    ensures fits { IfOk result SettingFits }
+{
+    let _ = contexts.at(i);
+    found_setting(viewport, contexts, layouts, i)
+}
+
+fn found_setting<L: Layouts>(
     viewport: ContainingBlock,
     contexts: &FormattingContexts,
     layouts: &L,
