@@ -7,7 +7,7 @@ use Rattle.lay_borders.specs.Edges.{IsEdge}
 use Rattle.lay_borders.specs.Laws.{OneBorderEach}
 use Rattle.lay_borders.proofs.Order.{one_winner_lem}
 
-edge_same : (borders : List Cand) (x y : Option Cand) → IsEdge borders x → IsEdge borders y → x ≡ y
+pub edge_same : (borders : List Cand) (x y : Option Cand) → IsEdge borders x → IsEdge borders y → x ≡ y
 edge_same borders None None p q = refl
 edge_same borders None (Some w) p q = let at = q.one_of.1 in absurd (cc (p, at))
 edge_same borders (Some v) None p q = let at = p.one_of.1 in absurd (cc (q, at))

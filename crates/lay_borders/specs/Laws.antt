@@ -2,11 +2,7 @@
 -- one winner.
 use Rattle.std.specs.Prelude.{◌≡◌, ◌⊎◌, List, Option}
 use Rattle.lay_borders.specs.declared.candidate.Cand.{Cand}
-use Rattle.lay_units.specs.declared.records.Sides.{Sides}
-use Rattle.lay_borders.specs.declared.halves.GridSize.{GridSize}
-use Rattle.lay_borders.specs.declared.halves.CellArea.{CellArea}
 use Rattle.lay_borders.specs.Edges.{AreResolved}
-use Rattle.lay_borders.specs.Halves.{AreCellBorders, AreTableBorders}
 use Rattle.lay_borders.specs.Winner.{Beats, IsWinner}
 
 -- a total order: none beats itself, beating goes on, and of two that differ one beats the other
@@ -24,11 +20,3 @@ OneWinner = (borders : List Cand) (v w : Cand) → IsWinner borders v → IsWinn
 abbrev pub OneBorderEach : Type 0
 OneBorderEach = (meeting : List (List Cand)) (xs ys : List (Option Cand))
     → AreResolved meeting xs → AreResolved meeting ys → xs ≡ ys
-
-abbrev pub OneTableBorders : Type 0
-OneTableBorders = (edges : List (Option Cand)) (size : GridSize) (v w : Sides)
-    → AreTableBorders edges size v → AreTableBorders edges size w → v ≡ w
-
-abbrev pub OneCellBorders : Type 0
-OneCellBorders = (edges : List (Option Cand)) (size : GridSize) (cell : CellArea) (v w : Sides)
-    → AreCellBorders edges size cell v → AreCellBorders edges size cell w → v ≡ w

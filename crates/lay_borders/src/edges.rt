@@ -33,14 +33,15 @@ pub fn resolve(alloc: Global, grid: &GridBorders) -> Result<EdgeGrid, NoMemory>
 {
     let mut edges = Vec::new(alloc);
     for borders in grid.edges.as_slice() {
-        edges.push(border_of(borders.as_slice()))?;
+        edges.push(edge_border(borders.as_slice()))?;
     }
     Ok(EdgeGrid {
         edges: CandOptions::new(edges),
     })
 }
 
-fn border_of(borders: &[Cand]) -> Option<Cand>
+/// The border of an edge where these meet, if any do.
+pub fn edge_border(borders: &[Cand]) -> Option<Cand>
     ensures { IsEdge borders.now result }
 {
     if borders.is_empty() {

@@ -1,20 +1,20 @@
 -- What a formatting context is given by the one around it, and where it stands.
-use Rattle.std.proofs.Common.{◌≡◌, ◌<◌, ℕ, zero, suc, ◌+◌, List, [], ◌∷◌, ◌++◌, length, length-append, map, take, slice_index, refl, arith, inl, inr}
+use Rattle.std.proofs.Common.{◌≡◌, ◌<◌, ℕ, zero, suc, ◌+◌, ◌≤◌, List, [], ◌∷◌, ◌++◌, length, length-append, map, take, slice_index, refl, arith, inl, inr}
 use Rattle.std.proofs.lemmas.Bool.{cases_lt}
 use Rattle.std.proofs.lemmas.Grind.{elements}
 use Rattle.std.proofs.lemmas.List.{map-append, take_more}
 use Rattle.std.proofs.lemmas.Int.{ints}
-use Rattle.lay_measure.specs.declared.preferred_widths.PreferredWidths.{PreferredWidths}
+use Rattle.lay_frag.specs.declared.frag.Frag.{Frag}
 use Rattle.lay_sizes.specs.declared.own_boxes.OwnBox.{OwnBox}
 use Rattle.lay_sizes.specs.OwnBoxes.{OwnBoxFits, OwnBoxesFit, own_box_at}
 use Rattle.lay_formatting.specs.FormattingContexts.{AreFormattingContexts, FormattingContext, formatting_context_at}
 use Rattle.lay_pieces.specs.Corners.{IsCornerNear}
-use Rattle.lay_pieces.specs.NearPieces.{IsRectNear}
+use Rattle.lay_pieces.specs.InnerPieces.{AreNearInnerPieces, inner_pieces_at}
+use Rattle.lay_pieces.specs.NearPieces.{AreNearPieces, IsRectNear}
 use Rattle.lay_pieces.specs.Placements.{Placement, PlacementFits}
 use Rattle.lay_pieces.specs.Standings.{IsStandingNear}
 use Rattle.lay_pieces.specs.declared.corner.Corner.{Corner}
 use Rattle.lay_pieces.specs.declared.standing.Standing.{Standing}
-use Rattle.lay_context.specs.DocumentLayout.{inner_widths_in, own_box_in}
 use Rattle.lay_context.specs.Solves.{page_rect}
 
 -- the number of an inner formatting context, or 0, is that of one of them
@@ -25,19 +25,12 @@ inner_within contexts i k are lt within = by (slice_index (formatting_context_at
     by zero is = omega (arith, lt)
     by (suc j) is = are.within i (suc j) lt (record { box = k; within = within; number = is; some = omega arith })
 
--- the boxes of inner ones, with one more
-pub one_more_box : (places : List Placement) (numbers : List ℕ) (k : ℕ) (boxes : List OwnBox) (o : OwnBox) → k < length numbers → boxes ≡ map (own_box_in places) (take k numbers) → o ≡ own_box_in places (slice_index numbers k)
-    → boxes ++ o ∷ [] ≡ map (own_box_in places) (take (k + 1) numbers)
-one_more_box places numbers k boxes o lt are is =
+-- what is found by numbers, with one more
+pub one_more_of : {X : Type 0} (f : ℕ → X) (numbers : List ℕ) (k : ℕ) (xs : List X) (x : X) → k < length numbers → xs ≡ map f (take k numbers) → x ≡ f (slice_index numbers k)
+    → xs ++ x ∷ [] ≡ map f (take (k + 1) numbers)
+one_more_of f numbers k xs x lt are is =
     let more : take (k + 1) numbers ≡ take k numbers ++ slice_index numbers k ∷ [] = take_more numbers k 0 lt in
-    rw (more, map-append (own_box_in places) (take k numbers) (slice_index numbers k ∷ []), are, is) refl
-
--- the preferred widths of inner ones, with one more
-pub one_more_widths : (all : List PreferredWidths) (numbers : List ℕ) (k : ℕ) (widths : List PreferredWidths) (w : PreferredWidths) → k < length numbers → widths ≡ map (inner_widths_in all) (take k numbers) → w ≡ inner_widths_in all (slice_index numbers k)
-    → widths ++ w ∷ [] ≡ map (inner_widths_in all) (take (k + 1) numbers)
-one_more_widths all numbers k widths w lt are is =
-    let more : take (k + 1) numbers ≡ take k numbers ++ slice_index numbers k ∷ [] = take_more numbers k 0 lt in
-    rw (more, map-append (inner_widths_in all) (take k numbers) (slice_index numbers k ∷ []), are, is) refl
+    rw (more, map-append f (take k numbers) (slice_index numbers k ∷ []), are, is) refl
 
 read_before : (os : List OwnBox) (o : OwnBox) (k : ℕ) → k < length os → own_box_at (os ++ o ∷ []) k ≡ own_box_at os k
 read_before os o k lt = grind (arith, elements)
@@ -49,6 +42,31 @@ pub one_more_fits : (os : List OwnBox) (o : OwnBox) → OwnBoxesFit os → OwnBo
 one_more_fits os o fit own k lt = elim (cases_lt k (length os)) [
   | inl low ↦ rw (read_before os o k low) (fit k low)
   | inr high ↦ (let counted = length-append os (o ∷ []) in rw (read_last os o k (omega (arith, high, lt, counted))) own)
+]
+
+-- pieces of inner formatting contexts that are near, with those of one more
+pieces_before : (all : List (List Frag)) (p : List Frag) (k : ℕ) → k < length all → inner_pieces_at (all ++ p ∷ []) k ≡ inner_pieces_at all k
+pieces_before all p k lt = grind (arith, elements)
+
+pieces_last : (all : List (List Frag)) (p : List Frag) (k : ℕ) → k ≡ length all → inner_pieces_at (all ++ p ∷ []) k ≡ p
+pieces_last all p k e = grind (arith, elements)
+
+pieces_behind : (all : List (List Frag)) (k : ℕ) → length all ≤ k → inner_pieces_at all k ≡ []
+pieces_behind all k le = grind (arith, elements)
+
+pub no_pieces_are_near : AreNearPieces []
+no_pieces_are_near k lt = absurd (omega (arith, lt))
+
+pub no_inner_pieces_are_near : AreNearInnerPieces []
+no_inner_pieces_are_near k j lt = absurd (omega (arith, lt))
+
+pub one_more_near : (all : List (List Frag)) (p : List Frag) → AreNearInnerPieces all → AreNearPieces p → AreNearInnerPieces (all ++ p ∷ [])
+one_more_near all p near more k = elim (cases_lt k (length all)) [
+  | inl low ↦ rw (pieces_before all p k low) (near k)
+  | inr high ↦ elim (cases_lt (length all) k) [
+    | inl behind ↦ (let counted = length-append all (p ∷ []) in rw (pieces_behind (all ++ p ∷ []) k (omega (arith, behind, counted))) no_pieces_are_near)
+    | inr here ↦ rw (pieces_last all p k (omega (arith, high, here))) more
+  ]
 ]
 
 pub near_rect : (p : Placement) (standing : Standing) (corner : Corner) → PlacementFits p → IsStandingNear standing → IsCornerNear corner → IsRectNear (page_rect p standing corner)

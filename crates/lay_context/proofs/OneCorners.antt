@@ -1,5 +1,5 @@
 -- The corners of formatting contexts on the page are the only ones, since each rests on that of the one around it.
-use Rattle.std.proofs.Common.{◌≡◌, ℕ, zero, suc, ◌<◌, ◌≤◌, List, length, sym, ◌∙◌, arith, inl, inr}
+use Rattle.std.proofs.Common.{◌≡◌, ℕ, zero, suc, ◌<◌, ◌≤◌, List, length, refl, sym, ◌∙◌, arith, inl, inr}
 use Rattle.std.proofs.lemmas.Bool.{cases_lt}
 use Rattle.lay_doc.proofs.OneStyles.{same_list}
 use Rattle.lay_formatting.specs.FormattingContexts.{FormattingContext, AreFormattingContexts}

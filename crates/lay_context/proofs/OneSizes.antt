@@ -74,10 +74,10 @@ one_as one_table one_cell false i x y None None are p q = (one_flow one_cell i x
 one_as one_table one_cell false i x y None (Some u) are p q = absurd q
 one_as one_table one_cell false i x y (Some t) u are p q = absurd p
 
-same_sized : (x y : SizedContext) → x.boxes ≡ y.boxes → x.table ≡ y.table → x ≡ y
-same_sized x y boxes table = cc
+same_sized : (x y : List BoxSizes) (t u : Option TableSizesValue) → x ≡ y → t ≡ u → (record { boxes = x; table = t } : SizedContext) ≡ (record { boxes = y; table = u } : SizedContext)
+same_sized x y t u boxes table = rw (boxes, table) refl
 
 pub one_context_sizes_lem : OneTableSizes → OneCellSizes → OneContextSizes
 one_context_sizes_lem one_table one_cell i x y are a b =
     let both = one_as one_table one_cell (is_table i.boxes) i x.boxes y.boxes x.table y.table are a b in
-    same_sized x y both.0 both.1
+    same_sized x.boxes y.boxes x.table y.table both.0 both.1

@@ -1,8 +1,11 @@
 -- What a task is given comes of what it needs, so the value of another task changes nothing of it.
-use Rattle.std.proofs.Common.{◌≡◌, ◌<◌, ℕ, zero, suc, List, [], ◌∷◌, length, map, slice_index, refl, ap, arith}
+use Rattle.std.proofs.Common.{◌≡◌, ◌<◌, ℕ, zero, suc, List, [], ◌∷◌, length, map, slice_index, refl, ap, arith, option_map}
+use Rattle.lay_frag.specs.declared.frag.Frag.{Frag}
 use Rattle.lay_measure.specs.declared.preferred_widths.PreferredWidths.{PreferredWidths}
 use Rattle.lay_formatting.specs.FormattingContexts.{FormattingContext, formatting_context_at, boxes_in}
 use Rattle.lay_pieces.specs.Placements.{Placement}
+use Rattle.lay_sizes.specs.declared.own_boxes.OwnBox.{OwnBox}
+use Rattle.lay_context.specs.declared.input.Input.{Input}
 use Rattle.lay_context.specs.declared.task.Phase.{Phase}
 use Rattle.lay_context.specs.declared.task.Phase.TheVariants.{Measure, Size, Place}
 use Rattle.lay_context.specs.declared.task.Task.{Task}
@@ -10,8 +13,9 @@ use Rattle.lay_context.specs.declared.value.Value.TheVariants as value
 use Rattle.lay_context.specs.ContextSizes.{SizedContext}
 use Rattle.lay_context.specs.DocumentLayout.{inner_boxes, inner_pieces, inner_widths, inner_widths_in, own_box_in, painted_of, pieces_in, placement_in, widths_in}
 use Rattle.lay_context.specs.Laws.{InputsComeOfNeeds}
-use Rattle.lay_context.specs.Local.{Workings, input_by, value_by}
+use Rattle.lay_context.specs.Local.{Workings, input_by, place_as, value_by}
 use Rattle.lay_context.specs.Medium.{Medium}
+use Rattle.lay_context.specs.OwnHeights.{own_height_rule}
 use Rattle.lay_context.specs.Needs.{needs_by}
 use Rattle.lay_context.specs.Settings.{setting_in, setting_of, sizes_in}
 
@@ -70,6 +74,21 @@ module _ (medium : Medium) (contexts : List FormattingContext) (v w : Workings) 
       let outer : ℕ = (formatting_context_at contexts (suc i)).outer in
       ap (λ (sized : SizedContext). setting_in (boxes_in contexts outer) sized (formatting_context_at contexts (suc i)).outer_box) (same outer (omega arith, refl))
 
+  -- what a placement is given comes of these
+  abbrev placed_by : SizedContext → List OwnBox → List (List Frag) → ℕ → Input
+  placed_by sized inner pieces i = place_as (record {
+    boxes = boxes_in contexts i;
+    sizes = sized.boxes;
+    inner = inner;
+    pieces = pieces;
+    own_height = own_height_rule (boxes_in contexts i) sized.boxes;
+    face = medium.face;
+  }) (option_map (λ table. record { boxes = boxes_in contexts i; sizes = sized.boxes; table = table; inner = inner; pieces = pieces }) sized.table)
+
+  placed_same : (sized other : SizedContext) (inner others : List OwnBox) (pieces further : List (List Frag)) (i : ℕ) → sized ≡ other → inner ≡ others → pieces ≡ further
+      → placed_by sized inner pieces i ≡ placed_by other others further i
+  placed_same sized other inner others pieces further i same_sizes same_boxes same_pieces = rw (same_sizes, same_boxes, same_pieces) refl
+
   input_same : (phase : Phase) (i : ℕ) → ((needed : Phase) (j : ℕ) → needs_by contexts phase i needed j → value_by v needed j ≡ value_by w needed j) → input_by medium contexts v phase i ≡ input_by medium contexts w phase i
   input_same Measure i same =
       let inner : inner_widths contexts v.widths i ≡ inner_widths contexts w.widths i =
@@ -88,7 +107,7 @@ module _ (medium : Medium) (contexts : List FormattingContext) (v w : Workings) 
       place_value (placement_in v.places j) (placement_in w.places j) (same Place j (record { box = k; within = lt; number = refl; some = some }))) in
       let inner : inner_boxes contexts v.places i ≡ inner_boxes contexts w.places i = boxes_same v.places w.places (formatting_context_at contexts i).inner places in
       let pieces : inner_pieces contexts v.places i ≡ inner_pieces contexts w.places i = pieces_same contexts v.places w.places (formatting_context_at contexts i).inner places in
-      rw (sizes, inner, pieces) refl
+      placed_same (sizes_in v.sizes i) (sizes_in w.sizes i) (inner_boxes contexts v.places i) (inner_boxes contexts w.places i) (inner_pieces contexts v.places i) (inner_pieces contexts w.places i) i sizes inner pieces
 
 pub inputs_come_of_needs_lem : InputsComeOfNeeds
 inputs_come_of_needs_lem medium contexts v w task same =

@@ -1,7 +1,8 @@
 //! The used sizes of one formatting context.
 
-ghost use Rattle.std.specs.Prelude.{◌≡◌, IfOk, slice_get};
-ghost use Rattle.lay_context.specs.ContextSizes.{HasSizes, IsTableSized, table_rule, table_rule_as};
+ghost use Rattle.std.specs.Prelude.{◌≡◌, true, IfOk, slice_get};
+ghost use Rattle.lay_context.specs.ContextSizes.{HasSizes, table_rule, table_rule_as};
+ghost use Rattle.lay_context.specs.TableContexts.{is_table};
 
 use crate::flow_sizes::flow_sizes;
 use crate::input::SizeInput;

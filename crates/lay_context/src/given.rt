@@ -3,6 +3,7 @@
 ghost use Rattle.std.specs.Prelude.{◌≡◌, ◌<◌, IfOk, length};
 ghost use Rattle.lay_sizes.specs.OwnBoxes.{OwnBoxFits};
 ghost use Rattle.lay_pieces.specs.InnerPieces.{pieces_or_none};
+ghost use Rattle.lay_pieces.specs.NearPieces.{AreNearPieces};
 ghost use Rattle.lay_context.specs.DocumentLayout.{inner_boxes, inner_pieces, inner_widths, inner_widths_in, own_box_in, pieces_in};
 ghost use Rattle.lay_context.specs.Local.{input_of, measure_input, place_input, size_input};
 ghost use Rattle.lay_context.specs.Settling.{IsReady};
@@ -191,7 +192,8 @@ fn pieces_in(
 ) -> Result<Option<Arc<Pieces>>, NoMemory>
     requires contexts { number < length contexts.now }
     requires places { number < length known.now.places }
-    ensures { IfOk result (λ p. pieces_or_none p ≡ pieces_in contexts.now known.now.places number) }
+    ensures pieces { IfOk result (λ p. pieces_or_none p ≡ pieces_in contexts.now known.now.places number) }
+    ensures near { IfOk result (λ p. AreNearPieces (pieces_or_none p)) }
 {
     if number == 0 || !contexts.at(number).is_anonymous() {
         return Ok(None);

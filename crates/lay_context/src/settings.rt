@@ -51,6 +51,7 @@ fn setting_as(
     ensures setting { result ≡ setting_as boxes.now sizes.now table.now k }
     ensures fits { IsPosition (containing_block_in result).width.0 }
 {
+    let _ = boxes.as_slice();
     match table {
         None => Setting::Block(block_around(boxes, sizes, k)),
         Some(table) => setting_in_table(sizes, table, table.cell(k)),

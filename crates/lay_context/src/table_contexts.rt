@@ -1,6 +1,7 @@
 //! Which formatting contexts are tables.
 
 ghost use Rattle.std.specs.Prelude.{◌≡◌};
+ghost use Rattle.lay_boxgen.specs.Kinds.{is_wrapper};
 ghost use Rattle.lay_context.specs.TableContexts.{is_table};
 
 use lay_boxgen::{BoxKind, BoxNode};

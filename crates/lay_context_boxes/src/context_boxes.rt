@@ -48,6 +48,13 @@ impl ContextBoxes {
         Ok(ContextBoxes { tree, containers })
     }
 
+    /// The boxes as a tree.
+    pub fn tree(&self) -> &BoxTree
+        ensures { result.now ≡ self.now }
+    {
+        &self.tree
+    }
+
     /// The boxes, in order.
     pub fn as_slice(&self) -> &[BoxNode]
         ensures boxes { result.now ≡ self.now }

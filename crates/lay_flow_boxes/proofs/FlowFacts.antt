@@ -7,7 +7,6 @@ use Rattle.lay_units.specs.Units.{IsUsedSize}
 use Rattle.lay_units.specs.declared.length.Unit.{Unit as Length}
 use Rattle.lay_units.specs.declared.records.Len.{Len}
 use Rattle.lay_units.specs.declared.records.Len.TheVariants as len
-use Rattle.lay_doc.specs.Tree.{IsTree}
 use Rattle.lay_boxgen.specs.declared.box_role.Role.{Role}
 use Rattle.lay_boxgen.specs.declared.box_role.Role.TheVariants as role
 use Rattle.lay_boxgen.specs.declared.box_tree.BoxNode.{BoxNode}
@@ -33,7 +32,6 @@ use Rattle.lay_flow.specs.Weights.{weight}
 use Rattle.lay_flow.proofs.BoxTrees.{parent_is, parents_length}
 use Rattle.lay_lines.specs.LineContents.{LineContentValue}
 use Rattle.lay_content.specs.BoxMeasuresValue.{BoxMeasuresValue}
-use Rattle.lay_content.specs.SeenLines.{has_seen_line}
 use Rattle.lay_sizes.specs.declared.sizing.BoxSizes.{BoxSizes}
 use Rattle.lay_sizes.specs.declared.own_boxes.OwnBox.{OwnBox}
 use Rattle.lay_sizes.specs.OwnBoxes.{OwnBoxFits, OwnBoxesFit, own_box_at}

@@ -1,5 +1,5 @@
 -- Which boxes hold boxes of a level, from the front of a context on.
-use Rattle.std.proofs.Common.{◌≡◌, ◌≢◌, ℕ, zero, suc, [], ◌∷◌, ◌++◌, ◌+◌, ◌<◌, ◌≤◌, ◌==◌, ◌&&◌, ◌||◌, Bool, true, false, List, length, replicate, slice_set, nat_lt, refl, sym, ap, ◌∙◌, arith, inl, inr, add-one}
+use Rattle.std.proofs.Common.{◌≡◌, ◌≢◌, ℕ, zero, suc, [], ◌∷◌, ◌++◌, ◌+◌, ◌<◌, ◌==◌, ◌&&◌, ◌||◌, Bool, true, false, List, length, replicate, slice_set, nat_lt, refl, sym, ◌∙◌, arith, inl, inr, add-one}
 use Rattle.std.proofs.lemmas.Bool.{cases_eq, cases_lt, eq-eqb, ne_eqb}
 use Rattle.std.proofs.lemmas.Bool.Decides.{nat_tests}
 use Rattle.std.proofs.lemmas.Grind.{elements}
@@ -7,7 +7,7 @@ use Rattle.lay_boxgen.specs.declared.box_tree.BoxNode.{BoxNode}
 use Rattle.lay_flow.specs.Children.{flag_at}
 use Rattle.lay_flow_boxes.specs.declared.inline_containers.Level.{Level}
 use Rattle.lay_context_boxes.specs.Containing.{container_of}
-use Rattle.lay_flow_boxes.specs.InlineContainers.{holds, is_of, stands_in}
+use Rattle.lay_flow_boxes.specs.InlineContainers.{holds, is_of}
 
 -- these say it of the boxes before n
 pub record HoldersTo (level : Level) (boxes : List BoxNode) (flags : List Bool) (n : ℕ) : Type 0 where

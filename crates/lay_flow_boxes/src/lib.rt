@@ -9,12 +9,12 @@
 mod box_columns;
 mod context_blocks;
 mod context_shapes;
-mod shape;
 mod inline_containers;
 mod laws;
 mod line_boxes;
 mod place_input;
+mod shape;
 
-pub use shape::{FlowShape, flow_shape};
 pub use laws::one_flow_shape;
 pub use place_input::PlaceInput;
+pub use shape::{FlowShape, flow_shape};

@@ -1,8 +1,7 @@
 -- The preferred minimum width and the preferred width of a context (CSS 2.2, 10.3.5): those of the content of its own
 -- box, by a recursion on its boxes. A block box has those of its lines, or those of its blocks. The boxes of inner
 -- contexts have given ones, so nothing of another context is looked into, and neither is the room that there will be.
--- Tables don't have theirs here yet: the content of a table's wrapper counts for nothing, and where a wrapper stands
--- among other boxes, its widths are given.
+-- Where the wrapper of a table stands among other boxes, its widths are given too: they come of the table's columns.
 use Rattle.std.specs.Prelude.{ℕ, ◌+◌, ◌==◌, List, [], ◌∷◌, ◌++◌, Option, Some, None, drop, slice_get, if◌then◌else◌}
 use Rattle.lay_style.specs.declared.style.Style.{Style}
 use Rattle.lay_boxgen.specs.Roles.{role_of}

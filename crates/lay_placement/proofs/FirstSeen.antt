@@ -1,14 +1,14 @@
 -- The first baseline, of lines and of boxes.
-use Rattle.std.proofs.Common.{◌≡◌, ℕ, zero, suc, ◌+◌, ◌<◌, ◌≤◌, ◌||◌, Bool, true, false, cond, List, [], ◌∷◌, ◌++◌, Option, Some, None, refl, sym, ap, ◌∙◌, arith, inl, inr, add-one}
-use Rattle.std.specs.List.{find, list_any}
-use Rattle.std.specs.Option.{option_map, option_or}
+use Rattle.std.proofs.Common.{◌≡◌, ℕ, zero, suc, ◌<◌, ◌||◌, Bool, true, false, cond, List, [], ◌∷◌, ◌++◌, Option, Some, None, refl, sym, ap, ◌∙◌, arith, inl, inr}
+use Rattle.std.specs.List.{find}
+use Rattle.std.specs.Option.{is_some, option_map, option_or}
 use Rattle.std.proofs.lemmas.Bool.{cases_lt}
 use Rattle.lay_units.specs.declared.length.Unit.{Unit as Length}
 use Rattle.lay_lines.specs.declared.row.Ended.{Ended}
 use Rattle.lay_inlines.specs.LinePieces.{baseline_of}
 use Rattle.lay_flow.specs.FlowPlaces.{FlowPlacesValue}
 use Rattle.lay_flow_boxes.specs.PlaceInputs.{PlaceInput}
-use Rattle.lay_placement.specs.Baselines.{baseline_in, first_baseline, first_baseline_to}
+use Rattle.lay_placement.specs.Baselines.{baseline_in, first_baseline_to}
 use Rattle.lay_placement.specs.Laws.{FirstBoxGivesBaseline, FirstSeenLineGivesBaseline, any_seen}
 
 or_first : (a b : Bool) → (a || b) ≡ false → a ≡ false
@@ -43,3 +43,14 @@ first_box_lem i places k (suc n) b lt is none = elim (cases_lt k n) [
   | inl low ↦ or_some (first_baseline_to i places n) b (baseline_in i places n) (first_box_lem i places k n b low is none)
   | inr high ↦ (let q : n ≡ k = omega arith in rw (none_before i places n (λ j jl. none j (omega arith)), q) is)
 ]
+
+-- the first that is found
+pub first_found_lem : (i : PlaceInput) (places : FlowPlacesValue) (k n : ℕ) (found : Option Length) → k < n → found ≡ baseline_in i places k → is_some found ≡ true → ((j : ℕ) → j < k → baseline_in i places j ≡ None)
+    → found ≡ first_baseline_to i places n
+first_found_lem i places k n None lt is some none = absurd cc
+first_found_lem i places k n (Some b) lt is some none = sym (first_box_lem i places k n b lt (sym is) none)
+
+-- and none that is
+pub none_found : (found : Option Length) → is_some found ≡ false → found ≡ None
+none_found None none = refl
+none_found (Some b) none = absurd cc

@@ -1,9 +1,8 @@
 -- A list of pieces that grows, box by box and piece by piece on lines.
-use Rattle.std.proofs.Common.{◌≡◌, ℕ, ◌+◌, ◌<◌, ◌≤◌, List, [], ◌∷◌, ◌++◌, length, take, refl, sym, ap, ◌∙◌, arith, slice_index_or, add-one}
+use Rattle.std.proofs.Common.{◌≡◌, ℕ, zero, suc, ◌+◌, ◌<◌, ◌≤◌, List, [], ◌∷◌, ◌++◌, length, take, refl, sym, ap, ◌∙◌, arith, slice_index_or, add-one}
 use Rattle.std.specs.List.{flat_map}
 use Rattle.std.proofs.lemmas.List.{append-nil, take_more}
 use Rattle.std.proofs.lemmas.List.Concat.{flat_map-append}
-use Rattle.std.proofs.lemmas.Grind.{elements}
 use Rattle.lay_frag.specs.declared.frag.Frag.{Frag}
 use Rattle.lay_inlines.specs.declared.line_piece.LinePiece.{LinePiece}
 use Rattle.lay_sizes.specs.OwnBoxes.{own_box_at}
@@ -32,8 +31,14 @@ pub one_more_box : (i : PlaceInput) (p : ContextPlaces) (n : ℕ) (pieces more :
     → more ≡ with_pieces pieces (pieces_of_box i p n) → more ≡ pieces_to i p (n + 1)
 one_more_box i p n pieces more so_far is = is ∙ rw (add-one n, so_far) refl
 
+none_read : (k : ℕ) → inner_pieces_at [] k ≡ []
+none_read zero = refl
+none_read (suc k) = refl
+
 none_beyond : (all : List (List Frag)) (k : ℕ) → length all ≤ k → inner_pieces_at all k ≡ []
-none_beyond all k beyond = grind (arith, elements)
+none_beyond [] k beyond = none_read k
+none_beyond (x ∷ xs) zero beyond = absurd (omega arith)
+none_beyond (x ∷ xs) (suc k) beyond = none_beyond xs k (omega arith)
 
 -- past the last box there is nothing to splice
 pub nothing_beyond : (i : PlaceInput) (p : ContextPlaces) (k : ℕ) (pieces : List Frag) → length i.pieces ≤ k → pieces ≡ with_pieces pieces (spliced_at i p k)

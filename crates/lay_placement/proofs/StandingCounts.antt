@@ -1,5 +1,5 @@
 -- The placement of a formatting context has a standing for each of its boxes.
-use Rattle.std.proofs.Common.{◌≡◌, ◌<◌, ℕ, zero, suc, List, [], ◌∷◌, ◌++◌, length, length-append, refl, sym, ap, ◌∙◌, arith, inl, inr}
+use Rattle.std.proofs.Common.{◌≡◌, ◌<◌, ℕ, zero, suc, List, [], ◌∷◌, length, length-append, refl, sym, ap, ◌∙◌, arith, inl, inr}
 use Rattle.std.proofs.lemmas.Bool.{cases_lt}
 use Rattle.lay_doc.proofs.OneStyles.{same_list}
 use Rattle.lay_flow_boxes.specs.PlaceInputs.{PlaceInput}

@@ -14,8 +14,6 @@ use Rattle.lay_boxgen.specs.Roles.{is_inline_level, role_at}
 use Rattle.lay_inlines.specs.declared.line_piece.LinePiece.{LinePiece}
 use Rattle.lay_inlines.specs.declared.line_piece.LinePieceKind.{LinePieceKind}
 use Rattle.lay_inlines.specs.declared.line_piece.LinePieceKind.TheVariants as on_line
-use Rattle.lay_flow.specs.FlowPlaces.{FlowPlacesValue, box_place_at}
-use Rattle.lay_sizes.specs.declared.sizing.BoxSizes.{BoxSizes}
 use Rattle.lay_sizes.specs.BoxSizes.{border_width}
 use Rattle.lay_sizes.specs.OwnBoxes.{own_box_at}
 use Rattle.lay_sizes.specs.SizeColumns.{sizes_at}

@@ -1,6 +1,6 @@
 -- A formatting context has one placement. And what the baseline of its own box is (CSS 2.2, 10.8.1 and 17.5.3), said once more
 -- without a search.
-use Rattle.std.specs.Prelude.{ℕ, ◌≡◌, ◌<◌, Bool, true, false, List, ◌∷◌, ◌++◌, Option, Some, None}
+use Rattle.std.specs.Prelude.{ℕ, ◌≡◌, ◌<◌, Bool, true, false, List, ◌∷◌, ◌++◌, Some, None}
 use Rattle.std.specs.List.{list_any}
 use Rattle.lay_units.specs.declared.length.Unit.{Unit as Length}
 use Rattle.lay_lines.specs.declared.row.Ended.{Ended}

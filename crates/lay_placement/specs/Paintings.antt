@@ -12,6 +12,6 @@ use Rattle.lay_placement.specs.OnLines.{AreOnLines}
 -- this is known of the boxes in these places
 pub record IsPainting (i : PlaceInput) (p : ContextPlaces) (on_lines : List (List LinePiece)) (standings : List Standing) : Type 0 where
   pub counts : HaveCounts i.boxes p
-  pub on_lines : AreOnLines i p on_lines
-  pub standings : standings ≡ standings_to i p (length i.boxes)
+  pub are_on_lines : AreOnLines i p on_lines
+  pub are_standings : standings ≡ standings_to i p (length i.boxes)
   pub near : AreNearStandings standings

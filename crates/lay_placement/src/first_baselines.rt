@@ -48,11 +48,7 @@ pub(crate) fn first_baseline_of(
 }
 
 /// The baseline of the first line of the box at k that is seen, or of its first row where it is a table.
-fn baseline_in(
-    input: &PlaceInput,
-    places: &BoxPlaces,
-    k: usize,
-) -> Result<Option<Unit>, NoMemory>
+fn baseline_in(input: &PlaceInput, places: &BoxPlaces, k: usize) -> Result<Option<Unit>, NoMemory>
     requires counts { HaveCounts input.now.boxes places.now }
     requires place { k < length input.now.boxes }
     ensures value { IfOk result (λ b. b ≡ baseline_in input.now places.now.places k) }

@@ -1,0 +1,6 @@
+pub mod GroupSteps
+pub mod NeedSteps
+pub mod OneTable
+pub mod StandingSteps
+pub mod TrackSteps
+pub mod WrapperBoxes

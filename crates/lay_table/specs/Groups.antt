@@ -8,7 +8,12 @@ use Rattle.std.specs.Prelude.{ℕ, ◌==◌, ◌&&◌, ◌||◌, nat_lt, not, Bo
 use Rattle.std.specs.List.{count_by}
 use Rattle.lay_boxgen.specs.declared.box_tree.BoxNode.{BoxNode}
 use Rattle.lay_table_grid.specs.declared.grid.TableRow.{TableRow}
+use Rattle.lay_table.specs.declared.groups.OuterGroups.{OuterGroups}
 use Rattle.lay_table_grid.specs.TableBoxes.{footer_place, header_place}
+
+-- the header group and the footer group, if there are any
+abbrev pub outer_groups : List BoxNode → OuterGroups
+outer_groups boxes = record { header = header_place boxes; footer = footer_place boxes }
 
 abbrev pub is_at : Option ℕ → ℕ → Bool
 is_at None k = false
@@ -18,20 +23,26 @@ is_at (Some place) k = k == place
 abbrev pub is_row_in : ℕ → TableRow → Bool
 is_row_in k row = row.group == k
 
+abbrev pub is_header_row : OuterGroups → TableRow → Bool
+is_header_row outer row = is_at outer.header row.group
+
 -- a row stands neither in the header group nor in the footer group
-abbrev pub is_body_row : List BoxNode → TableRow → Bool
-is_body_row boxes row = not (is_at (header_place boxes) row.group || is_at (footer_place boxes) row.group)
+abbrev pub is_body_row : OuterGroups → TableRow → Bool
+is_body_row outer row = not (is_header_row outer row || is_at outer.footer row.group)
+
+-- and before the box at k
+abbrev pub is_body_row_before : OuterGroups → ℕ → TableRow → Bool
+is_body_row_before outer k row = is_body_row outer row && nat_lt row.place k
 
 -- a row is drawn before the row group at k
-abbrev pub is_drawn_before : List BoxNode → ℕ → TableRow → Bool
-is_drawn_before boxes k row =
-    if is_at (header_place boxes) k then false
-    else (if is_at (footer_place boxes) k then not (is_row_in k row)
-    else is_at (header_place boxes) row.group || (is_body_row boxes row && nat_lt row.place k))
+abbrev pub is_drawn_before : OuterGroups → ℕ → TableRow → Bool
+is_drawn_before outer k row =
+    if is_at outer.header k then false
+    else (if is_at outer.footer k then not (is_row_in k row) else is_header_row outer row || is_body_row_before outer k row)
 
 -- how many rows are drawn before the row group at k, and how many stand in it
 abbrev pub rows_before : List BoxNode → List TableRow → ℕ → ℕ
-rows_before boxes rows k = count_by (is_drawn_before boxes k) rows
+rows_before boxes rows k = count_by (is_drawn_before (outer_groups boxes) k) rows
 
 abbrev pub rows_within : List TableRow → ℕ → ℕ
 rows_within rows k = count_by (is_row_in k) rows

@@ -5,10 +5,12 @@ use Rattle.std.specs.Prelude.{ℕ, zero, suc, List, [], ◌∷◌, length, slice
 use Rattle.lay_units.specs.declared.length.Unit.{Unit as Length}
 use Rattle.lay_boxgen.specs.declared.box_tree.BoxKind.{BoxKind}
 use Rattle.lay_boxgen.specs.declared.box_tree.BoxKind.TheVariants as kind
+use Rattle.lay_boxgen.specs.declared.box_tree.BoxNode.{BoxNode}
 use Rattle.lay_boxgen.specs.BoxColumns.{box_ids}
 use Rattle.lay_context_boxes.specs.ContextBoxes.{is_inner}
 use Rattle.lay_frag.specs.declared.frag.Frag.{Frag}
 use Rattle.lay_frag.specs.declared.frag.FragKind.TheVariants.{Box}
+use Rattle.lay_pieces.specs.declared.standing.Standing.{Standing}
 use Rattle.lay_pieces.specs.InnerPieces.{inner_pieces_at}
 use Rattle.lay_pieces.specs.PieceParts.{with_pieces}
 use Rattle.lay_pieces.specs.Splicing.{border_box, spliced}
@@ -37,18 +39,18 @@ extent_by_kind _ = Nothing
 abbrev pub columns_width : Tracks → Length
 columns_width columns = record { 0 = extent_of columns 0 (length columns.lengths) }
 
--- the border box of the box at k, which is so wide
-abbrev pub piece_of : TableInput → TablePlaces → ℕ → Length → Frag
-piece_of i p k width = record {
+-- the border box of the box at k, which stands so and is so wide
+abbrev pub piece_of : List BoxNode → Standing → ℕ → Length → Frag
+piece_of boxes standing k width = record {
   kind = Box;
-  node = record { 0 = slice_index (box_ids i.boxes) k };
+  node = record { 0 = slice_index (box_ids boxes) k };
   part = 0;
-  rect = border_box width (standing_of i p k);
+  rect = border_box width standing;
 }
 
 abbrev pub pieces_by : TableInput → TablePlaces → ℕ → Extent → List Frag
-pieces_by i p k Own = piece_of i p k (record { 0 = border_width (sizes_at i.sizes k) }) ∷ []
-pieces_by i p k Columns = piece_of i p k (columns_width p.columns) ∷ []
+pieces_by i p k Own = piece_of i.boxes (standing_of i p k) k (record { 0 = border_width (sizes_at i.sizes k) }) ∷ []
+pieces_by i p k Columns = piece_of i.boxes (standing_of i p k) k (columns_width p.columns) ∷ []
 pieces_by i p k Nothing = []
 
 -- the pieces of the box at k

@@ -6,10 +6,9 @@
 -- Relative positioning moves none of them. 9.4.3: "The effect of 'position:relative' on table-row-group, table-header-group,
 -- table-footer-group, table-row, table-column-group, table-column, table-cell, and table-caption elements is undefined."
 use Rattle.std.specs.Prelude.{ℕ, zero, suc, ◌≡◌, ◌+ℤ◌, ◌==◌, ℤ, List, length, map, slice_index, Option, Some, None, if◌then◌else◌}
-use Rattle.std.specs.Option.{option_map, unwrap_or}
 use Rattle.lay_units.specs.declared.length.Unit.{Unit as Length}
 use Rattle.lay_flow.specs.declared.flow_places.BoxPlace.{BoxPlace}
-use Rattle.lay_flow.specs.FlowPlaces.{FlowPlacesValue, IsFlowOf, box_place_at, no_box_place}
+use Rattle.lay_flow.specs.FlowPlaces.{FlowPlacesValue, IsFlowOf, box_place_at}
 use Rattle.lay_flow.specs.Lengths.{length_at, no_length}
 use Rattle.lay_pieces.specs.declared.corner.Corner.{Corner}
 use Rattle.lay_pieces.specs.declared.standing.Standing.{Standing}
@@ -21,7 +20,7 @@ use Rattle.lay_table.specs.RowNeeds.{cell_of, table_sizes}
 use Rattle.lay_table.specs.TableInputs.{TableInput, grid_of}
 use Rattle.lay_table.specs.TableRows.{HasRows, TableRows, cell_height, shift_of}
 use Rattle.lay_table.specs.Tracks.{Tracks, extent_of, start_of}
-use Rattle.lay_table.specs.WrapperFlow.{boxes_in_wrapper, places_in_wrapper}
+use Rattle.lay_table.specs.WrapperFlow.{boxes_in_wrapper, places_in_wrapper, table_number}
 
 -- the number that a place has among the first n of these, of which no two are the same; of several it would be the last one's
 abbrev pub number_in : List ℕ → ℕ → (n : ℕ) → Option ℕ
@@ -30,10 +29,6 @@ number_in places k (suc n) = if slice_index places n == k then Some n else numbe
 
 abbrev pub number_of : List ℕ → ℕ → Option ℕ
 number_of places k = number_in places k (length places)
-
--- where the wrapper's flow puts the box at k, if that is in it
-abbrev pub place_in_flow : TableInput → FlowPlacesValue → ℕ → Option BoxPlace
-place_in_flow i flow k = option_map (λ n. box_place_at flow.boxes n) (number_of (places_in_wrapper i) k)
 
 -- the spacing between columns; a table without columns has none
 abbrev pub column_spacing : TableGridValue → Length
@@ -54,7 +49,7 @@ content_in i place = record {
 }
 
 abbrev pub content_corner : TableInput → FlowPlacesValue → Corner
-content_corner i flow = content_in i (unwrap_or (place_in_flow i flow (grid_of i).table) no_box_place)
+content_corner i flow = content_in i (box_place_at flow.boxes (table_number i.boxes))
 
 -- the workings
 pub record TablePlaces : Type 0 where

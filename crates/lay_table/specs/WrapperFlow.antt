@@ -2,57 +2,30 @@
 -- it stand the captions above the table, the table box, and the captions below it, each as a box that is laid out already. The captions
 -- "are rendered as normal block boxes inside the table wrapper box", and `caption-side` says on which side of the table (17.4.1).
 -- Positions are counted from the corner of the wrapper's border box.
-use Rattle.std.specs.Prelude.{ℕ, zero, suc, ◌+ℤ◌, ◌&&◌, Bool, true, false, List, [], ◌∷◌, ◌++◌, length, map, slice_get, Option, Some, None, if◌then◌else◌}
-use Rattle.std.specs.Option.{option_map, unwrap_or}
+use Rattle.std.specs.Prelude.{ℕ, suc, ◌+ℤ◌, List, ◌∷◌, ◌++◌, length, map, None}
 use Rattle.lay_units.specs.declared.length.Unit.{Unit as Length}
-use Rattle.lay_style.specs.declared.style_words.CaptionSide.{CaptionSide}
-use Rattle.lay_style.specs.declared.style_words.CaptionSide.TheVariants as side
-use Rattle.lay_style.specs.ComputedStyle.{style_at}
-use Rattle.lay_boxgen.specs.declared.box_tree.BoxKind.{BoxKind}
-use Rattle.lay_boxgen.specs.declared.box_tree.BoxKind.TheVariants as kind
 use Rattle.lay_boxgen.specs.declared.box_tree.BoxNode.{BoxNode}
-use Rattle.lay_boxgen.specs.BoxColumns.{box_styles}
 use Rattle.lay_floats.specs.declared.requests.Clear.TheVariants.{None as clear_none}
 use Rattle.lay_flow.specs.declared.flow_box.FlowBox.{FlowBox}
-use Rattle.lay_flow.specs.declared.flow_box.FlowKind.{FlowKind}
 use Rattle.lay_flow.specs.declared.flow_box.FlowKind.TheVariants.{Block as block, Solid as solid}
 use Rattle.lay_sizes.specs.declared.own_boxes.OwnBox.{OwnBox}
 use Rattle.lay_sizes.specs.declared.sizing.BoxSizes.{BoxSizes}
-use Rattle.lay_sizes.specs.BoxSizes.{border_width}
 use Rattle.lay_sizes.specs.OwnBoxes.{own_box, own_box_at}
 use Rattle.lay_sizes.specs.SizeColumns.{sizes_at}
 use Rattle.lay_sizes.specs.UsedLengths.{no_length}
-use Rattle.lay_table_grid.specs.TableBoxes.{kind_at}
+use Rattle.lay_table.specs.Captions.{captions_of}
 use Rattle.lay_table.specs.RowNeeds.{border_height, table_sizes}
 use Rattle.lay_table.specs.TableInputs.{TableInput, grid_of}
 use Rattle.lay_table.specs.TableRows.{table_content}
 use Rattle.lay_table.specs.Tracks.{Tracks}
 
-abbrev pub is_side : CaptionSide → CaptionSide → Bool
-is_side side.Top side.Top = true
-is_side side.Bottom side.Bottom = true
-is_side _ _ = false
-
-abbrev pub is_caption : BoxKind → Bool
-is_caption kind.Caption = true
-is_caption _ = false
-
--- the box at k is a caption on this side of the table
-abbrev pub is_caption_on : CaptionSide → List BoxNode → ℕ → Bool
-is_caption_on side boxes k =
-    is_caption (kind_at boxes k) && is_side (style_at (box_styles boxes) k).table.caption_side side
-
--- the places of such captions among the first n boxes
-abbrev pub captions_to : CaptionSide → List BoxNode → (n : ℕ) → List ℕ
-captions_to side boxes zero = []
-captions_to side boxes (suc k) = captions_to side boxes k ++ (if is_caption_on side boxes k then k ∷ [] else [])
-
-abbrev pub captions_on : CaptionSide → List BoxNode → List ℕ
-captions_on side boxes = captions_to side boxes (length boxes)
-
 -- the boxes of the wrapper's context in the order in which they stand, the wrapper itself first
 abbrev pub places_in_wrapper : TableInput → List ℕ
-places_in_wrapper i = 0 ∷ captions_on side.Top i.boxes ++ (grid_of i).table ∷ captions_on side.Bottom i.boxes
+places_in_wrapper i = 0 ∷ (captions_of i.boxes).above ++ (grid_of i).table ∷ (captions_of i.boxes).below
+
+-- the number of the table box there
+abbrev pub table_number : List BoxNode → ℕ
+table_number boxes = suc (length (captions_of boxes).above)
 
 -- the wrapper
 abbrev pub wrapper_box : BoxSizes → FlowBox
@@ -88,13 +61,16 @@ box_inside left o = record {
 abbrev pub table_box : BoxSizes → Tracks → OwnBox
 table_box table rows = own_box table (border_height table (table_content table rows)) None
 
+abbrev pub caption_inside : TableInput → ℕ → FlowBox
+caption_inside i k = box_inside (sizes_at i.sizes 0).edges.left (own_box_at i.inner k)
+
 abbrev pub captions_inside : TableInput → List ℕ → List FlowBox
-captions_inside i places = map (λ k. box_inside (sizes_at i.sizes 0).edges.left (own_box_at i.inner k)) places
+captions_inside i places = map (caption_inside i) places
 
 -- the boxes of the wrapper's context
 abbrev pub boxes_in_wrapper : TableInput → Tracks → List FlowBox
 boxes_in_wrapper i rows =
     wrapper_box (sizes_at i.sizes 0)
-    ∷ captions_inside i (captions_on side.Top i.boxes)
+    ∷ captions_inside i (captions_of i.boxes).above
     ++ box_inside (sizes_at i.sizes 0).edges.left (table_box (table_sizes i) rows)
-    ∷ captions_inside i (captions_on side.Bottom i.boxes)
+    ∷ captions_inside i (captions_of i.boxes).below

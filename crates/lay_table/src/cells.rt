@@ -1,12 +1,13 @@
 //! The cells of a table.
 
-ghost use Rattle.std.specs.Prelude.{◌≡◌, ◌<◌, ◌≤◌, ◌+◌, length, pos, IfOk};
+ghost use Rattle.std.specs.Prelude.{◌≡◌, ◌<◌, length, IfOk};
 ghost use Rattle.lay_units.specs.Units.{IsPosition};
 ghost use Rattle.lay_sizes.specs.BoxSizes.{content_block};
 ghost use Rattle.lay_sizes.specs.OwnBoxes.{OwnBoxFits, own_box_at};
 ghost use Rattle.lay_sizes.specs.SizeBounds.{SizeFits};
 ghost use Rattle.lay_sizes.specs.SizeColumns.{HaveSizeBounds, sizes_at};
 ghost use Rattle.lay_table_grid.specs.GridBounds.{CellFits};
+ghost use Rattle.lay_table_sizes.specs.CellSizes.{IsCellSized};
 ghost use Rattle.lay_table.specs.RowNeeds.{align_of, cell_of, natural_box, style_of, table_sizes};
 ghost use Rattle.lay_table.specs.TableRows.{HaveCellSizes, cell_size_of};
 
@@ -76,9 +77,20 @@ pub(crate) fn table_sizes(input: &TableInput) -> BoxSizes
     sizes_at(input.sizes(), input.grid().table())
 }
 
+/// The used sizes of the wrapper.
+pub(crate) fn wrapper_sizes(input: &TableInput) -> BoxSizes
+    ensures value { result ≡ sizes_at input.now.sizes 0 }
+    ensures fits { SizeFits result }
+{
+    let _ = input.boxes();
+    sizes_at(input.sizes(), 0)
+}
+
 pub(crate) fn sizes_at(sizes: &[BoxSizes], k: usize) -> BoxSizes
-    requires { k < length sizes.now }
-    ensures { result ≡ sizes_at sizes.now k }
+    requires place { k < length sizes.now }
+    requires bounds { HaveSizeBounds sizes.now }
+    ensures value { result ≡ sizes_at sizes.now k }
+    ensures fits { SizeFits result }
 {
     sizes[k]
 }

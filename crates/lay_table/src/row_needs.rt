@@ -1,19 +1,19 @@
 //! What the heights of rows depend on (CSS 2.2, 17.5.3).
 
-ghost use Rattle.std.specs.Prelude.{◌≡◌, ◌<◌, ◌≤◌, ◌++◌, length, All, IfOk, OnOk};
+ghost use Rattle.std.specs.Prelude.{◌≡◌, ◌<◌, ◌≤◌, ◌++◌, length, None, All, IfOk, OnOk};
 ghost use Rattle.lay_units.specs.Units.{IsUsedSize};
 ghost use Rattle.lay_units.specs.declared.length.Unit.{Unit as Length};
 ghost use Rattle.lay_grid.specs.RowsFit.{RowsFit};
 ghost use Rattle.lay_pieces.specs.Corners.{IsNear};
 ghost use Rattle.lay_sizes.specs.OwnBoxes.{OwnBoxFits};
 ghost use Rattle.lay_sizes.specs.SizeBounds.{IsInset, SizeFits};
-ghost use Rattle.lay_sizes.specs.SizeColumns.{HaveSizeBounds};
-ghost use Rattle.lay_table.specs.NeedBounds.{NeedsFit};
-ghost use Rattle.lay_table.specs.RowNeeds.{baseline_if, border_height, cell_baseline, least_height, left_for_rows, need_by_content, needs_of, needs_of_cell, own_height, own_heights, row_cell, row_spacing, row_style, rows_in};
+ghost use Rattle.lay_sizes.specs.SizeColumns.{HaveSizeBounds, sizes_at};
+ghost use Rattle.lay_table.specs.NeedBounds.{NeedFits, NeedsFit};
+ghost use Rattle.lay_table.specs.RowNeeds.{align_of, baseline_if, border_height, cell_baseline, cell_of, least_height, left_for_rows, natural_box, need_by_content, needs_of, needs_of_cell, own_height, own_heights, row_cell, row_spacing, row_style, rows_in};
 
 use crate::cell_align::CellAlign;
 use crate::cells::{align_of, cell_of, natural_box, sizes_at, style_of, table_sizes};
-use crate::near::{near_difference, near_product};
+use crate::near::{near_difference, near_product, sum_of};
 use crate::table_input::TableInput;
 use lay_grid::{RowCell, RowCells, RowsIn};
 use lay_heights::with_min_max;
@@ -54,7 +54,8 @@ const MOST_ROWS: usize = 1073741824;
 
 /// The spacing between rows.
 pub(crate) fn row_spacing(grid: &TableGrid) -> Unit
-    ensures { result ≡ row_spacing grid.now }
+    ensures value { result ≡ row_spacing grid.now }
+    ensures size { IsUsedSize result.0 }
 {
     if grid.rows().is_empty() {
         return Unit(0);
@@ -147,14 +148,40 @@ fn push_needs(
     ensures needs { OnOk result (needs.new.items ≡ needs.old.items ++ needs_of_cell input.now cells.now c) }
     ensures fit { OnOk result (NeedsFit (length input.now.table.grid.rows) needs.new.items) }
 {
-    let cell = cell_of(input, c);
-    let sizes = sizes_at(cells, c);
-    let natural = natural_box(input, c);
-    needs.push(need_by_content(cell, align_of(input, c), natural, sizes))?;
-    if let Len::Of(height) = sizes.height {
-        needs.push(row_cell(cell, border_height(sizes, height), None))?;
+    needs.push(content_need(input, cells, c))?;
+    if let Len::Of(height) = sizes_at(cells, c).height {
+        needs.push(height_need(input, cells, c, height))?;
     }
     Ok(())
+}
+
+/// What the content of the cell c needs.
+fn content_need(input: &TableInput, cells: &[BoxSizes], c: usize) -> RowCell
+    requires count { length cells.now ≡ length input.now.table.grid.cells }
+    requires sizes { HaveSizeBounds cells.now }
+    requires cell { c < length cells.now }
+    ensures value { result ≡ need_by_content (cell_of input.now c) (align_of input.now c) (natural_box input.now c) (sizes_at cells.now c) }
+    ensures fits { NeedFits (length input.now.table.grid.rows) result }
+{
+    need_by_content(
+        cell_of(input, c),
+        align_of(input, c),
+        natural_box(input, c),
+        sizes_at(cells, c),
+    )
+}
+
+/// What the cell c needs by a `height` that is this.
+fn height_need(input: &TableInput, cells: &[BoxSizes], c: usize, height: Unit) -> RowCell
+    requires count { length cells.now ≡ length input.now.table.grid.cells }
+    requires sizes { HaveSizeBounds cells.now }
+    requires cell { c < length cells.now }
+    requires height { IsUsedSize height.0 }
+    ensures value { result ≡ row_cell (cell_of input.now c) (border_height (sizes_at cells.now c) height) None }
+    ensures fits { NeedFits (length input.now.table.grid.rows) result }
+{
+    let sizes = sizes_at(cells, c);
+    row_cell(cell_of(input, c), border_height(sizes, height), None)
 }
 
 /// What the content of a cell needs.
@@ -206,10 +233,10 @@ fn baseline_if(align: CellAlign, baseline: Unit) -> Option<Unit>
 }
 
 /// The border box around a content of this height.
-fn border_height(sizes: BoxSizes, height: Unit) -> Unit
+pub(crate) fn border_height(sizes: BoxSizes, height: Unit) -> Unit
     requires sizes { SizeFits sizes }
     requires height { IsUsedSize height.0 }
     ensures { result ≡ border_height sizes height }
 {
-    Unit(height.0 + sizes.edges.top.0 + sizes.edges.bottom.0)
+    sum_of(sum_of(height, sizes.edges.top), sizes.edges.bottom)
 }

@@ -5,6 +5,7 @@ ghost use Rattle.lay_units.specs.Units.{IsUsedSize};
 ghost use Rattle.lay_grid.specs.RowsFit.{RowCellFits, RowsFit};
 ghost use Rattle.lay_pieces.specs.Corners.{IsNear};
 ghost use Rattle.lay_sizes.specs.SizeBounds.{SizeFits};
+ghost use Rattle.lay_sizes.specs.SizeColumns.{HaveSizeBounds};
 ghost use Rattle.lay_table.specs.RowBounds.{RowsFitTable};
 ghost use Rattle.lay_table.specs.TableRows.{AreTracks, HasRows, bottom_of, bottoms_of, cell_height, table_content, used_size};
 
@@ -99,7 +100,7 @@ fn bottoms_of(
     tracks: &Tracks,
 ) -> Result<Vec<RowCell>, NoMemory>
     requires count { length cells.now ≡ length input.now.table.grid.cells }
-    requires rows { length tracks.now.lengths ≡ length input.now.table.grid.rows }
+    requires sizes { HaveSizeBounds cells.now }
     ensures bottoms { IfOk result (λ v. v.items ≡ bottoms_of input.now cells.now tracks.now) }
     ensures fit { IfOk result (λ v. All (RowCellFits (length input.now.table.grid.rows)) v.items) }
 {
@@ -118,7 +119,7 @@ fn bottom_of(
     c: usize,
 ) -> Result<RowCell, NoMemory>
     requires count { length cells.now ≡ length input.now.table.grid.cells }
-    requires rows { length tracks.now.lengths ≡ length input.now.table.grid.rows }
+    requires sizes { HaveSizeBounds cells.now }
     requires cell { c < length cells.now }
     ensures bottom { IfOk result (λ r. r ≡ bottom_of input.now cells.now tracks.now c) }
     ensures fits { IfOk result (RowCellFits (length input.now.table.grid.rows)) }
@@ -135,8 +136,7 @@ pub(crate) fn cell_height(
     tracks: &Tracks,
     c: usize,
 ) -> Result<Unit, NoMemory>
-    requires cell { c < length input.now.table.grid.cells }
-    requires rows { length tracks.now.lengths ≡ length input.now.table.grid.rows }
+    requires { c < length input.now.table.grid.cells }
     ensures height { IfOk result (λ u. u ≡ cell_height input.now tracks.now c) }
     ensures near { IfOk result (λ u. IsNear u.0) }
 {

@@ -21,6 +21,7 @@ pub(crate) struct Tracks {
 }
 
 impl Model for Tracks {
+    ghost use Rattle.std.specs.Prelude.{length};
     ghost use Rattle.lay_table.specs.TrackStarts.{AreStarts};
     ghost use Rattle.lay_table.specs.Tracks.{Tracks as Plain};
 
@@ -79,12 +80,15 @@ impl Tracks {
         self.start(self.len())
     }
 
-    /// How far so many tracks reach, from this one on.
+    /// How far so many tracks reach, from this one on. NoMemory is the answer where it is more than 2^60 units, or there are
+    /// fewer tracks.
     pub(crate) fn extent(&self, first: usize, count: usize) -> Result<Unit, NoMemory>
-        requires { first + count ≤ length self.now.lengths }
         ensures value { IfOk result (λ u. u ≡ record { 0 = extent_of self.now first count }) }
         ensures near { IfOk result (λ u. IsNear u.0) }
     {
+        if first > self.len() || count > self.len() - first {
+            return Err(NoMemory);
+        }
         let end = near_difference(self.start(first + count), self.spacing)?;
         near_difference(end, self.start(first))
     }

@@ -58,9 +58,10 @@ some_in_row : (r left : ℕ) (spans : List Span) → 1 ≤ left → All (λ (spa
 some_in_row r left [] some rows columns = tt
 some_in_row r left (span ∷ spans) some rows columns =
     let a = rows 0 span (omega arith) in
-    let b = columns 0 span (omega arith) in
-    (record { rows = omega arith; columns = b },
-     some_in_row r left spans some (rest_of (λ (span : Span). 1 ≤ span.rows) span spans rows) (rest_of (λ (span : Span). 1 ≤ span.columns) span spans columns))
+    let b = columns 0 span (omega arith) in (
+      record { rows = omega arith; columns = b },
+      some_in_row r left spans some (rest_of (λ (span : Span). 1 ≤ span.rows) span spans rows) (rest_of (λ (span : Span). 1 ≤ span.columns) span spans columns),
+    )
 
 own_group : (group : ℕ) (rest : ℕ) → 1 ≤ cond (nat_eq group group) (1 + rest) 0
 own_group group rest = let e = eq-eqb group group refl in rw e (omega arith)

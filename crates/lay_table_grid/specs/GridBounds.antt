@@ -3,6 +3,7 @@
 use Rattle.std.specs.Prelude.{ℕ, ◌+◌, ◌<◌, ◌≤◌, List, length, All}
 use Rattle.lay_units.specs.Units.{IsUsedSize}
 use Rattle.lay_units.specs.declared.records.Sides.{Sides}
+use Rattle.lay_table_grid.specs.declared.grid.Spacing.{Spacing}
 use Rattle.lay_table_grid.specs.declared.grid.TableCell.{TableCell}
 use Rattle.lay_table_grid.specs.declared.grid.TableRow.{TableRow}
 use Rattle.lay_table_grid.specs.TableGrid.{TableGridValue}
@@ -20,11 +21,14 @@ pub record CellFits (rows columns : ℕ) (cell : TableCell) : Type 0 where
   pub last_column : cell.column + cell.columns ≤ columns
   pub borders : AreUsedSides cell.borders
 
+pub record IsUsedSpacing (spacing : Spacing) : Type 0 where
+  pub across : IsUsedSize spacing.across.0
+  pub down : IsUsedSize spacing.down.0
+
 pub record TableGridFits (grid : TableGridValue) : Type 0 where
   pub cells : All (CellFits (length grid.rows) grid.columns) grid.cells
   pub column_boxes : length grid.column_boxes ≤ grid.columns
-  pub across : IsUsedSize grid.spacing.across.0
-  pub down : IsUsedSize grid.spacing.down.0
+  pub spacing : IsUsedSpacing grid.spacing
   pub borders : AreUsedSides grid.borders
 
 -- its boxes are some of so many

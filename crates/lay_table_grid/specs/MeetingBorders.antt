@@ -219,34 +219,54 @@ unless b borders = if b then [] else borders
 abbrev pub where_so : Bool → List Cand → List Cand
 where_so b borders = if b then borders else []
 
--- the borders that meet above the slots of the row r, or below those of the last row, at the column c
-abbrev pub borders_above : TableParts → Option PlacedCell → Option PlacedCell → ℕ → ℕ → List Cand
-borders_above p above below r c =
-    above_and_below p (cell_element above) (cell_element below)
-    ++ (above_and_below p (row_element p (before r)) (row_element p (Some r))
-    ++ (unless (are_one (item (row_groups p) (before r)) (item (row_groups p) (Some r)))
-        (above_and_below p (group_element p (before r)) (group_element p (Some r)))
-    ++ (where_so (r == 0) (column_ends p side.Top c)
-    ++ where_so (r == length p.rows) (column_ends p side.Bottom c))))
+-- the row r and the one above it are in one group
+abbrev pub is_inside_group : TableParts → ℕ → Bool
+is_inside_group p r = are_one (item (row_groups p) (before r)) (item (row_groups p) (Some r))
 
+abbrev pub is_inside_column_group : TableParts → ℕ → Bool
+is_inside_column_group p c = are_one (item (column_groups p) (before c)) (item (column_groups p) (Some c))
+
+-- the borders of rows and row groups above the row r
+abbrev pub lines_above : TableParts → ℕ → List Cand
+lines_above p r =
+    above_and_below p (row_element p (before r)) (row_element p (Some r))
+    ++ unless (is_inside_group p r) (above_and_below p (group_element p (before r)) (group_element p (Some r)))
+
+-- those of columns, column groups and the table there
+abbrev pub rim_above : TableParts → ℕ → ℕ → List Cand
+rim_above p r c =
+    where_so (r == 0) (column_ends p side.Top c) ++ where_so (r == length p.rows) (column_ends p side.Bottom c)
+
+abbrev pub cells_above : TableParts → Option PlacedCell → Option PlacedCell → List Cand
+cells_above p above below = above_and_below p (cell_element above) (cell_element below)
+
+-- the borders that meet above the slot of the row r and the column c, or below that of the last row
 abbrev pub meeting_above : TableParts → ℕ → ℕ → List Cand
 meeting_above p r c =
     let above = covering_in p.cells (before r) (Some c) in
     let below = covering_in p.cells (among (length p.rows) r) (Some c) in
-    unless (are_one (place_of above) (place_of below)) (borders_above p above below r c)
+    unless (are_one (place_of above) (place_of below))
+    (cells_above p above below ++ (lines_above p r ++ rim_above p r c))
 
--- the borders that meet on the left of the slots of the column c, or on the right of those of the last one, in the row r
-abbrev pub borders_beside : TableParts → Option PlacedCell → Option PlacedCell → ℕ → ℕ → List Cand
-borders_beside p left right r c =
-    left_and_right p (cell_element left) (cell_element right)
-    ++ (left_and_right p (column_element p (before c)) (column_element p (Some c))
-    ++ (unless (are_one (item (column_groups p) (before c)) (item (column_groups p) (Some c)))
-        (left_and_right p (column_group_element p (before c)) (column_group_element p (Some c)))
-    ++ (where_so (c == 0) (row_ends p side.Left r)
-    ++ where_so (c == p.columns) (row_ends p side.Right r))))
+-- the borders of columns and column groups on the left of the column c
+abbrev pub lines_left : TableParts → ℕ → List Cand
+lines_left p c =
+    left_and_right p (column_element p (before c)) (column_element p (Some c))
+    ++ unless (is_inside_column_group p c)
+    (left_and_right p (column_group_element p (before c)) (column_group_element p (Some c)))
 
+-- those of rows, row groups and the table there
+abbrev pub rim_left : TableParts → ℕ → ℕ → List Cand
+rim_left p r c =
+    where_so (c == 0) (row_ends p side.Left r) ++ where_so (c == p.columns) (row_ends p side.Right r)
+
+abbrev pub cells_left : TableParts → Option PlacedCell → Option PlacedCell → List Cand
+cells_left p left right = left_and_right p (cell_element left) (cell_element right)
+
+-- the borders that meet on the left of the slot of the row r and the column c, or on the right of that of the last column
 abbrev pub meeting_left : TableParts → ℕ → ℕ → List Cand
 meeting_left p r c =
     let left = covering_in p.cells (Some r) (before c) in
     let right = covering_in p.cells (Some r) (among p.columns c) in
-    unless (are_one (place_of left) (place_of right)) (borders_beside p left right r c)
+    unless (are_one (place_of left) (place_of right))
+    (cells_left p left right ++ (lines_left p c ++ rim_left p r c))

@@ -3,3 +3,6 @@ pub mod ColumnMarks
 pub mod PlacedBounds
 pub mod Runs
 pub mod Slots
+pub mod EdgeBounds
+pub mod UsedBorders
+pub mod PartsOf

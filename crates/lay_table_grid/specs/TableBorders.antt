@@ -12,7 +12,7 @@ use Rattle.lay_borders.specs.Edges.{IsEdge}
 use Rattle.lay_borders.specs.Halves.{edge_width, first_half, second_half}
 use Rattle.lay_sizes.specs.SizeColumns.{no_edges}
 use Rattle.lay_table_grid.specs.declared.elements.Side.TheVariants as side
-use Rattle.lay_table_grid.specs.declared.grid.TableCell.{TableCell}
+use Rattle.lay_table_grid.specs.declared.grid.CellArea.{CellArea}
 use Rattle.lay_table_grid.specs.MeetingBorders.{TableParts, meeting_above, meeting_left, width_on}
 
 -- the borders of a style
@@ -24,9 +24,6 @@ own_borders (Some box) = record {
   bottom = width_on side.Bottom box.style;
   left = width_on side.Left box.style;
 }
-
-abbrev pub AreSeparate : List BoxNode → ℕ → Sides → Type 0
-AreSeparate boxes place sides = sides ≡ own_borders (slice_get boxes place)
 
 -- how wide the border of an edge is drawn where these meet
 abbrev pub IsEdgeWidth : List Cand → ℤ → Type 0
@@ -41,17 +38,17 @@ pub record IsWidest (meeting : ℕ → List Cand) (count : ℕ) (width : ℤ) : 
 abbrev pub IsHalf : (ℤ → ℤ) → (ℕ → List Cand) → ℕ → ℤ → Type 0
 IsHalf half meeting count border = (width : ℤ) × IsWidest meeting count width × (border ≡ half width)
 
-pub record AreCellBorders (p : TableParts) (cell : TableCell) (sides : Sides) : Type 0 where
-  pub top : IsHalf second_half (λ k. meeting_above p cell.row (cell.column + k)) cell.columns sides.top.0
-  pub bottom : IsHalf first_half (λ k. meeting_above p (cell.row + cell.rows) (cell.column + k)) cell.columns sides.bottom.0
-  pub left : IsHalf second_half (λ k. meeting_left p (cell.row + k) cell.column) cell.rows sides.left.0
-  pub right : IsHalf first_half (λ k. meeting_left p (cell.row + k) (cell.column + cell.columns)) cell.rows sides.right.0
+pub record AreCellBorders (p : TableParts) (a : CellArea) (sides : Sides) : Type 0 where
+  pub top : IsHalf second_half (λ k. meeting_above p a.row (a.column + k)) a.columns sides.top.0
+  pub bottom : IsHalf first_half (λ k. meeting_above p (a.row + a.rows) (a.column + k)) a.columns sides.bottom.0
+  pub left : IsHalf second_half (λ k. meeting_left p (a.row + k) a.column) a.rows sides.left.0
+  pub right : IsHalf first_half (λ k. meeting_left p (a.row + k) (a.column + a.columns)) a.rows sides.right.0
 
 pub record AreOuterHalves (p : TableParts) (sides : Sides) : Type 0 where
   pub top : IsHalf first_half (λ k. meeting_above p 0 k) p.columns sides.top.0
   pub bottom : IsHalf second_half (λ k. meeting_above p (length p.rows) k) p.columns sides.bottom.0
-  pub left : IsHalf first_half (λ k. meeting_left p 0 0) 1 sides.left.0
-  pub right : IsHalf second_half (λ k. meeting_left p 0 p.columns) 1 sides.right.0
+  pub left : IsHalf first_half (λ k. meeting_left p k 0) 1 sides.left.0
+  pub right : IsHalf second_half (λ k. meeting_left p k p.columns) 1 sides.right.0
 
 pub record AreTableBorders (p : TableParts) (sides : Sides) : Type 0 where
   pub some : 0 < length p.rows → 0 < p.columns → AreOuterHalves p sides

@@ -2,7 +2,7 @@
 -- (17.5), its columns, what is between them, and the borders of the table and of each cell. All of it follows from the
 -- boxes and their styles alone.
 use Rattle.std.specs.Prelude.{ℕ, ◌≡◌, ◌+◌, Bool, true, false, Option, Some, None}
-use Rattle.std.specs.Prelude.{List, map, slice_get, if◌then◌else◌}
+use Rattle.std.specs.Prelude.{All, List, map, slice_get, if◌then◌else◌}
 use Rattle.lay_units.specs.declared.records.Sides.{Sides}
 use Rattle.lay_style.specs.declared.style.TableStyle.{TableStyle}
 use Rattle.lay_style.specs.declared.style_words.BorderCollapse.{BorderCollapse}
@@ -10,13 +10,15 @@ use Rattle.lay_style.specs.declared.style_words.BorderCollapse.TheVariants as bo
 use Rattle.lay_style.specs.LengthValues.{size_of}
 use Rattle.lay_boxgen.specs.declared.box_tree.BoxNode.{BoxNode}
 use Rattle.lay_sizes.specs.UsedLengths.{no_length}
+use Rattle.lay_grid.specs.declared.cells.Cell.{Cell}
+use Rattle.lay_table_grid.specs.declared.grid.CellArea.{CellArea}
 use Rattle.lay_table_grid.specs.declared.grid.Spacing.{Spacing}
 use Rattle.lay_table_grid.specs.declared.grid.TableCell.{TableCell}
 use Rattle.lay_table_grid.specs.declared.grid.TableRow.{TableRow}
 use Rattle.lay_table_grid.specs.declared.placed.PlacedCell.{PlacedCell}
 use Rattle.lay_table_grid.specs.MeetingBorders.{TableParts}
 use Rattle.lay_table_grid.specs.PlacedCells.{ArePlaced, column_total}
-use Rattle.lay_table_grid.specs.TableBorders.{AreCellBorders, AreSeparate, AreTableBorders}
+use Rattle.lay_table_grid.specs.TableBorders.{AreCellBorders, AreTableBorders, own_borders}
 use Rattle.lay_table_grid.specs.TableBoxes.{column_boxes_of, rows_of, table_place}
 
 pub record TableGridValue : Type 0 where
@@ -34,14 +36,14 @@ pub record TableGridValue : Type 0 where
   pub borders : Sides
 
 -- a cell where it stands
+abbrev pub area_of : TableCell → CellArea
+area_of cell = record { row = cell.row; column = cell.column; rows = cell.rows; columns = cell.columns }
+
+abbrev pub stand_of : CellArea → Cell
+stand_of a = record { area = record { row = a.row; end = a.row + a.rows; columns = a.columns }; left = a.column }
+
 abbrev pub placed_of : TableCell → PlacedCell
-placed_of cell = record {
-  place = cell.place;
-  cell = record {
-    area = record { row = cell.row; end = cell.row + cell.rows; columns = cell.columns };
-    left = cell.column;
-  };
-}
+placed_of cell = record { place = cell.place; cell = stand_of (area_of cell) }
 
 abbrev pub placed_cells : TableGridValue → List PlacedCell
 placed_cells grid = map placed_of grid.cells
@@ -78,13 +80,19 @@ abbrev pub spacing_in : Option BoxNode → Spacing
 spacing_in None = no_spacing
 spacing_in (Some box) = spacing_by box.style.table
 
+-- a cell has the borders of its style
+abbrev pub IsSeparate : List BoxNode → TableCell → Type 0
+IsSeparate boxes cell = cell.borders ≡ own_borders (slice_get boxes cell.place)
+
+-- a cell has its part of the borders at its edges
+abbrev pub IsCollapsed : TableParts → TableCell → Type 0
+IsCollapsed p cell = AreCellBorders p (area_of cell) cell.borders
+
 -- the cells and the table box have these borders
 pub record HaveBorders (boxes : List BoxNode) (grid : TableGridValue) : Type 0 where
-  pub separate_cells : grid.collapses ≡ false → (k : ℕ) (cell : TableCell)
-      → slice_get grid.cells k ≡ Some cell → AreSeparate boxes cell.place cell.borders
-  pub separate_table : grid.collapses ≡ false → AreSeparate boxes grid.table grid.borders
-  pub collapsed_cells : grid.collapses ≡ true → (k : ℕ) (cell : TableCell)
-      → slice_get grid.cells k ≡ Some cell → AreCellBorders (parts_of boxes grid) cell cell.borders
+  pub separate_cells : grid.collapses ≡ false → All (IsSeparate boxes) grid.cells
+  pub separate_table : grid.collapses ≡ false → grid.borders ≡ own_borders (slice_get boxes grid.table)
+  pub collapsed_cells : grid.collapses ≡ true → All (IsCollapsed (parts_of boxes grid)) grid.cells
   pub collapsed_table : grid.collapses ≡ true → AreTableBorders (parts_of boxes grid) grid.borders
 
 pub record IsTableGrid (boxes : List BoxNode) (grid : TableGridValue) : Type 0 where

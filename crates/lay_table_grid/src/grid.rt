@@ -24,6 +24,15 @@ pub struct TableCell {
     pub borders: Sides,
 }
 
+/// The slots that a cell covers: from which row and column on, and how many of both.
+#[derive(Clone, Copy)]
+pub struct CellArea {
+    pub row: u32,
+    pub column: u32,
+    pub rows: u32,
+    pub columns: u32,
+}
+
 /// What is between columns and between rows (CSS 2.2, 17.6.1), in 1/64 px, from 0. 0 where borders
 /// collapse.
 #[derive(Clone, Copy, Debug, PartialEq, Eq)]
@@ -36,14 +45,14 @@ pub struct Spacing {
 /// formatting context.
 #[derive(Drop)]
 pub struct TableGrid {
-    table: usize,
-    rows: Vec<TableRow>,
-    cells: Vec<TableCell>,
-    column_boxes: Vec<usize>,
-    columns: u32,
-    spacing: Spacing,
-    collapses: bool,
-    borders: Sides,
+    pub(crate) table: usize,
+    pub(crate) rows: Vec<TableRow>,
+    pub(crate) cells: Vec<TableCell>,
+    pub(crate) column_boxes: Vec<usize>,
+    pub(crate) columns: u32,
+    pub(crate) spacing: Spacing,
+    pub(crate) collapses: bool,
+    pub(crate) borders: Sides,
 }
 
 impl Model for TableGrid {
@@ -53,25 +62,25 @@ impl Model for TableGrid {
     ghost Value = { TableGridValue };
 
     ghost view = { λ g. record {
-        table = g.table;
-        rows = g.rows.items;
-        cells = g.cells.items;
-        column_boxes = g.column_boxes.items;
-        columns = g.columns;
-        spacing = g.spacing;
-        collapses = g.collapses;
-        borders = g.borders;
+      table = g.table;
+      rows = g.rows.items;
+      cells = g.cells.items;
+      column_boxes = g.column_boxes.items;
+      columns = g.columns;
+      spacing = g.spacing;
+      collapses = g.collapses;
+      borders = g.borders;
     } };
 
     ghost invariant = { λ g. TableGridFits (record {
-        table = g.table;
-        rows = g.rows.items;
-        cells = g.cells.items;
-        column_boxes = g.column_boxes.items;
-        columns = g.columns;
-        spacing = g.spacing;
-        collapses = g.collapses;
-        borders = g.borders;
+      table = g.table;
+      rows = g.rows.items;
+      cells = g.cells.items;
+      column_boxes = g.column_boxes.items;
+      columns = g.columns;
+      spacing = g.spacing;
+      collapses = g.collapses;
+      borders = g.borders;
     }) };
 }
 

@@ -3,9 +3,9 @@
 ghost use Rattle.std.specs.Prelude.{◌≡◌, ◌≤◌};
 ghost use Rattle.lay_table_grid.specs.TableBoxes.{is_cell, is_column, is_column_group};
 ghost use Rattle.lay_table_grid.specs.TableBoxes.{is_footer_group, is_header_group, is_row};
-ghost use Rattle.lay_table_grid.specs.TableBoxes.{is_row_group, is_table, span_of};
+ghost use Rattle.lay_table_grid.specs.TableBoxes.{is_row_group, is_table, kind_at, span_of};
 
-use lay_boxgen::BoxKind;
+use lay_boxgen::{BoxKind, BoxNode};
 use lay_grid::Span;
 
 pub fn is_table(kind: &BoxKind) -> bool
@@ -75,5 +75,35 @@ pub fn span_of(kind: &BoxKind) -> Span
             columns: 1,
             rows: 1,
         },
+    }
+}
+
+/// Whether the box at a place is a row group.
+pub fn is_row_group_at(boxes: &[BoxNode], place: usize) -> bool
+    ensures { result ≡ is_row_group (kind_at boxes.now place) }
+{
+    match boxes.get(place) {
+        Some(node) => is_row_group(&node.kind),
+        None => false,
+    }
+}
+
+/// Whether the box at a place is a column.
+pub fn is_column_at(boxes: &[BoxNode], place: usize) -> bool
+    ensures { result ≡ is_column (kind_at boxes.now place) }
+{
+    match boxes.get(place) {
+        Some(node) => is_column(&node.kind),
+        None => false,
+    }
+}
+
+/// Whether the box at a place is a column group.
+pub fn is_column_group_at(boxes: &[BoxNode], place: usize) -> bool
+    ensures { result ≡ is_column_group (kind_at boxes.now place) }
+{
+    match boxes.get(place) {
+        Some(node) => is_column_group(&node.kind),
+        None => false,
     }
 }

@@ -6,17 +6,26 @@
 //! meet at which edge is said in `specs/MeetingBorders.antt`. It is a relation, and has one value (`specs/Laws.antt`).
 #![tactic(auto)]
 
+mod assembly;
+mod bordered;
 mod cells;
+mod collapsed;
 mod columns;
+mod edges;
 mod elements;
 mod grid;
 mod kinds;
+mod laws;
+mod meeting;
+mod parts;
 mod placed;
 mod places;
 mod rows;
 mod runs;
+mod separate;
 mod slots;
+mod widest;
 
-pub use elements::{Element, Side};
+pub use assembly::table_grid;
 pub use grid::{Spacing, TableCell, TableGrid, TableRow};
-pub use placed::PlacedCell;
+pub use laws::{grids_are_of_boxes, one_table_grid};

@@ -23,7 +23,8 @@ pub fn table_place(boxes: &[BoxNode]) -> usize
     0
 }
 
-fn header_place(boxes: &[BoxNode]) -> Option<usize>
+/// The place of the first header group, whose rows are drawn first.
+pub fn header_place(boxes: &[BoxNode]) -> Option<usize>
     ensures { result ≡ header_place boxes.now }
 {
     for k in 0..boxes.len() {
@@ -34,7 +35,8 @@ fn header_place(boxes: &[BoxNode]) -> Option<usize>
     None
 }
 
-fn footer_place(boxes: &[BoxNode]) -> Option<usize>
+/// The place of the first footer group, whose rows are drawn last.
+pub fn footer_place(boxes: &[BoxNode]) -> Option<usize>
     ensures { result ≡ footer_place boxes.now }
 {
     for k in 0..boxes.len() {

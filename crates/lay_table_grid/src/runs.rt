@@ -1,7 +1,7 @@
 //! Runs of equal entries.
 
-ghost use Rattle.std.specs.Prelude.{◌≡◌, ◌+◌, ◌^◌, ◌<◌, length, slice_get, IfOk};
-ghost use Rattle.lay_table_grid.specs.MeetingBorders.{are_one, first_of_run};
+ghost use Rattle.std.specs.Prelude.{◌≡◌, ◌+◌, ◌^◌, ◌<◌, length, slice_get, IfOk, IfSome};
+ghost use Rattle.lay_table_grid.specs.MeetingBorders.{among, are_one, before, first_of_run, item as item_of};
 ghost use Rattle.lay_table_grid.specs.Pass.Runs.{AreRunStartsTo};
 
 use lay_units::NoMemory;
@@ -45,6 +45,13 @@ pub fn item(entries: &[usize], k: usize) -> Option<usize>
     }
 }
 
+/// The entry before that at k.
+pub fn item_before(entries: &[usize], k: usize) -> Option<usize>
+    ensures { result ≡ item_of entries.now (before k) }
+{
+    item(entries, before(k)?)
+}
+
 /// Whether both are there and are the same.
 pub fn are_one(a: Option<usize>, b: Option<usize>) -> bool
     ensures { result ≡ are_one a b }
@@ -53,4 +60,20 @@ pub fn are_one(a: Option<usize>, b: Option<usize>) -> bool
         (Some(a), Some(b)) => a == b,
         _ => false,
     }
+}
+
+/// What stands before the i-th, if anything does.
+pub fn before(i: usize) -> Option<usize>
+    ensures value { result ≡ before i }
+    ensures less { IfSome result (λ k. k < i) }
+{
+    if i == 0 { None } else { Some(i - 1) }
+}
+
+/// The i-th of so many, if there is one.
+pub fn among(count: usize, i: usize) -> Option<usize>
+    ensures value { result ≡ among count i }
+    ensures less { IfSome result (λ k. k < count) }
+{
+    if i < count { Some(i) } else { None }
 }

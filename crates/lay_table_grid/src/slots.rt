@@ -55,12 +55,7 @@ impl SlotRow {
     }
 }
 
-fn cover_row(
-    row: &mut Vec<Option<u32>>,
-    k: u32,
-    left: usize,
-    columns: u32,
-) -> Result<(), NoMemory>
+fn cover_row(row: &mut Vec<Option<u32>>, k: u32, left: usize, columns: u32) -> Result<(), NoMemory>
     requires { left < 2 ^ 32 }
     ensures { OnOk result (CoveredRow k left columns row.old.items row.new.items) }
 {
@@ -96,11 +91,7 @@ fn cover_slot(row: &mut Vec<Option<u32>>, k: u32, column: usize) -> Result<(), N
 }
 
 /// The slots of so many rows, with the numbers of the cells that cover them.
-pub fn slot_rows(
-    alloc: Global,
-    cells: &[PlacedCell],
-    rows: usize,
-) -> Result<Vec<SlotRow>, NoMemory>
+pub fn slot_rows(alloc: Global, cells: &[PlacedCell], rows: usize) -> Result<Vec<SlotRow>, NoMemory>
     requires cells { All (CoversRows rows) cells.now }
     requires left { All (λ (placed : PlacedCell). placed.cell.left < 2 ^ 32) cells.now }
     requires few { length cells.now < 2 ^ 32 }

@@ -1,5 +1,5 @@
 -- A table has one set of used sizes.
-use Rattle.std.proofs.Common.{◌≡◌, ℕ, zero, suc, ◌<◌, ℤ, List, length, Option, None, Some, refl, sym, ap, subst, ◌∙◌, arith}
+use Rattle.std.proofs.Common.{◌≡◌, ℤ, List, Option, None, Some, refl, sym, ap, subst, ◌∙◌, arith}
 use Rattle.std.proofs.lemmas.List.{ext_get_or}
 use Rattle.lay_units.specs.declared.length.Unit.{Unit as Length}
 use Rattle.lay_style.specs.declared.style.Style.{Style}
@@ -9,7 +9,7 @@ use Rattle.lay_widths.specs.declared.widths.BlockOut.{BlockOut}
 use Rattle.lay_widths.specs.declared.widths.UsedWidths.{UsedWidths}
 use Rattle.lay_widths.proofs.Unique.{one_block_width_lem, one_float_width_lem}
 use Rattle.lay_sizes.specs.BoxSizes.{widths_beside}
-use Rattle.lay_sizes.specs.SizeColumns.{no_sizes, sizes_at}
+use Rattle.lay_sizes.specs.SizeColumns.{no_sizes}
 use Rattle.lay_sizes.specs.declared.sizing.BoxSizes.{BoxSizes}
 use Rattle.lay_sizes.specs.declared.sizing.ContainingBlock.{ContainingBlock}
 use Rattle.lay_grid.specs.Columns.{AreColumns}
@@ -23,9 +23,9 @@ use Rattle.lay_table_sizes.specs.CellSizes.{cell_size_at}
 use Rattle.lay_table_sizes.specs.ColumnWidths.{columns_in}
 use Rattle.lay_table_sizes.specs.Laws.{OneTableSizes}
 use Rattle.lay_table_sizes.specs.TableBoxes.{table_block, table_style, wrapper_style}
-use Rattle.lay_table_sizes.specs.TableSizes.{AreTableWidths, AreWrapperWidths, HasTableSizes, IsWrapperSized, held, sizes_of_box, table_box, table_width, wrapper_block, wrapper_width}
-use Rattle.lay_table_sizes.specs.TableSizesValue.{TableSizesValue, cell_at}
-use Rattle.lay_table_sizes.specs.WantedWidth.{IsWanted, IsWantedAs, content_part}
+use Rattle.lay_table_sizes.specs.TableSizes.{AreWrapperWidths, HasTableSizes, IsWrapperSized, held, wrapper_block, wrapper_width}
+use Rattle.lay_table_sizes.specs.TableSizesValue.{TableSizesValue}
+use Rattle.lay_table_sizes.specs.WantedWidth.{IsWantedAs, content_part}
 use Rattle.lay_table_sizes.proofs.OneCellSizes.{same_sizes}
 
 one_wanted : (rule : TableRule) (g : TableGridValue) (containing : Length) (wrapper s : Style) (x y : BlockOut) → IsWantedAs rule g containing wrapper s x → IsWantedAs rule g containing wrapper s y → x ≡ y

@@ -1,5 +1,5 @@
 -- A table has one pair of preferred widths.
-use Rattle.std.proofs.Common.{◌≡◌, ℕ, ◌<◌, List, length, Option, None, refl, sym, ap, subst, ◌∙◌, arith}
+use Rattle.std.proofs.Common.{◌≡◌, List, Option, None, refl, sym, ap, ◌∙◌, arith}
 use Rattle.std.proofs.lemmas.List.{ext_get_or}
 use Rattle.lay_units.specs.declared.length.Unit.{Unit as Length}
 use Rattle.lay_boxgen.specs.declared.box_tree.BoxNode.{BoxNode}
@@ -9,8 +9,7 @@ use Rattle.lay_grid.specs.Shares.{own_at}
 use Rattle.lay_table_grid.specs.Laws.{OneTableGrid}
 use Rattle.lay_table_grid.specs.TableGrid.{TableGridValue}
 use Rattle.lay_table_sizes.specs.Laws.{OneTableWidths}
-use Rattle.lay_table_sizes.specs.PreferredWidths.{AreColumnWidths, HasTableWidths, all_beside, content_widths, own_or, table_part, widths_at}
-use Rattle.lay_table_sizes.specs.TableBoxes.{table_style}
+use Rattle.lay_table_sizes.specs.PreferredWidths.{AreColumnWidths, content_widths, own_or}
 use Rattle.lay_table_sizes.proofs.ColumnSteps.{element_widths_count}
 
 one_column_widths : (boxes : List BoxNode) (inner : List PreferredWidths) (g : TableGridValue) (v w : List PreferredWidths) → AreColumnWidths boxes inner g v → AreColumnWidths boxes inner g w → v ≡ w

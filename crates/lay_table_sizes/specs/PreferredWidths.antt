@@ -3,7 +3,7 @@
 -- it one, else the greatest preferred width of the cells that it alone has. A `width` of the table that is a length counts where it is
 -- greater, and then `min-width` and `max-width` that are lengths (10.4). How wide the containing block will be isn't known
 -- yet, so percentages of widths count as `auto` and those of paddings as 0.
-use Rattle.std.specs.Prelude.{◌≡◌, ℕ, ◌<◌, ◌==◌, ◌&&◌, ℤ, pos, ◌+ℤ◌, Option, Some, None, List, [], ◌∷◌, length, slice_index_or, if◌then◌else◌}
+use Rattle.std.specs.Prelude.{◌≡◌, ℕ, ◌<◌, ◌==◌, ◌&&◌, ℤ, ◌+ℤ◌, Option, Some, None, List, [], ◌∷◌, length, slice_index_or, if◌then◌else◌}
 use Rattle.std.specs.Int.{int_max}
 use Rattle.lay_units.specs.declared.length.Unit.{Unit as Length}
 use Rattle.lay_units.specs.declared.records.Sides.{Sides}

@@ -4,7 +4,7 @@
 -- 10.3.3 with that width as a given one; those of another one are 0 where they are `auto` (10.3.5). Captions don't widen a table.
 -- All are held within the bounds of used lengths (4.3.2). The boxes of captions and cells are sized in their own formatting
 -- contexts, and rows, row groups and columns have no sizes of a box.
-use Rattle.std.specs.Prelude.{◌≡◌, ℕ, zero, suc, ◌<◌, ◌==◌, ◌+ℤ◌, List, length, map, Some, None, if◌then◌else◌, slice_index_or}
+use Rattle.std.specs.Prelude.{◌≡◌, ℕ, zero, suc, ◌<◌, ◌==◌, List, length, map, Some, None, if◌then◌else◌}
 use Rattle.std.specs.Int.{int_max}
 use Rattle.lay_units.specs.Units.{clamp_size_of}
 use Rattle.lay_units.specs.declared.length.Unit.{Unit as Length}
@@ -31,8 +31,11 @@ use Rattle.lay_table_sizes.specs.declared.table_rule.TableRule.{TableRule}
 use Rattle.lay_table_sizes.specs.declared.table_rule.TableRule.TheVariants.{Fills, ShrinksToFit}
 
 -- used widths of columns
+abbrev pub held_width : Length → Length
+held_width width = record { 0 = clamp_size_of width.0 }
+
 abbrev pub held : List Length → List Length
-held widths = map (λ width. record { 0 = clamp_size_of width.0 }) widths
+held widths = map held_width widths
 
 -- the used width of the content of a table box that is to have the width `wanted` and has these columns
 abbrev pub table_width : TableGridValue → (wanted : Length) → List Length → Length

@@ -1,9 +1,10 @@
 //! The sizes of cells.
 
-ghost use Rattle.std.specs.Prelude.{◌≡◌, ◌≢◌, ◌<◌, ◌≤◌, ◌+◌, ◌-◌, ◌^◌, ◌*ℤ◌, ℕ, Some, IfOk, OnOk, All, drop, length, pos, slice_index_or, None};
+ghost use Rattle.std.specs.Prelude.{◌≡◌, ◌≢◌, ◌<◌, ◌≤◌, ◌+◌, ◌-◌, ◌^◌, ◌*ℤ◌, ℕ, Some, IfOk, OnOk, All, drop, length, pos, slice_get, slice_index_or, None};
 ghost use Rattle.lay_units.specs.Units.{IsUsedSize};
 ghost use Rattle.lay_grid.specs.Shares.{sum_of};
-ghost use Rattle.lay_table_grid.specs.declared.grid.TableCell.{TableCell};
+ghost use Rattle.lay_table_grid.specs.GridBounds.{CellFits};
+ghost use Rattle.lay_table_sizes.specs.Bounds.{ArePlaced};
 ghost use Rattle.lay_table_sizes.specs.CellSizes.{cell_size, cell_size_at, columns_width};
 
 use crate::cell_size::CellSize;
@@ -23,21 +24,30 @@ pub(crate) fn cells_of(
     ensures count { IfOk result (λ v. length v.items ≡ count) }
     ensures cells { IfOk result (λ v. (k : ℕ) → k < count → slice_index_or v.items k None ≡ cell_size_at grid.now.spacing.across columns.now grid.now.cells k) }
 {
-    let cells = grid.cells();
     let mut sizes = Vec::from_elem(alloc, None, count)?;
-    let last = cells.len();
+    let last = grid.cells().len();
     for done in 0..last {
-        let cell = cells[last - 1 - done];
+        let cell = cell_of(grid, last - 1 - done);
         let size = cell_size(grid.spacing().across, columns, cell)?;
-        put_cell(sizes.as_mut_slice(), cell.place, size);
+        put_cell(&mut sizes, cell.place, size);
     }
     Ok(sizes)
 }
 
-fn put_cell(sizes: &mut [Option<CellSize>], place: usize, size: CellSize)
-    ensures count { length sizes.new ≡ length sizes.old }
-    ensures here { place < length sizes.old → slice_index_or sizes.new place None ≡ Some size }
-    ensures others { (k : ℕ) → k ≢ place → slice_index_or sizes.new k None ≡ slice_index_or sizes.old k None }
+/// The k-th cell of a grid.
+pub(crate) fn cell_of(grid: &TableGrid, k: usize) -> TableCell
+    requires { k < length grid.now.cells }
+    ensures at { slice_get grid.now.cells k ≡ Some result }
+    ensures fits { CellFits (length grid.now.rows) grid.now.columns result }
+    ensures placed { (count : ℕ) → ArePlaced count grid.now.cells → result.place < count }
+{
+    grid.cells()[k]
+}
+
+fn put_cell(sizes: &mut Vec<Option<CellSize>>, place: usize, size: CellSize)
+    ensures count { length sizes.new.items ≡ length sizes.old.items }
+    ensures here { place < length sizes.old.items → slice_index_or sizes.new.items place None ≡ Some size }
+    ensures others { (k : ℕ) → k ≢ place → slice_index_or sizes.new.items k None ≡ slice_index_or sizes.old.items k None }
 {
     if place < sizes.len() {
         sizes[place] = Some(size);

@@ -6,6 +6,7 @@ ghost use Rattle.lay_table_grid.specs.GridBounds.{AreUsedSides};
 ghost use Rattle.lay_table_sizes.specs.Bounds.{ArePlaced};
 ghost use Rattle.lay_table_sizes.specs.PreferredWidths.{cell_part, cell_widths, content_widths, wider, widths_at};
 
+use crate::cells::cell_of;
 use crate::column_widths::cell_edges;
 use crate::table_box::style_of_box;
 use lay_boxgen::BoxNode;
@@ -26,24 +27,23 @@ pub(crate) fn content_widths(
     ensures count { IfOk result (λ v. length v.items ≡ grid.now.columns) }
     ensures each { IfOk result (λ v. (i : ℕ) → i < grid.now.columns → widths_at v.items i ≡ content_widths boxes.now inner.now grid.now.cells i) }
 {
-    let cells = grid.cells();
     let mut widths = Vec::from_elem(alloc, NO_WIDTHS, grid.columns() as usize)?;
-    let last = cells.len();
+    let last = grid.cells().len();
     for done in 0..last {
-        let cell = cells[last - 1 - done];
+        let cell = cell_of(grid, last - 1 - done);
         if cell.columns == 1 {
             let of_cell = cell_widths(boxes, inner, cell)?;
-            put_wider(widths.as_mut_slice(), cell.column as usize, of_cell);
+            put_wider(&mut widths, cell.column as usize, of_cell);
         }
     }
     Ok(widths)
 }
 
-fn put_wider(widths: &mut [PreferredWidths], i: usize, other: PreferredWidths)
-    requires { i < length widths.old }
-    ensures count { length widths.new ≡ length widths.old }
-    ensures here { widths_at widths.new i ≡ wider other (widths_at widths.old i) }
-    ensures others { (k : ℕ) → k ≢ i → widths_at widths.new k ≡ widths_at widths.old k }
+fn put_wider(widths: &mut Vec<PreferredWidths>, i: usize, other: PreferredWidths)
+    requires { i < length widths.old.items }
+    ensures count { length widths.new.items ≡ length widths.old.items }
+    ensures here { widths_at widths.new.items i ≡ wider other (widths_at widths.old.items i) }
+    ensures others { (k : ℕ) → k ≢ i → widths_at widths.new.items k ≡ widths_at widths.old.items k }
 {
     widths[i] = wider(other, widths[i]);
 }
@@ -86,7 +86,7 @@ fn cell_part(borders: Sides, style: &Style, content: Unit) -> Result<Unit, NoMem
 }
 
 /// The preferred widths at k.
-fn widths_at(widths: &[PreferredWidths], k: usize) -> PreferredWidths
+pub(crate) fn widths_at(widths: &[PreferredWidths], k: usize) -> PreferredWidths
     ensures { result ≡ widths_at widths.now k }
 {
     match widths.get(k) {

@@ -8,7 +8,7 @@ ghost use Rattle.lay_table_sizes.specs.Bounds.{most_columns};
 ghost use Rattle.lay_table_sizes.specs.PreferredWidths.{AreColumnWidths, HasTableWidths, all_beside, beside, bounded_content, own_or, table_part};
 
 use crate::column_widths::columns_in;
-use crate::content_widths::content_widths;
+use crate::content_widths::{content_widths, widths_at};
 use crate::grid::grid_of;
 use crate::sizing::with_spacings;
 use crate::table_box::{preferred_edges, style_of_box};
@@ -57,11 +57,20 @@ fn column_widths(
     let columns = columns_in(alloc, None, boxes, grid, Unit(0))?;
     let owns = own_widths(alloc, &columns)?;
     let contents = content_widths(alloc, boxes, inner, grid)?;
-    let mut widths = Vec::with_capacity(alloc, owns.len())?;
-    for i in 0..owns.len() {
-        widths.push(own_or(owns[i], contents[i]))?;
+    let mut widths = Vec::with_capacity(alloc, contents.len())?;
+    for i in 0..contents.len() {
+        widths.push(own_or(own_at(&owns, i), widths_at(&contents, i)))?;
     }
     Ok(widths)
+}
+
+fn own_at(owns: &[Option<Unit>], i: usize) -> Option<Unit>
+    ensures { result ≡ own_at owns.now i }
+{
+    match owns.get(i) {
+        Some(own) => *own,
+        None => None,
+    }
 }
 
 /// A column with a width of its own, or with the widths of its cells.

@@ -1,6 +1,6 @@
 //! The used sizes of a table.
 
-ghost use Rattle.std.specs.Prelude.{◌≡◌, ◌<◌, ◌≤◌, ℕ, All, IfOk, List, length};
+ghost use Rattle.std.specs.Prelude.{◌≡◌, ◌<◌, ◌≤◌, ℕ, All, IfOk, List, length, slice_get, Some};
 ghost use Rattle.std.specs.Int.{int_max};
 ghost use Rattle.lay_units.specs.declared.length.Unit.{Unit as Length};
 ghost use Rattle.lay_units.specs.Units.{IsPosition, IsUsedSize};
@@ -11,7 +11,7 @@ ghost use Rattle.lay_table_grid.specs.GridBounds.{PlacesAreBelow};
 ghost use Rattle.lay_table_sizes.specs.Bounds.{most_columns};
 ghost use Rattle.lay_table_sizes.specs.ColumnWidths.{with_spacings};
 ghost use Rattle.lay_table_sizes.specs.TableBoxes.{table_style, wrapper_style};
-ghost use Rattle.lay_table_sizes.specs.TableSizes.{AreTableWidths, HasTableSizes, IsWrapperSized, held, sizes_of_box, table_box, table_width};
+ghost use Rattle.lay_table_sizes.specs.TableSizes.{AreTableWidths, HasTableSizes, IsWrapperSized, held, held_width, sizes_of_box, table_box, table_width};
 
 use crate::cells::{cells_of, spacings, sum_of};
 use crate::column_widths::columns_in;
@@ -188,8 +188,22 @@ fn held(alloc: Global, widths: &[Unit]) -> Result<Vec<Unit>, NoMemory>
     ensures sizes { IfOk result (λ v. All (λ (width : Length). IsUsedSize width.0) v.items) }
 {
     let mut used = Vec::with_capacity(alloc, widths.len())?;
-    for width in widths {
-        used.push(clamp_size(i128::from(width.0)))?;
+    for k in 0..widths.len() {
+        used.push(held_width(width_at(widths, k)))?;
     }
     Ok(used)
+}
+
+fn width_at(widths: &[Unit], k: usize) -> Unit
+    requires { k < length widths.now }
+    ensures { slice_get widths.now k ≡ Some result }
+{
+    widths[k]
+}
+
+fn held_width(width: Unit) -> Unit
+    ensures value { result ≡ held_width width }
+    ensures size { IsUsedSize result.0 }
+{
+    clamp_size(i128::from(width.0))
 }

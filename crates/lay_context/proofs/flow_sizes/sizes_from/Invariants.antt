@@ -2,4 +2,4 @@ use Rattle.lay_context.proofs.SizeSteps.{SizesTo}
 use Rattle.lay_context.proofs.flow_sizes.sizes_from.Given as goal
 
 abbrev pub invariant-loop-k : goal.invariant-loop-k
-invariant-loop-k l = SizesTo l.own l.boxes l.sizes.items l.k
+invariant-loop-k l = SizesTo l.fn.own l.boxes l.sizes.items l.k

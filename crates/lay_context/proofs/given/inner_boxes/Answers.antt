@@ -1,6 +1,7 @@
 use Rattle.std.proofs.Common.{◌<◌, arith, length, get_or}
-use Rattle.lay_contexts.specs.Contexts.{context_at}
-use Rattle.lay_context.proofs.GivenFacts.{inner_within, one_more_box, one_more_fits}
+use Rattle.lay_formatting.specs.FormattingContexts.{formatting_context_at}
+use Rattle.lay_context.specs.DocumentLayout.{own_box_in}
+use Rattle.lay_context.proofs.GivenFacts.{inner_within, one_more_fits, one_more_of}
 use Rattle.lay_context.proofs.given.inner_boxes.Goals as goal
 
 pub own_box_in-requires : goal.own_box_in-requires
@@ -16,6 +17,6 @@ loop-k-preserved c =
     let within = rw (c.inner-numbers.ensures, c.at.ensures.context) at c.loop-k-test.true in
     let is = rw (c.inner-numbers.ensures, c.at.ensures.context) at c.own_box_in.ensures.value in
     record {
-      boxes = rw pushed (one_more_box c.args.known.now.places (context_at c.args.contexts.now c.args.i).inner c.loop-k.k c.loop-k.boxes.items c.own_box_in.result within c.loop-k.invariant.boxes is);
+      boxes = rw pushed (one_more_of (own_box_in c.args.known.now.places) (formatting_context_at c.args.contexts.now c.args.i).inner c.loop-k.k c.loop-k.boxes.items c.own_box_in.result within c.loop-k.invariant.boxes is);
       fit = rw pushed (one_more_fits c.loop-k.boxes.items c.own_box_in.result c.loop-k.invariant.fit c.own_box_in.ensures.fits);
     }

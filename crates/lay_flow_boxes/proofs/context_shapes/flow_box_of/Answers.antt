@@ -1,4 +1,4 @@
-use Rattle.std.proofs.Common.{◌≡◌, ◌∙◌, sym, arith, false}
+use Rattle.std.proofs.Common.{◌≡◌, ◌∙◌, sym, arith}
 use Rattle.lay_content.specs.BoxMeasuresValue.{BoxMeasuresValue}
 use Rattle.lay_flow_boxes.specs.ContextBlocks.{flow_box_of, is_in_lines}
 use Rattle.lay_flow_boxes.specs.FlowShapes.{measures_in}

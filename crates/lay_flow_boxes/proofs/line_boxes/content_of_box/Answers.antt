@@ -1,7 +1,4 @@
-use Rattle.std.proofs.Common.{◌≡◌, Some, IfSome, subst, ◌∙◌, refl}
-use Rattle.lay_lines.specs.LineContents.{LineContentValue}
-use Rattle.lay_content.specs.Contents.{content_in}
-use Rattle.lay_content.specs.BoxMeasuresValue.{BoxMeasuresValue}
+use Rattle.std.proofs.Common.{◌≡◌, ◌∙◌, refl}
 use Rattle.lay_items.specs.InlineSegments.{segments_in}
 use Rattle.lay_flow_boxes.specs.FlowShapes.{measures_in}
 use Rattle.lay_flow_boxes.proofs.line_boxes.content_of_box.Goals as goal

@@ -13,7 +13,7 @@ joined-requires c =
     let a = c.in_ok-cells.ensures.areas in
     let s = c.deref-3.ensures.value in
     let e = as_many_cells c.args.boxes.now c.args.rows.now c.in_ok-places.places.items c.in_ok-specs.specs.items c.in_ok-cells.cells.items
-        c.in_ok-places.ensures c.in_ok-specs.ensures.specs (a ∙ ap (areas_from 0) s) in
+    c.in_ok-places.ensures c.in_ok-specs.ensures.specs (a ∙ ap (areas_from 0) s) in
     ap length c.deref-4.ensures.value ∙ e ∙ sym (ap length c.deref-5.ensures.value)
 
 pub returns-clause-cover : goal.returns-clause-cover

@@ -1,0 +1,4 @@
+pub mod Laws
+pub mod MoveBounds
+pub mod Moves
+pub mod RelativeOffsets

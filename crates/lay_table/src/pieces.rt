@@ -1,0 +1,156 @@
+//! The pieces of a table.
+
+ghost use Rattle.std.specs.Prelude.{◌≡◌, ◌<◌, ◌≤◌, length, slice_index, IfOk};
+ghost use Rattle.lay_boxgen.specs.BoxColumns.{box_ids};
+ghost use Rattle.lay_context_boxes.specs.ContextBoxes.{is_inner};
+ghost use Rattle.lay_pieces.specs.NearPieces.{AreNearPieces};
+ghost use Rattle.lay_pieces.specs.PieceParts.{with_pieces};
+ghost use Rattle.lay_pieces.specs.Splicing.{border_box};
+ghost use Rattle.lay_pieces.specs.Standings.{IsStandingNear};
+ghost use Rattle.lay_sizes.specs.BoxSizes.{border_width};
+ghost use Rattle.lay_sizes.specs.SizeColumns.{sizes_at};
+ghost use Rattle.lay_table.specs.PlaceBounds.{AreStandings};
+ghost use Rattle.lay_table.specs.TablePieces.{columns_width, extent_by_kind, piece_of, pieces_by, pieces_of_box, pieces_to};
+ghost use Rattle.lay_table.specs.TableStandings.{standing_of};
+
+use crate::cells::{own_box_at, sizes_at};
+use crate::places::TablePlaces;
+use crate::table_input::TableInput;
+use crate::tracks::Tracks;
+use lay_boxgen::BoxKind;
+use lay_doc::NodeId;
+use lay_frag::{Frag, FragKind};
+use lay_pieces::{PieceList, Standing};
+use lay_sizes::border_width;
+use lay_units::{NoMemory, Rect, Unit};
+use std::alloc::Global;
+
+/// How wide the piece of a box of a table is.
+#[derive(Clone, Copy)]
+pub enum Extent {
+    /// As the box is sized.
+    Own,
+    /// As all columns are.
+    Columns,
+    /// It has no piece here.
+    Nothing,
+}
+
+/// How wide the piece of a box of this kind is.
+fn extent_by_kind(kind: &BoxKind) -> Extent
+    ensures { result ≡ extent_by_kind kind.now }
+{
+    match kind {
+        BoxKind::Wrapper | BoxKind::InlineWrapper | BoxKind::Table => Extent::Own,
+        BoxKind::RowGroup | BoxKind::HeaderGroup | BoxKind::FooterGroup | BoxKind::Row => {
+            Extent::Columns
+        }
+        _ => Extent::Nothing,
+    }
+}
+
+/// The pieces of a table whose boxes stand so, in order. NoMemory is also the answer where one stands more than 2^60 units away,
+/// which it does in no document within the limits, or there are more than 2^31.
+pub(crate) fn pieces_of(
+    alloc: Global,
+    input: &TableInput,
+    places: &TablePlaces,
+    standings: &[Standing],
+) -> Result<Vec<Frag>, NoMemory>
+    requires { AreStandings input.now places.now standings.now }
+    ensures pieces { IfOk result (λ v. v.items ≡ pieces_to input.now places.now (length input.now.boxes)) }
+    ensures near { IfOk result (λ v. AreNearPieces v.items) }
+    ensures few { IfOk result (λ v. length v.items ≤ 2147483648) }
+{
+    let mut pieces = PieceList::new(alloc);
+    for k in 0..input.boxes().len() {
+        pieces = with_box(pieces, input, places, standings, k)?;
+    }
+    Ok(pieces.into_vec())
+}
+
+/// These pieces, and behind them those of the box at k.
+fn with_box(
+    pieces: PieceList,
+    input: &TableInput,
+    places: &TablePlaces,
+    standings: &[Standing],
+    k: usize,
+) -> Result<PieceList, NoMemory>
+    requires standings { AreStandings input.now places.now standings.now }
+    requires place { k < length input.now.boxes }
+    ensures { IfOk result (λ p. p ≡ with_pieces pieces (pieces_of_box input.now places.now k)) }
+{
+    let standing = standing_at(input, places, standings, k);
+    if is_inner(input, k) {
+        let width = own_box_at(input, k).width;
+        return pieces.with_spliced(width, standing, input.pieces(k));
+    }
+    match extent_by_kind(&input.boxes()[k].kind) {
+        Extent::Own => pieces.with(piece_of(input, standing, k, own_width(input, k))),
+        Extent::Columns => {
+            let width = columns_width(&places.columns)?;
+            pieces.with(piece_of(input, standing, k, width))
+        }
+        Extent::Nothing => Ok(pieces),
+    }
+}
+
+/// Where the box at k stands.
+fn standing_at(
+    input: &TableInput,
+    places: &TablePlaces,
+    standings: &[Standing],
+    k: usize,
+) -> Standing
+    requires standings { AreStandings input.now places.now standings.now }
+    requires place { k < length input.now.boxes }
+    ensures value { result ≡ standing_of input.now places.now k }
+    ensures near { IsStandingNear result }
+{
+    let _ = input;
+    let _ = places;
+    standings[k]
+}
+
+/// Whether the box at k is that of an inner formatting context.
+fn is_inner(input: &TableInput, k: usize) -> bool
+    requires { k < length input.now.boxes }
+    ensures { result ≡ is_inner input.now.boxes k }
+{
+    input.boxes()[k].inner
+}
+
+/// The width of the border box at k as it is sized.
+fn own_width(input: &TableInput, k: usize) -> Unit
+    requires { k < length input.now.boxes }
+    ensures { result ≡ record { 0 = border_width (sizes_at input.now.sizes k) } }
+{
+    let _ = input.boxes();
+    border_width(&sizes_at(input.sizes(), k))
+}
+
+/// How far all columns reach.
+fn columns_width(columns: &Tracks) -> Result<Unit, NoMemory>
+    ensures { IfOk result (λ u. u ≡ columns_width columns.now) }
+{
+    columns.extent(0, columns.len())
+}
+
+/// The border box at k, which stands so and is so wide.
+fn piece_of(input: &TableInput, standing: Standing, k: usize, width: Unit) -> Frag
+    requires { k < length input.now.boxes }
+    ensures { result ≡ piece_of input.now.boxes standing k width }
+{
+    Frag {
+        kind: FragKind::Box,
+        node: input.boxes()[k].node,
+        part: 0,
+        rect: Rect {
+            x: standing.corner.x,
+            y: standing.corner.y,
+            w: width,
+            h: standing.height,
+        },
+    }
+}
