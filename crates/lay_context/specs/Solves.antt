@@ -26,11 +26,10 @@ use Rattle.lay_pieces.specs.declared.standing.Standing.{Standing}
 use Rattle.lay_pieces.specs.Corners.{corner_at}
 use Rattle.lay_pieces.specs.Placements.{Placement}
 use Rattle.lay_context.specs.declared.task.Task.{Task}
-use Rattle.lay_context.specs.DocumentLayout.{placement_in}
 use Rattle.lay_context.specs.Local.{HasCounts, IsTaskDone, Workings}
 use Rattle.lay_context.specs.Medium.{Medium}
-use Rattle.lay_context.specs.PageCorners.{HasPageCorners, root_corner_of, standing_of}
-use Rattle.lay_context.specs.Settings.{sizes_in}
+use Rattle.lay_context.specs.PageCorners.{HasPageCorners, standing_of}
+use Rattle.lay_context.specs.PlacedContexts.{PlacedContext, placed_in, placement_in}
 
 -- The border box of a formatting context whose corner on the page this is: as wide as it laid itself out, and as high as it stands
 -- outside, since a cell is stretched to its rows (17.5.3).
@@ -47,7 +46,7 @@ page_context boxes p standing corner = record {
 }
 
 -- that of the formatting context with the number i
-abbrev pub page_context_of : List FormattingContext → List Placement → List Corner → ℕ → PageContext
+abbrev pub page_context_of : List FormattingContext → List PlacedContext → List Corner → ℕ → PageContext
 page_context_of contexts places corners i =
     page_context (boxes_in contexts i) (placement_in places i) (standing_of contexts places i) (corner_at corners i)
 
@@ -57,16 +56,16 @@ listed true c = []
 listed false c = c ∷ []
 
 -- the contexts of the first n
-abbrev pub page_contexts : List FormattingContext → List Placement → List Corner → (n : ℕ) → List PageContext
+abbrev pub page_contexts : List FormattingContext → List PlacedContext → List Corner → (n : ℕ) → List PageContext
 page_contexts contexts places corners zero = []
 page_contexts contexts places corners (suc n) =
     page_contexts contexts places corners n
     ++ listed (formatting_context_at contexts n).anonymous (page_context_of contexts places corners n)
 
 -- the tree is put together of these values, each where it stands on the page
-pub record IsAssembled (viewport : ContainingBlock) (contexts : List FormattingContext) (w : Workings) (tree : List PageContext) : Type 0 where
+pub record IsAssembled (contexts : List FormattingContext) (w : Workings) (tree : List PageContext) : Type 0 where
   pub corners : List Corner
-  pub has_corners : HasPageCorners (root_corner_of viewport contexts (sizes_in w.sizes 0).boxes) contexts w.places corners
+  pub has_corners : HasPageCorners (placed_in w.places 0).offset contexts w.places corners
   pub tree_is : tree ≡ page_contexts contexts w.places corners (length contexts)
 
 -- the tree of these formatting contexts, on a medium, has the rectangles of workings that meet their equations
@@ -74,7 +73,7 @@ pub record SolvesContexts (medium : Medium) (contexts : List FormattingContext) 
   pub workings : Workings
   pub counts : HasCounts contexts workings
   pub done : (task : Task) → task.context < length contexts → IsTaskDone medium contexts workings task
-  pub assembled : IsAssembled medium.viewport contexts workings tree
+  pub assembled : IsAssembled contexts workings tree
 
 -- the viewport as the root's containing block (10.1)
 abbrev pub viewport_of : Document → ContainingBlock

@@ -108,7 +108,7 @@ fn setting_beside(rect: Rect, anchor: Corner) -> AbsoluteSetting
 }
 
 /// The containing block as other rules take one.
-pub(crate) fn block_in(setting: &AbsoluteSetting) -> ContainingBlock
+pub fn block_in(setting: &AbsoluteSetting) -> ContainingBlock
     ensures { result ≡ block_in setting.now }
 {
     ContainingBlock {

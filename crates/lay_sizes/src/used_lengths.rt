@@ -37,15 +37,22 @@ pub fn edges_of(containing: Unit, style: &Style) -> Sides
     ensures insets { AreInsets result }
 {
     Sides {
-        top: edge_of(containing, style.border.width.top, style.padding.top),
-        right: edge_of(containing, style.border.width.right, style.padding.right),
-        bottom: edge_of(containing, style.border.width.bottom, style.padding.bottom),
-        left: edge_of(containing, style.border.width.left, style.padding.left),
+        top: inset_of(containing, style.border.width.top, style.padding.top),
+        right: inset_of(containing, style.border.width.right, style.padding.right),
+        bottom: inset_of(containing, style.border.width.bottom, style.padding.bottom),
+        left: inset_of(containing, style.border.width.left, style.padding.left),
     }
 }
 
 /// A border and a padding together, for the width of the containing block, from 0.
 pub fn edge_of(containing: Unit, border: Unit, padding: LengthPercentage) -> Unit
+    ensures { result ≡ edge_of containing border padding }
+{
+    inset_of(containing, border, padding)
+}
+
+/// The same, with its bounds.
+fn inset_of(containing: Unit, border: Unit, padding: LengthPercentage) -> Unit
     ensures value { result ≡ edge_of containing border padding }
     ensures inset { IsInset result.0 }
 {
