@@ -27,6 +27,11 @@ use Rattle.lay_context.specs.declared.setting.Setting.TheVariants.{Absolute, Blo
 abbrev pub caption_block : BoxSizes → ContainingBlock
 caption_block wrapper = record { width = wrapper.widths.width; height = auto }
 
+-- what the cell with the box at k is given, where that is a box of a table
+abbrev pub cell_given : Option TableSizesValue → ℕ → Option CellSize
+cell_given None k = None
+cell_given (Some table) k = cell_at table k
+
 -- the setting of a box in a table, where this is what a cell is given
 abbrev pub setting_in_table : List BoxSizes → TableSizesValue → Option CellSize → Setting
 setting_in_table sizes table (Some cell) = Cell (content_block (sizes_at sizes table.grid.table)) cell
@@ -43,6 +48,13 @@ setting_in boxes sized k = setting_as boxes sized.boxes sized.table k
 -- the sizes of the formatting context with this number
 abbrev pub sizes_in : List SizedContext → ℕ → SizedContext
 sizes_in sizes i = slice_index_or sizes i not_sized
+
+-- what the formatting context with this number is given as a cell
+abbrev pub cell_of : List FormattingContext → List SizedContext → ℕ → Option CellSize
+cell_of contexts sizes zero = None
+cell_of contexts sizes (suc i) =
+    let c = formatting_context_at contexts (suc i) in
+    cell_given (sizes_in sizes c.outer).table c.outer_box
 
 -- the setting of the own box of the formatting context with this number, in flow or floating; that of the root's is the viewport
 abbrev pub flow_setting : ContainingBlock → List FormattingContext → List SizedContext → ℕ → Setting

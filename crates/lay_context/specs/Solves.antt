@@ -5,22 +5,24 @@
 -- that the one around gives (10.1 to 10.5, 17.5.2), the placement of each beside those inside it (8.3.1, 9.4, 9.5, 10.6, 17.5.3),
 -- and where they stand on the page. `Local` says of each value what it is right beside. A document whose root generates no box has
 -- the tree without contexts.
-use Rattle.std.specs.Prelude.{ℕ, zero, suc, ◌≡◌, ◌<◌, Bool, true, false, List, [], ◌∷◌, ◌++◌, length, slice_index}
+use Rattle.std.specs.Prelude.{ℕ, zero, suc, ◌≡◌, ◌<◌, Bool, true, false, List, [], ◌∷◌, ◌++◌, length, slice_index, Option, None, Some}
+use Rattle.lay_units.specs.declared.length.Unit.{Unit as Length}
 use Rattle.lay_units.specs.declared.records.Len.TheVariants.{Of as of}
 use Rattle.lay_units.specs.declared.records.Rect.{Rect}
 use Rattle.lay_style.specs.declared.style.Style.{Style}
 use Rattle.lay_style.specs.LengthValues.{px}
 use Rattle.lay_style.specs.ComputedStyle.{HasStyles}
 use Rattle.lay_doc.specs.Document.{Document, parents_of, declarations_of}
-use Rattle.lay_boxgen.specs.declared.box_tree.BoxNode.{BoxNode}
 use Rattle.lay_boxgen.specs.BoxColumns.{box_ids}
 use Rattle.lay_face.specs.FaceValue.{FaceValue}
 use Rattle.lay_frag.specs.Pieces.{Context as PageContext}
+use Rattle.lay_sizes.specs.declared.own_boxes.OwnBox.{OwnBox}
 use Rattle.lay_sizes.specs.declared.sizing.ContainingBlock.{ContainingBlock}
 use Rattle.lay_contexts.specs.Contexts.{Context}
 use Rattle.lay_contexts.specs.ContextList.{AreContextsOf}
 use Rattle.lay_formatting.specs.FormattingContexts.{FormattingContext, boxes_in, formatting_context_at}
 use Rattle.lay_formatting.specs.FormattingContextList.{AreFormattingContextsOf}
+use Rattle.lay_table_sizes.specs.declared.cell_size.CellSize.{CellSize}
 use Rattle.lay_pieces.specs.declared.corner.Corner.{Corner}
 use Rattle.lay_pieces.specs.declared.standing.Standing.{Standing}
 use Rattle.lay_pieces.specs.Corners.{corner_at}
@@ -30,25 +32,32 @@ use Rattle.lay_context.specs.Local.{HasCounts, IsTaskDone, Workings}
 use Rattle.lay_context.specs.Medium.{Medium}
 use Rattle.lay_context.specs.PageCorners.{HasPageCorners, standing_of}
 use Rattle.lay_context.specs.PlacedContexts.{PlacedContext, placed_in, placement_in}
+use Rattle.lay_context.specs.Settings.{cell_of}
 
--- The border box of a formatting context whose corner on the page this is: as wide as it laid itself out, and as high as it stands
--- outside, since a cell is stretched to its rows (17.5.3).
-abbrev pub page_rect : Placement → Standing → Corner → Rect
-page_rect p standing corner = record { x = corner.x; y = corner.y; w = p.own.width; h = standing.height }
+-- A cell is as wide as its columns, also where these are narrower than its borders and paddings (17.5.2.1). Others are as wide as
+-- they laid themselves out.
+abbrev pub page_width : Option CellSize → OwnBox → Length
+page_width None own = own.width
+page_width (Some cell) own = cell.width
 
--- a context of a tree: its own border box on the page, how far what is in it is moved down, and its pieces
-abbrev pub page_context : List BoxNode → Placement → Standing → Corner → PageContext
-page_context boxes p standing corner = record {
-  node = record { 0 = slice_index (box_ids boxes) 0 };
-  rect = page_rect p standing corner;
-  shift = standing.shift;
-  pieces = p.pieces;
+-- the border box of the formatting context with the number i on the page, as high as it stands outside, since a cell is stretched to
+-- its rows (17.5.3)
+abbrev pub page_rect : List FormattingContext → Workings → List Corner → ℕ → Rect
+page_rect contexts w corners i = record {
+  x = (corner_at corners i).x;
+  y = (corner_at corners i).y;
+  w = page_width (cell_of contexts w.sizes i) (placement_in w.places i).own;
+  h = (standing_of contexts w.places i).height;
 }
 
--- that of the formatting context with the number i
-abbrev pub page_context_of : List FormattingContext → List PlacedContext → List Corner → ℕ → PageContext
-page_context_of contexts places corners i =
-    page_context (boxes_in contexts i) (placement_in places i) (standing_of contexts places i) (corner_at corners i)
+-- it as a context of a tree: its node, that border box, how far what is in it is moved down, and its pieces
+abbrev pub page_context : List FormattingContext → Workings → List Corner → ℕ → PageContext
+page_context contexts w corners i = record {
+  node = record { 0 = slice_index (box_ids (boxes_in contexts i)) 0 };
+  rect = page_rect contexts w corners i;
+  shift = (standing_of contexts w.places i).shift;
+  pieces = (placement_in w.places i).pieces;
+}
 
 -- an anonymous formatting context is none of a tree, since the one around paints it
 abbrev pub listed : (is_anonymous : Bool) → PageContext → List PageContext
@@ -56,17 +65,17 @@ listed true c = []
 listed false c = c ∷ []
 
 -- the contexts of the first n
-abbrev pub page_contexts : List FormattingContext → List PlacedContext → List Corner → (n : ℕ) → List PageContext
-page_contexts contexts places corners zero = []
-page_contexts contexts places corners (suc n) =
-    page_contexts contexts places corners n
-    ++ listed (formatting_context_at contexts n).anonymous (page_context_of contexts places corners n)
+abbrev pub page_contexts : List FormattingContext → Workings → List Corner → (n : ℕ) → List PageContext
+page_contexts contexts w corners zero = []
+page_contexts contexts w corners (suc n) =
+    page_contexts contexts w corners n
+    ++ listed (formatting_context_at contexts n).anonymous (page_context contexts w corners n)
 
 -- the tree is put together of these values, each where it stands on the page
 pub record IsAssembled (contexts : List FormattingContext) (w : Workings) (tree : List PageContext) : Type 0 where
   pub corners : List Corner
   pub has_corners : HasPageCorners (placed_in w.places 0).offset contexts w.places corners
-  pub tree_is : tree ≡ page_contexts contexts w.places corners (length contexts)
+  pub tree_is : tree ≡ page_contexts contexts w corners (length contexts)
 
 -- the tree of these formatting contexts, on a medium, has the rectangles of workings that meet their equations
 pub record SolvesContexts (medium : Medium) (contexts : List FormattingContext) (tree : List PageContext) : Type 0 where

@@ -1,20 +1,24 @@
 //! The tree of a document, put together of the values of its formatting contexts.
 
-ghost use Rattle.std.specs.Prelude.{◌≡◌, ◌+◌, ◌^◌, ◌<◌, ◌≤◌, length, IfOk, OnOk};
+ghost use Rattle.std.specs.Prelude.{◌≡◌, ◌+◌, ◌^◌, ◌<◌, ◌≤◌, length, IfOk};
 ghost use Rattle.lay_frag.specs.Pieces.{IsContextInRange};
-ghost use Rattle.lay_formatting.specs.FormattingContexts.{boxes_in};
-ghost use Rattle.lay_pieces.specs.Corners.{AreNearCorners, IsCornerNear, corner_at};
-ghost use Rattle.lay_pieces.specs.Standings.{IsStandingNear};
+ghost use Rattle.lay_frag.specs.Pieces.{IsContextInRange};
+ghost use Rattle.lay_sizes.specs.OwnBoxes.{OwnBoxFits};
+ghost use Rattle.lay_table_sizes.specs.TableSizesValue.{MayFit};
+ghost use Rattle.lay_pieces.specs.Corners.{AreNearCorners, IsNear};
+ghost use Rattle.lay_pieces.specs.NearPieces.{IsRectNear};
 ghost use Rattle.lay_context.specs.Settling.{AreKnown};
-ghost use Rattle.lay_context.specs.Solves.{IsAssembled, page_context, page_context_of, page_contexts, page_rect};
+ghost use Rattle.lay_context.specs.Solves.{IsAssembled, page_context, page_contexts, page_rect, page_width};
 
 use crate::known::Known;
 use crate::page_corners::{corner_at, page_corners, standing_of};
-use lay_boxgen::BoxNode;
+use crate::settings::cell_of;
 use lay_formatting::FormattingContexts;
 use lay_frag::{Placed, Tree};
-use lay_pieces::{Corner, Placement, Standing};
-use lay_units::{NoMemory, Rect};
+use lay_pieces::Corner;
+use lay_sizes::OwnBox;
+use lay_table_sizes::CellSize;
+use lay_units::{NoMemory, Rect, Unit};
 use std::alloc::Global;
 
 /// More pieces than a report can number.
@@ -44,14 +48,14 @@ fn tree_of(
     requires known { AreKnown contexts.now known.now }
     requires corners { length corners.now ≡ length contexts.now }
     requires near { AreNearCorners corners.now }
-    ensures { IfOk result (λ t. t ≡ page_contexts contexts.now known.now.places corners.now (length contexts.now)) }
+    ensures { IfOk result (λ t. t ≡ page_contexts contexts.now known.now corners.now (length contexts.now)) }
 {
     let count = contexts.len();
     let mut tree = Vec::with_capacity(alloc, count)?;
     let mut pieces = 0;
     for i in 0..count {
         if !contexts.at(i).is_anonymous() {
-            let context = page_context_of(contexts, known, corners, i)?;
+            let context = page_context(contexts, known, corners, i)?;
             pieces = with_few(pieces, &context)?;
             tree.push(context)?;
         }
@@ -74,7 +78,7 @@ fn with_few(before: usize, context: &Placed) -> Result<usize, NoMemory>
 }
 
 /// The formatting context with this number on the page.
-fn page_context_of(
+fn page_context(
     contexts: &FormattingContexts,
     known: &Known,
     corners: &[Corner],
@@ -84,42 +88,50 @@ fn page_context_of(
     requires within { i < length contexts.now }
     requires corners { length corners.now ≡ length contexts.now }
     requires near { AreNearCorners corners.now }
-    ensures value { IfOk result (λ c. c ≡ page_context_of contexts.now known.now.places corners.now i) }
+    ensures value { IfOk result (λ c. c ≡ page_context contexts.now known.now corners.now i) }
     ensures range { IfOk result IsContextInRange }
     ensures few { IfOk result (λ c. length c.pieces ≤ 2147483648) }
 {
+    let rect = page_rect(contexts, known, corners, i);
+    let shift = standing_of(contexts, known, i).shift;
+    let pieces = known.placement(i).pieces()?;
     let boxes = contexts.at(i).boxes().as_slice();
-    let standing = standing_of(contexts, known, i);
-    page_context(boxes, known.placement(i), standing, corner_at(corners, i))
+    Ok(Placed::new(boxes[0].node, rect, shift, pieces))
 }
 
-/// A formatting context on the page, whose border box has this corner.
-fn page_context(
-    boxes: &[BoxNode],
-    placement: &Placement,
-    standing: Standing,
-    corner: Corner,
-) -> Result<Placed, NoMemory>
-    requires some { 0 < length boxes.now }
-    requires standing { IsStandingNear standing }
-    requires near { IsCornerNear corner }
-    ensures value { IfOk result (λ c. c ≡ page_context boxes.now placement.now standing corner) }
-    ensures range { IfOk result IsContextInRange }
-    ensures few { IfOk result (λ c. length c.pieces ≤ 2147483648) }
+/// The border box of the formatting context with this number on the page.
+fn page_rect(
+    contexts: &FormattingContexts,
+    known: &Known,
+    corners: &[Corner],
+    i: usize,
+) -> Rect
+    requires known { AreKnown contexts.now known.now }
+    requires within { i < length contexts.now }
+    requires corners { length corners.now ≡ length contexts.now }
+    requires near { AreNearCorners corners.now }
+    ensures rect { result ≡ page_rect contexts.now known.now corners.now i }
+    ensures near { IsRectNear result }
 {
-    let rect = page_rect(placement, standing, corner);
-    let pieces = placement.pieces()?;
-    Ok(Placed::new(boxes[0].node, rect, standing.shift, pieces))
-}
-
-/// The border box of a formatting context on the page.
-fn page_rect(placement: &Placement, standing: Standing, corner: Corner) -> Rect
-    ensures { result ≡ page_rect placement.now standing corner }
-{
+    let corner = corner_at(corners, i);
+    let own = known.placement(i).own();
     Rect {
         x: corner.x,
         y: corner.y,
-        w: placement.own().width,
-        h: standing.height,
+        w: page_width(cell_of(contexts, known, i), own),
+        h: standing_of(contexts, known, i).height,
+    }
+}
+
+/// A cell is as wide as its columns.
+fn page_width(cell: Option<CellSize>, own: OwnBox) -> Unit
+    requires cell { MayFit cell }
+    requires own { OwnBoxFits own }
+    ensures width { result ≡ page_width cell own }
+    ensures near { IsNear result.0 }
+{
+    match cell {
+        Some(cell) => cell.width,
+        None => own.width,
     }
 }

@@ -10,7 +10,8 @@ ghost use Rattle.lay_positioned.specs.ViewportBounds.{ViewportFits};
 ghost use Rattle.lay_context.specs.Inputs.{OwnSettingFits};
 ghost use Rattle.lay_context.specs.Local.{HasCounts};
 ghost use Rattle.lay_context.specs.StandInputs.{PositionFits};
-ghost use Rattle.lay_context.specs.Settings.{caption_block, flow_setting, laid, position_of, setting_as, setting_in_table, setting_of};
+ghost use Rattle.lay_context.specs.Settings.{caption_block, cell_given, cell_of, flow_setting, laid, position_of, setting_as, setting_in_table, setting_of};
+ghost use Rattle.lay_table_sizes.specs.TableSizesValue.{MayFit};
 ghost use Rattle.lay_context.specs.Settling.{IsReady};
 ghost use Rattle.lay_context.specs.declared.task.Phase.TheVariants.{Size};
 
@@ -102,6 +103,35 @@ fn flow_setting(
     let boxes = contexts.at(context.outer()).boxes();
     let sized = known.sizes(context.outer());
     setting_as(boxes, sized.boxes().as_slice(), sized.table(), context.outer_box())
+}
+
+/// What the formatting context with this number is given as a cell.
+pub(crate) fn cell_of(
+    contexts: &FormattingContexts,
+    known: &Known,
+    i: usize,
+) -> Option<CellSize>
+    requires within { i < length contexts.now }
+    requires sizes { length known.now.sizes ≡ length contexts.now }
+    ensures cell { result ≡ cell_of contexts.now known.now.sizes i }
+    ensures fits { MayFit result }
+{
+    let context = contexts.at(i);
+    if i == 0 {
+        return None;
+    }
+    cell_given(known.sizes(context.outer()).table(), context.outer_box())
+}
+
+/// What the cell with the box at k is given, where that is a box of a table.
+fn cell_given(table: &Option<TableSizes>, k: usize) -> Option<CellSize>
+    ensures cell { result ≡ cell_given table.now k }
+    ensures fits { MayFit result }
+{
+    match table {
+        Some(table) => table.cell(k),
+        None => None,
+    }
 }
 
 /// The setting of the box at k among these, which have these sizes.

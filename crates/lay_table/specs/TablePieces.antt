@@ -1,7 +1,7 @@
 -- The pieces of a table, counted from the corner of its wrapper's border box: in the order of the boxes those of the wrapper, of the table
 -- box, and of row groups and rows (CSS 2.2, 17.2 and 17.4). Captions and cells are formatting contexts of their own, and the
 -- pieces of anonymous cells stand where their boxes do. Columns and column groups hold nothing, and have no piece.
-use Rattle.std.specs.Prelude.{ℕ, zero, suc, List, [], ◌∷◌, length, slice_index, if◌then◌else◌}
+use Rattle.std.specs.Prelude.{ℕ, zero, suc, List, [], ◌∷◌, length, slice_index, Option, None, Some, if◌then◌else◌}
 use Rattle.lay_units.specs.declared.length.Unit.{Unit as Length}
 use Rattle.lay_boxgen.specs.declared.box_tree.BoxKind.{BoxKind}
 use Rattle.lay_boxgen.specs.declared.box_tree.BoxKind.TheVariants as kind
@@ -16,8 +16,11 @@ use Rattle.lay_pieces.specs.PieceParts.{with_pieces}
 use Rattle.lay_pieces.specs.Splicing.{border_box, spliced}
 use Rattle.lay_sizes.specs.BoxSizes.{border_width}
 use Rattle.lay_sizes.specs.OwnBoxes.{own_box_at}
+use Rattle.lay_sizes.specs.declared.own_boxes.OwnBox.{OwnBox}
 use Rattle.lay_sizes.specs.SizeColumns.{sizes_at}
 use Rattle.lay_table_grid.specs.TableBoxes.{kind_at}
+use Rattle.lay_table_sizes.specs.TableSizesValue.{cell_at}
+use Rattle.lay_table_sizes.specs.declared.cell_size.CellSize.{CellSize}
 use Rattle.lay_table.specs.declared.pieces.Extent.{Extent}
 use Rattle.lay_table.specs.declared.pieces.Extent.TheVariants.{Own, Columns, Nothing}
 use Rattle.lay_table.specs.TableInputs.{TableInput}
@@ -53,10 +56,19 @@ pieces_by i p k Own = piece_of i.boxes (standing_of i p k) k (record { 0 = borde
 pieces_by i p k Columns = piece_of i.boxes (standing_of i p k) k (columns_width p.columns) ∷ []
 pieces_by i p k Nothing = []
 
+-- How wide the border box at k of an inner formatting context is: a cell's as its columns are, also where these are narrower than
+-- its borders and paddings (17.5.2.1).
+abbrev pub width_of_cell : Option CellSize → OwnBox → Length
+width_of_cell None o = o.width
+width_of_cell (Some cell) o = cell.width
+
+abbrev pub inner_width : TableInput → ℕ → Length
+inner_width i k = width_of_cell (cell_at i.table k) (own_box_at i.inner k)
+
 -- the pieces of the box at k
 abbrev pub pieces_of_box : TableInput → TablePlaces → ℕ → List Frag
 pieces_of_box i p k =
-    if is_inner i.boxes k then spliced (own_box_at i.inner k).width (standing_of i p k) (inner_pieces_at i.pieces k)
+    if is_inner i.boxes k then spliced (inner_width i k) (standing_of i p k) (inner_pieces_at i.pieces k)
     else pieces_by i p k (extent_by_kind (kind_at i.boxes k))
 
 -- the pieces of the first n boxes, each with its part

@@ -10,7 +10,7 @@ ghost use Rattle.lay_pieces.specs.Standings.{IsStandingNear};
 ghost use Rattle.lay_sizes.specs.BoxSizes.{border_width};
 ghost use Rattle.lay_sizes.specs.SizeColumns.{sizes_at};
 ghost use Rattle.lay_table.specs.PlaceBounds.{AreStandings};
-ghost use Rattle.lay_table.specs.TablePieces.{columns_width, extent_by_kind, piece_of, pieces_by, pieces_of_box, pieces_to};
+ghost use Rattle.lay_table.specs.TablePieces.{columns_width, extent_by_kind, inner_width, piece_of, pieces_by, pieces_of_box, pieces_to};
 ghost use Rattle.lay_table.specs.TableStandings.{standing_of};
 
 use crate::cells::{own_box_at, sizes_at};
@@ -83,8 +83,7 @@ fn with_box(
 {
     let standing = standing_at(input, places, standings, k);
     if is_inner(input, k) {
-        let width = own_box_at(input, k).width;
-        return pieces.with_spliced(width, standing, input.pieces(k));
+        return pieces.with_spliced(inner_width(input, k), standing, input.pieces(k));
     }
     match extent_by_kind(&input.boxes()[k].kind) {
         Extent::Own => pieces.with(piece_of(input, standing, k, own_width(input, k))),
@@ -119,6 +118,17 @@ fn is_inner(input: &TableInput, k: usize) -> bool
     ensures { result ≡ is_inner input.now.boxes k }
 {
     input.boxes()[k].inner
+}
+
+/// The width of the border box at k, which is that of an inner formatting context.
+fn inner_width(input: &TableInput, k: usize) -> Unit
+    requires { k < length input.now.boxes }
+    ensures { result ≡ inner_width input.now k }
+{
+    match input.table().cell(k) {
+        Some(cell) => cell.width,
+        None => own_box_at(input, k).width,
+    }
 }
 
 /// The width of the border box at k as it is sized.

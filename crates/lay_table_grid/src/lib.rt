@@ -29,3 +29,4 @@ mod widest;
 pub use assembly::table_grid;
 pub use grid::{Spacing, TableCell, TableGrid, TableRow};
 pub use laws::{grids_are_of_boxes, one_table_grid};
+pub use rows::{footer_place, header_place};
