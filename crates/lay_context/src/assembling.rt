@@ -2,7 +2,6 @@
 
 ghost use Rattle.std.specs.Prelude.{◌≡◌, ◌+◌, ◌^◌, ◌<◌, ◌≤◌, length, IfOk};
 ghost use Rattle.lay_frag.specs.Pieces.{IsContextInRange};
-ghost use Rattle.lay_frag.specs.Pieces.{IsContextInRange};
 ghost use Rattle.lay_sizes.specs.OwnBoxes.{OwnBoxFits};
 ghost use Rattle.lay_table_sizes.specs.TableSizesValue.{MayFit};
 ghost use Rattle.lay_pieces.specs.Corners.{AreNearCorners, IsNear};

@@ -6,7 +6,7 @@ use Rattle.lay_units.specs.declared.length.Unit.{Unit as Length}
 use Rattle.lay_boxgen.specs.declared.box_tree.BoxNode.{BoxNode}
 use Rattle.lay_measure.specs.MeasureInValue.{no_length}
 use Rattle.lay_measure.specs.declared.preferred_widths.PreferredWidths.{PreferredWidths}
-use Rattle.lay_grid.specs.Columns.{AreOwn}
+use Rattle.lay_grid.specs.Columns.{AreColumns, AreOwn}
 use Rattle.lay_grid.specs.Shares.{own_at}
 use Rattle.lay_table_grid.specs.TableGrid.{TableGridValue}
 use Rattle.lay_table_sizes.specs.ColumnWidths.{columns_in, element_widths, width_by_place}
@@ -50,3 +50,7 @@ all_columns boxes inner g owns contents widths are count each all = record {
   count = all.count ∙ count;
   each = λ i lt. all.each i (omega (arith, count, lt)) ∙ ap (own_or (own_at owns i)) (each i lt);
 }
+
+-- each column has a width
+pub columns_count : (table : Option Length) (boxes : List BoxNode) (g : TableGridValue) (wanted : Length) (widths : List Length) → AreColumns (columns_in table boxes g wanted) widths → length widths ≡ g.columns
+columns_count table boxes g wanted widths are = are.shared.as_many ∙ are.own.as_many ∙ element_widths_count table boxes g.column_boxes g.columns

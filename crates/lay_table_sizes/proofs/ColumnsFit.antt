@@ -134,12 +134,12 @@ columns_fit table boxes g wanted fits few is =
       given = all_positions (element_widths table boxes g.column_boxes g.columns) given;
       first = λ k d lt. subst (λ (n : ℕ). CellFits n (slice_index_or (first_cells table boxes g.cells) k d)) (sym counted) (first k d lt).fits;
       width = (omega (arith, ints, is.0), omega (arith, ints, is.1));
-      spacing = (omega (arith, ints, fits.across.0), omega (arith, ints, fits.across.1));
+      spacing = (omega (arith, ints, fits.spacing.across.0), omega (arith, ints, fits.spacing.across.1));
       widths = λ widths are. widths_are_positions g.columns widths few (subst (λ (n : ℕ). AreUpTo (most * (n + 1)) widths) counted
           (widths_are_within_lem (columns_in table boxes g wanted) most widths (record {
             given = given;
             first = λ k d lt. (first k d lt).up_to;
             width = omega (arith, ints, is.1);
-            spacing = fits.across.0;
+            spacing = fits.spacing.across.0;
           }) are));
     }

@@ -1,5 +1,5 @@
 -- Used sizes of boxes that are within their bounds, box by box.
-use Rattle.std.proofs.Common.{◌≡◌, ℕ, zero, suc, ◌+◌, ◌<◌, ◌==◌, pos, true, List, [], ◌∷◌, ◌++◌, length, length-append, drop, slice_get, Some, ◌+ℤ◌, ◌-ℤ◌, append_assoc, arith, inl, inr, refl, sym, ◌∙◌}
+use Rattle.std.proofs.Common.{◌≡◌, ℕ, zero, suc, ◌+◌, ◌<◌, ◌==◌, pos, true, List, [], ◌∷◌, ◌++◌, length, length-append, drop, slice_get, Some, ◌+ℤ◌, ◌-ℤ◌, append_assoc, arith, inl, inr, refl, ap, sym, ◌∙◌}
 use Rattle.std.specs.List.{All}
 use Rattle.std.proofs.lemmas.Bool.{cases_lt}
 use Rattle.std.proofs.lemmas.List.Elements.{All-append, All-cons, All-nil}
@@ -83,3 +83,7 @@ IsUsedWidth width = IsUsedSize width.0
 
 pub used_step : (used : List Length) (w : Length) → All IsUsedWidth used → IsUsedSize w.0 → All IsUsedWidth (used ++ w ∷ [])
 used_step used w so_far is = All-append IsUsedWidth used (w ∷ []) so_far (All-cons IsUsedWidth w [] is (All-nil IsUsedWidth))
+
+pub held_count : (widths : List Length) → length (held widths) ≡ length widths
+held_count [] = refl
+held_count (w ∷ widths) = ap suc (held_count widths)

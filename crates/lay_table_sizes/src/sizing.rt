@@ -88,7 +88,8 @@ fn table_widths(
     requires places { PlacesAreBelow (length boxes.now) grid.now }
     requires few { grid.now.columns ≤ most_columns }
     requires containing { IsPosition containing.0 }
-    ensures { IfOk result (λ w. AreTableWidths containing rule boxes.now grid.now w.wanted w.columns) }
+    ensures widths { IfOk result (λ w. AreTableWidths containing rule boxes.now grid.now w.wanted w.columns) }
+    ensures count { IfOk result (λ w. length w.columns ≡ grid.now.columns) }
 {
     let wrapper = style_of_box(boxes, 0);
     let style = style_of_box(boxes, grid.table());
@@ -185,6 +186,7 @@ fn sizes_of_box(place: usize, wrapper: BoxSizes, table: BoxSizes, k: usize) -> B
 /// Used widths of columns.
 fn held(alloc: Global, widths: &[Unit]) -> Result<Vec<Unit>, NoMemory>
     ensures value { IfOk result (λ v. v.items ≡ held widths.now) }
+    ensures count { IfOk result (λ v. length v.items ≡ length widths.now) }
     ensures sizes { IfOk result (λ v. All (λ (width : Length). IsUsedSize width.0) v.items) }
 {
     let mut used = Vec::with_capacity(alloc, widths.len())?;
