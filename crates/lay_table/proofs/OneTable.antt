@@ -20,16 +20,8 @@ use Rattle.lay_table.specs.TableRows.{AreTracks, HasRows, HaveCellSizes, TableRo
 use Rattle.lay_table.specs.TableStandings.{HasTablePlaces, TablePlaces, content_corner}
 use Rattle.lay_table.specs.Tracks.{Tracks}
 use Rattle.lay_table.specs.WrapperFlow.{boxes_in_wrapper}
+use Rattle.lay_table.proofs.ColumnSteps.{same_list}
 use Rattle.lay_table.proofs.WrapperBoxes.{is_wrapper_tree}
-
-same_list : {X : Type 0} (d : X) (xs ys : List X) → length xs ≡ length ys → ((k : ℕ) → k < length xs → get_or xs k d ≡ get_or ys k d) → xs ≡ ys
-same_list d [] [] e same = refl
-same_list d [] (y ∷ ys) e same = absurd (omega arith)
-same_list d (x ∷ xs) [] e same = absurd (omega arith)
-same_list d (x ∷ xs) (y ∷ ys) e same =
-    let head : x ≡ y = same 0 (omega arith) in
-    let tail : xs ≡ ys = same_list d xs ys (omega arith) (λ k lt. same (suc k) (omega arith)) in
-    rw (head, tail) refl
 
 one_cell_list : (i : TableInput) (x y : List BoxSizes) → HaveCellSizes i x → HaveCellSizes i y → x ≡ y
 one_cell_list i x y a b =

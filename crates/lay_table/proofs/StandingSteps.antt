@@ -9,6 +9,7 @@ use Rattle.lay_table.specs.PlaceBounds.{AreStandings}
 use Rattle.lay_table.specs.TableInputs.{TableInput}
 use Rattle.lay_table.specs.TablePlacements.{standings_to}
 use Rattle.lay_table.specs.TableStandings.{TablePlaces, number_in, standing_by, standing_of}
+use Rattle.lay_table.proofs.ColumnSteps.{same_list}
 
 -- one more of them
 pub one_more : (places : List ℕ) (f : ℕ → Standing) (k n : ℕ) (old s : Standing) → s ≡ f n
@@ -32,16 +33,7 @@ each_to i p (suc n) k less = elim (cases_lt k n) [
         subst (λ (j : ℕ). standing_at (standings_to i p (suc n)) j ≡ standing_of i p k) (count_to i p n ∙ sym q) (get_or-append_seam (standings_to i p n) (standing_of i p n) [] no_standing ∙ ap (standing_of i p) (sym q)))
 ]
 
-same_list : (xs ys : List Standing) → length xs ≡ length ys → ((k : ℕ) → k < length xs → standing_at xs k ≡ standing_at ys k) → xs ≡ ys
-same_list [] [] e same = refl
-same_list [] (y ∷ ys) e same = absurd (omega (arith, e))
-same_list (x ∷ xs) [] e same = absurd (omega (arith, e))
-same_list (x ∷ xs) (y ∷ ys) e same =
-    let head : x ≡ y = same 0 (omega arith) in
-    let tail : xs ≡ ys = same_list xs ys (omega (arith, e)) (λ k less. same (suc k) (omega (arith, less))) in
-    rw (head, tail) refl
-
 pub are_all : (i : TableInput) (p : TablePlaces) (standings : List Standing) → AreStandings i p standings → standings ≡ standings_to i p (length i.boxes)
 are_all i p standings are =
-    same_list standings (standings_to i p (length i.boxes)) (are.count ∙ sym (count_to i p (length i.boxes)))
+    same_list no_standing standings (standings_to i p (length i.boxes)) (are.count ∙ sym (count_to i p (length i.boxes)))
     (λ k less. (let within : k < length i.boxes = omega (arith, less, are.count) in are.each k within ∙ sym (each_to i p (length i.boxes) k within)))

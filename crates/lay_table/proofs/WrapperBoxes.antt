@@ -1,5 +1,5 @@
 -- The boxes of a wrapper's context are boxes of a block formatting context.
-use Rattle.std.proofs.Common.{◌≡◌, ℕ, zero, suc, ◌+◌, ◌<◌, ◌≤◌, ℤ, pos, ◌+ℤ◌, Bool, true, false, List, [], ◌∷◌, ◌++◌, length, slice_index, map, get_or, refl, sym, ap, ◌∙◌, subst, arith}
+use Rattle.std.proofs.Common.{◌≡◌, ℕ, zero, suc, ◌+◌, ◌<◌, ◌≤◌, ℤ, pos, ◌+ℤ◌, Bool, true, false, List, [], ◌∷◌, ◌++◌, length, length-append, slice_index, map, take, append_assoc, get_or, refl, sym, ap, ◌∙◌, subst, arith}
 use Rattle.std.specs.List.{All}
 use Rattle.std.proofs.lemmas.Int.{ints}
 use Rattle.std.proofs.lemmas.List.Elements.{All-append}
@@ -16,14 +16,16 @@ use Rattle.lay_flow.specs.Weights.{weight}
 use Rattle.lay_flow.proofs.BoxTrees.{parent_is, parents_length}
 use Rattle.lay_sizes.specs.declared.own_boxes.OwnBox.{OwnBox}
 use Rattle.lay_sizes.specs.declared.sizing.BoxSizes.{BoxSizes}
-use Rattle.lay_sizes.specs.OwnBoxes.{OwnBoxFits, OwnBoxesFit, own_box_at}
+use Rattle.lay_sizes.specs.OwnBoxes.{OwnBoxFits, own_box_at}
 use Rattle.lay_sizes.specs.SizeBounds.{IsInset, IsUsedSizeOrAuto, SizeFits}
 use Rattle.lay_sizes.specs.SizeColumns.{sizes_at}
-use Rattle.lay_table.specs.Captions.{ArePlaces, captions_of}
+use Rattle.lay_table.specs.Captions.{captions_of}
+use Rattle.lay_table.specs.PlaceBounds.{AllFit}
 use Rattle.lay_table.specs.RowNeeds.{table_sizes}
 use Rattle.lay_table.specs.TableInputs.{TableInput}
 use Rattle.lay_table.specs.Tracks.{Tracks}
-use Rattle.lay_table.specs.WrapperFlow.{box_inside, boxes_in_wrapper, caption_inside, captions_inside, table_box, wrapper_box}
+use Rattle.lay_table.proofs.ColumnSteps.{length_mapped, mapped_more}
+use Rattle.lay_table.specs.WrapperFlow.{box_inside, boxes_in_wrapper, caption_inside, captions_inside, places_in_wrapper, table_box, wrapper_box}
 
 -- a box that stands in the wrapper
 record Inside (b : FlowBox) : Type 0 where
@@ -42,7 +44,7 @@ cons_all P b bs p all = from
 
 captions_are_inside : (i : TableInput) (places : List ℕ) → All Inside (captions_inside i places)
 captions_are_inside i [] = λ k d less. absurd (omega (arith, less))
-captions_are_inside i (place ∷ places) = cons_all Inside (caption_inside i place) (captions_inside i places) (inside _ _) (captions_are_inside i places)
+captions_are_inside i (place ∷ places) = cons_all Inside (caption_inside i place) (captions_inside i places) (inside (sizes_at i.sizes 0).edges.left (own_box_at i.inner place)) (captions_are_inside i places)
 
 -- the boxes behind the wrapper
 abbrev others : TableInput → Tracks → List FlowBox
@@ -53,7 +55,8 @@ others i rows =
 
 others_inside : (i : TableInput) (rows : Tracks) → All Inside (others i rows)
 others_inside i rows =
-    All-append Inside _ _ (captions_are_inside i _) (cons_all Inside _ _ (inside _ _) (captions_are_inside i _))
+    All-append Inside (captions_inside i (captions_of i.boxes).above) (box_inside (sizes_at i.sizes 0).edges.left (table_box (table_sizes i) rows) ∷ captions_inside i (captions_of i.boxes).below) (captions_are_inside i (captions_of i.boxes).above)
+    (cons_all Inside _ (captions_inside i (captions_of i.boxes).below) (inside (sizes_at i.sizes 0).edges.left (table_box (table_sizes i) rows)) (captions_are_inside i (captions_of i.boxes).below))
 
 held_by : (z : BoxSizes) (b : FlowBox) → Inside b → may_hold (wrapper_box z).kind b.kind ≡ true
 held_by z b is = let e = is.alone in rw e refl
@@ -101,7 +104,7 @@ given_fits : (height : Len) → IsUsedSizeOrAuto height → IsUsedSize (given_or
 given_fits len.Auto fits = (omega (arith, ints), omega (arith, ints))
 given_fits (len.Of v) fits = fits
 
-wrapper_fits : (z : BoxSizes) → SizeFits z → KindFits (wrapper_box z).kind
+pub wrapper_fits : (z : BoxSizes) → SizeFits z → KindFits (wrapper_box z).kind
 wrapper_fits z fits = record {
   x = (omega (arith, ints), omega (arith, ints));
   margin = record { top = fits.margin_top; bottom = fits.margin_bottom };
@@ -113,7 +116,7 @@ wrapper_fits z fits = record {
   min_height = fits.min_height;
 }
 
-inside_fits : (left : Length) (o : OwnBox) → IsInset left.0 → OwnBoxFits o → KindFits (box_inside left o).kind
+pub inside_fits : (left : Length) (o : OwnBox) → IsInset left.0 → OwnBoxFits o → KindFits (box_inside left o).kind
 inside_fits left o inset own = record {
   x = (omega (arith, ints, inset.0, own.margin_left.0), omega (arith, ints, inset.1, own.margin_left.1));
   margin = record { top = own.margin_top; bottom = own.margin_bottom };
@@ -121,24 +124,23 @@ inside_fits left o inset own = record {
   height = own.height;
 }
 
-abbrev Fits : FlowBox → Type 0
-Fits b = KindFits b.kind
+pub are_wrapper_boxes : (i : TableInput) (rows : Tracks) (boxes : List FlowBox) → boxes ≡ boxes_in_wrapper i rows → AllFit boxes → weight boxes (length boxes) ≤ 8388608 → AreFlowBoxes boxes
+are_wrapper_boxes i rows boxes are fit light = record {
+  is_tree = rw are (is_wrapper_tree i rows);
+  light = light;
+  fits = λ k less. fit k no_box less;
+}
 
-captions_fit : (i : TableInput) (places : List ℕ) → IsInset (sizes_at i.sizes 0).edges.left.0 → OwnBoxesFit i.inner → ArePlaces (length i.inner) places → All Fits (captions_inside i places)
-captions_fit i [] inset own are = λ k d less. absurd (omega (arith, less))
-captions_fit i (place ∷ places) inset own are =
-    cons_all Fits (caption_inside i place) (captions_inside i places) (inside_fits _ _ inset (own place (are 0 (omega arith))))
-    (captions_fit i places inset own (λ n less. are (suc n) (omega (arith, less))))
+-- they are as many as their places
+pub as_many_boxes : (i : TableInput) (rows : Tracks) → length (boxes_in_wrapper i rows) ≡ length (places_in_wrapper i)
+as_many_boxes i rows =
+    let above = length_mapped (caption_inside i) (captions_of i.boxes).above in
+    let below = length_mapped (caption_inside i) (captions_of i.boxes).below in
+    rw (length-append, length-append, above, below) refl
 
-module _ (i : TableInput) (rows : Tracks) (own : OwnBoxesFit i.inner) (wrapper : SizeFits (sizes_at i.sizes 0)) (table : OwnBoxFits (table_box (table_sizes i) rows)) where
-  all_fit : ArePlaces (length i.inner) (captions_of i.boxes).above → ArePlaces (length i.inner) (captions_of i.boxes).below → All Fits (boxes_in_wrapper i rows)
-  all_fit above below =
-      cons_all Fits (wrapper_box (sizes_at i.sizes 0)) (others i rows) (wrapper_fits _ wrapper)
-      (All-append Fits _ _ (captions_fit i _ wrapper.left own above) (cons_all Fits _ _ (inside_fits _ _ wrapper.left table) (captions_fit i _ wrapper.left own below)))
-
-  pub are_wrapper_boxes : ArePlaces (length i.inner) (captions_of i.boxes).above → ArePlaces (length i.inner) (captions_of i.boxes).below → weight (boxes_in_wrapper i rows) (length (boxes_in_wrapper i rows)) ≤ 8388608 → AreFlowBoxes (boxes_in_wrapper i rows)
-  are_wrapper_boxes above below light = record {
-    is_tree = is_wrapper_tree i rows;
-    light = light;
-    fits = λ k less. all_fit above below k no_box less;
-  }
+-- with one more caption
+pub captions_more : (i : TableInput) (places : List ℕ) (n : ℕ) (before boxes : List FlowBox) (b : FlowBox) → n < length places → boxes ≡ before ++ captions_inside i (take n places) → b ≡ caption_inside i (slice_index places n)
+    → boxes ++ b ∷ [] ≡ before ++ captions_inside i (take (n + 1) places)
+captions_more i places n before boxes b less are is =
+    let more = mapped_more (caption_inside i) places n less in
+    rw (are, is, more) (append_assoc before (captions_inside i (take n places)) (caption_inside i (slice_index places n) ∷ []))

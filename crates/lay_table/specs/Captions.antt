@@ -1,6 +1,6 @@
 -- The captions of a table (CSS 2.2, 17.4.1): `caption-side` says whether a caption stands above or below the table box. Those on one
 -- side stand in document order.
-use Rattle.std.specs.Prelude.{ℕ, zero, suc, ◌<◌, ◌&&◌, Bool, true, false, List, [], ◌∷◌, ◌++◌, length, if◌then◌else◌, slice_index}
+use Rattle.std.specs.Prelude.{ℕ, zero, suc, ◌+◌, ◌<◌, ◌&&◌, Bool, true, false, List, [], ◌∷◌, ◌++◌, length, if◌then◌else◌, slice_index}
 use Rattle.lay_style.specs.declared.style_words.CaptionSide.{CaptionSide}
 use Rattle.lay_style.specs.declared.style_words.CaptionSide.TheVariants as side
 use Rattle.lay_style.specs.ComputedStyle.{style_at}
@@ -39,6 +39,10 @@ pub record Captions : Type 0 where
 
 abbrev pub captions_of : List BoxNode → Captions
 captions_of boxes = record { above = captions_on side.Top boxes; below = captions_on side.Bottom boxes }
+
+-- the number of the table box among the boxes in the wrapper: the wrapper stands first, then the captions above the table
+abbrev pub table_number : Captions → ℕ
+table_number captions = length captions.above + 1
 
 -- these are places of some of so many boxes
 abbrev pub ArePlaces : ℕ → List ℕ → Type 0

@@ -1,5 +1,7 @@
--- How long the columns of the workings are, and within which bounds they are.
-use Rattle.std.specs.Prelude.{ℕ, ◌≡◌, ◌<◌, List, length}
+-- Within which bounds the workings are, and how long their columns are.
+use Rattle.std.specs.Prelude.{ℕ, ◌≡◌, ◌<◌, List, length, All}
+use Rattle.lay_flow.specs.declared.flow_box.FlowBox.{FlowBox}
+use Rattle.lay_flow.specs.FlowBoxes.{KindFits}
 use Rattle.lay_pieces.specs.declared.standing.Standing.{Standing}
 use Rattle.lay_pieces.specs.Corners.{IsCornerNear}
 use Rattle.lay_pieces.specs.Standings.{AreNearStandings, standing_at}
@@ -7,6 +9,10 @@ use Rattle.lay_table.specs.RowBounds.{RowsFitTable}
 use Rattle.lay_table.specs.TableInputs.{TableInput, grid_of}
 use Rattle.lay_table.specs.TableStandings.{TablePlaces, standing_of}
 use Rattle.lay_table.specs.WrapperFlow.{places_in_wrapper}
+
+-- used values of boxes of a flow lie within their bounds
+abbrev pub AllFit : List FlowBox → Type 0
+AllFit boxes = All (λ b. KindFits b.kind) boxes
 
 pub record PlacesFit (i : TableInput) (p : TablePlaces) : Type 0 where
   pub rows : RowsFitTable i p.rows

@@ -15,12 +15,13 @@ use Rattle.lay_pieces.specs.declared.standing.Standing.{Standing}
 use Rattle.lay_pieces.specs.Standings.{no_standing}
 use Rattle.lay_table_grid.specs.TableBoxes.{is_row_group, kind_at}
 use Rattle.lay_table_grid.specs.TableGrid.{TableGridValue}
+use Rattle.lay_table.specs.Captions.{captions_of, table_number}
 use Rattle.lay_table.specs.Groups.{rows_before, rows_within}
 use Rattle.lay_table.specs.RowNeeds.{cell_of, table_sizes}
 use Rattle.lay_table.specs.TableInputs.{TableInput, grid_of}
 use Rattle.lay_table.specs.TableRows.{HasRows, TableRows, cell_height, shift_of}
 use Rattle.lay_table.specs.Tracks.{Tracks, extent_of, start_of}
-use Rattle.lay_table.specs.WrapperFlow.{boxes_in_wrapper, places_in_wrapper, table_number}
+use Rattle.lay_table.specs.WrapperFlow.{boxes_in_wrapper, places_in_wrapper}
 
 -- the number that a place has among the first n of these, of which no two are the same; of several it would be the last one's
 abbrev pub number_in : List ℕ → ℕ → (n : ℕ) → Option ℕ
@@ -49,7 +50,7 @@ content_in i place = record {
 }
 
 abbrev pub content_corner : TableInput → FlowPlacesValue → Corner
-content_corner i flow = content_in i (box_place_at flow.boxes (table_number i.boxes))
+content_corner i flow = content_in i (box_place_at flow.boxes (table_number (captions_of i.boxes)))
 
 -- the workings
 pub record TablePlaces : Type 0 where

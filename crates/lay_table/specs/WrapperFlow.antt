@@ -2,9 +2,8 @@
 -- it stand the captions above the table, the table box, and the captions below it, each as a box that is laid out already. The captions
 -- "are rendered as normal block boxes inside the table wrapper box", and `caption-side` says on which side of the table (17.4.1).
 -- Positions are counted from the corner of the wrapper's border box.
-use Rattle.std.specs.Prelude.{ℕ, suc, ◌+ℤ◌, List, ◌∷◌, ◌++◌, length, map, None}
+use Rattle.std.specs.Prelude.{ℕ, ◌+ℤ◌, List, ◌∷◌, ◌++◌, map, None}
 use Rattle.lay_units.specs.declared.length.Unit.{Unit as Length}
-use Rattle.lay_boxgen.specs.declared.box_tree.BoxNode.{BoxNode}
 use Rattle.lay_floats.specs.declared.requests.Clear.TheVariants.{None as clear_none}
 use Rattle.lay_flow.specs.declared.flow_box.FlowBox.{FlowBox}
 use Rattle.lay_flow.specs.declared.flow_box.FlowKind.TheVariants.{Block as block, Solid as solid}
@@ -22,10 +21,6 @@ use Rattle.lay_table.specs.Tracks.{Tracks}
 -- the boxes of the wrapper's context in the order in which they stand, the wrapper itself first
 abbrev pub places_in_wrapper : TableInput → List ℕ
 places_in_wrapper i = 0 ∷ (captions_of i.boxes).above ++ (grid_of i).table ∷ (captions_of i.boxes).below
-
--- the number of the table box there
-abbrev pub table_number : List BoxNode → ℕ
-table_number boxes = suc (length (captions_of boxes).above)
 
 -- the wrapper
 abbrev pub wrapper_box : BoxSizes → FlowBox

@@ -24,6 +24,18 @@ impl Model for Captions {
     ghost view = { λ c. record { above = c.above.items; below = c.below.items } };
 }
 
+impl Captions {
+    ghost use Rattle.std.specs.Prelude.{◌≡◌, ◌<◌, length};
+    ghost use Rattle.lay_table.specs.Captions.{table_number};
+
+    /// The number of the table box among the boxes in the wrapper.
+    pub(crate) fn table_number(&self) -> usize
+        ensures { result ≡ table_number self.now }
+    {
+        self.above.len() + 1
+    }
+}
+
 /// The captions among these boxes.
 pub(crate) fn captions_of(alloc: Global, boxes: &[BoxNode]) -> Result<Captions, NoMemory>
     ensures captions { IfOk result (λ c. c ≡ captions_of boxes.now) }

@@ -9,6 +9,7 @@ ghost use Rattle.lay_pieces.specs.Splicing.{border_box};
 ghost use Rattle.lay_pieces.specs.Standings.{IsStandingNear};
 ghost use Rattle.lay_sizes.specs.BoxSizes.{border_width};
 ghost use Rattle.lay_sizes.specs.SizeColumns.{sizes_at};
+ghost use Rattle.lay_table_grid.specs.TableBoxes.{kind_at};
 ghost use Rattle.lay_table.specs.PlaceBounds.{AreStandings};
 ghost use Rattle.lay_table.specs.TablePieces.{columns_width, extent_by_kind, inner_width, piece_of, pieces_by, pieces_of_box, pieces_to};
 ghost use Rattle.lay_table.specs.TableStandings.{standing_of};
@@ -16,7 +17,6 @@ ghost use Rattle.lay_table.specs.TableStandings.{standing_of};
 use crate::cells::{own_box_at, sizes_at};
 use crate::places::TablePlaces;
 use crate::table_input::TableInput;
-use crate::tracks::Tracks;
 use lay_boxgen::BoxKind;
 use lay_doc::NodeId;
 use lay_frag::{Frag, FragKind};
@@ -85,10 +85,10 @@ fn with_box(
     if is_inner(input, k) {
         return pieces.with_spliced(inner_width(input, k), standing, input.pieces(k));
     }
-    match extent_by_kind(&input.boxes()[k].kind) {
+    match extent_of(input, k) {
         Extent::Own => pieces.with(piece_of(input, standing, k, own_width(input, k))),
         Extent::Columns => {
-            let width = columns_width(&places.columns)?;
+            let width = columns_width(places)?;
             pieces.with(piece_of(input, standing, k, width))
         }
         Extent::Nothing => Ok(pieces),
@@ -110,6 +110,14 @@ fn standing_at(
     let _ = input;
     let _ = places;
     standings[k]
+}
+
+/// How wide the piece of the box at k is.
+fn extent_of(input: &TableInput, k: usize) -> Extent
+    requires { k < length input.now.boxes }
+    ensures { result ≡ extent_by_kind (kind_at input.now.boxes k) }
+{
+    extent_by_kind(&input.boxes()[k].kind)
 }
 
 /// Whether the box at k is that of an inner formatting context.
@@ -141,10 +149,10 @@ fn own_width(input: &TableInput, k: usize) -> Unit
 }
 
 /// How far all columns reach.
-fn columns_width(columns: &Tracks) -> Result<Unit, NoMemory>
-    ensures { IfOk result (λ u. u ≡ columns_width columns.now) }
+fn columns_width(places: &TablePlaces) -> Result<Unit, NoMemory>
+    ensures { IfOk result (λ u. u ≡ columns_width places.now.columns) }
 {
-    columns.extent(0, columns.len())
+    places.columns.extent(0, places.columns.len())
 }
 
 /// The border box at k, which stands so and is so wide.

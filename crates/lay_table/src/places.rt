@@ -5,7 +5,8 @@ ghost use Rattle.lay_flow.specs.FlowPlaces.{IsNearPlace, box_place_at};
 ghost use Rattle.lay_pieces.specs.Corners.{IsCornerNear};
 ghost use Rattle.lay_table.specs.Captions.{ArePlaces, captions_of};
 ghost use Rattle.lay_table.specs.PlaceBounds.{PlacesFit};
-ghost use Rattle.lay_table.specs.TableStandings.{HasTablePlaces, column_spacing, columns_of, content_in};
+ghost use Rattle.lay_table.specs.WrapperFlow.{places_in_wrapper};
+ghost use Rattle.lay_table.specs.TableStandings.{HasTablePlaces, column_spacing, columns_of, content_corner, content_in};
 
 use crate::captions::Captions;
 use crate::cells::table_sizes;
@@ -33,7 +34,8 @@ pub(crate) struct TablePlaces {
 }
 
 impl Model for TablePlaces {
-    ghost use Rattle.lay_table.specs.TableStandings.{TablePlaces as Plain};
+    ghost use Rattle.lay_table.specs.WrapperFlow.{places_in_wrapper};
+ghost use Rattle.lay_table.specs.TableStandings.{TablePlaces as Plain};
 
     ghost Value = { Plain };
 
@@ -56,7 +58,7 @@ pub(crate) fn table_places(
     let rows = table_rows(alloc, input)?;
     let columns = columns_of(alloc, input)?;
     let flow = wrapper_flow(alloc, input, &rows.tracks, captions)?;
-    let content = content_in(input, place_at(&flow, captions.above.len() + 1))?;
+    let content = content_corner(input, &flow, captions)?;
     Ok(TablePlaces {
         rows,
         columns,
@@ -67,7 +69,8 @@ pub(crate) fn table_places(
 
 /// The columns.
 fn columns_of(alloc: Global, input: &TableInput) -> Result<Tracks, NoMemory>
-    ensures { IfOk result (λ t. t ≡ columns_of input.now) }
+    ensures value { IfOk result (λ t. t ≡ columns_of input.now) }
+    ensures count { IfOk result (λ t. length t.lengths ≡ input.now.table.grid.columns) }
 {
     let widths = copied(alloc, input.table().columns())?;
     Tracks::new(alloc, widths, column_spacing(input.grid()))
@@ -100,7 +103,21 @@ pub(crate) fn place_at(flow: &FlowPlaces, n: usize) -> BoxPlace
     flow.boxes()[n]
 }
 
-/// The corner of the content of the table box, whose border box stands here.
+/// The corner of the content of the table box.
+fn content_corner(
+    input: &TableInput,
+    flow: &FlowPlaces,
+    captions: &Captions,
+) -> Result<Corner, NoMemory>
+    requires captions { captions.now ≡ captions_of input.now.boxes }
+    requires count { length flow.now.boxes ≡ length (places_in_wrapper input.now) }
+    ensures corner { IfOk result (λ c. c ≡ content_corner input.now flow.now) }
+    ensures near { IfOk result IsCornerNear }
+{
+    content_in(input, place_at(flow, captions.table_number()))
+}
+
+/// That of a table box whose border box stands here.
 fn content_in(input: &TableInput, place: BoxPlace) -> Result<Corner, NoMemory>
     ensures corner { IfOk result (λ c. c ≡ content_in input.now place) }
     ensures near { IfOk result IsCornerNear }

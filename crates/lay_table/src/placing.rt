@@ -1,7 +1,9 @@
 //! The placement of a table.
 
-ghost use Rattle.std.specs.Prelude.{◌≡◌, ◌<◌, length, IfOk, IfSome};
-ghost use Rattle.lay_sizes.specs.OwnBoxes.{IsBaseline, IsBoxSize};
+ghost use Rattle.std.specs.Prelude.{◌≡◌, IfOk, IfSome};
+ghost use Rattle.lay_flow.specs.FlowPlaces.{box_place_at};
+ghost use Rattle.lay_sizes.specs.OwnBoxes.{IsBaseline, OwnBoxFits, own_box};
+ghost use Rattle.lay_sizes.specs.SizeColumns.{sizes_at};
 ghost use Rattle.lay_table.specs.PlaceBounds.{PlacesFit};
 ghost use Rattle.lay_table.specs.TablePlacements.{IsTablePlacement, first_baseline};
 
@@ -15,7 +17,7 @@ use crate::standings::standings_of;
 use crate::table_input::TableInput;
 use lay_frag::Pieces;
 use lay_pieces::Placement;
-use lay_sizes::own_box;
+use lay_sizes::{OwnBox, own_box};
 use lay_units::{NoMemory, Unit};
 use std::alloc::Global;
 use std::sync::Arc;
@@ -33,13 +35,20 @@ pub fn table_placement(alloc: Global, input: &TableInput) -> Result<Placement, N
     let places = table_places(alloc, input, &captions)?;
     let standings = standings_of(alloc, input, &places, &captions)?;
     let pieces = pieces_of(alloc, input, &places, &standings)?;
-    let own = own_box(
-        wrapper_sizes(input),
-        place_at(&places.flow, 0).height,
-        first_baseline(input, &places)?,
-    );
+    let own = own_box_of(input, &places)?;
     let pieces = Arc::new(alloc, Pieces::new(pieces))?;
     Ok(Placement::new(own, pieces, standings))
+}
+
+/// The wrapper as the formatting context around it takes it.
+fn own_box_of(input: &TableInput, places: &TablePlaces) -> Result<OwnBox, NoMemory>
+    requires { PlacesFit input.now places.now }
+    ensures value { IfOk result (λ o. o ≡ own_box (sizes_at input.now.sizes 0) (box_place_at places.now.flow.boxes 0).height (first_baseline places.now)) }
+    ensures fits { IfOk result OwnBoxFits }
+{
+    let baseline = first_baseline(input, places)?;
+    let height = place_at(&places.flow, 0).height;
+    Ok(own_box(wrapper_sizes(input), height, baseline))
 }
 
 /// The baseline of the first row. NoMemory is the answer where it is more than 2^59 units away.

@@ -33,6 +33,7 @@ pub(crate) fn rows_in(
     requires count { length cells.now ≡ length input.now.table.grid.cells }
     requires sizes { HaveSizeBounds cells.now }
     ensures rows { IfOk result (λ r. r ≡ rows_in input.now cells.now) }
+    ensures count { IfOk result (λ r. length r.own ≡ length input.now.table.grid.rows) }
     ensures fit { IfOk result RowsFit }
 {
     let rows = input.grid().rows().len();

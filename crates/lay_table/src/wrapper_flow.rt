@@ -1,11 +1,13 @@
 //! The wrapper of a table as a block formatting context (CSS 2.2, 17.4).
 
 ghost use Rattle.std.specs.Prelude.{◌≡◌, ◌<◌, ◌++◌, length, IfOk, OnOk};
+ghost use Rattle.lay_flow.specs.FlowBoxes.{KindFits};
 ghost use Rattle.lay_flow.specs.FlowPlaces.{IsFlowOf};
 ghost use Rattle.lay_sizes.specs.OwnBoxes.{OwnBoxFits};
 ghost use Rattle.lay_sizes.specs.SizeBounds.{IsInset, SizeFits};
 ghost use Rattle.lay_table.specs.Captions.{ArePlaces, captions_of};
-ghost use Rattle.lay_table.specs.WrapperFlow.{box_inside, boxes_in_wrapper, caption_inside, captions_inside, table_box, wrapper_box};
+ghost use Rattle.lay_table.specs.PlaceBounds.{AllFit};
+ghost use Rattle.lay_table.specs.WrapperFlow.{box_inside, boxes_in_wrapper, caption_inside, captions_inside, places_in_wrapper, table_box, wrapper_box};
 
 use crate::captions::Captions;
 use crate::cells::{own_box_at, table_sizes, wrapper_sizes};
@@ -34,13 +36,15 @@ pub(crate) fn wrapper_flow(
     requires captions { captions.now ≡ captions_of input.now.boxes }
     requires above { ArePlaces (length input.now.boxes) captions.now.above }
     requires below { ArePlaces (length input.now.boxes) captions.now.below }
-    ensures { IfOk result (IsFlowOf (boxes_in_wrapper input.now rows.now)) }
+    ensures flow { IfOk result (IsFlowOf (boxes_in_wrapper input.now rows.now)) }
+    ensures count { IfOk result (λ f. length f.boxes ≡ length (places_in_wrapper input.now)) }
 {
     let boxes = boxes_in_wrapper(alloc, input, rows, captions)?;
     if !is_light(&boxes) {
         return Err(NoMemory);
     }
-    flow(alloc, &FlowBoxes::new(boxes))
+    let places = flow(alloc, &FlowBoxes::new(boxes))?;
+    Ok(places)
 }
 
 /// The boxes of the wrapper's context.
@@ -53,7 +57,8 @@ fn boxes_in_wrapper(
     requires captions { captions.now ≡ captions_of input.now.boxes }
     requires above { ArePlaces (length input.now.boxes) captions.now.above }
     requires below { ArePlaces (length input.now.boxes) captions.now.below }
-    ensures { IfOk result (λ v. v.items ≡ boxes_in_wrapper input.now rows.now) }
+    ensures boxes { IfOk result (λ v. v.items ≡ boxes_in_wrapper input.now rows.now) }
+    ensures fit { IfOk result (λ v. AllFit v.items) }
 {
     let wrapper = wrapper_sizes(input);
     let table = table_box(table_sizes(input), rows);
@@ -71,8 +76,10 @@ fn push_captions(
     input: &TableInput,
     places: &[usize],
 ) -> Result<(), NoMemory>
-    requires { ArePlaces (length input.now.boxes) places.now }
-    ensures { OnOk result (boxes.new.items ≡ boxes.old.items ++ captions_inside input.now places.now) }
+    requires places { ArePlaces (length input.now.boxes) places.now }
+    requires fit { AllFit boxes.old.items }
+    ensures boxes { OnOk result (boxes.new.items ≡ boxes.old.items ++ captions_inside input.now places.now) }
+    ensures fit { OnOk result (AllFit boxes.new.items) }
 {
     for n in 0..places.len() {
         boxes.push(caption_inside(input, places[n]))?;
@@ -83,7 +90,8 @@ fn push_captions(
 /// The caption at k.
 fn caption_inside(input: &TableInput, k: usize) -> FlowBox
     requires { k < length input.now.boxes }
-    ensures { result ≡ caption_inside input.now k }
+    ensures value { result ≡ caption_inside input.now k }
+    ensures fits { KindFits result.kind }
 {
     let caption = own_box_at(input, k);
     box_inside(wrapper_sizes(input).edges.left, caption)
@@ -102,7 +110,8 @@ fn table_box(table: BoxSizes, rows: &Tracks) -> OwnBox
 /// The wrapper.
 fn wrapper_box(sizes: BoxSizes) -> FlowBox
     requires { SizeFits sizes }
-    ensures { result ≡ wrapper_box sizes }
+    ensures value { result ≡ wrapper_box sizes }
+    ensures fits { KindFits result.kind }
 {
     let left = sizes.edges.left;
     FlowBox {
@@ -135,7 +144,8 @@ fn wrapper_box(sizes: BoxSizes) -> FlowBox
 fn box_inside(left: Unit, own: OwnBox) -> FlowBox
     requires left { IsInset left.0 }
     requires own { OwnBoxFits own }
-    ensures { result ≡ box_inside left own }
+    ensures value { result ≡ box_inside left own }
+    ensures fits { KindFits result.kind }
 {
     FlowBox {
         parent: 0,

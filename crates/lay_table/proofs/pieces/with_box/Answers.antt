@@ -1,0 +1,27 @@
+use Rattle.std.proofs.Common.{◌≡◌, [], ◌∷◌, false, sym, ap, ◌∙◌}
+use Rattle.lay_context_boxes.specs.ContextBoxes.{is_inner}
+use Rattle.lay_table_grid.specs.TableBoxes.{kind_at}
+use Rattle.lay_table.specs.declared.pieces.Extent.TheVariants.{Own, Columns}
+use Rattle.lay_table.specs.TablePieces.{extent_by_kind, pieces_of_box}
+use Rattle.lay_table.proofs.PieceSteps.{column_piece, own_piece}
+use Rattle.lay_table.proofs.pieces.with_box.Goals as goal
+
+pub returns-in-Own : goal.returns-in-Own
+returns-in-Own c =
+    let inner : is_inner c.args.input.now.boxes c.args.k ≡ false = sym c.is_inner.ensures ∙ c.if-is_inner.false in
+    let extent : extent_by_kind (kind_at c.args.input.now.boxes c.args.k) ≡ Own = sym c.extent_of.ensures ∙ c.in-Own.is in
+    let stands = c.standing_at-standing.ensures.value in
+    let wide = c.own_width.ensures in
+    let piece = rw (stands, wide) at c.piece_of.ensures in
+    let is : pieces_of_box c.args.input.now c.args.places.now c.args.k ≡ c.piece_of.result ∷ [] = rw piece (own_piece c.args.input.now c.args.places.now c.args.k inner extent) in
+    rw is c.with.ensures
+
+pub returns-in_ok-width-in-Columns : goal.returns-in_ok-width-in-Columns
+returns-in_ok-width-in-Columns c =
+    let inner : is_inner c.args.input.now.boxes c.args.k ≡ false = sym c.is_inner.ensures ∙ c.if-is_inner.false in
+    let extent : extent_by_kind (kind_at c.args.input.now.boxes c.args.k) ≡ Columns = sym c.extent_of.ensures ∙ c.in-Columns.is in
+    let stands = c.standing_at-standing.ensures.value in
+    let wide = c.in_ok-width-in-Columns.ensures {u = tt} in
+    let piece = rw (stands, wide) at c.piece_of-in-Columns.ensures in
+    let is : pieces_of_box c.args.input.now c.args.places.now c.args.k ≡ c.piece_of-in-Columns.result ∷ [] = rw piece (column_piece c.args.input.now c.args.places.now c.args.k inner extent) in
+    rw is c.with-in-Columns.ensures
