@@ -45,13 +45,17 @@ needs_by contexts Place i Place j = IsInsideFlow contexts i j ⊎ IsOnWayOf cont
 abbrev pub Needs : List FormattingContext → Task → Task → Type 0
 Needs contexts task needed = needs_by contexts task.phase task.context needed.phase needed.context
 
+-- the first turn of the round of a level, of n formatting contexts
+abbrev pub round_start : (n level : ℕ) → ℕ
+round_start n level = n + level * (n + n)
+
 -- The turn in which a task of one of n formatting contexts is done, which has this level: first preferred widths, from the last
 -- formatting context to the first one; and then level by level sizes from the first one to the last, and placements from the last to
 -- the first. In a round of a level each has a turn for either, though it may be of another level.
 abbrev pub turn_by : (n level : ℕ) → Phase → ℕ → ℕ
 turn_by n level Measure i = n - 1 - i
-turn_by n level Size i = n + level * (n + n) + i
-turn_by n level Place i = n + level * (n + n) + (n + n - 1 - i)
+turn_by n level Size i = round_start n level + i
+turn_by n level Place i = round_start n level + (n + n - 1 - i)
 
 -- that of a task of formatting contexts that have these levels
 abbrev pub turn_of : List ℕ → Task → ℕ

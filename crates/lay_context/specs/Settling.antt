@@ -2,7 +2,8 @@
 use Rattle.std.specs.Prelude.{ℕ, ◌≡◌, ◌<◌, List, length, slice_index, IfSome}
 use Rattle.lay_boxgen.specs.declared.box_tree.BoxNode.{BoxNode}
 use Rattle.lay_table_grid.specs.GridBounds.{PlacesAreBelow}
-use Rattle.lay_formatting.specs.FormattingContexts.{FormattingContext, boxes_in}
+use Rattle.lay_formatting.specs.FormattingContexts.{AreFormattingContexts, FormattingContext, boxes_in}
+use Rattle.lay_positioned.specs.Levels.{HasLevels}
 use Rattle.lay_context.specs.declared.task.Phase.TheVariants.{Size}
 use Rattle.lay_context.specs.declared.task.Task.{Task}
 use Rattle.lay_context.specs.declared.value.Value.{Value}
@@ -32,6 +33,11 @@ pub record IsReady (contexts : List FormattingContext) (w : Workings) (task : Ta
 pub record AreDoneTo (medium : Medium) (contexts : List FormattingContext) (levels : List ℕ) (w : Workings) (turn : ℕ) : Type 0 where
   pub counts : HasCounts contexts w
   pub done : (task : Task) → task.context < length contexts → turn_of levels task < turn → IsTaskDone medium contexts w task
+
+-- these are the levels of formatting contexts
+pub record IsPlan (contexts : List FormattingContext) (levels : List ℕ) : Type 0 where
+  pub are : AreFormattingContexts contexts
+  pub has : HasLevels contexts levels
 
 -- a task has been given a value that is right beside the others
 pub record IsSettled (medium : Medium) (contexts : List FormattingContext) (before : Workings) (task : Task) (after : Workings) : Type 0 where

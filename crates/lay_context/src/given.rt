@@ -1,12 +1,13 @@
 //! What a task is given, from the values of the tasks that it needs.
 
-ghost use Rattle.std.specs.Prelude.{◌≡◌, ◌<◌, IfOk, length};
+ghost use Rattle.std.specs.Prelude.{◌≡◌, ◌<◌, Some, IfOk, length, map};
 ghost use Rattle.lay_sizes.specs.OwnBoxes.{OwnBoxFits};
 ghost use Rattle.lay_pieces.specs.InnerPieces.{pieces_or_none};
 ghost use Rattle.lay_pieces.specs.NearPieces.{AreNearPieces};
-ghost use Rattle.lay_context.specs.DocumentLayout.{inner_boxes, inner_pieces, inner_widths, inner_widths_in, own_box_in, pieces_in};
-ghost use Rattle.lay_context.specs.Local.{input_of, measure_input, place_input, size_input};
-ghost use Rattle.lay_context.specs.Settling.{IsReady};
+ghost use Rattle.lay_context.specs.DocumentLayout.{flow_number, flow_numbers, inner_widths_in, own_box_in, pieces_in};
+ghost use Rattle.lay_context.specs.Local.{flow_input, input_of, measure_input, place_input, size_input, stand_input, table_input};
+ghost use Rattle.lay_context.specs.Settings.{sizes_in};
+ghost use Rattle.lay_context.specs.Settling.{AreBelow, IsReady};
 ghost use Rattle.lay_context.specs.declared.task.Phase.TheVariants.{Place, Size};
 
 use crate::input::{Input, MeasureInput, SizeInput};

@@ -1,12 +1,15 @@
 //! Layout of a document from scratch.
 
-ghost use Rattle.std.specs.Prelude.{◌≡◌, IfOk, OnOk};
-ghost use Rattle.lay_positioned.specs.Levels.{HasLevels};
+ghost use Rattle.std.specs.Prelude.{◌≡◌, ◌+◌, IfOk, OnOk, length};
 ghost use Rattle.lay_positioned.specs.ViewportBounds.{ViewportFits};
 ghost use Rattle.lay_style.specs.ComputedStyle.{HasStyles};
 ghost use Rattle.lay_doc.specs.Document.{parents_of, declarations_of};
 ghost use Rattle.lay_context.specs.Local.{IsLocal};
-ghost use Rattle.lay_context.specs.Settling.{IsReady, IsSettled};
+ghost use Rattle.lay_context.specs.Needs.{round_start};
+ghost use Rattle.lay_context.specs.OwnOffsets.{IsOwnOffset};
+ghost use Rattle.lay_context.specs.Settling.{AreDoneTo, IsPlan, IsReady, IsSettled};
+ghost use Rattle.lay_table_grid.specs.Laws.{GridsAreOfBoxes};
+ghost use Rattle.lay_context.specs.Local.{HasCounts};
 ghost use Rattle.lay_context.specs.Solves.{Solves, SolvesContexts, viewport_of};
 
 use crate::assembling::assemble;
@@ -75,6 +78,7 @@ fn viewport_of(doc: &Doc) -> ContainingBlock
 }
 
 /// What the tasks of a layout share: the medium, the formatting contexts, and the levels of these.
+#[derive(Clone, Copy)]
 struct Plan<'a> {
     medium: &'a Medium,
     contexts: &'a FormattingContexts,
@@ -106,6 +110,10 @@ fn lay_contexts(
 
 /// Measures all formatting contexts, from the last one to the first.
 fn measure_all(alloc: Global, plan: &Plan, known: &mut Known) -> Result<(), NoMemory>
+    requires plan { IsPlan plan.now.contexts.now plan.now.levels.now }
+    requires grids { GridsAreOfBoxes }
+    requires before { HasCounts plan.now.contexts.now known.old }
+    ensures { OnOk result (AreDoneTo plan.now.medium.now plan.now.contexts.now plan.now.levels.now known.new (length plan.now.contexts.now)) }
 {
     let count = plan.contexts.len();
     for done in 0..count {
@@ -126,6 +134,10 @@ fn lay_level(
     known: &mut Known,
     level: usize,
 ) -> Result<(), NoMemory>
+    requires plan { IsPlan plan.now.contexts.now plan.now.levels.now }
+    requires grids { GridsAreOfBoxes }
+    requires before { AreDoneTo plan.now.medium.now plan.now.contexts.now plan.now.levels.now known.old (round_start (length plan.now.contexts.now) level) }
+    ensures { OnOk result (AreDoneTo plan.now.medium.now plan.now.contexts.now plan.now.levels.now known.new (round_start (length plan.now.contexts.now) (level + 1))) }
 {
     size_level(alloc, plan, known, level)?;
     place_level(alloc, plan, known, level)
@@ -137,6 +149,10 @@ fn size_level(
     known: &mut Known,
     level: usize,
 ) -> Result<(), NoMemory>
+    requires plan { IsPlan plan.now.contexts.now plan.now.levels.now }
+    requires grids { GridsAreOfBoxes }
+    requires before { AreDoneTo plan.now.medium.now plan.now.contexts.now plan.now.levels.now known.old (round_start (length plan.now.contexts.now) level) }
+    ensures { OnOk result (AreDoneTo plan.now.medium.now plan.now.contexts.now plan.now.levels.now known.new (round_start (length plan.now.contexts.now) level + length plan.now.contexts.now)) }
 {
     for i in 0..plan.contexts.len() {
         if plan.levels[i] == level {
@@ -156,6 +172,10 @@ fn place_level(
     known: &mut Known,
     level: usize,
 ) -> Result<(), NoMemory>
+    requires plan { IsPlan plan.now.contexts.now plan.now.levels.now }
+    requires grids { GridsAreOfBoxes }
+    requires before { AreDoneTo plan.now.medium.now plan.now.contexts.now plan.now.levels.now known.old (round_start (length plan.now.contexts.now) level + length plan.now.contexts.now) }
+    ensures { OnOk result (AreDoneTo plan.now.medium.now plan.now.contexts.now plan.now.levels.now known.new (round_start (length plan.now.contexts.now) (level + 1))) }
 {
     let count = plan.contexts.len();
     for done in 0..count {
