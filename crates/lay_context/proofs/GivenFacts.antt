@@ -1,21 +1,15 @@
 -- What a formatting context is given by the one around it, and where it stands.
 use Rattle.std.proofs.Common.{◌≡◌, ◌<◌, ℕ, zero, suc, ◌+◌, ◌≤◌, List, [], ◌∷◌, ◌++◌, length, length-append, map, take, slice_index, refl, arith, inl, inr}
 use Rattle.std.proofs.lemmas.Bool.{cases_lt}
+use Rattle.std.proofs.Math.ListN.{get_or-eq_default}
 use Rattle.std.proofs.lemmas.Grind.{elements}
 use Rattle.std.proofs.lemmas.List.{map-append, take_more}
-use Rattle.std.proofs.lemmas.Int.{ints}
 use Rattle.lay_frag.specs.declared.frag.Frag.{Frag}
 use Rattle.lay_sizes.specs.declared.own_boxes.OwnBox.{OwnBox}
 use Rattle.lay_sizes.specs.OwnBoxes.{OwnBoxFits, OwnBoxesFit, own_box_at}
 use Rattle.lay_formatting.specs.FormattingContexts.{AreFormattingContexts, FormattingContext, formatting_context_at}
-use Rattle.lay_pieces.specs.Corners.{IsCornerNear}
 use Rattle.lay_pieces.specs.InnerPieces.{AreNearInnerPieces, inner_pieces_at}
-use Rattle.lay_pieces.specs.NearPieces.{AreNearPieces, IsRectNear}
-use Rattle.lay_pieces.specs.Placements.{Placement, PlacementFits}
-use Rattle.lay_pieces.specs.Standings.{IsStandingNear}
-use Rattle.lay_pieces.specs.declared.corner.Corner.{Corner}
-use Rattle.lay_pieces.specs.declared.standing.Standing.{Standing}
-use Rattle.lay_context.specs.Solves.{page_rect}
+use Rattle.lay_pieces.specs.NearPieces.{AreNearPieces}
 
 -- the number of an inner formatting context, or 0, is that of one of them
 pub inner_within : (contexts : List FormattingContext) (i k : ℕ) → AreFormattingContexts contexts → i < length contexts → k < length (formatting_context_at contexts i).inner → slice_index (formatting_context_at contexts i).inner k < length contexts
@@ -52,7 +46,7 @@ pieces_last : (all : List (List Frag)) (p : List Frag) (k : ℕ) → k ≡ lengt
 pieces_last all p k e = grind (arith, elements)
 
 pieces_behind : (all : List (List Frag)) (k : ℕ) → length all ≤ k → inner_pieces_at all k ≡ []
-pieces_behind all k le = grind (arith, elements)
+pieces_behind all k le = get_or-eq_default all [] le
 
 pub no_pieces_are_near : AreNearPieces []
 no_pieces_are_near k lt = absurd (omega (arith, lt))
@@ -68,11 +62,3 @@ one_more_near all p near more k = elim (cases_lt k (length all)) [
     | inr here ↦ rw (pieces_last all p k (omega (arith, high, here))) more
   ]
 ]
-
-pub near_rect : (p : Placement) (standing : Standing) (corner : Corner) → PlacementFits p → IsStandingNear standing → IsCornerNear corner → IsRectNear (page_rect p standing corner)
-near_rect p standing corner fits stands near = record {
-  x = near.x;
-  y = near.y;
-  w = (omega (arith, ints, fits.own.width.0), omega (arith, ints, fits.own.width.1));
-  h = stands.height;
-}

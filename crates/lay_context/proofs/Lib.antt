@@ -7,6 +7,7 @@ pub mod OneTree
 pub mod OneWidths
 pub mod PieceRanges
 pub mod PlaceFacts
+pub mod PlaceInputs
 pub mod SizeSteps
 pub mod SizedFacts
 pub mod SizesFit

@@ -74,7 +74,10 @@ one_as one_table one_cell false i x y None None are p q = (one_flow one_cell i x
 one_as one_table one_cell false i x y None (Some u) are p q = absurd q
 one_as one_table one_cell false i x y (Some t) u are p q = absurd p
 
-same_sized : (x y : List BoxSizes) (t u : Option TableSizesValue) → x ≡ y → t ≡ u → (record { boxes = x; table = t } : SizedContext) ≡ (record { boxes = y; table = u } : SizedContext)
+abbrev sized_as : List BoxSizes → Option TableSizesValue → SizedContext
+sized_as boxes table = record { boxes = boxes; table = table }
+
+same_sized : (x y : List BoxSizes) (t u : Option TableSizesValue) → x ≡ y → t ≡ u → sized_as x t ≡ sized_as y u
 same_sized x y t u boxes table = rw (boxes, table) refl
 
 pub one_context_sizes_lem : OneTableSizes → OneCellSizes → OneContextSizes

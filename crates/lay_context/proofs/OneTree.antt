@@ -12,6 +12,7 @@ use Rattle.lay_formatting.specs.FormattingContexts.{FormattingContext, AreFormat
 use Rattle.lay_formatting.specs.FormattingContextList.{AreFormattingContextsOf}
 use Rattle.lay_formatting.specs.Laws.{FormattingContextsStandInOrder, OneFormattingContextList}
 use Rattle.lay_pieces.specs.Placements.{Placement, no_placement}
+use Rattle.lay_pieces.specs.declared.corner.Corner.{Corner}
 use Rattle.lay_placement.specs.Laws.{OnePlacement}
 use Rattle.lay_table.specs.Laws.{OneTablePlacement}
 use Rattle.lay_context.specs.declared.task.Phase.{Phase}
@@ -27,11 +28,20 @@ use Rattle.lay_context.specs.Medium.{Medium}
 use Rattle.lay_context.specs.Needs.{task_at, turns_of}
 use Rattle.lay_context.specs.PageCorners.{HasPageCorners, root_corner_of}
 use Rattle.lay_context.specs.Settings.{sizes_in}
-use Rattle.lay_context.specs.Solves.{SolvesContexts, medium_of, page_contexts}
+use Rattle.lay_context.specs.Solves.{SolvesContexts, medium_of, page_context, page_contexts}
 use Rattle.lay_context.proofs.OneCorners.{one_corner_column}
 use Rattle.lay_context.proofs.PlaceFacts.{one_placed}
 use Rattle.lay_context.proofs.TaskInputs.{inputs_come_of_needs_lem, place_value, size_value}
 use Rattle.lay_context.proofs.TaskOrder.{had_turn, needs_come_first_lem, task_within}
+
+-- the contexts of a tree come of the sizes, the placements and the corners
+page_contexts_same : (contexts : List FormattingContext) (v w : Workings) (x y : List Corner) → v.sizes ≡ w.sizes → v.places ≡ w.places → x ≡ y → (n : ℕ)
+    → page_contexts contexts v x n ≡ page_contexts contexts w y n
+page_contexts_same contexts v w x y sizes places corners zero = refl
+page_contexts_same contexts v w x y sizes places corners (suc n) =
+    let rest = page_contexts_same contexts v w x y sizes places corners n in
+    let last : page_context contexts v x n ≡ page_context contexts w y n = rw (sizes, places, corners) refl in
+    rw (rest, last) refl
 
 -- what a task of each phase answers is the only answer
 pub record OneAnswer : Type 0 where
@@ -88,7 +98,8 @@ module _ (one : OneAnswer) (medium : Medium) (contexts : List FormattingContext)
       let y = b.assembled in
       let cornered : HasPageCorners (root_corner_of medium.viewport contexts (sizes_in v.sizes 0).boxes) contexts v.places y.corners = rw (sizes, places) y.has_corners in
       let corners : x.corners ≡ y.corners = one_corner_column (root_corner_of medium.viewport contexts (sizes_in v.sizes 0).boxes) contexts v.places are x.corners y.corners x.has_corners cornered in
-      x.tree_is ∙ (rw (places, corners) refl) ∙ sym y.tree_is
+      let listed : page_contexts contexts v x.corners (length contexts) ≡ page_contexts contexts w y.corners (length contexts) = page_contexts_same contexts v w x.corners y.corners sizes places corners (length contexts) in
+      x.tree_is ∙ listed ∙ sym y.tree_is
 
 pub one_solution_lem : OneAnswer → OneFormattingContextList → FormattingContextsStandInOrder → OneSolution
 one_solution_lem one one_list stand_in_order d face s t is a b =

@@ -7,8 +7,8 @@ use Rattle.lay_frag.specs.Pieces.{Context as PageContext, frags_of, page_pieces,
 use Rattle.lay_frag.proofs.PieceLemmas.{length-page_pieces}
 use Rattle.lay_formatting.specs.FormattingContexts.{FormattingContext, formatting_context_at}
 use Rattle.lay_pieces.specs.declared.corner.Corner.{Corner}
-use Rattle.lay_pieces.specs.Placements.{Placement}
-use Rattle.lay_context.specs.Solves.{page_context_of, page_contexts}
+use Rattle.lay_context.specs.Local.{Workings}
+use Rattle.lay_context.specs.Solves.{page_context, page_contexts}
 
 -- the tree is this one, its contexts are in range, and they have so many pieces, fewer than 2^32
 pub record TreeTo (listed tree : List PageContext) (pieces : ℕ) : Type 0 where
@@ -42,19 +42,19 @@ one_more listed cs pieces more c so_far range sum few = record {
 }
 
 -- an element's formatting context is listed, and an anonymous one isn't
-pub list_next : (contexts : List FormattingContext) (places : List Placement) (corners : List Corner) (i : ℕ) (tree : List PageContext) (pieces more : ℕ) (c : PageContext)
-    → (formatting_context_at contexts i).anonymous ≡ false → c ≡ page_context_of contexts places corners i
-    → TreeTo (page_contexts contexts places corners i) tree pieces → IsContextInRange c → more ≡ pieces + length c.pieces → more < 2 ^ 32
-    → TreeTo (page_contexts contexts places corners (i + 1)) (tree ++ c ∷ []) more
-list_next contexts places corners i tree pieces more c of_element is so_far range sum few =
-    let next : page_contexts contexts places corners (i + 1) ≡ page_contexts contexts places corners i ++ c ∷ [] = rw (add-one i, of_element, is) refl in
-    rw next (one_more (page_contexts contexts places corners i) tree pieces more c so_far range sum few)
+pub list_next : (contexts : List FormattingContext) (w : Workings) (corners : List Corner) (i : ℕ) (tree : List PageContext) (pieces more : ℕ) (c : PageContext)
+    → (formatting_context_at contexts i).anonymous ≡ false → c ≡ page_context contexts w corners i
+    → TreeTo (page_contexts contexts w corners i) tree pieces → IsContextInRange c → more ≡ pieces + length c.pieces → more < 2 ^ 32
+    → TreeTo (page_contexts contexts w corners (i + 1)) (tree ++ c ∷ []) more
+list_next contexts w corners i tree pieces more c of_element is so_far range sum few =
+    let next : page_contexts contexts w corners (i + 1) ≡ page_contexts contexts w corners i ++ c ∷ [] = rw (add-one i, of_element, is) refl in
+    rw next (one_more (page_contexts contexts w corners i) tree pieces more c so_far range sum few)
 
-pub skip_next : (contexts : List FormattingContext) (places : List Placement) (corners : List Corner) (i : ℕ) (tree : List PageContext) (pieces : ℕ)
-    → (formatting_context_at contexts i).anonymous ≡ true → TreeTo (page_contexts contexts places corners i) tree pieces
-    → TreeTo (page_contexts contexts places corners (i + 1)) tree pieces
-skip_next contexts places corners i tree pieces anonymous so_far =
-    let next : page_contexts contexts places corners (i + 1) ≡ page_contexts contexts places corners i = rw (add-one i, anonymous) (append-nil (page_contexts contexts places corners i)) in
+pub skip_next : (contexts : List FormattingContext) (w : Workings) (corners : List Corner) (i : ℕ) (tree : List PageContext) (pieces : ℕ)
+    → (formatting_context_at contexts i).anonymous ≡ true → TreeTo (page_contexts contexts w corners i) tree pieces
+    → TreeTo (page_contexts contexts w corners (i + 1)) tree pieces
+skip_next contexts w corners i tree pieces anonymous so_far =
+    let next : page_contexts contexts w corners (i + 1) ≡ page_contexts contexts w corners i = rw (add-one i, anonymous) (append-nil (page_contexts contexts w corners i)) in
     rw next so_far
 
 pub tree_in_range : (listed tree : List PageContext) (pieces : ℕ) → TreeTo listed tree pieces → IsTreeInRange tree

@@ -2,9 +2,7 @@
 
 ghost use Rattle.std.specs.Prelude.{◌≡◌, ◌+◌, ◌^◌, ◌<◌, ◌≤◌, length, IfOk};
 ghost use Rattle.lay_frag.specs.Pieces.{IsContextInRange};
-ghost use Rattle.lay_sizes.specs.OwnBoxes.{OwnBoxFits};
-ghost use Rattle.lay_table_sizes.specs.TableSizesValue.{MayFit};
-ghost use Rattle.lay_pieces.specs.Corners.{AreNearCorners, IsNear};
+ghost use Rattle.lay_pieces.specs.Corners.{AreNearCorners};
 ghost use Rattle.lay_pieces.specs.NearPieces.{IsRectNear};
 ghost use Rattle.lay_context.specs.Settling.{AreKnown};
 ghost use Rattle.lay_context.specs.Solves.{IsAssembled, page_context, page_contexts, page_rect, page_width};
@@ -14,7 +12,7 @@ use crate::page_corners::{corner_at, page_corners, standing_of};
 use crate::settings::cell_of;
 use lay_formatting::FormattingContexts;
 use lay_frag::{Placed, Tree};
-use lay_pieces::Corner;
+use lay_pieces::{Corner, near_position};
 use lay_sizes::OwnBox;
 use lay_table_sizes::CellSize;
 use lay_units::{NoMemory, Rect, Unit};
@@ -91,43 +89,42 @@ fn page_context(
     ensures range { IfOk result IsContextInRange }
     ensures few { IfOk result (λ c. length c.pieces ≤ 2147483648) }
 {
-    let rect = page_rect(contexts, known, corners, i);
+    let rect = page_rect(contexts, known, corners, i)?;
     let shift = standing_of(contexts, known, i).shift;
     let pieces = known.placement(i).pieces()?;
     let boxes = contexts.at(i).boxes().as_slice();
     Ok(Placed::new(boxes[0].node, rect, shift, pieces))
 }
 
-/// The border box of the formatting context with this number on the page.
+/// The border box of the formatting context with this number on the page. NoMemory is the answer where it is wider than 2^60
+/// units, which it is in no document within the limits.
 fn page_rect(
     contexts: &FormattingContexts,
     known: &Known,
     corners: &[Corner],
     i: usize,
-) -> Rect
+) -> Result<Rect, NoMemory>
     requires known { AreKnown contexts.now known.now }
     requires within { i < length contexts.now }
     requires corners { length corners.now ≡ length contexts.now }
     requires near { AreNearCorners corners.now }
-    ensures rect { result ≡ page_rect contexts.now known.now corners.now i }
-    ensures near { IsRectNear result }
+    ensures rect { IfOk result (λ r. r ≡ page_rect contexts.now known.now corners.now i) }
+    ensures near { IfOk result IsRectNear }
 {
     let corner = corner_at(corners, i);
-    let own = known.placement(i).own();
-    Rect {
+    let width = page_width(cell_of(contexts, known, i), known.placement(i).own());
+    let width = near_position(width)?;
+    Ok(Rect {
         x: corner.x,
         y: corner.y,
-        w: page_width(cell_of(contexts, known, i), own),
+        w: width,
         h: standing_of(contexts, known, i).height,
-    }
+    })
 }
 
 /// A cell is as wide as its columns.
 fn page_width(cell: Option<CellSize>, own: OwnBox) -> Unit
-    requires cell { MayFit cell }
-    requires own { OwnBoxFits own }
-    ensures width { result ≡ page_width cell own }
-    ensures near { IsNear result.0 }
+    ensures { result ≡ page_width cell own }
 {
     match cell {
         Some(cell) => cell.width,

@@ -1,8 +1,8 @@
 //! What a task is given, from the values of the tasks that it needs.
 
 ghost use Rattle.std.specs.Prelude.{◌≡◌, ◌<◌, Some, IfOk, length, map};
-ghost use Rattle.lay_sizes.specs.OwnBoxes.{OwnBoxFits};
-ghost use Rattle.lay_pieces.specs.InnerPieces.{pieces_or_none};
+ghost use Rattle.lay_sizes.specs.OwnBoxes.{OwnBoxFits, OwnBoxesFit};
+ghost use Rattle.lay_pieces.specs.InnerPieces.{AreNearInnerPieces, pieces_or_none};
 ghost use Rattle.lay_pieces.specs.NearPieces.{AreNearPieces};
 ghost use Rattle.lay_context.specs.DocumentLayout.{flow_number, flow_numbers, inner_widths_in, own_box_in, pieces_in};
 ghost use Rattle.lay_context.specs.Local.{flow_input, input_of, measure_input, place_input, size_input, stand_input, table_input};
@@ -225,7 +225,8 @@ fn inner_widths_in(known: &Known, number: usize) -> PreferredWidths
 /// The own boxes of the formatting contexts with these numbers.
 fn inner_boxes(alloc: Global, known: &Known, numbers: &[usize]) -> Result<OwnBoxes, NoMemory>
     requires { AreBelow (length known.now.places) numbers.now }
-    ensures { IfOk result (λ b. b ≡ map (own_box_in known.now.places) numbers.now) }
+    ensures boxes { IfOk result (λ b. b ≡ map (own_box_in known.now.places) numbers.now) }
+    ensures fit { IfOk result OwnBoxesFit }
 {
     let mut boxes = Vec::with_capacity(alloc, numbers.len())?;
     for k in 0..numbers.len() {
@@ -255,7 +256,8 @@ fn inner_pieces(
 ) -> Result<InnerPieces, NoMemory>
     requires contexts { AreBelow (length contexts.now) numbers.now }
     requires places { AreBelow (length known.now.places) numbers.now }
-    ensures { IfOk result (λ p. p ≡ map (pieces_in contexts.now known.now.places) numbers.now) }
+    ensures pieces { IfOk result (λ p. p ≡ map (pieces_in contexts.now known.now.places) numbers.now) }
+    ensures near { IfOk result AreNearInnerPieces }
 {
     let mut pieces = Vec::with_capacity(alloc, numbers.len())?;
     for k in 0..numbers.len() {

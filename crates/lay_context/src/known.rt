@@ -144,7 +144,7 @@ impl Layouts for Known {
         ensures standings { result.now ≡ (laid self.now.sizes self.now.places i).standings }
         ensures near { AreNearStandings result.now }
     {
-        self.placement(i).standings()
+        self.places[i].placement().standings()
     }
 
     fn offset(&self, i: usize) -> Corner

@@ -11,7 +11,6 @@ ghost use Rattle.lay_context.specs.Inputs.{OwnSettingFits};
 ghost use Rattle.lay_context.specs.Local.{HasCounts};
 ghost use Rattle.lay_context.specs.StandInputs.{PositionFits};
 ghost use Rattle.lay_context.specs.Settings.{caption_block, cell_given, cell_of, flow_setting, laid, position_of, setting_as, setting_in_table, setting_of};
-ghost use Rattle.lay_table_sizes.specs.TableSizesValue.{MayFit};
 ghost use Rattle.lay_context.specs.Settling.{IsReady};
 ghost use Rattle.lay_context.specs.declared.task.Phase.TheVariants.{Size};
 
@@ -113,20 +112,18 @@ pub(crate) fn cell_of(
 ) -> Option<CellSize>
     requires within { i < length contexts.now }
     requires sizes { length known.now.sizes ≡ length contexts.now }
-    ensures cell { result ≡ cell_of contexts.now known.now.sizes i }
-    ensures fits { MayFit result }
+    ensures { result ≡ cell_of contexts.now known.now.sizes i }
 {
     let context = contexts.at(i);
-    if i == 0 {
-        return None;
+    if i > 0 {
+        return cell_given(known.sizes(context.outer()).table(), context.outer_box());
     }
-    cell_given(known.sizes(context.outer()).table(), context.outer_box())
+    None
 }
 
 /// What the cell with the box at k is given, where that is a box of a table.
 fn cell_given(table: &Option<TableSizes>, k: usize) -> Option<CellSize>
-    ensures cell { result ≡ cell_given table.now k }
-    ensures fits { MayFit result }
+    ensures { result ≡ cell_given table.now k }
 {
     match table {
         Some(table) => table.cell(k),

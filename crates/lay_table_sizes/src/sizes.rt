@@ -68,8 +68,7 @@ impl TableSizes {
 
     /// The size of the cell whose box stands at the place k; None where no cell's does.
     pub fn cell(&self, k: usize) -> Option<CellSize>
-        ensures cell { result ≡ cell_at self.now k }
-        ensures fits { TableSizesFit self.now }
+        ensures { result ≡ cell_at self.now k }
     {
         match self.cells.get(k) {
             Some(cell) => *cell,
