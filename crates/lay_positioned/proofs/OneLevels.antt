@@ -22,7 +22,7 @@ module _ (contexts : List FormattingContext) (are : AreFormattingContexts contex
   one_column x y a b = same_list 0 x y (a.count ∙ sym b.count) (λ i lt. levels_before x y a b (length contexts) (omega arith) i (omega (arith, a.count)))
 
   -- the level of an inner one is that of the one around it and its own
-  level_inside : (levels : List ℕ) → HasLevels contexts levels → (i : ℕ) → 0 < i → i < length contexts
+  pub level_inside : (levels : List ℕ) → HasLevels contexts levels → (i : ℕ) → 0 < i → i < length contexts
       → slice_index levels i ≡ slice_index levels (formatting_context_at contexts i).outer + one_if (is_absolute contexts i)
   level_inside levels has zero some within = absurd (omega arith)
   level_inside levels has (suc i) some within = has.each (suc i) within

@@ -15,6 +15,7 @@ use Rattle.lay_positioned.specs.Holders.{IsHolderFor, IsNearestHolder, further, 
 use Rattle.lay_positioned.specs.Laws.{SettingsAreValues}
 use Rattle.lay_positioned.specs.Layouts.{Layout, step}
 use Rattle.lay_positioned.specs.Settings.{IsSetting, absolute_setting}
+use Rattle.lay_positioned.specs.Ways.{IsOnWay}
 use Rattle.lay_positioned.proofs.OneSetting.{settings_come_of_ways_lem}
 use Rattle.lay_positioned.proofs.ParentSteps.{parent_before}
 
@@ -86,3 +87,10 @@ pub setting_value : (viewport : ContainingBlock) (contexts : List FormattingCont
     → i < length contexts → IsSetting viewport contexts laid i s → s ≡ absolute_setting viewport contexts laid i
 setting_value viewport contexts laid i s are within is =
     settings_come_of_ways_lem viewport contexts laid laid i s (absolute_setting viewport contexts laid i) (λ j on. refl) is (settings_are_values_lem viewport contexts laid i are within)
+
+-- and it is the same wherever those on the way answer the same
+pub same_setting : (viewport : ContainingBlock) (contexts : List FormattingContext) (v w : ℕ → Layout) (i : ℕ) → AreFormattingContexts contexts → i < length contexts
+    → ((j : ℕ) → IsOnWay contexts i j → v j ≡ w j) → absolute_setting viewport contexts v i ≡ absolute_setting viewport contexts w i
+same_setting viewport contexts v w i are within same =
+    settings_come_of_ways_lem viewport contexts v w i (absolute_setting viewport contexts v i) (absolute_setting viewport contexts w i) same
+      (settings_are_values_lem viewport contexts v i are within) (settings_are_values_lem viewport contexts w i are within)
