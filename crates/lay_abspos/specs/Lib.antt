@@ -1,3 +1,4 @@
 pub mod AbsoluteFits
 pub mod AbsoluteAxis
+pub mod ShrunkSizes
 pub mod Laws

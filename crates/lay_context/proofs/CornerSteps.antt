@@ -5,11 +5,11 @@ use Rattle.std.proofs.lemmas.Grind.{elements}
 use Rattle.lay_formatting.specs.FormattingContexts.{FormattingContext, AreFormattingContexts, formatting_context_at}
 use Rattle.lay_pieces.specs.Corners.{AreNearCorners, IsCornerNear, corner_at}
 use Rattle.lay_pieces.specs.declared.corner.Corner.{Corner}
-use Rattle.lay_pieces.specs.Placements.{Placement}
+use Rattle.lay_context.specs.PlacedContexts.{PlacedContext}
 use Rattle.lay_context.specs.PageCorners.{HasPageCorners, inner_corner}
 
 -- those before n have their corners
-pub record PageCornersTo (root : Corner) (contexts : List FormattingContext) (places : List Placement) (corners : List Corner) (n : ℕ) : Type 0 where
+pub record PageCornersTo (root : Corner) (contexts : List FormattingContext) (places : List PlacedContext) (corners : List Corner) (n : ℕ) : Type 0 where
   pub count : length corners ≡ n
   pub first : 0 < n → corner_at corners 0 ≡ root
   pub inner : (i : ℕ) → 0 < i → i < n → corner_at corners i ≡ inner_corner contexts places corners i
@@ -20,13 +20,13 @@ read_before cs c k lt = grind (arith, elements)
 read_last : (cs : List Corner) (c : Corner) (k : ℕ) → k ≡ length cs → corner_at (cs ++ c ∷ []) k ≡ c
 read_last cs c k is = grind (arith, elements)
 
-inner_before : (contexts : List FormattingContext) (places : List Placement) (cs : List Corner) (c : Corner) → AreFormattingContexts contexts
+inner_before : (contexts : List FormattingContext) (places : List PlacedContext) (cs : List Corner) (c : Corner) → AreFormattingContexts contexts
     → (i : ℕ) → 0 < i → i < length contexts → i ≤ length cs → inner_corner contexts places (cs ++ c ∷ []) i ≡ inner_corner contexts places cs i
 inner_before contexts places cs c are i some within le =
     let outer = are.outer i some within in
     rw (read_before cs c (formatting_context_at contexts i).outer (omega (arith, outer, le))) refl
 
-pub one_more : (root : Corner) (contexts : List FormattingContext) (places : List Placement) (cs : List Corner) (n : ℕ) (c : Corner) → AreFormattingContexts contexts → n < length contexts
+pub one_more : (root : Corner) (contexts : List FormattingContext) (places : List PlacedContext) (cs : List Corner) (n : ℕ) (c : Corner) → AreFormattingContexts contexts → n < length contexts
     → PageCornersTo root contexts places cs n → (n ≡ 0 → c ≡ root) → (0 < n → c ≡ inner_corner contexts places cs n) → PageCornersTo root contexts places (cs ++ c ∷ []) (n + 1)
 one_more root contexts places cs n c are within so_far first inner = record {
   count = grind (arith, elements, so_far.count);
@@ -48,7 +48,7 @@ one_more_near cs c near more i lt = elim (cases_lt i (length cs)) [
   | inr high ↦ (let counted = length-append cs (c ∷ []) in rw (read_last cs c i (omega (arith, high, lt, counted))) more)
 ]
 
-pub all_corners : (root : Corner) (contexts : List FormattingContext) (places : List Placement) (cs : List Corner) (n : ℕ) → n ≡ length contexts
+pub all_corners : (root : Corner) (contexts : List FormattingContext) (places : List PlacedContext) (cs : List Corner) (n : ℕ) → n ≡ length contexts
     → PageCornersTo root contexts places cs n → HasPageCorners root contexts places cs
 all_corners root contexts places cs n e so_far = record {
   count = so_far.count ∙ e;

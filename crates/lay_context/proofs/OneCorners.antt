@@ -5,10 +5,10 @@ use Rattle.lay_doc.proofs.OneStyles.{same_list}
 use Rattle.lay_formatting.specs.FormattingContexts.{FormattingContext, AreFormattingContexts}
 use Rattle.lay_pieces.specs.Corners.{corner_at, no_corner}
 use Rattle.lay_pieces.specs.declared.corner.Corner.{Corner}
-use Rattle.lay_pieces.specs.Placements.{Placement}
+use Rattle.lay_context.specs.PlacedContexts.{PlacedContext}
 use Rattle.lay_context.specs.PageCorners.{HasPageCorners, inner_corner}
 
-module _ (root : Corner) (contexts : List FormattingContext) (places : List Placement) (are : AreFormattingContexts contexts) (x y : List Corner) (a : HasPageCorners root contexts places x) (b : HasPageCorners root contexts places y) where
+module _ (root : Corner) (contexts : List FormattingContext) (places : List PlacedContext) (are : AreFormattingContexts contexts) (x y : List Corner) (a : HasPageCorners root contexts places x) (b : HasPageCorners root contexts places y) where
   inner_same : (i : ℕ) → 0 < i → i < length contexts → ((j : ℕ) → j < i → corner_at x j ≡ corner_at y j) → inner_corner contexts places x i ≡ inner_corner contexts places y i
   inner_same i some within same = let e = same _ (are.outer i some within) in rw e refl
 

@@ -11,7 +11,8 @@ use Rattle.lay_contexts.proofs.ContextNumbers.{are_contexts, one_context_list_le
 use Rattle.lay_formatting.specs.FormattingContexts.{FormattingContext, AreFormattingContexts, boxes_in}
 use Rattle.lay_formatting.specs.FormattingContextList.{AreFormattingContextsOf}
 use Rattle.lay_formatting.specs.Laws.{FormattingContextsStandInOrder, OneFormattingContextList}
-use Rattle.lay_pieces.specs.Placements.{Placement, no_placement}
+use Rattle.lay_positioned.specs.Levels.{HasLevels}
+use Rattle.lay_positioned.proofs.LevelSteps.{levels_are, levels_of}
 use Rattle.lay_pieces.specs.declared.corner.Corner.{Corner}
 use Rattle.lay_placement.specs.Laws.{OnePlacement}
 use Rattle.lay_table.specs.Laws.{OneTablePlacement}
@@ -21,18 +22,19 @@ use Rattle.lay_context.specs.declared.task.Task.{Task}
 use Rattle.lay_context.specs.declared.input.Input.{Input}
 use Rattle.lay_context.specs.declared.value.Value.TheVariants as value
 use Rattle.lay_context.specs.ContextSizes.{SizedContext, not_sized}
-use Rattle.lay_context.specs.DocumentLayout.{placement_in, widths_in}
-use Rattle.lay_context.specs.Laws.{HadTurn, OneContextSizes, OneContextWidths, OneSolution}
-use Rattle.lay_context.specs.Local.{Workings, IsLocal, IsTaskDone, flow_input, input_by, input_of, measure_input, size_input, table_input, value_by, value_of}
+use Rattle.lay_context.specs.DocumentLayout.{widths_in}
+use Rattle.lay_context.specs.Laws.{OneContextSizes, OneContextWidths, OneSolution}
+use Rattle.lay_context.specs.Local.{Workings, IsLocal, IsTaskDone, flow_input, input_by, input_of, measure_input, size_input, stand_input, table_input, value_by, value_of}
 use Rattle.lay_context.specs.Medium.{Medium}
-use Rattle.lay_context.specs.Needs.{task_at, turns_of}
-use Rattle.lay_context.specs.PageCorners.{HasPageCorners, root_corner_of}
+use Rattle.lay_context.specs.Needs.{turn_of}
+use Rattle.lay_context.specs.PageCorners.{HasPageCorners}
+use Rattle.lay_context.specs.PlacedContexts.{not_placed, placed_in}
 use Rattle.lay_context.specs.Settings.{sizes_in}
 use Rattle.lay_context.specs.Solves.{SolvesContexts, medium_of, page_context, page_contexts}
 use Rattle.lay_context.proofs.OneCorners.{one_corner_column}
 use Rattle.lay_context.proofs.PlaceFacts.{one_placed}
 use Rattle.lay_context.proofs.TaskInputs.{inputs_come_of_needs_lem, place_value, size_value}
-use Rattle.lay_context.proofs.TaskOrder.{had_turn, needs_come_first_lem, task_within}
+use Rattle.lay_context.proofs.TaskOrder.{needs_come_first_lem}
 
 -- the contexts of a tree come of the sizes, the placements and the corners
 page_contexts_same : (contexts : List FormattingContext) (v w : Workings) (x y : List Corner) → v.sizes ≡ w.sizes → v.places ≡ w.places → x ≡ y → (n : ℕ)
@@ -61,43 +63,38 @@ module _ (one : OneAnswer) (medium : Medium) (contexts : List FormattingContext)
   by_phase v w Measure i lt a b = ap value.Measure (one.widths (measure_input medium contexts v i) (widths_in v.widths i) (widths_in w.widths i) a b)
   by_phase v w Size i lt a b = ap value.Size (one.sizes (size_input medium contexts v i) (sizes_in v.sizes i) (sizes_in w.sizes i) (are.boxes i lt) a b)
   by_phase v w Place i lt a b =
-      ap value.Place (one_placed (flow_input medium contexts v i) (table_input contexts v i) (λ t. refl) one.placement one.table_placement (sizes_in v.sizes i).table (placement_in v.places i) (placement_in w.places i) (are.boxes i lt) a b)
+      ap value.Place (one_placed (flow_input medium contexts v i) (stand_input medium contexts v i) (table_input contexts v i) (λ t. refl) one.placement one.table_placement (sizes_in v.sizes i).table (placed_in v.places i) (placed_in w.places i) (are.boxes i lt) a b)
 
   one_value : (v w : Workings) (task : Task) → task.context < length contexts → IsTaskDone medium contexts v task → IsTaskDone medium contexts w task
       → input_of medium contexts v task ≡ input_of medium contexts w task → value_of v task ≡ value_of w task
   one_value v w task lt a b same = by_phase v w task.phase task.context lt a (subst (λ (i : Input). IsLocal i (value_of w task)) (sym same) b)
 
   -- values agree turn by turn, since what a task needs had its turn before
-  agree : (v w : Workings) → AllDone v → AllDone w → (m : ℕ) → m ≤ turns_of (length contexts) → (turn : ℕ) → turn < m → value_of v (task_at (length contexts) turn) ≡ value_of w (task_at (length contexts) turn)
-  agree v w a b zero le turn lt = absurd (omega arith)
-  agree v w a b (suc m) le turn lt = elim (cases_lt turn m) [
-    | inl low ↦ agree v w a b m (omega arith) turn low
-    | inr high ↦ (let t : Task = task_at (length contexts) turn in
-        let there = task_within (length contexts) turn (omega arith) in
-        let given = inputs_come_of_needs_lem medium contexts v w t (λ needed needs.
-        (let had = needs_come_first_lem contexts turn needed are (omega arith) needs in
-        subst (λ (u : Task). value_of v u ≡ value_of w u) had.is (agree v w a b m (omega arith) had.turn (omega (arith, had.earlier, lt))))) in
-        one_value v w t there (a t there) (b t there) given)
-  ]
+  agree : (levels : List ℕ) → HasLevels contexts levels → (v w : Workings) → AllDone v → AllDone w → (m : ℕ) (task : Task) → task.context < length contexts → turn_of levels task < m → value_of v task ≡ value_of w task
+  agree levels has v w a b zero task there lt = absurd (omega (arith, lt))
+  agree levels has v w a b (suc m) task there lt =
+      one_value v w task there (a task there) (b task there) (inputs_come_of_needs_lem medium contexts v w task are there (λ needed needs.
+        (let had = needs_come_first_lem contexts levels task needed are has there needs in
+        agree levels has v w a b m needed had.within (omega (arith, had.earlier, lt)))))
 
-  agree_at : (v w : Workings) → AllDone v → AllDone w → (task : Task) → HadTurn (length contexts) (turns_of (length contexts)) task → value_of v task ≡ value_of w task
-  agree_at v w a b task had = subst (λ (u : Task). value_of v u ≡ value_of w u) had.is (agree v w a b (turns_of (length contexts)) (omega arith) had.turn had.earlier)
+  agree_at : (levels : List ℕ) → HasLevels contexts levels → (v w : Workings) → AllDone v → AllDone w → (task : Task) → task.context < length contexts → value_of v task ≡ value_of w task
+  agree_at levels has v w a b task there = agree levels has v w a b (turn_of levels task + 1) task there (omega arith)
 
   -- two trees of the same formatting contexts are equal
   pub one_tree : (s t : List PageContext) → SolvesContexts medium contexts s → SolvesContexts medium contexts t → s ≡ t
   one_tree s t a b =
       let v : Workings = a.workings in
       let w : Workings = b.workings in
+      let levels : List ℕ = levels_of contexts in
+      let has = levels_are contexts are in
       let sizes : v.sizes ≡ w.sizes = same_list not_sized v.sizes w.sizes (a.counts.sizes ∙ sym b.counts.sizes) (λ i lt.
-      (let there : i < length contexts = omega (arith, a.counts.sizes) in
-      size_value (sizes_in v.sizes i) (sizes_in w.sizes i) (agree_at v w a.done b.done (record { context = i; phase = Size }) (had_turn (length contexts) Size i there)))) in
-      let places : v.places ≡ w.places = same_list no_placement v.places w.places (a.counts.places ∙ sym b.counts.places) (λ i lt.
-      (let there : i < length contexts = omega (arith, a.counts.places) in
-      place_value (placement_in v.places i) (placement_in w.places i) (agree_at v w a.done b.done (record { context = i; phase = Place }) (had_turn (length contexts) Place i there)))) in
+      size_value (sizes_in v.sizes i) (sizes_in w.sizes i) (agree_at levels has v w a.done b.done (record { context = i; phase = Size }) (omega (arith, lt, a.counts.sizes)))) in
+      let places : v.places ≡ w.places = same_list not_placed v.places w.places (a.counts.places ∙ sym b.counts.places) (λ i lt.
+      place_value (placed_in v.places i) (placed_in w.places i) (agree_at levels has v w a.done b.done (record { context = i; phase = Place }) (omega (arith, lt, a.counts.places)))) in
       let x = a.assembled in
       let y = b.assembled in
-      let cornered : HasPageCorners (root_corner_of medium.viewport contexts (sizes_in v.sizes 0).boxes) contexts v.places y.corners = rw (sizes, places) y.has_corners in
-      let corners : x.corners ≡ y.corners = one_corner_column (root_corner_of medium.viewport contexts (sizes_in v.sizes 0).boxes) contexts v.places are x.corners y.corners x.has_corners cornered in
+      let cornered : HasPageCorners (placed_in v.places 0).offset contexts v.places y.corners = rw places y.has_corners in
+      let corners : x.corners ≡ y.corners = one_corner_column (placed_in v.places 0).offset contexts v.places are x.corners y.corners x.has_corners cornered in
       let listed : page_contexts contexts v x.corners (length contexts) ≡ page_contexts contexts w y.corners (length contexts) = page_contexts_same contexts v w x.corners y.corners sizes places corners (length contexts) in
       x.tree_is ∙ listed ∙ sym y.tree_is
 

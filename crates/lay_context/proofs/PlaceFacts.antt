@@ -1,5 +1,5 @@
 -- A placement is that of boxes in block flow, or of a table.
-use Rattle.std.proofs.Common.{◌≡◌, ℕ, zero, suc, ◌+◌, List, [], ◌∷◌, length, length-append, refl, ap, ◌∙◌, arith, Option, None, Some, option_map}
+use Rattle.std.proofs.Common.{◌≡◌, ℕ, zero, suc, ◌+◌, List, [], ◌∷◌, length, length-append, refl, ap, sym, subst, ◌∙◌, arith, Option, None, Some, option_map}
 use Rattle.lay_measure.specs.declared.preferred_widths.PreferredWidths.{PreferredWidths}
 use Rattle.lay_context_boxes.specs.ContextBoxes.{AreContextBoxes}
 use Rattle.lay_pieces.specs.Placements.{Placement}
@@ -15,16 +15,24 @@ use Rattle.lay_table.specs.TablePlacements.{IsTablePlacement, standings_to as ta
 use Rattle.lay_table.specs.TableStandings.{TablePlaces, standing_of}
 use Rattle.lay_table_sizes.specs.TableSizesValue.{TableSizesValue}
 use Rattle.lay_context.specs.declared.value.Value.TheVariants as value
+use Rattle.lay_sizes.specs.declared.own_boxes.OwnBox.{OwnBox}
+use Rattle.lay_formatting.specs.FormattingBoxes.{box_at}
+use Rattle.lay_pieces.specs.declared.corner.Corner.{Corner}
+use Rattle.lay_positioned.proofs.OneAbsoluteBox.{one_offset_lem}
 use Rattle.lay_context.specs.ContextSizes.{SizedContext}
+use Rattle.lay_context.specs.OwnOffsets.{IsOwnOffset, IsOwnOffsetBy, StandInput}
+use Rattle.lay_context.specs.PlacedContexts.{PlacedContext}
+use Rattle.lay_context.specs.declared.position.Position.{Position}
+use Rattle.lay_context.specs.declared.position.Position.TheVariants.{Inner, Root, Absolute}
 use Rattle.lay_context.specs.Local.{IsLocal, place_as}
 
-pub not_measured : (flow : PlaceInput) (table : Option TableInput) (widths : PreferredWidths) → IsLocal (place_as flow table) (value.Measure widths) → ⊥
-not_measured flow None widths local = local
-not_measured flow (Some table) widths local = local
+pub not_measured : (flow : PlaceInput) (table : Option TableInput) (at : StandInput) (widths : PreferredWidths) → IsLocal (place_as flow table at) (value.Measure widths) → ⊥
+not_measured flow None at widths local = local
+not_measured flow (Some table) at widths local = local
 
-pub not_sized : (flow : PlaceInput) (table : Option TableInput) (sized : SizedContext) → IsLocal (place_as flow table) (value.Size sized) → ⊥
-not_sized flow None sized local = local
-not_sized flow (Some table) sized local = local
+pub not_sized : (flow : PlaceInput) (table : Option TableInput) (at : StandInput) (sized : SizedContext) → IsLocal (place_as flow table at) (value.Size sized) → ⊥
+not_sized flow None at sized local = local
+not_sized flow (Some table) at sized local = local
 
 flow_count : (i : PlaceInput) (p : ContextPlaces) (n : ℕ) → length (standings_to i p n) ≡ n
 flow_count i p zero = refl
@@ -42,14 +50,30 @@ flow_stands i p is = ap (λ (a : Placement). length a.standings) is.answer_is �
 table_stands : (i : TableInput) (p : Placement) → IsTablePlacement i p → length p.standings ≡ length i.boxes
 table_stands i p is = ap (λ (a : Placement). length a.standings) is.answer_is ∙ table_count i is.places (length i.boxes)
 
-module _ (flow : PlaceInput) (of : TableSizesValue → TableInput) (same : (t : TableSizesValue) → (of t).boxes ≡ flow.boxes) where
+abbrev placed_as : Placement → Corner → PlacedContext
+placed_as placement offset = record { placement = placement; offset = offset }
+
+module _ (flow : PlaceInput) (at : StandInput) (of : TableSizesValue → TableInput) (same : (t : TableSizesValue) → (of t).boxes ≡ flow.boxes) where
   -- each box has its standing
-  pub stands : (o : Option TableSizesValue) (p : Placement) → IsLocal (place_as flow (option_map of o)) (value.Place p) → length p.standings ≡ length flow.boxes
-  stands None p local = flow_stands flow p local
-  stands (Some t) p local = rw (← same t) (table_stands (of t) p local)
+  pub stands : (o : Option TableSizesValue) (p : PlacedContext) → IsLocal (place_as flow (option_map of o) at) (value.Place p) → length p.placement.standings ≡ length flow.boxes
+  stands None p local = flow_stands flow p.placement local.0
+  stands (Some t) p local = rw (← same t) (table_stands (of t) p.placement local.0)
+
+  -- there is one offset beside a placement
+  one_offset_by : (o : Position) (own : OwnBox) (a b : Corner) → IsOwnOffsetBy o at own a → IsOwnOffsetBy o at own b → a ≡ b
+  one_offset_by Inner own a b p q = p ∙ sym q
+  one_offset_by (Root viewport) own a b p q = p ∙ sym q
+  one_offset_by (Absolute s) own a b p q = one_offset_lem s (box_at at.boxes 0) at.left own.height a b p q
+
+  same_placed : (p q : PlacedContext) → p.placement ≡ q.placement → IsOwnOffset at p.placement.own p.offset → IsOwnOffset at q.placement.own q.offset → p ≡ q
+  same_placed p q e a b =
+      let own : p.placement.own ≡ q.placement.own = ap (λ (x : Placement). x.own) e in
+      let offset : p.offset ≡ q.offset = one_offset_by at.position q.placement.own p.offset q.offset (subst (λ (o : OwnBox). IsOwnOffset at o p.offset) own a) b in
+      let r : placed_as p.placement p.offset ≡ placed_as q.placement q.offset = rw (e, offset) refl in
+      r
 
   -- there is one placement
-  pub one_placed : OnePlacement → OneTablePlacement → (o : Option TableSizesValue) (p q : Placement) → AreContextBoxes flow.boxes
-      → IsLocal (place_as flow (option_map of o)) (value.Place p) → IsLocal (place_as flow (option_map of o)) (value.Place q) → p ≡ q
-  one_placed one one_table None p q are a b = one flow p q are a b
-  one_placed one one_table (Some t) p q are a b = one_table (of t) p q a b
+  pub one_placed : OnePlacement → OneTablePlacement → (o : Option TableSizesValue) (p q : PlacedContext) → AreContextBoxes flow.boxes
+      → IsLocal (place_as flow (option_map of o) at) (value.Place p) → IsLocal (place_as flow (option_map of o) at) (value.Place q) → p ≡ q
+  one_placed one one_table None p q are a b = same_placed p q (one flow p.placement q.placement are a.0 b.0) a.1 b.1
+  one_placed one one_table (Some t) p q are a b = same_placed p q (one_table (of t) p.placement q.placement a.0 b.0) a.1 b.1

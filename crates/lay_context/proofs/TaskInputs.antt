@@ -2,8 +2,11 @@
 use Rattle.std.proofs.Common.{◌≡◌, ◌<◌, ℕ, zero, suc, List, [], ◌∷◌, length, map, slice_index, refl, ap, arith, option_map}
 use Rattle.lay_frag.specs.declared.frag.Frag.{Frag}
 use Rattle.lay_measure.specs.declared.preferred_widths.PreferredWidths.{PreferredWidths}
-use Rattle.lay_formatting.specs.FormattingContexts.{FormattingContext, formatting_context_at, boxes_in}
-use Rattle.lay_pieces.specs.Placements.{Placement}
+use Rattle.lay_formatting.specs.FormattingContexts.{AreFormattingContexts, FormattingContext, formatting_context_at, boxes_in}
+use Rattle.lay_positioned.specs.Absolute.{is_absolute}
+use Rattle.lay_positioned.specs.Settings.{absolute_setting}
+use Rattle.lay_positioned.specs.Ways.{IsOnWay}
+use Rattle.lay_positioned.proofs.SettingValues.{same_setting}
 use Rattle.lay_sizes.specs.declared.own_boxes.OwnBox.{OwnBox}
 use Rattle.lay_context.specs.declared.input.Input.{Input}
 use Rattle.lay_context.specs.declared.task.Phase.{Phase}
@@ -11,13 +14,16 @@ use Rattle.lay_context.specs.declared.task.Phase.TheVariants.{Measure, Size, Pla
 use Rattle.lay_context.specs.declared.task.Task.{Task}
 use Rattle.lay_context.specs.declared.value.Value.TheVariants as value
 use Rattle.lay_context.specs.ContextSizes.{SizedContext}
-use Rattle.lay_context.specs.DocumentLayout.{inner_boxes, inner_pieces, inner_widths, inner_widths_in, own_box_in, painted_of, pieces_in, placement_in, widths_in}
+use Rattle.lay_context.specs.DocumentLayout.{flow_numbers, inner_boxes, inner_pieces, inner_widths, inner_widths_in, own_box_in, painted_of, pieces_in, widths_in}
 use Rattle.lay_context.specs.Laws.{InputsComeOfNeeds}
 use Rattle.lay_context.specs.Local.{Workings, input_by, place_as, value_by}
 use Rattle.lay_context.specs.Medium.{Medium}
 use Rattle.lay_context.specs.OwnHeights.{own_height_rule}
-use Rattle.lay_context.specs.Needs.{needs_by}
-use Rattle.lay_context.specs.Settings.{setting_in, setting_of, sizes_in}
+use Rattle.lay_context.specs.Needs.{IsAround, needs_by}
+use Rattle.lay_context.specs.PlacedContexts.{PlacedContext, placed_in, placement_in}
+use Rattle.lay_context.specs.Settings.{flow_position, flow_setting, laid, setting_in, sizes_in}
+use Rattle.lay_context.specs.declared.position.Position.TheVariants as position
+use Rattle.lay_context.specs.declared.setting.Setting.TheVariants.{Absolute}
 
 pub width_value : (x y : PreferredWidths) → value.Measure x ≡ value.Measure y → x ≡ y
 width_value x y e = cc
@@ -25,7 +31,7 @@ width_value x y e = cc
 pub size_value : (x y : SizedContext) → value.Size x ≡ value.Size y → x ≡ y
 size_value x y e = cc
 
-pub place_value : (x y : Placement) → value.Place x ≡ value.Place y → x ≡ y
+pub place_value : (x y : PlacedContext) → value.Place x ≡ value.Place y → x ≡ y
 place_value x y e = cc
 
 -- the preferred widths of inner ones are equal where all are
@@ -42,11 +48,11 @@ widths_same x y (j ∷ numbers) same =
     rw (own, rest) refl
 
 -- the boxes of equal placements are equal
-own_box_same : (x y : List Placement) (j : ℕ) → (0 < j → placement_in x j ≡ placement_in y j) → own_box_in x j ≡ own_box_in y j
+own_box_same : (x y : List PlacedContext) (j : ℕ) → (0 < j → placement_in x j ≡ placement_in y j) → own_box_in x j ≡ own_box_in y j
 own_box_same x y zero same = refl
 own_box_same x y (suc j) same = ap (λ (p : Placement). p.own) (same (omega arith))
 
-boxes_same : (x y : List Placement) (numbers : List ℕ) → ((k : ℕ) → k < length numbers → 0 < slice_index numbers k → placement_in x (slice_index numbers k) ≡ placement_in y (slice_index numbers k))
+boxes_same : (x y : List PlacedContext) (numbers : List ℕ) → ((k : ℕ) → k < length numbers → 0 < slice_index numbers k → placement_in x (slice_index numbers k) ≡ placement_in y (slice_index numbers k))
     → map (own_box_in x) numbers ≡ map (own_box_in y) numbers
 boxes_same x y [] same = refl
 boxes_same x y (j ∷ numbers) same =
@@ -55,11 +61,11 @@ boxes_same x y (j ∷ numbers) same =
     rw (own, rest) refl
 
 -- and so are their pieces
-pieces_in_same : (contexts : List FormattingContext) (x y : List Placement) (j : ℕ) → (0 < j → placement_in x j ≡ placement_in y j) → pieces_in contexts x j ≡ pieces_in contexts y j
+pieces_in_same : (contexts : List FormattingContext) (x y : List PlacedContext) (j : ℕ) → (0 < j → placement_in x j ≡ placement_in y j) → pieces_in contexts x j ≡ pieces_in contexts y j
 pieces_in_same contexts x y zero same = refl
 pieces_in_same contexts x y (suc j) same = ap (painted_of (formatting_context_at contexts (suc j)).anonymous) (same (omega arith))
 
-pieces_same : (contexts : List FormattingContext) (x y : List Placement) (numbers : List ℕ) → ((k : ℕ) → k < length numbers → 0 < slice_index numbers k → placement_in x (slice_index numbers k) ≡ placement_in y (slice_index numbers k))
+pieces_same : (contexts : List FormattingContext) (x y : List PlacedContext) (numbers : List ℕ) → ((k : ℕ) → k < length numbers → 0 < slice_index numbers k → placement_in x (slice_index numbers k) ≡ placement_in y (slice_index numbers k))
     → map (pieces_in contexts x) numbers ≡ map (pieces_in contexts y) numbers
 pieces_same contexts x y [] same = refl
 pieces_same contexts x y (j ∷ numbers) same =
@@ -67,48 +73,57 @@ pieces_same contexts x y (j ∷ numbers) same =
     let rest : map (pieces_in contexts x) numbers ≡ map (pieces_in contexts y) numbers = pieces_same contexts x y numbers (λ k lt. same (suc k) (omega arith)) in
     rw (own, rest) refl
 
-module _ (medium : Medium) (contexts : List FormattingContext) (v w : Workings) where
-  setting_same : (i : ℕ) → ((j : ℕ) → needs_by contexts Size i Size j → sizes_in v.sizes j ≡ sizes_in w.sizes j) → setting_of medium.viewport contexts v.sizes i ≡ setting_of medium.viewport contexts w.sizes i
-  setting_same zero same = refl
-  setting_same (suc i) same =
-      let outer : ℕ = (formatting_context_at contexts (suc i)).outer in
-      ap (λ (sized : SizedContext). setting_in (boxes_in contexts outer) sized (formatting_context_at contexts (suc i)).outer_box) (same outer (omega arith, refl))
+module _ (medium : Medium) (contexts : List FormattingContext) (v w : Workings) (are : AreFormattingContexts contexts) (i : ℕ) (within : i < length contexts) where
+  -- an absolutely positioned one is given the same, where those on its way are the same
+  absolute_same : ((j : ℕ) → IsOnWay contexts i j → sizes_in v.sizes j ≡ sizes_in w.sizes j) → ((j : ℕ) → IsOnWay contexts i j → placed_in v.places j ≡ placed_in w.places j)
+      → absolute_setting medium.viewport contexts (laid v.sizes v.places) i ≡ absolute_setting medium.viewport contexts (laid w.sizes w.places) i
+  absolute_same sizes places = same_setting medium.viewport contexts (laid v.sizes v.places) (laid w.sizes w.places) i are within
+      (λ j on. (let s = sizes j on in let p = places j on in rw (s, p) refl))
 
-  -- what a placement is given comes of these
-  abbrev placed_by : SizedContext → List OwnBox → List (List Frag) → ℕ → Input
-  placed_by sized inner pieces i = place_as (record {
-    boxes = boxes_in contexts i;
-    sizes = sized.boxes;
-    inner = inner;
-    pieces = pieces;
-    own_height = own_height_rule (boxes_in contexts i) sized.boxes;
-    face = medium.face;
-  }) (option_map (λ table. record { boxes = boxes_in contexts i; sizes = sized.boxes; table = table; inner = inner; pieces = pieces }) sized.table)
+  setting_by : (b : Bool) → is_absolute contexts i ≡ b → ((j : ℕ) → needs_by contexts Size i Size j → sizes_in v.sizes j ≡ sizes_in w.sizes j) → ((j : ℕ) → needs_by contexts Size i Place j → placed_in v.places j ≡ placed_in w.places j)
+      → (if b then Absolute (absolute_setting medium.viewport contexts (laid v.sizes v.places) i) else flow_setting medium.viewport contexts v.sizes i)
+      ≡ (if b then Absolute (absolute_setting medium.viewport contexts (laid w.sizes w.places) i) else flow_setting medium.viewport contexts w.sizes i)
+  setting_by true is sizes places =
+      ap Absolute (absolute_same (λ j on. sizes j (inr (record { absolute = is; way = on }))) (λ j on. places j (record { absolute = is; way = on })))
+  setting_by false is sizes places = by i refl
+    where
+      by : (k : ℕ) → i ≡ k → flow_setting medium.viewport contexts v.sizes k ≡ flow_setting medium.viewport contexts w.sizes k
+      by zero e = refl
+      by (suc k) e =
+          let outer : ℕ = (formatting_context_at contexts (suc k)).outer in
+          let around : IsAround contexts i outer = record { in_flow = is; some = omega (arith, e); is = ap (λ m. (formatting_context_at contexts m).outer) (sym e) } in
+          ap (λ (sized : SizedContext). setting_in (boxes_in contexts outer) sized (formatting_context_at contexts (suc k)).outer_box) (sizes outer (inl around))
 
-  placed_same : (sized other : SizedContext) (inner others : List OwnBox) (pieces further : List (List Frag)) (i : ℕ) → sized ≡ other → inner ≡ others → pieces ≡ further
-      → placed_by sized inner pieces i ≡ placed_by other others further i
-  placed_same sized other inner others pieces further i same_sizes same_boxes same_pieces = rw (same_sizes, same_boxes, same_pieces) refl
+  position_by : (b : Bool) → is_absolute contexts i ≡ b → ((j : ℕ) → needs_by contexts Place i Size j → sizes_in v.sizes j ≡ sizes_in w.sizes j) → ((j : ℕ) → needs_by contexts Place i Place j → placed_in v.places j ≡ placed_in w.places j)
+      → (if b then position.Absolute (absolute_setting medium.viewport contexts (laid v.sizes v.places) i) else flow_position medium.viewport i)
+      ≡ (if b then position.Absolute (absolute_setting medium.viewport contexts (laid w.sizes w.places) i) else flow_position medium.viewport i)
+  position_by true is sizes places =
+      ap position.Absolute (absolute_same (λ j on. sizes j (inr (record { absolute = is; way = on }))) (λ j on. places j (inr (record { absolute = is; way = on }))))
+  position_by false is sizes places = refl
 
-  input_same : (phase : Phase) (i : ℕ) → ((needed : Phase) (j : ℕ) → needs_by contexts phase i needed j → value_by v needed j ≡ value_by w needed j) → input_by medium contexts v phase i ≡ input_by medium contexts w phase i
-  input_same Measure i same =
+  input_same : (phase : Phase) → ((needed : Phase) (j : ℕ) → needs_by contexts phase i needed j → value_by v needed j ≡ value_by w needed j) → input_by medium contexts v phase i ≡ input_by medium contexts w phase i
+  input_same Measure same =
       let inner : inner_widths contexts v.widths i ≡ inner_widths contexts w.widths i =
-      widths_same v.widths w.widths (formatting_context_at contexts i).inner (λ k lt some. (let j : ℕ = slice_index (formatting_context_at contexts i).inner k in
+      widths_same v.widths w.widths (flow_numbers contexts i) (λ k lt some. (let j : ℕ = slice_index (flow_numbers contexts i) k in
       width_value (widths_in v.widths j) (widths_in w.widths j) (same Measure j (record { box = k; within = lt; number = refl; some = some })))) in
       rw inner refl
-  input_same Size i same =
+  input_same Size same =
       let widths = width_value (widths_in v.widths i) (widths_in w.widths i) (same Measure i refl) in
-      let setting = setting_same i (λ j needs. size_value (sizes_in v.sizes j) (sizes_in w.sizes j) (same Size j needs)) in
+      let setting = setting_by (is_absolute contexts i) refl (λ j needs. size_value (sizes_in v.sizes j) (sizes_in w.sizes j) (same Size j needs))
+        (λ j needs. place_value (placed_in v.places j) (placed_in w.places j) (same Place j needs)) in
       rw (widths, setting) refl
-  input_same Place i same =
-      let sizes = size_value (sizes_in v.sizes i) (sizes_in w.sizes i) (same Size i refl) in
-      let places : (k : ℕ) → k < length (formatting_context_at contexts i).inner → 0 < slice_index (formatting_context_at contexts i).inner k
-      → placement_in v.places (slice_index (formatting_context_at contexts i).inner k) ≡ placement_in w.places (slice_index (formatting_context_at contexts i).inner k) = λ k lt some.
-      (let j : ℕ = slice_index (formatting_context_at contexts i).inner k in
-      place_value (placement_in v.places j) (placement_in w.places j) (same Place j (record { box = k; within = lt; number = refl; some = some }))) in
-      let inner : inner_boxes contexts v.places i ≡ inner_boxes contexts w.places i = boxes_same v.places w.places (formatting_context_at contexts i).inner places in
-      let pieces : inner_pieces contexts v.places i ≡ inner_pieces contexts w.places i = pieces_same contexts v.places w.places (formatting_context_at contexts i).inner places in
-      placed_same (sizes_in v.sizes i) (sizes_in w.sizes i) (inner_boxes contexts v.places i) (inner_boxes contexts w.places i) (inner_pieces contexts v.places i) (inner_pieces contexts w.places i) i sizes inner pieces
+  input_same Place same =
+      let sizes = size_value (sizes_in v.sizes i) (sizes_in w.sizes i) (same Size i (inl refl)) in
+      let places : (k : ℕ) → k < length (flow_numbers contexts i) → 0 < slice_index (flow_numbers contexts i) k
+          → placement_in v.places (slice_index (flow_numbers contexts i) k) ≡ placement_in w.places (slice_index (flow_numbers contexts i) k) = λ k lt some.
+      (let j : ℕ = slice_index (flow_numbers contexts i) k in
+      ap (λ (p : PlacedContext). p.placement) (place_value (placed_in v.places j) (placed_in w.places j) (same Place j (inl (record { box = k; within = lt; number = refl; some = some }))))) in
+      let inner : inner_boxes contexts v.places i ≡ inner_boxes contexts w.places i = boxes_same v.places w.places (flow_numbers contexts i) places in
+      let pieces : inner_pieces contexts v.places i ≡ inner_pieces contexts w.places i = pieces_same contexts v.places w.places (flow_numbers contexts i) places in
+      let position = position_by (is_absolute contexts i) refl (λ j needs. size_value (sizes_in v.sizes j) (sizes_in w.sizes j) (same Size j needs))
+        (λ j needs. place_value (placed_in v.places j) (placed_in w.places j) (same Place j needs)) in
+      rw (sizes, inner, pieces, position) refl
 
 pub inputs_come_of_needs_lem : InputsComeOfNeeds
-inputs_come_of_needs_lem medium contexts v w task same =
-    input_same medium contexts v w task.phase task.context (λ phase j needs. same (record { context = j; phase = phase }) needs)
+inputs_come_of_needs_lem medium contexts v w task are within same =
+    input_same medium contexts v w are task.context within task.phase (λ phase j needs. same (record { context = j; phase = phase }) needs)

@@ -2,6 +2,7 @@
 -- beside its containing block. For the own box the setting is given, and so are the preferred widths of the context. The boxes of
 -- inner contexts are sized there.
 use Rattle.std.specs.Prelude.{ℕ, ◌≡◌, ◌<◌, true, false, List, length, slice_get, Option, Some, None, if◌then◌else◌}
+use Rattle.lay_units.specs.declared.length.Unit.{Unit as Length}
 use Rattle.lay_style.specs.ComputedStyle.{style_at}
 use Rattle.lay_boxgen.specs.declared.box_tree.BoxNode.{BoxNode}
 use Rattle.lay_boxgen.specs.declared.facts.Flow.{Flow}
@@ -16,12 +17,15 @@ use Rattle.lay_sizes.specs.declared.sizing.WidthRule.{WidthRule}
 use Rattle.lay_sizes.specs.declared.sizing.WidthRule.TheVariants.{Fills, Inline, Replaced, ReplacedBlock, ShrinksToFit}
 use Rattle.lay_sizes.specs.BoxSizes.{IsSized}
 use Rattle.lay_sizes.specs.SizeColumns.{no_sizes, sizes_at}
+use Rattle.lay_sizes.specs.UsedLengths.{no_length}
 use Rattle.lay_table_sizes.specs.CellSizes.{IsCellSized}
 use Rattle.lay_context_boxes.specs.ContextBoxes.{is_inner}
 use Rattle.lay_context_boxes.specs.ContainingBlocks.{block_around}
+use Rattle.lay_formatting.specs.FormattingBoxes.{box_at}
+use Rattle.lay_positioned.specs.AbsoluteSizes.{IsAbsoluteSized}
 use Rattle.lay_context.specs.Inputs.{SizeInput}
 use Rattle.lay_context.specs.declared.setting.Setting.{Setting}
-use Rattle.lay_context.specs.declared.setting.Setting.TheVariants.{Block, Cell}
+use Rattle.lay_context.specs.declared.setting.Setting.TheVariants.{Absolute, Block, Cell}
 
 -- Which rule gives the context's own box its width, where these are its preferred widths. In flow an inline-block shrinks to fit
 -- (10.3.9), and a block fills its containing block (10.3.3). A replaced element has the width of the rules for these, which is
@@ -45,10 +49,13 @@ abbrev pub own_rule_of : PreferredWidths → Option BoxNode → WidthRule
 own_rule_of w None = Fills
 own_rule_of w (Some b) = own_rule w b.flow b.kind
 
--- these are the used sizes of the own box in a setting; a cell has its width and its borders from the table (17.5.2, 17.6)
-abbrev pub IsOwnSized : Setting → PreferredWidths → List BoxNode → BoxSizes → Type 0
-IsOwnSized (Block containing) w boxes z = IsSized containing (own_rule_of w (slice_get boxes 0)) (style_at (box_styles boxes) 0) z
-IsOwnSized (Cell containing cell) w boxes z = IsCellSized containing cell (style_at (box_styles boxes) 0) z
+-- These are the used sizes of the own box in a setting. A cell has its width and its borders from the table (17.5.2, 17.6). Of an
+-- absolutely positioned one they come with the place of its left border edge (10.3.7), which is nothing for others.
+abbrev pub IsOwnSized : Setting → PreferredWidths → List BoxNode → BoxSizes → (left : Length) → Type 0
+IsOwnSized (Block containing) w boxes z left =
+    IsSized containing (own_rule_of w (slice_get boxes 0)) (style_at (box_styles boxes) 0) z × (left ≡ no_length)
+IsOwnSized (Cell containing cell) w boxes z left = IsCellSized containing cell (style_at (box_styles boxes) 0) z × (left ≡ no_length)
+IsOwnSized (Absolute s) w boxes z left = IsAbsoluteSized s (box_at boxes 0) w.minimum w.preferred z left
 
 -- which rule gives the box at k in the context its width: it is a block in flow, or an inline box (10.3.1)
 abbrev pub inside_rule : List BoxNode → ℕ → WidthRule
@@ -65,6 +72,6 @@ pub record HaveInsideSizes (boxes : List BoxNode) (sizes : List BoxSizes) : Type
   pub inner : (k : ℕ) → 0 < k → k < length boxes → is_inner boxes k ≡ true → sizes_at sizes k ≡ no_sizes
 
 -- and so has the own box in its setting
-pub record HasFlowSizes (i : SizeInput) (sizes : List BoxSizes) : Type 0 where
-  pub own : IsOwnSized i.setting i.widths i.boxes (sizes_at sizes 0)
+pub record HasFlowSizes (i : SizeInput) (sizes : List BoxSizes) (left : Length) : Type 0 where
+  pub own : IsOwnSized i.setting i.widths i.boxes (sizes_at sizes 0) left
   pub inside : HaveInsideSizes i.boxes sizes

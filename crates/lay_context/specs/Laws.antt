@@ -7,13 +7,14 @@ use Rattle.lay_face.specs.FaceValue.{FaceValue}
 use Rattle.lay_measure.specs.declared.preferred_widths.PreferredWidths.{PreferredWidths}
 use Rattle.lay_context_boxes.specs.ContextBoxes.{AreContextBoxes}
 use Rattle.lay_formatting.specs.FormattingContexts.{FormattingContext, AreFormattingContexts}
+use Rattle.lay_positioned.specs.Levels.{HasLevels}
 use Rattle.lay_context.specs.declared.task.Task.{Task}
 use Rattle.lay_context.specs.ContextSizes.{SizedContext, HasSizes}
 use Rattle.lay_context.specs.ContextWidths.{HasWidths}
 use Rattle.lay_context.specs.Inputs.{MeasureInput, SizeInput}
 use Rattle.lay_context.specs.Local.{Workings, input_of, value_of}
 use Rattle.lay_context.specs.Medium.{Medium}
-use Rattle.lay_context.specs.Needs.{Needs, task_at, turns_of}
+use Rattle.lay_context.specs.Needs.{Needs, turn_of}
 use Rattle.lay_context.specs.Solves.{Solves}
 
 -- beside what it is given a formatting context has one pair of preferred widths
@@ -27,19 +28,19 @@ OneContextSizes = (i : SizeInput) (x y : SizedContext) → AreContextBoxes i.box
 -- where the values that a task needs are equal, it is given the same
 abbrev pub InputsComeOfNeeds : Type 0
 InputsComeOfNeeds = (medium : Medium) (contexts : List FormattingContext) (v w : Workings) (task : Task)
+    → AreFormattingContexts contexts → task.context < length contexts
     → ((needed : Task) → Needs contexts task needed → value_of v needed ≡ value_of w needed)
     → input_of medium contexts v task ≡ input_of medium contexts w task
 
--- what a task needs had its turn before
-pub record HadTurn (n before : ℕ) (task : Task) : Type 0 where
-  pub turn : ℕ
-  pub earlier : turn < before
-  pub is : task_at n turn ≡ task
+-- what a task needs has its turn before
+pub record HasEarlierTurn (contexts : List FormattingContext) (levels : List ℕ) (task needed : Task) : Type 0 where
+  pub within : needed.context < length contexts
+  pub earlier : turn_of levels needed < turn_of levels task
 
 abbrev pub NeedsComeFirst : Type 0
-NeedsComeFirst = (contexts : List FormattingContext) (turn : ℕ) (needed : Task) → AreFormattingContexts contexts
-    → turn < turns_of (length contexts) → Needs contexts (task_at (length contexts) turn) needed
-    → HadTurn (length contexts) turn needed
+NeedsComeFirst = (contexts : List FormattingContext) (levels : List ℕ) (task needed : Task) → AreFormattingContexts contexts
+    → HasLevels contexts levels → task.context < length contexts → Needs contexts task needed
+    → HasEarlierTurn contexts levels task needed
 
 -- two trees that solve one document in one face are equal
 abbrev pub OneSolution : Type 0

@@ -8,8 +8,11 @@ pub mod Local
 pub mod Medium
 pub mod Needs
 pub mod OwnHeights
+pub mod OwnOffsets
+pub mod PlacedContexts
 pub mod PageCorners
 pub mod Settings
 pub mod Settling
+pub mod StandInputs
 pub mod Solves
 pub mod TableContexts

@@ -19,25 +19,27 @@ use Rattle.lay_context.specs.declared.value.Value.{Value}
 use Rattle.lay_context.specs.declared.value.Value.TheVariants as value
 use Rattle.lay_context.specs.ContextSizes.{SizedContext, HasSizes}
 use Rattle.lay_context.specs.ContextWidths.{HasWidths}
-use Rattle.lay_context.specs.DocumentLayout.{inner_boxes, inner_pieces, inner_widths, placement_in, widths_in}
+use Rattle.lay_context.specs.DocumentLayout.{inner_boxes, inner_pieces, inner_widths, widths_in}
 use Rattle.lay_context.specs.Inputs.{MeasureInput, SizeInput}
 use Rattle.lay_context.specs.Medium.{Medium}
 use Rattle.lay_context.specs.OwnHeights.{own_height_rule}
-use Rattle.lay_context.specs.Settings.{setting_of, sizes_in}
+use Rattle.lay_context.specs.OwnOffsets.{IsOwnOffset, StandInput}
+use Rattle.lay_context.specs.PlacedContexts.{PlacedContext, placed_in}
+use Rattle.lay_context.specs.Settings.{position_of, setting_of, sizes_in}
 
 -- a value is right beside what its task is given
 abbrev pub IsLocal : Input → Value → Type 0
 IsLocal (input.Measure i) (value.Measure widths) = HasWidths i widths
 IsLocal (input.Size i) (value.Size sizes) = HasSizes i sizes
-IsLocal (input.Place i) (value.Place answer) = IsPlacement i answer
-IsLocal (input.PlaceTable i) (value.Place answer) = IsTablePlacement i answer
+IsLocal (input.Place i at) (value.Place answer) = IsPlacement i answer.placement × IsOwnOffset at answer.placement.own answer.offset
+IsLocal (input.PlaceTable i at) (value.Place answer) = IsTablePlacement i answer.placement × IsOwnOffset at answer.placement.own answer.offset
 IsLocal _ _ = ⊥
 
 -- columns of values, with one for each formatting context
 pub record Workings : Type 0 where
   pub widths : List PreferredWidths
   pub sizes : List SizedContext
-  pub places : List Placement
+  pub places : List PlacedContext
 
 -- there are as many of each
 pub record HasCounts (contexts : List FormattingContext) (w : Workings) : Type 0 where
@@ -53,7 +55,7 @@ abbrev pub size_input : Medium → List FormattingContext → Workings → ℕ �
 size_input medium contexts w i = record {
   boxes = boxes_in contexts i;
   widths = widths_in w.widths i;
-  setting = setting_of medium.viewport contexts w.sizes i;
+  setting = setting_of medium.viewport contexts w.sizes w.places i;
 }
 
 -- what the placement of boxes in block flow is given
@@ -63,7 +65,7 @@ flow_input medium contexts w i = record {
   sizes = (sizes_in w.sizes i).boxes;
   inner = inner_boxes contexts w.places i;
   pieces = inner_pieces contexts w.places i;
-  own_height = own_height_rule (boxes_in contexts i) (sizes_in w.sizes i).boxes;
+  own_height = own_height_rule (boxes_in contexts i) (sizes_in w.sizes i).boxes (sizes_in w.sizes i).stretched;
   face = medium.face;
 }
 
@@ -77,13 +79,22 @@ table_input contexts w i table = record {
   pieces = inner_pieces contexts w.places i;
 }
 
-abbrev pub place_as : PlaceInput → Option TableInput → Input
-place_as flow None = input.Place flow
-place_as flow (Some table) = input.PlaceTable table
+-- and what says where it stands itself
+abbrev pub stand_input : Medium → List FormattingContext → Workings → ℕ → StandInput
+stand_input medium contexts w i = record {
+  boxes = boxes_in contexts i;
+  sizes = (sizes_in w.sizes i).boxes;
+  left = (sizes_in w.sizes i).left;
+  position = position_of medium.viewport contexts w.sizes w.places i;
+}
+
+abbrev pub place_as : PlaceInput → Option TableInput → StandInput → Input
+place_as flow None at = input.Place flow at
+place_as flow (Some table) at = input.PlaceTable table at
 
 abbrev pub place_input : Medium → List FormattingContext → Workings → ℕ → Input
 place_input medium contexts w i =
-    place_as (flow_input medium contexts w i) (option_map (table_input contexts w i) (sizes_in w.sizes i).table)
+    place_as (flow_input medium contexts w i) (option_map (table_input contexts w i) (sizes_in w.sizes i).table) (stand_input medium contexts w i)
 
 abbrev pub input_by : Medium → List FormattingContext → Workings → Phase → ℕ → Input
 input_by medium contexts w phase.Measure i = input.Measure (measure_input medium contexts w i)
@@ -97,7 +108,7 @@ input_of medium contexts w task = input_by medium contexts w task.phase task.con
 abbrev pub value_by : Workings → Phase → ℕ → Value
 value_by w phase.Measure i = value.Measure (widths_in w.widths i)
 value_by w phase.Size i = value.Size (sizes_in w.sizes i)
-value_by w phase.Place i = value.Place (placement_in w.places i)
+value_by w phase.Place i = value.Place (placed_in w.places i)
 
 -- the value of a task among these
 abbrev pub value_of : Workings → Task → Value

@@ -1,8 +1,8 @@
 -- In which setting the own box of a formatting context is sized, by where its box stands outside. Among boxes in flow its
 -- containing block is its nearest block container (CSS 2.2, 10.1). In a table a cell has its width from the table's columns
 -- (17.5.2), and its percentages refer to the table box; the containing block of a caption is the wrapper (17.4), whose height comes
--- of what is in it.
-use Rattle.std.specs.Prelude.{ℕ, zero, suc, List, slice_index_or, Option, None, Some}
+-- of what is in it. An absolutely positioned one is given its containing block and its static position by those on the way out to it.
+use Rattle.std.specs.Prelude.{ℕ, zero, suc, List, slice_index_or, Option, None, Some, if◌then◌else◌}
 use Rattle.lay_units.specs.declared.records.Len.TheVariants.{Auto as auto}
 use Rattle.lay_boxgen.specs.declared.box_tree.BoxNode.{BoxNode}
 use Rattle.lay_sizes.specs.declared.sizing.BoxSizes.{BoxSizes}
@@ -13,9 +13,15 @@ use Rattle.lay_table_sizes.specs.TableSizesValue.{TableSizesValue, cell_at}
 use Rattle.lay_table_sizes.specs.declared.cell_size.CellSize.{CellSize}
 use Rattle.lay_formatting.specs.FormattingContexts.{FormattingContext, formatting_context_at, boxes_in}
 use Rattle.lay_context_boxes.specs.ContainingBlocks.{block_around}
+use Rattle.lay_positioned.specs.Absolute.{is_absolute}
+use Rattle.lay_positioned.specs.Layouts.{Layout}
+use Rattle.lay_positioned.specs.Settings.{absolute_setting}
 use Rattle.lay_context.specs.ContextSizes.{SizedContext, not_sized}
+use Rattle.lay_context.specs.PlacedContexts.{PlacedContext, placed_in, placement_in}
+use Rattle.lay_context.specs.declared.position.Position.{Position}
+use Rattle.lay_context.specs.declared.position.Position.TheVariants as position
 use Rattle.lay_context.specs.declared.setting.Setting.{Setting}
-use Rattle.lay_context.specs.declared.setting.Setting.TheVariants.{Block, Cell}
+use Rattle.lay_context.specs.declared.setting.Setting.TheVariants.{Absolute, Block, Cell}
 
 -- the wrapper of these sizes, as the containing block of its captions
 abbrev pub caption_block : BoxSizes → ContainingBlock
@@ -50,9 +56,32 @@ cell_of contexts sizes (suc i) =
     let c = formatting_context_at contexts (suc i) in
     cell_given (sizes_in sizes c.outer).table c.outer_box
 
--- the setting of the own box of the formatting context with this number; that of the root's is the viewport
-abbrev pub setting_of : ContainingBlock → List FormattingContext → List SizedContext → ℕ → Setting
-setting_of viewport contexts sizes zero = Block viewport
-setting_of viewport contexts sizes (suc i) =
+-- the setting of the own box of the formatting context with this number, in flow or floating; that of the root's is the viewport
+abbrev pub flow_setting : ContainingBlock → List FormattingContext → List SizedContext → ℕ → Setting
+flow_setting viewport contexts sizes zero = Block viewport
+flow_setting viewport contexts sizes (suc i) =
     let c = formatting_context_at contexts (suc i) in
     setting_in (boxes_in contexts c.outer) (sizes_in sizes c.outer) c.outer_box
+
+-- what is known of the formatting contexts, by their numbers
+abbrev pub laid : List SizedContext → List PlacedContext → ℕ → Layout
+laid sizes places i = record {
+  sizes = (sizes_in sizes i).boxes;
+  standings = (placement_in places i).standings;
+  offset = (placed_in places i).offset;
+}
+
+abbrev pub setting_of : ContainingBlock → List FormattingContext → List SizedContext → List PlacedContext → ℕ → Setting
+setting_of viewport contexts sizes places i =
+    if is_absolute contexts i then Absolute (absolute_setting viewport contexts (laid sizes places) i)
+    else flow_setting viewport contexts sizes i
+
+-- what says where the formatting context with this number stands
+abbrev pub flow_position : ContainingBlock → ℕ → Position
+flow_position viewport zero = position.Root viewport
+flow_position viewport (suc i) = position.Inner
+
+abbrev pub position_of : ContainingBlock → List FormattingContext → List SizedContext → List PlacedContext → ℕ → Position
+position_of viewport contexts sizes places i =
+    if is_absolute contexts i then position.Absolute (absolute_setting viewport contexts (laid sizes places) i)
+    else flow_position viewport i

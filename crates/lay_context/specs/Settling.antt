@@ -1,16 +1,17 @@
 -- What the loop over tasks keeps: the tasks that had their turn are done, and so what the next one needs is there.
-use Rattle.std.specs.Prelude.{ℕ, ◌≡◌, ◌<◌, List, length, IfSome}
+use Rattle.std.specs.Prelude.{ℕ, ◌≡◌, ◌<◌, List, length, slice_index, IfSome}
 use Rattle.lay_boxgen.specs.declared.box_tree.BoxNode.{BoxNode}
 use Rattle.lay_table_grid.specs.GridBounds.{PlacesAreBelow}
-use Rattle.lay_formatting.specs.FormattingContexts.{FormattingContext, boxes_in}
+use Rattle.lay_formatting.specs.FormattingContexts.{AreFormattingContexts, FormattingContext, boxes_in}
+use Rattle.lay_positioned.specs.Levels.{HasLevels}
 use Rattle.lay_context.specs.declared.task.Phase.TheVariants.{Size}
 use Rattle.lay_context.specs.declared.task.Task.{Task}
 use Rattle.lay_context.specs.declared.value.Value.{Value}
 use Rattle.lay_context.specs.ContextSizes.{SizedContext}
-use Rattle.lay_context.specs.DocumentLayout.{placement_in}
 use Rattle.lay_context.specs.Local.{HasCounts, Workings, IsLocal, IsTaskDone, input_of, with_value}
 use Rattle.lay_context.specs.Medium.{Medium}
-use Rattle.lay_context.specs.Needs.{Needs, task_at}
+use Rattle.lay_context.specs.Needs.{Needs, turn_of}
+use Rattle.lay_context.specs.PlacedContexts.{placement_in}
 use Rattle.lay_context.specs.Settings.{sizes_in}
 
 -- the sizes of a formatting context are of its boxes: there are as many, and the boxes of a table's grid are some of them
@@ -18,16 +19,25 @@ pub record AreOfBoxes (boxes : List BoxNode) (sized : SizedContext) : Type 0 whe
   pub count : length sized.boxes ≡ length boxes
   pub grid : IfSome sized.table (λ table. PlacesAreBelow (length boxes) table.grid)
 
+-- numbers below another one
+abbrev pub AreBelow : ℕ → List ℕ → Type 0
+AreBelow n numbers = (k : ℕ) → k < length numbers → slice_index numbers k < n
+
 -- the sizes that a task reads are of the boxes that they are beside
 pub record IsReady (contexts : List FormattingContext) (w : Workings) (task : Task) : Type 0 where
   pub within : task.context < length contexts
   pub counts : HasCounts contexts w
   pub sized : (j : ℕ) → Needs contexts task (record { context = j; phase = Size }) → AreOfBoxes (boxes_in contexts j) (sizes_in w.sizes j)
 
--- the tasks before this turn are done
-pub record AreDoneTo (medium : Medium) (contexts : List FormattingContext) (w : Workings) (turn : ℕ) : Type 0 where
+-- the tasks before this turn are done, of formatting contexts that have these levels
+pub record AreDoneTo (medium : Medium) (contexts : List FormattingContext) (levels : List ℕ) (w : Workings) (turn : ℕ) : Type 0 where
   pub counts : HasCounts contexts w
-  pub done : (t : ℕ) → t < turn → IsTaskDone medium contexts w (task_at (length contexts) t)
+  pub done : (task : Task) → task.context < length contexts → turn_of levels task < turn → IsTaskDone medium contexts w task
+
+-- these are the levels of formatting contexts
+pub record IsPlan (contexts : List FormattingContext) (levels : List ℕ) : Type 0 where
+  pub are : AreFormattingContexts contexts
+  pub has : HasLevels contexts levels
 
 -- a task has been given a value that is right beside the others
 pub record IsSettled (medium : Medium) (contexts : List FormattingContext) (before : Workings) (task : Task) (after : Workings) : Type 0 where

@@ -28,11 +28,11 @@ use Rattle.lay_pieces.specs.declared.standing.Standing.{Standing}
 use Rattle.lay_pieces.specs.Corners.{corner_at}
 use Rattle.lay_pieces.specs.Placements.{Placement}
 use Rattle.lay_context.specs.declared.task.Task.{Task}
-use Rattle.lay_context.specs.DocumentLayout.{placement_in}
 use Rattle.lay_context.specs.Local.{HasCounts, IsTaskDone, Workings}
 use Rattle.lay_context.specs.Medium.{Medium}
-use Rattle.lay_context.specs.PageCorners.{HasPageCorners, root_corner_of, standing_of}
-use Rattle.lay_context.specs.Settings.{cell_of, sizes_in}
+use Rattle.lay_context.specs.PageCorners.{HasPageCorners, standing_of}
+use Rattle.lay_context.specs.PlacedContexts.{PlacedContext, placed_in, placement_in}
+use Rattle.lay_context.specs.Settings.{cell_of}
 
 -- A cell is as wide as its columns, also where these are narrower than its borders and paddings (17.5.2.1). Others are as wide as
 -- they laid themselves out.
@@ -72,9 +72,9 @@ page_contexts contexts w corners (suc n) =
     ++ listed (formatting_context_at contexts n).anonymous (page_context contexts w corners n)
 
 -- the tree is put together of these values, each where it stands on the page
-pub record IsAssembled (viewport : ContainingBlock) (contexts : List FormattingContext) (w : Workings) (tree : List PageContext) : Type 0 where
+pub record IsAssembled (contexts : List FormattingContext) (w : Workings) (tree : List PageContext) : Type 0 where
   pub corners : List Corner
-  pub has_corners : HasPageCorners (root_corner_of viewport contexts (sizes_in w.sizes 0).boxes) contexts w.places corners
+  pub has_corners : HasPageCorners (placed_in w.places 0).offset contexts w.places corners
   pub tree_is : tree ≡ page_contexts contexts w corners (length contexts)
 
 -- the tree of these formatting contexts, on a medium, has the rectangles of workings that meet their equations
@@ -82,7 +82,7 @@ pub record SolvesContexts (medium : Medium) (contexts : List FormattingContext) 
   pub workings : Workings
   pub counts : HasCounts contexts workings
   pub done : (task : Task) → task.context < length contexts → IsTaskDone medium contexts workings task
-  pub assembled : IsAssembled medium.viewport contexts workings tree
+  pub assembled : IsAssembled contexts workings tree
 
 -- the viewport as the root's containing block (10.1)
 abbrev pub viewport_of : Document → ContainingBlock

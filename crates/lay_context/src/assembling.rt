@@ -1,7 +1,6 @@
 //! The tree of a document, put together of the values of its formatting contexts.
 
 ghost use Rattle.std.specs.Prelude.{◌≡◌, ◌+◌, ◌^◌, ◌<◌, ◌≤◌, length, IfOk};
-ghost use Rattle.lay_units.specs.Units.{IsUsedSize};
 ghost use Rattle.lay_frag.specs.Pieces.{IsContextInRange};
 ghost use Rattle.lay_pieces.specs.Corners.{AreNearCorners};
 ghost use Rattle.lay_pieces.specs.NearPieces.{IsRectNear};
@@ -14,7 +13,7 @@ use crate::settings::cell_of;
 use lay_formatting::FormattingContexts;
 use lay_frag::{Placed, Tree};
 use lay_pieces::{Corner, near_position};
-use lay_sizes::{ContainingBlock, OwnBox};
+use lay_sizes::OwnBox;
 use lay_table_sizes::CellSize;
 use lay_units::{NoMemory, Rect, Unit};
 use std::alloc::Global;
@@ -25,15 +24,13 @@ const TOO_MANY_PIECES: usize = 4294967296;
 /// The tree of these formatting contexts, whose values are known.
 pub(crate) fn assemble(
     alloc: Global,
-    viewport: ContainingBlock,
     contexts: &FormattingContexts,
     known: &Known,
 ) -> Result<Tree, NoMemory>
-    requires viewport { IsUsedSize viewport.width.0 }
     requires known { AreKnown contexts.now known.now }
-    ensures { IfOk result (IsAssembled viewport contexts.now known.now) }
+    ensures { IfOk result (IsAssembled contexts.now known.now) }
 {
-    let corners = page_corners(alloc, viewport, contexts, known)?;
+    let corners = page_corners(alloc, contexts, known)?;
     tree_of(alloc, contexts, known, &corners)
 }
 

@@ -4,7 +4,9 @@ ghost use Rattle.std.specs.Prelude.{◌≡◌, ◌<◌, true, false, length, sli
 ghost use Rattle.lay_units.specs.Units.{IsPosition};
 ghost use Rattle.lay_sizes.specs.SizeBounds.{SizeFits};
 ghost use Rattle.lay_sizes.specs.SizeColumns.{HaveSizeBounds, no_sizes, sizes_at};
+ghost use Rattle.lay_sizes.specs.UsedLengths.{no_length};
 ghost use Rattle.lay_context_boxes.specs.ContextBoxes.{is_inner};
+ghost use Rattle.lay_positioned.specs.OffsetBounds.{IsStart};
 ghost use Rattle.lay_context.specs.FlowSizes.{HasFlowSizes, HaveInsideSizes, IsBoxSized, IsOwnSized, floating_rule, inside_rule, own_rule, own_rule_of, rule_in_flow};
 
 use crate::input::SizeInput;
@@ -13,36 +15,66 @@ use lay_boxgen::{BoxKind, Flow};
 use lay_context_boxes::{ContextBoxes, block_around};
 use lay_measure::PreferredWidths;
 use lay_pieces::ContextSizes;
+use lay_positioned::{AbsoluteSizes, absolute_sizes};
 use lay_sizes::{BoxSizes, NO_SIZES, NaturalSize, WidthRule, box_sizes};
 use lay_table_sizes::cell_sizes;
 use lay_units::{NoMemory, Unit};
 use std::alloc::Global;
 
+/// The used sizes of boxes in block flow, and how far the left border edge of the own box is from that of its containing
+/// block where it is absolutely positioned.
+#[derive(Drop)]
+pub(crate) struct SizedFlow {
+    pub(crate) sizes: ContextSizes,
+    pub(crate) left: Unit,
+}
+
 /// The used sizes of boxes in block flow.
-pub(crate) fn flow_sizes(alloc: Global, input: &SizeInput) -> Result<ContextSizes, NoMemory>
-    ensures { IfOk result (HasFlowSizes input.now) }
+pub(crate) fn flow_sizes(alloc: Global, input: &SizeInput) -> Result<SizedFlow, NoMemory>
+    ensures sizes { IfOk result (λ f. HasFlowSizes input.now f.sizes f.left) }
+    ensures left { IfOk result (λ f. IsStart f.left.0) }
 {
     let boxes = input.context_boxes();
     let own = own_sizes(input);
-    let sizes = sizes_from(alloc, own, boxes)?;
-    ContextSizes::new(alloc, sizes)
+    let sizes = sizes_from(alloc, own.sizes, boxes)?;
+    let sizes = ContextSizes::new(alloc, sizes)?;
+    Ok(SizedFlow {
+        sizes,
+        left: own.left,
+    })
 }
 
 /// The used sizes of the own box.
-fn own_sizes(input: &SizeInput) -> BoxSizes
-    ensures own { IsOwnSized input.now.setting input.now.widths input.now.boxes result }
-    ensures fits { SizeFits result }
+fn own_sizes(input: &SizeInput) -> AbsoluteSizes
+    ensures own { IsOwnSized input.now.setting input.now.widths input.now.boxes result.sizes result.left }
+    ensures fits { SizeFits result.sizes }
+    ensures left { IsStart result.left.0 }
 {
     let boxes = input.context_boxes();
+    let widths = input.widths();
     match input.setting() {
         Setting::Block(containing) => {
-            box_sizes(
-                containing,
-                own_rule_of(input.widths(), boxes),
-                boxes.style(0),
-            )
+            in_flow(box_sizes(containing, own_rule_of(widths, boxes), boxes.style(0)))
         }
-        Setting::Cell { containing, cell } => cell_sizes(containing, cell, boxes.style(0)),
+        Setting::Cell { containing, cell } => in_flow(
+            cell_sizes(containing, cell, boxes.style(0)),
+        ),
+        Setting::Absolute(setting) => {
+            absolute_sizes(&setting, input.own(), widths.minimum, widths.preferred)
+        }
+    }
+}
+
+/// These sizes of a box of which the one around says where it stands.
+fn in_flow(sizes: BoxSizes) -> AbsoluteSizes
+    requires { SizeFits sizes }
+    ensures sizes { result.sizes ≡ sizes }
+    ensures left { result.left ≡ no_length }
+    ensures near { IsStart result.left.0 }
+{
+    AbsoluteSizes {
+        sizes,
+        left: Unit(0),
     }
 }
 

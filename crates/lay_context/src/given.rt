@@ -1,27 +1,31 @@
 //! What a task is given, from the values of the tasks that it needs.
 
-ghost use Rattle.std.specs.Prelude.{◌≡◌, ◌<◌, IfOk, length};
+ghost use Rattle.std.specs.Prelude.{◌≡◌, ◌<◌, Some, IfOk, length, map};
 ghost use Rattle.lay_sizes.specs.OwnBoxes.{OwnBoxFits, OwnBoxesFit};
 ghost use Rattle.lay_pieces.specs.InnerPieces.{AreNearInnerPieces, pieces_or_none};
 ghost use Rattle.lay_pieces.specs.NearPieces.{AreNearPieces};
-ghost use Rattle.lay_context.specs.DocumentLayout.{inner_boxes, inner_pieces, inner_widths, inner_widths_in, own_box_in, pieces_in};
-ghost use Rattle.lay_context.specs.Local.{input_of, measure_input, place_input, size_input};
-ghost use Rattle.lay_context.specs.Settling.{IsReady};
+ghost use Rattle.lay_context.specs.DocumentLayout.{flow_number, flow_numbers, inner_widths_in, own_box_in, pieces_in};
+ghost use Rattle.lay_context.specs.Local.{flow_input, input_of, measure_input, place_input, size_input, stand_input, table_input};
+ghost use Rattle.lay_context.specs.Settings.{sizes_in};
+ghost use Rattle.lay_context.specs.Settling.{AreBelow, IsReady};
 ghost use Rattle.lay_context.specs.declared.task.Phase.TheVariants.{Place, Size};
 
 use crate::input::{Input, MeasureInput, SizeInput};
 use crate::known::Known;
 use crate::medium::Medium;
 use crate::own_heights::own_height_rule;
-use crate::settings::setting_of;
+use crate::settings::{position_of, setting_of};
+use crate::stand_input::StandInput;
 use crate::task::{Phase, Task};
 use lay_flow_boxes::PlaceInput;
 use lay_formatting::FormattingContexts;
 use lay_frag::Pieces;
 use lay_measure::{NO_WIDTHS, PreferredWidths};
 use lay_pieces::{InnerPieces, OwnBoxes};
+use lay_positioned::is_absolute;
 use lay_sizes::{NO_OWN_BOX, OwnBox};
 use lay_table::TableInput;
+use lay_table_sizes::TableSizes;
 use lay_units::NoMemory;
 use std::alloc::Global;
 use std::sync::Arc;
@@ -57,7 +61,8 @@ fn measure_input(
     ensures { IfOk result (λ v. v ≡ measure_input medium.now contexts.now known.now i) }
 {
     let boxes = contexts.at(i).boxes().share()?;
-    let inner = inner_widths(alloc, contexts, known, i)?;
+    let numbers = flow_numbers(alloc, contexts, i)?;
+    let inner = inner_widths(alloc, known, &numbers)?;
     let face = medium.face()?;
     Ok(MeasureInput::new(boxes, inner, face))
 }
@@ -72,7 +77,7 @@ fn size_input(
     ensures { IfOk result (λ v. v ≡ size_input medium.now contexts.now known.now i) }
 {
     let boxes = contexts.at(i).boxes().share()?;
-    let setting = setting_of(medium.viewport(), contexts, known, i);
+    let setting = setting_of(medium.viewport(), contexts, known, i)?;
     Ok(SizeInput::new(boxes, known.widths(i), setting))
 }
 
@@ -86,36 +91,119 @@ fn place_input(
     requires ready { IsReady contexts.now known.now (record { context = i; phase = Place }) }
     ensures { IfOk result (λ v. v ≡ place_input medium.now contexts.now known.now i) }
 {
-    let boxes = contexts.at(i).boxes().share()?;
-    let sizes = known.sizes(i).boxes().share()?;
-    let own_height = own_height_rule(boxes.as_slice(), sizes.as_slice());
-    let inner = inner_boxes(alloc, contexts, known, i)?;
-    let pieces = inner_pieces(alloc, contexts, known, i)?;
+    let stand = stand_input(medium, contexts, known, i)?;
     match known.sizes(i).shared_table()? {
         Some(table) => {
-            let table = TableInput::new(boxes, sizes, table, inner, pieces);
-            Ok(Input::PlaceTable(table))
+            let table = table_input(alloc, contexts, known, i, table)?;
+            Ok(Input::PlaceTable(table, stand))
         }
         None => {
-            let face = medium.face()?;
-            let flow = PlaceInput::new(boxes, sizes, inner, pieces, face);
-            Ok(Input::Place(flow.with_own_height(own_height)))
+            let flow = flow_input(alloc, medium, contexts, known, i)?;
+            Ok(Input::Place(flow, stand))
         }
     }
 }
 
-/// The preferred widths of the formatting contexts inside the one with this number, among its boxes.
-fn inner_widths(
+/// What says where the formatting context with this number stands itself.
+fn stand_input(
+    medium: &Medium,
+    contexts: &FormattingContexts,
+    known: &Known,
+    i: usize,
+) -> Result<StandInput, NoMemory>
+    requires ready { IsReady contexts.now known.now (record { context = i; phase = Place }) }
+    ensures { IfOk result (λ v. v ≡ stand_input medium.now contexts.now known.now i) }
+{
+    let boxes = contexts.at(i).boxes().share()?;
+    let sized = known.sizes(i);
+    let sizes = sized.boxes().share()?;
+    let position = position_of(medium.viewport(), contexts, known, i)?;
+    Ok(StandInput::new(boxes, sizes, sized.left(), position))
+}
+
+/// What the placement of a table is given.
+fn table_input(
     alloc: Global,
     contexts: &FormattingContexts,
     known: &Known,
     i: usize,
-) -> Result<Vec<PreferredWidths>, NoMemory>
-    requires within { i < length contexts.now }
-    requires widths { length known.now.widths ≡ length contexts.now }
-    ensures { IfOk result (λ v. v.items ≡ inner_widths contexts.now known.now.widths i) }
+    table: TableSizes,
+) -> Result<TableInput, NoMemory>
+    requires ready { IsReady contexts.now known.now (record { context = i; phase = Place }) }
+    requires table { (sizes_in known.now.sizes i).table ≡ Some table }
+    ensures { IfOk result (λ v. v ≡ table_input contexts.now known.now i table) }
 {
-    let numbers = contexts.at(i).inner();
+    let boxes = contexts.at(i).boxes().share()?;
+    let sizes = known.sizes(i).boxes().share()?;
+    let numbers = flow_numbers(alloc, contexts, i)?;
+    let inner = inner_boxes(alloc, known, &numbers)?;
+    let pieces = inner_pieces(alloc, contexts, known, &numbers)?;
+    Ok(TableInput::new(boxes, sizes, table, inner, pieces))
+}
+
+/// What the placement of boxes in block flow is given.
+fn flow_input(
+    alloc: Global,
+    medium: &Medium,
+    contexts: &FormattingContexts,
+    known: &Known,
+    i: usize,
+) -> Result<PlaceInput, NoMemory>
+    requires ready { IsReady contexts.now known.now (record { context = i; phase = Place }) }
+    ensures { IfOk result (λ v. v ≡ flow_input medium.now contexts.now known.now i) }
+{
+    let boxes = contexts.at(i).boxes().share()?;
+    let sized = known.sizes(i);
+    let sizes = sized.boxes().share()?;
+    let numbers = flow_numbers(alloc, contexts, i)?;
+    let inner = inner_boxes(alloc, known, &numbers)?;
+    let pieces = inner_pieces(alloc, contexts, known, &numbers)?;
+    let own_height = own_height_rule(boxes.as_slice(), sizes.as_slice(), sized.stretched());
+    let face = medium.face()?;
+    let flow = PlaceInput::new(boxes, sizes, inner, pieces, face);
+    Ok(flow.with_own_height(own_height))
+}
+
+/// For each box of the formatting context with this number the number of the inner one in flow or floating whose box it is,
+/// or 0.
+fn flow_numbers(
+    alloc: Global,
+    contexts: &FormattingContexts,
+    i: usize,
+) -> Result<Vec<usize>, NoMemory>
+    requires { i < length contexts.now }
+    ensures numbers { IfOk result (λ v. v.items ≡ flow_numbers contexts.now i) }
+    ensures within { IfOk result (λ v. AreBelow (length contexts.now) v.items) }
+{
+    let inner = contexts.at(i).inner();
+    let mut numbers = Vec::with_capacity(alloc, inner.len())?;
+    for k in 0..inner.len() {
+        numbers.push(flow_number(contexts, inner[k]))?;
+    }
+    Ok(numbers)
+}
+
+/// The number of a formatting context in flow or floating; of another one 0.
+fn flow_number(contexts: &FormattingContexts, number: usize) -> usize
+    requires { number < length contexts.now }
+    ensures number { result ≡ flow_number contexts.now number }
+    ensures within { result < length contexts.now }
+{
+    if is_absolute(contexts, number) {
+        return 0;
+    }
+    number
+}
+
+/// The preferred widths of the formatting contexts with these numbers.
+fn inner_widths(
+    alloc: Global,
+    known: &Known,
+    numbers: &[usize],
+) -> Result<Vec<PreferredWidths>, NoMemory>
+    requires { AreBelow (length known.now.widths) numbers.now }
+    ensures { IfOk result (λ v. v.items ≡ map (inner_widths_in known.now.widths) numbers.now) }
+{
     let mut widths = Vec::with_capacity(alloc, numbers.len())?;
     for k in 0..numbers.len() {
         widths.push(inner_widths_in(known, numbers[k]))?;
@@ -134,19 +222,12 @@ fn inner_widths_in(known: &Known, number: usize) -> PreferredWidths
     known.widths(number)
 }
 
-/// The own boxes of the formatting contexts inside the one with this number, among its boxes.
-fn inner_boxes(
-    alloc: Global,
-    contexts: &FormattingContexts,
-    known: &Known,
-    i: usize,
-) -> Result<OwnBoxes, NoMemory>
-    requires within { i < length contexts.now }
-    requires places { length known.now.places ≡ length contexts.now }
-    ensures boxes { IfOk result (λ b. b ≡ inner_boxes contexts.now known.now.places i) }
+/// The own boxes of the formatting contexts with these numbers.
+fn inner_boxes(alloc: Global, known: &Known, numbers: &[usize]) -> Result<OwnBoxes, NoMemory>
+    requires { AreBelow (length known.now.places) numbers.now }
+    ensures boxes { IfOk result (λ b. b ≡ map (own_box_in known.now.places) numbers.now) }
     ensures fit { IfOk result OwnBoxesFit }
 {
-    let numbers = contexts.at(i).inner();
     let mut boxes = Vec::with_capacity(alloc, numbers.len())?;
     for k in 0..numbers.len() {
         boxes.push(own_box_in(known, numbers[k]))?;
@@ -166,19 +247,18 @@ fn own_box_in(known: &Known, number: usize) -> OwnBox
     known.placement(number).own()
 }
 
-/// The pieces of the anonymous formatting contexts inside the one with this number, among its boxes.
+/// The pieces of those of these formatting contexts that are anonymous.
 fn inner_pieces(
     alloc: Global,
     contexts: &FormattingContexts,
     known: &Known,
-    i: usize,
+    numbers: &[usize],
 ) -> Result<InnerPieces, NoMemory>
-    requires within { i < length contexts.now }
-    requires places { length known.now.places ≡ length contexts.now }
-    ensures pieces { IfOk result (λ p. p ≡ inner_pieces contexts.now known.now.places i) }
+    requires contexts { AreBelow (length contexts.now) numbers.now }
+    requires places { AreBelow (length known.now.places) numbers.now }
+    ensures pieces { IfOk result (λ p. p ≡ map (pieces_in contexts.now known.now.places) numbers.now) }
     ensures near { IfOk result AreNearInnerPieces }
 {
-    let numbers = contexts.at(i).inner();
     let mut pieces = Vec::with_capacity(alloc, numbers.len())?;
     for k in 0..numbers.len() {
         pieces.push(pieces_in(contexts, known, numbers[k])?)?;

@@ -2,9 +2,11 @@
 
 ghost use Rattle.std.specs.Prelude.{◌≡◌};
 ghost use Rattle.lay_context_boxes.specs.ContextBoxes.{AreContextBoxes};
+ghost use Rattle.lay_formatting.specs.FormattingBoxes.{box_at};
 ghost use Rattle.lay_context.specs.Inputs.{SizeInputFits};
 
 use crate::setting::Setting;
+use crate::stand_input::StandInput;
 use lay_boxgen::BoxNode;
 use lay_context_boxes::ContextBoxes;
 use lay_face::Face;
@@ -19,8 +21,8 @@ use std::sync::Arc;
 pub enum Input {
     Measure(MeasureInput),
     Size(SizeInput),
-    Place(PlaceInput),
-    PlaceTable(TableInput),
+    Place(PlaceInput, StandInput),
+    PlaceTable(TableInput, StandInput),
 }
 
 /// The boxes of a formatting context, the preferred widths of inner ones at the places of their boxes, and the face of
@@ -114,6 +116,13 @@ impl SizeInput {
         ensures fits { SizeInputFits self.now }
     {
         self.boxes.as_slice()
+    }
+
+    /// Its own box.
+    pub(crate) fn own(&self) -> &BoxNode
+        ensures { result.now ≡ box_at self.now.boxes 0 }
+    {
+        &self.boxes.as_slice()[0]
     }
 
     /// Its preferred widths.

@@ -1,17 +1,23 @@
 //! The values of a layout's tasks, as far as they are known.
 
 ghost use Rattle.std.specs.Prelude.{◌≡◌, ◌<◌, [], length, replicate, IfOk};
-ghost use Rattle.lay_pieces.specs.Placements.{no_placement};
-ghost use Rattle.lay_context.specs.DocumentLayout.{placement_in, widths_in};
+ghost use Rattle.lay_sizes.specs.SizeColumns.{HaveSizeBounds};
+ghost use Rattle.lay_pieces.specs.Corners.{IsCornerNear};
+ghost use Rattle.lay_pieces.specs.Standings.{AreNearStandings};
+ghost use Rattle.lay_context.specs.DocumentLayout.{widths_in};
+ghost use Rattle.lay_context.specs.PlacedContexts.{not_placed, placed_in, placement_in};
 ghost use Rattle.lay_context.specs.Local.{with_value};
-ghost use Rattle.lay_context.specs.Settings.{sizes_in};
+ghost use Rattle.lay_context.specs.Settings.{laid, sizes_in};
 
+use crate::placed_context::PlacedContext;
 use crate::sized_context::SizedContext;
 use crate::value::Value;
 use lay_frag::Pieces;
 use lay_measure::{NO_WIDTHS, PreferredWidths};
-use lay_pieces::{ContextSizes, Placement};
-use lay_units::NoMemory;
+use lay_pieces::{ContextSizes, Corner, Placement, Standing};
+use lay_positioned::Layouts;
+use lay_sizes::BoxSizes;
+use lay_units::{NoMemory, Unit};
 use std::alloc::Global;
 use std::marker::Model;
 use std::sync::Arc;
@@ -21,15 +27,18 @@ use std::sync::Arc;
 pub(crate) struct Known {
     widths: Vec<PreferredWidths>,
     sizes: Vec<SizedContext>,
-    places: Vec<Placement>,
+    places: Vec<PlacedContext>,
 }
 
 impl Model for Known {
+    ghost use Rattle.std.specs.Prelude.{◌≡◌, length};
     ghost use Rattle.lay_context.specs.Local.{Workings};
 
     ghost Value = { Workings };
 
     ghost view = { λ k. record { widths = k.widths.items; sizes = k.sizes.items; places = k.places.items } };
+
+    ghost invariant = { λ k. length k.places.items ≡ length k.sizes.items };
 }
 
 impl Known {
@@ -43,11 +52,11 @@ impl Known {
         let mut sizes = Vec::with_capacity(alloc, count)?;
         let mut places = Vec::with_capacity(alloc, count)?;
         let no_sizes = ContextSizes::new(alloc, Vec::new(alloc))?;
-        let not_sized = SizedContext::new(no_sizes, None);
+        let not_sized = SizedContext::new(no_sizes, None, Unit(0), None);
         let no_pieces = Arc::new(alloc, Pieces::new(Vec::new(alloc)))?;
         for _known in 0..count {
             sizes.push(not_sized.share()?)?;
-            places.push(Placement::none(alloc, no_pieces.clone()?))?;
+            places.push(not_placed(alloc, &no_pieces)?)?;
         }
         Ok(Known {
             widths,
@@ -77,7 +86,16 @@ impl Known {
         requires { i < length self.now.places }
         ensures { result.now ≡ placement_in self.now.places i }
     {
-        &self.places[i]
+        self.places[i].placement()
+    }
+
+    /// Where the formatting context with this number stands itself.
+    pub(crate) fn offset(&self, i: usize) -> Corner
+        requires { i < length self.now.places }
+        ensures offset { result ≡ (placed_in self.now.places i).offset }
+        ensures near { IsCornerNear result }
+    {
+        self.places[i].offset()
     }
 
     /// Notes a value of the formatting context with this number.
@@ -90,7 +108,50 @@ impl Known {
         match value {
             Value::Measure(widths) => self.widths[i] = widths,
             Value::Size(sizes) => self.sizes[i] = sizes,
-            Value::Place(placement) => self.places[i] = placement,
+            Value::Place(placed) => self.places[i] = placed,
         }
+    }
+}
+
+/// Nothing is known of its places.
+fn not_placed(alloc: Global, no_pieces: &Arc<Pieces>) -> Result<PlacedContext, NoMemory>
+    requires { no_pieces.now.value ≡ [] }
+    ensures { IfOk result (λ p. p ≡ not_placed) }
+{
+    let placement = Placement::none(alloc, no_pieces.clone()?);
+    let corner = Corner {
+        x: Unit(0),
+        y: Unit(0),
+    };
+    Ok(PlacedContext::new(placement, corner))
+}
+
+impl Layouts for Known {
+    ghost laid = { λ k. laid k.sizes k.places };
+
+    ghost count = { λ k. length k.sizes };
+
+    fn sizes(&self, i: usize) -> &[BoxSizes]
+        requires { i < length self.now.sizes }
+        ensures sizes { result.now ≡ (laid self.now.sizes self.now.places i).sizes }
+        ensures bounds { HaveSizeBounds result.now }
+    {
+        self.sizes[i].boxes().as_slice()
+    }
+
+    fn standings(&self, i: usize) -> &[Standing]
+        requires { i < length self.now.sizes }
+        ensures standings { result.now ≡ (laid self.now.sizes self.now.places i).standings }
+        ensures near { AreNearStandings result.now }
+    {
+        self.places[i].placement().standings()
+    }
+
+    fn offset(&self, i: usize) -> Corner
+        requires { i < length self.now.sizes }
+        ensures offset { result ≡ (laid self.now.sizes self.now.places i).offset }
+        ensures near { IsCornerNear result }
+    {
+        self.places[i].offset()
     }
 }

@@ -1,11 +1,15 @@
 //! Layout of a document from scratch.
 
-ghost use Rattle.std.specs.Prelude.{◌≡◌, IfOk, OnOk};
-ghost use Rattle.lay_units.specs.Units.{IsUsedSize};
+ghost use Rattle.std.specs.Prelude.{◌≡◌, ◌+◌, IfOk, OnOk, length};
+ghost use Rattle.lay_positioned.specs.ViewportBounds.{ViewportFits};
 ghost use Rattle.lay_style.specs.ComputedStyle.{HasStyles};
 ghost use Rattle.lay_doc.specs.Document.{parents_of, declarations_of};
 ghost use Rattle.lay_context.specs.Local.{IsLocal};
-ghost use Rattle.lay_context.specs.Settling.{IsReady, IsSettled};
+ghost use Rattle.lay_context.specs.Needs.{round_start};
+ghost use Rattle.lay_context.specs.OwnOffsets.{IsOwnOffset};
+ghost use Rattle.lay_context.specs.Settling.{AreDoneTo, IsPlan, IsReady, IsSettled};
+ghost use Rattle.lay_table_grid.specs.Laws.{GridsAreOfBoxes};
+ghost use Rattle.lay_context.specs.Local.{HasCounts};
 ghost use Rattle.lay_context.specs.Solves.{Solves, SolvesContexts, viewport_of};
 
 use crate::assembling::assemble;
@@ -15,7 +19,10 @@ use crate::given::input;
 use crate::input::Input;
 use crate::known::Known;
 use crate::medium::Medium;
-use crate::task::{Task, task_at};
+use crate::own_offsets::own_offset;
+use crate::placed_context::PlacedContext;
+use crate::stand_input::StandInput;
+use crate::task::{Phase, Task};
 use crate::value::Value;
 use lay_contexts::contexts_of;
 use lay_doc::Doc;
@@ -23,7 +30,9 @@ use lay_face::Face;
 use lay_formatting::{FormattingContexts, formatting_contexts};
 use lay_frag::Tree;
 use lay_inherit::computed;
+use lay_pieces::Placement;
 use lay_placement::placement;
+use lay_positioned::{level_count, levels};
 use lay_sizes::ContainingBlock;
 use lay_style::Computed;
 use lay_table::table_placement;
@@ -59,13 +68,21 @@ pub fn scratch_styled(
 /// The viewport as the root's containing block.
 fn viewport_of(doc: &Doc) -> ContainingBlock
     ensures value { result ≡ viewport_of doc.now }
-    ensures width { IsUsedSize result.width.0 }
+    ensures fits { ViewportFits result }
 {
     let _ = doc.nodes();
     ContainingBlock {
         width: Unit(i64::from(doc.width()) * 64),
         height: Len::Of(Unit(i64::from(doc.height()) * 64)),
     }
+}
+
+/// What the tasks of a layout share: the medium, the formatting contexts, and the levels of these.
+#[derive(Clone, Copy)]
+struct Plan<'a> {
+    medium: &'a Medium,
+    contexts: &'a FormattingContexts,
+    levels: &'a [usize],
 }
 
 /// The layout of these formatting contexts: each task in its turn, and the tree put together of the values.
@@ -77,13 +94,101 @@ fn lay_contexts(
     ensures { IfOk result (SolvesContexts medium.now contexts.now) }
 {
     grids_are_of_boxes();
-    let count = contexts.len();
-    let mut known = Known::new(alloc, count)?;
-    for turn in 0..count + count + count {
-        settle(alloc, medium, contexts, &mut known, task_at(count, turn))?;
+    let levels = levels(alloc, contexts)?;
+    let plan = Plan {
+        medium,
+        contexts,
+        levels: &levels,
+    };
+    let mut known = Known::new(alloc, contexts.len())?;
+    measure_all(alloc, &plan, &mut known)?;
+    for level in 0..level_count(&levels) {
+        lay_level(alloc, &plan, &mut known, level)?;
     }
-    let tree = assemble(alloc, medium.viewport(), contexts, &known)?;
-    Ok(tree)
+    assemble(alloc, contexts, &known)
+}
+
+/// Measures all formatting contexts, from the last one to the first.
+fn measure_all(alloc: Global, plan: &Plan, known: &mut Known) -> Result<(), NoMemory>
+    requires plan { IsPlan plan.now.contexts.now plan.now.levels.now }
+    requires grids { GridsAreOfBoxes }
+    requires before { HasCounts plan.now.contexts.now known.old }
+    ensures { OnOk result (AreDoneTo plan.now.medium.now plan.now.contexts.now plan.now.levels.now known.new (length plan.now.contexts.now)) }
+{
+    let count = plan.contexts.len();
+    for done in 0..count {
+        let task = Task {
+            context: count - 1 - done,
+            phase: Phase::Measure,
+        };
+        settle(alloc, plan.medium, plan.contexts, known, task)?;
+    }
+    Ok(())
+}
+
+/// Sizes the formatting contexts of a level, from the first one to the last, and then places them from the last to the
+/// first.
+fn lay_level(
+    alloc: Global,
+    plan: &Plan,
+    known: &mut Known,
+    level: usize,
+) -> Result<(), NoMemory>
+    requires plan { IsPlan plan.now.contexts.now plan.now.levels.now }
+    requires grids { GridsAreOfBoxes }
+    requires before { AreDoneTo plan.now.medium.now plan.now.contexts.now plan.now.levels.now known.old (round_start (length plan.now.contexts.now) level) }
+    ensures { OnOk result (AreDoneTo plan.now.medium.now plan.now.contexts.now plan.now.levels.now known.new (round_start (length plan.now.contexts.now) (level + 1))) }
+{
+    size_level(alloc, plan, known, level)?;
+    place_level(alloc, plan, known, level)
+}
+
+fn size_level(
+    alloc: Global,
+    plan: &Plan,
+    known: &mut Known,
+    level: usize,
+) -> Result<(), NoMemory>
+    requires plan { IsPlan plan.now.contexts.now plan.now.levels.now }
+    requires grids { GridsAreOfBoxes }
+    requires before { AreDoneTo plan.now.medium.now plan.now.contexts.now plan.now.levels.now known.old (round_start (length plan.now.contexts.now) level) }
+    ensures { OnOk result (AreDoneTo plan.now.medium.now plan.now.contexts.now plan.now.levels.now known.new (round_start (length plan.now.contexts.now) level + length plan.now.contexts.now)) }
+{
+    for i in 0..plan.contexts.len() {
+        if plan.levels[i] == level {
+            let task = Task {
+                context: i,
+                phase: Phase::Size,
+            };
+            settle(alloc, plan.medium, plan.contexts, known, task)?;
+        }
+    }
+    Ok(())
+}
+
+fn place_level(
+    alloc: Global,
+    plan: &Plan,
+    known: &mut Known,
+    level: usize,
+) -> Result<(), NoMemory>
+    requires plan { IsPlan plan.now.contexts.now plan.now.levels.now }
+    requires grids { GridsAreOfBoxes }
+    requires before { AreDoneTo plan.now.medium.now plan.now.contexts.now plan.now.levels.now known.old (round_start (length plan.now.contexts.now) level + length plan.now.contexts.now) }
+    ensures { OnOk result (AreDoneTo plan.now.medium.now plan.now.contexts.now plan.now.levels.now known.new (round_start (length plan.now.contexts.now) (level + 1))) }
+{
+    let count = plan.contexts.len();
+    for done in 0..count {
+        let i = count - 1 - done;
+        if plan.levels[i] == level {
+            let task = Task {
+                context: i,
+                phase: Phase::Place,
+            };
+            settle(alloc, plan.medium, plan.contexts, known, task)?;
+        }
+    }
+    Ok(())
 }
 
 /// Computes the value of a task, where the values that it needs are known.
@@ -110,7 +215,18 @@ fn compute(alloc: Global, input: &Input) -> Result<Value, NoMemory>
     match input {
         Input::Measure(input) => Ok(Value::Measure(context_widths(alloc, input)?)),
         Input::Size(input) => Ok(Value::Size(context_sizes(alloc, input)?)),
-        Input::Place(input) => Ok(Value::Place(placement(alloc, input)?)),
-        Input::PlaceTable(input) => Ok(Value::Place(table_placement(alloc, input)?)),
+        Input::Place(input, stand) => Ok(Value::Place(placed(placement(alloc, input)?, stand)?)),
+        Input::PlaceTable(input, stand) => {
+            Ok(Value::Place(placed(table_placement(alloc, input)?, stand)?))
+        }
     }
+}
+
+/// A placement, with where its formatting context stands itself.
+fn placed(placement: Placement, stand: &StandInput) -> Result<PlacedContext, NoMemory>
+    ensures placement { IfOk result (λ p. p.placement ≡ placement) }
+    ensures offset { IfOk result (λ p. IsOwnOffset stand.now placement.own p.offset) }
+{
+    let offset = own_offset(stand, placement.own())?;
+    Ok(PlacedContext::new(placement, offset))
 }

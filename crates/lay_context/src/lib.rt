@@ -5,7 +5,8 @@
 //! ones inside it (`specs/ContextWidths.antt`), the used sizes of its boxes beside these and the setting that the one
 //! around gives (`specs/Settings.antt`, `specs/ContextSizes.antt`), and a placement beside those and the own boxes of
 //! the ones inside it (lay_placement, and lay_table of a table). Which of these needs which is the table of
-//! `specs/Needs.antt`, and one of them by itself is `specs/Local.antt`. So far it speaks of boxes in flow or floating.
+//! `specs/Needs.antt`, and one of them by itself is `specs/Local.antt`. Absolutely positioned boxes
+//! come level by level (lay_positioned).
 //! `specs/Laws.antt` says that a document has one tree.
 #![tactic(auto)]
 
@@ -20,10 +21,14 @@ mod laws;
 mod layout;
 mod medium;
 mod own_heights;
+mod own_offsets;
 mod page_corners;
+mod placed_context;
+mod position;
 mod setting;
 mod settings;
 mod sized_context;
+mod stand_input;
 mod table_contexts;
 mod task;
 mod value;

@@ -1,7 +1,7 @@
 //! What a document is laid out on.
 
 ghost use Rattle.std.specs.Prelude.{◌≡◌, IfOk};
-ghost use Rattle.lay_units.specs.Units.{IsUsedSize};
+ghost use Rattle.lay_positioned.specs.ViewportBounds.{ViewportFits};
 
 use lay_face::Face;
 use lay_sizes::ContainingBlock;
@@ -18,19 +18,19 @@ pub(crate) struct Medium {
 }
 
 impl Model for Medium {
-    ghost use Rattle.lay_units.specs.Units.{IsUsedSize};
+    ghost use Rattle.lay_positioned.specs.ViewportBounds.{ViewportFits};
     ghost use Rattle.lay_context.specs.Medium.{Medium as Plain};
 
     ghost Value = { Plain };
 
     ghost view = { λ m. record { viewport = m.viewport; face = m.face.value } };
 
-    ghost invariant = { λ m. IsUsedSize m.viewport.width.0 };
+    ghost invariant = { λ m. ViewportFits m.viewport };
 }
 
 impl Medium {
     pub(crate) fn new(viewport: ContainingBlock, face: Arc<Face>) -> Medium
-        requires { IsUsedSize viewport.width.0 }
+        requires { ViewportFits viewport }
         ensures { result ≡ record { viewport = viewport; face = face.value } }
     {
         Medium { viewport, face }
@@ -39,7 +39,7 @@ impl Medium {
     /// The viewport.
     pub(crate) fn viewport(&self) -> ContainingBlock
         ensures viewport { result ≡ self.now.viewport }
-        ensures width { IsUsedSize result.width.0 }
+        ensures fits { ViewportFits result }
     {
         self.viewport
     }

@@ -1,8 +1,10 @@
 //! In which setting the own box of a formatting context is sized.
 
 ghost use Rattle.std.specs.Prelude.{◌≡◌};
-ghost use Rattle.lay_context.specs.Inputs.{containing_block_in};
+ghost use Rattle.lay_units.specs.Units.{IsPosition};
+ghost use Rattle.lay_context.specs.Inputs.{OwnSettingFits, containing_block_in};
 
+use lay_positioned::{AbsoluteSetting, block_in};
 use lay_sizes::ContainingBlock;
 use lay_table_sizes::CellSize;
 
@@ -16,16 +18,21 @@ pub enum Setting {
         containing: ContainingBlock,
         cell: CellSize,
     },
+    /// What an absolutely positioned box is given from outside.
+    Absolute(AbsoluteSetting),
 }
 
 impl Setting {
     /// Its containing block.
     pub(crate) fn containing(self) -> ContainingBlock
-        ensures { result ≡ containing_block_in self }
+        requires { OwnSettingFits self }
+        ensures value { result ≡ containing_block_in self }
+        ensures fits { IsPosition result.width.0 }
     {
         match self {
             Setting::Block(containing) => containing,
             Setting::Cell { containing, .. } => containing,
+            Setting::Absolute(setting) => block_in(&setting),
         }
     }
 }

@@ -1,33 +1,99 @@
 //! In which setting the own boxes of formatting contexts are sized.
 
-ghost use Rattle.std.specs.Prelude.{◌≡◌, ◌<◌, length};
+ghost use Rattle.std.specs.Prelude.{◌≡◌, ◌<◌, false, length, IfOk};
 ghost use Rattle.lay_units.specs.Units.{IsPosition, IsUsedSize};
 ghost use Rattle.lay_sizes.specs.SizeBounds.{SizeFits};
 ghost use Rattle.lay_sizes.specs.SizeColumns.{HaveSizeBounds, sizes_at};
-ghost use Rattle.lay_context.specs.Inputs.{containing_block_in};
-ghost use Rattle.lay_context.specs.Settings.{caption_block, cell_given, cell_of, setting_as, setting_in_table, setting_of};
+ghost use Rattle.lay_positioned.specs.Absolute.{is_absolute};
+ghost use Rattle.lay_positioned.specs.Settings.{SettingFits, absolute_setting};
+ghost use Rattle.lay_positioned.specs.ViewportBounds.{ViewportFits};
+ghost use Rattle.lay_context.specs.Inputs.{OwnSettingFits};
+ghost use Rattle.lay_context.specs.Local.{HasCounts};
+ghost use Rattle.lay_context.specs.StandInputs.{PositionFits};
+ghost use Rattle.lay_context.specs.Settings.{caption_block, cell_given, cell_of, flow_setting, laid, position_of, setting_as, setting_in_table, setting_of};
 ghost use Rattle.lay_context.specs.Settling.{IsReady};
 ghost use Rattle.lay_context.specs.declared.task.Phase.TheVariants.{Size};
 
 use crate::known::Known;
+use crate::position::Position;
 use crate::setting::Setting;
 use lay_context_boxes::{ContextBoxes, block_around};
 use lay_formatting::FormattingContexts;
+use lay_positioned::{AbsoluteSetting, is_absolute, setting};
 use lay_sizes::{BoxSizes, ContainingBlock, NO_SIZES, content_block};
 use lay_table_sizes::{CellSize, TableSizes};
-use lay_units::Len;
+use lay_units::{Len, NoMemory};
 
-/// The setting of the own box of the formatting context with this number.
+/// The setting of the own box of the formatting context with this number. NoMemory is the answer where formatting contexts
+/// on the way to its containing block are more than 2^60 units from another, which they are in no document within the
+/// limits.
 pub(crate) fn setting_of(
     viewport: ContainingBlock,
     contexts: &FormattingContexts,
     known: &Known,
     i: usize,
-) -> Setting
-    requires viewport { IsUsedSize viewport.width.0 }
+) -> Result<Setting, NoMemory>
+    requires viewport { ViewportFits viewport }
     requires ready { IsReady contexts.now known.now (record { context = i; phase = Size }) }
-    ensures setting { result ≡ setting_of viewport contexts.now known.now.sizes i }
-    ensures fits { IsPosition (containing_block_in result).width.0 }
+    ensures setting { IfOk result (λ s. s ≡ setting_of viewport contexts.now known.now.sizes known.now.places i) }
+    ensures fits { IfOk result OwnSettingFits }
+{
+    if is_absolute(contexts, i) {
+        return Ok(Setting::Absolute(absolute_setting(viewport, contexts, known, i)?));
+    }
+    Ok(flow_setting(viewport, contexts, known, i))
+}
+
+/// What says where the formatting context with this number stands. NoMemory is the answer as for its setting.
+pub(crate) fn position_of(
+    viewport: ContainingBlock,
+    contexts: &FormattingContexts,
+    known: &Known,
+    i: usize,
+) -> Result<Position, NoMemory>
+    requires viewport { ViewportFits viewport }
+    requires counts { HasCounts contexts.now known.now }
+    requires within { i < length contexts.now }
+    ensures position { IfOk result (λ p. p ≡ position_of viewport contexts.now known.now.sizes known.now.places i) }
+    ensures fits { IfOk result PositionFits }
+{
+    if is_absolute(contexts, i) {
+        return Ok(Position::Absolute(absolute_setting(viewport, contexts, known, i)?));
+    }
+    if i == 0 {
+        return Ok(Position::Root(viewport));
+    }
+    Ok(Position::Inner)
+}
+
+/// What an absolutely positioned one is given.
+fn absolute_setting(
+    viewport: ContainingBlock,
+    contexts: &FormattingContexts,
+    known: &Known,
+    i: usize,
+) -> Result<AbsoluteSetting, NoMemory>
+    requires viewport { ViewportFits viewport }
+    requires counts { HasCounts contexts.now known.now }
+    requires within { i < length contexts.now }
+    ensures setting { IfOk result (λ s. s ≡ absolute_setting viewport contexts.now (laid known.now.sizes known.now.places) i) }
+    ensures fits { IfOk result SettingFits }
+{
+    setting(viewport, contexts, known, i)
+}
+
+/// The setting of the own box of the formatting context with this number, in flow or floating.
+fn flow_setting(
+    viewport: ContainingBlock,
+    contexts: &FormattingContexts,
+    known: &Known,
+    i: usize,
+) -> Setting
+    requires viewport { ViewportFits viewport }
+    requires ready { IsReady contexts.now known.now (record { context = i; phase = Size }) }
+    requires flow { is_absolute contexts.now i ≡ false }
+    ensures setting { result ≡ flow_setting viewport contexts.now known.now.sizes i }
+    ensures fits { OwnSettingFits result }
 {
     if i == 0 {
         return Setting::Block(viewport);
@@ -77,7 +143,7 @@ fn setting_as(
     requires known { length sizes.now ≡ length boxes.now }
     requires bounds { HaveSizeBounds sizes.now }
     ensures setting { result ≡ setting_as boxes.now sizes.now table.now k }
-    ensures fits { IsPosition (containing_block_in result).width.0 }
+    ensures fits { OwnSettingFits result }
 {
     let _ = boxes.as_slice();
     match table {
@@ -90,7 +156,7 @@ fn setting_as(
 fn setting_in_table(sizes: &[BoxSizes], table: &TableSizes, cell: Option<CellSize>) -> Setting
     requires bounds { HaveSizeBounds sizes.now }
     ensures setting { result ≡ setting_in_table sizes.now table.now cell }
-    ensures fits { IsPosition (containing_block_in result).width.0 }
+    ensures fits { OwnSettingFits result }
 {
     match cell {
         Some(cell) => Setting::Cell {

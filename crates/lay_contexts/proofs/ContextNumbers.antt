@@ -16,23 +16,24 @@ use Rattle.lay_contexts.specs.ContextOrder.{AreInOrder}
 use Rattle.lay_contexts.proofs.SpotOrder.{are_in_order}
 
 -- a context with a number other than 0 stands there
-record StandsIn (spots : List ContextSpot) (n outer j : ℕ) : Type 0 where
+record StandsIn (spots : List ContextSpot) (n outer box j : ℕ) : Type 0 where
   before : j < n
   around : (spot_at spots j).around ≡ outer
+  at : (spot_at spots j).at ≡ box
 
 number_by : (spots : List ContextSpot) (n outer box j : ℕ) (b : Bool) → ((spot_at spots n).around == outer && (spot_at spots n).at == box) ≡ b
-    → (number_before spots n outer box ≡ j → 0 < j → StandsIn spots n outer j)
-    → (if b then n else number_before spots n outer box) ≡ j → 0 < j → StandsIn spots (suc n) outer j
-number_by spots n outer box j true test below is some = record { before = omega (arith, is); around = rw (sym is) (grind (arith, test)) }
-number_by spots n outer box j false test below is some = let there = below is some in record { before = omega (arith, there.before); around = there.around }
+    → (number_before spots n outer box ≡ j → 0 < j → StandsIn spots n outer box j)
+    → (if b then n else number_before spots n outer box) ≡ j → 0 < j → StandsIn spots (suc n) outer box j
+number_by spots n outer box j true test below is some = record { before = omega (arith, is); around = rw (sym is) (grind (arith, test)); at = rw (sym is) (grind (arith, test)) }
+number_by spots n outer box j false test below is some = let there = below is some in record { before = omega (arith, there.before); around = there.around; at = there.at }
 
-number_is : (spots : List ContextSpot) (n outer box j : ℕ) → number_before spots n outer box ≡ j → 0 < j → StandsIn spots n outer j
+number_is : (spots : List ContextSpot) (n outer box j : ℕ) → number_before spots n outer box ≡ j → 0 < j → StandsIn spots n outer box j
 number_is spots zero outer box j is some = absurd (omega (arith, is, some))
 number_is spots (suc n) outer box j is some = number_by spots n outer box j ((spot_at spots n).around == outer && (spot_at spots n).at == box) refl (number_is spots n outer box j) is some
 
 pub numbered_contexts : (spots : List ContextSpot) (boxes : List (List BoxNode)) (contexts : List Context) → AreInOrder spots boxes → AreNumberedTo spots boxes contexts (length spots) → AreContexts contexts
 numbered_contexts spots boxes contexts order are =
-    let inside : (i j : ℕ) → i < length contexts → IsInside contexts i j → StandsIn spots (length spots) i j =
+    let inside : (i j : ℕ) → i < length contexts → (has : IsInside contexts i j) → StandsIn spots (length spots) i has.box j =
     λ i j lt has. (let here = are.each i lt in
     number_is spots (length spots) i has.box j (sym (here.inner has.box (omega (arith, has.within, here.count))) ∙ has.number) has.some) in
     record {
@@ -48,6 +49,10 @@ numbered_contexts spots boxes contexts order are =
       behind = λ i j lt has. (let there = inside i j lt has in
           let before = order.around j has.some there.before in omega (arith, before, there.around));
       within = λ i j lt has. (let there = inside i j lt has in omega (arith, there.before, are.count));
+      around = λ i j lt has. (let there = inside i j lt has in
+          ap (λ (s : ContextSpot). s.around) (are.each j (omega (arith, there.before, are.count))).spot ∙ there.around);
+      at = λ i j lt has. (let there = inside i j lt has in
+          ap (λ (s : ContextSpot). s.at) (are.each j (omega (arith, there.before, are.count))).spot ∙ there.at);
     }
 
 pub are_contexts : (d : Document) (styles : List Style) (contexts : List Context) → IsDocument d → length styles ≡ length d.nodes → AreContextsOf d.nodes styles contexts → AreContexts contexts

@@ -39,3 +39,6 @@ pub record AreContexts (contexts : List Context) : Type 0 where
   pub count : (i : ℕ) → i < length contexts → length (context_at contexts i).inner ≡ length (boxes_in contexts i)
   pub behind : (i j : ℕ) → i < length contexts → IsInside contexts i j → i < j
   pub within : (i j : ℕ) → i < length contexts → IsInside contexts i j → j < length contexts
+  -- what is inside one is that which has this one around it, at this box
+  pub around : (i j : ℕ) → i < length contexts → IsInside contexts i j → (context_at contexts j).outer ≡ i
+  pub at : (i j : ℕ) → i < length contexts → (has : IsInside contexts i j) → (context_at contexts j).outer_box ≡ has.box

@@ -84,18 +84,43 @@ module _ (contexts : List Context) (homes : List (List ℕ)) (are : AreContexts 
       let b = length_is (boxes_in contexts i) (homes_in homes i) r in
       omega (arith, a, b)
 
-  -- the number of an inner formatting context
+  -- the formatting context with the number j is that of a root whose box stands at k in the context i
+  pub record IsStanding (i k j : ℕ) : Type 0 where
+    pub context : ℕ
+    pub place : ℕ
+    pub before : context < length contexts
+    pub inside : place < length (boxes_in contexts context)
+    pub root : is_root (boxes_in contexts context) place ≡ true
+    pub number : number_of contexts context place ≡ j
+    pub spot : spot_of contexts context place ≡ record { context = i; place = k }
+
+  -- an inner formatting context stands behind, in the list of its home
   pub record IsBehind (i r j : ℕ) : Type 0 where
     pub behind : number_of contexts i r < j
     pub within : j < first_number contexts (length contexts)
+    pub box : ℕ
+    pub home : slice_index (homes_in homes i) box ≡ r
+    pub stands : IsStanding i box j
 
-  number_by : (i r k j : ℕ) (b : Bool) → i < length contexts → r < k → k < length (boxes_in contexts i) → is_root (boxes_in contexts i) r ≡ true → is_root (boxes_in contexts i) k ≡ b → inner_number contexts i k ≡ j → 0 < j → IsBehind i r j
-  number_by i r k j true lt less inside root e is some =
+  -- a root inside a context stands where it is
+  spot_inside : (i k : ℕ) → 0 < k → spot_of contexts i k ≡ record { context = i; place = k }
+  spot_inside i zero some = absurd (omega (arith, some))
+  spot_inside zero (suc k) some = refl
+  spot_inside (suc i) (suc k) some = refl
+
+  number_by : (i r k j : ℕ) (b : Bool) → i < length contexts → r < k → k < length (boxes_in contexts i) → slice_index (homes_in homes i) k ≡ r → is_root (boxes_in contexts i) r ≡ true → is_root (boxes_in contexts i) k ≡ b → inner_number contexts i k ≡ j → 0 < j → IsBehind i r j
+  number_by i r k j true lt less inside home root e is some =
       let q : number_of contexts i k ≡ j = (let n : inner_number contexts i k ≡ number_of contexts i k = rw e refl in sym n ∙ is) in
       let a = roots_lt (boxes_in contexts i) r k root less in
       let b = number_lt contexts i (length contexts) k lt inside e in
-      record { behind = omega (arith, a, q); within = omega (arith, b, q) }
-  number_by i r k j false lt less inside root e is some =
+      record {
+        behind = omega (arith, a, q);
+        within = omega (arith, b, q);
+        box = k;
+        home = home;
+        stands = record { context = i; place = k; before = lt; inside = inside; root = e; number = q; spot = spot_inside i k (omega (arith, less)) };
+      }
+  number_by i r k j false lt less inside home root e is some =
       let x : ℕ = slice_index (context_at contexts i).inner k in
       let q : first_number contexts x ≡ j = (let n : inner_number contexts i k ≡ first_number contexts x = rw e refl in sym n ∙ is) in
       by_context x refl q
@@ -106,9 +131,19 @@ module _ (contexts : List Context) (homes : List (List ℕ)) (are : AreContexts 
           let has : IsInsideContext contexts i (suc x) = record { box = k; within = (let c = are.count i lt in omega (arith, c, inside)); number = n; some = omega arith } in
           let behind = are.behind i (suc x) lt has in
           let within = are.within i (suc x) lt has in
+          let first = some_box contexts are (suc x) within in
           let a = number_lt contexts i (suc x) r behind (omega (arith, less, inside)) root in
-          let b = number_lt contexts (suc x) (length contexts) 0 within (some_box contexts are (suc x) within) refl in
-          record { behind = omega (arith, a, q); within = omega (arith, b, q) }
+          let b = number_lt contexts (suc x) (length contexts) 0 within first refl in
+          let around = are.around i (suc x) lt has in
+          let at = are.at i (suc x) lt has in
+          let own : number_of contexts (suc x) 0 ≡ j = omega (arith, q) in
+          record {
+            behind = omega (arith, a, q);
+            within = omega (arith, b, q);
+            box = k;
+            home = home;
+            stands = record { context = suc x; place = 0; before = within; inside = first; root = refl; number = own; spot = rw (around, at) refl };
+          }
 
   pub is_behind : (i r box j : ℕ) → i < length contexts → r < length (boxes_in contexts i) → is_root (boxes_in contexts i) r ≡ true → box < length (inner_numbers contexts homes i r)
       → slice_index (inner_numbers contexts homes i r) box ≡ j → 0 < j → IsBehind i r j
@@ -123,7 +158,7 @@ module _ (contexts : List Context) (homes : List (List ℕ)) (are : AreContexts 
       let n : slice_index (map (inner_number contexts i) ks) a ≡ inner_number contexts i k = get_or-map (inner_number contexts i) ks a 0 0 s.inside in
       let h = home_is hs r k s.home in
       let low = home_low i k lt h.0 s.before in
-      number_by i r k j (is_root boxes k) lt (omega (arith, low, h.1)) s.before root refl (sym n ∙ is) some
+      number_by i r k j (is_root boxes k) lt (omega (arith, low, h.1)) s.before h.1 root refl (sym n ∙ is) some
 
 module _ (contexts : List Context) (all : List FormattingContext) (are : AreContexts contexts) (of : AreFormattingContextsOf contexts all) where
   pub root_of : (m : ℕ) → m < length all → Numbered contexts (length contexts) m
@@ -169,7 +204,7 @@ module _ (contexts : List Context) (all : List FormattingContext) (are : AreCont
       let f = ap (λ (f : FormattingContext). length f.boxes) (value_of m lt n) in
       rw (e, f) (inner_length contexts of.homes are of.homes_are n.context n.place)
 
-  stand_behind : (m j : ℕ) → m < length all → IsInside all m j → (m < j) × (j < length all)
+  stand_behind : (m j : ℕ) → m < length all → IsInside all m j → (m < j) × (j < length all) × ((formatting_context_at all j).outer ≡ m)
   stand_behind m j lt has =
       let n = root_of m lt in
       let e = ap (λ (f : FormattingContext). f.inner) (value_of m lt n) in
@@ -178,7 +213,10 @@ module _ (contexts : List Context) (all : List FormattingContext) (are : AreCont
       let b = is_behind contexts of.homes are of.homes_are n.context n.place has.box j n.before n.inside n.root within number has.some in
       let low = b.behind in
       let high = b.within in
-      (omega (arith, low, n.number), omega (arith, high, of.count))
+      let s = b.stands in
+      let there = ap (λ (f : FormattingContext). f.outer) (value_of j (omega (arith, high, of.count)) (record { context = s.context; place = s.place; before = s.before; inside = s.inside; root = s.root; number = s.number })) in
+      let around = there ∙ ap (number_at contexts of.homes) s.spot ∙ ap (number_of contexts n.context) b.home ∙ n.number in
+      (omega (arith, low, n.number), omega (arith, high, of.count), around)
 
   pub in_order : AreFormattingContexts all
   in_order = record {
@@ -188,4 +226,5 @@ module _ (contexts : List Context) (all : List FormattingContext) (are : AreCont
     count = stand_count;
     behind = λ i j lt has. (stand_behind i j lt has).0;
     within = λ i j lt has. (stand_behind i j lt has).1;
+    around = λ i j lt has. (stand_behind i j lt has).2;
   }

@@ -40,3 +40,5 @@ pub record AreFormattingContexts (contexts : List FormattingContext) : Type 0 wh
   pub count : (i : ℕ) → i < length contexts → length (formatting_context_at contexts i).inner ≡ length (boxes_in contexts i)
   pub behind : (i j : ℕ) → i < length contexts → IsInside contexts i j → i < j
   pub within : (i j : ℕ) → i < length contexts → IsInside contexts i j → j < length contexts
+  -- what is inside one is that which has this one around it
+  pub around : (i j : ℕ) → i < length contexts → IsInside contexts i j → (formatting_context_at contexts j).outer ≡ i

@@ -4,11 +4,18 @@ use Rattle.std.specs.Prelude.{◌^◌, ℤ, pos, ◌≤ℤ◌, ⊤}
 use Rattle.lay_units.specs.Units.{IsUsed, IsUsedSize}
 use Rattle.lay_units.specs.declared.records.Len.{Len}
 use Rattle.lay_units.specs.declared.records.Len.TheVariants.{Auto as auto, Of as of}
+use Rattle.lay_units.specs.declared.records.Sides.{Sides}
 use Rattle.lay_sizes.specs.declared.sizing.BoxSizes.{BoxSizes}
 
 -- a border and a padding on one side
 abbrev pub IsInset : ℤ → Type 0
 IsInset v = (pos 0 ≤ℤ v) × (v ≤ℤ pos (2 ^ 32))
+
+pub record AreInsets (s : Sides) : Type 0 where
+  pub top : IsInset s.top.0
+  pub right : IsInset s.right.0
+  pub bottom : IsInset s.bottom.0
+  pub left : IsInset s.left.0
 
 -- auto, or a used size
 abbrev pub IsUsedSizeOrAuto : Len → Type 0

@@ -22,7 +22,7 @@ pub struct NaturalSize {
 }
 
 /// The used size of a replaced element of this natural size and style (CSS 2.2, 10.3.2, 10.4, 10.6.2 and 10.7).
-pub(crate) fn replaced_size_of(
+pub fn replaced_size_of(
     containing: ContainingBlock,
     natural: NaturalSize,
     style: &Style,

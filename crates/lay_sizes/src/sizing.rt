@@ -1,9 +1,9 @@
 //! The used sizes of boxes.
 
-ghost use Rattle.std.specs.Prelude.{◌≡◌, ◌+ℤ◌};
+ghost use Rattle.std.specs.Prelude.{◌≡◌, ◌+ℤ◌, IfSome};
 ghost use Rattle.lay_units.specs.Units.{IsPosition, IsUsedSize, clamp_of};
 ghost use Rattle.lay_widths.specs.BlockWidths.{IsHeld};
-ghost use Rattle.lay_widths.specs.Lengths.{BlockFits};
+ghost use Rattle.lay_widths.specs.Lengths.{BlockFits, IsSize, LenIsSize};
 ghost use Rattle.lay_sizes.specs.UsedLengths.{block_of, or_zero};
 ghost use Rattle.lay_sizes.specs.BoxSizes.{IsSized, IsUsedWidth, border_width, content_block, height_of, max_height_of, min_height_of, natural_of, widths_beside, with_width};
 ghost use Rattle.lay_sizes.specs.SizeBounds.{SizeFits};
@@ -141,7 +141,7 @@ pub fn widths_beside(block: &BlockIn, width: Unit) -> BlockOut
 }
 
 /// The same block, with this width given and no bounds.
-fn with_width(block: &BlockIn, width: Unit) -> BlockIn
+pub fn with_width(block: &BlockIn, width: Unit) -> BlockIn
     requires fits { BlockFits block.now }
     requires width { IsUsedSize width.0 }
     ensures value { result ≡ with_width block.now width }
@@ -172,9 +172,10 @@ fn natural_of(rule: WidthRule) -> Option<NaturalSize>
 }
 
 /// The height, as far as it doesn't depend on what is in the box: of a replaced element the used one.
-fn height_of(containing: ContainingBlock, natural: Option<NaturalSize>, style: &Style) -> Len
+pub fn height_of(containing: ContainingBlock, natural: Option<NaturalSize>, style: &Style) -> Len
     requires { IsPosition containing.width.0 }
-    ensures { result ≡ height_of containing natural style.now }
+    ensures value { result ≡ height_of containing natural style.now }
+    ensures size { LenIsSize result }
 {
     match natural {
         None => used_height(containing.height, style.sizing.height),
@@ -182,8 +183,14 @@ fn height_of(containing: ContainingBlock, natural: Option<NaturalSize>, style: &
     }
 }
 
-fn min_height_of(containing: ContainingBlock, natural: Option<NaturalSize>, style: &Style) -> Unit
-    ensures { result ≡ min_height_of containing natural style.now }
+/// The least height that it may have.
+pub fn min_height_of(
+    containing: ContainingBlock,
+    natural: Option<NaturalSize>,
+    style: &Style,
+) -> Unit
+    ensures value { result ≡ min_height_of containing natural style.now }
+    ensures size { IsSize result.0 }
 {
     match natural {
         None => used_min_height(containing.height, style.sizing.min_height),
@@ -191,12 +198,14 @@ fn min_height_of(containing: ContainingBlock, natural: Option<NaturalSize>, styl
     }
 }
 
-fn max_height_of(
+/// The greatest height that it may have, if there is one.
+pub fn max_height_of(
     containing: ContainingBlock,
     natural: Option<NaturalSize>,
     style: &Style,
 ) -> Option<Unit>
-    ensures { result ≡ max_height_of containing natural style.now }
+    ensures value { result ≡ max_height_of containing natural style.now }
+    ensures size { IfSome result (λ v. IsSize v.0) }
 {
     match natural {
         None => used_max_height(containing.height, style.sizing.max_height),

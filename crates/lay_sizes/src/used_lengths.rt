@@ -4,6 +4,7 @@ ghost use Rattle.std.specs.Prelude.{◌≡◌, ◌+ℤ◌, Option, IfSome};
 ghost use Rattle.lay_units.specs.Units.{IsPosition, IsUsedSize, percentage_of};
 ghost use Rattle.lay_style.specs.LengthValues.{length_of, size_of};
 ghost use Rattle.lay_widths.specs.Lengths.{BlockFits, IsSize, LenFits, LenIsSize};
+ghost use Rattle.lay_sizes.specs.SizeBounds.{AreInsets, IsInset};
 ghost use Rattle.lay_sizes.specs.UsedLengths.{or_zero, used_margin, used_vertical_margin, used_width, used_size, used_limit, used_height, used_min_height, used_max_height, definite_height, block_of, edge_of, edges_of};
 
 use lay_heights::with_min_max;
@@ -11,7 +12,7 @@ use lay_style::{LengthPercentage, LengthPercentageOrAuto, LengthPercentageOrNone
 use lay_units::{BlockIn, Len, Percent, Sides, Unit, clamp, clamp_size, percent_of};
 
 /// What the used widths of a block depend on, for the width of its containing block.
-pub(crate) fn block_of(containing: Unit, style: &Style) -> BlockIn
+pub fn block_of(containing: Unit, style: &Style) -> BlockIn
     requires { IsPosition containing.0 }
     ensures value { result ≡ block_of containing style.now }
     ensures fits { BlockFits result }
@@ -31,14 +32,15 @@ pub(crate) fn block_of(containing: Unit, style: &Style) -> BlockIn
 }
 
 /// The border and the padding of each side together, for the width of the containing block.
-pub(crate) fn edges_of(containing: Unit, style: &Style) -> Sides
-    ensures { result ≡ edges_of containing style.now }
+pub fn edges_of(containing: Unit, style: &Style) -> Sides
+    ensures value { result ≡ edges_of containing style.now }
+    ensures insets { AreInsets result }
 {
     Sides {
-        top: edge_of(containing, style.border.width.top, style.padding.top),
-        right: edge_of(containing, style.border.width.right, style.padding.right),
-        bottom: edge_of(containing, style.border.width.bottom, style.padding.bottom),
-        left: edge_of(containing, style.border.width.left, style.padding.left),
+        top: inset_of(containing, style.border.width.top, style.padding.top),
+        right: inset_of(containing, style.border.width.right, style.padding.right),
+        bottom: inset_of(containing, style.border.width.bottom, style.padding.bottom),
+        left: inset_of(containing, style.border.width.left, style.padding.left),
     }
 }
 
@@ -46,10 +48,18 @@ pub(crate) fn edges_of(containing: Unit, style: &Style) -> Sides
 pub fn edge_of(containing: Unit, border: Unit, padding: LengthPercentage) -> Unit
     ensures { result ≡ edge_of containing border padding }
 {
+    inset_of(containing, border, padding)
+}
+
+/// The same, with its bounds.
+fn inset_of(containing: Unit, border: Unit, padding: LengthPercentage) -> Unit
+    ensures value { result ≡ edge_of containing border padding }
+    ensures inset { IsInset result.0 }
+{
     Unit(size_of(border).0 + used_size(containing, padding).0)
 }
 
-/// A margin, for the width of the containing block.
+/// A margin or an offset, for the length that its percentages are of.
 pub fn used_margin(containing: Unit, margin: LengthPercentageOrAuto) -> Len
     ensures value { result ≡ used_margin containing margin }
     ensures fits { LenFits result }

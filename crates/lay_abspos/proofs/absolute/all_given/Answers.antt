@@ -1,5 +1,5 @@
 use Rattle.std.specs.Int.{w128}
-use Rattle.std.proofs.Common.{◌≡◌, FitsSigned, rules}
+use Rattle.std.proofs.Common.{FitsSigned, rules}
 use Rattle.std.proofs.lemmas.Int.{to_z-of_z}
 use Rattle.lay_abspos.proofs.Filled.{across_filled}
 use Rattle.lay_abspos.proofs.absolute.all_given.Goals as goal

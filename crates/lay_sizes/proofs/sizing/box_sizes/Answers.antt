@@ -8,10 +8,10 @@ returns-clause-fits c =
     sizes_fit_lem c.args.containing c.args.rule c.args.style.now _ (record {
       containing_is = refl;
       widths = c.used_widths.ensures;
-      edges = c.edges_of.ensures;
+      edges = c.edges_of.ensures.value;
       margin_top = c.used_vertical_margin.ensures;
       margin_bottom = c.used_vertical_margin-2.ensures;
-      height = rw natural at c.height_of.ensures;
-      min_height = rw natural at c.min_height_of.ensures;
-      max_height = rw natural at c.max_height_of.ensures;
+      height = rw natural at c.height_of.ensures.value;
+      min_height = rw natural at c.min_height_of.ensures.value;
+      max_height = rw natural at c.max_height_of.ensures.value;
     })

@@ -1,0 +1,57 @@
+-- What is said of an absolutely positioned box has one value: its level, what it is given, its sizes and its offset. What it is given
+-- comes of the formatting contexts on the way to its containing block alone, and they have lower levels.
+use Rattle.std.specs.Prelude.{ℕ, ◌≡◌, ◌<◌, true, List, length, slice_index, Option}
+use Rattle.lay_units.specs.declared.length.Unit.{Unit as Length}
+use Rattle.lay_style.specs.declared.style.Style.{Style}
+use Rattle.lay_boxgen.specs.declared.box_tree.BoxNode.{BoxNode}
+use Rattle.lay_sizes.specs.declared.sizing.BoxSizes.{BoxSizes}
+use Rattle.lay_sizes.specs.declared.sizing.ContainingBlock.{ContainingBlock}
+use Rattle.lay_formatting.specs.FormattingContexts.{AreFormattingContexts, FormattingContext}
+use Rattle.lay_pieces.specs.declared.corner.Corner.{Corner}
+use Rattle.lay_positioned.specs.declared.settings.AbsoluteSetting.{AbsoluteSetting}
+use Rattle.lay_positioned.specs.Absolute.{is_absolute}
+use Rattle.lay_positioned.specs.AbsoluteSizes.{IsAbsoluteSized, IsStretchedHeight}
+use Rattle.lay_positioned.specs.AbsoluteTables.{IsTableLeft}
+use Rattle.lay_positioned.specs.Layouts.{Layout}
+use Rattle.lay_positioned.specs.Levels.{HasLevels}
+use Rattle.lay_positioned.specs.Offsets.{IsOffset}
+use Rattle.lay_positioned.specs.Settings.{IsSetting, absolute_setting}
+use Rattle.lay_positioned.specs.Ways.{IsOnWay}
+
+-- formatting contexts have one column of levels
+abbrev pub OneLevels : Type 0
+OneLevels = (contexts : List FormattingContext) (x y : List ℕ) → AreFormattingContexts contexts
+    → HasLevels contexts x → HasLevels contexts y → x ≡ y
+
+-- what is on the way of an absolutely positioned one has a lower level
+abbrev pub WaysLeadDown : Type 0
+WaysLeadDown = (contexts : List FormattingContext) (levels : List ℕ) (i j : ℕ) → AreFormattingContexts contexts → HasLevels contexts levels
+    → i < length contexts → is_absolute contexts i ≡ true → IsOnWay contexts i j → slice_index levels j < slice_index levels i
+
+-- and stands before it
+abbrev pub WaysLeadOut : Type 0
+WaysLeadOut = (contexts : List FormattingContext) (i j : ℕ) → AreFormattingContexts contexts → i < length contexts → IsOnWay contexts i j → j < i
+
+-- An absolutely positioned one is given one setting, and the same one wherever those on the way answer the same.
+abbrev pub SettingsComeOfWays : Type 0
+SettingsComeOfWays = (viewport : ContainingBlock) (contexts : List FormattingContext) (v w : ℕ → Layout) (i : ℕ) (s t : AbsoluteSetting)
+    → ((j : ℕ) → IsOnWay contexts i j → v j ≡ w j)
+    → IsSetting viewport contexts v i s → IsSetting viewport contexts w i t → s ≡ t
+
+-- it is the value of `absolute_setting`
+abbrev pub SettingsAreValues : Type 0
+SettingsAreValues = (viewport : ContainingBlock) (contexts : List FormattingContext) (laid : ℕ → Layout) (i : ℕ) → AreFormattingContexts contexts
+    → i < length contexts → IsSetting viewport contexts laid i (absolute_setting viewport contexts laid i)
+
+abbrev pub OneAbsoluteSizes : Type 0
+OneAbsoluteSizes = (s : AbsoluteSetting) (own : BoxNode) (minimum preferred : Length) (x y : BoxSizes) (a b : Length)
+    → IsAbsoluteSized s own minimum preferred x a → IsAbsoluteSized s own minimum preferred y b → (x ≡ y) × (a ≡ b)
+
+abbrev pub OneStretchedHeight : Type 0
+OneStretchedHeight = (s : AbsoluteSetting) (own : BoxNode) (x y : Option Length) → IsStretchedHeight s own x → IsStretchedHeight s own y → x ≡ y
+
+abbrev pub OneTableLeft : Type 0
+OneTableLeft = (s : AbsoluteSetting) (style : Style) (width x y : Length) → IsTableLeft s style width x → IsTableLeft s style width y → x ≡ y
+
+abbrev pub OneOffset : Type 0
+OneOffset = (s : AbsoluteSetting) (own : BoxNode) (left height : Length) (x y : Corner) → IsOffset s own left height x → IsOffset s own left height y → x ≡ y

@@ -1,0 +1,16 @@
+pub mod Absolute
+pub mod Levels
+pub mod Layouts
+pub mod Holders
+pub mod RectBounds
+pub mod PaddingBoxes
+pub mod ContainingRects
+pub mod ViewportBounds
+pub mod Ways
+pub mod Settings
+pub mod AbsoluteAxes
+pub mod AbsoluteSizes
+pub mod AbsoluteTables
+pub mod OffsetBounds
+pub mod Offsets
+pub mod Laws

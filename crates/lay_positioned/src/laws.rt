@@ -1,0 +1,48 @@
+//! The laws of the definitions. The functions do nothing.
+
+ghost use Rattle.lay_positioned.specs.Laws.{OneAbsoluteSizes, OneLevels, OneOffset, OneStretchedHeight, OneTableLeft, SettingsAreValues, SettingsComeOfWays, WaysLeadDown, WaysLeadOut};
+
+/// Formatting contexts have one column of levels.
+pub fn one_levels()
+    ensures { OneLevels }
+{}
+
+/// What is on the way to a containing block has a lower level than what is positioned by that.
+pub fn ways_lead_down()
+    ensures { WaysLeadDown }
+{}
+
+/// And it stands before it.
+pub fn ways_lead_out()
+    ensures { WaysLeadOut }
+{}
+
+/// What an absolutely positioned box is given comes of the formatting contexts on the way to its containing block alone.
+pub fn settings_come_of_ways()
+    ensures { SettingsComeOfWays }
+{}
+
+/// It is given what is found outward in so many steps as formatting contexts and boxes stand before it.
+pub fn settings_are_values()
+    ensures { SettingsAreValues }
+{}
+
+/// An absolutely positioned box has one set of used sizes.
+pub fn one_absolute_sizes()
+    ensures { OneAbsoluteSizes }
+{}
+
+/// It has one height between `top` and `bottom`.
+pub fn one_stretched_height()
+    ensures { OneStretchedHeight }
+{}
+
+/// An absolutely positioned table has one place across.
+pub fn one_table_left()
+    ensures { OneTableLeft }
+{}
+
+/// An absolutely positioned box stands in one place.
+pub fn one_offset()
+    ensures { OneOffset }
+{}

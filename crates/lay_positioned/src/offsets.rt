@@ -1,0 +1,58 @@
+//! Where absolutely positioned boxes stand.
+
+ghost use Rattle.std.specs.Prelude.{◌≡◌, ◌+ℤ◌, IfOk};
+ghost use Rattle.lay_abspos.specs.AbsoluteFits.{AxisFits};
+ghost use Rattle.lay_pieces.specs.Corners.{IsCornerNear};
+ghost use Rattle.lay_boxgen.specs.Kinds.{is_wrapper};
+ghost use Rattle.lay_sizes.specs.OwnBoxes.{IsBoxSize};
+ghost use Rattle.lay_positioned.specs.OffsetBounds.{IsStart};
+ghost use Rattle.lay_positioned.specs.Offsets.{IsOffset, axis_of_height};
+ghost use Rattle.lay_positioned.specs.Settings.{SettingFits};
+
+use crate::axes::{axis_down, content_height, wrapper_down};
+use crate::rects::moved;
+use crate::settings::{AbsoluteSetting, block_in};
+use crate::sizes::{border_start, is_wrapper, own_axis_down, solved};
+use lay_abspos::{Axis, ContentSize};
+use lay_boxgen::BoxNode;
+use lay_pieces::{Corner, near_corner};
+use lay_units::{Len, NoMemory, Unit};
+
+/// The corner of the border box of this box, counted as its containing block is: its left edge is so far from that of the
+/// containing block, and it is so high (CSS 2.2, 10.6.4 and 10.6.5). NoMemory is the answer where it is more than 2^60 units
+/// away, which it is in no document within the limits.
+pub fn own_offset(
+    setting: &AbsoluteSetting,
+    own: &BoxNode,
+    left: Unit,
+    height: Unit,
+) -> Result<Corner, NoMemory>
+    requires setting { SettingFits setting.now }
+    requires left { IsStart left.0 }
+    requires height { IsBoxSize height.0 }
+    ensures offset { IfOk result (IsOffset setting.now own.now left height) }
+    ensures near { IfOk result IsCornerNear }
+{
+    let axis = axis_of_height(is_wrapper(&own.kind), setting, own, height);
+    let top = border_start(&solved(&axis));
+    let rect = setting.rect;
+    near_corner(moved(rect.x, left), moved(rect.y, top))
+}
+
+/// The equation down, of a box whose border box is so high.
+fn axis_of_height(is_table: bool, setting: &AbsoluteSetting, own: &BoxNode, height: Unit) -> Axis
+    requires setting { SettingFits setting.now }
+    requires height { IsBoxSize height.0 }
+    ensures axis { result ≡ axis_of_height is_table setting.now own.now height }
+    ensures fits { AxisFits result }
+{
+    if is_table {
+        let block = wrapper_down(setting, &own.style, Len::Of(height));
+        return axis_down(setting, &own.style, block, ContentSize::Stands(Unit(0)));
+    }
+    own_axis_down(
+        setting,
+        own,
+        content_height(block_in(setting), &own.style, height),
+    )
+}

@@ -1,0 +1,68 @@
+//! Rectangles that are counted from one corner or another.
+
+ghost use Rattle.std.specs.Prelude.{◌≡◌, ◌+ℤ◌, ◌-ℤ◌, IfOk};
+ghost use Rattle.lay_units.specs.Units.{IsPosition};
+ghost use Rattle.lay_sizes.specs.SizeBounds.{IsInset};
+ghost use Rattle.lay_pieces.specs.Corners.{IsCornerNear, IsNear};
+ghost use Rattle.lay_pieces.specs.NearPieces.{IsRectNear};
+ghost use Rattle.lay_positioned.specs.ContainingRects.{seen_from};
+
+use lay_pieces::{Corner, near_position};
+use lay_units::{NoMemory, Rect, Unit};
+
+/// A rectangle. NoMemory is the answer where one of its numbers is more than 2^60 units from 0.
+pub(crate) fn near_rect(r: Rect) -> Result<Rect, NoMemory>
+    ensures rect { IfOk result (λ n. n ≡ r) }
+    ensures near { IfOk result IsRectNear }
+{
+    let x = near_position(r.x)?;
+    let y = near_position(r.y)?;
+    let w = near_position(r.w)?;
+    let h = near_position(r.h)?;
+    Ok(Rect { x, y, w, h })
+}
+
+/// A rectangle, counted from a corner.
+pub(crate) fn seen_from(corner: Corner, r: Rect) -> Result<Rect, NoMemory>
+    requires corner { IsCornerNear corner }
+    requires near { IsRectNear r }
+    ensures rect { IfOk result (λ n. n ≡ seen_from corner r) }
+    ensures near { IfOk result IsRectNear }
+{
+    let rect = Rect {
+        x: difference(r.x, corner.x),
+        y: difference(r.y, corner.y),
+        w: r.w,
+        h: r.h,
+    };
+    near_rect(rect)
+}
+
+/// A position, counted from another one.
+pub(crate) fn difference(position: Unit, from: Unit) -> Unit
+    requires position { IsNear position.0 }
+    requires from { IsNear from.0 }
+    ensures value { result ≡ record { 0 = position.0 -ℤ from.0 } }
+    ensures fits { IsPosition result.0 }
+{
+    Unit(position.0 - from.0)
+}
+
+/// What is left of a length between two others.
+pub(crate) fn inside(length: Unit, before: Unit, after: Unit) -> Unit
+    requires length { IsPosition length.0 }
+    requires before { IsInset before.0 }
+    requires after { IsInset after.0 }
+    ensures { result ≡ record { 0 = length.0 -ℤ before.0 -ℤ after.0 } }
+{
+    Unit(length.0 - before.0 - after.0)
+}
+
+/// A position so much further.
+pub(crate) fn moved(position: Unit, by: Unit) -> Unit
+    requires position { IsPosition position.0 }
+    requires by { IsPosition by.0 }
+    ensures { result ≡ record { 0 = position.0 +ℤ by.0 } }
+{
+    Unit(position.0 + by.0)
+}
