@@ -70,9 +70,10 @@ module _ (one_cell : OneCellSizes) (i : SizeInput) (x y : List BoxSizes) (m n : 
   ]
 
   one_flow : (x ≡ y) × (m ≡ n)
-  one_flow =
-      (same_list no_sizes x y (a.inside.count ∙ sym b.inside.count) (λ k lt. sizes_to (length i.boxes) (omega arith) k (omega (arith, a.inside.count))),
-       own_same.1)
+  one_flow = (
+    same_list no_sizes x y (a.inside.count ∙ sym b.inside.count) (λ k lt. sizes_to (length i.boxes) (omega arith) k (omega (arith, a.inside.count))),
+    own_same.1,
+  )
 
 -- a table stands in one place across
 one_left : (setting : Setting) (own : BoxNode) (z : BoxSizes) (m n : Length) → IsWrapperLeft setting own z m → IsWrapperLeft setting own z n → m ≡ n

@@ -74,8 +74,8 @@ module _ (one : OneAnswer) (medium : Medium) (contexts : List FormattingContext)
   agree levels has v w a b zero task there lt = absurd (omega (arith, lt))
   agree levels has v w a b (suc m) task there lt =
       one_value v w task there (a task there) (b task there) (inputs_come_of_needs_lem medium contexts v w task are there (λ needed needs.
-        (let had = needs_come_first_lem contexts levels task needed are has there needs in
-        agree levels has v w a b m needed had.within (omega (arith, had.earlier, lt)))))
+      (let had = needs_come_first_lem contexts levels task needed are has there needs in
+      agree levels has v w a b m needed had.within (omega (arith, had.earlier, lt)))))
 
   agree_at : (levels : List ℕ) → HasLevels contexts levels → (v w : Workings) → AllDone v → AllDone w → (task : Task) → task.context < length contexts → value_of v task ≡ value_of w task
   agree_at levels has v w a b task there = agree levels has v w a b (turn_of levels task + 1) task there (omega arith)

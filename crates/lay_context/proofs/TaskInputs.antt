@@ -110,18 +110,18 @@ module _ (medium : Medium) (contexts : List FormattingContext) (v w : Workings) 
   input_same Size same =
       let widths = width_value (widths_in v.widths i) (widths_in w.widths i) (same Measure i refl) in
       let setting = setting_by (is_absolute contexts i) refl (λ j needs. size_value (sizes_in v.sizes j) (sizes_in w.sizes j) (same Size j needs))
-        (λ j needs. place_value (placed_in v.places j) (placed_in w.places j) (same Place j needs)) in
+      (λ j needs. place_value (placed_in v.places j) (placed_in w.places j) (same Place j needs)) in
       rw (widths, setting) refl
   input_same Place same =
       let sizes = size_value (sizes_in v.sizes i) (sizes_in w.sizes i) (same Size i (inl refl)) in
       let places : (k : ℕ) → k < length (flow_numbers contexts i) → 0 < slice_index (flow_numbers contexts i) k
-          → placement_in v.places (slice_index (flow_numbers contexts i) k) ≡ placement_in w.places (slice_index (flow_numbers contexts i) k) = λ k lt some.
+      → placement_in v.places (slice_index (flow_numbers contexts i) k) ≡ placement_in w.places (slice_index (flow_numbers contexts i) k) = λ k lt some.
       (let j : ℕ = slice_index (flow_numbers contexts i) k in
       ap (λ (p : PlacedContext). p.placement) (place_value (placed_in v.places j) (placed_in w.places j) (same Place j (inl (record { box = k; within = lt; number = refl; some = some }))))) in
       let inner : inner_boxes contexts v.places i ≡ inner_boxes contexts w.places i = boxes_same v.places w.places (flow_numbers contexts i) places in
       let pieces : inner_pieces contexts v.places i ≡ inner_pieces contexts w.places i = pieces_same contexts v.places w.places (flow_numbers contexts i) places in
       let position = position_by (is_absolute contexts i) refl (λ j needs. size_value (sizes_in v.sizes j) (sizes_in w.sizes j) (same Size j needs))
-        (λ j needs. place_value (placed_in v.places j) (placed_in w.places j) (same Place j needs)) in
+      (λ j needs. place_value (placed_in v.places j) (placed_in w.places j) (same Place j needs)) in
       rw (sizes, inner, pieces, position) refl
 
 pub inputs_come_of_needs_lem : InputsComeOfNeeds

@@ -26,9 +26,10 @@ lower a b m x y lt within =
 
 -- rounds are apart
 one_round : (a b m x y : ℕ) → x < m → y < m → a * m + x ≡ b * m + y → (a ≡ b) × (x ≡ y)
-one_round a b m x y lx ly same =
-    (sym (div-mul-add a m x lx) ∙ ap (λ (k : ℕ). k / m) same ∙ div-mul-add b m y ly,
-     sym (mod-mul-add a m x lx) ∙ ap (λ (k : ℕ). k % m) same ∙ mod-mul-add b m y ly)
+one_round a b m x y lx ly same = (
+  sym (div-mul-add a m x lx) ∙ ap (λ (k : ℕ). k / m) same ∙ div-mul-add b m y ly,
+  sym (mod-mul-add a m x lx) ∙ ap (λ (k : ℕ). k % m) same ∙ mod-mul-add b m y ly,
+)
 
 -- the number of an inner one in flow or floating
 flow_is : (contexts : List FormattingContext) (j k : ℕ) (b : Bool) → is_absolute contexts j ≡ b → (if b then 0 else j) ≡ k → 0 < k → (j ≡ k) × (is_absolute contexts j ≡ false)

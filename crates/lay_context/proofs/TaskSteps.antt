@@ -161,7 +161,7 @@ module _ (medium : Medium) (contexts : List FormattingContext) (levels : List �
       let i : ℕ = length contexts - 1 - done in
       let counted = has.count in
       one_more w next (record { context = i; phase = Measure }) done (omega arith) (omega (arith, counted))
-        (λ s within e. measured contexts levels are has s.phase s.context i (omega (arith, within, counted)) (omega (arith, counted)) (omega (arith, e, counted))) so_far settled
+      (λ s within e. measured contexts levels are has s.phase s.context i (omega (arith, within, counted)) (omega (arith, counted)) (omega (arith, e, counted))) so_far settled
 
   pub measure_ready : (w : Workings) (done : ℕ) → done < length contexts → AreDoneTo medium contexts levels w done
       → IsReady contexts w (record { context = length contexts - 1 - done; phase = Measure })
@@ -178,7 +178,7 @@ module _ (medium : Medium) (contexts : List FormattingContext) (levels : List �
       let start : round_start (length levels) (slice_index levels i) ≡ round_start (length contexts) l = rw (at, counted) refl in
       let other : round_start (length contexts) l ≡ round_start (length levels) l = rw counted refl in
       let more = one_more w next (record { context = i; phase = Size }) (round_start (length contexts) l + i) lt (omega (arith, start))
-        (λ s within e. (sized contexts levels are has s.phase s.context l i (omega (arith, within, counted)) (omega (arith, lt, counted)) (omega (arith, e, other))).0) so_far settled in
+      (λ s within e. (sized contexts levels are has s.phase s.context l i (omega (arith, within, counted)) (omega (arith, lt, counted)) (omega (arith, e, other))).0) so_far settled in
       subst (AreDoneTo medium contexts levels next) (omega arith) more
 
   pub none_sized : (w : Workings) (l i : ℕ) → i < length contexts → slice_index levels i ≢ l → AreDoneTo medium contexts levels w (round_start (length contexts) l + i)
@@ -187,7 +187,7 @@ module _ (medium : Medium) (contexts : List FormattingContext) (levels : List �
       let counted = has.count in
       let other : round_start (length contexts) l ≡ round_start (length levels) l = rw counted refl in
       let more = skipped w (round_start (length contexts) l + i)
-        (λ s within e. differ (sized contexts levels are has s.phase s.context l i (omega (arith, within, counted)) (omega (arith, lt, counted)) (omega (arith, e, other))).1) so_far in
+      (λ s within e. differ (sized contexts levels are has s.phase s.context l i (omega (arith, within, counted)) (omega (arith, lt, counted)) (omega (arith, e, other))).1) so_far in
       subst (AreDoneTo medium contexts levels w) (omega arith) more
 
   pub size_ready : (w : Workings) (l i : ℕ) → i < length contexts → slice_index levels i ≡ l → AreDoneTo medium contexts levels w (round_start (length contexts) l + i)
@@ -210,7 +210,7 @@ module _ (medium : Medium) (contexts : List FormattingContext) (levels : List �
       let start : round_start (length levels) (slice_index levels i) ≡ round_start (length contexts) l = rw (at, counted) refl in
       let other : round_start (length contexts) l ≡ round_start (length levels) l = rw counted refl in
       let more = one_more w next (record { context = i; phase = Place }) (place_turn l done) (omega arith) (omega (arith, start, counted))
-        (λ s within e. (placed contexts levels are has s.phase s.context l i (omega (arith, within, counted)) (omega (arith, counted)) (omega (arith, e, other, counted))).0) so_far settled in
+      (λ s within e. (placed contexts levels are has s.phase s.context l i (omega (arith, within, counted)) (omega (arith, counted)) (omega (arith, e, other, counted))).0) so_far settled in
       subst (AreDoneTo medium contexts levels next) (omega arith) more
 
   pub none_placed : (w : Workings) (l done : ℕ) → done < length contexts → slice_index levels (length contexts - 1 - done) ≢ l → AreDoneTo medium contexts levels w (place_turn l done)
@@ -220,7 +220,7 @@ module _ (medium : Medium) (contexts : List FormattingContext) (levels : List �
       let counted = has.count in
       let other : round_start (length contexts) l ≡ round_start (length levels) l = rw counted refl in
       let more = skipped w (place_turn l done)
-        (λ s within e. differ (placed contexts levels are has s.phase s.context l i (omega (arith, within, counted)) (omega (arith, counted)) (omega (arith, e, other, counted))).1) so_far in
+      (λ s within e. differ (placed contexts levels are has s.phase s.context l i (omega (arith, within, counted)) (omega (arith, counted)) (omega (arith, e, other, counted))).1) so_far in
       subst (AreDoneTo medium contexts levels w) (omega arith) more
 
   pub place_ready : (w : Workings) (l done : ℕ) → done < length contexts → slice_index levels (length contexts - 1 - done) ≡ l → AreDoneTo medium contexts levels w (place_turn l done)

@@ -56,9 +56,7 @@ fn own_sizes(input: &SizeInput) -> AbsoluteSizes
         Setting::Block(containing) => {
             in_flow(box_sizes(containing, own_rule_of(widths, boxes), boxes.style(0)))
         }
-        Setting::Cell { containing, cell } => in_flow(
-            cell_sizes(containing, cell, boxes.style(0)),
-        ),
+        Setting::Cell { containing, cell } => in_flow(cell_sizes(containing, cell, boxes.style(0))),
         Setting::Absolute(setting) => {
             absolute_sizes(&setting, input.own(), widths.minimum, widths.preferred)
         }

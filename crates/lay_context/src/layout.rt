@@ -128,12 +128,7 @@ fn measure_all(alloc: Global, plan: &Plan, known: &mut Known) -> Result<(), NoMe
 
 /// Sizes the formatting contexts of a level, from the first one to the last, and then places them from the last to the
 /// first.
-fn lay_level(
-    alloc: Global,
-    plan: &Plan,
-    known: &mut Known,
-    level: usize,
-) -> Result<(), NoMemory>
+fn lay_level(alloc: Global, plan: &Plan, known: &mut Known, level: usize) -> Result<(), NoMemory>
     requires plan { IsPlan plan.now.contexts.now plan.now.levels.now }
     requires grids { GridsAreOfBoxes }
     requires before { AreDoneTo plan.now.medium.now plan.now.contexts.now plan.now.levels.now known.old (round_start (length plan.now.contexts.now) level) }
@@ -143,12 +138,7 @@ fn lay_level(
     place_level(alloc, plan, known, level)
 }
 
-fn size_level(
-    alloc: Global,
-    plan: &Plan,
-    known: &mut Known,
-    level: usize,
-) -> Result<(), NoMemory>
+fn size_level(alloc: Global, plan: &Plan, known: &mut Known, level: usize) -> Result<(), NoMemory>
     requires plan { IsPlan plan.now.contexts.now plan.now.levels.now }
     requires grids { GridsAreOfBoxes }
     requires before { AreDoneTo plan.now.medium.now plan.now.contexts.now plan.now.levels.now known.old (round_start (length plan.now.contexts.now) level) }
@@ -166,12 +156,7 @@ fn size_level(
     Ok(())
 }
 
-fn place_level(
-    alloc: Global,
-    plan: &Plan,
-    known: &mut Known,
-    level: usize,
-) -> Result<(), NoMemory>
+fn place_level(alloc: Global, plan: &Plan, known: &mut Known, level: usize) -> Result<(), NoMemory>
     requires plan { IsPlan plan.now.contexts.now plan.now.levels.now }
     requires grids { GridsAreOfBoxes }
     requires before { AreDoneTo plan.now.medium.now plan.now.contexts.now plan.now.levels.now known.old (round_start (length plan.now.contexts.now) level + length plan.now.contexts.now) }

@@ -23,7 +23,6 @@ pub struct SizedContext {
 
 impl Model for SizedContext {
     ghost use Rattle.lay_context.specs.ContextSizes.{SizedContext as Plain};
-
     ghost use Rattle.lay_context.specs.StandInputs.{IsStretchedSize};
     ghost use Rattle.lay_positioned.specs.OffsetBounds.{IsStart};
 

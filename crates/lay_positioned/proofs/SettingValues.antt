@@ -93,4 +93,4 @@ pub same_setting : (viewport : ContainingBlock) (contexts : List FormattingConte
     → ((j : ℕ) → IsOnWay contexts i j → v j ≡ w j) → absolute_setting viewport contexts v i ≡ absolute_setting viewport contexts w i
 same_setting viewport contexts v w i are within same =
     settings_come_of_ways_lem viewport contexts v w i (absolute_setting viewport contexts v i) (absolute_setting viewport contexts w i) same
-      (settings_are_values_lem viewport contexts v i are within) (settings_are_values_lem viewport contexts w i are within)
+    (settings_are_values_lem viewport contexts v i are within) (settings_are_values_lem viewport contexts w i are within)

@@ -17,8 +17,8 @@ pub use laws::{one_box_sizes, sizes_fit};
 pub use own_boxes::{NO_OWN_BOX, OwnBox, own_box};
 pub use replaced::{NaturalSize, replaced_size_of};
 pub use sizing::{
-    BoxSizes, ContainingBlock, NO_SIZES, WidthRule, border_width, box_sizes, content_block, height_of,
-    max_height_of, min_height_of, widths_beside, with_width,
+    BoxSizes, ContainingBlock, NO_SIZES, WidthRule, border_width, box_sizes, content_block,
+    height_of, max_height_of, min_height_of, widths_beside, with_width,
 };
 pub use used_lengths::{
     block_of, edge_of, edges_of, used_height, used_limit, used_margin, used_max_height,
