@@ -117,6 +117,7 @@ fn stand_input(
     let boxes = contexts.at(i).boxes().share()?;
     let sized = known.sizes(i);
     let sizes = sized.boxes().share()?;
+    let _ = sizes.as_slice();
     let position = position_of(medium.viewport(), contexts, known, i)?;
     Ok(StandInput::new(boxes, sizes, sized.left(), position))
 }
@@ -135,6 +136,7 @@ fn table_input(
 {
     let boxes = contexts.at(i).boxes().share()?;
     let sizes = known.sizes(i).boxes().share()?;
+    let _ = sizes.as_slice();
     let numbers = flow_numbers(alloc, contexts, i)?;
     let inner = inner_boxes(alloc, known, &numbers)?;
     let pieces = inner_pieces(alloc, contexts, known, &numbers)?;
