@@ -13,7 +13,7 @@ use Rattle.lay_pieces.specs.InnerPieces.{AreNearInnerPieces}
 use Rattle.lay_pieces.specs.Placements.{Placement}
 use Rattle.lay_flow_boxes.specs.PlaceInputs.{HeightRuleFits, PlaceInputFits, height_rule_of}
 use Rattle.lay_table.specs.TableInputs.{TableInputFits}
-use Rattle.lay_context.specs.ContextSizes.{SizedContext}
+use Rattle.lay_context_sizes.specs.ContextSizes.{SizedContext}
 use Rattle.lay_context.specs.DocumentLayout.{flow_number, flow_numbers, inner_boxes, inner_pieces, own_box_in, pieces_in}
 use Rattle.lay_context.specs.Local.{Workings, flow_input, table_input}
 use Rattle.lay_context.specs.Medium.{Medium}

@@ -10,13 +10,14 @@ ghost use Rattle.lay_context.specs.Settings.{sizes_in};
 ghost use Rattle.lay_context.specs.Settling.{AreBelow, IsReady};
 ghost use Rattle.lay_context.specs.declared.task.Phase.TheVariants.{Place, Size};
 
-use crate::input::{Input, MeasureInput, SizeInput};
+use crate::input::Input;
 use crate::known::Known;
 use crate::medium::Medium;
 use crate::own_heights::own_height_rule;
 use crate::settings::{position_of, setting_of};
 use crate::stand_input::StandInput;
 use crate::task::{Phase, Task};
+use lay_context_sizes::{MeasureInput, SizeInput};
 use lay_flow_boxes::PlaceInput;
 use lay_formatting::FormattingContexts;
 use lay_frag::Pieces;

@@ -13,8 +13,8 @@ use Rattle.lay_context_boxes.specs.Containing.{container_of}
 use Rattle.lay_context_boxes.specs.ContextBoxes.{AreContextBoxes, is_inner}
 use Rattle.lay_context_boxes.proofs.ContainerSteps.{container_before}
 use Rattle.lay_context_boxes.specs.ContainingBlocks.{block_around, height_holder}
-use Rattle.lay_context.specs.FlowSizes.{HaveInsideSizes, IsBoxSized}
-use Rattle.lay_context.proofs.HolderSteps.{holder_before}
+use Rattle.lay_context_sizes.specs.FlowSizes.{HaveInsideSizes, IsBoxSized}
+use Rattle.lay_context_sizes.proofs.HolderSteps.{holder_before}
 
 -- the boxes before n have their sizes, and the own one has these
 pub record SizesTo (own : BoxSizes) (boxes : List BoxNode) (sizes : List BoxSizes) (n : ℕ) : Type 0 where

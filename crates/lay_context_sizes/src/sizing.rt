@@ -5,13 +5,13 @@ ghost use Rattle.lay_sizes.specs.SizeBounds.{SizeFits};
 ghost use Rattle.lay_sizes.specs.SizeColumns.{HaveSizeBounds, sizes_at};
 ghost use Rattle.lay_positioned.specs.OffsetBounds.{IsStart};
 ghost use Rattle.lay_positioned.specs.Settings.{SettingFits};
-ghost use Rattle.lay_context.specs.ContextSizes.{HasSizes, IsStretchedIn, IsWrapperLeft, absolute_table_rule, flow_table_rule, table_rule, table_rule_as};
-ghost use Rattle.lay_context.specs.Inputs.{OwnSettingFits};
-ghost use Rattle.lay_context.specs.StandInputs.{IsStretchedSize};
-ghost use Rattle.lay_context.specs.TableContexts.{is_table};
+ghost use Rattle.lay_context_sizes.specs.ContextSizes.{HasSizes, IsStretchedIn, IsWrapperLeft, absolute_table_rule, flow_table_rule, table_rule, table_rule_as};
+ghost use Rattle.lay_context_sizes.specs.Inputs.{OwnSettingFits};
+ghost use Rattle.lay_context_sizes.specs.ContextSizes.{IsStretchedSize};
+ghost use Rattle.lay_context_sizes.specs.TableContexts.{is_table};
 
 use crate::flow_sizes::flow_sizes;
-use crate::input::SizeInput;
+use crate::inputs::SizeInput;
 use crate::setting::Setting;
 use crate::sized_context::SizedContext;
 use crate::table_contexts::is_table;
@@ -25,7 +25,7 @@ use lay_units::{NoMemory, Unit};
 use std::alloc::Global;
 
 /// The used sizes of a formatting context.
-pub(crate) fn context_sizes(alloc: Global, input: &SizeInput) -> Result<SizedContext, NoMemory>
+pub fn context_sizes(alloc: Global, input: &SizeInput) -> Result<SizedContext, NoMemory>
     ensures { IfOk result (HasSizes input.now) }
 {
     if is_table(input.boxes()) {

@@ -23,9 +23,9 @@ use Rattle.lay_context_boxes.specs.ContextBoxes.{is_inner}
 use Rattle.lay_context_boxes.specs.ContainingBlocks.{block_around}
 use Rattle.lay_formatting.specs.FormattingBoxes.{box_at}
 use Rattle.lay_positioned.specs.AbsoluteSizes.{IsAbsoluteSized}
-use Rattle.lay_context.specs.Inputs.{SizeInput}
-use Rattle.lay_context.specs.declared.setting.Setting.{Setting}
-use Rattle.lay_context.specs.declared.setting.Setting.TheVariants.{Absolute, Block, Cell}
+use Rattle.lay_context_sizes.specs.Inputs.{SizeInput}
+use Rattle.lay_context_sizes.specs.declared.setting.Setting.{Setting}
+use Rattle.lay_context_sizes.specs.declared.setting.Setting.TheVariants.{Absolute, Block, Cell}
 
 -- Which rule gives the context's own box its width, where these are its preferred widths. In flow an inline-block shrinks to fit
 -- (10.3.9), and a block fills its containing block (10.3.3). A replaced element has the width of the rules for these, which is

@@ -1,6 +1,6 @@
--- What the tasks of one formatting context are given: its boxes with the preferred widths of inner ones and the face of texts for
--- its own preferred widths (CSS 2.2, 10.3.5), and its boxes with these and the setting of its own box for sizes (10.1). What its
--- placement is given is of lay_placement and of lay_table, and what is said of where it stands itself is of `OwnOffsets`.
+-- What the widths and sizes of one formatting context are worked out of: its boxes with the preferred widths of inner ones and the
+-- face of texts for its own preferred widths (CSS 2.2, 10.3.5), and its boxes with these and the setting of its own box for sizes
+-- (10.1).
 use Rattle.std.specs.Prelude.{List}
 use Rattle.lay_units.specs.Units.{IsPosition}
 use Rattle.lay_boxgen.specs.declared.box_tree.BoxNode.{BoxNode}
@@ -8,9 +8,9 @@ use Rattle.lay_face.specs.FaceValue.{FaceValue}
 use Rattle.lay_measure.specs.declared.preferred_widths.PreferredWidths.{PreferredWidths}
 use Rattle.lay_sizes.specs.declared.sizing.ContainingBlock.{ContainingBlock}
 use Rattle.lay_context_boxes.specs.ContextBoxes.{AreContextBoxes}
-use Rattle.lay_context.specs.declared.setting.Setting.{Setting}
+use Rattle.lay_context_sizes.specs.declared.setting.Setting.{Setting}
 use Rattle.lay_positioned.specs.Settings.{SettingFits, block_in}
-use Rattle.lay_context.specs.declared.setting.Setting.TheVariants.{Absolute, Block, Cell}
+use Rattle.lay_context_sizes.specs.declared.setting.Setting.TheVariants.{Absolute, Block, Cell}
 
 pub record MeasureInput : Type 0 where
   pub boxes : List BoxNode

@@ -1,7 +1,8 @@
 -- What a formatting context answers of sizes: the used sizes of its boxes (CSS 2.2, 10.2 to 10.7), and of a table also its grid, the
 -- widths of its columns and what its cells are given (17.5.2). Of an absolutely positioned one it also answers where it stands across
 -- (10.3.7), and its height where that is between `top` and `bottom` (10.6.4).
-use Rattle.std.specs.Prelude.{◌≡◌, Bool, true, false, List, [], slice_get, Option, None, Some}
+use Rattle.std.specs.Prelude.{◌≡◌, Bool, true, false, List, [], slice_get, Option, None, Some, IfSome}
+use Rattle.lay_units.specs.Units.{IsUsedSize}
 use Rattle.lay_units.specs.declared.length.Unit.{Unit as Length}
 use Rattle.lay_boxgen.specs.declared.box_tree.BoxNode.{BoxNode}
 use Rattle.lay_boxgen.specs.declared.box_tree.BoxKind.{BoxKind}
@@ -20,11 +21,11 @@ use Rattle.lay_formatting.specs.FormattingBoxes.{box_at}
 use Rattle.lay_positioned.specs.AbsoluteSizes.{IsStretchedHeight}
 use Rattle.lay_positioned.specs.AbsoluteTables.{IsTableLeft, table_width}
 use Rattle.lay_positioned.specs.declared.settings.AbsoluteSetting.{AbsoluteSetting}
-use Rattle.lay_context.specs.FlowSizes.{HasFlowSizes}
-use Rattle.lay_context.specs.Inputs.{SizeInput, containing_block_in}
-use Rattle.lay_context.specs.TableContexts.{is_table}
-use Rattle.lay_context.specs.declared.setting.Setting.{Setting}
-use Rattle.lay_context.specs.declared.setting.Setting.TheVariants.{Absolute, Block, Cell}
+use Rattle.lay_context_sizes.specs.FlowSizes.{HasFlowSizes}
+use Rattle.lay_context_sizes.specs.Inputs.{SizeInput, containing_block_in}
+use Rattle.lay_context_sizes.specs.TableContexts.{is_table}
+use Rattle.lay_context_sizes.specs.declared.setting.Setting.{Setting}
+use Rattle.lay_context_sizes.specs.declared.setting.Setting.TheVariants.{Absolute, Block, Cell}
 
 pub record SizedContext : Type 0 where
   pub boxes : List BoxSizes
@@ -84,3 +85,7 @@ IsStretchedIn (Cell containing cell) own height = height ≡ None
 pub record HasSizes (i : SizeInput) (sized : SizedContext) : Type 0 where
   pub boxes : IsSizedAs (is_table i.boxes) i sized.boxes sized.table sized.left
   pub stretched : IsStretchedIn i.setting (box_at i.boxes 0) sized.stretched
+
+-- the height of a content that is stretched is a used size
+abbrev pub IsStretchedSize : Option Length → Type 0
+IsStretchedSize height = IfSome height (λ h. IsUsedSize h.0)

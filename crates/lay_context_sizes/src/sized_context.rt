@@ -2,8 +2,8 @@
 
 ghost use Rattle.std.specs.Prelude.{◌≡◌, IfOk};
 ghost use Rattle.lay_positioned.specs.OffsetBounds.{IsStart};
-ghost use Rattle.lay_context.specs.ContextSizes.{SizedContext as Plain};
-ghost use Rattle.lay_context.specs.StandInputs.{IsStretchedSize};
+ghost use Rattle.lay_context_sizes.specs.ContextSizes.{SizedContext as Plain};
+ghost use Rattle.lay_context_sizes.specs.ContextSizes.{IsStretchedSize};
 
 use lay_pieces::ContextSizes;
 use lay_table_sizes::TableSizes;
@@ -22,8 +22,8 @@ pub struct SizedContext {
 }
 
 impl Model for SizedContext {
-    ghost use Rattle.lay_context.specs.ContextSizes.{SizedContext as Plain};
-    ghost use Rattle.lay_context.specs.StandInputs.{IsStretchedSize};
+    ghost use Rattle.lay_context_sizes.specs.ContextSizes.{SizedContext as Plain};
+    ghost use Rattle.lay_context_sizes.specs.ContextSizes.{IsStretchedSize};
     ghost use Rattle.lay_positioned.specs.OffsetBounds.{IsStart};
 
     ghost Value = { Plain };
@@ -34,7 +34,7 @@ impl Model for SizedContext {
 }
 
 impl SizedContext {
-    pub(crate) fn new(
+    pub fn new(
         boxes: ContextSizes,
         table: Option<TableSizes>,
         left: Unit,
@@ -53,21 +53,21 @@ impl SizedContext {
     }
 
     /// The used sizes of its boxes.
-    pub(crate) fn boxes(&self) -> &ContextSizes
+    pub fn boxes(&self) -> &ContextSizes
         ensures { result.now ≡ self.now.boxes }
     {
         &self.boxes
     }
 
     /// What is known of the table; of what isn't one, none.
-    pub(crate) fn table(&self) -> &Option<TableSizes>
+    pub fn table(&self) -> &Option<TableSizes>
         ensures { result.now ≡ self.now.table }
     {
         &self.table
     }
 
     /// How far its left border edge is from that of its containing block.
-    pub(crate) fn left(&self) -> Unit
+    pub fn left(&self) -> Unit
         ensures left { result ≡ self.now.left }
         ensures near { IsStart result.0 }
     {
@@ -75,7 +75,7 @@ impl SizedContext {
     }
 
     /// The height of its content where it is stretched.
-    pub(crate) fn stretched(&self) -> Option<Unit>
+    pub fn stretched(&self) -> Option<Unit>
         ensures height { result ≡ self.now.stretched }
         ensures size { IsStretchedSize result }
     {
@@ -83,7 +83,7 @@ impl SizedContext {
     }
 
     /// The same, shared.
-    pub(crate) fn shared_table(&self) -> Result<Option<TableSizes>, NoMemory>
+    pub fn shared_table(&self) -> Result<Option<TableSizes>, NoMemory>
         ensures { IfOk result (λ t. t ≡ self.now.table) }
     {
         match &self.table {
@@ -93,7 +93,7 @@ impl SizedContext {
     }
 
     /// The same sizes, shared.
-    pub(crate) fn share(&self) -> Result<SizedContext, NoMemory>
+    pub fn share(&self) -> Result<SizedContext, NoMemory>
         ensures { IfOk result (λ s. s ≡ self.now) }
     {
         let boxes = self.boxes.share()?;

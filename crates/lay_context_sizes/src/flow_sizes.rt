@@ -7,9 +7,9 @@ ghost use Rattle.lay_sizes.specs.SizeColumns.{HaveSizeBounds, no_sizes, sizes_at
 ghost use Rattle.lay_sizes.specs.UsedLengths.{no_length};
 ghost use Rattle.lay_context_boxes.specs.ContextBoxes.{is_inner};
 ghost use Rattle.lay_positioned.specs.OffsetBounds.{IsStart};
-ghost use Rattle.lay_context.specs.FlowSizes.{HasFlowSizes, HaveInsideSizes, IsBoxSized, IsOwnSized, floating_rule, inside_rule, own_rule, own_rule_of, rule_in_flow};
+ghost use Rattle.lay_context_sizes.specs.FlowSizes.{HasFlowSizes, HaveInsideSizes, IsBoxSized, IsOwnSized, floating_rule, inside_rule, own_rule, own_rule_of, rule_in_flow};
 
-use crate::input::SizeInput;
+use crate::inputs::SizeInput;
 use crate::setting::Setting;
 use lay_boxgen::{BoxKind, Flow};
 use lay_context_boxes::{ContextBoxes, block_around};

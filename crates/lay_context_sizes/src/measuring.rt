@@ -1,9 +1,9 @@
 //! The preferred widths of one formatting context.
 
 ghost use Rattle.std.specs.Prelude.{IfOk};
-ghost use Rattle.lay_context.specs.ContextWidths.{HasFlowWidths, HasWidths};
+ghost use Rattle.lay_context_sizes.specs.ContextWidths.{HasFlowWidths, HasWidths};
 
-use crate::input::MeasureInput;
+use crate::inputs::MeasureInput;
 use crate::table_contexts::is_table;
 use lay_box_parts::inline_parts;
 use lay_measure::{MeasureIn, PreferredWidths, measure};
@@ -15,10 +15,7 @@ use std::alloc::Global;
 const MOST_BOXES: usize = 4294967295;
 
 /// The preferred widths of a formatting context.
-pub(crate) fn context_widths(
-    alloc: Global,
-    input: &MeasureInput,
-) -> Result<PreferredWidths, NoMemory>
+pub fn context_widths(alloc: Global, input: &MeasureInput) -> Result<PreferredWidths, NoMemory>
     ensures { IfOk result (HasWidths input.now) }
 {
     if is_table(input.boxes()) {

@@ -2,7 +2,7 @@
 
 ghost use Rattle.std.specs.Prelude.{◌≡◌};
 ghost use Rattle.lay_boxgen.specs.Kinds.{is_wrapper};
-ghost use Rattle.lay_context.specs.TableContexts.{is_table};
+ghost use Rattle.lay_context_sizes.specs.TableContexts.{is_table};
 
 use lay_boxgen::{BoxKind, BoxNode};
 

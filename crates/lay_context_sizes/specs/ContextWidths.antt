@@ -9,8 +9,8 @@ use Rattle.lay_face.specs.FaceValue.{FaceValue}
 use Rattle.lay_measure.specs.PreferredWidths.{preferred_of}
 use Rattle.lay_measure.specs.declared.preferred_widths.PreferredWidths.{PreferredWidths}
 use Rattle.lay_table_sizes.specs.PreferredWidths.{HasTableWidths}
-use Rattle.lay_context.specs.Inputs.{MeasureInput}
-use Rattle.lay_context.specs.TableContexts.{is_table}
+use Rattle.lay_context_sizes.specs.Inputs.{MeasureInput}
+use Rattle.lay_context_sizes.specs.TableContexts.{is_table}
 
 -- these are the widths of boxes in block flow, in a face
 pub record HasFlowWidths (i : MeasureInput) (widths : PreferredWidths) : Type 0 where

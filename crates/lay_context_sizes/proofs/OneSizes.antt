@@ -20,14 +20,14 @@ use Rattle.lay_context_boxes.proofs.ContainerSteps.{container_before}
 use Rattle.lay_context_boxes.specs.ContainingBlocks.{block_around, block_in, height_holder}
 use Rattle.lay_formatting.specs.FormattingBoxes.{box_at}
 use Rattle.lay_positioned.proofs.OneAbsoluteBox.{one_absolute_sizes_lem, one_stretched_height_lem, one_table_left_lem}
-use Rattle.lay_context.specs.ContextSizes.{IsSizedAs, IsStretchedIn, IsWrapperLeft, SizedContext}
-use Rattle.lay_context.specs.FlowSizes.{HasFlowSizes, IsBoxSized, IsOwnSized, inside_rule, own_rule_of}
-use Rattle.lay_context.specs.Inputs.{SizeInput, containing_block_in}
-use Rattle.lay_context.specs.Laws.{OneContextSizes}
-use Rattle.lay_context.specs.TableContexts.{is_table}
-use Rattle.lay_context.specs.declared.setting.Setting.{Setting}
-use Rattle.lay_context.specs.declared.setting.Setting.TheVariants.{Absolute, Block, Cell}
-use Rattle.lay_context.proofs.HolderSteps.{holder_before}
+use Rattle.lay_context_sizes.specs.ContextSizes.{IsSizedAs, IsStretchedIn, IsWrapperLeft, SizedContext}
+use Rattle.lay_context_sizes.specs.FlowSizes.{HasFlowSizes, IsBoxSized, IsOwnSized, inside_rule, own_rule_of}
+use Rattle.lay_context_sizes.specs.Inputs.{SizeInput, containing_block_in}
+use Rattle.lay_context_sizes.specs.Laws.{OneContextSizes}
+use Rattle.lay_context_sizes.specs.TableContexts.{is_table}
+use Rattle.lay_context_sizes.specs.declared.setting.Setting.{Setting}
+use Rattle.lay_context_sizes.specs.declared.setting.Setting.TheVariants.{Absolute, Block, Cell}
+use Rattle.lay_context_sizes.proofs.HolderSteps.{holder_before}
 
 block_around_same : (boxes : List BoxNode) (x y : List BoxSizes) → AreContextBoxes boxes → (k : ℕ) → 0 < k → k < length boxes → ((j : ℕ) → j < k → sizes_at x j ≡ sizes_at y j)
     → block_around boxes x k ≡ block_around boxes y k

@@ -1,6 +1,6 @@
 use Rattle.std.proofs.Common.{arith, ap, length}
-use Rattle.lay_context.proofs.SizeSteps.{one_more}
-use Rattle.lay_context.proofs.flow_sizes.sizes_from.Goals as goal
+use Rattle.lay_context_sizes.proofs.SizeSteps.{one_more}
+use Rattle.lay_context_sizes.proofs.flow_sizes.sizes_from.Goals as goal
 
 pub loop-k-preserved : goal.loop-k-preserved
 loop-k-preserved c =

@@ -8,10 +8,10 @@ use Rattle.lay_measure.specs.MeasureInValue.{MeasureInValue}
 use Rattle.lay_measure.specs.PreferredWidths.{preferred_of}
 use Rattle.lay_measure.specs.declared.preferred_widths.PreferredWidths.{PreferredWidths}
 use Rattle.lay_table_sizes.specs.Laws.{OneTableWidths}
-use Rattle.lay_context.specs.ContextWidths.{HasFlowWidths, HasWidthsAs}
-use Rattle.lay_context.specs.Inputs.{MeasureInput}
-use Rattle.lay_context.specs.Laws.{OneContextWidths}
-use Rattle.lay_context.specs.TableContexts.{is_table}
+use Rattle.lay_context_sizes.specs.ContextWidths.{HasFlowWidths, HasWidthsAs}
+use Rattle.lay_context_sizes.specs.Inputs.{MeasureInput}
+use Rattle.lay_context_sizes.specs.Laws.{OneContextWidths}
+use Rattle.lay_context_sizes.specs.TableContexts.{is_table}
 
 one_part_list : (boxes : List BoxNode) (x y : List InlinePart) → AreInlineParts boxes x → AreInlineParts boxes y → x ≡ y
 one_part_list boxes x y a b =

@@ -2,7 +2,7 @@
 
 ghost use Rattle.std.specs.Prelude.{◌≡◌};
 ghost use Rattle.lay_units.specs.Units.{IsPosition};
-ghost use Rattle.lay_context.specs.Inputs.{OwnSettingFits, containing_block_in};
+ghost use Rattle.lay_context_sizes.specs.Inputs.{OwnSettingFits, containing_block_in};
 
 use lay_positioned::{AbsoluteSetting, block_in};
 use lay_sizes::ContainingBlock;
