@@ -16,10 +16,10 @@ use Rattle.lay_sizes.specs.declared.sizing.BoxSizes.{BoxSizes}
 use Rattle.lay_table_sizes.specs.TableSizes.{HasTableSizes}
 use Rattle.lay_table_sizes.specs.TableSizesValue.{TableSizesValue}
 use Rattle.lay_table_sizes.specs.declared.table_rule.TableRule.{TableRule}
-use Rattle.lay_table_sizes.specs.declared.table_rule.TableRule.TheVariants.{Fills, ShrinksToFit}
+use Rattle.lay_table_sizes.specs.declared.table_rule.TableRule.TheVariants.{Fills, ShrinksInto, ShrinksToFit}
 use Rattle.lay_formatting.specs.FormattingBoxes.{box_at}
 use Rattle.lay_positioned.specs.AbsoluteSizes.{IsStretchedHeight}
-use Rattle.lay_positioned.specs.AbsoluteTables.{IsTableLeft, table_width}
+use Rattle.lay_positioned.specs.AbsoluteTables.{IsTableLeft, table_room}
 use Rattle.lay_positioned.specs.declared.settings.AbsoluteSetting.{AbsoluteSetting}
 use Rattle.lay_context_sizes.specs.FlowSizes.{HasFlowSizes}
 use Rattle.lay_context_sizes.specs.Inputs.{SizeInput, containing_block_in}
@@ -49,10 +49,9 @@ abbrev pub flow_table_rule : PreferredWidths → Option BoxNode → TableRule
 flow_table_rule w None = Fills
 flow_table_rule w (Some b) = table_rule_as w b.flow b.kind
 
--- what an absolutely positioned table shrinks to
+-- what an absolutely positioned table shrinks into
 abbrev pub absolute_table_rule : AbsoluteSetting → PreferredWidths → BoxNode → TableRule
-absolute_table_rule s w own =
-    ShrinksToFit (table_width s own.style w.minimum w.preferred) (table_width s own.style w.minimum w.preferred)
+absolute_table_rule s w own = ShrinksInto (table_room s own.style) w.minimum w.preferred
 
 abbrev pub table_rule : Setting → PreferredWidths → List BoxNode → TableRule
 table_rule (Absolute s) w boxes = absolute_table_rule s w (box_at boxes 0)

@@ -18,7 +18,7 @@ use crate::table_contexts::is_table;
 use lay_boxgen::{BoxKind, BoxNode, Flow};
 use lay_measure::PreferredWidths;
 use lay_pieces::ContextSizes;
-use lay_positioned::{AbsoluteSetting, stretched_height, table_left, table_width};
+use lay_positioned::{AbsoluteSetting, stretched_height, table_left, table_room};
 use lay_sizes::{BoxSizes, NO_SIZES};
 use lay_table_sizes::{SizedTable, TableRule, table_sizes};
 use lay_units::{NoMemory, Unit};
@@ -100,7 +100,7 @@ fn table_rule(setting: Setting, widths: PreferredWidths, boxes: &[BoxNode]) -> T
     }
 }
 
-/// What an absolutely positioned table shrinks to.
+/// What an absolutely positioned table shrinks into.
 fn absolute_table_rule(
     setting: &AbsoluteSetting,
     widths: PreferredWidths,
@@ -109,10 +109,10 @@ fn absolute_table_rule(
     requires { SettingFits setting.now }
     ensures { result ≡ absolute_table_rule setting.now widths own.now }
 {
-    let width = table_width(setting, &own.style, widths.minimum, widths.preferred);
-    TableRule::ShrinksToFit {
-        preferred_minimum: width,
-        preferred: width,
+    TableRule::ShrinksInto {
+        room: table_room(setting, &own.style),
+        preferred_minimum: widths.minimum,
+        preferred: widths.preferred,
     }
 }
 

@@ -1,25 +1,26 @@
 //! Absolutely positioned tables, which shrink to fit.
 
 ghost use Rattle.std.specs.Prelude.{◌≡◌};
-ghost use Rattle.lay_units.specs.Units.{IsPosition, IsUsedSize};
+ghost use Rattle.lay_units.specs.Units.{IsPosition};
 ghost use Rattle.lay_widths.specs.Lengths.{IsBelow, LenFits, or_zero};
 ghost use Rattle.lay_abspos.specs.AbsoluteFits.{AxisFits};
-ghost use Rattle.lay_abspos.specs.ShrunkSizes.{left_taken, shrunk_size};
+ghost use Rattle.lay_abspos.specs.ShrinkingRooms.{left_taken, shrinking_room};
 
 use crate::axis::Axis;
-use crate::following::fitting_size;
-use lay_units::{Len, Unit, clamp_size};
+use crate::following::available;
+use lay_units::{Len, Unit};
 use lay_widths::length_or_zero;
 
-/// The size that an absolutely positioned table has along an axis by its content, from 0 to 2^31 units of 1/64 px, where its
-/// own is auto (CSS 2.2, 17.5.2). The lengths given are below 2^62 units in absolute value.
-pub fn shrunk_size(axis: &Axis) -> Unit
+/// The room that an absolutely positioned table shrinks into along an axis, in 1/64 px, where its own size is auto (CSS 2.2,
+/// 10.3.7 and 17.5.2). It is negative where offsets and margins leave nothing. The lengths given are below 2^62 units in
+/// absolute value.
+pub fn shrinking_room(axis: &Axis) -> i128
     requires fits { AxisFits axis.now }
-    ensures value { result ≡ shrunk_size axis.now }
-    ensures size { IsUsedSize result.0 }
+    ensures value { result ≡ shrinking_room axis.now }
+    ensures below { IsBelow 93 result }
 {
     let left = left_taken(axis.static_left, axis.left, axis.right);
-    clamp_size(fitting_size(axis, left, length_or_zero(axis.right)))
+    available(axis, left, length_or_zero(axis.right))
 }
 
 /// What left takes of the containing block: where right is auto too, the static position.
