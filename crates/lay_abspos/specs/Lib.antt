@@ -1,4 +1,4 @@
 pub mod AbsoluteFits
 pub mod AbsoluteAxis
-pub mod ShrunkSizes
+pub mod ShrinkingRooms
 pub mod Laws

@@ -19,7 +19,7 @@ use Rattle.lay_sizes.specs.declared.own_boxes.OwnBox.{OwnBox}
 use Rattle.lay_formatting.specs.FormattingBoxes.{box_at}
 use Rattle.lay_pieces.specs.declared.corner.Corner.{Corner}
 use Rattle.lay_positioned.proofs.OneAbsoluteBox.{one_offset_lem}
-use Rattle.lay_context.specs.ContextSizes.{SizedContext}
+use Rattle.lay_context_sizes.specs.ContextSizes.{SizedContext}
 use Rattle.lay_context.specs.OwnOffsets.{IsOwnOffset, IsOwnOffsetBy, StandInput}
 use Rattle.lay_context.specs.PlacedContexts.{PlacedContext}
 use Rattle.lay_context.specs.declared.position.Position.{Position}

@@ -13,7 +13,7 @@ use Rattle.lay_context.specs.declared.task.Phase.{Phase}
 use Rattle.lay_context.specs.declared.task.Phase.TheVariants.{Measure, Size, Place}
 use Rattle.lay_context.specs.declared.task.Task.{Task}
 use Rattle.lay_context.specs.declared.value.Value.TheVariants as value
-use Rattle.lay_context.specs.ContextSizes.{SizedContext}
+use Rattle.lay_context_sizes.specs.ContextSizes.{SizedContext}
 use Rattle.lay_context.specs.DocumentLayout.{flow_numbers, inner_boxes, inner_pieces, inner_widths, inner_widths_in, own_box_in, painted_of, pieces_in, widths_in}
 use Rattle.lay_context.specs.Laws.{InputsComeOfNeeds}
 use Rattle.lay_context.specs.Local.{Workings, input_by, place_as, value_by}
@@ -23,7 +23,7 @@ use Rattle.lay_context.specs.Needs.{IsAround, needs_by}
 use Rattle.lay_context.specs.PlacedContexts.{PlacedContext, placed_in, placement_in}
 use Rattle.lay_context.specs.Settings.{flow_position, flow_setting, laid, setting_in, sizes_in}
 use Rattle.lay_context.specs.declared.position.Position.TheVariants as position
-use Rattle.lay_context.specs.declared.setting.Setting.TheVariants.{Absolute}
+use Rattle.lay_context_sizes.specs.declared.setting.Setting.TheVariants.{Absolute}
 
 pub width_value : (x y : PreferredWidths) → value.Measure x ≡ value.Measure y → x ≡ y
 width_value x y e = cc

@@ -17,10 +17,10 @@ use Rattle.lay_context.specs.declared.input.Input.{Input}
 use Rattle.lay_context.specs.declared.input.Input.TheVariants as input
 use Rattle.lay_context.specs.declared.value.Value.{Value}
 use Rattle.lay_context.specs.declared.value.Value.TheVariants as value
-use Rattle.lay_context.specs.ContextSizes.{SizedContext, HasSizes}
-use Rattle.lay_context.specs.ContextWidths.{HasWidths}
+use Rattle.lay_context_sizes.specs.ContextSizes.{SizedContext, HasSizes}
+use Rattle.lay_context_sizes.specs.ContextWidths.{HasWidths}
 use Rattle.lay_context.specs.DocumentLayout.{inner_boxes, inner_pieces, inner_widths, widths_in}
-use Rattle.lay_context.specs.Inputs.{MeasureInput, SizeInput}
+use Rattle.lay_context_sizes.specs.Inputs.{MeasureInput, SizeInput}
 use Rattle.lay_context.specs.Medium.{Medium}
 use Rattle.lay_context.specs.OwnHeights.{own_height_rule}
 use Rattle.lay_context.specs.OwnOffsets.{IsOwnOffset, StandInput}

@@ -16,12 +16,12 @@ use Rattle.lay_context_boxes.specs.ContainingBlocks.{block_around}
 use Rattle.lay_positioned.specs.Absolute.{is_absolute}
 use Rattle.lay_positioned.specs.Layouts.{Layout}
 use Rattle.lay_positioned.specs.Settings.{absolute_setting}
-use Rattle.lay_context.specs.ContextSizes.{SizedContext, not_sized}
+use Rattle.lay_context_sizes.specs.ContextSizes.{SizedContext, not_sized}
 use Rattle.lay_context.specs.PlacedContexts.{PlacedContext, placed_in, placement_in}
 use Rattle.lay_context.specs.declared.position.Position.{Position}
 use Rattle.lay_context.specs.declared.position.Position.TheVariants as position
-use Rattle.lay_context.specs.declared.setting.Setting.{Setting}
-use Rattle.lay_context.specs.declared.setting.Setting.TheVariants.{Absolute, Block, Cell}
+use Rattle.lay_context_sizes.specs.declared.setting.Setting.{Setting}
+use Rattle.lay_context_sizes.specs.declared.setting.Setting.TheVariants.{Absolute, Block, Cell}
 
 -- the wrapper of these sizes, as the containing block of its captions
 abbrev pub caption_block : BoxSizes → ContainingBlock

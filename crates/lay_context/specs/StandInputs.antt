@@ -1,7 +1,5 @@
 -- What is given of where a formatting context stands itself is within bounds.
-use Rattle.std.specs.Prelude.{◌≡◌, length, ⊤, Option, IfSome}
-use Rattle.lay_units.specs.Units.{IsUsedSize}
-use Rattle.lay_units.specs.declared.length.Unit.{Unit as Length}
+use Rattle.std.specs.Prelude.{◌≡◌, length, ⊤}
 use Rattle.lay_sizes.specs.SizeColumns.{HaveSizeBounds}
 use Rattle.lay_context_boxes.specs.ContextBoxes.{AreContextBoxes}
 use Rattle.lay_positioned.specs.OffsetBounds.{IsStart}
@@ -15,10 +13,6 @@ abbrev pub PositionFits : Position → Type 0
 PositionFits Inner = ⊤
 PositionFits (Root viewport) = ViewportFits viewport
 PositionFits (Absolute s) = SettingFits s
-
--- the height of a content that is stretched is a used size
-abbrev pub IsStretchedSize : Option Length → Type 0
-IsStretchedSize height = IfSome height (λ h. IsUsedSize h.0)
 
 pub record StandInputFits (i : StandInput) : Type 0 where
   pub boxes : AreContextBoxes i.boxes

@@ -7,7 +7,7 @@ ghost use Rattle.lay_sizes.specs.SizeColumns.{HaveSizeBounds, sizes_at};
 ghost use Rattle.lay_positioned.specs.Absolute.{is_absolute};
 ghost use Rattle.lay_positioned.specs.Settings.{SettingFits, absolute_setting};
 ghost use Rattle.lay_positioned.specs.ViewportBounds.{ViewportFits};
-ghost use Rattle.lay_context.specs.Inputs.{OwnSettingFits};
+ghost use Rattle.lay_context_sizes.specs.Inputs.{OwnSettingFits};
 ghost use Rattle.lay_context.specs.Local.{HasCounts};
 ghost use Rattle.lay_context.specs.StandInputs.{PositionFits};
 ghost use Rattle.lay_context.specs.Settings.{caption_block, cell_given, cell_of, flow_setting, laid, position_of, setting_as, setting_in_table, setting_of};
@@ -16,8 +16,8 @@ ghost use Rattle.lay_context.specs.declared.task.Phase.TheVariants.{Size};
 
 use crate::known::Known;
 use crate::position::Position;
-use crate::setting::Setting;
 use lay_context_boxes::{ContextBoxes, block_around};
+use lay_context_sizes::Setting;
 use lay_formatting::FormattingContexts;
 use lay_positioned::{AbsoluteSetting, is_absolute, setting};
 use lay_sizes::{BoxSizes, ContainingBlock, NO_SIZES, content_block};

@@ -31,4 +31,4 @@ pub use level_column::{level_count, levels};
 pub use offsets::own_offset;
 pub use settings::{AbsoluteSetting, block_in, setting};
 pub use sizes::{AbsoluteSizes, absolute_sizes, stretched_height};
-pub use tables::{table_left, table_width};
+pub use tables::{table_left, table_room};

@@ -2,32 +2,26 @@
 
 ghost use Rattle.std.specs.Prelude.{◌≡◌};
 ghost use Rattle.lay_units.specs.Units.{IsUsedSize};
-ghost use Rattle.lay_positioned.specs.AbsoluteTables.{IsTableLeft, table_width};
+ghost use Rattle.lay_positioned.specs.AbsoluteTables.{IsTableLeft, table_room};
 ghost use Rattle.lay_positioned.specs.OffsetBounds.{IsStart};
 ghost use Rattle.lay_positioned.specs.Settings.{SettingFits};
 
 use crate::axes::{axis_across, wrapper_across};
 use crate::settings::AbsoluteSetting;
 use crate::sizes::{border_start, solved};
-use lay_abspos::{ContentSize, shrunk_size};
+use lay_abspos::{ContentSize, shrinking_room};
 use lay_style::Style;
 use lay_units::{Len, Unit};
 
-/// The width to which an absolutely positioned table of this style shrinks, where its own is auto, by the preferred widths of
-/// its border box (CSS 2.2, 17.5.2). It is from 0 to 2^31 units.
-pub fn table_width(
-    setting: &AbsoluteSetting,
-    style: &Style,
-    preferred_minimum: Unit,
-    preferred: Unit,
-) -> Unit
+/// The room that the border box of an absolutely positioned table of this style shrinks into, in 1/64 px, where its width is
+/// auto (CSS 2.2, 10.3.7 and 17.5.2). It is negative where offsets and margins leave nothing.
+pub fn table_room(setting: &AbsoluteSetting, style: &Style) -> i128
     requires { SettingFits setting.now }
-    ensures width { result ≡ table_width setting.now style.now preferred_minimum preferred }
-    ensures size { IsUsedSize result.0 }
+    ensures { result ≡ table_room setting.now style.now }
 {
     let block = wrapper_across(setting, style, Len::Auto);
-    let content = ContentSize::Shrinks(preferred_minimum, preferred);
-    shrunk_size(&axis_across(setting, style, block, content))
+    let content = ContentSize::Shrinks(Unit(0), Unit(0));
+    shrinking_room(&axis_across(setting, style, block, content))
 }
 
 /// How far the left edge of the wrapper of a table that is so wide is from that of its containing block (10.3.7).

@@ -18,20 +18,22 @@ use Rattle.lay_table_grid.specs.Laws.{OneTableGrid}
 use Rattle.lay_table_grid.specs.TableGrid.{TableGridValue}
 use Rattle.lay_table_sizes.specs.declared.cell_size.CellSize.{CellSize}
 use Rattle.lay_table_sizes.specs.declared.table_rule.TableRule.{TableRule}
-use Rattle.lay_table_sizes.specs.declared.table_rule.TableRule.TheVariants.{Fills, ShrinksToFit}
+use Rattle.lay_table_sizes.specs.declared.table_rule.TableRule.TheVariants.{Fills, ShrinksInto, ShrinksToFit}
 use Rattle.lay_table_sizes.specs.CellSizes.{cell_size_at}
 use Rattle.lay_table_sizes.specs.ColumnWidths.{columns_in}
 use Rattle.lay_table_sizes.specs.Laws.{OneTableSizes}
 use Rattle.lay_table_sizes.specs.TableBoxes.{table_block, table_style, wrapper_style}
 use Rattle.lay_table_sizes.specs.TableSizes.{AreWrapperWidths, HasTableSizes, IsWrapperSized, held, wrapper_block, wrapper_width}
 use Rattle.lay_table_sizes.specs.TableSizesValue.{TableSizesValue}
-use Rattle.lay_table_sizes.specs.WantedWidth.{IsWantedAs, content_part}
+use Rattle.lay_table_sizes.specs.WantedWidth.{IsWantedAs, block_in_room, content_part}
 use Rattle.lay_table_sizes.proofs.OneCellSizes.{same_sizes}
 
 one_wanted : (rule : TableRule) (g : TableGridValue) (containing : Length) (wrapper s : Style) (x y : BlockOut) → IsWantedAs rule g containing wrapper s x → IsWantedAs rule g containing wrapper s y → x ≡ y
 one_wanted Fills g containing wrapper s x y p q = one_block_width_lem (table_block g containing wrapper s) x y p q
 one_wanted (ShrinksToFit minimum preferred) g containing wrapper s x y p q =
     one_float_width_lem (table_block g containing wrapper s) (content_part g s minimum) (content_part g s preferred) x y p q
+one_wanted (ShrinksInto room minimum preferred) g containing wrapper s x y p q =
+    one_float_width_lem (block_in_room room (table_block g containing wrapper s)) (content_part g s minimum) (content_part g s preferred) x y p q
 
 abbrev out_of : Length → Length → Length → BlockOut
 out_of left width right = record { margin_left = left; width = width; margin_right = right }
@@ -50,6 +52,8 @@ held_same used x y p q =
 one_wrapper_width : (rule : TableRule) (containing : Length) (s : Style) (width : Length) (x y : BlockOut) → AreWrapperWidths rule containing s width x → AreWrapperWidths rule containing s width y → x ≡ y
 one_wrapper_width Fills containing s width x y p q = one_block_width_lem (wrapper_block containing s width) x y p q
 one_wrapper_width (ShrinksToFit minimum preferred) containing s width x y p q =
+    held_same (widths_beside (wrapper_block containing s width) width.0) x y p q
+one_wrapper_width (ShrinksInto room minimum preferred) containing s width x y p q =
     held_same (widths_beside (wrapper_block containing s width) width.0) x y p q
 
 one_wrapper : (rule : TableRule) (containing : ContainingBlock) (s : Style) (table y z : BoxSizes) → IsWrapperSized rule containing s table y → IsWrapperSized rule containing s table z → y ≡ z

@@ -28,7 +28,7 @@ use Rattle.lay_table_sizes.specs.TableBoxes.{table_edges, table_style, wrapper_s
 use Rattle.lay_table_sizes.specs.TableSizesValue.{TableSizesValue, cell_at}
 use Rattle.lay_table_sizes.specs.WantedWidth.{IsWanted}
 use Rattle.lay_table_sizes.specs.declared.table_rule.TableRule.{TableRule}
-use Rattle.lay_table_sizes.specs.declared.table_rule.TableRule.TheVariants.{Fills, ShrinksToFit}
+use Rattle.lay_table_sizes.specs.declared.table_rule.TableRule.TheVariants.{Fills, ShrinksInto, ShrinksToFit}
 
 -- used widths of columns
 abbrev pub held_width : Length → Length
@@ -73,6 +73,8 @@ wrapper_block containing s width = record {
 abbrev pub AreWrapperWidths : TableRule → Length → Style → (width : Length) → BlockOut → Type 0
 AreWrapperWidths Fills containing s width out = IsUsedBlock (wrapper_block containing s width) out
 AreWrapperWidths (ShrinksToFit preferred_minimum preferred) containing s width out =
+    IsHeld (widths_beside (wrapper_block containing s width) width.0) out
+AreWrapperWidths (ShrinksInto room preferred_minimum preferred) containing s width out =
     IsHeld (widths_beside (wrapper_block containing s width) width.0) out
 
 -- how wide the wrapper of a table box of these sizes is

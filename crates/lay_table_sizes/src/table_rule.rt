@@ -13,4 +13,11 @@ pub enum TableRule {
         preferred_minimum: Unit,
         preferred: Unit,
     },
+    /// An absolutely positioned one shrinks to fit too, into what offsets and margins leave of its containing block for its
+    /// border box, also in 1/64 px (10.3.7).
+    ShrinksInto {
+        room: i128,
+        preferred_minimum: Unit,
+        preferred: Unit,
+    },
 }

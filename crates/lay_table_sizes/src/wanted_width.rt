@@ -2,14 +2,18 @@
 
 ghost use Rattle.std.specs.Prelude.{◌≡◌, ◌-ℤ◌, IfOk};
 ghost use Rattle.lay_units.specs.Units.{IsPosition, IsUsedSize};
-ghost use Rattle.lay_table_sizes.specs.WantedWidth.{IsWantedAs, content_part};
+ghost use Rattle.lay_widths.specs.Lengths.{BlockFits};
+ghost use Rattle.lay_table_sizes.specs.WantedWidth.{IsWantedAs, block_in_room, content_part};
 
 use crate::table_box::{preferred_edges, table_block};
 use crate::table_rule::TableRule;
 use lay_style::Style;
 use lay_table_grid::TableGrid;
-use lay_units::{NoMemory, Unit};
+use lay_units::{BlockIn, Len, NoMemory, Unit};
 use lay_widths::{BlockOut, solve_block, solve_float};
+
+/// No room in a document within its limits is so far from 0.
+const FAR: i128 = 1 << 62;
 
 /// The width that a table is to have, with the margins beside that.
 pub(crate) fn wanted_width(
@@ -34,6 +38,48 @@ pub(crate) fn wanted_width(
             let preferred = content_part(grid, style, preferred)?;
             Ok(solve_float(&block, minimum, preferred))
         }
+        TableRule::ShrinksInto {
+            room,
+            preferred_minimum,
+            preferred,
+        } => {
+            let block = block_in_room(position(room)?, &block);
+            let minimum = content_part(grid, style, preferred_minimum)?;
+            let preferred = content_part(grid, style, preferred)?;
+            Ok(solve_float(&block, minimum, preferred))
+        }
+    }
+}
+
+/// A position. NoMemory is the answer where it isn't within 2^62 units of 0, as no room in a document within its limits is.
+fn position(room: i128) -> Result<Unit, NoMemory>
+    ensures value { IfOk result (λ v. v ≡ record { 0 = room }) }
+    ensures fits { IfOk result (λ v. IsPosition v.0) }
+{
+    if room <= -FAR || room >= FAR {
+        return Err(NoMemory);
+    }
+    Ok(Unit(room as i64))
+}
+
+/// The same block in a room that its margins were taken from.
+fn block_in_room(room: Unit, block: &BlockIn) -> BlockIn
+    requires room { IsPosition room.0 }
+    requires block { BlockFits block.now }
+    ensures value { result ≡ block_in_room room.0 block.now }
+    ensures fits { BlockFits result }
+{
+    BlockIn {
+        containing_width: room,
+        margin_left: Len::Of(Unit(0)),
+        border_left: block.border_left,
+        padding_left: block.padding_left,
+        width: block.width,
+        padding_right: block.padding_right,
+        border_right: block.border_right,
+        margin_right: Len::Of(Unit(0)),
+        min_width: block.min_width,
+        max_width: block.max_width,
     }
 }
 

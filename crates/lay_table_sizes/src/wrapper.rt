@@ -62,7 +62,9 @@ fn wrapper_widths(rule: TableRule, containing: Unit, style: &Style, width: Unit)
     let block = wrapper_block(containing, style, width);
     match rule {
         TableRule::Fills => solve_block(&block),
-        TableRule::ShrinksToFit { .. } => widths_beside(&block, width),
+        TableRule::ShrinksToFit { .. } | TableRule::ShrinksInto { .. } => {
+            widths_beside(&block, width)
+        }
     }
 }
 
