@@ -25,7 +25,7 @@ use Rattle.lay_context.specs.Medium.{Medium}
 use Rattle.lay_context.specs.OwnHeights.{own_height_rule}
 use Rattle.lay_context.specs.OwnOffsets.{IsOwnOffset, StandInput}
 use Rattle.lay_context.specs.PlacedContexts.{PlacedContext, placed_in}
-use Rattle.lay_context.specs.Settings.{position_of, setting_of, sizes_in}
+use Rattle.lay_context.specs.Settings.{own_place_of, setting_of, sizes_in}
 
 -- a value is right beside what its task is given
 abbrev pub IsLocal : Input → Value → Type 0
@@ -85,7 +85,7 @@ stand_input medium contexts w i = record {
   boxes = boxes_in contexts i;
   sizes = (sizes_in w.sizes i).boxes;
   left = (sizes_in w.sizes i).left;
-  position = position_of medium.viewport contexts w.sizes w.places i;
+  position = own_place_of medium.viewport contexts w.sizes w.places i;
 }
 
 abbrev pub place_as : PlaceInput → Option TableInput → StandInput → Input

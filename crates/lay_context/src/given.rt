@@ -14,7 +14,7 @@ use crate::input::Input;
 use crate::known::Known;
 use crate::medium::Medium;
 use crate::own_heights::own_height_rule;
-use crate::settings::{position_of, setting_of};
+use crate::settings::{own_place_of, setting_of};
 use crate::stand_input::StandInput;
 use crate::task::{Phase, Task};
 use lay_context_sizes::{MeasureInput, SizeInput};
@@ -119,7 +119,7 @@ fn stand_input(
     let sized = known.sizes(i);
     let sizes = sized.boxes().share()?;
     let _ = sizes.as_slice();
-    let position = position_of(medium.viewport(), contexts, known, i)?;
+    let position = own_place_of(medium.viewport(), contexts, known, i)?;
     Ok(StandInput::new(boxes, sizes, sized.left(), position))
 }
 

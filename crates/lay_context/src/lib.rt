@@ -21,7 +21,7 @@ mod own_heights;
 mod own_offsets;
 mod page_corners;
 mod placed_context;
-mod position;
+mod own_place;
 mod settings;
 mod stand_input;
 mod task;

@@ -5,7 +5,7 @@ use lay_sizes::ContainingBlock;
 
 /// What says where a formatting context stands.
 #[derive(Clone, Copy)]
-pub enum Position {
+pub enum OwnPlace {
     /// The one around it.
     Inner,
     /// The viewport, of which the root's stands at the corner.
