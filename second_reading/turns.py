@@ -71,7 +71,7 @@ class Session:
 
 
 def report_in_turns(run):
-    """The report of a run document without faults, in which nothing is refused for being not built."""
+    """The report of a run document without faults."""
     session, scripts = Session(run), run.get('editors', [])
     for index in range(max(map(len, scripts), default=0)):
         for editor, commands in enumerate(scripts, 1):

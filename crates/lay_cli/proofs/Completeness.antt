@@ -1,4 +1,4 @@
--- Bytes aren't both a run that is laid out and refused, so without faults each has the answer of its kind.
+-- Bytes don't both spell a run and have a fault, so without faults of the streams each has the answer of its kind.
 use Rattle.std.proofs.Common.{◌≡◌, ◌⊎◌, ℕ, List, refl, inl, inr, Option, Some, None, IfSome, Ok, Err}
 use Rattle.lay_json.specs.Runs.{Run}
 use Rattle.lay_json.specs.Reading.{IsReading}
@@ -6,31 +6,24 @@ use Rattle.lay_json.proofs.OneReading.{one_reading_lem}
 use Rattle.lay_core.specs.State.{State}
 use Rattle.lay_words.specs.declared.form.Form.{Form}
 use Rattle.lay_words.specs.declared.form.Form.TheVariants as form
-use Rattle.lay_cli.specs.Answers.{IsAskedWell, IsBuilt, IsRefusal, IsRefused, IsUnbuiltPlace, OfRun, Refuses, Reports, faulty, unbuilt, unbuilt_place}
+use Rattle.lay_cli.specs.Answers.{IsAskedWell, IsRefusal, IsRefused, OfRun, Refuses, Reports}
 use Rattle.lay_cli.specs.Endings.{Ends, SinkValue}
 use Rattle.lay_cli.specs.declared.status.Status.{Status}
 use Rattle.lay_cli.specs.declared.status.Status.TheVariants.{Ok as ok, Refused as refused, Usage as usage, ReadFault as read_fault, WriteFault as write_fault, NoMemory as no_memory}
 
-not_both : (bytes line : List ℕ) (run : Run) → IsReading bytes (Ok run) → IsBuilt run → IsRefusal bytes line → ⊥
-not_both bytes line run reading built (faulty fault named other is) =
-    let e : Ok run ≡ Err fault = one_reading_lem bytes (Ok run) (Err fault) reading other in absurd cc
-not_both bytes line run reading built (unbuilt other read refusal) =
-    let e : Ok run ≡ Ok other = one_reading_lem bytes (Ok run) (Ok other) reading read in
-    let same : run ≡ other = cc in
-    let none : unbuilt_place run built.styles built.hidden ≡ None = built.decided built.styles built.hidden built.are_styles built.are_hidden in
-    let unbuilt_there : IsUnbuiltPlace run (Some refusal.place) = rw same refusal.unbuilt in
-    let some : unbuilt_place run built.styles built.hidden ≡ Some refusal.place = unbuilt_there.decided built.styles built.hidden built.are_styles built.are_hidden in
-    absurd cc
+not_both : (bytes line : List ℕ) (run : Run) → IsReading bytes (Ok run) → IsRefusal bytes line → ⊥
+not_both bytes line run reading refusal =
+    let e : Ok run ≡ Err refusal.fault = one_reading_lem bytes (Ok run) (Err refusal.fault) reading refusal.reading in absurd cc
 
 -- words that ask well of these bytes aren't refused
 never_refused : (asked : Form) (bytes line : List ℕ) → IsAskedWell asked bytes → Refuses asked (Some bytes) line → ⊥
-never_refused form.Scratch bytes line well refusal = not_both bytes line well.0 well.1.0 well.1.1 refusal
-never_refused (form.Run workers) bytes line well refusal = not_both bytes line well.0 well.1.0 well.1.1 refusal
+never_refused form.Scratch bytes line well refusal = not_both bytes line well.0 well.1 refusal
+never_refused (form.Run workers) bytes line well refusal = not_both bytes line well.0 well.1 refusal
 never_refused (form.Gen size seed workers) bytes line well refusal = refusal
 
 -- bytes that are refused have no report
 of_run : (bytes line : List ℕ) (P : Run → Type 0) → OfRun bytes P → IsRefusal bytes line → ⊥
-of_run bytes line P r refusal = not_both bytes line r.run r.spells.0 r.spells.1 refusal
+of_run bytes line P r refusal = not_both bytes line r.run r.spells refusal
 
 never_reported : (asked : Form) (bytes line text : List ℕ) (kept : Option State) → Reports asked (Some bytes) kept text → IsRefused asked bytes line → ⊥
 never_reported form.Scratch bytes line text kept report refusal = of_run bytes line _ report.1 refusal
@@ -38,7 +31,7 @@ never_reported (form.Run workers) bytes line text None report refusal = report
 never_reported (form.Run workers) bytes line text (Some s) report refusal = of_run bytes line _ report refusal
 never_reported (form.Gen size seed workers) bytes line text kept report refusal = refusal
 
--- a run that is laid out is reported
+-- a run is reported
 pub reported : (asked : Form) (left : Option (List ℕ)) (status : Status) (s t : SinkValue) (kept : Option State) → Ends (Reports asked left) (Refuses asked left) status s t kept
     → (status ≡ usage → ⊥) → (status ≡ read_fault → ⊥) → (status ≡ write_fault → ⊥)
     → IfSome left (λ bytes. IsAskedWell asked bytes → (status ≡ ok) ⊎ (status ≡ no_memory))

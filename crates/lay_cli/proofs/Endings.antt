@@ -1,7 +1,6 @@
 -- How calls end.
 use Rattle.std.proofs.Common.{◌≡◌, ◌≢◌, ◌⊎◌, ℕ, List, refl, sym, ◌∙◌, inl, inr, subst, Option, Some, None, IfSome}
 use Rattle.lay_outside.specs.Outside.{Rose, Took, TookFront}
-use Rattle.lay_style.specs.declared.style.Style.{Style}
 use Rattle.lay_json.specs.Runs.{Run}
 use Rattle.lay_core.specs.State.{State}
 use Rattle.lay_report.specs.declared.fault.ReportFault.{ReportFault}
@@ -10,7 +9,7 @@ use Rattle.lay_words.specs.declared.form.Form.TheVariants as form
 use Rattle.lay_cli.specs.declared.status.Status.{Status}
 use Rattle.lay_cli.specs.declared.status.Status.TheVariants.{Ok, Refused, ReadFault, WriteFault, NoMemory}
 use Rattle.lay_cli.specs.Statuses.{status_of}
-use Rattle.lay_cli.specs.Answers.{AreStyles, IsInput, IsRunReport, IsScratchReport, OfKept, OfRun, Refuses, Reports, Spells}
+use Rattle.lay_cli.specs.Answers.{IsRunReport, IsScratchReport, OfKept, OfRun, Reports, Spells}
 use Rattle.lay_cli.specs.Endings.{Ends, SinkValue, TookFrontOf}
 
 front_weaker : (R P : Option State → List ℕ → Type 0) (F G : List ℕ → Type 0) (s t : SinkValue) → ((core : Option State) (text : List ℕ) → R core text → P core text) → ((line : List ℕ) → F line → G line)
@@ -111,7 +110,3 @@ run_reports workers left run spells (Some s) text is = of_bytes left run (λ r. 
 
 pub none_refused : (G : List ℕ → Type 0) (line : List ℕ) → ⊥ → G line
 none_refused G line n = absurd n
-
-pub if_some_more : (left : Option (List ℕ)) (P Q : List ℕ → Type 0) → ((bytes : List ℕ) → P bytes → Q bytes) → IfSome left P → IfSome left Q
-if_some_more None P Q f p = tt
-if_some_more (Some bytes) P Q f p = f bytes p

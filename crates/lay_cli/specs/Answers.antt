@@ -1,14 +1,10 @@
 -- Which text answers which words and which bytes.
--- `scratch` and `run` read a run document whose nodes are all laid out, or else the bytes are refused with one line: for the
--- first fault that they have, or else for the first node that isn't laid out. The report of `scratch` is that of a tree
--- which solves the document, its editors taken as none. The report of `run` is that of one legal history which answers
--- each editor's commands once and in order, with trees that solve the documents of their versions. `gen` reads nothing
--- and writes the summary of such a history of the run that the generator makes.
-use Rattle.std.specs.Prelude.{ℕ, Bool, ◌≡◌, ◌≢◌, ◌⊎◌, List, length, map, string_bytes, String, Option, Some, None, IfSome, Ok, Err}
+-- `scratch` and `run` read a run document, or else the bytes are refused with one line, for the first fault that they have.
+-- The report of `scratch` is that of a tree which solves the document, its editors taken as none. The report of `run` is
+-- that of one legal history which answers each editor's commands once and in order, with trees that solve the documents
+-- of their versions. `gen` reads nothing and writes the summary of such a history of the run that the generator makes.
+use Rattle.std.specs.Prelude.{ℕ, ◌≡◌, ◌≢◌, ◌⊎◌, List, length, map, string_bytes, String, Option, Some, None, IfSome, Ok, Err}
 use Rattle.std.specs.declared.alloc.Global.{Global}
-use Rattle.lay_style.specs.declared.style.Style.{Style}
-use Rattle.lay_style.specs.ComputedStyle.{HasStyles}
-use Rattle.lay_doc.specs.Document.{parents_of, declarations_of}
 use Rattle.lay_frag.specs.Pieces.{Context}
 use Rattle.lay_context.specs.Solves.{Solves}
 use Rattle.lay_history.specs.Histories.{accepted}
@@ -26,9 +22,8 @@ use Rattle.lay_generator.specs.Summary.{summary}
 use Rattle.lay_words.specs.declared.form.Form.{Form}
 use Rattle.lay_words.specs.declared.form.Form.TheVariants as form
 use Rattle.lay_words.specs.Grammar.{form_of}
-use Rattle.lay_cli.specs.Built.{AreHidden, first_unbuilt}
 use Rattle.lay_cli.specs.Input.{IsDrained}
-use Rattle.lay_cli.specs.Refusals.{fault_line, unbuilt_line}
+use Rattle.lay_cli.specs.Refusals.{fault_line}
 use Rattle.lay_cli.specs.declared.run_input.Input.{Input}
 use Rattle.lay_cli.specs.declared.run_input.Input.TheVariants.{Run as a_run, Refusal as a_refusal}
 
@@ -40,44 +35,16 @@ HaveForm words wanted = form_of (map string_bytes words) ≡ Some wanted
 abbrev pub HaveNoForm : List (String Global) → Type 0
 HaveNoForm words = form_of (map string_bytes words) ≡ None
 
--- these are the computed styles of the run's nodes
-abbrev pub AreStyles : Run → List Style → Type 0
-AreStyles run styles = HasStyles (parents_of run.doc.nodes) (declarations_of run.doc.nodes) styles
-
--- this says which nodes are under `display: none`
-abbrev pub AreHiddenNodes : Run → List Style → List Bool → Type 0
-AreHiddenNodes run styles hidden = AreHidden (parents_of run.doc.nodes) styles hidden
-
--- the place in the list `nodes` of the first node that isn't laid out
-abbrev pub unbuilt_place : Run → List Style → List Bool → Option ℕ
-unbuilt_place run styles hidden = first_unbuilt run.doc.nodes styles hidden run.listed
-
--- the first node that isn't laid out stands there, or none: the computed styles are there, and decide it
-pub record IsUnbuiltPlace (run : Run) (place : Option ℕ) : Type 0 where
-  pub styles : List Style
-  pub are_styles : AreStyles run styles
-  pub hidden : List Bool
-  pub are_hidden : AreHiddenNodes run styles hidden
-  pub decided : (computed : List Style) (none : List Bool) → AreStyles run computed → AreHiddenNodes run computed none → unbuilt_place run computed none ≡ place
-
--- all nodes of a run are laid out
-abbrev pub IsBuilt : Run → Type 0
-IsBuilt run = IsUnbuiltPlace run None
-
--- the bytes spell this run, and all its nodes are laid out
+-- the bytes spell this run
 abbrev pub Spells : List ℕ → Run → Type 0
-Spells bytes run = IsReading bytes (Ok run) × IsBuilt run
-
--- the line names the first node of the run that isn't laid out
-pub record IsRunRefusal (run : Run) (line : List ℕ) : Type 0 where
-  pub place : ℕ
-  pub unbuilt : IsUnbuiltPlace run (Some place)
-  pub line_is : line ≡ unbuilt_line place
+Spells bytes run = IsReading bytes (Ok run)
 
 -- why bytes are refused, and the line that says so
-pub data IsRefusal (bytes line : List ℕ) : Type 0 where
-  faulty : (fault : InputFault) → fault ≢ NoMemory → IsReading bytes (Err fault) → line ≡ fault_line fault → IsRefusal bytes line
-  unbuilt : (run : Run) → IsReading bytes (Ok run) → IsRunRefusal run line → IsRefusal bytes line
+pub record IsRefusal (bytes line : List ℕ) : Type 0 where
+  pub fault : InputFault
+  pub named : fault ≢ NoMemory
+  pub reading : IsReading bytes (Err fault)
+  pub line_is : line ≡ fault_line fault
 
 -- the text is the report of a tree that solves the run's document
 pub record IsScratchReport (run : Run) (text : List ℕ) : Type 0 where
@@ -111,7 +78,7 @@ pub record IsSummaryOf (s : State) (text : List ℕ) : Type 0 where
 abbrev pub IsSummary : ℕ → ℕ → State → List ℕ → Type 0
 IsSummary size seed s text = IsDriven (generated size seed) s × IsSummaryOf s text
 
--- what holds of the run that the bytes spell, where all its nodes are laid out
+-- what holds of the run that the bytes spell
 pub record OfRun (bytes : List ℕ) (P : Run → Type 0) : Type 0 where
   pub run : Run
   pub spells : Spells bytes run
@@ -134,29 +101,20 @@ Refuses form.Scratch left line = IfSome left (λ bytes. IsRefusal bytes line)
 Refuses (form.Run workers) left line = IfSome left (λ bytes. IsRefusal bytes line)
 Refuses (form.Gen size seed workers) left line = ⊥
 
--- the bytes spell a run whose nodes are all laid out; `gen` needs none
+-- the bytes spell a run; `gen` needs none
 abbrev pub IsAskedWell : Form → List ℕ → Type 0
 IsAskedWell form.Scratch bytes = (run : Run) × Spells bytes run
 IsAskedWell (form.Run workers) bytes = (run : Run) × Spells bytes run
 IsAskedWell (form.Gen size seed workers) bytes = Unit {0}
 
--- what was read of the bytes: the run that they spell with its computed styles, or why they are refused
+-- what was read of the bytes: the run that they spell, or why they are refused
 abbrev pub IsInput : List ℕ → Input → Type 0
-IsInput bytes (a_run run computed) = Spells bytes run × AreStyles run computed
+IsInput bytes (a_run run) = Spells bytes run
 IsInput bytes (a_refusal line) = IsRefusal bytes line
-
--- a run with the computed styles of its document, where one was read
-abbrev pub HasStylesOf : Input → Type 0
-HasStylesOf (a_run run computed) = AreStyles run computed
-HasStylesOf (a_refusal line) = Unit {0}
-
-abbrev pub IsRunInput : Run → Input → Type 0
-IsRunInput run (a_run read computed) = (read ≡ run) × IsBuilt run × AreStyles run computed
-IsRunInput run (a_refusal line) = IsRunRefusal run line
 
 -- the line for a fault, which isn't that memory ran out
 abbrev pub IsFaultInput : InputFault → Input → Type 0
-IsFaultInput fault (a_run run computed) = ⊥
+IsFaultInput fault (a_run run) = ⊥
 IsFaultInput fault (a_refusal line) = (fault ≢ NoMemory) × (line ≡ fault_line fault)
 
 -- all bytes were read, where they spell a run; for `gen` none is
@@ -166,7 +124,7 @@ AreRead (form.Run workers) left now = IsDrained left now
 AreRead (form.Gen size seed workers) left now = now ≡ left
 
 abbrev pub IsRun : Input → Type 0
-IsRun (a_run run computed) = Unit {0}
+IsRun (a_run run) = Unit {0}
 IsRun (a_refusal line) = ⊥
 
 -- the line says why these bytes are refused; `gen` reads none

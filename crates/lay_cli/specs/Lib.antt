@@ -1,5 +1,4 @@
 pub mod Statuses
-pub mod Built
 pub mod Refusals
 pub mod Input
 pub mod Answers

@@ -1,5 +1,4 @@
--- The one line that says why bytes are refused: the first fault of the run document with its field and its
--- place, or the first node that isn't laid out yet.
+-- The one line that says why bytes are refused: the first fault of the run document with its field and its place.
 use Rattle.std.specs.Prelude.{ℕ, List, ◌++◌, codes, Bool, if◌then◌else◌}
 use Rattle.std.specs.Fmt.{decimal}
 use Rattle.lay_json.specs.declared.fault.Field.{Field}
@@ -38,6 +37,3 @@ fault_text NoMemory = codes ""
 
 abbrev pub fault_line : InputFault → List ℕ
 fault_line fault = codes "refused " ++ fault_text fault ++ codes "\n"
-
-abbrev pub unbuilt_line : ℕ → List ℕ
-unbuilt_line k = codes "refused NotBuilt " ++ decimal k ++ codes "\n"

@@ -21,8 +21,8 @@ use std::thread::Threads;
 
 /// Answers the words. `scratch` lays out the run document that the source has left, its editors taken as none; `run` drives
 /// its editors; `gen` drives those of the run that the generator makes, and reads nothing. The report goes into the sink, or
-/// else the line of the bytes' first fault or of the first node that isn't laid out yet. After `run` and `gen` with the
-/// status Ok the core that the report is of is kept.
+/// else the line of the bytes' first fault. After `run` and `gen` with the status Ok the core that the report is of is
+/// kept.
 pub fn top<R: Threads + Wait + Sync, S: Source, K: Sink, G: Gate + Sync>(
     _rt: &R,
     alloc: Global,
@@ -60,8 +60,8 @@ pub fn top<R: Threads + Wait + Sync, S: Source, K: Sink, G: Gate + Sync>(
     ensures gen_reads_none { (size seed workers : ℕ) → HaveForm words.now (form.Gen size seed workers) → (S.left source.new ≡ S.left source.old) × (S.faults source.new ≡ S.faults source.old) }
     ensures wrong_words { HaveNoForm words.now → (result ≡ Status.Usage) ⊎ (result ≡ Status.WriteFault) ⊎ (result ≡ Status.NoMemory) }
 
-    // Without faults, a run whose nodes are all laid out has its report and any other input its refusal, but for want of
-    // memory; and so has a generated run.
+    // Without faults of the streams, bytes that spell a run have its report and others their refusal, but for want of memory;
+    // and a generated run has its summary.
     ensures complete { (asked : Form) → HaveForm words.now asked → IsQuiet (S.faults source.old) (S.faults source.new) → IsQuiet (K.faults sink.old) (K.faults sink.new)
         → IfSome (S.left source.old) (λ bytes. IsAskedWell asked bytes → (result ≡ Status.Ok) ⊎ (result ≡ Status.NoMemory)) }
     ensures gen_complete { (size seed workers : ℕ) → HaveForm words.now (form.Gen size seed workers) → IsQuiet (K.faults sink.old) (K.faults sink.new)

@@ -35,7 +35,7 @@ pub(crate) fn run<S: Source, K: Sink>(
     ensures never_usage { result ≢ Status.Usage }
 {
     match run_input(alloc, source) {
-        Ok(Input::Run { run, computed: _ }) => driven(alloc, run, sink, kept),
+        Ok(Input::Run(run)) => driven(alloc, run, sink, kept),
         Ok(Input::Refusal(line)) => told(sink, line.as_str(), Status::Refused),
         Err(Lack::Failed) => Status::ReadFault,
         Err(Lack::NoMemory) => Status::NoMemory,

@@ -6,10 +6,8 @@
 //! of the sink.
 #![tactic(auto)]
 
-mod built;
 mod call;
 mod drive;
-mod hidden;
 mod input;
 mod refusal;
 mod run_input;

@@ -2,7 +2,7 @@
 
 ghost use Rattle.std.specs.Prelude.{◌≡◌, ◌++◌, IfOk, OnOk, codes, string_bytes};
 ghost use Rattle.std.specs.Fmt.{decimal};
-ghost use Rattle.lay_cli.specs.Refusals.{place_text, field_text, value_fault, fault_text, fault_line, unbuilt_line};
+ghost use Rattle.lay_cli.specs.Refusals.{place_text, field_text, value_fault, fault_text, fault_line};
 ghost use Rattle.lay_report.specs.Report.{fault_number};
 
 use lay_doc::EditFault;
@@ -17,16 +17,6 @@ pub(crate) fn fault_line(alloc: Global, fault: InputFault) -> Result<Text, NoMem
 {
     let mut text = String::from_str(alloc, "refused ")?;
     push_fault(&mut text, fault)?;
-    text.push_str("\n")?;
-    Ok(Text::new(text))
-}
-
-/// The line for the node at this place of the list `nodes`, which isn't laid out.
-pub(crate) fn unbuilt_line(alloc: Global, place: usize) -> Result<Text, NoMemory>
-    ensures { IfOk result (λ t. t ≡ unbuilt_line place) }
-{
-    let mut text = String::new(alloc);
-    push_number(&mut text, "refused NotBuilt ", place as u64)?;
     text.push_str("\n")?;
     Ok(Text::new(text))
 }

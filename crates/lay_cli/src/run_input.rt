@@ -1,25 +1,22 @@
 //! The run that a source's bytes spell.
 
-ghost use Rattle.std.specs.Prelude.{◌≡◌, IfOk, IfErr, IfSome, Option};
+ghost use Rattle.std.specs.Prelude.{◌≡◌, IfOk, IfErr, IfSome};
 ghost use Rattle.lay_outside.specs.Outside.{Rose};
-ghost use Rattle.lay_cli.specs.Answers.{AreStyles, HasStylesOf, IsFaultInput, IsInput, IsRun, IsRunInput, IsUnbuiltPlace};
+ghost use Rattle.lay_cli.specs.Answers.{IsFaultInput, IsInput, IsRun};
 ghost use Rattle.lay_cli.specs.Input.{IsDrained};
 
-use crate::built::first_unbuilt;
 use crate::input::{SourceFault, read_all};
-use crate::refusal::{fault_line, unbuilt_line};
-use lay_inherit::computed;
+use crate::refusal::fault_line;
 use lay_json::{InputFault, RunDoc, read_run};
 use lay_outside::Source;
-use lay_style::Computed;
 use lay_units::{NoMemory, Text};
 use std::alloc::Global;
 
 /// What was read.
 #[derive(Drop)]
 pub enum Input {
-    /// A run whose nodes are all laid out, with the computed styles of its document.
-    Run { run: RunDoc, computed: Computed },
+    /// The run.
+    Run(RunDoc),
     /// The line that says why the bytes are refused.
     Refusal(Text),
 }
@@ -47,7 +44,6 @@ impl From<NoMemory> for Lack {
 /// What the bytes that a source has left spell.
 pub(crate) fn run_input<S: Source>(alloc: Global, source: &mut S) -> Result<Input, Lack>
     ensures input { IfOk result (λ input. IfSome (S.left source.old) (λ bytes. IsInput bytes input)) }
-    ensures styles { IfOk result HasStylesOf }
     ensures drained { IfOk result (λ input. IsRun input → IsDrained (S.left source.old) (S.left source.new)) }
     ensures failed { IfErr result (λ e. e ≡ Lack.Failed → Rose (S.faults source.old) (S.faults source.new)) }
 {
@@ -61,11 +57,10 @@ pub(crate) fn run_input<S: Source>(alloc: Global, source: &mut S) -> Result<Inpu
 
 /// What these bytes spell.
 fn input_in(alloc: Global, bytes: &[u8]) -> Result<Input, NoMemory>
-    ensures input { IfOk result (IsInput bytes.now) }
-    ensures styles { IfOk result HasStylesOf }
+    ensures { IfOk result (IsInput bytes.now) }
 {
     match read_run(alloc, bytes) {
-        Ok(run) => input_of(alloc, run),
+        Ok(run) => Ok(Input::Run(run)),
         Err(fault) => refusal_of(alloc, fault),
     }
 }
@@ -78,28 +73,4 @@ fn refusal_of(alloc: Global, fault: InputFault) -> Result<Input, NoMemory>
         return Err(NoMemory);
     }
     Ok(Input::Refusal(fault_line(alloc, fault)?))
-}
-
-/// A run with the computed styles of its document, or the refusal of its first node that isn't laid out.
-fn input_of(alloc: Global, run: RunDoc) -> Result<Input, NoMemory>
-    ensures { IfOk result (IsRunInput run) }
-{
-    let computed = computed(alloc, run.doc())?;
-    match unbuilt(alloc, &run, &computed)? {
-        Some(place) => Ok(Input::Refusal(unbuilt_line(alloc, place)?)),
-        None => Ok(Input::Run { run, computed }),
-    }
-}
-
-/// The place in the list `nodes` of the first node that isn't laid out.
-fn unbuilt(alloc: Global, run: &RunDoc, computed: &Computed) -> Result<Option<usize>, NoMemory>
-    requires styles { AreStyles run.now computed.now }
-    ensures { IfOk result (IsUnbuiltPlace run.now) }
-{
-    first_unbuilt(
-        alloc,
-        run.doc(),
-        computed.as_slice(),
-        run.listed().as_slice(),
-    )
 }

@@ -3,18 +3,16 @@
 ghost use Rattle.std.specs.Prelude.{◌≡◌, ◌≢◌, None};
 ghost use Rattle.lay_outside.specs.Outside.{Rose};
 ghost use Rattle.lay_words.specs.declared.form.Form.TheVariants as form;
-ghost use Rattle.lay_cli.specs.Answers.{AreStyles, IsScratchReport, Refuses, Reports};
+ghost use Rattle.lay_cli.specs.Answers.{IsScratchReport, Refuses, Reports};
 ghost use Rattle.lay_cli.specs.Endings.{Ends};
 ghost use Rattle.lay_cli.specs.Input.{IsDrained};
 
 use crate::run_input::{Input, Lack, run_input};
 use crate::status::Status;
 use crate::telling::{status_of, told};
-use lay_context::scratch_styled;
 use lay_json::RunDoc;
 use lay_outside::{Sink, Source};
 use lay_report::write_scratch;
-use lay_style::Computed;
 use std::alloc::Global;
 
 /// Lays out the run document that the source has left, its editors taken as none, and writes the report.
@@ -26,22 +24,21 @@ pub(crate) fn scratch<S: Source, K: Sink>(alloc: Global, source: &mut S, sink: &
     ensures never_usage { result ≢ Status.Usage }
 {
     match run_input(alloc, source) {
-        Ok(Input::Run { run, computed }) => laid_out(alloc, &run, &computed, sink),
+        Ok(Input::Run(run)) => laid_out(alloc, &run, sink),
         Ok(Input::Refusal(line)) => told(sink, line.as_str(), Status::Refused),
         Err(Lack::Failed) => Status::ReadFault,
         Err(Lack::NoMemory) => Status::NoMemory,
     }
 }
 
-/// Lays out a run's document, whose computed styles are known, and writes the report.
-fn laid_out<K: Sink>(alloc: Global, run: &RunDoc, computed: &Computed, sink: &mut K) -> Status
-    requires styles { AreStyles run.now computed.now }
+/// Lays out a run's document, and writes the report.
+fn laid_out<K: Sink>(alloc: Global, run: &RunDoc, sink: &mut K) -> Status
     ensures ends { Ends (λ kept text. (kept ≡ None) × IsScratchReport run.now text) (λ line. ⊥) result
         (record { taken = K.taken sink.old; faults = K.faults sink.old }) (record { taken = K.taken sink.new; faults = K.faults sink.new }) None }
     ensures never_usage { result ≢ Status.Usage }
     ensures never_read_fault { result ≢ Status.ReadFault }
 {
-    let tree = match scratch_styled(alloc, run.doc(), run.face(), computed) {
+    let tree = match lay_context::scratch(alloc, run.doc(), run.face()) {
         Ok(tree) => tree,
         Err(_) => return Status::NoMemory,
     };

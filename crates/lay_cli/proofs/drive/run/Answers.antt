@@ -1,13 +1,12 @@
 use Rattle.lay_words.specs.declared.form.Form.TheVariants as form
 use Rattle.lay_cli.specs.Answers.{Refuses, Reports}
-use Rattle.lay_cli.proofs.Endings.{ends_refused, ends_weaker, if_some_more, none_refused, run_reports}
+use Rattle.lay_cli.proofs.Endings.{ends_refused, ends_weaker, none_refused, run_reports}
 use Rattle.lay_cli.proofs.drive.run.Goals as goal
 
 pub returns-in-Ok-Run-clause-ends : goal.returns-in-Ok-Run-clause-ends
 returns-in-Ok-Run-clause-ends g c = λ workers.
     let left = g.S.Source.left c.args.source.now in
-    let input = rw c.in-Ok-Run.field-0-is at ((c.in-Ok-Run.ensures {u = tt}).input) in
-    let spells = if_some_more left _ _ (λ bytes is. is.0) input in
+    let spells = rw c.in-Ok-Run.field-0-is at ((c.in-Ok-Run.ensures {u = tt}).input) in
     ends_weaker _ _ _ _ c.driven.result _ _ c.driven.new.kept (run_reports workers left c.in-Ok-Run.run' spells) (none_refused (Refuses (form.Run workers) left)) c.driven.ensures.ends
 
 pub returns-in-Ok-Refusal-clause-ends : goal.returns-in-Ok-Refusal-clause-ends

@@ -11,5 +11,5 @@ returns-in_ok-fault_line-in-Err-TooLong-clause-input g c =
 
 pub returns-in_ok-input_in-in-Ok-clause-input : goal.returns-in_ok-input_in-in-Ok-clause-input
 returns-in_ok-input_in-in-Ok-clause-input g c =
-    let is = rw c.deref.ensures.value at (c.in_ok-input_in-in-Ok.ensures {u = tt}).input in
+    let is = rw c.deref.ensures.value at (c.in_ok-input_in-in-Ok.ensures {u = tt}) in
     all_gives (g.S.Source.left c.args.source.now) c.in-Ok.bytes.items (λ bytes. IsInput bytes c.in_ok-input_in-in-Ok.field-0) (c.in-Ok.ensures {u = tt}).all is
