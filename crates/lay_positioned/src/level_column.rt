@@ -1,6 +1,6 @@
 //! How many absolutely positioned formatting contexts are around each.
 
-ghost use Rattle.std.specs.Prelude.{◌≡◌, ◌≤◌, ◌+◌, IfOk, length};
+ghost use Rattle.std.specs.Prelude.{◌≡◌, ◌<◌, ◌≤◌, ◌+◌, IfOk, length};
 ghost use Rattle.lay_positioned.specs.Levels.{AreFewLevels, HasLevels, IsLevelCount, level_of, one_if};
 
 use crate::absolute::is_absolute;
