@@ -7,7 +7,7 @@ use Rattle.lay_table_grid.specs.TableBoxes.{groups_before}
 pub record GroupCountsTo (boxes : List BoxNode) (k : ℕ) (counts : List ℕ) (next : ℕ) : Type 0 where
   pub as_many : length counts ≡ k
   pub each : (j : ℕ) → j < k → slice_index counts j ≡ groups_before boxes j
-  pub next : next ≡ groups_before boxes k
+  pub next_is : next ≡ groups_before boxes k
   pub few : next ≤ k
 
 pub record AreGroupCounts (boxes : List BoxNode) (counts : List ℕ) : Type 0 where
