@@ -10,6 +10,7 @@ use Rattle.lay_sizes.specs.OwnBoxes.{OwnBoxFits, OwnBoxesFit, own_box_at}
 use Rattle.lay_formatting.specs.FormattingContexts.{AreFormattingContexts, FormattingContext, formatting_context_at}
 use Rattle.lay_pieces.specs.InnerPieces.{AreNearInnerPieces, inner_pieces_at}
 use Rattle.lay_pieces.specs.NearPieces.{AreNearPieces}
+use Rattle.lay_context.specs.Settling.{AreBelow}
 
 -- the number of an inner formatting context, or 0, is that of one of them
 pub inner_within : (contexts : List FormattingContext) (i k : ℕ) → AreFormattingContexts contexts → i < length contexts → k < length (formatting_context_at contexts i).inner → slice_index (formatting_context_at contexts i).inner k < length contexts
@@ -25,6 +26,19 @@ pub one_more_of : {X : Type 0} (f : ℕ → X) (numbers : List ℕ) (k : ℕ) (x
 one_more_of f numbers k xs x lt are is =
     let more : take (k + 1) numbers ≡ take k numbers ++ slice_index numbers k ∷ [] = take_more numbers k 0 lt in
     rw (more, map-append f (take k numbers) (slice_index numbers k ∷ []), are, is) refl
+
+-- numbers below another one, with one more
+numbers_before : (ns : List ℕ) (n k : ℕ) → k < length ns → slice_index (ns ++ n ∷ []) k ≡ slice_index ns k
+numbers_before ns n k lt = grind (arith, elements)
+
+numbers_last : (ns : List ℕ) (n k : ℕ) → k ≡ length ns → slice_index (ns ++ n ∷ []) k ≡ n
+numbers_last ns n k e = grind (arith, elements)
+
+pub one_more_below : (bound : ℕ) (ns : List ℕ) (n : ℕ) → AreBelow bound ns → n < bound → AreBelow bound (ns ++ n ∷ [])
+one_more_below bound ns n below own k lt = elim (cases_lt k (length ns)) [
+  | inl low ↦ rw (numbers_before ns n k low) (below k low)
+  | inr high ↦ (let counted = length-append ns (n ∷ []) in rw (numbers_last ns n k (omega (arith, high, lt, counted))) own)
+]
 
 read_before : (os : List OwnBox) (o : OwnBox) (k : ℕ) → k < length os → own_box_at (os ++ o ∷ []) k ≡ own_box_at os k
 read_before os o k lt = grind (arith, elements)

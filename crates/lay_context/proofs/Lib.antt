@@ -1,16 +1,11 @@
 pub mod CornerSteps
 pub mod GivenFacts
-pub mod HolderSteps
 pub mod OneCorners
-pub mod OneSizes
 pub mod OneTree
-pub mod OneWidths
 pub mod PieceRanges
 pub mod PlaceFacts
 pub mod PlaceInputs
-pub mod SizeSteps
 pub mod SizedFacts
-pub mod SizesFit
 pub mod TaskInputs
 pub mod TaskOrder
 pub mod TaskSteps

@@ -21,7 +21,7 @@ use Rattle.lay_context.specs.declared.task.Phase.TheVariants.{Measure, Size, Pla
 use Rattle.lay_context.specs.declared.task.Task.{Task}
 use Rattle.lay_context.specs.declared.input.Input.{Input}
 use Rattle.lay_context.specs.declared.value.Value.TheVariants as value
-use Rattle.lay_context.specs.ContextSizes.{SizedContext, not_sized}
+use Rattle.lay_context_sizes.specs.ContextSizes.{SizedContext, not_sized}
 use Rattle.lay_context.specs.DocumentLayout.{widths_in}
 use Rattle.lay_context.specs.Laws.{OneContextSizes, OneContextWidths, OneSolution}
 use Rattle.lay_context.specs.Local.{Workings, IsLocal, IsTaskDone, flow_input, input_by, input_of, measure_input, size_input, stand_input, table_input, value_by, value_of}

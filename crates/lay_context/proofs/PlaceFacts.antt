@@ -19,11 +19,11 @@ use Rattle.lay_sizes.specs.declared.own_boxes.OwnBox.{OwnBox}
 use Rattle.lay_formatting.specs.FormattingBoxes.{box_at}
 use Rattle.lay_pieces.specs.declared.corner.Corner.{Corner}
 use Rattle.lay_positioned.proofs.OneAbsoluteBox.{one_offset_lem}
-use Rattle.lay_context.specs.ContextSizes.{SizedContext}
+use Rattle.lay_context_sizes.specs.ContextSizes.{SizedContext}
 use Rattle.lay_context.specs.OwnOffsets.{IsOwnOffset, IsOwnOffsetBy, StandInput}
 use Rattle.lay_context.specs.PlacedContexts.{PlacedContext}
-use Rattle.lay_context.specs.declared.position.Position.{Position}
-use Rattle.lay_context.specs.declared.position.Position.TheVariants.{Inner, Root, Absolute}
+use Rattle.lay_context.specs.declared.own_place.OwnPlace.{OwnPlace}
+use Rattle.lay_context.specs.declared.own_place.OwnPlace.TheVariants.{Inner, Root, Absolute}
 use Rattle.lay_context.specs.Local.{IsLocal, place_as}
 
 pub not_measured : (flow : PlaceInput) (table : Option TableInput) (at : StandInput) (widths : PreferredWidths) → IsLocal (place_as flow table at) (value.Measure widths) → ⊥
@@ -60,7 +60,7 @@ module _ (flow : PlaceInput) (at : StandInput) (of : TableSizesValue → TableIn
   stands (Some t) p local = rw (← same t) (table_stands (of t) p.placement local.0)
 
   -- there is one offset beside a placement
-  one_offset_by : (o : Position) (own : OwnBox) (a b : Corner) → IsOwnOffsetBy o at own a → IsOwnOffsetBy o at own b → a ≡ b
+  one_offset_by : (o : OwnPlace) (own : OwnBox) (a b : Corner) → IsOwnOffsetBy o at own a → IsOwnOffsetBy o at own b → a ≡ b
   one_offset_by Inner own a b p q = p ∙ sym q
   one_offset_by (Root viewport) own a b p q = p ∙ sym q
   one_offset_by (Absolute s) own a b p q = one_offset_lem s (box_at at.boxes 0) at.left own.height a b p q

@@ -13,8 +13,8 @@ use Rattle.lay_pieces.specs.InnerPieces.{AreNearInnerPieces}
 use Rattle.lay_pieces.specs.Placements.{Placement}
 use Rattle.lay_flow_boxes.specs.PlaceInputs.{HeightRuleFits, PlaceInputFits, height_rule_of}
 use Rattle.lay_table.specs.TableInputs.{TableInputFits}
-use Rattle.lay_context.specs.ContextSizes.{SizedContext}
-use Rattle.lay_context.specs.DocumentLayout.{inner_boxes, inner_pieces, own_box_in, pieces_in}
+use Rattle.lay_context_sizes.specs.ContextSizes.{SizedContext}
+use Rattle.lay_context.specs.DocumentLayout.{flow_number, flow_numbers, inner_boxes, inner_pieces, own_box_in, pieces_in}
 use Rattle.lay_context.specs.Local.{Workings, flow_input, table_input}
 use Rattle.lay_context.specs.Medium.{Medium}
 use Rattle.lay_context.specs.Settings.{sizes_in}
@@ -30,11 +30,14 @@ grid_within boxes sized table of is = subst (λ o. IfSome o (λ (t : TableSizesV
 module _ (contexts : List FormattingContext) (w : Workings) (i : ℕ) (are : AreFormattingContexts contexts) (within : i < length contexts)
     (of : AreOfBoxes (boxes_in contexts i) (sizes_in w.sizes i)) (bounds : HaveSizeBounds (sizes_in w.sizes i).boxes)
     (fit : OwnBoxesFit (inner_boxes contexts w.places i)) where
+  number_count : length (flow_numbers contexts i) ≡ length (boxes_in contexts i)
+  number_count = length-map (formatting_context_at contexts i).inner (flow_number contexts) ∙ are.count i within
+
   box_count : length (inner_boxes contexts w.places i) ≡ length (boxes_in contexts i)
-  box_count = length-map (formatting_context_at contexts i).inner (own_box_in w.places) ∙ are.count i within
+  box_count = length-map (flow_numbers contexts i) (own_box_in w.places) ∙ number_count
 
   piece_count : length (inner_pieces contexts w.places i) ≡ length (boxes_in contexts i)
-  piece_count = length-map (formatting_context_at contexts i).inner (pieces_in contexts w.places) ∙ are.count i within
+  piece_count = length-map (flow_numbers contexts i) (pieces_in contexts w.places) ∙ number_count
 
   pub flow_input_fits : (medium : Medium) → AreNearInnerPieces (inner_pieces contexts w.places i)
       → PlaceInputFits (record (flow_input medium contexts w i) { own_height = height_rule_of (sizes_at (sizes_in w.sizes i).boxes 0) })

@@ -5,10 +5,10 @@ use Rattle.lay_sizes.specs.declared.sizing.BoxSizes.{BoxSizes}
 use Rattle.lay_table_grid.specs.Laws.{GridsAreOfBoxes}
 use Rattle.lay_table_sizes.specs.TableSizesValue.{TableSizesValue}
 use Rattle.lay_context_boxes.specs.ContextBoxes.{AreContextBoxes}
-use Rattle.lay_context.specs.ContextSizes.{SizedContext, HasSizes, IsSizedAs}
-use Rattle.lay_context.specs.Inputs.{SizeInput}
+use Rattle.lay_context_sizes.specs.ContextSizes.{SizedContext, HasSizes, IsSizedAs}
+use Rattle.lay_context_sizes.specs.Inputs.{SizeInput}
 use Rattle.lay_context.specs.Settling.{AreOfBoxes}
-use Rattle.lay_context.specs.TableContexts.{is_table}
+use Rattle.lay_context_sizes.specs.TableContexts.{is_table}
 
 of_boxes_as : GridsAreOfBoxes → (b : Bool) (i : SizeInput) (sizes : List BoxSizes) (table : Option TableSizesValue) (left : Length) (stretched : Option Length) → AreContextBoxes i.boxes → IsSizedAs b i sizes table left
     → AreOfBoxes i.boxes (record { boxes = sizes; table = table; left = left; stretched = stretched })

@@ -13,7 +13,7 @@ use Rattle.lay_context.specs.declared.task.Phase.{Phase}
 use Rattle.lay_context.specs.declared.task.Phase.TheVariants.{Measure, Size, Place}
 use Rattle.lay_context.specs.declared.task.Task.{Task}
 use Rattle.lay_context.specs.declared.value.Value.TheVariants as value
-use Rattle.lay_context.specs.ContextSizes.{SizedContext}
+use Rattle.lay_context_sizes.specs.ContextSizes.{SizedContext}
 use Rattle.lay_context.specs.DocumentLayout.{flow_numbers, inner_boxes, inner_pieces, inner_widths, inner_widths_in, own_box_in, painted_of, pieces_in, widths_in}
 use Rattle.lay_context.specs.Laws.{InputsComeOfNeeds}
 use Rattle.lay_context.specs.Local.{Workings, input_by, place_as, value_by}
@@ -21,9 +21,9 @@ use Rattle.lay_context.specs.Medium.{Medium}
 use Rattle.lay_context.specs.OwnHeights.{own_height_rule}
 use Rattle.lay_context.specs.Needs.{IsAround, needs_by}
 use Rattle.lay_context.specs.PlacedContexts.{PlacedContext, placed_in, placement_in}
-use Rattle.lay_context.specs.Settings.{flow_position, flow_setting, laid, setting_in, sizes_in}
-use Rattle.lay_context.specs.declared.position.Position.TheVariants as position
-use Rattle.lay_context.specs.declared.setting.Setting.TheVariants.{Absolute}
+use Rattle.lay_context.specs.Settings.{flow_place, flow_setting, laid, setting_in, sizes_in}
+use Rattle.lay_context.specs.declared.own_place.OwnPlace.TheVariants as own_place
+use Rattle.lay_context_sizes.specs.declared.setting.Setting.TheVariants.{Absolute}
 
 pub width_value : (x y : PreferredWidths) → value.Measure x ≡ value.Measure y → x ≡ y
 width_value x y e = cc
@@ -95,10 +95,10 @@ module _ (medium : Medium) (contexts : List FormattingContext) (v w : Workings) 
           ap (λ (sized : SizedContext). setting_in (boxes_in contexts outer) sized (formatting_context_at contexts (suc k)).outer_box) (sizes outer (inl around))
 
   position_by : (b : Bool) → is_absolute contexts i ≡ b → ((j : ℕ) → needs_by contexts Place i Size j → sizes_in v.sizes j ≡ sizes_in w.sizes j) → ((j : ℕ) → needs_by contexts Place i Place j → placed_in v.places j ≡ placed_in w.places j)
-      → (if b then position.Absolute (absolute_setting medium.viewport contexts (laid v.sizes v.places) i) else flow_position medium.viewport i)
-      ≡ (if b then position.Absolute (absolute_setting medium.viewport contexts (laid w.sizes w.places) i) else flow_position medium.viewport i)
+      → (if b then own_place.Absolute (absolute_setting medium.viewport contexts (laid v.sizes v.places) i) else flow_place medium.viewport i)
+      ≡ (if b then own_place.Absolute (absolute_setting medium.viewport contexts (laid w.sizes w.places) i) else flow_place medium.viewport i)
   position_by true is sizes places =
-      ap position.Absolute (absolute_same (λ j on. sizes j (inr (record { absolute = is; way = on }))) (λ j on. places j (inr (record { absolute = is; way = on }))))
+      ap own_place.Absolute (absolute_same (λ j on. sizes j (inr (record { absolute = is; way = on }))) (λ j on. places j (inr (record { absolute = is; way = on }))))
   position_by false is sizes places = refl
 
   input_same : (phase : Phase) → ((needed : Phase) (j : ℕ) → needs_by contexts phase i needed j → value_by v needed j ≡ value_by w needed j) → input_by medium contexts v phase i ≡ input_by medium contexts w phase i

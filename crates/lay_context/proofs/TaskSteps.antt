@@ -12,7 +12,7 @@ use Rattle.lay_context.specs.declared.task.Phase.TheVariants.{Measure, Size, Pla
 use Rattle.lay_context.specs.declared.task.Task.{Task}
 use Rattle.lay_context.specs.declared.value.Value.{Value}
 use Rattle.lay_context.specs.declared.value.Value.TheVariants as value
-use Rattle.lay_context.specs.ContextSizes.{SizedContext}
+use Rattle.lay_context_sizes.specs.ContextSizes.{SizedContext}
 use Rattle.lay_context.specs.DocumentLayout.{widths_in}
 use Rattle.lay_context.specs.Local.{HasCounts, Workings, IsLocal, IsTaskDone, flow_input, input_by, input_of, size_input, stand_input, table_input, value_by, value_of, with_value}
 use Rattle.lay_context.specs.Medium.{Medium}

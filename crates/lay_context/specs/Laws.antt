@@ -4,26 +4,13 @@ use Rattle.std.specs.Prelude.{ℕ, ◌≡◌, ◌<◌, List, length}
 use Rattle.lay_doc.specs.Document.{Document, IsDocument}
 use Rattle.lay_frag.specs.Pieces.{Context as PageContext}
 use Rattle.lay_face.specs.FaceValue.{FaceValue}
-use Rattle.lay_measure.specs.declared.preferred_widths.PreferredWidths.{PreferredWidths}
-use Rattle.lay_context_boxes.specs.ContextBoxes.{AreContextBoxes}
 use Rattle.lay_formatting.specs.FormattingContexts.{FormattingContext, AreFormattingContexts}
 use Rattle.lay_positioned.specs.Levels.{HasLevels}
 use Rattle.lay_context.specs.declared.task.Task.{Task}
-use Rattle.lay_context.specs.ContextSizes.{SizedContext, HasSizes}
-use Rattle.lay_context.specs.ContextWidths.{HasWidths}
-use Rattle.lay_context.specs.Inputs.{MeasureInput, SizeInput}
 use Rattle.lay_context.specs.Local.{Workings, input_of, value_of}
 use Rattle.lay_context.specs.Medium.{Medium}
 use Rattle.lay_context.specs.Needs.{Needs, turn_of}
 use Rattle.lay_context.specs.Solves.{Solves}
-
--- beside what it is given a formatting context has one pair of preferred widths
-abbrev pub OneContextWidths : Type 0
-OneContextWidths = (i : MeasureInput) (v w : PreferredWidths) → HasWidths i v → HasWidths i w → v ≡ w
-
--- the boxes of a formatting context have one column of used sizes
-abbrev pub OneContextSizes : Type 0
-OneContextSizes = (i : SizeInput) (x y : SizedContext) → AreContextBoxes i.boxes → HasSizes i x → HasSizes i y → x ≡ y
 
 -- where the values that a task needs are equal, it is given the same
 abbrev pub InputsComeOfNeeds : Type 0

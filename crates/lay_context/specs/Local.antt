@@ -17,15 +17,15 @@ use Rattle.lay_context.specs.declared.input.Input.{Input}
 use Rattle.lay_context.specs.declared.input.Input.TheVariants as input
 use Rattle.lay_context.specs.declared.value.Value.{Value}
 use Rattle.lay_context.specs.declared.value.Value.TheVariants as value
-use Rattle.lay_context.specs.ContextSizes.{SizedContext, HasSizes}
-use Rattle.lay_context.specs.ContextWidths.{HasWidths}
+use Rattle.lay_context_sizes.specs.ContextSizes.{SizedContext, HasSizes}
+use Rattle.lay_context_sizes.specs.ContextWidths.{HasWidths}
 use Rattle.lay_context.specs.DocumentLayout.{inner_boxes, inner_pieces, inner_widths, widths_in}
-use Rattle.lay_context.specs.Inputs.{MeasureInput, SizeInput}
+use Rattle.lay_context_sizes.specs.Inputs.{MeasureInput, SizeInput}
 use Rattle.lay_context.specs.Medium.{Medium}
 use Rattle.lay_context.specs.OwnHeights.{own_height_rule}
 use Rattle.lay_context.specs.OwnOffsets.{IsOwnOffset, StandInput}
 use Rattle.lay_context.specs.PlacedContexts.{PlacedContext, placed_in}
-use Rattle.lay_context.specs.Settings.{position_of, setting_of, sizes_in}
+use Rattle.lay_context.specs.Settings.{own_place_of, setting_of, sizes_in}
 
 -- a value is right beside what its task is given
 abbrev pub IsLocal : Input → Value → Type 0
@@ -85,7 +85,7 @@ stand_input medium contexts w i = record {
   boxes = boxes_in contexts i;
   sizes = (sizes_in w.sizes i).boxes;
   left = (sizes_in w.sizes i).left;
-  position = position_of medium.viewport contexts w.sizes w.places i;
+  position = own_place_of medium.viewport contexts w.sizes w.places i;
 }
 
 abbrev pub place_as : PlaceInput → Option TableInput → StandInput → Input

@@ -22,8 +22,8 @@ use Rattle.lay_formatting.specs.FormattingBoxes.{box_at}
 use Rattle.lay_pieces.specs.declared.corner.Corner.{Corner}
 use Rattle.lay_pieces.specs.Corners.{no_corner}
 use Rattle.lay_positioned.specs.Offsets.{IsOffset}
-use Rattle.lay_context.specs.declared.position.Position.{Position}
-use Rattle.lay_context.specs.declared.position.Position.TheVariants.{Inner, Root, Absolute}
+use Rattle.lay_context.specs.declared.own_place.OwnPlace.{OwnPlace}
+use Rattle.lay_context.specs.declared.own_place.OwnPlace.TheVariants.{Inner, Root, Absolute}
 
 abbrev pub is_right : Flow → Float → Bool
 is_right Floating float.Right = true
@@ -46,10 +46,10 @@ pub record StandInput : Type 0 where
   pub boxes : List BoxNode
   pub sizes : List BoxSizes
   pub left : Length
-  pub position : Position
+  pub position : OwnPlace
 
 -- the formatting context whose own box is this stands there
-abbrev pub IsOwnOffsetBy : Position → StandInput → OwnBox → Corner → Type 0
+abbrev pub IsOwnOffsetBy : OwnPlace → StandInput → OwnBox → Corner → Type 0
 IsOwnOffsetBy Inner i own corner = corner ≡ no_corner
 IsOwnOffsetBy (Root viewport) i own corner = corner ≡ root_corner viewport (style_at (box_styles i.boxes) 0) (sizes_at i.sizes 0)
 IsOwnOffsetBy (Absolute s) i own corner = IsOffset s (box_at i.boxes 0) i.left own.height corner

@@ -16,12 +16,12 @@ use Rattle.lay_context_boxes.specs.ContainingBlocks.{block_around}
 use Rattle.lay_positioned.specs.Absolute.{is_absolute}
 use Rattle.lay_positioned.specs.Layouts.{Layout}
 use Rattle.lay_positioned.specs.Settings.{absolute_setting}
-use Rattle.lay_context.specs.ContextSizes.{SizedContext, not_sized}
+use Rattle.lay_context_sizes.specs.ContextSizes.{SizedContext, not_sized}
 use Rattle.lay_context.specs.PlacedContexts.{PlacedContext, placed_in, placement_in}
-use Rattle.lay_context.specs.declared.position.Position.{Position}
-use Rattle.lay_context.specs.declared.position.Position.TheVariants as position
-use Rattle.lay_context.specs.declared.setting.Setting.{Setting}
-use Rattle.lay_context.specs.declared.setting.Setting.TheVariants.{Absolute, Block, Cell}
+use Rattle.lay_context.specs.declared.own_place.OwnPlace.{OwnPlace}
+use Rattle.lay_context.specs.declared.own_place.OwnPlace.TheVariants as own_place
+use Rattle.lay_context_sizes.specs.declared.setting.Setting.{Setting}
+use Rattle.lay_context_sizes.specs.declared.setting.Setting.TheVariants.{Absolute, Block, Cell}
 
 -- the wrapper of these sizes, as the containing block of its captions
 abbrev pub caption_block : BoxSizes → ContainingBlock
@@ -77,11 +77,11 @@ setting_of viewport contexts sizes places i =
     else flow_setting viewport contexts sizes i
 
 -- what says where the formatting context with this number stands
-abbrev pub flow_position : ContainingBlock → ℕ → Position
-flow_position viewport zero = position.Root viewport
-flow_position viewport (suc i) = position.Inner
+abbrev pub flow_place : ContainingBlock → ℕ → OwnPlace
+flow_place viewport zero = own_place.Root viewport
+flow_place viewport (suc i) = own_place.Inner
 
-abbrev pub position_of : ContainingBlock → List FormattingContext → List SizedContext → List PlacedContext → ℕ → Position
-position_of viewport contexts sizes places i =
-    if is_absolute contexts i then position.Absolute (absolute_setting viewport contexts (laid sizes places) i)
-    else flow_position viewport i
+abbrev pub own_place_of : ContainingBlock → List FormattingContext → List SizedContext → List PlacedContext → ℕ → OwnPlace
+own_place_of viewport contexts sizes places i =
+    if is_absolute contexts i then own_place.Absolute (absolute_setting viewport contexts (laid sizes places) i)
+    else flow_place viewport i

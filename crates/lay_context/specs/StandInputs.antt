@@ -1,28 +1,22 @@
 -- What is given of where a formatting context stands itself is within bounds.
-use Rattle.std.specs.Prelude.{◌≡◌, length, ⊤, Option, IfSome}
-use Rattle.lay_units.specs.Units.{IsUsedSize}
-use Rattle.lay_units.specs.declared.length.Unit.{Unit as Length}
+use Rattle.std.specs.Prelude.{◌≡◌, length, ⊤}
 use Rattle.lay_sizes.specs.SizeColumns.{HaveSizeBounds}
 use Rattle.lay_context_boxes.specs.ContextBoxes.{AreContextBoxes}
 use Rattle.lay_positioned.specs.OffsetBounds.{IsStart}
 use Rattle.lay_positioned.specs.Settings.{SettingFits}
 use Rattle.lay_positioned.specs.ViewportBounds.{ViewportFits}
 use Rattle.lay_context.specs.OwnOffsets.{StandInput}
-use Rattle.lay_context.specs.declared.position.Position.{Position}
-use Rattle.lay_context.specs.declared.position.Position.TheVariants.{Inner, Root, Absolute}
+use Rattle.lay_context.specs.declared.own_place.OwnPlace.{OwnPlace}
+use Rattle.lay_context.specs.declared.own_place.OwnPlace.TheVariants.{Inner, Root, Absolute}
 
-abbrev pub PositionFits : Position → Type 0
-PositionFits Inner = ⊤
-PositionFits (Root viewport) = ViewportFits viewport
-PositionFits (Absolute s) = SettingFits s
-
--- the height of a content that is stretched is a used size
-abbrev pub IsStretchedSize : Option Length → Type 0
-IsStretchedSize height = IfSome height (λ h. IsUsedSize h.0)
+abbrev pub OwnPlaceFits : OwnPlace → Type 0
+OwnPlaceFits Inner = ⊤
+OwnPlaceFits (Root viewport) = ViewportFits viewport
+OwnPlaceFits (Absolute s) = SettingFits s
 
 pub record StandInputFits (i : StandInput) : Type 0 where
   pub boxes : AreContextBoxes i.boxes
   pub size_count : length i.sizes ≡ length i.boxes
   pub size_bounds : HaveSizeBounds i.sizes
   pub left : IsStart i.left.0
-  pub position : PositionFits i.position
+  pub position : OwnPlaceFits i.position

@@ -10,13 +10,14 @@ ghost use Rattle.lay_context.specs.Settings.{sizes_in};
 ghost use Rattle.lay_context.specs.Settling.{AreBelow, IsReady};
 ghost use Rattle.lay_context.specs.declared.task.Phase.TheVariants.{Place, Size};
 
-use crate::input::{Input, MeasureInput, SizeInput};
+use crate::input::Input;
 use crate::known::Known;
 use crate::medium::Medium;
 use crate::own_heights::own_height_rule;
-use crate::settings::{position_of, setting_of};
+use crate::settings::{own_place_of, setting_of};
 use crate::stand_input::StandInput;
 use crate::task::{Phase, Task};
+use lay_context_sizes::{MeasureInput, SizeInput};
 use lay_flow_boxes::PlaceInput;
 use lay_formatting::FormattingContexts;
 use lay_frag::Pieces;
@@ -117,7 +118,8 @@ fn stand_input(
     let boxes = contexts.at(i).boxes().share()?;
     let sized = known.sizes(i);
     let sizes = sized.boxes().share()?;
-    let position = position_of(medium.viewport(), contexts, known, i)?;
+    let _ = sizes.as_slice();
+    let position = own_place_of(medium.viewport(), contexts, known, i)?;
     Ok(StandInput::new(boxes, sizes, sized.left(), position))
 }
 
@@ -135,6 +137,7 @@ fn table_input(
 {
     let boxes = contexts.at(i).boxes().share()?;
     let sizes = known.sizes(i).boxes().share()?;
+    let _ = sizes.as_slice();
     let numbers = flow_numbers(alloc, contexts, i)?;
     let inner = inner_boxes(alloc, known, &numbers)?;
     let pieces = inner_pieces(alloc, contexts, known, &numbers)?;

@@ -10,8 +10,8 @@ ghost use Rattle.lay_context.specs.Local.{with_value};
 ghost use Rattle.lay_context.specs.Settings.{laid, sizes_in};
 
 use crate::placed_context::PlacedContext;
-use crate::sized_context::SizedContext;
 use crate::value::Value;
+use lay_context_sizes::SizedContext;
 use lay_frag::Pieces;
 use lay_measure::{NO_WIDTHS, PreferredWidths};
 use lay_pieces::{ContextSizes, Corner, Placement, Standing};

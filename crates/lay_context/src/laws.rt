@@ -1,27 +1,12 @@
 //! The laws of the definitions: a task has one value and needs what the table says, so that a document has one
 //! layout.
 
-ghost use Rattle.lay_context.specs.Laws.{InputsComeOfNeeds, NeedsComeFirst, OneContextSizes, OneContextWidths, OneSolution};
+ghost use Rattle.lay_context.specs.Laws.{InputsComeOfNeeds, NeedsComeFirst, OneSolution};
 
+use lay_context_sizes::{one_context_sizes, one_context_widths};
 use lay_formatting::{formatting_contexts_stand_in_order, one_formatting_context_list};
 use lay_placement::one_placement;
 use lay_table::one_table_placement;
-use lay_table_sizes::{one_cell_sizes, one_table_sizes, one_table_widths};
-
-/// The preferred widths of a formatting context are the only ones beside what it is given.
-pub fn one_context_widths()
-    ensures { OneContextWidths }
-{
-    one_table_widths();
-}
-
-/// The used sizes of the boxes of a formatting context are the only ones beside what it is given.
-pub fn one_context_sizes()
-    ensures { OneContextSizes }
-{
-    one_table_sizes();
-    one_cell_sizes();
-}
 
 /// A task is given nothing but what the tasks that it needs give it.
 pub fn inputs_come_of_needs()

@@ -13,8 +13,6 @@ ghost use Rattle.lay_context.specs.Local.{HasCounts};
 ghost use Rattle.lay_context.specs.Solves.{Solves, SolvesContexts, viewport_of};
 
 use crate::assembling::assemble;
-use crate::context_sizes::context_sizes;
-use crate::context_widths::context_widths;
 use crate::given::input;
 use crate::input::Input;
 use crate::known::Known;
@@ -24,6 +22,7 @@ use crate::placed_context::PlacedContext;
 use crate::stand_input::StandInput;
 use crate::task::{Phase, Task};
 use crate::value::Value;
+use lay_context_sizes::{context_sizes, context_widths};
 use lay_contexts::contexts_of;
 use lay_doc::Doc;
 use lay_face::Face;

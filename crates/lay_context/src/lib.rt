@@ -2,8 +2,8 @@
 //!
 //! `Solves` of `specs/Solves.antt` is the meaning of a layout: one set of equations over the whole document
 //! (CSS 2.2, chapters 8 to 10 and 17). A formatting context owes three things: its preferred widths beside those of the
-//! ones inside it (`specs/ContextWidths.antt`), the used sizes of its boxes beside these and the setting that the one
-//! around gives (`specs/Settings.antt`, `specs/ContextSizes.antt`), and a placement beside those and the own boxes of
+//! ones inside it, the used sizes of its boxes beside these and the setting that the one around gives
+//! (`specs/Settings.antt`; both lay_context_sizes), and a placement beside those and the own boxes of
 //! the ones inside it (lay_placement, and lay_table of a table). Which of these needs which is the table of
 //! `specs/Needs.antt`, and one of them by itself is `specs/Local.antt`. Absolutely positioned boxes
 //! come level by level (lay_positioned).
@@ -11,9 +11,6 @@
 #![tactic(auto)]
 
 mod assembling;
-mod context_sizes;
-mod context_widths;
-mod flow_sizes;
 mod given;
 mod input;
 mod known;
@@ -24,16 +21,11 @@ mod own_heights;
 mod own_offsets;
 mod page_corners;
 mod placed_context;
-mod position;
-mod setting;
+mod own_place;
 mod settings;
-mod sized_context;
 mod stand_input;
-mod table_contexts;
 mod task;
 mod value;
 
-pub use laws::{
-    inputs_come_of_needs, needs_come_first, one_context_sizes, one_context_widths, one_solution,
-};
+pub use laws::{inputs_come_of_needs, needs_come_first, one_solution};
 pub use layout::{scratch, scratch_styled};

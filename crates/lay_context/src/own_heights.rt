@@ -4,7 +4,7 @@ ghost use Rattle.std.specs.Prelude.{◌≡◌, ◌<◌, length, slice_get};
 ghost use Rattle.lay_sizes.specs.SizeBounds.{SizeFits};
 ghost use Rattle.lay_sizes.specs.SizeColumns.{HaveSizeBounds};
 ghost use Rattle.lay_flow_boxes.specs.PlaceInputs.{HeightRuleFits, height_rule_of};
-ghost use Rattle.lay_context.specs.StandInputs.{IsStretchedSize};
+ghost use Rattle.lay_context_sizes.specs.ContextSizes.{IsStretchedSize};
 ghost use Rattle.lay_context.specs.OwnHeights.{height_of_content, height_rule_as, own_height_rule};
 
 use lay_boxgen::{BoxKind, BoxNode};

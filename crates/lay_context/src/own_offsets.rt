@@ -10,7 +10,7 @@ ghost use Rattle.lay_pieces.specs.Corners.{IsCornerNear, IsNear};
 ghost use Rattle.lay_positioned.specs.ViewportBounds.{ViewportFits};
 ghost use Rattle.lay_context.specs.OwnOffsets.{IsOwnOffset, is_right, root_corner, root_left};
 
-use crate::position::Position;
+use crate::own_place::OwnPlace;
 use crate::stand_input::StandInput;
 use lay_boxgen::{Flow, flow_of};
 use lay_pieces::{Corner, near_corner};
@@ -33,11 +33,11 @@ pub(crate) fn own_offset(input: &StandInput, own: OwnBox) -> Result<Corner, NoMe
 {
     let boxes = input.boxes();
     match input.position() {
-        Position::Inner => Ok(NO_CORNER),
-        Position::Root(viewport) => {
+        OwnPlace::Inner => Ok(NO_CORNER),
+        OwnPlace::Root(viewport) => {
             root_corner(viewport, boxes.style(0), sizes_at(input.sizes(), 0))
         }
-        Position::Absolute(setting) => {
+        OwnPlace::Absolute(setting) => {
             absolute_offset(&setting, &boxes.as_slice()[0], input.left(), own.height)
         }
     }

@@ -7,17 +7,17 @@ ghost use Rattle.lay_sizes.specs.SizeColumns.{HaveSizeBounds, sizes_at};
 ghost use Rattle.lay_positioned.specs.Absolute.{is_absolute};
 ghost use Rattle.lay_positioned.specs.Settings.{SettingFits, absolute_setting};
 ghost use Rattle.lay_positioned.specs.ViewportBounds.{ViewportFits};
-ghost use Rattle.lay_context.specs.Inputs.{OwnSettingFits};
+ghost use Rattle.lay_context_sizes.specs.Inputs.{OwnSettingFits};
 ghost use Rattle.lay_context.specs.Local.{HasCounts};
-ghost use Rattle.lay_context.specs.StandInputs.{PositionFits};
-ghost use Rattle.lay_context.specs.Settings.{caption_block, cell_given, cell_of, flow_setting, laid, position_of, setting_as, setting_in_table, setting_of};
+ghost use Rattle.lay_context.specs.StandInputs.{OwnPlaceFits};
+ghost use Rattle.lay_context.specs.Settings.{caption_block, cell_given, cell_of, flow_setting, laid, own_place_of, setting_as, setting_in_table, setting_of};
 ghost use Rattle.lay_context.specs.Settling.{IsReady};
 ghost use Rattle.lay_context.specs.declared.task.Phase.TheVariants.{Size};
 
 use crate::known::Known;
-use crate::position::Position;
-use crate::setting::Setting;
+use crate::own_place::OwnPlace;
 use lay_context_boxes::{ContextBoxes, block_around};
+use lay_context_sizes::Setting;
 use lay_formatting::FormattingContexts;
 use lay_positioned::{AbsoluteSetting, is_absolute, setting};
 use lay_sizes::{BoxSizes, ContainingBlock, NO_SIZES, content_block};
@@ -45,25 +45,25 @@ pub(crate) fn setting_of(
 }
 
 /// What says where the formatting context with this number stands. NoMemory is the answer as for its setting.
-pub(crate) fn position_of(
+pub(crate) fn own_place_of(
     viewport: ContainingBlock,
     contexts: &FormattingContexts,
     known: &Known,
     i: usize,
-) -> Result<Position, NoMemory>
+) -> Result<OwnPlace, NoMemory>
     requires viewport { ViewportFits viewport }
     requires counts { HasCounts contexts.now known.now }
     requires within { i < length contexts.now }
-    ensures position { IfOk result (λ p. p ≡ position_of viewport contexts.now known.now.sizes known.now.places i) }
-    ensures fits { IfOk result PositionFits }
+    ensures position { IfOk result (λ p. p ≡ own_place_of viewport contexts.now known.now.sizes known.now.places i) }
+    ensures fits { IfOk result OwnPlaceFits }
 {
     if is_absolute(contexts, i) {
-        return Ok(Position::Absolute(absolute_setting(viewport, contexts, known, i)?));
+        return Ok(OwnPlace::Absolute(absolute_setting(viewport, contexts, known, i)?));
     }
     if i == 0 {
-        return Ok(Position::Root(viewport));
+        return Ok(OwnPlace::Root(viewport));
     }
-    Ok(Position::Inner)
+    Ok(OwnPlace::Inner)
 }
 
 /// What an absolutely positioned one is given.

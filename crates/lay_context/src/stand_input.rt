@@ -5,7 +5,7 @@ ghost use Rattle.lay_context_boxes.specs.ContextBoxes.{AreContextBoxes};
 ghost use Rattle.lay_context.specs.OwnOffsets.{StandInput as Plain};
 ghost use Rattle.lay_context.specs.StandInputs.{StandInputFits};
 
-use crate::position::Position;
+use crate::own_place::OwnPlace;
 use lay_context_boxes::ContextBoxes;
 use lay_pieces::ContextSizes;
 use lay_sizes::BoxSizes;
@@ -19,7 +19,7 @@ pub struct StandInput {
     boxes: ContextBoxes,
     sizes: ContextSizes,
     left: Unit,
-    position: Position,
+    position: OwnPlace,
 }
 
 impl Model for StandInput {
@@ -38,7 +38,7 @@ impl StandInput {
         boxes: ContextBoxes,
         sizes: ContextSizes,
         left: Unit,
-        position: Position,
+        position: OwnPlace,
     ) -> StandInput
         requires { StandInputFits (record { boxes = boxes; sizes = sizes; left = left; position = position }) }
         ensures { result ≡ record { boxes = boxes; sizes = sizes; left = left; position = position } }
@@ -73,7 +73,7 @@ impl StandInput {
     }
 
     /// What says where it stands.
-    pub(crate) fn position(&self) -> Position
+    pub(crate) fn position(&self) -> OwnPlace
         ensures position { result ≡ self.now.position }
         ensures fits { StandInputFits self.now }
     {

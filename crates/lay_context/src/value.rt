@@ -1,7 +1,7 @@
 //! What the tasks of a layout answer.
 
 use crate::placed_context::PlacedContext;
-use crate::sized_context::SizedContext;
+use lay_context_sizes::SizedContext;
 use lay_measure::PreferredWidths;
 
 /// The value of a task.

@@ -58,6 +58,7 @@ levels_to contexts zero = []
 levels_to contexts (suc n) = levels_to contexts n ++ level_of contexts (levels_to contexts n) n ∷ []
 
 levels_to_are : (contexts : List FormattingContext) → AreFormattingContexts contexts → (n : ℕ) → n ≤ length contexts → LevelsTo contexts (levels_to contexts n) n
+unfolding levels_to
 levels_to_are contexts are zero le = record { count = refl; each = λ k lt. absurd (omega (arith, lt)); few = λ k lt. absurd (omega (arith, lt)) }
 levels_to_are contexts are (suc n) le =
     let so_far = levels_to_are contexts are n (omega arith) in
@@ -72,3 +73,11 @@ unfolding levels_of
 levels_are contexts are =
     let all = levels_to_are contexts are (length contexts) (omega arith) in
     record { count = all.count; each = all.each }
+
+-- levels that are below a count, with one more
+pub all_below : (levels : List ℕ) (k count next : ℕ) → ((j : ℕ) → j < k → slice_index levels j < count) → count ≤ next → slice_index levels k < next
+    → (j : ℕ) → j < k + 1 → slice_index levels j < next
+all_below levels k count next below le own j lt = elim (cases_lt j k) [
+  | inl low ↦ omega (arith, below j low, le)
+  | inr high ↦ (let q : j ≡ k = omega (arith, high, lt) in rw q own)
+]

@@ -18,6 +18,12 @@ pub record HasLevels (contexts : List FormattingContext) (levels : List ℕ) : T
   pub count : length levels ≡ length contexts
   pub each : (i : ℕ) → i < length contexts → slice_index levels i ≡ level_of contexts levels i
 
+-- how many levels there are: the first level that is above all of these, counted from 1
+pub record IsLevelCount (levels : List ℕ) (count : ℕ) : Type 0 where
+  pub some : 0 < count
+  pub above : (k : ℕ) → k < length levels → slice_index levels k < count
+  pub least : (c : ℕ) → 0 < c → ((k : ℕ) → k < length levels → slice_index levels k < c) → count ≤ c
+
 -- they are few: no level is greater than the number of formatting contexts out to the first one
 abbrev pub AreFewLevels : List ℕ → Type 0
 AreFewLevels levels = (k : ℕ) → k < length levels → slice_index levels k ≤ k + 1

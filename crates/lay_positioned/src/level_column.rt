@@ -1,7 +1,7 @@
 //! How many absolutely positioned formatting contexts are around each.
 
-ghost use Rattle.std.specs.Prelude.{ℕ, ◌≡◌, ◌<◌, ◌≤◌, ◌+◌, IfOk, length, slice_index};
-ghost use Rattle.lay_positioned.specs.Levels.{AreFewLevels, HasLevels, level_of, one_if};
+ghost use Rattle.std.specs.Prelude.{◌≡◌, ◌<◌, ◌≤◌, ◌+◌, IfOk, length};
+ghost use Rattle.lay_positioned.specs.Levels.{AreFewLevels, HasLevels, IsLevelCount, level_of, one_if};
 
 use crate::absolute::is_absolute;
 use lay_formatting::FormattingContexts;
@@ -37,10 +37,10 @@ fn level_of(contexts: &FormattingContexts, levels: &[usize], i: usize) -> usize
     levels[contexts.at(i).outer()] + own
 }
 
-/// How many levels there are: one more than the highest of these.
+/// How many levels there are: one more than the highest of these, and of none 1.
 pub fn level_count(levels: &[usize]) -> usize
     requires few { AreFewLevels levels.now }
-    ensures above { (k : ℕ) → k < length levels.now → slice_index levels.now k < result }
+    ensures count { IsLevelCount levels.now result }
     ensures small { result ≤ length levels.now + 1 }
 {
     let mut count = 1;

@@ -1,7 +1,6 @@
 use Rattle.std.proofs.Common.{◌≡◌, map, take}
-use Rattle.lay_formatting.specs.FormattingContexts.{formatting_context_at}
 use Rattle.lay_context.specs.DocumentLayout.{inner_widths_in}
 use Rattle.lay_context.proofs.given.inner_widths.Given as goal
 
 abbrev pub invariant-loop-k : goal.invariant-loop-k
-invariant-loop-k l = l.widths.items ≡ map (inner_widths_in l.known.widths) (take l.k (formatting_context_at l.contexts l.i).inner)
+invariant-loop-k l = l.widths.items ≡ map (inner_widths_in l.known.widths) (take l.k l.numbers)

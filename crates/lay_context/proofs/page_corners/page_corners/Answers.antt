@@ -1,7 +1,6 @@
 use Rattle.std.proofs.Common.{arith}
-use Rattle.lay_context.specs.PageCorners.{root_corner_of}
-use Rattle.lay_context.specs.Settings.{sizes_in}
-use Rattle.lay_context.proofs.CornerSteps.{one_more, one_more_near}
+use Rattle.lay_context.specs.PlacedContexts.{placed_in}
+use Rattle.lay_context.proofs.CornerSteps.{all_corners, one_more, one_more_near}
 use Rattle.lay_context.proofs.page_corners.page_corners.Goals as goal
 
 pub loop-i-preserved : goal.loop-i-preserved
@@ -10,7 +9,7 @@ loop-i-preserved c =
     let found = c.in_ok-corner.ensures {u = tt} in
     let inner = rw c.deref.ensures.value at found.inner in
     record {
-      corners = rw pushed (one_more (root_corner_of c.args.viewport c.args.contexts.now (sizes_in c.args.known.now.sizes 0).boxes) c.args.contexts.now c.args.known.now.places c.loop-i.corners.items c.loop-i.i c.in_ok-corner.corner
+      corners = rw pushed (one_more (placed_in c.args.known.now.places 0).offset c.args.contexts.now c.args.known.now.places c.loop-i.corners.items c.loop-i.i c.in_ok-corner.corner
           c.len-count.ensures.are (omega arith) c.loop-i.invariant.corners found.first inner);
       near = rw pushed (one_more_near c.loop-i.corners.items c.in_ok-corner.corner c.loop-i.invariant.near found.near);
     }

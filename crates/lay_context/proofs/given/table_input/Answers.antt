@@ -1,0 +1,15 @@
+use Rattle.std.proofs.Common.{refl, inl}
+use Rattle.lay_context.proofs.PlaceInputs.{table_input_fits}
+use Rattle.lay_context.proofs.given.table_input.Goals as goal
+
+pub new-requires : goal.new-requires
+new-requires c =
+    let boxes = c.in_ok-boxes.ensures {u = tt} in
+    let sizes = c.in_ok-sizes.ensures {u = tt} in
+    let numbers = (c.in_ok-numbers.ensures {u = tt}).numbers in
+    let inner = rw numbers at (c.in_ok-inner.ensures {u = tt}) in
+    let pieces = rw numbers at (c.in_ok-pieces.ensures {u = tt}) in
+    let bounds = rw (sizes, c.boxes-2.ensures, c.sizes.ensures) at c.as_slice.ensures.bounds in
+    let fit = rw inner.boxes at inner.fit in
+    rw (boxes, c.boxes.ensures, c.at.ensures.context, sizes, c.boxes-2.ensures, c.sizes.ensures, inner.boxes, pieces.pieces)
+    (table_input_fits c.args.contexts.now c.args.known.now c.args.i c.at.ensures.are c.requires.ready.within (c.requires.ready.sized c.args.i (inl refl)) bounds fit c.args.table c.requires.table)

@@ -1,0 +1,5 @@
+pub mod HolderSteps
+pub mod OneSizes
+pub mod OneWidths
+pub mod SizeSteps
+pub mod SizesFit

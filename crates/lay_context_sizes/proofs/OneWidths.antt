@@ -1,0 +1,30 @@
+-- The preferred widths of a formatting context are the only ones.
+use Rattle.std.proofs.Common.{◌≡◌, ◌<◌, Bool, true, false, List, length, ap, sym, ◌∙◌, arith}
+use Rattle.lay_doc.proofs.OneStyles.{same_list}
+use Rattle.lay_boxgen.specs.declared.box_tree.BoxNode.{BoxNode}
+use Rattle.lay_box_parts.specs.declared.inline_part.InlinePart.{InlinePart}
+use Rattle.lay_box_parts.specs.InlineParts.{AreInlineParts, no_part}
+use Rattle.lay_measure.specs.MeasureInValue.{MeasureInValue}
+use Rattle.lay_measure.specs.PreferredWidths.{preferred_of}
+use Rattle.lay_measure.specs.declared.preferred_widths.PreferredWidths.{PreferredWidths}
+use Rattle.lay_table_sizes.specs.Laws.{OneTableWidths}
+use Rattle.lay_context_sizes.specs.ContextWidths.{HasFlowWidths, HasWidthsAs}
+use Rattle.lay_context_sizes.specs.Inputs.{MeasureInput}
+use Rattle.lay_context_sizes.specs.Laws.{OneContextWidths}
+use Rattle.lay_context_sizes.specs.TableContexts.{is_table}
+
+one_part_list : (boxes : List BoxNode) (x y : List InlinePart) → AreInlineParts boxes x → AreInlineParts boxes y → x ≡ y
+one_part_list boxes x y a b =
+    same_list no_part x y (a.count ∙ sym b.count) (λ k lt. (let within : k < length boxes = omega (arith, a.count) in a.each k within ∙ sym (b.each k within)))
+
+one_flow_widths : (i : MeasureInput) (v w : PreferredWidths) → HasFlowWidths i v → HasFlowWidths i w → v ≡ w
+one_flow_widths i v w a b =
+    let parts = one_part_list i.boxes a.parts b.parts a.are_parts b.are_parts in
+    a.widths_are ∙ ap (λ (p : List InlinePart). let m : MeasureInValue = record { boxes = i.boxes; parts = p; inner = i.inner; face = i.face } in preferred_of m) parts ∙ sym b.widths_are
+
+one_as : OneTableWidths → (b : Bool) (i : MeasureInput) (v w : PreferredWidths) → HasWidthsAs b i v → HasWidthsAs b i w → v ≡ w
+one_as one_table true i v w x y = one_table i.boxes i.inner v w x y
+one_as one_table false i v w x y = one_flow_widths i v w x y
+
+pub one_context_widths_lem : OneTableWidths → OneContextWidths
+one_context_widths_lem one_table i v w a b = one_as one_table (is_table i.boxes) i v w a b

@@ -1,0 +1,6 @@
+pub mod ContextSizes
+pub mod ContextWidths
+pub mod FlowSizes
+pub mod Inputs
+pub mod Laws
+pub mod TableContexts

@@ -1,0 +1,126 @@
+//! What the preferred widths and the used sizes of a formatting context are worked out of.
+
+ghost use Rattle.std.specs.Prelude.{◌≡◌};
+ghost use Rattle.lay_context_boxes.specs.ContextBoxes.{AreContextBoxes};
+ghost use Rattle.lay_formatting.specs.FormattingBoxes.{box_at};
+ghost use Rattle.lay_context_sizes.specs.Inputs.{SizeInputFits};
+
+use crate::setting::Setting;
+use lay_boxgen::BoxNode;
+use lay_context_boxes::ContextBoxes;
+use lay_face::Face;
+use lay_measure::PreferredWidths;
+use std::marker::Model;
+use std::sync::Arc;
+
+/// The boxes of a formatting context, the preferred widths of inner ones at the places of their boxes, and the face of
+/// texts.
+#[derive(Drop)]
+pub struct MeasureInput {
+    boxes: ContextBoxes,
+    inner: Vec<PreferredWidths>,
+    face: Arc<Face>,
+}
+
+impl Model for MeasureInput {
+    ghost use Rattle.lay_context_sizes.specs.Inputs.{MeasureInput as Plain};
+
+    ghost Value = { Plain };
+
+    ghost view = { λ i. record { boxes = i.boxes; inner = i.inner.items; face = i.face.value } };
+}
+
+impl MeasureInput {
+    pub fn new(boxes: ContextBoxes, inner: Vec<PreferredWidths>, face: Arc<Face>) -> MeasureInput
+        ensures { result ≡ record { boxes = boxes; inner = inner.items; face = face.value } }
+    {
+        MeasureInput { boxes, inner, face }
+    }
+
+    pub fn boxes(&self) -> &[BoxNode]
+        ensures boxes { result.now ≡ self.now.boxes }
+        ensures are { AreContextBoxes self.now.boxes }
+    {
+        self.boxes.as_slice()
+    }
+
+    pub fn inner(&self) -> &[PreferredWidths]
+        ensures { result.now ≡ self.now.inner }
+    {
+        self.inner.as_slice()
+    }
+
+    pub fn face(&self) -> &Face
+        ensures { result.now ≡ self.now.face }
+    {
+        &self.face
+    }
+}
+
+/// The boxes of a formatting context, its preferred widths, and the setting of its own box.
+#[derive(Drop)]
+pub struct SizeInput {
+    boxes: ContextBoxes,
+    widths: PreferredWidths,
+    setting: Setting,
+}
+
+impl Model for SizeInput {
+    ghost use Rattle.lay_context_sizes.specs.Inputs.{SizeInput as Plain, SizeInputFits};
+
+    ghost Value = { Plain };
+
+    ghost view = { λ i. record { boxes = i.boxes; widths = i.widths; setting = i.setting } };
+
+    ghost invariant = { λ i. SizeInputFits (record { boxes = i.boxes; widths = i.widths; setting = i.setting }) };
+}
+
+impl SizeInput {
+    pub fn new(boxes: ContextBoxes, widths: PreferredWidths, setting: Setting) -> SizeInput
+        requires { SizeInputFits (record { boxes = boxes; widths = widths; setting = setting }) }
+        ensures { result ≡ record { boxes = boxes; widths = widths; setting = setting } }
+    {
+        SizeInput {
+            boxes,
+            widths,
+            setting,
+        }
+    }
+
+    /// The boxes, with what is known of them.
+    pub fn context_boxes(&self) -> &ContextBoxes
+        ensures boxes { result.now ≡ self.now.boxes }
+        ensures fits { SizeInputFits self.now }
+    {
+        &self.boxes
+    }
+
+    pub fn boxes(&self) -> &[BoxNode]
+        ensures boxes { result.now ≡ self.now.boxes }
+        ensures fits { SizeInputFits self.now }
+    {
+        self.boxes.as_slice()
+    }
+
+    /// Its own box.
+    pub fn own(&self) -> &BoxNode
+        ensures { result.now ≡ box_at self.now.boxes 0 }
+    {
+        &self.boxes.as_slice()[0]
+    }
+
+    /// Its preferred widths.
+    pub fn widths(&self) -> PreferredWidths
+        ensures { result ≡ self.now.widths }
+    {
+        self.widths
+    }
+
+    /// The setting of its own box.
+    pub fn setting(&self) -> Setting
+        ensures setting { result ≡ self.now.setting }
+        ensures fits { SizeInputFits self.now }
+    {
+        self.setting
+    }
+}

@@ -1,0 +1,20 @@
+//! The laws of the definitions: a formatting context has one pair of preferred widths and one column of used sizes.
+
+ghost use Rattle.lay_context_sizes.specs.Laws.{OneContextSizes, OneContextWidths};
+
+use lay_table_sizes::{one_cell_sizes, one_table_sizes, one_table_widths};
+
+/// The preferred widths of a formatting context are the only ones beside what it is given.
+pub fn one_context_widths()
+    ensures { OneContextWidths }
+{
+    one_table_widths();
+}
+
+/// The used sizes of the boxes of a formatting context are the only ones beside what it is given.
+pub fn one_context_sizes()
+    ensures { OneContextSizes }
+{
+    one_table_sizes();
+    one_cell_sizes();
+}
