@@ -36,7 +36,11 @@ fn next_count(boxes: &[BoxNode], outer: OuterGroups, k: usize, count: usize) -> 
     ensures count { result ≡ groups_before boxes.now (k + 1) }
     ensures few { result ≤ k + 1 }
 {
-    if stays_at(boxes, outer, k) { count + 1 } else { count }
+    if stays_at(boxes, outer, k) {
+        count + 1
+    } else {
+        count
+    }
 }
 
 /// Whether a row group stands at k that is drawn there.
