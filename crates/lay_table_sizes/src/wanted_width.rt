@@ -2,6 +2,8 @@
 
 ghost use Rattle.std.specs.Prelude.{◌≡◌, ◌-ℤ◌, IfOk};
 ghost use Rattle.lay_units.specs.Units.{IsPosition, IsUsedSize};
+ghost use Rattle.lay_widths.specs.BlockWidths.{IsUsedBlock};
+ghost use Rattle.lay_widths.specs.FloatWidths.{IsUsedFloat};
 ghost use Rattle.lay_widths.specs.Lengths.{BlockFits};
 ghost use Rattle.lay_table_sizes.specs.WantedWidth.{IsWantedAs, block_in_room, content_part};
 
@@ -29,26 +31,46 @@ pub(crate) fn wanted_width(
 {
     let block = table_block(grid, containing, wrapper, style);
     match rule {
-        TableRule::Fills => Ok(solve_block(&block)),
+        TableRule::Fills => Ok(filling_width(&block)),
         TableRule::ShrinksToFit {
             preferred_minimum,
             preferred,
-        } => {
-            let minimum = content_part(grid, style, preferred_minimum)?;
-            let preferred = content_part(grid, style, preferred)?;
-            Ok(solve_float(&block, minimum, preferred))
-        }
+        } => shrunk_width(grid, style, &block, preferred_minimum, preferred),
         TableRule::ShrinksInto {
             room,
             preferred_minimum,
             preferred,
         } => {
             let block = block_in_room(position(room)?, &block);
-            let minimum = content_part(grid, style, preferred_minimum)?;
-            let preferred = content_part(grid, style, preferred)?;
-            Ok(solve_float(&block, minimum, preferred))
+            shrunk_width(grid, style, &block, preferred_minimum, preferred)
         }
     }
+}
+
+/// The width of a table with this block that fills its containing block.
+fn filling_width(block: &BlockIn) -> BlockOut
+    requires { BlockFits block.now }
+    ensures wanted { IsUsedBlock block.now result }
+    ensures size { IsUsedSize result.width.0 }
+{
+    solve_block(block)
+}
+
+/// The width to which the table with this block shrinks, by the preferred widths of its border box.
+fn shrunk_width(
+    grid: &TableGrid,
+    style: &Style,
+    block: &BlockIn,
+    preferred_minimum: Unit,
+    preferred: Unit,
+) -> Result<BlockOut, NoMemory>
+    requires { BlockFits block.now }
+    ensures wanted { IfOk result (IsUsedFloat block.now (content_part grid.now style.now preferred_minimum) (content_part grid.now style.now preferred)) }
+    ensures size { IfOk result (λ out. IsUsedSize out.width.0) }
+{
+    let minimum = content_part(grid, style, preferred_minimum)?;
+    let preferred = content_part(grid, style, preferred)?;
+    Ok(solve_float(block, minimum, preferred))
 }
 
 /// A position. NoMemory is the answer where it isn't within 2^62 units of 0, as no room in a document within its limits is.
