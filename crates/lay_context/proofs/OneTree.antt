@@ -1,5 +1,5 @@
 -- Two workings that meet the equations of a document are equal, task by task in their order, and so are their trees.
-use Rattle.std.proofs.Common.{◌≡◌, ℕ, zero, suc, ◌<◌, ◌≤◌, List, length, refl, sym, ap, subst, ◌∙◌, arith, inl, inr}
+use Rattle.std.proofs.Common.{◌≡◌, ℕ, zero, suc, ◌+◌, ◌<◌, ◌≤◌, List, length, refl, sym, ap, subst, ◌∙◌, arith, inl, inr}
 use Rattle.std.proofs.lemmas.Bool.{cases_lt}
 use Rattle.lay_doc.specs.Document.{parents_of, declarations_of}
 use Rattle.lay_doc.proofs.OneStyles.{one_style_column_lem, same_list}
@@ -23,7 +23,8 @@ use Rattle.lay_context.specs.declared.input.Input.{Input}
 use Rattle.lay_context.specs.declared.value.Value.TheVariants as value
 use Rattle.lay_context_sizes.specs.ContextSizes.{SizedContext, not_sized}
 use Rattle.lay_context.specs.DocumentLayout.{widths_in}
-use Rattle.lay_context.specs.Laws.{OneContextSizes, OneContextWidths, OneSolution}
+use Rattle.lay_context_sizes.specs.Laws.{OneContextSizes, OneContextWidths}
+use Rattle.lay_context.specs.Laws.{OneSolution}
 use Rattle.lay_context.specs.Local.{Workings, IsLocal, IsTaskDone, flow_input, input_by, input_of, measure_input, size_input, stand_input, table_input, value_by, value_of}
 use Rattle.lay_context.specs.Medium.{Medium}
 use Rattle.lay_context.specs.Needs.{turn_of}

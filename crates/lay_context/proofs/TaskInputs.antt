@@ -1,9 +1,11 @@
 -- What a task is given comes of what it needs, so the value of another task changes nothing of it.
-use Rattle.std.proofs.Common.{◌≡◌, ◌<◌, ℕ, zero, suc, List, [], ◌∷◌, length, map, slice_index, refl, ap, arith, option_map}
+use Rattle.std.proofs.Common.{◌≡◌, ◌<◌, ℕ, zero, suc, Bool, true, false, if◌then◌else◌, List, [], ◌∷◌, length, map, slice_index, refl, ap, sym, arith, inl, inr, option_map}
 use Rattle.lay_frag.specs.declared.frag.Frag.{Frag}
 use Rattle.lay_measure.specs.declared.preferred_widths.PreferredWidths.{PreferredWidths}
 use Rattle.lay_formatting.specs.FormattingContexts.{AreFormattingContexts, FormattingContext, formatting_context_at, boxes_in}
+use Rattle.lay_pieces.specs.Placements.{Placement}
 use Rattle.lay_positioned.specs.Absolute.{is_absolute}
+use Rattle.lay_positioned.specs.Layouts.{Layout}
 use Rattle.lay_positioned.specs.Settings.{absolute_setting}
 use Rattle.lay_positioned.specs.Ways.{IsOnWay}
 use Rattle.lay_positioned.proofs.SettingValues.{same_setting}
@@ -21,7 +23,8 @@ use Rattle.lay_context.specs.Medium.{Medium}
 use Rattle.lay_context.specs.OwnHeights.{own_height_rule}
 use Rattle.lay_context.specs.Needs.{IsAround, needs_by}
 use Rattle.lay_context.specs.PlacedContexts.{PlacedContext, placed_in, placement_in}
-use Rattle.lay_context.specs.Settings.{flow_place, flow_setting, laid, setting_in, sizes_in}
+use Rattle.lay_context.specs.Settings.{flow_place, flow_setting, laid, own_place_of, setting_in, sizes_in}
+use Rattle.lay_context.specs.declared.own_place.OwnPlace.{OwnPlace}
 use Rattle.lay_context.specs.declared.own_place.OwnPlace.TheVariants as own_place
 use Rattle.lay_context_sizes.specs.declared.setting.Setting.TheVariants.{Absolute}
 
@@ -73,12 +76,35 @@ pieces_same contexts x y (j ∷ numbers) same =
     let rest : map (pieces_in contexts x) numbers ≡ map (pieces_in contexts y) numbers = pieces_same contexts x y numbers (λ k lt. same (suc k) (omega arith)) in
     rw (own, rest) refl
 
+-- what is known of one comes of its sizes and its places
+abbrev layout_of : SizedContext → PlacedContext → Layout
+layout_of sized placed = record { sizes = sized.boxes; standings = placed.placement.standings; offset = placed.offset }
+
+same_layout : (a b : SizedContext) (p q : PlacedContext) → a ≡ b → p ≡ q → layout_of a p ≡ layout_of b q
+same_layout a b p q sizes places = rw (sizes, places) refl
+
+-- what a placement is given comes of these
+abbrev placed_by : Medium → List FormattingContext → ℕ → SizedContext → List OwnBox → List (List Frag) → OwnPlace → Input
+placed_by medium contexts i sized inner pieces place = place_as (record {
+  boxes = boxes_in contexts i;
+  sizes = sized.boxes;
+  inner = inner;
+  pieces = pieces;
+  own_height = own_height_rule (boxes_in contexts i) sized.boxes sized.stretched;
+  face = medium.face;
+}) (option_map (λ table. record { boxes = boxes_in contexts i; sizes = sized.boxes; table = table; inner = inner; pieces = pieces }) sized.table)
+  (record { boxes = boxes_in contexts i; sizes = sized.boxes; left = sized.left; position = place })
+
+placed_same : (medium : Medium) (contexts : List FormattingContext) (i : ℕ) (a b : SizedContext) (x y : List OwnBox) (p q : List (List Frag)) (o u : OwnPlace) → a ≡ b → x ≡ y → p ≡ q → o ≡ u
+    → placed_by medium contexts i a x p o ≡ placed_by medium contexts i b y q u
+placed_same medium contexts i a b x y p q o u sizes inner pieces place = rw (sizes, inner, pieces, place) refl
+
 module _ (medium : Medium) (contexts : List FormattingContext) (v w : Workings) (are : AreFormattingContexts contexts) (i : ℕ) (within : i < length contexts) where
   -- an absolutely positioned one is given the same, where those on its way are the same
   absolute_same : ((j : ℕ) → IsOnWay contexts i j → sizes_in v.sizes j ≡ sizes_in w.sizes j) → ((j : ℕ) → IsOnWay contexts i j → placed_in v.places j ≡ placed_in w.places j)
       → absolute_setting medium.viewport contexts (laid v.sizes v.places) i ≡ absolute_setting medium.viewport contexts (laid w.sizes w.places) i
   absolute_same sizes places = same_setting medium.viewport contexts (laid v.sizes v.places) (laid w.sizes w.places) i are within
-      (λ j on. (let s = sizes j on in let p = places j on in rw (s, p) refl))
+      (λ j on. same_layout (sizes_in v.sizes j) (sizes_in w.sizes j) (placed_in v.places j) (placed_in w.places j) (sizes j on) (places j on))
 
   setting_by : (b : Bool) → is_absolute contexts i ≡ b → ((j : ℕ) → needs_by contexts Size i Size j → sizes_in v.sizes j ≡ sizes_in w.sizes j) → ((j : ℕ) → needs_by contexts Size i Place j → placed_in v.places j ≡ placed_in w.places j)
       → (if b then Absolute (absolute_setting medium.viewport contexts (laid v.sizes v.places) i) else flow_setting medium.viewport contexts v.sizes i)
@@ -122,7 +148,8 @@ module _ (medium : Medium) (contexts : List FormattingContext) (v w : Workings) 
       let pieces : inner_pieces contexts v.places i ≡ inner_pieces contexts w.places i = pieces_same contexts v.places w.places (flow_numbers contexts i) places in
       let position = position_by (is_absolute contexts i) refl (λ j needs. size_value (sizes_in v.sizes j) (sizes_in w.sizes j) (same Size j needs))
       (λ j needs. place_value (placed_in v.places j) (placed_in w.places j) (same Place j needs)) in
-      rw (sizes, inner, pieces, position) refl
+      placed_same medium contexts i (sizes_in v.sizes i) (sizes_in w.sizes i) (inner_boxes contexts v.places i) (inner_boxes contexts w.places i) (inner_pieces contexts v.places i) (inner_pieces contexts w.places i)
+        (own_place_of medium.viewport contexts v.sizes v.places i) (own_place_of medium.viewport contexts w.sizes w.places i) sizes inner pieces position
 
 pub inputs_come_of_needs_lem : InputsComeOfNeeds
 inputs_come_of_needs_lem medium contexts v w task are within same =

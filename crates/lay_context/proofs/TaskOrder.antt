@@ -1,6 +1,6 @@
 -- What a task needs has its turn before it, and no two tasks have one turn.
 use Rattle.std.proofs.Common.{◌≡◌, ◌<◌, ◌≤◌, ℕ, ◌+◌, ◌-◌, ◌*◌, ◌/◌, ◌%◌, Bool, true, false, List, length, map, slice_index, refl, ap, sym, ◌∙◌, subst, arith, inl, inr, if◌then◌else◌}
-use Rattle.std.proofs.Math.Nat.{mul-comm}
+use Rattle.std.proofs.Math.Nat.{mul_comm}
 use Rattle.std.proofs.lemmas.Nat.{div-mul-add, mod-mul-add, mul-add-lt}
 use Rattle.std.proofs.lemmas.List.{get_or-map, length-map}
 use Rattle.lay_formatting.specs.FormattingContexts.{FormattingContext, AreFormattingContexts, IsInside, formatting_context_at}
@@ -21,7 +21,7 @@ task i phase = record { context = i; phase = phase }
 lower : (a b m x y : ℕ) → a < b → x < m → a * m + x < b * m + y
 lower a b m x y lt within =
     let e = mul-add-lt a m x b lt within in
-    let c : m * b ≡ b * m = mul-comm m b in
+    let c : m * b ≡ b * m = mul_comm m b in
     omega (arith, e, c)
 
 -- rounds are apart

@@ -7,8 +7,8 @@ new-requires c =
     let boxes = c.in_ok-boxes.ensures {u = tt} in
     let sizes = c.in_ok-sizes.ensures {u = tt} in
     let numbers = (c.in_ok-numbers.ensures {u = tt}).numbers in
-    let inner = rw numbers at (c.in_ok-inner.ensures {u = tt}) in
-    let pieces = rw numbers at (c.in_ok-pieces.ensures {u = tt}) in
+    let inner = rw (c.deref.ensures.value, numbers) at (c.in_ok-inner.ensures {u = tt}) in
+    let pieces = rw (c.deref-2.ensures.value, numbers) at (c.in_ok-pieces.ensures {u = tt}) in
     let bounds = rw (sizes, c.boxes-2.ensures, c.sizes.ensures) at c.as_slice.ensures.bounds in
     let fit = rw inner.boxes at inner.fit in
     rw (boxes, c.boxes.ensures, c.at.ensures.context, sizes, c.boxes-2.ensures, c.sizes.ensures, inner.boxes, pieces.pieces)

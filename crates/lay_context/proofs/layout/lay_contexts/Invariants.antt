@@ -4,4 +4,4 @@ use Rattle.lay_context.specs.Settling.{AreDoneTo}
 use Rattle.lay_context.proofs.layout.lay_contexts.Given as goal
 
 abbrev pub invariant-loop-level : goal.invariant-loop-level
-invariant-loop-level l = AreDoneTo l.medium l.contexts l.levels.items l.known (round_start (length l.contexts) l.level)
+invariant-loop-level l = AreDoneTo l.plan.medium.now l.plan.contexts.now l.plan.levels.now l.known (round_start (length l.plan.contexts.now) l.level)
