@@ -1,9 +1,8 @@
 -- The boxes of columns.
-use Rattle.std.proofs.Common.{◌≡◌, ℕ, ◌<◌, ◌≤◌, ◌||◌, Bool, true, false, List, [], length, drop, get_or, refl, sym, ap, ◌∙◌, arith}
+use Rattle.std.proofs.Common.{◌≡◌, ℕ, ◌≤◌, ◌||◌, Bool, true, false, List, [], length, drop, refl, sym, ap, ◌∙◌}
 use Rattle.std.proofs.Math.ListN.{drop_of_length-le}
 use Rattle.lay_boxgen.specs.declared.box_tree.BoxNode.{BoxNode}
 use Rattle.lay_table_grid.specs.Pass.ColumnMarks.{AreColumnMarks, ColumnMarksTo, any_in, mark_at}
-use Rattle.lay_table_grid.specs.TableBoxes.{has_columns}
 
 or_false : (b : Bool) → b || false ≡ b
 or_false true = refl

@@ -6,3 +6,4 @@ pub mod WidestEdges
 pub mod Assembled
 pub mod PlacesBelow
 pub mod OneTableGrid
+pub mod GroupSteps

@@ -1,11 +1,8 @@
 -- A list of boxes has one structure as a table.
-use Rattle.std.proofs.Common.{◌≡◌, ◌⊎◌, inl, inr, ℕ, zero, suc, ◌+◌, ◌<◌, ◌≤◌, ℤ, pos, Bool, true, false, max, List, [], ◌∷◌, length, map, get_or, slice_get, refl, sym, ap, ◌∙◌, subst, arith, All}
-use Rattle.std.proofs.lemmas.List.{ext_get_or, length-map}
+use Rattle.std.proofs.Common.{◌≡◌, ◌⊎◌, inl, inr, ℕ, zero, suc, ◌<◌, ℤ, Bool, true, false, List, [], ◌∷◌, length, map, slice_get, refl, sym, ap, ◌∙◌, subst, arith, All}
 use Rattle.lay_units.specs.declared.records.Sides.{Sides}
-use Rattle.lay_units.specs.declared.length.Unit.{Unit}
 use Rattle.lay_boxgen.specs.declared.box_tree.BoxNode.{BoxNode}
 use Rattle.lay_grid.specs.declared.cells.Cell.{Cell}
-use Rattle.lay_grid.specs.Areas.{areas_from}
 use Rattle.lay_grid.proofs.OneGrid.{cells_same}
 use Rattle.lay_table_grid.specs.declared.grid.CellArea.{CellArea}
 use Rattle.lay_table_grid.specs.declared.grid.Spacing.{Spacing}
@@ -16,7 +13,6 @@ use Rattle.lay_table_grid.specs.Laws.{OneTableGrid}
 use Rattle.lay_table_grid.specs.MeetingBorders.{TableParts}
 use Rattle.lay_table_grid.specs.PlacedCells.{ArePlaced, column_total, places_of_cells, stands_of}
 use Rattle.lay_table_grid.specs.TableBorders.{AreCellBorders, AreOuterHalves, AreTableBorders, own_borders}
-use Rattle.lay_table_grid.specs.TableBoxes.{cells_of_rows, row_specs}
 use Rattle.lay_table_grid.specs.TableGrid.{HaveBorders, IsCollapsed, IsSeparate, IsTableGrid, TableGridValue, area_of, collapses_in, parts_of, placed_cells, placed_of, spacing_in}
 use Rattle.lay_table_grid.proofs.WidestEdges.{half_same}
 

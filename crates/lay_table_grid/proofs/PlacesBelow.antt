@@ -1,15 +1,13 @@
 -- The places in the structure of a table are places of its boxes.
-use Rattle.std.proofs.Common.{◌≡◌, ℕ, zero, suc, ◌+◌, ◌<◌, ◌≤◌, Bool, true, false, List, [], ◌∷◌, ◌++◌, length, map, replicate, get_or, slice_index, if◌then◌else◌, refl, sym, ap, subst, arith, All}
+use Rattle.std.proofs.Common.{ℕ, zero, suc, ◌+◌, ◌<◌, ◌≤◌, Bool, true, false, List, [], ◌∷◌, ◌++◌, length, map, replicate, slice_index, if◌then◌else◌, sym, subst, arith, All}
 use Rattle.std.specs.Prelude.{⊤}
 use Rattle.lay_boxgen.specs.declared.box_tree.BoxNode.{BoxNode}
 use Rattle.lay_table_grid.specs.declared.grid.TableCell.{TableCell}
 use Rattle.lay_table_grid.specs.declared.grid.TableRow.{TableRow}
-use Rattle.lay_table_grid.specs.declared.placed.PlacedCell.{PlacedCell}
-use Rattle.lay_table_grid.specs.GridBounds.{PlacesAreBelow}
 use Rattle.lay_table_grid.specs.Laws.{GridsAreOfBoxes}
 use Rattle.lay_table_grid.specs.PlacedCells.{places_of_cells}
-use Rattle.lay_table_grid.specs.TableBoxes.{cells_of_row, cells_of_rows, column_boxes_of, column_count, columns_from, has_columns, is_cell_of, is_ranked, is_table, places_from, places_of, ranked_places, row_at, row_places, rows_of, table_place}
-use Rattle.lay_table_grid.specs.TableGrid.{IsTableGrid, TableGridValue, placed_cells, placed_of}
+use Rattle.lay_table_grid.specs.TableBoxes.{cells_of_row, cells_of_rows, column_boxes_of, column_count, columns_from, has_columns, is_cell_of, is_ranked, is_table, places_from, places_of, ranked_places, row_at, row_places}
+use Rattle.lay_table_grid.specs.TableGrid.{placed_of}
 
 abbrev Below : ℕ → List ℕ → Type 0
 Below n [] = ⊤

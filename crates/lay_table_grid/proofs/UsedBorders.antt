@@ -1,5 +1,5 @@
 -- The borders that meet at an edge are used sizes wide.
-use Rattle.std.proofs.Common.{◌≡◌, ℕ, zero, suc, ◌==◌, ℤ, pos, Bool, true, false, Option, Some, None, List, [], ◌∷◌, ◌++◌, length, slice_get, refl, ap, subst, arith}
+use Rattle.std.proofs.Common.{◌≡◌, ℕ, zero, suc, ◌==◌, ℤ, pos, Bool, true, false, Option, Some, None, List, [], ◌∷◌, ◌++◌, length, slice_get, subst, arith}
 use Rattle.std.specs.Prelude.{⊤}
 use Rattle.std.proofs.lemmas.Int.{ints}
 use Rattle.lay_units.specs.Units.{IsUsedSize}
@@ -14,7 +14,6 @@ use Rattle.lay_borders.specs.declared.candidate.BorderStyle.TheVariants as style
 use Rattle.lay_table_grid.specs.declared.elements.Element.{Element}
 use Rattle.lay_table_grid.specs.declared.elements.Side.{Side}
 use Rattle.lay_table_grid.specs.declared.elements.Side.TheVariants as side
-use Rattle.lay_table_grid.specs.declared.placed.PlacedCell.{PlacedCell}
 use Rattle.lay_table_grid.specs.MeetingBorders.{TableParts, above_and_below, among, are_one, before, border_of, border_of_box, cell_element, cells_above, cells_left, column_element, column_ends, column_group_element, covering_in, group_element, is_inside_column_group, is_inside_group, left_and_right, lines_above, lines_left, meeting_above, meeting_left, place_of, rim_above, rim_left, row_element, row_ends, table_element, unless, where_so, width_on}
 use Rattle.lay_table_grid.specs.Pass.UsedBorders.{AreUsed}
 

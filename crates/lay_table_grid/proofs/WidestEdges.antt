@@ -1,11 +1,10 @@
 -- The widest of the edges on a side.
-use Rattle.std.proofs.Common.{◌≡◌, ◌⊎◌, inl, inr, ℕ, ◌+◌, ◌<◌, ◌≤◌, ℤ, ◌+ℤ◌, ◌-ℤ◌, ◌≤ℤ◌, Option, List, sym, ap, ◌∙◌, subst, arith}
+use Rattle.std.proofs.Common.{◌≡◌, ◌⊎◌, inl, inr, ℕ, ◌+◌, ◌<◌, ◌≤◌, ℤ, ◌≤ℤ◌, List, sym, ap, ◌∙◌, subst, arith}
 use Rattle.std.proofs.lemmas.Int.{ints}
 use Rattle.std.proofs.lemmas.Bool.{cases_lt}
 use Rattle.lay_units.specs.declared.length.Unit.{Unit}
-use Rattle.lay_units.specs.Units.{half_of}
 use Rattle.lay_borders.specs.declared.candidate.Cand.{Cand}
-use Rattle.lay_borders.specs.Halves.{edge_width, second_half}
+use Rattle.lay_borders.specs.Halves.{edge_width}
 use Rattle.lay_borders.proofs.OneEdge.{edge_same}
 use Rattle.lay_table_grid.specs.TableBorders.{IsEdgeWidth, IsHalf, IsWidest}
 

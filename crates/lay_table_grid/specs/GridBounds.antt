@@ -1,6 +1,6 @@
 -- What the type of a table's structure says of it: each cell covers a slot at least and lies inside the grid, and its
 -- lengths are used sizes.
-use Rattle.std.specs.Prelude.{ℕ, ◌+◌, ◌<◌, ◌≤◌, List, length, All}
+use Rattle.std.specs.Prelude.{ℕ, ◌+◌, ◌<◌, ◌≤◌, length, All}
 use Rattle.lay_units.specs.Units.{IsUsedSize}
 use Rattle.lay_units.specs.declared.records.Sides.{Sides}
 use Rattle.lay_table_grid.specs.declared.grid.Spacing.{Spacing}

@@ -7,7 +7,7 @@
 -- left and the right rim rows and row groups end as well, at the upper and the lower one columns and column groups, and
 -- the table at each. A border is known by the first row and the first column of what it is of. Columns that share a box
 -- are bordered each by itself.
-use Rattle.std.specs.Prelude.{ℕ, zero, suc, ◌+◌, ◌==◌, ◌&&◌, nat_le, nat_lt, Bool, true, false}
+use Rattle.std.specs.Prelude.{ℕ, zero, suc, ◌==◌, ◌&&◌, nat_le, nat_lt, Bool, false}
 use Rattle.std.specs.Prelude.{Option, Some, None, List, [], ◌∷◌, ◌++◌, length, map, slice_get, if◌then◌else◌}
 use Rattle.lay_units.specs.declared.length.Unit.{Unit as Length}
 use Rattle.lay_style.specs.declared.style.Style.{Style}
@@ -19,7 +19,6 @@ use Rattle.lay_grid.specs.Places.{right_edge}
 use Rattle.lay_borders.specs.declared.candidate.BorderStyle.{BorderStyle}
 use Rattle.lay_borders.specs.declared.candidate.BorderStyle.TheVariants as style
 use Rattle.lay_borders.specs.declared.candidate.Cand.{Cand}
-use Rattle.lay_borders.specs.declared.candidate.Origin.{Origin}
 use Rattle.lay_borders.specs.declared.candidate.Origin.TheVariants as origin
 use Rattle.lay_table_grid.specs.declared.elements.Element.{Element}
 use Rattle.lay_table_grid.specs.declared.elements.Side.{Side}

@@ -4,5 +4,6 @@ pub mod PlacedBounds
 pub mod Runs
 pub mod Slots
 pub mod EdgeBounds
+pub mod GroupCounts
 pub mod UsedBorders
 pub mod PartsOf

@@ -3,10 +3,9 @@
 -- inside of the widest edges on each of its sides; the table has on its left and its right the halves outside of the
 -- edges of the first row, and above and below those of the widest edges. A table without rows or columns has no
 -- collapsed borders.
-use Rattle.std.specs.Prelude.{ℕ, ◌≡◌, ◌⊎◌, ◌+◌, ◌<◌, ℤ, ◌≤ℤ◌, Bool, true, false, Option, Some, None, List, length, slice_get}
+use Rattle.std.specs.Prelude.{ℕ, ◌≡◌, ◌⊎◌, ◌+◌, ◌<◌, ℤ, ◌≤ℤ◌, Option, Some, None, List, length}
 use Rattle.lay_units.specs.declared.records.Sides.{Sides}
 use Rattle.lay_boxgen.specs.declared.box_tree.BoxNode.{BoxNode}
-use Rattle.lay_style.specs.declared.style.Style.{Style}
 use Rattle.lay_borders.specs.declared.candidate.Cand.{Cand}
 use Rattle.lay_borders.specs.Edges.{IsEdge}
 use Rattle.lay_borders.specs.Halves.{edge_width, first_half, second_half}

@@ -4,8 +4,8 @@
 --
 -- The rows of the first header group come first and those of the first footer group last. All other rows stand between
 -- them as in the document.
-use Rattle.std.specs.Prelude.{ℕ, ◌+◌, ◌==◌, ◌&&◌, max, Bool, true, false, Option, Some, None}
-use Rattle.std.specs.Prelude.{List, [], ◌∷◌, ◌++◌, map, replicate, slice_get, slice_index, slice_index_or, if◌then◌else◌}
+use Rattle.std.specs.Prelude.{ℕ, zero, suc, ◌+◌, ◌==◌, ◌&&◌, ◌||◌, not, max, Bool, true, false, Option, Some, None}
+use Rattle.std.specs.Prelude.{List, [], ◌∷◌, ◌++◌, length, map, replicate, slice_get, slice_index, slice_index_or, if◌then◌else◌}
 use Rattle.std.specs.List.{list_any}
 use Rattle.lay_boxgen.specs.BoxColumns.{box_parents}
 use Rattle.lay_boxgen.specs.declared.box_tree.BoxKind.{BoxKind}
@@ -76,6 +76,10 @@ header_place boxes = slice_get (places_of (λ b. is_header_group b.kind) boxes) 
 abbrev pub footer_place : List BoxNode → Option ℕ
 footer_place boxes = slice_get (places_of (λ b. is_footer_group b.kind) boxes) 0
 
+abbrev pub is_place : Option ℕ → ℕ → Bool
+is_place None k = false
+is_place (Some place) k = place == k
+
 -- a box stands in the one at this place
 abbrev pub is_in : Option ℕ → BoxNode → Bool
 is_in None box = false
@@ -120,11 +124,25 @@ abbrev pub span_of : BoxKind → Span
 span_of (kind.Cell colspan rowspan) = record { columns = max 1 colspan; rows = max 1 rowspan }
 span_of _ = record { columns = 1; rows = 1 }
 
--- The rows as a grid takes them: the group of each and what its cells span. Rows directly in the table are of one group
--- where they stand together.
+-- a row group that is drawn where it stands in the document: any but the first header group and the first footer group
+abbrev pub stays_at : List BoxNode → ℕ → Bool
+stays_at boxes k = is_row_group (kind_at boxes k) && not (is_place (header_place boxes) k || is_place (footer_place boxes) k)
+
+-- how many of those stand before the box at k
+abbrev pub groups_before : List BoxNode → ℕ → ℕ
+groups_before boxes zero = 0
+groups_before boxes (suc k) = groups_before boxes k + (if stays_at boxes k then 1 else 0)
+
+-- The rows that a cell of this row may span have the same number: that of the row group that it is in. Rows directly in the table are
+-- together where no row group is drawn between them, be it an empty one; they have a number past those of the boxes.
+abbrev pub group_number : List BoxNode → TableRow → ℕ
+group_number boxes row =
+    if is_row_group (kind_at boxes row.group) then row.group else length boxes + groups_before boxes row.place
+
+-- the rows as a grid takes them: the group of each and what its cells span
 abbrev pub row_spec : List BoxNode → TableRow → RowSpec
 row_spec boxes row = record {
-  group = row.group;
+  group = group_number boxes row;
   cells = map (λ k. span_of (kind_at boxes k)) (cells_of_row boxes row.place);
 }
 

@@ -5,9 +5,11 @@ ghost use Rattle.lay_grid.specs.declared.cells.Span.{Span};
 ghost use Rattle.lay_grid.specs.Slots.{SpanRows};
 ghost use Rattle.lay_table_grid.specs.TableBoxes.{cells_of_rows, kind_at, row_spec, row_specs, span_of};
 ghost use Rattle.lay_table_grid.specs.Pass.CellLists.{AreCellLists, Adds, CellListsTo, IsRowOf};
+ghost use Rattle.lay_table_grid.specs.Pass.GroupCounts.{AreGroupCounts};
 ghost use Rattle.lay_table_grid.specs.Pass.PlacedBounds.{SpanColumns};
 
 use crate::grid::TableRow;
+use crate::group_numbers::{group_counts, group_number};
 use crate::kinds::{is_cell, span_of};
 use crate::places::PlaceList;
 use lay_boxgen::BoxNode;
@@ -70,9 +72,10 @@ pub fn row_specs(
     ensures rows { IfOk result (λ specs. SpanRows specs.items) }
     ensures columns { IfOk result (λ specs. SpanColumns specs.items) }
 {
+    let counts = group_counts(alloc, boxes)?;
     let mut specs = Vec::new(alloc);
     for row in rows {
-        specs.push(row_spec(alloc, boxes, *row, lists)?)?;
+        specs.push(row_spec(alloc, boxes, *row, lists, &counts)?)?;
     }
     Ok(specs)
 }
@@ -82,16 +85,18 @@ fn row_spec(
     boxes: &[BoxNode],
     row: TableRow,
     lists: &[PlaceList],
+    counts: &[usize],
 ) -> Result<RowSpec, NoMemory>
     requires row { IsRowOf boxes.now row }
     requires lists { AreCellLists boxes.now lists.now }
+    requires counts { AreGroupCounts boxes.now counts.now }
     ensures spec { IfOk result (λ spec. spec ≡ row_spec boxes.now row) }
     ensures rows { IfOk result (λ spec. All (λ (span : Span). 1 ≤ span.rows) spec.cells) }
     ensures columns { IfOk result (λ spec. All (λ (span : Span). 1 ≤ span.columns) spec.cells) }
 {
     let spans = spans_of(alloc, boxes, lists[row.place].as_slice())?;
     Ok(RowSpec {
-        group: boxes[row.place].parent,
+        group: group_number(boxes, row, counts)?,
         cells: SpanList::new(spans),
     })
 }

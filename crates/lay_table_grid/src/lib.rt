@@ -14,6 +14,7 @@ mod columns;
 mod edges;
 mod elements;
 mod grid;
+mod group_numbers;
 mod kinds;
 mod laws;
 mod meeting;

@@ -49,9 +49,19 @@ pub fn footer_place(boxes: &[BoxNode]) -> Option<usize>
 
 /// Which groups are drawn first and last.
 #[derive(Clone, Copy)]
-struct OuterGroups {
-    header: Option<usize>,
-    footer: Option<usize>,
+pub struct OuterGroups {
+    pub header: Option<usize>,
+    pub footer: Option<usize>,
+}
+
+pub fn outer_groups(boxes: &[BoxNode]) -> OuterGroups
+    ensures header { result.header ≡ header_place boxes.now }
+    ensures footer { result.footer ≡ footer_place boxes.now }
+{
+    OuterGroups {
+        header: header_place(boxes),
+        footer: footer_place(boxes),
+    }
 }
 
 /// The rows as they are drawn.
@@ -59,10 +69,7 @@ pub fn table_rows(alloc: Global, boxes: &[BoxNode]) -> Result<Vec<TableRow>, NoM
     ensures rows { IfOk result (λ rows. rows.items ≡ rows_of boxes.now) }
     ensures are { IfOk result (λ rows. All (IsRowOf boxes.now) rows.items) }
 {
-    let outer = OuterGroups {
-        header: header_place(boxes),
-        footer: footer_place(boxes),
-    };
+    let outer = outer_groups(boxes);
     let mut rows = Vec::new(alloc);
     push_ranked(&mut rows, boxes, outer, 0)?;
     push_ranked(&mut rows, boxes, outer, 1)?;

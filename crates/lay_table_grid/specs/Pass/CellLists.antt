@@ -1,5 +1,5 @@
 -- For each box the cells in it, of which only those of rows are asked.
-use Rattle.std.specs.Prelude.{ℕ, ◌≡◌, ◌≢◌, ◌<◌, List, [], ◌∷◌, ◌++◌, length, drop, slice_index_or, All}
+use Rattle.std.specs.Prelude.{ℕ, ◌≡◌, ◌≢◌, ◌<◌, List, [], ◌∷◌, ◌++◌, length, drop, slice_index_or}
 use Rattle.lay_boxgen.specs.declared.box_tree.BoxNode.{BoxNode}
 use Rattle.lay_table_grid.specs.declared.grid.TableRow.{TableRow}
 use Rattle.lay_table_grid.specs.TableBoxes.{cells_of_row, is_cell_of, parent_at, places_from}

@@ -1,5 +1,5 @@
 -- Which cell covers each slot, row by row: its number, or None. A row's list ends where no cell follows.
-use Rattle.std.specs.Prelude.{ℕ, ◌≡◌, ◌+◌, ◌<◌, ◌&&◌, nat_le, nat_lt, Bool, true, false}
+use Rattle.std.specs.Prelude.{ℕ, ◌≡◌, ◌+◌, ◌<◌, ◌&&◌, nat_le, nat_lt, Bool}
 use Rattle.std.specs.Prelude.{Option, Some, None, List, [], ◌∷◌, length, drop, slice_index_or, if◌then◌else◌}
 use Rattle.lay_table_grid.specs.declared.placed.PlacedCell.{PlacedCell}
 use Rattle.lay_table_grid.specs.MeetingBorders.{covers}

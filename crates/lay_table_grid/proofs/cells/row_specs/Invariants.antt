@@ -1,4 +1,4 @@
-use Rattle.std.proofs.Common.{◌≡◌, ◌++◌, drop, map}
+use Rattle.std.proofs.Common.{◌≡◌, ◌++◌, drop}
 use Rattle.lay_grid.specs.Slots.{SpanRows}
 use Rattle.lay_table_grid.specs.Pass.PlacedBounds.{SpanColumns}
 use Rattle.lay_table_grid.specs.TableBoxes.{row_specs}

@@ -1,4 +1,4 @@
-use Rattle.std.proofs.Common.{◌≡◌, ℕ, ◌<◌, ◌≤◌, max, drop, length, get_or}
+use Rattle.std.proofs.Common.{◌≡◌, ℕ, ◌<◌, ◌≤◌, max, drop, get_or}
 use Rattle.lay_grid.specs.Places.{right_edge}
 use Rattle.lay_grid.specs.Slots.{columns_of}
 use Rattle.lay_table_grid.specs.declared.placed.PlacedCell.{PlacedCell}

@@ -1,9 +1,6 @@
-use Rattle.std.proofs.Common.{◌≡◌, List, length, ◌∙◌, ap, sym, arith}
+use Rattle.std.proofs.Common.{length, ◌∙◌, ap, sym}
 use Rattle.std.proofs.lemmas.List.{length-map}
-use Rattle.lay_grid.specs.declared.cells.Cell.{Cell}
-use Rattle.lay_grid.specs.declared.cells.RowSpec.{RowSpec}
 use Rattle.lay_grid.specs.Areas.{areas_from}
-use Rattle.lay_grid.specs.Places.{areas_of}
 use Rattle.lay_table_grid.specs.TableBoxes.{row_spec}
 use Rattle.lay_table_grid.proofs.PlacedCells.{all_cover, as_many_cells}
 use Rattle.lay_table_grid.proofs.placed.placed_cells.Goals as goal

@@ -1,4 +1,4 @@
-use Rattle.std.proofs.Common.{ℕ, ◌<◌, length, ap, ◌∙◌}
+use Rattle.std.proofs.Common.{◌<◌, length, ap, ◌∙◌}
 use Rattle.lay_table_grid.specs.MeetingBorders.{TableParts, covering, item}
 use Rattle.lay_table_grid.proofs.CoveringCells.{covering_at}
 use Rattle.lay_table_grid.proofs.edges.Edges.cell_at.Goals as goal
