@@ -142,7 +142,7 @@ def edges_across(box):
 def find_widths(box, equation, containing_width):
     """Sets the used margins, width and width of the border box; vertical margins of `auto` are 0 (8.3 and 10.6.3).
 
-    A wrapper is as wide as its table box (17.4).
+    A wrapper is as wide as its table box (17.4); that is a used width, too.
     """
     widths = used_widths(box, equation, containing_width)
     box.margin = margins(box, containing_width)._replace(left=within_limit(widths.before),
@@ -151,7 +151,7 @@ def find_widths(box, equation, containing_width):
     sized.width = size_within_limit(widths.size)
     sized.border_box_width = sized.width + edges_across(sized)
     if box.table:
-        box.width = box.border_box_width = box.table.border_box_width
+        box.width = box.border_box_width = size_within_limit(box.table.border_box_width)
     return widths
 
 
