@@ -93,7 +93,7 @@ placed_by medium contexts i sized inner pieces place = place_as (record {
   own_height = own_height_rule (boxes_in contexts i) sized.boxes sized.stretched;
   face = medium.face;
 }) (option_map (λ table. record { boxes = boxes_in contexts i; sizes = sized.boxes; table = table; inner = inner; pieces = pieces }) sized.table)
-  (record { boxes = boxes_in contexts i; sizes = sized.boxes; left = sized.left; position = place })
+    (record { boxes = boxes_in contexts i; sizes = sized.boxes; left = sized.left; position = place })
 
 placed_same : (medium : Medium) (contexts : List FormattingContext) (i : ℕ) (a b : SizedContext) (x y : List OwnBox) (p q : List (List Frag)) (o u : OwnPlace) → a ≡ b → x ≡ y → p ≡ q → o ≡ u
     → placed_by medium contexts i a x p o ≡ placed_by medium contexts i b y q u
@@ -149,7 +149,7 @@ module _ (medium : Medium) (contexts : List FormattingContext) (v w : Workings) 
       let position = position_by (is_absolute contexts i) refl (λ j needs. size_value (sizes_in v.sizes j) (sizes_in w.sizes j) (same Size j needs))
       (λ j needs. place_value (placed_in v.places j) (placed_in w.places j) (same Place j needs)) in
       placed_same medium contexts i (sizes_in v.sizes i) (sizes_in w.sizes i) (inner_boxes contexts v.places i) (inner_boxes contexts w.places i) (inner_pieces contexts v.places i) (inner_pieces contexts w.places i)
-        (own_place_of medium.viewport contexts v.sizes v.places i) (own_place_of medium.viewport contexts w.sizes w.places i) sizes inner pieces position
+      (own_place_of medium.viewport contexts v.sizes v.places i) (own_place_of medium.viewport contexts w.sizes w.places i) sizes inner pieces position
 
 pub inputs_come_of_needs_lem : InputsComeOfNeeds
 inputs_come_of_needs_lem medium contexts v w task are within same =

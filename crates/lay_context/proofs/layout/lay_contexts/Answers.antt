@@ -24,4 +24,4 @@ returns c =
     let all : c.loop-level.level ≡ c.level_count-level-end.result = omega arith in
     let done = rw all at c.loop-level.invariant in
     IfOk-weaker c.assemble.result (IsAssembled c.args.contexts.now c.loop-level.known) (SolvesContexts c.args.medium.now c.args.contexts.now)
-      (λ tree assembled. solved c.args.medium.now c.args.contexts.now c.deref.result.now c.len.ensures.are has c.grids_are_of_boxes.ensures c.loop-level.known c.level_count-level-end.result counted.above done tree assembled) c.assemble.ensures
+    (λ tree assembled. solved c.args.medium.now c.args.contexts.now c.deref.result.now c.len.ensures.are has c.grids_are_of_boxes.ensures c.loop-level.known c.level_count-level-end.result counted.above done tree assembled) c.assemble.ensures
