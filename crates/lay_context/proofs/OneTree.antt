@@ -1,14 +1,12 @@
 -- Two workings that meet the equations of a document are equal, task by task in their order, and so are their trees.
-use Rattle.std.proofs.Common.{◌≡◌, ℕ, zero, suc, ◌+◌, ◌<◌, ◌≤◌, List, length, refl, sym, ap, subst, ◌∙◌, arith, inl, inr}
-use Rattle.std.proofs.lemmas.Bool.{cases_lt}
+use Rattle.std.proofs.Common.{◌≡◌, ℕ, zero, suc, ◌+◌, ◌<◌, List, length, refl, sym, ap, subst, ◌∙◌, arith}
 use Rattle.lay_doc.specs.Document.{parents_of, declarations_of}
 use Rattle.lay_doc.proofs.OneStyles.{one_style_column_lem, same_list}
 use Rattle.lay_boxgen.proofs.NodeColumns.{length-parents}
 use Rattle.lay_frag.specs.Pieces.{Context as PageContext}
-use Rattle.lay_sizes.specs.declared.sizing.BoxSizes.{BoxSizes}
 use Rattle.lay_contexts.specs.ContextList.{AreContextsOf}
 use Rattle.lay_contexts.proofs.ContextNumbers.{are_contexts, one_context_list_lem}
-use Rattle.lay_formatting.specs.FormattingContexts.{FormattingContext, AreFormattingContexts, boxes_in}
+use Rattle.lay_formatting.specs.FormattingContexts.{FormattingContext, AreFormattingContexts}
 use Rattle.lay_formatting.specs.FormattingContextList.{AreFormattingContextsOf}
 use Rattle.lay_formatting.specs.Laws.{FormattingContextsStandInOrder, OneFormattingContextList}
 use Rattle.lay_positioned.specs.Levels.{HasLevels}
@@ -21,7 +19,7 @@ use Rattle.lay_context.specs.declared.task.Phase.TheVariants.{Measure, Size, Pla
 use Rattle.lay_context.specs.declared.task.Task.{Task}
 use Rattle.lay_context.specs.declared.input.Input.{Input}
 use Rattle.lay_context.specs.declared.value.Value.TheVariants as value
-use Rattle.lay_context_sizes.specs.ContextSizes.{SizedContext, not_sized}
+use Rattle.lay_context_sizes.specs.ContextSizes.{not_sized}
 use Rattle.lay_context.specs.DocumentLayout.{widths_in}
 use Rattle.lay_context_sizes.specs.Laws.{OneContextSizes, OneContextWidths}
 use Rattle.lay_context.specs.Laws.{OneSolution}

@@ -1,9 +1,8 @@
 -- A placement is that of boxes in block flow, or of a table.
-use Rattle.std.proofs.Common.{◌≡◌, ℕ, zero, suc, ◌+◌, List, [], ◌∷◌, length, length-append, refl, ap, sym, subst, ◌∙◌, arith, Option, None, Some, option_map}
+use Rattle.std.proofs.Common.{◌≡◌, ℕ, zero, suc, [], ◌∷◌, length, length-append, refl, ap, sym, subst, ◌∙◌, arith, Option, None, Some, option_map}
 use Rattle.lay_measure.specs.declared.preferred_widths.PreferredWidths.{PreferredWidths}
 use Rattle.lay_context_boxes.specs.ContextBoxes.{AreContextBoxes}
 use Rattle.lay_pieces.specs.Placements.{Placement}
-use Rattle.lay_pieces.specs.declared.standing.Standing.{Standing}
 use Rattle.lay_flow_boxes.specs.PlaceInputs.{PlaceInput}
 use Rattle.lay_placement.specs.BoxStandings.{standing_of_box, standings_to}
 use Rattle.lay_placement.specs.ContextPlacements.{IsPlacement}

@@ -1,5 +1,5 @@
 -- What a placement is given is within its bounds.
-use Rattle.std.proofs.Common.{◌≡◌, ◌<◌, ◌≤◌, ℕ, List, length, map, sym, ◌∙◌, arith, Some, IfSome, subst}
+use Rattle.std.proofs.Common.{◌≡◌, ◌<◌, ℕ, List, length, ◌∙◌, arith, Some, IfSome, subst}
 use Rattle.std.proofs.lemmas.List.{length-map}
 use Rattle.lay_boxgen.specs.declared.box_tree.BoxNode.{BoxNode}
 use Rattle.lay_sizes.specs.SizeBounds.{SizeFits}
@@ -10,7 +10,6 @@ use Rattle.lay_table_grid.specs.GridBounds.{PlacesAreBelow}
 use Rattle.lay_table_sizes.specs.TableSizesValue.{TableSizesValue}
 use Rattle.lay_formatting.specs.FormattingContexts.{AreFormattingContexts, FormattingContext, boxes_in, formatting_context_at}
 use Rattle.lay_pieces.specs.InnerPieces.{AreNearInnerPieces}
-use Rattle.lay_pieces.specs.Placements.{Placement}
 use Rattle.lay_flow_boxes.specs.PlaceInputs.{HeightRuleFits, PlaceInputFits, height_rule_of}
 use Rattle.lay_table.specs.TableInputs.{TableInputFits}
 use Rattle.lay_context_sizes.specs.ContextSizes.{SizedContext}

@@ -1,5 +1,5 @@
 -- Used sizes are of the boxes that they are beside.
-use Rattle.std.proofs.Common.{◌≡◌, ◌<◌, Bool, true, false, List, length, Option, None, Some}
+use Rattle.std.proofs.Common.{Bool, true, false, List, Option, None, Some}
 use Rattle.lay_units.specs.declared.length.Unit.{Unit as Length}
 use Rattle.lay_sizes.specs.declared.sizing.BoxSizes.{BoxSizes}
 use Rattle.lay_table_grid.specs.Laws.{GridsAreOfBoxes}

@@ -1,5 +1,5 @@
 -- What a task needs has its turn before it, and no two tasks have one turn.
-use Rattle.std.proofs.Common.{◌≡◌, ◌<◌, ◌≤◌, ℕ, ◌+◌, ◌-◌, ◌*◌, ◌/◌, ◌%◌, Bool, true, false, List, length, map, slice_index, refl, ap, sym, ◌∙◌, subst, arith, inl, inr, if◌then◌else◌}
+use Rattle.std.proofs.Common.{◌≡◌, ◌<◌, ℕ, ◌+◌, ◌-◌, ◌*◌, ◌/◌, ◌%◌, Bool, true, false, List, length, slice_index, refl, ap, sym, ◌∙◌, subst, arith, inl, inr, if◌then◌else◌}
 use Rattle.std.proofs.Math.Nat.{mul_comm}
 use Rattle.std.proofs.lemmas.Nat.{div-mul-add, mod-mul-add, mul-add-lt}
 use Rattle.std.proofs.lemmas.List.{get_or-map, length-map}
@@ -10,9 +10,9 @@ use Rattle.lay_positioned.proofs.OneLevels.{leads_down, leads_out, level_inside}
 use Rattle.lay_context.specs.declared.task.Phase.{Phase}
 use Rattle.lay_context.specs.declared.task.Phase.TheVariants.{Measure, Size, Place}
 use Rattle.lay_context.specs.declared.task.Task.{Task}
-use Rattle.lay_context.specs.DocumentLayout.{flow_number, flow_numbers}
-use Rattle.lay_context.specs.Laws.{HasEarlierTurn, NeedsComeFirst}
-use Rattle.lay_context.specs.Needs.{IsAround, IsInsideFlow, IsOnWayOf, needs_by, round_start, turn_by, turn_of}
+use Rattle.lay_context.specs.DocumentLayout.{flow_number}
+use Rattle.lay_context.specs.Laws.{NeedsComeFirst}
+use Rattle.lay_context.specs.Needs.{IsInsideFlow, IsOnWayOf, needs_by, round_start, turn_by}
 
 abbrev task : ℕ → Phase → Task
 task i phase = record { context = i; phase = phase }

@@ -1,7 +1,7 @@
 -- Where a formatting context stands by itself: the root's its margins away from the top and the left edge of the viewport, or from the
 -- right edge where it floats there, and moved by its own offset where it is relatively positioned (CSS 2.2, 9.4.3); and an absolutely
 -- positioned one by its equations (10.3.7 and 10.6.4). Another one is told by the one around it.
-use Rattle.std.specs.Prelude.{ℕ, zero, suc, ◌≡◌, ◌+ℤ◌, ◌-ℤ◌, Bool, true, false, List, if◌then◌else◌}
+use Rattle.std.specs.Prelude.{◌≡◌, ◌+ℤ◌, ◌-ℤ◌, Bool, true, false, List, if◌then◌else◌}
 use Rattle.lay_units.specs.declared.length.Unit.{Unit as Length}
 use Rattle.lay_style.specs.declared.style.Style.{Style}
 use Rattle.lay_style.specs.declared.style_words.Float.{Float}

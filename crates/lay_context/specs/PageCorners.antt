@@ -1,27 +1,13 @@
 -- Where formatting contexts stand on the page. Each stands in the one around it, from the corner of whose border box its place is
 -- counted; and where what is in a cell is moved down (CSS 2.2, 17.5.3), so is each that stands in it. An absolutely positioned one has
 -- its own offset there (9.6).
-use Rattle.std.specs.Prelude.{ℕ, zero, suc, ◌≡◌, ◌<◌, ◌+ℤ◌, ◌-ℤ◌, Bool, true, false, List, length, if◌then◌else◌}
+use Rattle.std.specs.Prelude.{ℕ, zero, suc, ◌≡◌, ◌<◌, ◌+ℤ◌, List, length, if◌then◌else◌}
 use Rattle.lay_units.specs.declared.length.Unit.{Unit as Length}
-use Rattle.lay_style.specs.declared.style.Style.{Style}
-use Rattle.lay_style.specs.declared.style_words.Float.{Float}
-use Rattle.lay_style.specs.declared.style_words.Float.TheVariants as float
-use Rattle.lay_style.specs.ComputedStyle.{style_at}
-use Rattle.lay_boxgen.specs.declared.facts.Flow.{Flow}
-use Rattle.lay_boxgen.specs.declared.facts.Flow.TheVariants.{Floating}
-use Rattle.lay_boxgen.specs.Display.{flow_of}
-use Rattle.lay_boxgen.specs.BoxColumns.{box_styles}
-use Rattle.lay_sizes.specs.declared.own_boxes.OwnBox.{OwnBox}
-use Rattle.lay_sizes.specs.declared.sizing.BoxSizes.{BoxSizes}
-use Rattle.lay_sizes.specs.declared.sizing.ContainingBlock.{ContainingBlock}
-use Rattle.lay_sizes.specs.BoxSizes.{border_width}
-use Rattle.lay_sizes.specs.SizeColumns.{sizes_at}
 use Rattle.lay_sizes.specs.UsedLengths.{no_length}
-use Rattle.lay_formatting.specs.FormattingContexts.{FormattingContext, formatting_context_at, boxes_in}
+use Rattle.lay_formatting.specs.FormattingContexts.{FormattingContext, formatting_context_at}
 use Rattle.lay_pieces.specs.declared.corner.Corner.{Corner}
 use Rattle.lay_pieces.specs.declared.standing.Standing.{Standing}
-use Rattle.lay_pieces.specs.Corners.{corner_at, no_corner}
-use Rattle.lay_pieces.specs.Placements.{Placement}
+use Rattle.lay_pieces.specs.Corners.{corner_at}
 use Rattle.lay_pieces.specs.Standings.{standing_at}
 use Rattle.lay_positioned.specs.Absolute.{is_absolute}
 use Rattle.lay_context.specs.PlacedContexts.{PlacedContext, placed_in, placement_in}

@@ -1,5 +1,5 @@
 use Rattle.std.proofs.Common.{arith}
-use Rattle.lay_context.proofs.TaskSteps.{measure_ready, none_done, one_measured}
+use Rattle.lay_context.proofs.TaskSteps.{measure_ready, one_measured}
 use Rattle.lay_context.proofs.layout.measure_all.Goals as goal
 
 pub settle-requires : goal.settle-requires

@@ -1,5 +1,5 @@
 use Rattle.std.proofs.Common.{arith}
-use Rattle.lay_context.proofs.TaskSteps.{next_round, none_placed, one_placed_more, place_ready}
+use Rattle.lay_context.proofs.TaskSteps.{none_placed, one_placed_more, place_ready}
 use Rattle.lay_context.proofs.layout.place_level.Goals as goal
 use Rattle.lay_context.proofs.layout.place_level.Goals.{then-plan-i+in_ok-settle, else-plan-i}
 

@@ -1,6 +1,6 @@
 use Rattle.std.proofs.Common.{arith}
 use Rattle.lay_context.specs.PlacedContexts.{placed_in}
-use Rattle.lay_context.proofs.CornerSteps.{all_corners, one_more, one_more_near}
+use Rattle.lay_context.proofs.CornerSteps.{one_more, one_more_near}
 use Rattle.lay_context.proofs.page_corners.page_corners.Goals as goal
 
 pub loop-i-preserved : goal.loop-i-preserved
