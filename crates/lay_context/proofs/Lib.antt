@@ -1,5 +1,6 @@
 pub mod CornerSteps
 pub mod GivenFacts
+pub mod MeasuredInward
 pub mod OneCorners
 pub mod OneTree
 pub mod PieceRanges

@@ -24,6 +24,7 @@ use Rattle.lay_context.specs.DocumentLayout.{widths_in}
 use Rattle.lay_context_sizes.specs.Laws.{OneContextSizes, OneContextWidths}
 use Rattle.lay_context.specs.Laws.{OneSolution}
 use Rattle.lay_context.specs.Local.{Workings, IsLocal, IsTaskDone, flow_input, input_by, input_of, measure_input, size_input, stand_input, table_input, value_by, value_of}
+use Rattle.lay_context.specs.Measured.{is_measured}
 use Rattle.lay_context.specs.Medium.{Medium}
 use Rattle.lay_context.specs.Needs.{turn_of}
 use Rattle.lay_context.specs.PageCorners.{HasPageCorners}
@@ -31,7 +32,7 @@ use Rattle.lay_context.specs.PlacedContexts.{not_placed, placed_in}
 use Rattle.lay_context.specs.Settings.{sizes_in}
 use Rattle.lay_context.specs.Solves.{SolvesContexts, medium_of, page_context, page_contexts}
 use Rattle.lay_context.proofs.OneCorners.{one_corner_column}
-use Rattle.lay_context.proofs.PlaceFacts.{one_placed}
+use Rattle.lay_context.proofs.PlaceFacts.{one_measured, one_placed}
 use Rattle.lay_context.proofs.TaskInputs.{inputs_come_of_needs_lem, place_value, size_value}
 use Rattle.lay_context.proofs.TaskOrder.{needs_come_first_lem}
 
@@ -59,7 +60,7 @@ module _ (one : OneAnswer) (medium : Medium) (contexts : List FormattingContext)
   -- a task has one value, where it is given the same
   by_phase : (v w : Workings) (phase : Phase) (i : ℕ) → i < length contexts → IsLocal (input_by medium contexts v phase i) (value_by v phase i) → IsLocal (input_by medium contexts v phase i) (value_by w phase i)
       → value_by v phase i ≡ value_by w phase i
-  by_phase v w Measure i lt a b = ap value.Measure (one.widths (measure_input medium contexts v i) (widths_in v.widths i) (widths_in w.widths i) a b)
+  by_phase v w Measure i lt a b = ap value.Measure (one_measured one.widths (is_measured contexts i) (measure_input medium contexts v i) (widths_in v.widths i) (widths_in w.widths i) a b)
   by_phase v w Size i lt a b = ap value.Size (one.sizes (size_input medium contexts v i) (sizes_in v.sizes i) (sizes_in w.sizes i) (are.boxes i lt) a b)
   by_phase v w Place i lt a b =
       ap value.Place (one_placed (flow_input medium contexts v i) (stand_input medium contexts v i) (table_input contexts v i) (λ t. refl) one.placement one.table_placement (sizes_in v.sizes i).table (placed_in v.places i) (placed_in w.places i) (are.boxes i lt) a b)

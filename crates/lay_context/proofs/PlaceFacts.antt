@@ -1,5 +1,5 @@
 -- A placement is that of boxes in block flow, or of a table.
-use Rattle.std.proofs.Common.{◌≡◌, ℕ, zero, suc, [], ◌∷◌, length, length-append, refl, ap, sym, subst, ◌∙◌, arith, Option, None, Some, option_map}
+use Rattle.std.proofs.Common.{◌≡◌, ℕ, zero, suc, Bool, true, false, [], ◌∷◌, length, length-append, refl, ap, sym, subst, ◌∙◌, arith, Option, None, Some, option_map}
 use Rattle.lay_measure.specs.declared.preferred_widths.PreferredWidths.{PreferredWidths}
 use Rattle.lay_context_boxes.specs.ContextBoxes.{AreContextBoxes}
 use Rattle.lay_pieces.specs.Placements.{Placement}
@@ -19,11 +19,26 @@ use Rattle.lay_formatting.specs.FormattingBoxes.{box_at}
 use Rattle.lay_pieces.specs.declared.corner.Corner.{Corner}
 use Rattle.lay_positioned.proofs.OneAbsoluteBox.{one_offset_lem}
 use Rattle.lay_context_sizes.specs.ContextSizes.{SizedContext}
+use Rattle.lay_context_sizes.specs.Inputs.{MeasureInput}
+use Rattle.lay_context_sizes.specs.Laws.{OneContextWidths}
 use Rattle.lay_context.specs.OwnOffsets.{IsOwnOffset, IsOwnOffsetBy, StandInput}
 use Rattle.lay_context.specs.PlacedContexts.{PlacedContext}
 use Rattle.lay_context.specs.declared.own_place.OwnPlace.{OwnPlace}
 use Rattle.lay_context.specs.declared.own_place.OwnPlace.TheVariants.{Inner, Root, Absolute}
-use Rattle.lay_context.specs.Local.{IsLocal, place_as}
+use Rattle.lay_context.specs.Local.{IsLocal, measure_as, place_as}
+
+pub measured_not_sized : (b : Bool) (i : MeasureInput) (sized : SizedContext) → IsLocal (measure_as b i) (value.Size sized) → ⊥
+measured_not_sized true i sized local = local
+measured_not_sized false i sized local = local
+
+pub measured_not_placed : (b : Bool) (i : MeasureInput) (placed : PlacedContext) → IsLocal (measure_as b i) (value.Place placed) → ⊥
+measured_not_placed true i placed local = local
+measured_not_placed false i placed local = local
+
+-- beside what it is given a formatting context has one pair of preferred widths
+pub one_measured : OneContextWidths → (b : Bool) (i : MeasureInput) (x y : PreferredWidths) → IsLocal (measure_as b i) (value.Measure x) → IsLocal (measure_as b i) (value.Measure y) → x ≡ y
+one_measured one true i x y a b = one i x y a b
+one_measured one false i x y a b = a ∙ sym b
 
 pub not_measured : (flow : PlaceInput) (table : Option TableInput) (at : StandInput) (widths : PreferredWidths) → IsLocal (place_as flow table at) (value.Measure widths) → ⊥
 not_measured flow None at widths local = local

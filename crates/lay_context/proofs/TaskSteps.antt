@@ -15,14 +15,15 @@ use Rattle.lay_context.specs.declared.value.Value.{Value}
 use Rattle.lay_context.specs.declared.value.Value.TheVariants as value
 use Rattle.lay_context_sizes.specs.ContextSizes.{SizedContext}
 use Rattle.lay_context.specs.DocumentLayout.{widths_in}
-use Rattle.lay_context.specs.Local.{HasCounts, Workings, IsLocal, IsTaskDone, flow_input, input_by, input_of, size_input, stand_input, table_input, value_by, value_of, with_value}
+use Rattle.lay_context.specs.Local.{HasCounts, Workings, IsLocal, IsTaskDone, flow_input, input_by, input_of, measure_input, size_input, stand_input, table_input, value_by, value_of, with_value}
+use Rattle.lay_context.specs.Measured.{is_measured}
 use Rattle.lay_context.specs.Medium.{Medium}
 use Rattle.lay_context.specs.Needs.{round_start, turn_of}
 use Rattle.lay_context.specs.PlacedContexts.{PlacedContext, placed_in}
 use Rattle.lay_context.specs.Settings.{sizes_in}
 use Rattle.lay_context.specs.Settling.{AreOfBoxes, IsReady, AreDoneTo, AreKnown, IsSettled}
 use Rattle.lay_context.specs.Solves.{IsAssembled, SolvesContexts}
-use Rattle.lay_context.proofs.PlaceFacts.{not_measured, not_sized, stands}
+use Rattle.lay_context.proofs.PlaceFacts.{measured_not_placed, measured_not_sized, not_measured, not_sized, stands}
 use Rattle.lay_context.proofs.SizedFacts.{sizes_are_of_boxes}
 use Rattle.lay_context.proofs.TaskInputs.{inputs_come_of_needs_lem}
 use Rattle.lay_context.proofs.TaskOrder.{measured, needs_come_first_lem, placed, sized, turn_within}
@@ -58,8 +59,8 @@ module _ (medium : Medium) (contexts : List FormattingContext) (w : Workings) wh
   -- the value of the task itself
   here : (phase : Phase) (i : ℕ) (v : Value) → i < length contexts → HasCounts contexts w → IsLocal (input_by medium contexts w phase i) v → value_by (with_value w i v) phase i ≡ v
   here Measure i (value.Measure m) lt counts local = ap value.Measure (widths_here w.widths i m (omega (arith, counts.widths)))
-  here Measure i (value.Size z) lt counts local = absurd local
-  here Measure i (value.Place p) lt counts local = absurd local
+  here Measure i (value.Size z) lt counts local = absurd (measured_not_sized (is_measured contexts i) (measure_input medium contexts w i) z local)
+  here Measure i (value.Place p) lt counts local = absurd (measured_not_placed (is_measured contexts i) (measure_input medium contexts w i) p local)
   here Size i (value.Measure m) lt counts local = absurd local
   here Size i (value.Size z) lt counts local = ap value.Size (sizes_here w.sizes i z (omega (arith, counts.sizes)))
   here Size i (value.Place p) lt counts local = absurd local
@@ -72,8 +73,8 @@ module _ (medium : Medium) (contexts : List FormattingContext) (w : Workings) wh
   other Measure i (value.Measure m) local Measure j differ = ap value.Measure (widths_other w.widths i j m (differ refl))
   other Measure i (value.Measure m) local Size j differ = refl
   other Measure i (value.Measure m) local Place j differ = refl
-  other Measure i (value.Size z) local q j differ = absurd local
-  other Measure i (value.Place p) local q j differ = absurd local
+  other Measure i (value.Size z) local q j differ = absurd (measured_not_sized (is_measured contexts i) (measure_input medium contexts w i) z local)
+  other Measure i (value.Place p) local q j differ = absurd (measured_not_placed (is_measured contexts i) (measure_input medium contexts w i) p local)
   other Size i (value.Measure m) local q j differ = absurd local
   other Size i (value.Size z) local Measure j differ = refl
   other Size i (value.Size z) local Size j differ = ap value.Size (sizes_other w.sizes i j z (differ refl))

@@ -1,13 +1,14 @@
 -- A task has one value beside what it is given, and is given something by the tasks alone that it needs, of which each has its
 -- turn before it. So a document has one layout.
-use Rattle.std.specs.Prelude.{ℕ, ◌≡◌, ◌<◌, List, length}
+use Rattle.std.specs.Prelude.{ℕ, ◌≡◌, ◌<◌, true, List, length}
 use Rattle.lay_doc.specs.Document.{Document, IsDocument}
 use Rattle.lay_frag.specs.Pieces.{Context as PageContext}
 use Rattle.lay_face.specs.FaceValue.{FaceValue}
-use Rattle.lay_formatting.specs.FormattingContexts.{FormattingContext, AreFormattingContexts}
+use Rattle.lay_formatting.specs.FormattingContexts.{FormattingContext, AreFormattingContexts, IsInside}
 use Rattle.lay_positioned.specs.Levels.{HasLevels}
 use Rattle.lay_context.specs.declared.task.Task.{Task}
 use Rattle.lay_context.specs.Local.{Workings, input_of, value_of}
+use Rattle.lay_context.specs.Measured.{is_measured}
 use Rattle.lay_context.specs.Medium.{Medium}
 use Rattle.lay_context.specs.Needs.{Needs, turn_of}
 use Rattle.lay_context.specs.Solves.{Solves}
@@ -18,6 +19,11 @@ InputsComeOfNeeds = (medium : Medium) (contexts : List FormattingContext) (v w :
     → AreFormattingContexts contexts → task.context < length contexts
     → ((needed : Task) → Needs contexts task needed → value_of v needed ≡ value_of w needed)
     → input_of medium contexts v task ≡ input_of medium contexts w task
+
+-- what is inside one that is measured is measured, as its widths count for those around it
+abbrev pub MeasuredGoesInward : Type 0
+MeasuredGoesInward = (contexts : List FormattingContext) (i j : ℕ) → AreFormattingContexts contexts → i < length contexts
+    → IsInside contexts i j → is_measured contexts i ≡ true → is_measured contexts j ≡ true
 
 -- what a task needs has its turn before
 pub record HasEarlierTurn (contexts : List FormattingContext) (levels : List ℕ) (task needed : Task) : Type 0 where

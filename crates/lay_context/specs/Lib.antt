@@ -1,6 +1,7 @@
 pub mod DocumentLayout
 pub mod Laws
 pub mod Local
+pub mod Measured
 pub mod Medium
 pub mod Needs
 pub mod OwnHeights

@@ -1,7 +1,8 @@
 -- One task of a layout by itself: what it is given, and which values are right beside that (CSS 2.2, chapters 8 to 10 and 17). What
 -- is given is plain data, in which no document and no number of a formatting context stands, and the value is its answer to that
 -- alone.
-use Rattle.std.specs.Prelude.{ℕ, ◌≡◌, List, length, slice_set, Option, None, Some, option_map}
+use Rattle.std.specs.Prelude.{ℕ, ◌≡◌, Bool, true, false, List, length, slice_set, Option, None, Some, option_map}
+use Rattle.lay_measure.specs.MeasureInValue.{no_widths}
 use Rattle.lay_measure.specs.declared.preferred_widths.PreferredWidths.{PreferredWidths}
 use Rattle.lay_table_sizes.specs.TableSizesValue.{TableSizesValue}
 use Rattle.lay_formatting.specs.FormattingContexts.{FormattingContext, boxes_in}
@@ -20,6 +21,7 @@ use Rattle.lay_context_sizes.specs.ContextSizes.{SizedContext, HasSizes}
 use Rattle.lay_context_sizes.specs.ContextWidths.{HasWidths}
 use Rattle.lay_context.specs.DocumentLayout.{inner_boxes, inner_pieces, inner_widths, widths_in}
 use Rattle.lay_context_sizes.specs.Inputs.{MeasureInput, SizeInput}
+use Rattle.lay_context.specs.Measured.{is_measured}
 use Rattle.lay_context.specs.Medium.{Medium}
 use Rattle.lay_context.specs.OwnHeights.{own_height_rule}
 use Rattle.lay_context.specs.OwnOffsets.{IsOwnOffset, StandInput}
@@ -29,6 +31,7 @@ use Rattle.lay_context.specs.Settings.{own_place_of, setting_of, sizes_in}
 -- a value is right beside what its task is given
 abbrev pub IsLocal : Input → Value → Type 0
 IsLocal (input.Measure i) (value.Measure widths) = HasWidths i widths
+IsLocal input.Unmeasured (value.Measure widths) = widths ≡ no_widths
 IsLocal (input.Size i) (value.Size sizes) = HasSizes i sizes
 IsLocal (input.Place i at) (value.Place answer) = IsPlacement i answer.placement × IsOwnOffset at answer.placement.own answer.offset
 IsLocal (input.PlaceTable i at) (value.Place answer) = IsTablePlacement i answer.placement × IsOwnOffset at answer.placement.own answer.offset
@@ -49,6 +52,11 @@ pub record HasCounts (contexts : List FormattingContext) (w : Workings) : Type 0
 abbrev pub measure_input : Medium → List FormattingContext → Workings → ℕ → MeasureInput
 measure_input medium contexts w i =
     record { boxes = boxes_in contexts i; inner = inner_widths contexts w.widths i; face = medium.face }
+
+-- a formatting context whose preferred widths don't count is given nothing for them
+abbrev pub measure_as : (is_measured : Bool) → MeasureInput → Input
+measure_as true i = input.Measure i
+measure_as false i = input.Unmeasured
 
 abbrev pub size_input : Medium → List FormattingContext → Workings → ℕ → SizeInput
 size_input medium contexts w i = record {
@@ -96,7 +104,7 @@ place_input medium contexts w i =
     place_as (flow_input medium contexts w i) (option_map (table_input contexts w i) (sizes_in w.sizes i).table) (stand_input medium contexts w i)
 
 abbrev pub input_by : Medium → List FormattingContext → Workings → Phase → ℕ → Input
-input_by medium contexts w phase.Measure i = input.Measure (measure_input medium contexts w i)
+input_by medium contexts w phase.Measure i = measure_as (is_measured contexts i) (measure_input medium contexts w i)
 input_by medium contexts w phase.Size i = input.Size (size_input medium contexts w i)
 input_by medium contexts w phase.Place i = place_input medium contexts w i
 

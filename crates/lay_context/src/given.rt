@@ -5,13 +5,15 @@ ghost use Rattle.lay_sizes.specs.OwnBoxes.{OwnBoxFits, OwnBoxesFit};
 ghost use Rattle.lay_pieces.specs.InnerPieces.{AreNearInnerPieces, pieces_or_none};
 ghost use Rattle.lay_pieces.specs.NearPieces.{AreNearPieces};
 ghost use Rattle.lay_context.specs.DocumentLayout.{flow_number, flow_numbers, inner_widths_in, own_box_in, pieces_in};
-ghost use Rattle.lay_context.specs.Local.{flow_input, input_of, measure_input, place_input, size_input, stand_input, table_input};
+ghost use Rattle.lay_context.specs.Local.{flow_input, input_of, measure_as, measure_input, place_input, size_input, stand_input, table_input};
+ghost use Rattle.lay_context.specs.Measured.{is_measured};
 ghost use Rattle.lay_context.specs.Settings.{sizes_in};
 ghost use Rattle.lay_context.specs.Settling.{AreBelow, IsReady};
 ghost use Rattle.lay_context.specs.declared.task.Phase.TheVariants.{Place, Size};
 
 use crate::input::Input;
 use crate::known::Known;
+use crate::measured::is_measured;
 use crate::medium::Medium;
 use crate::own_heights::own_height_rule;
 use crate::settings::{own_place_of, setting_of};
@@ -44,9 +46,28 @@ pub(crate) fn input(
 {
     let i = task.context;
     match task.phase {
-        Phase::Measure => Ok(Input::Measure(measure_input(alloc, medium, contexts, known, i)?)),
+        Phase::Measure => measure_as(alloc, medium, contexts, known, i),
         Phase::Size => Ok(Input::Size(size_input(medium, contexts, known, i)?)),
         Phase::Place => place_input(alloc, medium, contexts, known, i),
+    }
+}
+
+/// What the preferred widths of a formatting context are worked out of, where they count.
+fn measure_as(
+    alloc: Global,
+    medium: &Medium,
+    contexts: &FormattingContexts,
+    known: &Known,
+    i: usize,
+) -> Result<Input, NoMemory>
+    requires within { i < length contexts.now }
+    requires widths { length known.now.widths ≡ length contexts.now }
+    ensures { IfOk result (λ v. v ≡ measure_as (is_measured contexts.now i) (measure_input medium.now contexts.now known.now i)) }
+{
+    if is_measured(contexts, i) {
+        Ok(Input::Measure(measure_input(alloc, medium, contexts, known, i)?))
+    } else {
+        Ok(Input::Unmeasured)
     }
 }
 

@@ -8,7 +8,10 @@ use lay_table::TableInput;
 /// What a task is given.
 #[derive(Drop)]
 pub enum Input {
+    /// What is measured.
     Measure(MeasureInput),
+    /// Nothing, of a formatting context whose preferred widths don't count.
+    Unmeasured,
     Size(SizeInput),
     Place(PlaceInput, StandInput),
     PlaceTable(TableInput, StandInput),

@@ -1,7 +1,7 @@
 //! The laws of the definitions: a task has one value and needs what the table says, so that a document has one
 //! layout.
 
-ghost use Rattle.lay_context.specs.Laws.{InputsComeOfNeeds, NeedsComeFirst, OneSolution};
+ghost use Rattle.lay_context.specs.Laws.{InputsComeOfNeeds, MeasuredGoesInward, NeedsComeFirst, OneSolution};
 
 use lay_context_sizes::{one_context_sizes, one_context_widths};
 use lay_formatting::{formatting_contexts_stand_in_order, one_formatting_context_list};
@@ -11,6 +11,11 @@ use lay_table::one_table_placement;
 /// A task is given nothing but what the tasks that it needs give it.
 pub fn inputs_come_of_needs()
     ensures { InputsComeOfNeeds }
+{}
+
+/// What is inside a formatting context that is measured is measured too.
+pub fn measured_goes_inward()
+    ensures { MeasuredGoesInward }
 {}
 
 /// What a task needs has its turn before it.

@@ -29,6 +29,7 @@ use lay_face::Face;
 use lay_formatting::{FormattingContexts, formatting_contexts};
 use lay_frag::Tree;
 use lay_inherit::computed;
+use lay_measure::NO_WIDTHS;
 use lay_pieces::Placement;
 use lay_placement::placement;
 use lay_positioned::{level_count, levels};
@@ -198,6 +199,7 @@ fn compute(alloc: Global, input: &Input) -> Result<Value, NoMemory>
 {
     match input {
         Input::Measure(input) => Ok(Value::Measure(context_widths(alloc, input)?)),
+        Input::Unmeasured => Ok(Value::Measure(NO_WIDTHS)),
         Input::Size(input) => Ok(Value::Size(context_sizes(alloc, input)?)),
         Input::Place(input, stand) => Ok(Value::Place(placed(placement(alloc, input)?, stand)?)),
         Input::PlaceTable(input, stand) => {

@@ -16,6 +16,7 @@ mod input;
 mod known;
 mod laws;
 mod layout;
+mod measured;
 mod medium;
 mod own_heights;
 mod own_offsets;
@@ -27,5 +28,5 @@ mod stand_input;
 mod task;
 mod value;
 
-pub use laws::{inputs_come_of_needs, needs_come_first, one_solution};
+pub use laws::{inputs_come_of_needs, measured_goes_inward, needs_come_first, one_solution};
 pub use layout::{scratch, scratch_styled};

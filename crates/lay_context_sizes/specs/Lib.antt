@@ -3,4 +3,5 @@ pub mod ContextWidths
 pub mod FlowSizes
 pub mod Inputs
 pub mod Laws
+pub mod ShrinkToFit
 pub mod TableContexts

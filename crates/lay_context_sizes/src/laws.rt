@@ -1,6 +1,7 @@
-//! The laws of the definitions: a formatting context has one pair of preferred widths and one column of used sizes.
+//! The laws of the definitions: a formatting context has one pair of preferred widths and one column of used sizes,
+//! and preferred widths count for what shrinks to fit alone.
 
-ghost use Rattle.lay_context_sizes.specs.Laws.{OneContextSizes, OneContextWidths};
+ghost use Rattle.lay_context_sizes.specs.Laws.{OneContextSizes, OneContextWidths, WidthsCountWhereShrunk};
 
 use lay_table_sizes::{one_cell_sizes, one_table_sizes, one_table_widths};
 
@@ -18,3 +19,8 @@ pub fn one_context_sizes()
     one_table_sizes();
     one_cell_sizes();
 }
+
+/// Where the own box neither shrinks to fit nor is absolutely positioned, its preferred widths don't count for its sizes.
+pub fn widths_count_where_shrunk()
+    ensures { WidthsCountWhereShrunk }
+{}

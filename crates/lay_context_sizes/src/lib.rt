@@ -11,13 +11,15 @@ mod inputs;
 mod laws;
 mod measuring;
 mod setting;
+mod shrink_to_fit;
 mod sized_context;
 mod sizing;
 mod table_contexts;
 
 pub use inputs::{MeasureInput, SizeInput};
-pub use laws::{one_context_sizes, one_context_widths};
+pub use laws::{one_context_sizes, one_context_widths, widths_count_where_shrunk};
 pub use measuring::context_widths;
 pub use setting::Setting;
+pub use shrink_to_fit::shrinks_to_fit;
 pub use sized_context::SizedContext;
 pub use sizing::context_sizes;

@@ -1,0 +1,35 @@
+-- What is inside a formatting context that is measured is measured.
+use Rattle.std.proofs.Common.{◌≡◌, ◌<◌, ◌≤◌, ℕ, zero, suc, Bool, true, false, ◌||◌, List, length, refl, ap, sym, ◌∙◌, arith}
+use Rattle.lay_formatting.specs.FormattingContexts.{AreFormattingContexts, FormattingContext, boxes_in, formatting_context_at}
+use Rattle.lay_context_sizes.specs.ShrinkToFit.{shrinks_to_fit}
+use Rattle.lay_context.specs.Laws.{MeasuredGoesInward}
+use Rattle.lay_context.specs.Measured.{is_measured, shrinks_within}
+
+or_true : (b : Bool) → (b || true) ≡ true
+or_true true = refl
+or_true false = refl
+
+module _ (contexts : List FormattingContext) (are : AreFormattingContexts contexts) where
+  -- further ones than those around it change nothing
+  enough : (most many i : ℕ) → many ≤ most → i ≤ many → i < length contexts → shrinks_within many contexts i ≡ is_measured contexts i
+  enough most zero zero few le within = refl
+  enough most zero (suc i) few le within = absurd (omega (arith, le))
+  enough most (suc many) zero few le within = refl
+  enough zero (suc many) (suc i) few le within = absurd (omega (arith, few))
+  enough (suc most) (suc many) (suc i) few le within =
+      let outer : ℕ = (formatting_context_at contexts (suc i)).outer in
+      let before : outer < suc i = are.outer (suc i) (omega arith) within in
+      let more : shrinks_within many contexts outer ≡ is_measured contexts outer = enough most many outer (omega (arith, few)) (omega (arith, before, le)) (omega (arith, before, within)) in
+      let less : shrinks_within i contexts outer ≡ is_measured contexts outer = enough most i outer (omega (arith, few, le)) (omega (arith, before)) (omega (arith, before, within)) in
+      ap (λ (b : Bool). shrinks_to_fit (boxes_in contexts (suc i)) || b) (more ∙ sym less)
+
+  measured_by : (i j : ℕ) → i < j → j < length contexts → (formatting_context_at contexts j).outer ≡ i → is_measured contexts i ≡ true → is_measured contexts j ≡ true
+  measured_by i zero behind within around is = absurd (omega (arith, behind))
+  measured_by i (suc j) behind within around is =
+      let here : shrinks_within j contexts i ≡ true = enough j j i (omega arith) (omega (arith, behind)) (omega (arith, behind, within)) ∙ is in
+      let out : shrinks_within j contexts (formatting_context_at contexts (suc j)).outer ≡ true = ap (shrinks_within j contexts) around ∙ here in
+      ap (λ (b : Bool). shrinks_to_fit (boxes_in contexts (suc j)) || b) out ∙ or_true (shrinks_to_fit (boxes_in contexts (suc j)))
+
+pub measured_goes_inward_lem : MeasuredGoesInward
+measured_goes_inward_lem contexts i j are within inside is =
+    measured_by contexts are i j (are.behind i j within inside) (are.within i j within inside) (are.around i j within inside) is

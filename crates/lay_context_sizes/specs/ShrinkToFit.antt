@@ -1,0 +1,26 @@
+-- Which own boxes may shrink to fit their content, so that preferred widths count: what floats (CSS 2.2, 10.3.5), is absolutely
+-- positioned (10.3.7) or is inline-level (10.3.9, 17.5.2). A block in flow fills its containing block (10.3.3), and a cell is as wide
+-- as its table says.
+use Rattle.std.specs.Prelude.{Bool, true, false, List, slice_get, Option, None, Some}
+use Rattle.lay_boxgen.specs.declared.box_tree.BoxKind.{BoxKind}
+use Rattle.lay_boxgen.specs.declared.box_tree.BoxKind.TheVariants as kind
+use Rattle.lay_boxgen.specs.declared.box_tree.BoxNode.{BoxNode}
+use Rattle.lay_boxgen.specs.declared.facts.Flow.{Flow}
+use Rattle.lay_boxgen.specs.declared.facts.Flow.TheVariants.{InFlow}
+
+abbrev pub shrinks_in_flow : BoxKind → Bool
+shrinks_in_flow kind.InlineBlock = true
+shrinks_in_flow kind.InlineWrapper = true
+shrinks_in_flow _ = false
+
+abbrev pub shrinks : Flow → BoxKind → Bool
+shrinks InFlow kind = shrinks_in_flow kind
+shrinks _ kind = true
+
+abbrev pub box_shrinks : Option BoxNode → Bool
+box_shrinks None = false
+box_shrinks (Some b) = shrinks b.flow b.kind
+
+-- the own box of these boxes, the first one, may shrink to fit
+abbrev pub shrinks_to_fit : List BoxNode → Bool
+shrinks_to_fit boxes = box_shrinks (slice_get boxes 0)

@@ -1,0 +1,32 @@
+//! Which own boxes may shrink to fit.
+
+ghost use Rattle.std.specs.Prelude.{◌≡◌};
+ghost use Rattle.lay_context_sizes.specs.ShrinkToFit.{shrinks, shrinks_in_flow, shrinks_to_fit};
+
+use lay_boxgen::{BoxKind, BoxNode, Flow};
+
+/// Whether the own box of these boxes, the first one, may shrink to fit its content (CSS 2.2, 10.3.5, 10.3.7, 10.3.9 and
+/// 17.5.2), so that its preferred widths count.
+pub fn shrinks_to_fit(boxes: &[BoxNode]) -> bool
+    ensures { result ≡ shrinks_to_fit boxes.now }
+{
+    match boxes.get(0) {
+        Some(node) => shrinks(node.flow, &node.kind),
+        None => false,
+    }
+}
+
+fn shrinks(flow: Flow, kind: &BoxKind) -> bool
+    ensures { result ≡ shrinks flow kind.now }
+{
+    match flow {
+        Flow::InFlow => shrinks_in_flow(kind),
+        Flow::Floating | Flow::Absolute => true,
+    }
+}
+
+fn shrinks_in_flow(kind: &BoxKind) -> bool
+    ensures { result ≡ shrinks_in_flow kind.now }
+{
+    matches!(kind, BoxKind::InlineBlock | BoxKind::InlineWrapper)
+}
