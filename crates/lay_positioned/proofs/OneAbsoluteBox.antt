@@ -1,5 +1,5 @@
 -- An absolutely positioned box has one set of sizes and stands in one place, as its equations have one solution.
-use Rattle.std.proofs.Common.{◌≡◌, Bool, true, false, refl, sym, ap, ◌∙◌}
+use Rattle.std.proofs.Common.{◌≡◌, Bool, true, false, refl, subst, sym, ap, ◌∙◌}
 use Rattle.std.specs.Prelude.{Option, Some, None}
 use Rattle.lay_units.specs.declared.length.Unit.{Unit as Length}
 use Rattle.lay_units.specs.declared.records.AbsOut.{AbsOut}
@@ -11,6 +11,8 @@ use Rattle.lay_boxgen.specs.Kinds.{is_wrapper}
 use Rattle.lay_abspos.specs.declared.axis.Axis.{Axis}
 use Rattle.lay_abspos.specs.declared.axis.ContentSize.TheVariants.{Shrinks as shrinks}
 use Rattle.lay_abspos.proofs.Unique.{one_used_axis_lem}
+use Rattle.lay_pieces.specs.Corners.{IsCornerNear}
+use Rattle.lay_pieces.specs.declared.corner.Corner.{Corner}
 use Rattle.lay_sizes.specs.UsedLengths.{no_length}
 use Rattle.lay_sizes.specs.declared.sizing.BoxSizes.{BoxSizes}
 use Rattle.lay_widths.specs.declared.widths.BlockOut.{BlockOut}
@@ -18,7 +20,7 @@ use Rattle.lay_positioned.specs.declared.settings.AbsoluteSetting.{AbsoluteSetti
 use Rattle.lay_positioned.specs.AbsoluteAxes.{axis_across, wrapper_across}
 use Rattle.lay_positioned.specs.AbsoluteSizes.{IsAxisSize, IsStretchedAs, border_start, is_stretched, own_axis_across, own_axis_down, widths_in}
 use Rattle.lay_positioned.specs.Laws.{OneAbsoluteSizes, OneOffset, OneStretchedHeight, OneTableLeft}
-use Rattle.lay_positioned.specs.Offsets.{axis_of_height, corner_inside}
+use Rattle.lay_positioned.specs.Offsets.{IsOffset, axis_of_height, corner_inside}
 
 abbrev sizes_of : Length → BlockOut → Sides → (margin_top margin_bottom : Length) → Len → Length → Option Length → BoxSizes
 sizes_of containing widths edges margin_top margin_bottom height min_height max_height = record {
@@ -68,3 +70,8 @@ pub one_offset_lem : OneOffset
 one_offset_lem s own left height x y p q =
     let out = one_used_axis_lem (axis_of_height (is_wrapper own.kind) s own height) p.out q.out p.down q.down in
     p.corner_is ∙ ap (λ (o : AbsOut). corner_inside s left (border_start o)) out ∙ sym q.corner_is
+
+-- where one corner of it is far away, each is
+pub far_offset : (s : AbsoluteSetting) (own : BoxNode) (left height : Length) (here : Corner) → IsOffset s own left height here → (IsCornerNear here → ⊥)
+    → (corner : Corner) → IsOffset s own left height corner → IsCornerNear corner → ⊥
+far_offset s own left height here is far corner other near = far (subst IsCornerNear (one_offset_lem s own left height corner here other is) near)

@@ -1,8 +1,9 @@
 //! Where absolutely positioned boxes stand.
 
-ghost use Rattle.std.specs.Prelude.{◌≡◌, ◌+ℤ◌, IfOk};
+ghost use Rattle.std.specs.Prelude.{◌≡◌, ◌+ℤ◌, IfErr, IfOk};
 ghost use Rattle.lay_abspos.specs.AbsoluteFits.{AxisFits};
 ghost use Rattle.lay_pieces.specs.Corners.{IsCornerNear};
+ghost use Rattle.lay_pieces.specs.declared.corner.Corner.{Corner};
 ghost use Rattle.lay_boxgen.specs.Kinds.{is_wrapper};
 ghost use Rattle.lay_sizes.specs.OwnBoxes.{IsBoxSize};
 ghost use Rattle.lay_positioned.specs.OffsetBounds.{IsStart};
@@ -20,7 +21,7 @@ use lay_units::{Len, NoMemory, Unit};
 
 /// The corner of the border box of this box, counted as its containing block is: its left edge is so far from that of the
 /// containing block, and it is so high (CSS 2.2, 10.6.4 and 10.6.5). NoMemory is the answer where it is more than 2^60 units
-/// away, which it is in no document within the limits.
+/// away, and nowhere else.
 pub fn own_offset(
     setting: &AbsoluteSetting,
     own: &BoxNode,
@@ -32,11 +33,26 @@ pub fn own_offset(
     requires height { IsBoxSize height.0 }
     ensures offset { IfOk result (IsOffset setting.now own.now left height) }
     ensures near { IfOk result IsCornerNear }
+    ensures far { IfErr result (λ e. (corner : Corner) → IsOffset setting.now own.now left height corner → IsCornerNear corner → ⊥) }
+{
+    let corner = corner_inside(setting, own, left, height);
+    near_corner(corner.x, corner.y)
+}
+
+/// The same corner, however far away.
+fn corner_inside(setting: &AbsoluteSetting, own: &BoxNode, left: Unit, height: Unit) -> Corner
+    requires setting { SettingFits setting.now }
+    requires left { IsStart left.0 }
+    requires height { IsBoxSize height.0 }
+    ensures { IsOffset setting.now own.now left height result }
 {
     let axis = axis_of_height(is_wrapper(&own.kind), setting, own, height);
     let top = border_start(&solved(&axis));
     let rect = setting.rect;
-    near_corner(moved(rect.x, left), moved(rect.y, top))
+    Corner {
+        x: moved(rect.x, left),
+        y: moved(rect.y, top),
+    }
 }
 
 /// The equation down, of a box whose border box is so high.

@@ -1,6 +1,6 @@
 //! Rectangles that are counted from one corner or another.
 
-ghost use Rattle.std.specs.Prelude.{◌≡◌, ◌+ℤ◌, ◌-ℤ◌, IfOk};
+ghost use Rattle.std.specs.Prelude.{◌≡◌, ◌+ℤ◌, ◌-ℤ◌, IfErr, IfOk};
 ghost use Rattle.lay_units.specs.Units.{IsPosition};
 ghost use Rattle.lay_sizes.specs.SizeBounds.{IsInset};
 ghost use Rattle.lay_pieces.specs.Corners.{IsCornerNear, IsNear};
@@ -10,10 +10,11 @@ ghost use Rattle.lay_positioned.specs.ContainingRects.{seen_from};
 use lay_pieces::{Corner, near_position};
 use lay_units::{NoMemory, Rect, Unit};
 
-/// A rectangle. NoMemory is the answer where one of its numbers is more than 2^60 units from 0.
+/// A rectangle. NoMemory is the answer where one of its numbers is more than 2^60 units from 0, and nowhere else.
 pub(crate) fn near_rect(r: Rect) -> Result<Rect, NoMemory>
     ensures rect { IfOk result (λ n. n ≡ r) }
     ensures near { IfOk result IsRectNear }
+    ensures far { IfErr result (λ e. IsRectNear r → ⊥) }
 {
     let x = near_position(r.x)?;
     let y = near_position(r.y)?;
@@ -28,6 +29,7 @@ pub(crate) fn seen_from(corner: Corner, r: Rect) -> Result<Rect, NoMemory>
     requires near { IsRectNear r }
     ensures rect { IfOk result (λ n. n ≡ seen_from corner r) }
     ensures near { IfOk result IsRectNear }
+    ensures far { IfErr result (λ e. IsRectNear (seen_from corner r) → ⊥) }
 {
     let rect = Rect {
         x: difference(r.x, corner.x),
