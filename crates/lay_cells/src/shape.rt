@@ -64,6 +64,13 @@ impl<K: Copy + Ord> Shape<K> {
         Ok(())
     }
 
+    /// Each key is there once, and depends on keys before it. It does nothing: a caller learns what the type keeps.
+    pub fn shaped(&self)
+        ensures { IsShape self.now }
+    {
+        let _keys = self.keys.len();
+    }
+
     /// The keys with their dependencies, in order, without a copy.
     pub(crate) fn into_plans(self) -> Vec<Planned<K>>
         ensures plans { map planned result.items ≡ self }

@@ -3,6 +3,7 @@ pub mod GivenFacts
 pub mod MeasuredInward
 pub mod OneCorners
 pub mod OneTree
+pub mod OneValue
 pub mod PieceRanges
 pub mod PlaceFacts
 pub mod PlaceInputs

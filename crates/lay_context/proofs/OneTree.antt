@@ -1,5 +1,5 @@
 -- Two workings that meet the equations of a document are equal, task by task in their order, and so are their trees.
-use Rattle.std.proofs.Common.{◌≡◌, ℕ, zero, suc, ◌+◌, ◌<◌, List, length, refl, sym, ap, subst, ◌∙◌, arith}
+use Rattle.std.proofs.Common.{◌≡◌, ℕ, zero, suc, ◌+◌, ◌<◌, List, length, refl, sym, ap, subst, ◌∙◌, arith, option_map}
 use Rattle.lay_doc.specs.Document.{parents_of, declarations_of}
 use Rattle.lay_doc.proofs.OneStyles.{one_style_column_lem, same_list}
 use Rattle.lay_boxgen.proofs.NodeColumns.{length-parents}
@@ -12,17 +12,13 @@ use Rattle.lay_formatting.specs.Laws.{FormattingContextsStandInOrder, OneFormatt
 use Rattle.lay_positioned.specs.Levels.{HasLevels}
 use Rattle.lay_positioned.proofs.LevelSteps.{levels_are, levels_of}
 use Rattle.lay_pieces.specs.declared.corner.Corner.{Corner}
-use Rattle.lay_placement.specs.Laws.{OnePlacement}
-use Rattle.lay_table.specs.Laws.{OneTablePlacement}
 use Rattle.lay_context.specs.declared.task.Phase.{Phase}
 use Rattle.lay_context.specs.declared.task.Phase.TheVariants.{Measure, Size, Place}
 use Rattle.lay_context.specs.declared.task.Task.{Task}
 use Rattle.lay_context.specs.declared.input.Input.{Input}
-use Rattle.lay_context.specs.declared.value.Value.TheVariants as value
 use Rattle.lay_context_sizes.specs.ContextSizes.{not_sized}
 use Rattle.lay_context.specs.DocumentLayout.{widths_in}
-use Rattle.lay_context_sizes.specs.Laws.{OneContextSizes, OneContextWidths}
-use Rattle.lay_context.specs.Laws.{OneSolution}
+use Rattle.lay_context.specs.Laws.{HasContextBoxes, OneSolution}
 use Rattle.lay_context.specs.Local.{Workings, IsLocal, IsTaskDone, flow_input, input_by, input_of, measure_input, size_input, stand_input, table_input, value_by, value_of}
 use Rattle.lay_context.specs.Measured.{is_measured}
 use Rattle.lay_context.specs.Medium.{Medium}
@@ -32,7 +28,7 @@ use Rattle.lay_context.specs.PlacedContexts.{not_placed, placed_in}
 use Rattle.lay_context.specs.Settings.{sizes_in}
 use Rattle.lay_context.specs.Solves.{SolvesContexts, medium_of, page_context, page_contexts}
 use Rattle.lay_context.proofs.OneCorners.{one_corner_column}
-use Rattle.lay_context.proofs.PlaceFacts.{one_measured, one_placed}
+use Rattle.lay_context.proofs.OneValue.{OneAnswer, measured_boxes, one_local_lem, placed_boxes}
 use Rattle.lay_context.proofs.TaskInputs.{inputs_come_of_needs_lem, place_value, size_value}
 use Rattle.lay_context.proofs.TaskOrder.{needs_come_first_lem}
 
@@ -45,29 +41,21 @@ page_contexts_same contexts v w x y sizes places corners (suc n) =
     let last : page_context contexts v x n ≡ page_context contexts w y n = rw (sizes, places, corners) refl in
     rw (rest, last) refl
 
--- what a task of each phase answers is the only answer
-pub record OneAnswer : Type 0 where
-  pub widths : OneContextWidths
-  pub sizes : OneContextSizes
-  pub placement : OnePlacement
-  pub table_placement : OneTablePlacement
-
 module _ (one : OneAnswer) (medium : Medium) (contexts : List FormattingContext) (are : AreFormattingContexts contexts) where
   -- all tasks are done with these values
   abbrev AllDone : Workings → Type 0
   AllDone w = (task : Task) → task.context < length contexts → IsTaskDone medium contexts w task
 
-  -- a task has one value, where it is given the same
-  by_phase : (v w : Workings) (phase : Phase) (i : ℕ) → i < length contexts → IsLocal (input_by medium contexts v phase i) (value_by v phase i) → IsLocal (input_by medium contexts v phase i) (value_by w phase i)
-      → value_by v phase i ≡ value_by w phase i
-  by_phase v w Measure i lt a b = ap value.Measure (one_measured one.widths (is_measured contexts i) (measure_input medium contexts v i) (widths_in v.widths i) (widths_in w.widths i) a b)
-  by_phase v w Size i lt a b = ap value.Size (one.sizes (size_input medium contexts v i) (sizes_in v.sizes i) (sizes_in w.sizes i) (are.boxes i lt) a b)
-  by_phase v w Place i lt a b =
-      ap value.Place (one_placed (flow_input medium contexts v i) (stand_input medium contexts v i) (table_input contexts v i) (λ t. refl) one.placement one.table_placement (sizes_in v.sizes i).table (placed_in v.places i) (placed_in w.places i) (are.boxes i lt) a b)
+  -- what a task is given are the boxes of a formatting context
+  boxes_given : (w : Workings) (phase : Phase) (i : ℕ) → i < length contexts → HasContextBoxes (input_by medium contexts w phase i)
+  boxes_given w Measure i lt = measured_boxes (is_measured contexts i) (measure_input medium contexts w i)
+  boxes_given w Size i lt = are.boxes i lt
+  boxes_given w Place i lt = placed_boxes (flow_input medium contexts w i) (stand_input medium contexts w i) (option_map (table_input contexts w i) (sizes_in w.sizes i).table) (are.boxes i lt)
 
   one_value : (v w : Workings) (task : Task) → task.context < length contexts → IsTaskDone medium contexts v task → IsTaskDone medium contexts w task
       → input_of medium contexts v task ≡ input_of medium contexts w task → value_of v task ≡ value_of w task
-  one_value v w task lt a b same = by_phase v w task.phase task.context lt a (subst (λ (i : Input). IsLocal i (value_of w task)) (sym same) b)
+  one_value v w task lt a b same =
+      one_local_lem one (input_of medium contexts v task) (value_of v task) (value_of w task) (boxes_given v task.phase task.context lt) a (subst (λ (i : Input). IsLocal i (value_of w task)) (sym same) b)
 
   -- values agree turn by turn, since what a task needs had its turn before
   agree : (levels : List ℕ) → HasLevels contexts levels → (v w : Workings) → AllDone v → AllDone w → (m : ℕ) (task : Task) → task.context < length contexts → turn_of levels task < m → value_of v task ≡ value_of w task

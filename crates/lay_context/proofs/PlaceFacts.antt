@@ -1,14 +1,11 @@
 -- A placement is that of boxes in block flow, or of a table.
 use Rattle.std.proofs.Common.{◌≡◌, ℕ, zero, suc, Bool, true, false, [], ◌∷◌, length, length-append, refl, ap, sym, subst, ◌∙◌, arith, Option, None, Some, option_map}
 use Rattle.lay_measure.specs.declared.preferred_widths.PreferredWidths.{PreferredWidths}
-use Rattle.lay_context_boxes.specs.ContextBoxes.{AreContextBoxes}
 use Rattle.lay_pieces.specs.Placements.{Placement}
 use Rattle.lay_flow_boxes.specs.PlaceInputs.{PlaceInput}
 use Rattle.lay_placement.specs.BoxStandings.{standing_of_box, standings_to}
 use Rattle.lay_placement.specs.ContextPlacements.{IsPlacement}
 use Rattle.lay_placement.specs.ContextPlaces.{ContextPlaces}
-use Rattle.lay_placement.specs.Laws.{OnePlacement}
-use Rattle.lay_table.specs.Laws.{OneTablePlacement}
 use Rattle.lay_table.specs.TableInputs.{TableInput}
 use Rattle.lay_table.specs.TablePlacements.{IsTablePlacement, standings_to as table_standings_to}
 use Rattle.lay_table.specs.TableStandings.{TablePlaces, standing_of}
@@ -20,7 +17,6 @@ use Rattle.lay_pieces.specs.declared.corner.Corner.{Corner}
 use Rattle.lay_positioned.proofs.OneAbsoluteBox.{one_offset_lem}
 use Rattle.lay_context_sizes.specs.ContextSizes.{SizedContext}
 use Rattle.lay_context_sizes.specs.Inputs.{MeasureInput}
-use Rattle.lay_context_sizes.specs.Laws.{OneContextWidths}
 use Rattle.lay_context.specs.OwnOffsets.{IsOwnOffset, IsOwnOffsetBy, StandInput}
 use Rattle.lay_context.specs.PlacedContexts.{PlacedContext}
 use Rattle.lay_context.specs.declared.own_place.OwnPlace.{OwnPlace}
@@ -34,11 +30,6 @@ measured_not_sized false i sized local = local
 pub measured_not_placed : (b : Bool) (i : MeasureInput) (placed : PlacedContext) → IsLocal (measure_as b i) (value.Place placed) → ⊥
 measured_not_placed true i placed local = local
 measured_not_placed false i placed local = local
-
--- beside what it is given a formatting context has one pair of preferred widths
-pub one_measured : OneContextWidths → (b : Bool) (i : MeasureInput) (x y : PreferredWidths) → IsLocal (measure_as b i) (value.Measure x) → IsLocal (measure_as b i) (value.Measure y) → x ≡ y
-one_measured one true i x y a b = one i x y a b
-one_measured one false i x y a b = a ∙ sym b
 
 pub not_measured : (flow : PlaceInput) (table : Option TableInput) (at : StandInput) (widths : PreferredWidths) → IsLocal (place_as flow table at) (value.Measure widths) → ⊥
 not_measured flow None at widths local = local
@@ -67,27 +58,22 @@ table_stands i p is = ap (λ (a : Placement). length a.standings) is.answer_is �
 abbrev placed_as : Placement → Corner → PlacedContext
 placed_as placement offset = record { placement = placement; offset = offset }
 
-module _ (flow : PlaceInput) (at : StandInput) (of : TableSizesValue → TableInput) (same : (t : TableSizesValue) → (of t).boxes ≡ flow.boxes) where
-  -- each box has its standing
-  pub stands : (o : Option TableSizesValue) (p : PlacedContext) → IsLocal (place_as flow (option_map of o) at) (value.Place p) → length p.placement.standings ≡ length flow.boxes
-  stands None p local = flow_stands flow p.placement local.0
-  stands (Some t) p local = rw (← same t) (table_stands (of t) p.placement local.0)
-
+module _ (at : StandInput) where
   -- there is one offset beside a placement
   one_offset_by : (o : OwnPlace) (own : OwnBox) (a b : Corner) → IsOwnOffsetBy o at own a → IsOwnOffsetBy o at own b → a ≡ b
   one_offset_by Inner own a b p q = p ∙ sym q
   one_offset_by (Root viewport) own a b p q = p ∙ sym q
   one_offset_by (Absolute s) own a b p q = one_offset_lem s (box_at at.boxes 0) at.left own.height a b p q
 
-  same_placed : (p q : PlacedContext) → p.placement ≡ q.placement → IsOwnOffset at p.placement.own p.offset → IsOwnOffset at q.placement.own q.offset → p ≡ q
+  pub same_placed : (p q : PlacedContext) → p.placement ≡ q.placement → IsOwnOffset at p.placement.own p.offset → IsOwnOffset at q.placement.own q.offset → p ≡ q
   same_placed p q e a b =
       let own : p.placement.own ≡ q.placement.own = ap (λ (x : Placement). x.own) e in
       let offset : p.offset ≡ q.offset = one_offset_by at.position q.placement.own p.offset q.offset (subst (λ (o : OwnBox). IsOwnOffset at o p.offset) own a) b in
       let r : placed_as p.placement p.offset ≡ placed_as q.placement q.offset = rw (e, offset) refl in
       r
 
-  -- there is one placement
-  pub one_placed : OnePlacement → OneTablePlacement → (o : Option TableSizesValue) (p q : PlacedContext) → AreContextBoxes flow.boxes
-      → IsLocal (place_as flow (option_map of o) at) (value.Place p) → IsLocal (place_as flow (option_map of o) at) (value.Place q) → p ≡ q
-  one_placed one one_table None p q are a b = same_placed p q (one flow p.placement q.placement are a.0 b.0) a.1 b.1
-  one_placed one one_table (Some t) p q are a b = same_placed p q (one_table (of t) p.placement q.placement a.0 b.0) a.1 b.1
+module _ (flow : PlaceInput) (at : StandInput) (of : TableSizesValue → TableInput) (same : (t : TableSizesValue) → (of t).boxes ≡ flow.boxes) where
+  -- each box has its standing
+  pub stands : (o : Option TableSizesValue) (p : PlacedContext) → IsLocal (place_as flow (option_map of o) at) (value.Place p) → length p.placement.standings ≡ length flow.boxes
+  stands None p local = flow_stands flow p.placement local.0
+  stands (Some t) p local = rw (← same t) (table_stands (of t) p.placement local.0)

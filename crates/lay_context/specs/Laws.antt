@@ -1,17 +1,31 @@
 -- A task has one value beside what it is given, and is given something by the tasks alone that it needs, of which each has its
 -- turn before it. So a document has one layout.
-use Rattle.std.specs.Prelude.{ℕ, ◌≡◌, ◌<◌, true, List, length}
+use Rattle.std.specs.Prelude.{ℕ, ◌≡◌, ◌<◌, true, List, length, ⊤}
 use Rattle.lay_doc.specs.Document.{Document, IsDocument}
 use Rattle.lay_frag.specs.Pieces.{Context as PageContext}
 use Rattle.lay_face.specs.FaceValue.{FaceValue}
+use Rattle.lay_context_boxes.specs.ContextBoxes.{AreContextBoxes}
 use Rattle.lay_formatting.specs.FormattingContexts.{FormattingContext, AreFormattingContexts, IsInside}
 use Rattle.lay_positioned.specs.Levels.{HasLevels}
+use Rattle.lay_context.specs.declared.input.Input.{Input}
+use Rattle.lay_context.specs.declared.input.Input.TheVariants as input
 use Rattle.lay_context.specs.declared.task.Task.{Task}
-use Rattle.lay_context.specs.Local.{Workings, input_of, value_of}
+use Rattle.lay_context.specs.declared.value.Value.{Value}
+use Rattle.lay_context.specs.Local.{IsLocal, Workings, input_of, value_of}
 use Rattle.lay_context.specs.Measured.{is_measured}
 use Rattle.lay_context.specs.Medium.{Medium}
 use Rattle.lay_context.specs.Needs.{Needs, turn_of}
 use Rattle.lay_context.specs.Solves.{Solves}
+
+-- what is sized or placed in block flow are the boxes of a formatting context
+abbrev pub HasContextBoxes : Input → Type 0
+HasContextBoxes (input.Size i) = AreContextBoxes i.boxes
+HasContextBoxes (input.Place i at) = AreContextBoxes i.boxes
+HasContextBoxes _ = ⊤
+
+-- beside what it is given a task has one value
+abbrev pub OneLocal : Type 0
+OneLocal = (i : Input) (v w : Value) → HasContextBoxes i → IsLocal i v → IsLocal i w → v ≡ w
 
 -- where the values that a task needs are equal, it is given the same
 abbrev pub InputsComeOfNeeds : Type 0

@@ -1,12 +1,22 @@
 //! The laws of the definitions: a task has one value and needs what the table says, so that a document has one
 //! layout.
 
-ghost use Rattle.lay_context.specs.Laws.{InputsComeOfNeeds, MeasuredGoesInward, NeedsComeFirst, OneSolution};
+ghost use Rattle.lay_context.specs.Laws.{InputsComeOfNeeds, MeasuredGoesInward, NeedsComeFirst, OneLocal, OneSolution};
 
 use lay_context_sizes::{one_context_sizes, one_context_widths};
 use lay_formatting::{formatting_contexts_stand_in_order, one_formatting_context_list};
 use lay_placement::one_placement;
 use lay_table::one_table_placement;
+
+/// Beside what it is given a task has one value.
+pub fn one_local()
+    ensures { OneLocal }
+{
+    one_context_widths();
+    one_context_sizes();
+    one_placement();
+    one_table_placement();
+}
 
 /// A task is given nothing but what the tasks that it needs give it.
 pub fn inputs_come_of_needs()

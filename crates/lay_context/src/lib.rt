@@ -28,5 +28,7 @@ mod stand_input;
 mod task;
 mod value;
 
-pub use laws::{inputs_come_of_needs, measured_goes_inward, needs_come_first, one_solution};
+pub use laws::{
+    inputs_come_of_needs, measured_goes_inward, needs_come_first, one_local, one_solution,
+};
 pub use layout::{scratch, scratch_styled};

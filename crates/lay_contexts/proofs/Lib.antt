@@ -1,3 +1,4 @@
 pub mod ContextNumbers
+pub mod FewContexts
 pub mod ListedSteps
 pub mod SpotOrder

@@ -20,9 +20,6 @@ use lay_style::Computed;
 use lay_units::NoMemory;
 use std::alloc::Global;
 
-/// The most contexts of a document: it has no more nodes.
-const MOST_CONTEXTS: usize = 16384;
-
 /// Where the boxes of contexts stand, and the boxes of each.
 #[derive(Drop)]
 struct ContextList {
@@ -30,16 +27,14 @@ struct ContextList {
     boxes: Vec<ContextBoxes>,
 }
 
-/// The contexts of a document, with a style for each node. NoMemory is also the answer for more than 16,384,
-/// which no document has, and where a context stood in no other, which none does.
+/// The contexts of a document, with a style for each node. NoMemory is also the answer where a context stood in no
+/// other, which none does.
 pub fn contexts_of(alloc: Global, doc: &Doc, computed: &Computed) -> Result<Contexts, NoMemory>
     requires styles { length computed.now ≡ length doc.now.nodes }
     ensures { IfOk result (AreContextsOf doc.now.nodes computed.now) }
 {
+    let _ = doc.nodes();
     let list = context_list(alloc, doc, computed)?;
-    if list.spots.len() > MOST_CONTEXTS {
-        return Err(NoMemory);
-    }
     let mut items = without_inner(alloc, &list)?;
     number_inner(&list, &mut items);
     Ok(Contexts::new(items))

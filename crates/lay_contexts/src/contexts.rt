@@ -1,6 +1,7 @@
 //! The contexts of a document.
 
 ghost use Rattle.std.specs.Prelude.{◌≡◌, ◌<◌, ◌≤◌, length, slice_set};
+ghost use Rattle.lay_units.specs.Limits.{most_nodes};
 ghost use Rattle.lay_contexts.specs.Contexts.{AreContexts, context_at};
 
 use lay_context_boxes::ContextBoxes;
@@ -78,19 +79,20 @@ pub struct Contexts {
 
 impl Model for Contexts {
     ghost use Rattle.std.specs.Prelude.{List, length, ◌≤◌};
+    ghost use Rattle.lay_units.specs.Limits.{most_nodes};
     ghost use Rattle.lay_contexts.specs.Contexts.{Context as Plain, AreContexts};
 
     ghost Value = { List Plain };
 
     ghost view = { λ c. c.items.items };
 
-    ghost invariant = { λ c. (length c.items.items ≤ 16384) × AreContexts c.items.items };
+    ghost invariant = { λ c. (length c.items.items ≤ most_nodes) × AreContexts c.items.items };
 }
 
 impl Contexts {
     /// These contexts.
     pub fn new(items: Vec<Context>) -> Contexts
-        requires few { length items.items ≤ 16384 }
+        requires few { length items.items ≤ most_nodes }
         requires are { AreContexts items.items }
         ensures { result ≡ items.items }
     {
@@ -100,7 +102,7 @@ impl Contexts {
     /// How many they are.
     pub fn len(&self) -> usize
         ensures count { result ≡ length self.now }
-        ensures few { result ≤ 16384 }
+        ensures few { result ≤ most_nodes }
         ensures are { AreContexts self.now }
     {
         self.items.len()
