@@ -22,25 +22,28 @@ fn has_seen(boxes: &[Subtree]) -> bool
 }
 
 /// Anonymous blocks go round what is no block.
-struct BlockRound;
+#[derive(Clone, Copy)]
+struct BlockRound {
+    parent: Facts,
+}
 
 impl RunRule for BlockRound {
-    ghost faulty = { λ parent child. is_no_block child };
+    ghost faulty = { λ rule. is_no_block };
 
-    ghost closed = { block_round };
+    ghost closed = { λ rule. block_round rule.parent };
 
-    fn is_faulty(_parent: Facts, child: Facts) -> bool {
+    fn is_faulty(&self, child: Facts) -> bool {
         !is_block(child)
     }
 
     fn close(
+        &self,
         _alloc: Global,
-        parent: Facts,
         run: Vec<Subtree>,
         out: &mut Vec<Subtree>,
     ) -> Result<(), NoMemory> {
         if has_seen(run.as_slice()) {
-            out.push(anonymous_box(parent, Form::Block, run))?;
+            out.push(anonymous_box(self.parent, Form::Block, run))?;
             Ok(())
         } else {
             put_but_texts(run, out)
@@ -57,7 +60,7 @@ fn run_wrapped(
     ensures { IfOk result (λ v. v.items ≡ run_wrapped facts children.items) }
 {
     if is_block_container(facts.form) && has_block(children.as_slice()) {
-        gather::<BlockRound>(alloc, facts, children)
+        gather(alloc, &BlockRound { parent: facts }, children)
     } else {
         Ok(children)
     }

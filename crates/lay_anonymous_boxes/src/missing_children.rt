@@ -13,20 +13,23 @@ use lay_units::NoMemory;
 use std::alloc::Global;
 
 /// In a row, cells go round what is no cell.
-struct CellRound;
+#[derive(Clone, Copy)]
+struct CellRound {
+    parent: Facts,
+}
 
 impl RunRule for CellRound {
-    ghost faulty = { λ parent child. is_no_cell child };
+    ghost faulty = { λ rule. is_no_cell };
 
-    ghost closed = { cell_round };
+    ghost closed = { λ rule. cell_round rule.parent };
 
-    fn is_faulty(_parent: Facts, child: Facts) -> bool {
+    fn is_faulty(&self, child: Facts) -> bool {
         !(is_in_flow(child.flow) && is_cell(child.form))
     }
 
     fn close(
+        &self,
         _alloc: Global,
-        parent: Facts,
         run: Vec<Subtree>,
         out: &mut Vec<Subtree>,
     ) -> Result<(), NoMemory> {
@@ -34,7 +37,7 @@ impl RunRule for CellRound {
             colspan: 1,
             rowspan: 1,
         };
-        out.push(anonymous_box(parent, cell, run))?;
+        out.push(anonymous_box(self.parent, cell, run))?;
         Ok(())
     }
 }
@@ -43,7 +46,7 @@ impl RunRule for CellRound {
 fn in_cells(alloc: Global, facts: Facts, children: Vec<Subtree>) -> Result<Vec<Subtree>, NoMemory>
     ensures { IfOk result (λ v. v.items ≡ in_cells facts children.items) }
 {
-    gather::<CellRound>(alloc, facts, children)
+    gather(alloc, &CellRound { parent: facts }, children)
 }
 
 /// Puts an anonymous row round a run at the end of `out`.
@@ -61,46 +64,52 @@ fn put_row_round(
 }
 
 /// In a table, rows go round what is no proper table child.
-struct RowRoundInTable;
+#[derive(Clone, Copy)]
+struct RowRoundInTable {
+    parent: Facts,
+}
 
 impl RunRule for RowRoundInTable {
-    ghost faulty = { λ parent child. is_no_proper_table_child child };
+    ghost faulty = { λ rule. is_no_proper_table_child };
 
-    ghost closed = { row_round };
+    ghost closed = { λ rule. row_round rule.parent };
 
-    fn is_faulty(_parent: Facts, child: Facts) -> bool {
+    fn is_faulty(&self, child: Facts) -> bool {
         !(is_in_flow(child.flow) && is_proper_table_child(child.form))
     }
 
     fn close(
+        &self,
         alloc: Global,
-        parent: Facts,
         run: Vec<Subtree>,
         out: &mut Vec<Subtree>,
     ) -> Result<(), NoMemory> {
-        put_row_round(alloc, parent, run, out)
+        put_row_round(alloc, self.parent, run, out)
     }
 }
 
 /// In a row group, rows go round what is no row.
-struct RowRoundInGroup;
+#[derive(Clone, Copy)]
+struct RowRoundInGroup {
+    parent: Facts,
+}
 
 impl RunRule for RowRoundInGroup {
-    ghost faulty = { λ parent child. is_no_row child };
+    ghost faulty = { λ rule. is_no_row };
 
-    ghost closed = { row_round };
+    ghost closed = { λ rule. row_round rule.parent };
 
-    fn is_faulty(_parent: Facts, child: Facts) -> bool {
+    fn is_faulty(&self, child: Facts) -> bool {
         !(is_in_flow(child.flow) && is_row(child.form))
     }
 
     fn close(
+        &self,
         alloc: Global,
-        parent: Facts,
         run: Vec<Subtree>,
         out: &mut Vec<Subtree>,
     ) -> Result<(), NoMemory> {
-        put_row_round(alloc, parent, run, out)
+        put_row_round(alloc, self.parent, run, out)
     }
 }
 
@@ -113,9 +122,9 @@ fn child_wrapped(
     ensures { IfOk result (λ v. v.items ≡ child_wrapped facts children.items) }
 {
     if is_table(facts.form) {
-        gather::<RowRoundInTable>(alloc, facts, children)
+        gather(alloc, &RowRoundInTable { parent: facts }, children)
     } else if is_row_group(facts.form) {
-        gather::<RowRoundInGroup>(alloc, facts, children)
+        gather(alloc, &RowRoundInGroup { parent: facts }, children)
     } else if is_row(facts.form) {
         in_cells(alloc, facts, children)
     } else {

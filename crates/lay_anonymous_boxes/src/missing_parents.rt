@@ -16,24 +16,27 @@ use lay_units::NoMemory;
 use std::alloc::Global;
 
 /// Rows go round cells.
-struct RowRoundCells;
+#[derive(Clone, Copy)]
+struct RowRoundCells {
+    parent: Facts,
+}
 
 impl RunRule for RowRoundCells {
-    ghost faulty = { λ parent child. is_cell_in_flow child };
+    ghost faulty = { λ rule. is_cell_in_flow };
 
-    ghost closed = { row_of_cells };
+    ghost closed = { λ rule. row_of_cells rule.parent };
 
-    fn is_faulty(_parent: Facts, child: Facts) -> bool {
+    fn is_faulty(&self, child: Facts) -> bool {
         is_in_flow(child.flow) && is_cell(child.form)
     }
 
     fn close(
+        &self,
         _alloc: Global,
-        parent: Facts,
         run: Vec<Subtree>,
         out: &mut Vec<Subtree>,
     ) -> Result<(), NoMemory> {
-        out.push(anonymous_box(parent, Form::Row, run))?;
+        out.push(anonymous_box(self.parent, Form::Row, run))?;
         Ok(())
     }
 }
@@ -49,7 +52,7 @@ fn cells_in_rows(
     if is_row(facts.form) {
         Ok(children)
     } else {
-        gather::<RowRoundCells>(alloc, facts, children)
+        gather(alloc, &RowRoundCells { parent: facts }, children)
     }
 }
 
@@ -82,29 +85,32 @@ fn is_misparented(parent: Form, child: Facts) -> bool
 }
 
 /// Tables go round what is misparented: in an inline box inline-tables.
-struct TableRound;
+#[derive(Clone, Copy)]
+struct TableRound {
+    parent: Facts,
+}
 
 impl RunRule for TableRound {
-    ghost faulty = { λ parent child. is_misparented parent.form child };
+    ghost faulty = { λ rule. is_misparented rule.parent.form };
 
-    ghost closed = { table_round };
+    ghost closed = { λ rule. table_round rule.parent };
 
-    fn is_faulty(parent: Facts, child: Facts) -> bool {
-        is_misparented(parent.form, child)
+    fn is_faulty(&self, child: Facts) -> bool {
+        is_misparented(self.parent.form, child)
     }
 
     fn close(
+        &self,
         _alloc: Global,
-        parent: Facts,
         run: Vec<Subtree>,
         out: &mut Vec<Subtree>,
     ) -> Result<(), NoMemory> {
-        let table = if is_inline(parent.form) {
+        let table = if is_inline(self.parent.form) {
             Form::InlineWrapper
         } else {
             Form::Wrapper
         };
-        out.push(anonymous_box(parent, table, run))?;
+        out.push(anonymous_box(self.parent, table, run))?;
         Ok(())
     }
 }
@@ -114,7 +120,7 @@ fn parented(alloc: Global, facts: Facts, children: Vec<Subtree>) -> Result<Vec<S
     ensures { IfOk result (λ v. v.items ≡ parented facts children.items) }
 {
     let rows = cells_in_rows(alloc, facts, children)?;
-    gather::<TableRound>(alloc, facts, rows)
+    gather(alloc, &TableRound { parent: facts }, rows)
 }
 
 /// Generates missing parents.

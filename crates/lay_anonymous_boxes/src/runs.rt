@@ -12,24 +12,24 @@ use lay_box_tree::Flow;
 use lay_units::NoMemory;
 use std::alloc::Global;
 
-/// What replaces runs of consecutive faulty children of a box.
+/// What replaces runs of consecutive faulty children of a box. The rule knows the box.
 pub trait RunRule {
-    ghost faulty: { Facts → Facts → Bool };
+    ghost faulty: { Self → Facts → Bool };
 
-    ghost closed: { Facts → List Tree → List Tree };
+    ghost closed: { Self → List Tree → List Tree };
 
     /// Whether a child is faulty.
-    fn is_faulty(parent: Facts, child: Facts) -> bool
-        ensures { result ≡ faulty parent child };
+    fn is_faulty(&self, child: Facts) -> bool
+        ensures { result ≡ faulty self.now child };
 
     /// Puts what stands for a run at the end of `out`.
     fn close(
+        &self,
         alloc: Global,
-        parent: Facts,
         run: Vec<Subtree>,
         out: &mut Vec<Subtree>,
     ) -> Result<(), NoMemory>
-        ensures { OnOk result (out.new.items ≡ out.old.items ++ closed parent run.items) };
+        ensures { OnOk result (out.new.items ≡ out.old.items ++ closed self.now run.items) };
 }
 
 /// Children on the way: what is done, the open run, and the white space after it.
@@ -52,38 +52,33 @@ impl Gathering {
     }
 
     /// Ends the run, if one is open.
-    fn end_run<R: RunRule>(&mut self, alloc: Global, parent: Facts) -> Result<(), NoMemory>
-        ensures done { OnOk result (self.new.done.items ≡ self.old.done.items ++ run_over (R.closed parent) self.old.run.items self.old.gap.items) }
+    fn end_run<R: RunRule>(&mut self, alloc: Global, rule: &R) -> Result<(), NoMemory>
+        ensures done { OnOk result (self.new.done.items ≡ self.old.done.items ++ run_over (R.closed rule.now) self.old.run.items self.old.gap.items) }
         ensures run { OnOk result (self.new.run.items ≡ []) }
         ensures gap { OnOk result (self.new.gap.items ≡ []) }
     {
         if !self.run.is_empty() {
             let run = std::mem::replace(&mut self.run, Vec::new(alloc));
-            R::close(alloc, parent, run, &mut self.done)?;
+            rule.close(alloc, run, &mut self.done)?;
         }
         self.done.append(&mut self.gap)?;
         Ok(())
     }
 
     /// Takes the next child.
-    fn take<R: RunRule>(
-        &mut self,
-        alloc: Global,
-        parent: Facts,
-        child: Subtree,
-    ) -> Result<(), NoMemory>
+    fn take<R: RunRule>(&mut self, alloc: Global, rule: &R, child: Subtree) -> Result<(), NoMemory>
         ensures { OnOk result ((rest : List Tree) →
-            self.new.done.items ++ gathered_from (R.faulty parent) (R.closed parent) self.new.run.items self.new.gap.items rest
-            ≡ self.old.done.items ++ gathered_from (R.faulty parent) (R.closed parent) self.old.run.items self.old.gap.items (child ∷ rest)) }
+            self.new.done.items ++ gathered_from (R.faulty rule.now) (R.closed rule.now) self.new.run.items self.new.gap.items rest
+            ≡ self.old.done.items ++ gathered_from (R.faulty rule.now) (R.closed rule.now) self.old.run.items self.old.gap.items (child ∷ rest)) }
     {
         let facts = child.facts();
-        if R::is_faulty(parent, facts) {
+        if rule.is_faulty(facts) {
             self.run.append(&mut self.gap)?;
             self.run.push(child)?;
         } else if !self.run.is_empty() && is_white(facts.form) {
             self.gap.push(child)?;
         } else {
-            self.end_run::<R>(alloc, parent)?;
+            self.end_run(alloc, rule)?;
             self.done.push(child)?;
         }
         Ok(())
@@ -94,16 +89,16 @@ impl Gathering {
 /// of times.
 pub fn gather<R: RunRule>(
     alloc: Global,
-    parent: Facts,
+    rule: &R,
     children: Vec<Subtree>,
 ) -> Result<Vec<Subtree>, NoMemory>
-    ensures { IfOk result (λ v. v.items ≡ gathered (R.faulty parent) (R.closed parent) children.items) }
+    ensures { IfOk result (λ v. v.items ≡ gathered (R.faulty rule.now) (R.closed rule.now) children.items) }
 {
     let mut gathering = Gathering::new(alloc);
     for child in children {
-        gathering.take::<R>(alloc, parent, child)?;
+        gathering.take(alloc, rule, child)?;
     }
-    gathering.end_run::<R>(alloc, parent)?;
+    gathering.end_run(alloc, rule)?;
     Ok(gathering.done)
 }
 
