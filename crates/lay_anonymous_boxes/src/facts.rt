@@ -5,7 +5,7 @@ use lay_doc::NodeId;
 use lay_units::Unit;
 
 /// What is seen of a text.
-#[derive(Clone, Copy, Debug, PartialEq, Eq)]
+#[derive(Clone, Copy)]
 pub enum TextForm {
     /// It has more than white space.
     Seen,
@@ -16,7 +16,7 @@ pub enum TextForm {
 }
 
 /// What a box is.
-#[derive(Clone, Copy, Debug, PartialEq, Eq)]
+#[derive(Clone, Copy)]
 pub enum Form {
     Block,
     InlineBlock,
@@ -44,7 +44,7 @@ pub enum Form {
 }
 
 /// What is known of a box besides its children.
-#[derive(Clone, Copy, Debug, PartialEq, Eq)]
+#[derive(Clone, Copy)]
 pub struct Facts {
     /// Its node; of an anonymous box the nearest element's around it.
     pub node: NodeId,

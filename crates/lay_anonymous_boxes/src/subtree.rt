@@ -10,7 +10,7 @@ use std::alloc::Global;
 use std::marker::Model;
 
 /// A box with the trees of its children.
-#[derive(Drop, Debug)]
+#[derive(Drop)]
 pub struct Subtree {
     pub facts: Facts,
     pub children: Vec<Subtree>,

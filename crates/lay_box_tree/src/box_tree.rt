@@ -4,11 +4,11 @@ ghost use Rattle.std.specs.Prelude.{◌≡◌};
 
 use lay_doc::NodeId;
 use lay_style::Style;
-use lay_units::{Sides, Text, Unit};
+use lay_units::{Text, Unit};
 use std::marker::Model;
 
 /// What a box is.
-#[derive(Drop, Debug)]
+#[derive(Drop)]
 pub enum BoxKind {
     Block,
     InlineBlock,
@@ -35,7 +35,7 @@ pub enum BoxKind {
 }
 
 /// Whether a box is in flow (CSS 2.2, 9.3).
-#[derive(Clone, Copy, Debug, PartialEq, Eq)]
+#[derive(Clone, Copy)]
 pub enum Flow {
     InFlow,
     Floating,
@@ -98,24 +98,4 @@ impl BoxTree {
     {
         self.items.as_slice()
     }
-}
-
-/// The preferred minimum and preferred content width of an inner context, whose box stands at a place of
-/// a box tree.
-#[derive(Clone, Copy, Debug, PartialEq, Eq)]
-pub struct Preferred {
-    pub place: u32,
-    pub min: Unit,
-    pub pref: Unit,
-}
-
-/// The used margins of an inner context's box at a place of a box tree, the width and height of its
-/// border box, and its baseline, if it has one, from the top of that.
-#[derive(Clone, Copy, Debug, PartialEq, Eq)]
-pub struct InnerBox {
-    pub place: u32,
-    pub margin: Sides,
-    pub w: Unit,
-    pub h: Unit,
-    pub baseline: Option<Unit>,
 }

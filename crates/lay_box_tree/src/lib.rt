@@ -12,5 +12,5 @@ mod containers;
 mod laws;
 
 pub use box_role::Role;
-pub use box_tree::{BoxKind, BoxNode, BoxTree, Flow, InnerBox, Preferred};
+pub use box_tree::{BoxKind, BoxNode, BoxTree, Flow};
 pub use laws::{containers_are_a_tree, one_container};

@@ -17,7 +17,7 @@ use lay_units::NoMemory;
 use std::alloc::Global;
 
 /// The tree of boxes of a node, if it generates a box, with the place of the node's parent.
-#[derive(Drop, Debug)]
+#[derive(Drop)]
 pub struct NodeTree {
     pub parent: usize,
     pub tree: Option<Subtree>,
