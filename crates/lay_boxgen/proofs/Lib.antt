@@ -1,8 +1,4 @@
 pub mod Above
-pub mod BoxForests
-pub mod BoxMeasures
-pub mod BoxStages
-pub mod Broken
 pub mod CutNodes
 pub mod CutParts
 pub mod EveryBox
@@ -12,13 +8,12 @@ pub mod InnerContexts
 pub mod InnerLeaves
 pub mod Inside
 pub mod ListedContexts
+pub mod ListedForests
 pub mod ListedKinds
 pub mod ListedLeaves
-pub mod NearestContainers
 pub mod NodeColumns
 pub mod NodeForms
 pub mod Putting
-pub mod Replaced
 pub mod Settled
 pub mod SplitNodes
 pub mod WholeParts

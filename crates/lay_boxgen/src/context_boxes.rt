@@ -2,16 +2,15 @@
 
 ghost use Rattle.std.specs.Prelude.{◌≡◌, ◌<◌, ◌≤◌, [], IfOk, length};
 ghost use Rattle.lay_units.specs.Limits.{most_nodes};
-ghost use Rattle.lay_boxgen.specs.BoxColumns.{IsBoxTree};
+ghost use Rattle.lay_box_tree.specs.BoxColumns.{IsBoxTree};
 ghost use Rattle.lay_boxgen.specs.CutTrees.{generated_cut};
 ghost use Rattle.lay_boxgen.specs.Listing.{boxes_of, boxes_at, listed_part};
 ghost use Rattle.lay_boxgen.specs.Parts.{part, put_list, nothing};
 
-use crate::box_tree::{BoxNode, BoxTree};
-use crate::generation::generate;
 use crate::listing::{Sources, listed_part};
 use crate::node_trees::context_tree;
-use crate::subtree::Subtree;
+use lay_anonymous_boxes::{Subtree, generate};
+use lay_box_tree::{BoxNode, BoxTree};
 use lay_doc::{Doc, Node, NodeId};
 use lay_style::{Computed, Style};
 use lay_units::NoMemory;

@@ -1,23 +1,10 @@
 //! Laws of the definitions. The functions do nothing.
 
 ghost use Rattle.lay_boxgen.specs.BoxBounds.{BoxesAreFew};
-ghost use Rattle.lay_boxgen.specs.BreakLaws.{InlinesAreBroken};
-ghost use Rattle.lay_boxgen.specs.Containers.{ContainersAreATree, OneContainer};
 ghost use Rattle.lay_boxgen.specs.InnerBoxes.{BoxesLeadOn};
 ghost use Rattle.lay_boxgen.specs.KindLaws.{KindsSayForms};
 ghost use Rattle.lay_boxgen.specs.Laws.{AnchorsHoldBoxes, ContextIsOneBox, PartsAreWhole};
-ghost use Rattle.lay_boxgen.specs.RunLaws.{RunsAreReplaced};
 ghost use Rattle.lay_boxgen.specs.TreeLaws.{BoxesAreATree, InnerBoxesAreLeaves};
-
-/// Gathering runs of consecutive siblings replaces each longest run, and nothing else does.
-pub fn runs_are_replaced()
-    ensures { RunsAreReplaced }
-{}
-
-/// An inline box is broken round each longest break, and in no other way.
-pub fn inlines_are_broken()
-    ensures { InlinesAreBroken }
-{}
 
 /// The boxes of a node and all below it are the part of its context, with the boxes of inner contexts inside
 /// theirs.
@@ -49,16 +36,6 @@ pub fn boxes_lead_on()
 /// In the list of a context's boxes the first isn't that of an inner context, and no box is inside one of those.
 pub fn inner_boxes_are_leaves()
     ensures { InnerBoxesAreLeaves }
-{}
-
-/// A box has one nearest block container.
-pub fn one_container()
-    ensures { OneContainer }
-{}
-
-/// With their nearest block containers for parents the boxes of a context are a tree again.
-pub fn containers_are_a_tree()
-    ensures { ContainersAreATree }
 {}
 
 /// The kind of a listed box says what its form said to box generation.

@@ -1,16 +1,14 @@
 //! The trees of a part as a list of boxes.
 
 ghost use Rattle.std.specs.Prelude.{◌≡◌, ◌++◌, ℕ, List, OnOk, IfOk, length};
-ghost use Rattle.lay_boxgen.specs.Boxes.{Tree, trees_of};
+ghost use Rattle.lay_anonymous_boxes.specs.Boxes.{Tree, trees_of};
 ghost use Rattle.lay_boxgen.specs.Listing.{text_at, kind_of, style_of, style_below, box_node, listed, all_listed, listed_part};
 ghost use Rattle.lay_boxgen.specs.Parts.{put, all_put, put_list, nothing};
 
 use crate::anonymous_style::anonymous_style;
-use crate::box_tree::{BoxKind, BoxNode};
-use crate::facts::{Facts, Form};
-use crate::forms::is_anchor;
 use crate::node_trees::is_closed;
-use crate::subtree::Subtree;
+use lay_anonymous_boxes::{Facts, Form, Subtree, is_anchor};
+use lay_box_tree::{BoxKind, BoxNode};
 use lay_doc::Node;
 use lay_style::Style;
 use lay_units::{NoMemory, Text};
@@ -83,21 +81,27 @@ fn kind_of(form: Form, text: Text) -> BoxKind
     }
 }
 
-/// A box below another at a place.
+/// A box that has others below it, and its place in the list.
+#[derive(Clone, Copy)]
+struct ParentBox {
+    facts: Facts,
+    place: u32,
+}
+
+/// A box below another.
 fn box_node(
     alloc: Global,
     sources: Sources<'_>,
-    above: Facts,
-    parent: u32,
+    parent: ParentBox,
     facts: Facts,
 ) -> Result<BoxNode, NoMemory>
-    ensures { IfOk result (λ b. b ≡ box_node sources.entry.nodes.now sources.entry.styles.now above parent facts) }
+    ensures { IfOk result (λ b. b ≡ box_node sources.entry.nodes.now sources.entry.styles.now parent.facts parent.place facts) }
 {
     let text = sources.text_at(alloc, facts.place)?;
-    let style = sources.style_below(above, facts)?;
+    let style = sources.style_below(parent.facts, facts)?;
     Ok(BoxNode {
         node: facts.node,
-        parent,
+        parent: parent.place,
         kind: kind_of(facts.form, text),
         flow: facts.flow,
         anonymous: facts.anonymous,
@@ -116,25 +120,24 @@ fn number(place: usize) -> Result<u32, NoMemory>
     }
 }
 
-/// Puts the boxes of a tree below the box `above` at the place `parent` at the end of `out`.
+/// Puts the boxes of a tree below a box at the end of `out`.
 #[cycle(list)]
 fn list(
     alloc: Global,
     sources: Sources<'_>,
-    above: Facts,
-    parent: u32,
+    parent: ParentBox,
     tree: Subtree,
     out: &mut Vec<BoxNode>,
 ) -> Result<(), NoMemory>
-    ensures { OnOk result (out.new.items ≡ out.old.items ++ listed sources.entry.nodes.now sources.entry.styles.now above parent (length out.old.items) (put nothing tree)) }
+    ensures { OnOk result (out.new.items ≡ out.old.items ++ listed sources.entry.nodes.now sources.entry.styles.now parent.facts parent.place (length out.old.items) (put nothing tree)) }
 {
     let Subtree { facts, children } = tree;
-    let at = number(out.len())?;
-    out.push(box_node(alloc, sources, above, parent, facts)?)?;
+    let place = number(out.len())?;
+    out.push(box_node(alloc, sources, parent, facts)?)?;
     if is_closed(facts) {
         return Ok(());
     }
-    list_all(alloc, sources, facts, at, children, out)
+    list_all(alloc, sources, ParentBox { facts, place }, children, out)
 }
 
 /// Puts the boxes of some trees there.
@@ -142,15 +145,14 @@ fn list(
 fn list_all(
     alloc: Global,
     sources: Sources<'_>,
-    above: Facts,
-    parent: u32,
+    parent: ParentBox,
     trees: Vec<Subtree>,
     out: &mut Vec<BoxNode>,
 ) -> Result<(), NoMemory>
-    ensures { OnOk result (out.new.items ≡ out.old.items ++ all_listed sources.entry.nodes.now sources.entry.styles.now above parent (length out.old.items) (all_put nothing (trees_of trees.items))) }
+    ensures { OnOk result (out.new.items ≡ out.old.items ++ all_listed sources.entry.nodes.now sources.entry.styles.now parent.facts parent.place (length out.old.items) (all_put nothing (trees_of trees.items))) }
 {
     for tree in trees {
-        list(alloc, sources, above, parent, tree, out)?;
+        list(alloc, sources, parent, tree, out)?;
     }
     Ok(())
 }
@@ -166,8 +168,9 @@ pub fn listed_part(
     let Some(first) = trees.first() else {
         return Ok(Vec::new(alloc));
     };
-    let own = first.facts();
+    let facts = first.facts();
     let mut out = Vec::new(alloc);
-    list_all(alloc, sources, own, 0, trees, &mut out)?;
+    let own = ParentBox { facts, place: 0 };
+    list_all(alloc, sources, own, trees, &mut out)?;
     Ok(out)
 }

@@ -3,22 +3,21 @@
 ghost use Rattle.std.specs.Prelude.{◌≡◌, ◌<◌, ◌≤◌, ◌+◌, ℕ, List, OnOk, IfOk, drop, length, option_map, reverse, slice_index};
 ghost use Rattle.lay_units.specs.Limits.{most_nodes};
 ghost use Rattle.lay_doc.specs.Document.{parents_of};
-ghost use Rattle.lay_boxgen.specs.Boxes.{tree, no_trees};
+ghost use Rattle.lay_anonymous_boxes.specs.Boxes.{tree, no_trees};
 ghost use Rattle.lay_boxgen.specs.CutTrees.{as_leaf, cut_tree_at};
 ghost use Rattle.lay_boxgen.specs.NodeTrees.{anchor_facts, children_of, others_than_children, box_with, with_node, node_trees, first_tree};
 ghost use Rattle.lay_boxgen.specs.Parts.{is_closed, own_tree};
 
-use crate::facts::{Facts, Flow, Form};
-use crate::forms::{is_absolute, is_inline};
 use crate::node_boxes::node_box;
-use crate::subtree::Subtree;
+use lay_anonymous_boxes::{Facts, Form, Subtree, is_absolute, is_inline};
+use lay_box_tree::Flow;
 use lay_doc::Node;
 use lay_style::Style;
 use lay_units::NoMemory;
 use std::alloc::Global;
 
 /// The tree of boxes of a node, if it generates a box, with the place of the node's parent.
-#[derive(Drop, Debug)]
+#[derive(Drop)]
 pub struct NodeTree {
     pub parent: usize,
     pub tree: Option<Subtree>,

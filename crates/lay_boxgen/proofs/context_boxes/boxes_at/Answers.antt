@@ -1,6 +1,6 @@
 use Rattle.std.proofs.Common.{rules, ◌≡◌}
 use Rattle.std.proofs.lemmas.Result.{IfOk-weaker}
-use Rattle.lay_boxgen.specs.BoxColumns.{IsBoxTree}
+use Rattle.lay_box_tree.specs.BoxColumns.{IsBoxTree}
 use Rattle.lay_boxgen.specs.Listing.{listed_part}
 use Rattle.lay_boxgen.specs.Parts.{part, put_list, nothing}
 use Rattle.lay_boxgen.proofs.ListedLeaves.{listed_box_tree}

@@ -1,10 +1,10 @@
 use Rattle.std.proofs.Common.{◌≡◌, ◌++◌, length}
-use Rattle.lay_boxgen.specs.Boxes.{trees_of}
+use Rattle.lay_anonymous_boxes.specs.Boxes.{trees_of}
 use Rattle.lay_boxgen.specs.Listing.{all_listed}
 use Rattle.lay_boxgen.specs.Parts.{all_put, nothing}
 use Rattle.lay_boxgen.proofs.listing.+list.Given as goal
 
 abbrev pub invariant-list_all-loop-tree : goal.invariant-list_all-loop-tree
 invariant-list_all-loop-tree l =
-    l.out.items ++ all_listed l.sources.nodes.now l.sources.styles.now l.above l.parent (length l.out.items) (all_put nothing (trees_of l.tree-iterator.rest.items))
-    ≡ l.fn.out.items ++ all_listed l.sources.nodes.now l.sources.styles.now l.above l.parent (length l.fn.out.items) (all_put nothing (trees_of l.fn.trees.items))
+    l.out.items ++ all_listed l.sources.nodes.now l.sources.styles.now l.parent.facts l.parent.place (length l.out.items) (all_put nothing (trees_of l.tree-iterator.rest.items))
+    ≡ l.fn.out.items ++ all_listed l.sources.nodes.now l.sources.styles.now l.parent.facts l.parent.place (length l.fn.out.items) (all_put nothing (trees_of l.fn.trees.items))

@@ -1,0 +1,4 @@
+pub mod BoxMeasures
+pub mod BoxStages
+pub mod Broken
+pub mod Replaced

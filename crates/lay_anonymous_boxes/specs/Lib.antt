@@ -1,0 +1,13 @@
+pub mod Forms
+pub mod Boxes
+pub mod Stored
+pub mod Runs
+pub mod Irrelevant
+pub mod MissingChildren
+pub mod MissingParents
+pub mod TableWrappers
+pub mod BrokenInlines
+pub mod InlineRuns
+pub mod Generation
+pub mod RunLaws
+pub mod BreakLaws

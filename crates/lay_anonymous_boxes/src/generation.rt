@@ -1,0 +1,27 @@
+//! Box generation, rule after rule (CSS 2.2, 9.2 and 17.2.1).
+
+ghost use Rattle.std.specs.Prelude.{◌≡◌, IfOk};
+ghost use Rattle.lay_anonymous_boxes.specs.Generation.{generated};
+
+use crate::broken_inlines::BreakInlines;
+use crate::inline_runs::WrapRuns;
+use crate::irrelevant::KeepRelevant;
+use crate::missing_children::WrapChildren;
+use crate::missing_parents::AddParents;
+use crate::subtree::{Subtree, remake, remake_all};
+use crate::table_wrappers::FillWrappers;
+use lay_units::NoMemory;
+use std::alloc::Global;
+
+/// The boxes that stand for a tree of boxes in the end.
+pub fn generate(alloc: Global, tree: Subtree) -> Result<Vec<Subtree>, NoMemory>
+    ensures { IfOk result (λ v. v.items ≡ generated tree) }
+{
+    let mut trees = Vec::new(alloc);
+    remake::<KeepRelevant>(alloc, tree, &mut trees)?;
+    let trees = remake_all::<WrapChildren>(alloc, trees)?;
+    let trees = remake_all::<AddParents>(alloc, trees)?;
+    let trees = remake_all::<FillWrappers>(alloc, trees)?;
+    let trees = remake_all::<BreakInlines>(alloc, trees)?;
+    remake_all::<WrapRuns>(alloc, trees)
+}

@@ -1,0 +1,2 @@
+pub mod BoxForests
+pub mod NearestContainers

@@ -1,0 +1,4 @@
+pub mod BoxColumns
+pub mod Kinds
+pub mod Roles
+pub mod Containers

@@ -1,5 +1,0 @@
-use Rattle.lay_boxgen.proofs.NearestContainers.{ContainersTo}
-use Rattle.lay_boxgen.proofs.box_tree.BoxTree.containers.Given as goal
-
-abbrev pub invariant-loop-place : goal.invariant-loop-place
-invariant-loop-place l = ContainersTo l.boxes l.containers.items l.place
