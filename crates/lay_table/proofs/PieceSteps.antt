@@ -3,9 +3,9 @@ use Rattle.std.proofs.Common.{◌≡◌, ℕ, true, false, List, [], ◌∷◌, 
 use Rattle.lay_context_boxes.specs.ContextBoxes.{is_inner}
 use Rattle.lay_sizes.specs.BoxSizes.{border_width}
 use Rattle.lay_sizes.specs.SizeColumns.{sizes_at}
-use Rattle.lay_table_grid.specs.TableBoxes.{kind_at}
+use Rattle.lay_table_parts.specs.TableBoxes.{kind_at}
+use Rattle.lay_table_rows.specs.TableInputs.{TableInput}
 use Rattle.lay_table.specs.declared.pieces.Extent.TheVariants.{Own, Columns}
-use Rattle.lay_table.specs.TableInputs.{TableInput}
 use Rattle.lay_table.specs.TablePieces.{columns_width, extent_by_kind, piece_of, pieces_of_box}
 use Rattle.lay_table.specs.TableStandings.{TablePlaces, standing_of}
 

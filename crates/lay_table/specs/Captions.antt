@@ -8,7 +8,7 @@ use Rattle.lay_boxgen.specs.declared.box_tree.BoxKind.{BoxKind}
 use Rattle.lay_boxgen.specs.declared.box_tree.BoxKind.TheVariants as kind
 use Rattle.lay_boxgen.specs.declared.box_tree.BoxNode.{BoxNode}
 use Rattle.lay_boxgen.specs.BoxColumns.{box_styles}
-use Rattle.lay_table_grid.specs.TableBoxes.{kind_at}
+use Rattle.lay_table_parts.specs.TableBoxes.{kind_at}
 
 abbrev pub is_side : CaptionSide → CaptionSide → Bool
 is_side side.Top side.Top = true

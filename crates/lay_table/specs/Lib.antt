@@ -1,8 +1,3 @@
-pub mod TableInputs
-pub mod CellAligns
-pub mod Tracks
-pub mod RowNeeds
-pub mod TableRows
 pub mod Captions
 pub mod WrapperFlow
 pub mod Groups
@@ -10,8 +5,5 @@ pub mod GroupCounts
 pub mod TableStandings
 pub mod TablePieces
 pub mod TablePlacements
-pub mod NeedBounds
-pub mod RowBounds
-pub mod TrackStarts
 pub mod PlaceBounds
 pub mod Laws

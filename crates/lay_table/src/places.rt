@@ -9,15 +9,11 @@ ghost use Rattle.lay_table.specs.WrapperFlow.{places_in_wrapper};
 ghost use Rattle.lay_table.specs.TableStandings.{HasTablePlaces, column_spacing, columns_of, content_corner, content_in};
 
 use crate::captions::Captions;
-use crate::cells::table_sizes;
-use crate::near::near_sum;
-use crate::table_input::TableInput;
-use crate::table_rows::{TableRows, table_rows};
-use crate::tracks::Tracks;
 use crate::wrapper_flow::wrapper_flow;
 use lay_flow::{BoxPlace, FlowPlaces};
 use lay_pieces::Corner;
 use lay_table_grid::TableGrid;
+use lay_table_rows::{TableInput, TableRows, Tracks, near_sum, table_rows, table_sizes};
 use lay_units::{NoMemory, Unit};
 use std::alloc::Global;
 use std::marker::Model;
@@ -57,7 +53,7 @@ pub(crate) fn table_places(
 {
     let rows = table_rows(alloc, input)?;
     let columns = columns_of(alloc, input)?;
-    let flow = wrapper_flow(alloc, input, &rows.tracks, captions)?;
+    let flow = wrapper_flow(alloc, input, rows.tracks(), captions)?;
     let content = content_corner(input, &flow, captions)?;
     Ok(TablePlaces {
         rows,

@@ -4,7 +4,7 @@ ghost use Rattle.std.specs.Prelude.{ℕ, ◌≡◌, ◌<◌, ◌==◌, length, s
 ghost use Rattle.lay_flow.specs.FlowPlaces.{IsNearPlace, box_place_at};
 ghost use Rattle.lay_pieces.specs.Corners.{IsCornerNear, IsNear};
 ghost use Rattle.lay_pieces.specs.Standings.{AreNearStandings, IsStandingNear, standing_at};
-ghost use Rattle.lay_table_grid.specs.TableBoxes.{is_row_group};
+ghost use Rattle.lay_table_parts.specs.TableBoxes.{is_row_group};
 ghost use Rattle.lay_table.specs.Captions.{ArePlaces, captions_of};
 ghost use Rattle.lay_table.specs.GroupCounts.{AreGroupCounts};
 ghost use Rattle.lay_table.specs.PlaceBounds.{AreStandings, PlacesFit};
@@ -12,17 +12,12 @@ ghost use Rattle.lay_table.specs.TableStandings.{cell_places, cell_standing, cor
 ghost use Rattle.lay_table.specs.WrapperFlow.{places_in_wrapper};
 
 use crate::captions::Captions;
-use crate::cells::cell_of;
 use crate::groups::{GroupCounts, group_counts, rows_before, rows_within_box};
-use crate::near::near_sum;
 use crate::places::{TablePlaces, place_at};
-use crate::shifts::shift_of;
-use crate::table_input::TableInput;
-use crate::table_rows::cell_height;
-use crate::tracks::Tracks;
 use lay_boxgen::BoxKind;
 use lay_flow::BoxPlace;
 use lay_pieces::{Corner, Standing, near_position};
+use lay_table_rows::{TableInput, Tracks, cell_height, cell_of, near_sum, shift_of};
 use lay_units::{NoMemory, Unit};
 use std::alloc::Global;
 
@@ -116,7 +111,7 @@ fn group_standing(
     ensures standing { IfOk result (λ s. s ≡ group_standing input.now places.now k) }
     ensures near { IfOk result IsStandingNear }
 {
-    let rows = &places.rows.tracks;
+    let rows = places.rows.tracks();
     let first = rows_before(counts, input.boxes(), input.grid().rows(), k);
     let count = rows_within_box(counts, input.boxes(), input.grid().rows(), k);
     Ok(Standing {
@@ -185,10 +180,10 @@ fn cell_standing(input: &TableInput, places: &TablePlaces, c: usize) -> Result<S
 {
     let cell = cell_of(input, c);
     let across = places.columns.start(cell.column as usize);
-    let down = places.rows.tracks.start(cell.row as usize);
+    let down = places.rows.tracks().start(cell.row as usize);
     Ok(Standing {
         corner: corner_inside(places.content, across, down)?,
-        height: cell_height(input, &places.rows.tracks, c)?,
+        height: cell_height(input, places.rows.tracks(), c)?,
         shift: shift_of(input, &places.rows, c)?,
     })
 }
@@ -228,7 +223,7 @@ fn row_standing(places: &TablePlaces, r: usize) -> Result<Standing, NoMemory>
     ensures standing { IfOk result (λ s. s ≡ row_standing places.now r) }
     ensures near { IfOk result IsStandingNear }
 {
-    let rows = &places.rows.tracks;
+    let rows = places.rows.tracks();
     Ok(Standing {
         corner: corner_inside(places.content, places.columns.start(0), rows.start(r))?,
         height: near_position(rows.length(r))?,

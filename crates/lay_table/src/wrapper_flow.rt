@@ -5,23 +5,21 @@ ghost use Rattle.lay_flow.specs.FlowBoxes.{KindFits};
 ghost use Rattle.lay_flow.specs.FlowPlaces.{IsFlowOf};
 ghost use Rattle.lay_sizes.specs.OwnBoxes.{OwnBoxFits};
 ghost use Rattle.lay_sizes.specs.SizeBounds.{IsInset, SizeFits};
+ghost use Rattle.lay_sizes.specs.SizeColumns.{sizes_at};
 ghost use Rattle.lay_table.specs.Captions.{ArePlaces, captions_of};
 ghost use Rattle.lay_table.specs.PlaceBounds.{AllFit};
 ghost use Rattle.lay_table.specs.WrapperFlow.{box_inside, boxes_in_wrapper, caption_inside, captions_inside, places_in_wrapper, table_box, wrapper_box};
 
 use crate::captions::Captions;
-use crate::cells::{own_box_at, table_sizes, wrapper_sizes};
-use crate::near::sum_of;
-use crate::row_needs::border_height;
-use crate::table_input::TableInput;
-use crate::table_rows::table_content;
-use crate::tracks::Tracks;
 use lay_floats::Clear;
 use lay_flow::{
     Across, BlockBox, FlowBox, FlowBoxes, FlowKind, FlowPlaces, HeightRule, SolidBox, Vertical,
     flow, is_light,
 };
 use lay_sizes::{BoxSizes, OwnBox, own_box};
+use lay_table_rows::{
+    TableInput, Tracks, border_height, own_box_at, sizes_at, sum_of, table_content, table_sizes,
+};
 use lay_units::{NoMemory, Unit};
 use std::alloc::Global;
 
@@ -68,6 +66,15 @@ fn boxes_in_wrapper(
     boxes.push(box_inside(wrapper.edges.left, table))?;
     push_captions(&mut boxes, input, &captions.below)?;
     Ok(boxes)
+}
+
+/// The used sizes of the wrapper.
+pub(crate) fn wrapper_sizes(input: &TableInput) -> BoxSizes
+    ensures value { result ≡ sizes_at input.now.sizes 0 }
+    ensures fits { SizeFits result }
+{
+    let _ = input.boxes();
+    sizes_at(input.sizes(), 0)
 }
 
 /// Adds the captions at these places.

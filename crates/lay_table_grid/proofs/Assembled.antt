@@ -1,13 +1,12 @@
 -- A table's structure out of its parts, its cells and their borders.
 use Rattle.std.proofs.Common.{◌≡◌, Bool, true, List, map, slice_get, sym, ap, subst, All}
 use Rattle.lay_units.specs.declared.records.Sides.{Sides}
+use Rattle.lay_table_parts.specs.declared.placed.PlacedCell.{PlacedCell}
+use Rattle.lay_table_parts.specs.TableParts.{TableParts, ArePartsOf}
+use Rattle.lay_table_parts.specs.PlacedCells.{ArePlaced, column_total}
+use Rattle.lay_table_borders.specs.TableBorders.{AreTableBorders}
 use Rattle.lay_table_grid.specs.declared.grid.Spacing.{Spacing}
 use Rattle.lay_table_grid.specs.declared.grid.TableCell.{TableCell}
-use Rattle.lay_table_grid.specs.declared.placed.PlacedCell.{PlacedCell}
-use Rattle.lay_table_grid.specs.MeetingBorders.{TableParts}
-use Rattle.lay_table_grid.specs.Pass.PartsOf.{ArePartsOf}
-use Rattle.lay_table_grid.specs.PlacedCells.{ArePlaced, column_total}
-use Rattle.lay_table_grid.specs.TableBorders.{AreTableBorders}
 use Rattle.lay_table_grid.specs.TableGrid.{IsCollapsed, IsTableGrid, TableGridValue, collapses_in, placed_of, spacing_in}
 
 abbrev pub grid_of : TableParts → List TableCell → Spacing → Bool → Sides → TableGridValue

@@ -1,70 +1,19 @@
 -- A list of boxes has one structure as a table.
-use Rattle.std.proofs.Common.{◌≡◌, ◌⊎◌, inl, inr, ℕ, zero, suc, ◌<◌, ℤ, Bool, true, false, List, [], ◌∷◌, length, map, slice_get, refl, sym, ap, ◌∙◌, subst, arith, All}
+use Rattle.std.proofs.Common.{◌≡◌, ℕ, suc, Bool, true, false, List, [], ◌∷◌, map, slice_get, refl, sym, ap, ◌∙◌, subst, arith, All}
 use Rattle.lay_units.specs.declared.records.Sides.{Sides}
 use Rattle.lay_boxgen.specs.declared.box_tree.BoxNode.{BoxNode}
-use Rattle.lay_grid.specs.declared.cells.Cell.{Cell}
-use Rattle.lay_grid.proofs.OneGrid.{cells_same}
-use Rattle.lay_table_grid.specs.declared.grid.CellArea.{CellArea}
+use Rattle.lay_table_parts.specs.declared.rows.TableRow.{TableRow}
+use Rattle.lay_table_parts.specs.declared.placed.PlacedCell.{PlacedCell}
+use Rattle.lay_table_parts.specs.TableParts.{TableParts}
+use Rattle.lay_table_parts.specs.PlacedCells.{ArePlaced, column_total}
+use Rattle.lay_table_parts.proofs.OneTableParts.{placing_same}
+use Rattle.lay_table_borders.specs.declared.cell_area.CellArea.{CellArea}
+use Rattle.lay_table_borders.specs.TableBorders.{AreCellBorders, AreTableBorders, own_borders}
+use Rattle.lay_table_borders.proofs.OneBorders.{one_cell_borders_lem, one_table_borders_lem}
 use Rattle.lay_table_grid.specs.declared.grid.Spacing.{Spacing}
 use Rattle.lay_table_grid.specs.declared.grid.TableCell.{TableCell}
-use Rattle.lay_table_grid.specs.declared.grid.TableRow.{TableRow}
-use Rattle.lay_table_grid.specs.declared.placed.PlacedCell.{PlacedCell}
 use Rattle.lay_table_grid.specs.Laws.{OneTableGrid}
-use Rattle.lay_table_grid.specs.MeetingBorders.{TableParts}
-use Rattle.lay_table_grid.specs.PlacedCells.{ArePlaced, column_total, places_of_cells, stands_of}
-use Rattle.lay_table_grid.specs.TableBorders.{AreCellBorders, AreOuterHalves, AreTableBorders, own_borders}
 use Rattle.lay_table_grid.specs.TableGrid.{HaveBorders, IsCollapsed, IsSeparate, IsTableGrid, TableGridValue, area_of, collapses_in, parts_of, placed_cells, placed_of, spacing_in}
-use Rattle.lay_table_grid.proofs.WidestEdges.{half_same}
-
-abbrev made : ℕ → Cell → PlacedCell
-made place cell = record { place = place; cell = cell }
-
-one_placed : (v w : PlacedCell) → v.place ≡ w.place → v.cell ≡ w.cell → v ≡ w
-one_placed v w place cell = let e : made v.place v.cell ≡ made w.place w.cell = rw (place, cell) refl in e
-
--- cells with the same places that stand the same are the same
-placed_same : (xs ys : List PlacedCell) → places_of_cells xs ≡ places_of_cells ys → stands_of xs ≡ stands_of ys → xs ≡ ys
-placed_same [] [] p s = refl
-placed_same [] (y ∷ ys) p s = absurd (cc (p))
-placed_same (x ∷ xs) [] p s = absurd (cc (p))
-placed_same (x ∷ xs) (y ∷ ys) p s =
-    let place : x.place ≡ y.place = cc in
-    let cell : x.cell ≡ y.cell = cc in
-    let rest_places : places_of_cells xs ≡ places_of_cells ys = cc in
-    let rest_stands : stands_of xs ≡ stands_of ys = cc in
-    let here = one_placed x y place cell in
-    ap (λ (z : PlacedCell). z ∷ xs) here ∙ ap (λ (zs : List PlacedCell). y ∷ zs) (placed_same xs ys rest_places rest_stands)
-
-pub placing_same : (boxes : List BoxNode) (rows : List TableRow) (xs ys : List PlacedCell) → ArePlaced boxes rows xs → ArePlaced boxes rows ys → xs ≡ ys
-placing_same boxes rows xs ys p q =
-    placed_same xs ys (p.places ∙ sym q.places) (cells_same [] (stands_of xs) (stands_of ys) (p.areas ∙ sym q.areas) p.stand q.stand)
-
-abbrev sides_of : ℤ → ℤ → ℤ → ℤ → Sides
-sides_of top right bottom left = record { top = record { 0 = top }; right = record { 0 = right }; bottom = record { 0 = bottom }; left = record { 0 = left } }
-
-sides_same : (v w : Sides) → v.top.0 ≡ w.top.0 → v.right.0 ≡ w.right.0 → v.bottom.0 ≡ w.bottom.0 → v.left.0 ≡ w.left.0 → v ≡ w
-sides_same v w t r b l =
-    let e : sides_of v.top.0 v.right.0 v.bottom.0 v.left.0 ≡ sides_of w.top.0 w.right.0 w.bottom.0 w.left.0 = rw (t, r, b, l) refl in e
-
-cell_borders_same : (p : TableParts) (a : CellArea) (v w : Sides) → AreCellBorders p a v → AreCellBorders p a w → v ≡ w
-cell_borders_same p a v w x y =
-    sides_same v w (half_same _ _ _ _ _ x.top y.top) (half_same _ _ _ _ _ x.right y.right) (half_same _ _ _ _ _ x.bottom y.bottom) (half_same _ _ _ _ _ x.left y.left)
-
-outer_same : (p : TableParts) (v w : Sides) → AreOuterHalves p v → AreOuterHalves p w → v ≡ w
-outer_same p v w x y =
-    sides_same v w (half_same _ _ _ _ _ x.top y.top) (half_same _ _ _ _ _ x.right y.right) (half_same _ _ _ _ _ x.bottom y.bottom) (half_same _ _ _ _ _ x.left y.left)
-
-some_or_zero : (n : ℕ) → (0 < n) ⊎ (n ≡ 0)
-some_or_zero zero = inr refl
-some_or_zero (suc n) = inl (omega arith)
-
-table_borders_same : (p : TableParts) (v w : Sides) → AreTableBorders p v → AreTableBorders p w → v ≡ w
-table_borders_same p v w x y = from (some_or_zero (length p.rows)) (some_or_zero p.columns)
-  where
-    from : ((0 < length p.rows) ⊎ (length p.rows ≡ 0)) → ((0 < p.columns) ⊎ (p.columns ≡ 0)) → v ≡ w
-    from (inl rows) (inl columns) = outer_same p v w (x.some rows columns) (y.some rows columns)
-    from (inr rows) c = x.none (inl rows) ∙ sym (y.none (inl rows))
-    from (inl rows) (inr columns) = x.none (inr columns) ∙ sym (y.none (inr columns))
 
 abbrev cell_with : ℕ → ℕ → ℕ → ℕ → ℕ → Sides → TableCell
 cell_with place row column rows columns borders =
@@ -117,7 +66,7 @@ separate_one boxes x y e p q =
 
 collapsed_one : (p : TableParts) (x y : TableCell) → placed_of x ≡ placed_of y → IsCollapsed p x → IsCollapsed p y → x.borders ≡ y.borders
 collapsed_one p x y e a b =
-    cell_borders_same p (area_of y) x.borders y.borders (subst (λ (area : CellArea). AreCellBorders p area x.borders) (area_same x y e) a) b
+    one_cell_borders_lem p (area_of y) x.borders y.borders (subst (λ (area : CellArea). AreCellBorders p area x.borders) (area_same x y e) a) b
 
 abbrev value_of : ℕ → List TableRow → List TableCell → List ℕ → ℕ → Spacing → Bool → Sides → TableGridValue
 value_of table rows cells column_boxes columns spacing collapses borders = record {
@@ -184,7 +133,7 @@ by_model boxes g h s p q true is =
     let parts = parts_same boxes g h s in
     let cells = cells_with (IsCollapsed (parts_of boxes h)) (collapsed_one (parts_of boxes h)) g.cells h.cells s.placed
     (subst (λ (x : TableParts). All (IsCollapsed x) g.cells) parts (p.collapsed_cells other)) (q.collapsed_cells is) in
-    let borders = table_borders_same (parts_of boxes h) g.borders h.borders
+    let borders = one_table_borders_lem (parts_of boxes h) g.borders h.borders
     (subst (λ (x : TableParts). AreTableBorders x g.borders) parts (p.collapsed_table other)) (q.collapsed_table is) in
     value_same g h s cells borders
 

@@ -2,17 +2,11 @@
 -- lengths are used sizes.
 use Rattle.std.specs.Prelude.{ℕ, ◌+◌, ◌<◌, ◌≤◌, length, All}
 use Rattle.lay_units.specs.Units.{IsUsedSize}
-use Rattle.lay_units.specs.declared.records.Sides.{Sides}
+use Rattle.lay_table_parts.specs.declared.rows.TableRow.{TableRow}
+use Rattle.lay_table_borders.specs.UsedSides.{AreUsedSides}
 use Rattle.lay_table_grid.specs.declared.grid.Spacing.{Spacing}
 use Rattle.lay_table_grid.specs.declared.grid.TableCell.{TableCell}
-use Rattle.lay_table_grid.specs.declared.grid.TableRow.{TableRow}
 use Rattle.lay_table_grid.specs.TableGrid.{TableGridValue}
-
-pub record AreUsedSides (sides : Sides) : Type 0 where
-  pub top : IsUsedSize sides.top.0
-  pub right : IsUsedSize sides.right.0
-  pub bottom : IsUsedSize sides.bottom.0
-  pub left : IsUsedSize sides.left.0
 
 pub record CellFits (rows columns : ℕ) (cell : TableCell) : Type 0 where
   pub some_rows : 1 ≤ cell.rows

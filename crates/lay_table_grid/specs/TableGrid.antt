@@ -11,15 +11,15 @@ use Rattle.lay_style.specs.LengthValues.{size_of}
 use Rattle.lay_boxgen.specs.declared.box_tree.BoxNode.{BoxNode}
 use Rattle.lay_sizes.specs.UsedLengths.{no_length}
 use Rattle.lay_grid.specs.declared.cells.Cell.{Cell}
-use Rattle.lay_table_grid.specs.declared.grid.CellArea.{CellArea}
+use Rattle.lay_table_parts.specs.declared.rows.TableRow.{TableRow}
+use Rattle.lay_table_parts.specs.declared.placed.PlacedCell.{PlacedCell}
+use Rattle.lay_table_parts.specs.TableParts.{TableParts}
+use Rattle.lay_table_parts.specs.PlacedCells.{ArePlaced, column_total}
+use Rattle.lay_table_parts.specs.TableBoxes.{column_boxes_of, rows_of, table_place}
+use Rattle.lay_table_borders.specs.declared.cell_area.CellArea.{CellArea}
+use Rattle.lay_table_borders.specs.TableBorders.{AreCellBorders, AreTableBorders, own_borders}
 use Rattle.lay_table_grid.specs.declared.grid.Spacing.{Spacing}
 use Rattle.lay_table_grid.specs.declared.grid.TableCell.{TableCell}
-use Rattle.lay_table_grid.specs.declared.grid.TableRow.{TableRow}
-use Rattle.lay_table_grid.specs.declared.placed.PlacedCell.{PlacedCell}
-use Rattle.lay_table_grid.specs.MeetingBorders.{TableParts}
-use Rattle.lay_table_grid.specs.PlacedCells.{ArePlaced, column_total}
-use Rattle.lay_table_grid.specs.TableBorders.{AreCellBorders, AreTableBorders, own_borders}
-use Rattle.lay_table_grid.specs.TableBoxes.{column_boxes_of, rows_of, table_place}
 
 pub record TableGridValue : Type 0 where
   -- the place of the table box

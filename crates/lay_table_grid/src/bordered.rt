@@ -1,21 +1,18 @@
 //! Cells with their borders.
 
 ghost use Rattle.std.specs.Prelude.{◌≡◌, ◌^◌, ◌<◌, length, map, All, IfOk, ℕ};
-ghost use Rattle.lay_table_grid.specs.GridBounds.{AreUsedSides, CellFits};
-ghost use Rattle.lay_table_grid.specs.Pass.PlacedBounds.{IsInside, IsInsideGrid};
-ghost use Rattle.lay_table_grid.specs.MeetingBorders.{TableParts};
-ghost use Rattle.lay_table_grid.specs.TableBorders.{AreCellBorders, AreTableBorders};
+ghost use Rattle.lay_table_parts.specs.PartBounds.{IsInside};
+ghost use Rattle.lay_table_parts.specs.TableParts.{TableParts};
+ghost use Rattle.lay_table_borders.specs.UsedSides.{AreUsedSides};
+ghost use Rattle.lay_table_borders.specs.CellAreas.{IsInsideGrid};
+ghost use Rattle.lay_table_borders.specs.TableBorders.{AreCellBorders, AreTableBorders};
+ghost use Rattle.lay_table_grid.specs.GridBounds.{CellFits};
 ghost use Rattle.lay_table_grid.specs.TableGrid.{IsCollapsed, IsSeparate, placed_of, stand_of};
-ghost use Rattle.lay_table_grid.specs.MeetingBorders.{TableParts};
-ghost use Rattle.lay_table_grid.specs.TableBorders.{AreCellBorders, AreTableBorders};
 
-use crate::collapsed::{cell_borders, table_borders};
-use crate::edges::Edges;
-use crate::grid::{CellArea, TableCell};
-use crate::parts::Parts;
-use crate::placed::PlacedCell;
-use crate::separate::own_borders;
+use crate::grid::TableCell;
 use lay_borders::Cand;
+use lay_table_borders::{CellArea, Edges, cell_borders, own_borders, table_borders};
+use lay_table_parts::{Parts, PlacedCell};
 use lay_units::{NoMemory, Sides};
 use std::alloc::Global;
 

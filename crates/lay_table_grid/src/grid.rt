@@ -2,15 +2,9 @@
 
 ghost use Rattle.std.specs.Prelude.{◌≡◌};
 
+use lay_table_parts::TableRow;
 use lay_units::{Sides, Unit};
 use std::marker::Model;
-
-/// A row: the place of its box, and that of its row group or, where it is in none, of the table box.
-#[derive(Clone, Copy, Debug, PartialEq, Eq)]
-pub struct TableRow {
-    pub place: usize,
-    pub group: usize,
-}
 
 /// A cell: the place of its box, its first row and column, how many of both it covers, from 1, and
 /// the used widths of its borders in 1/64 px, from 0.
@@ -22,15 +16,6 @@ pub struct TableCell {
     pub rows: u32,
     pub columns: u32,
     pub borders: Sides,
-}
-
-/// The slots that a cell covers: from which row and column on, and how many of both.
-#[derive(Clone, Copy)]
-pub struct CellArea {
-    pub row: u32,
-    pub column: u32,
-    pub rows: u32,
-    pub columns: u32,
 }
 
 /// What is between columns and between rows (CSS 2.2, 17.6.1), in 1/64 px, from 0. 0 where borders

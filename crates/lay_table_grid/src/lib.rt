@@ -2,32 +2,15 @@
 //! rows as they are drawn, its cells where they stand in the grid (17.5), its columns, the spacing between them, and the
 //! borders of the table and its cells, separate (17.6.1) or collapsed (17.6.2).
 //!
-//! Contracts cite `IsTableGrid` of `specs/TableGrid.antt`, whose boxes are those of `specs/TableBoxes.antt`. Which borders
-//! meet at which edge is said in `specs/MeetingBorders.antt`. It is a relation, and has one value (`specs/Laws.antt`).
+//! Contracts cite `IsTableGrid` of `specs/TableGrid.antt`. The rows, cells and columns are those of lay_table_parts, the borders
+//! those of lay_table_borders. It is a relation, and has one value (`specs/Laws.antt`).
 #![tactic(auto)]
 
 mod assembly;
 mod bordered;
-mod cells;
-mod collapsed;
-mod columns;
-mod edges;
-mod elements;
 mod grid;
-mod group_numbers;
-mod kinds;
 mod laws;
-mod meeting;
-mod parts;
-mod placed;
-mod places;
-mod rows;
-mod runs;
-mod separate;
-mod slots;
-mod widest;
 
 pub use assembly::table_grid;
-pub use grid::{Spacing, TableCell, TableGrid, TableRow};
+pub use grid::{Spacing, TableCell, TableGrid};
 pub use laws::{grids_are_of_boxes, one_table_grid};
-pub use rows::{footer_place, header_place};

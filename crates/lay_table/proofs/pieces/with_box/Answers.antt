@@ -1,6 +1,6 @@
 use Rattle.std.proofs.Common.{◌≡◌, [], ◌∷◌, false, sym, ap, ◌∙◌}
 use Rattle.lay_context_boxes.specs.ContextBoxes.{is_inner}
-use Rattle.lay_table_grid.specs.TableBoxes.{kind_at}
+use Rattle.lay_table_parts.specs.TableBoxes.{kind_at}
 use Rattle.lay_table.specs.declared.pieces.Extent.TheVariants.{Own, Columns}
 use Rattle.lay_table.specs.TablePieces.{extent_by_kind, pieces_of_box}
 use Rattle.lay_table.proofs.PieceSteps.{column_piece, own_piece}

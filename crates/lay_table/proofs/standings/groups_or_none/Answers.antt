@@ -1,8 +1,8 @@
 use Rattle.std.proofs.Common.{◌≡◌, ℕ, ◌+◌, ◌<◌, [], ◌∷◌, ◌++◌, length, length-append, arith}
 use Rattle.lay_pieces.specs.declared.standing.Standing.{Standing}
 use Rattle.lay_pieces.specs.Standings.{IsStandingNear, no_standing}
+use Rattle.lay_table_rows.proofs.ColumnSteps.{one_more}
 use Rattle.lay_table.specs.TableStandings.{group_or_none}
-use Rattle.lay_table.proofs.ColumnSteps.{one_more}
 use Rattle.lay_table.proofs.standings.groups_or_none.Goals as goal
 
 pub loop-k-preserved : goal.loop-k-preserved

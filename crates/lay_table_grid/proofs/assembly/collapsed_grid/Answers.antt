@@ -1,5 +1,5 @@
 use Rattle.std.proofs.Common.{true, ◌∙◌, ap, slice_get, subst, sym}
-use Rattle.lay_table_grid.specs.MeetingBorders.{TableParts}
+use Rattle.lay_table_parts.specs.TableParts.{TableParts}
 use Rattle.lay_table_grid.specs.TableGrid.{IsTableGrid, spacing_in}
 use Rattle.lay_table_grid.proofs.Assembled.{collapsed_is_grid, grid_of}
 use Rattle.lay_table_grid.proofs.assembly.collapsed_grid.Goals as goal

@@ -1,5 +1,5 @@
 use Rattle.std.proofs.Common.{All, subst}
-use Rattle.lay_table_grid.specs.MeetingBorders.{TableParts}
+use Rattle.lay_table_parts.specs.TableParts.{TableParts}
 use Rattle.lay_table_grid.specs.TableGrid.{IsCollapsed}
 use Rattle.lay_table_grid.proofs.bordered.collapsed_cells.Goals as goal
 

@@ -1,0 +1,4 @@
+pub mod CoveringCells
+pub mod UsedBorders
+pub mod WidestEdges
+pub mod OneBorders

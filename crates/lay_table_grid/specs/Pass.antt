@@ -1,9 +1,0 @@
-pub mod CellLists
-pub mod ColumnMarks
-pub mod PlacedBounds
-pub mod Runs
-pub mod Slots
-pub mod EdgeBounds
-pub mod GroupCounts
-pub mod UsedBorders
-pub mod PartsOf

@@ -1,0 +1,4 @@
+pub mod ColumnSteps
+pub mod PlacedCells
+pub mod GroupSteps
+pub mod OneTableParts

@@ -1,0 +1,4 @@
+pub mod CellLists
+pub mod ColumnMarks
+pub mod GroupCounts
+pub mod SpanColumns

@@ -1,0 +1,4 @@
+pub mod ColumnSteps
+pub mod NeedSteps
+pub mod TrackSteps
+pub mod OneTableRows

@@ -1,0 +1,9 @@
+pub mod TableInputs
+pub mod CellAligns
+pub mod Tracks
+pub mod RowNeeds
+pub mod TableRows
+pub mod NeedBounds
+pub mod RowBounds
+pub mod TrackStarts
+pub mod Laws

@@ -1,0 +1,53 @@
+//! Sums of lengths.
+
+ghost use Rattle.std.specs.Prelude.{◌≡◌, ◌+ℤ◌, ◌-ℤ◌, ◌*ℤ◌, pos, IfOk};
+ghost use Rattle.lay_units.specs.Units.{IsPosition};
+ghost use Rattle.lay_pieces.specs.Corners.{IsNear};
+
+use lay_pieces::near_position;
+use lay_units::{NoMemory, Unit};
+
+/// The sum of two positions, in 1/64 px, each less than 2^62 units from 0.
+pub fn sum_of(a: Unit, b: Unit) -> Unit
+    requires a { IsPosition a.0 }
+    requires b { IsPosition b.0 }
+    ensures { result ≡ record { 0 = a.0 +ℤ b.0 } }
+{
+    Unit(a.0 + b.0)
+}
+
+/// The sum of two lengths, in 1/64 px. NoMemory is the answer where it is more than 2^60 units from 0.
+pub fn near_sum(a: Unit, b: Unit) -> Result<Unit, NoMemory>
+    ensures value { IfOk result (λ u. u ≡ record { 0 = a.0 +ℤ b.0 }) }
+    ensures near { IfOk result (λ u. IsNear u.0) }
+{
+    match a.0.checked_add(b.0) {
+        Some(sum) => near_position(Unit(sum)),
+        None => Err(NoMemory),
+    }
+}
+
+/// The same for a difference.
+pub(crate) fn near_difference(a: Unit, b: Unit) -> Result<Unit, NoMemory>
+    ensures value { IfOk result (λ u. u ≡ record { 0 = a.0 -ℤ b.0 }) }
+    ensures near { IfOk result (λ u. IsNear u.0) }
+{
+    match a.0.checked_sub(b.0) {
+        Some(difference) => near_position(Unit(difference)),
+        None => Err(NoMemory),
+    }
+}
+
+/// The same for so many of a length.
+pub(crate) fn near_product(a: Unit, count: usize) -> Result<Unit, NoMemory>
+    ensures value { IfOk result (λ u. u ≡ record { 0 = a.0 *ℤ pos count }) }
+    ensures near { IfOk result (λ u. IsNear u.0) }
+{
+    let Ok(count) = i64::try_from(count) else {
+        return Err(NoMemory);
+    };
+    match a.0.checked_mul(count) {
+        Some(product) => near_position(Unit(product)),
+        None => Err(NoMemory),
+    }
+}
