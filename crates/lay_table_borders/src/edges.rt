@@ -2,7 +2,10 @@
 
 ghost use Rattle.std.specs.Prelude.{◌≡◌, ◌<◌, length, All, IfOk, IfSome};
 ghost use Rattle.lay_table_borders.specs.Pass.EdgeBounds.{IsCounted};
-ghost use Rattle.lay_table_borders.specs.MeetingBorders.{column_element, column_group_element, covering, covering_in, group_element, is_inside_column_group, is_inside_group, item as item_of, row_element, table_element};
+ghost use Rattle.lay_table_borders.specs.MeetingBorders.{column_element, column_group_element, covering};
+ghost use Rattle.lay_table_borders.specs.MeetingBorders.{covering_in, group_element};
+ghost use Rattle.lay_table_borders.specs.MeetingBorders.{is_inside_column_group, is_inside_group};
+ghost use Rattle.lay_table_borders.specs.MeetingBorders.{item as item_of, row_element, table_element};
 
 use crate::elements::Element;
 use crate::groups::{column_groups, row_groups};

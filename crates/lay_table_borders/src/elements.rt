@@ -3,7 +3,9 @@
 ghost use Rattle.std.specs.Prelude.{◌≡◌, ◌++◌, slice_get, IfSome, OnOk};
 ghost use Rattle.lay_units.specs.Units.{IsUsedSize};
 ghost use Rattle.lay_style.specs.LengthValues.{size_of};
-ghost use Rattle.lay_table_borders.specs.MeetingBorders.{border_of, border_of_box, border_on, cell_element, conflict_style, place_of, style_on, width_on};
+ghost use Rattle.lay_table_borders.specs.MeetingBorders.{border_of, border_of_box, border_on};
+ghost use Rattle.lay_table_borders.specs.MeetingBorders.{cell_element, conflict_style, place_of};
+ghost use Rattle.lay_table_borders.specs.MeetingBorders.{style_on, width_on};
 ghost use Rattle.lay_table_borders.specs.Pass.EdgeBounds.{IsCounted};
 
 use lay_borders::{BorderStyle, Cand, Origin};

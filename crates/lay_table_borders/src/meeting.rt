@@ -1,7 +1,10 @@
 //! The borders that meet at an edge (CSS 2.2, 17.6.2.1).
 
 ghost use Rattle.std.specs.Prelude.{◌≡◌, ◌<◌, ◌≤◌, ◌++◌, Some, length, IfSome, OnOk};
-ghost use Rattle.lay_table_borders.specs.MeetingBorders.{above_and_below, cells_above, cells_left, column_ends, left_and_right, lines_above, lines_left, meeting_above, meeting_left, rim_above, rim_left, row_ends};
+ghost use Rattle.lay_table_borders.specs.MeetingBorders.{above_and_below, cells_above, cells_left};
+ghost use Rattle.lay_table_borders.specs.MeetingBorders.{column_ends, left_and_right, lines_above};
+ghost use Rattle.lay_table_borders.specs.MeetingBorders.{lines_left, meeting_above, meeting_left};
+ghost use Rattle.lay_table_borders.specs.MeetingBorders.{rim_above, rim_left, row_ends};
 ghost use Rattle.lay_table_borders.specs.Pass.EdgeBounds.{IsCounted};
 
 use crate::edges::Edges;

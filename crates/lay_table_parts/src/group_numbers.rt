@@ -3,7 +3,8 @@
 ghost use Rattle.std.specs.Prelude.{◌≡◌, ◌+◌, ◌<◌, ◌≤◌, length, slice_index, IfOk};
 ghost use Rattle.lay_table_parts.specs.Pass.CellLists.{IsRowOf};
 ghost use Rattle.lay_table_parts.specs.Pass.GroupCounts.{AreGroupCounts};
-ghost use Rattle.lay_table_parts.specs.TableBoxes.{footer_place, group_number, groups_before, header_place, is_place, stays_at};
+ghost use Rattle.lay_table_parts.specs.TableBoxes.{footer_place, group_number, groups_before};
+ghost use Rattle.lay_table_parts.specs.TableBoxes.{header_place, is_place, stays_at};
 
 use crate::kinds::is_row_group_at;
 use crate::rows::{OuterGroups, TableRow, outer_groups};

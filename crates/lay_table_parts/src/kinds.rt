@@ -1,7 +1,9 @@
 //! What the kind of a box says of it in a table (CSS 2.2, 17.2).
 
 ghost use Rattle.std.specs.Prelude.{◌≡◌, ◌≤◌};
-ghost use Rattle.lay_table_parts.specs.TableBoxes.{is_cell, is_column, is_column_group, is_footer_group, is_header_group, is_row, is_row_group, is_table, kind_at, span_of};
+ghost use Rattle.lay_table_parts.specs.TableBoxes.{is_cell, is_column, is_column_group, is_footer_group};
+ghost use Rattle.lay_table_parts.specs.TableBoxes.{is_header_group, is_row, is_row_group, is_table};
+ghost use Rattle.lay_table_parts.specs.TableBoxes.{kind_at, span_of};
 
 use lay_boxgen::{BoxKind, BoxNode};
 use lay_grid::Span;

@@ -2,7 +2,8 @@
 
 ghost use Rattle.std.specs.Prelude.{◌≡◌, ◌+◌, ◌<◌, ◌++◌, length, map, IfOk, OnOk, All};
 ghost use Rattle.lay_table_parts.specs.Pass.CellLists.{IsRowOf};
-ghost use Rattle.lay_table_parts.specs.TableBoxes.{footer_place, header_place, is_in, ranked_places, rank_of, row_at, rows_of, table_place};
+ghost use Rattle.lay_table_parts.specs.TableBoxes.{footer_place, header_place, is_in, ranked_places};
+ghost use Rattle.lay_table_parts.specs.TableBoxes.{rank_of, row_at, rows_of, table_place};
 
 use crate::kinds::{is_footer_group, is_header_group, is_row, is_table};
 use lay_boxgen::BoxNode;
