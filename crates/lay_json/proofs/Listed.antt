@@ -27,7 +27,7 @@ use Rattle.lay_json.specs.declared.node_form.NodeForm.{NodeForm}
 use Rattle.lay_json.specs.Fields.{then_read, map_read, value_in, object_of, whole_within, number_of, required_number}
 use Rattle.lay_json.specs.NodeForms.{kind_name, form_named, node_form, node_with, new_node, text_in, declarations_of}
 use Rattle.lay_json.specs.Nodes.{declared_or, node_at, without_fault, root_of, put_last, put_node, put_nodes}
-use Rattle.lay_json.specs.Runs.{IsListed}
+use Rattle.lay_run.specs.Runs.{IsListed}
 use Rattle.lay_json.specs.Listing.{id_in, ids_in, IsListOf}
 
 -- a number that was read is the whole number that the field has

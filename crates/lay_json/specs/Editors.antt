@@ -12,7 +12,7 @@ use Rattle.lay_json.specs.declared.fault.InputFault.{InputFault}
 use Rattle.lay_json.specs.declared.fault.InputFault.TheVariants.{WrongKind, TooManyEditors, TooManyCommands}
 use Rattle.lay_json.specs.Fields.{then_read, map_read, list_of, has_at_most}
 use Rattle.lay_json.specs.Commands.{command_of}
-use Rattle.lay_json.specs.Scripts.{is_read, reads_of, command_count, read_count}
+use Rattle.lay_run.specs.Scripts.{is_read, reads_of, command_count, read_count}
 
 -- whether a command that follows these scripts and these commands of its own script is one too many: whatever it
 -- is, where 8,192 are there, and a read also where 256 reads are there

@@ -6,7 +6,7 @@ use Rattle.lay_doc.specs.NewNodes.{NewNodeValue}
 use Rattle.lay_doc.specs.Document.{Document}
 use Rattle.lay_json.specs.declared.fault.InputFault.{InputFault}
 use Rattle.lay_json.specs.Nodes.{root_of, put_node}
-use Rattle.lay_json.specs.Runs.{Run}
+use Rattle.lay_run.specs.Runs.{Run}
 use Rattle.lay_json.specs.Reading.{IsReading}
 
 -- bytes have one reading

@@ -3,9 +3,7 @@ pub mod FaceFields
 pub mod NodeForms
 pub mod Nodes
 pub mod Commands
-pub mod Scripts
 pub mod Editors
-pub mod Runs
 pub mod Listing
 pub mod RunDocument
 pub mod Reading

@@ -6,7 +6,7 @@ use Rattle.lay_doc.specs.Document.{Document}
 use Rattle.lay_json.specs.declared.fault.Field.TheVariants.{Id}
 use Rattle.lay_json.specs.Fields.{value_in, whole_within}
 use Rattle.lay_json.specs.Nodes.{document_of}
-use Rattle.lay_json.specs.Runs.{IsListed}
+use Rattle.lay_run.specs.Runs.{IsListed}
 
 -- the id of a node, after its form was judged
 abbrev pub id_in : Data → NodeId

@@ -6,7 +6,7 @@ use Rattle.serde_json.specs.Read.{read}
 use Rattle.lay_json.specs.declared.fault.InputFault.{InputFault}
 use Rattle.lay_json.specs.declared.fault.InputFault.TheVariants.{TooLong, BadJson}
 use Rattle.lay_json.specs.RunDocument.{run_of}
-use Rattle.lay_json.specs.Runs.{Run}
+use Rattle.lay_run.specs.Runs.{Run}
 
 -- the bytes are a JSON text of this value, nested at most 127 deep
 abbrev pub IsJson : List ℕ → Data → Type 0

@@ -10,7 +10,7 @@ use Rattle.lay_json.specs.FaceFields.{run_face}
 use Rattle.lay_json.specs.Nodes.{document_of}
 use Rattle.lay_json.specs.Editors.{scripts_of}
 use Rattle.lay_json.specs.Listing.{id_in, ids_in}
-use Rattle.lay_json.specs.Runs.{Run}
+use Rattle.lay_run.specs.Runs.{Run}
 
 -- the first item of a list of nodes, and those after it; an empty list counts as absent
 abbrev pub some_nodes : Items → Result (Data × Items) InputFault

@@ -3,14 +3,14 @@
 ghost use Rattle.std.specs.Prelude.{◌≡◌, ◌≤◌, ◌<◌, ◌+◌, ◌++◌, ◌∷◌, [], false, length, IfOk, OnOk, OnErr};
 ghost use Rattle.serde_json.specs.View.{view, items_view};
 ghost use Rattle.lay_json.specs.Fields.{Gives, Changes};
-ghost use Rattle.lay_json.specs.Scripts.{is_read, reads_of, command_count, read_count};
+ghost use Rattle.lay_run.specs.Scripts.{is_read, reads_of, command_count, read_count};
 ghost use Rattle.lay_json.specs.Editors.{is_past, next_command, with_command, script_from, with_script, scripts_from, are_lists, scripts_of};
 
 use crate::command::command_of;
 use crate::fault::{Field, InputFault, Spot};
 use crate::fields::{has_at_most, list_of};
-use crate::script_list::{ScriptList, is_read};
 use lay_doc::{Cmd, CmdList};
+use lay_run::{ScriptList, is_read};
 use lay_units::NoMemory;
 use serde_json::Value;
 use std::alloc::Global;
@@ -33,7 +33,7 @@ struct Script {
 impl Model for Script {
     ghost use Rattle.std.specs.Prelude.{List};
     ghost use Rattle.lay_doc.specs.declared.command.Cmd.{Cmd};
-    ghost use Rattle.lay_json.specs.Scripts.{IsScript};
+    ghost use Rattle.lay_run.specs.Scripts.{IsScript};
 
     ghost Value = { List Cmd };
 

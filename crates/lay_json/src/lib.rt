@@ -1,5 +1,5 @@
-//! The run document: from the bytes of a JSON text to a document, a face and the commands of editors, or
-//! to the first fault of what the bytes say.
+//! The run document: from the bytes of a JSON text to a run (lay_run), that is a document, a face and the commands of
+//! editors, or to the first fault of what the bytes say.
 //!
 //! `read_run` answers the one reading that the bytes have (`specs/Reading.antt`, `specs/Laws.antt`): they
 //! are a JSON text, and its value is a run document (`specs/RunDocument.antt`). What is asked of a field,
@@ -17,16 +17,10 @@ mod laws;
 mod listing;
 mod new_node;
 mod node_form;
-mod node_list;
 mod nodes;
 mod reading;
 mod run;
-mod run_doc;
-mod script_list;
 
 pub use fault::{Field, InputFault, Spot};
 pub use laws::{nodes_are_counted, one_reading};
-pub use node_list::NodeList;
 pub use reading::read_run;
-pub use run_doc::RunDoc;
-pub use script_list::ScriptList;

@@ -6,8 +6,8 @@ ghost use Rattle.lay_json.specs.Listing.{id_in, ids_in, IsListOf};
 
 use crate::fault::Field;
 use crate::fields::{value_in, whole_within};
-use crate::node_list::NodeList;
 use lay_doc::NodeId;
+use lay_run::NodeList;
 use lay_units::NoMemory;
 use serde_json::Value;
 use std::alloc::Global;

@@ -5,7 +5,7 @@ ghost use Rattle.lay_json.specs.Reading.{IsReading};
 
 use crate::fault::InputFault;
 use crate::run::run_of;
-use crate::run_doc::RunDoc;
+use lay_run::RunDoc;
 use serde_json::{Category, Value};
 use std::alloc::Global;
 

@@ -1,6 +1,6 @@
 use Rattle.std.proofs.Common.{◌≡◌, ◌≤◌, ◌+◌, [], length, drop}
 use Rattle.serde_json.specs.View.{items_view}
-use Rattle.lay_json.specs.Scripts.{reads_of, command_count, read_count}
+use Rattle.lay_run.specs.Scripts.{reads_of, command_count, read_count}
 use Rattle.lay_json.specs.Editors.{script_from}
 use Rattle.lay_json.proofs.editors.script_from.Given as goal
 

@@ -1,7 +1,7 @@
 //! Scripts: the commands of editors.
 
 ghost use Rattle.std.specs.Prelude.{◌≡◌, ◌+◌, ◌<◌, ◌≤◌, ◌==◌, ◌++◌, ◌∷◌, [], length, OnOk, OnErr};
-ghost use Rattle.lay_json.specs.Scripts.{IsWithinLimits, is_read, reads_of, command_count, read_count};
+ghost use Rattle.lay_run.specs.Scripts.{IsWithinLimits, is_read, reads_of, command_count, read_count};
 
 use lay_doc::{Cmd, CmdList};
 use lay_units::NoMemory;
@@ -22,7 +22,7 @@ pub struct ScriptList {
 impl Model for ScriptList {
     ghost use Rattle.std.specs.Prelude.{List};
     ghost use Rattle.lay_doc.specs.declared.command.Cmd.{Cmd};
-    ghost use Rattle.lay_json.specs.Scripts.{IsCounted};
+    ghost use Rattle.lay_run.specs.Scripts.{IsCounted};
 
     ghost Value = { List (List Cmd) };
 
@@ -55,9 +55,9 @@ impl ScriptList {
         self.push_counted(script, reads)
     }
 
-    /// Adds the script of the next editor, with the number of its commands that read. On an error all
-    /// is as before.
-    pub(crate) fn push_counted(&mut self, script: CmdList, reads: usize) -> Result<(), NoMemory>
+    /// Adds the script of the next editor, where the number of its commands that read, 0 to 256, is counted already.
+    /// On an error all is as before.
+    pub fn push_counted(&mut self, script: CmdList, reads: usize) -> Result<(), NoMemory>
         requires counted { reads ≡ reads_of script }
         requires lists { length self.old < 16 }
         requires commands { command_count self.old + length script ≤ 8192 }
@@ -120,8 +120,8 @@ impl ScriptList {
     }
 }
 
-/// Whether a command reads: it is to be shown a version.
-pub(crate) fn is_read(command: &Cmd) -> bool
+/// Whether a command reads: it is to be shown a version, the last published one or that with all accepted edits.
+pub fn is_read(command: &Cmd) -> bool
     ensures { result ≡ is_read command.now }
 {
     matches!(command, Cmd::Latest | Cmd::Sync)

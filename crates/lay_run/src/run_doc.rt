@@ -1,7 +1,7 @@
 //! What a run document says.
 
 ghost use Rattle.std.specs.Prelude.{◌≡◌};
-ghost use Rattle.lay_json.specs.Runs.{IsListed};
+ghost use Rattle.lay_run.specs.Runs.{IsListed};
 
 use crate::node_list::NodeList;
 use crate::script_list::ScriptList;
@@ -21,7 +21,7 @@ pub struct RunDoc {
 }
 
 impl Model for RunDoc {
-    ghost use Rattle.lay_json.specs.Runs.{Run, IsListed};
+    ghost use Rattle.lay_run.specs.Runs.{Run, IsListed};
 
     ghost Value = { Run };
 

@@ -1,6 +1,6 @@
 use Rattle.std.proofs.Common.{◌≡◌, ◌+◌, ◌≤◌, drop}
-use Rattle.lay_json.specs.Scripts.{reads_of}
-use Rattle.lay_json.proofs.script_list.reads_of.Given as goal
+use Rattle.lay_run.specs.Scripts.{reads_of}
+use Rattle.lay_run.proofs.script_list.reads_of.Given as goal
 
 abbrev pub invariant-loop-command : goal.invariant-loop-command
 invariant-loop-command l = record {
