@@ -9,17 +9,17 @@ use Rattle.lay_floats.specs.declared.placed.Placed.{Placed}
 use Rattle.lay_floats.specs.declared.requests.NodePlace.{NodePlace}
 use Rattle.lay_floats.specs.SolidPlace.{IsAlone}
 use Rattle.lay_floats.specs.Within.{IsWithin, BoxWithin, RequestWithin, PlaceWithin}
-use Rattle.lay_lines.specs.declared.content.LineFloat.{LineFloat}
-use Rattle.lay_lines.specs.declared.content.Stretch.{Stretch}
-use Rattle.lay_lines.specs.declared.frame.Frame.{Frame}
-use Rattle.lay_lines.specs.Pens.{strut_height, start_of}
+use Rattle.lay_line_content.specs.declared.content.LineFloat.{LineFloat}
+use Rattle.lay_line_content.specs.declared.content.Stretch.{Stretch}
+use Rattle.lay_line_content.specs.declared.frame.Frame.{Frame}
+use Rattle.lay_line_content.specs.Pens.{strut_height, start_of}
+use Rattle.lay_line_content.specs.LineContents.{total, spread_of, ExtentWithin, LineFloatWithin, StretchWithin}
+use Rattle.lay_line_content.proofs.PensWithin.{wider, position, content_fits}
+use Rattle.lay_line_content.proofs.Totals.{part_of, total_to, total_next}
 use Rattle.lay_lines.specs.Meeting.{State, below, IsLineRoom, MeetsFloat, MeetsTo, CanMeetAll, RoomsFit}
 use Rattle.lay_lines.specs.Meeting.MeetsFloat.{stands, waits}
 use Rattle.lay_lines.specs.Filling.{IsTop, Fills, CanFill}
-use Rattle.lay_lines.specs.LineContents.{total, spread_of, ExtentWithin, LineFloatWithin, StretchWithin}
 use Rattle.lay_lines.specs.Lines.{NodePlaceWithin}
-use Rattle.lay_lines.proofs.PensWithin.{wider, position, content_fits}
-use Rattle.lay_lines.proofs.Totals.{part_of, total_to, total_next}
 
 pub at_of : {X : Type 0} (P : X → Type 0) (xs : List X) (k : ℕ) (x : X) → All P xs → slice_get xs k ≡ Some x → P x
 at_of {X} P xs k x all is = subst P (get_or_from_slice_get xs k x x is) (all k x (slice_get_within xs k x is))

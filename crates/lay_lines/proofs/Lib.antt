@@ -1,16 +1,10 @@
-pub mod AllLists
 pub mod Chains
 pub mod FloatsWithin
 pub mod Fronts
 pub mod LineLists
-pub mod LineParts
+pub mod LineTops
 pub mod LinesWithin
 pub mod OneLines
-pub mod PartShapes
-pub mod PenOrder
-pub mod PensWithin
 pub mod Reaches
 pub mod RowsWithin
 pub mod Steps
-pub mod TextLines
-pub mod Totals

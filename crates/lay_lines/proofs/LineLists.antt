@@ -9,19 +9,19 @@ use Rattle.lay_valign.specs.LineShape.{IsShape}
 use Rattle.lay_valign.proofs.OneShape.{one_shape_lem}
 use Rattle.lay_floats.specs.Laws.{OneFloatPlace, OneRoom}
 use Rattle.lay_floats.specs.declared.placed.Placed.{Placed}
-use Rattle.lay_lines.specs.declared.frame.Frame.{Frame}
-use Rattle.lay_lines.specs.declared.content.InlineStart.{InlineStart}
-use Rattle.lay_lines.specs.declared.content.Stretch.{Stretch}
-use Rattle.lay_lines.specs.declared.frame.Extent.{Extent}
+use Rattle.lay_line_content.specs.declared.frame.Frame.{Frame}
+use Rattle.lay_line_content.specs.declared.content.InlineStart.{InlineStart}
+use Rattle.lay_line_content.specs.declared.content.Stretch.{Stretch}
+use Rattle.lay_line_content.specs.declared.frame.Extent.{Extent}
+use Rattle.lay_line_content.specs.Extents.{shape_of, height_of}
+use Rattle.lay_line_content.proofs.LineParts.{are_parts}
 use Rattle.lay_lines.specs.declared.reach.Reach.{Reach}
 use Rattle.lay_lines.specs.declared.row.Ended.{Ended}
-use Rattle.lay_lines.specs.Extents.{shape_of, height_of}
 use Rattle.lay_lines.specs.Meeting.{State, IsFront, Meets}
 use Rattle.lay_lines.specs.Filling.{TakesNext, Fills, IsLongest, Takes, IsTop}
 use Rattle.lay_lines.specs.Rows.{Position, Row, Laid, is_seen, parts_of, emptied, IsFilled, IsRow, after_row, AddsRow, RowsTo, AreRows, position_of, ended_of}
 use Rattle.lay_lines.specs.Laws.{OneListOfRows}
 use Rattle.lay_lines.specs.Reaching.{IsReach}
-use Rattle.lay_lines.proofs.LineParts.{are_parts}
 use Rattle.lay_lines.proofs.Chains.{chain_more, chain_one, chain_front, chain_keeps, chain_cut, front_trans}
 use Rattle.lay_lines.proofs.Steps.{one_meets, one_takes_next}
 use Rattle.lay_lines.proofs.Fronts.{floats_of, taken_front, meets_front}

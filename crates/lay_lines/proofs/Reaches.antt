@@ -5,15 +5,15 @@ use Rattle.lay_units.specs.Units.{IsPosition}
 use Rattle.lay_units.specs.declared.length.Unit.{Unit}
 use Rattle.lay_floats.specs.declared.placed.Placed.{Placed}
 use Rattle.lay_floats.specs.Laws.{OneRoom}
-use Rattle.lay_lines.specs.declared.content.Stretch.{Stretch}
-use Rattle.lay_lines.specs.declared.frame.Frame.{Frame}
-use Rattle.lay_lines.specs.declared.pen.Pen.{Pen}
+use Rattle.lay_line_content.specs.declared.content.Stretch.{Stretch}
+use Rattle.lay_line_content.specs.declared.frame.Frame.{Frame}
+use Rattle.lay_line_content.specs.declared.pen.Pen.{Pen}
+use Rattle.lay_line_content.specs.Pens.{past, pen_to, seen_to, PenFits, PensFit}
+use Rattle.lay_line_content.proofs.PenOrder.{pen_next, pen_fits, same_seen}
 use Rattle.lay_lines.specs.declared.reach.Reach.{Reach}
-use Rattle.lay_lines.specs.Pens.{past, pen_to, seen_to, PenFits, PensFit}
 use Rattle.lay_lines.specs.Meeting.{IsLineRoom, HasRoom, RoomsFit}
 use Rattle.lay_lines.specs.Filling.{HasFit}
 use Rattle.lay_lines.specs.Reaching.{IsPen, IsReach}
-use Rattle.lay_lines.proofs.PenOrder.{pen_next, pen_fits, same_seen}
 
 abbrev pub reach_of : ℕ → Unit → Unit → Pen → Reach
 reach_of count start end pen = record { count = count; start = start; end = end; pen = pen }

@@ -9,25 +9,25 @@ use Rattle.lay_valign.specs.declared.parts.LineShape.{LineShape}
 use Rattle.lay_valign.specs.LineShape.{IsShape}
 use Rattle.lay_valign.specs.PartsFit.{PartsFit}
 use Rattle.lay_floats.specs.Within.{IsWithin, PlaceWithin}
-use Rattle.lay_lines.specs.declared.content.LineFloat.{LineFloat}
-use Rattle.lay_lines.specs.declared.content.Stretch.{Stretch}
+use Rattle.lay_line_content.specs.declared.content.LineFloat.{LineFloat}
+use Rattle.lay_line_content.specs.declared.content.Stretch.{Stretch}
+use Rattle.lay_line_content.specs.declared.frame.Frame.{Frame}
+use Rattle.lay_line_content.specs.Extents.{reading_to, shape_of, height_of}
+use Rattle.lay_line_content.specs.LineContents.{total, spread_of_parts, spread_of, weight_of_stretch, weight_of, StretchWithin}
+use Rattle.lay_line_content.proofs.Outcomes.{not_both}
+use Rattle.lay_line_content.proofs.LineParts.{strut_part, box_lift, stretch_lift, stretch_boxes, Counted, to_counted}
+use Rattle.lay_line_content.proofs.PartShapes.{ShapeWithin, parts_fit, height_near, shape_within}
+use Rattle.lay_line_content.proofs.PensWithin.{wider, position}
+use Rattle.lay_line_content.proofs.Totals.{part_of, total_to, total_to_most, total_split, drop_less}
 use Rattle.lay_lines.specs.declared.row.Ended.{Ended}
-use Rattle.lay_lines.specs.declared.frame.Frame.{Frame}
-use Rattle.lay_lines.specs.Extents.{reading_to, shape_of, height_of}
 use Rattle.lay_lines.specs.Meeting.{State, MeetsFloat, MeetsTo, Meets, CanMeetAll, RoomsFit, FrameFits}
 use Rattle.lay_lines.specs.Meeting.MeetsFloat.{stands, waits}
 use Rattle.lay_lines.specs.Filling.{IsTop, CanFill}
 use Rattle.lay_lines.specs.Rows.{Position, Row, Laid, parts_of, emptied, IsFilled, IsRow, next_frame, after_row, AddsRow, RowsTo, CanRow, CanLay, ended_of}
-use Rattle.lay_lines.specs.LineContents.{total, spread_of_parts, spread_of, weight_of_stretch, weight_of, StretchWithin}
 use Rattle.lay_lines.specs.Lines.{RowWithin}
-use Rattle.lay_lines.proofs.Chains.{not_both}
 use Rattle.lay_lines.proofs.LineLists.{map_append_one}
-use Rattle.lay_lines.proofs.LineParts.{strut_part, box_lift, stretch_lift, stretch_boxes, Counted, to_counted}
-use Rattle.lay_lines.proofs.PartShapes.{ShapeWithin, parts_fit, height_near, shape_within}
 use Rattle.lay_lines.proofs.Steps.{takes_some, top_fits}
-use Rattle.lay_lines.proofs.PensWithin.{wider, position}
 use Rattle.lay_lines.proofs.FloatsWithin.{at_of, StateWithin, state_wider, FrameWithin, further, meets_within, can_meet_all, top_within, floats_to, fills_within, can_fill, room_start, room_end, rooms_fit}
-use Rattle.lay_lines.proofs.Totals.{part_of, total_to, total_to_most, total_split, drop_less}
 
 -- where the content of lines lifts at most t units, a line and each float add at most g
 pub record Grows (t g : ℕ) : Type 0 where

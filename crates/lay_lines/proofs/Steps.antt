@@ -6,14 +6,15 @@ use Rattle.lay_floats.specs.declared.placed.Placed.{Placed}
 use Rattle.lay_floats.specs.declared.requests.NodePlace.{NodePlace}
 use Rattle.lay_floats.specs.Laws.{OneFloatPlace}
 use Rattle.lay_floats.specs.SolidPlace.{IsAlone}
-use Rattle.lay_lines.specs.declared.frame.Frame.{Frame}
-use Rattle.lay_lines.specs.declared.content.LineFloat.{LineFloat}
-use Rattle.lay_lines.specs.declared.content.Stretch.{Stretch}
-use Rattle.lay_lines.specs.Pens.{strut_height}
+use Rattle.lay_line_content.specs.declared.frame.Frame.{Frame}
+use Rattle.lay_line_content.specs.declared.content.LineFloat.{LineFloat}
+use Rattle.lay_line_content.specs.declared.content.Stretch.{Stretch}
+use Rattle.lay_line_content.specs.Pens.{strut_height}
+use Rattle.lay_line_content.proofs.Outcomes.{not_both}
 use Rattle.lay_lines.specs.Meeting.{State, below, stood, MeetsFloat, MeetsAt, Meets, CanMeetAll, RoomsFit}
 use Rattle.lay_lines.specs.Meeting.MeetsFloat.{stands, waits}
 use Rattle.lay_lines.specs.Filling.{HasFit, FitsNext, TakesNext, Fills, FitsAll, Takes, Begins, CanFill}
-use Rattle.lay_lines.proofs.Chains.{not_both, chain_one}
+use Rattle.lay_lines.proofs.Chains.{chain_one}
 
 abbrev pub made : List Placed → List NodePlace → List LineFloat → State
 made floats places put_off = record { floats = floats; places = places; put_off = put_off }

@@ -3,8 +3,8 @@ use Rattle.std.specs.Prelude.{◌≡◌, ℕ, ◌+◌, ◌≤◌, ◌^◌, ℤ, 
 use Rattle.lay_units.specs.declared.length.Unit.{Unit}
 use Rattle.lay_floats.specs.declared.placed.Placed.{Placed}
 use Rattle.lay_floats.specs.Within.{IsWithin, BoxWithin}
+use Rattle.lay_line_content.specs.LineContents.{LineContentValue, IsLineContent}
 use Rattle.lay_lines.specs.Rows.{Position, Laid, AreRows}
-use Rattle.lay_lines.specs.LineContents.{LineContentValue, IsLineContent}
 use Rattle.lay_lines.specs.Lines.{LinesValue, AreLines, LinesWithin, growth}
 
 abbrev pub OneListOfRows : Type 0

@@ -1,9 +1,6 @@
-pub mod Extents
 pub mod Filling
 pub mod Laws
-pub mod LineContents
 pub mod Lines
 pub mod Meeting
-pub mod Pens
 pub mod Reaching
 pub mod Rows

@@ -6,10 +6,10 @@ use Rattle.lay_units.specs.declared.length.Unit.{Unit}
 use Rattle.lay_floats.specs.declared.placed.Placed.{Placed}
 use Rattle.lay_floats.specs.declared.requests.NodePlace.{NodePlace}
 use Rattle.lay_floats.specs.Within.{IsWithin, BoxWithin}
-use Rattle.lay_lines.specs.declared.frame.Frame.{Frame}
+use Rattle.lay_line_content.specs.declared.frame.Frame.{Frame}
+use Rattle.lay_line_content.specs.LineContents.{LineContentValue, lines_weight}
 use Rattle.lay_lines.specs.declared.row.Ended.{Ended}
 use Rattle.lay_lines.specs.declared.laying.Lines.{Lines}
-use Rattle.lay_lines.specs.LineContents.{LineContentValue, lines_weight}
 use Rattle.lay_lines.specs.Meeting.{none_met}
 use Rattle.lay_lines.specs.Rows.{Position, Laid, AreRows, position_of, ended_of}
 

@@ -1,12 +1,11 @@
 -- What the code keeps of a line as it fills it: how far its first stretches come, in which room.
-use Rattle.std.specs.Prelude.{◌≡◌, ◌<◌, ℕ, ℤ, List, slice_get, Some}
+use Rattle.std.specs.Prelude.{◌≡◌, ℤ, List}
 use Rattle.lay_units.specs.Units.{IsPosition}
 use Rattle.lay_floats.specs.declared.placed.Placed.{Placed}
-use Rattle.lay_lines.specs.declared.content.Stretch.{Stretch}
-use Rattle.lay_lines.specs.declared.frame.Frame.{Frame}
+use Rattle.lay_line_content.specs.declared.content.Stretch.{Stretch}
+use Rattle.lay_line_content.specs.declared.frame.Frame.{Frame}
+use Rattle.lay_line_content.specs.Pens.{pen_to, PenFits}
 use Rattle.lay_lines.specs.declared.reach.Reach.{Reach}
-use Rattle.lay_lines.specs.Pens.{pen_to, PenFits}
-use Rattle.lay_lines.specs.LineContents.{boxes_of_part, total}
 use Rattle.lay_lines.specs.Meeting.{IsLineRoom}
 
 -- the pen is that of the first stretches, in a room with this left edge
@@ -20,7 +19,3 @@ pub record IsReach (fr : Frame) (y : ℤ) (ss : List Stretch) (floats : List Pla
   pub room : IsLineRoom fr y floats r.start.0 r.end.0
   pub start : IsPosition r.start.0
   pub end : IsPosition r.end.0
-
--- in the first n stretches no inline box starts and no atomic box stands
-abbrev pub HasNoBoxes : List Stretch → ℕ → Type 0
-HasNoBoxes ss n = (k : ℕ) (s : Stretch) → k < n → slice_get ss k ≡ Some s → total boxes_of_part s.parts ≡ 0

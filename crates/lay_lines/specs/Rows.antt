@@ -7,14 +7,14 @@ use Rattle.lay_valign.specs.declared.parts.LineShape.{LineShape}
 use Rattle.lay_valign.specs.declared.parts.Part.{Part as LinePart}
 use Rattle.lay_valign.specs.LineShape.{IsShape}
 use Rattle.lay_valign.specs.PartsFit.{PartsFit}
-use Rattle.lay_lines.specs.declared.content.Stretch.{Stretch}
-use Rattle.lay_lines.specs.declared.content.InlineStart.{InlineStart}
-use Rattle.lay_lines.specs.declared.frame.Extent.{Extent}
-use Rattle.lay_lines.specs.declared.frame.Frame.{Frame}
+use Rattle.lay_line_content.specs.declared.content.Stretch.{Stretch}
+use Rattle.lay_line_content.specs.declared.content.InlineStart.{InlineStart}
+use Rattle.lay_line_content.specs.declared.frame.Extent.{Extent}
+use Rattle.lay_line_content.specs.declared.frame.Frame.{Frame}
+use Rattle.lay_line_content.specs.Pens.{pen_to, seen_to}
+use Rattle.lay_line_content.specs.Extents.{any_shows, reading_to, parts_to, shape_of, height_of}
 use Rattle.lay_lines.specs.declared.reach.Reach.{Reach}
 use Rattle.lay_lines.specs.declared.row.Ended.{Ended}
-use Rattle.lay_lines.specs.Pens.{pen_to, seen_to}
-use Rattle.lay_lines.specs.Extents.{any_shows, reading_to, parts_to, shape_of, height_of}
 use Rattle.lay_lines.specs.Meeting.{State, Chain, IsLineRoom, Meets, CanMeetAll, RoomsFit, FrameFits}
 use Rattle.lay_lines.specs.Filling.{IsTop, Takes, Fills, CanFill}
 

@@ -2,16 +2,15 @@
 
 ghost use Rattle.std.specs.Prelude.{◌≡◌, ◌↔◌, ◌+◌, ◌<◌, ◌≤◌, ℤ, IsTrue, List, length};
 ghost use Rattle.lay_units.specs.Units.{IsPosition};
-ghost use Rattle.lay_lines.specs.Pens.{seen_to};
+ghost use Rattle.lay_line_content.specs.Pens.{seen_to};
 ghost use Rattle.lay_lines.specs.Meeting.{HasRoom, RoomsFit, FrameFits, IsLineRoom};
 ghost use Rattle.lay_lines.specs.Filling.{HasFit};
 ghost use Rattle.lay_lines.specs.Reaching.{IsPen, IsReach};
 
 use crate::arithmetic::{are_same, is_at_most, wide_minus, wide_plus};
-use crate::content::Stretch;
-use crate::frame::{Frame, Line};
-use crate::pen::Pen;
+use crate::line::Line;
 use lay_floats::{Floats, one_room};
+use lay_line_content::{Frame, Pen, Stretch};
 use lay_units::Unit;
 
 /// How far the first stretches of a line come, in the room between two edges.

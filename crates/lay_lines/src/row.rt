@@ -2,22 +2,21 @@
 
 ghost use Rattle.std.specs.Prelude.{◌≡◌, ◌<◌, ◌≤◌, ◌+ℤ◌, ◌||◌, true, if◌then◌else◌, List, length, slice_get, Some, IfOk, IfErr};
 ghost use Rattle.lay_units.specs.Units.{IsPosition};
-ghost use Rattle.lay_lines.specs.declared.content.Stretch.{Stretch as StretchValue};
-ghost use Rattle.lay_lines.specs.Extents.{any_shows, reading_to, height_of};
+ghost use Rattle.lay_line_content.specs.declared.content.Stretch.{Stretch as StretchValue};
+ghost use Rattle.lay_line_content.specs.Extents.{any_shows, reading_to, height_of};
 ghost use Rattle.lay_lines.specs.Filling.{IsTop};
 ghost use Rattle.lay_lines.specs.Meeting.{State, state_of, Meets, CanMeetAll, RoomsFit, FrameFits, IsFront};
 ghost use Rattle.lay_lines.specs.Rows.{Position, Row, IsFilled, IsRow, CanRow, position_of, row_of};
 
 use crate::arithmetic::plus;
-use crate::content::{InlineStart, Stretch};
-use crate::extents::{any_shows, line_shape};
-use crate::frame::{Extent, Line};
+use crate::line::Line;
 use crate::meeting::meet_all;
 use crate::met::Met;
 use crate::reach::Reach;
 use crate::taking::take;
 use crate::top::line_top;
 use lay_floats::{Floats, one_float_place, one_room};
+use lay_line_content::{Extent, InlineStart, Stretch, any_shows, line_shape};
 use lay_units::{NoMemory, Unit, UnitList};
 use std::alloc::Global;
 use std::mem;

@@ -5,11 +5,11 @@ ghost use Rattle.lay_units.specs.Units.{IsPosition};
 ghost use Rattle.lay_lines.specs.Meeting.{none_met, IsFront};
 ghost use Rattle.lay_lines.specs.Rows.{Laid, AreRows, CanLay, position_of, next_frame, ended_of};
 
-use crate::content::Stretch;
-use crate::frame::{Frame, Line};
+use crate::line::Line;
 use crate::met::Met;
 use crate::row::{Ended, put_row};
 use lay_floats::{Floats, NodePlace, one_float_place, one_room};
+use lay_line_content::{Frame, Stretch};
 use lay_units::{NoMemory, Unit};
 use std::alloc::Global;
 

@@ -3,18 +3,18 @@
 ghost use Rattle.std.specs.Prelude.{◌≡◌, ◌↔◌, ◌⊎◌, suc, ◌+◌, ◌<◌, ◌≤◌, ℕ, IsTrue, List, length, slice_get, Some, None, IfOk, IfErr, IfSome};
 ghost use Rattle.lay_units.specs.Units.{IsPosition};
 ghost use Rattle.lay_floats.specs.SolidPlace.{IsAlone};
-ghost use Rattle.lay_lines.specs.declared.content.Stretch.{Stretch as StretchValue};
-ghost use Rattle.lay_lines.specs.Pens.{strut_height};
+ghost use Rattle.lay_line_content.specs.declared.content.Stretch.{Stretch as StretchValue};
+ghost use Rattle.lay_line_content.specs.Pens.{strut_height};
 ghost use Rattle.lay_lines.specs.Meeting.{State, state_of, Meets, CanMeetAll, RoomsFit, FrameFits, IsFront};
 ghost use Rattle.lay_lines.specs.Filling.{HasFit, FitsNext, TakesNext, Fills, Takes, CanFill};
 ghost use Rattle.lay_lines.specs.Reaching.{IsReach};
 
-use crate::content::{LineFloat, Stretch};
-use crate::frame::Line;
+use crate::line::Line;
 use crate::meeting::meet_all;
 use crate::met::Met;
 use crate::reach::Reach;
 use lay_floats::{Floats, one_float_place};
+use lay_line_content::{LineFloat, Stretch};
 use lay_units::{NoMemory, Unit};
 
 /// A line takes stretches as long as they fit. The answer is how far they come.

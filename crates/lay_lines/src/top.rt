@@ -3,14 +3,14 @@
 ghost use Rattle.std.specs.Prelude.{◌≡◌, ◌↔◌, ◌<◌, ℤ, ◌≤ℤ◌, ◌<ℤ◌, IsTrue, List, length, None, IfSome};
 ghost use Rattle.lay_units.specs.Units.{IsPosition};
 ghost use Rattle.lay_floats.specs.SolidPlace.{IsAlone};
-ghost use Rattle.lay_lines.specs.Pens.{strut_height};
+ghost use Rattle.lay_line_content.specs.Pens.{strut_height};
 ghost use Rattle.lay_lines.specs.Meeting.{IsLineRoom, RoomsFit, FrameFits};
 ghost use Rattle.lay_lines.specs.Filling.{HasFit, Begins, IsTop};
 
-use crate::content::Stretch;
-use crate::frame::{Frame, Line};
+use crate::line::Line;
 use crate::reach::Reach;
 use lay_floats::{Floats, one_room};
+use lay_line_content::{Frame, Stretch};
 use lay_units::Unit;
 
 /// The least top from `from` downward at which something fits or no float is beside the line.

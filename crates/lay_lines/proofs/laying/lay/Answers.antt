@@ -1,11 +1,11 @@
 use Rattle.std.proofs.Common.{◌∙◌, ◌^◌, [], List, arith, sym, subst}
 use Rattle.lay_floats.specs.declared.placed.Placed.{Placed}
-use Rattle.lay_lines.specs.declared.content.Stretch.{Stretch}
-use Rattle.lay_lines.specs.declared.frame.Frame.{Frame}
+use Rattle.lay_line_content.specs.declared.content.Stretch.{Stretch}
+use Rattle.lay_line_content.specs.declared.frame.Frame.{Frame}
+use Rattle.lay_line_content.proofs.Outcomes.{at_err}
 use Rattle.lay_lines.specs.Lines.{AreLines, lines_of, frame_of}
 use Rattle.lay_lines.specs.Meeting.{none_met, IsFront}
 use Rattle.lay_lines.specs.Rows.{AreRows, CanLay, position_of}
-use Rattle.lay_lines.proofs.Chains.{at_err}
 use Rattle.lay_lines.proofs.LinesWithin.{can_lay_lines}
 use Rattle.lay_lines.proofs.laying.lay.Goals as goal
 

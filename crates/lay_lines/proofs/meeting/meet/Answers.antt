@@ -2,9 +2,10 @@ use Rattle.std.proofs.Common.{◌≡◌, ◌∙◌, ◌++◌, ◌∷◌, [], ref
 use Rattle.lay_floats.specs.declared.requests.FloatReq.{FloatReq}
 use Rattle.lay_floats.specs.FloatPlace.{IsFloatPlace, placed_at}
 use Rattle.lay_floats.specs.Fits.{BoxFits}
+use Rattle.lay_line_content.proofs.Outcomes.{at_err}
 use Rattle.lay_lines.specs.Meeting.{State, state_of, below, stood}
 use Rattle.lay_lines.specs.Meeting.MeetsFloat.{stands, waits}
-use Rattle.lay_lines.proofs.Chains.{at_err, front_trans, all_front}
+use Rattle.lay_lines.proofs.Chains.{front_trans, all_front}
 use Rattle.lay_lines.proofs.Steps.{same_states, one_met}
 use Rattle.lay_lines.proofs.Fronts.{met_front}
 use Rattle.lay_lines.proofs.meeting.meet.Goals as goal

@@ -1,6 +1,7 @@
 use Rattle.std.proofs.lemmas.Option.{slice_get-get_or}
+use Rattle.lay_line_content.proofs.Outcomes.{at_err}
 use Rattle.lay_lines.specs.Meeting.{state_of, MeetsAt}
-use Rattle.lay_lines.proofs.Chains.{chain_more, at_err}
+use Rattle.lay_lines.proofs.Chains.{chain_more}
 use Rattle.lay_lines.proofs.Fronts.{meets_stopped}
 use Rattle.lay_lines.proofs.meeting.meet_all.Goals as goal
 

@@ -1,10 +1,11 @@
 use Rattle.std.proofs.Common.{◌∙◌, ◌||◌, ◌+ℤ◌, if◌then◌else◌, refl, ap, sym}
-use Rattle.lay_lines.specs.declared.frame.Extent.{Extent}
-use Rattle.lay_lines.specs.Extents.{any_shows, height_of}
+use Rattle.lay_line_content.specs.declared.frame.Extent.{Extent}
+use Rattle.lay_line_content.specs.Extents.{any_shows, height_of}
+use Rattle.lay_line_content.proofs.Outcomes.{at_err}
+use Rattle.lay_line_content.proofs.PenOrder.{some_at}
 use Rattle.lay_lines.specs.Meeting.{State, state_of}
 use Rattle.lay_lines.specs.Rows.{position_of}
-use Rattle.lay_lines.proofs.Chains.{at_err, all_front, front_trans}
-use Rattle.lay_lines.proofs.PenOrder.{some_at}
+use Rattle.lay_lines.proofs.Chains.{all_front, front_trans}
 use Rattle.lay_lines.proofs.LineLists.{filled_front, filled_by, taking_stopped, one_taken}
 use Rattle.lay_lines.proofs.row.fill_row.Goals as goal
 

@@ -1,8 +1,8 @@
 use Rattle.std.proofs.Common.{◌≡◌, ◌∙◌, sym, subst}
 use Rattle.std.proofs.lemmas.Option.{same_Some}
-use Rattle.lay_lines.specs.declared.content.Stretch.{Stretch}
+use Rattle.lay_line_content.specs.declared.content.Stretch.{Stretch}
+use Rattle.lay_line_content.proofs.Outcomes.{at_err}
 use Rattle.lay_lines.specs.Meeting.{state_of, Meets}
-use Rattle.lay_lines.proofs.Chains.{at_err}
 use Rattle.lay_lines.proofs.Steps.{stretch_is, heads_to, heads_from, can_heads}
 use Rattle.lay_lines.proofs.row.headed_top.Goals as goal
 

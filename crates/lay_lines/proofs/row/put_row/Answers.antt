@@ -1,7 +1,8 @@
 use Rattle.std.proofs.Common.{◌≡◌, ℤ, [], refl, sym, subst}
+use Rattle.lay_line_content.proofs.Outcomes.{at_err}
 use Rattle.lay_lines.specs.Meeting.{State, state_of, CanMeetAll, Meets}
 use Rattle.lay_lines.specs.Rows.{emptied, row_of, position_of}
-use Rattle.lay_lines.proofs.Chains.{at_err, front_trans}
+use Rattle.lay_lines.proofs.Chains.{front_trans}
 use Rattle.lay_lines.proofs.Steps.{same_states, takes_some, top_fits, heads_from, heads_to, can_heads}
 use Rattle.lay_lines.proofs.LineLists.{one_filled, row_front}
 use Rattle.lay_lines.proofs.row.put_row.Goals as goal

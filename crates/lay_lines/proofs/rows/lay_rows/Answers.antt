@@ -1,8 +1,9 @@
 use Rattle.std.proofs.Common.{◌∙◌, ◌++◌, ◌∷◌, ◌+◌, ◌<◌, [], length, refl, ap, sym, subst, rules}
 use Rattle.lay_units.specs.declared.length.Unit.{Unit}
+use Rattle.lay_line_content.proofs.Outcomes.{at_err}
 use Rattle.lay_lines.specs.Meeting.{none_met, state_of}
 use Rattle.lay_lines.specs.Rows.{Row, Laid, RowsTo, position_of, row_of}
-use Rattle.lay_lines.proofs.Chains.{at_err, all_front}
+use Rattle.lay_lines.proofs.Chains.{all_front}
 use Rattle.lay_lines.proofs.LineLists.{rows_stopped, row_more, laid_at, same_laid, one_row, listed_more}
 use Rattle.lay_lines.proofs.rows.lay_rows.Goals as goal
 

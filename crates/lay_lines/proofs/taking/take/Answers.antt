@@ -1,10 +1,11 @@
 use Rattle.std.proofs.Common.{◌≡◌, ◌∙◌, ℕ, ◌+◌, ap, sym, subst, arith}
-use Rattle.lay_lines.specs.declared.content.Stretch.{Stretch}
+use Rattle.lay_line_content.specs.declared.content.Stretch.{Stretch}
+use Rattle.lay_line_content.proofs.Outcomes.{at_some, at_err}
+use Rattle.lay_line_content.proofs.PenOrder.{some_at}
 use Rattle.lay_lines.specs.Meeting.{state_of}
 use Rattle.lay_lines.specs.Filling.{FitsNext, TakesNext, Fills, Takes}
 use Rattle.lay_lines.specs.Reaching.{IsReach}
-use Rattle.lay_lines.proofs.Chains.{chain_more, at_some, at_err}
-use Rattle.lay_lines.proofs.PenOrder.{some_at}
+use Rattle.lay_lines.proofs.Chains.{chain_more}
 use Rattle.lay_lines.proofs.Steps.{stretch_is, stops, ends, unforced_more, all_fit, rooms_next, can_next}
 use Rattle.lay_lines.proofs.Fronts.{take_stopped}
 use Rattle.lay_lines.proofs.taking.take.Goals as goal

@@ -1,0 +1,3 @@
+pub mod Extents
+pub mod LineContents
+pub mod Pens

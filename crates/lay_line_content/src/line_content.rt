@@ -1,0 +1,99 @@
+//! The content of the lines of a container.
+
+ghost use Rattle.std.specs.Prelude.{◌≡◌, ◌≤◌, ◌^◌, None, IfSome};
+ghost use Rattle.lay_line_content.specs.LineContents.{IsLineContent, content_of, lines_weight};
+
+use crate::bounds::line_content_weight;
+use crate::content::Stretch;
+use crate::frame::Extent;
+use crate::lists::StretchList;
+use lay_units::Unit;
+use std::marker::Model;
+
+/// The content of the lines of a container, measured, with the container's strut, its `text-indent` and the
+/// distance between its tab stops. The strut is at most 2^36 units of 1/64 px, the indent is a used length and the
+/// distance 0 to 2^45 units; no float is larger than 2^34 units or has a containing block edge further than 2^50 away;
+/// all widths together are at most 2^58 units, with a tab as wide as the distance of stops; inline boxes and atomic boxes
+/// are at most 2^31, and the weight is at most 2^21.
+#[derive(Drop)]
+pub struct LineContent {
+    strut: Extent,
+    indent: Unit,
+    tab: Unit,
+    stretches: StretchList,
+    weight: u64,
+}
+
+impl Model for LineContent {
+    ghost use Rattle.std.specs.Prelude.{◌≡◌};
+    ghost use Rattle.lay_line_content.specs.LineContents.{LineContentValue, IsLineContent, content_of, lines_weight};
+
+    ghost Value = { LineContentValue };
+
+    ghost view = { λ c. content_of c.strut c.indent c.tab c.stretches };
+
+    ghost invariant = { λ c. IsLineContent (content_of c.strut c.indent c.tab c.stretches)
+        × (c.weight ≡ lines_weight (content_of c.strut c.indent c.tab c.stretches)) };
+}
+
+impl LineContent {
+    /// None exactly where the bounds don't hold.
+    pub fn new(
+        strut: Extent,
+        indent: Unit,
+        tab: Unit,
+        stretches: StretchList,
+    ) -> Option<LineContent>
+        ensures some { IfSome result (λ c. c ≡ content_of strut indent tab stretches) }
+        ensures fits { IfSome result IsLineContent }
+        ensures none { result ≡ None → IsLineContent (content_of strut indent tab stretches) → ⊥ }
+    {
+        match line_content_weight(strut, indent, tab, stretches.as_slice()) {
+            None => None,
+            Some(weight) => Some(LineContent {
+                strut,
+                indent,
+                tab,
+                stretches,
+                weight,
+            }),
+        }
+    }
+
+    /// How far the container's strut reaches above and below the baseline.
+    pub fn strut(&self) -> Extent
+        ensures { result ≡ self.now.strut }
+    {
+        self.strut
+    }
+
+    pub fn indent(&self) -> Unit
+        ensures { result ≡ self.now.indent }
+    {
+        self.indent
+    }
+
+    /// The distance between tab stops; 0 where there are none.
+    pub fn tab(&self) -> Unit
+        ensures { result ≡ self.now.tab }
+    {
+        self.tab
+    }
+
+    /// How much there is to lay out: its stretches and their floats, and one more, once and again for each 2^35 units
+    /// that its inline boxes and atomic boxes can add to the height of a line. Lines reach at most 2^38 units further for
+    /// each weight.
+    pub fn weight(&self) -> u64
+        ensures value { result ≡ lines_weight self.now }
+        ensures small { result ≤ 2 ^ 21 }
+    {
+        self.weight
+    }
+
+    pub fn stretches(&self) -> &[Stretch]
+        ensures value { result.now ≡ self.now.stretches }
+        ensures fits { IsLineContent self.now }
+    {
+        self.stretches.as_slice()
+    }
+}

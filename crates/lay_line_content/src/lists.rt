@@ -1,0 +1,96 @@
+//! Lists of the records that content is made of.
+
+ghost use Rattle.std.specs.Prelude.{◌≡◌};
+
+use crate::content::{LineFloat, Part, Stretch};
+use std::marker::Model;
+
+/// The parts of a stretch, in order.
+#[derive(Drop)]
+pub struct PartList {
+    items: Vec<Part>,
+}
+
+impl Model for PartList {
+    ghost use Rattle.std.specs.Prelude.{List};
+    ghost use Rattle.lay_line_content.specs.declared.content.Part.{Part};
+
+    ghost Value = { List Part };
+
+    ghost view = { λ l. l.items.items };
+}
+
+impl PartList {
+    /// The list of these, which is taken over without a copy.
+    pub fn new(items: Vec<Part>) -> PartList
+        ensures { result ≡ items.items }
+    {
+        PartList { items }
+    }
+
+    pub fn as_slice(&self) -> &[Part]
+        ensures { result.now ≡ self.now }
+    {
+        self.items.as_slice()
+    }
+}
+
+/// Floats that lines meet, in order.
+#[derive(Drop)]
+pub struct LineFloatList {
+    items: Vec<LineFloat>,
+}
+
+impl Model for LineFloatList {
+    ghost use Rattle.std.specs.Prelude.{List};
+    ghost use Rattle.lay_line_content.specs.declared.content.LineFloat.{LineFloat};
+
+    ghost Value = { List LineFloat };
+
+    ghost view = { λ l. l.items.items };
+}
+
+impl LineFloatList {
+    /// The list of these, which is taken over without a copy.
+    pub fn new(items: Vec<LineFloat>) -> LineFloatList
+        ensures { result ≡ items.items }
+    {
+        LineFloatList { items }
+    }
+
+    pub fn as_slice(&self) -> &[LineFloat]
+        ensures { result.now ≡ self.now }
+    {
+        self.items.as_slice()
+    }
+}
+
+/// The stretches of the content of a container, in order.
+#[derive(Drop)]
+pub struct StretchList {
+    items: Vec<Stretch>,
+}
+
+impl Model for StretchList {
+    ghost use Rattle.std.specs.Prelude.{List};
+    ghost use Rattle.lay_line_content.specs.declared.content.Stretch.{Stretch};
+
+    ghost Value = { List Stretch };
+
+    ghost view = { λ l. l.items.items };
+}
+
+impl StretchList {
+    /// The list of these, which is taken over without a copy.
+    pub fn new(items: Vec<Stretch>) -> StretchList
+        ensures { result ≡ items.items }
+    {
+        StretchList { items }
+    }
+
+    pub fn as_slice(&self) -> &[Stretch]
+        ensures { result.now ≡ self.now }
+    {
+        self.items.as_slice()
+    }
+}
