@@ -1,7 +1,7 @@
 //! Entries of a history.
 
 use crate::command::Reply;
-use crate::edit::Edit;
+use lay_doc::Edit;
 
 /// What a history records: the command `index` (from 0) of an editor (from 1) with its reply, or that a
 /// version is published. A version is the number of accepted edits of the document whose tree it is.

@@ -2,7 +2,7 @@
 
 ghost use Rattle.std.specs.Prelude.{◌≡◌, ◌==◌, ◌++◌, ◌∷◌, [], length, OnOk, OnErr};
 
-use crate::edit::{Edit, EditFault};
+use lay_doc::{Edit, EditFault};
 use lay_units::NoMemory;
 use std::alloc::Global;
 use std::marker::Model;
@@ -39,7 +39,7 @@ pub struct CmdList {
 
 impl Model for CmdList {
     ghost use Rattle.std.specs.Prelude.{List};
-    ghost use Rattle.lay_doc.specs.declared.command.Cmd.{Cmd};
+    ghost use Rattle.lay_commands.specs.declared.command.Cmd.{Cmd};
 
     ghost Value = { List Cmd };
 
