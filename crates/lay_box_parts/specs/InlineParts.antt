@@ -9,9 +9,9 @@
 -- name the same element are no inline boxes by their kind.
 use Rattle.std.specs.Prelude.{ℕ, ◌≡◌, ◌<◌, ◌+◌, ◌==◌, Bool, false, ◌&&◌, not, List, length, map, take, drop, slice_index, slice_index_or}
 use Rattle.std.specs.List.{list_any}
-use Rattle.lay_boxgen.specs.BoxColumns.{box_ids}
-use Rattle.lay_boxgen.specs.Kinds.{is_inline}
-use Rattle.lay_boxgen.specs.declared.box_tree.BoxNode.{BoxNode}
+use Rattle.lay_box_tree.specs.BoxColumns.{box_ids}
+use Rattle.lay_box_tree.specs.Kinds.{is_inline}
+use Rattle.lay_box_tree.specs.declared.box_tree.BoxNode.{BoxNode}
 use Rattle.lay_box_parts.specs.declared.inline_part.InlinePart.{InlinePart}
 
 -- the box is a part of the inline box of the element with this id

@@ -1,7 +1,7 @@
 -- Each inline box in a list of boxes has one first part and one last part.
 use Rattle.std.specs.Prelude.{ℕ, ◌≡◌, ◌<◌, Bool, true, List, length}
 use Rattle.std.specs.List.{list_any}
-use Rattle.lay_boxgen.specs.declared.box_tree.BoxNode.{BoxNode}
+use Rattle.lay_box_tree.specs.declared.box_tree.BoxNode.{BoxNode}
 use Rattle.lay_box_parts.specs.InlineParts.{id_at, is_first_part, is_last_part, is_part_of}
 
 -- just one box of this element has this end of its inline box

@@ -6,7 +6,7 @@ ghost use Rattle.std.specs.Ordering.{nat_cmp};
 ghost use Rattle.lay_box_parts.specs.InlineParts.{AreInlineParts, id_at, is_first_part, is_inline_at, is_last_part};
 ghost use Rattle.lay_box_parts.specs.LatestParts.{IsLatest};
 
-use lay_boxgen::{BoxKind, BoxNode};
+use lay_box_tree::{BoxKind, BoxNode};
 use lay_units::NoMemory;
 use std::alloc::Global;
 use std::collections::BTreeMap;

@@ -1,7 +1,7 @@
 -- The next part of each part of an inline box, one box more at a time.
 use Rattle.std.proofs.Common.{◌≡◌, inl, inr, ℕ, zero, suc, ◌+◌, ◌<◌, ◌≤◌, Bool, true, false, List, [], ◌∷◌, length, set, get_or, replicate, refl, sym, subst, arith, None, Some, get_or-set_other, get_or-set_same}
 use Rattle.std.proofs.lemmas.Bool.{cases_lt, cases_eq}
-use Rattle.lay_boxgen.specs.declared.box_tree.BoxNode.{BoxNode}
+use Rattle.lay_box_tree.specs.declared.box_tree.BoxNode.{BoxNode}
 use Rattle.lay_box_parts.specs.InlineParts.{id_at, is_inline_at, is_part_at}
 use Rattle.lay_box_parts.specs.LatestParts.{IsLatest}
 use Rattle.lay_box_parts.proofs.PartEnds.{no-part, other-part}

@@ -1,7 +1,7 @@
 -- The parts of inline boxes that a walk over the boxes keeps: of those before a place all that can have held a box from there
 -- on.
 use Rattle.std.specs.Prelude.{ℕ, ◌≡◌, ◌⊎◌, ◌+◌, ◌<◌, ◌≤◌, true, false, List, length, slice_index}
-use Rattle.lay_boxgen.specs.declared.box_tree.BoxNode.{BoxNode}
+use Rattle.lay_box_tree.specs.declared.box_tree.BoxNode.{BoxNode}
 use Rattle.lay_box_parts.specs.InlineParts.{id_at, is_inline_at, is_part_at}
 use Rattle.lay_broken_inlines.specs.FormerParents.{WasIn}
 

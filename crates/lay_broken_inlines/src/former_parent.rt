@@ -2,14 +2,14 @@
 
 ghost use Rattle.std.specs.Prelude.{◌≡◌, ◌<◌, ◌+◌, ◌≤◌, ℕ, length, slice_index, IfOk, OnOk, IsTrue, false, MatchOption, true};
 ghost use Rattle.lay_doc.specs.Tree.{IsTree};
-ghost use Rattle.lay_boxgen.specs.BoxColumns.{box_parents};
+ghost use Rattle.lay_box_tree.specs.BoxColumns.{box_parents};
 ghost use Rattle.lay_broken_inlines.specs.FormerParents.{AreFormerParents, IsFormerParent};
 ghost use Rattle.lay_broken_inlines.specs.OpenParts.{AreNextPlaces, AreOpen, GoesOn};
 ghost use Rattle.lay_broken_inlines.specs.SubtreeEnds.{AreEnds, IsEnd};
 
 use crate::next_place::{is_inline_at, next_places};
 use crate::subtree_end::{box_parent, subtree_ends};
-use lay_boxgen::{BoxNode, BoxTree};
+use lay_box_tree::{BoxNode, BoxTree};
 use lay_units::NoMemory;
 use std::alloc::Global;
 

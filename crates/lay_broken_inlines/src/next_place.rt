@@ -7,7 +7,7 @@ ghost use Rattle.lay_box_parts.specs.InlineParts.{id_at, is_inline_at};
 ghost use Rattle.lay_box_parts.specs.LatestParts.{IsLatest};
 ghost use Rattle.lay_broken_inlines.specs.OpenParts.{AreNextPlaces, AreNextTo};
 
-use lay_boxgen::{BoxKind, BoxNode};
+use lay_box_tree::{BoxKind, BoxNode};
 use lay_units::NoMemory;
 use std::alloc::Global;
 use std::collections::BTreeMap;

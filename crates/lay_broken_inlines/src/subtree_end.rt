@@ -2,11 +2,11 @@
 
 ghost use Rattle.std.specs.Prelude.{◌≡◌, ◌<◌, ◌+◌, length, IfOk};
 ghost use Rattle.lay_doc.specs.Tree.{IsTree};
-ghost use Rattle.lay_boxgen.specs.BoxColumns.{box_parents};
-ghost use Rattle.lay_boxgen.specs.Containers.{box_parent};
+ghost use Rattle.lay_box_tree.specs.BoxColumns.{box_parents};
+ghost use Rattle.lay_box_tree.specs.Containers.{box_parent};
 ghost use Rattle.lay_broken_inlines.specs.SubtreeEnds.{AreEnds, AreEndsTo};
 
-use lay_boxgen::BoxNode;
+use lay_box_tree::BoxNode;
 use lay_units::NoMemory;
 use std::alloc::Global;
 

@@ -2,9 +2,11 @@
 
 use crate::answer::Answer;
 use anyhow::Result;
-use lay_doc::{BadDeclaration, Cmd, Edit, Kind, NewNode, Node, NodeId};
+use lay_commands::Cmd;
+use lay_doc::{BadDeclaration, Edit, Kind, NewNode, Node, NodeId};
 use lay_face::Face;
-use lay_json::{RunDoc, read_run};
+use lay_json::read_run;
+use lay_run::RunDoc;
 use lay_style::Decls;
 use lay_units::Unit;
 use std::alloc::{AllocError, Global};

@@ -1,7 +1,7 @@
 -- How calls end.
 use Rattle.std.proofs.Common.{◌≡◌, ◌≢◌, ◌⊎◌, ℕ, List, refl, sym, ◌∙◌, inl, inr, subst, Option, Some, None, IfSome}
 use Rattle.lay_outside.specs.Outside.{Rose, Took, TookFront}
-use Rattle.lay_json.specs.Runs.{Run}
+use Rattle.lay_run.specs.Runs.{Run}
 use Rattle.lay_core.specs.State.{State}
 use Rattle.lay_report.specs.declared.fault.ReportFault.{ReportFault}
 use Rattle.lay_report.specs.declared.fault.ReportFault.TheVariants.{WriteFault as write_failed, NoMemory as ran_out}

@@ -13,9 +13,9 @@ use Rattle.lay_history.specs.Legal.{IsWhole}
 use Rattle.lay_history.specs.Trees.{tree_at}
 use Rattle.lay_core.specs.State.{IsCore, State}
 use Rattle.lay_report.specs.Report.{run_report, scratch_report}
+use Rattle.lay_run.specs.Runs.{Run}
 use Rattle.lay_json.specs.declared.fault.InputFault.{InputFault}
 use Rattle.lay_json.specs.declared.fault.InputFault.TheVariants.{NoMemory}
-use Rattle.lay_json.specs.Runs.{Run}
 use Rattle.lay_json.specs.Reading.{IsReading}
 use Rattle.lay_generator.specs.Generated.{generated}
 use Rattle.lay_generator.specs.Summary.{summary}

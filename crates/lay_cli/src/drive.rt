@@ -14,9 +14,9 @@ use crate::telling::{status_of, told};
 use lay_core::Core;
 use lay_drive::drive;
 use lay_generator::{generated_run, run_summary};
-use lay_json::RunDoc;
 use lay_outside::{Sink, Source, write_all};
 use lay_report::write_run;
+use lay_run::RunDoc;
 use lay_units::{NoMemory, Text};
 use std::alloc::Global;
 

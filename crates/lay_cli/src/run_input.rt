@@ -7,8 +7,9 @@ ghost use Rattle.lay_cli.specs.Input.{IsDrained};
 
 use crate::input::{SourceFault, read_all};
 use crate::refusal::fault_line;
-use lay_json::{InputFault, RunDoc, read_run};
+use lay_json::{InputFault, read_run};
 use lay_outside::Source;
+use lay_run::RunDoc;
 use lay_units::{NoMemory, Text};
 use std::alloc::Global;
 

@@ -10,9 +10,9 @@ ghost use Rattle.lay_cli.specs.Input.{IsDrained};
 use crate::run_input::{Input, Lack, run_input};
 use crate::status::Status;
 use crate::telling::{status_of, told};
-use lay_json::RunDoc;
 use lay_outside::{Sink, Source};
 use lay_report::write_scratch;
+use lay_run::RunDoc;
 use std::alloc::Global;
 
 /// Lays out the run document that the source has left, its editors taken as none, and writes the report.

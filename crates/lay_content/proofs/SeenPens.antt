@@ -1,12 +1,12 @@
 -- The pen has seen what its parts say.
 use Rattle.std.proofs.Common.{◌≡◌, ℕ, zero, suc, ℤ, Bool, true, false, ◌||◌, if◌then◌else◌, List, [], ◌∷◌, take, refl, sym, ap, ◌∙◌, Option, Some, None}
 use Rattle.std.specs.List.{list_any, slice_get}
-use Rattle.lay_lines.specs.declared.content.Part.{Part}
-use Rattle.lay_lines.specs.declared.content.Part.TheVariants as part
-use Rattle.lay_lines.specs.declared.content.Stretch.{Stretch}
-use Rattle.lay_lines.specs.declared.frame.Frame.{Frame}
-use Rattle.lay_lines.specs.declared.pen.Pen.{Pen}
-use Rattle.lay_lines.specs.Pens.{spaced, over, over_all, past_at, pen_to}
+use Rattle.lay_line_content.specs.declared.content.Part.{Part}
+use Rattle.lay_line_content.specs.declared.content.Part.TheVariants as part
+use Rattle.lay_line_content.specs.declared.content.Stretch.{Stretch}
+use Rattle.lay_line_content.specs.declared.frame.Frame.{Frame}
+use Rattle.lay_line_content.specs.declared.pen.Pen.{Pen}
+use Rattle.lay_line_content.specs.Pens.{spaced, over, over_all, past_at, pen_to}
 use Rattle.lay_content.specs.SeenLines.{is_seen, has_seen_line}
 use Rattle.lay_content.proofs.Disjunctions.{or_false, or_true, or_assoc}
 

@@ -3,10 +3,10 @@ use Rattle.std.proofs.Common.{◌≡◌, ℕ, zero, suc, pos, Bool, true, false,
 use Rattle.std.specs.List.{list_any}
 use Rattle.std.proofs.lemmas.List.{take-append-drop}
 use Rattle.std.proofs.lemmas.List.Folds.{list_any-append}
-use Rattle.lay_lines.specs.declared.content.Stretch.{Stretch}
+use Rattle.lay_line_content.specs.declared.content.Stretch.{Stretch}
+use Rattle.lay_line_content.specs.Extents.{any_shows}
+use Rattle.lay_line_content.specs.Pens.{seen_to}
 use Rattle.lay_lines.specs.declared.row.Ended.{Ended}
-use Rattle.lay_lines.specs.Extents.{any_shows}
-use Rattle.lay_lines.specs.Pens.{seen_to}
 use Rattle.lay_lines.specs.Rows.{Laid, Row, RowsTo, after_row, ended_of}
 use Rattle.lay_content.specs.Laws.{SeenLinesAreSeen}
 use Rattle.lay_content.specs.SeenLines.{is_seen, has_seen_line}

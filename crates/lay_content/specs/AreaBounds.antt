@@ -1,7 +1,7 @@
 -- Within which bounds the areas of texts, inline boxes and atomic boxes are.
 use Rattle.std.specs.Prelude.{pos, ◌^◌}
 use Rattle.lay_floats.specs.Within.{IsWithin}
-use Rattle.lay_lines.specs.declared.content.InlineArea.{InlineArea}
+use Rattle.lay_line_content.specs.declared.content.InlineArea.{InlineArea}
 
 -- above and below at most 2^60 units, since the baseline of an atomic box may be far away, and beside at most 2^36
 pub record AreaNear (a : InlineArea) : Type 0 where

@@ -5,9 +5,9 @@ use Rattle.std.specs.Prelude.{ℕ, neg_ℤ, ◌+ℤ◌, ◌-ℤ◌, Option, Some
 use Rattle.lay_units.specs.declared.length.Unit.{Unit as Length}
 use Rattle.lay_sizes.specs.declared.own_boxes.OwnBox.{OwnBox}
 use Rattle.lay_sizes.specs.OwnBoxes.{margin_width, own_box_at}
-use Rattle.lay_lines.specs.declared.content.AtomicBox.{AtomicBox}
-use Rattle.lay_lines.specs.declared.content.InlineArea.{InlineArea}
-use Rattle.lay_lines.specs.declared.frame.Extent.{Extent}
+use Rattle.lay_line_content.specs.declared.content.AtomicBox.{AtomicBox}
+use Rattle.lay_line_content.specs.declared.content.InlineArea.{InlineArea}
+use Rattle.lay_line_content.specs.declared.frame.Extent.{Extent}
 use Rattle.lay_valign.specs.declared.parts.Shift.{Shift}
 use Rattle.lay_content.specs.BoxMeasuresValue.{BoxMeasuresValue}
 use Rattle.lay_content.specs.VerticalAlignment.{shift_at}

@@ -1,7 +1,7 @@
 -- What the content of lines is measured by: the boxes of a context, which of them have the left and the right edges of
 -- their inline boxes, their used sizes, the boxes of inner contexts from outside, and the face.
 use Rattle.std.specs.Prelude.{ℕ, List, slice_index_or}
-use Rattle.lay_boxgen.specs.declared.box_tree.BoxNode.{BoxNode}
+use Rattle.lay_box_tree.specs.declared.box_tree.BoxNode.{BoxNode}
 use Rattle.lay_box_parts.specs.declared.inline_part.InlinePart.{InlinePart}
 use Rattle.lay_box_parts.specs.InlineParts.{no_part}
 use Rattle.lay_face.specs.FaceValue.{FaceValue}

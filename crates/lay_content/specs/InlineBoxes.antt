@@ -5,19 +5,19 @@
 use Rattle.std.specs.Prelude.{ℕ, ◌==◌, ℤ, pos, negsuc, ◌+ℤ◌, Bool, true, not, ◌&&◌, ◌||◌, List, [], ◌∷◌, ◌++◌, zero, suc, length, Option, Some, None, slice_get, if◌then◌else◌}
 use Rattle.lay_units.specs.declared.length.Unit.{Unit as Length}
 use Rattle.lay_style.specs.declared.style.TextStyle.{TextStyle}
-use Rattle.lay_boxgen.specs.Roles.{role_of}
-use Rattle.lay_boxgen.specs.declared.box_role.Role.{Role}
-use Rattle.lay_boxgen.specs.declared.box_role.Role.TheVariants as role
-use Rattle.lay_boxgen.specs.declared.box_tree.BoxNode.{BoxNode}
+use Rattle.lay_box_tree.specs.Roles.{role_of}
+use Rattle.lay_box_tree.specs.declared.box_role.Role.{Role}
+use Rattle.lay_box_tree.specs.declared.box_role.Role.TheVariants as role
+use Rattle.lay_box_tree.specs.declared.box_tree.BoxNode.{BoxNode}
 use Rattle.lay_box_parts.specs.declared.inline_part.InlinePart.{InlinePart}
 use Rattle.lay_face.specs.FaceValue.{FaceValue}
 use Rattle.lay_sizes.specs.declared.sizing.BoxSizes.{BoxSizes}
 use Rattle.lay_sizes.specs.SizeColumns.{sizes_at}
 use Rattle.lay_sizes.specs.UsedLengths.{no_length}
-use Rattle.lay_lines.specs.declared.content.InlineArea.{InlineArea}
-use Rattle.lay_lines.specs.declared.content.InlineStart.{InlineStart}
-use Rattle.lay_lines.specs.declared.content.InlineEnd.{InlineEnd}
-use Rattle.lay_lines.specs.declared.frame.Extent.{Extent}
+use Rattle.lay_line_content.specs.declared.content.InlineArea.{InlineArea}
+use Rattle.lay_line_content.specs.declared.content.InlineStart.{InlineStart}
+use Rattle.lay_line_content.specs.declared.content.InlineEnd.{InlineEnd}
+use Rattle.lay_line_content.specs.declared.frame.Extent.{Extent}
 use Rattle.lay_sizes.specs.declared.own_boxes.OwnBox.{OwnBox}
 use Rattle.lay_sizes.specs.OwnBoxes.{own_box_at}
 use Rattle.lay_valign.specs.declared.parts.Shift.{Shift}

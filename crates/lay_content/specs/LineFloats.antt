@@ -3,10 +3,10 @@
 use Rattle.std.specs.Prelude.{ℕ, Option, Some, None, slice_get}
 use Rattle.lay_style.specs.declared.style_words.Clear.{Clear as ClearStyle}
 use Rattle.lay_style.specs.declared.style_words.Clear.TheVariants as clear
-use Rattle.lay_boxgen.specs.Roles.{role_of, clear_of}
-use Rattle.lay_boxgen.specs.declared.box_role.Role.{Role}
-use Rattle.lay_boxgen.specs.declared.box_role.Role.TheVariants as role
-use Rattle.lay_boxgen.specs.declared.box_tree.BoxNode.{BoxNode}
+use Rattle.lay_box_tree.specs.Roles.{role_of, clear_of}
+use Rattle.lay_box_tree.specs.declared.box_role.Role.{Role}
+use Rattle.lay_box_tree.specs.declared.box_role.Role.TheVariants as role
+use Rattle.lay_box_tree.specs.declared.box_tree.BoxNode.{BoxNode}
 use Rattle.lay_floats.specs.declared.requests.Clear.{Clear}
 use Rattle.lay_floats.specs.declared.requests.Clear.TheVariants as sides
 use Rattle.lay_floats.specs.declared.requests.FloatReq.{FloatReq}
@@ -15,7 +15,7 @@ use Rattle.lay_floats.specs.declared.requests.Side.TheVariants as side
 use Rattle.lay_sizes.specs.declared.own_boxes.OwnBox.{OwnBox}
 use Rattle.lay_sizes.specs.OwnBoxes.{margin_height, margin_width, own_box_at}
 use Rattle.lay_sizes.specs.UsedLengths.{no_length}
-use Rattle.lay_lines.specs.declared.content.LineFloat.{LineFloat}
+use Rattle.lay_line_content.specs.declared.content.LineFloat.{LineFloat}
 use Rattle.lay_content.specs.declared.container.Container.{Container}
 use Rattle.lay_content.specs.BoxMeasuresValue.{BoxMeasuresValue}
 

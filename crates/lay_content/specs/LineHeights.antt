@@ -9,7 +9,7 @@ use Rattle.lay_style.specs.declared.style_lengths.LineHeight.{LineHeight}
 use Rattle.lay_style.specs.declared.style_lengths.LineHeight.TheVariants as line
 use Rattle.lay_face.specs.FaceValue.{FaceValue}
 use Rattle.lay_face.specs.Faces.{thousandths_of}
-use Rattle.lay_lines.specs.declared.frame.Extent.{Extent}
+use Rattle.lay_line_content.specs.declared.frame.Extent.{Extent}
 
 -- the used font size
 abbrev pub font_size : TextStyle → ℤ

@@ -3,9 +3,9 @@
 -- inline tables), and do not end with a preserved newline must be treated as zero-height" and as not there.
 use Rattle.std.specs.Prelude.{Bool, true, false, List}
 use Rattle.std.specs.List.{list_any}
-use Rattle.lay_lines.specs.declared.content.Part.{Part}
-use Rattle.lay_lines.specs.declared.content.Part.TheVariants as part
-use Rattle.lay_lines.specs.declared.content.Stretch.{Stretch}
+use Rattle.lay_line_content.specs.declared.content.Part.{Part}
+use Rattle.lay_line_content.specs.declared.content.Part.TheVariants as part
+use Rattle.lay_line_content.specs.declared.content.Stretch.{Stretch}
 
 abbrev pub is_seen : Part → Bool
 is_seen (part.Space a) = false

@@ -11,9 +11,9 @@ use Rattle.lay_space.specs.declared.tokens.ClusterKind.{ClusterKind}
 use Rattle.lay_space.specs.declared.tokens.ClusterKind.TheVariants.{CollapsibleSpace, PreservedSpace, Linefeed, Tab, ZeroWidthSpace, Other}
 use Rattle.lay_space.specs.Modes.{wraps}
 use Rattle.lay_space.specs.Tokens.{kind_of, next_place}
-use Rattle.lay_lines.specs.declared.content.Advance.{Advance}
-use Rattle.lay_lines.specs.declared.content.Part.{Part}
-use Rattle.lay_lines.specs.declared.content.Part.TheVariants as part
+use Rattle.lay_line_content.specs.declared.content.Advance.{Advance}
+use Rattle.lay_line_content.specs.declared.content.Part.{Part}
+use Rattle.lay_line_content.specs.declared.content.Part.TheVariants as part
 
 -- text of the box at t
 abbrev pub advance : ℕ → Length → Advance

@@ -7,8 +7,8 @@ use Rattle.lay_units.specs.Units.{clamp_of, floor_div, percentage_of}
 use Rattle.lay_style.specs.declared.style.TextStyle.{TextStyle}
 use Rattle.lay_style.specs.declared.style_lengths.VerticalAlign.{VerticalAlign}
 use Rattle.lay_style.specs.declared.style_lengths.VerticalAlign.TheVariants as align
-use Rattle.lay_boxgen.specs.Kinds.{is_wrapper}
-use Rattle.lay_boxgen.specs.declared.box_tree.BoxNode.{BoxNode}
+use Rattle.lay_box_tree.specs.Kinds.{is_wrapper}
+use Rattle.lay_box_tree.specs.declared.box_tree.BoxNode.{BoxNode}
 use Rattle.lay_face.specs.FaceValue.{FaceValue}
 use Rattle.lay_valign.specs.declared.parts.Shift.{Shift}
 use Rattle.lay_valign.specs.declared.parts.Shift.TheVariants as shift

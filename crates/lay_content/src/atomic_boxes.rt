@@ -9,7 +9,7 @@ ghost use Rattle.lay_content.specs.AtomicBoxes.{atomic_area, atomic_at, border_e
 use crate::box_measures::BoxMeasures;
 use crate::sums::sum_of;
 use crate::vertical_alignment::shift_at;
-use lay_lines::{AtomicBox, Extent, InlineArea};
+use lay_line_content::{AtomicBox, Extent, InlineArea};
 use lay_sizes::OwnBox;
 use lay_units::Unit;
 

@@ -2,7 +2,7 @@
 
 ghost use Rattle.std.specs.Prelude.{◌≡◌, pos, ◌*ℤ◌, slice_get, None, IfOk, IfSome};
 ghost use Rattle.lay_face.specs.Faces.{entry_of, thousandths_of};
-ghost use Rattle.lay_lines.specs.LineContents.{IsLineContent, IsTabDistance};
+ghost use Rattle.lay_line_content.specs.LineContents.{IsLineContent, IsTabDistance};
 ghost use Rattle.lay_content.specs.Contents.{content_in, indent_in, tab_in, used_indent};
 ghost use Rattle.lay_content.specs.LineHeights.{font_size};
 
@@ -11,9 +11,9 @@ use crate::container::Container;
 use crate::inline_boxes::extent_at;
 use crate::line_heights::font_size;
 use crate::stretches::stretches_of;
-use lay_boxgen::BoxNode;
+use lay_box_tree::BoxNode;
 use lay_face::Face;
-use lay_lines::{LineContent, StretchList};
+use lay_line_content::{LineContent, StretchList};
 use lay_space::Segment;
 use lay_style::{LengthPercentage, TextStyle};
 use lay_units::{NoMemory, Unit, clamp, percent_of};

@@ -11,7 +11,7 @@ use crate::line_heights::extent_of;
 use crate::sums::sum_of;
 use crate::vertical_alignment::shift_at;
 use lay_box_parts::InlinePart;
-use lay_lines::{Extent, InlineEnd, InlineStart};
+use lay_line_content::{Extent, InlineEnd, InlineStart};
 use lay_sizes::BoxSizes;
 use lay_units::Unit;
 use lay_valign::Shift;

@@ -1,15 +1,15 @@
 //! Floats in the content of lines.
 
 ghost use Rattle.std.specs.Prelude.{◌≡◌, slice_get};
-ghost use Rattle.lay_boxgen.specs.Roles.{clear_of};
+ghost use Rattle.lay_box_tree.specs.Roles.{clear_of};
 ghost use Rattle.lay_sizes.specs.OwnBoxes.{OwnBoxFits};
 ghost use Rattle.lay_content.specs.LineFloats.{cleared_sides, clear_in, float_at, request_of, side_in};
 
 use crate::box_measures::BoxMeasures;
 use crate::container::Container;
-use lay_boxgen::{BoxKind, BoxNode, Role};
+use lay_box_tree::{BoxKind, BoxNode, Role};
 use lay_floats::{Clear, FloatReq, Side};
-use lay_lines::LineFloat;
+use lay_line_content::LineFloat;
 use lay_sizes::OwnBox;
 use lay_units::Unit;
 

@@ -6,7 +6,7 @@ ghost use Rattle.lay_face.specs.Faces.{IsMeasure};
 ghost use Rattle.lay_content.specs.LineHeights.{ascent, descent, extent_of, font_size, leading, line_height, line_height_in, with_leading, x_height};
 
 use lay_face::Face;
-use lay_lines::Extent;
+use lay_line_content::Extent;
 use lay_style::{LineHeight, TextStyle};
 use lay_units::{Unit, clamp_size};
 

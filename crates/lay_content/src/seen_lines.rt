@@ -4,7 +4,7 @@ ghost use Rattle.std.specs.Prelude.{◌≡◌};
 ghost use Rattle.std.specs.List.{list_any};
 ghost use Rattle.lay_content.specs.SeenLines.{has_seen_line, is_seen};
 
-use lay_lines::{Part, Stretch};
+use lay_line_content::{Part, Stretch};
 
 /// Whether some line of this content is seen (CSS 2.2, 9.4.2), however it falls into lines.
 pub fn has_seen_line(stretches: &[Stretch]) -> bool

@@ -9,7 +9,7 @@ use crate::container::Container;
 use crate::inline_boxes::{end_at, start_at};
 use crate::line_floats::float_at;
 use crate::text_parts::{TextRun, push_part, put_text};
-use lay_lines::{LineFloat, LineFloatList, Part, PartList, Stretch};
+use lay_line_content::{LineFloat, LineFloatList, Part, PartList, Stretch};
 use lay_space::{Item, Segment};
 use lay_units::NoMemory;
 use std::alloc::Global;

@@ -4,7 +4,7 @@ ghost use Rattle.std.specs.Prelude.{◌≡◌, ◌+◌, ◌==◌, ◌++◌, ◌�
 ghost use Rattle.lay_space.specs.Tokens.{next_place};
 ghost use Rattle.lay_content.specs.TextParts.{cluster_parts, linefeed_parts, parts_between, text_parts};
 
-use lay_lines::{Advance, Part};
+use lay_line_content::{Advance, Part};
 use lay_space::{ClusterKind, Mode, cluster_kind};
 use lay_units::{ClusterWidth, NoMemory};
 

@@ -6,7 +6,7 @@ ghost use Rattle.lay_content.specs.VerticalAlignment.{alignment_of, shift_at, sh
 
 use crate::box_measures::BoxMeasures;
 use crate::line_heights::{ascent, descent, font_size, line_height, x_height};
-use lay_boxgen::{BoxKind, BoxNode};
+use lay_box_tree::{BoxKind, BoxNode};
 use lay_face::Face;
 use lay_style::{TextStyle, VerticalAlign};
 use lay_units::{Unit, clamp, percent_of};

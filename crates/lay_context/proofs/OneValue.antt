@@ -4,7 +4,7 @@ use Rattle.lay_context_boxes.specs.ContextBoxes.{AreContextBoxes}
 use Rattle.lay_flow_boxes.specs.PlaceInputs.{PlaceInput}
 use Rattle.lay_placement.specs.Laws.{OnePlacement}
 use Rattle.lay_table.specs.Laws.{OneTablePlacement}
-use Rattle.lay_table.specs.TableInputs.{TableInput}
+use Rattle.lay_table_rows.specs.TableInputs.{TableInput}
 use Rattle.lay_context_sizes.specs.Inputs.{MeasureInput}
 use Rattle.lay_context_sizes.specs.Laws.{OneContextSizes, OneContextWidths}
 use Rattle.lay_context.specs.declared.input.Input.{Input}

@@ -4,7 +4,7 @@
 -- of what is in it. An absolutely positioned one is given its containing block and its static position by those on the way out to it.
 use Rattle.std.specs.Prelude.{ℕ, zero, suc, List, slice_index_or, Option, None, Some, if◌then◌else◌}
 use Rattle.lay_units.specs.declared.records.Len.TheVariants.{Auto as auto}
-use Rattle.lay_boxgen.specs.declared.box_tree.BoxNode.{BoxNode}
+use Rattle.lay_box_tree.specs.declared.box_tree.BoxNode.{BoxNode}
 use Rattle.lay_sizes.specs.declared.sizing.BoxSizes.{BoxSizes}
 use Rattle.lay_sizes.specs.declared.sizing.ContainingBlock.{ContainingBlock}
 use Rattle.lay_sizes.specs.BoxSizes.{content_block}

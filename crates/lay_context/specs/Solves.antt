@@ -13,7 +13,7 @@ use Rattle.lay_style.specs.declared.style.Style.{Style}
 use Rattle.lay_style.specs.LengthValues.{px}
 use Rattle.lay_style.specs.ComputedStyle.{HasStyles}
 use Rattle.lay_doc.specs.Document.{Document, parents_of, declarations_of}
-use Rattle.lay_boxgen.specs.BoxColumns.{box_ids}
+use Rattle.lay_box_tree.specs.BoxColumns.{box_ids}
 use Rattle.lay_face.specs.FaceValue.{FaceValue}
 use Rattle.lay_frag.specs.Pieces.{Context as PageContext}
 use Rattle.lay_sizes.specs.declared.own_boxes.OwnBox.{OwnBox}

@@ -27,7 +27,7 @@ use lay_measure::{NO_WIDTHS, PreferredWidths};
 use lay_pieces::{InnerPieces, OwnBoxes};
 use lay_positioned::is_absolute;
 use lay_sizes::{NO_OWN_BOX, OwnBox};
-use lay_table::TableInput;
+use lay_table_rows::TableInput;
 use lay_table_sizes::TableSizes;
 use lay_units::NoMemory;
 use std::alloc::Global;

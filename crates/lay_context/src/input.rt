@@ -3,7 +3,7 @@
 use crate::stand_input::StandInput;
 use lay_context_sizes::{MeasureInput, SizeInput};
 use lay_flow_boxes::PlaceInput;
-use lay_table::TableInput;
+use lay_table_rows::TableInput;
 
 /// What a task is given.
 #[derive(Drop)]

@@ -7,7 +7,7 @@ ghost use Rattle.lay_flow_boxes.specs.PlaceInputs.{HeightRuleFits, height_rule_o
 ghost use Rattle.lay_context_sizes.specs.ContextSizes.{IsStretchedSize};
 ghost use Rattle.lay_context.specs.OwnHeights.{height_of_content, height_rule_as, own_height_rule};
 
-use lay_boxgen::{BoxKind, BoxNode};
+use lay_box_tree::{BoxKind, BoxNode};
 use lay_flow::HeightRule;
 use lay_sizes::BoxSizes;
 use lay_units::{Len, Unit};

@@ -12,7 +12,8 @@ ghost use Rattle.lay_context.specs.OwnOffsets.{IsOwnOffset, is_right, root_corne
 
 use crate::own_place::OwnPlace;
 use crate::stand_input::StandInput;
-use lay_boxgen::{Flow, flow_of};
+use lay_box_tree::Flow;
+use lay_boxgen::flow_of;
 use lay_pieces::{Corner, near_corner};
 use lay_positioned::own_offset as absolute_offset;
 use lay_relative::relative_offset;

@@ -1,11 +1,11 @@
 -- The nearest block container of a box is found among the boxes before it.
 use Rattle.std.proofs.Common.{◌≡◌, ℕ, zero, suc, ◌<◌, ◌≤◌, ◌⊎◌, inl, inr, Bool, true, false, List, length, slice_index, refl, arith, if◌then◌else◌}
 use Rattle.lay_doc.specs.Tree.{IsTree}
-use Rattle.lay_boxgen.specs.declared.box_tree.BoxNode.{BoxNode}
-use Rattle.lay_boxgen.specs.BoxColumns.{box_parents}
-use Rattle.lay_boxgen.specs.Containers.{AreContainers, IsContainer, box_parent, counts, further as at_further, own as at_own, parent as at_parent}
-use Rattle.lay_boxgen.proofs.BoxForests.{length-parents}
-use Rattle.lay_boxgen.proofs.NearestContainers.{one_container}
+use Rattle.lay_box_tree.specs.declared.box_tree.BoxNode.{BoxNode}
+use Rattle.lay_box_tree.specs.BoxColumns.{box_parents}
+use Rattle.lay_box_tree.specs.Containers.{AreContainers, IsContainer, box_parent, counts, further as at_further, own as at_own, parent as at_parent}
+use Rattle.lay_box_tree.proofs.BoxForests.{length-parents}
+use Rattle.lay_box_tree.proofs.NearestContainers.{one_container}
 use Rattle.lay_context_boxes.specs.ContextBoxes.{AreContextBoxes}
 use Rattle.lay_context_boxes.specs.Containing.{ContainersAreNearest, container_in, container_of}
 

@@ -1,7 +1,7 @@
 -- The nearest block container of a box in a context (CSS 2.2, 10.1): its content box is the containing block of the box.
 use Rattle.std.specs.Prelude.{ℕ, zero, suc, ◌<◌, Bool, false, List, length, map, slice_index_or, if◌then◌else◌}
-use Rattle.lay_boxgen.specs.declared.box_tree.BoxNode.{BoxNode}
-use Rattle.lay_boxgen.specs.Containers.{IsContainer, box_parent, counts}
+use Rattle.lay_box_tree.specs.declared.box_tree.BoxNode.{BoxNode}
+use Rattle.lay_box_tree.specs.Containers.{IsContainer, box_parent, counts}
 use Rattle.lay_context_boxes.specs.ContextBoxes.{AreContextBoxes}
 
 -- the nearest block container of the box at k, which is found in so many turns: there are no more boxes around one than stand

@@ -2,9 +2,9 @@
 -- contexts stand among them alone: what is in them belongs to those.
 use Rattle.std.specs.Prelude.{ℕ, ◌≡◌, ◌<◌, ◌&&◌, Bool, false, List, length, map, slice_index, slice_index_or}
 use Rattle.lay_doc.specs.Tree.{IsTree}
-use Rattle.lay_boxgen.specs.declared.box_tree.BoxNode.{BoxNode}
-use Rattle.lay_boxgen.specs.BoxColumns.{box_parents}
-use Rattle.lay_boxgen.specs.Roles.{is_float as is_float_role, role_at}
+use Rattle.lay_box_tree.specs.declared.box_tree.BoxNode.{BoxNode}
+use Rattle.lay_box_tree.specs.BoxColumns.{box_parents}
+use Rattle.lay_box_tree.specs.Roles.{is_float as is_float_role, role_at}
 
 -- the box at k is that of an inner context
 abbrev pub is_inner : List BoxNode → ℕ → Bool

@@ -2,13 +2,13 @@
 
 ghost use Rattle.std.specs.Prelude.{◌≡◌, ◌<◌, length, slice_index, IfOk};
 ghost use Rattle.lay_style.specs.ComputedStyle.{style_at};
-ghost use Rattle.lay_boxgen.specs.BoxColumns.{box_styles};
-ghost use Rattle.lay_boxgen.specs.Containers.{AreContainers};
-ghost use Rattle.lay_boxgen.specs.Roles.{clear_at, role_at};
+ghost use Rattle.lay_box_tree.specs.BoxColumns.{box_styles};
+ghost use Rattle.lay_box_tree.specs.Containers.{AreContainers};
+ghost use Rattle.lay_box_tree.specs.Roles.{clear_at, role_at};
 ghost use Rattle.lay_context_boxes.specs.Containing.{container_of, is_anonymous};
 ghost use Rattle.lay_context_boxes.specs.ContextBoxes.{AreContextBoxes, is_float, is_inner};
 
-use lay_boxgen::{BoxNode, BoxTree, Role};
+use lay_box_tree::{BoxNode, BoxTree, Role};
 use lay_style::{Clear, Style};
 use lay_units::NoMemory;
 use std::alloc::Global;
@@ -25,8 +25,8 @@ pub struct ContextBoxes {
 
 impl Model for ContextBoxes {
     ghost use Rattle.std.specs.Prelude.{List};
-    ghost use Rattle.lay_boxgen.specs.declared.box_tree.BoxNode.{BoxNode};
-    ghost use Rattle.lay_boxgen.specs.Containers.{AreContainers};
+    ghost use Rattle.lay_box_tree.specs.declared.box_tree.BoxNode.{BoxNode};
+    ghost use Rattle.lay_box_tree.specs.Containers.{AreContainers};
     ghost use Rattle.lay_context_boxes.specs.ContextBoxes.{AreContextBoxes};
 
     ghost Value = { List BoxNode };

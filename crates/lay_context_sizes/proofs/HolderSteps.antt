@@ -1,6 +1,6 @@
 -- The box whose height percentages refer to isn't behind the one that they are in.
 use Rattle.std.proofs.Common.{ℕ, zero, suc, ◌<◌, ◌≤◌, Bool, true, false, List, length, arith, if◌then◌else◌}
-use Rattle.lay_boxgen.specs.declared.box_tree.BoxNode.{BoxNode}
+use Rattle.lay_box_tree.specs.declared.box_tree.BoxNode.{BoxNode}
 use Rattle.lay_context_boxes.specs.ContextBoxes.{AreContextBoxes}
 use Rattle.lay_context_boxes.specs.Containing.{container_of, is_anonymous}
 use Rattle.lay_context_boxes.proofs.ContainerSteps.{container_before}

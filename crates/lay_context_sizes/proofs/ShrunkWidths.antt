@@ -2,13 +2,13 @@
 use Rattle.std.proofs.Common.{◌≡◌, Bool, true, false, List, [], ◌∷◌, refl, sym, subst, Option, None, Some, slice_get}
 use Rattle.lay_units.specs.declared.length.Unit.{Unit as Length}
 use Rattle.lay_style.specs.ComputedStyle.{style_at}
-use Rattle.lay_boxgen.specs.declared.box_tree.BoxKind.{BoxKind}
-use Rattle.lay_boxgen.specs.declared.box_tree.BoxKind.TheVariants as kind
-use Rattle.lay_boxgen.specs.declared.box_tree.BoxNode.{BoxNode}
-use Rattle.lay_boxgen.specs.declared.facts.Flow.{Flow}
-use Rattle.lay_boxgen.specs.declared.facts.Flow.TheVariants.{Absolute as Apart, Floating, InFlow}
-use Rattle.lay_boxgen.specs.BoxColumns.{box_styles}
-use Rattle.lay_boxgen.specs.Kinds.{is_wrapper}
+use Rattle.lay_box_tree.specs.declared.box_tree.BoxKind.{BoxKind}
+use Rattle.lay_box_tree.specs.declared.box_tree.BoxKind.TheVariants as kind
+use Rattle.lay_box_tree.specs.declared.box_tree.BoxNode.{BoxNode}
+use Rattle.lay_box_tree.specs.declared.box_tree.Flow.{Flow}
+use Rattle.lay_box_tree.specs.declared.box_tree.Flow.TheVariants.{Absolute as Apart, Floating, InFlow}
+use Rattle.lay_box_tree.specs.BoxColumns.{box_styles}
+use Rattle.lay_box_tree.specs.Kinds.{is_wrapper}
 use Rattle.lay_measure.specs.declared.preferred_widths.PreferredWidths.{PreferredWidths}
 use Rattle.lay_sizes.specs.declared.sizing.BoxSizes.{BoxSizes}
 use Rattle.lay_sizes.specs.declared.sizing.WidthRule.{WidthRule}

@@ -2,7 +2,7 @@
 -- be and how wide it would like to be, before anything is known of the room that there will be. Those of a table are by its
 -- columns (17.5.2).
 use Rattle.std.specs.Prelude.{◌≡◌, Bool, true, false, List}
-use Rattle.lay_boxgen.specs.declared.box_tree.BoxNode.{BoxNode}
+use Rattle.lay_box_tree.specs.declared.box_tree.BoxNode.{BoxNode}
 use Rattle.lay_box_parts.specs.declared.inline_part.InlinePart.{InlinePart}
 use Rattle.lay_box_parts.specs.InlineParts.{AreInlineParts}
 use Rattle.lay_face.specs.FaceValue.{FaceValue}

@@ -3,7 +3,7 @@
 -- (10.1).
 use Rattle.std.specs.Prelude.{List}
 use Rattle.lay_units.specs.Units.{IsPosition}
-use Rattle.lay_boxgen.specs.declared.box_tree.BoxNode.{BoxNode}
+use Rattle.lay_box_tree.specs.declared.box_tree.BoxNode.{BoxNode}
 use Rattle.lay_face.specs.FaceValue.{FaceValue}
 use Rattle.lay_measure.specs.declared.preferred_widths.PreferredWidths.{PreferredWidths}
 use Rattle.lay_sizes.specs.declared.sizing.ContainingBlock.{ContainingBlock}

@@ -2,11 +2,11 @@
 -- positioned (10.3.7) or is inline-level (10.3.9, 17.5.2). A block in flow fills its containing block (10.3.3), and a cell is as wide
 -- as its table says.
 use Rattle.std.specs.Prelude.{Bool, true, false, List, slice_get, Option, None, Some}
-use Rattle.lay_boxgen.specs.declared.box_tree.BoxKind.{BoxKind}
-use Rattle.lay_boxgen.specs.declared.box_tree.BoxKind.TheVariants as kind
-use Rattle.lay_boxgen.specs.declared.box_tree.BoxNode.{BoxNode}
-use Rattle.lay_boxgen.specs.declared.facts.Flow.{Flow}
-use Rattle.lay_boxgen.specs.declared.facts.Flow.TheVariants.{InFlow}
+use Rattle.lay_box_tree.specs.declared.box_tree.BoxKind.{BoxKind}
+use Rattle.lay_box_tree.specs.declared.box_tree.BoxKind.TheVariants as kind
+use Rattle.lay_box_tree.specs.declared.box_tree.BoxNode.{BoxNode}
+use Rattle.lay_box_tree.specs.declared.box_tree.Flow.{Flow}
+use Rattle.lay_box_tree.specs.declared.box_tree.Flow.TheVariants.{InFlow}
 
 abbrev pub shrinks_in_flow : BoxKind → Bool
 shrinks_in_flow kind.InlineBlock = true

@@ -11,7 +11,7 @@ ghost use Rattle.lay_context_sizes.specs.FlowSizes.{HasFlowSizes, HaveInsideSize
 
 use crate::inputs::SizeInput;
 use crate::setting::Setting;
-use lay_boxgen::{BoxKind, Flow};
+use lay_box_tree::{BoxKind, Flow};
 use lay_context_boxes::{ContextBoxes, block_around};
 use lay_measure::PreferredWidths;
 use lay_pieces::ContextSizes;

@@ -6,7 +6,7 @@ ghost use Rattle.lay_formatting.specs.FormattingBoxes.{box_at};
 ghost use Rattle.lay_context_sizes.specs.Inputs.{SizeInputFits};
 
 use crate::setting::Setting;
-use lay_boxgen::BoxNode;
+use lay_box_tree::BoxNode;
 use lay_context_boxes::ContextBoxes;
 use lay_face::Face;
 use lay_measure::PreferredWidths;

@@ -3,7 +3,7 @@
 ghost use Rattle.std.specs.Prelude.{◌≡◌};
 ghost use Rattle.lay_context_sizes.specs.ShrinkToFit.{shrinks, shrinks_in_flow, shrinks_to_fit};
 
-use lay_boxgen::{BoxKind, BoxNode, Flow};
+use lay_box_tree::{BoxKind, BoxNode, Flow};
 
 /// Whether the own box of these boxes, the first one, may shrink to fit its content (CSS 2.2, 10.3.5, 10.3.7, 10.3.9 and
 /// 17.5.2), so that its preferred widths count.

@@ -15,7 +15,7 @@ use crate::inputs::SizeInput;
 use crate::setting::Setting;
 use crate::sized_context::SizedContext;
 use crate::table_contexts::is_table;
-use lay_boxgen::{BoxKind, BoxNode, Flow};
+use lay_box_tree::{BoxKind, BoxNode, Flow};
 use lay_measure::PreferredWidths;
 use lay_pieces::ContextSizes;
 use lay_positioned::{AbsoluteSetting, stretched_height, table_left, table_room};

@@ -1,10 +1,10 @@
 //! Which formatting contexts are tables.
 
 ghost use Rattle.std.specs.Prelude.{◌≡◌};
-ghost use Rattle.lay_boxgen.specs.Kinds.{is_wrapper};
+ghost use Rattle.lay_box_tree.specs.Kinds.{is_wrapper};
 ghost use Rattle.lay_context_sizes.specs.TableContexts.{is_table};
 
-use lay_boxgen::{BoxKind, BoxNode};
+use lay_box_tree::{BoxKind, BoxNode};
 
 /// Whether the formatting context with these boxes is a table: its own box is the wrapper of one.
 pub(crate) fn is_table(boxes: &[BoxNode]) -> bool

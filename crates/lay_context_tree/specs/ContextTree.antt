@@ -4,11 +4,11 @@ use Rattle.std.specs.Prelude.{ℕ, ◌≡◌, ◌<◌, true, false, List, length
 use Rattle.lay_style.specs.declared.style.Style.{Style}
 use Rattle.lay_doc.specs.declared.node.Node.{Node}
 use Rattle.lay_doc.specs.Document.{Document, IsDocument, ids_of, parents_of}
-use Rattle.lay_boxgen.specs.BoxColumns.{box_ids, box_inner}
+use Rattle.lay_box_tree.specs.BoxColumns.{box_ids, box_inner}
 use Rattle.lay_boxgen.specs.Contexts.{IsContextAt, box_at, is_marked}
 use Rattle.lay_boxgen.specs.Listing.{listed_part}
 use Rattle.lay_boxgen.specs.Parts.{part}
-use Rattle.lay_boxgen.specs.declared.box_tree.BoxNode.{BoxNode}
+use Rattle.lay_box_tree.specs.declared.box_tree.BoxNode.{BoxNode}
 
 -- the place of the parent of the node at k
 abbrev pub parent_of : List Node → ℕ → ℕ

@@ -5,7 +5,7 @@ use Rattle.std.proofs.lemmas.Grind.{elements}
 use Rattle.lay_style.specs.declared.style.Style.{Style}
 use Rattle.lay_doc.specs.Document.{Document, IsDocument}
 use Rattle.lay_doc.proofs.OneStyles.{same_list}
-use Rattle.lay_boxgen.specs.declared.box_tree.BoxNode.{BoxNode}
+use Rattle.lay_box_tree.specs.declared.box_tree.BoxNode.{BoxNode}
 use Rattle.lay_context_tree.specs.declared.context_spot.ContextSpot.{ContextSpot}
 use Rattle.lay_contexts.specs.Contexts.{Context, AreContexts, IsInside, context_at, no_context}
 use Rattle.lay_context_tree.specs.DocumentContexts.{spot_at}

@@ -9,7 +9,7 @@ use Rattle.lay_doc.specs.Document.{Document, IsDocument, ids_of}
 use Rattle.lay_doc.proofs.OneStyles.{same_list}
 use Rattle.lay_boxgen.specs.Contexts.{IsContext, IsContextAt, IsContextThere, box_at, is_marked}
 use Rattle.lay_boxgen.specs.Listing.{boxes_at, boxes_of}
-use Rattle.lay_boxgen.specs.declared.box_tree.BoxNode.{BoxNode}
+use Rattle.lay_box_tree.specs.declared.box_tree.BoxNode.{BoxNode}
 use Rattle.lay_boxgen.proofs.NodeColumns.{length-ids}
 use Rattle.lay_context_tree.specs.ContextTree.{StandsIn, boxes_of_place}
 use Rattle.lay_context_tree.specs.DocumentContexts.{AreDocumentContexts, root_spot, spot_at}

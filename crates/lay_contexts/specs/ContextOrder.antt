@@ -1,6 +1,6 @@
 -- The contexts of a document stand in order: each behind the one around it, in which its box is.
 use Rattle.std.specs.Prelude.{ℕ, ◌≡◌, ◌<◌, List, length}
-use Rattle.lay_boxgen.specs.declared.box_tree.BoxNode.{BoxNode}
+use Rattle.lay_box_tree.specs.declared.box_tree.BoxNode.{BoxNode}
 use Rattle.lay_context_tree.specs.DocumentContexts.{spot_at}
 use Rattle.lay_context_tree.specs.declared.context_spot.ContextSpot.{ContextSpot}
 use Rattle.lay_context_boxes.specs.ContextBoxes.{AreContextBoxes}

@@ -1,7 +1,7 @@
 -- Contexts beside each other, each known by its number: the root's first, and each behind the one around it, in which its box
 -- stands (CSS 2.2, 9.4.1).
 use Rattle.std.specs.Prelude.{ℕ, ◌≡◌, ◌<◌, List, [], length, slice_index, slice_index_or}
-use Rattle.lay_boxgen.specs.declared.box_tree.BoxNode.{BoxNode}
+use Rattle.lay_box_tree.specs.declared.box_tree.BoxNode.{BoxNode}
 use Rattle.lay_context_boxes.specs.ContextBoxes.{AreContextBoxes}
 
 pub record Context : Type 0 where

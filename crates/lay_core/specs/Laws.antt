@@ -1,9 +1,9 @@
 -- The state that a call leaves is the only one, but for want of memory; and what a core has whose last version is published.
 use Rattle.std.specs.Prelude.{ℕ, ◌≡◌, List, Some}
 use Rattle.lay_doc.specs.declared.edit.Edit.{Edit as Change}
-use Rattle.lay_doc.specs.declared.command.Reply.{Reply}
-use Rattle.lay_doc.specs.declared.command.Reply.TheVariants.{NoMemory}
 use Rattle.lay_doc.specs.Document.{IsDocument}
+use Rattle.lay_commands.specs.declared.command.Reply.{Reply}
+use Rattle.lay_commands.specs.declared.command.Reply.TheVariants.{NoMemory}
 use Rattle.lay_frag.specs.Pieces.{Context}
 use Rattle.lay_history.specs.Histories.{accepted}
 use Rattle.lay_history.specs.Legal.{IsWhole}

@@ -1,6 +1,6 @@
 -- To lay out and to publish answers no call.
 use Rattle.std.proofs.Common.{◌≡◌, List, Bool, true, false, if◌then◌else◌, Option, Some, None, refl, sym, ap, ◌∙◌, subst, append-nil}
-use Rattle.lay_doc.specs.declared.history.Entry.TheVariants.{Publish}
+use Rattle.lay_commands.specs.declared.history.Entry.TheVariants.{Publish}
 use Rattle.lay_frag.specs.Pieces.{Context}
 use Rattle.lay_history.specs.Histories.{accepted}
 use Rattle.lay_history.specs.Calls.{calls}

@@ -1,8 +1,8 @@
 -- How far the scripts of editors are answered, while the editors take turns.
 use Rattle.std.specs.Prelude.{ℕ, ◌≡◌, ◌+◌, ◌≤◌, List, [], ◌∷◌, ◌++◌, length, take, drop, nat_le, if◌then◌else◌}
 use Rattle.std.specs.List.{All}
-use Rattle.lay_doc.specs.declared.command.Cmd.{Cmd}
-use Rattle.lay_json.specs.Scripts.{command_count}
+use Rattle.lay_commands.specs.declared.command.Cmd.{Cmd}
+use Rattle.lay_run.specs.Scripts.{command_count}
 use Rattle.lay_history.specs.Calls.{IsEarlier, TakesTurns, calls, calls_of, script_calls, script_of}
 use Rattle.lay_core.specs.State.{State}
 

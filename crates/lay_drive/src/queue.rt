@@ -2,8 +2,8 @@
 
 ghost use Rattle.std.specs.Prelude.{◌≡◌, ◌++◌, [], IfNone, IfOk, option_to_list};
 
-use lay_doc::{Cmd, CmdList};
-use lay_json::ScriptList;
+use lay_commands::{Cmd, CmdList};
+use lay_run::ScriptList;
 use lay_units::NoMemory;
 use std::alloc::Global;
 use std::collections::VecDeque;
@@ -17,7 +17,7 @@ pub(crate) struct Queue {
 
 impl Model for Queue {
     ghost use Rattle.std.specs.Prelude.{List};
-    ghost use Rattle.lay_doc.specs.declared.command.Cmd.{Cmd};
+    ghost use Rattle.lay_commands.specs.declared.command.Cmd.{Cmd};
 
     ghost Value = { List Cmd };
 

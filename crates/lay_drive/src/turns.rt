@@ -2,15 +2,15 @@
 
 ghost use Rattle.std.specs.Prelude.{◌≡◌, ◌≤◌, ◌<◌, length, IfOk};
 ghost use Rattle.std.specs.List.{All};
-ghost use Rattle.lay_json.specs.Scripts.{command_count};
+ghost use Rattle.lay_run.specs.Scripts.{command_count};
 ghost use Rattle.lay_history.specs.Calls.{AnswersScripts, TakesTurns};
 ghost use Rattle.lay_history.specs.Legal.{IsWhole};
 ghost use Rattle.lay_drive.specs.Rounds.{HadTurns, IsAnswered, TakesTurn};
 
 use crate::queue::{Queue, queues};
+use lay_commands::{Cmd, CmdList};
 use lay_core::Core;
-use lay_doc::{Cmd, CmdList};
-use lay_json::RunDoc;
+use lay_run::RunDoc;
 use lay_units::NoMemory;
 use std::alloc::Global;
 

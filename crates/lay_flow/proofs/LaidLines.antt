@@ -6,7 +6,7 @@ use Rattle.lay_units.specs.Units.{IsPosition}
 use Rattle.lay_units.specs.declared.length.Unit.{Unit as Length}
 use Rattle.lay_floats.specs.declared.placed.Placed.{Placed}
 use Rattle.lay_floats.specs.Within.{BoxWithin, IsWithin}
-use Rattle.lay_lines.specs.LineContents.{lines_weight}
+use Rattle.lay_line_content.specs.LineContents.{lines_weight}
 use Rattle.lay_lines.specs.Lines.{AreLines, LinesValue, LinesWithin, growth}
 use Rattle.lay_flow.specs.declared.flow_box.FlowBox.{FlowBox}
 use Rattle.lay_flow.specs.declared.flow_box.FlowKind.{FlowKind}

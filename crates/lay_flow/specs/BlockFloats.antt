@@ -23,7 +23,7 @@ use Rattle.lay_flow.specs.declared.flow_box.Across.{Across}
 use Rattle.lay_flow.specs.declared.shape.Shape.{Shape}
 use Rattle.lay_flow.specs.declared.block.Inside.{Inside}
 use Rattle.lay_flow.specs.declared.block.Inside.TheVariants.{Blocks as blocks_inside, Lines as lines_inside, Solid as solid_inside}
-use Rattle.lay_lines.specs.LineContents.{LineContentValue}
+use Rattle.lay_line_content.specs.LineContents.{LineContentValue}
 use Rattle.lay_lines.specs.Lines.{LinesValue, AreLines}
 use Rattle.lay_flow.specs.Lengths.{no_length, length_at}
 use Rattle.lay_flow.specs.MarginRuns.{block_at}

@@ -1,6 +1,6 @@
 -- How much the boxes of a block formatting context have to lay out. It bounds how far from the origin they can come to stand.
 use Rattle.std.specs.Prelude.{ℕ, zero, suc, ◌+◌, ◌*◌, List}
-use Rattle.lay_lines.specs.LineContents.{lines_weight}
+use Rattle.lay_line_content.specs.LineContents.{lines_weight}
 use Rattle.lay_flow.specs.declared.flow_box.FlowBox.{FlowBox}
 use Rattle.lay_flow.specs.declared.flow_box.FlowKind.{FlowKind}
 use Rattle.lay_flow.specs.declared.flow_box.FlowKind.TheVariants.{Block as block, Lines as lines, Solid as solid, Float as float, LineFloat as line_float, Inline as inline}

@@ -5,7 +5,7 @@ ghost use Rattle.lay_flow.specs.declared.flow_box.FlowBox.{FlowBox};
 ghost use Rattle.lay_flow.specs.FlowBoxes.{AreFlowBoxes};
 
 use lay_floats::{Clear, Side};
-use lay_lines::LineContent;
+use lay_line_content::LineContent;
 use lay_units::{Len, Sides, Unit};
 use std::marker::Model;
 

@@ -7,13 +7,13 @@ use Rattle.lay_units.specs.Units.{IsUsedSize}
 use Rattle.lay_units.specs.declared.length.Unit.{Unit as Length}
 use Rattle.lay_units.specs.declared.records.Len.{Len}
 use Rattle.lay_units.specs.declared.records.Len.TheVariants as len
-use Rattle.lay_boxgen.specs.declared.box_role.Role.{Role}
-use Rattle.lay_boxgen.specs.declared.box_role.Role.TheVariants as role
-use Rattle.lay_boxgen.specs.declared.box_tree.BoxNode.{BoxNode}
-use Rattle.lay_boxgen.specs.Containers.{AreContainers, IsContainer, box_parent, counts, further as at_further, own as at_own, parent as at_parent}
-use Rattle.lay_boxgen.specs.Roles.{is_inline_level, role_at}
-use Rattle.lay_boxgen.proofs.BoxForests.{length-parents}
-use Rattle.lay_boxgen.proofs.NearestContainers.{containers_are_a_tree}
+use Rattle.lay_box_tree.specs.declared.box_role.Role.{Role}
+use Rattle.lay_box_tree.specs.declared.box_role.Role.TheVariants as role
+use Rattle.lay_box_tree.specs.declared.box_tree.BoxNode.{BoxNode}
+use Rattle.lay_box_tree.specs.Containers.{AreContainers, IsContainer, box_parent, counts, further as at_further, own as at_own, parent as at_parent}
+use Rattle.lay_box_tree.specs.Roles.{is_inline_level, role_at}
+use Rattle.lay_box_tree.proofs.BoxForests.{length-parents}
+use Rattle.lay_box_tree.proofs.NearestContainers.{containers_are_a_tree}
 use Rattle.lay_floats.specs.declared.requests.Side.{Side}
 use Rattle.lay_floats.specs.declared.requests.Clear.{Clear as Cleared}
 use Rattle.lay_floats.specs.Within.{IsWithin}
@@ -30,7 +30,7 @@ use Rattle.lay_flow.specs.FlowPlaces.{AreNearPlaces, FlowPlacesValue, IsFlowOf, 
 use Rattle.lay_flow.specs.Lengths.{length_at}
 use Rattle.lay_flow.specs.Weights.{weight}
 use Rattle.lay_flow.proofs.BoxTrees.{parent_is, parents_length}
-use Rattle.lay_lines.specs.LineContents.{LineContentValue}
+use Rattle.lay_line_content.specs.LineContents.{LineContentValue}
 use Rattle.lay_content.specs.BoxMeasuresValue.{BoxMeasuresValue}
 use Rattle.lay_sizes.specs.declared.sizing.BoxSizes.{BoxSizes}
 use Rattle.lay_sizes.specs.declared.own_boxes.OwnBox.{OwnBox}

@@ -3,7 +3,7 @@ use Rattle.std.proofs.Common.{◌≡◌, ℕ, zero, suc, ◌<◌, ◌≤◌, ℤ
 use Rattle.std.proofs.lemmas.Bool.{cases_lt}
 use Rattle.lay_units.specs.declared.length.Unit.{Unit as Length}
 use Rattle.lay_doc.proofs.OneStyles.{same_list}
-use Rattle.lay_boxgen.specs.declared.box_tree.BoxNode.{BoxNode}
+use Rattle.lay_box_tree.specs.declared.box_tree.BoxNode.{BoxNode}
 use Rattle.lay_box_parts.specs.declared.inline_part.InlinePart.{InlinePart}
 use Rattle.lay_box_parts.specs.InlineParts.{AreInlineParts, no_part}
 use Rattle.lay_flow.specs.declared.flow_box.FlowBox.{FlowBox}

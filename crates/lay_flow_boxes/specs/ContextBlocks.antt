@@ -12,11 +12,11 @@ use Rattle.lay_style.specs.declared.style_words.Float.TheVariants as floating
 use Rattle.lay_style.specs.declared.style_words.Clear.{Clear as ClearStyle}
 use Rattle.lay_style.specs.declared.style_words.Clear.TheVariants as clear
 use Rattle.lay_style.specs.ComputedStyle.{style_at}
-use Rattle.lay_boxgen.specs.declared.box_role.Role.{Role}
-use Rattle.lay_boxgen.specs.declared.box_role.Role.TheVariants as role
-use Rattle.lay_boxgen.specs.declared.box_tree.BoxNode.{BoxNode}
-use Rattle.lay_boxgen.specs.BoxColumns.{box_styles}
-use Rattle.lay_boxgen.specs.Roles.{clear_at, is_inline_level, role_at}
+use Rattle.lay_box_tree.specs.declared.box_role.Role.{Role}
+use Rattle.lay_box_tree.specs.declared.box_role.Role.TheVariants as role
+use Rattle.lay_box_tree.specs.declared.box_tree.BoxNode.{BoxNode}
+use Rattle.lay_box_tree.specs.BoxColumns.{box_styles}
+use Rattle.lay_box_tree.specs.Roles.{clear_at, is_inline_level, role_at}
 use Rattle.lay_floats.specs.declared.requests.Side.{Side}
 use Rattle.lay_floats.specs.declared.requests.Side.TheVariants as side
 use Rattle.lay_floats.specs.declared.requests.Clear.{Clear as Cleared}
@@ -29,7 +29,7 @@ use Rattle.lay_flow.specs.declared.flow_box.FlowKind.{FlowKind}
 use Rattle.lay_flow.specs.declared.flow_box.HeightRule.{HeightRule}
 use Rattle.lay_flow.specs.declared.flow_box.FlowKind.TheVariants.{Block as block, Lines as lines, Solid as solid, Float as float, LineFloat as line_float, Inline as inline}
 use Rattle.lay_items.specs.InlineSegments.{segments_in}
-use Rattle.lay_lines.specs.LineContents.{LineContentValue}
+use Rattle.lay_line_content.specs.LineContents.{LineContentValue}
 use Rattle.lay_content.specs.declared.container.Container.{Container}
 use Rattle.lay_content.specs.BoxMeasuresValue.{BoxMeasuresValue}
 use Rattle.lay_content.specs.Contents.{content_in}

@@ -2,11 +2,11 @@
 -- block-level boxes or establishes an inline formatting context and thus contains only inline-level boxes." Floats and anchors
 -- are in either.
 use Rattle.std.specs.Prelude.{ℕ, zero, suc, ◌==◌, ◌&&◌, ◌||◌, not, Bool, true, false, List, length, nat_lt}
-use Rattle.lay_boxgen.specs.declared.box_role.Role.{Role}
-use Rattle.lay_boxgen.specs.declared.box_role.Role.TheVariants as role
-use Rattle.lay_boxgen.specs.declared.box_tree.BoxNode.{BoxNode}
-use Rattle.lay_boxgen.specs.Containers.{counts}
-use Rattle.lay_boxgen.specs.Roles.{is_inline_level, role_at}
+use Rattle.lay_box_tree.specs.declared.box_role.Role.{Role}
+use Rattle.lay_box_tree.specs.declared.box_role.Role.TheVariants as role
+use Rattle.lay_box_tree.specs.declared.box_tree.BoxNode.{BoxNode}
+use Rattle.lay_box_tree.specs.Containers.{counts}
+use Rattle.lay_box_tree.specs.Roles.{is_inline_level, role_at}
 use Rattle.lay_flow_boxes.specs.declared.inline_containers.Level.{Level}
 use Rattle.lay_flow_boxes.specs.declared.inline_containers.Level.TheVariants.{Block as block, Inline as inline}
 use Rattle.lay_context_boxes.specs.Containing.{container_of}

@@ -1,7 +1,7 @@
 -- What flow boxes are made of, while they are made.
 use Rattle.std.specs.Prelude.{ℕ, ◌≡◌, ◌<◌, ◌≤◌, Bool, List, length}
 use Rattle.lay_units.specs.declared.length.Unit.{Unit as Length}
-use Rattle.lay_boxgen.specs.declared.box_tree.BoxNode.{BoxNode}
+use Rattle.lay_box_tree.specs.declared.box_tree.BoxNode.{BoxNode}
 use Rattle.lay_flow.specs.Children.{flag_at}
 use Rattle.lay_flow_boxes.specs.InlineContainers.{is_inline_container}
 use Rattle.lay_flow_boxes.specs.NearLefts.{AreNearLefts}

@@ -1,7 +1,7 @@
 -- The boxes of one context as they look from outside: those of inner contexts are known from there, and of the others the used
 -- sizes are (CSS 2.2, 8.1).
 use Rattle.std.specs.Prelude.{ℕ, List, None, if◌then◌else◌}
-use Rattle.lay_boxgen.specs.declared.box_tree.BoxNode.{BoxNode}
+use Rattle.lay_box_tree.specs.declared.box_tree.BoxNode.{BoxNode}
 use Rattle.lay_sizes.specs.declared.own_boxes.OwnBox.{OwnBox}
 use Rattle.lay_sizes.specs.declared.sizing.BoxSizes.{BoxSizes}
 use Rattle.lay_sizes.specs.OwnBoxes.{own_box, own_box_at}

@@ -17,7 +17,7 @@ use crate::inline_containers::inline_containers;
 use crate::line_boxes::{Shaping, lines_in};
 use crate::place_input::{PlaceInput, height_rule_of};
 use lay_box_parts::InlinePart;
-use lay_boxgen::Role;
+use lay_box_tree::Role;
 use lay_floats::{Clear, Side};
 use lay_flow::{
     Across, BlockBox, FloatBox, FlowBox, FlowKind, HeightRule, LinesBox, SolidBox, Vertical,

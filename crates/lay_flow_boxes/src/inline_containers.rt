@@ -4,7 +4,7 @@ ghost use Rattle.std.specs.Prelude.{ℕ, ◌≡◌, ◌<◌, length, IfOk};
 ghost use Rattle.lay_flow.specs.Children.{flag_at};
 ghost use Rattle.lay_flow_boxes.specs.InlineContainers.{holds, is_beside_lines, is_block_box, is_inline_container, is_of, is_own_container};
 
-use lay_boxgen::Role;
+use lay_box_tree::Role;
 use lay_context_boxes::ContextBoxes;
 use lay_units::NoMemory;
 use std::alloc::Global;

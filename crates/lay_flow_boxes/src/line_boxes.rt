@@ -12,7 +12,7 @@ use crate::place_input::PlaceInput;
 use lay_box_parts::InlinePart;
 use lay_content::{BoxMeasures, Container, has_seen_line, line_content};
 use lay_items::inline_segments;
-use lay_lines::LineContent;
+use lay_line_content::LineContent;
 use lay_units::{NoMemory, Unit};
 use std::alloc::Global;
 

@@ -1,13 +1,13 @@
 //! What the placement of a context is given.
 
 ghost use Rattle.std.specs.Prelude.{◌≡◌, ◌<◌, length};
-ghost use Rattle.lay_boxgen.specs.Roles.{clear_at, role_at};
+ghost use Rattle.lay_box_tree.specs.Roles.{clear_at, role_at};
 ghost use Rattle.lay_sizes.specs.SizeColumns.{sizes_at};
 ghost use Rattle.lay_context_boxes.specs.Containing.{container_of};
 ghost use Rattle.lay_context_boxes.specs.ContextBoxes.{is_float};
 ghost use Rattle.lay_flow_boxes.specs.PlaceInputs.{HeightRuleFits, PlaceInputFits, height_rule_of};
 
-use lay_boxgen::{BoxNode, Role};
+use lay_box_tree::{BoxNode, Role};
 use lay_context_boxes::ContextBoxes;
 use lay_face::Face;
 use lay_flow::HeightRule;

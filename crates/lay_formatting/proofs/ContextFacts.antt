@@ -1,7 +1,7 @@
 -- The formatting contexts of contexts stand in order, each behind the one around it, and each has boxes.
 use Rattle.std.proofs.Common.{◌≡◌, ℕ, zero, suc, ◌<◌, Bool, true, false, List, length, map, slice_index, refl, ap, sym, ◌∙◌, arith}
 use Rattle.std.proofs.lemmas.List.{get_or-map, length-map}
-use Rattle.lay_boxgen.specs.declared.box_tree.BoxNode.{BoxNode}
+use Rattle.lay_box_tree.specs.declared.box_tree.BoxNode.{BoxNode}
 use Rattle.lay_context_boxes.specs.ContextBoxes.{AreContextBoxes}
 use Rattle.lay_contexts.specs.Contexts.{AreContexts, Context, IsInside as IsInsideContext, boxes_in, context_at}
 use Rattle.lay_formatting.specs.FormattingBoxes.{at_home_before, boxes_of_root, rank}

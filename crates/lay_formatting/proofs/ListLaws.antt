@@ -3,7 +3,7 @@ use Rattle.std.proofs.Common.{◌≡◌, ℕ, zero, suc, ◌+◌, ◌<◌, ◌�
 use Rattle.std.proofs.lemmas.List.{map-append, take_all, take_more}
 use Rattle.std.proofs.lemmas.List.Elements.{filter-append}
 use Rattle.lay_doc.proofs.OneStyles.{same_list}
-use Rattle.lay_boxgen.specs.declared.box_tree.BoxNode.{BoxNode}
+use Rattle.lay_box_tree.specs.declared.box_tree.BoxNode.{BoxNode}
 use Rattle.lay_contexts.specs.Contexts.{AreContexts, Context, boxes_in, context_at, no_context}
 use Rattle.lay_formatting.specs.FormattingBoxes.{box_at, boxes_of_root, rank}
 use Rattle.lay_formatting.specs.FormattingContexts.{FormattingContext, formatting_context_at, no_formatting_context}

@@ -2,10 +2,10 @@
 use Rattle.std.proofs.Common.{◌≡◌, ℕ, zero, suc, ◌+◌, ◌<◌, ◌≤◌, ◌||◌, Bool, true, false, List, [], ◌∷◌, add-one, length, slice_index, refl, ap, sym, subst, ◌∙◌, arith, inl, inr}
 use Rattle.std.proofs.lemmas.Bool.{cases_lt}
 use Rattle.std.proofs.lemmas.List.{get_or-map, length-map}
-use Rattle.lay_boxgen.specs.BoxColumns.{box_parents}
-use Rattle.lay_boxgen.specs.Containers.{box_parent}
-use Rattle.lay_boxgen.specs.declared.box_tree.BoxNode.{BoxNode}
-use Rattle.lay_boxgen.proofs.BoxForests.{length-parents}
+use Rattle.lay_box_tree.specs.BoxColumns.{box_parents}
+use Rattle.lay_box_tree.specs.Containers.{box_parent}
+use Rattle.lay_box_tree.specs.declared.box_tree.BoxNode.{BoxNode}
+use Rattle.lay_box_tree.proofs.BoxForests.{length-parents}
 use Rattle.lay_context_boxes.specs.ContextBoxes.{AreContextBoxes, is_inner}
 use Rattle.lay_formatting.specs.FormattingBoxes.{as_member, at_home_before, box_at, boxes_of_root, is_at_home, no_box, place_inside, rank}
 use Rattle.lay_formatting.specs.Homes.{AreHomes, IsHome, is_root}

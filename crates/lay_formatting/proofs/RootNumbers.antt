@@ -1,7 +1,7 @@
 -- The numbers of roots: each formatting context has the number of one root, and a later root has a higher number.
 use Rattle.std.proofs.Common.{◌≡◌, ℕ, zero, suc, ◌+◌, ◌-◌, ◌<◌, ◌≤◌, Bool, true, false, List, length, refl, arith, inl, inr}
 use Rattle.std.proofs.lemmas.Bool.{cases_lt}
-use Rattle.lay_boxgen.specs.declared.box_tree.BoxNode.{BoxNode}
+use Rattle.lay_box_tree.specs.declared.box_tree.BoxNode.{BoxNode}
 use Rattle.lay_contexts.specs.Contexts.{Context, boxes_in}
 use Rattle.lay_formatting.specs.FormattingContextList.{first_number, number_of, roots_before}
 use Rattle.lay_formatting.specs.Homes.{is_root}

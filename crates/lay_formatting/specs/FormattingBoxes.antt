@@ -4,9 +4,9 @@
 use Rattle.std.specs.Prelude.{ℕ, zero, suc, ◌+◌, ◌==◌, ◌||◌, Bool, false, List, ◌∷◌, length, map, slice_index, slice_index_or, if◌then◌else◌}
 use Rattle.std.specs.List.{filter, range_with_len}
 use Rattle.lay_style.specs.InitialStyle.{initial_style}
-use Rattle.lay_boxgen.specs.declared.box_tree.BoxKind.TheVariants.{Block}
-use Rattle.lay_boxgen.specs.declared.box_tree.BoxNode.{BoxNode}
-use Rattle.lay_boxgen.specs.declared.facts.Flow.TheVariants.{InFlow}
+use Rattle.lay_box_tree.specs.declared.box_tree.BoxKind.TheVariants.{Block}
+use Rattle.lay_box_tree.specs.declared.box_tree.BoxNode.{BoxNode}
+use Rattle.lay_box_tree.specs.declared.box_tree.Flow.TheVariants.{InFlow}
 use Rattle.lay_formatting.specs.Homes.{is_root}
 
 abbrev pub no_box : BoxNode

@@ -2,7 +2,7 @@
 -- it, in which its box stands (CSS 2.2, 9.4.1). Those of elements are the contexts of the document; those of anonymous tables
 -- and cells (17.2.1) are beside them.
 use Rattle.std.specs.Prelude.{ℕ, ◌≡◌, ◌<◌, Bool, false, List, [], length, slice_index, slice_index_or}
-use Rattle.lay_boxgen.specs.declared.box_tree.BoxNode.{BoxNode}
+use Rattle.lay_box_tree.specs.declared.box_tree.BoxNode.{BoxNode}
 use Rattle.lay_context_boxes.specs.ContextBoxes.{AreContextBoxes}
 
 pub record FormattingContext : Type 0 where

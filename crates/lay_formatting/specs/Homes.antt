@@ -6,10 +6,10 @@
 -- text in the row is in an anonymous cell. The roots are the own box, the wrapper and the cell: at home in the first are the
 -- paragraph with its lines and the wrapper, in the second the table box, the row and the cell, and in the third the text.
 use Rattle.std.specs.Prelude.{ℕ, zero, suc, ◌≡◌, ◌<◌, ◌&&◌, Bool, true, false, not, List, length, map, slice_index, slice_index_or}
-use Rattle.lay_boxgen.specs.Containers.{box_parent}
-use Rattle.lay_boxgen.specs.declared.box_tree.BoxKind.{BoxKind}
-use Rattle.lay_boxgen.specs.declared.box_tree.BoxKind.TheVariants.{Wrapper, InlineWrapper, Cell}
-use Rattle.lay_boxgen.specs.declared.box_tree.BoxNode.{BoxNode}
+use Rattle.lay_box_tree.specs.Containers.{box_parent}
+use Rattle.lay_box_tree.specs.declared.box_tree.BoxKind.{BoxKind}
+use Rattle.lay_box_tree.specs.declared.box_tree.BoxKind.TheVariants.{Wrapper, InlineWrapper, Cell}
+use Rattle.lay_box_tree.specs.declared.box_tree.BoxNode.{BoxNode}
 
 -- the wrapper of a table, or a cell
 abbrev pub is_wrapper_or_cell : BoxKind → Bool

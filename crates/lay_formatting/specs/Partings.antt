@@ -1,6 +1,6 @@
 -- What is known of the boxes of each context while its formatting contexts are made: where each box goes.
 use Rattle.std.specs.Prelude.{ℕ, ◌≡◌, ◌+◌, ◌<◌, ◌≤◌, List, [], length, map, slice_index, slice_index_or}
-use Rattle.lay_boxgen.specs.declared.box_tree.BoxNode.{BoxNode}
+use Rattle.lay_box_tree.specs.declared.box_tree.BoxNode.{BoxNode}
 use Rattle.lay_contexts.specs.Contexts.{Context, boxes_in}
 use Rattle.lay_formatting.specs.FormattingBoxes.{at_home_before, rank}
 use Rattle.lay_formatting.specs.FormattingContextList.{first_number, roots_before}

@@ -5,7 +5,7 @@ ghost use Rattle.lay_context_boxes.specs.ContextBoxes.{AreContextBoxes};
 ghost use Rattle.lay_formatting.specs.Homes.{AreHomes, IsHome};
 
 use crate::roots::{box_parent, is_root};
-use lay_boxgen::BoxNode;
+use lay_box_tree::BoxNode;
 use lay_units::NoMemory;
 use std::alloc::Global;
 

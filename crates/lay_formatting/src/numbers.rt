@@ -6,7 +6,7 @@ ghost use Rattle.lay_formatting.specs.Homes.{is_root};
 ghost use Rattle.lay_formatting.specs.Partings.{AreNumbersTo, most_formatting_contexts};
 
 use crate::roots::is_root;
-use lay_boxgen::BoxNode;
+use lay_box_tree::BoxNode;
 use lay_units::NoMemory;
 use std::alloc::Global;
 

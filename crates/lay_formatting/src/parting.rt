@@ -8,7 +8,7 @@ ghost use Rattle.lay_formatting.specs.Partings.{ArePartings, IsParting, most_for
 use crate::homes::{homes, place_at};
 use crate::numbers::numbers;
 use crate::ranks::{Places, RankLists, ranks};
-use lay_boxgen::BoxNode;
+use lay_box_tree::BoxNode;
 use lay_contexts::Contexts;
 use lay_units::NoMemory;
 use std::alloc::Global;

@@ -8,7 +8,7 @@ ghost use Rattle.lay_formatting.specs.Partings.{IsParting};
 
 use crate::parting::Parting;
 use crate::roots::{box_parent, is_root};
-use lay_boxgen::{BoxKind, BoxNode, BoxTree};
+use lay_box_tree::{BoxKind, BoxNode, BoxTree};
 use lay_context_boxes::ContextBoxes;
 use lay_units::NoMemory;
 use std::alloc::Global;

@@ -1,11 +1,11 @@
 //! The roots among the boxes of a context.
 
 ghost use Rattle.std.specs.Prelude.{◌≡◌, ◌<◌, ◌^◌, length};
-ghost use Rattle.lay_boxgen.specs.Containers.{box_parent};
+ghost use Rattle.lay_box_tree.specs.Containers.{box_parent};
 ghost use Rattle.lay_formatting.specs.FormattingBoxes.{box_at};
 ghost use Rattle.lay_formatting.specs.Homes.{is_anonymous_root, is_root, is_wrapper_or_cell};
 
-use lay_boxgen::{BoxKind, BoxNode};
+use lay_box_tree::{BoxKind, BoxNode};
 
 /// Whether the box at k is a root: the context's own box, or an anonymous one that establishes a formatting context.
 pub(crate) fn is_root(boxes: &[BoxNode], k: usize) -> bool

@@ -4,17 +4,17 @@ use Rattle.std.specs.List.{filter, flat_map, range_with_len}
 use Rattle.std.proofs.lemmas.Grind.{common_steps}
 use Rattle.std.proofs.lemmas.Option.{slice_get-get_or}
 use Rattle.std.proofs.lemmas.List.Sums.{sum_by-append}
-use Rattle.lay_json.specs.Scripts.{command_count, is_read, read_count, reads_of}
+use Rattle.lay_run.specs.Scripts.{command_count, is_read, read_count, reads_of}
 use Rattle.lay_doc.specs.declared.node.NodeId.{NodeId}
-use Rattle.lay_doc.specs.declared.command.Cmd.{Cmd}
-use Rattle.lay_doc.specs.declared.command.Cmd.TheVariants.{Edit, Latest, Sync}
 use Rattle.lay_doc.specs.NewNodes.{NewNodeValue}
 use Rattle.lay_doc.specs.Document.{Document}
 use Rattle.lay_doc.specs.declared.edit.EditFault.{EditFault}
 use Rattle.lay_doc.specs.Edits.{after_insert, insert_fault, last_index}
+use Rattle.lay_commands.specs.declared.command.Cmd.{Cmd}
+use Rattle.lay_commands.specs.declared.command.Cmd.TheVariants.{Edit, Latest, Sync}
 use Rattle.lay_json.specs.Nodes.{without_fault}
 use Rattle.lay_face.specs.FaceValue.{FaceValue}
-use Rattle.lay_json.specs.Runs.{IsListed, Run}
+use Rattle.lay_run.specs.Runs.{IsListed, Run}
 use Rattle.lay_json.proofs.Listed.{put_listed}
 use Rattle.lay_frag.specs.declared.frag.Frag.{Frag}
 use Rattle.lay_frag.specs.Pieces.{Context, frags_of, page_pieces}

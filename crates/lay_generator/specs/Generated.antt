@@ -5,8 +5,8 @@ use Rattle.lay_doc.specs.declared.node.NodeId.{NodeId}
 use Rattle.lay_doc.specs.NewNodes.{NewNodeValue}
 use Rattle.lay_doc.specs.Document.{Document, root_document}
 use Rattle.lay_doc.specs.Edits.{after_insert, last_index}
+use Rattle.lay_run.specs.Runs.{Run}
 use Rattle.lay_json.specs.FaceFields.{default_face}
-use Rattle.lay_json.specs.Runs.{Run}
 use Rattle.lay_generator.specs.Nodes.{root, sections, sections_end}
 use Rattle.lay_generator.specs.Commands.{scripts}
 

@@ -2,14 +2,15 @@
 
 ghost use Rattle.std.specs.Prelude.{◌≡◌, ◌<◌, ◌≤◌, ◌++◌, ◌∷◌, [], IfOk, OnOk, length};
 ghost use Rattle.std.specs.List.{filter};
-ghost use Rattle.lay_json.specs.Scripts.{reads_of};
+ghost use Rattle.lay_run.specs.Scripts.{reads_of};
 ghost use Rattle.lay_generator.specs.Draws.{next, state_after};
 ghost use Rattle.lay_generator.specs.Commands.{is_of, paddings, script, script_end, scripts, set_padding};
 
 use crate::draws::Draws;
 use crate::nodes::{decl, px};
-use lay_doc::{Cmd, CmdList, Edit, NodeId};
-use lay_json::ScriptList;
+use lay_commands::{Cmd, CmdList};
+use lay_doc::{Edit, NodeId};
+use lay_run::ScriptList;
 use lay_style::Property;
 use lay_units::NoMemory;
 use std::alloc::Global;

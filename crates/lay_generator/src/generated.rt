@@ -1,8 +1,8 @@
 //! Generated runs.
 
 ghost use Rattle.std.specs.Prelude.{◌≡◌, ◌<◌, ◌≤◌, ◌^◌, ◌++◌, ◌∷◌, [], IfOk, OnOk};
+ghost use Rattle.lay_run.specs.Runs.{IsListed};
 ghost use Rattle.lay_json.specs.FaceFields.{default_face};
-ghost use Rattle.lay_json.specs.Runs.{IsListed};
 ghost use Rattle.lay_generator.specs.Draws.{state_after};
 ghost use Rattle.lay_generator.specs.Nodes.{id, root, section_end, section_nodes, sections, sections_end};
 ghost use Rattle.lay_generator.specs.Generated.{generated, ids, with_node, with_nodes};
@@ -13,7 +13,7 @@ use crate::draws::Draws;
 use crate::nodes::{block, container, float_box, root, text};
 use lay_doc::{Doc, NewNode, NodeId};
 use lay_face::{Face, PairList};
-use lay_json::{NodeList, RunDoc};
+use lay_run::{NodeList, RunDoc};
 use lay_units::NoMemory;
 use std::alloc::Global;
 use std::sync::Arc;

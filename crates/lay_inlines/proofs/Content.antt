@@ -1,11 +1,11 @@
 -- The content of a line, stretch by stretch.
 use Rattle.std.proofs.Common.{◌≡◌, ◌∙◌, ℕ, ◌+◌, ◌<◌, List, [], ◌∷◌, ◌++◌, length, drop, get_or, refl, sym, ap}
 use Rattle.std.proofs.lemmas.List.{drop_more, append_assoc}
-use Rattle.lay_lines.specs.declared.content.Part.{Part}
-use Rattle.lay_lines.specs.declared.content.Stretch.{Stretch}
-use Rattle.lay_lines.specs.declared.frame.Frame.{Frame}
-use Rattle.lay_lines.specs.declared.pen.Pen.{Pen}
-use Rattle.lay_lines.specs.Pens.{over, over_all}
+use Rattle.lay_line_content.specs.declared.content.Part.{Part}
+use Rattle.lay_line_content.specs.declared.content.Stretch.{Stretch}
+use Rattle.lay_line_content.specs.declared.frame.Frame.{Frame}
+use Rattle.lay_line_content.specs.declared.pen.Pen.{Pen}
+use Rattle.lay_line_content.specs.Pens.{over, over_all}
 use Rattle.lay_inlines.specs.declared.strokes.Stroke.{Stroke}
 use Rattle.lay_inlines.specs.Raises.{RaisesValue, raise_of, raises_after, raises_after_all}
 use Rattle.lay_inlines.specs.Strokes.{parts_of, strokes, stroke_of}

@@ -4,15 +4,15 @@
 -- place of the inline box or the atomic box among the line's parts (10.8.1).
 use Rattle.std.specs.Prelude.{ℕ, ◌≡◌, ◌<◌, List, [], ◌∷◌, ◌++◌, length, take, drop, map}
 use Rattle.lay_units.specs.declared.length.Unit.{Unit}
-use Rattle.lay_lines.specs.declared.content.Advance.{Advance}
-use Rattle.lay_lines.specs.declared.content.InlineArea.{InlineArea}
-use Rattle.lay_lines.specs.declared.content.InlineStart.{InlineStart}
-use Rattle.lay_lines.specs.declared.content.Part.{Part}
-use Rattle.lay_lines.specs.declared.content.Part.TheVariants.{Space}
-use Rattle.lay_lines.specs.declared.frame.Extent.{Extent}
-use Rattle.lay_lines.specs.declared.frame.Frame.{Frame}
+use Rattle.lay_line_content.specs.declared.content.Advance.{Advance}
+use Rattle.lay_line_content.specs.declared.content.InlineArea.{InlineArea}
+use Rattle.lay_line_content.specs.declared.content.InlineStart.{InlineStart}
+use Rattle.lay_line_content.specs.declared.content.Part.{Part}
+use Rattle.lay_line_content.specs.declared.content.Part.TheVariants.{Space}
+use Rattle.lay_line_content.specs.declared.frame.Extent.{Extent}
+use Rattle.lay_line_content.specs.declared.frame.Frame.{Frame}
+use Rattle.lay_line_content.specs.Extents.{LineParts, opened_all, read_all, reading_of, strut_alone}
 use Rattle.lay_lines.specs.declared.row.Ended.{Ended}
-use Rattle.lay_lines.specs.Extents.{LineParts, opened_all, read_all, reading_of, strut_alone}
 use Rattle.lay_lines.specs.Rows.{Position, Row, IsFilled, ended_of}
 use Rattle.lay_inlines.specs.declared.lines.Container.{Container}
 use Rattle.lay_inlines.specs.AtomicBoxes.{atomic_boxes, atomic_pieces}

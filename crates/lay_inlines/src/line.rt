@@ -12,7 +12,8 @@ use crate::lines::Container;
 use crate::raises::{Raises, behind_strut};
 use crate::spans::{Behind, Ends, OpenBoxes, Span, area_at};
 use crate::strokes::{Stroke, draw};
-use lay_lines::{Ended, Frame, InlineArea, Pen, Stretch};
+use lay_line_content::{Frame, InlineArea, Pen, Stretch};
+use lay_lines::Ended;
 use lay_units::{NoMemory, Rect, Unit};
 use std::alloc::Global;
 

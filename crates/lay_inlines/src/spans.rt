@@ -12,7 +12,7 @@ use crate::line_piece::LinePieceKind;
 use crate::raises::raise_at;
 use crate::slices::from_end;
 use crate::strokes::{Shown, Stroke, is_content, place, shown_of};
-use lay_lines::InlineArea;
+use lay_line_content::InlineArea;
 use lay_units::{NoMemory, Unit};
 use std::alloc::Global;
 

@@ -4,10 +4,10 @@ ghost use Rattle.std.specs.Prelude.{◌≡◌, ◌++◌, ◌||◌, IfOk, OnOk};
 ghost use Rattle.lay_inlines.specs.Bounds.{PensWithin};
 ghost use Rattle.lay_inlines.specs.Raises.{raises_after_all};
 ghost use Rattle.lay_inlines.specs.Strokes.{is_content, shown_of, place, strokes, parts_of};
-ghost use Rattle.lay_lines.specs.Pens.{over_all};
+ghost use Rattle.lay_line_content.specs.Pens.{over_all};
 
 use crate::raises::Raises;
-use lay_lines::{Frame, Part, Pen, Stretch};
+use lay_line_content::{Frame, Part, Pen, Stretch};
 use lay_units::{NoMemory, Unit};
 
 /// A part of a line's content, with how far it is raised, and how far content comes before it and after it.

@@ -4,7 +4,7 @@ use Rattle.std.specs.Prelude.{ℕ, List, [], false, Option, Some, None, slice_ge
 use Rattle.lay_units.specs.declared.records.ClusterWidth.{ClusterWidth}
 use Rattle.lay_style.specs.declared.style.TextStyle.{TextStyle}
 use Rattle.lay_style.specs.LengthValues.{length_of, size_of}
-use Rattle.lay_boxgen.specs.declared.box_tree.BoxNode.{BoxNode}
+use Rattle.lay_box_tree.specs.declared.box_tree.BoxNode.{BoxNode}
 use Rattle.lay_face.specs.FaceValue.{FaceValue}
 use Rattle.lay_face.specs.Clusters.{widths_of}
 use Rattle.lay_face.specs.declared.clusters.Setting.{Setting}

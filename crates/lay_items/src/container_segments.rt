@@ -2,12 +2,12 @@
 
 ghost use Rattle.std.specs.Prelude.{◌≡◌, ◌<◌, ◌≤◌, length, IfOk};
 ghost use Rattle.lay_doc.specs.Tree.{IsTree};
-ghost use Rattle.lay_boxgen.specs.BoxColumns.{box_parents};
+ghost use Rattle.lay_box_tree.specs.BoxColumns.{box_parents};
 ghost use Rattle.lay_items.specs.InlineSegments.{segments_in};
 
 use crate::container_items::inline_items;
 use crate::measured::measured;
-use lay_boxgen::BoxNode;
+use lay_box_tree::BoxNode;
 use lay_face::Face;
 use lay_space::{SegmentList, process, segments};
 use lay_units::NoMemory;

@@ -1,7 +1,7 @@
 //! Items that have nothing inside.
 
 ghost use Rattle.std.specs.Prelude.{◌≡◌, ◌<◌, ◌++◌, [], length, List, false, IfOk, OnOk};
-ghost use Rattle.lay_boxgen.specs.Roles.{role_of};
+ghost use Rattle.lay_box_tree.specs.Roles.{role_of};
 ghost use Rattle.lay_space.specs.declared.item.Item.{Item};
 ghost use Rattle.lay_space.specs.declared.item.Item.TheVariants as item;
 ghost use Rattle.lay_items.specs.InlineItems.{items_at, mode_at, mode_of, text_of};
@@ -9,7 +9,7 @@ ghost use Rattle.lay_items.specs.OpenBoxes.{is_inline};
 
 use crate::modes::mode_of;
 use crate::open_boxes::push_item;
-use lay_boxgen::{BoxKind, BoxNode, Role};
+use lay_box_tree::{BoxKind, BoxNode, Role};
 use lay_space::{Item, Mode};
 use lay_units::{NoMemory, Text, WidthList};
 use std::alloc::Global;

@@ -8,7 +8,7 @@ ghost use Rattle.lay_items.specs.InlineSegments.{measured, measured_item, settin
 
 use crate::gathered::gathered;
 use crate::open_boxes::push_item;
-use lay_boxgen::BoxNode;
+use lay_box_tree::BoxNode;
 use lay_face::Face;
 use lay_space::{Item, ItemList};
 use lay_style::TextStyle;

@@ -2,15 +2,15 @@
 
 ghost use Rattle.std.specs.Prelude.{ℕ, ◌≡◌, ◌<◌, ◌≤◌, ◌+◌, ◌∷◌, ◌++◌, [], length, drop, reverse, Some, IfOk, OnOk};
 ghost use Rattle.lay_doc.specs.Tree.{IsTree};
-ghost use Rattle.lay_boxgen.specs.BoxColumns.{box_parents};
-ghost use Rattle.lay_boxgen.specs.Containers.{box_parent};
+ghost use Rattle.lay_box_tree.specs.BoxColumns.{box_parents};
+ghost use Rattle.lay_box_tree.specs.Containers.{box_parent};
 ghost use Rattle.lay_space.specs.declared.item.Item.TheVariants as item;
 ghost use Rattle.lay_items.specs.InlineItems.{items_below};
-ghost use Rattle.lay_boxgen.specs.Roles.{role_of};
+ghost use Rattle.lay_box_tree.specs.Roles.{role_of};
 ghost use Rattle.lay_items.specs.OpenBoxes.{Fall, all_items, innermost, is_inline};
 
 use crate::leaves::put_leaf;
-use lay_boxgen::{BoxNode, Role};
+use lay_box_tree::{BoxNode, Role};
 use lay_space::Item;
 use lay_units::NoMemory;
 use std::alloc::Global;

@@ -4,12 +4,12 @@
 -- Where the wrapper of a table stands among other boxes, its widths are given too: they come of the table's columns.
 use Rattle.std.specs.Prelude.{ℕ, ◌+◌, ◌==◌, List, [], ◌∷◌, ◌++◌, Option, Some, None, drop, slice_get, if◌then◌else◌}
 use Rattle.lay_style.specs.declared.style.Style.{Style}
-use Rattle.lay_boxgen.specs.Roles.{role_of}
-use Rattle.lay_boxgen.specs.declared.box_tree.BoxKind.{BoxKind}
-use Rattle.lay_boxgen.specs.declared.box_tree.BoxKind.TheVariants as kind
-use Rattle.lay_boxgen.specs.declared.box_role.Role.{Role}
-use Rattle.lay_boxgen.specs.declared.box_role.Role.TheVariants as role
-use Rattle.lay_boxgen.specs.declared.box_tree.BoxNode.{BoxNode}
+use Rattle.lay_box_tree.specs.Roles.{role_of}
+use Rattle.lay_box_tree.specs.declared.box_tree.BoxKind.{BoxKind}
+use Rattle.lay_box_tree.specs.declared.box_tree.BoxKind.TheVariants as kind
+use Rattle.lay_box_tree.specs.declared.box_role.Role.{Role}
+use Rattle.lay_box_tree.specs.declared.box_role.Role.TheVariants as role
+use Rattle.lay_box_tree.specs.declared.box_tree.BoxNode.{BoxNode}
 use Rattle.lay_items.specs.InlineSegments.{segments_in}
 use Rattle.lay_measure.specs.Children.{Child, block_widths, child_as, holds_lines}
 use Rattle.lay_measure.specs.LineParts.{contribution}

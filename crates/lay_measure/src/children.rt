@@ -6,7 +6,7 @@ ghost use Rattle.lay_measure.specs.ChildTotals.{totals_of};
 
 use crate::preferred_widths::PreferredWidths;
 use crate::sums::{greater, sum};
-use lay_boxgen::Role;
+use lay_box_tree::Role;
 use lay_units::{NoMemory, Unit};
 
 /// What some children of a box come to: whether one is inline-level, the greatest preferred minimum width, how wide

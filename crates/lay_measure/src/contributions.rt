@@ -9,7 +9,7 @@ use crate::measure_in::MeasureIn;
 use crate::preferred_widths::{NO_WIDTHS, PreferredWidths};
 use crate::replaced_widths::replaced_width;
 use crate::sums::sum_of_three;
-use lay_boxgen::{BoxKind, BoxNode};
+use lay_box_tree::{BoxKind, BoxNode};
 use lay_heights::with_min_max;
 use lay_style::{LengthPercentage, LengthPercentageOrAuto, LengthPercentageOrNone, Style};
 use lay_units::{NoMemory, Unit, clamp, clamp_size};

@@ -5,7 +5,7 @@ ghost use Rattle.lay_measure.specs.MeasureInValue.{inner_at, part_at};
 
 use crate::preferred_widths::{NO_WIDTHS, PreferredWidths};
 use lay_box_parts::InlinePart;
-use lay_boxgen::BoxNode;
+use lay_box_tree::BoxNode;
 use lay_face::Face;
 use std::marker::Model;
 

@@ -2,8 +2,8 @@
 
 ghost use Rattle.std.specs.Prelude.{ℕ, List, ◌≡◌, ◌≢◌, ◌<◌, ◌≤◌, ◌+◌, ◌++◌, drop, length, slice_get, Some, IfOk, OnOk};
 ghost use Rattle.lay_doc.specs.Tree.{IsTree};
-ghost use Rattle.lay_boxgen.specs.BoxColumns.{box_parents};
-ghost use Rattle.lay_boxgen.specs.Containers.{box_parent};
+ghost use Rattle.lay_box_tree.specs.BoxColumns.{box_parents};
+ghost use Rattle.lay_box_tree.specs.Containers.{box_parent};
 ghost use Rattle.lay_items.specs.InlineSegments.{segments_in};
 ghost use Rattle.lay_measure.specs.Children.{Child};
 ghost use Rattle.lay_measure.specs.ChildTotals.{totals_of};
@@ -17,7 +17,7 @@ use crate::inline_widths::inline_widths;
 use crate::measure_in::MeasureIn;
 use crate::preferred_widths::{NO_WIDTHS, PreferredWidths};
 use crate::replaced_widths::replaced_width;
-use lay_boxgen::{BoxKind, BoxNode, Role};
+use lay_box_tree::{BoxKind, BoxNode, Role};
 use lay_items::inline_segments;
 use lay_style::{Style, TextStyle};
 use lay_units::{NoMemory, Unit};

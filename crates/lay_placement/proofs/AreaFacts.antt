@@ -3,7 +3,7 @@ use Rattle.std.proofs.Common.{List, arith}
 use Rattle.std.specs.List.{All}
 use Rattle.std.proofs.lemmas.Int.{ints}
 use Rattle.std.proofs.lemmas.List.Elements.{All-weaker}
-use Rattle.lay_lines.specs.declared.content.InlineArea.{InlineArea}
+use Rattle.lay_line_content.specs.declared.content.InlineArea.{InlineArea}
 use Rattle.lay_content.specs.AreaBounds.{AreaNear}
 use Rattle.lay_inlines.specs.Bounds.{AreaWithin}
 

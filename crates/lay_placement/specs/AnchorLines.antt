@@ -5,7 +5,7 @@ use Rattle.std.specs.Option.{is_none, option_or}
 use Rattle.lay_units.specs.declared.length.Unit.{Unit as Length}
 use Rattle.lay_space.specs.declared.item.Item.{Item}
 use Rattle.lay_space.specs.declared.segment.Segment.{Segment}
-use Rattle.lay_boxgen.specs.declared.box_tree.BoxNode.{BoxNode}
+use Rattle.lay_box_tree.specs.declared.box_tree.BoxNode.{BoxNode}
 use Rattle.lay_context_boxes.specs.Containing.{container_of}
 use Rattle.lay_placement.specs.StaticPositions.{holds_anchor, is_anchor_of}
 

@@ -1,6 +1,6 @@
 -- How many boxes a formatting context has at most, and how long its columns are.
 use Rattle.std.specs.Prelude.{◌≤◌, ◌≡◌, List, length}
-use Rattle.lay_boxgen.specs.declared.box_tree.BoxNode.{BoxNode}
+use Rattle.lay_box_tree.specs.declared.box_tree.BoxNode.{BoxNode}
 use Rattle.lay_placement.specs.ContextPlaces.{ContextPlaces}
 
 -- each column has an entry for each box

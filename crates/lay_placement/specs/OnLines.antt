@@ -3,8 +3,8 @@ use Rattle.std.specs.Prelude.{ℕ, zero, suc, ◌≡◌, ◌<◌, List, [], ◌+
 use Rattle.lay_style.specs.declared.style_words.TextAlign.{TextAlign}
 use Rattle.lay_style.specs.declared.style_words.TextAlign.TheVariants as align
 use Rattle.lay_style.specs.ComputedStyle.{style_at}
-use Rattle.lay_boxgen.specs.declared.box_tree.BoxNode.{BoxNode}
-use Rattle.lay_boxgen.specs.BoxColumns.{box_styles}
+use Rattle.lay_box_tree.specs.declared.box_tree.BoxNode.{BoxNode}
+use Rattle.lay_box_tree.specs.BoxColumns.{box_styles}
 use Rattle.lay_inlines.specs.declared.align.Align.{Align}
 use Rattle.lay_inlines.specs.declared.align.Align.TheVariants as aligned
 use Rattle.lay_inlines.specs.declared.line_piece.LinePiece.{LinePiece}

@@ -1,7 +1,7 @@
 -- Where boxes come to rest, while that is put together.
 use Rattle.std.specs.Prelude.{ℕ, ◌≡◌, ◌<◌, true, List, length, Option}
 use Rattle.lay_units.specs.declared.length.Unit.{Unit as Length}
-use Rattle.lay_boxgen.specs.Roles.{role_at}
+use Rattle.lay_box_tree.specs.Roles.{role_at}
 use Rattle.lay_flow_boxes.specs.ContextBlocks.{is_anchor}
 use Rattle.lay_flow_boxes.specs.PlaceInputs.{PlaceInput}
 use Rattle.lay_pieces.specs.declared.corner.Corner.{Corner}

@@ -1,7 +1,7 @@
 //! Static positions (CSS 2.2, 9.6): the lines that have anchors.
 
 ghost use Rattle.std.specs.Prelude.{ℕ, ◌≡◌, ◌<◌, ◌==◌, true, take, drop, length, Some, None, IfOk, OnOk, if◌then◌else◌};
-ghost use Rattle.lay_boxgen.specs.Roles.{role_at};
+ghost use Rattle.lay_box_tree.specs.Roles.{role_at};
 ghost use Rattle.lay_flow.specs.Children.{flag_at};
 ghost use Rattle.lay_context_boxes.specs.Containing.{container_of};
 ghost use Rattle.lay_items.specs.InlineSegments.{segments_in};

@@ -1,7 +1,7 @@
 //! The baseline of a table cell (CSS 2.2, 17.5.3).
 
 ghost use Rattle.std.specs.Prelude.{◌≡◌, ◌<◌, length, IfOk, IfSome};
-ghost use Rattle.lay_boxgen.specs.Kinds.{is_wrapper};
+ghost use Rattle.lay_box_tree.specs.Kinds.{is_wrapper};
 ghost use Rattle.lay_sizes.specs.OwnBoxes.{IsBaseline};
 ghost use Rattle.lay_placement.specs.Baselines.{baseline_in, first_baseline, first_baseline_to, is_cell, is_of_cell, is_solid, is_table_in_flow, table_baseline};
 ghost use Rattle.lay_placement.specs.Counts.{HaveCounts};
@@ -9,7 +9,7 @@ ghost use Rattle.lay_placement.specs.Counts.{HaveCounts};
 use crate::baselines::{baseline_below, baseline_of};
 use crate::columns::{own_box_at, place_at};
 use crate::context_places::{BoxPlaces, rows_at};
-use lay_boxgen::{BoxKind, Role};
+use lay_box_tree::{BoxKind, Role};
 use lay_flow_boxes::PlaceInput;
 use lay_lines::Ended;
 use lay_units::{NoMemory, Unit};

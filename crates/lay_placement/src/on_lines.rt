@@ -16,7 +16,8 @@ use lay_flow_boxes::PlaceInput;
 use lay_inlines::{
     Align, Container, LinePiece, LinePieceList, LinesGeometry, is_row_within, line_pieces,
 };
-use lay_lines::{Ended, InlineArea};
+use lay_line_content::InlineArea;
+use lay_lines::Ended;
 use lay_style::TextAlign;
 use lay_units::NoMemory;
 use std::alloc::Global;

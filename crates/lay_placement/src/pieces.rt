@@ -15,7 +15,7 @@ ghost use Rattle.lay_placement.specs.Paintings.{IsPainting};
 use crate::columns::{own_box_at, sizes_at, sum_of};
 use crate::context_places::{BoxPlaces, move_of};
 use crate::on_lines::on_lines_at;
-use lay_boxgen::BoxNode;
+use lay_box_tree::BoxNode;
 use lay_doc::NodeId;
 use lay_flow_boxes::PlaceInput;
 use lay_frag::{Frag, FragKind};

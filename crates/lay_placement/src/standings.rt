@@ -1,7 +1,7 @@
 //! Where the boxes of one formatting context stand.
 
 ghost use Rattle.std.specs.Prelude.{◌≡◌, ◌<◌, true, length, IfOk};
-ghost use Rattle.lay_boxgen.specs.Roles.{role_at};
+ghost use Rattle.lay_box_tree.specs.Roles.{role_at};
 ghost use Rattle.lay_relative.specs.MoveBounds.{IsMoveNear};
 ghost use Rattle.lay_flow_boxes.specs.ContextBlocks.{content_left, is_anchor};
 ghost use Rattle.lay_pieces.specs.Corners.{IsCornerNear};
@@ -16,7 +16,7 @@ use crate::anchor_lines::anchor_lines;
 use crate::columns::{length_at, own_box_at, place_at, sizes_at, sum_of};
 use crate::context_places::{BoxPlaces, move_of};
 use crate::corners::corners_of;
-use lay_boxgen::Role;
+use lay_box_tree::Role;
 use lay_flow_boxes::PlaceInput;
 use lay_inlines::LinePieceList;
 use lay_pieces::{Corner, Standing, near_corner, near_position};

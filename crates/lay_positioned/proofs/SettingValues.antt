@@ -3,9 +3,9 @@ use Rattle.std.proofs.Common.{◌≡◌, ℕ, zero, suc, ◌<◌, ◌≤◌, Boo
 use Rattle.std.specs.Prelude.{Option, Some, None, if◌then◌else◌}
 use Rattle.lay_units.specs.declared.records.Rect.{Rect}
 use Rattle.lay_doc.specs.Tree.{IsTree}
-use Rattle.lay_boxgen.specs.declared.box_tree.BoxNode.{BoxNode}
-use Rattle.lay_boxgen.specs.BoxColumns.{box_parents}
-use Rattle.lay_boxgen.specs.Containers.{box_parent}
+use Rattle.lay_box_tree.specs.declared.box_tree.BoxNode.{BoxNode}
+use Rattle.lay_box_tree.specs.BoxColumns.{box_parents}
+use Rattle.lay_box_tree.specs.Containers.{box_parent}
 use Rattle.lay_sizes.specs.declared.sizing.ContainingBlock.{ContainingBlock}
 use Rattle.lay_formatting.specs.FormattingContexts.{AreFormattingContexts, FormattingContext, boxes_in, formatting_context_at}
 use Rattle.lay_positioned.specs.declared.settings.AbsoluteSetting.{AbsoluteSetting}

@@ -3,9 +3,9 @@
 use Rattle.std.specs.Prelude.{ℕ, Bool, true, false, List, map, slice_index_or}
 use Rattle.lay_style.specs.declared.style_words.Position.{Position}
 use Rattle.lay_style.specs.declared.style_words.Position.TheVariants as position
-use Rattle.lay_boxgen.specs.declared.box_tree.BoxNode.{BoxNode}
-use Rattle.lay_boxgen.specs.declared.facts.Flow.{Flow}
-use Rattle.lay_boxgen.specs.declared.facts.Flow.TheVariants.{Absolute}
+use Rattle.lay_box_tree.specs.declared.box_tree.BoxNode.{BoxNode}
+use Rattle.lay_box_tree.specs.declared.box_tree.Flow.{Flow}
+use Rattle.lay_box_tree.specs.declared.box_tree.Flow.TheVariants.{Absolute}
 use Rattle.lay_formatting.specs.FormattingContexts.{FormattingContext, boxes_in}
 
 abbrev pub is_absolute_flow : Flow → Bool

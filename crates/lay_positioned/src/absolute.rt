@@ -3,7 +3,7 @@
 ghost use Rattle.std.specs.Prelude.{◌≡◌, ◌<◌, length};
 ghost use Rattle.lay_positioned.specs.Absolute.{is_absolute, is_absolute_flow, is_fixed, is_fixed_position, is_own_absolute, is_own_fixed};
 
-use lay_boxgen::Flow;
+use lay_box_tree::Flow;
 use lay_context_boxes::ContextBoxes;
 use lay_formatting::FormattingContexts;
 use lay_style::Position;

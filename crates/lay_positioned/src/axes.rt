@@ -11,7 +11,7 @@ ghost use Rattle.lay_positioned.specs.Settings.{SettingFits};
 use crate::rects::inside;
 use crate::settings::AbsoluteSetting;
 use lay_abspos::{Axis, ContentSize};
-use lay_boxgen::BoxKind;
+use lay_box_tree::BoxKind;
 use lay_sizes::{
     ContainingBlock, NaturalSize, block_of, edges_of, height_of, max_height_of, min_height_of,
     replaced_size_of, used_margin, used_size, with_width,

@@ -1,10 +1,10 @@
 //! Which boxes can be the containing block of an absolutely positioned one.
 
 ghost use Rattle.std.specs.Prelude.{◌≡◌, ◌<◌, IfSome, length};
-ghost use Rattle.lay_boxgen.specs.Containers.{box_parent};
+ghost use Rattle.lay_box_tree.specs.Containers.{box_parent};
 ghost use Rattle.lay_positioned.specs.Holders.{IsHolderFor, IsNearestHolder, can_hold, is_holder, is_holder_at, is_positioned};
 
-use lay_boxgen::{BoxKind, BoxNode};
+use lay_box_tree::{BoxKind, BoxNode};
 use lay_context_boxes::ContextBoxes;
 use lay_style::Position;
 

@@ -4,7 +4,7 @@ ghost use Rattle.std.specs.Prelude.{◌≡◌, ◌+ℤ◌, IfErr, IfOk};
 ghost use Rattle.lay_abspos.specs.AbsoluteFits.{AxisFits};
 ghost use Rattle.lay_pieces.specs.Corners.{IsCornerNear};
 ghost use Rattle.lay_pieces.specs.declared.corner.Corner.{Corner};
-ghost use Rattle.lay_boxgen.specs.Kinds.{is_wrapper};
+ghost use Rattle.lay_box_tree.specs.Kinds.{is_wrapper};
 ghost use Rattle.lay_sizes.specs.OwnBoxes.{IsBoxSize};
 ghost use Rattle.lay_positioned.specs.OffsetBounds.{IsStart};
 ghost use Rattle.lay_positioned.specs.Offsets.{IsOffset, axis_of_height};
@@ -15,7 +15,7 @@ use crate::rects::moved;
 use crate::settings::{AbsoluteSetting, block_in};
 use crate::sizes::{border_start, is_wrapper, own_axis_down, solved};
 use lay_abspos::{Axis, ContentSize};
-use lay_boxgen::BoxNode;
+use lay_box_tree::BoxNode;
 use lay_pieces::{Corner, near_corner};
 use lay_units::{Len, NoMemory, Unit};
 

@@ -14,7 +14,7 @@ ghost use Rattle.lay_positioned.specs.RectBounds.{AreUsedSizes};
 
 use crate::layouts::{Layouts, standing_at};
 use crate::rects::{inside, moved, near_rect};
-use lay_boxgen::{BoxKind, BoxNode};
+use lay_box_tree::{BoxKind, BoxNode};
 use lay_context_boxes::ContextBoxes;
 use lay_pieces::Standing;
 use lay_sizes::{BoxSizes, NO_SIZES, border_width};

@@ -3,9 +3,9 @@ use Rattle.std.proofs.Common.{◌≡◌, ℕ, zero, suc, ◌+◌, ◌<◌, List,
 use Rattle.std.specs.Option.{unwrap_or}
 use Rattle.std.proofs.lemmas.Bool.{cases_lt}
 use Rattle.std.proofs.lemmas.Grind.{elements}
-use Rattle.lay_boxgen.specs.declared.box_tree.BoxNode.{BoxNode}
-use Rattle.lay_boxgen.specs.Containers.{box_parent}
-use Rattle.lay_boxgen.proofs.BoxForests.{length-parents}
+use Rattle.lay_box_tree.specs.declared.box_tree.BoxNode.{BoxNode}
+use Rattle.lay_box_tree.specs.Containers.{box_parent}
+use Rattle.lay_box_tree.proofs.BoxForests.{length-parents}
 use Rattle.lay_broken_inlines.specs.FormerParents.{AreFormerParents, IsFormerParent}
 use Rattle.lay_context_boxes.specs.ContextBoxes.{AreContextBoxes}
 use Rattle.lay_sizes.specs.declared.sizing.BoxSizes.{BoxSizes}

@@ -2,7 +2,7 @@
 use Rattle.std.proofs.Common.{◌≡◌, ℕ, zero, suc, ◌<◌, ◌≤◌, List, length, slice_index_or, Option, None, sym, ap, ◌∙◌, arith, inl, inr}
 use Rattle.std.proofs.lemmas.Bool.{cases_lt}
 use Rattle.lay_doc.proofs.OneStyles.{same_list}
-use Rattle.lay_boxgen.specs.declared.box_tree.BoxNode.{BoxNode}
+use Rattle.lay_box_tree.specs.declared.box_tree.BoxNode.{BoxNode}
 use Rattle.lay_broken_inlines.specs.FormerParents.{AreFormerParents}
 use Rattle.lay_broken_inlines.proofs.Nearest.{one_former_parent as one_former_parent_lem}
 use Rattle.lay_context_boxes.specs.ContextBoxes.{AreContextBoxes}

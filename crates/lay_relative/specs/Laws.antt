@@ -1,6 +1,6 @@
 -- The boxes of a formatting context are moved in one way.
 use Rattle.std.specs.Prelude.{◌≡◌, List}
-use Rattle.lay_boxgen.specs.declared.box_tree.BoxNode.{BoxNode}
+use Rattle.lay_box_tree.specs.declared.box_tree.BoxNode.{BoxNode}
 use Rattle.lay_sizes.specs.declared.sizing.BoxSizes.{BoxSizes}
 use Rattle.lay_context_boxes.specs.ContextBoxes.{AreContextBoxes}
 use Rattle.lay_relative.specs.declared.offset.Offset.{Offset}

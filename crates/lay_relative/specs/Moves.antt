@@ -6,12 +6,12 @@
 use Rattle.std.specs.Prelude.{ℕ, zero, suc, ◌≡◌, ◌<◌, ◌+ℤ◌, Bool, true, false, List, length, slice_index_or, Option, None, if◌then◌else◌}
 use Rattle.std.specs.Option.{unwrap_or}
 use Rattle.lay_style.specs.ComputedStyle.{style_at}
-use Rattle.lay_boxgen.specs.declared.box_role.Role.{Role}
-use Rattle.lay_boxgen.specs.declared.box_role.Role.TheVariants as role
-use Rattle.lay_boxgen.specs.declared.box_tree.BoxNode.{BoxNode}
-use Rattle.lay_boxgen.specs.BoxColumns.{box_styles}
-use Rattle.lay_boxgen.specs.Containers.{box_parent}
-use Rattle.lay_boxgen.specs.Roles.{role_at}
+use Rattle.lay_box_tree.specs.declared.box_role.Role.{Role}
+use Rattle.lay_box_tree.specs.declared.box_role.Role.TheVariants as role
+use Rattle.lay_box_tree.specs.declared.box_tree.BoxNode.{BoxNode}
+use Rattle.lay_box_tree.specs.BoxColumns.{box_styles}
+use Rattle.lay_box_tree.specs.Containers.{box_parent}
+use Rattle.lay_box_tree.specs.Roles.{role_at}
 use Rattle.lay_broken_inlines.specs.FormerParents.{AreFormerParents}
 use Rattle.lay_sizes.specs.declared.sizing.BoxSizes.{BoxSizes}
 use Rattle.lay_context_boxes.specs.ContainingBlocks.{block_around}

@@ -8,7 +8,7 @@ ghost use Rattle.lay_relative.specs.Moves.{HasMoves, carrier, is_movable, move_a
 ghost use Rattle.lay_relative.specs.RelativeOffsets.{IsOffsetUsed};
 
 use crate::offset::{Offset, relative_offset};
-use lay_boxgen::Role;
+use lay_box_tree::Role;
 use lay_broken_inlines::former_parents;
 use lay_context_boxes::{ContextBoxes, block_around};
 use lay_sizes::BoxSizes;

@@ -4,10 +4,10 @@ use Rattle.std.specs.Prelude.{ℕ, zero, suc, ◌+◌, ◌<◌, ◌&&◌, Bool, 
 use Rattle.lay_style.specs.declared.style_words.CaptionSide.{CaptionSide}
 use Rattle.lay_style.specs.declared.style_words.CaptionSide.TheVariants as side
 use Rattle.lay_style.specs.ComputedStyle.{style_at}
-use Rattle.lay_boxgen.specs.declared.box_tree.BoxKind.{BoxKind}
-use Rattle.lay_boxgen.specs.declared.box_tree.BoxKind.TheVariants as kind
-use Rattle.lay_boxgen.specs.declared.box_tree.BoxNode.{BoxNode}
-use Rattle.lay_boxgen.specs.BoxColumns.{box_styles}
+use Rattle.lay_box_tree.specs.declared.box_tree.BoxKind.{BoxKind}
+use Rattle.lay_box_tree.specs.declared.box_tree.BoxKind.TheVariants as kind
+use Rattle.lay_box_tree.specs.declared.box_tree.BoxNode.{BoxNode}
+use Rattle.lay_box_tree.specs.BoxColumns.{box_styles}
 use Rattle.lay_table_parts.specs.TableBoxes.{kind_at}
 
 abbrev pub is_side : CaptionSide → CaptionSide → Bool

@@ -3,10 +3,10 @@
 -- pieces of anonymous cells stand where their boxes do. Columns and column groups hold nothing, and have no piece.
 use Rattle.std.specs.Prelude.{ℕ, zero, suc, List, [], ◌∷◌, length, slice_index, Option, None, Some, if◌then◌else◌}
 use Rattle.lay_units.specs.declared.length.Unit.{Unit as Length}
-use Rattle.lay_boxgen.specs.declared.box_tree.BoxKind.{BoxKind}
-use Rattle.lay_boxgen.specs.declared.box_tree.BoxKind.TheVariants as kind
-use Rattle.lay_boxgen.specs.declared.box_tree.BoxNode.{BoxNode}
-use Rattle.lay_boxgen.specs.BoxColumns.{box_ids}
+use Rattle.lay_box_tree.specs.declared.box_tree.BoxKind.{BoxKind}
+use Rattle.lay_box_tree.specs.declared.box_tree.BoxKind.TheVariants as kind
+use Rattle.lay_box_tree.specs.declared.box_tree.BoxNode.{BoxNode}
+use Rattle.lay_box_tree.specs.BoxColumns.{box_ids}
 use Rattle.lay_context_boxes.specs.ContextBoxes.{is_inner}
 use Rattle.lay_frag.specs.declared.frag.Frag.{Frag}
 use Rattle.lay_frag.specs.declared.frag.FragKind.TheVariants.{Box}

@@ -3,7 +3,7 @@
 ghost use Rattle.std.specs.Prelude.{◌≡◌, ◌<◌, length, IfOk};
 ghost use Rattle.lay_table.specs.Captions.{ArePlaces, captions_of, captions_on, is_caption, is_caption_on, is_side};
 
-use lay_boxgen::{BoxKind, BoxNode};
+use lay_box_tree::{BoxKind, BoxNode};
 use lay_style::CaptionSide;
 use lay_units::NoMemory;
 use std::alloc::Global;

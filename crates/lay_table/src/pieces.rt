@@ -1,7 +1,7 @@
 //! The pieces of a table.
 
 ghost use Rattle.std.specs.Prelude.{◌≡◌, ◌<◌, ◌≤◌, length, slice_index, IfOk};
-ghost use Rattle.lay_boxgen.specs.BoxColumns.{box_ids};
+ghost use Rattle.lay_box_tree.specs.BoxColumns.{box_ids};
 ghost use Rattle.lay_context_boxes.specs.ContextBoxes.{is_inner};
 ghost use Rattle.lay_pieces.specs.NearPieces.{AreNearPieces};
 ghost use Rattle.lay_pieces.specs.PieceParts.{with_pieces};
@@ -15,7 +15,7 @@ ghost use Rattle.lay_table.specs.TablePieces.{columns_width, extent_by_kind, inn
 ghost use Rattle.lay_table.specs.TableStandings.{standing_of};
 
 use crate::places::TablePlaces;
-use lay_boxgen::BoxKind;
+use lay_box_tree::BoxKind;
 use lay_doc::NodeId;
 use lay_frag::{Frag, FragKind};
 use lay_pieces::{PieceList, Standing};

@@ -14,7 +14,7 @@ ghost use Rattle.lay_table.specs.WrapperFlow.{places_in_wrapper};
 use crate::captions::Captions;
 use crate::groups::{GroupCounts, group_counts, rows_before, rows_within_box};
 use crate::places::{TablePlaces, place_at};
-use lay_boxgen::BoxKind;
+use lay_box_tree::BoxKind;
 use lay_flow::BoxPlace;
 use lay_pieces::{Corner, Standing, near_position};
 use lay_table_rows::{TableInput, Tracks, cell_height, cell_of, near_sum, shift_of};

@@ -14,7 +14,7 @@ use Rattle.lay_style.specs.declared.style.Style.{Style}
 use Rattle.lay_style.specs.declared.style_words.BorderStyle.{BorderStyle as Computed}
 use Rattle.lay_style.specs.declared.style_words.BorderStyle.TheVariants as computed
 use Rattle.lay_style.specs.LengthValues.{size_of}
-use Rattle.lay_boxgen.specs.declared.box_tree.BoxNode.{BoxNode}
+use Rattle.lay_box_tree.specs.declared.box_tree.BoxNode.{BoxNode}
 use Rattle.lay_grid.specs.Places.{right_edge}
 use Rattle.lay_borders.specs.declared.candidate.BorderStyle.{BorderStyle}
 use Rattle.lay_borders.specs.declared.candidate.BorderStyle.TheVariants as style

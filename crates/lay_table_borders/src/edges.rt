@@ -12,7 +12,7 @@ use crate::groups::{column_groups, row_groups};
 use crate::runs::{are_one, item, item_before, run_starts};
 use crate::slots::{SlotRow, slot_rows};
 use lay_borders::Origin;
-use lay_boxgen::BoxNode;
+use lay_box_tree::BoxNode;
 use lay_table_parts::{
     Parts, PlacedCell, TableRow, is_column_at, is_column_group_at, is_row_group_at,
 };

@@ -9,7 +9,7 @@ ghost use Rattle.lay_table_borders.specs.MeetingBorders.{style_on, width_on};
 ghost use Rattle.lay_table_borders.specs.Pass.EdgeBounds.{IsCounted};
 
 use lay_borders::{BorderStyle, Cand, Origin};
-use lay_boxgen::BoxNode;
+use lay_box_tree::BoxNode;
 use lay_style::{BorderStyle as ComputedBorderStyle, Style};
 use lay_table_parts::PlacedCell;
 use lay_units::{NoMemory, Unit, clamp_size};

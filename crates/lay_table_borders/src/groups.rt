@@ -4,7 +4,7 @@ ghost use Rattle.std.specs.Prelude.{◌≡◌, IfOk, map};
 ghost use Rattle.lay_table_parts.specs.TableBoxes.{kind_at, parent_at};
 ghost use Rattle.lay_table_borders.specs.MeetingBorders.{around_column, column_groups, row_groups};
 
-use lay_boxgen::BoxNode;
+use lay_box_tree::BoxNode;
 use lay_table_parts::{Parts, TableRow, is_column_group_at};
 use lay_units::NoMemory;
 use std::alloc::Global;

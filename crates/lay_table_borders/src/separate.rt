@@ -5,7 +5,7 @@ ghost use Rattle.lay_table_borders.specs.UsedSides.{AreUsedSides};
 ghost use Rattle.lay_table_borders.specs.TableBorders.{own_borders};
 
 use crate::elements::{Side, width_on};
-use lay_boxgen::BoxNode;
+use lay_box_tree::BoxNode;
 use lay_units::{Sides, Unit};
 
 /// No borders.

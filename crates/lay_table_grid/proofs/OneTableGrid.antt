@@ -1,7 +1,7 @@
 -- A list of boxes has one structure as a table.
 use Rattle.std.proofs.Common.{◌≡◌, ℕ, suc, Bool, true, false, List, [], ◌∷◌, map, slice_get, refl, sym, ap, ◌∙◌, subst, arith, All}
 use Rattle.lay_units.specs.declared.records.Sides.{Sides}
-use Rattle.lay_boxgen.specs.declared.box_tree.BoxNode.{BoxNode}
+use Rattle.lay_box_tree.specs.declared.box_tree.BoxNode.{BoxNode}
 use Rattle.lay_table_parts.specs.declared.rows.TableRow.{TableRow}
 use Rattle.lay_table_parts.specs.declared.placed.PlacedCell.{PlacedCell}
 use Rattle.lay_table_parts.specs.TableParts.{TableParts}

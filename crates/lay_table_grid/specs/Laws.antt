@@ -1,6 +1,6 @@
 -- A list of boxes has one structure as a table, and its boxes are some of the list's.
 use Rattle.std.specs.Prelude.{◌≡◌, ◌<◌, List, length}
-use Rattle.lay_boxgen.specs.declared.box_tree.BoxNode.{BoxNode}
+use Rattle.lay_box_tree.specs.declared.box_tree.BoxNode.{BoxNode}
 use Rattle.lay_table_grid.specs.GridBounds.{PlacesAreBelow}
 use Rattle.lay_table_grid.specs.TableGrid.{IsTableGrid, TableGridValue}
 

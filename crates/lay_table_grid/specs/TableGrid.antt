@@ -8,7 +8,7 @@ use Rattle.lay_style.specs.declared.style.TableStyle.{TableStyle}
 use Rattle.lay_style.specs.declared.style_words.BorderCollapse.{BorderCollapse}
 use Rattle.lay_style.specs.declared.style_words.BorderCollapse.TheVariants as borders
 use Rattle.lay_style.specs.LengthValues.{size_of}
-use Rattle.lay_boxgen.specs.declared.box_tree.BoxNode.{BoxNode}
+use Rattle.lay_box_tree.specs.declared.box_tree.BoxNode.{BoxNode}
 use Rattle.lay_sizes.specs.UsedLengths.{no_length}
 use Rattle.lay_grid.specs.declared.cells.Cell.{Cell}
 use Rattle.lay_table_parts.specs.declared.rows.TableRow.{TableRow}

@@ -10,7 +10,7 @@ ghost use Rattle.lay_table_grid.specs.TableGrid.{spacing_by, spacing_in};
 
 use crate::bordered::{collapsed_cells, separate_cells};
 use crate::grid::{Spacing, TableGrid};
-use lay_boxgen::BoxNode;
+use lay_box_tree::BoxNode;
 use lay_style::{BorderCollapse, TableStyle};
 use lay_table_borders::own_borders;
 use lay_table_parts::{Parts, table_parts};

@@ -1,7 +1,7 @@
 -- The boxes of columns.
 use Rattle.std.proofs.Common.{◌≡◌, ℕ, ◌≤◌, ◌||◌, Bool, true, false, List, [], length, drop, refl, sym, ap, ◌∙◌}
 use Rattle.std.proofs.Math.ListN.{drop_of_length-le}
-use Rattle.lay_boxgen.specs.declared.box_tree.BoxNode.{BoxNode}
+use Rattle.lay_box_tree.specs.declared.box_tree.BoxNode.{BoxNode}
 use Rattle.lay_table_parts.specs.Pass.ColumnMarks.{AreColumnMarks, ColumnMarksTo, any_in, mark_at}
 
 or_false : (b : Bool) → b || false ≡ b

@@ -1,6 +1,6 @@
 -- A list of boxes has one table, with one list of each of its parts.
 use Rattle.std.proofs.Common.{◌≡◌, ℕ, List, [], ◌∷◌, refl, sym, ap, ◌∙◌, subst}
-use Rattle.lay_boxgen.specs.declared.box_tree.BoxNode.{BoxNode}
+use Rattle.lay_box_tree.specs.declared.box_tree.BoxNode.{BoxNode}
 use Rattle.lay_grid.specs.declared.cells.Cell.{Cell}
 use Rattle.lay_grid.proofs.OneGrid.{cells_same}
 use Rattle.lay_table_parts.specs.declared.placed.PlacedCell.{PlacedCell}

@@ -1,6 +1,6 @@
 -- The cells of a table's rows where they stand in the grid (CSS 2.2, 17.5), each with the place of its box.
 use Rattle.std.specs.Prelude.{ℕ, ◌≡◌, max, List, [], length, map}
-use Rattle.lay_boxgen.specs.declared.box_tree.BoxNode.{BoxNode}
+use Rattle.lay_box_tree.specs.declared.box_tree.BoxNode.{BoxNode}
 use Rattle.lay_grid.specs.declared.cells.Cell.{Cell}
 use Rattle.lay_grid.specs.Areas.{areas_from}
 use Rattle.lay_grid.specs.Places.{StandAfter, areas_of}

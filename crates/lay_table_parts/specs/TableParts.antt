@@ -1,7 +1,7 @@
 -- The parts of a table (CSS 2.2, 17.2, 17.3 and 17.5), as its boxes have them: which is the table box, its rows as they are drawn, its
 -- cells where they stand in the grid, and its columns. The borders of a table depend on these and on the styles of its boxes.
 use Rattle.std.specs.Prelude.{ℕ, ◌≡◌, List}
-use Rattle.lay_boxgen.specs.declared.box_tree.BoxNode.{BoxNode}
+use Rattle.lay_box_tree.specs.declared.box_tree.BoxNode.{BoxNode}
 use Rattle.lay_table_parts.specs.declared.placed.PlacedCell.{PlacedCell}
 use Rattle.lay_table_parts.specs.declared.rows.TableRow.{TableRow}
 use Rattle.lay_table_parts.specs.PlacedCells.{ArePlaced, column_total}

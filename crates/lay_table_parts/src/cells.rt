@@ -12,7 +12,7 @@ use crate::group_numbers::{group_counts, group_number};
 use crate::kinds::{is_cell, span_of};
 use crate::places::PlaceList;
 use crate::rows::TableRow;
-use lay_boxgen::BoxNode;
+use lay_box_tree::BoxNode;
 use lay_grid::{RowSpec, Span, SpanList};
 use lay_units::NoMemory;
 use std::alloc::Global;

@@ -5,7 +5,7 @@ ghost use Rattle.lay_table_parts.specs.TableBoxes.{column_boxes_of, column_count
 ghost use Rattle.lay_table_parts.specs.Pass.ColumnMarks.{AreColumnMarks, AreColumnsTo, ColumnMarksTo, Marks};
 
 use crate::kinds::is_column;
-use lay_boxgen::{BoxKind, BoxNode};
+use lay_box_tree::{BoxKind, BoxNode};
 use lay_units::NoMemory;
 use std::alloc::Global;
 

@@ -8,7 +8,7 @@ ghost use Rattle.lay_table_parts.specs.TableBoxes.{header_place, is_place, stays
 
 use crate::kinds::is_row_group_at;
 use crate::rows::{OuterGroups, TableRow, outer_groups};
-use lay_boxgen::BoxNode;
+use lay_box_tree::BoxNode;
 use lay_units::NoMemory;
 use std::alloc::Global;
 

@@ -5,7 +5,7 @@ ghost use Rattle.lay_table_parts.specs.TableBoxes.{is_cell, is_column, is_column
 ghost use Rattle.lay_table_parts.specs.TableBoxes.{is_header_group, is_row, is_row_group, is_table};
 ghost use Rattle.lay_table_parts.specs.TableBoxes.{kind_at, span_of};
 
-use lay_boxgen::{BoxKind, BoxNode};
+use lay_box_tree::{BoxKind, BoxNode};
 use lay_grid::Span;
 
 pub fn is_table(kind: &BoxKind) -> bool

@@ -9,7 +9,7 @@ ghost use Rattle.lay_table_parts.specs.PlacedCells.{column_total};
 use crate::columns::column_boxes;
 use crate::placed::{PlacedCell, placed_cells};
 use crate::rows::{TableRow, table_place, table_rows};
-use lay_boxgen::BoxNode;
+use lay_box_tree::BoxNode;
 use lay_grid::Cell;
 use lay_units::NoMemory;
 use std::alloc::Global;

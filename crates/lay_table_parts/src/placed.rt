@@ -8,7 +8,7 @@ ghost use Rattle.lay_table_parts.specs.PlacedCells.{ArePlaced, places_of_cells, 
 
 use crate::cells::{cell_lists, cell_places, row_specs};
 use crate::rows::TableRow;
-use lay_boxgen::BoxNode;
+use lay_box_tree::BoxNode;
 use lay_grid::{Cell, standing_cells};
 use lay_units::NoMemory;
 use std::alloc::Global;

@@ -6,7 +6,7 @@ ghost use Rattle.lay_table_parts.specs.TableBoxes.{footer_place, header_place, i
 ghost use Rattle.lay_table_parts.specs.TableBoxes.{rank_of, row_at, rows_of, table_place};
 
 use crate::kinds::{is_footer_group, is_header_group, is_row, is_table};
-use lay_boxgen::BoxNode;
+use lay_box_tree::BoxNode;
 use lay_units::NoMemory;
 use std::alloc::Global;
 

@@ -2,7 +2,7 @@
 -- 17.4), with their used sizes; the structure of the table, and the used widths of its columns and cells; the boxes of the
 -- formatting contexts inside it, those of captions and cells; and the pieces of the anonymous cells.
 use Rattle.std.specs.Prelude.{◌≡◌, List, length}
-use Rattle.lay_boxgen.specs.declared.box_tree.BoxNode.{BoxNode}
+use Rattle.lay_box_tree.specs.declared.box_tree.BoxNode.{BoxNode}
 use Rattle.lay_frag.specs.declared.frag.Frag.{Frag}
 use Rattle.lay_sizes.specs.declared.own_boxes.OwnBox.{OwnBox}
 use Rattle.lay_sizes.specs.declared.sizing.BoxSizes.{BoxSizes}

@@ -5,7 +5,7 @@ ghost use Rattle.lay_pieces.specs.InnerPieces.{AreNearInnerPieces, inner_pieces_
 ghost use Rattle.lay_pieces.specs.NearPieces.{AreNearPieces};
 ghost use Rattle.lay_table_rows.specs.TableInputs.{TableInputFits};
 
-use lay_boxgen::BoxNode;
+use lay_box_tree::BoxNode;
 use lay_context_boxes::ContextBoxes;
 use lay_frag::Frag;
 use lay_pieces::{ContextSizes, InnerPieces, OwnBoxes};

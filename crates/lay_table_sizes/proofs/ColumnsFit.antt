@@ -13,9 +13,9 @@ use Rattle.lay_style.specs.declared.style_lengths.LengthPercentage.{LengthPercen
 use Rattle.lay_style.specs.declared.style_lengths.LengthPercentage.TheVariants as measure
 use Rattle.lay_style.specs.declared.style_lengths.LengthPercentageOrAuto.{LengthPercentageOrAuto}
 use Rattle.lay_style.specs.declared.style_lengths.LengthPercentageOrAuto.TheVariants as or_auto
-use Rattle.lay_boxgen.specs.declared.box_tree.BoxKind.{BoxKind}
-use Rattle.lay_boxgen.specs.declared.box_tree.BoxKind.TheVariants as kind
-use Rattle.lay_boxgen.specs.declared.box_tree.BoxNode.{BoxNode}
+use Rattle.lay_box_tree.specs.declared.box_tree.BoxKind.{BoxKind}
+use Rattle.lay_box_tree.specs.declared.box_tree.BoxKind.TheVariants as kind
+use Rattle.lay_box_tree.specs.declared.box_tree.BoxNode.{BoxNode}
 use Rattle.lay_sizes.specs.SizeBounds.{IsUsedSizeOrAuto}
 use Rattle.lay_sizes.proofs.SizesFit.{size_is_used, used_size_is_used}
 use Rattle.lay_grid.specs.ColumnsFit.{CellFits, ColumnsFit}
@@ -24,7 +24,8 @@ use Rattle.lay_grid.specs.Shares.{own_width}
 use Rattle.lay_grid.specs.declared.columns.FirstCell.{FirstCell}
 use Rattle.lay_grid.specs.Within.{AreUpTo, CellUpTo, IsUpTo}
 use Rattle.lay_grid.proofs.WidthsWithin.{widths_are_within_lem}
-use Rattle.lay_table_grid.specs.GridBounds.{AreUsedSides, CellFits as GridCellFits, TableGridFits}
+use Rattle.lay_table_borders.specs.UsedSides.{AreUsedSides}
+use Rattle.lay_table_grid.specs.GridBounds.{CellFits as GridCellFits, TableGridFits}
 use Rattle.lay_table_grid.specs.TableGrid.{TableGridValue}
 use Rattle.lay_table_grid.specs.declared.grid.TableCell.{TableCell}
 use Rattle.lay_table_sizes.specs.Bounds.{IsEdge, most_columns}

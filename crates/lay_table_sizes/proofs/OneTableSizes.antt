@@ -3,7 +3,7 @@ use Rattle.std.proofs.Common.{◌≡◌, ℤ, List, Option, None, Some, refl, sy
 use Rattle.std.proofs.lemmas.List.{ext_get_or}
 use Rattle.lay_units.specs.declared.length.Unit.{Unit as Length}
 use Rattle.lay_style.specs.declared.style.Style.{Style}
-use Rattle.lay_boxgen.specs.declared.box_tree.BoxNode.{BoxNode}
+use Rattle.lay_box_tree.specs.declared.box_tree.BoxNode.{BoxNode}
 use Rattle.lay_widths.specs.BlockWidths.{IsHeld}
 use Rattle.lay_widths.specs.declared.widths.BlockOut.{BlockOut}
 use Rattle.lay_widths.specs.declared.widths.UsedWidths.{UsedWidths}

@@ -2,7 +2,7 @@
 use Rattle.std.proofs.Common.{◌≡◌, List, Option, None, refl, sym, ap, ◌∙◌, arith}
 use Rattle.std.proofs.lemmas.List.{ext_get_or}
 use Rattle.lay_units.specs.declared.length.Unit.{Unit as Length}
-use Rattle.lay_boxgen.specs.declared.box_tree.BoxNode.{BoxNode}
+use Rattle.lay_box_tree.specs.declared.box_tree.BoxNode.{BoxNode}
 use Rattle.lay_measure.specs.MeasureInValue.{no_widths}
 use Rattle.lay_measure.specs.declared.preferred_widths.PreferredWidths.{PreferredWidths}
 use Rattle.lay_grid.specs.Shares.{own_at}

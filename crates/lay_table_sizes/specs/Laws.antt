@@ -1,7 +1,7 @@
 -- Each of the definitions has one value, and used sizes are within their bounds.
 use Rattle.std.specs.Prelude.{◌≡◌, List}
 use Rattle.lay_style.specs.declared.style.Style.{Style}
-use Rattle.lay_boxgen.specs.declared.box_tree.BoxNode.{BoxNode}
+use Rattle.lay_box_tree.specs.declared.box_tree.BoxNode.{BoxNode}
 use Rattle.lay_measure.specs.declared.preferred_widths.PreferredWidths.{PreferredWidths}
 use Rattle.lay_sizes.specs.declared.sizing.BoxSizes.{BoxSizes}
 use Rattle.lay_sizes.specs.declared.sizing.ContainingBlock.{ContainingBlock}

@@ -2,14 +2,14 @@
 
 ghost use Rattle.std.specs.Prelude.{◌≡◌, ◌≢◌, ◌<◌, ◌+ℤ◌, ℕ, IfOk, OnOk, drop, length, slice_index_or};
 ghost use Rattle.std.specs.Int.{int_max};
-ghost use Rattle.lay_table_grid.specs.GridBounds.{AreUsedSides};
+ghost use Rattle.lay_table_borders.specs.UsedSides.{AreUsedSides};
 ghost use Rattle.lay_table_sizes.specs.Bounds.{ArePlaced};
 ghost use Rattle.lay_table_sizes.specs.PreferredWidths.{cell_part, cell_widths, content_widths, wider, widths_at};
 
 use crate::cells::cell_of;
 use crate::column_widths::cell_edges;
 use crate::table_box::style_of_box;
-use lay_boxgen::BoxNode;
+use lay_box_tree::BoxNode;
 use lay_measure::{NO_WIDTHS, PreferredWidths, bounded_width, greater, sum};
 use lay_style::Style;
 use lay_table_grid::{TableCell, TableGrid};

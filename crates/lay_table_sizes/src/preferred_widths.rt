@@ -12,7 +12,7 @@ use crate::content_widths::{content_widths, widths_at};
 use crate::grid::grid_of;
 use crate::sizing::with_spacings;
 use crate::table_box::{preferred_edges, style_of_box};
-use lay_boxgen::BoxNode;
+use lay_box_tree::BoxNode;
 use lay_grid::own_widths;
 use lay_heights::with_min_max;
 use lay_measure::{NO_WIDTHS, PreferredWidths, given_or, greater, limit_of, size_or_zero, sum};

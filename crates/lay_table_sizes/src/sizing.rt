@@ -21,7 +21,7 @@ use crate::table_box::{style_of_box, table_edges};
 use crate::table_rule::TableRule;
 use crate::wanted_width::wanted_width;
 use crate::wrapper::wrapper_sizes;
-use lay_boxgen::BoxNode;
+use lay_box_tree::BoxNode;
 use lay_grid::columns_fixed;
 use lay_measure::sum;
 use lay_sizes::{

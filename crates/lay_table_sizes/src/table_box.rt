@@ -7,7 +7,7 @@ ghost use Rattle.lay_sizes.specs.SizeBounds.{IsInset};
 ghost use Rattle.lay_table_sizes.specs.TableBoxes.{inset, preferred_edges, preferred_padding, style_of_box, table_block, table_edges, table_padding};
 ghost use Rattle.lay_table_sizes.specs.Bounds.{IsEdge};
 
-use lay_boxgen::BoxNode;
+use lay_box_tree::BoxNode;
 use lay_measure::size_or_zero;
 use lay_sizes::{used_limit, used_margin, used_size, used_width};
 use lay_style::{LengthPercentage, Style};

@@ -1,7 +1,7 @@
 -- For each box whether columns are in it, which is asked of column groups.
 use Rattle.std.specs.Prelude.{ℕ, ◌≡◌, ◌≢◌, ◌==◌, ◌<◌, ◌||◌, ◌&&◌, ◌++◌, Bool, true, false, List, length, drop, slice_index_or}
 use Rattle.std.specs.List.{list_any}
-use Rattle.lay_boxgen.specs.declared.box_tree.BoxNode.{BoxNode}
+use Rattle.lay_box_tree.specs.declared.box_tree.BoxNode.{BoxNode}
 use Rattle.lay_table_parts.specs.TableBoxes.{column_boxes_of, columns_from, has_columns, is_column}
 
 abbrev pub mark_at : List Bool → ℕ → Bool

@@ -1,6 +1,6 @@
 -- For each box the row groups before it that are drawn where they stand.
 use Rattle.std.specs.Prelude.{ℕ, ◌≡◌, ◌<◌, ◌≤◌, List, length, slice_index}
-use Rattle.lay_boxgen.specs.declared.box_tree.BoxNode.{BoxNode}
+use Rattle.lay_box_tree.specs.declared.box_tree.BoxNode.{BoxNode}
 use Rattle.lay_table_parts.specs.TableBoxes.{groups_before}
 
 -- the counts of the boxes before the place k, and the one that comes next

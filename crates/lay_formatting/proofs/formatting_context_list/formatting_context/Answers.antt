@@ -1,5 +1,5 @@
 use Rattle.std.proofs.Common.{rules, ◌≡◌, ◌∙◌, Bool, ℕ, List, nat_lt, ap, refl, sym}
-use Rattle.lay_boxgen.specs.declared.box_tree.BoxNode.{BoxNode}
+use Rattle.lay_box_tree.specs.declared.box_tree.BoxNode.{BoxNode}
 use Rattle.lay_contexts.specs.Contexts.{boxes_in}
 use Rattle.lay_formatting.specs.FormattingBoxes.{boxes_of_root}
 use Rattle.lay_formatting.specs.FormattingContextList.{homes_in, inner_numbers, number_at, rank_at, spot_of}

@@ -1,5 +1,5 @@
 use Rattle.std.proofs.Common.{rules, ◌≡◌, slice_index, true, false, arith}
-use Rattle.lay_boxgen.specs.Containers.{box_parent}
+use Rattle.lay_box_tree.specs.Containers.{box_parent}
 use Rattle.lay_formatting.specs.Homes.{further, is_root}
 use Rattle.lay_formatting.proofs.NearestRoots.{own_or_parent, parent_before}
 use Rattle.lay_formatting.proofs.homes.home.Goals as goal

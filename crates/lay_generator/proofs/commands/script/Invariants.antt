@@ -1,6 +1,6 @@
 use Rattle.std.proofs.Common.{◌≡◌, ◌≤◌, ◌-◌, ◌++◌, length}
 use Rattle.std.specs.List.{filter, range_with_len}
-use Rattle.lay_json.specs.Scripts.{reads_of}
+use Rattle.lay_run.specs.Scripts.{reads_of}
 use Rattle.lay_generator.specs.Draws.{state_after}
 use Rattle.lay_generator.specs.Commands.{is_of, paddings, sections_of}
 use Rattle.lay_generator.proofs.commands.script.Given as goal

@@ -1,5 +1,5 @@
 use Rattle.std.proofs.Common.{◌≡◌, ◌≤◌, ◌+◌, ◌-◌, ◌*◌, ◌++◌, length}
-use Rattle.lay_json.specs.Scripts.{command_count, read_count}
+use Rattle.lay_run.specs.Scripts.{command_count, read_count}
 use Rattle.lay_generator.specs.Commands.{scripts}
 use Rattle.lay_generator.proofs.commands.scripts.Given as goal
 

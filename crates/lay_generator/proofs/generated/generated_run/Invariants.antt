@@ -1,6 +1,6 @@
 use Rattle.std.proofs.Common.{◌≡◌, ◌-◌, ◌++◌, ◌∷◌}
 use Rattle.lay_doc.specs.Document.{root_document}
-use Rattle.lay_json.specs.Runs.{IsListed}
+use Rattle.lay_run.specs.Runs.{IsListed}
 use Rattle.lay_generator.specs.Nodes.{root, sections, sections_end}
 use Rattle.lay_generator.specs.Generated.{ids, with_nodes}
 use Rattle.lay_generator.proofs.generated.generated_run.Given as goal

@@ -1,7 +1,7 @@
 use Rattle.std.proofs.Common.{◌≡◌, ◌∙◌, ◌++◌, ◌∷◌, [], sym, ap, subst, false, is_some}
 use Rattle.std.proofs.lemmas.Result.{IfOk-weaker}
 use Rattle.lay_doc.specs.Edits.{insert_fault, last_index}
-use Rattle.lay_json.specs.Runs.{IsListed}
+use Rattle.lay_run.specs.Runs.{IsListed}
 use Rattle.lay_generator.specs.Nodes.{id}
 use Rattle.lay_generator.proofs.Steps.{listed_put}
 use Rattle.lay_generator.proofs.generated.put.Goals as goal

@@ -1,7 +1,7 @@
 use Rattle.std.proofs.Common.{◌∙◌, ap, sym, subst}
 use Rattle.std.proofs.lemmas.List.Elements.{All-get_or}
 use Rattle.lay_units.specs.Units.{IsUsed}
-use Rattle.lay_lines.specs.declared.frame.Frame.{Frame}
+use Rattle.lay_line_content.specs.declared.frame.Frame.{Frame}
 use Rattle.lay_inlines.specs.Bounds.{RowWithin}
 use Rattle.lay_inlines.proofs.RowSteps.{pieces_more, next_indent}
 use Rattle.lay_inlines.proofs.Spreads.{pens_of, rest_spread}

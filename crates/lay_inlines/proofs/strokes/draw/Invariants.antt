@@ -1,5 +1,5 @@
 use Rattle.std.proofs.Common.{◌≡◌, ◌++◌, drop}
-use Rattle.lay_lines.specs.Pens.{over_all}
+use Rattle.lay_line_content.specs.Pens.{over_all}
 use Rattle.lay_inlines.specs.Bounds.{PensWithin}
 use Rattle.lay_inlines.specs.Raises.{raises_after_all}
 use Rattle.lay_inlines.specs.Strokes.{strokes, parts_of}

@@ -1,6 +1,6 @@
 use Rattle.std.proofs.Common.{rules, ◌≡◌, ◌+◌, ◌++◌, get_or, drop, sym, ap, ◌∙◌, arith, slice_get}
-use Rattle.lay_boxgen.specs.Containers.{box_parent}
-use Rattle.lay_boxgen.specs.declared.box_tree.BoxNode.{BoxNode}
+use Rattle.lay_box_tree.specs.Containers.{box_parent}
+use Rattle.lay_box_tree.specs.declared.box_tree.BoxNode.{BoxNode}
 use Rattle.lay_measure.specs.ChildTotals.{totals_of}
 use Rattle.lay_measure.specs.PreferredWidths.{as_child, children}
 use Rattle.lay_measure.proofs.ChildrenBefore.{known_further, one_value, parent_at}

@@ -1,6 +1,6 @@
 use Rattle.std.proofs.Common.{◌≡◌, true, false, rules, arith}
 use Rattle.std.specs.Prelude.{Some, None}
-use Rattle.lay_boxgen.specs.Containers.{box_parent}
+use Rattle.lay_box_tree.specs.Containers.{box_parent}
 use Rattle.lay_positioned.specs.Holders.{further, is_holder_at, none, parent}
 use Rattle.lay_positioned.proofs.ParentSteps.{parent_before}
 use Rattle.lay_positioned.proofs.holders.nearest_holder.Goals as goal

@@ -1,8 +1,8 @@
 use Rattle.std.proofs.Common.{◌≡◌, ◌∙◌, ◌++◌, List, length, ap, sym, subst}
 use Rattle.std.proofs.lemmas.List.Elements.{All-same}
 use Rattle.lay_units.specs.declared.length.Unit.{Unit}
-use Rattle.lay_lines.specs.declared.pen.Pen.{Pen}
-use Rattle.lay_lines.specs.Pens.{over_all}
+use Rattle.lay_line_content.specs.declared.pen.Pen.{Pen}
+use Rattle.lay_line_content.specs.Pens.{over_all}
 use Rattle.lay_inlines.specs.Bounds.{PenWithin, StrokeWithin}
 use Rattle.lay_inlines.specs.LinePieces.{blank_of}
 use Rattle.lay_inlines.specs.Raises.{raises_of}
