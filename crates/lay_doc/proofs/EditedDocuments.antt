@@ -1,28 +1,27 @@
 -- An edit without a fault leaves a document.
-use Rattle.std.proofs.Common.{◌≡◌, ℕ, zero, suc, ◌+◌, ◌-◌, ◌<◌, ◌≤◌, Bool, true, false, not, ◌||◌, ◌==◌, List, [], ◌∷◌, length, get_or, refl, sym, ap, ◌∙◌, arith, take, drop, subst, Option, None, Some, if◌then◌else◌, nat_lt, nat_le, is_some}
+use Rattle.std.proofs.Common.{◌≡◌, ℕ, zero, suc, ◌+◌, ◌<◌, ◌≤◌, Bool, true, false, not, ◌||◌, ◌==◌, List, [], ◌∷◌, length, get_or, refl, sym, arith, subst, Option, None, Some, if◌then◌else◌, nat_lt, nat_le, is_some}
 use Rattle.std.specs.List.{remove_range}
-use Rattle.std.proofs.lemmas.Bool.{leb-false, ltb-false, eqb-false}
+use Rattle.std.proofs.lemmas.Bool.{leb-false, ltb-false}
 use Rattle.std.proofs.lemmas.List.Sums.{sum_by-cons}
 use Rattle.lay_units.specs.Limits.{longest_text, most_depth, most_nodes, most_text}
 use Rattle.lay_style.specs.Places.{place_of}
 use Rattle.lay_style.proofs.Places.{place_within}
 use Rattle.lay_doc.specs.declared.node.Node.{Node}
-use Rattle.lay_doc.specs.declared.edit.Edit.{Edit}
 use Rattle.lay_doc.specs.declared.edit.Edit.TheVariants.{SetStyle, ClearStyle, SetText, Insert, Remove, Bad}
 use Rattle.lay_doc.specs.declared.edit.EditFault.{EditFault}
-use Rattle.lay_doc.specs.declared.edit.EditFault.TheVariants.{NoNode, NotElement, IdTaken, BadIndex, TooManyNodes, TooDeep, TextTooLong, RootFixed}
+use Rattle.lay_doc.specs.declared.edit.EditFault.TheVariants.{NotElement, IdTaken, BadIndex, TooManyNodes, TooDeep, TextTooLong}
 use Rattle.lay_doc.specs.NewNodes.{NewNodeValue, IsNodeForm}
-use Rattle.lay_doc.specs.Tree.{IsTree, IsSlot, child_count, children_before, slot_of, end_of}
-use Rattle.lay_doc.specs.Document.{Document, IsDocument, parents_of, ids_of, depths_of, text_lengths_of, text_size, is_element_at, is_text_at, is_too_long, becomes}
+use Rattle.lay_doc.specs.Tree.{IsSlot, child_count, slot_of, end_of}
+use Rattle.lay_doc.specs.Document.{Document, IsDocument, parents_of, ids_of, depths_of, text_size, is_element_at, is_text_at, is_too_long, becomes}
 use Rattle.lay_doc.specs.Changes.{style_fault, text_fault, after_change, with_style, without_style, with_text, changed_at}
 use Rattle.lay_doc.specs.Edits.{fault_below, insert_fault, after_insert, inserted_below}
-use Rattle.lay_doc.specs.Removal.{remove_fault, after_remove, removed_between}
+use Rattle.lay_doc.specs.Removal.{remove_fault, after_remove}
 use Rattle.lay_doc.specs.Laws.{EditsLeaveDocuments}
 use Rattle.lay_doc.proofs.Changed.{KeepsTree, styled_document, texted_document, fits_at}
 use Rattle.lay_doc.proofs.FoundSlots.{slot_found}
-use Rattle.lay_doc.proofs.Inserted.{HasRoom, put_document}
+use Rattle.lay_doc.proofs.Inserted.{put_document}
 use Rattle.lay_doc.proofs.NodeColumns.{length-parents, length-ids}
-use Rattle.lay_doc.proofs.Removed.{CutsSubtree, removed_document}
+use Rattle.lay_doc.proofs.Removed.{removed_document}
 use Rattle.lay_doc.proofs.Subtrees.{end_is_slot}
 
 there : (nodes : List Node) (id p : ℕ) → place_of id (ids_of nodes) ≡ Some p → p < length nodes

@@ -1,5 +1,5 @@
 -- In a tree each index up to the number of a node's children has its slot.
-use Rattle.std.proofs.Common.{◌≡◌, ℕ, zero, suc, ◌+◌, ◌-◌, ◌<◌, ◌≤◌, List, length, get_or, refl, sym, ap, ◌∙◌, arith, inl, inr, subst}
+use Rattle.std.proofs.Common.{◌≡◌, ℕ, zero, suc, ◌+◌, ◌-◌, ◌<◌, ◌≤◌, List, length, get_or, ap, arith, inl, inr, subst}
 use Rattle.std.proofs.lemmas.Bool.{cases_lt, cases_eq}
 use Rattle.lay_doc.specs.Tree.{IsTree, IsSlot, child_count, children_before, slot_of}
 use Rattle.lay_doc.proofs.Slots.{children_yes, children_no, children_none, end_slot, slot_is}

@@ -1,5 +1,5 @@
 -- Pens in rooms with different left edges.
-use Rattle.std.proofs.Common.{◌≡◌, ◌∙◌, inl, inr, ℕ, zero, suc, ◌+◌, ◌/◌, ◌<◌, ◌≤◌, ℤ, pos, negsuc, ◌+ℤ◌, ◌*ℤ◌, ◌≤ℤ◌, ◌<ℤ◌, Bool, true, false, if◌then◌else◌, ◌||◌, List, [], ◌∷◌, length, slice_get, get_or, drop, Option, Some, None, refl, sym, ap, subst, arith}
+use Rattle.std.proofs.Common.{◌≡◌, ◌∙◌, ℕ, zero, suc, ◌+◌, ◌/◌, ◌<◌, ◌≤◌, ℤ, pos, negsuc, ◌+ℤ◌, ◌*ℤ◌, ◌≤ℤ◌, Bool, true, false, if◌then◌else◌, ◌||◌, List, [], ◌∷◌, length, slice_get, get_or, drop, Option, Some, None, refl, sym, ap, subst, arith}
 use Rattle.std.specs.Int.{int_div_euclid}
 use Rattle.std.proofs.Math.Nat.{div-mul-le_self}
 use Rattle.std.proofs.lemmas.Nat.{le-div}
@@ -12,7 +12,7 @@ use Rattle.lay_line_content.specs.declared.content.Part.TheVariants.{Space, Pres
 use Rattle.lay_line_content.specs.declared.content.Stretch.{Stretch}
 use Rattle.lay_line_content.specs.declared.frame.Frame.{Frame}
 use Rattle.lay_line_content.specs.declared.pen.Pen.{Pen}
-use Rattle.lay_line_content.specs.Pens.{strut_height, next_stop, went, moved, spaced, over, over_all, past, past_at, start_of, pen_to, seen_to, PenFits, PensFit, ContentFits}
+use Rattle.lay_line_content.specs.Pens.{next_stop, went, moved, spaced, over, over_all, past, past_at, start_of, pen_to, seen_to, PenFits, PensFit, ContentFits}
 
 -- a greater number has no lesser quotient
 quotient_order : (a b s : ℕ) → a ≤ b → a / suc s ≤ b / suc s

@@ -1,7 +1,6 @@
-use Rattle.std.proofs.Common.{◌≡◌, ap, ◌∙◌, sym, subst}
-use Rattle.lay_doc.specs.declared.node.Node.{Node}
+use Rattle.std.proofs.Common.{◌≡◌, ap, ◌∙◌}
 use Rattle.lay_doc.specs.Document.{Document, parents_of}
-use Rattle.lay_doc.specs.Tree.{child_count, end_of}
+use Rattle.lay_doc.specs.Tree.{child_count}
 use Rattle.lay_doc.proofs.Slots.{slot_is}
 use Rattle.lay_doc.proofs.doc.Doc.end_of.Goals as goal
 
