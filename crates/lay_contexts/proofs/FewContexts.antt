@@ -1,16 +1,16 @@
 -- A document has no more contexts than nodes.
-use Rattle.std.proofs.Common.{◌≡◌, ◌<◌, ◌≤◌, ℕ, zero, suc, ◌+◌, ◌&&◌, Bool, true, false, List, length, slice_get, IsTrue, Option, None, Some, refl, arith}
+use Rattle.std.proofs.Common.{◌≡◌, ◌<◌, ◌≤◌, ℕ, zero, suc, List, length, slice_get, IsTrue, Option, None, Some, refl, arith}
 use Rattle.std.proofs.lemmas.Grind.{elements}
 use Rattle.lay_style.specs.declared.style.Style.{Style}
 use Rattle.lay_doc.specs.declared.node.Node.{Node}
-use Rattle.lay_boxgen.specs.Contexts.{IsContextAt, box_at, box_of_node, is_marked}
+use Rattle.lay_boxgen.specs.Contexts.{IsContextAt, box_of_node, is_marked}
 use Rattle.lay_style.specs.ComputedStyle.{style_at}
 use Rattle.lay_context_tree.specs.DocumentContexts.{AreDocumentContexts, spot_at}
 use Rattle.lay_context_tree.specs.declared.context_spot.ContextSpot.{ContextSpot}
 
 -- a context is the node at a place
 there : (nodes : List Node) (styles : List Style) (k : ℕ) (n : Option Node) → slice_get nodes k ≡ n → IsTrue (is_marked (box_of_node k n (style_at styles k))) → k < length nodes
-there nodes styles k None is marked = absurd marked
+there nodes styles k None is marked = absurd cc
 there nodes styles k (Some n) is marked = grind (arith, elements, is)
 
 context_within : (nodes : List Node) (styles : List Style) (k : ℕ) → IsContextAt nodes styles k → k < length nodes

@@ -1,5 +1,5 @@
 -- An absolutely positioned box has one set of sizes and stands in one place, as its equations have one solution.
-use Rattle.std.proofs.Common.{◌≡◌, Bool, true, false, refl, subst, sym, ap, ◌∙◌}
+use Rattle.std.proofs.Common.{◌≡◌, Bool, true, false, refl, subst, sym, ap, ◌∙◌, Result, Ok, Err, IfErr}
 use Rattle.std.specs.Prelude.{Option, Some, None}
 use Rattle.lay_units.specs.declared.length.Unit.{Unit as Length}
 use Rattle.lay_units.specs.declared.records.AbsOut.{AbsOut}
@@ -72,6 +72,7 @@ one_offset_lem s own left height x y p q =
     p.corner_is ∙ ap (λ (o : AbsOut). corner_inside s left (border_start o)) out ∙ sym q.corner_is
 
 -- where one corner of it is far away, each is
-pub far_offset : (s : AbsoluteSetting) (own : BoxNode) (left height : Length) (here : Corner) → IsOffset s own left height here → (IsCornerNear here → ⊥)
-    → (corner : Corner) → IsOffset s own left height corner → IsCornerNear corner → ⊥
-far_offset s own left height here is far corner other near = far (subst IsCornerNear (one_offset_lem s own left height corner here other is) near)
+pub far_offset : {A E : Type 0} (s : AbsoluteSetting) (own : BoxNode) (left height : Length) (here : Corner) (r : Result A E) → IsOffset s own left height here
+    → IfErr r (λ e. IsCornerNear here → ⊥) → IfErr r (λ e. (corner : Corner) → IsOffset s own left height corner → IsCornerNear corner → ⊥)
+far_offset s own left height here (Ok a) is far = tt
+far_offset s own left height here (Err e) is far = λ corner other near. far (subst IsCornerNear (one_offset_lem s own left height corner here other is) near)
