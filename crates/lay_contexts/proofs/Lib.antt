@@ -1,3 +1,4 @@
 pub mod ContextNumbers
 pub mod ListedSteps
 pub mod SpotOrder
+pub mod NotedAround

@@ -1,10 +1,22 @@
--- A document has one list of contexts with their boxes.
-use Rattle.std.specs.Prelude.{◌≡◌, List, length}
+-- What holds of the contexts of a document.
+use Rattle.std.specs.Prelude.{ℕ, ◌≡◌, ◌<◌, true, List, length, slice_index}
 use Rattle.lay_style.specs.declared.style.Style.{Style}
 use Rattle.lay_doc.specs.Document.{Document, IsDocument}
-use Rattle.lay_contexts.specs.Contexts.{Context}
+use Rattle.lay_context_boxes.specs.ContextBoxes.{is_inner}
+use Rattle.lay_contexts.specs.Contexts.{Context, boxes_in, context_at}
 use Rattle.lay_contexts.specs.ContextList.{AreContextsOf}
 
+-- A document has one list of contexts with their boxes.
 abbrev pub OneContextList : Type 0
 OneContextList = (d : Document) (styles : List Style) (x y : List Context) → IsDocument d → length styles ≡ length d.nodes
     → AreContextsOf d.nodes styles x → AreContextsOf d.nodes styles y → x ≡ y
+
+-- in the one around it, the box of the context with the number j is marked as that of an inner context, and has this number
+pub record IsNotedAround (contexts : List Context) (j : ℕ) : Type 0 where
+  pub number : slice_index (context_at contexts (context_at contexts j).outer).inner (context_at contexts j).outer_box ≡ j
+  pub inner : is_inner (boxes_in contexts (context_at contexts j).outer) (context_at contexts j).outer_box ≡ true
+
+-- Each context but the root's is noted in the one around it.
+abbrev pub ContextsAreNotedAround : Type 0
+ContextsAreNotedAround = (d : Document) (styles : List Style) (contexts : List Context) (j : ℕ) → IsDocument d → length styles ≡ length d.nodes
+    → AreContextsOf d.nodes styles contexts → 0 < j → j < length contexts → IsNotedAround contexts j

@@ -13,4 +13,4 @@ mod standing;
 
 pub use context_list::contexts_of;
 pub use contexts::{Context, Contexts};
-pub use laws::one_context_list;
+pub use laws::{contexts_are_noted_around, one_context_list};

@@ -8,3 +8,4 @@ pub mod ListLaws
 pub mod GrowingColumns
 pub mod GrowingList
 pub mod PartingFacts
+pub mod LeadingBack

@@ -42,7 +42,7 @@ rank_low homes (suc k) =
     let q = ap (λ (m : ℕ). length (at_home_before homes h m)) (add-one k) in
     omega (arith, le, q)
 
-rank_next : (homes : List ℕ) (r k : ℕ) → is_at_home homes r k ≡ true → rank homes k ≡ suc (length (at_home_before homes r k))
+pub rank_next : (homes : List ℕ) (r k : ℕ) → is_at_home homes r k ≡ true → rank homes k ≡ suc (length (at_home_before homes r k))
 rank_next homes r k home = (let e = rank_is homes r k home in omega (arith, e))
 
 pub place_root : (boxes : List BoxNode) (homes : List ℕ) (p : ℕ) → is_root boxes p ≡ true → place_inside boxes homes p ≡ 0
