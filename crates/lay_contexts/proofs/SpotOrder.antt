@@ -26,7 +26,7 @@ use Rattle.lay_contexts.specs.ContextOrder.{AreInOrder}
 
 module _ (d : Document) (styles : List Style) (doc : IsDocument d) (same : length styles ≡ length d.nodes) where
   -- the box of a node that has one
-  has_box : (o : Option Facts) → IsTrue (is_marked o) → (f : Facts) × (o ≡ Some f) × (f.inner ≡ true)
+  pub has_box : (o : Option Facts) → IsTrue (is_marked o) → (f : Facts) × (o ≡ Some f) × (f.inner ≡ true)
   has_box None marked = absurd cc
   has_box (Some f) marked = (f, refl, marked-true f.inner marked)
 

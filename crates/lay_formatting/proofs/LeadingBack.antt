@@ -45,7 +45,7 @@ number_inner contexts i k e = rw e refl
 
 module _ (contexts : List Context) (are : AreContexts contexts) (noted : (j : ℕ) → 0 < j → j < length contexts → IsNotedAround contexts j) where
   -- the box of a formatting context but the first is no own box
-  place_some : (i r : ℕ) → i < length contexts → 0 < number_of contexts i r → 0 < (spot_of contexts i r).place
+  pub place_some : (i r : ℕ) → i < length contexts → 0 < number_of contexts i r → 0 < (spot_of contexts i r).place
   place_some zero zero lt some = absurd (omega (arith, some))
   place_some (suc i) zero lt some =
       let before = are.outer (suc i) (omega arith) lt in

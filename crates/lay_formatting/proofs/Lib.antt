@@ -9,3 +9,4 @@ pub mod GrowingColumns
 pub mod GrowingList
 pub mod PartingFacts
 pub mod LeadingBack
+pub mod StandingAnchors

@@ -1,8 +1,11 @@
 -- What holds of the formatting contexts of a document.
-use Rattle.std.specs.Prelude.{ℕ, ◌≡◌, ◌<◌, true, not, List, length, map, slice_index}
+use Rattle.std.specs.Prelude.{ℕ, ◌≡◌, ◌↔◌, ◌<◌, true, not, List, length, map, slice_index}
 use Rattle.std.specs.List.{filter}
 use Rattle.lay_style.specs.declared.style.Style.{Style}
 use Rattle.lay_doc.specs.Document.{Document, IsDocument}
+use Rattle.lay_boxgen.specs.Roles.{role_at}
+use Rattle.lay_boxgen.specs.declared.box_role.Role.TheVariants.{Anchor}
+use Rattle.lay_boxgen.specs.declared.facts.Flow.TheVariants.{Absolute}
 use Rattle.lay_contexts.specs.Contexts.{Context, AreContexts, boxes_in}
 use Rattle.lay_contexts.specs.ContextList.{AreContextsOf}
 use Rattle.lay_formatting.specs.FormattingBoxes.{as_member, as_own, box_at, rank}
@@ -25,6 +28,12 @@ abbrev pub InnerNumbersLeadBack : Type 0
 InnerNumbersLeadBack = (d : Document) (styles : List Style) (contexts : List Context) (all : List FormattingContext) (j : ℕ) → IsDocument d → length styles ≡ length d.nodes
     → AreContextsOf d.nodes styles contexts → AreFormattingContextsOf contexts all → 0 < j → j < length all
     → slice_index (formatting_context_at all (formatting_context_at all j).outer).inner (formatting_context_at all j).outer_box ≡ j
+
+-- Its box there is an anchor just where its own box is absolutely positioned (9.6).
+abbrev pub AnchorsStandForAbsoluteBoxes : Type 0
+AnchorsStandForAbsoluteBoxes = (d : Document) (styles : List Style) (contexts : List Context) (all : List FormattingContext) (j : ℕ) → IsDocument d → length styles ≡ length d.nodes
+    → AreContextsOf d.nodes styles contexts → AreFormattingContextsOf contexts all → 0 < j → j < length all
+    → ((box_at (boxes_of all j) 0).flow ≡ Absolute) ↔ (role_at (boxes_of all (formatting_context_at all j).outer) (formatting_context_at all j).outer_box ≡ Anchor)
 
 -- the box stands at this place in the formatting context with this number
 pub record StandsAt (all : List FormattingContext) (number place : ℕ) (contexts : List Context) (homes : List (List ℕ)) (i k : ℕ) : Type 0 where
