@@ -1,2 +1,3 @@
 pub mod NodeTreeLaws
 pub mod WhiteSpaceLaws
+pub mod FlowLaws

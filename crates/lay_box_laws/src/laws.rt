@@ -1,5 +1,6 @@
 //! Laws of the definitions. The functions do nothing.
 
+ghost use Rattle.lay_box_laws.specs.FlowLaws.{AnonymousBoxesAreInFlow, InnerBoxesKeepFlow, OwnBoxesKeepFlow};
 ghost use Rattle.lay_box_laws.specs.NodeTreeLaws.{ChildrenStandInOrder};
 ghost use Rattle.lay_box_laws.specs.WhiteSpaceLaws.{WhiteSpaceGoesByItself};
 
@@ -11,4 +12,19 @@ pub fn children_stand_in_order()
 /// Whether a child of a box is irrelevant white space is said by the child and the siblings next to it.
 pub fn white_space_goes_by_itself()
     ensures { WhiteSpaceGoesByItself }
+{}
+
+/// The own box of a context has the flow of its element's box.
+pub fn own_boxes_keep_flow()
+    ensures { OwnBoxesKeepFlow }
+{}
+
+/// What stands for it in the context around has the same flow, and is an anchor where it is absolutely positioned.
+pub fn inner_boxes_keep_flow()
+    ensures { InnerBoxesKeepFlow }
+{}
+
+/// Anonymous boxes are in flow.
+pub fn anonymous_boxes_are_in_flow()
+    ensures { AnonymousBoxesAreInFlow }
 {}

@@ -140,20 +140,20 @@ inner_here xs at j lt = grind (arith, elements, lt)
 inner_length : (xs : List ℕ) (at j : ℕ) → length (slice_set xs at j) ≡ length xs
 inner_length xs at j = grind (arith, elements)
 
-both : (a b x y : ℕ) → a ≡ x → b ≡ y → (a == x && b == y) ≡ true
+pub both : (a b x y : ℕ) → a ≡ x → b ≡ y → (a == x && b == y) ≡ true
 both a b x y e f = grind (arith, e, f)
 
-not_first : (a b x y : ℕ) → a ≢ x → (a == x && b == y) ≡ false
+pub not_first : (a b x y : ℕ) → a ≢ x → (a == x && b == y) ≡ false
 not_first a b x y n = grind (arith, n)
 
-not_second : (a b x y : ℕ) → b ≢ y → (a == x && b == y) ≡ false
+pub not_second : (a b x y : ℕ) → b ≢ y → (a == x && b == y) ≡ false
 not_second a b x y n = grind (arith, n)
 
 -- the number of one more context, where it isn't that of this box
-number_passed : (spots : List ContextSpot) (j i k : ℕ) → ((spot_at spots j).around == i && (spot_at spots j).at == k) ≡ false → number_before spots (suc j) i k ≡ number_before spots j i k
+pub number_passed : (spots : List ContextSpot) (j i k : ℕ) → ((spot_at spots j).around == i && (spot_at spots j).at == k) ≡ false → number_before spots (suc j) i k ≡ number_before spots j i k
 number_passed spots j i k other = rw other refl
 
-number_found : (spots : List ContextSpot) (j i k : ℕ) → ((spot_at spots j).around == i && (spot_at spots j).at == k) ≡ true → number_before spots (suc j) i k ≡ j
+pub number_found : (spots : List ContextSpot) (j i k : ℕ) → ((spot_at spots j).around == i && (spot_at spots j).at == k) ≡ true → number_before spots (suc j) i k ≡ j
 number_found spots j i k same = rw same refl
 
 module _ (spots : List ContextSpot) (boxes : List (List BoxNode)) (j : ℕ) where

@@ -26,7 +26,7 @@ use Rattle.lay_contexts.specs.ContextOrder.{AreInOrder}
 
 module _ (d : Document) (styles : List Style) (doc : IsDocument d) (same : length styles ≡ length d.nodes) where
   -- the box of a node that has one
-  has_box : (o : Option Facts) → IsTrue (is_marked o) → (f : Facts) × (o ≡ Some f) × (f.inner ≡ true)
+  pub has_box : (o : Option Facts) → IsTrue (is_marked o) → (f : Facts) × (o ≡ Some f) × (f.inner ≡ true)
   has_box None marked = absurd cc
   has_box (Some f) marked = (f, refl, marked-true f.inner marked)
 
@@ -53,7 +53,7 @@ module _ (d : Document) (styles : List Style) (doc : IsDocument d) (same : lengt
       let leaves = inner_boxes_are_leaves_lem d.nodes styles k in
       record { some = some_boxes k context; tree = boxes_are_a_tree_lem d.nodes styles (part d.nodes styles k); own = leaves.own; parents = leaves.parents }
 
-  boxes_there : (spots : List ContextSpot) (i : ℕ) → i < length spots → boxes_at (boxes_of_spots d.nodes styles spots) i ≡ boxes_of_place d.nodes styles (spot_at spots i).place
+  pub boxes_there : (spots : List ContextSpot) (i : ℕ) → i < length spots → boxes_at (boxes_of_spots d.nodes styles spots) i ≡ boxes_of_place d.nodes styles (spot_at spots i).place
   boxes_there spots i lt = get_or-map (λ (s : ContextSpot). boxes_of_place d.nodes styles s.place) spots i root_spot [] lt
 
   pub are_in_order : (spots : List ContextSpot) → AreDocumentContexts d.nodes styles spots → AreInOrder spots (boxes_of_spots d.nodes styles spots)

@@ -13,4 +13,7 @@ mod standing;
 
 pub use context_list::contexts_of;
 pub use contexts::{Context, Contexts};
-pub use laws::one_context_list;
+pub use laws::{
+    anonymous_boxes_are_in_flow, contexts_are_noted_around, contexts_keep_flow_around,
+    one_context_list,
+};

@@ -8,3 +8,5 @@ pub mod ListLaws
 pub mod GrowingColumns
 pub mod GrowingList
 pub mod PartingFacts
+pub mod LeadingBack
+pub mod StandingAnchors

@@ -34,6 +34,10 @@ pub rank_is : (homes : List ℕ) (r k : ℕ) → is_at_home homes r k ≡ true �
 rank_is homes r zero home = absurd cc
 rank_is homes r (suc k) home = ap (λ (h : ℕ). 1 + length (at_home_before homes h (suc k))) (home_is homes r (suc k) home).1
 
+pub rank_some : (homes : List ℕ) (k : ℕ) → 0 < k → 0 < rank homes k
+rank_some homes zero some = absurd (omega (arith, some))
+rank_some homes (suc k) some = omega arith
+
 pub rank_low : (homes : List ℕ) (k : ℕ) → rank homes k ≤ k
 rank_low homes zero = omega arith
 rank_low homes (suc k) =
@@ -42,7 +46,7 @@ rank_low homes (suc k) =
     let q = ap (λ (m : ℕ). length (at_home_before homes h m)) (add-one k) in
     omega (arith, le, q)
 
-rank_next : (homes : List ℕ) (r k : ℕ) → is_at_home homes r k ≡ true → rank homes k ≡ suc (length (at_home_before homes r k))
+pub rank_next : (homes : List ℕ) (r k : ℕ) → is_at_home homes r k ≡ true → rank homes k ≡ suc (length (at_home_before homes r k))
 rank_next homes r k home = (let e = rank_is homes r k home in omega (arith, e))
 
 pub place_root : (boxes : List BoxNode) (homes : List ℕ) (p : ℕ) → is_root boxes p ≡ true → place_inside boxes homes p ≡ 0

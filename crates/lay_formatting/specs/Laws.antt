@@ -1,9 +1,15 @@
 -- What holds of the formatting contexts of a document.
-use Rattle.std.specs.Prelude.{ℕ, ◌≡◌, ◌<◌, true, not, List, length, map, slice_index}
+use Rattle.std.specs.Prelude.{ℕ, ◌≡◌, ◌↔◌, ◌<◌, true, not, List, length, map, slice_index}
 use Rattle.std.specs.List.{filter}
+use Rattle.lay_style.specs.declared.style.Style.{Style}
+use Rattle.lay_doc.specs.Document.{Document, IsDocument}
+use Rattle.lay_box_tree.specs.Roles.{role_at}
+use Rattle.lay_box_tree.specs.declared.box_role.Role.TheVariants.{Anchor}
+use Rattle.lay_box_tree.specs.declared.box_tree.Flow.TheVariants.{Absolute}
 use Rattle.lay_contexts.specs.Contexts.{Context, AreContexts, boxes_in}
+use Rattle.lay_contexts.specs.ContextList.{AreContextsOf}
 use Rattle.lay_formatting.specs.FormattingBoxes.{as_member, as_own, box_at, rank}
-use Rattle.lay_formatting.specs.FormattingContexts.{FormattingContext, AreFormattingContexts, boxes_in as boxes_of}
+use Rattle.lay_formatting.specs.FormattingContexts.{FormattingContext, AreFormattingContexts, boxes_in as boxes_of, formatting_context_at}
 use Rattle.lay_formatting.specs.FormattingContextList.{AreFormattingContextsOf, homes_in, number_of}
 use Rattle.lay_formatting.specs.Homes.{is_root}
 
@@ -16,6 +22,18 @@ OneFormattingContextList = (contexts : List Context) (x y : List FormattingConte
 abbrev pub FormattingContextsStandInOrder : Type 0
 FormattingContextsStandInOrder = (contexts : List Context) (all : List FormattingContext) → AreContexts contexts → AreFormattingContextsOf contexts all
     → AreFormattingContexts all
+
+-- Out of one to its box in the one around it, and inside again there, leads back to it.
+abbrev pub InnerNumbersLeadBack : Type 0
+InnerNumbersLeadBack = (d : Document) (styles : List Style) (contexts : List Context) (all : List FormattingContext) (j : ℕ) → IsDocument d → length styles ≡ length d.nodes
+    → AreContextsOf d.nodes styles contexts → AreFormattingContextsOf contexts all → 0 < j → j < length all
+    → slice_index (formatting_context_at all (formatting_context_at all j).outer).inner (formatting_context_at all j).outer_box ≡ j
+
+-- Its box there is an anchor just where its own box is absolutely positioned (9.6).
+abbrev pub AnchorsStandForAbsoluteBoxes : Type 0
+AnchorsStandForAbsoluteBoxes = (d : Document) (styles : List Style) (contexts : List Context) (all : List FormattingContext) (j : ℕ) → IsDocument d → length styles ≡ length d.nodes
+    → AreContextsOf d.nodes styles contexts → AreFormattingContextsOf contexts all → 0 < j → j < length all
+    → ((box_at (boxes_of all j) 0).flow ≡ Absolute) ↔ (role_at (boxes_of all (formatting_context_at all j).outer) (formatting_context_at all j).outer_box ≡ Anchor)
 
 -- the box stands at this place in the formatting context with this number
 pub record StandsAt (all : List FormattingContext) (number place : ℕ) (contexts : List Context) (homes : List (List ℕ)) (i k : ℕ) : Type 0 where

@@ -1,7 +1,7 @@
 //! The laws of the definitions. The functions do nothing.
 
 ghost use Rattle.lay_formatting.specs.Homes.{OneHome};
-ghost use Rattle.lay_formatting.specs.Laws.{BoxesStandAtHome, ElementsAreContexts, FormattingContextsStandInOrder, OneFormattingContextList, RootsStandFirst, WholeContextsKeepBoxes};
+ghost use Rattle.lay_formatting.specs.Laws.{AnchorsStandForAbsoluteBoxes, BoxesStandAtHome, ElementsAreContexts, FormattingContextsStandInOrder, InnerNumbersLeadBack, OneFormattingContextList, RootsStandFirst, WholeContextsKeepBoxes};
 
 /// A box has one home.
 pub fn one_home()
@@ -16,6 +16,16 @@ pub fn one_formatting_context_list()
 /// They stand in order, each behind the one around it.
 pub fn formatting_contexts_stand_in_order()
     ensures { FormattingContextsStandInOrder }
+{}
+
+/// Out of one to its box in the one around it, and inside again there, leads back to it.
+pub fn inner_numbers_lead_back()
+    ensures { InnerNumbersLeadBack }
+{}
+
+/// Its box there is an anchor just where its own box is absolutely positioned.
+pub fn anchors_stand_for_absolute_boxes()
+    ensures { AnchorsStandForAbsoluteBoxes }
 {}
 
 /// Each box of a context but its own stands in the list of its home.

@@ -20,6 +20,7 @@ mod spot;
 pub use formatting_context::{FormattingContext, FormattingContexts};
 pub use formatting_context_list::formatting_contexts;
 pub use laws::{
-    boxes_stand_at_home, elements_are_contexts, formatting_contexts_stand_in_order,
-    one_formatting_context_list, one_home, roots_stand_first, whole_contexts_keep_boxes,
+    anchors_stand_for_absolute_boxes, boxes_stand_at_home, elements_are_contexts,
+    formatting_contexts_stand_in_order, inner_numbers_lead_back, one_formatting_context_list,
+    one_home, roots_stand_first, whole_contexts_keep_boxes,
 };
