@@ -12,6 +12,7 @@
 mod block;
 mod block_height;
 mod border_boxes;
+mod boxes;
 mod clearance;
 mod columns;
 mod flow_box;

@@ -10,6 +10,6 @@ returns-else-asks_to_clear c =
     record {
       places = c.requires.known.places;
       are = c.requires.known.are;
-      ready = ready_unasked c.args.boxes.now c.requires.input.is_tree.tree c.requires.input.is_tree (state_of old) (placing_of old.placing c.requires.known.places) c.args.k c.requires.positive c.requires.within c.requires.known.knows
+      ready = ready_unasked c.args.boxes.now.list.now c.args.boxes.now.are.is_tree.tree c.args.boxes.now.are.is_tree (state_of old) (placing_of old.placing c.requires.known.places) c.args.k c.requires.positive c.requires.within c.requires.known.knows
           (c.if-asks_to_clear.ensures.passes_none refl);
     }

@@ -14,7 +14,7 @@ place_up_to-requires-clause-known c =
     let f = known.fits in
     let early = known.early in let few = f.first_most in let within = f.within in
     let old = c.args.flow.now in
-    kept_places c.args.boxes.now old.marks.items c.deref.result.now old.placing c.requires.known.places c.requires.input.is_tree.tree c.requires.known.are (omega (arith, early, few, within)) known.placed
+    kept_places c.args.boxes.now.list.now old.marks.items c.deref.result.now old.placing c.requires.known.places c.args.boxes.now.are.is_tree.tree c.requires.known.are (omega (arith, early, few, within)) known.placed
     (λ j lt. rw c.deref.ensures.value refl)
 
 pub returns-clause-known : goal.returns-clause-known
@@ -24,15 +24,15 @@ returns-clause-known c =
     let early = known.early in let few = f.first_most in let within = f.within in
     let old = c.args.flow.now in
     let done = c.in_ok-place_up_to.ensures {u = tt} in
-    let there = placed_on c.args.boxes.now old.marks.items old.marks.items old.placing c.place_up_to.new.placing c.requires.known.places old.first c.requires.input.is_tree.tree c.requires.known.are
+    let there = placed_on c.args.boxes.now.list.now old.marks.items old.marks.items old.placing c.place_up_to.new.placing c.requires.known.places old.first c.args.boxes.now.are.is_tree.tree c.requires.known.are
     (omega (arith, early, few, within)) known.placed (λ j lt. refl) (rw c.deref.ensures.value at done.placed) in
-    let go : ArePlacedOn c.args.boxes.now old.marks.items c.place_up_to.new.placing c.requires.known.places old.first → IsKnown c.args.boxes.now (record c.args.flow.now { placing = c.place_up_to.new.placing }) (parent_at c.args.boxes.now c.args._k) c.args._k = λ goes.
+    let go : ArePlacedOn c.args.boxes.now.list.now old.marks.items c.place_up_to.new.placing c.requires.known.places old.first → IsKnown c.args.boxes.now.list.now (record c.args.flow.now { placing = c.place_up_to.new.placing }) (parent_at c.args.boxes.now.list.now c.args._k) c.args._k = λ goes.
     let placed = goes.to in
     record {
       places = goes.places;
       are = goes.are;
-      knows = knows_placed c.args.boxes.now c.requires.input.is_tree.tree c.requires.input.is_tree (state_of old) (placing_of old.placing c.requires.known.places) c.args._k c.requires.positive c.requires.within known
-          (placing_of c.place_up_to.new.placing goes.places) placed (subst (λ (n : ℕ). AreExtentsKept c.args.boxes.now n old.placing.extents.items c.place_up_to.new.placing.extents.items) (sym (places_count old.placing c.requires.known.places c.requires.known.are)) done.kept) goes.same;
+      knows = knows_placed c.args.boxes.now.list.now c.args.boxes.now.are.is_tree.tree c.args.boxes.now.are.is_tree (state_of old) (placing_of old.placing c.requires.known.places) c.args._k c.requires.positive c.requires.within known
+          (placing_of c.place_up_to.new.placing goes.places) placed (subst (λ (n : ℕ). AreExtentsKept c.args.boxes.now.list.now n old.placing.extents.items c.place_up_to.new.placing.extents.items) (sym (places_count old.placing c.requires.known.places c.requires.known.are)) done.kept) goes.same;
     } in
     go there
 
@@ -43,7 +43,7 @@ returns-clause-settled c =
     let early = known.early in let few = f.first_most in let within = f.within in
     let old = c.args.flow.now in
     let done = c.in_ok-place_up_to.ensures {u = tt} in
-    let there = placed_on c.args.boxes.now old.marks.items old.marks.items old.placing c.place_up_to.new.placing c.requires.known.places old.first c.requires.input.is_tree.tree c.requires.known.are
+    let there = placed_on c.args.boxes.now.list.now old.marks.items old.marks.items old.placing c.place_up_to.new.placing c.requires.known.places old.first c.args.boxes.now.are.is_tree.tree c.requires.known.are
     (omega (arith, early, few, within)) known.placed (λ j lt. refl) (rw c.deref.ensures.value at done.placed) in
-    (λ (goes : ArePlacedOn c.args.boxes.now old.marks.items c.place_up_to.new.placing c.requires.known.places old.first).
+    (λ (goes : ArePlacedOn c.args.boxes.now.list.now old.marks.items c.place_up_to.new.placing c.requires.known.places old.first).
     sym (places_count c.place_up_to.new.placing goes.places goes.are) ∙ goes.to.places_length) there

@@ -13,15 +13,15 @@ use Rattle.lay_flow.proofs.flow_columns.begin.Goals as goal
 
 pub place_up_to-requires-clause-count : goal.place_up_to-requires-clause-count
 place_up_to-requires-clause-count c =
-    let n = length c.args.boxes.now in
+    let n = length c.args.boxes.now.list.now in
     let marks : c.in_ok-marks.marks.items ≡ replicate n no_length = c.in_ok-marks.ensures.items_if_clones_equal (λ y e. e) in
     rw c.deref.ensures.value (ap (λ (xs : List Length). length xs) marks ∙ grind (arith, elements))
 
 pub place_up_to-requires-clause-near : goal.place_up_to-requires-clause-near
 place_up_to-requires-clause-near c j =
-    let n = length c.args.boxes.now in
+    let n = length c.args.boxes.now.list.now in
     let marks : c.in_ok-marks.marks.items ≡ replicate n no_length = c.in_ok-marks.ensures.items_if_clones_equal (λ y e. e) in
-    rw c.deref.ensures.value (mark_near_none (weight c.args.boxes.now j) _ (ap (λ (xs : List Length). length_at xs j) marks ∙ lengths_at n j))
+    rw c.deref.ensures.value (mark_near_none (weight c.args.boxes.now.list.now j) _ (ap (λ (xs : List Length). length_at xs j) marks ∙ lengths_at n j))
 
 pub place_up_to-requires-clause-order : goal.place_up_to-requires-clause-order
 place_up_to-requires-clause-order c =
@@ -32,11 +32,11 @@ place_up_to-requires-clause-order c =
 pub place_up_to-requires-clause-known : goal.place_up_to-requires-clause-known
 place_up_to-requires-clause-known c =
     let made = c.in_ok-placing.ensures {u = tt} in
-    none_placed c.args.boxes.now _ c.in_ok-placing.placing (record { extents = made.extents; floats = made.floats; places = made.places; rows = made.rows; met = made.met })
+    none_placed c.args.boxes.now.list.now _ c.in_ok-placing.placing (record { extents = made.extents; floats = made.floats; places = made.places; rows = made.rows; met = made.met })
 
 pub returns : goal.returns
 returns c =
-    let n = length c.args.boxes.now in
+    let n = length c.args.boxes.now.list.now in
     let marks : c.in_ok-marks.marks.items ≡ replicate n no_length = c.in_ok-marks.ensures.items_if_clones_equal (λ y e. e) in
     let heights : c.in_ok-vec.field-0.items ≡ replicate n no_length = c.in_ok-vec.ensures.items_if_clones_equal (λ y e. e) in
     let through : c.in_ok-vec-2.field-0.items ≡ replicate n false = c.in_ok-vec-2.ensures.items_if_clones_equal (λ y e. e) in
@@ -46,14 +46,14 @@ returns c =
     let done = c.in_ok-place_up_to.ensures {u = tt} in
     let placing = c.place_up_to.new.placing in
     let empty : IsEmpty c.in_ok-placing.placing n = record { extents = made.extents; floats = made.floats; places = made.places; rows = made.rows; met = made.met } in
-    let goes = rw c.deref.ensures.value at (none_placed_to c.args.boxes.now _ c.in_ok-placing.placing empty placing 1 done.placed) in
+    let goes = rw c.deref.ensures.value at (none_placed_to c.args.boxes.now.list.now _ c.in_ok-placing.placing empty placing 1 done.placed) in
     record {
       places = goes.places;
       are = goes.are;
       knows =
-          knows_first c.args.boxes.now c.requires.input
+          knows_first c.args.boxes.now.list.now c.args.boxes.now.are
           (state_of (record { marks = c.in_ok-marks.marks; heights = c.in_ok-vec.field-0; through = c.in_ok-vec-2.field-0; clears = c.in_ok-vec-3.field-0; clear_edges = c.in_ok-vec-4.field-0; start = c.block_at.result.edge_top; strut = c.no_margin.result; first = 1; hangs = false; placing = placing }))
-          (placing_of placing goes.places) goes.to (first_extents c.args.boxes.now c.in_ok-marks.marks.items c.in_ok-placing.placing empty placing done.kept)
+          (placing_of placing goes.places) goes.to (first_extents c.args.boxes.now.list.now c.in_ok-marks.marks.items c.in_ok-placing.placing empty placing done.kept)
           (ap (λ (xs : List Length). length xs) marks ∙ grind (arith, elements))
           (ap (λ (xs : List Length). length xs) heights ∙ grind (arith, elements))
           (ap (λ (xs : List Bool). length xs) through ∙ grind (arith, elements))

@@ -21,18 +21,18 @@ pub height_to_border-height-requires-clause-mark : goal.height_to_border-height-
 height_to_border-height-requires-clause-mark c =
     let f = c.requires.known.knows.fits in let a = f.parent in let b = f.within in
     let e = rw c.deref.ensures.value at c.length_at-mark.ensures in
-    subst IsNear (sym e) (mark_is_near (weight c.args.boxes.now c.args.p) _ (light_at c.args.boxes.now c.requires.input c.args.p (omega (arith, a, b))) (f.mark_near c.args.p))
+    subst IsNear (sym e) (mark_is_near (weight c.args.boxes.now.list.now c.args.p) _ (light_at c.args.boxes.now.list.now c.args.boxes.now.are c.args.p (omega (arith, a, b))) (f.mark_near c.args.p))
 
 pub height_to_border-height-requires-clause-border : goal.height_to_border-height-requires-clause-border
 height_to_border-height-requires-clause-border c =
     let f = c.requires.known.knows.fits in let a = f.first_most in let b = f.within in
-    start_is_near (weight c.args.boxes.now c.args.flow.now.first) c.args.flow.now.start.0 (light_at c.args.boxes.now c.requires.input c.args.flow.now.first (omega (arith, a, b))) f.start_near
+    start_is_near (weight c.args.boxes.now.list.now c.args.flow.now.first) c.args.flow.now.start.0 (light_at c.args.boxes.now.list.now c.args.boxes.now.are c.args.flow.now.first (omega (arith, a, b))) f.start_near
 
 pub sum_of-flow-requires-clause-a : goal.sum_of-flow-requires-clause-a
 sum_of-flow-requires-clause-a c =
     let f = c.requires.known.knows.fits in let a = f.parent in let b = f.within in
     let e = rw c.deref.ensures.value at c.length_at-mark.ensures in
-    let n = subst IsNear (sym e) (mark_is_near (weight c.args.boxes.now c.args.p) _ (light_at c.args.boxes.now c.requires.input c.args.p (omega (arith, a, b))) (f.mark_near c.args.p)) in
+    let n = subst IsNear (sym e) (mark_is_near (weight c.args.boxes.now.list.now c.args.p) _ (light_at c.args.boxes.now.list.now c.args.boxes.now.are c.args.p (omega (arith, a, b))) (f.mark_near c.args.p)) in
     let u = n.0 in let v = n.1 in (omega (arith, ints, u), omega (arith, ints, v))
 
 pub returns : goal.returns
@@ -45,19 +45,19 @@ returns c =
     let e = rw c.deref-2.ensures.value at c.length_at.ensures in
     let marked = rw c.deref.ensures.value at c.length_at-mark.ensures in
     let height = rw (block, e) at c.height_to_border-height.ensures.value in
-    let flow = subst (λ (b : Block). is_solid b.inside ≡ false) (sym block) (placed_none (block_at c.args.boxes.now p).inside (joins_flow (block_at c.args.boxes.now p) c.requires.joined)).1 in
+    let flow = subst (λ (b : Block). is_solid b.inside ≡ false) (sym block) (placed_none (block_at c.args.boxes.now.list.now p).inside (joins_flow (block_at c.args.boxes.now.list.now p) c.requires.joined)).1 in
     let starts = ap (λ (v : Length). v.0) c.sum_of-flow.ensures in
     let wrote : Wrote length_at old.heights.items c.write_at.new.column.items p c.height_to_border-height.result.0 =
     subst (λ (xs : List Length). Wrote length_at old.heights.items xs p c.height_to_border-height.result.0) (sym c.write_at.ensures) (wrote_length old.heights.items p c.height_to_border-height.result (omega (arith, a, b, l))) in
     record {
       places = c.requires.known.places;
       are = c.requires.known.are;
-      knows = knows_joined c.args.boxes.now c.requires.input.is_tree.tree (state_of old) (placing_of old.placing c.requires.known.places) p c.args._m c.requires.input c.requires.positive c.requires.ends c.requires.known.knows
+      knows = knows_joined c.args.boxes.now.list.now c.args.boxes.now.are.is_tree.tree (state_of old) (placing_of old.placing c.requires.known.places) p c.args._m c.args.boxes.now.are c.requires.positive c.requires.ends c.requires.known.knows
           _ c.length_at-mark.result.0 c.height_to_border-height.result.0 c.sum_of-flow.result.0 c.with_margin-flow.result c.requires.joined c.requires.unbarred c.requires.settled marked (c.height_to_border-height.ensures.size flow) height starts wrote
           c.with_margin-flow.ensures.fits holds;
     }
 
 pub sum_of-flow-requires-clause-b : goal.sum_of-flow-requires-clause-b
 sum_of-flow-requires-clause-b c =
-    let flow = subst (λ (b : Block). is_solid b.inside ≡ false) (sym c.block_at-block.ensures.value) (placed_none (block_at c.args.boxes.now c.args.p).inside (joins_flow (block_at c.args.boxes.now c.args.p) c.requires.joined)).1 in
+    let flow = subst (λ (b : Block). is_solid b.inside ≡ false) (sym c.block_at-block.ensures.value) (placed_none (block_at c.args.boxes.now.list.now c.args.p).inside (joins_flow (block_at c.args.boxes.now.list.now c.args.p) c.requires.joined)).1 in
     box_height_position c.height_to_border-height.result.0 (c.height_to_border-height.ensures.size flow)

@@ -16,7 +16,7 @@ use Rattle.lay_flow.proofs.margin_steps.close_through.Goals as goal
 pub end_of-mark-requires-clause-start : goal.end_of-mark-requires-clause-start
 end_of-mark-requires-clause-start c =
     let f = c.requires.known.knows.fits in let a = f.first_most in let b = f.within in
-    start_is_near (weight c.args.boxes.now c.args.flow.now.first) c.args.flow.now.start.0 (light_at c.args.boxes.now c.requires.input c.args.flow.now.first (omega (arith, a, b))) f.start_near
+    start_is_near (weight c.args.boxes.now.list.now c.args.flow.now.first) c.args.flow.now.start.0 (light_at c.args.boxes.now.list.now c.args.boxes.now.are c.args.flow.now.first (omega (arith, a, b))) f.start_near
 
 pub returns : goal.returns
 returns c =
@@ -36,6 +36,6 @@ returns c =
     record {
       places = c.requires.known.places;
       are = c.requires.known.are;
-      knows = knows_through c.args.boxes.now c.requires.input.is_tree.tree (state_of old) (placing_of old.placing c.requires.known.places) p c.args._m c.requires.input c.requires.positive c.requires.ends c.requires.known.knows
+      knows = knows_through c.args.boxes.now.list.now c.args.boxes.now.are.is_tree.tree (state_of old) (placing_of old.placing c.requires.known.places) p c.args._m c.args.boxes.now.are c.requires.positive c.requires.ends c.requires.known.knows
           _ _ _ c.end_of-mark.result.0 c.with_margin-flow.result c.requires.through c.requires.waiting c.requires.inside ends c.end_of-mark.ensures.near mark height flag c.with_margin-flow.ensures.fits holds;
     }

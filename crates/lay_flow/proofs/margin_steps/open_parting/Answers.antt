@@ -15,13 +15,13 @@ use Rattle.lay_flow.proofs.margin_steps.open_parting.Goals as goal
 pub end_of-mark-requires-clause-start : goal.end_of-mark-requires-clause-start
 end_of-mark-requires-clause-start c =
     let f = c.requires.ready.ready.fits in let a = f.first_most in let b = f.within in
-    start_is_near (weight c.args.boxes.now c.args.flow.now.first) c.args.flow.now.start.0 (light_at c.args.boxes.now c.requires.input c.args.flow.now.first (omega (arith, a, b))) f.start_near
+    start_is_near (weight c.args.boxes.now.list.now c.args.flow.now.first) c.args.flow.now.start.0 (light_at c.args.boxes.now.list.now c.args.boxes.now.are c.args.flow.now.first (omega (arith, a, b))) f.start_near
 
 pub sum_of-flow-requires-clause-a : goal.sum_of-flow-requires-clause-a
 sum_of-flow-requires-clause-a c =
     let f = c.requires.ready.ready.fits in let a = f.first_most in let b = c.requires.within in
-    let near = end_near (weight c.args.boxes.now c.args.flow.now.first) (weight c.args.boxes.now c.args.k) c.args.flow.now.start.0 c.end_of-mark.result.0 f.start_near c.end_of-mark.ensures.near (weight_up c.args.boxes.now c.args.flow.now.first c.args.k a) in
-    let n = mark_is_near (weight c.args.boxes.now c.args.k) c.end_of-mark.result.0 (light_at c.args.boxes.now c.requires.input c.args.k (omega (arith, b))) near in
+    let near = end_near (weight c.args.boxes.now.list.now c.args.flow.now.first) (weight c.args.boxes.now.list.now c.args.k) c.args.flow.now.start.0 c.end_of-mark.result.0 f.start_near c.end_of-mark.ensures.near (weight_up c.args.boxes.now.list.now c.args.flow.now.first c.args.k a) in
+    let n = mark_is_near (weight c.args.boxes.now.list.now c.args.k) c.end_of-mark.result.0 (light_at c.args.boxes.now.list.now c.args.boxes.now.are c.args.k (omega (arith, b))) near in
     let u = n.0 in let v = n.1 in (omega (arith, ints, u), omega (arith, ints, v))
 
 pub returns : goal.returns
@@ -34,8 +34,8 @@ returns c =
     record {
       places = c.requires.ready.places;
       are = c.requires.ready.are;
-      knows = knows_parting c.args.boxes.now c.requires.input.is_tree.tree (state_of old) (placing_of old.placing c.requires.ready.places) c.args.k _ c.end_of-mark.result.0 c.sum_of-flow.result.0 c.with_margin-strut.result c.no_margin-flow.result
-          c.requires.input c.requires.positive c.requires.within c.requires.parting c.requires.ready.ready holds ends c.end_of-mark.ensures.near
+      knows = knows_parting c.args.boxes.now.list.now c.args.boxes.now.are.is_tree.tree (state_of old) (placing_of old.placing c.requires.ready.places) c.args.k _ c.end_of-mark.result.0 c.sum_of-flow.result.0 c.with_margin-strut.result c.no_margin-flow.result
+          c.args.boxes.now.are c.requires.positive c.requires.within c.requires.parting c.requires.ready.ready holds ends c.end_of-mark.ensures.near
           settles starts c.no_margin-flow.ensures.fits c.no_margin-flow.ensures.holds;
     }
 
