@@ -13,10 +13,10 @@ ghost use Rattle.lay_flow.specs.Pass.Known.{IsKnown, IsReadyAt};
 ghost use Rattle.lay_flow.specs.Weights.{weight};
 
 use crate::boxes::Boxes;
-use crate::columns::{write_at, write_flag};
+use crate::columns::write_edge;
 use crate::hypothetical_edge::hypothetical_edge;
 use crate::margin_run::{end_of, no_margin};
-use crate::pass::Pass;
+use crate::pass::{Pass, RunStart};
 use crate::placement::place_up_to;
 use crate::settling::settle;
 use lay_floats::{Clear, Side};
@@ -82,10 +82,10 @@ fn edge_without(boxes: &Boxes<'_>, flow: &Pass, k: usize) -> Unit
     ensures edge { IsEdgeWithout boxes.now.list.now (state_of flow.now) (length flow.now.placing.places.items) flow.now.placing.extents.items k result.0 }
     ensures near { IsEdgeNear (weight boxes.now.list.now k) result.0 }
 {
-    if flow.hangs {
-        return flow.start;
+    match flow.start {
+        RunStart::At(start) => hypothetical_edge(boxes, start, flow.strut, flow.first, k),
+        RunStart::HangsFrom(edge) => edge,
     }
-    hypothetical_edge(boxes, flow.start, flow.strut, flow.first, k)
 }
 
 // A float that the box at k goes past has its mark in the run.
@@ -162,16 +162,14 @@ fn begin_cleared(
     requires decides { HasWaitingFloat boxes.now.list.now flow.old.first k ⊎ IsAboveFloats flow.old.placing.floats (shape_at boxes.now.list.now k).clear hypothetical.0 }
     ensures { OnOk result (IsReadyAt boxes.now.list.now flow.new k) }
 {
-    let end = end_of(flow.start, flow.hangs, flow.strut);
+    let end = end_of(flow.start, flow.strut);
     settle(boxes, &flow.through, &mut flow.marks, flow.first, k, end);
     place_up_to(boxes, &flow.marks, &mut flow.placing, k)?;
     let bottom = flow.placing.floats.clear_edge(boxes.clear_at(k));
     let edge = lower_of(bottom, hypothetical);
-    write_flag(&mut flow.clears, k, true);
-    write_at(&mut flow.clear_edges, k, edge);
-    flow.start = edge;
+    write_edge(&mut flow.clear_edges, k, edge);
+    flow.start = RunStart::HangsFrom(edge);
     flow.strut = no_margin();
     flow.first = k;
-    flow.hangs = true;
     Ok(())
 }

@@ -3,6 +3,7 @@
 ghost use Rattle.std.specs.Prelude.{◌≡◌, ◌<◌, ◌+ℤ◌, length, slice_set};
 ghost use Rattle.lay_units.specs.Units.{IsPosition};
 ghost use Rattle.lay_flow.specs.Lengths.{length_at};
+ghost use Rattle.lay_flow.specs.Pass.Bounds.{clears_of};
 ghost use Rattle.lay_flow.specs.Pass.Columns.{corner_at};
 ghost use Rattle.lay_flow.specs.Children.{flag_at};
 
@@ -21,6 +22,20 @@ pub(crate) fn write_at(column: &mut Vec<Unit>, k: usize, v: Unit)
     ensures { column.new.items ≡ slice_set column.old.items k v }
 {
     column[k] = v;
+}
+
+pub(crate) fn is_cleared(clear_edges: &[Option<Unit>], k: usize) -> bool
+    requires { k < length clear_edges.now }
+    ensures { result ≡ flag_at (clears_of clear_edges.now) k }
+{
+    clear_edges[k].is_some()
+}
+
+pub(crate) fn write_edge(clear_edges: &mut Vec<Option<Unit>>, k: usize, edge: Unit)
+    requires { k < length clear_edges.old.items }
+    ensures { clear_edges.new.items ≡ slice_set clear_edges.old.items k (Some edge) }
+{
+    clear_edges[k] = Some(edge);
 }
 
 /// The sum of two positions.

@@ -12,7 +12,7 @@ use crate::columns::{length_at, write_at};
 use crate::line_corners::line_corners;
 use crate::margin_run::{end_of, no_margin};
 use crate::margin_steps::{close, open};
-use crate::pass::Pass;
+use crate::pass::{Pass, RunStart};
 use crate::placement::{Placing, place_up_to};
 use crate::settling::settle;
 use lay_floats::{Clear, Floats, Place};
@@ -69,12 +69,10 @@ fn begin(alloc: Global, boxes: &Boxes<'_>) -> Result<Pass, NoMemory>
         marks,
         heights: vec![in alloc; Unit(0); count]?,
         through: vec![in alloc; false; count]?,
-        clears: vec![in alloc; false; count]?,
-        clear_edges: vec![in alloc; Unit(0); count]?,
-        start: boxes.block_at(0).edge_top,
+        clear_edges: vec![in alloc; None; count]?,
+        start: RunStart::At(boxes.block_at(0).edge_top),
         strut: no_margin(),
         first: 1,
-        hangs: false,
         placing,
     })
 }
@@ -153,7 +151,7 @@ fn close_root(boxes: &Boxes<'_>, flow: &mut Pass) -> Result<(), NoMemory>
     ensures sized { OnOk result (AreBoxHeights boxes.now.list.now flow.new.heights.items) }
 {
     let count = boxes.list.len();
-    let end = end_of(flow.start, flow.hangs, flow.strut);
+    let end = end_of(flow.start, flow.strut);
     settle(
         boxes,
         &flow.through,

@@ -3,14 +3,14 @@
 ghost use Rattle.std.specs.Prelude.{◌≡◌, ◌+◌, ◌<◌, ◌≤◌, ◌&&◌, not, true, false, length, slice_index, OnOk};
 ghost use Rattle.lay_flow.specs.Boxes.{parent_at};
 ghost use Rattle.lay_flow.specs.MarginRuns.{block_at, may_collapse_through, may_join_bottoms, parts_tops};
-ghost use Rattle.lay_flow.specs.Pass.Bounds.{is_barred, state_of};
+ghost use Rattle.lay_flow.specs.Pass.Bounds.{is_barred, is_hanging, state_of};
 ghost use Rattle.lay_flow.specs.Pass.Known.{IsKnown, IsReadyAt};
 
 use crate::boxes::Boxes;
 use crate::clearance::clear;
-use crate::columns::{flag_at, length_at, sum_of, write_at, write_flag};
+use crate::columns::{is_cleared, length_at, sum_of, write_at, write_flag};
 use crate::margin_run::{end_of, lone_margin, no_margin, run_start, with_margin};
-use crate::pass::Pass;
+use crate::pass::{Pass, RunStart};
 use crate::placement::place_up_to;
 use crate::settling::settle;
 use lay_units::{NoMemory, Unit};
@@ -62,7 +62,7 @@ fn open_parting(boxes: &Boxes<'_>, flow: &mut Pass, k: usize)
 {
     let block = boxes.block_at(k);
     let strut = with_margin(flow.strut, block.margin_top);
-    let mark = end_of(flow.start, flow.hangs, strut);
+    let mark = end_of(flow.start, strut);
     settle(
         boxes,
         &flow.through,
@@ -71,10 +71,10 @@ fn open_parting(boxes: &Boxes<'_>, flow: &mut Pass, k: usize)
         k + 1,
         mark,
     );
-    flow.start = sum_of(mark, block.edge_top);
+    let start = sum_of(mark, block.edge_top);
+    flow.start = RunStart::At(start);
     flow.strut = no_margin();
     flow.first = k + 1;
-    flow.hangs = false;
 }
 
 /// Reads the bottom margin of the box at p, the innermost open one, whose boxes all stand before m.
@@ -97,11 +97,11 @@ pub(crate) fn close(boxes: &Boxes<'_>, flow: &mut Pass, p: usize, m: usize) -> R
 
 // The run was begun by clearance of a child of the box at p.
 fn is_barred(boxes: &Boxes<'_>, flow: &Pass, p: usize) -> bool
-    requires { length flow.now.clears.items ≡ length boxes.now.list.now }
+    requires { length flow.now.clear_edges.items ≡ length boxes.now.list.now }
     ensures { result ≡ is_barred boxes.now.list.now (state_of flow.now) p }
 {
-    flow.first < flow.clears.len()
-        && flag_at(&flow.clears, flow.first)
+    flow.first < flow.clear_edges.len()
+        && is_cleared(&flow.clear_edges, flow.first)
         && boxes.list[flow.first].parent == p
 }
 
@@ -114,7 +114,7 @@ fn pass_through(boxes: &Boxes<'_>, flow: &mut Pass, p: usize, m: usize)
     requires known { IsKnown boxes.now.list.now flow.old p m }
     ensures { IsKnown boxes.now.list.now flow.new (parent_at boxes.now.list.now p) m }
 {
-    if flow.hangs && flow.first == p {
+    if flow.start.is_hanging() && flow.first == p {
         start_run(boxes, flow, p, m);
     }
     close_through(boxes, flow, p, m);
@@ -126,15 +126,15 @@ fn start_run(boxes: &Boxes<'_>, flow: &mut Pass, _p: usize, _m: usize)
     requires positive { 0 < _p }
     requires ends { _m < length boxes.now.list.now → parent_at boxes.now.list.now _m < _p }
     requires through { may_collapse_through (block_at boxes.now.list.now _p) ≡ true }
-    requires hangs { flow.old.hangs ≡ true }
+    requires hangs { is_hanging flow.old.start ≡ true }
     requires first { flow.old.first ≡ _p }
     requires known { IsKnown boxes.now.list.now flow.old _p _m }
     ensures known { IsKnown boxes.now.list.now flow.new _p _m }
-    ensures starts { flow.new.hangs ≡ false }
+    ensures starts { is_hanging flow.new.start ≡ false }
     ensures first { flow.new.first ≡ flow.old.first }
 {
-    flow.start = run_start(flow.start, flow.strut);
-    flow.hangs = false;
+    let start = run_start(flow.start.position(), flow.strut);
+    flow.start = RunStart::At(start);
 }
 
 // The run of its top margin goes on past its bottom margin.
@@ -143,11 +143,11 @@ fn close_through(boxes: &Boxes<'_>, flow: &mut Pass, p: usize, _m: usize)
     requires ends { _m < length boxes.now.list.now → parent_at boxes.now.list.now _m < p }
     requires through { may_collapse_through (block_at boxes.now.list.now p) ≡ true }
     requires waiting { flow.old.first ≤ p }
-    requires inside { flow.old.hangs ≡ true → flow.old.first < p }
+    requires inside { is_hanging flow.old.start ≡ true → flow.old.first < p }
     requires known { IsKnown boxes.now.list.now flow.old p _m }
     ensures { IsKnown boxes.now.list.now flow.new (parent_at boxes.now.list.now p) _m }
 {
-    let mark = end_of(flow.start, flow.hangs, flow.strut);
+    let mark = end_of(flow.start, flow.strut);
     write_at(&mut flow.marks, p, mark);
     write_at(&mut flow.heights, p, Unit(0));
     write_flag(&mut flow.through, p, true);
@@ -166,9 +166,14 @@ fn close_joined(boxes: &Boxes<'_>, flow: &mut Pass, p: usize, _m: usize)
 {
     let block = boxes.block_at(p);
     let mark = length_at(&flow.marks, p);
-    let height = block.height_to_border(length_at(&flow.placing.extents, p), mark, flow.start);
+    let height = block.height_to_border(
+        length_at(&flow.placing.extents, p),
+        mark,
+        flow.start.position(),
+    );
     write_at(&mut flow.heights, p, height);
-    flow.start = sum_of(mark, height);
+    let start = sum_of(mark, height);
+    flow.start = RunStart::At(start);
     flow.strut = with_margin(flow.strut, block.margin_bottom);
 }
 
@@ -182,15 +187,15 @@ fn close_parted(boxes: &Boxes<'_>, flow: &mut Pass, p: usize, m: usize) -> Resul
     ensures { OnOk result (IsKnown boxes.now.list.now flow.new (parent_at boxes.now.list.now p) m) }
 {
     let block = boxes.block_at(p);
-    let end = end_of(flow.start, flow.hangs, flow.strut);
+    let end = end_of(flow.start, flow.strut);
     settle(boxes, &flow.through, &mut flow.marks, flow.first, m, end);
     place_up_to(boxes, &flow.marks, &mut flow.placing, m)?;
     let mark = length_at(&flow.marks, p);
     let height = block.height_to_margin(length_at(&flow.placing.extents, p), mark, end);
     write_at(&mut flow.heights, p, height);
-    flow.start = sum_of(mark, height);
+    let start = sum_of(mark, height);
+    flow.start = RunStart::At(start);
     flow.strut = lone_margin(block.margin_bottom);
     flow.first = m;
-    flow.hangs = false;
     Ok(())
 }

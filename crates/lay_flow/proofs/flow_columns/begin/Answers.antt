@@ -1,13 +1,14 @@
-use Rattle.std.proofs.Common.{◌≡◌, List, Bool, length, replicate, false, refl, ap, ◌∙◌, arith}
+use Rattle.std.proofs.Common.{rules, ◌≡◌, List, Bool, length, replicate, false, None, refl, ap, ◌∙◌, arith}
 use Rattle.std.proofs.lemmas.Grind.{elements}
 use Rattle.lay_units.specs.declared.length.Unit.{Unit as Length}
 use Rattle.lay_flow.specs.declared.block.Block.{Block}
 use Rattle.lay_flow.specs.Lengths.{length_at, no_length}
 use Rattle.lay_flow.specs.Children.{flag_at}
 use Rattle.lay_flow.specs.Weights.{weight}
-use Rattle.lay_flow.specs.Pass.Bounds.{state_of}
+use Rattle.lay_flow.specs.Pass.Bounds.{clears_of, clear_edges_of, state_of}
 use Rattle.lay_flow.specs.Pass.Known.{placing_of}
-use Rattle.lay_flow.proofs.PassEnds.{knows_first, flags_at, lengths_at}
+use Rattle.lay_flow.specs.declared.pass.RunStart.TheVariants.{At as starts_at}
+use Rattle.lay_flow.proofs.PassEnds.{knows_first, flags_at, lengths_at, no_edges, none_cleared}
 use Rattle.lay_flow.proofs.FirstPlaced.{IsEmpty, none_placed, none_placed_to, first_extents, mark_near_none}
 use Rattle.lay_flow.proofs.flow_columns.begin.Goals as goal
 
@@ -40,8 +41,9 @@ returns c =
     let marks : c.in_ok-marks.marks.items ≡ replicate n no_length = c.in_ok-marks.ensures.items_if_clones_equal (λ y e. e) in
     let heights : c.in_ok-vec.field-0.items ≡ replicate n no_length = c.in_ok-vec.ensures.items_if_clones_equal (λ y e. e) in
     let through : c.in_ok-vec-2.field-0.items ≡ replicate n false = c.in_ok-vec-2.ensures.items_if_clones_equal (λ y e. e) in
-    let clears : c.in_ok-vec-3.field-0.items ≡ replicate n false = c.in_ok-vec-3.ensures.items_if_clones_equal (λ y e. e) in
-    let edges : c.in_ok-vec-4.field-0.items ≡ replicate n no_length = c.in_ok-vec-4.ensures.items_if_clones_equal (λ y e. e) in
+    let none : c.in_ok-vec-3.field-0.items ≡ replicate n None = c.in_ok-vec-3.ensures.items_if_clones_equal (λ y e. search rules) in
+    let clears : clears_of c.in_ok-vec-3.field-0.items ≡ replicate n false = ap clears_of none ∙ none_cleared n in
+    let edges : clear_edges_of c.in_ok-vec-3.field-0.items ≡ replicate n no_length = ap clear_edges_of none ∙ no_edges n in
     let made = c.in_ok-placing.ensures {u = tt} in
     let done = c.in_ok-place_up_to.ensures {u = tt} in
     let placing = c.place_up_to.new.placing in
@@ -52,7 +54,7 @@ returns c =
       are = goes.are;
       knows =
           knows_first c.args.boxes.now.list.now c.args.boxes.now.are
-          (state_of (record { marks = c.in_ok-marks.marks; heights = c.in_ok-vec.field-0; through = c.in_ok-vec-2.field-0; clears = c.in_ok-vec-3.field-0; clear_edges = c.in_ok-vec-4.field-0; start = c.block_at.result.edge_top; strut = c.no_margin.result; first = 1; hangs = false; placing = placing }))
+          (state_of (record { marks = c.in_ok-marks.marks; heights = c.in_ok-vec.field-0; through = c.in_ok-vec-2.field-0; clear_edges = c.in_ok-vec-3.field-0; start = starts_at c.block_at.result.edge_top; strut = c.no_margin.result; first = 1; placing = placing }))
           (placing_of placing goes.places) goes.to (first_extents c.args.boxes.now.list.now c.in_ok-marks.marks.items c.in_ok-placing.placing empty placing done.kept)
           (ap (λ (xs : List Length). length xs) marks ∙ grind (arith, elements))
           (ap (λ (xs : List Length). length xs) heights ∙ grind (arith, elements))

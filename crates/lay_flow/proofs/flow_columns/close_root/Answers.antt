@@ -7,7 +7,7 @@ use Rattle.lay_flow.specs.Lengths.{length_at}
 use Rattle.lay_flow.specs.BlockPositions.{border_height, is_solid}
 use Rattle.lay_flow.specs.BlockSizes.{IsNear}
 use Rattle.lay_flow.specs.Weights.{weight}
-use Rattle.lay_flow.specs.Pass.Bounds.{IsLineDepth, held_end, state_of, IsMarkNear}
+use Rattle.lay_flow.specs.Pass.Bounds.{IsLineDepth, held_end, state_of, IsMarkNear, position_of, is_hanging}
 use Rattle.lay_flow.specs.Pass.Knows.{AreExtentsKept}
 use Rattle.lay_flow.specs.Pass.Known.{placing_of}
 use Rattle.lay_flow.proofs.SoFar.{Wrote}
@@ -24,7 +24,7 @@ use Rattle.lay_flow.proofs.flow_columns.close_root.Goals as goal
 pub end_of-end-requires-clause-start : goal.end_of-end-requires-clause-start
 end_of-end-requires-clause-start c =
     let f = c.requires.knows.fits in let a = f.first_most in let b = f.within in
-    start_is_near (weight c.args.boxes.now.list.now c.args.flow.now.first) c.args.flow.now.start.0 (light_at c.args.boxes.now.list.now c.args.boxes.now.are c.args.flow.now.first (omega (arith, a, b))) f.start_near
+    start_is_near (weight c.args.boxes.now.list.now c.args.flow.now.first) (position_of c.args.flow.now.start) (light_at c.args.boxes.now.list.now c.args.boxes.now.are c.args.flow.now.first (omega (arith, a, b))) f.start_near
 
 pub place_up_to-requires-clause-near : goal.place_up_to-requires-clause-near
 place_up_to-requires-clause-near c =
@@ -58,7 +58,7 @@ pub root_end-requires-clause-margin : goal.root_end-requires-clause-margin
 root_end-requires-clause-margin c =
     let f = c.requires.knows.fits in
     mark_is_near (weight c.args.boxes.now.list.now (length c.args.boxes.now.list.now)) c.end_of-end.result.0 c.args.boxes.now.are.light
-    (end_near (weight c.args.boxes.now.list.now c.args.flow.now.first) (weight c.args.boxes.now.list.now (length c.args.boxes.now.list.now)) c.args.flow.now.start.0 c.end_of-end.result.0 f.start_near c.end_of-end.ensures.near (weight_up c.args.boxes.now.list.now c.args.flow.now.first (length c.args.boxes.now.list.now) f.first_most))
+    (end_near (weight c.args.boxes.now.list.now c.args.flow.now.first) (weight c.args.boxes.now.list.now (length c.args.boxes.now.list.now)) (position_of c.args.flow.now.start) c.end_of-end.result.0 f.start_near c.end_of-end.ensures.near (weight_up c.args.boxes.now.list.now c.args.flow.now.first (length c.args.boxes.now.list.now) f.first_most))
 
 pub root_end-requires-clause-lines : goal.root_end-requires-clause-lines
 root_end-requires-clause-lines c lines =
@@ -98,7 +98,7 @@ returns-clause-finished c =
     ∙ ap (λ (b : Block). border_height b (pos 0) (root_height_of (record { 0 = c.length_at-mark.result.0 +ℤ b.edge_top.0 }) c.root_end.result c.clear_edge-bottom.result)) block in
     let wrote_height : Wrote length_at old.heights.items c.write_at.new.column.items 0 c.root_height-height.result.0 =
     subst (λ (xs : List Length). Wrote length_at old.heights.items xs 0 c.root_height-height.result.0) (sym c.write_at.ensures) (wrote_length old.heights.items 0 c.root_height-height.result (omega (arith, some, l))) in
-    let ends : RunEnds old.hangs old.start.0 old.strut c.end_of-end.result.0 = record { hanging = c.end_of-end.ensures.hanging; value = c.end_of-end.ensures.value } in
+    let ends : RunEnds (is_hanging old.start) (position_of old.start) old.strut c.end_of-end.result.0 = record { hanging = c.end_of-end.ensures.hanging; value = c.end_of-end.ensures.value } in
     let kept = subst (λ (n : ℕ). AreExtentsKept c.args.boxes.now.list.now n old.placing.extents.items c.place_up_to.new.placing.extents.items) (sym (places_count old.placing c.requires.places c.requires.are)) done.kept in
     record {
       places = goes.places;

@@ -7,9 +7,10 @@ use Rattle.lay_flow.specs.Lengths.{length_at}
 use Rattle.lay_flow.specs.BlockSizes.{IsBoxSize, IsNear}
 use Rattle.lay_flow.specs.BlockPositions.{is_solid}
 use Rattle.lay_flow.specs.MarginRuns.{block_at}
-use Rattle.lay_flow.specs.Pass.Bounds.{IsLineDepth, state_of, IsMarkNear}
+use Rattle.lay_flow.specs.Pass.Bounds.{IsLineDepth, state_of, IsMarkNear, position_of, is_hanging}
 use Rattle.lay_flow.specs.Boxes.{parent_at}
 use Rattle.lay_flow.specs.Pass.Known.{placing_of}
+use Rattle.lay_flow.specs.declared.pass.RunStart.TheVariants.{At as starts_at}
 use Rattle.lay_flow.proofs.WeightFacts.{light_at, weight_up}
 use Rattle.lay_flow.specs.Weights.{weight}
 use Rattle.lay_flow.proofs.SoFar.{Wrote}
@@ -26,7 +27,7 @@ use Rattle.lay_flow.proofs.margin_steps.close_parted.Goals as goal
 pub end_of-end-requires-clause-start : goal.end_of-end-requires-clause-start
 end_of-end-requires-clause-start c =
     let f = c.requires.known.knows.fits in let a = f.first_most in let b = f.within in
-    start_is_near (weight c.args.boxes.now.list.now c.args.flow.now.first) c.args.flow.now.start.0 (light_at c.args.boxes.now.list.now c.args.boxes.now.are c.args.flow.now.first (omega (arith, a, b))) f.start_near
+    start_is_near (weight c.args.boxes.now.list.now c.args.flow.now.first) (position_of c.args.flow.now.start) (light_at c.args.boxes.now.list.now c.args.boxes.now.are c.args.flow.now.first (omega (arith, a, b))) f.start_near
 
 pub place_up_to-requires-clause-near : goal.place_up_to-requires-clause-near
 place_up_to-requires-clause-near c =
@@ -56,7 +57,7 @@ height_to_margin-height-requires-clause-mark c =
 pub height_to_margin-height-requires-clause-margin : goal.height_to_margin-height-requires-clause-margin
 height_to_margin-height-requires-clause-margin c =
     let f = c.requires.known.knows.fits in let b = f.within in
-    mark_is_near (weight c.args.boxes.now.list.now c.args.m) c.end_of-end.result.0 (light_at c.args.boxes.now.list.now c.args.boxes.now.are c.args.m b) (end_near (weight c.args.boxes.now.list.now c.args.flow.now.first) (weight c.args.boxes.now.list.now c.args.m) c.args.flow.now.start.0 c.end_of-end.result.0 f.start_near c.end_of-end.ensures.near (weight_up c.args.boxes.now.list.now c.args.flow.now.first c.args.m f.first_most))
+    mark_is_near (weight c.args.boxes.now.list.now c.args.m) c.end_of-end.result.0 (light_at c.args.boxes.now.list.now c.args.boxes.now.are c.args.m b) (end_near (weight c.args.boxes.now.list.now c.args.flow.now.first) (weight c.args.boxes.now.list.now c.args.m) (position_of c.args.flow.now.start) c.end_of-end.result.0 f.start_near c.end_of-end.ensures.near (weight_up c.args.boxes.now.list.now c.args.flow.now.first c.args.m f.first_most))
 
 pub height_to_margin-height-requires-clause-lines : goal.height_to_margin-height-requires-clause-lines
 height_to_margin-height-requires-clause-lines c lines =
@@ -74,8 +75,8 @@ height_to_margin-height-requires-clause-lines c lines =
     rw (block, depth, marked) (line_depth c.args.boxes.now.list.now c.args.boxes.now.are c.settle.new.marks.items (placing_of c.place_up_to.new.placing goes.places) c.args.m goes.to c.args.p a b there) in
     go there
 
-pub sum_of-flow-requires-clause-a : goal.sum_of-flow-requires-clause-a
-sum_of-flow-requires-clause-a c =
+pub sum_of-start-requires-clause-a : goal.sum_of-start-requires-clause-a
+sum_of-start-requires-clause-a c =
     let f = c.requires.known.knows.fits in let a = f.parent in let b = f.within in
     let e = rw c.deref-3.ensures.value at c.length_at-mark.ensures in
     let settles = rw c.deref.ensures.value at c.settle.ensures in
@@ -83,8 +84,8 @@ sum_of-flow-requires-clause-a c =
     let n = subst IsNear (sym e) (mark_is_near (weight c.args.boxes.now.list.now c.args.p) _ (light_at c.args.boxes.now.list.now c.args.boxes.now.are c.args.p (omega (arith, a, b))) near) in
     let u = n.0 in let v = n.1 in (omega (arith, ints, u), omega (arith, ints, v))
 
-pub sum_of-flow-requires-clause-b : goal.sum_of-flow-requires-clause-b
-sum_of-flow-requires-clause-b c =
+pub sum_of-start-requires-clause-b : goal.sum_of-start-requires-clause-b
+sum_of-start-requires-clause-b c =
     let f = c.requires.known.knows.fits in let a = f.parent in let b = f.within in
     let p = c.args.p in
     let block = c.block_at-block.ensures.value in
@@ -121,20 +122,20 @@ returns c =
     let there = placed_on c.args.boxes.now.list.now old.marks.items c.settle.new.marks.items old.placing c.place_up_to.new.placing c.requires.known.places c.args.m c.args.boxes.now.are.is_tree.tree c.requires.known.are
     (let early = c.requires.known.knows.early in let few = f.first_most in let within = f.within in omega (arith, early, few, within)) c.requires.known.knows.placed
     (let early = c.requires.known.knows.early in let settles = rw c.deref.ensures.value at c.settle.ensures in λ j lt. settles.before j (omega (arith, lt, early))) (rw c.deref-2.ensures.value at done.placed) in
-    let go : ArePlacedOn c.args.boxes.now.list.now c.settle.new.marks.items c.place_up_to.new.placing c.requires.known.places c.args.m → IsKnown c.args.boxes.now.list.now (record c.args.flow.now { marks = c.settle.new.marks; heights = c.write_at.new.column; start = c.sum_of-flow.result; strut = c.lone_margin-flow.result; first = c.args.m; hangs = false; placing = c.place_up_to.new.placing }) (parent_at c.args.boxes.now.list.now c.args.p) c.args.m = λ goes.
+    let go : ArePlacedOn c.args.boxes.now.list.now c.settle.new.marks.items c.place_up_to.new.placing c.requires.known.places c.args.m → IsKnown c.args.boxes.now.list.now (record c.args.flow.now { marks = c.settle.new.marks; heights = c.write_at.new.column; start = starts_at c.sum_of-start.result; strut = c.lone_margin-flow.result; first = c.args.m; placing = c.place_up_to.new.placing }) (parent_at c.args.boxes.now.list.now c.args.p) c.args.m = λ goes.
     let placed = goes.to in
     let extent = rw c.deref-4.ensures.value at c.length_at.ensures in
     let height = rw (block, extent) at c.height_to_margin-height.ensures.value in
     let size : is_solid (block_at c.args.boxes.now.list.now p).inside ≡ false → IsBoxSize c.height_to_margin-height.result.0 = λ flow. c.height_to_margin-height.ensures.size (subst (λ (b : Block). is_solid b.inside ≡ false) (sym block) flow) in
-    let starts = ap (λ (v : Length). v.0) c.sum_of-flow.ensures in
+    let starts = ap (λ (v : Length). v.0) c.sum_of-start.ensures in
     let wrote : Wrote length_at old.heights.items c.write_at.new.column.items p c.height_to_margin-height.result.0 =
     subst (λ (xs : List Length). Wrote length_at old.heights.items xs p c.height_to_margin-height.result.0) (sym c.write_at.ensures) (wrote_length old.heights.items p c.height_to_margin-height.result (omega (arith, a, b, l))) in
-    let ends : RunEnds old.hangs old.start.0 old.strut c.end_of-end.result.0 = record { hanging = c.end_of-end.ensures.hanging; value = c.end_of-end.ensures.value } in
+    let ends : RunEnds (is_hanging old.start) (position_of old.start) old.strut c.end_of-end.result.0 = record { hanging = c.end_of-end.ensures.hanging; value = c.end_of-end.ensures.value } in
     record {
       places = goes.places;
       are = goes.are;
       knows = knows_parted c.args.boxes.now.list.now c.args.boxes.now.are.is_tree.tree (state_of old) (placing_of old.placing c.requires.known.places) p c.args.m c.args.boxes.now.are c.requires.positive c.requires.ends c.requires.known.knows
-          _ _ (placing_of c.place_up_to.new.placing goes.places) c.end_of-end.result.0 c.length_at-mark.result.0 c.height_to_margin-height.result.0 c.sum_of-flow.result.0 c.lone_margin-flow.result c.requires.parted c.requires.settled
+          _ _ (placing_of c.place_up_to.new.placing goes.places) c.end_of-end.result.0 c.length_at-mark.result.0 c.height_to_margin-height.result.0 c.sum_of-start.result.0 c.lone_margin-flow.result c.requires.parted c.requires.settled
           ends c.end_of-end.ensures.near settles placed (subst (λ (n : ℕ). AreExtentsKept c.args.boxes.now.list.now n old.placing.extents.items c.place_up_to.new.placing.extents.items) (sym (places_count old.placing c.requires.known.places c.requires.known.are)) done.kept) goes.same marked size height starts wrote
           c.lone_margin-flow.ensures.fits holds;
     } in
