@@ -22,7 +22,8 @@ use crate::settling::settle;
 use lay_floats::{Clear, Side};
 use lay_units::{NoMemory, Unit};
 
-/// Decides whether the box at k has clearance. If so, the run ends, and the clearance begins a new one.
+/// Decides whether the box at k has clearance. If so, the run ends, and the clearance begins a new one. If it asks for
+/// that, the boxes before the run are placed first, since their marks are known.
 pub(crate) fn clear(boxes: &Boxes<'_>, flow: &mut Pass, k: usize) -> Result<(), NoMemory>
     requires positive { 0 < k }
     requires within { k < length boxes.now.list.now }
@@ -30,7 +31,7 @@ pub(crate) fn clear(boxes: &Boxes<'_>, flow: &mut Pass, k: usize) -> Result<(), 
     ensures { OnOk result (IsReadyAt boxes.now.list.now flow.new k) }
 {
     if asks_to_clear(boxes, k) {
-        place_settled(boxes, flow, k)?;
+        place_up_to(boxes, &flow.marks, &mut flow.placing, flow.first)?;
         clear_floats(boxes, flow, k)?;
     }
     Ok(())
@@ -42,18 +43,6 @@ fn asks_to_clear(boxes: &Boxes<'_>, k: usize) -> bool
     ensures passes_none { result ≡ false → (shape_at boxes.now.list.now k).float ≡ None → (shape_at boxes.now.list.now k).clear ≡ clear_none }
 {
     boxes.side_at(k).is_none() && boxes.clear_at(k) != Clear::None
-}
-
-// Places the boxes before the run, since their marks are known.
-fn place_settled(boxes: &Boxes<'_>, flow: &mut Pass, _k: usize) -> Result<(), NoMemory>
-    requires positive { 0 < _k }
-    requires within { _k < length boxes.now.list.now }
-    requires known { IsKnown boxes.now.list.now flow.old (parent_at boxes.now.list.now _k) _k }
-    ensures known { OnOk result (IsKnown boxes.now.list.now flow.new (parent_at boxes.now.list.now _k) _k) }
-    ensures settled { OnOk result (length flow.new.placing.places.items ≡ flow.new.first) }
-{
-    place_up_to(boxes, &flow.marks, &mut flow.placing, flow.first)?;
-    Ok(())
 }
 
 // The box at k has clearance where a float that it goes past is in the run, or where it would stand above the

@@ -10,6 +10,7 @@ ghost use Rattle.lay_flow.specs.Pass.Known.{IsFinished, IsKnown};
 use crate::boxes::Boxes;
 use crate::columns::{length_at, write_at};
 use crate::line_corners::line_corners;
+use crate::margin_place::MarginPlace;
 use crate::margin_run::{end_of, no_margin};
 use crate::margin_steps::{close, open};
 use crate::pass::{Pass, RunStart};
@@ -124,7 +125,8 @@ fn close_to(
 {
     let mut innermost = from;
     while innermost != to {
-        close(boxes, flow, innermost, m)?;
+        let place = MarginPlace { innermost, next: m };
+        close(boxes, flow, place)?;
         innermost = boxes.parent_at(innermost);
     }
     Ok(())

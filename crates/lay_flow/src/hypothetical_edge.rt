@@ -3,6 +3,7 @@
 ghost use Rattle.std.specs.Prelude.{◌≡◌, ℕ, ◌+◌, ◌<◌, ◌≤◌, ◌==◌, ◌||◌, ◌-ℤ◌, not, nat_lt, List, length, slice_index, true, false};
 ghost use Rattle.lay_units.specs.declared.length.Unit.{Unit};
 ghost use Rattle.lay_margins.specs.Collapse.{Holds};
+ghost use Rattle.lay_flow.specs.declared.hypothetical_edge.Outset.{Outset};
 ghost use Rattle.lay_flow.specs.Boxes.{parent_at};
 ghost use Rattle.lay_flow.specs.Children.{flag_at};
 ghost use Rattle.lay_flow.specs.Lengths.{length_at};
@@ -14,6 +15,7 @@ ghost use Rattle.lay_flow.specs.BlockSizes.{IsNear};
 ghost use Rattle.lay_flow.specs.Pass.Bounds.{IsCollapseNear, StrutFits};
 
 use crate::boxes::Boxes;
+use crate::margin_place::MarginPlace;
 use crate::margin_run::{run_end, with_margin};
 use lay_margins::Strut;
 use lay_units::Unit;
@@ -102,7 +104,11 @@ fn strut_ahead(boxes: &Boxes<'_>, from: &Outset) -> Strut
             return ahead.strut;
         }
     }
-    close_to(boxes, from, ahead, 0, boxes.list.len()).strut
+    let place = MarginPlace {
+        innermost: ahead.innermost,
+        next: boxes.list.len(),
+    };
+    close_to(boxes, from, ahead.strut, place, 0).strut
 }
 
 // Closes the open boxes that the box at m isn't in, and opens that one.
@@ -114,20 +120,25 @@ fn advance(boxes: &Boxes<'_>, from: &Outset, ahead: Ahead, m: usize) -> Ahead
     ensures ended { result.ended ≡ true → HasRead boxes.now.list.now from.now result.strut }
 {
     let parent = boxes.parent_at(m);
-    let closed = close_to(boxes, from, ahead, parent, m);
+    let place = MarginPlace {
+        innermost: ahead.innermost,
+        next: m,
+    };
+    let closed = close_to(boxes, from, ahead.strut, place, parent);
     if closed.ended {
         return closed;
     }
-    open(boxes, from, closed.strut, m)
+    open(boxes, closed.strut, m)
 }
 
 // Reads the top margin of the box at m. An edge above its content ends the run.
-fn open(boxes: &Boxes<'_>, _from: &Outset, strut: Strut, m: usize) -> Ahead
-    requires from { IsOutset boxes.now.list.now _from.now }
+fn open(boxes: &Boxes<'_>, strut: Strut, m: usize) -> Ahead
     requires within { m < length boxes.now.list.now }
-    requires reading { IsReading boxes.now.list.now _from.now strut (parent_at boxes.now.list.now m) m }
-    ensures going { result.ended ≡ false → IsReading boxes.now.list.now _from.now result.strut result.innermost (m + 1) }
-    ensures ended { result.ended ≡ true → HasRead boxes.now.list.now _from.now result.strut }
+    requires strut { StrutFits strut }
+    ensures going { result.ended ≡ false → (from : Outset) → IsOutset boxes.now.list.now from → IsReading boxes.now.list.now from strut (parent_at boxes.now.list.now m) m
+        → IsReading boxes.now.list.now from result.strut result.innermost (m + 1) }
+    ensures ended { result.ended ≡ true → (from : Outset) → IsOutset boxes.now.list.now from → IsReading boxes.now.list.now from strut (parent_at boxes.now.list.now m) m
+        → HasRead boxes.now.list.now from result.strut }
 {
     let block = boxes.block_at(m);
     Ahead {
@@ -137,17 +148,22 @@ fn open(boxes: &Boxes<'_>, _from: &Outset, strut: Strut, m: usize) -> Ahead
     }
 }
 
-// Reads the bottom margins of the open boxes up to those in the box `to`, in which the box at m stands.
-fn close_to(boxes: &Boxes<'_>, from: &Outset, ahead: Ahead, to: usize, m: usize) -> Ahead
+// Reads the bottom margins of the open boxes up to those in the box `to`, in which the next box stands.
+fn close_to(
+    boxes: &Boxes<'_>,
+    from: &Outset,
+    mut strut: Strut,
+    place: MarginPlace,
+    to: usize,
+) -> Ahead
     requires from { IsOutset boxes.now.list.now from.now }
-    requires next { m < length boxes.now.list.now → parent_at boxes.now.list.now m ≡ to }
-    requires last { length boxes.now.list.now ≤ m → to ≡ 0 }
-    requires reading { IsReading boxes.now.list.now from.now ahead.strut ahead.innermost m }
-    ensures going { result.ended ≡ false → IsReading boxes.now.list.now from.now result.strut to m }
+    requires next { place.next < length boxes.now.list.now → parent_at boxes.now.list.now place.next ≡ to }
+    requires last { length boxes.now.list.now ≤ place.next → to ≡ 0 }
+    requires reading { IsReading boxes.now.list.now from.now strut place.innermost place.next }
+    ensures going { result.ended ≡ false → IsReading boxes.now.list.now from.now result.strut to place.next }
     ensures ended { result.ended ≡ true → HasRead boxes.now.list.now from.now result.strut }
 {
-    let mut strut = ahead.strut;
-    let mut innermost = ahead.innermost;
+    let mut innermost = place.innermost;
     while innermost != to {
         if ends_at(boxes, from, innermost) {
             return Ahead {

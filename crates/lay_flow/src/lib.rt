@@ -22,6 +22,7 @@ mod hypothetical_edge;
 mod laws;
 mod line_corners;
 mod margin_collapse;
+mod margin_place;
 mod margin_run;
 mod margin_steps;
 mod pass;

@@ -9,6 +9,7 @@ ghost use Rattle.lay_flow.specs.Pass.Known.{IsKnown, IsReadyAt};
 use crate::boxes::Boxes;
 use crate::clearance::clear;
 use crate::columns::{is_cleared, length_at, sum_of, write_at, write_flag};
+use crate::margin_place::MarginPlace;
 use crate::margin_run::{end_of, lone_margin, no_margin, run_start, with_margin};
 use crate::pass::{Pass, RunStart};
 use crate::placement::place_up_to;
@@ -77,20 +78,20 @@ fn open_parting(boxes: &Boxes<'_>, flow: &mut Pass, k: usize)
     flow.first = k + 1;
 }
 
-/// Reads the bottom margin of the box at p, the innermost open one, whose boxes all stand before m.
-pub(crate) fn close(boxes: &Boxes<'_>, flow: &mut Pass, p: usize, m: usize) -> Result<(), NoMemory>
-    requires positive { 0 < p }
-    requires ends { m < length boxes.now.list.now → parent_at boxes.now.list.now m < p }
-    requires known { IsKnown boxes.now.list.now flow.old p m }
-    ensures { OnOk result (IsKnown boxes.now.list.now flow.new (parent_at boxes.now.list.now p) m) }
+/// Reads the bottom margin of the innermost open box, whose boxes all stand before the next one.
+pub(crate) fn close(boxes: &Boxes<'_>, flow: &mut Pass, place: MarginPlace) -> Result<(), NoMemory>
+    requires positive { 0 < place.innermost }
+    requires ends { place.next < length boxes.now.list.now → parent_at boxes.now.list.now place.next < place.innermost }
+    requires known { IsKnown boxes.now.list.now flow.old place.innermost place.next }
+    ensures { OnOk result (IsKnown boxes.now.list.now flow.new (parent_at boxes.now.list.now place.innermost) place.next) }
 {
-    let block = boxes.block_at(p);
-    if block.may_collapse_through() && flow.first <= p {
-        pass_through(boxes, flow, p, m);
-    } else if block.may_join_bottoms() && !is_barred(boxes, flow, p) {
-        close_joined(boxes, flow, p, m);
+    let block = boxes.block_at(place.innermost);
+    if block.may_collapse_through() && flow.first <= place.innermost {
+        pass_through(boxes, flow, place);
+    } else if block.may_join_bottoms() && !is_barred(boxes, flow, place.innermost) {
+        close_joined(boxes, flow, place);
     } else {
-        close_parted(boxes, flow, p, m)?;
+        close_parted(boxes, flow, place)?;
     }
     Ok(())
 }
@@ -105,97 +106,93 @@ fn is_barred(boxes: &Boxes<'_>, flow: &Pass, p: usize) -> bool
         && boxes.list[flow.first].parent == p
 }
 
-// It is collapsed through.
-fn pass_through(boxes: &Boxes<'_>, flow: &mut Pass, p: usize, m: usize)
-    requires positive { 0 < p }
-    requires ends { m < length boxes.now.list.now → parent_at boxes.now.list.now m < p }
-    requires through { may_collapse_through (block_at boxes.now.list.now p) ≡ true }
-    requires waiting { flow.old.first ≤ p }
-    requires known { IsKnown boxes.now.list.now flow.old p m }
-    ensures { IsKnown boxes.now.list.now flow.new (parent_at boxes.now.list.now p) m }
+// It is collapsed through. If its clearance began the run, that starts so far above its clear edge as the margins before
+// its bottom margin collapse to.
+fn pass_through(boxes: &Boxes<'_>, flow: &mut Pass, place: MarginPlace)
+    requires positive { 0 < place.innermost }
+    requires ends { place.next < length boxes.now.list.now → parent_at boxes.now.list.now place.next < place.innermost }
+    requires through { may_collapse_through (block_at boxes.now.list.now place.innermost) ≡ true }
+    requires waiting { flow.old.first ≤ place.innermost }
+    requires known { IsKnown boxes.now.list.now flow.old place.innermost place.next }
+    ensures { IsKnown boxes.now.list.now flow.new (parent_at boxes.now.list.now place.innermost) place.next }
 {
-    if flow.start.is_hanging() && flow.first == p {
-        start_run(boxes, flow, p, m);
+    if flow.start.is_hanging() && flow.first == place.innermost {
+        let start = run_start(flow.start.position(), flow.strut);
+        flow.start = RunStart::At(start);
     }
-    close_through(boxes, flow, p, m);
-}
-
-// The run that its clearance began starts so far above its clear edge as the margins before its bottom margin
-// collapse to.
-fn start_run(boxes: &Boxes<'_>, flow: &mut Pass, _p: usize, _m: usize)
-    requires positive { 0 < _p }
-    requires ends { _m < length boxes.now.list.now → parent_at boxes.now.list.now _m < _p }
-    requires through { may_collapse_through (block_at boxes.now.list.now _p) ≡ true }
-    requires hangs { is_hanging flow.old.start ≡ true }
-    requires first { flow.old.first ≡ _p }
-    requires known { IsKnown boxes.now.list.now flow.old _p _m }
-    ensures known { IsKnown boxes.now.list.now flow.new _p _m }
-    ensures starts { is_hanging flow.new.start ≡ false }
-    ensures first { flow.new.first ≡ flow.old.first }
-{
-    let start = run_start(flow.start.position(), flow.strut);
-    flow.start = RunStart::At(start);
+    close_through(boxes, flow, place);
 }
 
 // The run of its top margin goes on past its bottom margin.
-fn close_through(boxes: &Boxes<'_>, flow: &mut Pass, p: usize, _m: usize)
-    requires positive { 0 < p }
-    requires ends { _m < length boxes.now.list.now → parent_at boxes.now.list.now _m < p }
-    requires through { may_collapse_through (block_at boxes.now.list.now p) ≡ true }
-    requires waiting { flow.old.first ≤ p }
-    requires inside { is_hanging flow.old.start ≡ true → flow.old.first < p }
-    requires known { IsKnown boxes.now.list.now flow.old p _m }
-    ensures { IsKnown boxes.now.list.now flow.new (parent_at boxes.now.list.now p) _m }
+fn close_through(boxes: &Boxes<'_>, flow: &mut Pass, place: MarginPlace)
+    requires positive { 0 < place.innermost }
+    requires ends { place.next < length boxes.now.list.now → parent_at boxes.now.list.now place.next < place.innermost }
+    requires through { may_collapse_through (block_at boxes.now.list.now place.innermost) ≡ true }
+    requires waiting { flow.old.first ≤ place.innermost }
+    requires inside { is_hanging flow.old.start ≡ true → flow.old.first < place.innermost }
+    requires known { IsKnown boxes.now.list.now flow.old place.innermost place.next }
+    ensures { IsKnown boxes.now.list.now flow.new (parent_at boxes.now.list.now place.innermost) place.next }
 {
     let mark = end_of(flow.start, flow.strut);
-    write_at(&mut flow.marks, p, mark);
-    write_at(&mut flow.heights, p, Unit(0));
-    write_flag(&mut flow.through, p, true);
-    flow.strut = with_margin(flow.strut, boxes.block_at(p).margin_bottom);
+    write_at(&mut flow.marks, place.innermost, mark);
+    write_at(&mut flow.heights, place.innermost, Unit(0));
+    write_flag(&mut flow.through, place.innermost, true);
+    flow.strut = with_margin(flow.strut, boxes.block_at(place.innermost).margin_bottom);
 }
 
 // Its bottom margin adjoins that of its last child.
-fn close_joined(boxes: &Boxes<'_>, flow: &mut Pass, p: usize, _m: usize)
-    requires positive { 0 < p }
-    requires ends { _m < length boxes.now.list.now → parent_at boxes.now.list.now _m < p }
-    requires joined { may_join_bottoms (block_at boxes.now.list.now p) ≡ true }
-    requires unbarred { is_barred boxes.now.list.now (state_of flow.old) p ≡ false }
-    requires settled { may_collapse_through (block_at boxes.now.list.now p) ≡ true → p < flow.old.first }
-    requires known { IsKnown boxes.now.list.now flow.old p _m }
-    ensures { IsKnown boxes.now.list.now flow.new (parent_at boxes.now.list.now p) _m }
+fn close_joined(boxes: &Boxes<'_>, flow: &mut Pass, place: MarginPlace)
+    requires positive { 0 < place.innermost }
+    requires ends { place.next < length boxes.now.list.now → parent_at boxes.now.list.now place.next < place.innermost }
+    requires joined { may_join_bottoms (block_at boxes.now.list.now place.innermost) ≡ true }
+    requires unbarred { is_barred boxes.now.list.now (state_of flow.old) place.innermost ≡ false }
+    requires settled { may_collapse_through (block_at boxes.now.list.now place.innermost) ≡ true → place.innermost < flow.old.first }
+    requires known { IsKnown boxes.now.list.now flow.old place.innermost place.next }
+    ensures { IsKnown boxes.now.list.now flow.new (parent_at boxes.now.list.now place.innermost) place.next }
 {
-    let block = boxes.block_at(p);
-    let mark = length_at(&flow.marks, p);
+    let block = boxes.block_at(place.innermost);
+    let mark = length_at(&flow.marks, place.innermost);
     let height = block.height_to_border(
-        length_at(&flow.placing.extents, p),
+        length_at(&flow.placing.extents, place.innermost),
         mark,
         flow.start.position(),
     );
-    write_at(&mut flow.heights, p, height);
+    write_at(&mut flow.heights, place.innermost, height);
     let start = sum_of(mark, height);
     flow.start = RunStart::At(start);
     flow.strut = with_margin(flow.strut, block.margin_bottom);
 }
 
 // Its bottom margin begins a run.
-fn close_parted(boxes: &Boxes<'_>, flow: &mut Pass, p: usize, m: usize) -> Result<(), NoMemory>
-    requires positive { 0 < p }
-    requires ends { m < length boxes.now.list.now → parent_at boxes.now.list.now m < p }
-    requires parted { (may_join_bottoms (block_at boxes.now.list.now p) && not (is_barred boxes.now.list.now (state_of flow.old) p)) ≡ false }
-    requires settled { may_collapse_through (block_at boxes.now.list.now p) ≡ true → p < flow.old.first }
-    requires known { IsKnown boxes.now.list.now flow.old p m }
-    ensures { OnOk result (IsKnown boxes.now.list.now flow.new (parent_at boxes.now.list.now p) m) }
+fn close_parted(boxes: &Boxes<'_>, flow: &mut Pass, place: MarginPlace) -> Result<(), NoMemory>
+    requires positive { 0 < place.innermost }
+    requires ends { place.next < length boxes.now.list.now → parent_at boxes.now.list.now place.next < place.innermost }
+    requires parted { (may_join_bottoms (block_at boxes.now.list.now place.innermost) && not (is_barred boxes.now.list.now (state_of flow.old) place.innermost)) ≡ false }
+    requires settled { may_collapse_through (block_at boxes.now.list.now place.innermost) ≡ true → place.innermost < flow.old.first }
+    requires known { IsKnown boxes.now.list.now flow.old place.innermost place.next }
+    ensures { OnOk result (IsKnown boxes.now.list.now flow.new (parent_at boxes.now.list.now place.innermost) place.next) }
 {
-    let block = boxes.block_at(p);
+    let block = boxes.block_at(place.innermost);
     let end = end_of(flow.start, flow.strut);
-    settle(boxes, &flow.through, &mut flow.marks, flow.first, m, end);
-    place_up_to(boxes, &flow.marks, &mut flow.placing, m)?;
-    let mark = length_at(&flow.marks, p);
-    let height = block.height_to_margin(length_at(&flow.placing.extents, p), mark, end);
-    write_at(&mut flow.heights, p, height);
+    settle(
+        boxes,
+        &flow.through,
+        &mut flow.marks,
+        flow.first,
+        place.next,
+        end,
+    );
+    place_up_to(boxes, &flow.marks, &mut flow.placing, place.next)?;
+    let mark = length_at(&flow.marks, place.innermost);
+    let height = block.height_to_margin(
+        length_at(&flow.placing.extents, place.innermost),
+        mark,
+        end,
+    );
+    write_at(&mut flow.heights, place.innermost, height);
     let start = sum_of(mark, height);
     flow.start = RunStart::At(start);
     flow.strut = lone_margin(block.margin_bottom);
-    flow.first = m;
+    flow.first = place.next;
     Ok(())
 }

@@ -86,7 +86,7 @@ fn place_one(
         place_lines(boxes, marks, placing, k)?;
         return Ok(());
     }
-    place_nowhere(boxes, marks, placing, k)?;
+    push_spot(placing, nowhere())?;
     Ok(())
 }
 
@@ -132,23 +132,6 @@ fn place_solid(
     let extent = extent_below(mark, place.y, shape.height);
     write_at(&mut placing.extents, k, extent);
     push_spot(placing, place)?;
-    Ok(())
-}
-
-fn place_nowhere(
-    boxes: &Boxes<'_>,
-    _marks: &[Unit],
-    placing: &mut Placing,
-    k: usize,
-) -> Result<(), NoMemory>
-    requires within { k < length boxes.now.list.now }
-    requires float { (shape_at boxes.now.list.now k).float ≡ None }
-    requires blocks { is_placed (block_at boxes.now.list.now k).inside ≡ false }
-    requires known { ArePlaced boxes.now.list.now _marks.now placing.old k }
-    ensures placed { OnOk result (GoesOn boxes.now.list.now _marks.now placing.old placing.new k (k + 1)) }
-    ensures kept { OnOk result (placing.new.extents.items ≡ placing.old.extents.items) }
-{
-    push_spot(placing, nowhere())?;
     Ok(())
 }
 

@@ -21,7 +21,7 @@ pub height_to_border-height-requires-clause-mark : goal.height_to_border-height-
 height_to_border-height-requires-clause-mark c =
     let f = c.requires.known.knows.fits in let a = f.parent in let b = f.within in
     let e = rw c.deref.ensures.value at c.length_at-mark.ensures in
-    subst IsNear (sym e) (mark_is_near (weight c.args.boxes.now.list.now c.args.p) _ (light_at c.args.boxes.now.list.now c.args.boxes.now.are c.args.p (omega (arith, a, b))) (f.mark_near c.args.p))
+    subst IsNear (sym e) (mark_is_near (weight c.args.boxes.now.list.now c.args.place.innermost) _ (light_at c.args.boxes.now.list.now c.args.boxes.now.are c.args.place.innermost (omega (arith, a, b))) (f.mark_near c.args.place.innermost))
 
 pub height_to_border-height-requires-clause-border : goal.height_to_border-height-requires-clause-border
 height_to_border-height-requires-clause-border c =
@@ -32,7 +32,7 @@ pub sum_of-start-requires-clause-a : goal.sum_of-start-requires-clause-a
 sum_of-start-requires-clause-a c =
     let f = c.requires.known.knows.fits in let a = f.parent in let b = f.within in
     let e = rw c.deref.ensures.value at c.length_at-mark.ensures in
-    let n = subst IsNear (sym e) (mark_is_near (weight c.args.boxes.now.list.now c.args.p) _ (light_at c.args.boxes.now.list.now c.args.boxes.now.are c.args.p (omega (arith, a, b))) (f.mark_near c.args.p)) in
+    let n = subst IsNear (sym e) (mark_is_near (weight c.args.boxes.now.list.now c.args.place.innermost) _ (light_at c.args.boxes.now.list.now c.args.boxes.now.are c.args.place.innermost (omega (arith, a, b))) (f.mark_near c.args.place.innermost)) in
     let u = n.0 in let v = n.1 in (omega (arith, ints, u), omega (arith, ints, v))
 
 pub returns : goal.returns
@@ -40,7 +40,7 @@ returns c =
     let f = c.requires.known.knows.fits in let a = f.parent in let b = f.within in let l = f.heights_length in
     let block = c.block_at-block.ensures.value in
     let holds = rw block at c.with_margin-flow.ensures.holds in
-    let p = c.args.p in
+    let p = c.args.place.innermost in
     let old = c.args.flow.now in
     let e = rw c.deref-2.ensures.value at c.length_at.ensures in
     let marked = rw c.deref.ensures.value at c.length_at-mark.ensures in
@@ -52,12 +52,12 @@ returns c =
     record {
       places = c.requires.known.places;
       are = c.requires.known.are;
-      knows = knows_joined c.args.boxes.now.list.now c.args.boxes.now.are.is_tree.tree (state_of old) (placing_of old.placing c.requires.known.places) p c.args._m c.args.boxes.now.are c.requires.positive c.requires.ends c.requires.known.knows
+      knows = knows_joined c.args.boxes.now.list.now c.args.boxes.now.are.is_tree.tree (state_of old) (placing_of old.placing c.requires.known.places) p c.args.place.next c.args.boxes.now.are c.requires.positive c.requires.ends c.requires.known.knows
           _ c.length_at-mark.result.0 c.height_to_border-height.result.0 c.sum_of-start.result.0 c.with_margin-flow.result c.requires.joined c.requires.unbarred c.requires.settled marked (c.height_to_border-height.ensures.size flow) height starts wrote
           c.with_margin-flow.ensures.fits holds;
     }
 
 pub sum_of-start-requires-clause-b : goal.sum_of-start-requires-clause-b
 sum_of-start-requires-clause-b c =
-    let flow = subst (λ (b : Block). is_solid b.inside ≡ false) (sym c.block_at-block.ensures.value) (placed_none (block_at c.args.boxes.now.list.now c.args.p).inside (joins_flow (block_at c.args.boxes.now.list.now c.args.p) c.requires.joined)).1 in
+    let flow = subst (λ (b : Block). is_solid b.inside ≡ false) (sym c.block_at-block.ensures.value) (placed_none (block_at c.args.boxes.now.list.now c.args.place.innermost).inside (joins_flow (block_at c.args.boxes.now.list.now c.args.place.innermost) c.requires.joined)).1 in
     box_height_position c.height_to_border-height.result.0 (c.height_to_border-height.ensures.size flow)

@@ -33,7 +33,7 @@ pub place_up_to-requires-clause-near : goal.place_up_to-requires-clause-near
 place_up_to-requires-clause-near c =
     let f = c.requires.known.knows.fits in
     let settles = rw c.deref.ensures.value at c.settle.ensures in
-    let near = marks_settled c.args.boxes.now.list.now c.args.boxes.now.are.is_tree.tree (state_of c.args.flow.now) c.args.p c.args.m c.requires.positive f _ c.end_of-end.result.0 settles c.end_of-end.ensures.near in
+    let near = marks_settled c.args.boxes.now.list.now c.args.boxes.now.are.is_tree.tree (state_of c.args.flow.now) c.args.place.innermost c.args.place.next c.requires.positive f _ c.end_of-end.result.0 settles c.end_of-end.ensures.near in
     subst (λ (xs : List Length). (j : ℕ) → IsMarkNear (weight c.args.boxes.now.list.now j) (length_at xs j)) (sym c.deref-2.ensures.value) near
 
 pub place_up_to-requires-clause-known : goal.place_up_to-requires-clause-known
@@ -51,28 +51,28 @@ height_to_margin-height-requires-clause-mark c =
     let f = c.requires.known.knows.fits in let a = f.parent in let b = f.within in
     let e = rw c.deref-3.ensures.value at c.length_at-mark.ensures in
     let settles = rw c.deref.ensures.value at c.settle.ensures in
-    let near = marks_settled c.args.boxes.now.list.now c.args.boxes.now.are.is_tree.tree (state_of c.args.flow.now) c.args.p c.args.m c.requires.positive f _ c.end_of-end.result.0 settles c.end_of-end.ensures.near c.args.p in
-    subst IsNear (sym e) (mark_is_near (weight c.args.boxes.now.list.now c.args.p) _ (light_at c.args.boxes.now.list.now c.args.boxes.now.are c.args.p (omega (arith, a, b))) near)
+    let near = marks_settled c.args.boxes.now.list.now c.args.boxes.now.are.is_tree.tree (state_of c.args.flow.now) c.args.place.innermost c.args.place.next c.requires.positive f _ c.end_of-end.result.0 settles c.end_of-end.ensures.near c.args.place.innermost in
+    subst IsNear (sym e) (mark_is_near (weight c.args.boxes.now.list.now c.args.place.innermost) _ (light_at c.args.boxes.now.list.now c.args.boxes.now.are c.args.place.innermost (omega (arith, a, b))) near)
 
 pub height_to_margin-height-requires-clause-margin : goal.height_to_margin-height-requires-clause-margin
 height_to_margin-height-requires-clause-margin c =
     let f = c.requires.known.knows.fits in let b = f.within in
-    mark_is_near (weight c.args.boxes.now.list.now c.args.m) c.end_of-end.result.0 (light_at c.args.boxes.now.list.now c.args.boxes.now.are c.args.m b) (end_near (weight c.args.boxes.now.list.now c.args.flow.now.first) (weight c.args.boxes.now.list.now c.args.m) (position_of c.args.flow.now.start) c.end_of-end.result.0 f.start_near c.end_of-end.ensures.near (weight_up c.args.boxes.now.list.now c.args.flow.now.first c.args.m f.first_most))
+    mark_is_near (weight c.args.boxes.now.list.now c.args.place.next) c.end_of-end.result.0 (light_at c.args.boxes.now.list.now c.args.boxes.now.are c.args.place.next b) (end_near (weight c.args.boxes.now.list.now c.args.flow.now.first) (weight c.args.boxes.now.list.now c.args.place.next) (position_of c.args.flow.now.start) c.end_of-end.result.0 f.start_near c.end_of-end.ensures.near (weight_up c.args.boxes.now.list.now c.args.flow.now.first c.args.place.next f.first_most))
 
 pub height_to_margin-height-requires-clause-lines : goal.height_to_margin-height-requires-clause-lines
 height_to_margin-height-requires-clause-lines c lines =
     let f = c.requires.known.knows.fits in let a = f.parent in let b = f.within in
     let old = c.args.flow.now in
     let done = c.in_ok-place_up_to.ensures {u = tt} in
-    let there = placed_on c.args.boxes.now.list.now old.marks.items c.settle.new.marks.items old.placing c.place_up_to.new.placing c.requires.known.places c.args.m c.args.boxes.now.are.is_tree.tree c.requires.known.are
+    let there = placed_on c.args.boxes.now.list.now old.marks.items c.settle.new.marks.items old.placing c.place_up_to.new.placing c.requires.known.places c.args.place.next c.args.boxes.now.are.is_tree.tree c.requires.known.are
     (let early = c.requires.known.knows.early in let few = f.first_most in let within = f.within in omega (arith, early, few, within)) c.requires.known.knows.placed
     (let early = c.requires.known.knows.early in let settles = rw c.deref.ensures.value at c.settle.ensures in λ j lt. settles.before j (omega (arith, lt, early))) (rw c.deref-2.ensures.value at done.placed) in
-    let go : ArePlacedOn c.args.boxes.now.list.now c.settle.new.marks.items c.place_up_to.new.placing c.requires.known.places c.args.m → IsLineDepth c.length_at-mark.result.0 c.block_at-block.result.edge_top.0 c.length_at.result.0 = λ goes.
+    let go : ArePlacedOn c.args.boxes.now.list.now c.settle.new.marks.items c.place_up_to.new.placing c.requires.known.places c.args.place.next → IsLineDepth c.length_at-mark.result.0 c.block_at-block.result.edge_top.0 c.length_at.result.0 = λ goes.
     let block = c.block_at-block.ensures.value in
     let marked = rw c.deref-3.ensures.value at c.length_at-mark.ensures in
     let depth = rw c.deref-4.ensures.value at c.length_at.ensures in
     let there = rw block at lines in
-    rw (block, depth, marked) (line_depth c.args.boxes.now.list.now c.args.boxes.now.are c.settle.new.marks.items (placing_of c.place_up_to.new.placing goes.places) c.args.m goes.to c.args.p a b there) in
+    rw (block, depth, marked) (line_depth c.args.boxes.now.list.now c.args.boxes.now.are c.settle.new.marks.items (placing_of c.place_up_to.new.placing goes.places) c.args.place.next goes.to c.args.place.innermost a b there) in
     go there
 
 pub sum_of-start-requires-clause-a : goal.sum_of-start-requires-clause-a
@@ -80,32 +80,32 @@ sum_of-start-requires-clause-a c =
     let f = c.requires.known.knows.fits in let a = f.parent in let b = f.within in
     let e = rw c.deref-3.ensures.value at c.length_at-mark.ensures in
     let settles = rw c.deref.ensures.value at c.settle.ensures in
-    let near = marks_settled c.args.boxes.now.list.now c.args.boxes.now.are.is_tree.tree (state_of c.args.flow.now) c.args.p c.args.m c.requires.positive f _ c.end_of-end.result.0 settles c.end_of-end.ensures.near c.args.p in
-    let n = subst IsNear (sym e) (mark_is_near (weight c.args.boxes.now.list.now c.args.p) _ (light_at c.args.boxes.now.list.now c.args.boxes.now.are c.args.p (omega (arith, a, b))) near) in
+    let near = marks_settled c.args.boxes.now.list.now c.args.boxes.now.are.is_tree.tree (state_of c.args.flow.now) c.args.place.innermost c.args.place.next c.requires.positive f _ c.end_of-end.result.0 settles c.end_of-end.ensures.near c.args.place.innermost in
+    let n = subst IsNear (sym e) (mark_is_near (weight c.args.boxes.now.list.now c.args.place.innermost) _ (light_at c.args.boxes.now.list.now c.args.boxes.now.are c.args.place.innermost (omega (arith, a, b))) near) in
     let u = n.0 in let v = n.1 in (omega (arith, ints, u), omega (arith, ints, v))
 
 pub sum_of-start-requires-clause-b : goal.sum_of-start-requires-clause-b
 sum_of-start-requires-clause-b c =
     let f = c.requires.known.knows.fits in let a = f.parent in let b = f.within in
-    let p = c.args.p in
+    let p = c.args.place.innermost in
     let block = c.block_at-block.ensures.value in
     let settles = rw c.deref.ensures.value at c.settle.ensures in
-    let near = marks_settled c.args.boxes.now.list.now c.args.boxes.now.are.is_tree.tree (state_of c.args.flow.now) p c.args.m c.requires.positive f _ c.end_of-end.result.0 settles c.end_of-end.ensures.near p in
+    let near = marks_settled c.args.boxes.now.list.now c.args.boxes.now.are.is_tree.tree (state_of c.args.flow.now) p c.args.place.next c.requires.positive f _ c.end_of-end.result.0 settles c.end_of-end.ensures.near p in
     let light_p = light_at c.args.boxes.now.list.now c.args.boxes.now.are p (omega (arith, a, b)) in
-    let light_m = light_at c.args.boxes.now.list.now c.args.boxes.now.are c.args.m b in
+    let light_m = light_at c.args.boxes.now.list.now c.args.boxes.now.are c.args.place.next b in
     let old = c.args.flow.now in
     let done = c.in_ok-place_up_to.ensures {u = tt} in
-    let there = placed_on c.args.boxes.now.list.now old.marks.items c.settle.new.marks.items old.placing c.place_up_to.new.placing c.requires.known.places c.args.m c.args.boxes.now.are.is_tree.tree c.requires.known.are
+    let there = placed_on c.args.boxes.now.list.now old.marks.items c.settle.new.marks.items old.placing c.place_up_to.new.placing c.requires.known.places c.args.place.next c.args.boxes.now.are.is_tree.tree c.requires.known.are
     (let early = c.requires.known.knows.early in let few = f.first_most in let within = f.within in omega (arith, early, few, within)) c.requires.known.knows.placed
     (let early = c.requires.known.knows.early in let settles = rw c.deref.ensures.value at c.settle.ensures in λ j lt. settles.before j (omega (arith, lt, early))) (rw c.deref-2.ensures.value at done.placed) in
-    (λ (goes : ArePlacedOn c.args.boxes.now.list.now c.settle.new.marks.items c.place_up_to.new.placing c.requires.known.places c.args.m).
+    (λ (goes : ArePlacedOn c.args.boxes.now.list.now c.settle.new.marks.items c.place_up_to.new.placing c.requires.known.places c.args.place.next).
     let placed = goes.to in
     let extent = rw c.deref-4.ensures.value at c.length_at.ensures in
     let height = rw (block, extent) at c.height_to_margin-height.ensures.value in
     true_or (is_solid (block_at c.args.boxes.now.list.now p).inside) (IsPosition c.height_to_margin-height.result.0)
     (λ solid. let low = placed.low p c.requires.positive f.parent solid in
     let h : c.height_to_margin-height.result.0 ≡ length_at c.place_up_to.new.placing.extents.items p = height ∙ rw solid refl in
-    subst IsPosition (sym h) (extent_position (weight c.args.boxes.now.list.now c.args.m) _ _ light_m (mark_is_near (weight c.args.boxes.now.list.now p) _ light_p near) low.0 low.1))
+    subst IsPosition (sym h) (extent_position (weight c.args.boxes.now.list.now c.args.place.next) _ _ light_m (mark_is_near (weight c.args.boxes.now.list.now p) _ light_p near) low.0 low.1))
     (λ flow. box_height_position c.height_to_margin-height.result.0 (c.height_to_margin-height.ensures.size (subst (λ (b : Block). is_solid b.inside ≡ false) (sym block) flow)))) there
 
 pub returns : goal.returns
@@ -113,16 +113,16 @@ returns c =
     let f = c.requires.known.knows.fits in let a = f.parent in let b = f.within in let l = f.heights_length in
     let block = c.block_at-block.ensures.value in
     let holds = rw block at c.lone_margin-flow.ensures.holds in
-    let p = c.args.p in
+    let p = c.args.place.innermost in
     let old = c.args.flow.now in
     let marked = rw c.deref-3.ensures.value at c.length_at-mark.ensures in
     let settles = rw c.deref.ensures.value at c.settle.ensures in
     let old = c.args.flow.now in
     let done = c.in_ok-place_up_to.ensures {u = tt} in
-    let there = placed_on c.args.boxes.now.list.now old.marks.items c.settle.new.marks.items old.placing c.place_up_to.new.placing c.requires.known.places c.args.m c.args.boxes.now.are.is_tree.tree c.requires.known.are
+    let there = placed_on c.args.boxes.now.list.now old.marks.items c.settle.new.marks.items old.placing c.place_up_to.new.placing c.requires.known.places c.args.place.next c.args.boxes.now.are.is_tree.tree c.requires.known.are
     (let early = c.requires.known.knows.early in let few = f.first_most in let within = f.within in omega (arith, early, few, within)) c.requires.known.knows.placed
     (let early = c.requires.known.knows.early in let settles = rw c.deref.ensures.value at c.settle.ensures in λ j lt. settles.before j (omega (arith, lt, early))) (rw c.deref-2.ensures.value at done.placed) in
-    let go : ArePlacedOn c.args.boxes.now.list.now c.settle.new.marks.items c.place_up_to.new.placing c.requires.known.places c.args.m → IsKnown c.args.boxes.now.list.now (record c.args.flow.now { marks = c.settle.new.marks; heights = c.write_at.new.column; start = starts_at c.sum_of-start.result; strut = c.lone_margin-flow.result; first = c.args.m; placing = c.place_up_to.new.placing }) (parent_at c.args.boxes.now.list.now c.args.p) c.args.m = λ goes.
+    let go : ArePlacedOn c.args.boxes.now.list.now c.settle.new.marks.items c.place_up_to.new.placing c.requires.known.places c.args.place.next → IsKnown c.args.boxes.now.list.now (record c.args.flow.now { marks = c.settle.new.marks; heights = c.write_at.new.column; start = starts_at c.sum_of-start.result; strut = c.lone_margin-flow.result; first = c.args.place.next; placing = c.place_up_to.new.placing }) (parent_at c.args.boxes.now.list.now c.args.place.innermost) c.args.place.next = λ goes.
     let placed = goes.to in
     let extent = rw c.deref-4.ensures.value at c.length_at.ensures in
     let height = rw (block, extent) at c.height_to_margin-height.ensures.value in
@@ -134,7 +134,7 @@ returns c =
     record {
       places = goes.places;
       are = goes.are;
-      knows = knows_parted c.args.boxes.now.list.now c.args.boxes.now.are.is_tree.tree (state_of old) (placing_of old.placing c.requires.known.places) p c.args.m c.args.boxes.now.are c.requires.positive c.requires.ends c.requires.known.knows
+      knows = knows_parted c.args.boxes.now.list.now c.args.boxes.now.are.is_tree.tree (state_of old) (placing_of old.placing c.requires.known.places) p c.args.place.next c.args.boxes.now.are c.requires.positive c.requires.ends c.requires.known.knows
           _ _ (placing_of c.place_up_to.new.placing goes.places) c.end_of-end.result.0 c.length_at-mark.result.0 c.height_to_margin-height.result.0 c.sum_of-start.result.0 c.lone_margin-flow.result c.requires.parted c.requires.settled
           ends c.end_of-end.ensures.near settles placed (subst (λ (n : ℕ). AreExtentsKept c.args.boxes.now.list.now n old.placing.extents.items c.place_up_to.new.placing.extents.items) (sym (places_count old.placing c.requires.known.places c.requires.known.are)) done.kept) goes.same marked size height starts wrote
           c.lone_margin-flow.ensures.fits holds;
@@ -147,8 +147,8 @@ length_at-requires c =
     let old = c.args.flow.now in
     let done = c.in_ok-place_up_to.ensures {u = tt} in
     let a = f.parent in let b = f.within in
-    let inner : c.args.p < length c.args.boxes.now.list.now = omega (arith, a, b) in
-    let there = placed_on c.args.boxes.now.list.now old.marks.items c.settle.new.marks.items old.placing c.place_up_to.new.placing c.requires.known.places c.args.m c.args.boxes.now.are.is_tree.tree c.requires.known.are
+    let inner : c.args.place.innermost < length c.args.boxes.now.list.now = omega (arith, a, b) in
+    let there = placed_on c.args.boxes.now.list.now old.marks.items c.settle.new.marks.items old.placing c.place_up_to.new.placing c.requires.known.places c.args.place.next c.args.boxes.now.are.is_tree.tree c.requires.known.are
     (let early = c.requires.known.knows.early in let few = f.first_most in let within = f.within in omega (arith, early, few, within)) c.requires.known.knows.placed
     (let early = c.requires.known.knows.early in let settles = rw c.deref.ensures.value at c.settle.ensures in λ j lt. settles.before j (omega (arith, lt, early))) (rw c.deref-2.ensures.value at done.placed) in
-    rw c.deref-4.ensures.value (within_extents c.args.boxes.now.list.now c.settle.new.marks.items c.place_up_to.new.placing c.requires.known.places c.args.m there c.args.p inner)
+    rw c.deref-4.ensures.value (within_extents c.args.boxes.now.list.now c.settle.new.marks.items c.place_up_to.new.placing c.requires.known.places c.args.place.next there c.args.place.innermost inner)

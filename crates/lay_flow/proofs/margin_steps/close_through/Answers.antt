@@ -23,7 +23,7 @@ returns c =
     let f = c.requires.known.knows.fits in let a = f.parent in let b = f.within in
     let l1 = f.marks_length in let l2 = f.heights_length in let l3 = f.through_length in
     let holds = rw c.block_at.ensures.value at c.with_margin-flow.ensures.holds in
-    let p = c.args.p in
+    let p = c.args.place.innermost in
     let old = c.args.flow.now in
     let zero : Length = record { 0 = pos 0 } in
     let mark : Wrote length_at old.marks.items c.write_at.new.column.items p c.end_of-mark.result.0 =
@@ -36,6 +36,6 @@ returns c =
     record {
       places = c.requires.known.places;
       are = c.requires.known.are;
-      knows = knows_through c.args.boxes.now.list.now c.args.boxes.now.are.is_tree.tree (state_of old) (placing_of old.placing c.requires.known.places) p c.args._m c.args.boxes.now.are c.requires.positive c.requires.ends c.requires.known.knows
+      knows = knows_through c.args.boxes.now.list.now c.args.boxes.now.are.is_tree.tree (state_of old) (placing_of old.placing c.requires.known.places) p c.args.place.next c.args.boxes.now.are c.requires.positive c.requires.ends c.requires.known.knows
           _ _ _ c.end_of-mark.result.0 c.with_margin-flow.result c.requires.through c.requires.waiting c.requires.inside ends c.end_of-mark.ensures.near mark height flag c.with_margin-flow.ensures.fits holds;
     }
