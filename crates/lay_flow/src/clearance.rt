@@ -16,6 +16,7 @@ use crate::boxes::Boxes;
 use crate::columns::write_edge;
 use crate::hypothetical_edge::hypothetical_edge;
 use crate::margin_run::{end_of, no_margin};
+use crate::marked_boxes::MarkedBoxes;
 use crate::pass::{Pass, RunStart};
 use crate::placement::place_up_to;
 use crate::settling::settle;
@@ -31,7 +32,11 @@ pub(crate) fn clear(boxes: &Boxes<'_>, flow: &mut Pass, k: usize) -> Result<(), 
     ensures { OnOk result (IsReadyAt boxes.now.list.now flow.new k) }
 {
     if asks_to_clear(boxes, k) {
-        place_up_to(boxes, &flow.marks, &mut flow.placing, flow.first)?;
+        let marked = MarkedBoxes {
+            boxes: *boxes,
+            marks: &flow.marks,
+        };
+        place_up_to(&marked, &mut flow.placing, flow.first)?;
         clear_floats(boxes, flow, k)?;
     }
     Ok(())
@@ -153,7 +158,11 @@ fn begin_cleared(
 {
     let end = end_of(flow.start, flow.strut);
     settle(boxes, &flow.through, &mut flow.marks, flow.first, k, end);
-    place_up_to(boxes, &flow.marks, &mut flow.placing, k)?;
+    let marked = MarkedBoxes {
+        boxes: *boxes,
+        marks: &flow.marks,
+    };
+    place_up_to(&marked, &mut flow.placing, k)?;
     let bottom = flow.placing.floats.clear_edge(boxes.clear_at(k));
     let edge = lower_of(bottom, hypothetical);
     write_edge(&mut flow.clear_edges, k, edge);

@@ -13,6 +13,7 @@ use crate::line_corners::line_corners;
 use crate::margin_place::MarginPlace;
 use crate::margin_run::{end_of, no_margin};
 use crate::margin_steps::{close, open};
+use crate::marked_boxes::MarkedBoxes;
 use crate::pass::{Pass, RunStart};
 use crate::placement::{Placing, place_up_to};
 use crate::settling::settle;
@@ -65,7 +66,11 @@ fn begin(alloc: Global, boxes: &Boxes<'_>) -> Result<Pass, NoMemory>
     let count = boxes.list.len();
     let marks = vec![in alloc; Unit(0); count]?;
     let mut placing = none_placed(alloc, count)?;
-    place_up_to(boxes, &marks, &mut placing, 1)?;
+    let marked = MarkedBoxes {
+        boxes: *boxes,
+        marks: &marks,
+    };
+    place_up_to(&marked, &mut placing, 1)?;
     Ok(Pass {
         marks,
         heights: vec![in alloc; Unit(0); count]?,
@@ -162,7 +167,11 @@ fn close_root(boxes: &Boxes<'_>, flow: &mut Pass) -> Result<(), NoMemory>
         count,
         end,
     );
-    place_up_to(boxes, &flow.marks, &mut flow.placing, count)?;
+    let marked = MarkedBoxes {
+        boxes: *boxes,
+        marks: &flow.marks,
+    };
+    place_up_to(&marked, &mut flow.placing, count)?;
     let block = boxes.block_at(0);
     let mark = length_at(&flow.marks, 0);
     let bottom = flow.placing.floats.clear_edge(Clear::Both);

@@ -25,6 +25,7 @@ mod margin_collapse;
 mod margin_place;
 mod margin_run;
 mod margin_steps;
+mod marked_boxes;
 mod pass;
 mod placement;
 mod settling;

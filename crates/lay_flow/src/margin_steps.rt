@@ -11,6 +11,7 @@ use crate::clearance::clear;
 use crate::columns::{is_cleared, length_at, sum_of, write_at, write_flag};
 use crate::margin_place::MarginPlace;
 use crate::margin_run::{end_of, lone_margin, no_margin, run_start, with_margin};
+use crate::marked_boxes::MarkedBoxes;
 use crate::pass::{Pass, RunStart};
 use crate::placement::place_up_to;
 use crate::settling::settle;
@@ -182,7 +183,11 @@ fn close_parted(boxes: &Boxes<'_>, flow: &mut Pass, place: MarginPlace) -> Resul
         place.next,
         end,
     );
-    place_up_to(boxes, &flow.marks, &mut flow.placing, place.next)?;
+    let marked = MarkedBoxes {
+        boxes: *boxes,
+        marks: &flow.marks,
+    };
+    place_up_to(&marked, &mut flow.placing, place.next)?;
     let mark = length_at(&flow.marks, place.innermost);
     let height = block.height_to_margin(
         length_at(&flow.placing.extents, place.innermost),

@@ -12,14 +12,14 @@ use Rattle.lay_flow.proofs.PassEnds.{knows_first, flags_at, lengths_at, no_edges
 use Rattle.lay_flow.proofs.FirstPlaced.{IsEmpty, none_placed, none_placed_to, first_extents, mark_near_none}
 use Rattle.lay_flow.proofs.flow_columns.begin.Goals as goal
 
-pub place_up_to-requires-clause-count : goal.place_up_to-requires-clause-count
-place_up_to-requires-clause-count c =
+pub invariant_of-marked-clause-count : goal.invariant_of-marked-clause-count
+invariant_of-marked-clause-count c =
     let n = length c.args.boxes.now.list.now in
     let marks : c.in_ok-marks.marks.items ≡ replicate n no_length = c.in_ok-marks.ensures.items_if_clones_equal (λ y e. e) in
     rw c.deref.ensures.value (ap (λ (xs : List Length). length xs) marks ∙ grind (arith, elements))
 
-pub place_up_to-requires-clause-near : goal.place_up_to-requires-clause-near
-place_up_to-requires-clause-near c j =
+pub invariant_of-marked-clause-near : goal.invariant_of-marked-clause-near
+invariant_of-marked-clause-near c j =
     let n = length c.args.boxes.now.list.now in
     let marks : c.in_ok-marks.marks.items ≡ replicate n no_length = c.in_ok-marks.ensures.items_if_clones_equal (λ y e. e) in
     rw c.deref.ensures.value (mark_near_none (weight c.args.boxes.now.list.now j) _ (ap (λ (xs : List Length). length_at xs j) marks ∙ lengths_at n j))

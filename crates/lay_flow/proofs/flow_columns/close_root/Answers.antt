@@ -26,8 +26,8 @@ end_of-end-requires-clause-start c =
     let f = c.requires.knows.fits in let a = f.first_most in let b = f.within in
     start_is_near (weight c.args.boxes.now.list.now c.args.flow.now.first) (position_of c.args.flow.now.start) (light_at c.args.boxes.now.list.now c.args.boxes.now.are c.args.flow.now.first (omega (arith, a, b))) f.start_near
 
-pub place_up_to-requires-clause-near : goal.place_up_to-requires-clause-near
-place_up_to-requires-clause-near c =
+pub invariant_of-marked-clause-near : goal.invariant_of-marked-clause-near
+invariant_of-marked-clause-near c =
     let f = c.requires.knows.fits in
     let settles = rw c.deref.ensures.value at c.settle.ensures in
     let near = near_tops c.args.boxes.now.list.now c.args.boxes.now.are (state_of c.args.flow.now) _ c.end_of-end.result.0 f c.end_of-end.ensures.near settles in

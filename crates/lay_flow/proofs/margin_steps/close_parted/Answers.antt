@@ -29,8 +29,8 @@ end_of-end-requires-clause-start c =
     let f = c.requires.known.knows.fits in let a = f.first_most in let b = f.within in
     start_is_near (weight c.args.boxes.now.list.now c.args.flow.now.first) (position_of c.args.flow.now.start) (light_at c.args.boxes.now.list.now c.args.boxes.now.are c.args.flow.now.first (omega (arith, a, b))) f.start_near
 
-pub place_up_to-requires-clause-near : goal.place_up_to-requires-clause-near
-place_up_to-requires-clause-near c =
+pub invariant_of-marked-clause-near : goal.invariant_of-marked-clause-near
+invariant_of-marked-clause-near c =
     let f = c.requires.known.knows.fits in
     let settles = rw c.deref.ensures.value at c.settle.ensures in
     let near = marks_settled c.args.boxes.now.list.now c.args.boxes.now.are.is_tree.tree (state_of c.args.flow.now) c.args.place.innermost c.args.place.next c.requires.positive f _ c.end_of-end.result.0 settles c.end_of-end.ensures.near in
