@@ -1,5 +1,5 @@
 -- The beginning and the end of the pass.
-use Rattle.std.proofs.Common.{◌≡◌, ℕ, zero, suc, ◌+◌, Bool, false, ℤ, pos, ◌+ℤ◌, ◌-ℤ◌, List, [], length, slice_index_or, replicate, refl, sym, ap, ◌∙◌, arith, inl, inr, Option, Some, None, subst}
+use Rattle.std.proofs.Common.{◌≡◌, ℕ, zero, suc, ◌+◌, Bool, false, ℤ, pos, ◌+ℤ◌, ◌-ℤ◌, List, [], ◌∷◌, length, slice_index_or, replicate, refl, sym, ap, ◌∙◌, arith, inl, inr, Option, Some, None, subst}
 use Rattle.std.proofs.lemmas.Bool.{cases_eq}
 use Rattle.std.proofs.lemmas.Int.{ints}
 use Rattle.lay_flow.specs.declared.flow_box.FlowBox.{FlowBox}
@@ -18,7 +18,7 @@ use Rattle.lay_flow.specs.BlockLayout.{BlockLayout, IsBlockLayout}
 use Rattle.lay_flow.specs.ContextFlow.{AreContextPlaces}
 use Rattle.lay_flow.specs.Pass.State.{PassState, Settled}
 use Rattle.lay_flow.specs.FlowBoxes.{AreFlowBoxes}
-use Rattle.lay_flow.specs.Pass.Bounds.{StrutFits, StateFits, IsMarkNear, IsCollapseNear, AreBoxHeights, held_end}
+use Rattle.lay_flow.specs.Pass.Bounds.{clears_of, clear_edges_of, StrutFits, StateFits, IsMarkNear, IsCollapseNear, AreBoxHeights, held_end}
 use Rattle.lay_flow.specs.Weights.{weight}
 use Rattle.lay_flow.proofs.WeightFacts.{weight_up}
 use Rattle.lay_flow.specs.Pass.Placed.{Placing, PlacesTo}
@@ -47,6 +47,14 @@ entry_at (suc n) (suc k) = entry_at n k
 
 pub lengths_at : (n k : ℕ) → length_at (replicate n no_length) k ≡ pos 0
 lengths_at n k = ap (λ (v : Length). v.0) (entry_at n k)
+
+pub none_cleared : (n : ℕ) → clears_of (replicate n None) ≡ replicate n false
+none_cleared zero = refl
+none_cleared (suc n) = ap (λ flags. false ∷ flags) (none_cleared n)
+
+pub no_edges : (n : ℕ) → clear_edges_of (replicate n None) ≡ replicate n no_length
+no_edges zero = refl
+no_edges (suc n) = ap (λ edges. no_length ∷ edges) (no_edges n)
 
 module _ (boxes : List FlowBox) (input : AreFlowBoxes boxes) where
   root_mark : (extents : Extents) (clear_edges : List Length) (y : BlockLayout) → IsBlockLayout boxes extents clear_edges y → length_at y.places.marks 0 ≡ pos 0

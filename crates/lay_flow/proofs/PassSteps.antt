@@ -197,11 +197,36 @@ module _ (boxes : List FlowBox) (tree : IsTree (parents_of boxes)) (now : PassSt
         → mark ≡ length_at now.marks p → IsBoxSize height → height ≡ border_height (block_at boxes p) (length_at placing.extents p) (now.start -ℤ (mark +ℤ (block_at boxes p).edge_top.0))
         → start ≡ mark +ℤ height → Wrote length_at now.heights heights p height
         → StrutFits strut' → WithMargin now.strut strut' (block_at boxes p).margin_bottom.0
-        → Knows boxes (record now { heights = heights; start = start; strut = strut' }) placing (parent_at boxes p) m
+        → Knows boxes (record now { heights = heights; start = start; strut = strut'; hangs = false }) placing (parent_at boxes p) m
     knows_joined heights mark height start strut' may unbarred settled marked size is_height starts wrote fits' holds = record {
-      fits = fits_joined boxes tree now p m positive was.fits heights height start strut' near size wrote fits';
+      fits = let f = fits_joined boxes tree now p m positive was.fits heights height start strut' near size wrote fits' in record {
+        parent = f.parent;
+        within = f.within;
+        first_least = f.first_least;
+        first_most = f.first_most;
+        marks_length = f.marks_length;
+        heights_length = f.heights_length;
+        through_length = f.through_length;
+        start_near = f.start_near;
+        edge_near = λ t. absurd (true_false false t refl);
+        mark_near = f.mark_near;
+        strut_fits = f.strut_fits;
+        unparted = f.unparted;
+        sized = f.sized;
+      };
       near = later_near (weight boxes now.first) (weight boxes m) start (weight_up boxes now.first m was.fits.first_most) near;
-      is_at = there;
+      is_at = λ extents clear_edges y may_be candidate.
+          let at = there extents clear_edges y may_be candidate in
+          let off = not_hanging boxes extents clear_edges y candidate.is_layout tree now p m positive (was.is_at extents clear_edges y may_be candidate) ends before in
+          record {
+            so_far = at.so_far;
+            in_run = record {
+              gathered = at.in_run.gathered;
+              strut_holds = at.in_run.strut_holds;
+              start_is = λ _. at.in_run.start_is off;
+              hanging = λ t. absurd (true_false false t refl);
+            };
+          };
       no_extents = was.no_extents;
       placed = was.placed;
       early = was.early;

@@ -66,3 +66,27 @@ module _ (boxes : List FlowBox) (tree : IsTree (parents_of boxes)) (flags : List
           (wrote.here ∙ is ∙ sym (wrote.other (parent_at boxes k) (λ q. omega (arith, q, less)))))
     ];
   }
+
+-- a box that is collapsed through, and whose parent's top margin is in an earlier run, keeps its mark
+pub settled_keeping : (boxes : List FlowBox) (flags : List Bool) (before marks : List Length) (first k : ℕ) (mark : ℤ) → Settled boxes flags before marks first k mark
+    → flag_at flags k ≡ true → parent_at boxes k < first → Settled boxes flags before marks first (k + 1) mark
+settled_keeping boxes flags before marks first k mark was through low = record {
+  length_is = was.length_is;
+  before = was.before;
+  after = λ j le. was.after j (omega (arith, le));
+  stands = λ j from lt flag. elim (cases_lt j k) [
+    | inl less ↦ was.stands j from less flag
+    | inr ge ↦ absurd (true_false (flag_at flags k) through (ap (flag_at flags) (sym (same j lt ge)) ∙ flag))
+  ];
+  keeps = λ j from lt flag low. elim (cases_lt j k) [
+    | inl less ↦ was.keeps j from less flag low
+    | inr ge ↦ was.after j ge
+  ];
+  inherits = λ j from lt flag high. elim (cases_lt j k) [
+    | inl less ↦ was.inherits j from less flag high
+    | inr ge ↦ (let p = ap (parent_at boxes) (same j lt ge) in absurd (omega (arith, p, low, high)))
+  ];
+}
+  where
+    same : (j : ℕ) → j < k + 1 → k ≤ j → j ≡ k
+    same j lt ge = omega (arith, lt, ge)

@@ -1,9 +1,11 @@
 -- An entry of a column was written.
-use Rattle.std.proofs.Common.{ℕ, ◌<◌, Bool, List, length, set, arith}
+use Rattle.std.proofs.Common.{ℕ, ◌<◌, Bool, true, List, length, set, arith, is_some, Option, Some}
 use Rattle.std.proofs.lemmas.Grind.{elements}
+use Rattle.std.proofs.lemmas.List.{length-map, map-set}
 use Rattle.lay_units.specs.declared.length.Unit.{Unit as Length}
 use Rattle.lay_flow.specs.Lengths.{length_at}
 use Rattle.lay_flow.specs.Children.{flag_at}
+use Rattle.lay_flow.specs.Pass.Bounds.{clears_of, clear_edges_of, edge_or_none}
 use Rattle.lay_flow.proofs.ColumnWrites.{set_same, set_other, length-set'}
 use Rattle.lay_flow.proofs.SoFar.{Wrote}
 
@@ -12,3 +14,10 @@ wrote_length column k v within = record { length_is = length-set' column k v; he
 
 pub wrote_flag : (flags : List Bool) (k : ℕ) (v : Bool) → k < length flags → Wrote flag_at flags (set flags k v) k v
 wrote_flag flags k v within = record { length_is = grind (arith, elements); here = grind (arith, elements); other = λ j ne. grind (arith, elements) }
+
+-- a box is given clearance
+pub wrote_cleared : (edges : List (Option Length)) (k : ℕ) (edge : Length) → k < length edges → Wrote flag_at (clears_of edges) (clears_of (set edges k (Some edge))) k true
+wrote_cleared edges k edge within = rw (map-set is_some edges k (Some edge)) (wrote_flag (clears_of edges) k true (rw (length-map edges is_some) within))
+
+pub wrote_edge : (edges : List (Option Length)) (k : ℕ) (edge : Length) → k < length edges → Wrote length_at (clear_edges_of edges) (clear_edges_of (set edges k (Some edge))) k edge.0
+wrote_edge edges k edge within = rw (map-set edge_or_none edges k (Some edge)) (wrote_length (clear_edges_of edges) k edge (rw (length-map edges edge_or_none) within))

@@ -6,12 +6,13 @@ ghost use Rattle.lay_floats.specs.Within.{IsWithin};
 ghost use Rattle.lay_flow.specs.Boxes.{box_at};
 ghost use Rattle.lay_flow.specs.BlockPositions.{is_solid};
 ghost use Rattle.lay_flow.specs.BlockSizes.{IsBoxSize, IsNear};
-ghost use Rattle.lay_flow.specs.FlowBoxes.{AreFlowBoxes, FloatBoxFits, KindFits};
+ghost use Rattle.lay_flow.specs.FlowBoxes.{FloatBoxFits, KindFits};
 ghost use Rattle.lay_flow.specs.FlowPlaces.{AreNearPlaces, IsFlowOf, IsNearPlace, border_box, float_box};
 ghost use Rattle.lay_flow.specs.Pass.Columns.{AreBorderBoxes, AreNearColumns, IsFarPlace, corner_at};
 ghost use Rattle.lay_flow.specs.Lengths.{length_at};
 ghost use Rattle.lay_flow.specs.MarginRuns.{block_of};
 
+use crate::boxes::Boxes;
 use crate::columns::{length_at, place_at};
 use crate::flow_box::{FloatBox, FlowBox, FlowBoxes, FlowKind};
 use crate::flow_columns::{FlowColumns, flow_columns};
@@ -25,42 +26,42 @@ use std::alloc::Global;
 pub fn flow(alloc: Global, boxes: &FlowBoxes) -> Result<FlowPlaces, NoMemory>
     ensures { IfOk result (IsFlowOf boxes.now) }
 {
-    let boxes = boxes.as_slice();
-    let columns = flow_columns(alloc, boxes)?;
-    let places = border_boxes(alloc, boxes, &columns)?;
+    let boxes = Boxes {
+        list: boxes.as_slice(),
+    };
+    let columns = flow_columns(alloc, &boxes)?;
+    let places = border_boxes(alloc, &boxes, &columns)?;
     Ok(FlowPlaces::new(places, columns.rows))
 }
 
 // The corner and the height of each border box.
 fn border_boxes(
     alloc: Global,
-    boxes: &[FlowBox],
+    boxes: &Boxes<'_>,
     columns: &FlowColumns,
 ) -> Result<Vec<BoxPlace>, NoMemory>
-    requires input { AreFlowBoxes boxes.now }
-    requires near { AreNearColumns boxes.now columns.now }
-    ensures places { IfOk result (λ r. AreBorderBoxes boxes.now columns.now r.items) }
+    requires { AreNearColumns boxes.now.list.now columns.now }
+    ensures places { IfOk result (λ r. AreBorderBoxes boxes.now.list.now columns.now r.items) }
     ensures near { IfOk result (λ r. AreNearPlaces r.items) }
 {
-    let mut places = Vec::with_capacity(alloc, boxes.len())?;
-    for k in 0..boxes.len() {
+    let mut places = Vec::with_capacity(alloc, boxes.list.len())?;
+    for k in 0..boxes.list.len() {
         places.push(border_box_at(boxes, columns, k))?;
     }
     Ok(places)
 }
 
-fn border_box_at(boxes: &[FlowBox], columns: &FlowColumns, k: usize) -> BoxPlace
-    requires input { AreFlowBoxes boxes.now }
-    requires near { AreNearColumns boxes.now columns.now }
-    requires within { k < length boxes.now }
-    ensures value { result ≡ border_box (box_at boxes.now k).kind (record { 0 = length_at columns.now.tops.items k }) (record { 0 = length_at columns.now.heights.items k }) (corner_at columns.now.places.items k) (corner_at columns.now.corners.items k) }
+fn border_box_at(boxes: &Boxes<'_>, columns: &FlowColumns, k: usize) -> BoxPlace
+    requires near { AreNearColumns boxes.now.list.now columns.now }
+    requires within { k < length boxes.now.list.now }
+    ensures value { result ≡ border_box (box_at boxes.now.list.now k).kind (record { 0 = length_at columns.now.tops.items k }) (record { 0 = length_at columns.now.heights.items k }) (corner_at columns.now.places.items k) (corner_at columns.now.corners.items k) }
     ensures near { IsNearPlace result }
 {
     let mark = length_at(&columns.tops, k);
     let height = length_at(&columns.heights, k);
     let place = place_at(&columns.places, k);
     border_box(
-        &boxes[k],
+        &boxes.list[k],
         mark,
         height,
         place,

@@ -6,72 +6,61 @@ ghost use Rattle.lay_floats.specs.ClearEdge.{Clears};
 ghost use Rattle.lay_floats.specs.declared.requests.Clear.TheVariants.{None as clear_none};
 ghost use Rattle.lay_flow.specs.Boxes.{parent_at};
 ghost use Rattle.lay_flow.specs.BlockFloats.{shape_at};
-ghost use Rattle.lay_flow.specs.FlowBoxes.{AreFlowBoxes};
 ghost use Rattle.lay_flow.specs.Clearance.{IsAbove, lower_of};
 ghost use Rattle.lay_flow.specs.Pass.Clears.{HasWaitingFloat, IsAboveFloats, IsEdgeWithout, IsSideToClear};
 ghost use Rattle.lay_flow.specs.Pass.Bounds.{IsEdgeNear, state_of};
 ghost use Rattle.lay_flow.specs.Pass.Known.{IsKnown, IsReadyAt};
 ghost use Rattle.lay_flow.specs.Weights.{weight};
 
-use crate::columns::{write_at, write_flag};
-use crate::flow_box::FlowBox;
+use crate::boxes::Boxes;
+use crate::columns::write_edge;
 use crate::hypothetical_edge::hypothetical_edge;
 use crate::margin_run::{end_of, no_margin};
-use crate::pass::Pass;
+use crate::marked_boxes::MarkedBoxes;
+use crate::pass::{Pass, RunStart};
 use crate::placement::place_up_to;
 use crate::settling::settle;
-use crate::shape::{clear_at, side_at};
 use lay_floats::{Clear, Side};
 use lay_units::{NoMemory, Unit};
 
-/// Decides whether the box at k has clearance. If so, the run ends, and the clearance begins a new one.
-pub(crate) fn clear(boxes: &[FlowBox], flow: &mut Pass, k: usize) -> Result<(), NoMemory>
-    requires input { AreFlowBoxes boxes.now }
+/// Decides whether the box at k has clearance. If so, the run ends, and the clearance begins a new one. If it asks for
+/// that, the boxes before the run are placed first, since their marks are known.
+pub(crate) fn clear(boxes: &Boxes<'_>, flow: &mut Pass, k: usize) -> Result<(), NoMemory>
     requires positive { 0 < k }
-    requires within { k < length boxes.now }
-    requires known { IsKnown boxes.now flow.old (parent_at boxes.now k) k }
-    ensures { OnOk result (IsReadyAt boxes.now flow.new k) }
+    requires within { k < length boxes.now.list.now }
+    requires known { IsKnown boxes.now.list.now flow.old (parent_at boxes.now.list.now k) k }
+    ensures { OnOk result (IsReadyAt boxes.now.list.now flow.new k) }
 {
     if asks_to_clear(boxes, k) {
-        place_settled(boxes, flow, k)?;
+        let marked = MarkedBoxes {
+            boxes: *boxes,
+            marks: &flow.marks,
+        };
+        place_up_to(&marked, &mut flow.placing, flow.first)?;
         clear_floats(boxes, flow, k)?;
     }
     Ok(())
 }
 
-fn asks_to_clear(boxes: &[FlowBox], k: usize) -> bool
-    requires { k < length boxes.now }
-    ensures flows { result ≡ true → (shape_at boxes.now k).float ≡ None }
-    ensures passes_none { result ≡ false → (shape_at boxes.now k).float ≡ None → (shape_at boxes.now k).clear ≡ clear_none }
+fn asks_to_clear(boxes: &Boxes<'_>, k: usize) -> bool
+    requires { k < length boxes.now.list.now }
+    ensures flows { result ≡ true → (shape_at boxes.now.list.now k).float ≡ None }
+    ensures passes_none { result ≡ false → (shape_at boxes.now.list.now k).float ≡ None → (shape_at boxes.now.list.now k).clear ≡ clear_none }
 {
-    side_at(boxes, k).is_none() && clear_at(boxes, k) != Clear::None
-}
-
-// Places the boxes before the run, since their marks are known.
-fn place_settled(boxes: &[FlowBox], flow: &mut Pass, _k: usize) -> Result<(), NoMemory>
-    requires input { AreFlowBoxes boxes.now }
-    requires positive { 0 < _k }
-    requires within { _k < length boxes.now }
-    requires known { IsKnown boxes.now flow.old (parent_at boxes.now _k) _k }
-    ensures known { OnOk result (IsKnown boxes.now flow.new (parent_at boxes.now _k) _k) }
-    ensures settled { OnOk result (length flow.new.placing.places.items ≡ flow.new.first) }
-{
-    place_up_to(boxes, &flow.marks, &mut flow.placing, flow.first)?;
-    Ok(())
+    boxes.side_at(k).is_none() && boxes.clear_at(k) != Clear::None
 }
 
 // The box at k has clearance where a float that it goes past is in the run, or where it would stand above the
 // lowest bottom of such floats.
-fn clear_floats(boxes: &[FlowBox], flow: &mut Pass, k: usize) -> Result<(), NoMemory>
-    requires input { AreFlowBoxes boxes.now }
+fn clear_floats(boxes: &Boxes<'_>, flow: &mut Pass, k: usize) -> Result<(), NoMemory>
     requires positive { 0 < k }
-    requires within { k < length boxes.now }
-    requires flows { (shape_at boxes.now k).float ≡ None }
+    requires within { k < length boxes.now.list.now }
+    requires flows { (shape_at boxes.now.list.now k).float ≡ None }
     requires settled { length flow.old.placing.places.items ≡ flow.old.first }
-    requires known { IsKnown boxes.now flow.old (parent_at boxes.now k) k }
-    ensures { OnOk result (IsReadyAt boxes.now flow.new k) }
+    requires known { IsKnown boxes.now.list.now flow.old (parent_at boxes.now.list.now k) k }
+    ensures { OnOk result (IsReadyAt boxes.now.list.now flow.new k) }
 {
-    let bottom = flow.placing.floats.clear_edge(clear_at(boxes, k));
+    let bottom = flow.placing.floats.clear_edge(boxes.clear_at(k));
     let hypothetical = edge_without(boxes, flow, k);
     if has_waiting_float(boxes, flow.first, k) || is_above(hypothetical, bottom) {
         begin_cleared(boxes, flow, k, hypothetical)?;
@@ -80,30 +69,29 @@ fn clear_floats(boxes: &[FlowBox], flow: &mut Pass, k: usize) -> Result<(), NoMe
 }
 
 // The hypothetical edge of the box at k.
-fn edge_without(boxes: &[FlowBox], flow: &Pass, k: usize) -> Unit
-    requires input { AreFlowBoxes boxes.now }
+fn edge_without(boxes: &Boxes<'_>, flow: &Pass, k: usize) -> Unit
     requires positive { 0 < k }
-    requires within { k < length boxes.now }
-    requires known { IsKnown boxes.now flow.now (parent_at boxes.now k) k }
-    ensures edge { IsEdgeWithout boxes.now (state_of flow.now) (length flow.now.placing.places.items) flow.now.placing.extents.items k result.0 }
-    ensures near { IsEdgeNear (weight boxes.now k) result.0 }
+    requires within { k < length boxes.now.list.now }
+    requires known { IsKnown boxes.now.list.now flow.now (parent_at boxes.now.list.now k) k }
+    ensures edge { IsEdgeWithout boxes.now.list.now (state_of flow.now) (length flow.now.placing.places.items) flow.now.placing.extents.items k result.0 }
+    ensures near { IsEdgeNear (weight boxes.now.list.now k) result.0 }
 {
-    if flow.hangs {
-        return flow.start;
+    match flow.start {
+        RunStart::At(start) => hypothetical_edge(boxes, start, flow.strut, flow.first, k),
+        RunStart::HangsFrom(edge) => edge,
     }
-    hypothetical_edge(boxes, flow.start, flow.strut, flow.first, k)
 }
 
 // A float that the box at k goes past has its mark in the run.
-fn has_waiting_float(boxes: &[FlowBox], first: usize, k: usize) -> bool
-    requires within { k < length boxes.now }
+fn has_waiting_float(boxes: &Boxes<'_>, first: usize, k: usize) -> bool
+    requires within { k < length boxes.now.list.now }
     requires order { first ≤ k }
-    ensures has { result ≡ true → HasWaitingFloat boxes.now first k }
-    ensures hasnt { result ≡ false → ¬ HasWaitingFloat boxes.now first k }
+    ensures has { result ≡ true → HasWaitingFloat boxes.now.list.now first k }
+    ensures hasnt { result ≡ false → ¬ HasWaitingFloat boxes.now.list.now first k }
 {
-    let clear = clear_at(boxes, k);
+    let clear = boxes.clear_at(k);
     for j in first..k {
-        if is_cleared_float(side_at(boxes, j), clear) {
+        if is_cleared_float(boxes.side_at(j), clear) {
             return true;
         }
     }
@@ -153,32 +141,33 @@ fn lower_of(bottom: Option<Unit>, hypothetical: Unit) -> Unit
 
 // The run ends, so that the floats in it stand, and the clearance begins one that hangs from its clear edge.
 fn begin_cleared(
-    boxes: &[FlowBox],
+    boxes: &Boxes<'_>,
     flow: &mut Pass,
     k: usize,
     hypothetical: Unit,
 ) -> Result<(), NoMemory>
-    requires input { AreFlowBoxes boxes.now }
     requires positive { 0 < k }
-    requires within { k < length boxes.now }
-    requires flows { (shape_at boxes.now k).float ≡ None }
+    requires within { k < length boxes.now.list.now }
+    requires flows { (shape_at boxes.now.list.now k).float ≡ None }
     requires settled { length flow.old.placing.places.items ≡ flow.old.first }
-    requires known { IsKnown boxes.now flow.old (parent_at boxes.now k) k }
-    requires edge { IsEdgeWithout boxes.now (state_of flow.old) (length flow.old.placing.places.items) flow.old.placing.extents.items k hypothetical.0 }
-    requires near { IsEdgeNear (weight boxes.now k) hypothetical.0 }
-    requires decides { HasWaitingFloat boxes.now flow.old.first k ⊎ IsAboveFloats flow.old.placing.floats (shape_at boxes.now k).clear hypothetical.0 }
-    ensures { OnOk result (IsReadyAt boxes.now flow.new k) }
+    requires known { IsKnown boxes.now.list.now flow.old (parent_at boxes.now.list.now k) k }
+    requires edge { IsEdgeWithout boxes.now.list.now (state_of flow.old) (length flow.old.placing.places.items) flow.old.placing.extents.items k hypothetical.0 }
+    requires near { IsEdgeNear (weight boxes.now.list.now k) hypothetical.0 }
+    requires decides { HasWaitingFloat boxes.now.list.now flow.old.first k ⊎ IsAboveFloats flow.old.placing.floats (shape_at boxes.now.list.now k).clear hypothetical.0 }
+    ensures { OnOk result (IsReadyAt boxes.now.list.now flow.new k) }
 {
-    let end = end_of(flow.start, flow.hangs, flow.strut);
+    let end = end_of(flow.start, flow.strut);
     settle(boxes, &flow.through, &mut flow.marks, flow.first, k, end);
-    place_up_to(boxes, &flow.marks, &mut flow.placing, k)?;
-    let bottom = flow.placing.floats.clear_edge(clear_at(boxes, k));
+    let marked = MarkedBoxes {
+        boxes: *boxes,
+        marks: &flow.marks,
+    };
+    place_up_to(&marked, &mut flow.placing, k)?;
+    let bottom = flow.placing.floats.clear_edge(boxes.clear_at(k));
     let edge = lower_of(bottom, hypothetical);
-    write_flag(&mut flow.clears, k, true);
-    write_at(&mut flow.clear_edges, k, edge);
-    flow.start = edge;
+    write_edge(&mut flow.clear_edges, k, edge);
+    flow.start = RunStart::HangsFrom(edge);
     flow.strut = no_margin();
     flow.first = k;
-    flow.hangs = true;
     Ok(())
 }

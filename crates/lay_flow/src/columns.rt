@@ -1,31 +1,14 @@
 //! Reading and writing a column of lengths.
 
-ghost use Rattle.std.specs.Prelude.{◌≡◌, ◌<◌, ◌+ℤ◌, length, slice_index, slice_set};
+ghost use Rattle.std.specs.Prelude.{◌≡◌, ◌<◌, ◌+ℤ◌, length, slice_set};
 ghost use Rattle.lay_units.specs.Units.{IsPosition};
-ghost use Rattle.lay_flow.specs.Boxes.{parent_at, parents_of};
-ghost use Rattle.lay_doc.specs.Tree.{IsTree};
-ghost use Rattle.lay_flow.specs.FlowBoxes.{AreFlowBoxes};
-ghost use Rattle.lay_flow.specs.BlockSizes.{BlockFits};
 ghost use Rattle.lay_flow.specs.Lengths.{length_at};
+ghost use Rattle.lay_flow.specs.Pass.Bounds.{clears_of};
 ghost use Rattle.lay_flow.specs.Pass.Columns.{corner_at};
 ghost use Rattle.lay_flow.specs.Children.{flag_at};
-ghost use Rattle.lay_flow.specs.MarginRuns.{block_at};
 
-use crate::block::Block;
-use crate::flow_box::FlowBox;
 use lay_floats::Place;
 use lay_units::Unit;
-
-/// The place of the parent of the box at k.
-pub(crate) fn parent_at(boxes: &[FlowBox], k: usize) -> usize
-    requires tree { IsTree (parents_of boxes.now) }
-    requires within { k < length boxes.now }
-    ensures value { result ≡ parent_at boxes.now k }
-    ensures before { 0 < k → result < k }
-    ensures within { result < length boxes.now }
-{
-    boxes[k].parent
-}
 
 pub(crate) fn length_at(column: &[Unit], k: usize) -> Unit
     requires { k < length column.now }
@@ -41,6 +24,20 @@ pub(crate) fn write_at(column: &mut Vec<Unit>, k: usize, v: Unit)
     column[k] = v;
 }
 
+pub(crate) fn is_cleared(clear_edges: &[Option<Unit>], k: usize) -> bool
+    requires { k < length clear_edges.now }
+    ensures { result ≡ flag_at (clears_of clear_edges.now) k }
+{
+    clear_edges[k].is_some()
+}
+
+pub(crate) fn write_edge(clear_edges: &mut Vec<Option<Unit>>, k: usize, edge: Unit)
+    requires { k < length clear_edges.old.items }
+    ensures { clear_edges.new.items ≡ slice_set clear_edges.old.items k (Some edge) }
+{
+    clear_edges[k] = Some(edge);
+}
+
 /// The sum of two positions.
 pub(crate) fn sum_of(a: Unit, b: Unit) -> Unit
     requires a { IsPosition a.0 }
@@ -48,16 +45,6 @@ pub(crate) fn sum_of(a: Unit, b: Unit) -> Unit
     ensures { result ≡ record { 0 = a.0 +ℤ b.0 } }
 {
     Unit(a.0 + b.0)
-}
-
-/// The box at k as margins and heights see it.
-pub(crate) fn block_at(boxes: &[FlowBox], k: usize) -> Block
-    requires input { AreFlowBoxes boxes.now }
-    requires within { k < length boxes.now }
-    ensures value { result ≡ block_at boxes.now k }
-    ensures fits { BlockFits result }
-{
-    boxes[k].block()
 }
 
 pub(crate) fn flag_at(flags: &[bool], k: usize) -> bool

@@ -3,17 +3,18 @@
 ghost use Rattle.std.specs.Prelude.{◌≡◌, ℕ, ◌+◌, ◌-◌, ◌<◌, ◌≤◌, [], length, slice_index, replicate, IfOk, OnOk};
 ghost use Rattle.lay_flow.specs.Boxes.{parent_at};
 ghost use Rattle.lay_flow.specs.Lengths.{no_length};
-ghost use Rattle.lay_flow.specs.FlowBoxes.{AreFlowBoxes};
 ghost use Rattle.lay_flow.specs.Pass.Bounds.{AreBoxHeights, AreNear};
 ghost use Rattle.lay_flow.specs.Pass.Columns.{AreColumnsOf, AreNearColumns};
 ghost use Rattle.lay_flow.specs.Pass.Known.{IsFinished, IsKnown};
 
-use crate::columns::{block_at, length_at, parent_at, write_at};
-use crate::flow_box::FlowBox;
+use crate::boxes::Boxes;
+use crate::columns::{length_at, write_at};
 use crate::line_corners::line_corners;
+use crate::margin_place::MarginPlace;
 use crate::margin_run::{end_of, no_margin};
 use crate::margin_steps::{close, open};
-use crate::pass::Pass;
+use crate::marked_boxes::MarkedBoxes;
+use crate::pass::{Pass, RunStart};
 use crate::placement::{Placing, place_up_to};
 use crate::settling::settle;
 use lay_floats::{Clear, Floats, Place};
@@ -38,18 +39,17 @@ pub(crate) struct FlowColumns {
 }
 
 /// The columns of a context's flow.
-pub(crate) fn flow_columns(alloc: Global, boxes: &[FlowBox]) -> Result<FlowColumns, NoMemory>
-    requires input { AreFlowBoxes boxes.now }
-    ensures columns { IfOk result (AreColumnsOf boxes.now) }
-    ensures near { IfOk result (AreNearColumns boxes.now) }
+pub(crate) fn flow_columns(alloc: Global, boxes: &Boxes<'_>) -> Result<FlowColumns, NoMemory>
+    ensures columns { IfOk result (AreColumnsOf boxes.now.list.now) }
+    ensures near { IfOk result (AreNearColumns boxes.now.list.now) }
 {
     let mut flow = begin(alloc, boxes)?;
-    for k in 1..boxes.len() {
+    for k in 1..boxes.list.len() {
         advance(boxes, &mut flow, k)?;
     }
     finish(boxes, &mut flow)?;
     let placing = flow.placing;
-    let corners = line_corners(alloc, boxes.len(), &placing.met)?;
+    let corners = line_corners(alloc, boxes.list.len(), &placing.met)?;
     Ok(FlowColumns {
         tops: flow.marks,
         heights: flow.heights,
@@ -60,24 +60,25 @@ pub(crate) fn flow_columns(alloc: Global, boxes: &[FlowBox]) -> Result<FlowColum
 }
 
 // The top of the content of the context's own box: the pass is before its first child.
-fn begin(alloc: Global, boxes: &[FlowBox]) -> Result<Pass, NoMemory>
-    requires input { AreFlowBoxes boxes.now }
-    ensures { IfOk result (λ flow. IsKnown boxes.now flow 0 1) }
+fn begin(alloc: Global, boxes: &Boxes<'_>) -> Result<Pass, NoMemory>
+    ensures { IfOk result (λ flow. IsKnown boxes.now.list.now flow 0 1) }
 {
-    let count = boxes.len();
+    let count = boxes.list.len();
     let marks = vec![in alloc; Unit(0); count]?;
     let mut placing = none_placed(alloc, count)?;
-    place_up_to(boxes, &marks, &mut placing, 1)?;
+    let marked = MarkedBoxes {
+        boxes: *boxes,
+        marks: &marks,
+    };
+    place_up_to(&marked, &mut placing, 1)?;
     Ok(Pass {
         marks,
         heights: vec![in alloc; Unit(0); count]?,
         through: vec![in alloc; false; count]?,
-        clears: vec![in alloc; false; count]?,
-        clear_edges: vec![in alloc; Unit(0); count]?,
-        start: block_at(boxes, 0).edge_top,
+        clear_edges: vec![in alloc; None; count]?,
+        start: RunStart::At(boxes.block_at(0).edge_top),
         strut: no_margin(),
         first: 1,
-        hangs: false,
         placing,
     })
 }
@@ -101,14 +102,13 @@ fn none_placed(alloc: Global, count: usize) -> Result<Placing, NoMemory>
 }
 
 // Closes the open boxes that the box at k isn't in, and opens that one.
-fn advance(boxes: &[FlowBox], flow: &mut Pass, k: usize) -> Result<(), NoMemory>
-    requires input { AreFlowBoxes boxes.now }
+fn advance(boxes: &Boxes<'_>, flow: &mut Pass, k: usize) -> Result<(), NoMemory>
     requires positive { 0 < k }
-    requires within { k < length boxes.now }
-    requires known { IsKnown boxes.now flow.old (k - 1) k }
-    ensures { OnOk result (IsKnown boxes.now flow.new k (k + 1)) }
+    requires within { k < length boxes.now.list.now }
+    requires known { IsKnown boxes.now.list.now flow.old (k - 1) k }
+    ensures { OnOk result (IsKnown boxes.now.list.now flow.new k (k + 1)) }
 {
-    let parent = parent_at(boxes, k);
+    let parent = boxes.parent_at(k);
     close_to(boxes, flow, k - 1, parent, k)?;
     open(boxes, flow, k)?;
     Ok(())
@@ -116,51 +116,49 @@ fn advance(boxes: &[FlowBox], flow: &mut Pass, k: usize) -> Result<(), NoMemory>
 
 // Closes the open boxes from the innermost one up to those in the box `to`, in which the box at m stands.
 fn close_to(
-    boxes: &[FlowBox],
+    boxes: &Boxes<'_>,
     flow: &mut Pass,
     from: usize,
     to: usize,
     m: usize,
 ) -> Result<(), NoMemory>
-    requires input { AreFlowBoxes boxes.now }
     requires order { to ≤ from }
-    requires next { m < length boxes.now → parent_at boxes.now m ≡ to }
-    requires last { length boxes.now ≤ m → to ≡ 0 }
-    requires known { IsKnown boxes.now flow.old from m }
-    ensures { OnOk result (IsKnown boxes.now flow.new to m) }
+    requires next { m < length boxes.now.list.now → parent_at boxes.now.list.now m ≡ to }
+    requires last { length boxes.now.list.now ≤ m → to ≡ 0 }
+    requires known { IsKnown boxes.now.list.now flow.old from m }
+    ensures { OnOk result (IsKnown boxes.now.list.now flow.new to m) }
 {
     let mut innermost = from;
     while innermost != to {
-        close(boxes, flow, innermost, m)?;
-        innermost = parent_at(boxes, innermost);
+        let place = MarginPlace { innermost, next: m };
+        close(boxes, flow, place)?;
+        innermost = boxes.parent_at(innermost);
     }
     Ok(())
 }
 
 // Closes all boxes, the context's own one last.
-fn finish(boxes: &[FlowBox], flow: &mut Pass) -> Result<(), NoMemory>
-    requires input { AreFlowBoxes boxes.now }
-    requires known { IsKnown boxes.now flow.old (length boxes.now - 1) (length boxes.now) }
-    ensures finished { OnOk result (IsFinished boxes.now flow.new) }
+fn finish(boxes: &Boxes<'_>, flow: &mut Pass) -> Result<(), NoMemory>
+    requires { IsKnown boxes.now.list.now flow.old (length boxes.now.list.now - 1) (length boxes.now.list.now) }
+    ensures finished { OnOk result (IsFinished boxes.now.list.now flow.new) }
     ensures near { OnOk result (AreNear flow.new.marks.items) }
-    ensures sized { OnOk result (AreBoxHeights boxes.now flow.new.heights.items) }
+    ensures sized { OnOk result (AreBoxHeights boxes.now.list.now flow.new.heights.items) }
 {
-    let count = boxes.len();
+    let count = boxes.list.len();
     close_to(boxes, flow, count - 1, 0, count)?;
     close_root(boxes, flow)?;
     Ok(())
 }
 
 // The last run ends, and with it the content of the context's own box, which reaches round its floats.
-fn close_root(boxes: &[FlowBox], flow: &mut Pass) -> Result<(), NoMemory>
-    requires input { AreFlowBoxes boxes.now }
-    requires known { IsKnown boxes.now flow.old 0 (length boxes.now) }
-    ensures finished { OnOk result (IsFinished boxes.now flow.new) }
+fn close_root(boxes: &Boxes<'_>, flow: &mut Pass) -> Result<(), NoMemory>
+    requires { IsKnown boxes.now.list.now flow.old 0 (length boxes.now.list.now) }
+    ensures finished { OnOk result (IsFinished boxes.now.list.now flow.new) }
     ensures near { OnOk result (AreNear flow.new.marks.items) }
-    ensures sized { OnOk result (AreBoxHeights boxes.now flow.new.heights.items) }
+    ensures sized { OnOk result (AreBoxHeights boxes.now.list.now flow.new.heights.items) }
 {
-    let count = boxes.len();
-    let end = end_of(flow.start, flow.hangs, flow.strut);
+    let count = boxes.list.len();
+    let end = end_of(flow.start, flow.strut);
     settle(
         boxes,
         &flow.through,
@@ -169,8 +167,12 @@ fn close_root(boxes: &[FlowBox], flow: &mut Pass) -> Result<(), NoMemory>
         count,
         end,
     );
-    place_up_to(boxes, &flow.marks, &mut flow.placing, count)?;
-    let block = block_at(boxes, 0);
+    let marked = MarkedBoxes {
+        boxes: *boxes,
+        marks: &flow.marks,
+    };
+    place_up_to(&marked, &mut flow.placing, count)?;
+    let block = boxes.block_at(0);
     let mark = length_at(&flow.marks, 0);
     let bottom = flow.placing.floats.clear_edge(Clear::Both);
     let depth = length_at(&flow.placing.extents, 0);

@@ -12,6 +12,7 @@
 mod block;
 mod block_height;
 mod border_boxes;
+mod boxes;
 mod clearance;
 mod columns;
 mod flow_box;
@@ -21,8 +22,10 @@ mod hypothetical_edge;
 mod laws;
 mod line_corners;
 mod margin_collapse;
+mod margin_place;
 mod margin_run;
 mod margin_steps;
+mod marked_boxes;
 mod pass;
 mod placement;
 mod settling;

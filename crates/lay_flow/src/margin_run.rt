@@ -4,9 +4,10 @@ ghost use Rattle.std.specs.Prelude.{◌≡◌, ℤ, ◌+ℤ◌, ◌-ℤ◌, List
 ghost use Rattle.lay_units.specs.Units.{IsUsed};
 ghost use Rattle.lay_margins.specs.Collapse.{Holds, collapse};
 ghost use Rattle.lay_flow.specs.BlockSizes.{IsNear};
-ghost use Rattle.lay_flow.specs.Pass.Bounds.{IsCollapseNear, StrutFits};
+ghost use Rattle.lay_flow.specs.Pass.Bounds.{IsCollapseNear, StrutFits, is_hanging, position_of};
 
 use crate::columns::sum_of;
+use crate::pass::RunStart;
 use lay_margins::Strut;
 use lay_units::Unit;
 
@@ -37,18 +38,18 @@ pub(crate) fn no_margin() -> Strut
     Strut::zero()
 }
 
-/// Where a run ends that starts at `start`, or hangs from that as a clear edge.
-pub(crate) fn end_of(start: Unit, hangs: bool, strut: Strut) -> Unit
-    requires start { IsNear start.0 }
+/// Where a run ends.
+pub(crate) fn end_of(start: RunStart, strut: Strut) -> Unit
+    requires start { IsNear (position_of start) }
     requires strut { StrutFits strut }
-    ensures hanging { hangs ≡ true → result.0 ≡ start.0 }
-    ensures value { hangs ≡ false → (margins : List ℤ) → Holds strut margins → result.0 ≡ start.0 +ℤ collapse margins }
-    ensures near { IsCollapseNear (result.0 -ℤ start.0) }
+    ensures hanging { is_hanging start ≡ true → result.0 ≡ position_of start }
+    ensures value { is_hanging start ≡ false → (margins : List ℤ) → Holds strut margins → result.0 ≡ position_of start +ℤ collapse margins }
+    ensures near { IsCollapseNear (result.0 -ℤ position_of start) }
 {
-    if hangs {
-        return start;
+    match start {
+        RunStart::At(start) => run_end(start, strut),
+        RunStart::HangsFrom(edge) => edge,
     }
-    run_end(start, strut)
 }
 
 /// Where a run ends that starts at `start`.

@@ -2,27 +2,27 @@
 
 ghost use Rattle.std.specs.Prelude.{◌≡◌, ◌+◌, ◌<◌, ◌≤◌, ◌&&◌, not, true, false, length, slice_index, OnOk};
 ghost use Rattle.lay_flow.specs.Boxes.{parent_at};
-ghost use Rattle.lay_flow.specs.FlowBoxes.{AreFlowBoxes};
 ghost use Rattle.lay_flow.specs.MarginRuns.{block_at, may_collapse_through, may_join_bottoms, parts_tops};
-ghost use Rattle.lay_flow.specs.Pass.Bounds.{is_barred, state_of};
+ghost use Rattle.lay_flow.specs.Pass.Bounds.{is_barred, is_hanging, state_of};
 ghost use Rattle.lay_flow.specs.Pass.Known.{IsKnown, IsReadyAt};
 
+use crate::boxes::Boxes;
 use crate::clearance::clear;
-use crate::columns::{block_at, flag_at, length_at, parent_at, sum_of, write_at, write_flag};
-use crate::flow_box::FlowBox;
+use crate::columns::{is_cleared, length_at, sum_of, write_at, write_flag};
+use crate::margin_place::MarginPlace;
 use crate::margin_run::{end_of, lone_margin, no_margin, run_start, with_margin};
-use crate::pass::Pass;
+use crate::marked_boxes::MarkedBoxes;
+use crate::pass::{Pass, RunStart};
 use crate::placement::place_up_to;
 use crate::settling::settle;
 use lay_units::{NoMemory, Unit};
 
 /// Reads the clearance and the top margin of the box at k, which is then the innermost open one.
-pub(crate) fn open(boxes: &[FlowBox], flow: &mut Pass, k: usize) -> Result<(), NoMemory>
-    requires input { AreFlowBoxes boxes.now }
+pub(crate) fn open(boxes: &Boxes<'_>, flow: &mut Pass, k: usize) -> Result<(), NoMemory>
     requires positive { 0 < k }
-    requires within { k < length boxes.now }
-    requires known { IsKnown boxes.now flow.old (parent_at boxes.now k) k }
-    ensures { OnOk result (IsKnown boxes.now flow.new k (k + 1)) }
+    requires within { k < length boxes.now.list.now }
+    requires known { IsKnown boxes.now.list.now flow.old (parent_at boxes.now.list.now k) k }
+    ensures { OnOk result (IsKnown boxes.now.list.now flow.new k (k + 1)) }
 {
     clear(boxes, flow, k)?;
     enter(boxes, flow, k);
@@ -30,14 +30,13 @@ pub(crate) fn open(boxes: &[FlowBox], flow: &mut Pass, k: usize) -> Result<(), N
 }
 
 // Reads the top margin.
-fn enter(boxes: &[FlowBox], flow: &mut Pass, k: usize)
-    requires input { AreFlowBoxes boxes.now }
+fn enter(boxes: &Boxes<'_>, flow: &mut Pass, k: usize)
     requires positive { 0 < k }
-    requires within { k < length boxes.now }
-    requires ready { IsReadyAt boxes.now flow.old k }
-    ensures { IsKnown boxes.now flow.new k (k + 1) }
+    requires within { k < length boxes.now.list.now }
+    requires ready { IsReadyAt boxes.now.list.now flow.old k }
+    ensures { IsKnown boxes.now.list.now flow.new k (k + 1) }
 {
-    if block_at(boxes, k).has_edge_top() {
+    if boxes.block_at(k).has_edge_top() {
         open_parting(boxes, flow, k);
     } else {
         open_plain(boxes, flow, k);
@@ -45,29 +44,27 @@ fn enter(boxes: &[FlowBox], flow: &mut Pass, k: usize)
 }
 
 // The run goes on in the box.
-fn open_plain(boxes: &[FlowBox], flow: &mut Pass, k: usize)
-    requires input { AreFlowBoxes boxes.now }
+fn open_plain(boxes: &Boxes<'_>, flow: &mut Pass, k: usize)
     requires positive { 0 < k }
-    requires within { k < length boxes.now }
-    requires plain { parts_tops boxes.now k ≡ false }
-    requires ready { IsReadyAt boxes.now flow.old k }
-    ensures { IsKnown boxes.now flow.new k (k + 1) }
+    requires within { k < length boxes.now.list.now }
+    requires plain { parts_tops boxes.now.list.now k ≡ false }
+    requires ready { IsReadyAt boxes.now.list.now flow.old k }
+    ensures { IsKnown boxes.now.list.now flow.new k (k + 1) }
 {
-    flow.strut = with_margin(flow.strut, block_at(boxes, k).margin_top);
+    flow.strut = with_margin(flow.strut, boxes.block_at(k).margin_top);
 }
 
 // A border or a padding ends the run.
-fn open_parting(boxes: &[FlowBox], flow: &mut Pass, k: usize)
-    requires input { AreFlowBoxes boxes.now }
+fn open_parting(boxes: &Boxes<'_>, flow: &mut Pass, k: usize)
     requires positive { 0 < k }
-    requires within { k < length boxes.now }
-    requires parting { parts_tops boxes.now k ≡ true }
-    requires ready { IsReadyAt boxes.now flow.old k }
-    ensures { IsKnown boxes.now flow.new k (k + 1) }
+    requires within { k < length boxes.now.list.now }
+    requires parting { parts_tops boxes.now.list.now k ≡ true }
+    requires ready { IsReadyAt boxes.now.list.now flow.old k }
+    ensures { IsKnown boxes.now.list.now flow.new k (k + 1) }
 {
-    let block = block_at(boxes, k);
+    let block = boxes.block_at(k);
     let strut = with_margin(flow.strut, block.margin_top);
-    let mark = end_of(flow.start, flow.hangs, strut);
+    let mark = end_of(flow.start, strut);
     settle(
         boxes,
         &flow.through,
@@ -76,132 +73,131 @@ fn open_parting(boxes: &[FlowBox], flow: &mut Pass, k: usize)
         k + 1,
         mark,
     );
-    flow.start = sum_of(mark, block.edge_top);
+    let start = sum_of(mark, block.edge_top);
+    flow.start = RunStart::At(start);
     flow.strut = no_margin();
     flow.first = k + 1;
-    flow.hangs = false;
 }
 
-/// Reads the bottom margin of the box at p, the innermost open one, whose boxes all stand before m.
-pub(crate) fn close(boxes: &[FlowBox], flow: &mut Pass, p: usize, m: usize) -> Result<(), NoMemory>
-    requires input { AreFlowBoxes boxes.now }
-    requires positive { 0 < p }
-    requires ends { m < length boxes.now → parent_at boxes.now m < p }
-    requires known { IsKnown boxes.now flow.old p m }
-    ensures { OnOk result (IsKnown boxes.now flow.new (parent_at boxes.now p) m) }
+/// Reads the bottom margin of the innermost open box, whose boxes all stand before the next one.
+pub(crate) fn close(boxes: &Boxes<'_>, flow: &mut Pass, place: MarginPlace) -> Result<(), NoMemory>
+    requires positive { 0 < place.innermost }
+    requires ends { place.next < length boxes.now.list.now → parent_at boxes.now.list.now place.next < place.innermost }
+    requires known { IsKnown boxes.now.list.now flow.old place.innermost place.next }
+    ensures { OnOk result (IsKnown boxes.now.list.now flow.new (parent_at boxes.now.list.now place.innermost) place.next) }
 {
-    let block = block_at(boxes, p);
-    if block.may_collapse_through() && flow.first <= p {
-        pass_through(boxes, flow, p, m);
-    } else if block.may_join_bottoms() && !is_barred(boxes, flow, p) {
-        close_joined(boxes, flow, p, m);
+    let block = boxes.block_at(place.innermost);
+    if block.may_collapse_through() && flow.first <= place.innermost {
+        pass_through(boxes, flow, place);
+    } else if block.may_join_bottoms() && !is_barred(boxes, flow, place.innermost) {
+        close_joined(boxes, flow, place);
     } else {
-        close_parted(boxes, flow, p, m)?;
+        close_parted(boxes, flow, place)?;
     }
     Ok(())
 }
 
 // The run was begun by clearance of a child of the box at p.
-fn is_barred(boxes: &[FlowBox], flow: &Pass, p: usize) -> bool
-    requires { length flow.now.clears.items ≡ length boxes.now }
-    ensures { result ≡ is_barred boxes.now (state_of flow.now) p }
+fn is_barred(boxes: &Boxes<'_>, flow: &Pass, p: usize) -> bool
+    requires { length flow.now.clear_edges.items ≡ length boxes.now.list.now }
+    ensures { result ≡ is_barred boxes.now.list.now (state_of flow.now) p }
 {
-    flow.first < flow.clears.len()
-        && flag_at(&flow.clears, flow.first)
-        && boxes[flow.first].parent == p
+    flow.first < flow.clear_edges.len()
+        && is_cleared(&flow.clear_edges, flow.first)
+        && boxes.list[flow.first].parent == p
 }
 
-// It is collapsed through.
-fn pass_through(boxes: &[FlowBox], flow: &mut Pass, p: usize, m: usize)
-    requires input { AreFlowBoxes boxes.now }
-    requires positive { 0 < p }
-    requires ends { m < length boxes.now → parent_at boxes.now m < p }
-    requires through { may_collapse_through (block_at boxes.now p) ≡ true }
-    requires waiting { flow.old.first ≤ p }
-    requires known { IsKnown boxes.now flow.old p m }
-    ensures { IsKnown boxes.now flow.new (parent_at boxes.now p) m }
+// It is collapsed through. If its clearance began the run, that starts so far above its clear edge as the margins before
+// its bottom margin collapse to.
+fn pass_through(boxes: &Boxes<'_>, flow: &mut Pass, place: MarginPlace)
+    requires positive { 0 < place.innermost }
+    requires ends { place.next < length boxes.now.list.now → parent_at boxes.now.list.now place.next < place.innermost }
+    requires through { may_collapse_through (block_at boxes.now.list.now place.innermost) ≡ true }
+    requires waiting { flow.old.first ≤ place.innermost }
+    requires known { IsKnown boxes.now.list.now flow.old place.innermost place.next }
+    ensures { IsKnown boxes.now.list.now flow.new (parent_at boxes.now.list.now place.innermost) place.next }
 {
-    if flow.hangs && flow.first == p {
-        start_run(boxes, flow, p, m);
+    if flow.start.is_hanging() && flow.first == place.innermost {
+        let start = run_start(flow.start.position(), flow.strut);
+        flow.start = RunStart::At(start);
     }
-    close_through(boxes, flow, p, m);
-}
-
-// The run that its clearance began starts so far above its clear edge as the margins before its bottom margin
-// collapse to.
-fn start_run(boxes: &[FlowBox], flow: &mut Pass, _p: usize, _m: usize)
-    requires input { AreFlowBoxes boxes.now }
-    requires positive { 0 < _p }
-    requires ends { _m < length boxes.now → parent_at boxes.now _m < _p }
-    requires through { may_collapse_through (block_at boxes.now _p) ≡ true }
-    requires hangs { flow.old.hangs ≡ true }
-    requires first { flow.old.first ≡ _p }
-    requires known { IsKnown boxes.now flow.old _p _m }
-    ensures known { IsKnown boxes.now flow.new _p _m }
-    ensures starts { flow.new.hangs ≡ false }
-    ensures first { flow.new.first ≡ flow.old.first }
-{
-    flow.start = run_start(flow.start, flow.strut);
-    flow.hangs = false;
+    close_through(boxes, flow, place);
 }
 
 // The run of its top margin goes on past its bottom margin.
-fn close_through(boxes: &[FlowBox], flow: &mut Pass, p: usize, _m: usize)
-    requires input { AreFlowBoxes boxes.now }
-    requires positive { 0 < p }
-    requires ends { _m < length boxes.now → parent_at boxes.now _m < p }
-    requires through { may_collapse_through (block_at boxes.now p) ≡ true }
-    requires waiting { flow.old.first ≤ p }
-    requires inside { flow.old.hangs ≡ true → flow.old.first < p }
-    requires known { IsKnown boxes.now flow.old p _m }
-    ensures { IsKnown boxes.now flow.new (parent_at boxes.now p) _m }
+fn close_through(boxes: &Boxes<'_>, flow: &mut Pass, place: MarginPlace)
+    requires positive { 0 < place.innermost }
+    requires ends { place.next < length boxes.now.list.now → parent_at boxes.now.list.now place.next < place.innermost }
+    requires through { may_collapse_through (block_at boxes.now.list.now place.innermost) ≡ true }
+    requires waiting { flow.old.first ≤ place.innermost }
+    requires inside { is_hanging flow.old.start ≡ true → flow.old.first < place.innermost }
+    requires known { IsKnown boxes.now.list.now flow.old place.innermost place.next }
+    ensures { IsKnown boxes.now.list.now flow.new (parent_at boxes.now.list.now place.innermost) place.next }
 {
-    let mark = end_of(flow.start, flow.hangs, flow.strut);
-    write_at(&mut flow.marks, p, mark);
-    write_at(&mut flow.heights, p, Unit(0));
-    write_flag(&mut flow.through, p, true);
-    flow.strut = with_margin(flow.strut, block_at(boxes, p).margin_bottom);
+    let mark = end_of(flow.start, flow.strut);
+    write_at(&mut flow.marks, place.innermost, mark);
+    write_at(&mut flow.heights, place.innermost, Unit(0));
+    write_flag(&mut flow.through, place.innermost, true);
+    flow.strut = with_margin(flow.strut, boxes.block_at(place.innermost).margin_bottom);
 }
 
 // Its bottom margin adjoins that of its last child.
-fn close_joined(boxes: &[FlowBox], flow: &mut Pass, p: usize, _m: usize)
-    requires input { AreFlowBoxes boxes.now }
-    requires positive { 0 < p }
-    requires ends { _m < length boxes.now → parent_at boxes.now _m < p }
-    requires joined { may_join_bottoms (block_at boxes.now p) ≡ true }
-    requires unbarred { is_barred boxes.now (state_of flow.old) p ≡ false }
-    requires settled { may_collapse_through (block_at boxes.now p) ≡ true → p < flow.old.first }
-    requires known { IsKnown boxes.now flow.old p _m }
-    ensures { IsKnown boxes.now flow.new (parent_at boxes.now p) _m }
+fn close_joined(boxes: &Boxes<'_>, flow: &mut Pass, place: MarginPlace)
+    requires positive { 0 < place.innermost }
+    requires ends { place.next < length boxes.now.list.now → parent_at boxes.now.list.now place.next < place.innermost }
+    requires joined { may_join_bottoms (block_at boxes.now.list.now place.innermost) ≡ true }
+    requires unbarred { is_barred boxes.now.list.now (state_of flow.old) place.innermost ≡ false }
+    requires settled { may_collapse_through (block_at boxes.now.list.now place.innermost) ≡ true → place.innermost < flow.old.first }
+    requires known { IsKnown boxes.now.list.now flow.old place.innermost place.next }
+    ensures { IsKnown boxes.now.list.now flow.new (parent_at boxes.now.list.now place.innermost) place.next }
 {
-    let block = block_at(boxes, p);
-    let mark = length_at(&flow.marks, p);
-    let height = block.height_to_border(length_at(&flow.placing.extents, p), mark, flow.start);
-    write_at(&mut flow.heights, p, height);
-    flow.start = sum_of(mark, height);
+    let block = boxes.block_at(place.innermost);
+    let mark = length_at(&flow.marks, place.innermost);
+    let height = block.height_to_border(
+        length_at(&flow.placing.extents, place.innermost),
+        mark,
+        flow.start.position(),
+    );
+    write_at(&mut flow.heights, place.innermost, height);
+    let start = sum_of(mark, height);
+    flow.start = RunStart::At(start);
     flow.strut = with_margin(flow.strut, block.margin_bottom);
 }
 
 // Its bottom margin begins a run.
-fn close_parted(boxes: &[FlowBox], flow: &mut Pass, p: usize, m: usize) -> Result<(), NoMemory>
-    requires input { AreFlowBoxes boxes.now }
-    requires positive { 0 < p }
-    requires ends { m < length boxes.now → parent_at boxes.now m < p }
-    requires parted { (may_join_bottoms (block_at boxes.now p) && not (is_barred boxes.now (state_of flow.old) p)) ≡ false }
-    requires settled { may_collapse_through (block_at boxes.now p) ≡ true → p < flow.old.first }
-    requires known { IsKnown boxes.now flow.old p m }
-    ensures { OnOk result (IsKnown boxes.now flow.new (parent_at boxes.now p) m) }
+fn close_parted(boxes: &Boxes<'_>, flow: &mut Pass, place: MarginPlace) -> Result<(), NoMemory>
+    requires positive { 0 < place.innermost }
+    requires ends { place.next < length boxes.now.list.now → parent_at boxes.now.list.now place.next < place.innermost }
+    requires parted { (may_join_bottoms (block_at boxes.now.list.now place.innermost) && not (is_barred boxes.now.list.now (state_of flow.old) place.innermost)) ≡ false }
+    requires settled { may_collapse_through (block_at boxes.now.list.now place.innermost) ≡ true → place.innermost < flow.old.first }
+    requires known { IsKnown boxes.now.list.now flow.old place.innermost place.next }
+    ensures { OnOk result (IsKnown boxes.now.list.now flow.new (parent_at boxes.now.list.now place.innermost) place.next) }
 {
-    let block = block_at(boxes, p);
-    let end = end_of(flow.start, flow.hangs, flow.strut);
-    settle(boxes, &flow.through, &mut flow.marks, flow.first, m, end);
-    place_up_to(boxes, &flow.marks, &mut flow.placing, m)?;
-    let mark = length_at(&flow.marks, p);
-    let height = block.height_to_margin(length_at(&flow.placing.extents, p), mark, end);
-    write_at(&mut flow.heights, p, height);
-    flow.start = sum_of(mark, height);
+    let block = boxes.block_at(place.innermost);
+    let end = end_of(flow.start, flow.strut);
+    settle(
+        boxes,
+        &flow.through,
+        &mut flow.marks,
+        flow.first,
+        place.next,
+        end,
+    );
+    let marked = MarkedBoxes {
+        boxes: *boxes,
+        marks: &flow.marks,
+    };
+    place_up_to(&marked, &mut flow.placing, place.next)?;
+    let mark = length_at(&flow.marks, place.innermost);
+    let height = block.height_to_margin(
+        length_at(&flow.placing.extents, place.innermost),
+        mark,
+        end,
+    );
+    write_at(&mut flow.heights, place.innermost, height);
+    let start = sum_of(mark, height);
+    flow.start = RunStart::At(start);
     flow.strut = lone_margin(block.margin_bottom);
-    flow.first = m;
-    flow.hangs = false;
+    flow.first = place.next;
     Ok(())
 }

@@ -1,5 +1,8 @@
 //! What a pass over the blocks of a context keeps.
 
+ghost use Rattle.std.specs.Prelude.{◌≡◌};
+ghost use Rattle.lay_flow.specs.Pass.Bounds.{is_hanging, position_of};
+
 use crate::placement::Placing;
 use lay_margins::Strut;
 use lay_units::Unit;
@@ -11,18 +14,45 @@ pub(crate) struct Pass {
     pub heights: Vec<Unit>,
     /// The boxes that are known to be collapsed through.
     pub through: Vec<bool>,
-    /// The boxes that have clearance, and their clear edges, as far as it is decided.
-    pub clears: Vec<bool>,
-    pub clear_edges: Vec<Unit>,
-    /// Where the run starts; if it hangs, the clear edge of the box at `first`.
-    pub start: Unit,
-    /// Its margins so far.
+    /// The clear edges of the boxes that have clearance, as far as it is decided.
+    pub clear_edges: Vec<Option<Unit>>,
+    pub start: RunStart,
+    /// The margins of the run so far.
     pub strut: Strut,
     /// The first box whose top margin is in the run. The boxes from there on wait for their marks.
     pub first: usize,
-    /// The run was begun by clearance of the box at `first`, which is open. The run ends at its clear edge, or,
-    /// if the box comes out as collapsed through, starts above that.
-    pub hangs: bool,
     /// The floats and the solid boxes.
     pub placing: Placing,
+}
+
+/// Where a run of margins starts.
+#[derive(Clone, Copy)]
+pub(crate) enum RunStart {
+    /// At this position.
+    At(Unit),
+    /// The run was begun by clearance of its first box, which is open, and hangs from this clear edge: it ends there,
+    /// or, if the box comes out as collapsed through, starts above that.
+    HangsFrom(Unit),
+}
+
+impl RunStart {
+    /// The position, or the clear edge.
+    pub(crate) fn position(self) -> Unit
+        ensures { result.0 ≡ position_of self }
+    {
+        match self {
+            RunStart::At(start) => start,
+            RunStart::HangsFrom(edge) => edge,
+        }
+    }
+
+    /// Whether it hangs.
+    pub(crate) fn is_hanging(self) -> bool
+        ensures { result ≡ is_hanging self }
+    {
+        match self {
+            RunStart::At(_) => false,
+            RunStart::HangsFrom(_) => true,
+        }
+    }
 }

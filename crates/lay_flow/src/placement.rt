@@ -8,19 +8,18 @@ ghost use Rattle.lay_flow.specs.BlockFloats.{ceiling, content_of, float_request,
 ghost use Rattle.lay_flow.specs.BlockPositions.{is_lines, is_placed, is_solid};
 ghost use Rattle.lay_flow.specs.Boxes.{box_at};
 ghost use Rattle.lay_flow.specs.Weights.{weight};
-ghost use Rattle.lay_flow.specs.FlowBoxes.{AreFlowBoxes, KindFits};
+ghost use Rattle.lay_flow.specs.FlowBoxes.{KindFits};
 ghost use Rattle.lay_flow.specs.MarginRuns.{block_at, block_of};
 ghost use Rattle.lay_units.specs.Units.{IsPosition};
 ghost use Rattle.lay_flow.specs.BlockSizes.{IsNear};
-ghost use Rattle.lay_flow.specs.Pass.Bounds.{IsMarkNear};
 ghost use Rattle.lay_flow.specs.Pass.Knows.{AreExtentsKept};
 ghost use Rattle.lay_flow.specs.Pass.Known.{ArePlaced, GoesOn};
 ghost use Rattle.lay_flow.specs.Pass.Placed.{IsCeilingNear};
-ghost use Rattle.lay_flow.specs.Lengths.{length_at};
 
-use crate::columns::{block_at, length_at, parent_at, sum_of, write_at};
+use crate::columns::{length_at, sum_of, write_at};
 use crate::flow_box::{FlowBox, FlowKind};
-use crate::shape::{Shape, shape_at, side_at};
+use crate::marked_boxes::MarkedBoxes;
+use crate::shape::Shape;
 use lay_floats::{FloatReq, Floats, Place, Side, SolidReq};
 use lay_lines::{Lines, NodePlaceList, RowList, lay};
 use lay_units::{NoMemory, Unit};
@@ -40,97 +39,73 @@ pub(crate) struct Placing {
 
 /// Places the boxes before m that have no place yet, where their marks are known.
 pub(crate) fn place_up_to(
-    boxes: &[FlowBox],
-    marks: &[Unit],
+    of: &MarkedBoxes<'_>,
     placing: &mut Placing,
     m: usize,
 ) -> Result<(), NoMemory>
-    requires input { AreFlowBoxes boxes.now }
-    requires within { m ≤ length boxes.now }
-    requires count { length marks.now ≡ length boxes.now }
-    requires near { (j : ℕ) → IsMarkNear (weight boxes.now j) (length_at marks.now j) }
+    requires within { m ≤ length of.now.boxes.list.now }
     requires order { length placing.old.places.items ≤ m }
-    requires known { ArePlaced boxes.now marks.now placing.old (length placing.old.places.items) }
-    ensures placed { OnOk result (GoesOn boxes.now marks.now placing.old placing.new (length placing.old.places.items) m) }
-    ensures kept { OnOk result (AreExtentsKept boxes.now (length placing.old.places.items) placing.old.extents.items placing.new.extents.items) }
+    requires known { ArePlaced of.now.boxes.list.now of.now.marks.now placing.old (length placing.old.places.items) }
+    ensures placed { OnOk result (GoesOn of.now.boxes.list.now of.now.marks.now placing.old placing.new (length placing.old.places.items) m) }
+    ensures kept { OnOk result (AreExtentsKept of.now.boxes.list.now (length placing.old.places.items) placing.old.extents.items placing.new.extents.items) }
 {
     for k in placing.places.len()..m {
-        place_one(boxes, marks, placing, k)?;
+        place_one(of, placing, k)?;
     }
     Ok(())
 }
 
-fn place_one(
-    boxes: &[FlowBox],
-    marks: &[Unit],
-    placing: &mut Placing,
-    k: usize,
-) -> Result<(), NoMemory>
-    requires input { AreFlowBoxes boxes.now }
-    requires within { k < length boxes.now }
-    requires count { length marks.now ≡ length boxes.now }
-    requires near { (j : ℕ) → IsMarkNear (weight boxes.now j) (length_at marks.now j) }
-    requires known { ArePlaced boxes.now marks.now placing.old k }
-    ensures placed { OnOk result (GoesOn boxes.now marks.now placing.old placing.new k (k + 1)) }
-    ensures kept { OnOk result (AreExtentsKept boxes.now k placing.old.extents.items placing.new.extents.items) }
+fn place_one(of: &MarkedBoxes<'_>, placing: &mut Placing, k: usize) -> Result<(), NoMemory>
+    requires within { k < length of.now.boxes.list.now }
+    requires known { ArePlaced of.now.boxes.list.now of.now.marks.now placing.old k }
+    ensures placed { OnOk result (GoesOn of.now.boxes.list.now of.now.marks.now placing.old placing.new k (k + 1)) }
+    ensures kept { OnOk result (AreExtentsKept of.now.boxes.list.now k placing.old.extents.items placing.new.extents.items) }
 {
-    if let Some(side) = side_at(boxes, k) {
-        place_float(boxes, marks, placing, k, side)?;
+    if let Some(side) = of.boxes.side_at(k) {
+        place_float(of, placing, k, side)?;
         return Ok(());
     }
-    let inside = block_at(boxes, k).inside;
+    let inside = of.boxes.block_at(k).inside;
     if inside.is_solid() {
-        place_solid(boxes, marks, placing, k)?;
+        place_solid(of, placing, k)?;
         return Ok(());
     }
     if inside.is_lines() {
-        place_lines(boxes, marks, placing, k)?;
+        place_lines(of, placing, k)?;
         return Ok(());
     }
-    place_nowhere(boxes, marks, placing, k)?;
+    push_spot(placing, nowhere())?;
     Ok(())
 }
 
 fn place_float(
-    boxes: &[FlowBox],
-    marks: &[Unit],
+    of: &MarkedBoxes<'_>,
     placing: &mut Placing,
     k: usize,
     side: Side,
 ) -> Result<(), NoMemory>
-    requires input { AreFlowBoxes boxes.now }
-    requires within { k < length boxes.now }
-    requires count { length marks.now ≡ length boxes.now }
-    requires near { (j : ℕ) → IsMarkNear (weight boxes.now j) (length_at marks.now j) }
-    requires float { (shape_at boxes.now k).float ≡ Some side }
-    requires known { ArePlaced boxes.now marks.now placing.old k }
-    ensures placed { OnOk result (GoesOn boxes.now marks.now placing.old placing.new k (k + 1)) }
+    requires within { k < length of.now.boxes.list.now }
+    requires float { (shape_at of.now.boxes.list.now k).float ≡ Some side }
+    requires known { ArePlaced of.now.boxes.list.now of.now.marks.now placing.old k }
+    ensures placed { OnOk result (GoesOn of.now.boxes.list.now of.now.marks.now placing.old placing.new k (k + 1)) }
     ensures kept { OnOk result (placing.new.extents.items ≡ placing.old.extents.items) }
 {
-    let top = ceiling(boxes, marks, k);
-    let request = float_request(&shape_at(boxes, k), side, top);
+    let top = ceiling(of, k);
+    let request = float_request(&of.boxes.shape_at(k), side, top);
     let place = placing.floats.place(&request)?;
     push_spot(placing, place)?;
     Ok(())
 }
 
-fn place_solid(
-    boxes: &[FlowBox],
-    marks: &[Unit],
-    placing: &mut Placing,
-    k: usize,
-) -> Result<(), NoMemory>
-    requires input { AreFlowBoxes boxes.now }
-    requires within { k < length boxes.now }
-    requires count { length marks.now ≡ length boxes.now }
-    requires near { (j : ℕ) → IsMarkNear (weight boxes.now j) (length_at marks.now j) }
-    requires solid { is_solid (block_at boxes.now k).inside ≡ true }
-    requires known { ArePlaced boxes.now marks.now placing.old k }
-    ensures placed { OnOk result (GoesOn boxes.now marks.now placing.old placing.new k (k + 1)) }
-    ensures kept { OnOk result (AreExtentsKept boxes.now k placing.old.extents.items placing.new.extents.items) }
+fn place_solid(of: &MarkedBoxes<'_>, placing: &mut Placing, k: usize) -> Result<(), NoMemory>
+    requires within { k < length of.now.boxes.list.now }
+    requires solid { is_solid (block_at of.now.boxes.list.now k).inside ≡ true }
+    requires known { ArePlaced of.now.boxes.list.now of.now.marks.now placing.old k }
+    ensures placed { OnOk result (GoesOn of.now.boxes.list.now of.now.marks.now placing.old placing.new k (k + 1)) }
+    ensures kept { OnOk result (AreExtentsKept of.now.boxes.list.now k placing.old.extents.items placing.new.extents.items) }
 {
-    let shape = shape_at(boxes, k);
-    let mark = length_at(marks, k);
+    let shape = of.boxes.shape_at(k);
+    let mark = length_at(of.marks, k);
     let place = placing.floats.fit_solid(&solid_request(&shape, mark));
     let extent = extent_below(mark, place.y, shape.height);
     write_at(&mut placing.extents, k, extent);
@@ -138,40 +113,15 @@ fn place_solid(
     Ok(())
 }
 
-fn place_nowhere(
-    boxes: &[FlowBox],
-    _marks: &[Unit],
-    placing: &mut Placing,
-    k: usize,
-) -> Result<(), NoMemory>
-    requires within { k < length boxes.now }
-    requires float { (shape_at boxes.now k).float ≡ None }
-    requires blocks { is_placed (block_at boxes.now k).inside ≡ false }
-    requires known { ArePlaced boxes.now _marks.now placing.old k }
-    ensures placed { OnOk result (GoesOn boxes.now _marks.now placing.old placing.new k (k + 1)) }
-    ensures kept { OnOk result (placing.new.extents.items ≡ placing.old.extents.items) }
+fn place_lines(of: &MarkedBoxes<'_>, placing: &mut Placing, k: usize) -> Result<(), NoMemory>
+    requires within { k < length of.now.boxes.list.now }
+    requires lines { is_lines (block_at of.now.boxes.list.now k).inside ≡ true }
+    requires known { ArePlaced of.now.boxes.list.now of.now.marks.now placing.old k }
+    ensures placed { OnOk result (GoesOn of.now.boxes.list.now of.now.marks.now placing.old placing.new k (k + 1)) }
+    ensures kept { OnOk result (AreExtentsKept of.now.boxes.list.now k placing.old.extents.items placing.new.extents.items) }
 {
-    push_spot(placing, nowhere())?;
-    Ok(())
-}
-
-fn place_lines(
-    boxes: &[FlowBox],
-    marks: &[Unit],
-    placing: &mut Placing,
-    k: usize,
-) -> Result<(), NoMemory>
-    requires input { AreFlowBoxes boxes.now }
-    requires within { k < length boxes.now }
-    requires count { length marks.now ≡ length boxes.now }
-    requires near { (j : ℕ) → IsMarkNear (weight boxes.now j) (length_at marks.now j) }
-    requires lines { is_lines (block_at boxes.now k).inside ≡ true }
-    requires known { ArePlaced boxes.now marks.now placing.old k }
-    ensures placed { OnOk result (GoesOn boxes.now marks.now placing.old placing.new k (k + 1)) }
-    ensures kept { OnOk result (AreExtentsKept boxes.now k placing.old.extents.items placing.new.extents.items) }
-{
-    let top = sum_of(length_at(marks, k), block_at(boxes, k).edge_top);
-    let lines = boxes[k].lay_lines(placing.alloc, &mut placing.floats, top)?;
+    let top = sum_of(length_at(of.marks, k), of.boxes.block_at(k).edge_top);
+    let lines = of.boxes.list[k].lay_lines(placing.alloc, &mut placing.floats, top)?;
     let depth = depth_below(top, lines.end);
     write_at(&mut placing.extents, k, depth);
     placing.places.push(nowhere())?;
@@ -221,18 +171,18 @@ fn extent_below(mark: Unit, top: Unit, height: Unit) -> Unit
 }
 
 // The lower of its mark and of the top of its containing block's content.
-fn ceiling(boxes: &[FlowBox], marks: &[Unit], k: usize) -> Unit
-    requires input { AreFlowBoxes boxes.now }
-    requires within { k < length boxes.now }
+fn ceiling(of: &MarkedBoxes<'_>, k: usize) -> Unit
+    requires within { k < length of.now.boxes.list.now }
     requires positive { 0 < k }
-    requires count { length marks.now ≡ length boxes.now }
-    requires near { (j : ℕ) → IsMarkNear (weight boxes.now j) (length_at marks.now j) }
-    ensures value { result.0 ≡ ceiling boxes.now marks.now k }
-    ensures near { IsCeilingNear (weight boxes.now k) result.0 }
+    ensures value { result.0 ≡ ceiling of.now.boxes.list.now of.now.marks.now k }
+    ensures near { IsCeilingNear (weight of.now.boxes.list.now k) result.0 }
 {
-    let parent = parent_at(boxes, k);
-    let content = sum_of(length_at(marks, parent), block_at(boxes, parent).edge_top);
-    lower(length_at(marks, k), content)
+    let parent = of.boxes.parent_at(k);
+    let content = sum_of(
+        length_at(of.marks, parent),
+        of.boxes.block_at(parent).edge_top,
+    );
+    lower(length_at(of.marks, k), content)
 }
 
 fn lower(a: Unit, b: Unit) -> Unit

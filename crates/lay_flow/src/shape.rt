@@ -1,15 +1,13 @@
 //! Boxes as the floats of their block formatting context see them.
 
-ghost use Rattle.std.specs.Prelude.{◌≡◌, ◌<◌, ◌+ℤ◌, length, None};
+ghost use Rattle.std.specs.Prelude.{◌≡◌, ◌+ℤ◌, None};
 ghost use Rattle.lay_units.specs.Units.{IsUsed};
-ghost use Rattle.lay_flow.specs.BlockFloats.{content_of, no_shape, shape_of, shape_at};
+ghost use Rattle.lay_flow.specs.BlockFloats.{content_of, no_shape, shape_of};
 ghost use Rattle.lay_flow.specs.BlockSizes.{IsBoxSize};
 ghost use Rattle.lay_flow.specs.declared.flow_box.Across.{Across};
-ghost use Rattle.lay_flow.specs.Boxes.{box_at};
-ghost use Rattle.lay_flow.specs.FlowBoxes.{AreFlowBoxes, KindFits};
+ghost use Rattle.lay_flow.specs.FlowBoxes.{KindFits};
 ghost use Rattle.lay_flow.specs.Lengths.{no_length};
 
-use crate::columns::parent_at;
 use crate::flow_box::{Across, BlockBox, FlowBox, FlowKind};
 use lay_floats::{Clear, Side};
 use lay_units::Unit;
@@ -31,32 +29,6 @@ pub(crate) struct Shape {
     pub height: Unit,
 }
 
-/// The box at k as floats see it.
-pub(crate) fn shape_at(boxes: &[FlowBox], k: usize) -> Shape
-    requires input { AreFlowBoxes boxes.now }
-    requires within { k < length boxes.now }
-    ensures { result ≡ shape_at boxes.now k }
-{
-    let around = boxes[parent_at(boxes, k)].content();
-    boxes[k].shape(around)
-}
-
-/// The sides whose floats the box at k goes past.
-pub(crate) fn clear_at(boxes: &[FlowBox], k: usize) -> Clear
-    requires { k < length boxes.now }
-    ensures { result ≡ (shape_at boxes.now k).clear }
-{
-    boxes[k].clear()
-}
-
-/// The side that the box at k floats to.
-pub(crate) fn side_at(boxes: &[FlowBox], k: usize) -> Option<Side>
-    requires { k < length boxes.now }
-    ensures { result ≡ (shape_at boxes.now k).float }
-{
-    boxes[k].side()
-}
-
 impl FlowBox {
     /// Its content edges.
     pub(crate) fn content(&self) -> Across
@@ -74,7 +46,8 @@ impl FlowBox {
         }
     }
 
-    fn clear(&self) -> Clear
+    /// The sides whose floats it goes past.
+    pub(crate) fn clear(&self) -> Clear
         ensures { (around : Across) → result ≡ (shape_of around self.now.kind).clear }
     {
         match &self.kind {
@@ -86,7 +59,8 @@ impl FlowBox {
         }
     }
 
-    fn side(&self) -> Option<Side>
+    /// The side that it floats to.
+    pub(crate) fn side(&self) -> Option<Side>
         ensures { (around : Across) → result ≡ (shape_of around self.now.kind).float }
     {
         match &self.kind {
@@ -96,7 +70,8 @@ impl FlowBox {
         }
     }
 
-    fn shape(&self, around: Across) -> Shape
+    /// It as floats see it, with these content edges around it.
+    pub(crate) fn shape(&self, around: Across) -> Shape
         requires { KindFits self.now.kind }
         ensures { result ≡ shape_of around self.now.kind }
     {

@@ -1,16 +1,18 @@
 -- How large the numbers of a pass become, by the weight w of the boxes so far. Between a mark and the next lie at most a height
 -- and what a run's margins collapse to, or a float, which together are less than 2^36 units; lines reach at most 2^38 units
 -- further for each weight of theirs; and the first float lies within 2^51 units.
-use Rattle.std.specs.Prelude.{ℕ, ◌≡◌, ◌+◌, ◌*◌, ◌<◌, ◌≤◌, ℤ, pos, neg_ℤ, ◌+ℤ◌, ◌≤ℤ◌, ◌==◌, ◌&&◌, nat_lt, Bool, true, false, List, length}
+use Rattle.std.specs.Prelude.{ℕ, ◌≡◌, ◌+◌, ◌*◌, ◌<◌, ◌≤◌, ℤ, pos, neg_ℤ, ◌+ℤ◌, ◌≤ℤ◌, ◌==◌, ◌&&◌, nat_lt, Bool, true, false, List, length, map, is_some, Option, Some, None}
 use Rattle.lay_flow.specs.declared.flow_box.FlowBox.{FlowBox}
 use Rattle.lay_flow.specs.Boxes.{parent_at}
 use Rattle.lay_units.specs.Units.{limit}
 use Rattle.lay_units.specs.declared.length.Unit.{Unit as Length}
 use Rattle.lay_margins.specs.StrutValue.{StrutValue}
 use Rattle.lay_flow.specs.declared.pass.Pass.{Pass}
+use Rattle.lay_flow.specs.declared.pass.RunStart.{RunStart}
+use Rattle.lay_flow.specs.declared.pass.RunStart.TheVariants.{At as starts_at, HangsFrom as hangs_from}
 use Rattle.lay_flow.specs.declared.block.Inside.{Inside}
 use Rattle.lay_flow.specs.declared.block.Inside.TheVariants.{Blocks as blocks_inside, Lines as lines_inside, Solid as solid_inside}
-use Rattle.lay_flow.specs.Lengths.{length_at}
+use Rattle.lay_flow.specs.Lengths.{length_at, no_length}
 use Rattle.lay_flow.specs.BlockSizes.{IsBoxSize, IsNear}
 use Rattle.lay_flow.specs.Children.{flag_at}
 use Rattle.lay_flow.specs.MarginRuns.{block_at, parts_tops}
@@ -81,8 +83,38 @@ pub record StateFits (boxes : List FlowBox) (now : PassState) (p m : ℕ) : Type
   pub unparted : (j : ℕ) → now.first ≤ j → j < m → parts_tops boxes j ≡ false
   pub sized : (j : ℕ) → is_solid (block_at boxes j).inside ≡ false → IsBoxSize (length_at now.heights j)
 
+-- where a run starts, or, if it hangs, the clear edge
+abbrev pub position_of : RunStart → ℤ
+position_of (starts_at start) = start.0
+position_of (hangs_from edge) = edge.0
+
+abbrev pub is_hanging : RunStart → Bool
+is_hanging (starts_at start) = false
+is_hanging (hangs_from edge) = true
+
+abbrev pub edge_or_none : Option Length → Length
+edge_or_none None = no_length
+edge_or_none (Some edge) = edge
+
+-- of the clear edges of boxes with clearance the two columns that say which have it, and where
+abbrev pub clears_of : List (Option Length) → List Bool
+clears_of edges = map is_some edges
+
+abbrev pub clear_edges_of : List (Option Length) → List Length
+clear_edges_of edges = map edge_or_none edges
+
 abbrev pub state_of : Pass → PassState
-state_of f = record { marks = f.marks.items; heights = f.heights.items; through = f.through.items; clears = f.clears.items; clear_edges = f.clear_edges.items; start = f.start.0; strut = f.strut; first = f.first; hangs = f.hangs }
+state_of f = record {
+  marks = f.marks.items;
+  heights = f.heights.items;
+  through = f.through.items;
+  clears = clears_of f.clear_edges.items;
+  clear_edges = clear_edges_of f.clear_edges.items;
+  start = position_of f.start;
+  strut = f.strut;
+  first = f.first;
+  hangs = is_hanging f.start;
+}
 
 -- the run was begun by clearance of a child of p
 abbrev pub is_barred : List FlowBox → PassState → ℕ → Bool

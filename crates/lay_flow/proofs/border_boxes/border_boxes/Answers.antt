@@ -13,7 +13,7 @@ loop-k-preserved c =
     let columns = c.args.columns.now in
     record {
       count = ap length ok.items ∙ one_longer c.loop-k.places.items c.border_box_at.result ∙ ap (λ (n : ℕ). n + 1) was.count;
-      each = rw ok.items (one_more (λ k p. p ≡ border_box (box_at c.args.boxes.now k).kind (record { 0 = length_at columns.tops.items k }) (record { 0 = length_at columns.heights.items k }) (corner_at columns.places.items k) (corner_at columns.corners.items k))
+      each = rw ok.items (one_more (λ k p. p ≡ border_box (box_at c.args.boxes.now.list.now k).kind (record { 0 = length_at columns.tops.items k }) (record { 0 = length_at columns.heights.items k }) (corner_at columns.places.items k) (corner_at columns.corners.items k))
           c.loop-k.places.items c.loop-k.k c.border_box_at.result was.count was.each c.border_box_at.ensures.value);
       near = rw ok.items (one_more (λ k p. IsNearPlace p) c.loop-k.places.items c.loop-k.k c.border_box_at.result was.count was.near c.border_box_at.ensures.near);
     }

@@ -9,6 +9,6 @@ abbrev pub invariant-loop-k : goal.invariant-loop-k
 invariant-loop-k l = record {
   count : length l.places.items ≡ l.k;
   each : (k : ℕ) → k < l.k → box_place_at l.places.items k
-      ≡ border_box (box_at l.boxes k).kind (record { 0 = length_at l.columns.tops.items k }) (record { 0 = length_at l.columns.heights.items k }) (corner_at l.columns.places.items k) (corner_at l.columns.corners.items k);
+      ≡ border_box (box_at l.boxes.list.now k).kind (record { 0 = length_at l.columns.tops.items k }) (record { 0 = length_at l.columns.heights.items k }) (corner_at l.columns.places.items k) (corner_at l.columns.corners.items k);
   near : (k : ℕ) → k < l.k → IsNearPlace (box_place_at l.places.items k);
 }

@@ -1,7 +1,10 @@
-use Rattle.std.proofs.Common.{refl}
+use Rattle.std.proofs.Common.{ℕ, arith, refl, sym, ◌∙◌, subst}
+use Rattle.lay_flow.proofs.ClearSteps.{knows_placed, ready_unasked}
+use Rattle.lay_flow.proofs.PlacedOn.{kept_places, placed_on, places_count}
+use Rattle.lay_flow.specs.Boxes.{parent_at}
 use Rattle.lay_flow.specs.Pass.Bounds.{state_of}
-use Rattle.lay_flow.specs.Pass.Known.{placing_of}
-use Rattle.lay_flow.proofs.ClearSteps.{ready_unasked}
+use Rattle.lay_flow.specs.Pass.Known.{ArePlacedOn, IsKnown, placing_of}
+use Rattle.lay_flow.specs.Pass.Knows.{AreExtentsKept}
 use Rattle.lay_flow.proofs.clearance.clear.Goals as goal
 
 pub returns-else-asks_to_clear : goal.returns-else-asks_to_clear
@@ -10,6 +13,46 @@ returns-else-asks_to_clear c =
     record {
       places = c.requires.known.places;
       are = c.requires.known.are;
-      ready = ready_unasked c.args.boxes.now c.requires.input.is_tree.tree c.requires.input.is_tree (state_of old) (placing_of old.placing c.requires.known.places) c.args.k c.requires.positive c.requires.within c.requires.known.knows
+      ready = ready_unasked c.args.boxes.now.list.now c.args.boxes.now.are.is_tree.tree c.args.boxes.now.are.is_tree (state_of old) (placing_of old.placing c.requires.known.places) c.args.k c.requires.positive c.requires.within c.requires.known.knows
           (c.if-asks_to_clear.ensures.passes_none refl);
     }
+
+pub place_up_to-requires-clause-known : goal.place_up_to-requires-clause-known
+place_up_to-requires-clause-known c =
+    let known = c.requires.known.knows in
+    let f = known.fits in
+    let early = known.early in let few = f.first_most in let within = f.within in
+    let old = c.args.flow.now in
+    kept_places c.args.boxes.now.list.now old.marks.items c.deref.result.now old.placing c.requires.known.places c.args.boxes.now.are.is_tree.tree c.requires.known.are (omega (arith, early, few, within)) known.placed
+    (λ j lt. rw c.deref.ensures.value refl)
+
+pub clear_floats-requires-clause-known : goal.clear_floats-requires-clause-known
+clear_floats-requires-clause-known c =
+    let known = c.requires.known.knows in
+    let f = known.fits in
+    let early = known.early in let few = f.first_most in let within = f.within in
+    let old = c.args.flow.now in
+    let done = c.in_ok-place_up_to.ensures {u = tt} in
+    let there = placed_on c.args.boxes.now.list.now old.marks.items old.marks.items old.placing c.place_up_to.new.placing c.requires.known.places old.first c.args.boxes.now.are.is_tree.tree c.requires.known.are
+    (omega (arith, early, few, within)) known.placed (λ j lt. refl) (rw c.deref.ensures.value at done.placed) in
+    let go : ArePlacedOn c.args.boxes.now.list.now old.marks.items c.place_up_to.new.placing c.requires.known.places old.first → IsKnown c.args.boxes.now.list.now (record c.args.flow.now { placing = c.place_up_to.new.placing }) (parent_at c.args.boxes.now.list.now c.args.k) c.args.k = λ goes.
+    let placed = goes.to in
+    record {
+      places = goes.places;
+      are = goes.are;
+      knows = knows_placed c.args.boxes.now.list.now c.args.boxes.now.are.is_tree.tree c.args.boxes.now.are.is_tree (state_of old) (placing_of old.placing c.requires.known.places) c.args.k c.requires.positive c.requires.within known
+          (placing_of c.place_up_to.new.placing goes.places) placed (subst (λ (n : ℕ). AreExtentsKept c.args.boxes.now.list.now n old.placing.extents.items c.place_up_to.new.placing.extents.items) (sym (places_count old.placing c.requires.known.places c.requires.known.are)) done.kept) goes.same;
+    } in
+    go there
+
+pub clear_floats-requires-clause-settled : goal.clear_floats-requires-clause-settled
+clear_floats-requires-clause-settled c =
+    let known = c.requires.known.knows in
+    let f = known.fits in
+    let early = known.early in let few = f.first_most in let within = f.within in
+    let old = c.args.flow.now in
+    let done = c.in_ok-place_up_to.ensures {u = tt} in
+    let there = placed_on c.args.boxes.now.list.now old.marks.items old.marks.items old.placing c.place_up_to.new.placing c.requires.known.places old.first c.args.boxes.now.are.is_tree.tree c.requires.known.are
+    (omega (arith, early, few, within)) known.placed (λ j lt. refl) (rw c.deref.ensures.value at done.placed) in
+    (λ (goes : ArePlacedOn c.args.boxes.now.list.now old.marks.items c.place_up_to.new.placing c.requires.known.places old.first).
+    sym (places_count c.place_up_to.new.placing goes.places goes.are) ∙ goes.to.places_length) there

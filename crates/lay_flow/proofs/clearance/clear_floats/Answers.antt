@@ -15,8 +15,8 @@ returns-else-is_above c =
     record {
       places = c.requires.known.places;
       are = c.requires.known.are;
-      ready = ready_below c.args.boxes.now c.requires.input.is_tree.tree c.requires.input.is_tree (state_of old) (placing_of old.placing c.requires.known.places) c.args.k c.requires.positive c.requires.within c.requires.known.knows
-          c.edge_without-hypothetical.result.0 c.clear_edge-bottom.result (places_count old.placing c.requires.known.places c.requires.known.are ∙ c.requires.settled) (edge_known c.args.boxes.now (state_of old) old.placing c.requires.known.places c.requires.known.are c.args.k _ c.edge_without-hypothetical.ensures.edge) is_bottom (c.if-has_waiting_float.ensures.hasnt refl) (c.if-is_above.ensures.isnt refl);
+      ready = ready_below c.args.boxes.now.list.now c.args.boxes.now.are.is_tree.tree c.args.boxes.now.are.is_tree (state_of old) (placing_of old.placing c.requires.known.places) c.args.k c.requires.positive c.requires.within c.requires.known.knows
+          c.edge_without-hypothetical.result.0 c.clear_edge-bottom.result (places_count old.placing c.requires.known.places c.requires.known.are ∙ c.requires.settled) (edge_known c.args.boxes.now.list.now (state_of old) old.placing c.requires.known.places c.requires.known.are c.args.k _ c.edge_without-hypothetical.ensures.edge) is_bottom (c.if-has_waiting_float.ensures.hasnt refl) (c.if-is_above.ensures.isnt refl);
     }
 
 pub begin_cleared-requires-clause-decides : goal.begin_cleared-requires-clause-decides

@@ -1,6 +1,8 @@
-use Rattle.std.proofs.Common.{arith}
+use Rattle.std.proofs.Common.{arith, ap, subst, sym, ℤ, length}
 use Rattle.lay_flow.specs.Pass.Known.{placing_of}
-use Rattle.lay_flow.specs.Pass.Bounds.{state_of}
+use Rattle.lay_flow.specs.Pass.Bounds.{IsEdgeNear, state_of, position_of, is_hanging}
+use Rattle.lay_flow.specs.BlockSizes.{IsNear}
+use Rattle.lay_flow.specs.Pass.Clears.{IsEdgeWithout}
 use Rattle.lay_flow.proofs.WeightFacts.{light_at}
 use Rattle.lay_flow.specs.Weights.{weight}
 use Rattle.lay_flow.proofs.PlacedOn.{edge_of}
@@ -8,23 +10,30 @@ use Rattle.lay_flow.proofs.ClearSteps.{hanging_edge, flowing_edge}
 use Rattle.lay_flow.proofs.PassFits.{start_is_near, start_edge_near, ahead_near}
 use Rattle.lay_flow.proofs.clearance.edge_without.Goals as goal
 
-pub returns-then-flow-clause-edge : goal.returns-then-flow-clause-edge
-returns-then-flow-clause-edge c =
-    edge_of c.args.boxes.now (state_of c.args.flow.now) c.args.flow.now.placing c.requires.known.places c.requires.known.are c.args.k _ (hanging_edge c.args.boxes.now c.requires.input.is_tree.tree c.requires.input.is_tree (state_of c.args.flow.now) (placing_of c.args.flow.now.placing c.requires.known.places) c.args.k c.requires.positive c.requires.within c.requires.known.knows
-    c.if-flow.true)
+pub returns-in-HangsFrom-clause-edge : goal.returns-in-HangsFrom-clause-edge
+returns-in-HangsFrom-clause-edge c =
+    let flow = c.args.flow.now in
+    subst (λ (v : ℤ). IsEdgeWithout c.args.boxes.now.list.now (state_of flow) (length flow.placing.places.items) flow.placing.extents.items c.args.k v) (ap position_of c.in-HangsFrom.is)
+    (edge_of c.args.boxes.now.list.now (state_of flow) flow.placing c.requires.known.places c.requires.known.are c.args.k _ (hanging_edge c.args.boxes.now.list.now c.args.boxes.now.are.is_tree.tree c.args.boxes.now.are.is_tree (state_of flow) (placing_of flow.placing c.requires.known.places) c.args.k c.requires.positive c.requires.within c.requires.known.knows
+    (ap is_hanging c.in-HangsFrom.is)))
 
-pub returns-then-flow-clause-near : goal.returns-then-flow-clause-near
-returns-then-flow-clause-near c = start_edge_near (weight c.args.boxes.now c.args.k) c.args.flow.now.start.0 c.requires.known.knows.near
+pub returns-in-HangsFrom-clause-near : goal.returns-in-HangsFrom-clause-near
+returns-in-HangsFrom-clause-near c =
+    subst (IsEdgeNear (weight c.args.boxes.now.list.now c.args.k)) (ap position_of c.in-HangsFrom.is) (start_edge_near (weight c.args.boxes.now.list.now c.args.k) (position_of c.args.flow.now.start) c.requires.known.knows.near)
 
 pub hypothetical_edge-requires-clause-start : goal.hypothetical_edge-requires-clause-start
 hypothetical_edge-requires-clause-start c =
     let f = c.requires.known.knows.fits in let a = f.first_most in let b = f.within in
-    start_is_near (weight c.args.boxes.now c.args.flow.now.first) c.args.flow.now.start.0 (light_at c.args.boxes.now c.requires.input c.args.flow.now.first (omega (arith, a, b))) f.start_near
+    subst IsNear (ap position_of c.in-At.is)
+    (start_is_near (weight c.args.boxes.now.list.now c.args.flow.now.first) (position_of c.args.flow.now.start) (light_at c.args.boxes.now.list.now c.args.boxes.now.are c.args.flow.now.first (omega (arith, a, b))) f.start_near)
 
-pub returns-clause-edge : goal.returns-clause-edge
-returns-clause-edge c =
-    edge_of c.args.boxes.now (state_of c.args.flow.now) c.args.flow.now.placing c.requires.known.places c.requires.known.are c.args.k _ (flowing_edge c.args.boxes.now c.requires.input.is_tree.tree c.requires.input.is_tree (state_of c.args.flow.now) (placing_of c.args.flow.now.placing c.requires.known.places) c.args.k c.requires.positive c.requires.within c.requires.known.knows
-    c.if-flow.false c.hypothetical_edge.result.0 c.hypothetical_edge.ensures.edge)
+pub returns-in-At-clause-edge : goal.returns-in-At-clause-edge
+returns-in-At-clause-edge c =
+    let flow = c.args.flow.now in
+    let ahead = rw (sym (ap position_of c.in-At.is)) at c.hypothetical_edge.ensures.edge in
+    edge_of c.args.boxes.now.list.now (state_of flow) flow.placing c.requires.known.places c.requires.known.are c.args.k _ (flowing_edge c.args.boxes.now.list.now c.args.boxes.now.are.is_tree.tree c.args.boxes.now.are.is_tree (state_of flow) (placing_of flow.placing c.requires.known.places) c.args.k c.requires.positive c.requires.within c.requires.known.knows
+    (ap is_hanging c.in-At.is) c.hypothetical_edge.result.0 ahead)
 
-pub returns-clause-near : goal.returns-clause-near
-returns-clause-near c = ahead_near (weight c.args.boxes.now c.args.k) c.args.flow.now.start.0 c.hypothetical_edge.result.0 c.requires.known.knows.near c.hypothetical_edge.ensures.near
+pub returns-in-At-clause-near : goal.returns-in-At-clause-near
+returns-in-At-clause-near c =
+    ahead_near (weight c.args.boxes.now.list.now c.args.k) (position_of c.args.flow.now.start) c.hypothetical_edge.result.0 c.requires.known.knows.near (rw (sym (ap position_of c.in-At.is)) at c.hypothetical_edge.ensures.near)

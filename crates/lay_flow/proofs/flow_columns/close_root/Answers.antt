@@ -7,7 +7,7 @@ use Rattle.lay_flow.specs.Lengths.{length_at}
 use Rattle.lay_flow.specs.BlockPositions.{border_height, is_solid}
 use Rattle.lay_flow.specs.BlockSizes.{IsNear}
 use Rattle.lay_flow.specs.Weights.{weight}
-use Rattle.lay_flow.specs.Pass.Bounds.{IsLineDepth, held_end, state_of, IsMarkNear}
+use Rattle.lay_flow.specs.Pass.Bounds.{IsLineDepth, held_end, state_of, IsMarkNear, position_of, is_hanging}
 use Rattle.lay_flow.specs.Pass.Knows.{AreExtentsKept}
 use Rattle.lay_flow.specs.Pass.Known.{placing_of}
 use Rattle.lay_flow.proofs.SoFar.{Wrote}
@@ -23,74 +23,74 @@ use Rattle.lay_flow.proofs.flow_columns.close_root.Goals as goal
 
 pub end_of-end-requires-clause-start : goal.end_of-end-requires-clause-start
 end_of-end-requires-clause-start c =
-    let f = c.requires.known.knows.fits in let a = f.first_most in let b = f.within in
-    start_is_near (weight c.args.boxes.now c.args.flow.now.first) c.args.flow.now.start.0 (light_at c.args.boxes.now c.requires.input c.args.flow.now.first (omega (arith, a, b))) f.start_near
+    let f = c.requires.knows.fits in let a = f.first_most in let b = f.within in
+    start_is_near (weight c.args.boxes.now.list.now c.args.flow.now.first) (position_of c.args.flow.now.start) (light_at c.args.boxes.now.list.now c.args.boxes.now.are c.args.flow.now.first (omega (arith, a, b))) f.start_near
 
-pub place_up_to-requires-clause-near : goal.place_up_to-requires-clause-near
-place_up_to-requires-clause-near c =
-    let f = c.requires.known.knows.fits in
+pub invariant_of-marked-clause-near : goal.invariant_of-marked-clause-near
+invariant_of-marked-clause-near c =
+    let f = c.requires.knows.fits in
     let settles = rw c.deref.ensures.value at c.settle.ensures in
-    let near = near_tops c.args.boxes.now c.requires.input (state_of c.args.flow.now) _ c.end_of-end.result.0 f c.end_of-end.ensures.near settles in
-    subst (λ (xs : List Length). (j : ℕ) → IsMarkNear (weight c.args.boxes.now j) (length_at xs j)) (sym c.deref-2.ensures.value) near
+    let near = near_tops c.args.boxes.now.list.now c.args.boxes.now.are (state_of c.args.flow.now) _ c.end_of-end.result.0 f c.end_of-end.ensures.near settles in
+    subst (λ (xs : List Length). (j : ℕ) → IsMarkNear (weight c.args.boxes.now.list.now j) (length_at xs j)) (sym c.deref-2.ensures.value) near
 
 pub place_up_to-requires-clause-known : goal.place_up_to-requires-clause-known
 place_up_to-requires-clause-known c =
-    let known = c.requires.known.knows in
+    let known = c.requires.knows in
     let f = known.fits in
     let early = known.early in let few = f.first_most in let within = f.within in
     let settles = rw c.deref.ensures.value at c.settle.ensures in
     let old = c.args.flow.now in
-    kept_places c.args.boxes.now old.marks.items c.deref-2.result.now old.placing c.requires.known.places c.requires.input.is_tree.tree c.requires.known.are (omega (arith, early, few, within)) known.placed
+    kept_places c.args.boxes.now.list.now old.marks.items c.deref-2.result.now old.placing c.requires.places c.args.boxes.now.are.is_tree.tree c.requires.are (omega (arith, early, few, within)) known.placed
     (λ j lt. rw c.deref-2.ensures.value (settles.before j (omega (arith, lt, early))))
 
 pub root_height-height-requires-clause-floats : goal.root_height-height-requires-clause-floats
 root_height-height-requires-clause-floats c =
     let done = c.in_ok-place_up_to.ensures {u = tt} in
     let old = c.args.flow.now in
-    let fits = c.requires.known.knows.fits in
-    let there = placed_on c.args.boxes.now old.marks.items c.settle.new.marks.items old.placing c.place_up_to.new.placing c.requires.known.places (length c.args.boxes.now) c.requires.input.is_tree.tree c.requires.known.are
-    (let early = c.requires.known.knows.early in let few = fits.first_most in let within = fits.within in omega (arith, early, few, within)) c.requires.known.knows.placed
-    (let early = c.requires.known.knows.early in let settles = rw c.deref.ensures.value at c.settle.ensures in λ j lt. settles.before j (omega (arith, lt, early))) (rw c.deref-2.ensures.value at done.placed) in
-    (λ (goes : ArePlacedOn c.args.boxes.now c.settle.new.marks.items c.place_up_to.new.placing c.requires.known.places (length c.args.boxes.now)).
-    clear_edge_position (weight c.args.boxes.now (length c.args.boxes.now)) _ clear_both c.clear_edge-bottom.result c.requires.input.light goes.to.within c.clear_edge-bottom.ensures) there
+    let fits = c.requires.knows.fits in
+    let there = placed_on c.args.boxes.now.list.now old.marks.items c.settle.new.marks.items old.placing c.place_up_to.new.placing c.requires.places (length c.args.boxes.now.list.now) c.args.boxes.now.are.is_tree.tree c.requires.are
+    (let early = c.requires.knows.early in let few = fits.first_most in let within = fits.within in omega (arith, early, few, within)) c.requires.knows.placed
+    (let early = c.requires.knows.early in let settles = rw c.deref.ensures.value at c.settle.ensures in λ j lt. settles.before j (omega (arith, lt, early))) (rw c.deref-2.ensures.value at done.placed) in
+    (λ (goes : ArePlacedOn c.args.boxes.now.list.now c.settle.new.marks.items c.place_up_to.new.placing c.requires.places (length c.args.boxes.now.list.now)).
+    clear_edge_position (weight c.args.boxes.now.list.now (length c.args.boxes.now.list.now)) _ clear_both c.clear_edge-bottom.result c.args.boxes.now.are.light goes.to.within c.clear_edge-bottom.ensures) there
 
 pub root_end-requires-clause-margin : goal.root_end-requires-clause-margin
 root_end-requires-clause-margin c =
-    let f = c.requires.known.knows.fits in
-    mark_is_near (weight c.args.boxes.now (length c.args.boxes.now)) c.end_of-end.result.0 c.requires.input.light
-    (end_near (weight c.args.boxes.now c.args.flow.now.first) (weight c.args.boxes.now (length c.args.boxes.now)) c.args.flow.now.start.0 c.end_of-end.result.0 f.start_near c.end_of-end.ensures.near (weight_up c.args.boxes.now c.args.flow.now.first (length c.args.boxes.now) f.first_most))
+    let f = c.requires.knows.fits in
+    mark_is_near (weight c.args.boxes.now.list.now (length c.args.boxes.now.list.now)) c.end_of-end.result.0 c.args.boxes.now.are.light
+    (end_near (weight c.args.boxes.now.list.now c.args.flow.now.first) (weight c.args.boxes.now.list.now (length c.args.boxes.now.list.now)) (position_of c.args.flow.now.start) c.end_of-end.result.0 f.start_near c.end_of-end.ensures.near (weight_up c.args.boxes.now.list.now c.args.flow.now.first (length c.args.boxes.now.list.now) f.first_most))
 
 pub root_end-requires-clause-lines : goal.root_end-requires-clause-lines
 root_end-requires-clause-lines c lines =
     let done = c.in_ok-place_up_to.ensures {u = tt} in
     let old = c.args.flow.now in
-    let fits = c.requires.known.knows.fits in
-    let there = placed_on c.args.boxes.now old.marks.items c.settle.new.marks.items old.placing c.place_up_to.new.placing c.requires.known.places (length c.args.boxes.now) c.requires.input.is_tree.tree c.requires.known.are
-    (let early = c.requires.known.knows.early in let few = fits.first_most in let within = fits.within in omega (arith, early, few, within)) c.requires.known.knows.placed
-    (let early = c.requires.known.knows.early in let settles = rw c.deref.ensures.value at c.settle.ensures in λ j lt. settles.before j (omega (arith, lt, early))) (rw c.deref-2.ensures.value at done.placed) in
-    let go : ArePlacedOn c.args.boxes.now c.settle.new.marks.items c.place_up_to.new.placing c.requires.known.places (length c.args.boxes.now) → IsLineDepth c.length_at-mark.result.0 c.block_at-block.result.edge_top.0 c.length_at-depth.result.0 = λ goes.
-    let some = c.requires.input.is_tree.some in
+    let fits = c.requires.knows.fits in
+    let there = placed_on c.args.boxes.now.list.now old.marks.items c.settle.new.marks.items old.placing c.place_up_to.new.placing c.requires.places (length c.args.boxes.now.list.now) c.args.boxes.now.are.is_tree.tree c.requires.are
+    (let early = c.requires.knows.early in let few = fits.first_most in let within = fits.within in omega (arith, early, few, within)) c.requires.knows.placed
+    (let early = c.requires.knows.early in let settles = rw c.deref.ensures.value at c.settle.ensures in λ j lt. settles.before j (omega (arith, lt, early))) (rw c.deref-2.ensures.value at done.placed) in
+    let go : ArePlacedOn c.args.boxes.now.list.now c.settle.new.marks.items c.place_up_to.new.placing c.requires.places (length c.args.boxes.now.list.now) → IsLineDepth c.length_at-mark.result.0 c.block_at-block.result.edge_top.0 c.length_at-depth.result.0 = λ goes.
+    let some = c.args.boxes.now.are.is_tree.some in
     let block = c.block_at-block.ensures.value in
     let marked = rw c.deref-3.ensures.value at c.length_at-mark.ensures in
     let depth = rw c.deref-4.ensures.value at c.length_at-depth.ensures in
     let there = rw block at lines in
-    rw (block, depth, marked) (line_depth c.args.boxes.now c.requires.input c.settle.new.marks.items (placing_of c.place_up_to.new.placing goes.places) (length c.args.boxes.now) goes.to 0 some (omega arith) there) in
+    rw (block, depth, marked) (line_depth c.args.boxes.now.list.now c.args.boxes.now.are c.settle.new.marks.items (placing_of c.place_up_to.new.placing goes.places) (length c.args.boxes.now.list.now) goes.to 0 some (omega arith) there) in
     go there
 
 pub returns-clause-finished : goal.returns-clause-finished
 returns-clause-finished c =
-    let f = c.requires.known.knows.fits in let some = c.requires.input.is_tree.some in let l = f.heights_length in
+    let f = c.requires.knows.fits in let some = c.args.boxes.now.are.is_tree.some in let l = f.heights_length in
     let block = c.block_at-block.ensures.value in
     let marked = rw c.deref-3.ensures.value at c.length_at-mark.ensures in
     let depth = rw c.deref-4.ensures.value at c.length_at-depth.ensures in
     let settles = rw c.deref.ensures.value at c.settle.ensures in
     let done = c.in_ok-place_up_to.ensures {u = tt} in
     let old = c.args.flow.now in
-    let fits = c.requires.known.knows.fits in
-    let there = placed_on c.args.boxes.now old.marks.items c.settle.new.marks.items old.placing c.place_up_to.new.placing c.requires.known.places (length c.args.boxes.now) c.requires.input.is_tree.tree c.requires.known.are
-    (let early = c.requires.known.knows.early in let few = fits.first_most in let within = fits.within in omega (arith, early, few, within)) c.requires.known.knows.placed
-    (let early = c.requires.known.knows.early in let settles = rw c.deref.ensures.value at c.settle.ensures in λ j lt. settles.before j (omega (arith, lt, early))) (rw c.deref-2.ensures.value at done.placed) in
-    let go : ArePlacedOn c.args.boxes.now c.settle.new.marks.items c.place_up_to.new.placing c.requires.known.places (length c.args.boxes.now) → IsFinished c.args.boxes.now (record c.args.flow.now { marks = c.settle.new.marks; heights = c.write_at.new.column; placing = c.place_up_to.new.placing }) = λ goes.
+    let fits = c.requires.knows.fits in
+    let there = placed_on c.args.boxes.now.list.now old.marks.items c.settle.new.marks.items old.placing c.place_up_to.new.placing c.requires.places (length c.args.boxes.now.list.now) c.args.boxes.now.are.is_tree.tree c.requires.are
+    (let early = c.requires.knows.early in let few = fits.first_most in let within = fits.within in omega (arith, early, few, within)) c.requires.knows.placed
+    (let early = c.requires.knows.early in let settles = rw c.deref.ensures.value at c.settle.ensures in λ j lt. settles.before j (omega (arith, lt, early))) (rw c.deref-2.ensures.value at done.placed) in
+    let go : ArePlacedOn c.args.boxes.now.list.now c.settle.new.marks.items c.place_up_to.new.placing c.requires.places (length c.args.boxes.now.list.now) → IsFinished c.args.boxes.now.list.now (record c.args.flow.now { marks = c.settle.new.marks; heights = c.write_at.new.column; placing = c.place_up_to.new.placing }) = λ goes.
     let placed = goes.to in
     let placing = placing_of c.place_up_to.new.placing goes.places in
     let over = c.root_end.ensures.value ∙ (λ i. held_end (block i).inside (c.length_at-mark.result.0 +ℤ (block i).edge_top.0) (depth i) c.end_of-end.result.0) in
@@ -98,13 +98,13 @@ returns-clause-finished c =
     ∙ ap (λ (b : Block). border_height b (pos 0) (root_height_of (record { 0 = c.length_at-mark.result.0 +ℤ b.edge_top.0 }) c.root_end.result c.clear_edge-bottom.result)) block in
     let wrote_height : Wrote length_at old.heights.items c.write_at.new.column.items 0 c.root_height-height.result.0 =
     subst (λ (xs : List Length). Wrote length_at old.heights.items xs 0 c.root_height-height.result.0) (sym c.write_at.ensures) (wrote_length old.heights.items 0 c.root_height-height.result (omega (arith, some, l))) in
-    let ends : RunEnds old.hangs old.start.0 old.strut c.end_of-end.result.0 = record { hanging = c.end_of-end.ensures.hanging; value = c.end_of-end.ensures.value } in
-    let kept = subst (λ (n : ℕ). AreExtentsKept c.args.boxes.now n old.placing.extents.items c.place_up_to.new.placing.extents.items) (sym (places_count old.placing c.requires.known.places c.requires.known.are)) done.kept in
+    let ends : RunEnds (is_hanging old.start) (position_of old.start) old.strut c.end_of-end.result.0 = record { hanging = c.end_of-end.ensures.hanging; value = c.end_of-end.ensures.value } in
+    let kept = subst (λ (n : ℕ). AreExtentsKept c.args.boxes.now.list.now n old.placing.extents.items c.place_up_to.new.placing.extents.items) (sym (places_count old.placing c.requires.places c.requires.are)) done.kept in
     record {
       places = goes.places;
       are = goes.are;
-      context = all_places c.args.boxes.now c.requires.input (state_of old) (placing_of old.placing c.requires.known.places) placing _ _ c.clear_edge-bottom.result
-          c.end_of-end.result.0 c.root_end.result.0 c.length_at-mark.result.0 c.root_height-height.result.0 c.requires.known.knows ends settles placed kept goes.same c.clear_edge-bottom.ensures
+      context = all_places c.args.boxes.now.list.now c.args.boxes.now.are (state_of old) (placing_of old.placing c.requires.places) placing _ _ c.clear_edge-bottom.result
+          c.end_of-end.result.0 c.root_end.result.0 c.length_at-mark.result.0 c.root_height-height.result.0 c.requires.knows ends settles placed kept goes.same c.clear_edge-bottom.ensures
           marked over is_height wrote_height;
       near = goes.to.near;
     } in
@@ -112,35 +112,35 @@ returns-clause-finished c =
 
 pub returns-clause-near : goal.returns-clause-near
 returns-clause-near c k lt =
-    let f = c.requires.known.knows.fits in let l = f.marks_length in
+    let f = c.requires.knows.fits in let l = f.marks_length in
     let settles = rw c.deref.ensures.value at c.settle.ensures in
     let m = settles.length_is in
-    mark_is_near (weight c.args.boxes.now k) _ (light_at c.args.boxes.now c.requires.input k (omega (arith, l, m, lt)))
-    (near_tops c.args.boxes.now c.requires.input (state_of c.args.flow.now) _ c.end_of-end.result.0 f c.end_of-end.ensures.near settles k)
+    mark_is_near (weight c.args.boxes.now.list.now k) _ (light_at c.args.boxes.now.list.now c.args.boxes.now.are k (omega (arith, l, m, lt)))
+    (near_tops c.args.boxes.now.list.now c.args.boxes.now.are (state_of c.args.flow.now) _ c.end_of-end.result.0 f c.end_of-end.ensures.near settles k)
 
 pub returns-clause-sized : goal.returns-clause-sized
 returns-clause-sized c =
-    let f = c.requires.known.knows.fits in let some = c.requires.input.is_tree.some in let l = f.heights_length in
+    let f = c.requires.knows.fits in let some = c.args.boxes.now.are.is_tree.some in let l = f.heights_length in
     let old = c.args.flow.now in
     let wrote : Wrote length_at old.heights.items c.write_at.new.column.items 0 c.root_height-height.result.0 =
     subst (λ (xs : List Length). Wrote length_at old.heights.items xs 0 c.root_height-height.result.0) (sym c.write_at.ensures) (wrote_length old.heights.items 0 c.root_height-height.result (omega (arith, some, l))) in
-    sized_boxes c.args.boxes.now c.requires.input (state_of old) _ c.root_height-height.result.0 f
+    sized_boxes c.args.boxes.now.list.now c.args.boxes.now.are (state_of old) _ c.root_height-height.result.0 f
     (λ flow. c.root_height-height.ensures.size (subst (λ (b : Block). is_solid b.inside ≡ false) (sym c.block_at-block.ensures.value) flow)) wrote
 
 pub length_at-depth-requires : goal.length_at-depth-requires
 length_at-depth-requires c =
-    let f = c.requires.known.knows.fits in
+    let f = c.requires.knows.fits in
     let old = c.args.flow.now in
     let done = c.in_ok-place_up_to.ensures {u = tt} in
-    let there = placed_on c.args.boxes.now old.marks.items c.settle.new.marks.items old.placing c.place_up_to.new.placing c.requires.known.places (length c.args.boxes.now) c.requires.input.is_tree.tree c.requires.known.are
-    (let early = c.requires.known.knows.early in let few = f.first_most in let within = f.within in omega (arith, early, few, within)) c.requires.known.knows.placed
-    (let early = c.requires.known.knows.early in let settles = rw c.deref.ensures.value at c.settle.ensures in λ j lt. settles.before j (omega (arith, lt, early))) (rw c.deref-2.ensures.value at done.placed) in
-    rw c.deref-4.ensures.value (within_extents c.args.boxes.now c.settle.new.marks.items c.place_up_to.new.placing c.requires.known.places (length c.args.boxes.now) there 0 c.requires.input.is_tree.some)
+    let there = placed_on c.args.boxes.now.list.now old.marks.items c.settle.new.marks.items old.placing c.place_up_to.new.placing c.requires.places (length c.args.boxes.now.list.now) c.args.boxes.now.are.is_tree.tree c.requires.are
+    (let early = c.requires.knows.early in let few = f.first_most in let within = f.within in omega (arith, early, few, within)) c.requires.knows.placed
+    (let early = c.requires.knows.early in let settles = rw c.deref.ensures.value at c.settle.ensures in λ j lt. settles.before j (omega (arith, lt, early))) (rw c.deref-2.ensures.value at done.placed) in
+    rw c.deref-4.ensures.value (within_extents c.args.boxes.now.list.now c.settle.new.marks.items c.place_up_to.new.placing c.requires.places (length c.args.boxes.now.list.now) there 0 c.args.boxes.now.are.is_tree.some)
 
 pub root_height-height-requires-clause-mark : goal.root_height-height-requires-clause-mark
 root_height-height-requires-clause-mark c =
-    let f = c.requires.known.knows.fits in
+    let f = c.requires.knows.fits in
     let marked = rw c.deref-3.ensures.value at c.length_at-mark.ensures in
     let settles = rw c.deref.ensures.value at c.settle.ensures in
-    subst IsNear (sym marked) (mark_is_near (weight c.args.boxes.now 0) _ (light_at c.args.boxes.now c.requires.input 0 (omega arith))
-    (near_tops c.args.boxes.now c.requires.input (state_of c.args.flow.now) _ c.end_of-end.result.0 f c.end_of-end.ensures.near settles 0))
+    subst IsNear (sym marked) (mark_is_near (weight c.args.boxes.now.list.now 0) _ (light_at c.args.boxes.now.list.now c.args.boxes.now.are 0 (omega arith))
+    (near_tops c.args.boxes.now.list.now c.args.boxes.now.are (state_of c.args.flow.now) _ c.end_of-end.result.0 f c.end_of-end.ensures.near settles 0))

@@ -3,17 +3,17 @@ use Rattle.lay_flow.proofs.LookAheadSteps.{opened_reading, opened_read, parts_is
 use Rattle.lay_flow.proofs.hypothetical_edge.open.Goals as goal
 
 pub returns-clause-going : goal.returns-clause-going
-returns-clause-going c plain =
+returns-clause-going c plain from is reading =
     let adds = rw c.block_at-block.ensures.value at c.with_margin.ensures.holds in
-    let a = c.requires.from.least in let b = c.requires.from.most in let d = c.requires.reading.begun in
+    let a = is.least in let b = is.most in let d = reading.begun in
     let edge = rw c.block_at-block.ensures.value at c.has_edge_top.ensures in
-    opened_reading c.args.boxes.now c.requires.input.is_tree.tree c.args._from.now c.requires.from c.args.m c.requires.within c.args.strut c.with_margin.result c.requires.reading c.with_margin.ensures.fits adds
-    (parts_is c.args.boxes.now c.args.m (omega (arith, a, b, d)) ∙ sym edge ∙ plain)
+    opened_reading c.args.boxes.now.list.now c.args.boxes.now.are.is_tree.tree from is c.args.m c.requires.within c.args.strut c.with_margin.result reading c.with_margin.ensures.fits adds
+    (parts_is c.args.boxes.now.list.now c.args.m (omega (arith, a, b, d)) ∙ sym edge ∙ plain)
 
 pub returns-clause-ended : goal.returns-clause-ended
-returns-clause-ended c parts =
+returns-clause-ended c parts from is reading =
     let adds = rw c.block_at-block.ensures.value at c.with_margin.ensures.holds in
-    let a = c.requires.from.least in let b = c.requires.from.most in let d = c.requires.reading.begun in
+    let a = is.least in let b = is.most in let d = reading.begun in
     let edge = rw c.block_at-block.ensures.value at c.has_edge_top.ensures in
-    opened_read c.args.boxes.now c.requires.input.is_tree.tree c.args._from.now c.requires.from c.args.m c.requires.within c.args.strut c.with_margin.result c.requires.reading c.with_margin.ensures.fits adds
-    (parts_is c.args.boxes.now c.args.m (omega (arith, a, b, d)) ∙ sym edge ∙ parts)
+    opened_read c.args.boxes.now.list.now c.args.boxes.now.are.is_tree.tree from is c.args.m c.requires.within c.args.strut c.with_margin.result reading c.with_margin.ensures.fits adds
+    (parts_is c.args.boxes.now.list.now c.args.m (omega (arith, a, b, d)) ∙ sym edge ∙ parts)

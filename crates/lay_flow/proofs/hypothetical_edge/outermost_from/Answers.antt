@@ -6,7 +6,7 @@ use Rattle.lay_flow.proofs.hypothetical_edge.outermost_from.Goals as goal
 
 pub loop-outermost-preserved : goal.loop-outermost-preserved
 loop-outermost-preserved c =
-    let boxes = c.args.boxes.now in
+    let boxes = c.args.boxes.now.list.now in
     let o = c.loop-outermost.outermost in
     let inv = c.loop-outermost.invariant in
     let positive = inv.0 in let most = inv.1 in let around = inv.2 in
@@ -20,7 +20,7 @@ loop-outermost-preserved c =
       omega (arith, least, test, asked, is),
       omega (arith, less, most),
       λ i low high. elim (cases_lt i o) [
-        | inl before ↦ (let le = parents_together boxes c.requires.input.is_tree.tree i o before (omega (arith, most, within)) (omega (arith, is, low)) in omega (arith, le, is))
+        | inl before ↦ (let le = parents_together boxes c.args.boxes.now.are.is_tree.tree i o before (omega (arith, most, within)) (omega (arith, is, low)) in omega (arith, le, is))
         | inr after ↦ elim (cases_eq i o) [
           | inl e ↦ (let q = ap (parent_at boxes) e in omega (arith, q, is))
           | inr ne ↦ (let le = around i (omega (arith, after, ne)) high in omega (arith, le, less))

@@ -7,7 +7,7 @@ use Rattle.lay_units.specs.declared.length.Unit.{Unit as Length}
 use Rattle.lay_flow.specs.Lengths.{length_at}
 use Rattle.lay_flow.specs.Pass.Known.{placing_of}
 use Rattle.lay_flow.specs.BlockSizes.{IsNear}
-use Rattle.lay_flow.specs.Pass.Bounds.{state_of}
+use Rattle.lay_flow.specs.Pass.Bounds.{state_of, position_of}
 use Rattle.lay_flow.proofs.WeightFacts.{light_at}
 use Rattle.lay_flow.specs.Weights.{weight}
 use Rattle.lay_flow.proofs.BlockKinds.{joins_flow, placed_none}
@@ -21,18 +21,18 @@ pub height_to_border-height-requires-clause-mark : goal.height_to_border-height-
 height_to_border-height-requires-clause-mark c =
     let f = c.requires.known.knows.fits in let a = f.parent in let b = f.within in
     let e = rw c.deref.ensures.value at c.length_at-mark.ensures in
-    subst IsNear (sym e) (mark_is_near (weight c.args.boxes.now c.args.p) _ (light_at c.args.boxes.now c.requires.input c.args.p (omega (arith, a, b))) (f.mark_near c.args.p))
+    subst IsNear (sym e) (mark_is_near (weight c.args.boxes.now.list.now c.args.place.innermost) _ (light_at c.args.boxes.now.list.now c.args.boxes.now.are c.args.place.innermost (omega (arith, a, b))) (f.mark_near c.args.place.innermost))
 
 pub height_to_border-height-requires-clause-border : goal.height_to_border-height-requires-clause-border
 height_to_border-height-requires-clause-border c =
     let f = c.requires.known.knows.fits in let a = f.first_most in let b = f.within in
-    start_is_near (weight c.args.boxes.now c.args.flow.now.first) c.args.flow.now.start.0 (light_at c.args.boxes.now c.requires.input c.args.flow.now.first (omega (arith, a, b))) f.start_near
+    rw c.position.ensures (start_is_near (weight c.args.boxes.now.list.now c.args.flow.now.first) (position_of c.args.flow.now.start) (light_at c.args.boxes.now.list.now c.args.boxes.now.are c.args.flow.now.first (omega (arith, a, b))) f.start_near)
 
-pub sum_of-flow-requires-clause-a : goal.sum_of-flow-requires-clause-a
-sum_of-flow-requires-clause-a c =
+pub sum_of-start-requires-clause-a : goal.sum_of-start-requires-clause-a
+sum_of-start-requires-clause-a c =
     let f = c.requires.known.knows.fits in let a = f.parent in let b = f.within in
     let e = rw c.deref.ensures.value at c.length_at-mark.ensures in
-    let n = subst IsNear (sym e) (mark_is_near (weight c.args.boxes.now c.args.p) _ (light_at c.args.boxes.now c.requires.input c.args.p (omega (arith, a, b))) (f.mark_near c.args.p)) in
+    let n = subst IsNear (sym e) (mark_is_near (weight c.args.boxes.now.list.now c.args.place.innermost) _ (light_at c.args.boxes.now.list.now c.args.boxes.now.are c.args.place.innermost (omega (arith, a, b))) (f.mark_near c.args.place.innermost)) in
     let u = n.0 in let v = n.1 in (omega (arith, ints, u), omega (arith, ints, v))
 
 pub returns : goal.returns
@@ -40,24 +40,24 @@ returns c =
     let f = c.requires.known.knows.fits in let a = f.parent in let b = f.within in let l = f.heights_length in
     let block = c.block_at-block.ensures.value in
     let holds = rw block at c.with_margin-flow.ensures.holds in
-    let p = c.args.p in
+    let p = c.args.place.innermost in
     let old = c.args.flow.now in
     let e = rw c.deref-2.ensures.value at c.length_at.ensures in
     let marked = rw c.deref.ensures.value at c.length_at-mark.ensures in
-    let height = rw (block, e) at c.height_to_border-height.ensures.value in
-    let flow = subst (λ (b : Block). is_solid b.inside ≡ false) (sym block) (placed_none (block_at c.args.boxes.now p).inside (joins_flow (block_at c.args.boxes.now p) c.requires.joined)).1 in
-    let starts = ap (λ (v : Length). v.0) c.sum_of-flow.ensures in
+    let height = rw (block, e, c.position.ensures) at c.height_to_border-height.ensures.value in
+    let flow = subst (λ (b : Block). is_solid b.inside ≡ false) (sym block) (placed_none (block_at c.args.boxes.now.list.now p).inside (joins_flow (block_at c.args.boxes.now.list.now p) c.requires.joined)).1 in
+    let starts = ap (λ (v : Length). v.0) c.sum_of-start.ensures in
     let wrote : Wrote length_at old.heights.items c.write_at.new.column.items p c.height_to_border-height.result.0 =
     subst (λ (xs : List Length). Wrote length_at old.heights.items xs p c.height_to_border-height.result.0) (sym c.write_at.ensures) (wrote_length old.heights.items p c.height_to_border-height.result (omega (arith, a, b, l))) in
     record {
       places = c.requires.known.places;
       are = c.requires.known.are;
-      knows = knows_joined c.args.boxes.now c.requires.input.is_tree.tree (state_of old) (placing_of old.placing c.requires.known.places) p c.args._m c.requires.input c.requires.positive c.requires.ends c.requires.known.knows
-          _ c.length_at-mark.result.0 c.height_to_border-height.result.0 c.sum_of-flow.result.0 c.with_margin-flow.result c.requires.joined c.requires.unbarred c.requires.settled marked (c.height_to_border-height.ensures.size flow) height starts wrote
+      knows = knows_joined c.args.boxes.now.list.now c.args.boxes.now.are.is_tree.tree (state_of old) (placing_of old.placing c.requires.known.places) p c.args.place.next c.args.boxes.now.are c.requires.positive c.requires.ends c.requires.known.knows
+          _ c.length_at-mark.result.0 c.height_to_border-height.result.0 c.sum_of-start.result.0 c.with_margin-flow.result c.requires.joined c.requires.unbarred c.requires.settled marked (c.height_to_border-height.ensures.size flow) height starts wrote
           c.with_margin-flow.ensures.fits holds;
     }
 
-pub sum_of-flow-requires-clause-b : goal.sum_of-flow-requires-clause-b
-sum_of-flow-requires-clause-b c =
-    let flow = subst (λ (b : Block). is_solid b.inside ≡ false) (sym c.block_at-block.ensures.value) (placed_none (block_at c.args.boxes.now c.args.p).inside (joins_flow (block_at c.args.boxes.now c.args.p) c.requires.joined)).1 in
+pub sum_of-start-requires-clause-b : goal.sum_of-start-requires-clause-b
+sum_of-start-requires-clause-b c =
+    let flow = subst (λ (b : Block). is_solid b.inside ≡ false) (sym c.block_at-block.ensures.value) (placed_none (block_at c.args.boxes.now.list.now c.args.place.innermost).inside (joins_flow (block_at c.args.boxes.now.list.now c.args.place.innermost) c.requires.joined)).1 in
     box_height_position c.height_to_border-height.result.0 (c.height_to_border-height.ensures.size flow)

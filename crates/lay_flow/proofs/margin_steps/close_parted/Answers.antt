@@ -7,9 +7,10 @@ use Rattle.lay_flow.specs.Lengths.{length_at}
 use Rattle.lay_flow.specs.BlockSizes.{IsBoxSize, IsNear}
 use Rattle.lay_flow.specs.BlockPositions.{is_solid}
 use Rattle.lay_flow.specs.MarginRuns.{block_at}
-use Rattle.lay_flow.specs.Pass.Bounds.{IsLineDepth, state_of, IsMarkNear}
+use Rattle.lay_flow.specs.Pass.Bounds.{IsLineDepth, state_of, IsMarkNear, position_of, is_hanging}
 use Rattle.lay_flow.specs.Boxes.{parent_at}
 use Rattle.lay_flow.specs.Pass.Known.{placing_of}
+use Rattle.lay_flow.specs.declared.pass.RunStart.TheVariants.{At as starts_at}
 use Rattle.lay_flow.proofs.WeightFacts.{light_at, weight_up}
 use Rattle.lay_flow.specs.Weights.{weight}
 use Rattle.lay_flow.proofs.SoFar.{Wrote}
@@ -26,14 +27,14 @@ use Rattle.lay_flow.proofs.margin_steps.close_parted.Goals as goal
 pub end_of-end-requires-clause-start : goal.end_of-end-requires-clause-start
 end_of-end-requires-clause-start c =
     let f = c.requires.known.knows.fits in let a = f.first_most in let b = f.within in
-    start_is_near (weight c.args.boxes.now c.args.flow.now.first) c.args.flow.now.start.0 (light_at c.args.boxes.now c.requires.input c.args.flow.now.first (omega (arith, a, b))) f.start_near
+    start_is_near (weight c.args.boxes.now.list.now c.args.flow.now.first) (position_of c.args.flow.now.start) (light_at c.args.boxes.now.list.now c.args.boxes.now.are c.args.flow.now.first (omega (arith, a, b))) f.start_near
 
-pub place_up_to-requires-clause-near : goal.place_up_to-requires-clause-near
-place_up_to-requires-clause-near c =
+pub invariant_of-marked-clause-near : goal.invariant_of-marked-clause-near
+invariant_of-marked-clause-near c =
     let f = c.requires.known.knows.fits in
     let settles = rw c.deref.ensures.value at c.settle.ensures in
-    let near = marks_settled c.args.boxes.now c.requires.input.is_tree.tree (state_of c.args.flow.now) c.args.p c.args.m c.requires.positive f _ c.end_of-end.result.0 settles c.end_of-end.ensures.near in
-    subst (λ (xs : List Length). (j : ℕ) → IsMarkNear (weight c.args.boxes.now j) (length_at xs j)) (sym c.deref-2.ensures.value) near
+    let near = marks_settled c.args.boxes.now.list.now c.args.boxes.now.are.is_tree.tree (state_of c.args.flow.now) c.args.place.innermost c.args.place.next c.requires.positive f _ c.end_of-end.result.0 settles c.end_of-end.ensures.near in
+    subst (λ (xs : List Length). (j : ℕ) → IsMarkNear (weight c.args.boxes.now.list.now j) (length_at xs j)) (sym c.deref-2.ensures.value) near
 
 pub place_up_to-requires-clause-known : goal.place_up_to-requires-clause-known
 place_up_to-requires-clause-known c =
@@ -42,7 +43,7 @@ place_up_to-requires-clause-known c =
     let early = known.early in let few = f.first_most in let within = f.within in
     let settles = rw c.deref.ensures.value at c.settle.ensures in
     let old = c.args.flow.now in
-    kept_places c.args.boxes.now old.marks.items c.deref-2.result.now old.placing c.requires.known.places c.requires.input.is_tree.tree c.requires.known.are (omega (arith, early, few, within)) known.placed
+    kept_places c.args.boxes.now.list.now old.marks.items c.deref-2.result.now old.placing c.requires.known.places c.args.boxes.now.are.is_tree.tree c.requires.known.are (omega (arith, early, few, within)) known.placed
     (λ j lt. rw c.deref-2.ensures.value (settles.before j (omega (arith, lt, early))))
 
 pub height_to_margin-height-requires-clause-mark : goal.height_to_margin-height-requires-clause-mark
@@ -50,61 +51,61 @@ height_to_margin-height-requires-clause-mark c =
     let f = c.requires.known.knows.fits in let a = f.parent in let b = f.within in
     let e = rw c.deref-3.ensures.value at c.length_at-mark.ensures in
     let settles = rw c.deref.ensures.value at c.settle.ensures in
-    let near = marks_settled c.args.boxes.now c.requires.input.is_tree.tree (state_of c.args.flow.now) c.args.p c.args.m c.requires.positive f _ c.end_of-end.result.0 settles c.end_of-end.ensures.near c.args.p in
-    subst IsNear (sym e) (mark_is_near (weight c.args.boxes.now c.args.p) _ (light_at c.args.boxes.now c.requires.input c.args.p (omega (arith, a, b))) near)
+    let near = marks_settled c.args.boxes.now.list.now c.args.boxes.now.are.is_tree.tree (state_of c.args.flow.now) c.args.place.innermost c.args.place.next c.requires.positive f _ c.end_of-end.result.0 settles c.end_of-end.ensures.near c.args.place.innermost in
+    subst IsNear (sym e) (mark_is_near (weight c.args.boxes.now.list.now c.args.place.innermost) _ (light_at c.args.boxes.now.list.now c.args.boxes.now.are c.args.place.innermost (omega (arith, a, b))) near)
 
 pub height_to_margin-height-requires-clause-margin : goal.height_to_margin-height-requires-clause-margin
 height_to_margin-height-requires-clause-margin c =
     let f = c.requires.known.knows.fits in let b = f.within in
-    mark_is_near (weight c.args.boxes.now c.args.m) c.end_of-end.result.0 (light_at c.args.boxes.now c.requires.input c.args.m b) (end_near (weight c.args.boxes.now c.args.flow.now.first) (weight c.args.boxes.now c.args.m) c.args.flow.now.start.0 c.end_of-end.result.0 f.start_near c.end_of-end.ensures.near (weight_up c.args.boxes.now c.args.flow.now.first c.args.m f.first_most))
+    mark_is_near (weight c.args.boxes.now.list.now c.args.place.next) c.end_of-end.result.0 (light_at c.args.boxes.now.list.now c.args.boxes.now.are c.args.place.next b) (end_near (weight c.args.boxes.now.list.now c.args.flow.now.first) (weight c.args.boxes.now.list.now c.args.place.next) (position_of c.args.flow.now.start) c.end_of-end.result.0 f.start_near c.end_of-end.ensures.near (weight_up c.args.boxes.now.list.now c.args.flow.now.first c.args.place.next f.first_most))
 
 pub height_to_margin-height-requires-clause-lines : goal.height_to_margin-height-requires-clause-lines
 height_to_margin-height-requires-clause-lines c lines =
     let f = c.requires.known.knows.fits in let a = f.parent in let b = f.within in
     let old = c.args.flow.now in
     let done = c.in_ok-place_up_to.ensures {u = tt} in
-    let there = placed_on c.args.boxes.now old.marks.items c.settle.new.marks.items old.placing c.place_up_to.new.placing c.requires.known.places c.args.m c.requires.input.is_tree.tree c.requires.known.are
+    let there = placed_on c.args.boxes.now.list.now old.marks.items c.settle.new.marks.items old.placing c.place_up_to.new.placing c.requires.known.places c.args.place.next c.args.boxes.now.are.is_tree.tree c.requires.known.are
     (let early = c.requires.known.knows.early in let few = f.first_most in let within = f.within in omega (arith, early, few, within)) c.requires.known.knows.placed
     (let early = c.requires.known.knows.early in let settles = rw c.deref.ensures.value at c.settle.ensures in λ j lt. settles.before j (omega (arith, lt, early))) (rw c.deref-2.ensures.value at done.placed) in
-    let go : ArePlacedOn c.args.boxes.now c.settle.new.marks.items c.place_up_to.new.placing c.requires.known.places c.args.m → IsLineDepth c.length_at-mark.result.0 c.block_at-block.result.edge_top.0 c.length_at.result.0 = λ goes.
+    let go : ArePlacedOn c.args.boxes.now.list.now c.settle.new.marks.items c.place_up_to.new.placing c.requires.known.places c.args.place.next → IsLineDepth c.length_at-mark.result.0 c.block_at-block.result.edge_top.0 c.length_at.result.0 = λ goes.
     let block = c.block_at-block.ensures.value in
     let marked = rw c.deref-3.ensures.value at c.length_at-mark.ensures in
     let depth = rw c.deref-4.ensures.value at c.length_at.ensures in
     let there = rw block at lines in
-    rw (block, depth, marked) (line_depth c.args.boxes.now c.requires.input c.settle.new.marks.items (placing_of c.place_up_to.new.placing goes.places) c.args.m goes.to c.args.p a b there) in
+    rw (block, depth, marked) (line_depth c.args.boxes.now.list.now c.args.boxes.now.are c.settle.new.marks.items (placing_of c.place_up_to.new.placing goes.places) c.args.place.next goes.to c.args.place.innermost a b there) in
     go there
 
-pub sum_of-flow-requires-clause-a : goal.sum_of-flow-requires-clause-a
-sum_of-flow-requires-clause-a c =
+pub sum_of-start-requires-clause-a : goal.sum_of-start-requires-clause-a
+sum_of-start-requires-clause-a c =
     let f = c.requires.known.knows.fits in let a = f.parent in let b = f.within in
     let e = rw c.deref-3.ensures.value at c.length_at-mark.ensures in
     let settles = rw c.deref.ensures.value at c.settle.ensures in
-    let near = marks_settled c.args.boxes.now c.requires.input.is_tree.tree (state_of c.args.flow.now) c.args.p c.args.m c.requires.positive f _ c.end_of-end.result.0 settles c.end_of-end.ensures.near c.args.p in
-    let n = subst IsNear (sym e) (mark_is_near (weight c.args.boxes.now c.args.p) _ (light_at c.args.boxes.now c.requires.input c.args.p (omega (arith, a, b))) near) in
+    let near = marks_settled c.args.boxes.now.list.now c.args.boxes.now.are.is_tree.tree (state_of c.args.flow.now) c.args.place.innermost c.args.place.next c.requires.positive f _ c.end_of-end.result.0 settles c.end_of-end.ensures.near c.args.place.innermost in
+    let n = subst IsNear (sym e) (mark_is_near (weight c.args.boxes.now.list.now c.args.place.innermost) _ (light_at c.args.boxes.now.list.now c.args.boxes.now.are c.args.place.innermost (omega (arith, a, b))) near) in
     let u = n.0 in let v = n.1 in (omega (arith, ints, u), omega (arith, ints, v))
 
-pub sum_of-flow-requires-clause-b : goal.sum_of-flow-requires-clause-b
-sum_of-flow-requires-clause-b c =
+pub sum_of-start-requires-clause-b : goal.sum_of-start-requires-clause-b
+sum_of-start-requires-clause-b c =
     let f = c.requires.known.knows.fits in let a = f.parent in let b = f.within in
-    let p = c.args.p in
+    let p = c.args.place.innermost in
     let block = c.block_at-block.ensures.value in
     let settles = rw c.deref.ensures.value at c.settle.ensures in
-    let near = marks_settled c.args.boxes.now c.requires.input.is_tree.tree (state_of c.args.flow.now) p c.args.m c.requires.positive f _ c.end_of-end.result.0 settles c.end_of-end.ensures.near p in
-    let light_p = light_at c.args.boxes.now c.requires.input p (omega (arith, a, b)) in
-    let light_m = light_at c.args.boxes.now c.requires.input c.args.m b in
+    let near = marks_settled c.args.boxes.now.list.now c.args.boxes.now.are.is_tree.tree (state_of c.args.flow.now) p c.args.place.next c.requires.positive f _ c.end_of-end.result.0 settles c.end_of-end.ensures.near p in
+    let light_p = light_at c.args.boxes.now.list.now c.args.boxes.now.are p (omega (arith, a, b)) in
+    let light_m = light_at c.args.boxes.now.list.now c.args.boxes.now.are c.args.place.next b in
     let old = c.args.flow.now in
     let done = c.in_ok-place_up_to.ensures {u = tt} in
-    let there = placed_on c.args.boxes.now old.marks.items c.settle.new.marks.items old.placing c.place_up_to.new.placing c.requires.known.places c.args.m c.requires.input.is_tree.tree c.requires.known.are
+    let there = placed_on c.args.boxes.now.list.now old.marks.items c.settle.new.marks.items old.placing c.place_up_to.new.placing c.requires.known.places c.args.place.next c.args.boxes.now.are.is_tree.tree c.requires.known.are
     (let early = c.requires.known.knows.early in let few = f.first_most in let within = f.within in omega (arith, early, few, within)) c.requires.known.knows.placed
     (let early = c.requires.known.knows.early in let settles = rw c.deref.ensures.value at c.settle.ensures in λ j lt. settles.before j (omega (arith, lt, early))) (rw c.deref-2.ensures.value at done.placed) in
-    (λ (goes : ArePlacedOn c.args.boxes.now c.settle.new.marks.items c.place_up_to.new.placing c.requires.known.places c.args.m).
+    (λ (goes : ArePlacedOn c.args.boxes.now.list.now c.settle.new.marks.items c.place_up_to.new.placing c.requires.known.places c.args.place.next).
     let placed = goes.to in
     let extent = rw c.deref-4.ensures.value at c.length_at.ensures in
     let height = rw (block, extent) at c.height_to_margin-height.ensures.value in
-    true_or (is_solid (block_at c.args.boxes.now p).inside) (IsPosition c.height_to_margin-height.result.0)
+    true_or (is_solid (block_at c.args.boxes.now.list.now p).inside) (IsPosition c.height_to_margin-height.result.0)
     (λ solid. let low = placed.low p c.requires.positive f.parent solid in
     let h : c.height_to_margin-height.result.0 ≡ length_at c.place_up_to.new.placing.extents.items p = height ∙ rw solid refl in
-    subst IsPosition (sym h) (extent_position (weight c.args.boxes.now c.args.m) _ _ light_m (mark_is_near (weight c.args.boxes.now p) _ light_p near) low.0 low.1))
+    subst IsPosition (sym h) (extent_position (weight c.args.boxes.now.list.now c.args.place.next) _ _ light_m (mark_is_near (weight c.args.boxes.now.list.now p) _ light_p near) low.0 low.1))
     (λ flow. box_height_position c.height_to_margin-height.result.0 (c.height_to_margin-height.ensures.size (subst (λ (b : Block). is_solid b.inside ≡ false) (sym block) flow)))) there
 
 pub returns : goal.returns
@@ -112,30 +113,30 @@ returns c =
     let f = c.requires.known.knows.fits in let a = f.parent in let b = f.within in let l = f.heights_length in
     let block = c.block_at-block.ensures.value in
     let holds = rw block at c.lone_margin-flow.ensures.holds in
-    let p = c.args.p in
+    let p = c.args.place.innermost in
     let old = c.args.flow.now in
     let marked = rw c.deref-3.ensures.value at c.length_at-mark.ensures in
     let settles = rw c.deref.ensures.value at c.settle.ensures in
     let old = c.args.flow.now in
     let done = c.in_ok-place_up_to.ensures {u = tt} in
-    let there = placed_on c.args.boxes.now old.marks.items c.settle.new.marks.items old.placing c.place_up_to.new.placing c.requires.known.places c.args.m c.requires.input.is_tree.tree c.requires.known.are
+    let there = placed_on c.args.boxes.now.list.now old.marks.items c.settle.new.marks.items old.placing c.place_up_to.new.placing c.requires.known.places c.args.place.next c.args.boxes.now.are.is_tree.tree c.requires.known.are
     (let early = c.requires.known.knows.early in let few = f.first_most in let within = f.within in omega (arith, early, few, within)) c.requires.known.knows.placed
     (let early = c.requires.known.knows.early in let settles = rw c.deref.ensures.value at c.settle.ensures in λ j lt. settles.before j (omega (arith, lt, early))) (rw c.deref-2.ensures.value at done.placed) in
-    let go : ArePlacedOn c.args.boxes.now c.settle.new.marks.items c.place_up_to.new.placing c.requires.known.places c.args.m → IsKnown c.args.boxes.now (record c.args.flow.now { marks = c.settle.new.marks; heights = c.write_at.new.column; start = c.sum_of-flow.result; strut = c.lone_margin-flow.result; first = c.args.m; hangs = false; placing = c.place_up_to.new.placing }) (parent_at c.args.boxes.now c.args.p) c.args.m = λ goes.
+    let go : ArePlacedOn c.args.boxes.now.list.now c.settle.new.marks.items c.place_up_to.new.placing c.requires.known.places c.args.place.next → IsKnown c.args.boxes.now.list.now (record c.args.flow.now { marks = c.settle.new.marks; heights = c.write_at.new.column; start = starts_at c.sum_of-start.result; strut = c.lone_margin-flow.result; first = c.args.place.next; placing = c.place_up_to.new.placing }) (parent_at c.args.boxes.now.list.now c.args.place.innermost) c.args.place.next = λ goes.
     let placed = goes.to in
     let extent = rw c.deref-4.ensures.value at c.length_at.ensures in
     let height = rw (block, extent) at c.height_to_margin-height.ensures.value in
-    let size : is_solid (block_at c.args.boxes.now p).inside ≡ false → IsBoxSize c.height_to_margin-height.result.0 = λ flow. c.height_to_margin-height.ensures.size (subst (λ (b : Block). is_solid b.inside ≡ false) (sym block) flow) in
-    let starts = ap (λ (v : Length). v.0) c.sum_of-flow.ensures in
+    let size : is_solid (block_at c.args.boxes.now.list.now p).inside ≡ false → IsBoxSize c.height_to_margin-height.result.0 = λ flow. c.height_to_margin-height.ensures.size (subst (λ (b : Block). is_solid b.inside ≡ false) (sym block) flow) in
+    let starts = ap (λ (v : Length). v.0) c.sum_of-start.ensures in
     let wrote : Wrote length_at old.heights.items c.write_at.new.column.items p c.height_to_margin-height.result.0 =
     subst (λ (xs : List Length). Wrote length_at old.heights.items xs p c.height_to_margin-height.result.0) (sym c.write_at.ensures) (wrote_length old.heights.items p c.height_to_margin-height.result (omega (arith, a, b, l))) in
-    let ends : RunEnds old.hangs old.start.0 old.strut c.end_of-end.result.0 = record { hanging = c.end_of-end.ensures.hanging; value = c.end_of-end.ensures.value } in
+    let ends : RunEnds (is_hanging old.start) (position_of old.start) old.strut c.end_of-end.result.0 = record { hanging = c.end_of-end.ensures.hanging; value = c.end_of-end.ensures.value } in
     record {
       places = goes.places;
       are = goes.are;
-      knows = knows_parted c.args.boxes.now c.requires.input.is_tree.tree (state_of old) (placing_of old.placing c.requires.known.places) p c.args.m c.requires.input c.requires.positive c.requires.ends c.requires.known.knows
-          _ _ (placing_of c.place_up_to.new.placing goes.places) c.end_of-end.result.0 c.length_at-mark.result.0 c.height_to_margin-height.result.0 c.sum_of-flow.result.0 c.lone_margin-flow.result c.requires.parted c.requires.settled
-          ends c.end_of-end.ensures.near settles placed (subst (λ (n : ℕ). AreExtentsKept c.args.boxes.now n old.placing.extents.items c.place_up_to.new.placing.extents.items) (sym (places_count old.placing c.requires.known.places c.requires.known.are)) done.kept) goes.same marked size height starts wrote
+      knows = knows_parted c.args.boxes.now.list.now c.args.boxes.now.are.is_tree.tree (state_of old) (placing_of old.placing c.requires.known.places) p c.args.place.next c.args.boxes.now.are c.requires.positive c.requires.ends c.requires.known.knows
+          _ _ (placing_of c.place_up_to.new.placing goes.places) c.end_of-end.result.0 c.length_at-mark.result.0 c.height_to_margin-height.result.0 c.sum_of-start.result.0 c.lone_margin-flow.result c.requires.parted c.requires.settled
+          ends c.end_of-end.ensures.near settles placed (subst (λ (n : ℕ). AreExtentsKept c.args.boxes.now.list.now n old.placing.extents.items c.place_up_to.new.placing.extents.items) (sym (places_count old.placing c.requires.known.places c.requires.known.are)) done.kept) goes.same marked size height starts wrote
           c.lone_margin-flow.ensures.fits holds;
     } in
     go there
@@ -146,8 +147,8 @@ length_at-requires c =
     let old = c.args.flow.now in
     let done = c.in_ok-place_up_to.ensures {u = tt} in
     let a = f.parent in let b = f.within in
-    let inner : c.args.p < length c.args.boxes.now = omega (arith, a, b) in
-    let there = placed_on c.args.boxes.now old.marks.items c.settle.new.marks.items old.placing c.place_up_to.new.placing c.requires.known.places c.args.m c.requires.input.is_tree.tree c.requires.known.are
+    let inner : c.args.place.innermost < length c.args.boxes.now.list.now = omega (arith, a, b) in
+    let there = placed_on c.args.boxes.now.list.now old.marks.items c.settle.new.marks.items old.placing c.place_up_to.new.placing c.requires.known.places c.args.place.next c.args.boxes.now.are.is_tree.tree c.requires.known.are
     (let early = c.requires.known.knows.early in let few = f.first_most in let within = f.within in omega (arith, early, few, within)) c.requires.known.knows.placed
     (let early = c.requires.known.knows.early in let settles = rw c.deref.ensures.value at c.settle.ensures in λ j lt. settles.before j (omega (arith, lt, early))) (rw c.deref-2.ensures.value at done.placed) in
-    rw c.deref-4.ensures.value (within_extents c.args.boxes.now c.settle.new.marks.items c.place_up_to.new.placing c.requires.known.places c.args.m there c.args.p inner)
+    rw c.deref-4.ensures.value (within_extents c.args.boxes.now.list.now c.settle.new.marks.items c.place_up_to.new.placing c.requires.known.places c.args.place.next there c.args.place.innermost inner)

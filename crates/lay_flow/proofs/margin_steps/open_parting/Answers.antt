@@ -3,7 +3,7 @@ use Rattle.std.proofs.lemmas.Int.{ints}
 use Rattle.lay_units.specs.declared.length.Unit.{Unit as Length}
 use Rattle.lay_flow.specs.declared.block.Block.{Block}
 use Rattle.lay_flow.specs.Pass.Known.{placing_of}
-use Rattle.lay_flow.specs.Pass.Bounds.{state_of}
+use Rattle.lay_flow.specs.Pass.Bounds.{state_of, position_of, is_hanging}
 use Rattle.lay_flow.proofs.WeightFacts.{light_at, weight_up}
 use Rattle.lay_flow.specs.Weights.{weight}
 use Rattle.lay_flow.proofs.PassFits.{start_is_near, end_near, mark_is_near}
@@ -15,29 +15,29 @@ use Rattle.lay_flow.proofs.margin_steps.open_parting.Goals as goal
 pub end_of-mark-requires-clause-start : goal.end_of-mark-requires-clause-start
 end_of-mark-requires-clause-start c =
     let f = c.requires.ready.ready.fits in let a = f.first_most in let b = f.within in
-    start_is_near (weight c.args.boxes.now c.args.flow.now.first) c.args.flow.now.start.0 (light_at c.args.boxes.now c.requires.input c.args.flow.now.first (omega (arith, a, b))) f.start_near
+    start_is_near (weight c.args.boxes.now.list.now c.args.flow.now.first) (position_of c.args.flow.now.start) (light_at c.args.boxes.now.list.now c.args.boxes.now.are c.args.flow.now.first (omega (arith, a, b))) f.start_near
 
-pub sum_of-flow-requires-clause-a : goal.sum_of-flow-requires-clause-a
-sum_of-flow-requires-clause-a c =
+pub sum_of-start-requires-clause-a : goal.sum_of-start-requires-clause-a
+sum_of-start-requires-clause-a c =
     let f = c.requires.ready.ready.fits in let a = f.first_most in let b = c.requires.within in
-    let near = end_near (weight c.args.boxes.now c.args.flow.now.first) (weight c.args.boxes.now c.args.k) c.args.flow.now.start.0 c.end_of-mark.result.0 f.start_near c.end_of-mark.ensures.near (weight_up c.args.boxes.now c.args.flow.now.first c.args.k a) in
-    let n = mark_is_near (weight c.args.boxes.now c.args.k) c.end_of-mark.result.0 (light_at c.args.boxes.now c.requires.input c.args.k (omega (arith, b))) near in
+    let near = end_near (weight c.args.boxes.now.list.now c.args.flow.now.first) (weight c.args.boxes.now.list.now c.args.k) (position_of c.args.flow.now.start) c.end_of-mark.result.0 f.start_near c.end_of-mark.ensures.near (weight_up c.args.boxes.now.list.now c.args.flow.now.first c.args.k a) in
+    let n = mark_is_near (weight c.args.boxes.now.list.now c.args.k) c.end_of-mark.result.0 (light_at c.args.boxes.now.list.now c.args.boxes.now.are c.args.k (omega (arith, b))) near in
     let u = n.0 in let v = n.1 in (omega (arith, ints, u), omega (arith, ints, v))
 
 pub returns : goal.returns
 returns c =
     let holds = rw c.block_at-block.ensures.value at c.with_margin-strut.ensures.holds in
     let settles = rw c.deref.ensures.value at c.settle.ensures in
-    let starts = ap (λ (v : Length). v.0) c.sum_of-flow.ensures ∙ ap (λ (b : Block). c.end_of-mark.result.0 +ℤ b.edge_top.0) c.block_at-block.ensures.value in
+    let starts = ap (λ (v : Length). v.0) c.sum_of-start.ensures ∙ ap (λ (b : Block). c.end_of-mark.result.0 +ℤ b.edge_top.0) c.block_at-block.ensures.value in
     let old = c.args.flow.now in
-    let ends : RunEnds old.hangs old.start.0 c.with_margin-strut.result c.end_of-mark.result.0 = record { hanging = c.end_of-mark.ensures.hanging; value = c.end_of-mark.ensures.value } in
+    let ends : RunEnds (is_hanging old.start) (position_of old.start) c.with_margin-strut.result c.end_of-mark.result.0 = record { hanging = c.end_of-mark.ensures.hanging; value = c.end_of-mark.ensures.value } in
     record {
       places = c.requires.ready.places;
       are = c.requires.ready.are;
-      knows = knows_parting c.args.boxes.now c.requires.input.is_tree.tree (state_of old) (placing_of old.placing c.requires.ready.places) c.args.k _ c.end_of-mark.result.0 c.sum_of-flow.result.0 c.with_margin-strut.result c.no_margin-flow.result
-          c.requires.input c.requires.positive c.requires.within c.requires.parting c.requires.ready.ready holds ends c.end_of-mark.ensures.near
+      knows = knows_parting c.args.boxes.now.list.now c.args.boxes.now.are.is_tree.tree (state_of old) (placing_of old.placing c.requires.ready.places) c.args.k _ c.end_of-mark.result.0 c.sum_of-start.result.0 c.with_margin-strut.result c.no_margin-flow.result
+          c.args.boxes.now.are c.requires.positive c.requires.within c.requires.parting c.requires.ready.ready holds ends c.end_of-mark.ensures.near
           settles starts c.no_margin-flow.ensures.fits c.no_margin-flow.ensures.holds;
     }
 
-pub sum_of-flow-requires-clause-b : goal.sum_of-flow-requires-clause-b
-sum_of-flow-requires-clause-b c = inset_position c.block_at-block.result.edge_top.0 c.block_at-block.ensures.fits.edge_top
+pub sum_of-start-requires-clause-b : goal.sum_of-start-requires-clause-b
+sum_of-start-requires-clause-b c = inset_position c.block_at-block.result.edge_top.0 c.block_at-block.ensures.fits.edge_top

@@ -9,6 +9,6 @@ returns c =
     record {
       places = c.requires.ready.places;
       are = c.requires.ready.are;
-      knows = knows_opened c.args.boxes.now c.requires.input.is_tree.tree (state_of c.args.flow.now) (placing_of c.args.flow.now.placing c.requires.ready.places) c.args.k c.with_margin-flow.result
+      knows = knows_opened c.args.boxes.now.list.now c.args.boxes.now.are.is_tree.tree (state_of c.args.flow.now) (placing_of c.args.flow.now.placing c.requires.ready.places) c.args.k c.with_margin-flow.result
           c.requires.positive c.requires.within c.requires.plain c.requires.ready.ready c.with_margin-flow.ensures.fits holds;
     }

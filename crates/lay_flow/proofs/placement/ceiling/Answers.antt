@@ -15,19 +15,19 @@ use Rattle.lay_flow.proofs.placement.ceiling.Goals as goal
 pub sum_of-content-requires-clause-a : goal.sum_of-content-requires-clause-a
 sum_of-content-requires-clause-a c =
     let within = c.requires.within in
-    let parent : parent_at c.args.boxes.now c.args.k < c.args.k = parent_before c.args.boxes.now c.requires.input.is_tree.tree c.args.k c.requires.positive within in
+    let parent : parent_at c.args.of.now.boxes.list.now c.args.k < c.args.k = parent_before c.args.of.now.boxes.list.now c.args.of.now.boxes.are.is_tree.tree c.args.k c.requires.positive within in
     let is = c.parent_at-parent.ensures.value in
-    subst IsPosition (sym c.length_at.ensures) (mark_is_position (weight c.args.boxes.now c.parent_at-parent.result) _ (light_at c.args.boxes.now c.requires.input c.parent_at-parent.result (omega (arith, within, parent, is))) (c.requires.near c.parent_at-parent.result))
+    subst IsPosition (sym c.length_at.ensures) (mark_is_position (weight c.args.of.now.boxes.list.now c.parent_at-parent.result) _ (light_at c.args.of.now.boxes.list.now c.args.of.now.boxes.are c.parent_at-parent.result (omega (arith, within, parent, is))) (c.args.of.now.near c.parent_at-parent.result))
 
 pub returns-clause-near : goal.returns-clause-near
 returns-clause-near c =
     let within = c.requires.within in
-    let up : parent_at c.args.boxes.now c.args.k < c.args.k = parent_before c.args.boxes.now c.requires.input.is_tree.tree c.args.k c.requires.positive within in
+    let up : parent_at c.args.of.now.boxes.list.now c.args.k < c.args.k = parent_before c.args.of.now.boxes.list.now c.args.of.now.boxes.are.is_tree.tree c.args.k c.requires.positive within in
     let is = c.parent_at-parent.ensures.value in
     let p = c.parent_at-parent.result in
     let less : p < c.args.k = omega (arith, up, is) in
-    let edge = (block_fits c.args.boxes.now c.requires.input p (omega (arith, less, within))).edge_top in
+    let edge = (block_fits c.args.of.now.boxes.list.now c.args.of.now.boxes.are p (omega (arith, less, within))).edge_top in
     let sum = ap (λ (v : Length). v.0) c.sum_of-content.ensures in
-    let top : c.lower.result.0 ≡ int_max (length_at c.args.marks.now c.args.k) (length_at c.args.marks.now p +ℤ (block_at c.args.boxes.now p).edge_top.0) =
-    c.lower.ensures ∙ (λ i. int_max (c.length_at-2.ensures i) (sum i)) ∙ (λ i. int_max (length_at c.args.marks.now c.args.k) (c.length_at.ensures i +ℤ (c.block_at.ensures.value i).edge_top.0)) in
-    ceiling_near (weight c.args.boxes.now c.args.k) (weight c.args.boxes.now p) _ _ _ _ (weight_up c.args.boxes.now p c.args.k (omega (arith, less))) (c.requires.near c.args.k) (c.requires.near p) edge.0 edge.1 top
+    let top : c.lower.result.0 ≡ int_max (length_at c.args.of.now.marks.now c.args.k) (length_at c.args.of.now.marks.now p +ℤ (block_at c.args.of.now.boxes.list.now p).edge_top.0) =
+    c.lower.ensures ∙ (λ i. int_max (c.length_at-2.ensures i) (sum i)) ∙ (λ i. int_max (length_at c.args.of.now.marks.now c.args.k) (c.length_at.ensures i +ℤ (c.block_at.ensures.value i).edge_top.0)) in
+    ceiling_near (weight c.args.of.now.boxes.list.now c.args.k) (weight c.args.of.now.boxes.list.now p) _ _ _ _ (weight_up c.args.of.now.boxes.list.now p c.args.k (omega (arith, less))) (c.args.of.now.near c.args.k) (c.args.of.now.near p) edge.0 edge.1 top

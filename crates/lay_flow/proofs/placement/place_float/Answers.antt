@@ -16,34 +16,34 @@ use Rattle.lay_flow.proofs.WeightFacts.{light_at}
 use Rattle.lay_flow.proofs.placement.place_float.Goals as goal
 
 pub ceiling-top-requires-clause-positive : goal.ceiling-top-requires-clause-positive
-ceiling-top-requires-clause-positive c = positive_float c.args.boxes.now c.requires.input.is_tree c.args.k c.args.side c.requires.float
+ceiling-top-requires-clause-positive c = positive_float c.args.of.now.boxes.list.now c.args.of.now.boxes.are.is_tree c.args.k c.args.side c.requires.float
 
 pub place-requires-clause-request : goal.place-requires-clause-request
 place-requires-clause-request c =
     let within = c.requires.within in
-    let boxes = c.args.boxes.now in
+    let boxes = c.args.of.now.boxes.list.now in
     let top = c.ceiling-top.ensures.value in
     let shape = c.shape_at.ensures in
     let asked = c.float_request-request.ensures ∙ (λ i. float_request (shape i) c.args.side (top i)) in
     let near = subst (IsCeilingNear (weight boxes c.args.k)) top c.ceiling-top.ensures.near in
-    subst RequestFits (sym asked) (request_fits (weight boxes c.args.k) _ c.args.side _ (light_at boxes c.requires.input c.args.k (omega (arith, within))) (shape_fits boxes c.requires.input c.args.k within) near)
+    subst RequestFits (sym asked) (request_fits (weight boxes c.args.k) _ c.args.side _ (light_at boxes c.args.of.now.boxes.are c.args.k (omega (arith, within))) (shape_fits boxes c.args.of.now.boxes.are c.args.k within) near)
 
 pub place-requires-clause-place : goal.place-requires-clause-place
 place-requires-clause-place c x y place =
     let within = c.requires.within in
-    let boxes = c.args.boxes.now in
+    let boxes = c.args.of.now.boxes.list.now in
     let top = c.ceiling-top.ensures.value in
     let shape = c.shape_at.ensures in
     let asked = c.float_request-request.ensures ∙ (λ i. float_request (shape i) c.args.side (top i)) in
     let near = subst (IsCeilingNear (weight boxes c.args.k)) top c.ceiling-top.ensures.near in
     subst (λ (r : FloatReq). BoxFits (placed_at r x y)) (sym asked)
-    (box_fits (weight boxes c.args.k) c.args.placing.now.floats _ c.args.side _ x y (light_at boxes c.requires.input c.args.k (omega (arith, within))) (shape_fits boxes c.requires.input c.args.k within) near c.requires.known.to.within
+    (box_fits (weight boxes c.args.k) c.args.placing.now.floats _ c.args.side _ x y (light_at boxes c.args.of.now.boxes.are c.args.k (omega (arith, within))) (shape_fits boxes c.args.of.now.boxes.are c.args.k within) near c.requires.known.to.within
     (subst (λ (r : FloatReq). IsFloatPlace c.args.placing.now.floats r x y) asked place))
 
 pub returns-clause-placed : goal.returns-clause-placed
 returns-clause-placed c places are was =
     let within = c.requires.within in
-    let boxes = c.args.boxes.now in
+    let boxes = c.args.of.now.boxes.list.now in
     let top = c.ceiling-top.ensures.value in
     let shape = c.shape_at.ensures in
     let asked = c.float_request-request.ensures ∙ (λ i. float_request (shape i) c.args.side (top i)) in
@@ -55,6 +55,6 @@ returns-clause-placed c places are was =
     let floats = rw asked at put.placed in
     let push = c.in_ok-push_spot.ensures {u = tt} in
     let flow : is_placed (block_at boxes c.args.k).inside ≡ false = ap (λ (b : Block). is_placed b.inside) (float_block boxes c.args.k c.args.side c.requires.float) in
-    pushed_on boxes c.args.marks.now c.args.placing.now c.push_spot.new.placing places are here (c.args.k + 1) push.places push.rows push.met
-    (rw (push.extents, push.floats) (knows_float boxes c.args.marks.now (placing_of c.args.placing.now places) c.args.k was here c.args.side c.place.new.self
-    (positive_float boxes c.requires.input.is_tree c.args.k c.args.side c.requires.float) c.requires.float flow (shape_fits boxes c.requires.input c.args.k within) near stands floats refl))
+    pushed_on boxes c.args.of.now.marks.now c.args.placing.now c.push_spot.new.placing places are here (c.args.k + 1) push.places push.rows push.met
+    (rw (push.extents, push.floats) (knows_float boxes c.args.of.now.marks.now (placing_of c.args.placing.now places) c.args.k was here c.args.side c.place.new.self
+    (positive_float boxes c.args.of.now.boxes.are.is_tree c.args.k c.args.side c.requires.float) c.requires.float flow (shape_fits boxes c.args.of.now.boxes.are c.args.k within) near stands floats refl))

@@ -1,4 +1,4 @@
-use Rattle.std.proofs.Common.{◌≡◌, ◌+◌, ◌+ℤ◌, ◌-ℤ◌, ℤ, List, arith, refl, ap, sym, ◌∙◌, subst}
+use Rattle.std.proofs.Common.{slice_index_or, ◌≡◌, ◌+◌, ◌+ℤ◌, ◌-ℤ◌, ℤ, List, arith, refl, ap, sym, ◌∙◌, subst}
 use Rattle.lay_units.specs.Units.{IsPosition}
 use Rattle.lay_units.specs.declared.length.Unit.{Unit as Length}
 use Rattle.lay_lines.specs.Lines.{lines_of}
@@ -7,7 +7,7 @@ use Rattle.lay_flow.specs.Lengths.{length_at}
 use Rattle.lay_flow.specs.MarginRuns.{block_at}
 use Rattle.lay_flow.specs.Weights.{weight}
 use Rattle.lay_flow.specs.Pass.Known.{placing_of}
-use Rattle.lay_flow.proofs.IndexedBoxes.{box_is}
+use Rattle.lay_flow.proofs.IndexedBoxes.{box_read}
 use Rattle.lay_flow.proofs.LaidLines.{end_position, floats_near, laid_lines, laid_near, mark_position, near_position, top_near}
 use Rattle.lay_flow.proofs.PlaceSteps.{knows_lines}
 use Rattle.lay_flow.proofs.PlacedOn.{pushed_on}
@@ -18,47 +18,49 @@ use Rattle.lay_flow.proofs.placement.place_lines.Goals as goal
 
 pub sum_of-top-requires-clause-a : goal.sum_of-top-requires-clause-a
 sum_of-top-requires-clause-a c =
-    let within = c.requires.within in let boxes = c.args.boxes.now in
-    subst IsPosition (sym c.length_at.ensures) (mark_position (weight boxes c.args.k) _ (light_at boxes c.requires.input c.args.k (omega (arith, within))) (c.requires.near c.args.k))
+    let within = c.requires.within in let boxes = c.args.of.now.boxes.list.now in
+    subst IsPosition (sym c.length_at.ensures) (mark_position (weight boxes c.args.k) _ (light_at boxes c.args.of.now.boxes.are c.args.k (omega (arith, within))) (c.args.of.now.near c.args.k))
 
 pub lay_lines-requires-clause-top : goal.lay_lines-requires-clause-top
 lay_lines-requires-clause-top c =
     let top = ap (λ (v : Length). v.0) c.sum_of-top.ensures ∙ (λ i. c.length_at.ensures i +ℤ (c.block_at.ensures.value i).edge_top.0) in
-    top_near c.args.boxes.now c.requires.input c.args.marks.now c.args.k c.requires.within (c.requires.near c.args.k) c.sum_of-top.result.0 top
+    top_near c.args.of.now.boxes.list.now c.args.of.now.boxes.are c.args.of.now.marks.now c.args.k c.requires.within (c.args.of.now.near c.args.k) c.sum_of-top.result.0 top
 
 pub lay_lines-requires-clause-floats : goal.lay_lines-requires-clause-floats
 lay_lines-requires-clause-floats c =
     let within = c.requires.within in
-    floats_near c.args.boxes.now c.requires.input c.args.k (omega (arith, within)) c.args.placing.now.floats c.requires.known.to.within
+    floats_near c.args.of.now.boxes.list.now c.args.of.now.boxes.are c.args.k (omega (arith, within)) c.args.placing.now.floats c.requires.known.to.within
 
 pub depth_below-depth-requires-clause-top : goal.depth_below-depth-requires-clause-top
 depth_below-depth-requires-clause-top c =
     let top = ap (λ (v : Length). v.0) c.sum_of-top.ensures ∙ (λ i. c.length_at.ensures i +ℤ (c.block_at.ensures.value i).edge_top.0) in
-    near_position c.sum_of-top.result.0 (top_near c.args.boxes.now c.requires.input c.args.marks.now c.args.k c.requires.within (c.requires.near c.args.k) c.sum_of-top.result.0 top)
+    near_position c.sum_of-top.result.0 (top_near c.args.of.now.boxes.list.now c.args.of.now.boxes.are c.args.of.now.marks.now c.args.k c.requires.within (c.args.of.now.near c.args.k) c.sum_of-top.result.0 top)
 
 pub depth_below-depth-requires-clause-end : goal.depth_below-depth-requires-clause-end
 depth_below-depth-requires-clause-end c =
     let top = ap (λ (v : Length). v.0) c.sum_of-top.ensures ∙ (λ i. c.length_at.ensures i +ℤ (c.block_at.ensures.value i).edge_top.0) in
-    let b = box_is c.args.boxes.now c.args.k c.index-boxes-k.result c.requires.within c.index-boxes-k.is in
-    end_position c.args.boxes.now c.requires.input c.args.marks.now c.args.k c.requires.within (c.requires.near c.args.k) c.sum_of-top.result.0 top
-    c.requires.lines c.args.placing.now.floats c.requires.known.to.within c.index-boxes-k.result b (lines_of c.in_ok-lines.lines c.lay_lines.new.floats) c.in_ok-lines.ensures.near
+    let read = slice_index_or c.args.of.now.boxes.list.now c.args.k c.index-of-k.result in
+    let b = box_read c.args.of.now.boxes.list.now c.args.k c.index-of-k.result c.requires.within in
+    end_position c.args.of.now.boxes.list.now c.args.of.now.boxes.are c.args.of.now.marks.now c.args.k c.requires.within (c.args.of.now.near c.args.k) c.sum_of-top.result.0 top
+    c.requires.lines c.args.placing.now.floats c.requires.known.to.within read b (lines_of c.in_ok-lines.lines c.lay_lines.new.floats) c.in_ok-lines.ensures.near
 
 pub returns-clause-placed : goal.returns-clause-placed
 returns-clause-placed c places are was =
-    let boxes = c.args.boxes.now in
+    let boxes = c.args.of.now.boxes.list.now in
     let k = c.args.k in
     let within = c.requires.within in
     let old = c.args.placing.now in
     let top = ap (λ (v : Length). v.0) c.sum_of-top.ensures ∙ (λ i. c.length_at.ensures i +ℤ (c.block_at.ensures.value i).edge_top.0) in
-    let b = box_is boxes k c.index-boxes-k.result c.requires.within c.index-boxes-k.is in
+    let read = slice_index_or boxes k c.index-of-k.result in
+    let b = box_read boxes k c.index-of-k.result within in
     let v = lines_of c.in_ok-lines.lines c.lay_lines.new.floats in
-    let near = laid_near boxes c.requires.input c.args.marks.now k within (c.requires.near k) c.sum_of-top.result.0 top c.requires.lines old.floats was.within c.index-boxes-k.result b v c.in_ok-lines.ensures.near in
-    let laid = laid_lines boxes c.requires.input c.args.marks.now k within (c.requires.near k) c.sum_of-top.result.0 top c.requires.lines old.floats was.within c.index-boxes-k.result b v c.in_ok-lines.ensures.near c.in_ok-lines.ensures.lines in
+    let near = laid_near boxes c.args.of.now.boxes.are c.args.of.now.marks.now k within (c.args.of.now.near k) c.sum_of-top.result.0 top c.requires.lines old.floats was.within read b v c.in_ok-lines.ensures.near in
+    let laid = laid_lines boxes c.args.of.now.boxes.are c.args.of.now.marks.now k within (c.args.of.now.near k) c.sum_of-top.result.0 top c.requires.lines old.floats was.within read b v c.in_ok-lines.ensures.near c.in_ok-lines.ensures.lines in
     let here : Spot = record { place = c.nowhere.result; lines = v } in
     let l = was.extents_length in
-    let value : c.depth_below-depth.result.0 ≡ v.end.0 -ℤ (length_at c.args.marks.now k +ℤ (block_at boxes k).edge_top.0) = c.depth_below-depth.ensures ∙ (λ i. v.end.0 -ℤ top i) in
-    let wrote : Wrote length_at old.extents.items c.write_at.new.column.items k (v.end.0 -ℤ (length_at c.args.marks.now k +ℤ (block_at boxes k).edge_top.0)) =
+    let value : c.depth_below-depth.result.0 ≡ v.end.0 -ℤ (length_at c.args.of.now.marks.now k +ℤ (block_at boxes k).edge_top.0) = c.depth_below-depth.ensures ∙ (λ i. v.end.0 -ℤ top i) in
+    let wrote : Wrote length_at old.extents.items c.write_at.new.column.items k (v.end.0 -ℤ (length_at c.args.of.now.marks.now k +ℤ (block_at boxes k).edge_top.0)) =
     subst (λ (v : ℤ). Wrote length_at old.extents.items c.write_at.new.column.items k v) value
     (subst (λ (xs : List Length). Wrote length_at old.extents.items xs k c.depth_below-depth.result.0) (sym c.write_at.ensures) (wrote_length old.extents.items k c.depth_below-depth.result (omega (arith, within, l)))) in
-    pushed_on boxes c.args.marks.now old _ places are here (k + 1) (c.in_ok-push.ensures {u = tt}).items (c.in_ok-push-2.ensures {u = tt}).items (c.in_ok-push-3.ensures {u = tt}).items
-    (knows_lines boxes c.args.marks.now (placing_of old places) k was here c.write_at.new.column.items c.lay_lines.new.floats c.requires.lines near laid wrote c.nowhere.ensures refl)
+    pushed_on boxes c.args.of.now.marks.now old _ places are here (k + 1) (c.in_ok-push.ensures {u = tt}).items (c.in_ok-push-2.ensures {u = tt}).items (c.in_ok-push-3.ensures {u = tt}).items
+    (knows_lines boxes c.args.of.now.marks.now (placing_of old places) k was here c.write_at.new.column.items c.lay_lines.new.floats c.requires.lines near laid wrote c.nowhere.ensures refl)
