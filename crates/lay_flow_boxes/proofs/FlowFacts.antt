@@ -16,7 +16,6 @@ use Rattle.lay_box_tree.proofs.BoxForests.{length-parents}
 use Rattle.lay_box_tree.proofs.NearestContainers.{containers_are_a_tree}
 use Rattle.lay_floats.specs.declared.requests.Side.{Side}
 use Rattle.lay_floats.specs.declared.requests.Clear.{Clear as Cleared}
-use Rattle.lay_floats.specs.Within.{IsWithin}
 use Rattle.lay_flow.specs.declared.flow_box.FlowBox.{FlowBox}
 use Rattle.lay_flow.specs.declared.flow_box.FlowKind.{FlowKind}
 use Rattle.lay_flow.specs.declared.flow_box.BlockBox.{BlockBox}
@@ -42,7 +41,7 @@ use Rattle.lay_context_boxes.specs.Containing.{container_of}
 use Rattle.lay_context_boxes.specs.ContextBoxes.{AreContextBoxes, is_inner}
 use Rattle.lay_flow_boxes.specs.ContextBlocks.{AreFlowBoxesOf, block_box, cleared_by, content_of_box, flow_box_of, float_box, float_side, has_lines, height_rule, holds_lines, inner_box, is_anchor, is_in_lines, kind_alone, kind_by, kind_in_lines, lines_in, own_block}
 use Rattle.lay_flow_boxes.specs.InlineContainers.{holds, is_beside_lines, is_block_box, is_inline_container, is_of, is_own_container, stands_in}
-use Rattle.lay_flow_boxes.specs.NearLefts.{AreNearLefts}
+use Rattle.lay_flow_boxes.specs.NearLefts.{AreNearLefts, IsNearLeft}
 use Rattle.lay_flow_boxes.specs.PlaceInputs.{HeightRuleFits}
 use Rattle.lay_context_boxes.proofs.ContainerSteps.{container_before, container_within, containers_are_nearest_lem}
 
@@ -85,7 +84,7 @@ float_fits side clear o own = record {
   height = own.height;
 }
 
-inner_fits : (side : Option Side) (clear : Cleared) (o : OwnBox) (left : Length) → OwnBoxFits o → IsWithin (pos 562949953421312) left.0 → KindFits (inner_box side clear o left)
+inner_fits : (side : Option Side) (clear : Cleared) (o : OwnBox) (left : Length) → OwnBoxFits o → IsNearLeft left.0 → KindFits (inner_box side clear o left)
 inner_fits None clear o left own near = record {
   x = near;
   margin = record { top = own.margin_top; bottom = own.margin_bottom };
@@ -99,7 +98,7 @@ rule_fits : (sizes : List BoxSizes) (own_height : HeightRule) (k : ℕ) → Heig
 rule_fits sizes own_height zero own fits = own
 rule_fits sizes own_height (suc k) own fits = record { given = fits.height; min = fits.min_height }
 
-block_fits : (clear : Cleared) (z : BoxSizes) (height : HeightRule) (left : Length) → SizeFits z → HeightRuleFits height → IsWithin (pos 562949953421312) left.0 → BlockBoxFits (block_box clear z height left)
+block_fits : (clear : Cleared) (z : BoxSizes) (height : HeightRule) (left : Length) → SizeFits z → HeightRuleFits height → IsNearLeft left.0 → BlockBoxFits (block_box clear z height left)
 block_fits clear z height left fits rule near = record {
   x = near;
   margin = record { top = fits.margin_top; bottom = fits.margin_bottom };
@@ -127,7 +126,7 @@ line_fits : (side : Option Side) (clear : Cleared) (o : OwnBox) → OwnBoxFits o
 line_fits None clear o own = tt
 line_fits (Some side) clear o own = float_fits side clear o own
 
-alone_fits : (anchor inner inline : Bool) (side : Option Side) (clear : Cleared) (o : OwnBox) (b : BlockBox) (left : Length) → OwnBoxFits o → BlockBoxFits b → IsWithin (pos 562949953421312) left.0
+alone_fits : (anchor inner inline : Bool) (side : Option Side) (clear : Cleared) (o : OwnBox) (b : BlockBox) (left : Length) → OwnBoxFits o → BlockBoxFits b → IsNearLeft left.0
     → KindFits (if anchor then block empty_block else (if inner then inner_box side clear o left else (if inline then block empty_block else block b)))
 alone_fits true inner inline side clear o b left own fits near = empty_fits
 alone_fits false true inline side clear o b left own fits near = inner_fits side clear o left own near
@@ -138,13 +137,13 @@ none_fits : (in_lines : Bool) (k : FlowKind) (side : Option Side) (clear : Clear
 none_fits true k side clear o own fits = line_fits side clear o own
 none_fits false k side clear o own fits = fits
 
-own_block_fits : (boxes : List BoxNode) (sizes : List BoxSizes) (own_height : HeightRule) (lefts : List Length) (k : ℕ) → HeightRuleFits own_height → SizeFits (sizes_at sizes k) → IsWithin (pos 562949953421312) (length_at lefts k)
+own_block_fits : (boxes : List BoxNode) (sizes : List BoxSizes) (own_height : HeightRule) (lefts : List Length) (k : ℕ) → HeightRuleFits own_height → SizeFits (sizes_at sizes k) → IsNearLeft (length_at lefts k)
     → BlockBoxFits (own_block boxes sizes own_height lefts k)
 own_block_fits boxes sizes own_height lefts k rule fits near =
     block_fits (cleared_by boxes k) (sizes_at sizes k) (height_rule sizes own_height k) (record { 0 = length_at lefts k }) fits (rule_fits sizes own_height k rule fits) near
 
 kind_fits : (m : BoxMeasuresValue) (own_height : HeightRule) (lefts : List Length) (k : ℕ) (content : Option LineContentValue) → OwnBoxFits (own_box_at m.inner k) → HeightRuleFits own_height → SizeFits (sizes_at m.sizes k)
-    → IsWithin (pos 562949953421312) (length_at lefts k) → KindFits (kind_by m own_height lefts k content)
+    → IsNearLeft (length_at lefts k) → KindFits (kind_by m own_height lefts k content)
 kind_fits m own_height lefts k (Some content) own rule fits near = own_block_fits m.boxes m.sizes own_height lefts k rule fits near
 kind_fits m own_height lefts k None own rule fits near =
     none_fits (is_in_lines m lefts k) (kind_alone m.boxes m.sizes m.inner own_height lefts k) (float_side m.boxes k) (cleared_by m.boxes k) (own_box_at m.inner k) own

@@ -1,34 +1,25 @@
 -- A column of left border edges that grows, from outer to inner boxes.
-use Rattle.std.proofs.Common.{◌≡◌, ℕ, zero, suc, ◌+◌, ◌*◌, ◌<◌, ◌≤◌, ℤ, pos, ◌+ℤ◌, List, [], ◌∷◌, ◌++◌, length, refl, sym, ap, ◌∙◌, arith, inl, inr}
+use Rattle.std.proofs.Common.{◌≡◌, ℕ, zero, suc, ◌+◌, ◌<◌, ◌≤◌, ℤ, ◌+ℤ◌, List, [], ◌∷◌, ◌++◌, length, refl, sym, ap, ◌∙◌, arith, inl, inr}
 use Rattle.std.proofs.lemmas.Bool.{cases_lt}
-use Rattle.std.proofs.lemmas.Int.{ints}
 use Rattle.std.proofs.lemmas.Grind.{elements}
 use Rattle.lay_units.specs.declared.length.Unit.{Unit as Length}
 use Rattle.lay_box_tree.specs.declared.box_tree.BoxNode.{BoxNode}
-use Rattle.lay_floats.specs.Within.{IsWithin}
 use Rattle.lay_flow.specs.Lengths.{length_at}
 use Rattle.lay_sizes.specs.declared.sizing.BoxSizes.{BoxSizes}
 use Rattle.lay_sizes.specs.declared.own_boxes.OwnBox.{OwnBox}
-use Rattle.lay_sizes.specs.SizeColumns.{HaveSizeBounds, sizes_at}
-use Rattle.lay_sizes.specs.OwnBoxes.{OwnBoxesFit}
+use Rattle.lay_sizes.specs.SizeColumns.{sizes_at}
 use Rattle.lay_context_boxes.specs.Containing.{container_of}
 use Rattle.lay_context_boxes.specs.ContextBoxes.{AreContextBoxes}
 use Rattle.lay_flow_boxes.specs.Outside.{outside}
 use Rattle.lay_context_boxes.proofs.ContainerSteps.{container_before}
-use Rattle.lay_flow_boxes.proofs.OutsideFacts.{outside_fits}
-use Rattle.lay_sizes.specs.SizeBounds.{SizeFits}
 use Rattle.lay_flow_boxes.specs.ContextBlocks.{left_of_box, HasLefts}
-use Rattle.lay_flow_boxes.specs.NearLefts.{AreNearLefts}
-
--- A container stands before what is in it. So the edge of the box at k is at most k margins, borders and paddings away.
-abbrev pub IsLeftNear : ℕ → ℤ → Type 0
-IsLeftNear k v = IsWithin (pos (6442450944 * k)) v
+use Rattle.lay_flow_boxes.specs.NearLefts.{AreNearLefts, IsNearLeft}
 
 -- the boxes before n have their left border edges
 pub record LeftsTo (boxes : List BoxNode) (sizes : List BoxSizes) (inner : List OwnBox) (lefts : List Length) (n : ℕ) : Type 0 where
   pub count : length lefts ≡ n
   pub each : (k : ℕ) → k < n → length_at lefts k ≡ (left_of_box boxes sizes inner lefts k).0
-  pub near : (k : ℕ) → k < n → IsLeftNear k (length_at lefts k)
+  pub near : AreNearLefts lefts
 
 read_before : (ls : List Length) (l : Length) (k : ℕ) → k < length ls → length_at (ls ++ l ∷ []) k ≡ length_at ls k
 read_before ls l k lt = grind (arith, elements)
@@ -46,43 +37,23 @@ left_before boxes sizes inner ls l (suc k) are within known =
     let same = read_before ls l p (omega (arith, before, known)) in
     ap (λ (v : ℤ). v +ℤ (sizes_at sizes p).edges.left.0 +ℤ (outside boxes sizes inner (suc k)).margin.left.0) same
 
-step_near : (p k : ℕ) (left edge margin : ℤ) → p ≤ k → IsLeftNear p left → IsWithin (pos 4294967296) edge → IsWithin (pos 2147483648) margin → IsLeftNear (suc k) (left +ℤ edge +ℤ margin)
-step_near p k left edge margin before near inset used = (omega (arith, ints, near.0, inset.0, used.0), omega (arith, ints, near.1, inset.1, used.1))
-
-pub left_near : (boxes : List BoxNode) (sizes : List BoxSizes) (inner : List OwnBox) (ls : List Length) (n : ℕ) → AreContextBoxes boxes → length sizes ≡ length boxes → length inner ≡ length boxes → HaveSizeBounds sizes → OwnBoxesFit inner → n < length boxes → LeftsTo boxes sizes inner ls n
-    → IsLeftNear n (left_of_box boxes sizes inner ls n).0
-left_near boxes sizes inner ls zero are counted inner_counted bounds inner_bounds within so_far = (omega (arith, ints), omega (arith, ints))
-left_near boxes sizes inner ls (suc k) are counted inner_counted bounds inner_bounds within so_far =
-    let p : ℕ = container_of boxes (suc k) in
-    let before = container_before boxes (suc k) are (omega arith) within in
-    let outer : SizeFits (sizes_at sizes p) = bounds p (omega (arith, counted, before, within)) in
-    let own = outside_fits boxes sizes inner (suc k) (bounds (suc k) (omega (arith, counted))) (inner_bounds (suc k) (omega (arith, inner_counted))) in
-    step_near p k (length_at ls p) (sizes_at sizes p).edges.left.0 (outside boxes sizes inner (suc k)).margin.left.0 (omega (arith, before)) (so_far.near p (omega (arith, before)))
-    (omega (arith, ints, outer.left.0), omega (arith, ints, outer.left.1)) own.margin_left
-
 -- with one more the boxes before n + 1 have their left border edges
-pub one_more : (boxes : List BoxNode) (sizes : List BoxSizes) (inner : List OwnBox) (ls : List Length) (n : ℕ) (l : Length) → AreContextBoxes boxes → length sizes ≡ length boxes → length inner ≡ length boxes → HaveSizeBounds sizes → OwnBoxesFit inner → n < length boxes
-    → LeftsTo boxes sizes inner ls n → l ≡ left_of_box boxes sizes inner ls n → LeftsTo boxes sizes inner (ls ++ l ∷ []) (n + 1)
-one_more boxes sizes inner ls n l are counted inner_counted bounds inner_bounds within so_far is =
-    let near = left_near boxes sizes inner ls n are counted inner_counted bounds inner_bounds within so_far in
+pub one_more : (boxes : List BoxNode) (sizes : List BoxSizes) (inner : List OwnBox) (ls : List Length) (n : ℕ) (l : Length) → AreContextBoxes boxes → n < length boxes
+    → LeftsTo boxes sizes inner ls n → l ≡ left_of_box boxes sizes inner ls n → IsNearLeft l.0 → LeftsTo boxes sizes inner (ls ++ l ∷ []) (n + 1)
+one_more boxes sizes inner ls n l are within so_far is near =
+    let counted : length (ls ++ l ∷ []) ≡ n + 1 = grind (arith, elements, so_far.count) in
     record {
-      count = grind (arith, elements, so_far.count);
+      count = counted;
       each = λ k lt. elim (cases_lt k n) [
         | inl low ↦ read_before ls l k (omega (arith, so_far.count)) ∙ so_far.each k low ∙ sym (left_before boxes sizes inner ls l k are (omega arith) (omega (arith, so_far.count)))
         | inr high ↦ (let q : k ≡ n = omega arith in
             rw q (read_last ls l n (sym so_far.count) ∙ ap (λ (x : Length). x.0) is ∙ sym (left_before boxes sizes inner ls l n are within (omega (arith, so_far.count)))))
       ];
       near = λ k lt. elim (cases_lt k n) [
-        | inl low ↦ (let r = read_before ls l k (omega (arith, so_far.count)) in rw r (so_far.near k low))
-        | inr high ↦ (let q : k ≡ n = omega arith in let r = read_last ls l n (sym so_far.count) in rw (q, r, is) near)
+        | inl low ↦ (let r = read_before ls l k (omega (arith, low, so_far.count)) in rw r (so_far.near k (omega (arith, low, so_far.count))))
+        | inr high ↦ (let r = read_last ls l k (omega (arith, high, lt, counted, so_far.count)) in rw r near)
       ];
     }
-
--- all of at most 65536 are near
-pub near_lefts : (boxes : List BoxNode) (sizes : List BoxSizes) (inner : List OwnBox) (ls : List Length) (n : ℕ) → n ≤ 65536 → LeftsTo boxes sizes inner ls n → AreNearLefts ls
-near_lefts boxes sizes inner ls n few so_far k lt =
-    let near = so_far.near k (omega (arith, so_far.count)) in
-    (omega (arith, ints, near.0, so_far.count), omega (arith, ints, near.1, so_far.count))
 
 pub all_lefts : (boxes : List BoxNode) (sizes : List BoxSizes) (inner : List OwnBox) (ls : List Length) (n : ℕ) → n ≡ length boxes → LeftsTo boxes sizes inner ls n → HasLefts boxes sizes inner ls
 all_lefts boxes sizes inner ls n e so_far = record { count = so_far.count ∙ e; each = λ k lt. so_far.each k (omega arith) }

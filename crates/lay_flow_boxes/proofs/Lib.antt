@@ -3,4 +3,3 @@ pub mod FlowFacts
 pub mod InlineContainerSteps
 pub mod LeftSteps
 pub mod OneShapes
-pub mod OutsideFacts

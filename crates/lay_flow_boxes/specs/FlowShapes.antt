@@ -1,6 +1,6 @@
 -- The boxes of one formatting context as its block flow takes them: which parts of inline boxes they are (CSS 2.2, 8.6), their
 -- left border edges where no float is beside them (10.3.3), and what each is to the flow (9.4.1, 9.4.2 and 9.5).
-use Rattle.std.specs.Prelude.{List}
+use Rattle.std.specs.Prelude.{ℕ, ◌^◌, List}
 use Rattle.lay_units.specs.declared.length.Unit.{Unit as Length}
 use Rattle.lay_box_parts.specs.declared.inline_part.InlinePart.{InlinePart}
 use Rattle.lay_box_parts.specs.InlineParts.{AreInlineParts}
@@ -17,6 +17,10 @@ pub record FlowShape : Type 0 where
 -- what the content of lines is measured by
 abbrev pub measures_in : PlaceInput → List InlinePart → BoxMeasuresValue
 measures_in i parts = record { boxes = i.boxes; parts = parts; sizes = i.sizes; inner = i.inner; face = i.face }
+
+-- the most boxes of a formatting context that block flow takes
+abbrev pub most_flow_boxes : ℕ
+most_flow_boxes = 2 ^ 23
 
 -- this is what they are
 pub record IsFlowShape (i : PlaceInput) (s : FlowShape) : Type 0 where

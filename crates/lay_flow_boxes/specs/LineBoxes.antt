@@ -3,12 +3,13 @@ use Rattle.std.specs.Prelude.{ℕ, ◌≡◌, ◌<◌, ◌≤◌, Bool, List, le
 use Rattle.lay_units.specs.declared.length.Unit.{Unit as Length}
 use Rattle.lay_box_tree.specs.declared.box_tree.BoxNode.{BoxNode}
 use Rattle.lay_flow.specs.Children.{flag_at}
+use Rattle.lay_flow_boxes.specs.FlowShapes.{most_flow_boxes}
 use Rattle.lay_flow_boxes.specs.InlineContainers.{is_inline_container}
 use Rattle.lay_flow_boxes.specs.NearLefts.{AreNearLefts}
 
 -- the columns are as long as the boxes, and say what they ought to
 pub record IsShaping (boxes : List BoxNode) (lefts : List Length) (inline_containers : List Bool) : Type 0 where
-  pub few : length boxes ≤ 65536
+  pub few : length boxes ≤ most_flow_boxes
   pub lefts_count : length lefts ≡ length boxes
   pub near : AreNearLefts lefts
   pub flags_count : length inline_containers ≡ length boxes

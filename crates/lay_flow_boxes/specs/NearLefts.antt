@@ -1,9 +1,12 @@
 -- Left border edges within bounds.
-use Rattle.std.specs.Prelude.{ℕ, ◌<◌, pos, List, length}
+use Rattle.std.specs.Prelude.{ℕ, ◌<◌, ◌^◌, ℤ, pos, List, length}
 use Rattle.lay_units.specs.declared.length.Unit.{Unit as Length}
 use Rattle.lay_floats.specs.Within.{IsWithin}
 use Rattle.lay_flow.specs.Lengths.{length_at}
 
 -- at most 2^49 units away
+abbrev pub IsNearLeft : ℤ → Type 0
+IsNearLeft v = IsWithin (pos (2 ^ 49)) v
+
 abbrev pub AreNearLefts : List Length → Type 0
-AreNearLefts lefts = (k : ℕ) → k < length lefts → IsWithin (pos 562949953421312) (length_at lefts k)
+AreNearLefts lefts = (k : ℕ) → k < length lefts → IsNearLeft (length_at lefts k)

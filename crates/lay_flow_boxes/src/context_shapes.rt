@@ -1,15 +1,14 @@
 //! The boxes of one context as its block formatting context takes them.
 
-ghost use Rattle.std.specs.Prelude.{ℕ, ◌≡◌, ◌<◌, ◌≤◌, pos, length, IfOk};
-ghost use Rattle.lay_floats.specs.Within.{IsWithin};
+ghost use Rattle.std.specs.Prelude.{ℕ, ◌≡◌, ◌<◌, ◌≤◌, length, IfOk};
 ghost use Rattle.lay_sizes.specs.SizeBounds.{SizeFits};
 ghost use Rattle.lay_flow.specs.Boxes.{box_at};
 ghost use Rattle.lay_sizes.specs.OwnBoxes.{own_box_at};
 ghost use Rattle.lay_flow_boxes.specs.ContextBlocks.{AreFlowBoxesOf, block_box, cleared_by, cleared_sides, float_box, float_side, flow_box_of, has_lines, height_rule, inner_box, is_anchor, kind_alone, kind_in_lines, own_block, side_of};
-ghost use Rattle.lay_flow_boxes.specs.FlowShapes.{measures_in};
+ghost use Rattle.lay_flow_boxes.specs.FlowShapes.{measures_in, most_flow_boxes};
 ghost use Rattle.lay_flow_boxes.specs.LineBoxes.{IsShaping};
 ghost use Rattle.lay_flow_boxes.specs.PlaceInputs.{height_rule_of};
-ghost use Rattle.lay_flow_boxes.specs.NearLefts.{AreNearLefts};
+ghost use Rattle.lay_flow_boxes.specs.NearLefts.{AreNearLefts, IsNearLeft};
 
 use crate::box_columns::{is_inner, length_at, own_box_at, sizes_at, style_at};
 use crate::context_blocks::{content_right, inside_edge};
@@ -34,7 +33,7 @@ pub(crate) fn flow_boxes_of(
     parts: &[InlinePart],
     lefts: &[Unit],
 ) -> Result<Vec<FlowBox>, NoMemory>
-    requires few { length input.now.boxes ≤ 65536 }
+    requires few { length input.now.boxes ≤ most_flow_boxes }
     requires lefts { length lefts.now ≡ length input.now.boxes }
     requires near { AreNearLefts lefts.now }
     ensures { IfOk result (λ v. AreFlowBoxesOf (measures_in input.now parts.now) input.now.own_height lefts.now v.items) }
@@ -191,7 +190,7 @@ const EMPTY_BLOCK: BlockBox = BlockBox {
 
 fn block_box(clear: Clear, sizes: BoxSizes, height: HeightRule, left: Unit) -> BlockBox
     requires sizes { SizeFits sizes }
-    requires left { IsWithin (pos 562949953421312) left.0 }
+    requires left { IsNearLeft left.0 }
     ensures { result ≡ block_box clear sizes height left }
 {
     let content = inside_edge(left, sizes);

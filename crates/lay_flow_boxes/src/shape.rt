@@ -1,7 +1,7 @@
 //! The boxes of one formatting context as its block flow takes them.
 
 ghost use Rattle.std.specs.Prelude.{◌≡◌, ◌≤◌, length, IfOk};
-ghost use Rattle.lay_flow_boxes.specs.FlowShapes.{IsFlowShape};
+ghost use Rattle.lay_flow_boxes.specs.FlowShapes.{IsFlowShape, most_flow_boxes};
 ghost use Rattle.lay_flow_boxes.specs.NearLefts.{AreNearLefts};
 
 use crate::context_blocks::lefts_of;
@@ -13,9 +13,9 @@ use lay_units::{NoMemory, Unit};
 use std::alloc::Global;
 use std::marker::Model;
 
-/// The most boxes of a formatting context that block flow takes. A document has fewer, but where its nodes are nearly as many
-/// as they may be and anonymous boxes stand among them.
-const MOST_BOXES: usize = 65536;
+/// The most boxes of a formatting context that block flow takes. A document has most where inline boxes stand in each other
+/// and are broken around many blocks (CSS 2.2, 9.2.1.1): within the limits of its nodes and its depth about 2^20.
+const MOST_BOXES: usize = 1 << 23;
 
 /// The boxes of one formatting context as its block flow takes them, in their order, in 1/64 px. Horizontal positions are
 /// counted from the left border edge of its own box.
@@ -61,11 +61,11 @@ impl FlowShape {
     }
 }
 
-/// The boxes of one formatting context as its block flow takes them. NoMemory is also the answer for more boxes than
-/// 65,536, and where lines are out of the bounds of block flow.
+/// The boxes of one formatting context as its block flow takes them. NoMemory is also the answer for more boxes than 2^23,
+/// for a left border edge more than 2^49 units away, and where lines are out of the bounds of block flow.
 pub fn flow_shape(alloc: Global, input: &PlaceInput) -> Result<FlowShape, NoMemory>
     ensures shape { IfOk result (IsFlowShape input.now) }
-    ensures few { IfOk result (λ _. length input.now.boxes ≤ 65536) }
+    ensures few { IfOk result (λ _. length input.now.boxes ≤ most_flow_boxes) }
 {
     let boxes = input.boxes();
     if boxes.len() > MOST_BOXES {

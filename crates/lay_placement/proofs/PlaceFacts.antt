@@ -2,12 +2,13 @@
 use Rattle.std.proofs.Common.{◌≤◌, ◌<◌, ◌∙◌, arith, length}
 use Rattle.lay_flow.specs.FlowPlaces.{AreNearPlaces}
 use Rattle.lay_sizes.specs.OwnBoxes.{IsBoxSize}
+use Rattle.lay_flow_boxes.specs.FlowShapes.{most_flow_boxes}
 use Rattle.lay_flow_boxes.specs.PlaceInputs.{PlaceInput}
 use Rattle.lay_placement.specs.ContextPlaces.{ContextPlaces, HasPlaces, own_height}
 use Rattle.lay_placement.specs.Counts.{HaveCounts}
 
 -- places have an entry for each box
-pub place_counts : (i : PlaceInput) (p : ContextPlaces) → length i.boxes ≤ 65536 → HasPlaces i p → HaveCounts i.boxes p
+pub place_counts : (i : PlaceInput) (p : ContextPlaces) → length i.boxes ≤ most_flow_boxes → HasPlaces i p → HaveCounts i.boxes p
 place_counts i p few has = record {
   few = few;
   left_count = has.is_shape.has_lefts.count;

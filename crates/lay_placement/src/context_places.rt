@@ -44,8 +44,8 @@ impl Model for BoxPlaces {
     ghost invariant = { λ p. AreNearMoves p.moves.items };
 }
 
-/// Where the boxes of one formatting context stand. NoMemory is also the answer for more boxes than 65,536, and where lines
-/// are out of the bounds of block flow.
+/// Where the boxes of one formatting context stand. NoMemory is also the answer for more boxes than 2^23, for a left border
+/// edge more than 2^49 units away, and where lines are out of the bounds of block flow.
 pub(crate) fn context_places(alloc: Global, input: &PlaceInput) -> Result<BoxPlaces, NoMemory>
     ensures places { IfOk result (HasPlaces input.now) }
     ensures counts { IfOk result (HaveCounts input.now.boxes) }

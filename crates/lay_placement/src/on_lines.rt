@@ -4,6 +4,7 @@ ghost use Rattle.std.specs.Prelude.{◌≡◌, ◌<◌, ◌≤◌, All, length, 
 ghost use Rattle.lay_content.specs.InlineBoxes.{areas_of};
 ghost use Rattle.lay_flow.specs.Boxes.{box_at};
 ghost use Rattle.lay_flow.specs.FlowBoxes.{KindFits};
+ghost use Rattle.lay_flow_boxes.specs.FlowShapes.{most_flow_boxes};
 ghost use Rattle.lay_inlines.specs.Bounds.{AreaWithin, RowWithin};
 ghost use Rattle.lay_placement.specs.ContextPlaces.{measures_of, rows_at};
 ghost use Rattle.lay_placement.specs.Counts.{HaveCounts};
@@ -134,7 +135,7 @@ fn rows_within(places: &BoxPlaces, k: usize) -> Result<&[Ended], NoMemory>
 /// The block box at k, as its lines take it.
 fn line_container(input: &PlaceInput, k: usize, block: &BlockBox) -> Container
     requires place { k < length input.now.boxes }
-    requires few { k ≤ 65536 }
+    requires few { k ≤ most_flow_boxes }
     ensures { result ≡ line_container input.now.boxes k block.now }
 {
     Container {
