@@ -7,6 +7,7 @@ pub mod OneValue
 pub mod PieceRanges
 pub mod PlaceFacts
 pub mod PlaceInputs
+pub mod ShrinkSteps
 pub mod SizedFacts
 pub mod TaskInputs
 pub mod TaskOrder
