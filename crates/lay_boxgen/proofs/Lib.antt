@@ -1,4 +1,5 @@
 pub mod Above
+pub mod ContextFlags
 pub mod CutNodes
 pub mod CutParts
 pub mod EveryBox

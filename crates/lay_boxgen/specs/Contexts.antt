@@ -1,6 +1,6 @@
 -- Contexts: the elements that establish a new block formatting context (9.4.1), and the replaced elements,
 -- where they generate a box.
-use Rattle.std.specs.Prelude.{ℕ, ◌<◌, Bool, true, false, ◌&&◌, ◌||◌, not, List, slice_get, slice_index, IsTrue, Option, None, Some}
+use Rattle.std.specs.Prelude.{ℕ, ◌≡◌, ◌<◌, ◌↔◌, Bool, true, false, ◌&&◌, ◌||◌, not, List, length, slice_get, slice_index, slice_index_or, IsTrue, Option, None, Some}
 use Rattle.lay_style.specs.declared.style.Style.{Style}
 use Rattle.lay_style.specs.ComputedStyle.{style_at}
 use Rattle.lay_style.specs.Places.{place_of}
@@ -55,3 +55,12 @@ IsContextThere nodes styles (Some k) = IsContextAt nodes styles k
 -- the document's node with this id is a context
 abbrev pub IsContext : Document → List Style → ℕ → Type 0
 IsContext d styles id = IsContextThere d.nodes styles (place_of id (ids_of d.nodes))
+
+-- for each number below n whether it is so
+pub record AreFlagsOf (P : ℕ → Type 0) (n : ℕ) (flags : List Bool) : Type 0 where
+  pub count : length flags ≡ n
+  pub each : (k : ℕ) → k < n → IsTrue (slice_index_or flags k false) ↔ P k
+
+-- for each node whether it is a context
+abbrev pub AreContextFlags : List Node → List Style → List Bool → Type 0
+AreContextFlags nodes styles flags = AreFlagsOf (IsContextAt nodes styles) (length nodes) flags

@@ -33,7 +33,7 @@ fn is_context_at(nodes: &[Node], styles: &[Style], place: usize) -> bool
 }
 
 /// The box of the node at a place by itself.
-fn box_at(nodes: &[Node], styles: &[Style], place: usize) -> Option<Facts>
+pub(crate) fn box_at(nodes: &[Node], styles: &[Style], place: usize) -> Option<Facts>
     requires place { place < length nodes.now }
     requires styles { length styles.now ≡ length nodes.now }
     ensures { result ≡ box_at nodes.now styles.now place }
@@ -41,7 +41,7 @@ fn box_at(nodes: &[Node], styles: &[Style], place: usize) -> Option<Facts>
     node_box(place, &nodes[place], &styles[place])
 }
 
-fn is_marked(facts: Option<Facts>) -> bool
+pub(crate) fn is_marked(facts: Option<Facts>) -> bool
     ensures { result ≡ is_marked facts }
 {
     match facts {
@@ -58,7 +58,7 @@ fn keeps_form(parent: Form, form: Form) -> bool
 }
 
 /// Whether both are there, and the parent keeps the child.
-fn keeps(parent: Option<Facts>, child: Option<Facts>) -> bool
+pub(crate) fn keeps(parent: Option<Facts>, child: Option<Facts>) -> bool
     ensures { result ≡ keeps parent child }
 {
     match (parent, child) {

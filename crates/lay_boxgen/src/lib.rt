@@ -12,6 +12,7 @@ mod anonymous_style;
 mod context_boxes;
 mod contexts;
 mod display;
+mod each_context;
 mod laws;
 mod listing;
 mod node_boxes;
@@ -21,6 +22,7 @@ mod white_space;
 pub use context_boxes::boxes;
 pub use contexts::is_context;
 pub use display::{flow_of, used_display, used_display_of};
+pub use each_context::context_flags;
 pub use laws::{
     anchors_hold_boxes, boxes_are_a_tree, boxes_are_few, boxes_lead_on, context_is_one_box,
     inner_boxes_are_leaves, kinds_say_forms, parts_are_whole,

@@ -1,11 +1,10 @@
 //! Which nodes of a document are contexts.
 
-ghost use Rattle.std.specs.Prelude.{◌≡◌, ◌<◌, ◌↔◌, IsTrue, IfOk, length, slice_index};
+ghost use Rattle.std.specs.Prelude.{◌≡◌, ◌<◌, IfOk, length, slice_index};
 ghost use Rattle.lay_doc.specs.Document.{ids_of};
-ghost use Rattle.lay_boxgen.specs.Contexts.{IsContextAt};
 ghost use Rattle.lay_contexts.specs.ListedContexts.{AreContextPlaces};
 
-use lay_boxgen::is_context;
+use lay_boxgen::context_flags;
 use lay_doc::{Doc, Node, NodeId};
 use lay_style::Computed;
 use lay_units::NoMemory;
@@ -20,23 +19,15 @@ pub(crate) fn context_places(
     requires styles { length computed.now ≡ length doc.now.nodes }
     ensures { IfOk result (λ v. AreContextPlaces doc.now.nodes computed.now v.items) }
 {
-    let count = doc.nodes().len();
+    let flags = context_flags(alloc, doc, computed)?;
+    let flags = flags.as_slice();
     let mut places = Vec::new(alloc);
-    for k in 0..count {
-        if is_context_at(doc, computed, k) {
+    for k in 0..flags.len() {
+        if flags[k] {
             places.push(k)?;
         }
     }
     Ok(places)
-}
-
-/// Whether the node at a place is a context.
-fn is_context_at(doc: &Doc, computed: &Computed, k: usize) -> bool
-    requires styles { length computed.now ≡ length doc.now.nodes }
-    requires place { k < length doc.now.nodes }
-    ensures { IsTrue result ↔ IsContextAt doc.now.nodes computed.now k }
-{
-    is_context(doc, computed, id_at(doc.nodes(), k))
 }
 
 /// The id of the node at a place.

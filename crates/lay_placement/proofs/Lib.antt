@@ -10,4 +10,5 @@ pub mod OnLineSteps
 pub mod OnePlaces
 pub mod PieceSteps
 pub mod PlaceFacts
+pub mod RowFacts
 pub mod StandingCounts

@@ -46,7 +46,7 @@ fn corners_in_flow(alloc: Global, places: &BoxPlaces) -> Result<Vec<Corner>, NoM
     let count = places.places.boxes().len();
     let mut corners = Vec::with_capacity(alloc, count)?;
     for k in 0..count {
-        let corner = corner_in_flow(places, k)?;
+        let corner = corner_in_flow(places, k);
         corners.push(corner)?;
     }
     Ok(corners)
@@ -93,13 +93,15 @@ fn corner_of_piece(piece: LinePiece) -> Result<Corner, NoMemory>
     near_corner(piece.rect.x, piece.rect.y)
 }
 
-/// Where the flow puts the border box of the box at k, counted from the corner of the context's own. NoMemory is the
-/// answer where it is more than 2^60 units away, which it is in no document within the limits.
-pub(crate) fn corner_in_flow(places: &BoxPlaces, k: usize) -> Result<Corner, NoMemory>
+/// Where the flow puts the border box of the box at k, counted from the corner of the context's own.
+fn corner_in_flow(places: &BoxPlaces, k: usize) -> Corner
     requires { k < length places.now.places.boxes }
-    ensures corner { IfOk result (λ c. c ≡ corner_in_flow places.now.places k) }
-    ensures near { IfOk result IsCornerNear }
+    ensures corner { result ≡ corner_in_flow places.now.places k }
+    ensures near { IsCornerNear result }
 {
     let corner = place_at(places.places.boxes(), k).corner;
-    near_corner(corner.x, corner.y)
+    Corner {
+        x: corner.x,
+        y: corner.y,
+    }
 }

@@ -14,17 +14,14 @@ use crate::context_places::{BoxPlaces, rows_at};
 use lay_content::{BoxMeasures, inline_areas};
 use lay_flow::{BlockBox, FlowBox, FlowBoxes, FlowKind};
 use lay_flow_boxes::PlaceInput;
-use lay_inlines::{
-    Align, Container, LinePiece, LinePieceList, LinesGeometry, is_row_within, line_pieces,
-};
+use lay_inlines::{Align, Container, LinePiece, LinePieceList, LinesGeometry, line_pieces};
 use lay_line_content::InlineArea;
 use lay_lines::Ended;
 use lay_style::TextAlign;
 use lay_units::NoMemory;
 use std::alloc::Global;
 
-/// What stands on the lines of each box of a context, in the order of the boxes. NoMemory is also the answer where a line
-/// is out of the bounds of `is_row_within`, which it is in no document within the limits.
+/// What stands on the lines of each box of a context, in the order of the boxes.
 pub(crate) fn on_lines_of(
     alloc: Global,
     input: &PlaceInput,
@@ -90,7 +87,7 @@ fn pieces_on_lines(
             let geometry = LinesGeometry {
                 container: line_container(input, k, &lines.block),
                 content: &lines.content,
-                rows: rows_within(places, k)?,
+                rows: rows_within(places, k),
                 areas,
             };
             line_pieces(alloc, &geometry)
@@ -119,17 +116,14 @@ fn kind_in(flow_boxes: &[FlowBox], k: usize) -> &FlowKind
     &flow_boxes[k].kind
 }
 
-/// The lines of the box at k. NoMemory is the answer where one is out of the bounds of `is_row_within`.
-fn rows_within(places: &BoxPlaces, k: usize) -> Result<&[Ended], NoMemory>
-    ensures rows { IfOk result (λ r. r.now ≡ rows_at places.now.places k) }
-    ensures within { IfOk result (λ r. All RowWithin r.now) }
+/// The lines of the box at k, which are within the bounds of what stands on them.
+#[tactic(auto, using(crate::proofs::RowFacts::rows_within))]
+fn rows_within(places: &BoxPlaces, k: usize) -> &[Ended]
+    ensures rows { result.now ≡ rows_at places.now.places k }
+    ensures within { All RowWithin result.now }
 {
-    let rows = rows_at(&places.places, k);
-    if rows.iter().all(|row| is_row_within(row)) {
-        Ok(rows)
-    } else {
-        Err(NoMemory)
-    }
+    let _ = places.places.lines();
+    rows_at(&places.places, k)
 }
 
 /// The block box at k, as its lines take it.

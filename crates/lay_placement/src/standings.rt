@@ -4,7 +4,7 @@ ghost use Rattle.std.specs.Prelude.{◌≡◌, ◌<◌, true, length, IfOk};
 ghost use Rattle.lay_box_tree.specs.Roles.{role_at};
 ghost use Rattle.lay_relative.specs.MoveBounds.{IsMoveNear};
 ghost use Rattle.lay_flow_boxes.specs.ContextBlocks.{content_left, is_anchor};
-ghost use Rattle.lay_pieces.specs.Corners.{IsCornerNear};
+ghost use Rattle.lay_pieces.specs.Corners.{IsCornerNear, IsNear};
 ghost use Rattle.lay_pieces.specs.Standings.{AreNearStandings, IsStandingNear};
 ghost use Rattle.lay_placement.specs.BoxStandings.{border_height, moved_corner, resting_corner, standing_of_box, standings_to};
 ghost use Rattle.lay_placement.specs.Counts.{HaveCounts};
@@ -19,7 +19,7 @@ use crate::corners::corners_of;
 use lay_box_tree::Role;
 use lay_flow_boxes::PlaceInput;
 use lay_inlines::LinePieceList;
-use lay_pieces::{Corner, Standing, near_corner, near_position};
+use lay_pieces::{Corner, Standing, near_corner};
 use lay_relative::Offset;
 use lay_units::{NoMemory, Unit};
 use std::alloc::Global;
@@ -72,7 +72,7 @@ fn standing_of_box(of: &Resting<'_>, k: usize) -> Result<Standing, NoMemory>
     ensures near { IfOk result IsStandingNear }
 {
     let corner = moved_corner(move_of(of.places, k), resting_corner(of, k)?)?;
-    let height = near_position(border_height(of.input, of.places, k))?;
+    let height = border_height(of.input, of.places, k);
     Ok(Standing {
         corner,
         height,
@@ -137,7 +137,8 @@ fn content_left(input: &PlaceInput, places: &BoxPlaces, c: usize) -> Unit
 fn border_height(input: &PlaceInput, places: &BoxPlaces, k: usize) -> Unit
     requires counts { HaveCounts input.now.boxes places.now }
     requires place { k < length input.now.boxes }
-    ensures { result ≡ border_height input.now places.now k }
+    ensures height { result ≡ border_height input.now places.now k }
+    ensures near { IsNear result.0 }
 {
     if is_anchor(input.role(k)) {
         return Unit(0);

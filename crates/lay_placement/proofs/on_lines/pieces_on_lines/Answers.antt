@@ -7,6 +7,6 @@ line_pieces-requires c =
     let fits : BlockBoxFits c.in-Lines.lines.block = subst KindFits (sym c.kind_at.ensures.kind ∙ c.in-Lines.is) c.kind_at.ensures.fits in
     record {
       left = rw c.line_container.ensures fits.left;
-      rows = (c.in_ok-rows_within-in-Lines.ensures {u = tt}).within;
+      rows = c.rows_within.ensures.within;
       areas = c.requires.within;
     }
