@@ -1,6 +1,6 @@
 -- A task has one value beside what it is given, and is given something by the tasks alone that it needs, of which each has its
 -- turn before it. So a document has one layout.
-use Rattle.std.specs.Prelude.{ℕ, ◌≡◌, ◌<◌, true, List, length, ⊤}
+use Rattle.std.specs.Prelude.{ℕ, ◌≡◌, ◌<◌, ◌↔◌, true, List, length, ⊤}
 use Rattle.lay_doc.specs.Document.{Document, IsDocument}
 use Rattle.lay_frag.specs.Pieces.{Context as PageContext}
 use Rattle.lay_face.specs.FaceValue.{FaceValue}
@@ -12,7 +12,7 @@ use Rattle.lay_context.specs.declared.input.Input.TheVariants as input
 use Rattle.lay_context.specs.declared.task.Task.{Task}
 use Rattle.lay_context.specs.declared.value.Value.{Value}
 use Rattle.lay_context.specs.Local.{IsLocal, Workings, input_of, value_of}
-use Rattle.lay_context.specs.Measured.{is_measured}
+use Rattle.lay_context.specs.Measured.{ShrinksOutward, is_measured}
 use Rattle.lay_context.specs.Medium.{Medium}
 use Rattle.lay_context.specs.Needs.{Needs, turn_of}
 use Rattle.lay_context.specs.Solves.{Solves}
@@ -33,6 +33,11 @@ InputsComeOfNeeds = (medium : Medium) (contexts : List FormattingContext) (v w :
     → AreFormattingContexts contexts → task.context < length contexts
     → ((needed : Task) → Needs contexts task needed → value_of v needed ≡ value_of w needed)
     → input_of medium contexts v task ≡ input_of medium contexts w task
+
+-- one is measured just where its own box or one around it may shrink to fit
+abbrev pub MeasuredWhereShrunk : Type 0
+MeasuredWhereShrunk = (contexts : List FormattingContext) (i : ℕ) → AreFormattingContexts contexts → i < length contexts
+    → (is_measured contexts i ≡ true) ↔ ShrinksOutward contexts i
 
 -- what is inside one that is measured is measured, as its widths count for those around it
 abbrev pub MeasuredGoesInward : Type 0

@@ -1,7 +1,7 @@
 //! The laws of the definitions: a task has one value and needs what the table says, so that a document has one
 //! layout.
 
-ghost use Rattle.lay_context.specs.Laws.{InputsComeOfNeeds, MeasuredGoesInward, NeedsComeFirst, OneLocal, OneSolution};
+ghost use Rattle.lay_context.specs.Laws.{InputsComeOfNeeds, MeasuredGoesInward, MeasuredWhereShrunk, NeedsComeFirst, OneLocal, OneSolution};
 
 use lay_context_sizes::{one_context_sizes, one_context_widths};
 use lay_formatting::{formatting_contexts_stand_in_order, one_formatting_context_list};
@@ -21,6 +21,11 @@ pub fn one_local()
 /// A task is given nothing but what the tasks that it needs give it.
 pub fn inputs_come_of_needs()
     ensures { InputsComeOfNeeds }
+{}
+
+/// A formatting context is measured just where its own box or one around it may shrink to fit.
+pub fn measured_where_shrunk()
+    ensures { MeasuredWhereShrunk }
 {}
 
 /// What is inside a formatting context that is measured is measured too.
