@@ -25,10 +25,10 @@ module _ (contexts : List FormattingContext) (are : AreFormattingContexts contex
       ap (λ (b : Bool). shrinks_to_fit (boxes_in contexts (suc i)) || b) (more ∙ sym less)
 
   measured_by : (i j : ℕ) → i < j → j < length contexts → (formatting_context_at contexts j).outer ≡ i → is_measured contexts i ≡ true → is_measured contexts j ≡ true
-  measured_by i zero behind within around is = absurd (omega (arith, behind))
-  measured_by i (suc j) behind within around is =
+  measured_by i zero behind within outside is = absurd (omega (arith, behind))
+  measured_by i (suc j) behind within outside is =
       let here : shrinks_within j contexts i ≡ true = enough j j i (omega arith) (omega (arith, behind)) (omega (arith, behind, within)) ∙ is in
-      let out : shrinks_within j contexts (formatting_context_at contexts (suc j)).outer ≡ true = ap (shrinks_within j contexts) around ∙ here in
+      let out : shrinks_within j contexts (formatting_context_at contexts (suc j)).outer ≡ true = ap (shrinks_within j contexts) outside ∙ here in
       ap (λ (b : Bool). shrinks_to_fit (boxes_in contexts (suc j)) || b) out ∙ or_true (shrinks_to_fit (boxes_in contexts (suc j)))
 
   -- of the own box or the ones around it one shrinks to fit

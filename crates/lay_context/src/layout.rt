@@ -50,7 +50,7 @@ pub fn scratch(alloc: Global, doc: &Doc, face: &Arc<Face>) -> Result<Tree, NoMem
 }
 
 /// The same, where the computed styles of the document are known.
-pub fn scratch_styled(
+fn scratch_styled(
     alloc: Global,
     doc: &Doc,
     face: &Arc<Face>,

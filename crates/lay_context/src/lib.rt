@@ -32,4 +32,4 @@ pub use laws::{
     inputs_come_of_needs, measured_goes_inward, measured_where_shrunk, needs_come_first, one_local,
     one_solution,
 };
-pub use layout::{scratch, scratch_styled};
+pub use layout::scratch;
