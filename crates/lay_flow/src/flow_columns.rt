@@ -7,6 +7,7 @@ ghost use Rattle.lay_flow.specs.Pass.Bounds.{AreBoxHeights, AreNear};
 ghost use Rattle.lay_flow.specs.Pass.Columns.{AreColumnsOf, AreNearColumns};
 ghost use Rattle.lay_flow.specs.Pass.Known.{IsFinished, IsKnown};
 
+use crate::block_height::StandingBlock;
 use crate::boxes::Boxes;
 use crate::columns::{length_at, write_at};
 use crate::line_corners::line_corners;
@@ -14,6 +15,7 @@ use crate::margin_place::MarginPlace;
 use crate::margin_run::{end_of, no_margin};
 use crate::margin_steps::{close, open};
 use crate::marked_boxes::MarkedBoxes;
+use crate::near::Near;
 use crate::pass::{Pass, RunStart};
 use crate::placement::{Placing, place_up_to};
 use crate::settling::settle;
@@ -175,8 +177,12 @@ fn close_root(boxes: &Boxes<'_>, flow: &mut Pass) -> Result<(), NoMemory>
     let block = boxes.block_at(0);
     let mark = length_at(&flow.marks, 0);
     let bottom = flow.placing.floats.clear_edge(Clear::Both);
-    let depth = length_at(&flow.placing.extents, 0);
-    let height = block.root_height(mark, block.root_end(depth, mark, end), bottom);
+    let standing = StandingBlock {
+        block: &block,
+        mark,
+        extent: length_at(&flow.placing.extents, 0),
+    };
+    let height = standing.root_height(standing.root_end(Near { unit: end }), bottom);
     write_at(&mut flow.heights, 0, height);
     Ok(())
 }

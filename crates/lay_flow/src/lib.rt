@@ -26,6 +26,7 @@ mod margin_place;
 mod margin_run;
 mod margin_steps;
 mod marked_boxes;
+mod near;
 mod pass;
 mod placement;
 mod settling;

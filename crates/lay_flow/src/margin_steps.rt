@@ -6,12 +6,14 @@ ghost use Rattle.lay_flow.specs.MarginRuns.{block_at, may_collapse_through, may_
 ghost use Rattle.lay_flow.specs.Pass.Bounds.{is_barred, is_hanging, state_of};
 ghost use Rattle.lay_flow.specs.Pass.Known.{IsKnown, IsReadyAt};
 
+use crate::block_height::StandingBlock;
 use crate::boxes::Boxes;
 use crate::clearance::clear;
 use crate::columns::{is_cleared, length_at, sum_of, write_at, write_flag};
 use crate::margin_place::MarginPlace;
 use crate::margin_run::{end_of, lone_margin, no_margin, run_start, with_margin};
 use crate::marked_boxes::MarkedBoxes;
+use crate::near::Near;
 use crate::pass::{Pass, RunStart};
 use crate::placement::place_up_to;
 use crate::settling::settle;
@@ -153,11 +155,15 @@ fn close_joined(boxes: &Boxes<'_>, flow: &mut Pass, place: MarginPlace)
 {
     let block = boxes.block_at(place.innermost);
     let mark = length_at(&flow.marks, place.innermost);
-    let height = block.height_to_border(
-        length_at(&flow.placing.extents, place.innermost),
+    let standing = StandingBlock {
+        block: &block,
         mark,
-        flow.start.position(),
-    );
+        extent: length_at(&flow.placing.extents, place.innermost),
+    };
+    let border = Near {
+        unit: flow.start.position(),
+    };
+    let height = standing.height_to_border(border);
     write_at(&mut flow.heights, place.innermost, height);
     let start = sum_of(mark, height);
     flow.start = RunStart::At(start);
@@ -189,11 +195,12 @@ fn close_parted(boxes: &Boxes<'_>, flow: &mut Pass, place: MarginPlace) -> Resul
     };
     place_up_to(&marked, &mut flow.placing, place.next)?;
     let mark = length_at(&flow.marks, place.innermost);
-    let height = block.height_to_margin(
-        length_at(&flow.placing.extents, place.innermost),
+    let standing = StandingBlock {
+        block: &block,
         mark,
-        end,
-    );
+        extent: length_at(&flow.placing.extents, place.innermost),
+    };
+    let height = standing.height_to_margin(Near { unit: end });
     write_at(&mut flow.heights, place.innermost, height);
     let start = sum_of(mark, height);
     flow.start = RunStart::At(start);

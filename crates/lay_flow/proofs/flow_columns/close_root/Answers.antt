@@ -43,8 +43,8 @@ place_up_to-requires-clause-known c =
     kept_places c.args.boxes.now.list.now old.marks.items c.deref-2.result.now old.placing c.requires.places c.args.boxes.now.are.is_tree.tree c.requires.are (omega (arith, early, few, within)) known.placed
     (λ j lt. rw c.deref-2.ensures.value (settles.before j (omega (arith, lt, early))))
 
-pub root_height-height-requires-clause-floats : goal.root_height-height-requires-clause-floats
-root_height-height-requires-clause-floats c =
+pub root_height-height-requires : goal.root_height-height-requires
+root_height-height-requires c =
     let done = c.in_ok-place_up_to.ensures {u = tt} in
     let old = c.args.flow.now in
     let fits = c.requires.knows.fits in
@@ -54,25 +54,25 @@ root_height-height-requires-clause-floats c =
     (λ (goes : ArePlacedOn c.args.boxes.now.list.now c.settle.new.marks.items c.place_up_to.new.placing c.requires.places (length c.args.boxes.now.list.now)).
     clear_edge_position (weight c.args.boxes.now.list.now (length c.args.boxes.now.list.now)) _ clear_both c.clear_edge-bottom.result c.args.boxes.now.are.light goes.to.within c.clear_edge-bottom.ensures) there
 
-pub root_end-requires-clause-margin : goal.root_end-requires-clause-margin
-root_end-requires-clause-margin c =
+pub invariant_of-root_end : goal.invariant_of-root_end
+invariant_of-root_end c =
     let f = c.requires.knows.fits in
-    mark_is_near (weight c.args.boxes.now.list.now (length c.args.boxes.now.list.now)) c.end_of-end.result.0 c.args.boxes.now.are.light
-    (end_near (weight c.args.boxes.now.list.now c.args.flow.now.first) (weight c.args.boxes.now.list.now (length c.args.boxes.now.list.now)) (position_of c.args.flow.now.start) c.end_of-end.result.0 f.start_near c.end_of-end.ensures.near (weight_up c.args.boxes.now.list.now c.args.flow.now.first (length c.args.boxes.now.list.now) f.first_most))
+    record { near = mark_is_near (weight c.args.boxes.now.list.now (length c.args.boxes.now.list.now)) c.end_of-end.result.0 c.args.boxes.now.are.light
+    (end_near (weight c.args.boxes.now.list.now c.args.flow.now.first) (weight c.args.boxes.now.list.now (length c.args.boxes.now.list.now)) (position_of c.args.flow.now.start) c.end_of-end.result.0 f.start_near c.end_of-end.ensures.near (weight_up c.args.boxes.now.list.now c.args.flow.now.first (length c.args.boxes.now.list.now) f.first_most)) }
 
-pub root_end-requires-clause-lines : goal.root_end-requires-clause-lines
-root_end-requires-clause-lines c lines =
+pub invariant_of-standing-clause-lines : goal.invariant_of-standing-clause-lines
+invariant_of-standing-clause-lines c lines =
     let done = c.in_ok-place_up_to.ensures {u = tt} in
     let old = c.args.flow.now in
     let fits = c.requires.knows.fits in
     let there = placed_on c.args.boxes.now.list.now old.marks.items c.settle.new.marks.items old.placing c.place_up_to.new.placing c.requires.places (length c.args.boxes.now.list.now) c.args.boxes.now.are.is_tree.tree c.requires.are
     (let early = c.requires.knows.early in let few = fits.first_most in let within = fits.within in omega (arith, early, few, within)) c.requires.knows.placed
     (let early = c.requires.knows.early in let settles = rw c.deref.ensures.value at c.settle.ensures in λ j lt. settles.before j (omega (arith, lt, early))) (rw c.deref-2.ensures.value at done.placed) in
-    let go : ArePlacedOn c.args.boxes.now.list.now c.settle.new.marks.items c.place_up_to.new.placing c.requires.places (length c.args.boxes.now.list.now) → IsLineDepth c.length_at-mark.result.0 c.block_at-block.result.edge_top.0 c.length_at-depth.result.0 = λ goes.
+    let go : ArePlacedOn c.args.boxes.now.list.now c.settle.new.marks.items c.place_up_to.new.placing c.requires.places (length c.args.boxes.now.list.now) → IsLineDepth c.length_at-mark.result.0 c.block_at-block.result.edge_top.0 c.length_at.result.0 = λ goes.
     let some = c.args.boxes.now.are.is_tree.some in
     let block = c.block_at-block.ensures.value in
     let marked = rw c.deref-3.ensures.value at c.length_at-mark.ensures in
-    let depth = rw c.deref-4.ensures.value at c.length_at-depth.ensures in
+    let depth = rw c.deref-4.ensures.value at c.length_at.ensures in
     let there = rw block at lines in
     rw (block, depth, marked) (line_depth c.args.boxes.now.list.now c.args.boxes.now.are c.settle.new.marks.items (placing_of c.place_up_to.new.placing goes.places) (length c.args.boxes.now.list.now) goes.to 0 some (omega arith) there) in
     go there
@@ -82,7 +82,7 @@ returns-clause-finished c =
     let f = c.requires.knows.fits in let some = c.args.boxes.now.are.is_tree.some in let l = f.heights_length in
     let block = c.block_at-block.ensures.value in
     let marked = rw c.deref-3.ensures.value at c.length_at-mark.ensures in
-    let depth = rw c.deref-4.ensures.value at c.length_at-depth.ensures in
+    let depth = rw c.deref-4.ensures.value at c.length_at.ensures in
     let settles = rw c.deref.ensures.value at c.settle.ensures in
     let done = c.in_ok-place_up_to.ensures {u = tt} in
     let old = c.args.flow.now in
@@ -93,9 +93,9 @@ returns-clause-finished c =
     let go : ArePlacedOn c.args.boxes.now.list.now c.settle.new.marks.items c.place_up_to.new.placing c.requires.places (length c.args.boxes.now.list.now) → IsFinished c.args.boxes.now.list.now (record c.args.flow.now { marks = c.settle.new.marks; heights = c.write_at.new.column; placing = c.place_up_to.new.placing }) = λ goes.
     let placed = goes.to in
     let placing = placing_of c.place_up_to.new.placing goes.places in
-    let over = c.root_end.ensures.value ∙ (λ i. held_end (block i).inside (c.length_at-mark.result.0 +ℤ (block i).edge_top.0) (depth i) c.end_of-end.result.0) in
+    let over = c.root_end.ensures ∙ (λ i. held_end (block i).inside (c.length_at-mark.result.0 +ℤ (block i).edge_top.0) (depth i) c.end_of-end.result.0) in
     let is_height = c.root_height-height.ensures.value
-    ∙ ap (λ (b : Block). border_height b (pos 0) (root_height_of (record { 0 = c.length_at-mark.result.0 +ℤ b.edge_top.0 }) c.root_end.result c.clear_edge-bottom.result)) block in
+    ∙ ap (λ (b : Block). border_height b (pos 0) (root_height_of (record { 0 = c.length_at-mark.result.0 +ℤ b.edge_top.0 }) c.root_end.result.unit c.clear_edge-bottom.result)) block in
     let wrote_height : Wrote length_at old.heights.items c.write_at.new.column.items 0 c.root_height-height.result.0 =
     subst (λ (xs : List Length). Wrote length_at old.heights.items xs 0 c.root_height-height.result.0) (sym c.write_at.ensures) (wrote_length old.heights.items 0 c.root_height-height.result (omega (arith, some, l))) in
     let ends : RunEnds (is_hanging old.start) (position_of old.start) old.strut c.end_of-end.result.0 = record { hanging = c.end_of-end.ensures.hanging; value = c.end_of-end.ensures.value } in
@@ -104,7 +104,7 @@ returns-clause-finished c =
       places = goes.places;
       are = goes.are;
       context = all_places c.args.boxes.now.list.now c.args.boxes.now.are (state_of old) (placing_of old.placing c.requires.places) placing _ _ c.clear_edge-bottom.result
-          c.end_of-end.result.0 c.root_end.result.0 c.length_at-mark.result.0 c.root_height-height.result.0 c.requires.knows ends settles placed kept goes.same c.clear_edge-bottom.ensures
+          c.end_of-end.result.0 c.root_end.result.unit.0 c.length_at-mark.result.0 c.root_height-height.result.0 c.requires.knows ends settles placed kept goes.same c.clear_edge-bottom.ensures
           marked over is_height wrote_height;
       near = goes.to.near;
     } in
@@ -127,8 +127,8 @@ returns-clause-sized c =
     sized_boxes c.args.boxes.now.list.now c.args.boxes.now.are (state_of old) _ c.root_height-height.result.0 f
     (λ flow. c.root_height-height.ensures.size (subst (λ (b : Block). is_solid b.inside ≡ false) (sym c.block_at-block.ensures.value) flow)) wrote
 
-pub length_at-depth-requires : goal.length_at-depth-requires
-length_at-depth-requires c =
+pub length_at-requires : goal.length_at-requires
+length_at-requires c =
     let f = c.requires.knows.fits in
     let old = c.args.flow.now in
     let done = c.in_ok-place_up_to.ensures {u = tt} in
@@ -137,8 +137,8 @@ length_at-depth-requires c =
     (let early = c.requires.knows.early in let settles = rw c.deref.ensures.value at c.settle.ensures in λ j lt. settles.before j (omega (arith, lt, early))) (rw c.deref-2.ensures.value at done.placed) in
     rw c.deref-4.ensures.value (within_extents c.args.boxes.now.list.now c.settle.new.marks.items c.place_up_to.new.placing c.requires.places (length c.args.boxes.now.list.now) there 0 c.args.boxes.now.are.is_tree.some)
 
-pub root_height-height-requires-clause-mark : goal.root_height-height-requires-clause-mark
-root_height-height-requires-clause-mark c =
+pub invariant_of-standing-clause-near : goal.invariant_of-standing-clause-near
+invariant_of-standing-clause-near c =
     let f = c.requires.knows.fits in
     let marked = rw c.deref-3.ensures.value at c.length_at-mark.ensures in
     let settles = rw c.deref.ensures.value at c.settle.ensures in

@@ -17,16 +17,16 @@ use Rattle.lay_flow.proofs.PassSteps.{knows_joined}
 use Rattle.lay_flow.proofs.WroteColumns.{wrote_length}
 use Rattle.lay_flow.proofs.margin_steps.close_joined.Goals as goal
 
-pub height_to_border-height-requires-clause-mark : goal.height_to_border-height-requires-clause-mark
-height_to_border-height-requires-clause-mark c =
+pub invariant_of-standing-clause-near : goal.invariant_of-standing-clause-near
+invariant_of-standing-clause-near c =
     let f = c.requires.known.knows.fits in let a = f.parent in let b = f.within in
     let e = rw c.deref.ensures.value at c.length_at-mark.ensures in
     subst IsNear (sym e) (mark_is_near (weight c.args.boxes.now.list.now c.args.place.innermost) _ (light_at c.args.boxes.now.list.now c.args.boxes.now.are c.args.place.innermost (omega (arith, a, b))) (f.mark_near c.args.place.innermost))
 
-pub height_to_border-height-requires-clause-border : goal.height_to_border-height-requires-clause-border
-height_to_border-height-requires-clause-border c =
+pub invariant_of-border : goal.invariant_of-border
+invariant_of-border c =
     let f = c.requires.known.knows.fits in let a = f.first_most in let b = f.within in
-    rw c.position.ensures (start_is_near (weight c.args.boxes.now.list.now c.args.flow.now.first) (position_of c.args.flow.now.start) (light_at c.args.boxes.now.list.now c.args.boxes.now.are c.args.flow.now.first (omega (arith, a, b))) f.start_near)
+    record { near = rw c.position.ensures (start_is_near (weight c.args.boxes.now.list.now c.args.flow.now.first) (position_of c.args.flow.now.start) (light_at c.args.boxes.now.list.now c.args.boxes.now.are c.args.flow.now.first (omega (arith, a, b))) f.start_near) }
 
 pub sum_of-start-requires-clause-a : goal.sum_of-start-requires-clause-a
 sum_of-start-requires-clause-a c =

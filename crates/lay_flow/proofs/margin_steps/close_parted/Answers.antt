@@ -46,21 +46,21 @@ place_up_to-requires-clause-known c =
     kept_places c.args.boxes.now.list.now old.marks.items c.deref-2.result.now old.placing c.requires.known.places c.args.boxes.now.are.is_tree.tree c.requires.known.are (omega (arith, early, few, within)) known.placed
     (λ j lt. rw c.deref-2.ensures.value (settles.before j (omega (arith, lt, early))))
 
-pub height_to_margin-height-requires-clause-mark : goal.height_to_margin-height-requires-clause-mark
-height_to_margin-height-requires-clause-mark c =
+pub invariant_of-standing-clause-near : goal.invariant_of-standing-clause-near
+invariant_of-standing-clause-near c =
     let f = c.requires.known.knows.fits in let a = f.parent in let b = f.within in
     let e = rw c.deref-3.ensures.value at c.length_at-mark.ensures in
     let settles = rw c.deref.ensures.value at c.settle.ensures in
     let near = marks_settled c.args.boxes.now.list.now c.args.boxes.now.are.is_tree.tree (state_of c.args.flow.now) c.args.place.innermost c.args.place.next c.requires.positive f _ c.end_of-end.result.0 settles c.end_of-end.ensures.near c.args.place.innermost in
     subst IsNear (sym e) (mark_is_near (weight c.args.boxes.now.list.now c.args.place.innermost) _ (light_at c.args.boxes.now.list.now c.args.boxes.now.are c.args.place.innermost (omega (arith, a, b))) near)
 
-pub height_to_margin-height-requires-clause-margin : goal.height_to_margin-height-requires-clause-margin
-height_to_margin-height-requires-clause-margin c =
+pub invariant_of-height_to_margin : goal.invariant_of-height_to_margin
+invariant_of-height_to_margin c =
     let f = c.requires.known.knows.fits in let b = f.within in
-    mark_is_near (weight c.args.boxes.now.list.now c.args.place.next) c.end_of-end.result.0 (light_at c.args.boxes.now.list.now c.args.boxes.now.are c.args.place.next b) (end_near (weight c.args.boxes.now.list.now c.args.flow.now.first) (weight c.args.boxes.now.list.now c.args.place.next) (position_of c.args.flow.now.start) c.end_of-end.result.0 f.start_near c.end_of-end.ensures.near (weight_up c.args.boxes.now.list.now c.args.flow.now.first c.args.place.next f.first_most))
+    record { near = mark_is_near (weight c.args.boxes.now.list.now c.args.place.next) c.end_of-end.result.0 (light_at c.args.boxes.now.list.now c.args.boxes.now.are c.args.place.next b) (end_near (weight c.args.boxes.now.list.now c.args.flow.now.first) (weight c.args.boxes.now.list.now c.args.place.next) (position_of c.args.flow.now.start) c.end_of-end.result.0 f.start_near c.end_of-end.ensures.near (weight_up c.args.boxes.now.list.now c.args.flow.now.first c.args.place.next f.first_most)) }
 
-pub height_to_margin-height-requires-clause-lines : goal.height_to_margin-height-requires-clause-lines
-height_to_margin-height-requires-clause-lines c lines =
+pub invariant_of-standing-clause-lines : goal.invariant_of-standing-clause-lines
+invariant_of-standing-clause-lines c lines =
     let f = c.requires.known.knows.fits in let a = f.parent in let b = f.within in
     let old = c.args.flow.now in
     let done = c.in_ok-place_up_to.ensures {u = tt} in
