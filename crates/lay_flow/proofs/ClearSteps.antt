@@ -19,7 +19,8 @@ use Rattle.lay_flow.specs.BlockLayout.{BlockLayout, IsBlockLayout}
 use Rattle.lay_flow.specs.BlockFloats.{Spot, shape_at, floats_before}
 use Rattle.lay_flow.specs.Clearance.{IsHypothetical, HasClearedFloat, IsAbove, lower_of, HasClearance}
 use Rattle.lay_flow.specs.Pass.State.{PassState, IsAt, Settled}
-use Rattle.lay_flow.specs.Pass.Bounds.{StrutFits, IsEdgeNear, IsCollapseNear}
+use Rattle.lay_flow.specs.Pass.Bounds.{IsEdgeNear, IsCollapseNear}
+use Rattle.lay_flow.specs.Pass.Struts.{StrutFits}
 use Rattle.lay_flow.specs.Pass.Placed.{Placing, PlacesTo}
 use Rattle.lay_flow.specs.Pass.Knows.{Knows, IsReady, MayBe, IsCandidate, AreExtentsKept, ArePlacesKept}
 use Rattle.lay_flow.specs.Pass.Clears.{HasWaitingFloat, IsAboveFloats, IsEdgeWithout}

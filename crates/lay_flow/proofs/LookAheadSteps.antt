@@ -10,7 +10,7 @@ use Rattle.lay_flow.specs.declared.hypothetical_edge.Outset.{Outset}
 use Rattle.lay_flow.specs.MarginRuns.{block_at, is_zero, parts_tops, may_collapse_through}
 use Rattle.lay_flow.specs.Pass.Gathered.{IsAround}
 use Rattle.lay_flow.specs.Pass.MarginPlace.{IsPlace}
-use Rattle.lay_flow.specs.Pass.Bounds.{StrutFits}
+use Rattle.lay_flow.specs.Pass.Struts.{StrutFits}
 use Rattle.lay_flow.specs.Pass.LookAhead.{IsOutset, IsReading, HasRead}
 use Rattle.lay_flow.proofs.Truths.{true_or, low_not}
 use Rattle.lay_flow.proofs.RunsAgree.{inside_up}

@@ -18,7 +18,8 @@ use Rattle.lay_flow.specs.BlockLayout.{BlockLayout, IsBlockLayout}
 use Rattle.lay_flow.specs.ContextFlow.{AreContextPlaces}
 use Rattle.lay_flow.specs.Pass.State.{PassState, Settled}
 use Rattle.lay_flow.specs.FlowBoxes.{AreFlowBoxes}
-use Rattle.lay_flow.specs.Pass.Bounds.{clears_of, clear_edges_of, StrutFits, StateFits, IsMarkNear, IsCollapseNear, AreBoxHeights, held_end}
+use Rattle.lay_flow.specs.Pass.Bounds.{clears_of, clear_edges_of, StateFits, IsMarkNear, IsCollapseNear, AreBoxHeights, held_end}
+use Rattle.lay_flow.specs.Pass.Struts.{StrutFits}
 use Rattle.lay_flow.specs.Weights.{weight}
 use Rattle.lay_flow.proofs.WeightFacts.{weight_up}
 use Rattle.lay_flow.specs.Pass.Placed.{Placing, PlacesTo}

@@ -21,7 +21,8 @@ use Rattle.lay_flow.specs.BlockLayout.{BlockLayout}
 use Rattle.lay_flow.specs.BlockFloats.{Spot, content_of, line_content_of, lines_at, shape_at, place_at, floats_before, float_request, solid_request, ceiling}
 use Rattle.lay_flow.specs.Pass.State.{PassState, IsAt, Settled}
 use Rattle.lay_flow.specs.FlowBoxes.{AreFlowBoxes}
-use Rattle.lay_flow.specs.Pass.Bounds.{StrutFits, IsStartNear, IsMarkNear, IsCollapseNear, held_end, held_height, is_barred, reach}
+use Rattle.lay_flow.specs.Pass.Bounds.{IsStartNear, IsMarkNear, IsCollapseNear, held_end, held_height, is_barred, reach}
+use Rattle.lay_flow.specs.Pass.Struts.{StrutFits}
 use Rattle.lay_flow.specs.Pass.Placed.{Placing, PlacesTo}
 use Rattle.lay_flow.specs.Pass.Knows.{Knows, IsReady, MayBe, IsCandidate, HaveNoExtent, AreClears, AreDecided, AreExtentsKept, ArePlacesKept}
 use Rattle.lay_flow.proofs.FlowBoxFacts.{block_fits}

@@ -6,7 +6,7 @@ use Rattle.lay_units.specs.declared.length.Unit.{Unit as Length}
 use Rattle.lay_heights.specs.MinMax.{with_min_max_of, at_most_max, at_least_min}
 use Rattle.lay_margins.specs.StrutValue.{StrutValue}
 use Rattle.lay_margins.specs.Collapse.{Holds, collapse}
-use Rattle.lay_flow.specs.Pass.Bounds.{StrutFits}
+use Rattle.lay_flow.specs.Pass.Struts.{StrutFits}
 
 pub holds_itself : (s : StrutValue) → StrutFits s → Holds s (s.positive ∷ s.negative ∷ [])
 holds_itself s f = let a = f.positive_least in let b = f.negative_most in record {

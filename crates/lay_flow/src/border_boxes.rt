@@ -12,7 +12,7 @@ ghost use Rattle.lay_flow.specs.Pass.Columns.{AreBorderBoxes, AreNearColumns, Is
 ghost use Rattle.lay_flow.specs.Lengths.{length_at};
 ghost use Rattle.lay_flow.specs.MarginRuns.{block_of};
 
-use crate::boxes::Boxes;
+use crate::boxes::{BoxAt, Boxes};
 use crate::columns::{length_at, place_at};
 use crate::flow_box::{FloatBox, FlowBox, FlowBoxes, FlowKind};
 use crate::flow_columns::{FlowColumns, flow_columns};
@@ -46,45 +46,21 @@ fn border_boxes(
 {
     let mut places = Vec::with_capacity(alloc, boxes.list.len())?;
     for k in 0..boxes.list.len() {
-        places.push(border_box_at(boxes, columns, k))?;
+        let at = BoxAt { boxes: *boxes, k };
+        places.push(border_box_at(&at, columns))?;
     }
     Ok(places)
 }
 
-fn border_box_at(boxes: &Boxes<'_>, columns: &FlowColumns, k: usize) -> BoxPlace
-    requires near { AreNearColumns boxes.now.list.now columns.now }
-    requires within { k < length boxes.now.list.now }
-    ensures value { result ≡ border_box (box_at boxes.now.list.now k).kind (record { 0 = length_at columns.now.tops.items k }) (record { 0 = length_at columns.now.heights.items k }) (corner_at columns.now.places.items k) (corner_at columns.now.corners.items k) }
+fn border_box_at(at: &BoxAt<'_>, columns: &FlowColumns) -> BoxPlace
+    requires { AreNearColumns at.now.boxes.list.now columns.now }
+    ensures value { result ≡ border_box (box_at at.now.boxes.list.now at.now.k).kind (record { 0 = length_at columns.now.tops.items at.now.k }) (record { 0 = length_at columns.now.heights.items at.now.k }) (corner_at columns.now.places.items at.now.k) (corner_at columns.now.corners.items at.now.k) }
     ensures near { IsNearPlace result }
 {
-    let mark = length_at(&columns.tops, k);
-    let height = length_at(&columns.heights, k);
-    let place = place_at(&columns.places, k);
-    border_box(
-        &boxes.list[k],
-        mark,
-        height,
-        place,
-        place_at(&columns.corners, k),
-    )
-}
-
-fn border_box(
-    flow_box: &FlowBox,
-    mark: Unit,
-    height: Unit,
-    place: Place,
-    in_lines: Place,
-) -> BoxPlace
-    requires fits { KindFits flow_box.now.kind }
-    requires mark { IsNear mark.0 }
-    requires height { is_solid (block_of flow_box.now.kind).inside ≡ false → IsBoxSize height.0 }
-    requires place { IsFarPlace place }
-    requires in_lines { IsFarPlace in_lines }
-    ensures value { result ≡ border_box flow_box.now.kind mark height place in_lines }
-    ensures near { IsNearPlace result }
-{
-    match &flow_box.kind {
+    let mark = length_at(&columns.tops, at.k);
+    let height = length_at(&columns.heights, at.k);
+    let place = place_at(&columns.places, at.k);
+    match &at.boxes.list[at.k].kind {
         FlowKind::Block(b) => in_flow(b.x, mark, height),
         FlowKind::Lines(l) => in_flow(l.block.x, mark, height),
         FlowKind::Solid(b) => BoxPlace {
@@ -92,7 +68,7 @@ fn border_box(
             height: b.height,
         },
         FlowKind::Float(b) => float_box(b, place),
-        FlowKind::LineFloat(b) => float_box(b, in_lines),
+        FlowKind::LineFloat(b) => float_box(b, place_at(&columns.corners, at.k)),
         FlowKind::Inline => in_flow(Unit(0), Unit(0), Unit(0)),
     }
 }

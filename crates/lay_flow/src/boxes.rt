@@ -1,6 +1,6 @@
 //! The boxes of a flow, as its pass reads them.
 
-ghost use Rattle.std.specs.Prelude.{◌≡◌, ◌<◌, length};
+ghost use Rattle.std.specs.Prelude.{◌≡◌, ◌<◌, ◌≤◌, length};
 ghost use Rattle.lay_flow.specs.Boxes.{parent_at};
 ghost use Rattle.lay_flow.specs.FlowBoxes.{AreFlowBoxes};
 ghost use Rattle.lay_flow.specs.BlockFloats.{shape_at};
@@ -20,48 +20,71 @@ pub(crate) struct Boxes<'a> {
     ghost are: { AreFlowBoxes list.now } by { AreFlowBoxes-prop list.now },
 }
 
+/// The box at k.
+#[derive(Clone, Copy)]
+pub(crate) struct BoxAt<'a> {
+    pub boxes: Boxes<'a>,
+    pub k: usize,
+    ghost within: { k < length boxes.list.now },
+}
+
+/// A box that is not the context's own.
+#[derive(Clone, Copy)]
+pub(crate) struct ChildAt<'a> {
+    pub at: BoxAt<'a>,
+    ghost positive: { 0 < at.k },
+}
+
 impl Boxes<'_> {
-    /// The place of the parent of the box at k.
-    pub(crate) fn parent_at(&self, k: usize) -> usize
-        requires { k < length self.now.list.now }
-        ensures value { result ≡ parent_at self.now.list.now k }
-        ensures before { 0 < k → result < k }
-        ensures within { result < length self.now.list.now }
+    /// The box in which those stand that are open before the one at m: its parent, and at the end the context's own box.
+    pub(crate) fn holder_at(&self, m: usize) -> usize
+        ensures next { m < length self.now.list.now → parent_at self.now.list.now m ≡ result }
+        ensures last { length self.now.list.now ≤ m → result ≡ 0 }
     {
-        self.list[k].parent
+        if m < self.list.len() {
+            return self.list[m].parent;
+        }
+        0
+    }
+}
+
+impl BoxAt<'_> {
+    /// The place of its parent.
+    pub(crate) fn parent(&self) -> usize
+        ensures value { result ≡ parent_at self.now.boxes.list.now self.now.k }
+        ensures before { 0 < self.now.k → result < self.now.k }
+        ensures within { result < length self.now.boxes.list.now }
+    {
+        self.boxes.list[self.k].parent
     }
 
-    /// The box at k as margins and heights see it.
-    pub(crate) fn block_at(&self, k: usize) -> Block
-        requires { k < length self.now.list.now }
-        ensures value { result ≡ block_at self.now.list.now k }
+    /// It as margins and heights see it.
+    pub(crate) fn block(&self) -> Block
+        ensures value { result ≡ block_at self.now.boxes.list.now self.now.k }
         ensures fits { BlockFits result }
     {
-        self.list[k].block()
+        self.boxes.list[self.k].block()
     }
 
-    /// The box at k as floats see it.
-    pub(crate) fn shape_at(&self, k: usize) -> Shape
-        requires { k < length self.now.list.now }
-        ensures { result ≡ shape_at self.now.list.now k }
+    /// It as floats see it.
+    pub(crate) fn shape(&self) -> Shape
+        ensures { result ≡ shape_at self.now.boxes.list.now self.now.k }
     {
-        let around = self.list[self.parent_at(k)].content();
-        self.list[k].shape(around)
+        let around = self.boxes.list[self.parent()].content();
+        self.boxes.list[self.k].shape(around)
     }
 
-    /// The sides whose floats the box at k goes past.
-    pub(crate) fn clear_at(&self, k: usize) -> Clear
-        requires { k < length self.now.list.now }
-        ensures { result ≡ (shape_at self.now.list.now k).clear }
+    /// The sides whose floats it goes past.
+    pub(crate) fn clear(&self) -> Clear
+        ensures { result ≡ (shape_at self.now.boxes.list.now self.now.k).clear }
     {
-        self.list[k].clear()
+        self.boxes.list[self.k].clear()
     }
 
-    /// The side that the box at k floats to.
-    pub(crate) fn side_at(&self, k: usize) -> Option<Side>
-        requires { k < length self.now.list.now }
-        ensures { result ≡ (shape_at self.now.list.now k).float }
+    /// The side that it floats to.
+    pub(crate) fn side(&self) -> Option<Side>
+        ensures { result ≡ (shape_at self.now.boxes.list.now self.now.k).float }
     {
-        self.list[k].side()
+        self.boxes.list[self.k].side()
     }
 }

@@ -12,86 +12,93 @@ ghost use Rattle.lay_flow.specs.Pass.Bounds.{IsEdgeNear, state_of};
 ghost use Rattle.lay_flow.specs.Pass.Known.{IsKnown, IsReadyAt};
 ghost use Rattle.lay_flow.specs.Weights.{weight};
 
-use crate::boxes::Boxes;
+use crate::boxes::{BoxAt, ChildAt};
 use crate::columns::write_edge;
 use crate::hypothetical_edge::hypothetical_edge;
+use crate::margin_place::BoxInRun;
 use crate::margin_run::{end_of, no_margin};
 use crate::marked_boxes::MarkedBoxes;
+use crate::near::Near;
 use crate::pass::{Pass, RunStart};
 use crate::placement::place_up_to;
-use crate::settling::settle;
+use crate::settling::EndedRun;
 use lay_floats::{Clear, Side};
 use lay_units::{NoMemory, Unit};
 
-/// Decides whether the box at k has clearance. If so, the run ends, and the clearance begins a new one. If it asks for
+/// Decides whether the box has clearance. If so, the run ends, and the clearance begins a new one. If it asks for
 /// that, the boxes before the run are placed first, since their marks are known.
-pub(crate) fn clear(boxes: &Boxes<'_>, flow: &mut Pass, k: usize) -> Result<(), NoMemory>
-    requires positive { 0 < k }
-    requires within { k < length boxes.now.list.now }
-    requires known { IsKnown boxes.now.list.now flow.old (parent_at boxes.now.list.now k) k }
-    ensures { OnOk result (IsReadyAt boxes.now.list.now flow.new k) }
+pub(crate) fn clear(child: &ChildAt<'_>, flow: &mut Pass) -> Result<(), NoMemory>
+    requires { IsKnown child.now.at.boxes.list.now flow.old (parent_at child.now.at.boxes.list.now child.now.at.k) child.now.at.k }
+    ensures { OnOk result (IsReadyAt child.now.at.boxes.list.now flow.new child.now.at.k) }
 {
-    if asks_to_clear(boxes, k) {
+    if asks_to_clear(&child.at) {
         let marked = MarkedBoxes {
-            boxes: *boxes,
+            boxes: child.at.boxes,
             marks: &flow.marks,
         };
         place_up_to(&marked, &mut flow.placing, flow.first)?;
-        clear_floats(boxes, flow, k)?;
+        clear_floats(child, flow)?;
     }
     Ok(())
 }
 
-fn asks_to_clear(boxes: &Boxes<'_>, k: usize) -> bool
-    requires { k < length boxes.now.list.now }
-    ensures flows { result ≡ true → (shape_at boxes.now.list.now k).float ≡ None }
-    ensures passes_none { result ≡ false → (shape_at boxes.now.list.now k).float ≡ None → (shape_at boxes.now.list.now k).clear ≡ clear_none }
+fn asks_to_clear(at: &BoxAt<'_>) -> bool
+    ensures flows { result ≡ true → (shape_at at.now.boxes.list.now at.now.k).float ≡ None }
+    ensures passes_none { result ≡ false → (shape_at at.now.boxes.list.now at.now.k).float ≡ None → (shape_at at.now.boxes.list.now at.now.k).clear ≡ clear_none }
 {
-    boxes.side_at(k).is_none() && boxes.clear_at(k) != Clear::None
+    at.side().is_none() && at.clear() != Clear::None
 }
 
-// The box at k has clearance where a float that it goes past is in the run, or where it would stand above the
-// lowest bottom of such floats.
-fn clear_floats(boxes: &Boxes<'_>, flow: &mut Pass, k: usize) -> Result<(), NoMemory>
-    requires positive { 0 < k }
-    requires within { k < length boxes.now.list.now }
-    requires flows { (shape_at boxes.now.list.now k).float ≡ None }
+// The box has clearance where a float that it goes past is in the run, or where it would stand above the lowest
+// bottom of such floats.
+fn clear_floats(child: &ChildAt<'_>, flow: &mut Pass) -> Result<(), NoMemory>
+    requires flows { (shape_at child.now.at.boxes.list.now child.now.at.k).float ≡ None }
     requires settled { length flow.old.placing.places.items ≡ flow.old.first }
-    requires known { IsKnown boxes.now.list.now flow.old (parent_at boxes.now.list.now k) k }
-    ensures { OnOk result (IsReadyAt boxes.now.list.now flow.new k) }
+    requires known { IsKnown child.now.at.boxes.list.now flow.old (parent_at child.now.at.boxes.list.now child.now.at.k) child.now.at.k }
+    ensures { OnOk result (IsReadyAt child.now.at.boxes.list.now flow.new child.now.at.k) }
 {
-    let bottom = flow.placing.floats.clear_edge(boxes.clear_at(k));
-    let hypothetical = edge_without(boxes, flow, k);
-    if has_waiting_float(boxes, flow.first, k) || is_above(hypothetical, bottom) {
-        begin_cleared(boxes, flow, k, hypothetical)?;
+    let bottom = flow.placing.floats.clear_edge(child.at.clear());
+    let hypothetical = edge_without(child, flow);
+    let before = BoxInRun {
+        at: child.at,
+        first: flow.first,
+    };
+    if has_waiting_float(&before) || is_above(hypothetical, bottom) {
+        begin_cleared(child, flow, hypothetical)?;
     }
     Ok(())
 }
 
-// The hypothetical edge of the box at k.
-fn edge_without(boxes: &Boxes<'_>, flow: &Pass, k: usize) -> Unit
-    requires positive { 0 < k }
-    requires within { k < length boxes.now.list.now }
-    requires known { IsKnown boxes.now.list.now flow.now (parent_at boxes.now.list.now k) k }
-    ensures edge { IsEdgeWithout boxes.now.list.now (state_of flow.now) (length flow.now.placing.places.items) flow.now.placing.extents.items k result.0 }
-    ensures near { IsEdgeNear (weight boxes.now.list.now k) result.0 }
+// The hypothetical edge of the box.
+fn edge_without(child: &ChildAt<'_>, flow: &Pass) -> Unit
+    requires { IsKnown child.now.at.boxes.list.now flow.now (parent_at child.now.at.boxes.list.now child.now.at.k) child.now.at.k }
+    ensures edge { IsEdgeWithout child.now.at.boxes.list.now (state_of flow.now) (length flow.now.placing.places.items) flow.now.placing.extents.items child.now.at.k result.0 }
+    ensures near { IsEdgeNear (weight child.now.at.boxes.list.now child.now.at.k) result.0 }
 {
     match flow.start {
-        RunStart::At(start) => hypothetical_edge(boxes, start, flow.strut, flow.first, k),
+        RunStart::At(start) => {
+            let before = BoxInRun {
+                at: child.at,
+                first: flow.first,
+            };
+            hypothetical_edge(&before, Near { unit: start }, flow.strut)
+        }
         RunStart::HangsFrom(edge) => edge,
     }
 }
 
-// A float that the box at k goes past has its mark in the run.
-fn has_waiting_float(boxes: &Boxes<'_>, first: usize, k: usize) -> bool
-    requires within { k < length boxes.now.list.now }
-    requires order { first ≤ k }
-    ensures has { result ≡ true → HasWaitingFloat boxes.now.list.now first k }
-    ensures hasnt { result ≡ false → ¬ HasWaitingFloat boxes.now.list.now first k }
+// A float that the box goes past has its mark in the run.
+fn has_waiting_float(before: &BoxInRun<'_>) -> bool
+    ensures has { result ≡ true → HasWaitingFloat before.now.at.boxes.list.now before.now.first before.now.at.k }
+    ensures hasnt { result ≡ false → ¬ HasWaitingFloat before.now.at.boxes.list.now before.now.first before.now.at.k }
 {
-    let clear = boxes.clear_at(k);
-    for j in first..k {
-        if is_cleared_float(boxes.side_at(j), clear) {
+    let clear = before.at.clear();
+    for j in before.first..before.at.k {
+        let at = BoxAt {
+            boxes: before.at.boxes,
+            k: j,
+        };
+        if is_cleared_float(at.side(), clear) {
             return true;
         }
     }
@@ -140,34 +147,34 @@ fn lower_of(bottom: Option<Unit>, hypothetical: Unit) -> Unit
 }
 
 // The run ends, so that the floats in it stand, and the clearance begins one that hangs from its clear edge.
-fn begin_cleared(
-    boxes: &Boxes<'_>,
-    flow: &mut Pass,
-    k: usize,
-    hypothetical: Unit,
-) -> Result<(), NoMemory>
-    requires positive { 0 < k }
-    requires within { k < length boxes.now.list.now }
-    requires flows { (shape_at boxes.now.list.now k).float ≡ None }
+fn begin_cleared(child: &ChildAt<'_>, flow: &mut Pass, hypothetical: Unit) -> Result<(), NoMemory>
+    requires flows { (shape_at child.now.at.boxes.list.now child.now.at.k).float ≡ None }
     requires settled { length flow.old.placing.places.items ≡ flow.old.first }
-    requires known { IsKnown boxes.now.list.now flow.old (parent_at boxes.now.list.now k) k }
-    requires edge { IsEdgeWithout boxes.now.list.now (state_of flow.old) (length flow.old.placing.places.items) flow.old.placing.extents.items k hypothetical.0 }
-    requires near { IsEdgeNear (weight boxes.now.list.now k) hypothetical.0 }
-    requires decides { HasWaitingFloat boxes.now.list.now flow.old.first k ⊎ IsAboveFloats flow.old.placing.floats (shape_at boxes.now.list.now k).clear hypothetical.0 }
-    ensures { OnOk result (IsReadyAt boxes.now.list.now flow.new k) }
+    requires known { IsKnown child.now.at.boxes.list.now flow.old (parent_at child.now.at.boxes.list.now child.now.at.k) child.now.at.k }
+    requires edge { IsEdgeWithout child.now.at.boxes.list.now (state_of flow.old) (length flow.old.placing.places.items) flow.old.placing.extents.items child.now.at.k hypothetical.0 }
+    requires near { IsEdgeNear (weight child.now.at.boxes.list.now child.now.at.k) hypothetical.0 }
+    requires decides { HasWaitingFloat child.now.at.boxes.list.now flow.old.first child.now.at.k ⊎ IsAboveFloats flow.old.placing.floats (shape_at child.now.at.boxes.list.now child.now.at.k).clear hypothetical.0 }
+    ensures { OnOk result (IsReadyAt child.now.at.boxes.list.now flow.new child.now.at.k) }
 {
     let end = end_of(flow.start, flow.strut);
-    settle(boxes, &flow.through, &mut flow.marks, flow.first, k, end);
+    let run = EndedRun {
+        boxes: child.at.boxes,
+        through: &flow.through,
+        first: flow.first,
+        end: child.at.k,
+        mark: end,
+    };
+    run.settle(&mut flow.marks);
     let marked = MarkedBoxes {
-        boxes: *boxes,
+        boxes: child.at.boxes,
         marks: &flow.marks,
     };
-    place_up_to(&marked, &mut flow.placing, k)?;
-    let bottom = flow.placing.floats.clear_edge(boxes.clear_at(k));
+    place_up_to(&marked, &mut flow.placing, child.at.k)?;
+    let bottom = flow.placing.floats.clear_edge(child.at.clear());
     let edge = lower_of(bottom, hypothetical);
-    write_edge(&mut flow.clear_edges, k, edge);
+    write_edge(&mut flow.clear_edges, child.at.k, edge);
     flow.start = RunStart::HangsFrom(edge);
     flow.strut = no_margin();
-    flow.first = k;
+    flow.first = child.at.k;
     Ok(())
 }

@@ -8,17 +8,17 @@ ghost use Rattle.lay_flow.specs.Pass.Columns.{AreColumnsOf, AreNearColumns};
 ghost use Rattle.lay_flow.specs.Pass.Known.{IsFinished, IsKnown};
 
 use crate::block_height::StandingBlock;
-use crate::boxes::Boxes;
+use crate::boxes::{BoxAt, Boxes, ChildAt};
 use crate::columns::{length_at, write_at};
 use crate::line_corners::line_corners;
-use crate::margin_place::MarginPlace;
+use crate::margin_place::EndingBox;
 use crate::margin_run::{end_of, no_margin};
 use crate::margin_steps::{close, open};
 use crate::marked_boxes::MarkedBoxes;
 use crate::near::Near;
 use crate::pass::{Pass, RunStart};
 use crate::placement::{Placing, place_up_to};
-use crate::settling::settle;
+use crate::settling::EndedRun;
 use lay_floats::{Clear, Floats, Place};
 use lay_lines::RowList;
 use lay_units::{NoMemory, Unit};
@@ -47,7 +47,8 @@ pub(crate) fn flow_columns(alloc: Global, boxes: &Boxes<'_>) -> Result<FlowColum
 {
     let mut flow = begin(alloc, boxes)?;
     for k in 1..boxes.list.len() {
-        advance(boxes, &mut flow, k)?;
+        let at = BoxAt { boxes: *boxes, k };
+        advance(&ChildAt { at }, &mut flow)?;
     }
     finish(boxes, &mut flow)?;
     let placing = flow.placing;
@@ -73,12 +74,16 @@ fn begin(alloc: Global, boxes: &Boxes<'_>) -> Result<Pass, NoMemory>
         marks: &marks,
     };
     place_up_to(&marked, &mut placing, 1)?;
+    let root = BoxAt {
+        boxes: *boxes,
+        k: 0,
+    };
     Ok(Pass {
         marks,
         heights: vec![in alloc; Unit(0); count]?,
         through: vec![in alloc; false; count]?,
         clear_edges: vec![in alloc; None; count]?,
-        start: RunStart::At(boxes.block_at(0).edge_top),
+        start: RunStart::At(root.block().edge_top),
         strut: no_margin(),
         first: 1,
         placing,
@@ -103,38 +108,31 @@ fn none_placed(alloc: Global, count: usize) -> Result<Placing, NoMemory>
     })
 }
 
-// Closes the open boxes that the box at k isn't in, and opens that one.
-fn advance(boxes: &Boxes<'_>, flow: &mut Pass, k: usize) -> Result<(), NoMemory>
-    requires positive { 0 < k }
-    requires within { k < length boxes.now.list.now }
-    requires known { IsKnown boxes.now.list.now flow.old (k - 1) k }
-    ensures { OnOk result (IsKnown boxes.now.list.now flow.new k (k + 1)) }
+// Closes the open boxes that the box isn't in, and opens that one.
+fn advance(child: &ChildAt<'_>, flow: &mut Pass) -> Result<(), NoMemory>
+    requires { IsKnown child.now.at.boxes.list.now flow.old (child.now.at.k - 1) child.now.at.k }
+    ensures { OnOk result (IsKnown child.now.at.boxes.list.now flow.new child.now.at.k (child.now.at.k + 1)) }
 {
-    let parent = boxes.parent_at(k);
-    close_to(boxes, flow, k - 1, parent, k)?;
-    open(boxes, flow, k)?;
+    close_to(&child.at.boxes, flow, child.at.k)?;
+    open(child, flow)?;
     Ok(())
 }
 
-// Closes the open boxes from the innermost one up to those in the box `to`, in which the box at m stands.
-fn close_to(
-    boxes: &Boxes<'_>,
-    flow: &mut Pass,
-    from: usize,
-    to: usize,
-    m: usize,
-) -> Result<(), NoMemory>
-    requires order { to ≤ from }
-    requires next { m < length boxes.now.list.now → parent_at boxes.now.list.now m ≡ to }
-    requires last { length boxes.now.list.now ≤ m → to ≡ 0 }
-    requires known { IsKnown boxes.now.list.now flow.old from m }
-    ensures { OnOk result (IsKnown boxes.now.list.now flow.new to m) }
+// Closes the open boxes that the box at m isn't in. The one before it is the innermost.
+fn close_to(boxes: &Boxes<'_>, flow: &mut Pass, m: usize) -> Result<(), NoMemory>
+    requires { IsKnown boxes.now.list.now flow.old (m - 1) m }
+    ensures next { OnOk result (m < length boxes.now.list.now → IsKnown boxes.now.list.now flow.new (parent_at boxes.now.list.now m) m) }
+    ensures last { OnOk result (length boxes.now.list.now ≤ m → IsKnown boxes.now.list.now flow.new 0 m) }
 {
-    let mut innermost = from;
+    let to = boxes.holder_at(m);
+    let mut innermost = m - 1;
     while innermost != to {
-        let place = MarginPlace { innermost, next: m };
-        close(boxes, flow, place)?;
-        innermost = boxes.parent_at(innermost);
+        let at = BoxAt {
+            boxes: *boxes,
+            k: innermost,
+        };
+        close(&EndingBox { at, next: m }, flow)?;
+        innermost = at.parent();
     }
     Ok(())
 }
@@ -147,7 +145,7 @@ fn finish(boxes: &Boxes<'_>, flow: &mut Pass) -> Result<(), NoMemory>
     ensures sized { OnOk result (AreBoxHeights boxes.now.list.now flow.new.heights.items) }
 {
     let count = boxes.list.len();
-    close_to(boxes, flow, count - 1, 0, count)?;
+    close_to(boxes, flow, count)?;
     close_root(boxes, flow)?;
     Ok(())
 }
@@ -161,20 +159,24 @@ fn close_root(boxes: &Boxes<'_>, flow: &mut Pass) -> Result<(), NoMemory>
 {
     let count = boxes.list.len();
     let end = end_of(flow.start, flow.strut);
-    settle(
-        boxes,
-        &flow.through,
-        &mut flow.marks,
-        flow.first,
-        count,
-        end,
-    );
+    let run = EndedRun {
+        boxes: *boxes,
+        through: &flow.through,
+        first: flow.first,
+        end: count,
+        mark: end,
+    };
+    run.settle(&mut flow.marks);
     let marked = MarkedBoxes {
         boxes: *boxes,
         marks: &flow.marks,
     };
     place_up_to(&marked, &mut flow.placing, count)?;
-    let block = boxes.block_at(0);
+    let root = BoxAt {
+        boxes: *boxes,
+        k: 0,
+    };
+    let block = root.block();
     let mark = length_at(&flow.marks, 0);
     let bottom = flow.placing.floats.clear_edge(Clear::Both);
     let standing = StandingBlock {

@@ -11,12 +11,14 @@ ghost use Rattle.lay_flow.specs.BlockLayout.{BlockLayout, IsBlockLayout};
 ghost use Rattle.lay_flow.specs.BlockPositions.{Extents, start_before};
 ghost use Rattle.lay_flow.specs.Pass.LookAhead.{HasRead, IsOutermost, IsOutset, IsReading};
 ghost use Rattle.lay_flow.specs.MarginRuns.{block_at, has_top, margins, may_collapse_through, run_before};
-ghost use Rattle.lay_flow.specs.BlockSizes.{IsNear};
-ghost use Rattle.lay_flow.specs.Pass.Bounds.{IsCollapseNear, StrutFits};
+ghost use Rattle.lay_flow.specs.Pass.Bounds.{IsCollapseNear};
+ghost use Rattle.lay_flow.specs.Pass.Struts.{StrutFits};
 
-use crate::boxes::Boxes;
-use crate::margin_place::MarginPlace;
+use crate::boxes::{BoxAt, Boxes};
+use crate::margin_place::BoxInRun;
 use crate::margin_run::{run_end, with_margin};
+use crate::near::Near;
+use crate::used_strut::UsedStrut;
 use lay_margins::Strut;
 use lay_units::Unit;
 
@@ -31,161 +33,159 @@ struct Outset {
     outermost: usize,
 }
 
+/// A look ahead over the boxes.
+#[derive(Clone, Copy)]
+struct LookAhead<'a> {
+    boxes: Boxes<'a>,
+    from: Outset,
+    ghost fits: { StrutFits from.strut },
+    ghost begins: { IsOutset boxes.list.now from },
+}
+
 /// How far a look ahead came.
 #[derive(Clone, Copy)]
 struct Ahead {
     /// The margins that it read.
-    strut: Strut,
+    used: UsedStrut,
     /// The innermost open box.
     innermost: usize,
     /// No more margins count.
     ended: bool,
 }
 
-/// The top border edge that the box at k would have where neither it nor a later box had clearance. The pass is
-/// before its top margin, in a run that starts at `start`, with the margins of `strut` and the top margins of the
-/// boxes from `first` on.
-pub(crate) fn hypothetical_edge(
-    boxes: &Boxes<'_>,
-    start: Unit,
-    strut: Strut,
-    first: usize,
-    k: usize,
-) -> Unit
-    requires within { k < length boxes.now.list.now }
-    requires positive { 0 < first }
-    requires order { first ≤ k }
-    requires start { IsNear start.0 }
-    requires strut { StrutFits strut }
-    ensures edge { (extents : Extents) (clear_edges : List Unit) (w : BlockLayout) → IsBlockLayout boxes.now.list.now extents clear_edges w → ((j : ℕ) → k ≤ j → flag_at w.runs.clears j ≡ false)
-        → Holds strut (margins (run_before boxes.now.list.now w.runs (parent_at boxes.now.list.now k) k)) → start.0 ≡ start_before boxes.now.list.now w.runs w.places (parent_at boxes.now.list.now k) k
-        → ((j : ℕ) → j < k → has_top j (run_before boxes.now.list.now w.runs (parent_at boxes.now.list.now k) k) ≡ not (nat_lt j first))
-        → result.0 ≡ length_at w.places.marks k }
-    ensures near { IsCollapseNear (result.0 -ℤ start.0) }
+/// The top border edge that the box would have where neither it nor a later box had clearance. The pass is before its
+/// top margin, in a run that starts at `start`, with the margins of a strut.
+pub(crate) fn hypothetical_edge(before: &BoxInRun<'_>, start: Near, used: UsedStrut) -> Unit
+    ensures edge { (extents : Extents) (clear_edges : List Unit) (w : BlockLayout) → IsBlockLayout before.now.at.boxes.list.now extents clear_edges w → ((j : ℕ) → before.now.at.k ≤ j → flag_at w.runs.clears j ≡ false)
+        → Holds used.strut (margins (run_before before.now.at.boxes.list.now w.runs (parent_at before.now.at.boxes.list.now before.now.at.k) before.now.at.k)) → start.unit.0 ≡ start_before before.now.at.boxes.list.now w.runs w.places (parent_at before.now.at.boxes.list.now before.now.at.k) before.now.at.k
+        → ((j : ℕ) → j < before.now.at.k → has_top j (run_before before.now.at.boxes.list.now w.runs (parent_at before.now.at.boxes.list.now before.now.at.k) before.now.at.k) ≡ not (nat_lt j before.now.first))
+        → result.0 ≡ length_at w.places.marks before.now.at.k }
+    ensures near { IsCollapseNear (result.0 -ℤ start.unit.0) }
 {
-    let outermost = outermost_from(boxes, first, k);
-    let from = Outset {
-        k,
-        strut,
-        first,
-        outermost,
+    let look = LookAhead {
+        boxes: before.at.boxes,
+        from: Outset {
+            k: before.at.k,
+            strut: used.strut,
+            first: before.first,
+            outermost: outermost_from(before),
+        },
     };
-    run_end(start, strut_ahead(boxes, &from))
+    run_end(start, look.strut_ahead())
 }
 
-// The outermost box round the one at k that stands at `first` or after it, or that one itself.
-fn outermost_from(boxes: &Boxes<'_>, first: usize, k: usize) -> usize
-    requires positive { 0 < first }
-    requires order { first ≤ k }
-    requires within { k < length boxes.now.list.now }
-    ensures { IsOutermost boxes.now.list.now first k result }
+// The outermost box round this one that stands at `first` or after it, or this one itself.
+fn outermost_from(before: &BoxInRun<'_>) -> usize
+    ensures { IsOutermost before.now.at.boxes.list.now before.now.first before.now.at.k result }
 {
-    let mut outermost = k;
-    while boxes.parent_at(outermost) >= first {
-        outermost = boxes.parent_at(outermost);
+    let mut outermost = before.at.k;
+    loop {
+        let at = BoxAt {
+            boxes: before.at.boxes,
+            k: outermost,
+        };
+        let parent = at.parent();
+        if parent < before.first {
+            return outermost;
+        }
+        outermost = parent;
     }
-    outermost
 }
 
-// The margins between the start of the run and the top border edge of the box.
-fn strut_ahead(boxes: &Boxes<'_>, from: &Outset) -> Strut
-    requires strut { StrutFits from.now.strut }
-    requires from { IsOutset boxes.now.list.now from.now }
-    ensures { HasRead boxes.now.list.now from.now result }
-{
-    let mut ahead = Ahead {
-        strut: from.strut,
-        innermost: boxes.parent_at(from.k),
-        ended: false,
-    };
-    for m in from.k..boxes.list.len() {
-        ahead = advance(boxes, from, ahead, m);
-        if ahead.ended {
-            return ahead.strut;
+impl LookAhead<'_> {
+    // The margins between the start of the run and the top border edge of the box.
+    fn strut_ahead(&self) -> UsedStrut
+        ensures { HasRead self.now.boxes.list.now self.now.from result.strut }
+    {
+        let begins = BoxAt {
+            boxes: self.boxes,
+            k: self.from.k,
+        };
+        let mut ahead = Ahead {
+            used: UsedStrut {
+                strut: self.from.strut,
+            },
+            innermost: begins.parent(),
+            ended: false,
+        };
+        for m in self.from.k..self.boxes.list.len() {
+            ahead = self.advance(ahead, m);
+            if ahead.ended {
+                return ahead.used;
+            }
+        }
+        self.close_to(ahead, self.boxes.list.len()).used
+    }
+
+    // Closes the open boxes that the box at m isn't in, and opens that one.
+    fn advance(&self, ahead: Ahead, m: usize) -> Ahead
+        requires within { m < length self.now.boxes.list.now }
+        requires reading { IsReading self.now.boxes.list.now self.now.from ahead.used.strut ahead.innermost m }
+        ensures going { result.ended ≡ false → IsReading self.now.boxes.list.now self.now.from result.used.strut result.innermost (m + 1) }
+        ensures ended { result.ended ≡ true → HasRead self.now.boxes.list.now self.now.from result.used.strut }
+    {
+        let closed = self.close_to(ahead, m);
+        if closed.ended {
+            return closed;
+        }
+        let next = BoxAt {
+            boxes: self.boxes,
+            k: m,
+        };
+        open(&next, closed.used)
+    }
+
+    // Reads the bottom margins of the open boxes that the box at m isn't in.
+    fn close_to(&self, ahead: Ahead, m: usize) -> Ahead
+        requires { IsReading self.now.boxes.list.now self.now.from ahead.used.strut ahead.innermost m }
+        ensures going { result.ended ≡ false → m < length self.now.boxes.list.now → IsReading self.now.boxes.list.now self.now.from result.used.strut (parent_at self.now.boxes.list.now m) m }
+        ensures last { result.ended ≡ false → length self.now.boxes.list.now ≤ m → IsReading self.now.boxes.list.now self.now.from result.used.strut 0 m }
+        ensures ended { result.ended ≡ true → HasRead self.now.boxes.list.now self.now.from result.used.strut }
+    {
+        let to = self.boxes.holder_at(m);
+        let mut used = ahead.used;
+        let mut innermost = ahead.innermost;
+        while innermost != to {
+            let at = BoxAt {
+                boxes: self.boxes,
+                k: innermost,
+            };
+            if self.ends_at(&at) {
+                return Ahead {
+                    used,
+                    innermost,
+                    ended: true,
+                };
+            }
+            used = with_margin(used, at.block().margin_bottom);
+            innermost = at.parent();
+        }
+        Ahead {
+            used,
+            innermost,
+            ended: false,
         }
     }
-    let place = MarginPlace {
-        innermost: ahead.innermost,
-        next: boxes.list.len(),
-    };
-    close_to(boxes, from, ahead.strut, place, 0).strut
-}
 
-// Closes the open boxes that the box at m isn't in, and opens that one.
-fn advance(boxes: &Boxes<'_>, from: &Outset, ahead: Ahead, m: usize) -> Ahead
-    requires from { IsOutset boxes.now.list.now from.now }
-    requires within { m < length boxes.now.list.now }
-    requires reading { IsReading boxes.now.list.now from.now ahead.strut ahead.innermost m }
-    ensures going { result.ended ≡ false → IsReading boxes.now.list.now from.now result.strut result.innermost (m + 1) }
-    ensures ended { result.ended ≡ true → HasRead boxes.now.list.now from.now result.strut }
-{
-    let parent = boxes.parent_at(m);
-    let place = MarginPlace {
-        innermost: ahead.innermost,
-        next: m,
-    };
-    let closed = close_to(boxes, from, ahead.strut, place, parent);
-    if closed.ended {
-        return closed;
+    // No more margins count once the outermost box ends, or one with something between its margins.
+    fn ends_at(&self, at: &BoxAt<'_>) -> bool
+        ensures { result ≡ (at.now.k == self.now.from.outermost || not (may_collapse_through (block_at at.now.boxes.list.now at.now.k))) }
+    {
+        at.k == self.from.outermost || !at.block().may_collapse_through()
     }
-    open(boxes, closed.strut, m)
 }
 
-// Reads the top margin of the box at m. An edge above its content ends the run.
-fn open(boxes: &Boxes<'_>, strut: Strut, m: usize) -> Ahead
-    requires within { m < length boxes.now.list.now }
-    requires strut { StrutFits strut }
-    ensures going { result.ended ≡ false → (from : Outset) → IsOutset boxes.now.list.now from → IsReading boxes.now.list.now from strut (parent_at boxes.now.list.now m) m
-        → IsReading boxes.now.list.now from result.strut result.innermost (m + 1) }
-    ensures ended { result.ended ≡ true → (from : Outset) → IsOutset boxes.now.list.now from → IsReading boxes.now.list.now from strut (parent_at boxes.now.list.now m) m
-        → HasRead boxes.now.list.now from result.strut }
+// Reads the top margin of the box. An edge above its content ends the run.
+fn open(at: &BoxAt<'_>, used: UsedStrut) -> Ahead
+    ensures going { result.ended ≡ false → (from : Outset) → IsOutset at.now.boxes.list.now from → IsReading at.now.boxes.list.now from used.strut (parent_at at.now.boxes.list.now at.now.k) at.now.k
+        → IsReading at.now.boxes.list.now from result.used.strut result.innermost (at.now.k + 1) }
+    ensures ended { result.ended ≡ true → (from : Outset) → IsOutset at.now.boxes.list.now from → IsReading at.now.boxes.list.now from used.strut (parent_at at.now.boxes.list.now at.now.k) at.now.k
+        → HasRead at.now.boxes.list.now from result.used.strut }
 {
-    let block = boxes.block_at(m);
+    let block = at.block();
     Ahead {
-        strut: with_margin(strut, block.margin_top),
-        innermost: m,
+        used: with_margin(used, block.margin_top),
+        innermost: at.k,
         ended: block.has_edge_top(),
     }
-}
-
-// Reads the bottom margins of the open boxes up to those in the box `to`, in which the next box stands.
-fn close_to(
-    boxes: &Boxes<'_>,
-    from: &Outset,
-    mut strut: Strut,
-    place: MarginPlace,
-    to: usize,
-) -> Ahead
-    requires from { IsOutset boxes.now.list.now from.now }
-    requires next { place.next < length boxes.now.list.now → parent_at boxes.now.list.now place.next ≡ to }
-    requires last { length boxes.now.list.now ≤ place.next → to ≡ 0 }
-    requires reading { IsReading boxes.now.list.now from.now strut place.innermost place.next }
-    ensures going { result.ended ≡ false → IsReading boxes.now.list.now from.now result.strut to place.next }
-    ensures ended { result.ended ≡ true → HasRead boxes.now.list.now from.now result.strut }
-{
-    let mut innermost = place.innermost;
-    while innermost != to {
-        if ends_at(boxes, from, innermost) {
-            return Ahead {
-                strut,
-                innermost,
-                ended: true,
-            };
-        }
-        strut = with_margin(strut, boxes.block_at(innermost).margin_bottom);
-        innermost = boxes.parent_at(innermost);
-    }
-    Ahead {
-        strut,
-        innermost,
-        ended: false,
-    }
-}
-
-// No more margins count once the outermost box ends, or one with something between its margins.
-fn ends_at(boxes: &Boxes<'_>, from: &Outset, p: usize) -> bool
-    requires { p < length boxes.now.list.now }
-    ensures { result ≡ (p == from.now.outermost || not (may_collapse_through (block_at boxes.now.list.now p))) }
-{
-    p == from.outermost || !boxes.block_at(p).may_collapse_through()
 }

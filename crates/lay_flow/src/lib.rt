@@ -31,6 +31,7 @@ mod pass;
 mod placement;
 mod settling;
 mod shape;
+mod used_strut;
 mod weights;
 
 pub use border_boxes::flow;

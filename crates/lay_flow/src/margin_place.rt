@@ -1,9 +1,24 @@
 //! The places of the sequence of margins of a context (CSS 2.2, 8.3.1).
 
-/// A place between two margins: the boxes before `next` are opened.
+ghost use Rattle.std.specs.Prelude.{◌<◌, ◌≤◌, length};
+ghost use Rattle.lay_flow.specs.Boxes.{parent_at};
+
+use crate::boxes::BoxAt;
+
+/// The innermost open box, which ends before the box at `next`.
 #[derive(Clone, Copy)]
-pub(crate) struct MarginPlace {
-    /// The innermost open box.
-    pub innermost: usize,
+pub(crate) struct EndingBox<'a> {
+    pub at: BoxAt<'a>,
     pub next: usize,
+    ghost positive: { 0 < at.k },
+    ghost ends: { next < length at.boxes.list.now → parent_at at.boxes.list.now next < at.k },
+}
+
+/// A box before whose top margin a run comes that has the top margins of the boxes from `first` on.
+#[derive(Clone, Copy)]
+pub(crate) struct BoxInRun<'a> {
+    pub at: BoxAt<'a>,
+    pub first: usize,
+    ghost least: { 0 < first },
+    ghost most: { first ≤ at.k },
 }

@@ -7,204 +7,189 @@ ghost use Rattle.lay_flow.specs.Pass.Bounds.{is_barred, is_hanging, state_of};
 ghost use Rattle.lay_flow.specs.Pass.Known.{IsKnown, IsReadyAt};
 
 use crate::block_height::StandingBlock;
-use crate::boxes::Boxes;
+use crate::boxes::ChildAt;
 use crate::clearance::clear;
 use crate::columns::{is_cleared, length_at, sum_of, write_at, write_flag};
-use crate::margin_place::MarginPlace;
+use crate::margin_place::EndingBox;
 use crate::margin_run::{end_of, lone_margin, no_margin, run_start, with_margin};
 use crate::marked_boxes::MarkedBoxes;
 use crate::near::Near;
 use crate::pass::{Pass, RunStart};
 use crate::placement::place_up_to;
-use crate::settling::settle;
+use crate::settling::EndedRun;
 use lay_units::{NoMemory, Unit};
 
-/// Reads the clearance and the top margin of the box at k, which is then the innermost open one.
-pub(crate) fn open(boxes: &Boxes<'_>, flow: &mut Pass, k: usize) -> Result<(), NoMemory>
-    requires positive { 0 < k }
-    requires within { k < length boxes.now.list.now }
-    requires known { IsKnown boxes.now.list.now flow.old (parent_at boxes.now.list.now k) k }
-    ensures { OnOk result (IsKnown boxes.now.list.now flow.new k (k + 1)) }
+/// Reads the clearance and the top margin of the box, which is then the innermost open one.
+pub(crate) fn open(child: &ChildAt<'_>, flow: &mut Pass) -> Result<(), NoMemory>
+    requires { IsKnown child.now.at.boxes.list.now flow.old (parent_at child.now.at.boxes.list.now child.now.at.k) child.now.at.k }
+    ensures { OnOk result (IsKnown child.now.at.boxes.list.now flow.new child.now.at.k (child.now.at.k + 1)) }
 {
-    clear(boxes, flow, k)?;
-    enter(boxes, flow, k);
+    clear(child, flow)?;
+    enter(child, flow);
     Ok(())
 }
 
 // Reads the top margin.
-fn enter(boxes: &Boxes<'_>, flow: &mut Pass, k: usize)
-    requires positive { 0 < k }
-    requires within { k < length boxes.now.list.now }
-    requires ready { IsReadyAt boxes.now.list.now flow.old k }
-    ensures { IsKnown boxes.now.list.now flow.new k (k + 1) }
+fn enter(child: &ChildAt<'_>, flow: &mut Pass)
+    requires { IsReadyAt child.now.at.boxes.list.now flow.old child.now.at.k }
+    ensures { IsKnown child.now.at.boxes.list.now flow.new child.now.at.k (child.now.at.k + 1) }
 {
-    if boxes.block_at(k).has_edge_top() {
-        open_parting(boxes, flow, k);
+    if child.at.block().has_edge_top() {
+        open_parting(child, flow);
     } else {
-        open_plain(boxes, flow, k);
+        open_plain(child, flow);
     }
 }
 
 // The run goes on in the box.
-fn open_plain(boxes: &Boxes<'_>, flow: &mut Pass, k: usize)
-    requires positive { 0 < k }
-    requires within { k < length boxes.now.list.now }
-    requires plain { parts_tops boxes.now.list.now k ≡ false }
-    requires ready { IsReadyAt boxes.now.list.now flow.old k }
-    ensures { IsKnown boxes.now.list.now flow.new k (k + 1) }
+fn open_plain(child: &ChildAt<'_>, flow: &mut Pass)
+    requires plain { parts_tops child.now.at.boxes.list.now child.now.at.k ≡ false }
+    requires ready { IsReadyAt child.now.at.boxes.list.now flow.old child.now.at.k }
+    ensures { IsKnown child.now.at.boxes.list.now flow.new child.now.at.k (child.now.at.k + 1) }
 {
-    flow.strut = with_margin(flow.strut, boxes.block_at(k).margin_top);
+    flow.strut = with_margin(flow.strut, child.at.block().margin_top);
 }
 
 // A border or a padding ends the run.
-fn open_parting(boxes: &Boxes<'_>, flow: &mut Pass, k: usize)
-    requires positive { 0 < k }
-    requires within { k < length boxes.now.list.now }
-    requires parting { parts_tops boxes.now.list.now k ≡ true }
-    requires ready { IsReadyAt boxes.now.list.now flow.old k }
-    ensures { IsKnown boxes.now.list.now flow.new k (k + 1) }
+fn open_parting(child: &ChildAt<'_>, flow: &mut Pass)
+    requires parting { parts_tops child.now.at.boxes.list.now child.now.at.k ≡ true }
+    requires ready { IsReadyAt child.now.at.boxes.list.now flow.old child.now.at.k }
+    ensures { IsKnown child.now.at.boxes.list.now flow.new child.now.at.k (child.now.at.k + 1) }
 {
-    let block = boxes.block_at(k);
+    let block = child.at.block();
     let strut = with_margin(flow.strut, block.margin_top);
     let mark = end_of(flow.start, strut);
-    settle(
-        boxes,
-        &flow.through,
-        &mut flow.marks,
-        flow.first,
-        k + 1,
+    let run = EndedRun {
+        boxes: child.at.boxes,
+        through: &flow.through,
+        first: flow.first,
+        end: child.at.k + 1,
         mark,
-    );
+    };
+    run.settle(&mut flow.marks);
     let start = sum_of(mark, block.edge_top);
     flow.start = RunStart::At(start);
     flow.strut = no_margin();
-    flow.first = k + 1;
+    flow.first = child.at.k + 1;
 }
 
-/// Reads the bottom margin of the innermost open box, whose boxes all stand before the next one.
-pub(crate) fn close(boxes: &Boxes<'_>, flow: &mut Pass, place: MarginPlace) -> Result<(), NoMemory>
-    requires positive { 0 < place.innermost }
-    requires ends { place.next < length boxes.now.list.now → parent_at boxes.now.list.now place.next < place.innermost }
-    requires known { IsKnown boxes.now.list.now flow.old place.innermost place.next }
-    ensures { OnOk result (IsKnown boxes.now.list.now flow.new (parent_at boxes.now.list.now place.innermost) place.next) }
+/// Reads the bottom margin of the innermost open box.
+pub(crate) fn close(ending: &EndingBox<'_>, flow: &mut Pass) -> Result<(), NoMemory>
+    requires { IsKnown ending.now.at.boxes.list.now flow.old ending.now.at.k ending.now.next }
+    ensures { OnOk result (IsKnown ending.now.at.boxes.list.now flow.new (parent_at ending.now.at.boxes.list.now ending.now.at.k) ending.now.next) }
 {
-    let block = boxes.block_at(place.innermost);
-    if block.may_collapse_through() && flow.first <= place.innermost {
-        pass_through(boxes, flow, place);
-    } else if block.may_join_bottoms() && !is_barred(boxes, flow, place.innermost) {
-        close_joined(boxes, flow, place);
+    let block = ending.at.block();
+    if block.may_collapse_through() && flow.first <= ending.at.k {
+        pass_through(ending, flow);
+    } else if block.may_join_bottoms() && !is_barred(ending, flow) {
+        close_joined(ending, flow);
     } else {
-        close_parted(boxes, flow, place)?;
+        close_parted(ending, flow)?;
     }
     Ok(())
 }
 
-// The run was begun by clearance of a child of the box at p.
-fn is_barred(boxes: &Boxes<'_>, flow: &Pass, p: usize) -> bool
-    requires { length flow.now.clear_edges.items ≡ length boxes.now.list.now }
-    ensures { result ≡ is_barred boxes.now.list.now (state_of flow.now) p }
+// The run was begun by clearance of a child of the box.
+fn is_barred(ending: &EndingBox<'_>, flow: &Pass) -> bool
+    requires { length flow.now.clear_edges.items ≡ length ending.now.at.boxes.list.now }
+    ensures { result ≡ is_barred ending.now.at.boxes.list.now (state_of flow.now) ending.now.at.k }
 {
     flow.first < flow.clear_edges.len()
         && is_cleared(&flow.clear_edges, flow.first)
-        && boxes.list[flow.first].parent == p
+        && ending.at.boxes.list[flow.first].parent == ending.at.k
 }
 
 // It is collapsed through. If its clearance began the run, that starts so far above its clear edge as the margins before
 // its bottom margin collapse to.
-fn pass_through(boxes: &Boxes<'_>, flow: &mut Pass, place: MarginPlace)
-    requires positive { 0 < place.innermost }
-    requires ends { place.next < length boxes.now.list.now → parent_at boxes.now.list.now place.next < place.innermost }
-    requires through { may_collapse_through (block_at boxes.now.list.now place.innermost) ≡ true }
-    requires waiting { flow.old.first ≤ place.innermost }
-    requires known { IsKnown boxes.now.list.now flow.old place.innermost place.next }
-    ensures { IsKnown boxes.now.list.now flow.new (parent_at boxes.now.list.now place.innermost) place.next }
+fn pass_through(ending: &EndingBox<'_>, flow: &mut Pass)
+    requires through { may_collapse_through (block_at ending.now.at.boxes.list.now ending.now.at.k) ≡ true }
+    requires waiting { flow.old.first ≤ ending.now.at.k }
+    requires known { IsKnown ending.now.at.boxes.list.now flow.old ending.now.at.k ending.now.next }
+    ensures { IsKnown ending.now.at.boxes.list.now flow.new (parent_at ending.now.at.boxes.list.now ending.now.at.k) ending.now.next }
 {
-    if flow.start.is_hanging() && flow.first == place.innermost {
-        let start = run_start(flow.start.position(), flow.strut);
+    if flow.start.is_hanging() && flow.first == ending.at.k {
+        let edge = Near {
+            unit: flow.start.position(),
+        };
+        let start = run_start(edge, flow.strut);
         flow.start = RunStart::At(start);
     }
-    close_through(boxes, flow, place);
+    close_through(ending, flow);
 }
 
 // The run of its top margin goes on past its bottom margin.
-fn close_through(boxes: &Boxes<'_>, flow: &mut Pass, place: MarginPlace)
-    requires positive { 0 < place.innermost }
-    requires ends { place.next < length boxes.now.list.now → parent_at boxes.now.list.now place.next < place.innermost }
-    requires through { may_collapse_through (block_at boxes.now.list.now place.innermost) ≡ true }
-    requires waiting { flow.old.first ≤ place.innermost }
-    requires inside { is_hanging flow.old.start ≡ true → flow.old.first < place.innermost }
-    requires known { IsKnown boxes.now.list.now flow.old place.innermost place.next }
-    ensures { IsKnown boxes.now.list.now flow.new (parent_at boxes.now.list.now place.innermost) place.next }
+fn close_through(ending: &EndingBox<'_>, flow: &mut Pass)
+    requires through { may_collapse_through (block_at ending.now.at.boxes.list.now ending.now.at.k) ≡ true }
+    requires waiting { flow.old.first ≤ ending.now.at.k }
+    requires inside { is_hanging flow.old.start ≡ true → flow.old.first < ending.now.at.k }
+    requires known { IsKnown ending.now.at.boxes.list.now flow.old ending.now.at.k ending.now.next }
+    ensures { IsKnown ending.now.at.boxes.list.now flow.new (parent_at ending.now.at.boxes.list.now ending.now.at.k) ending.now.next }
 {
     let mark = end_of(flow.start, flow.strut);
-    write_at(&mut flow.marks, place.innermost, mark);
-    write_at(&mut flow.heights, place.innermost, Unit(0));
-    write_flag(&mut flow.through, place.innermost, true);
-    flow.strut = with_margin(flow.strut, boxes.block_at(place.innermost).margin_bottom);
+    write_at(&mut flow.marks, ending.at.k, mark);
+    write_at(&mut flow.heights, ending.at.k, Unit(0));
+    write_flag(&mut flow.through, ending.at.k, true);
+    flow.strut = with_margin(flow.strut, ending.at.block().margin_bottom);
 }
 
 // Its bottom margin adjoins that of its last child.
-fn close_joined(boxes: &Boxes<'_>, flow: &mut Pass, place: MarginPlace)
-    requires positive { 0 < place.innermost }
-    requires ends { place.next < length boxes.now.list.now → parent_at boxes.now.list.now place.next < place.innermost }
-    requires joined { may_join_bottoms (block_at boxes.now.list.now place.innermost) ≡ true }
-    requires unbarred { is_barred boxes.now.list.now (state_of flow.old) place.innermost ≡ false }
-    requires settled { may_collapse_through (block_at boxes.now.list.now place.innermost) ≡ true → place.innermost < flow.old.first }
-    requires known { IsKnown boxes.now.list.now flow.old place.innermost place.next }
-    ensures { IsKnown boxes.now.list.now flow.new (parent_at boxes.now.list.now place.innermost) place.next }
+fn close_joined(ending: &EndingBox<'_>, flow: &mut Pass)
+    requires joined { may_join_bottoms (block_at ending.now.at.boxes.list.now ending.now.at.k) ≡ true }
+    requires unbarred { is_barred ending.now.at.boxes.list.now (state_of flow.old) ending.now.at.k ≡ false }
+    requires settled { may_collapse_through (block_at ending.now.at.boxes.list.now ending.now.at.k) ≡ true → ending.now.at.k < flow.old.first }
+    requires known { IsKnown ending.now.at.boxes.list.now flow.old ending.now.at.k ending.now.next }
+    ensures { IsKnown ending.now.at.boxes.list.now flow.new (parent_at ending.now.at.boxes.list.now ending.now.at.k) ending.now.next }
 {
-    let block = boxes.block_at(place.innermost);
-    let mark = length_at(&flow.marks, place.innermost);
+    let block = ending.at.block();
+    let mark = length_at(&flow.marks, ending.at.k);
     let standing = StandingBlock {
         block: &block,
         mark,
-        extent: length_at(&flow.placing.extents, place.innermost),
+        extent: length_at(&flow.placing.extents, ending.at.k),
     };
     let border = Near {
         unit: flow.start.position(),
     };
     let height = standing.height_to_border(border);
-    write_at(&mut flow.heights, place.innermost, height);
+    write_at(&mut flow.heights, ending.at.k, height);
     let start = sum_of(mark, height);
     flow.start = RunStart::At(start);
     flow.strut = with_margin(flow.strut, block.margin_bottom);
 }
 
 // Its bottom margin begins a run.
-fn close_parted(boxes: &Boxes<'_>, flow: &mut Pass, place: MarginPlace) -> Result<(), NoMemory>
-    requires positive { 0 < place.innermost }
-    requires ends { place.next < length boxes.now.list.now → parent_at boxes.now.list.now place.next < place.innermost }
-    requires parted { (may_join_bottoms (block_at boxes.now.list.now place.innermost) && not (is_barred boxes.now.list.now (state_of flow.old) place.innermost)) ≡ false }
-    requires settled { may_collapse_through (block_at boxes.now.list.now place.innermost) ≡ true → place.innermost < flow.old.first }
-    requires known { IsKnown boxes.now.list.now flow.old place.innermost place.next }
-    ensures { OnOk result (IsKnown boxes.now.list.now flow.new (parent_at boxes.now.list.now place.innermost) place.next) }
+fn close_parted(ending: &EndingBox<'_>, flow: &mut Pass) -> Result<(), NoMemory>
+    requires parted { (may_join_bottoms (block_at ending.now.at.boxes.list.now ending.now.at.k) && not (is_barred ending.now.at.boxes.list.now (state_of flow.old) ending.now.at.k)) ≡ false }
+    requires settled { may_collapse_through (block_at ending.now.at.boxes.list.now ending.now.at.k) ≡ true → ending.now.at.k < flow.old.first }
+    requires known { IsKnown ending.now.at.boxes.list.now flow.old ending.now.at.k ending.now.next }
+    ensures { OnOk result (IsKnown ending.now.at.boxes.list.now flow.new (parent_at ending.now.at.boxes.list.now ending.now.at.k) ending.now.next) }
 {
-    let block = boxes.block_at(place.innermost);
+    let block = ending.at.block();
     let end = end_of(flow.start, flow.strut);
-    settle(
-        boxes,
-        &flow.through,
-        &mut flow.marks,
-        flow.first,
-        place.next,
-        end,
-    );
+    let run = EndedRun {
+        boxes: ending.at.boxes,
+        through: &flow.through,
+        first: flow.first,
+        end: ending.next,
+        mark: end,
+    };
+    run.settle(&mut flow.marks);
     let marked = MarkedBoxes {
-        boxes: *boxes,
+        boxes: ending.at.boxes,
         marks: &flow.marks,
     };
-    place_up_to(&marked, &mut flow.placing, place.next)?;
-    let mark = length_at(&flow.marks, place.innermost);
+    place_up_to(&marked, &mut flow.placing, ending.next)?;
+    let mark = length_at(&flow.marks, ending.at.k);
     let standing = StandingBlock {
         block: &block,
         mark,
-        extent: length_at(&flow.placing.extents, place.innermost),
+        extent: length_at(&flow.placing.extents, ending.at.k),
     };
     let height = standing.height_to_margin(Near { unit: end });
-    write_at(&mut flow.heights, place.innermost, height);
+    write_at(&mut flow.heights, ending.at.k, height);
     let start = sum_of(mark, height);
     flow.start = RunStart::At(start);
     flow.strut = lone_margin(block.margin_bottom);
-    flow.first = place.next;
+    flow.first = ending.next;
     Ok(())
 }

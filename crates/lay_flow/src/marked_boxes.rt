@@ -5,7 +5,7 @@ ghost use Rattle.lay_flow.specs.Lengths.{length_at};
 ghost use Rattle.lay_flow.specs.Weights.{weight};
 ghost use Rattle.lay_flow.specs.Pass.Bounds.{IsMarkNear};
 
-use crate::boxes::Boxes;
+use crate::boxes::{BoxAt, Boxes};
 use lay_units::Unit;
 
 /// The boxes of a flow, and their marks as far as they are known.
@@ -15,4 +15,13 @@ pub(crate) struct MarkedBoxes<'a> {
     pub marks: &'a [Unit],
     ghost count: { length marks.now ≡ length boxes.list.now },
     ghost near: { (j : ℕ) → IsMarkNear (weight boxes.list.now j) (length_at marks.now j) },
+}
+
+/// A box of a flow, and the marks of all.
+#[derive(Clone, Copy)]
+pub(crate) struct MarkedBox<'a> {
+    pub at: BoxAt<'a>,
+    pub marks: &'a [Unit],
+    ghost count: { length marks.now ≡ length at.boxes.list.now },
+    ghost near: { (j : ℕ) → IsMarkNear (weight at.boxes.list.now j) (length_at marks.now j) },
 }

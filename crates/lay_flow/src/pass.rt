@@ -4,7 +4,7 @@ ghost use Rattle.std.specs.Prelude.{◌≡◌};
 ghost use Rattle.lay_flow.specs.Pass.Bounds.{is_hanging, position_of};
 
 use crate::placement::Placing;
-use lay_margins::Strut;
+use crate::used_strut::UsedStrut;
 use lay_units::Unit;
 
 /// The columns as far as they are known, and the run of margins that the pass is in.
@@ -18,7 +18,7 @@ pub(crate) struct Pass {
     pub clear_edges: Vec<Option<Unit>>,
     pub start: RunStart,
     /// The margins of the run so far.
-    pub strut: Strut,
+    pub strut: UsedStrut,
     /// The first box whose top margin is in the run. The boxes from there on wait for their marks.
     pub first: usize,
     /// The floats and the solid boxes.

@@ -16,9 +16,10 @@ ghost use Rattle.lay_flow.specs.Pass.Knows.{AreExtentsKept};
 ghost use Rattle.lay_flow.specs.Pass.Known.{ArePlaced, GoesOn};
 ghost use Rattle.lay_flow.specs.Pass.Placed.{IsCeilingNear};
 
-use crate::columns::{length_at, sum_of, write_at};
+use crate::boxes::BoxAt;
+use crate::columns::{difference_of, length_at, sum_of, write_at};
 use crate::flow_box::{FlowBox, FlowKind};
-use crate::marked_boxes::MarkedBoxes;
+use crate::marked_boxes::{MarkedBox, MarkedBoxes};
 use crate::shape::Shape;
 use lay_floats::{FloatReq, Floats, Place, Side, SolidReq};
 use lay_lines::{Lines, NodePlaceList, RowList, lay};
@@ -50,80 +51,77 @@ pub(crate) fn place_up_to(
     ensures kept { OnOk result (AreExtentsKept of.now.boxes.list.now (length placing.old.places.items) placing.old.extents.items placing.new.extents.items) }
 {
     for k in placing.places.len()..m {
-        place_one(of, placing, k)?;
+        let at = BoxAt { boxes: of.boxes, k };
+        let of = MarkedBox {
+            at,
+            marks: of.marks,
+        };
+        place_one(&of, placing)?;
     }
     Ok(())
 }
 
-fn place_one(of: &MarkedBoxes<'_>, placing: &mut Placing, k: usize) -> Result<(), NoMemory>
-    requires within { k < length of.now.boxes.list.now }
-    requires known { ArePlaced of.now.boxes.list.now of.now.marks.now placing.old k }
-    ensures placed { OnOk result (GoesOn of.now.boxes.list.now of.now.marks.now placing.old placing.new k (k + 1)) }
-    ensures kept { OnOk result (AreExtentsKept of.now.boxes.list.now k placing.old.extents.items placing.new.extents.items) }
+fn place_one(of: &MarkedBox<'_>, placing: &mut Placing) -> Result<(), NoMemory>
+    requires known { ArePlaced of.now.at.boxes.list.now of.now.marks.now placing.old of.now.at.k }
+    ensures placed { OnOk result (GoesOn of.now.at.boxes.list.now of.now.marks.now placing.old placing.new of.now.at.k (of.now.at.k + 1)) }
+    ensures kept { OnOk result (AreExtentsKept of.now.at.boxes.list.now of.now.at.k placing.old.extents.items placing.new.extents.items) }
 {
-    if let Some(side) = of.boxes.side_at(k) {
-        place_float(of, placing, k, side)?;
+    if let Some(side) = of.at.side() {
+        place_float(of, placing, side)?;
         return Ok(());
     }
-    let inside = of.boxes.block_at(k).inside;
+    let inside = of.at.block().inside;
     if inside.is_solid() {
-        place_solid(of, placing, k)?;
+        place_solid(of, placing)?;
         return Ok(());
     }
     if inside.is_lines() {
-        place_lines(of, placing, k)?;
+        place_lines(of, placing)?;
         return Ok(());
     }
     push_spot(placing, nowhere())?;
     Ok(())
 }
 
-fn place_float(
-    of: &MarkedBoxes<'_>,
-    placing: &mut Placing,
-    k: usize,
-    side: Side,
-) -> Result<(), NoMemory>
-    requires within { k < length of.now.boxes.list.now }
-    requires float { (shape_at of.now.boxes.list.now k).float ≡ Some side }
-    requires known { ArePlaced of.now.boxes.list.now of.now.marks.now placing.old k }
-    ensures placed { OnOk result (GoesOn of.now.boxes.list.now of.now.marks.now placing.old placing.new k (k + 1)) }
+fn place_float(of: &MarkedBox<'_>, placing: &mut Placing, side: Side) -> Result<(), NoMemory>
+    requires float { (shape_at of.now.at.boxes.list.now of.now.at.k).float ≡ Some side }
+    requires known { ArePlaced of.now.at.boxes.list.now of.now.marks.now placing.old of.now.at.k }
+    ensures placed { OnOk result (GoesOn of.now.at.boxes.list.now of.now.marks.now placing.old placing.new of.now.at.k (of.now.at.k + 1)) }
     ensures kept { OnOk result (placing.new.extents.items ≡ placing.old.extents.items) }
 {
-    let top = ceiling(of, k);
-    let request = float_request(&of.boxes.shape_at(k), side, top);
+    let top = ceiling(of);
+    let request = float_request(&of.at.shape(), side, top);
     let place = placing.floats.place(&request)?;
     push_spot(placing, place)?;
     Ok(())
 }
 
-fn place_solid(of: &MarkedBoxes<'_>, placing: &mut Placing, k: usize) -> Result<(), NoMemory>
-    requires within { k < length of.now.boxes.list.now }
-    requires solid { is_solid (block_at of.now.boxes.list.now k).inside ≡ true }
-    requires known { ArePlaced of.now.boxes.list.now of.now.marks.now placing.old k }
-    ensures placed { OnOk result (GoesOn of.now.boxes.list.now of.now.marks.now placing.old placing.new k (k + 1)) }
-    ensures kept { OnOk result (AreExtentsKept of.now.boxes.list.now k placing.old.extents.items placing.new.extents.items) }
+fn place_solid(of: &MarkedBox<'_>, placing: &mut Placing) -> Result<(), NoMemory>
+    requires solid { is_solid (block_at of.now.at.boxes.list.now of.now.at.k).inside ≡ true }
+    requires known { ArePlaced of.now.at.boxes.list.now of.now.marks.now placing.old of.now.at.k }
+    ensures placed { OnOk result (GoesOn of.now.at.boxes.list.now of.now.marks.now placing.old placing.new of.now.at.k (of.now.at.k + 1)) }
+    ensures kept { OnOk result (AreExtentsKept of.now.at.boxes.list.now of.now.at.k placing.old.extents.items placing.new.extents.items) }
 {
-    let shape = of.boxes.shape_at(k);
-    let mark = length_at(of.marks, k);
+    let shape = of.at.shape();
+    let mark = length_at(of.marks, of.at.k);
     let place = placing.floats.fit_solid(&solid_request(&shape, mark));
-    let extent = extent_below(mark, place.y, shape.height);
-    write_at(&mut placing.extents, k, extent);
+    let below = difference_of(place.y, mark);
+    let extent = sum_of(below, shape.height);
+    write_at(&mut placing.extents, of.at.k, extent);
     push_spot(placing, place)?;
     Ok(())
 }
 
-fn place_lines(of: &MarkedBoxes<'_>, placing: &mut Placing, k: usize) -> Result<(), NoMemory>
-    requires within { k < length of.now.boxes.list.now }
-    requires lines { is_lines (block_at of.now.boxes.list.now k).inside ≡ true }
-    requires known { ArePlaced of.now.boxes.list.now of.now.marks.now placing.old k }
-    ensures placed { OnOk result (GoesOn of.now.boxes.list.now of.now.marks.now placing.old placing.new k (k + 1)) }
-    ensures kept { OnOk result (AreExtentsKept of.now.boxes.list.now k placing.old.extents.items placing.new.extents.items) }
+fn place_lines(of: &MarkedBox<'_>, placing: &mut Placing) -> Result<(), NoMemory>
+    requires lines { is_lines (block_at of.now.at.boxes.list.now of.now.at.k).inside ≡ true }
+    requires known { ArePlaced of.now.at.boxes.list.now of.now.marks.now placing.old of.now.at.k }
+    ensures placed { OnOk result (GoesOn of.now.at.boxes.list.now of.now.marks.now placing.old placing.new of.now.at.k (of.now.at.k + 1)) }
+    ensures kept { OnOk result (AreExtentsKept of.now.at.boxes.list.now of.now.at.k placing.old.extents.items placing.new.extents.items) }
 {
-    let top = sum_of(length_at(of.marks, k), of.boxes.block_at(k).edge_top);
-    let lines = of.boxes.list[k].lay_lines(placing.alloc, &mut placing.floats, top)?;
-    let depth = depth_below(top, lines.end);
-    write_at(&mut placing.extents, k, depth);
+    let top = sum_of(length_at(of.marks, of.at.k), of.at.block().edge_top);
+    let lines = of.at.boxes.list[of.at.k].lay_lines(placing.alloc, &mut placing.floats, top)?;
+    let depth = difference_of(lines.end, top);
+    write_at(&mut placing.extents, of.at.k, depth);
     placing.places.push(nowhere())?;
     placing.rows.push(lines.rows)?;
     placing.met.push(lines.places)?;
@@ -151,38 +149,18 @@ impl FlowBox {
     }
 }
 
-// How far an end lies below a top.
-fn depth_below(top: Unit, end: Unit) -> Unit
-    requires top { IsPosition top.0 }
-    requires end { IsPosition end.0 }
-    ensures { result.0 ≡ end.0 -ℤ top.0 }
-{
-    Unit(end.0 - top.0)
-}
-
-// How far the bottom of a box lies below its mark.
-fn extent_below(mark: Unit, top: Unit, height: Unit) -> Unit
-    requires mark { IsNear mark.0 }
-    requires top { IsNear top.0 }
-    requires height { IsWithin (pos 17179869184) height.0 }
-    ensures { result.0 ≡ top.0 -ℤ mark.0 +ℤ height.0 }
-{
-    Unit(top.0 - mark.0 + height.0)
-}
-
 // The lower of its mark and of the top of its containing block's content.
-fn ceiling(of: &MarkedBoxes<'_>, k: usize) -> Unit
-    requires within { k < length of.now.boxes.list.now }
-    requires positive { 0 < k }
-    ensures value { result.0 ≡ ceiling of.now.boxes.list.now of.now.marks.now k }
-    ensures near { IsCeilingNear (weight of.now.boxes.list.now k) result.0 }
+fn ceiling(of: &MarkedBox<'_>) -> Unit
+    requires { 0 < of.now.at.k }
+    ensures value { result.0 ≡ ceiling of.now.at.boxes.list.now of.now.marks.now of.now.at.k }
+    ensures near { IsCeilingNear (weight of.now.at.boxes.list.now of.now.at.k) result.0 }
 {
-    let parent = of.boxes.parent_at(k);
-    let content = sum_of(
-        length_at(of.marks, parent),
-        of.boxes.block_at(parent).edge_top,
-    );
-    lower(length_at(of.marks, k), content)
+    let parent = BoxAt {
+        boxes: of.at.boxes,
+        k: of.at.parent(),
+    };
+    let content = sum_of(length_at(of.marks, parent.k), parent.block().edge_top);
+    lower(length_at(of.marks, of.at.k), content)
 }
 
 fn lower(a: Unit, b: Unit) -> Unit

@@ -6,55 +6,55 @@ ghost use Rattle.lay_doc.specs.Tree.{IsTree};
 ghost use Rattle.lay_flow.specs.Boxes.{parents_of};
 ghost use Rattle.lay_flow.specs.Pass.State.{Settled};
 
-use crate::boxes::Boxes;
+use crate::boxes::{BoxAt, Boxes};
 use crate::columns::{flag_at, length_at, write_at};
 use lay_units::Unit;
 
-/// Gives the boxes from `first` to before `end` their marks, once the run of their top margins ended. Of
-/// those that are collapsed through, the ones whose parent's top margin is in an earlier run keep the mark
-/// that they have.
-pub(crate) fn settle(
-    boxes: &Boxes<'_>,
-    through: &[bool],
-    marks: &mut Vec<Unit>,
-    first: usize,
-    end: usize,
-    mark: Unit,
-)
-    requires positive { 0 < first }
-    requires order { first ≤ end }
-    requires within { end ≤ length boxes.now.list.now }
-    requires through { length through.now ≡ length boxes.now.list.now }
-    requires marks { length marks.old.items ≡ length boxes.now.list.now }
-    ensures { Settled boxes.now.list.now through.now marks.old.items marks.new.items first end mark.0 }
-{
-    for k in first..end {
-        settle_one(boxes, through, marks, first, k, mark);
-    }
+/// A run that ended at a mark. It has the top margins of the boxes from `first` to before `end`.
+#[derive(Clone, Copy)]
+pub(crate) struct EndedRun<'a> {
+    pub boxes: Boxes<'a>,
+    /// The boxes that are known to be collapsed through.
+    pub through: &'a [bool],
+    pub first: usize,
+    pub end: usize,
+    pub mark: Unit,
+    ghost count: { length through.now ≡ length boxes.list.now },
+    ghost positive: { 0 < first },
+    ghost order: { first ≤ end },
+    ghost within: { end ≤ length boxes.list.now },
 }
 
-fn settle_one(
-    boxes: &Boxes<'_>,
-    through: &[bool],
-    marks: &mut Vec<Unit>,
-    first: usize,
-    k: usize,
-    mark: Unit,
-)
-    requires positive { 0 < first }
-    requires order { first ≤ k }
-    requires within { k < length boxes.now.list.now }
-    requires through { length through.now ≡ length boxes.now.list.now }
-    requires marks { length marks.old.items ≡ length boxes.now.list.now }
-    ensures { (before : List Unit) → Settled boxes.now.list.now through.now before marks.old.items first k mark.0 → Settled boxes.now.list.now through.now before marks.new.items first (k + 1) mark.0 }
-{
-    if !flag_at(through, k) {
-        write_at(marks, k, mark);
-        return;
+impl EndedRun<'_> {
+    /// Gives its boxes their marks. Of those that are collapsed through, the ones whose parent's top margin is in an
+    /// earlier run keep the mark that they have.
+    pub(crate) fn settle(&self, marks: &mut Vec<Unit>)
+        requires { length marks.old.items ≡ length self.now.boxes.list.now }
+        ensures { Settled self.now.boxes.list.now self.now.through.now marks.old.items marks.new.items self.now.first self.now.end self.now.mark.0 }
+    {
+        for k in self.first..self.end {
+            self.settle_one(marks, k);
+        }
     }
-    let parent = boxes.parent_at(k);
-    if parent >= first {
-        let inherited = length_at(marks, parent);
-        write_at(marks, k, inherited);
+
+    fn settle_one(&self, marks: &mut Vec<Unit>, k: usize)
+        requires marks { length marks.old.items ≡ length self.now.boxes.list.now }
+        requires order { self.now.first ≤ k }
+        requires within { k < self.now.end }
+        ensures { (before : List Unit) → Settled self.now.boxes.list.now self.now.through.now before marks.old.items self.now.first k self.now.mark.0 → Settled self.now.boxes.list.now self.now.through.now before marks.new.items self.now.first (k + 1) self.now.mark.0 }
+    {
+        if !flag_at(self.through, k) {
+            write_at(marks, k, self.mark);
+            return;
+        }
+        let at = BoxAt {
+            boxes: self.boxes,
+            k,
+        };
+        let parent = at.parent();
+        if parent >= self.first {
+            let inherited = length_at(marks, parent);
+            write_at(marks, k, inherited);
+        }
     }
 }

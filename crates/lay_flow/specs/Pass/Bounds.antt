@@ -6,7 +6,6 @@ use Rattle.lay_flow.specs.declared.flow_box.FlowBox.{FlowBox}
 use Rattle.lay_flow.specs.Boxes.{parent_at}
 use Rattle.lay_units.specs.Units.{limit}
 use Rattle.lay_units.specs.declared.length.Unit.{Unit as Length}
-use Rattle.lay_margins.specs.StrutValue.{StrutValue}
 use Rattle.lay_flow.specs.declared.pass.Pass.{Pass}
 use Rattle.lay_flow.specs.declared.pass.RunStart.{RunStart}
 use Rattle.lay_flow.specs.declared.pass.RunStart.TheVariants.{At as starts_at, HangsFrom as hangs_from}
@@ -19,13 +18,7 @@ use Rattle.lay_flow.specs.MarginRuns.{block_at, parts_tops}
 use Rattle.lay_flow.specs.BlockPositions.{is_solid}
 use Rattle.lay_flow.specs.Weights.{weight}
 use Rattle.lay_flow.specs.Pass.State.{PassState}
-
--- the strut holds used margins
-pub record StrutFits (s : StrutValue) : Type 0 where
-  pub positive_least : pos 0 ≤ℤ s.positive
-  pub positive_most : s.positive ≤ℤ limit
-  pub negative_least : neg_ℤ limit ≤ℤ s.negative
-  pub negative_most : s.negative ≤ℤ pos 0
+use Rattle.lay_flow.specs.Pass.Struts.{StrutFits}
 
 -- how far from the origin boxes of this weight reach
 abbrev pub reach : ℕ → ℤ
@@ -111,7 +104,7 @@ state_of f = record {
   clears = clears_of f.clear_edges.items;
   clear_edges = clear_edges_of f.clear_edges.items;
   start = position_of f.start;
-  strut = f.strut;
+  strut = f.strut.strut;
   first = f.first;
   hangs = is_hanging f.start;
 }

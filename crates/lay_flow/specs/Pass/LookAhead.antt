@@ -15,7 +15,7 @@ use Rattle.lay_flow.specs.Pass.MarginPlace.{IsPlace}
 use Rattle.lay_flow.specs.MarginRuns.{margins, has_top, run_before}
 use Rattle.lay_flow.specs.BlockPositions.{Extents, start_before}
 use Rattle.lay_flow.specs.BlockLayout.{BlockLayout, IsBlockLayout}
-use Rattle.lay_flow.specs.Pass.Bounds.{StrutFits}
+use Rattle.lay_flow.specs.Pass.Struts.{StrutFits}
 
 -- in this layout neither the box at k nor a later one has clearance, the strut holds the margins of the run before the top
 -- margin of the box, and that run has the top margins of the boxes from `first` on

@@ -21,19 +21,19 @@ use Rattle.lay_flow.proofs.SoFar.{Wrote}
 use Rattle.lay_flow.proofs.WroteColumns.{wrote_cleared, wrote_edge}
 use Rattle.lay_flow.proofs.clearance.begin_cleared.Goals as goal
 
-pub end_of-end-requires-clause-start : goal.end_of-end-requires-clause-start
-end_of-end-requires-clause-start c =
+pub end_of-end-requires : goal.end_of-end-requires
+end_of-end-requires c =
     let f = c.requires.known.knows.fits in let a = f.first_most in let b = f.within in
-    start_is_near (weight c.args.boxes.now.list.now c.args.flow.now.first) (position_of c.args.flow.now.start) (light_at c.args.boxes.now.list.now c.args.boxes.now.are c.args.flow.now.first (omega (arith, a, b))) f.start_near
+    start_is_near (weight c.args.child.now.at.boxes.list.now c.args.flow.now.first) (position_of c.args.flow.now.start) (light_at c.args.child.now.at.boxes.list.now c.args.child.now.at.boxes.are c.args.flow.now.first (omega (arith, a, b))) f.start_near
 
 pub invariant_of-marked-clause-near : goal.invariant_of-marked-clause-near
 invariant_of-marked-clause-near c =
     let f = c.requires.known.knows.fits in
     let old = c.args.flow.now in
     let settles = rw c.deref.ensures.value at c.settle.ensures in
-    let near : (j : ℕ) → IsMarkNear (weight c.args.boxes.now.list.now j) (length_at c.settle.new.marks.items j) = λ j. settled_near c.args.boxes.now.list.now old.through.items old.marks.items c.settle.new.marks.items old.first c.args.k c.end_of-end.result.0 c.args.boxes.now.are.is_tree.tree f.first_least f.within f.mark_near
-    (λ i le. end_near (weight c.args.boxes.now.list.now old.first) (weight c.args.boxes.now.list.now i) (position_of old.start) c.end_of-end.result.0 f.start_near c.end_of-end.ensures.near (weight_up c.args.boxes.now.list.now old.first i le)) settles (j + 1) j (omega arith) in
-    subst (λ (xs : List Length). (j : ℕ) → IsMarkNear (weight c.args.boxes.now.list.now j) (length_at xs j)) (sym c.deref-2.ensures.value) near
+    let near : (j : ℕ) → IsMarkNear (weight c.args.child.now.at.boxes.list.now j) (length_at c.settle.new.marks.items j) = λ j. settled_near c.args.child.now.at.boxes.list.now old.through.items old.marks.items c.settle.new.marks.items old.first c.args.child.now.at.k c.end_of-end.result.0 c.args.child.now.at.boxes.are.is_tree.tree f.first_least f.within f.mark_near
+    (λ i le. end_near (weight c.args.child.now.at.boxes.list.now old.first) (weight c.args.child.now.at.boxes.list.now i) (position_of old.start) c.end_of-end.result.0 f.start_near c.end_of-end.ensures.near (weight_up c.args.child.now.at.boxes.list.now old.first i le)) settles (j + 1) j (omega arith) in
+    subst (λ (xs : List Length). (j : ℕ) → IsMarkNear (weight c.args.child.now.at.boxes.list.now j) (length_at xs j)) (sym c.deref-2.ensures.value) near
 
 pub place_up_to-requires-clause-known : goal.place_up_to-requires-clause-known
 place_up_to-requires-clause-known c =
@@ -42,12 +42,12 @@ place_up_to-requires-clause-known c =
     let early = known.early in let few = f.first_most in let within = f.within in
     let settles = rw c.deref.ensures.value at c.settle.ensures in
     let old = c.args.flow.now in
-    kept_places c.args.boxes.now.list.now old.marks.items c.deref-2.result.now old.placing c.requires.known.places c.args.boxes.now.are.is_tree.tree c.requires.known.are (omega (arith, early, few, within)) known.placed
+    kept_places c.args.child.now.at.boxes.list.now old.marks.items c.deref-2.result.now old.placing c.requires.known.places c.args.child.now.at.boxes.are.is_tree.tree c.requires.known.are (omega (arith, early, few, within)) known.placed
     (λ j lt. rw c.deref-2.ensures.value (settles.before j (omega (arith, lt, early))))
 
 pub write_edge-requires : goal.write_edge-requires
 write_edge-requires c =
-    let within = c.requires.within in
+    let within = c.args.child.now.at.within in
     let l = sym (length-map c.args.flow.now.clear_edges.items is_some) ∙ c.requires.known.knows.are_clears.clears_length in
     omega (arith, within, l)
 
@@ -55,21 +55,21 @@ pub returns : goal.returns
 returns c =
     let known = c.requires.known.knows in
     let old = c.args.flow.now in
-    let k = c.args.k in
-    let within = c.requires.within in
+    let k = c.args.child.now.at.k in
+    let within = c.args.child.now.at.within in
     let l = sym (length-map old.clear_edges.items is_some) ∙ known.are_clears.clears_length in
     let settles = rw c.deref.ensures.value at c.settle.ensures in
     let f = known.fits in
     let done = c.in_ok-place_up_to.ensures {u = tt} in
-    let there = placed_on c.args.boxes.now.list.now old.marks.items c.settle.new.marks.items old.placing c.place_up_to.new.placing c.requires.known.places c.args.k c.args.boxes.now.are.is_tree.tree c.requires.known.are
+    let there = placed_on c.args.child.now.at.boxes.list.now old.marks.items c.settle.new.marks.items old.placing c.place_up_to.new.placing c.requires.known.places c.args.child.now.at.k c.args.child.now.at.boxes.are.is_tree.tree c.requires.known.are
     (let early = c.requires.known.knows.early in let few = f.first_most in let within = f.within in omega (arith, early, few, within)) c.requires.known.knows.placed
     (let early = c.requires.known.knows.early in let settles = rw c.deref.ensures.value at c.settle.ensures in λ j lt. settles.before j (omega (arith, lt, early))) (rw c.deref-2.ensures.value at done.placed) in
-    let go : ArePlacedOn c.args.boxes.now.list.now c.settle.new.marks.items c.place_up_to.new.placing c.requires.known.places c.args.k → IsReadyAt c.args.boxes.now.list.now (record c.args.flow.now { marks = c.settle.new.marks; clear_edges = c.write_edge.new.clear_edges; start = hangs_from c.lower_of-edge.result; strut = c.no_margin-flow.result; first = c.args.k; placing = c.place_up_to.new.placing }) c.args.k = λ goes.
+    let go : ArePlacedOn c.args.child.now.at.boxes.list.now c.settle.new.marks.items c.place_up_to.new.placing c.requires.known.places c.args.child.now.at.k → IsReadyAt c.args.child.now.at.boxes.list.now (record c.args.flow.now { marks = c.settle.new.marks; clear_edges = c.write_edge.new.clear_edges; start = hangs_from c.lower_of-edge.result; strut = c.no_margin-flow.result; first = c.args.child.now.at.k; placing = c.place_up_to.new.placing }) c.args.child.now.at.k = λ goes.
     let placed = goes.to in
     let edge = c.lower_of-edge.result in
-    let is_bottom = subst (λ (s : Clear). IsClearEdge c.place_up_to.new.placing.floats s c.clear_edge-bottom.result) c.clear_at.ensures c.clear_edge-bottom.ensures in
-    let near = subst (IsEdgeNear (weight c.args.boxes.now.list.now k)) (sym c.lower_of-edge.ensures) (lower_near (weight c.args.boxes.now.list.now k) c.place_up_to.new.placing.floats _ c.clear_edge-bottom.result c.args.hypothetical.0 placed.within is_bottom c.requires.near) in
-    let ends : RunEnds (is_hanging old.start) (position_of old.start) old.strut c.end_of-end.result.0 = record { hanging = c.end_of-end.ensures.hanging; value = c.end_of-end.ensures.value } in
+    let is_bottom = subst (λ (s : Clear). IsClearEdge c.place_up_to.new.placing.floats s c.clear_edge-bottom.result) c.clear.ensures c.clear_edge-bottom.ensures in
+    let near = subst (IsEdgeNear (weight c.args.child.now.at.boxes.list.now k)) (sym c.lower_of-edge.ensures) (lower_near (weight c.args.child.now.at.boxes.list.now k) c.place_up_to.new.placing.floats _ c.clear_edge-bottom.result c.args.hypothetical.0 placed.within is_bottom c.requires.near) in
+    let ends : RunEnds (is_hanging old.start) (position_of old.start) old.strut.strut c.end_of-end.result.0 = record { hanging = c.end_of-end.ensures.hanging; value = c.end_of-end.ensures.value } in
     let flag : Wrote flag_at (clears_of old.clear_edges.items) (clears_of c.write_edge.new.clear_edges.items) k true =
     subst (λ (xs : List (Option Length)). Wrote flag_at (clears_of old.clear_edges.items) (clears_of xs) k true) (sym c.write_edge.ensures) (wrote_cleared old.clear_edges.items k edge (omega (arith, within, l))) in
     let wrote : Wrote length_at (clear_edges_of old.clear_edges.items) (clear_edges_of c.write_edge.new.clear_edges.items) k edge.0 =
@@ -77,9 +77,9 @@ returns c =
     record {
       places = goes.places;
       are = goes.are;
-      ready = ready_cleared c.args.boxes.now.list.now c.args.boxes.now.are.is_tree.tree c.args.boxes.now.are.is_tree (state_of old) (placing_of old.placing c.requires.known.places) k c.requires.positive within known
-          c.args.hypothetical.0 c.requires.flows (places_count old.placing c.requires.known.places c.requires.known.are ∙ c.requires.settled) (edge_known c.args.boxes.now.list.now (state_of old) old.placing c.requires.known.places c.requires.known.are k c.args.hypothetical.0 c.requires.edge) c.requires.decides
-          _ _ _ (placing_of c.place_up_to.new.placing goes.places) c.end_of-end.result.0 edge.0 c.clear_edge-bottom.result c.no_margin-flow.result
-          ends c.end_of-end.ensures.near settles placed (subst (λ (n : ℕ). AreExtentsKept c.args.boxes.now.list.now n old.placing.extents.items c.place_up_to.new.placing.extents.items) (sym (places_count old.placing c.requires.known.places c.requires.known.are)) done.kept) goes.same is_bottom c.lower_of-edge.ensures near flag wrote c.no_margin-flow.ensures.fits c.no_margin-flow.ensures.holds;
+      ready = ready_cleared c.args.child.now.at.boxes.list.now c.args.child.now.at.boxes.are.is_tree.tree c.args.child.now.at.boxes.are.is_tree (state_of old) (placing_of old.placing c.requires.known.places) k c.args.child.now.positive within known
+          c.args.hypothetical.0 c.requires.flows (places_count old.placing c.requires.known.places c.requires.known.are ∙ c.requires.settled) (edge_known c.args.child.now.at.boxes.list.now (state_of old) old.placing c.requires.known.places c.requires.known.are k c.args.hypothetical.0 c.requires.edge) c.requires.decides
+          _ _ _ (placing_of c.place_up_to.new.placing goes.places) c.end_of-end.result.0 edge.0 c.clear_edge-bottom.result c.no_margin-flow.result.strut
+          ends c.end_of-end.ensures.near settles placed (subst (λ (n : ℕ). AreExtentsKept c.args.child.now.at.boxes.list.now n old.placing.extents.items c.place_up_to.new.placing.extents.items) (sym (places_count old.placing c.requires.known.places c.requires.known.are)) done.kept) goes.same is_bottom c.lower_of-edge.ensures near flag wrote c.no_margin-flow.result.fits c.no_margin-flow.ensures;
     } in
     go there

@@ -11,48 +11,48 @@ pub returns-else-asks_to_clear : goal.returns-else-asks_to_clear
 returns-else-asks_to_clear c =
     let old = c.args.flow.now in
     record {
-      places = c.requires.known.places;
-      are = c.requires.known.are;
-      ready = ready_unasked c.args.boxes.now.list.now c.args.boxes.now.are.is_tree.tree c.args.boxes.now.are.is_tree (state_of old) (placing_of old.placing c.requires.known.places) c.args.k c.requires.positive c.requires.within c.requires.known.knows
+      places = c.requires.places;
+      are = c.requires.are;
+      ready = ready_unasked c.args.child.now.at.boxes.list.now c.args.child.now.at.boxes.are.is_tree.tree c.args.child.now.at.boxes.are.is_tree (state_of old) (placing_of old.placing c.requires.places) c.args.child.now.at.k c.args.child.now.positive c.args.child.now.at.within c.requires.knows
           (c.if-asks_to_clear.ensures.passes_none refl);
     }
 
 pub place_up_to-requires-clause-known : goal.place_up_to-requires-clause-known
 place_up_to-requires-clause-known c =
-    let known = c.requires.known.knows in
+    let known = c.requires.knows in
     let f = known.fits in
     let early = known.early in let few = f.first_most in let within = f.within in
     let old = c.args.flow.now in
-    kept_places c.args.boxes.now.list.now old.marks.items c.deref.result.now old.placing c.requires.known.places c.args.boxes.now.are.is_tree.tree c.requires.known.are (omega (arith, early, few, within)) known.placed
+    kept_places c.args.child.now.at.boxes.list.now old.marks.items c.deref.result.now old.placing c.requires.places c.args.child.now.at.boxes.are.is_tree.tree c.requires.are (omega (arith, early, few, within)) known.placed
     (λ j lt. rw c.deref.ensures.value refl)
 
 pub clear_floats-requires-clause-known : goal.clear_floats-requires-clause-known
 clear_floats-requires-clause-known c =
-    let known = c.requires.known.knows in
+    let known = c.requires.knows in
     let f = known.fits in
     let early = known.early in let few = f.first_most in let within = f.within in
     let old = c.args.flow.now in
     let done = c.in_ok-place_up_to.ensures {u = tt} in
-    let there = placed_on c.args.boxes.now.list.now old.marks.items old.marks.items old.placing c.place_up_to.new.placing c.requires.known.places old.first c.args.boxes.now.are.is_tree.tree c.requires.known.are
+    let there = placed_on c.args.child.now.at.boxes.list.now old.marks.items old.marks.items old.placing c.place_up_to.new.placing c.requires.places old.first c.args.child.now.at.boxes.are.is_tree.tree c.requires.are
     (omega (arith, early, few, within)) known.placed (λ j lt. refl) (rw c.deref.ensures.value at done.placed) in
-    let go : ArePlacedOn c.args.boxes.now.list.now old.marks.items c.place_up_to.new.placing c.requires.known.places old.first → IsKnown c.args.boxes.now.list.now (record c.args.flow.now { placing = c.place_up_to.new.placing }) (parent_at c.args.boxes.now.list.now c.args.k) c.args.k = λ goes.
+    let go : ArePlacedOn c.args.child.now.at.boxes.list.now old.marks.items c.place_up_to.new.placing c.requires.places old.first → IsKnown c.args.child.now.at.boxes.list.now (record c.args.flow.now { placing = c.place_up_to.new.placing }) (parent_at c.args.child.now.at.boxes.list.now c.args.child.now.at.k) c.args.child.now.at.k = λ goes.
     let placed = goes.to in
     record {
       places = goes.places;
       are = goes.are;
-      knows = knows_placed c.args.boxes.now.list.now c.args.boxes.now.are.is_tree.tree c.args.boxes.now.are.is_tree (state_of old) (placing_of old.placing c.requires.known.places) c.args.k c.requires.positive c.requires.within known
-          (placing_of c.place_up_to.new.placing goes.places) placed (subst (λ (n : ℕ). AreExtentsKept c.args.boxes.now.list.now n old.placing.extents.items c.place_up_to.new.placing.extents.items) (sym (places_count old.placing c.requires.known.places c.requires.known.are)) done.kept) goes.same;
+      knows = knows_placed c.args.child.now.at.boxes.list.now c.args.child.now.at.boxes.are.is_tree.tree c.args.child.now.at.boxes.are.is_tree (state_of old) (placing_of old.placing c.requires.places) c.args.child.now.at.k c.args.child.now.positive c.args.child.now.at.within known
+          (placing_of c.place_up_to.new.placing goes.places) placed (subst (λ (n : ℕ). AreExtentsKept c.args.child.now.at.boxes.list.now n old.placing.extents.items c.place_up_to.new.placing.extents.items) (sym (places_count old.placing c.requires.places c.requires.are)) done.kept) goes.same;
     } in
     go there
 
 pub clear_floats-requires-clause-settled : goal.clear_floats-requires-clause-settled
 clear_floats-requires-clause-settled c =
-    let known = c.requires.known.knows in
+    let known = c.requires.knows in
     let f = known.fits in
     let early = known.early in let few = f.first_most in let within = f.within in
     let old = c.args.flow.now in
     let done = c.in_ok-place_up_to.ensures {u = tt} in
-    let there = placed_on c.args.boxes.now.list.now old.marks.items old.marks.items old.placing c.place_up_to.new.placing c.requires.known.places old.first c.args.boxes.now.are.is_tree.tree c.requires.known.are
+    let there = placed_on c.args.child.now.at.boxes.list.now old.marks.items old.marks.items old.placing c.place_up_to.new.placing c.requires.places old.first c.args.child.now.at.boxes.are.is_tree.tree c.requires.are
     (omega (arith, early, few, within)) known.placed (λ j lt. refl) (rw c.deref.ensures.value at done.placed) in
-    (λ (goes : ArePlacedOn c.args.boxes.now.list.now old.marks.items c.place_up_to.new.placing c.requires.known.places old.first).
+    (λ (goes : ArePlacedOn c.args.child.now.at.boxes.list.now old.marks.items c.place_up_to.new.placing c.requires.places old.first).
     sym (places_count c.place_up_to.new.placing goes.places goes.are) ∙ goes.to.places_length) there

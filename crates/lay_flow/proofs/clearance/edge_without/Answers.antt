@@ -13,27 +13,26 @@ use Rattle.lay_flow.proofs.clearance.edge_without.Goals as goal
 pub returns-in-HangsFrom-clause-edge : goal.returns-in-HangsFrom-clause-edge
 returns-in-HangsFrom-clause-edge c =
     let flow = c.args.flow.now in
-    subst (λ (v : ℤ). IsEdgeWithout c.args.boxes.now.list.now (state_of flow) (length flow.placing.places.items) flow.placing.extents.items c.args.k v) (ap position_of c.in-HangsFrom.is)
-    (edge_of c.args.boxes.now.list.now (state_of flow) flow.placing c.requires.known.places c.requires.known.are c.args.k _ (hanging_edge c.args.boxes.now.list.now c.args.boxes.now.are.is_tree.tree c.args.boxes.now.are.is_tree (state_of flow) (placing_of flow.placing c.requires.known.places) c.args.k c.requires.positive c.requires.within c.requires.known.knows
+    subst (λ (v : ℤ). IsEdgeWithout c.args.child.now.at.boxes.list.now (state_of flow) (length flow.placing.places.items) flow.placing.extents.items c.args.child.now.at.k v) (ap position_of c.in-HangsFrom.is)
+    (edge_of c.args.child.now.at.boxes.list.now (state_of flow) flow.placing c.requires.places c.requires.are c.args.child.now.at.k _ (hanging_edge c.args.child.now.at.boxes.list.now c.args.child.now.at.boxes.are.is_tree.tree c.args.child.now.at.boxes.are.is_tree (state_of flow) (placing_of flow.placing c.requires.places) c.args.child.now.at.k c.args.child.now.positive c.args.child.now.at.within c.requires.knows
     (ap is_hanging c.in-HangsFrom.is)))
 
 pub returns-in-HangsFrom-clause-near : goal.returns-in-HangsFrom-clause-near
 returns-in-HangsFrom-clause-near c =
-    subst (IsEdgeNear (weight c.args.boxes.now.list.now c.args.k)) (ap position_of c.in-HangsFrom.is) (start_edge_near (weight c.args.boxes.now.list.now c.args.k) (position_of c.args.flow.now.start) c.requires.known.knows.near)
+    subst (IsEdgeNear (weight c.args.child.now.at.boxes.list.now c.args.child.now.at.k)) (ap position_of c.in-HangsFrom.is) (start_edge_near (weight c.args.child.now.at.boxes.list.now c.args.child.now.at.k) (position_of c.args.flow.now.start) c.requires.knows.near)
 
-pub hypothetical_edge-requires-clause-start : goal.hypothetical_edge-requires-clause-start
-hypothetical_edge-requires-clause-start c =
-    let f = c.requires.known.knows.fits in let a = f.first_most in let b = f.within in
-    subst IsNear (ap position_of c.in-At.is)
-    (start_is_near (weight c.args.boxes.now.list.now c.args.flow.now.first) (position_of c.args.flow.now.start) (light_at c.args.boxes.now.list.now c.args.boxes.now.are c.args.flow.now.first (omega (arith, a, b))) f.start_near)
+pub invariant_of-hypothetical_edge : goal.invariant_of-hypothetical_edge
+invariant_of-hypothetical_edge c =
+    let f = c.requires.knows.fits in let a = f.first_most in let b = f.within in
+    record { near = subst IsNear (ap position_of c.in-At.is) (start_is_near (weight c.args.child.now.at.boxes.list.now c.args.flow.now.first) (position_of c.args.flow.now.start) (light_at c.args.child.now.at.boxes.list.now c.args.child.now.at.boxes.are c.args.flow.now.first (omega (arith, a, b))) f.start_near) }
 
 pub returns-in-At-clause-edge : goal.returns-in-At-clause-edge
 returns-in-At-clause-edge c =
     let flow = c.args.flow.now in
     let ahead = rw (sym (ap position_of c.in-At.is)) at c.hypothetical_edge.ensures.edge in
-    edge_of c.args.boxes.now.list.now (state_of flow) flow.placing c.requires.known.places c.requires.known.are c.args.k _ (flowing_edge c.args.boxes.now.list.now c.args.boxes.now.are.is_tree.tree c.args.boxes.now.are.is_tree (state_of flow) (placing_of flow.placing c.requires.known.places) c.args.k c.requires.positive c.requires.within c.requires.known.knows
+    edge_of c.args.child.now.at.boxes.list.now (state_of flow) flow.placing c.requires.places c.requires.are c.args.child.now.at.k _ (flowing_edge c.args.child.now.at.boxes.list.now c.args.child.now.at.boxes.are.is_tree.tree c.args.child.now.at.boxes.are.is_tree (state_of flow) (placing_of flow.placing c.requires.places) c.args.child.now.at.k c.args.child.now.positive c.args.child.now.at.within c.requires.knows
     (ap is_hanging c.in-At.is) c.hypothetical_edge.result.0 ahead)
 
 pub returns-in-At-clause-near : goal.returns-in-At-clause-near
 returns-in-At-clause-near c =
-    ahead_near (weight c.args.boxes.now.list.now c.args.k) (position_of c.args.flow.now.start) c.hypothetical_edge.result.0 c.requires.known.knows.near (rw (sym (ap position_of c.in-At.is)) at c.hypothetical_edge.ensures.near)
+    ahead_near (weight c.args.child.now.at.boxes.list.now c.args.child.now.at.k) (position_of c.args.flow.now.start) c.hypothetical_edge.result.0 c.requires.knows.near (rw (sym (ap position_of c.in-At.is)) at c.hypothetical_edge.ensures.near)

@@ -10,13 +10,13 @@ pub loop-j-preserved : goal.loop-j-preserved
 loop-j-preserved c i from lt side = elim (cases_lt i c.loop-j.j) [
   | inl before ↦ c.loop-j.invariant i from before side
   | inr last ↦ (let e : i ≡ c.loop-j.j = omega (arith, lt, last) in
-      let here = subst (λ (i : ℕ). IsSideToClear c.clear_at-clear.result (shape_at c.args.boxes.now.list.now i).float) e side in
-      c.if-is_cleared_float.ensures.isnt refl (subst (λ (o : Option Side). IsSideToClear c.clear_at-clear.result o) (sym c.side_at.ensures) here))
+      let here = subst (λ (i : ℕ). IsSideToClear c.clear-clear.result (shape_at c.args.before.now.at.boxes.list.now i).float) e side in
+      c.if-is_cleared_float.ensures.isnt refl (subst (λ (o : Option Side). IsSideToClear c.clear-clear.result o) (sym c.side.ensures) here))
 ]
 
 pub returns-clause-hasnt : goal.returns-clause-hasnt
 returns-clause-hasnt c same w =
-    let order = c.requires.order in
-    let end : c.loop-j.j ≡ c.args.k = omega (arith, order) in
+    let order = c.args.before.now.most in
+    let end : c.loop-j.j ≡ c.args.before.now.at.k = omega (arith, order) in
     let lt = w.2 in
-    c.loop-j.invariant w.0 w.1 (omega (arith, end, lt)) (subst (λ (clear : Clear). IsSideToClear clear (shape_at c.args.boxes.now.list.now w.0).float) (sym c.clear_at-clear.ensures) w.3)
+    c.loop-j.invariant w.0 w.1 (omega (arith, end, lt)) (subst (λ (clear : Clear). IsSideToClear clear (shape_at c.args.before.now.at.boxes.list.now w.0).float) (sym c.clear-clear.ensures) w.3)

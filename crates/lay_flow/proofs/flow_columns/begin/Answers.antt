@@ -54,15 +54,15 @@ returns c =
       are = goes.are;
       knows =
           knows_first c.args.boxes.now.list.now c.args.boxes.now.are
-          (state_of (record { marks = c.in_ok-marks.marks; heights = c.in_ok-vec.field-0; through = c.in_ok-vec-2.field-0; clear_edges = c.in_ok-vec-3.field-0; start = starts_at c.block_at.result.edge_top; strut = c.no_margin.result; first = 1; placing = placing }))
+          (state_of (record { marks = c.in_ok-marks.marks; heights = c.in_ok-vec.field-0; through = c.in_ok-vec-2.field-0; clear_edges = c.in_ok-vec-3.field-0; start = starts_at c.block.result.edge_top; strut = c.no_margin.result; first = 1; placing = placing }))
           (placing_of placing goes.places) goes.to (first_extents c.args.boxes.now.list.now c.in_ok-marks.marks.items c.in_ok-placing.placing empty placing done.kept)
           (ap (λ (xs : List Length). length xs) marks ∙ grind (arith, elements))
           (ap (λ (xs : List Length). length xs) heights ∙ grind (arith, elements))
           (ap (λ (xs : List Bool). length xs) through ∙ grind (arith, elements))
           (ap (λ (xs : List Bool). length xs) clears ∙ grind (arith, elements))
           (ap (λ (xs : List Length). length xs) edges ∙ grind (arith, elements))
-          (omega arith) refl c.no_margin.ensures.holds c.no_margin.ensures.fits
-          (ap (λ (b : Block). b.edge_top.0) c.block_at.ensures.value)
+          (omega arith) refl c.no_margin.ensures c.no_margin.result.fits
+          (ap (λ (b : Block). b.edge_top.0) c.block.ensures.value)
           (λ j. ap (λ (xs : List Length). length_at xs j) marks ∙ lengths_at n j)
           (λ j. ap (λ (xs : List Length). length_at xs j) heights ∙ lengths_at n j)
           (λ j. ap (λ (xs : List Bool). flag_at xs j) through ∙ flags_at n j)

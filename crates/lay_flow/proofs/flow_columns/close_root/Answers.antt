@@ -21,8 +21,8 @@ use Rattle.lay_flow.proofs.RunReach.{RunEnds}
 use Rattle.lay_flow.proofs.WroteColumns.{wrote_length}
 use Rattle.lay_flow.proofs.flow_columns.close_root.Goals as goal
 
-pub end_of-end-requires-clause-start : goal.end_of-end-requires-clause-start
-end_of-end-requires-clause-start c =
+pub end_of-end-requires : goal.end_of-end-requires
+end_of-end-requires c =
     let f = c.requires.knows.fits in let a = f.first_most in let b = f.within in
     start_is_near (weight c.args.boxes.now.list.now c.args.flow.now.first) (position_of c.args.flow.now.start) (light_at c.args.boxes.now.list.now c.args.boxes.now.are c.args.flow.now.first (omega (arith, a, b))) f.start_near
 
@@ -57,8 +57,10 @@ root_height-height-requires c =
 pub invariant_of-root_end : goal.invariant_of-root_end
 invariant_of-root_end c =
     let f = c.requires.knows.fits in
-    record { near = mark_is_near (weight c.args.boxes.now.list.now (length c.args.boxes.now.list.now)) c.end_of-end.result.0 c.args.boxes.now.are.light
-    (end_near (weight c.args.boxes.now.list.now c.args.flow.now.first) (weight c.args.boxes.now.list.now (length c.args.boxes.now.list.now)) (position_of c.args.flow.now.start) c.end_of-end.result.0 f.start_near c.end_of-end.ensures.near (weight_up c.args.boxes.now.list.now c.args.flow.now.first (length c.args.boxes.now.list.now) f.first_most)) }
+    record {
+      near = mark_is_near (weight c.args.boxes.now.list.now (length c.args.boxes.now.list.now)) c.end_of-end.result.0 c.args.boxes.now.are.light
+          (end_near (weight c.args.boxes.now.list.now c.args.flow.now.first) (weight c.args.boxes.now.list.now (length c.args.boxes.now.list.now)) (position_of c.args.flow.now.start) c.end_of-end.result.0 f.start_near c.end_of-end.ensures.near (weight_up c.args.boxes.now.list.now c.args.flow.now.first (length c.args.boxes.now.list.now) f.first_most));
+    }
 
 pub invariant_of-standing-clause-lines : goal.invariant_of-standing-clause-lines
 invariant_of-standing-clause-lines c lines =
@@ -68,9 +70,9 @@ invariant_of-standing-clause-lines c lines =
     let there = placed_on c.args.boxes.now.list.now old.marks.items c.settle.new.marks.items old.placing c.place_up_to.new.placing c.requires.places (length c.args.boxes.now.list.now) c.args.boxes.now.are.is_tree.tree c.requires.are
     (let early = c.requires.knows.early in let few = fits.first_most in let within = fits.within in omega (arith, early, few, within)) c.requires.knows.placed
     (let early = c.requires.knows.early in let settles = rw c.deref.ensures.value at c.settle.ensures in λ j lt. settles.before j (omega (arith, lt, early))) (rw c.deref-2.ensures.value at done.placed) in
-    let go : ArePlacedOn c.args.boxes.now.list.now c.settle.new.marks.items c.place_up_to.new.placing c.requires.places (length c.args.boxes.now.list.now) → IsLineDepth c.length_at-mark.result.0 c.block_at-block.result.edge_top.0 c.length_at.result.0 = λ goes.
+    let go : ArePlacedOn c.args.boxes.now.list.now c.settle.new.marks.items c.place_up_to.new.placing c.requires.places (length c.args.boxes.now.list.now) → IsLineDepth c.length_at-mark.result.0 c.block-block.result.edge_top.0 c.length_at.result.0 = λ goes.
     let some = c.args.boxes.now.are.is_tree.some in
-    let block = c.block_at-block.ensures.value in
+    let block = c.block-block.ensures.value in
     let marked = rw c.deref-3.ensures.value at c.length_at-mark.ensures in
     let depth = rw c.deref-4.ensures.value at c.length_at.ensures in
     let there = rw block at lines in
@@ -80,7 +82,7 @@ invariant_of-standing-clause-lines c lines =
 pub returns-clause-finished : goal.returns-clause-finished
 returns-clause-finished c =
     let f = c.requires.knows.fits in let some = c.args.boxes.now.are.is_tree.some in let l = f.heights_length in
-    let block = c.block_at-block.ensures.value in
+    let block = c.block-block.ensures.value in
     let marked = rw c.deref-3.ensures.value at c.length_at-mark.ensures in
     let depth = rw c.deref-4.ensures.value at c.length_at.ensures in
     let settles = rw c.deref.ensures.value at c.settle.ensures in
@@ -98,7 +100,7 @@ returns-clause-finished c =
     ∙ ap (λ (b : Block). border_height b (pos 0) (root_height_of (record { 0 = c.length_at-mark.result.0 +ℤ b.edge_top.0 }) c.root_end.result.unit c.clear_edge-bottom.result)) block in
     let wrote_height : Wrote length_at old.heights.items c.write_at.new.column.items 0 c.root_height-height.result.0 =
     subst (λ (xs : List Length). Wrote length_at old.heights.items xs 0 c.root_height-height.result.0) (sym c.write_at.ensures) (wrote_length old.heights.items 0 c.root_height-height.result (omega (arith, some, l))) in
-    let ends : RunEnds (is_hanging old.start) (position_of old.start) old.strut c.end_of-end.result.0 = record { hanging = c.end_of-end.ensures.hanging; value = c.end_of-end.ensures.value } in
+    let ends : RunEnds (is_hanging old.start) (position_of old.start) old.strut.strut c.end_of-end.result.0 = record { hanging = c.end_of-end.ensures.hanging; value = c.end_of-end.ensures.value } in
     let kept = subst (λ (n : ℕ). AreExtentsKept c.args.boxes.now.list.now n old.placing.extents.items c.place_up_to.new.placing.extents.items) (sym (places_count old.placing c.requires.places c.requires.are)) done.kept in
     record {
       places = goes.places;
@@ -125,7 +127,7 @@ returns-clause-sized c =
     let wrote : Wrote length_at old.heights.items c.write_at.new.column.items 0 c.root_height-height.result.0 =
     subst (λ (xs : List Length). Wrote length_at old.heights.items xs 0 c.root_height-height.result.0) (sym c.write_at.ensures) (wrote_length old.heights.items 0 c.root_height-height.result (omega (arith, some, l))) in
     sized_boxes c.args.boxes.now.list.now c.args.boxes.now.are (state_of old) _ c.root_height-height.result.0 f
-    (λ flow. c.root_height-height.ensures.size (subst (λ (b : Block). is_solid b.inside ≡ false) (sym c.block_at-block.ensures.value) flow)) wrote
+    (λ flow. c.root_height-height.ensures.size (subst (λ (b : Block). is_solid b.inside ≡ false) (sym c.block-block.ensures.value) flow)) wrote
 
 pub length_at-requires : goal.length_at-requires
 length_at-requires c =

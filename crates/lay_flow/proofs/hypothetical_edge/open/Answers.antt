@@ -4,16 +4,16 @@ use Rattle.lay_flow.proofs.hypothetical_edge.open.Goals as goal
 
 pub returns-clause-going : goal.returns-clause-going
 returns-clause-going c plain from is reading =
-    let adds = rw c.block_at-block.ensures.value at c.with_margin.ensures.holds in
+    let adds = rw c.block-block.ensures.value at c.with_margin.ensures in
     let a = is.least in let b = is.most in let d = reading.begun in
-    let edge = rw c.block_at-block.ensures.value at c.has_edge_top.ensures in
-    opened_reading c.args.boxes.now.list.now c.args.boxes.now.are.is_tree.tree from is c.args.m c.requires.within c.args.strut c.with_margin.result reading c.with_margin.ensures.fits adds
-    (parts_is c.args.boxes.now.list.now c.args.m (omega (arith, a, b, d)) ∙ sym edge ∙ plain)
+    let edge = rw c.block-block.ensures.value at c.has_edge_top.ensures in
+    opened_reading c.args.at.now.boxes.list.now c.args.at.now.boxes.are.is_tree.tree from is c.args.at.now.k c.args.at.now.within c.args.used.strut c.with_margin.result.strut reading c.with_margin.result.fits adds
+    (parts_is c.args.at.now.boxes.list.now c.args.at.now.k (omega (arith, a, b, d)) ∙ sym edge ∙ plain)
 
 pub returns-clause-ended : goal.returns-clause-ended
 returns-clause-ended c parts from is reading =
-    let adds = rw c.block_at-block.ensures.value at c.with_margin.ensures.holds in
+    let adds = rw c.block-block.ensures.value at c.with_margin.ensures in
     let a = is.least in let b = is.most in let d = reading.begun in
-    let edge = rw c.block_at-block.ensures.value at c.has_edge_top.ensures in
-    opened_read c.args.boxes.now.list.now c.args.boxes.now.are.is_tree.tree from is c.args.m c.requires.within c.args.strut c.with_margin.result reading c.with_margin.ensures.fits adds
-    (parts_is c.args.boxes.now.list.now c.args.m (omega (arith, a, b, d)) ∙ sym edge ∙ parts)
+    let edge = rw c.block-block.ensures.value at c.has_edge_top.ensures in
+    opened_read c.args.at.now.boxes.list.now c.args.at.now.boxes.are.is_tree.tree from is c.args.at.now.k c.args.at.now.within c.args.used.strut c.with_margin.result.strut reading c.with_margin.result.fits adds
+    (parts_is c.args.at.now.boxes.list.now c.args.at.now.k (omega (arith, a, b, d)) ∙ sym edge ∙ parts)

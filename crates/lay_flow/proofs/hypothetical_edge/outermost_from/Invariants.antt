@@ -3,7 +3,7 @@ use Rattle.lay_flow.specs.Pass.Gathered.{IsAround}
 use Rattle.lay_flow.proofs.hypothetical_edge.outermost_from.Given as goal
 
 abbrev pub invariant-loop-outermost : goal.invariant-loop-outermost
-invariant-loop-outermost l = (0 < l.outermost) × (l.outermost ≤ l.k) × IsAround l.boxes.list.now l.outermost (l.k + 1) × (l.outermost < l.k → l.first ≤ l.outermost)
+invariant-loop-outermost l = (0 < l.outermost) × (l.outermost ≤ l.before.at.k) × IsAround l.before.at.boxes.list.now l.outermost (l.before.at.k + 1) × (l.outermost < l.before.at.k → l.before.first ≤ l.outermost)
 
 abbrev pub decreases-loop-outermost : goal.decreases-loop-outermost
 decreases-loop-outermost l = l.outermost

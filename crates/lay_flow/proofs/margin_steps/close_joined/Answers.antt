@@ -21,43 +21,43 @@ pub invariant_of-standing-clause-near : goal.invariant_of-standing-clause-near
 invariant_of-standing-clause-near c =
     let f = c.requires.known.knows.fits in let a = f.parent in let b = f.within in
     let e = rw c.deref.ensures.value at c.length_at-mark.ensures in
-    subst IsNear (sym e) (mark_is_near (weight c.args.boxes.now.list.now c.args.place.innermost) _ (light_at c.args.boxes.now.list.now c.args.boxes.now.are c.args.place.innermost (omega (arith, a, b))) (f.mark_near c.args.place.innermost))
+    subst IsNear (sym e) (mark_is_near (weight c.args.ending.now.at.boxes.list.now c.args.ending.now.at.k) _ (light_at c.args.ending.now.at.boxes.list.now c.args.ending.now.at.boxes.are c.args.ending.now.at.k (omega (arith, a, b))) (f.mark_near c.args.ending.now.at.k))
 
 pub invariant_of-border : goal.invariant_of-border
 invariant_of-border c =
     let f = c.requires.known.knows.fits in let a = f.first_most in let b = f.within in
-    record { near = rw c.position.ensures (start_is_near (weight c.args.boxes.now.list.now c.args.flow.now.first) (position_of c.args.flow.now.start) (light_at c.args.boxes.now.list.now c.args.boxes.now.are c.args.flow.now.first (omega (arith, a, b))) f.start_near) }
+    record { near = rw c.position.ensures (start_is_near (weight c.args.ending.now.at.boxes.list.now c.args.flow.now.first) (position_of c.args.flow.now.start) (light_at c.args.ending.now.at.boxes.list.now c.args.ending.now.at.boxes.are c.args.flow.now.first (omega (arith, a, b))) f.start_near) }
 
 pub sum_of-start-requires-clause-a : goal.sum_of-start-requires-clause-a
 sum_of-start-requires-clause-a c =
     let f = c.requires.known.knows.fits in let a = f.parent in let b = f.within in
     let e = rw c.deref.ensures.value at c.length_at-mark.ensures in
-    let n = subst IsNear (sym e) (mark_is_near (weight c.args.boxes.now.list.now c.args.place.innermost) _ (light_at c.args.boxes.now.list.now c.args.boxes.now.are c.args.place.innermost (omega (arith, a, b))) (f.mark_near c.args.place.innermost)) in
+    let n = subst IsNear (sym e) (mark_is_near (weight c.args.ending.now.at.boxes.list.now c.args.ending.now.at.k) _ (light_at c.args.ending.now.at.boxes.list.now c.args.ending.now.at.boxes.are c.args.ending.now.at.k (omega (arith, a, b))) (f.mark_near c.args.ending.now.at.k)) in
     let u = n.0 in let v = n.1 in (omega (arith, ints, u), omega (arith, ints, v))
 
 pub returns : goal.returns
 returns c =
     let f = c.requires.known.knows.fits in let a = f.parent in let b = f.within in let l = f.heights_length in
-    let block = c.block_at-block.ensures.value in
-    let holds = rw block at c.with_margin-flow.ensures.holds in
-    let p = c.args.place.innermost in
+    let block = c.block-block.ensures.value in
+    let holds = rw block at c.with_margin-flow.ensures in
+    let p = c.args.ending.now.at.k in
     let old = c.args.flow.now in
     let e = rw c.deref-2.ensures.value at c.length_at.ensures in
     let marked = rw c.deref.ensures.value at c.length_at-mark.ensures in
     let height = rw (block, e, c.position.ensures) at c.height_to_border-height.ensures.value in
-    let flow = subst (λ (b : Block). is_solid b.inside ≡ false) (sym block) (placed_none (block_at c.args.boxes.now.list.now p).inside (joins_flow (block_at c.args.boxes.now.list.now p) c.requires.joined)).1 in
+    let flow = subst (λ (b : Block). is_solid b.inside ≡ false) (sym block) (placed_none (block_at c.args.ending.now.at.boxes.list.now p).inside (joins_flow (block_at c.args.ending.now.at.boxes.list.now p) c.requires.joined)).1 in
     let starts = ap (λ (v : Length). v.0) c.sum_of-start.ensures in
     let wrote : Wrote length_at old.heights.items c.write_at.new.column.items p c.height_to_border-height.result.0 =
     subst (λ (xs : List Length). Wrote length_at old.heights.items xs p c.height_to_border-height.result.0) (sym c.write_at.ensures) (wrote_length old.heights.items p c.height_to_border-height.result (omega (arith, a, b, l))) in
     record {
       places = c.requires.known.places;
       are = c.requires.known.are;
-      knows = knows_joined c.args.boxes.now.list.now c.args.boxes.now.are.is_tree.tree (state_of old) (placing_of old.placing c.requires.known.places) p c.args.place.next c.args.boxes.now.are c.requires.positive c.requires.ends c.requires.known.knows
-          _ c.length_at-mark.result.0 c.height_to_border-height.result.0 c.sum_of-start.result.0 c.with_margin-flow.result c.requires.joined c.requires.unbarred c.requires.settled marked (c.height_to_border-height.ensures.size flow) height starts wrote
-          c.with_margin-flow.ensures.fits holds;
+      knows = knows_joined c.args.ending.now.at.boxes.list.now c.args.ending.now.at.boxes.are.is_tree.tree (state_of old) (placing_of old.placing c.requires.known.places) p c.args.ending.now.next c.args.ending.now.at.boxes.are c.args.ending.now.positive c.args.ending.now.ends c.requires.known.knows
+          _ c.length_at-mark.result.0 c.height_to_border-height.result.0 c.sum_of-start.result.0 c.with_margin-flow.result.strut c.requires.joined c.requires.unbarred c.requires.settled marked (c.height_to_border-height.ensures.size flow) height starts wrote
+          c.with_margin-flow.result.fits holds;
     }
 
 pub sum_of-start-requires-clause-b : goal.sum_of-start-requires-clause-b
 sum_of-start-requires-clause-b c =
-    let flow = subst (λ (b : Block). is_solid b.inside ≡ false) (sym c.block_at-block.ensures.value) (placed_none (block_at c.args.boxes.now.list.now c.args.place.innermost).inside (joins_flow (block_at c.args.boxes.now.list.now c.args.place.innermost) c.requires.joined)).1 in
+    let flow = subst (λ (b : Block). is_solid b.inside ≡ false) (sym c.block-block.ensures.value) (placed_none (block_at c.args.ending.now.at.boxes.list.now c.args.ending.now.at.k).inside (joins_flow (block_at c.args.ending.now.at.boxes.list.now c.args.ending.now.at.k) c.requires.joined)).1 in
     box_height_position c.height_to_border-height.result.0 (c.height_to_border-height.ensures.size flow)

@@ -13,17 +13,17 @@ use Rattle.lay_flow.proofs.RunReach.{RunEnds}
 use Rattle.lay_flow.proofs.WroteColumns.{wrote_length, wrote_flag}
 use Rattle.lay_flow.proofs.margin_steps.close_through.Goals as goal
 
-pub end_of-mark-requires-clause-start : goal.end_of-mark-requires-clause-start
-end_of-mark-requires-clause-start c =
+pub end_of-mark-requires : goal.end_of-mark-requires
+end_of-mark-requires c =
     let f = c.requires.known.knows.fits in let a = f.first_most in let b = f.within in
-    start_is_near (weight c.args.boxes.now.list.now c.args.flow.now.first) (position_of c.args.flow.now.start) (light_at c.args.boxes.now.list.now c.args.boxes.now.are c.args.flow.now.first (omega (arith, a, b))) f.start_near
+    start_is_near (weight c.args.ending.now.at.boxes.list.now c.args.flow.now.first) (position_of c.args.flow.now.start) (light_at c.args.ending.now.at.boxes.list.now c.args.ending.now.at.boxes.are c.args.flow.now.first (omega (arith, a, b))) f.start_near
 
 pub returns : goal.returns
 returns c =
     let f = c.requires.known.knows.fits in let a = f.parent in let b = f.within in
     let l1 = f.marks_length in let l2 = f.heights_length in let l3 = f.through_length in
-    let holds = rw c.block_at.ensures.value at c.with_margin-flow.ensures.holds in
-    let p = c.args.place.innermost in
+    let holds = rw c.block.ensures.value at c.with_margin-flow.ensures in
+    let p = c.args.ending.now.at.k in
     let old = c.args.flow.now in
     let zero : Length = record { 0 = pos 0 } in
     let mark : Wrote length_at old.marks.items c.write_at.new.column.items p c.end_of-mark.result.0 =
@@ -32,10 +32,10 @@ returns c =
     subst (λ (xs : List Length). Wrote length_at old.heights.items xs p (pos 0)) (sym c.write_at-2.ensures) (wrote_length old.heights.items p zero (omega (arith, a, b, l2))) in
     let flag : Wrote flag_at old.through.items c.write_flag.new.flags.items p true =
     subst (λ (xs : List Bool). Wrote flag_at old.through.items xs p true) (sym c.write_flag.ensures) (wrote_flag old.through.items p true (omega (arith, a, b, l3))) in
-    let ends : RunEnds (is_hanging old.start) (position_of old.start) old.strut c.end_of-mark.result.0 = record { hanging = c.end_of-mark.ensures.hanging; value = c.end_of-mark.ensures.value } in
+    let ends : RunEnds (is_hanging old.start) (position_of old.start) old.strut.strut c.end_of-mark.result.0 = record { hanging = c.end_of-mark.ensures.hanging; value = c.end_of-mark.ensures.value } in
     record {
       places = c.requires.known.places;
       are = c.requires.known.are;
-      knows = knows_through c.args.boxes.now.list.now c.args.boxes.now.are.is_tree.tree (state_of old) (placing_of old.placing c.requires.known.places) p c.args.place.next c.args.boxes.now.are c.requires.positive c.requires.ends c.requires.known.knows
-          _ _ _ c.end_of-mark.result.0 c.with_margin-flow.result c.requires.through c.requires.waiting c.requires.inside ends c.end_of-mark.ensures.near mark height flag c.with_margin-flow.ensures.fits holds;
+      knows = knows_through c.args.ending.now.at.boxes.list.now c.args.ending.now.at.boxes.are.is_tree.tree (state_of old) (placing_of old.placing c.requires.known.places) p c.args.ending.now.next c.args.ending.now.at.boxes.are c.args.ending.now.positive c.args.ending.now.ends c.requires.known.knows
+          _ _ _ c.end_of-mark.result.0 c.with_margin-flow.result.strut c.requires.through c.requires.waiting c.requires.inside ends c.end_of-mark.ensures.near mark height flag c.with_margin-flow.result.fits holds;
     }

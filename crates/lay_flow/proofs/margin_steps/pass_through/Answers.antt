@@ -6,20 +6,20 @@ use Rattle.lay_flow.specs.Weights.{weight}
 use Rattle.lay_flow.proofs.PassFits.{start_is_near}
 use Rattle.lay_flow.proofs.PassSteps.{knows_started}
 use Rattle.lay_flow.proofs.margin_steps.pass_through.Goals as goal
-use Rattle.lay_flow.proofs.margin_steps.pass_through.Goals.{then-is_hanging+then-flow-place, else-is_hanging}
+use Rattle.lay_flow.proofs.margin_steps.pass_through.Goals.{then-is_hanging+then-flow-ending, else-is_hanging}
 
-pub run_start-start-requires-clause-end : goal.run_start-start-requires-clause-end
-run_start-start-requires-clause-end c =
+pub invariant_of-edge : goal.invariant_of-edge
+invariant_of-edge c =
     let f = c.requires.known.knows.fits in let a = f.first_most in let b = f.within in
-    rw c.position.ensures (start_is_near (weight c.args.boxes.now.list.now c.args.flow.now.first) (position_of c.args.flow.now.start) (light_at c.args.boxes.now.list.now c.args.boxes.now.are c.args.flow.now.first (omega (arith, a, b))) f.start_near)
+    record { near = rw c.position.ensures (start_is_near (weight c.args.ending.now.at.boxes.list.now c.args.flow.now.first) (position_of c.args.flow.now.start) (light_at c.args.ending.now.at.boxes.list.now c.args.ending.now.at.boxes.are c.args.flow.now.first (omega (arith, a, b))) f.start_near) }
 
 pub close_through-requires-clause-known : goal.close_through-requires-clause-known
 close_through-requires-clause-known c = elim c.if-is_hanging.branch [
-  | then-is_hanging+then-flow-place w ↦ rw w.flow-is (record {
+  | then-is_hanging+then-flow-ending w ↦ rw w.flow-is (record {
     places = c.requires.known.places;
     are = c.requires.known.are;
-    knows = knows_started c.args.boxes.now.list.now c.args.boxes.now.are.is_tree.tree (state_of c.args.flow.now) (placing_of c.args.flow.now.placing c.requires.known.places) c.args.place.innermost c.args.place.next c.args.boxes.now.are c.requires.positive c.requires.ends c.requires.known.knows
-        w.run_start-start.result.0 c.requires.through (sym c.is_hanging.ensures ∙ w.if-is_hanging.true) w.if-flow-place.true (rw w.position.ensures at w.run_start-start.ensures.value) (rw w.position.ensures at w.run_start-start.ensures.near);
+    knows = knows_started c.args.ending.now.at.boxes.list.now c.args.ending.now.at.boxes.are.is_tree.tree (state_of c.args.flow.now) (placing_of c.args.flow.now.placing c.requires.known.places) c.args.ending.now.at.k c.args.ending.now.next c.args.ending.now.at.boxes.are c.args.ending.now.positive c.args.ending.now.ends c.requires.known.knows
+        w.run_start-start.result.0 c.requires.through (sym c.is_hanging.ensures ∙ w.if-is_hanging.true) w.if-flow-ending.true (rw w.position.ensures at w.run_start-start.ensures.value) (rw w.position.ensures at w.run_start-start.ensures.near);
   })
   | else-is_hanging w ↦ rw w.flow-is c.requires.known
 ]

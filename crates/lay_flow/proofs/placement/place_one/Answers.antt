@@ -10,6 +10,6 @@ pub returns-clause-placed : goal.returns-clause-placed
 returns-clause-placed c places are was =
     let push = c.in_ok-push_spot.ensures {u = tt} in
     let here : Spot = record { place = c.nowhere.result; lines = no_lines } in
-    pushed_on c.args.of.now.boxes.list.now c.args.of.now.marks.now c.args.placing.now c.push_spot.new.placing places are here (c.args.k + 1) push.places push.rows push.met
-    (rw (push.extents, push.floats) (knows_other c.args.of.now.boxes.list.now c.args.of.now.marks.now (placing_of c.args.placing.now places) c.args.k was here
+    pushed_on c.args.of.now.at.boxes.list.now c.args.of.now.marks.now c.args.placing.now c.push_spot.new.placing places are here (c.args.of.now.at.k + 1) push.places push.rows push.met
+    (rw (push.extents, push.floats) (knows_other c.args.of.now.at.boxes.list.now c.args.of.now.marks.now (placing_of c.args.placing.now places) c.args.of.now.at.k was here
     (search rules) (search rules) (ap (λ (p : Place). record { place = p; lines = no_lines }) c.nowhere.ensures)))

@@ -1,4 +1,4 @@
-use Rattle.std.proofs.Common.{◌≡◌, ◌+◌, ◌+ℤ◌, ◌-ℤ◌, arith, refl, sym, ◌∙◌, subst, List, ℤ}
+use Rattle.std.proofs.Common.{ap, ◌≡◌, ◌+◌, ◌+ℤ◌, ◌-ℤ◌, arith, refl, sym, ◌∙◌, subst, List, ℤ}
 use Rattle.lay_floats.specs.declared.requests.SolidReq.{SolidReq}
 use Rattle.lay_floats.specs.Fits.{SolidFits}
 use Rattle.lay_floats.specs.SolidPlace.{IsSolidPlace}
@@ -6,60 +6,80 @@ use Rattle.lay_units.specs.declared.length.Unit.{Unit as Length}
 use Rattle.lay_flow.specs.Lengths.{length_at}
 use Rattle.lay_flow.specs.BlockFloats.{Spot, no_lines, solid_request, shape_at}
 use Rattle.lay_flow.specs.Weights.{weight}
-use Rattle.lay_flow.specs.BlockSizes.{IsNear}
+use Rattle.lay_units.specs.Units.{IsPosition}
 use Rattle.lay_flow.specs.Pass.Known.{placing_of}
+use Rattle.lay_flow.proofs.BlockKinds.{solid_placed}
 use Rattle.lay_flow.proofs.FlowBoxFacts.{positive_solid, shape_fits, solid_flows}
 use Rattle.lay_flow.proofs.PlacedOn.{pushed_on}
 use Rattle.lay_flow.proofs.WeightFacts.{light_at}
 use Rattle.lay_flow.proofs.SoFar.{Wrote}
-use Rattle.lay_flow.proofs.WroteColumns.{wrote_length}
+use Rattle.lay_flow.proofs.WroteColumns.{wrote_extent, wrote_length}
+use Rattle.lay_flow.proofs.LaidLines.{mark_position}
 use Rattle.lay_flow.proofs.PassFits.{mark_is_near}
+use Rattle.std.proofs.lemmas.Int.{ints}
 use Rattle.lay_flow.proofs.PlaceSteps.{solid_fits, solid_near, knows_solid}
 use Rattle.lay_flow.proofs.placement.place_solid.Goals as goal
 
 pub fit_solid-place-requires : goal.fit_solid-place-requires
 fit_solid-place-requires c =
-    let within = c.requires.within in let boxes = c.args.of.now.boxes.list.now in
-    let shape = c.shape_at-shape.ensures in
+    let within = c.args.of.now.at.within in let boxes = c.args.of.now.at.boxes.list.now in
+    let shape = c.shape-shape.ensures in
     let mark = c.length_at-mark.ensures in
     let asked = c.solid_request.ensures ∙ (λ i. solid_request (shape i) (mark i)) in
-    subst SolidFits (sym asked) (solid_fits (weight boxes c.args.k) _ _ (light_at boxes c.args.of.now.boxes.are c.args.k (omega (arith, within))) (shape_fits c.args.of.now.boxes.list.now c.args.of.now.boxes.are c.args.k within) (c.args.of.now.near c.args.k))
+    subst SolidFits (sym asked) (solid_fits (weight boxes c.args.of.now.at.k) _ _ (light_at boxes c.args.of.now.at.boxes.are c.args.of.now.at.k (omega (arith, within))) (shape_fits c.args.of.now.at.boxes.list.now c.args.of.now.at.boxes.are c.args.of.now.at.k within) (c.args.of.now.near c.args.of.now.at.k))
 
-pub extent_below-extent-requires-clause-mark : goal.extent_below-extent-requires-clause-mark
-extent_below-extent-requires-clause-mark c =
-    let within = c.requires.within in let boxes = c.args.of.now.boxes.list.now in
-    subst IsNear (sym c.length_at-mark.ensures) (mark_is_near (weight boxes c.args.k) _ (light_at boxes c.args.of.now.boxes.are c.args.k (omega (arith, within))) (c.args.of.now.near c.args.k))
+pub difference_of-below-requires-clause-b : goal.difference_of-below-requires-clause-b
+difference_of-below-requires-clause-b c =
+    let within = c.args.of.now.at.within in let boxes = c.args.of.now.at.boxes.list.now in
+    subst IsPosition (sym c.length_at-mark.ensures) (mark_position (weight boxes c.args.of.now.at.k) _ (light_at boxes c.args.of.now.at.boxes.are c.args.of.now.at.k (omega (arith, within))) (c.args.of.now.near c.args.of.now.at.k))
 
-pub extent_below-extent-requires-clause-top : goal.extent_below-extent-requires-clause-top
-extent_below-extent-requires-clause-top c =
-    let within = c.requires.within in let boxes = c.args.of.now.boxes.list.now in
-    let shape = c.shape_at-shape.ensures in
+pub difference_of-below-requires-clause-a : goal.difference_of-below-requires-clause-a
+difference_of-below-requires-clause-a c =
+    let within = c.args.of.now.at.within in let boxes = c.args.of.now.at.boxes.list.now in
+    let shape = c.shape-shape.ensures in
     let mark = c.length_at-mark.ensures in
     let asked = c.solid_request.ensures ∙ (λ i. solid_request (shape i) (mark i)) in
     let p = c.fit_solid-place.result in
     let stands = subst (λ (r : SolidReq). IsSolidPlace c.args.placing.now.floats r p.x.0 p.y.0) asked c.fit_solid-place.ensures in
-    mark_is_near (weight boxes c.args.k) p.y.0 (light_at boxes c.args.of.now.boxes.are c.args.k (omega (arith, within)))
-    (solid_near (weight boxes c.args.k) c.args.placing.now.floats (shape_at c.args.of.now.boxes.list.now c.args.k) (length_at c.args.of.now.marks.now c.args.k) p.x.0 p.y.0 (shape_fits c.args.of.now.boxes.list.now c.args.of.now.boxes.are c.args.k within) (c.args.of.now.near c.args.k) c.requires.known.to.within stands)
+    mark_position (weight boxes c.args.of.now.at.k) p.y.0 (light_at boxes c.args.of.now.at.boxes.are c.args.of.now.at.k (omega (arith, within)))
+    (solid_near (weight boxes c.args.of.now.at.k) c.args.placing.now.floats (shape_at c.args.of.now.at.boxes.list.now c.args.of.now.at.k) (length_at c.args.of.now.marks.now c.args.of.now.at.k) p.x.0 p.y.0 (shape_fits c.args.of.now.at.boxes.list.now c.args.of.now.at.boxes.are c.args.of.now.at.k within) (c.args.of.now.near c.args.of.now.at.k) c.requires.known.to.within stands)
+
+pub sum_of-extent-requires-clause-a : goal.sum_of-extent-requires-clause-a
+sum_of-extent-requires-clause-a c =
+    let within = c.args.of.now.at.within in let boxes = c.args.of.now.at.boxes.list.now in let k = c.args.of.now.at.k in
+    let light = light_at boxes c.args.of.now.at.boxes.are k (omega (arith, within)) in
+    let asked = c.solid_request.ensures ∙ (λ i. solid_request (c.shape-shape.ensures i) (c.length_at-mark.ensures i)) in
+    let p = c.fit_solid-place.result in
+    let stands = subst (λ (r : SolidReq). IsSolidPlace c.args.placing.now.floats r p.x.0 p.y.0) asked c.fit_solid-place.ensures in
+    let top = mark_is_near (weight boxes k) p.y.0 light (solid_near (weight boxes k) c.args.placing.now.floats (shape_at boxes k) (length_at c.args.of.now.marks.now k) p.x.0 p.y.0 (shape_fits boxes c.args.of.now.at.boxes.are k within) (c.args.of.now.near k) c.requires.known.to.within stands) in
+    let mark = mark_is_near (weight boxes k) _ light (c.args.of.now.near k) in
+    let is = ap (λ (v : Length). v.0) c.difference_of-below.ensures in let at = c.length_at-mark.ensures in
+    let a = top.0 in let b = top.1 in let d = mark.0 in let e = mark.1 in
+    (omega (arith, ints, is, at, a, e), omega (arith, ints, is, at, b, d))
 
 pub returns-clause-placed : goal.returns-clause-placed
 returns-clause-placed c places are was =
-    let boxes = c.args.of.now.boxes.list.now in
-    let within = c.requires.within in
-    let shape = c.shape_at-shape.ensures in
+    let boxes = c.args.of.now.at.boxes.list.now in
+    let within = c.args.of.now.at.within in
+    let shape = c.shape-shape.ensures in
     let mark = c.length_at-mark.ensures in
     let asked = c.solid_request.ensures ∙ (λ i. solid_request (shape i) (mark i)) in
     let p = c.fit_solid-place.result in
     let old = c.args.placing.now in
     let stands = subst (λ (r : SolidReq). IsSolidPlace old.floats r p.x.0 p.y.0) asked c.fit_solid-place.ensures in
     let l = was.extents_length in
-    let value : c.extent_below-extent.result.0 ≡ p.y.0 -ℤ length_at c.args.of.now.marks.now c.args.k +ℤ (shape_at c.args.of.now.boxes.list.now c.args.k).height.0 =
-    c.extent_below-extent.ensures ∙ (λ i. p.y.0 -ℤ mark i +ℤ (shape i).height.0) in
-    let wrote : Wrote length_at old.extents.items c.write_at.new.column.items c.args.k (p.y.0 -ℤ length_at c.args.of.now.marks.now c.args.k +ℤ (shape_at c.args.of.now.boxes.list.now c.args.k).height.0) =
-    subst (λ (v : ℤ). Wrote length_at old.extents.items c.write_at.new.column.items c.args.k v) value
-    (subst (λ (xs : List Length). Wrote length_at old.extents.items xs c.args.k c.extent_below-extent.result.0) (sym c.write_at.ensures) (wrote_length old.extents.items c.args.k c.extent_below-extent.result (omega (arith, within, l)))) in
+    let value : c.sum_of-extent.result.0 ≡ p.y.0 -ℤ length_at c.args.of.now.marks.now c.args.of.now.at.k +ℤ (shape_at c.args.of.now.at.boxes.list.now c.args.of.now.at.k).height.0 =
+    ap (λ (v : Length). v.0) c.sum_of-extent.ensures ∙ ap (λ (v : Length). v.0 +ℤ c.shape-shape.result.height.0) c.difference_of-below.ensures ∙ (λ i. p.y.0 -ℤ mark i +ℤ (shape i).height.0) in
+    let wrote : Wrote length_at old.extents.items c.write_at.new.column.items c.args.of.now.at.k (p.y.0 -ℤ length_at c.args.of.now.marks.now c.args.of.now.at.k +ℤ (shape_at c.args.of.now.at.boxes.list.now c.args.of.now.at.k).height.0) =
+    subst (λ (v : ℤ). Wrote length_at old.extents.items c.write_at.new.column.items c.args.of.now.at.k v) value
+    (subst (λ (xs : List Length). Wrote length_at old.extents.items xs c.args.of.now.at.k c.sum_of-extent.result.0) (sym c.write_at.ensures) (wrote_length old.extents.items c.args.of.now.at.k c.sum_of-extent.result (omega (arith, within, l)))) in
     let push = c.in_ok-push_spot.ensures {u = tt} in
     let here : Spot = record { place = p; lines = no_lines } in
-    let none = solid_flows c.args.of.now.boxes.list.now c.args.k c.requires.solid in
-    pushed_on boxes c.args.of.now.marks.now old c.push_spot.new.placing places are here (c.args.k + 1) push.places push.rows push.met
-    (rw (push.extents, push.floats) (knows_solid boxes c.args.of.now.marks.now (placing_of old places) c.args.k was here c.write_at.new.column.items
-    (positive_solid boxes c.args.of.now.boxes.are.is_tree c.args.k c.requires.solid) none c.requires.solid (shape_fits boxes c.args.of.now.boxes.are c.args.k within) (c.args.of.now.near c.args.k) stands wrote refl))
+    let none = solid_flows c.args.of.now.at.boxes.list.now c.args.of.now.at.k c.requires.solid in
+    pushed_on boxes c.args.of.now.marks.now old c.push_spot.new.placing places are here (c.args.of.now.at.k + 1) push.places push.rows push.met
+    (rw (push.extents, push.floats) (knows_solid boxes c.args.of.now.marks.now (placing_of old places) c.args.of.now.at.k was here c.write_at.new.column.items
+    (positive_solid boxes c.args.of.now.at.boxes.are.is_tree c.args.of.now.at.k c.requires.solid) none c.requires.solid (shape_fits boxes c.args.of.now.at.boxes.are c.args.of.now.at.k within) (c.args.of.now.near c.args.of.now.at.k) stands wrote refl))
+
+pub returns-clause-kept : goal.returns-clause-kept
+returns-clause-kept c =
+    rw (c.in_ok-push_spot.ensures {u = tt}).extents (wrote_extent c.args.of.now.at.boxes.list.now c.args.of.now.at.k c.args.placing.now.extents.items _ _ (solid_placed _ c.requires.solid) c.write_at.ensures)

@@ -1,6 +1,0 @@
-use Rattle.std.proofs.Common.{◌≡◌, false}
-use Rattle.lay_flow.specs.Pass.LookAhead.{IsReading}
-use Rattle.lay_flow.proofs.hypothetical_edge.strut_ahead.Given as goal
-
-abbrev pub invariant-loop-m : goal.invariant-loop-m
-invariant-loop-m l = (l.ahead.ended ≡ false) × IsReading l.boxes.list.now l.from l.ahead.strut l.ahead.innermost l.m
