@@ -1,5 +1,5 @@
 -- The beginning and the end of the pass.
-use Rattle.std.proofs.Common.{◌≡◌, ℕ, zero, suc, ◌+◌, Bool, false, ℤ, pos, ◌+ℤ◌, ◌-ℤ◌, List, [], ◌∷◌, length, slice_index_or, replicate, refl, sym, ap, ◌∙◌, arith, inl, inr, Option, Some, None, subst}
+use Rattle.std.proofs.Common.{◌≡◌, ℕ, zero, suc, Bool, false, ℤ, pos, ◌+ℤ◌, List, [], ◌∷◌, length, slice_index_or, replicate, refl, sym, ap, ◌∙◌, arith, inl, inr, Option, Some, None, subst}
 use Rattle.std.proofs.lemmas.Bool.{cases_eq}
 use Rattle.std.proofs.lemmas.Int.{ints}
 use Rattle.lay_flow.specs.declared.flow_box.FlowBox.{FlowBox}
@@ -18,9 +18,8 @@ use Rattle.lay_flow.specs.BlockLayout.{BlockLayout, IsBlockLayout}
 use Rattle.lay_flow.specs.ContextFlow.{AreContextPlaces}
 use Rattle.lay_flow.specs.Pass.State.{PassState, Settled}
 use Rattle.lay_flow.specs.FlowBoxes.{AreFlowBoxes}
-use Rattle.lay_flow.specs.Pass.Bounds.{clears_of, clear_edges_of, StateFits, IsMarkNear, IsCollapseNear, AreBoxHeights, held_end}
+use Rattle.lay_flow.specs.Pass.Bounds.{clears_of, clear_edges_of, StateFits, AreBoxHeights, held_end}
 use Rattle.lay_flow.specs.Pass.Struts.{StrutFits}
-use Rattle.lay_flow.specs.Weights.{weight}
 use Rattle.lay_flow.proofs.WeightFacts.{weight_up}
 use Rattle.lay_flow.specs.Pass.Placed.{Placing, PlacesTo}
 use Rattle.lay_flow.specs.Pass.Knows.{Knows, MayBe, HaveNoExtent, IsCandidate, AreExtentsKept, ArePlacesKept}
@@ -28,7 +27,6 @@ use Rattle.lay_flow.proofs.FlowBoxFacts.{block_fits, root_not_solid}
 use Rattle.lay_flow.proofs.ContentHeights.{content_bottom, content_root, held_same, margin_end, same_border_height}
 use Rattle.lay_flow.proofs.BlockLayoutLaws.{some_block_layout_lem, same_lengths}
 use Rattle.lay_flow.proofs.LayoutFacts.{start_first, start_next}
-use Rattle.lay_flow.proofs.PassFits.{settled_near, end_near}
 use Rattle.lay_flow.proofs.PassSteps.{no_extents_kept}
 use Rattle.lay_flow.proofs.RunFacts.{first_comes, next_comes}
 use Rattle.lay_flow.proofs.RunReach.{RunEnds}
@@ -192,14 +190,6 @@ module _ (boxes : List FlowBox) (input : AreFlowBoxes boxes) where
         ]);
         places_are = refl;
       }
-
-  pub near_tops : (now : PassState) (marks : List Length) (end : ℤ) → StateFits boxes now 0 (length boxes)
-      → IsCollapseNear (end -ℤ now.start)
-      → Settled boxes now.through now.marks marks now.first (length boxes) end
-      → (k : ℕ) → IsMarkNear (weight boxes k) (length_at marks k)
-  near_tops now marks end fits ended settled k =
-      settled_near boxes now.through now.marks marks now.first (length boxes) end input.is_tree.tree fits.first_least (omega arith) fits.mark_near
-      (λ i le. end_near (weight boxes now.first) (weight boxes i) now.start end fits.start_near ended (weight_up boxes now.first i le)) settled (k + 1) k (omega arith)
 
   pub sized_boxes : (now : PassState) (heights : List Length) (height : ℤ) → StateFits boxes now 0 (length boxes) → (is_solid (block_at boxes 0).inside ≡ false → IsBoxSize height) → Wrote length_at now.heights heights 0 height
       → AreBoxHeights boxes heights

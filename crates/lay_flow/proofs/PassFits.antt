@@ -21,13 +21,23 @@ use Rattle.lay_flow.proofs.Openings.{pushed}
 use Rattle.lay_flow.proofs.SoFar.{Wrote}
 use Rattle.lay_flow.specs.Weights.{weight}
 use Rattle.lay_flow.proofs.Truths.{true_false, true_or}
-use Rattle.lay_flow.proofs.WeightFacts.{weight_up}
+use Rattle.lay_flow.specs.FlowBoxes.{AreFlowBoxes}
+use Rattle.lay_flow.proofs.WeightFacts.{light_at, weight_up}
 
 pub start_is_near : (k : ℕ) (v : ℤ) → k ≤ 8388608 → IsRunNear k v → IsNear v
 start_is_near k v few near = let a = near.0 in let b = near.1 in (omega (arith, ints, few, a), omega (arith, ints, few, b))
 
 pub mark_is_near : (k : ℕ) (v : ℤ) → k ≤ 8388608 → IsMarkNear k v → IsNear v
 mark_is_near k v few near = let a = near.0 in let b = near.1 in (omega (arith, ints, few, a), omega (arith, ints, few, b))
+
+module _ (boxes : List FlowBox) (are : AreFlowBoxes boxes) (now : PassState) (p m : ℕ) (fits : StateFits boxes now p m) where
+  pub begins_near : IsNear now.start
+  begins_near =
+      let a = fits.first_most in let b = fits.within in
+      start_is_near (weight boxes now.first) now.start (light_at boxes are now.first (omega (arith, a, b))) fits.start_near
+
+  pub marked_near : (j : ℕ) → j < length boxes → IsNear (length_at now.marks j)
+  marked_near j lt = mark_is_near (weight boxes j) _ (light_at boxes are j (omega (arith, lt))) (fits.mark_near j)
 
 -- a mark at the end of a run, of a box from the run's first one on
 pub end_near : (f k : ℕ) (start end : ℤ) → IsRunNear f start → IsCollapseNear (end -ℤ start) → f ≤ k → IsMarkNear k end
@@ -94,6 +104,16 @@ settled_near boxes flags old new f m end tree positive within was ended settled 
   ]
 ]
 
+-- a run ends
+module _ (boxes : List FlowBox) (tree : IsTree (parents_of boxes)) (now : PassState) (p m : ℕ) (was : StateFits boxes now p m) (end : ℤ) (ended : IsCollapseNear (end -ℤ now.start)) where
+  pub marks_near : (n : ℕ) → n ≤ length boxes → (marks : List Length) → Settled boxes now.through now.marks marks now.first n end → (j : ℕ) → IsMarkNear (weight boxes j) (length_at marks j)
+  marks_near n within marks settled j = settled_near boxes now.through now.marks marks now.first n end tree was.first_least within was.mark_near
+      (λ i le. end_near (weight boxes now.first) (weight boxes i) now.start end was.start_near ended (weight_up boxes now.first i le)) settled (j + 1) j (omega arith)
+
+  pub end_is_near : AreFlowBoxes boxes → IsNear end
+  end_is_near are = mark_is_near (weight boxes m) end (light_at boxes are m was.within)
+      (end_near (weight boxes now.first) (weight boxes m) now.start end was.start_near ended (weight_up boxes now.first m was.first_most))
+
 module _ (boxes : List FlowBox) (tree : IsTree (parents_of boxes)) (now : PassState) where
   pub fits_opened : (k : ℕ) (strut : StrutValue) → k < length boxes → parts_tops boxes k ≡ false → StateFits boxes now (parent_at boxes k) k → StrutFits strut → StateFits boxes (pushed now strut) k (k + 1)
   fits_opened k strut within plain was fits = record {
@@ -128,8 +148,7 @@ module _ (boxes : List FlowBox) (tree : IsTree (parents_of boxes)) (now : PassSt
     through_length = was.through_length;
     start_near = run_near (weight boxes (k + 1)) start near;
     edge_near = λ t. absurd (true_false false t refl);
-    mark_near = λ j. settled_near boxes now.through now.marks marks now.first (k + 1) end tree was.first_least (omega (arith, within)) was.mark_near
-        (λ i le. end_near (weight boxes now.first) (weight boxes i) now.start end was.start_near ended (weight_up boxes now.first i le)) settled (j + 1) j (omega arith);
+    mark_near = marks_near boxes tree now _ _ was end ended (k + 1) (omega (arith, within)) marks settled;
     strut_fits = fits';
     sized = was.sized;
     unparted = λ j low high. absurd (omega (arith, low, high));
@@ -148,8 +167,7 @@ module _ (boxes : List FlowBox) (tree : IsTree (parents_of boxes)) (now : PassSt
     through_length = was.through_length;
     start_near = edge_run_near (weight boxes k) edge near;
     edge_near = λ t. near;
-    mark_near = λ j. settled_near boxes now.through now.marks marks now.first k end tree was.first_least was.within was.mark_near
-        (λ i le. end_near (weight boxes now.first) (weight boxes i) now.start end was.start_near ended (weight_up boxes now.first i le)) settled (j + 1) j (omega arith);
+    mark_near = marks_near boxes tree now _ _ was end ended k was.within marks settled;
     strut_fits = fits';
     sized = was.sized;
     unparted = λ j low high. absurd (omega (arith, low, high));
@@ -223,11 +241,6 @@ module _ (boxes : List FlowBox) (tree : IsTree (parents_of boxes)) (now : PassSt
       unparted = was.unparted;
     }
 
-    pub marks_settled : (marks : List Length) (end : ℤ) → Settled boxes now.through now.marks marks now.first m end → IsCollapseNear (end -ℤ now.start)
-        → (j : ℕ) → IsMarkNear (weight boxes j) (length_at marks j)
-    marks_settled marks end settled ended j = settled_near boxes now.through now.marks marks now.first m end tree was.first_least was.within was.mark_near
-        (λ i le. end_near (weight boxes now.first) (weight boxes i) now.start end was.start_near ended (weight_up boxes now.first i le)) settled (j + 1) j (omega arith)
-
     pub fits_parted : (marks heights : List Length) (end height start : ℤ) (strut' : StrutValue)
         → Settled boxes now.through now.marks marks now.first m end → IsCollapseNear (end -ℤ now.start)
         → IsStartNear (weight boxes m) start → (is_solid (block_at boxes p).inside ≡ false → IsBoxSize height) → Wrote length_at now.heights heights p height → StrutFits strut'
@@ -244,7 +257,7 @@ module _ (boxes : List FlowBox) (tree : IsTree (parents_of boxes)) (now : PassSt
           through_length = was.through_length;
           start_near = run_near (weight boxes m) start near;
           edge_near = λ t. absurd (true_false false t refl);
-          mark_near = marks_settled marks end settled ended;
+          mark_near = marks_near boxes tree now p m was end ended m was.within marks settled;
           strut_fits = fits';
           sized = written (λ (j : ℕ) (v : ℤ). is_solid (block_at boxes j).inside ≡ false → IsBoxSize v) length_at now.heights heights height wrote size was.sized;
           unparted = λ j low high. absurd (omega (arith, low, high));

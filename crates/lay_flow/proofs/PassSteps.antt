@@ -31,7 +31,7 @@ use Rattle.lay_flow.proofs.BlockKinds.{joined_passes, joins_flow, placed_none, s
 use Rattle.lay_flow.proofs.Openings.{WithMargin, pushed, opened, opened_wall}
 use Rattle.lay_flow.proofs.Closings.{passes_is, joined_here, code_open, not_hanging, started, close_passing, close_joined, close_parted, mark_parted, reach_parted}
 use Rattle.lay_flow.proofs.ContentEnds.{bottom_joined, bottom_parted, height_there}
-use Rattle.lay_flow.proofs.PassFits.{fits_opened, fits_parting, fits_started, fits_through, fits_joined, fits_parted, marks_settled, end_near, below_near, inset_height, later_near, edge_later_near, run_later_near, above_near}
+use Rattle.lay_flow.proofs.PassFits.{fits_opened, fits_parting, fits_started, fits_through, fits_joined, fits_parted, marks_near, end_near, below_near, inset_height, later_near, edge_later_near, run_later_near, above_near}
 use Rattle.lay_flow.proofs.RunReach.{RunEnds}
 use Rattle.lay_flow.proofs.SoFar.{Wrote}
 use Rattle.lay_flow.proofs.Truths.{true_false, true_or, low_yes}
@@ -286,7 +286,7 @@ module _ (boxes : List FlowBox) (tree : IsTree (parents_of boxes)) (now : PassSt
             (λ solid. let low = placed.low p positive was.fits.parent solid in
             let h : height ≡ length_at placing'.extents p = is_height ∙ rw solid refl in
             subst (λ (v : ℤ). IsWithin (reach (weight boxes m)) v) (sym (starts ∙ (λ i. marked i +ℤ h i))) low)
-            (λ flow. let near_mark = marks_settled boxes tree now p m positive was.fits marks end settles ended p in
+            (λ flow. let near_mark = marks_near boxes tree now p m was.fits end ended m was.fits.within marks settles p in
             below_near (weight boxes p) (weight boxes m) mark height start (subst (IsMarkNear (weight boxes p)) (sym marked) near_mark) (size flow) starts (weight_over boxes p m was.fits.parent))
 
         ext_there : (extents : Extents) → MayBe boxes (length placing'.places) placing'.extents extents → is_placed (block_at boxes p).inside ≡ true → length_at placing'.extents p ≡ length_at extents.depths p

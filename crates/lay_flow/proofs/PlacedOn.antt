@@ -16,7 +16,8 @@ use Rattle.lay_flow.specs.BlockPositions.{is_lines}
 use Rattle.lay_flow.specs.Pass.Bounds.{IsLineDepth}
 use Rattle.lay_flow.specs.Pass.Placed.{Placing, PlacesTo}
 use Rattle.lay_flow.proofs.WeightFacts.{light_at}
-use Rattle.lay_flow.specs.Pass.Known.{ArePlaced, ArePlacedOn, AreSpots, GoesOn, placing_of}
+use Rattle.lay_flow.specs.declared.pass.Pass.{Pass}
+use Rattle.lay_flow.specs.Pass.Known.{ArePlaced, ArePlacedOn, AreSpots, GoesOn, IsKnown, placing_of}
 use Rattle.lay_flow.proofs.PassSteps.{placed_kept}
 use Rattle.lay_flow.proofs.PlaceSteps.{old_place}
 
@@ -49,6 +50,21 @@ module _ (boxes : List FlowBox) (old new : List Length) (now then : PlacingState
   -- and more are placed
   pub placed_on : ArePlacedOn boxes new then places m
   placed_on = goes places are (subst (PlacesTo boxes new (placing_of now places)) (places_count now places are) (placed_kept boxes old new (placing_of now places) (length places) tree few placed same))
+
+-- the boxes that a pass has placed stay so where the boxes before its run keep their marks
+module _ (boxes : List FlowBox) (tree : IsTree (parents_of boxes)) (flow : Pass) (p m : ℕ) (known : IsKnown boxes flow p m) (marks : List Length)
+    (same : (j : ℕ) → j < flow.first → length_at marks j ≡ length_at flow.marks.items j) where
+  few : length known.places ≤ length boxes
+  few = let early = known.knows.early in let most = known.knows.fits.first_most in let within = known.knows.fits.within in omega (arith, early, most, within)
+
+  alike : (j : ℕ) → j < length known.places → length_at marks j ≡ length_at flow.marks.items j
+  alike j lt = let early = known.knows.early in same j (omega (arith, lt, early))
+
+  pub known_placed : ArePlaced boxes marks flow.placing (length flow.placing.places.items)
+  known_placed = kept_places boxes flow.marks.items marks flow.placing known.places tree known.are few known.knows.placed alike
+
+  pub known_placed_on : (then : PlacingState) (n : ℕ) → GoesOn boxes marks flow.placing then (length flow.placing.places.items) n → ArePlacedOn boxes marks then known.places n
+  known_placed_on then n goes = placed_on boxes flow.marks.items marks flow.placing then known.places n tree known.are few known.knows.placed alike goes
 
 module _ (boxes : List FlowBox) (now : PassState) (placing : PlacingState) (places : List Spot) (are : AreSpots placing places) (k : ℕ) (edge : ℤ) where
   -- the depths that are known are those of the spots

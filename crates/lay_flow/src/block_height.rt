@@ -55,6 +55,14 @@ impl StandingBlock<'_> {
         })
     }
 
+    /// Its bottom border edge, for this height of its border box.
+    pub(crate) fn bottom(&self, height: Unit) -> Unit
+        requires { IsPosition height.0 }
+        ensures { result ≡ record { 0 = self.now.mark.0 +ℤ height.0 } }
+    {
+        sum_of(self.mark, height)
+    }
+
     // The top edge of its content.
     fn top(&self) -> Unit
         ensures { result ≡ record { 0 = self.now.mark.0 +ℤ self.now.block.now.edge_top.0 } }

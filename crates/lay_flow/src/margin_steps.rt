@@ -152,7 +152,7 @@ fn close_joined(ending: &EndingBox<'_>, flow: &mut Pass)
     };
     let height = standing.height_to_border(border);
     write_at(&mut flow.heights, ending.at.k, height);
-    let start = sum_of(mark, height);
+    let start = standing.bottom(height);
     flow.start = RunStart::At(start);
     flow.strut = with_margin(flow.strut, block.margin_bottom);
 }
@@ -187,7 +187,7 @@ fn close_parted(ending: &EndingBox<'_>, flow: &mut Pass) -> Result<(), NoMemory>
     };
     let height = standing.height_to_margin(Near { unit: end });
     write_at(&mut flow.heights, ending.at.k, height);
-    let start = sum_of(mark, height);
+    let start = standing.bottom(height);
     flow.start = RunStart::At(start);
     flow.strut = lone_margin(block.margin_bottom);
     flow.first = ending.next;

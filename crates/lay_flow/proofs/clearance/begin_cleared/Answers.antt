@@ -1,4 +1,4 @@
-use Rattle.std.proofs.Common.{ℕ, ◌+◌, true, arith, subst, sym, ◌∙◌, List, Option, is_some}
+use Rattle.std.proofs.Common.{ℕ, true, arith, subst, sym, ◌∙◌, List, Option, is_some}
 use Rattle.std.proofs.lemmas.List.{length-map}
 use Rattle.lay_units.specs.declared.length.Unit.{Unit as Length}
 use Rattle.lay_floats.specs.ClearEdge.{IsClearEdge}
@@ -9,12 +9,11 @@ use Rattle.lay_flow.specs.Pass.Bounds.{clears_of, clear_edges_of, state_of, IsMa
 use Rattle.lay_flow.specs.Pass.Knows.{AreExtentsKept}
 use Rattle.lay_flow.specs.Pass.Known.{placing_of}
 use Rattle.lay_flow.specs.declared.pass.RunStart.TheVariants.{HangsFrom as hangs_from}
-use Rattle.lay_flow.proofs.WeightFacts.{light_at, weight_up}
 use Rattle.lay_flow.specs.Weights.{weight}
 use Rattle.lay_flow.proofs.ClearSteps.{ready_cleared}
-use Rattle.lay_flow.proofs.PassFits.{start_is_near, end_near, settled_near}
+use Rattle.lay_flow.proofs.PassFits.{begins_near, marks_near}
 use Rattle.lay_flow.specs.Pass.Known.{ArePlacedOn, IsReadyAt}
-use Rattle.lay_flow.proofs.PlacedOn.{edge_known, kept_places, placed_on, places_count}
+use Rattle.lay_flow.proofs.PlacedOn.{edge_known, known_placed, known_placed_on, places_count}
 use Rattle.lay_flow.proofs.PlaceSteps.{lower_near}
 use Rattle.lay_flow.proofs.RunReach.{RunEnds}
 use Rattle.lay_flow.proofs.SoFar.{Wrote}
@@ -23,27 +22,19 @@ use Rattle.lay_flow.proofs.clearance.begin_cleared.Goals as goal
 
 pub end_of-end-requires : goal.end_of-end-requires
 end_of-end-requires c =
-    let f = c.requires.known.knows.fits in let a = f.first_most in let b = f.within in
-    start_is_near (weight c.args.child.now.at.boxes.list.now c.args.flow.now.first) (position_of c.args.flow.now.start) (light_at c.args.child.now.at.boxes.list.now c.args.child.now.at.boxes.are c.args.flow.now.first (omega (arith, a, b))) f.start_near
+    begins_near c.args.child.now.at.boxes.list.now c.args.child.now.at.boxes.are (state_of c.args.flow.now) _ _ c.requires.known.knows.fits
 
 pub invariant_of-marked-clause-near : goal.invariant_of-marked-clause-near
 invariant_of-marked-clause-near c =
-    let f = c.requires.known.knows.fits in
-    let old = c.args.flow.now in
+    let f = c.requires.known.knows.fits in let boxes = c.args.child.now.at.boxes in
     let settles = rw c.deref.ensures.value at c.settle.ensures in
-    let near : (j : ℕ) → IsMarkNear (weight c.args.child.now.at.boxes.list.now j) (length_at c.settle.new.marks.items j) = λ j. settled_near c.args.child.now.at.boxes.list.now old.through.items old.marks.items c.settle.new.marks.items old.first c.args.child.now.at.k c.end_of-end.result.0 c.args.child.now.at.boxes.are.is_tree.tree f.first_least f.within f.mark_near
-    (λ i le. end_near (weight c.args.child.now.at.boxes.list.now old.first) (weight c.args.child.now.at.boxes.list.now i) (position_of old.start) c.end_of-end.result.0 f.start_near c.end_of-end.ensures.near (weight_up c.args.child.now.at.boxes.list.now old.first i le)) settles (j + 1) j (omega arith) in
-    subst (λ (xs : List Length). (j : ℕ) → IsMarkNear (weight c.args.child.now.at.boxes.list.now j) (length_at xs j)) (sym c.deref-2.ensures.value) near
+    let near = marks_near boxes.list.now boxes.are.is_tree.tree (state_of c.args.flow.now) _ _ f c.end_of-end.result.0 c.end_of-end.ensures.near c.args.child.now.at.k f.within _ settles in
+    subst (λ (xs : List Length). (j : ℕ) → IsMarkNear (weight boxes.list.now j) (length_at xs j)) (sym c.deref-2.ensures.value) near
 
 pub place_up_to-requires-clause-known : goal.place_up_to-requires-clause-known
 place_up_to-requires-clause-known c =
-    let known = c.requires.known.knows in
-    let f = known.fits in
-    let early = known.early in let few = f.first_most in let within = f.within in
     let settles = rw c.deref.ensures.value at c.settle.ensures in
-    let old = c.args.flow.now in
-    kept_places c.args.child.now.at.boxes.list.now old.marks.items c.deref-2.result.now old.placing c.requires.known.places c.args.child.now.at.boxes.are.is_tree.tree c.requires.known.are (omega (arith, early, few, within)) known.placed
-    (λ j lt. rw c.deref-2.ensures.value (settles.before j (omega (arith, lt, early))))
+    known_placed c.args.child.now.at.boxes.list.now c.args.child.now.at.boxes.are.is_tree.tree c.args.flow.now _ _ c.requires.known _ (λ j lt. rw c.deref-2.ensures.value (settles.before j lt))
 
 pub write_edge-requires : goal.write_edge-requires
 write_edge-requires c =
@@ -61,9 +52,7 @@ returns c =
     let settles = rw c.deref.ensures.value at c.settle.ensures in
     let f = known.fits in
     let done = c.in_ok-place_up_to.ensures {u = tt} in
-    let there = placed_on c.args.child.now.at.boxes.list.now old.marks.items c.settle.new.marks.items old.placing c.place_up_to.new.placing c.requires.known.places c.args.child.now.at.k c.args.child.now.at.boxes.are.is_tree.tree c.requires.known.are
-    (let early = c.requires.known.knows.early in let few = f.first_most in let within = f.within in omega (arith, early, few, within)) c.requires.known.knows.placed
-    (let early = c.requires.known.knows.early in let settles = rw c.deref.ensures.value at c.settle.ensures in λ j lt. settles.before j (omega (arith, lt, early))) (rw c.deref-2.ensures.value at done.placed) in
+    let there = known_placed_on c.args.child.now.at.boxes.list.now c.args.child.now.at.boxes.are.is_tree.tree c.args.flow.now _ _ c.requires.known c.settle.new.marks.items (rw c.deref.ensures.value at c.settle.ensures).before c.place_up_to.new.placing c.args.child.now.at.k (rw c.deref-2.ensures.value at done.placed) in
     let go : ArePlacedOn c.args.child.now.at.boxes.list.now c.settle.new.marks.items c.place_up_to.new.placing c.requires.known.places c.args.child.now.at.k → IsReadyAt c.args.child.now.at.boxes.list.now (record c.args.flow.now { marks = c.settle.new.marks; clear_edges = c.write_edge.new.clear_edges; start = hangs_from c.lower_of-edge.result; strut = c.no_margin-flow.result; first = c.args.child.now.at.k; placing = c.place_up_to.new.placing }) c.args.child.now.at.k = λ goes.
     let placed = goes.to in
     let edge = c.lower_of-edge.result in

@@ -1,13 +1,12 @@
-use Rattle.std.proofs.Common.{arith, ap, subst, sym, ℤ, length}
+use Rattle.std.proofs.Common.{ap, subst, sym, ℤ, length}
 use Rattle.lay_flow.specs.Pass.Known.{placing_of}
 use Rattle.lay_flow.specs.Pass.Bounds.{IsEdgeNear, state_of, position_of, is_hanging}
 use Rattle.lay_flow.specs.BlockSizes.{IsNear}
 use Rattle.lay_flow.specs.Pass.Clears.{IsEdgeWithout}
-use Rattle.lay_flow.proofs.WeightFacts.{light_at}
 use Rattle.lay_flow.specs.Weights.{weight}
 use Rattle.lay_flow.proofs.PlacedOn.{edge_of}
 use Rattle.lay_flow.proofs.ClearSteps.{hanging_edge, flowing_edge}
-use Rattle.lay_flow.proofs.PassFits.{start_is_near, start_edge_near, ahead_near}
+use Rattle.lay_flow.proofs.PassFits.{begins_near, start_edge_near, ahead_near}
 use Rattle.lay_flow.proofs.clearance.edge_without.Goals as goal
 
 pub returns-in-HangsFrom-clause-edge : goal.returns-in-HangsFrom-clause-edge
@@ -23,8 +22,7 @@ returns-in-HangsFrom-clause-near c =
 
 pub invariant_of-hypothetical_edge : goal.invariant_of-hypothetical_edge
 invariant_of-hypothetical_edge c =
-    let f = c.requires.knows.fits in let a = f.first_most in let b = f.within in
-    record { near = subst IsNear (ap position_of c.in-At.is) (start_is_near (weight c.args.child.now.at.boxes.list.now c.args.flow.now.first) (position_of c.args.flow.now.start) (light_at c.args.child.now.at.boxes.list.now c.args.child.now.at.boxes.are c.args.flow.now.first (omega (arith, a, b))) f.start_near) }
+    record { near = subst IsNear (ap position_of c.in-At.is) (begins_near c.args.child.now.at.boxes.list.now c.args.child.now.at.boxes.are (state_of c.args.flow.now) _ _ c.requires.knows.fits) }
 
 pub returns-in-At-clause-edge : goal.returns-in-At-clause-edge
 returns-in-At-clause-edge c =

@@ -11,65 +11,52 @@ use Rattle.lay_flow.specs.Pass.Bounds.{IsLineDepth, held_end, state_of, IsMarkNe
 use Rattle.lay_flow.specs.Pass.Knows.{AreExtentsKept}
 use Rattle.lay_flow.specs.Pass.Known.{placing_of}
 use Rattle.lay_flow.proofs.SoFar.{Wrote}
-use Rattle.lay_flow.proofs.PassFits.{start_is_near, mark_is_near, end_near}
+use Rattle.lay_flow.proofs.PassFits.{begins_near, mark_is_near, marks_near, end_is_near}
 use Rattle.lay_flow.specs.Pass.Known.{ArePlacedOn, IsFinished}
-use Rattle.lay_flow.proofs.PlacedOn.{kept_places, line_depth, placed_on, places_count, within_extents}
-use Rattle.lay_flow.proofs.WeightFacts.{light_at, weight_up}
+use Rattle.lay_flow.proofs.PlacedOn.{known_placed, line_depth, known_placed_on, places_count, within_extents}
+use Rattle.lay_flow.proofs.WeightFacts.{light_at}
 use Rattle.lay_flow.proofs.PlaceSteps.{clear_edge_position}
-use Rattle.lay_flow.proofs.PassEnds.{all_places, near_tops, sized_boxes}
+use Rattle.lay_flow.proofs.PassEnds.{all_places, sized_boxes}
 use Rattle.lay_flow.proofs.RunReach.{RunEnds}
 use Rattle.lay_flow.proofs.WroteColumns.{wrote_length}
 use Rattle.lay_flow.proofs.flow_columns.close_root.Goals as goal
 
 pub end_of-end-requires : goal.end_of-end-requires
 end_of-end-requires c =
-    let f = c.requires.knows.fits in let a = f.first_most in let b = f.within in
-    start_is_near (weight c.args.boxes.now.list.now c.args.flow.now.first) (position_of c.args.flow.now.start) (light_at c.args.boxes.now.list.now c.args.boxes.now.are c.args.flow.now.first (omega (arith, a, b))) f.start_near
+    begins_near c.args.boxes.now.list.now c.args.boxes.now.are (state_of c.args.flow.now) _ _ c.requires.knows.fits
 
 pub invariant_of-marked-clause-near : goal.invariant_of-marked-clause-near
 invariant_of-marked-clause-near c =
     let f = c.requires.knows.fits in
     let settles = rw c.deref.ensures.value at c.settle.ensures in
-    let near = near_tops c.args.boxes.now.list.now c.args.boxes.now.are (state_of c.args.flow.now) _ c.end_of-end.result.0 f c.end_of-end.ensures.near settles in
+    let near = marks_near c.args.boxes.now.list.now c.args.boxes.now.are.is_tree.tree (state_of c.args.flow.now) _ _ f c.end_of-end.result.0 c.end_of-end.ensures.near _ f.within _ settles in
     subst (λ (xs : List Length). (j : ℕ) → IsMarkNear (weight c.args.boxes.now.list.now j) (length_at xs j)) (sym c.deref-2.ensures.value) near
 
 pub place_up_to-requires-clause-known : goal.place_up_to-requires-clause-known
 place_up_to-requires-clause-known c =
-    let known = c.requires.knows in
-    let f = known.fits in
-    let early = known.early in let few = f.first_most in let within = f.within in
     let settles = rw c.deref.ensures.value at c.settle.ensures in
-    let old = c.args.flow.now in
-    kept_places c.args.boxes.now.list.now old.marks.items c.deref-2.result.now old.placing c.requires.places c.args.boxes.now.are.is_tree.tree c.requires.are (omega (arith, early, few, within)) known.placed
-    (λ j lt. rw c.deref-2.ensures.value (settles.before j (omega (arith, lt, early))))
+    known_placed c.args.boxes.now.list.now c.args.boxes.now.are.is_tree.tree c.args.flow.now _ _ c.requires _ (λ j lt. rw c.deref-2.ensures.value (settles.before j lt))
 
 pub root_height-height-requires : goal.root_height-height-requires
 root_height-height-requires c =
     let done = c.in_ok-place_up_to.ensures {u = tt} in
     let old = c.args.flow.now in
     let fits = c.requires.knows.fits in
-    let there = placed_on c.args.boxes.now.list.now old.marks.items c.settle.new.marks.items old.placing c.place_up_to.new.placing c.requires.places (length c.args.boxes.now.list.now) c.args.boxes.now.are.is_tree.tree c.requires.are
-    (let early = c.requires.knows.early in let few = fits.first_most in let within = fits.within in omega (arith, early, few, within)) c.requires.knows.placed
-    (let early = c.requires.knows.early in let settles = rw c.deref.ensures.value at c.settle.ensures in λ j lt. settles.before j (omega (arith, lt, early))) (rw c.deref-2.ensures.value at done.placed) in
+    let there = known_placed_on c.args.boxes.now.list.now c.args.boxes.now.are.is_tree.tree c.args.flow.now _ _ c.requires c.settle.new.marks.items (rw c.deref.ensures.value at c.settle.ensures).before c.place_up_to.new.placing (length c.args.boxes.now.list.now) (rw c.deref-2.ensures.value at done.placed) in
     (λ (goes : ArePlacedOn c.args.boxes.now.list.now c.settle.new.marks.items c.place_up_to.new.placing c.requires.places (length c.args.boxes.now.list.now)).
     clear_edge_position (weight c.args.boxes.now.list.now (length c.args.boxes.now.list.now)) _ clear_both c.clear_edge-bottom.result c.args.boxes.now.are.light goes.to.within c.clear_edge-bottom.ensures) there
 
 pub invariant_of-root_end : goal.invariant_of-root_end
 invariant_of-root_end c =
-    let f = c.requires.knows.fits in
-    record {
-      near = mark_is_near (weight c.args.boxes.now.list.now (length c.args.boxes.now.list.now)) c.end_of-end.result.0 c.args.boxes.now.are.light
-          (end_near (weight c.args.boxes.now.list.now c.args.flow.now.first) (weight c.args.boxes.now.list.now (length c.args.boxes.now.list.now)) (position_of c.args.flow.now.start) c.end_of-end.result.0 f.start_near c.end_of-end.ensures.near (weight_up c.args.boxes.now.list.now c.args.flow.now.first (length c.args.boxes.now.list.now) f.first_most));
-    }
+    let boxes = c.args.boxes.now in
+    record { near = end_is_near boxes.list.now boxes.are.is_tree.tree (state_of c.args.flow.now) _ _ c.requires.knows.fits c.end_of-end.result.0 c.end_of-end.ensures.near boxes.are }
 
 pub invariant_of-standing-clause-lines : goal.invariant_of-standing-clause-lines
 invariant_of-standing-clause-lines c lines =
     let done = c.in_ok-place_up_to.ensures {u = tt} in
     let old = c.args.flow.now in
     let fits = c.requires.knows.fits in
-    let there = placed_on c.args.boxes.now.list.now old.marks.items c.settle.new.marks.items old.placing c.place_up_to.new.placing c.requires.places (length c.args.boxes.now.list.now) c.args.boxes.now.are.is_tree.tree c.requires.are
-    (let early = c.requires.knows.early in let few = fits.first_most in let within = fits.within in omega (arith, early, few, within)) c.requires.knows.placed
-    (let early = c.requires.knows.early in let settles = rw c.deref.ensures.value at c.settle.ensures in λ j lt. settles.before j (omega (arith, lt, early))) (rw c.deref-2.ensures.value at done.placed) in
+    let there = known_placed_on c.args.boxes.now.list.now c.args.boxes.now.are.is_tree.tree c.args.flow.now _ _ c.requires c.settle.new.marks.items (rw c.deref.ensures.value at c.settle.ensures).before c.place_up_to.new.placing (length c.args.boxes.now.list.now) (rw c.deref-2.ensures.value at done.placed) in
     let go : ArePlacedOn c.args.boxes.now.list.now c.settle.new.marks.items c.place_up_to.new.placing c.requires.places (length c.args.boxes.now.list.now) → IsLineDepth c.length_at-mark.result.0 c.block-block.result.edge_top.0 c.length_at.result.0 = λ goes.
     let some = c.args.boxes.now.are.is_tree.some in
     let block = c.block-block.ensures.value in
@@ -89,9 +76,7 @@ returns-clause-finished c =
     let done = c.in_ok-place_up_to.ensures {u = tt} in
     let old = c.args.flow.now in
     let fits = c.requires.knows.fits in
-    let there = placed_on c.args.boxes.now.list.now old.marks.items c.settle.new.marks.items old.placing c.place_up_to.new.placing c.requires.places (length c.args.boxes.now.list.now) c.args.boxes.now.are.is_tree.tree c.requires.are
-    (let early = c.requires.knows.early in let few = fits.first_most in let within = fits.within in omega (arith, early, few, within)) c.requires.knows.placed
-    (let early = c.requires.knows.early in let settles = rw c.deref.ensures.value at c.settle.ensures in λ j lt. settles.before j (omega (arith, lt, early))) (rw c.deref-2.ensures.value at done.placed) in
+    let there = known_placed_on c.args.boxes.now.list.now c.args.boxes.now.are.is_tree.tree c.args.flow.now _ _ c.requires c.settle.new.marks.items (rw c.deref.ensures.value at c.settle.ensures).before c.place_up_to.new.placing (length c.args.boxes.now.list.now) (rw c.deref-2.ensures.value at done.placed) in
     let go : ArePlacedOn c.args.boxes.now.list.now c.settle.new.marks.items c.place_up_to.new.placing c.requires.places (length c.args.boxes.now.list.now) → IsFinished c.args.boxes.now.list.now (record c.args.flow.now { marks = c.settle.new.marks; heights = c.write_at.new.column; placing = c.place_up_to.new.placing }) = λ goes.
     let placed = goes.to in
     let placing = placing_of c.place_up_to.new.placing goes.places in
@@ -118,7 +103,7 @@ returns-clause-near c k lt =
     let settles = rw c.deref.ensures.value at c.settle.ensures in
     let m = settles.length_is in
     mark_is_near (weight c.args.boxes.now.list.now k) _ (light_at c.args.boxes.now.list.now c.args.boxes.now.are k (omega (arith, l, m, lt)))
-    (near_tops c.args.boxes.now.list.now c.args.boxes.now.are (state_of c.args.flow.now) _ c.end_of-end.result.0 f c.end_of-end.ensures.near settles k)
+    (marks_near c.args.boxes.now.list.now c.args.boxes.now.are.is_tree.tree (state_of c.args.flow.now) _ _ f c.end_of-end.result.0 c.end_of-end.ensures.near _ f.within _ settles k)
 
 pub returns-clause-sized : goal.returns-clause-sized
 returns-clause-sized c =
@@ -134,9 +119,7 @@ length_at-requires c =
     let f = c.requires.knows.fits in
     let old = c.args.flow.now in
     let done = c.in_ok-place_up_to.ensures {u = tt} in
-    let there = placed_on c.args.boxes.now.list.now old.marks.items c.settle.new.marks.items old.placing c.place_up_to.new.placing c.requires.places (length c.args.boxes.now.list.now) c.args.boxes.now.are.is_tree.tree c.requires.are
-    (let early = c.requires.knows.early in let few = f.first_most in let within = f.within in omega (arith, early, few, within)) c.requires.knows.placed
-    (let early = c.requires.knows.early in let settles = rw c.deref.ensures.value at c.settle.ensures in λ j lt. settles.before j (omega (arith, lt, early))) (rw c.deref-2.ensures.value at done.placed) in
+    let there = known_placed_on c.args.boxes.now.list.now c.args.boxes.now.are.is_tree.tree c.args.flow.now _ _ c.requires c.settle.new.marks.items (rw c.deref.ensures.value at c.settle.ensures).before c.place_up_to.new.placing (length c.args.boxes.now.list.now) (rw c.deref-2.ensures.value at done.placed) in
     rw c.deref-4.ensures.value (within_extents c.args.boxes.now.list.now c.settle.new.marks.items c.place_up_to.new.placing c.requires.places (length c.args.boxes.now.list.now) there 0 c.args.boxes.now.are.is_tree.some)
 
 pub invariant_of-standing-clause-near : goal.invariant_of-standing-clause-near
@@ -145,4 +128,4 @@ invariant_of-standing-clause-near c =
     let marked = rw c.deref-3.ensures.value at c.length_at-mark.ensures in
     let settles = rw c.deref.ensures.value at c.settle.ensures in
     subst IsNear (sym marked) (mark_is_near (weight c.args.boxes.now.list.now 0) _ (light_at c.args.boxes.now.list.now c.args.boxes.now.are 0 (omega arith))
-    (near_tops c.args.boxes.now.list.now c.args.boxes.now.are (state_of c.args.flow.now) _ c.end_of-end.result.0 f c.end_of-end.ensures.near settles 0))
+    (marks_near c.args.boxes.now.list.now c.args.boxes.now.are.is_tree.tree (state_of c.args.flow.now) _ _ f c.end_of-end.result.0 c.end_of-end.ensures.near _ f.within _ settles 0))

@@ -4,10 +4,8 @@ use Rattle.lay_flow.specs.Lengths.{length_at}
 use Rattle.lay_flow.specs.Children.{flag_at}
 use Rattle.lay_flow.specs.Pass.Known.{placing_of}
 use Rattle.lay_flow.specs.Pass.Bounds.{state_of, position_of, is_hanging}
-use Rattle.lay_flow.proofs.WeightFacts.{light_at}
-use Rattle.lay_flow.specs.Weights.{weight}
 use Rattle.lay_flow.proofs.SoFar.{Wrote}
-use Rattle.lay_flow.proofs.PassFits.{start_is_near}
+use Rattle.lay_flow.proofs.PassFits.{begins_near}
 use Rattle.lay_flow.proofs.PassSteps.{knows_through}
 use Rattle.lay_flow.proofs.RunReach.{RunEnds}
 use Rattle.lay_flow.proofs.WroteColumns.{wrote_length, wrote_flag}
@@ -15,8 +13,7 @@ use Rattle.lay_flow.proofs.margin_steps.close_through.Goals as goal
 
 pub end_of-mark-requires : goal.end_of-mark-requires
 end_of-mark-requires c =
-    let f = c.requires.known.knows.fits in let a = f.first_most in let b = f.within in
-    start_is_near (weight c.args.ending.now.at.boxes.list.now c.args.flow.now.first) (position_of c.args.flow.now.start) (light_at c.args.ending.now.at.boxes.list.now c.args.ending.now.at.boxes.are c.args.flow.now.first (omega (arith, a, b))) f.start_near
+    begins_near c.args.ending.now.at.boxes.list.now c.args.ending.now.at.boxes.are (state_of c.args.flow.now) _ _ c.requires.known.knows.fits
 
 pub returns : goal.returns
 returns c =

@@ -6,7 +6,7 @@ use Rattle.lay_flow.specs.Pass.Known.{placing_of}
 use Rattle.lay_flow.specs.Pass.Bounds.{state_of, position_of, is_hanging}
 use Rattle.lay_flow.proofs.WeightFacts.{light_at, weight_up}
 use Rattle.lay_flow.specs.Weights.{weight}
-use Rattle.lay_flow.proofs.PassFits.{start_is_near, end_near, mark_is_near}
+use Rattle.lay_flow.proofs.PassFits.{begins_near, end_near, mark_is_near}
 use Rattle.lay_flow.proofs.PassSteps.{knows_parting}
 use Rattle.lay_flow.proofs.RunReach.{RunEnds}
 use Rattle.lay_flow.proofs.LaidLines.{inset_position}
@@ -14,8 +14,7 @@ use Rattle.lay_flow.proofs.margin_steps.open_parting.Goals as goal
 
 pub end_of-mark-requires : goal.end_of-mark-requires
 end_of-mark-requires c =
-    let f = c.requires.ready.ready.fits in let a = f.first_most in let b = f.within in
-    start_is_near (weight c.args.child.now.at.boxes.list.now c.args.flow.now.first) (position_of c.args.flow.now.start) (light_at c.args.child.now.at.boxes.list.now c.args.child.now.at.boxes.are c.args.flow.now.first (omega (arith, a, b))) f.start_near
+    begins_near c.args.child.now.at.boxes.list.now c.args.child.now.at.boxes.are (state_of c.args.flow.now) _ _ c.requires.ready.ready.fits
 
 pub sum_of-start-requires-clause-a : goal.sum_of-start-requires-clause-a
 sum_of-start-requires-clause-a c =

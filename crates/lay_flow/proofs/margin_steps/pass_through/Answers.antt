@@ -1,17 +1,14 @@
-use Rattle.std.proofs.Common.{arith, sym, ◌∙◌}
+use Rattle.std.proofs.Common.{sym, ◌∙◌}
 use Rattle.lay_flow.specs.Pass.Known.{placing_of}
-use Rattle.lay_flow.specs.Pass.Bounds.{state_of, position_of}
-use Rattle.lay_flow.proofs.WeightFacts.{light_at}
-use Rattle.lay_flow.specs.Weights.{weight}
-use Rattle.lay_flow.proofs.PassFits.{start_is_near}
+use Rattle.lay_flow.specs.Pass.Bounds.{state_of}
+use Rattle.lay_flow.proofs.PassFits.{begins_near}
 use Rattle.lay_flow.proofs.PassSteps.{knows_started}
 use Rattle.lay_flow.proofs.margin_steps.pass_through.Goals as goal
 use Rattle.lay_flow.proofs.margin_steps.pass_through.Goals.{then-is_hanging+then-flow-ending, else-is_hanging}
 
 pub invariant_of-edge : goal.invariant_of-edge
 invariant_of-edge c =
-    let f = c.requires.known.knows.fits in let a = f.first_most in let b = f.within in
-    record { near = rw c.position.ensures (start_is_near (weight c.args.ending.now.at.boxes.list.now c.args.flow.now.first) (position_of c.args.flow.now.start) (light_at c.args.ending.now.at.boxes.list.now c.args.ending.now.at.boxes.are c.args.flow.now.first (omega (arith, a, b))) f.start_near) }
+    record { near = rw c.position.ensures (begins_near c.args.ending.now.at.boxes.list.now c.args.ending.now.at.boxes.are (state_of c.args.flow.now) _ _ c.requires.known.knows.fits) }
 
 pub close_through-requires-clause-known : goal.close_through-requires-clause-known
 close_through-requires-clause-known c = elim c.if-is_hanging.branch [
