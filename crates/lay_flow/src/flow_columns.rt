@@ -131,7 +131,13 @@ fn close_to(boxes: &Boxes<'_>, flow: &mut Pass, m: usize) -> Result<(), NoMemory
             boxes: *boxes,
             k: innermost,
         };
-        close(&EndingBox { at, next: m }, flow)?;
+        let block = at.block();
+        let ending = EndingBox {
+            at,
+            block: &block,
+            next: m,
+        };
+        close(&ending, flow)?;
         innermost = at.parent();
     }
     Ok(())

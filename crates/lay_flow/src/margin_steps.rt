@@ -29,25 +29,17 @@ pub(crate) fn open(child: &ChildAt<'_>, flow: &mut Pass) -> Result<(), NoMemory>
     Ok(())
 }
 
-// Reads the top margin.
+// Reads the top margin. Where no border and no padding ends the run, it goes on in the box.
 fn enter(child: &ChildAt<'_>, flow: &mut Pass)
     requires { IsReadyAt child.now.at.boxes.list.now flow.old child.now.at.k }
     ensures { IsKnown child.now.at.boxes.list.now flow.new child.now.at.k (child.now.at.k + 1) }
 {
-    if child.at.block().has_edge_top() {
+    let block = child.at.block();
+    if block.has_edge_top() {
         open_parting(child, flow);
     } else {
-        open_plain(child, flow);
+        flow.strut = with_margin(flow.strut, block.margin_top);
     }
-}
-
-// The run goes on in the box.
-fn open_plain(child: &ChildAt<'_>, flow: &mut Pass)
-    requires plain { parts_tops child.now.at.boxes.list.now child.now.at.k ≡ false }
-    requires ready { IsReadyAt child.now.at.boxes.list.now flow.old child.now.at.k }
-    ensures { IsKnown child.now.at.boxes.list.now flow.new child.now.at.k (child.now.at.k + 1) }
-{
-    flow.strut = with_margin(flow.strut, child.at.block().margin_top);
 }
 
 // A border or a padding ends the run.
@@ -78,10 +70,9 @@ pub(crate) fn close(ending: &EndingBox<'_>, flow: &mut Pass) -> Result<(), NoMem
     requires { IsKnown ending.now.at.boxes.list.now flow.old ending.now.at.k ending.now.next }
     ensures { OnOk result (IsKnown ending.now.at.boxes.list.now flow.new (parent_at ending.now.at.boxes.list.now ending.now.at.k) ending.now.next) }
 {
-    let block = ending.at.block();
-    if block.may_collapse_through() && flow.first <= ending.at.k {
+    if ending.block.may_collapse_through() && flow.first <= ending.at.k {
         pass_through(ending, flow);
-    } else if block.may_join_bottoms() && !is_barred(ending, flow) {
+    } else if ending.block.may_join_bottoms() && !is_barred(ending, flow) {
         close_joined(ending, flow);
     } else {
         close_parted(ending, flow)?;
@@ -129,7 +120,7 @@ fn close_through(ending: &EndingBox<'_>, flow: &mut Pass)
     write_at(&mut flow.marks, ending.at.k, mark);
     write_at(&mut flow.heights, ending.at.k, Unit(0));
     write_flag(&mut flow.through, ending.at.k, true);
-    flow.strut = with_margin(flow.strut, ending.at.block().margin_bottom);
+    flow.strut = with_margin(flow.strut, ending.block.margin_bottom);
 }
 
 // Its bottom margin adjoins that of its last child.
@@ -140,10 +131,9 @@ fn close_joined(ending: &EndingBox<'_>, flow: &mut Pass)
     requires known { IsKnown ending.now.at.boxes.list.now flow.old ending.now.at.k ending.now.next }
     ensures { IsKnown ending.now.at.boxes.list.now flow.new (parent_at ending.now.at.boxes.list.now ending.now.at.k) ending.now.next }
 {
-    let block = ending.at.block();
     let mark = length_at(&flow.marks, ending.at.k);
     let standing = StandingBlock {
-        block: &block,
+        block: ending.block,
         mark,
         extent: length_at(&flow.placing.extents, ending.at.k),
     };
@@ -154,7 +144,7 @@ fn close_joined(ending: &EndingBox<'_>, flow: &mut Pass)
     write_at(&mut flow.heights, ending.at.k, height);
     let start = standing.bottom(height);
     flow.start = RunStart::At(start);
-    flow.strut = with_margin(flow.strut, block.margin_bottom);
+    flow.strut = with_margin(flow.strut, ending.block.margin_bottom);
 }
 
 // Its bottom margin begins a run.
@@ -164,7 +154,6 @@ fn close_parted(ending: &EndingBox<'_>, flow: &mut Pass) -> Result<(), NoMemory>
     requires known { IsKnown ending.now.at.boxes.list.now flow.old ending.now.at.k ending.now.next }
     ensures { OnOk result (IsKnown ending.now.at.boxes.list.now flow.new (parent_at ending.now.at.boxes.list.now ending.now.at.k) ending.now.next) }
 {
-    let block = ending.at.block();
     let end = end_of(flow.start, flow.strut);
     let run = EndedRun {
         boxes: ending.at.boxes,
@@ -181,7 +170,7 @@ fn close_parted(ending: &EndingBox<'_>, flow: &mut Pass) -> Result<(), NoMemory>
     place_up_to(&marked, &mut flow.placing, ending.next)?;
     let mark = length_at(&flow.marks, ending.at.k);
     let standing = StandingBlock {
-        block: &block,
+        block: ending.block,
         mark,
         extent: length_at(&flow.placing.extents, ending.at.k),
     };
@@ -189,7 +178,7 @@ fn close_parted(ending: &EndingBox<'_>, flow: &mut Pass) -> Result<(), NoMemory>
     write_at(&mut flow.heights, ending.at.k, height);
     let start = standing.bottom(height);
     flow.start = RunStart::At(start);
-    flow.strut = lone_margin(block.margin_bottom);
+    flow.strut = lone_margin(ending.block.margin_bottom);
     flow.first = ending.next;
     Ok(())
 }

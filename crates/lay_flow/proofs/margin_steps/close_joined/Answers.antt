@@ -29,7 +29,7 @@ invariant_of-border c =
 pub returns : goal.returns
 returns c =
     let f = c.requires.known.knows.fits in let a = f.parent in let b = f.within in let l = f.heights_length in
-    let block = c.block-block.ensures.value in
+    let block = c.args.ending.now.is in
     let holds = rw block at c.with_margin-flow.ensures in
     let p = c.args.ending.now.at.k in
     let old = c.args.flow.now in
@@ -50,5 +50,5 @@ returns c =
 
 pub bottom-start-requires : goal.bottom-start-requires
 bottom-start-requires c =
-    let flow = subst (λ (b : Block). is_solid b.inside ≡ false) (sym c.block-block.ensures.value) (placed_none (block_at c.args.ending.now.at.boxes.list.now c.args.ending.now.at.k).inside (joins_flow (block_at c.args.ending.now.at.boxes.list.now c.args.ending.now.at.k) c.requires.joined)).1 in
+    let flow = subst (λ (b : Block). is_solid b.inside ≡ false) (sym c.args.ending.now.is) (placed_none (block_at c.args.ending.now.at.boxes.list.now c.args.ending.now.at.k).inside (joins_flow (block_at c.args.ending.now.at.boxes.list.now c.args.ending.now.at.k) c.requires.joined)).1 in
     box_height_position c.height_to_border-height.result.0 (c.height_to_border-height.ensures.size flow)

@@ -58,8 +58,8 @@ invariant_of-standing-clause-lines c lines =
     let old = c.args.flow.now in
     let done = c.in_ok-place_up_to.ensures {u = tt} in
     let there = known_placed_on c.args.ending.now.at.boxes.list.now c.args.ending.now.at.boxes.are.is_tree.tree c.args.flow.now _ _ c.requires.known c.settle.new.marks.items (rw c.deref.ensures.value at c.settle.ensures).before c.place_up_to.new.placing c.args.ending.now.next (rw c.deref-2.ensures.value at done.placed) in
-    let go : ArePlacedOn c.args.ending.now.at.boxes.list.now c.settle.new.marks.items c.place_up_to.new.placing c.requires.known.places c.args.ending.now.next → IsLineDepth c.length_at-mark.result.0 c.block-block.result.edge_top.0 c.length_at.result.0 = λ goes.
-    let block = c.block-block.ensures.value in
+    let go : ArePlacedOn c.args.ending.now.at.boxes.list.now c.settle.new.marks.items c.place_up_to.new.placing c.requires.known.places c.args.ending.now.next → IsLineDepth c.length_at-mark.result.0 c.args.ending.now.block.now.edge_top.0 c.length_at.result.0 = λ goes.
+    let block = c.args.ending.now.is in
     let marked = rw c.deref-3.ensures.value at c.length_at-mark.ensures in
     let depth = rw c.deref-4.ensures.value at c.length_at.ensures in
     let there = rw block at lines in
@@ -70,7 +70,7 @@ pub bottom-start-requires : goal.bottom-start-requires
 bottom-start-requires c =
     let f = c.requires.known.knows.fits in let a = f.parent in let b = f.within in
     let p = c.args.ending.now.at.k in
-    let block = c.block-block.ensures.value in
+    let block = c.args.ending.now.is in
     let settles = rw c.deref.ensures.value at c.settle.ensures in
     let near = marks_near c.args.ending.now.at.boxes.list.now c.args.ending.now.at.boxes.are.is_tree.tree (state_of c.args.flow.now) _ _ f c.end_of-end.result.0 c.end_of-end.ensures.near c.args.ending.now.next f.within _ settles p in
     let light_p = light_at c.args.ending.now.at.boxes.list.now c.args.ending.now.at.boxes.are p (omega (arith, a, b)) in
@@ -91,7 +91,7 @@ bottom-start-requires c =
 pub returns : goal.returns
 returns c =
     let f = c.requires.known.knows.fits in let a = f.parent in let b = f.within in let l = f.heights_length in
-    let block = c.block-block.ensures.value in
+    let block = c.args.ending.now.is in
     let holds = rw block at c.lone_margin-flow.ensures in
     let p = c.args.ending.now.at.k in
     let old = c.args.flow.now in

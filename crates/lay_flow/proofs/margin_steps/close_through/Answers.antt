@@ -19,7 +19,7 @@ pub returns : goal.returns
 returns c =
     let f = c.requires.known.knows.fits in let a = f.parent in let b = f.within in
     let l1 = f.marks_length in let l2 = f.heights_length in let l3 = f.through_length in
-    let holds = rw c.block.ensures.value at c.with_margin-flow.ensures in
+    let holds = rw c.args.ending.now.is at c.with_margin-flow.ensures in
     let p = c.args.ending.now.at.k in
     let old = c.args.flow.now in
     let zero : Length = record { 0 = pos 0 } in
