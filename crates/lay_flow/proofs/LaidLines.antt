@@ -43,9 +43,6 @@ within_near w v light near = let a = near.0 in let b = near.1 in (omega (arith, 
 reaches : (w v lw : ℕ) → v ≡ w + (1 + 4 * lw) → 2251799813685248 + 68719476736 * w + 10737418240 + 274877906944 * lw ≤ 2251799813685248 + 68719476736 * v
 reaches w v lw e = omega (arith, e)
 
-pub near_position : (v : ℤ) → IsNear v → IsPosition v
-near_position v near = let a = near.0 in let b = near.1 in (omega (arith, ints, a), omega (arith, ints, b))
-
 pub mark_position : (w : ℕ) (v : ℤ) → w ≤ 8388608 → IsMarkNear w v → IsPosition v
 mark_position w v light near = let a = near.0 in let b = near.1 in (omega (arith, ints, light, a), omega (arith, ints, light, b))
 
@@ -84,8 +81,8 @@ module _ (boxes : List FlowBox) (input : AreFlowBoxes boxes) (marks : List Lengt
         let grows : growth content ≡ 274877906944 * lines_weight content = refl in
         lines_wider (pos (r + growth content)) (reach (weight boxes (k + 1))) v (omega (arith, ints, le, grows)) laid'
 
-    pub end_position : IsPosition v.end.0
-    end_position =
+    pub end_near : IsNear v.end.0
+    end_near =
         let end = laid_near.end in let a = end.0 in let b = end.1 in
         let small = light_at boxes input (k + 1) (omega (arith, within)) in
         (omega (arith, ints, a, small), omega (arith, ints, b, small))

@@ -1,6 +1,6 @@
 //! Reading and writing a column of lengths.
 
-ghost use Rattle.std.specs.Prelude.{◌≡◌, ◌<◌, ◌+ℤ◌, ◌-ℤ◌, length, slice_set};
+ghost use Rattle.std.specs.Prelude.{◌≡◌, ◌<◌, ◌+ℤ◌, length, slice_set};
 ghost use Rattle.lay_units.specs.Units.{IsPosition};
 ghost use Rattle.lay_flow.specs.Lengths.{length_at};
 ghost use Rattle.lay_flow.specs.Pass.Bounds.{clears_of};
@@ -45,15 +45,6 @@ pub(crate) fn sum_of(a: Unit, b: Unit) -> Unit
     ensures { result ≡ record { 0 = a.0 +ℤ b.0 } }
 {
     Unit(a.0 + b.0)
-}
-
-/// The difference of two positions.
-pub(crate) fn difference_of(a: Unit, b: Unit) -> Unit
-    requires a { IsPosition a.0 }
-    requires b { IsPosition b.0 }
-    ensures { result ≡ record { 0 = a.0 -ℤ b.0 } }
-{
-    Unit(a.0 - b.0)
 }
 
 pub(crate) fn flag_at(flags: &[bool], k: usize) -> bool

@@ -11,15 +11,15 @@ ghost use Rattle.lay_flow.specs.Weights.{weight};
 ghost use Rattle.lay_flow.specs.FlowBoxes.{KindFits};
 ghost use Rattle.lay_flow.specs.MarginRuns.{block_at, block_of};
 ghost use Rattle.lay_units.specs.Units.{IsPosition};
-ghost use Rattle.lay_flow.specs.BlockSizes.{IsNear};
 ghost use Rattle.lay_flow.specs.Pass.Knows.{AreExtentsKept};
 ghost use Rattle.lay_flow.specs.Pass.Known.{ArePlaced, GoesOn};
 ghost use Rattle.lay_flow.specs.Pass.Placed.{IsCeilingNear};
 
 use crate::boxes::BoxAt;
-use crate::columns::{difference_of, length_at, sum_of, write_at};
+use crate::columns::{length_at, sum_of, write_at};
 use crate::flow_box::{FlowBox, FlowKind};
 use crate::marked_boxes::{MarkedBox, MarkedBoxes};
+use crate::near::Near;
 use crate::shape::Shape;
 use lay_floats::{FloatReq, Floats, Place, Side, SolidReq};
 use lay_lines::{Lines, NodePlaceList, RowList, lay};
@@ -105,8 +105,9 @@ fn place_solid(of: &MarkedBox<'_>, placing: &mut Placing) -> Result<(), NoMemory
     let shape = of.at.shape();
     let mark = length_at(of.marks, of.at.k);
     let place = placing.floats.fit_solid(&solid_request(&shape, mark));
-    let below = difference_of(place.y, mark);
-    let extent = sum_of(below, shape.height);
+    let from = Near { unit: mark };
+    let top = Near { unit: place.y };
+    let extent = sum_of(top.below(from), shape.height);
     write_at(&mut placing.extents, of.at.k, extent);
     push_spot(placing, place)?;
     Ok(())
@@ -118,9 +119,13 @@ fn place_lines(of: &MarkedBox<'_>, placing: &mut Placing) -> Result<(), NoMemory
     ensures placed { OnOk result (GoesOn of.now.at.boxes.list.now of.now.marks.now placing.old placing.new of.now.at.k (of.now.at.k + 1)) }
     ensures kept { OnOk result (AreExtentsKept of.now.at.boxes.list.now of.now.at.k placing.old.extents.items placing.new.extents.items) }
 {
-    let top = sum_of(length_at(of.marks, of.at.k), of.at.block().edge_top);
+    let edge = of.at.block().edge_top;
+    let top = Near {
+        unit: sum_of(length_at(of.marks, of.at.k), edge),
+    };
     let lines = of.at.boxes.list[of.at.k].lay_lines(placing.alloc, &mut placing.floats, top)?;
-    let depth = difference_of(lines.end, top);
+    let end = Near { unit: lines.end };
+    let depth = end.below(top);
     write_at(&mut placing.extents, of.at.k, depth);
     placing.places.push(nowhere())?;
     placing.rows.push(lines.rows)?;
@@ -130,19 +135,25 @@ fn place_lines(of: &MarkedBox<'_>, placing: &mut Placing) -> Result<(), NoMemory
 
 impl FlowBox {
     // The lines of a box that holds lines, from the top of its content.
-    fn lay_lines(&self, alloc: Global, floats: &mut Floats, top: Unit) -> Result<Lines, NoMemory>
+    fn lay_lines(&self, alloc: Global, floats: &mut Floats, top: Near) -> Result<Lines, NoMemory>
         requires lines { is_lines (block_of self.now.kind).inside ≡ true }
         requires fits { KindFits self.now.kind }
-        requires top { IsNear top.0 }
         requires floats { All (BoxWithin (pos 1152921504606846976)) floats.old }
-        ensures lines { IfOk result (λ out. AreLines (line_content_of self.now.kind) (content_of self.now.kind).left (content_of self.now.kind).right top.0 floats.old (lines_of out floats.new)) }
-        ensures near { IfOk result (λ out. (r : ℕ) → 1125899906842624 ≤ r → r ≤ 1152921504606846976 → IsWithin (pos r) top.0 → All (BoxWithin (pos r)) floats.old
+        ensures lines { IfOk result (λ out. AreLines (line_content_of self.now.kind) (content_of self.now.kind).left (content_of self.now.kind).right top.unit.0 floats.old (lines_of out floats.new)) }
+        ensures near { IfOk result (λ out. (r : ℕ) → 1125899906842624 ≤ r → r ≤ 1152921504606846976 → IsWithin (pos r) top.unit.0 → All (BoxWithin (pos r)) floats.old
             → LinesWithin (pos (r + growth (line_content_of self.now.kind))) (lines_of out floats.new)) }
     {
         match &self.kind {
             FlowKind::Lines(l) => {
                 let content = self.content();
-                lay(alloc, floats, &l.content, content.left, content.right, top)
+                lay(
+                    alloc,
+                    floats,
+                    &l.content,
+                    content.left,
+                    content.right,
+                    top.unit,
+                )
             }
             _ => unreachable!(),
         }

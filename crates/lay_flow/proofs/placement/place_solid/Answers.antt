@@ -6,7 +6,7 @@ use Rattle.lay_units.specs.declared.length.Unit.{Unit as Length}
 use Rattle.lay_flow.specs.Lengths.{length_at}
 use Rattle.lay_flow.specs.BlockFloats.{Spot, no_lines, solid_request, shape_at}
 use Rattle.lay_flow.specs.Weights.{weight}
-use Rattle.lay_units.specs.Units.{IsPosition}
+use Rattle.lay_flow.specs.BlockSizes.{IsNear}
 use Rattle.lay_flow.specs.Pass.Known.{placing_of}
 use Rattle.lay_flow.proofs.BlockKinds.{solid_placed}
 use Rattle.lay_flow.proofs.FlowBoxFacts.{positive_solid, shape_fits, solid_flows}
@@ -28,34 +28,21 @@ fit_solid-place-requires c =
     let asked = c.solid_request.ensures ∙ (λ i. solid_request (shape i) (mark i)) in
     subst SolidFits (sym asked) (solid_fits (weight boxes c.args.of.now.at.k) _ _ (light_at boxes c.args.of.now.at.boxes.are c.args.of.now.at.k (omega (arith, within))) (shape_fits c.args.of.now.at.boxes.list.now c.args.of.now.at.boxes.are c.args.of.now.at.k within) (c.args.of.now.near c.args.of.now.at.k))
 
-pub difference_of-below-requires-clause-b : goal.difference_of-below-requires-clause-b
-difference_of-below-requires-clause-b c =
-    let within = c.args.of.now.at.within in let boxes = c.args.of.now.at.boxes.list.now in
-    subst IsPosition (sym c.length_at-mark.ensures) (mark_position (weight boxes c.args.of.now.at.k) _ (light_at boxes c.args.of.now.at.boxes.are c.args.of.now.at.k (omega (arith, within))) (c.args.of.now.near c.args.of.now.at.k))
-
-pub difference_of-below-requires-clause-a : goal.difference_of-below-requires-clause-a
-difference_of-below-requires-clause-a c =
-    let within = c.args.of.now.at.within in let boxes = c.args.of.now.at.boxes.list.now in
-    let shape = c.shape-shape.ensures in
-    let mark = c.length_at-mark.ensures in
-    let asked = c.solid_request.ensures ∙ (λ i. solid_request (shape i) (mark i)) in
-    let p = c.fit_solid-place.result in
-    let stands = subst (λ (r : SolidReq). IsSolidPlace c.args.placing.now.floats r p.x.0 p.y.0) asked c.fit_solid-place.ensures in
-    mark_position (weight boxes c.args.of.now.at.k) p.y.0 (light_at boxes c.args.of.now.at.boxes.are c.args.of.now.at.k (omega (arith, within)))
-    (solid_near (weight boxes c.args.of.now.at.k) c.args.placing.now.floats (shape_at c.args.of.now.at.boxes.list.now c.args.of.now.at.k) (length_at c.args.of.now.marks.now c.args.of.now.at.k) p.x.0 p.y.0 (shape_fits c.args.of.now.at.boxes.list.now c.args.of.now.at.boxes.are c.args.of.now.at.k within) (c.args.of.now.near c.args.of.now.at.k) c.requires.known.to.within stands)
-
-pub sum_of-extent-requires-clause-a : goal.sum_of-extent-requires-clause-a
-sum_of-extent-requires-clause-a c =
+pub invariant_of-from : goal.invariant_of-from
+invariant_of-from c =
     let within = c.args.of.now.at.within in let boxes = c.args.of.now.at.boxes.list.now in let k = c.args.of.now.at.k in
-    let light = light_at boxes c.args.of.now.at.boxes.are k (omega (arith, within)) in
+    record { near = subst IsNear (sym c.length_at-mark.ensures) (mark_is_near (weight boxes k) _ (light_at boxes c.args.of.now.at.boxes.are k (omega (arith, within))) (c.args.of.now.near k)) }
+
+pub invariant_of-top : goal.invariant_of-top
+invariant_of-top c =
+    let within = c.args.of.now.at.within in let boxes = c.args.of.now.at.boxes.list.now in let k = c.args.of.now.at.k in
     let asked = c.solid_request.ensures ∙ (λ i. solid_request (c.shape-shape.ensures i) (c.length_at-mark.ensures i)) in
     let p = c.fit_solid-place.result in
     let stands = subst (λ (r : SolidReq). IsSolidPlace c.args.placing.now.floats r p.x.0 p.y.0) asked c.fit_solid-place.ensures in
-    let top = mark_is_near (weight boxes k) p.y.0 light (solid_near (weight boxes k) c.args.placing.now.floats (shape_at boxes k) (length_at c.args.of.now.marks.now k) p.x.0 p.y.0 (shape_fits boxes c.args.of.now.at.boxes.are k within) (c.args.of.now.near k) c.requires.known.to.within stands) in
-    let mark = mark_is_near (weight boxes k) _ light (c.args.of.now.near k) in
-    let is = ap (λ (v : Length). v.0) c.difference_of-below.ensures in let at = c.length_at-mark.ensures in
-    let a = top.0 in let b = top.1 in let d = mark.0 in let e = mark.1 in
-    (omega (arith, ints, is, at, a, e), omega (arith, ints, is, at, b, d))
+    record {
+      near = mark_is_near (weight boxes k) p.y.0 (light_at boxes c.args.of.now.at.boxes.are k (omega (arith, within)))
+          (solid_near (weight boxes k) c.args.placing.now.floats (shape_at boxes k) (length_at c.args.of.now.marks.now k) p.x.0 p.y.0 (shape_fits boxes c.args.of.now.at.boxes.are k within) (c.args.of.now.near k) c.requires.known.to.within stands);
+    }
 
 pub returns-clause-placed : goal.returns-clause-placed
 returns-clause-placed c places are was =
@@ -69,7 +56,7 @@ returns-clause-placed c places are was =
     let stands = subst (λ (r : SolidReq). IsSolidPlace old.floats r p.x.0 p.y.0) asked c.fit_solid-place.ensures in
     let l = was.extents_length in
     let value : c.sum_of-extent.result.0 ≡ p.y.0 -ℤ length_at c.args.of.now.marks.now c.args.of.now.at.k +ℤ (shape_at c.args.of.now.at.boxes.list.now c.args.of.now.at.k).height.0 =
-    ap (λ (v : Length). v.0) c.sum_of-extent.ensures ∙ ap (λ (v : Length). v.0 +ℤ c.shape-shape.result.height.0) c.difference_of-below.ensures ∙ (λ i. p.y.0 -ℤ mark i +ℤ (shape i).height.0) in
+    ap (λ (v : Length). v.0) c.sum_of-extent.ensures ∙ ap (λ (v : Length). v.0 +ℤ c.shape-shape.result.height.0) c.below.ensures.value ∙ (λ i. p.y.0 -ℤ mark i +ℤ (shape i).height.0) in
     let wrote : Wrote length_at old.extents.items c.write_at.new.column.items c.args.of.now.at.k (p.y.0 -ℤ length_at c.args.of.now.marks.now c.args.of.now.at.k +ℤ (shape_at c.args.of.now.at.boxes.list.now c.args.of.now.at.k).height.0) =
     subst (λ (v : ℤ). Wrote length_at old.extents.items c.write_at.new.column.items c.args.of.now.at.k v) value
     (subst (λ (xs : List Length). Wrote length_at old.extents.items xs c.args.of.now.at.k c.sum_of-extent.result.0) (sym c.write_at.ensures) (wrote_length old.extents.items c.args.of.now.at.k c.sum_of-extent.result (omega (arith, within, l)))) in
