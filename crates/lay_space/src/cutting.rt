@@ -33,64 +33,62 @@ ghost use Rattle.lay_space.specs.Segments.{
   segments_of,
 };
 
-use crate::breaks::{Entry, entries_of};
+use crate::breaks::Entry;
 use crate::item::{Item, ItemList};
-use crate::segment::{Segment, SegmentList};
-use crate::tokens::{Cluster, Token, tokens_of, without_leading_spaces};
+use crate::segment::Segment;
+use crate::tokens::{Cluster, Token};
 use crate::white_space::push_item;
 use lay_units::{ClusterWidth, NoMemory, Text, WidthList};
 use std::alloc::Global;
 use std::mem;
 
-/// The segments of inline content that white space processing left, with the widths of the clusters of
-/// its texts (CSS 2.2, 16.6 and 9.4.2).
-pub fn segments(alloc: Global, items: &[Item]) -> Result<SegmentList, NoMemory>
-    ensures { IfOk result (λ l. l ≡ segments_of items.now) }
-{
-    let tokens = tokens_of(alloc, items)?;
-    let tokens = without_leading_spaces(alloc, &tokens)?;
-    let entries = entries_of(alloc, &tokens)?;
-    let mut cutter = Cutter {
-        done: Vec::new(alloc),
-        current: Vec::new(alloc),
-        held: Vec::new(alloc),
-    };
-    for k in 0..entries.len() {
-        cutter.put(alloc, items, entries[k], &entries[k + 1..])?;
-    }
-    cutter.end(alloc, items)?;
-    Ok(SegmentList::new(cutter.done))
-}
-
 /// The segments so far, the items since the last break, and the clusters of a text that goes on.
 #[derive(Drop)]
-struct Cutter {
-    done: Vec<Segment>,
-    current: Vec<Item>,
-    held: Vec<Cluster>,
+pub struct Cutter {
+    pub done: Vec<Segment>,
+    pub current: Vec<Item>,
+    pub held: Vec<Cluster>,
 }
 
 impl Cutter {
-    fn put(
-        &mut self,
-        alloc: Global,
-        items: &[Item],
-        entry: Entry,
-        rest: &[Entry],
-    ) -> Result<(), NoMemory>
-        ensures { OnOk result
-            (self.old.done.items ++ cut items.now self.old.current.items self.old.held.items
-            (entry ∷ rest.now) ≡ self.new.done.items ++ cut items.now self.new.current.items
-            self.new.held.items rest.now) }
+    /// The cutter that nothing was put into yet.
+    pub fn new(alloc: Global) -> Result<Cutter, NoMemory>
+        ensures done { IfOk result (λ c. c.done.items ≡ []) }
+        ensures current { IfOk result (λ c. c.current.items ≡ []) }
+        ensures held { IfOk result (λ c. c.held.items ≡ []) }
     {
-        let _ = rest;
+        Ok(Cutter {
+            done: Vec::new(alloc),
+            current: Vec::with_capacity(alloc, 1)?,
+            held: Vec::with_capacity(alloc, 2)?,
+        })
+    }
+
+    pub fn put_all(&mut self, alloc: Global, items: &[Item], entries: &[Entry]) -> Result<(), NoMemory>
+        ensures { OnOk result ((xs : List Entry)
+            → self.old.done.items ++ cut items.now self.old.current.items self.old.held.items
+            (entries.now ++ xs) ≡ self.new.done.items ++ cut items.now self.new.current.items
+            self.new.held.items xs) }
+    {
+        for k in 0..entries.len() {
+            self.put(alloc, items, entries[k])?;
+        }
+        Ok(())
+    }
+
+    fn put(&mut self, alloc: Global, items: &[Item], entry: Entry) -> Result<(), NoMemory>
+        ensures { OnOk result ((xs : List Entry)
+            → self.old.done.items ++ cut items.now self.old.current.items self.old.held.items
+            (entry ∷ xs) ≡ self.new.done.items ++ cut items.now self.new.current.items
+            self.new.held.items xs) }
+    {
         match entry {
             Entry::Content(token) => self.put_token(alloc, items, token),
             Entry::Break(forced) => self.put_break(alloc, items, forced),
         }
     }
 
-    fn put_token(&mut self, alloc: Global, items: &[Item], token: Token) -> Result<(), NoMemory>
+    pub fn put_token(&mut self, alloc: Global, items: &[Item], token: Token) -> Result<(), NoMemory>
         ensures { OnOk result ((xs : List Entry)
             → self.old.done.items ++ cut items.now self.old.current.items self.old.held.items
             (entry.Content token ∷ xs) ≡ self.new.done.items ++ cut items.now self.new.current.items
@@ -110,7 +108,7 @@ impl Cutter {
         }
     }
 
-    fn put_break(&mut self, alloc: Global, items: &[Item], forced: bool) -> Result<(), NoMemory>
+    pub fn put_break(&mut self, alloc: Global, items: &[Item], forced: bool) -> Result<(), NoMemory>
         ensures done { OnOk result (self.new.done.items
             ≡ self.old.done.items ++ record {
               items = self.old.current.items ++ text_of items.now
@@ -121,7 +119,7 @@ impl Cutter {
         ensures held { OnOk result (self.new.held.items ≡ []) }
     {
         self.close(alloc, items)?;
-        let current = mem::replace(&mut self.current, Vec::new(alloc));
+        let current = mem::replace(&mut self.current, Vec::with_capacity(alloc, 1)?);
         self.done.push(Segment {
             items: ItemList::new(current),
             forced,
@@ -151,7 +149,7 @@ impl Cutter {
         Ok(())
     }
 
-    fn end(&mut self, alloc: Global, items: &[Item]) -> Result<(), NoMemory>
+    pub fn end(&mut self, alloc: Global, items: &[Item]) -> Result<(), NoMemory>
         ensures { OnOk result (self.new.done.items
             ≡ self.old.done.items ++ cut items.now self.old.current.items self.old.held.items []) }
     {
@@ -195,7 +193,7 @@ fn join(alloc: Global, items: &[Item], clusters: &[Cluster]) -> Result<Joined, N
     ensures text { IfOk result (λ j. string_bytes j.text ≡ joined items.now clusters.now) }
     ensures widths { IfOk result (λ j. j.widths.items ≡ placed items.now 0 clusters.now) }
 {
-    let mut text = String::new(alloc);
+    let mut text = String::with_capacity(alloc, room_of(items, clusters))?;
     let mut widths = Vec::with_capacity(alloc, clusters.len())?;
     for k in 0..clusters.len() {
         put_cluster(
@@ -207,6 +205,15 @@ fn join(alloc: Global, items: &[Item], clusters: &[Cluster]) -> Result<Joined, N
         )?;
     }
     Ok(Joined { text, widths })
+}
+
+/// How much room the text of these clusters takes where they follow one another.
+fn room_of(items: &[Item], clusters: &[Cluster]) -> usize {
+    let (Some(first), Some(last)) = (clusters.first(), clusters.last()) else {
+        return 0;
+    };
+    let most = text_at(items, first.item).len();
+    last.to.saturating_sub(first.from).min(most)
 }
 
 fn put_cluster(
