@@ -58,10 +58,11 @@ fn word_at(
     ensures forward { from < result.to }
     ensures inside { result.to ≤ length text.now }
 {
-    let mut width = face.plain_width(text[from], setting);
     if parts_words(text[from]) {
+        let width = face.plain_width(text[from], setting);
         return Word { to: from + 1, width };
     }
+    let mut width = width_in_word(face, setting, common, text[from]);
     for to in from + 1..text.len() {
         if parts_words(text[to]) {
             return Word { to, width };

@@ -15,6 +15,7 @@ ghost use Rattle.std.specs.Prelude.{
   OnOk,
   length,
   slice_get,
+  option_to_list,
   string_bytes,
 };
 ghost use Rattle.std.specs.Str.{IsCharBoundary};
@@ -51,15 +52,15 @@ pub struct Cutter {
 }
 
 impl Cutter {
-    /// The cutter that nothing was put into yet.
-    pub fn new(alloc: Global) -> Result<Cutter, NoMemory>
+    /// The cutter that nothing was put into yet, of so many tokens: of a text, half of them most often end segments.
+    pub fn new(alloc: Global, tokens: usize) -> Result<Cutter, NoMemory>
         ensures done { IfOk result (λ c. c.done.items ≡ []) }
         ensures current { IfOk result (λ c. c.current.items ≡ []) }
         ensures held { IfOk result (λ c. c.held.items ≡ []) }
     {
         Ok(Cutter {
-            done: Vec::new(alloc),
-            current: Vec::with_capacity(alloc, 1)?,
+            done: Vec::with_capacity(alloc, tokens / 2 + 1)?,
+            current: Vec::new(alloc),
             held: Vec::with_capacity(alloc, 2)?,
         })
     }
@@ -118,13 +119,28 @@ impl Cutter {
         ensures current { OnOk result (self.new.current.items ≡ []) }
         ensures held { OnOk result (self.new.held.items ≡ []) }
     {
-        self.close(alloc, items)?;
-        let current = mem::replace(&mut self.current, Vec::with_capacity(alloc, 1)?);
-        self.done.push(Segment {
-            items: ItemList::new(current),
-            forced,
-        })?;
+        let items = self.take(alloc, items)?;
+        self.done.push(Segment { items, forced })?;
         Ok(())
+    }
+
+    /// Takes the items since the last break, of which most often there is one.
+    fn take(&mut self, alloc: Global, items: &[Item]) -> Result<ItemList, NoMemory>
+        ensures taken { IfOk result (λ l. l ≡ self.old.current.items ++ text_of items.now self.old.held.items) }
+        ensures current { OnOk result (self.new.current.items ≡ []) }
+        ensures held { OnOk result (self.new.held.items ≡ []) }
+        ensures done { OnOk result (self.new.done.items ≡ self.old.done.items) }
+    {
+        let text = text_of(alloc, items, &self.held)?;
+        self.held.clear();
+        if !self.current.is_empty() {
+            push_if_any(&mut self.current, text)?;
+            return Ok(ItemList::new(mem::replace(&mut self.current, Vec::new(alloc))));
+        }
+        match text {
+            Some(text) => Ok(ItemList::one(text)),
+            None => Ok(ItemList::new(Vec::new(alloc))),
+        }
     }
 
     fn put_item(&mut self, alloc: Global, items: &[Item], item: Item) -> Result<(), NoMemory>
@@ -144,7 +160,8 @@ impl Cutter {
         ensures held { OnOk result (self.new.held.items ≡ []) }
         ensures done { OnOk result (self.new.done.items ≡ self.old.done.items) }
     {
-        put_text(alloc, &mut self.current, items, &self.held)?;
+        let text = text_of(alloc, items, &self.held)?;
+        push_if_any(&mut self.current, text)?;
         self.held.clear();
         Ok(())
     }
@@ -161,26 +178,29 @@ impl Cutter {
     }
 }
 
-/// Puts the text that these clusters make, if there are any.
-fn put_text(
-    alloc: Global,
-    out: &mut Vec<Item>,
-    items: &[Item],
-    clusters: &[Cluster],
-) -> Result<(), NoMemory>
-    ensures { OnOk result (out.new.items ≡ out.old.items ++ text_of items.now clusters.now) }
+/// The text that these clusters make, if there are any.
+fn text_of(alloc: Global, items: &[Item], clusters: &[Cluster]) -> Result<Option<Item>, NoMemory>
+    ensures { IfOk result (λ t. option_to_list t ≡ text_of items.now clusters.now) }
 {
     let Some(first) = clusters.first() else {
-        return Ok(());
+        return Ok(None);
     };
     let joined = join(alloc, items, clusters)?;
-    let text = Item::Text {
+    Ok(Some(Item::Text {
         node: first.node,
         text: Text::new(joined.text),
         mode: first.mode,
         widths: WidthList::new(joined.widths),
-    };
-    push_item(out, text)
+    }))
+}
+
+fn push_if_any(out: &mut Vec<Item>, item: Option<Item>) -> Result<(), NoMemory>
+    ensures { OnOk result (out.new.items ≡ out.old.items ++ option_to_list item) }
+{
+    match item {
+        Some(item) => push_item(out, item),
+        None => Ok(()),
+    }
 }
 
 #[derive(Drop)]

@@ -21,7 +21,7 @@ pub fn segments(alloc: Global, items: &[Item]) -> Result<SegmentList, NoMemory>
 {
     let tokens = tokens_of(alloc, items)?;
     let mut settler = Settler {
-        cutter: Cutter::new(alloc)?,
+        cutter: Cutter::new(alloc, tokens.len())?,
         at: None,
         started: false,
         waiting: Vec::new(alloc),

@@ -10,7 +10,7 @@ pub returns-then-parts_words-clause-gathered : goal.returns-then-parts_words-cla
 returns-then-parts_words-clause-gathered c = space_stands c.args.face.now c.args.setting c.args.text.now _ _ c.requires.inside c.plain_width-width.ensures (sym c.if-parts_words.ensures)
 
 pub loop-to-init : goal.loop-to-init
-loop-to-init c = word_begins c.args.face.now c.args.setting c.args.text.now _ _ c.requires.inside c.plain_width-width.ensures (sym c.if-parts_words.ensures)
+loop-to-init c = word_begins c.args.face.now c.args.setting c.args.text.now _ _ c.requires.inside c.width_in_word-width.ensures (sym c.if-parts_words.ensures)
 
 pub returns-then-parts_words-2-clause-gathered : goal.returns-then-parts_words-2-clause-gathered
 returns-then-parts_words-2-clause-gathered c = c.loop-to.invariant ∙ word_stops c.args.face.now c.args.setting c.args.text.now _ _ c.loop-to-test.true (sym c.if-parts_words-2.ensures)
@@ -31,3 +31,9 @@ loop-to-preserved c =
 
 pub returns-clause-gathered : goal.returns-clause-gathered
 returns-clause-gathered c = c.loop-to.invariant ∙ word_ends c.args.face.now c.args.setting c.args.text.now _ _ c.loop-to-test.false
+
+pub width_in_word-width-requires-clause-width : goal.width_in_word-width-requires-clause-width
+width_in_word-width-requires-clause-width c = plain_fits_at c.args.face.now c.args.setting _ _ 0 c.requires.inside c.requires.plain c.requires.fits.widths
+
+pub width_in_word-width-requires-clause-plain : goal.width_in_word-width-requires-clause-plain
+width_in_word-width-requires-clause-plain c = (plain_at _ _ 0 c.requires.inside c.requires.plain).0
