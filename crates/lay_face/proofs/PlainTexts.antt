@@ -1,5 +1,5 @@
 -- In a text of ASCII without CR each byte is a grapheme cluster.
-use Rattle.std.proofs.Common.{append-nil, drop, ◌≤◌, ◌≡◌, ◌≢◌, ℕ, ◌+◌, ◌<◌, ◌==◌, ◌||◌, ◌⊎◌, inl, inr, Bool, true, false, if◌then◌else◌, List, [], ◌∷◌, ◌++◌, Option, Some, unwrap_or, length, map, refl, sym, ap, ◌∙◌, arith, chars, encode_utf8_all, ◌+ℤ◌, ℤ, pos}
+use Rattle.std.proofs.Common.{append-nil, drop, subst, ◌≤◌, ◌≡◌, ◌≢◌, ℕ, zero, suc, ◌+◌, ◌<◌, ◌==◌, ◌||◌, ◌⊎◌, inl, inr, Bool, true, false, if◌then◌else◌, List, [], ◌∷◌, ◌++◌, Option, Some, unwrap_or, length, map, refl, sym, ap, ◌∙◌, arith, chars, encode_utf8_all, ◌+ℤ◌, ℤ, pos}
 use Rattle.std.specs.Str.{IsAscii}
 use Rattle.std.proofs.lemmas.Bool.{ne_eqb}
 use Rattle.std.proofs.lemmas.Int.{ints}
@@ -7,6 +7,7 @@ use Rattle.std.proofs.lemmas.Str.{encode_ascii, chars-nil, chars_past_char, IsUt
 use Rattle.std.proofs.lemmas.Str.Ascii.{IsAscii-nil, IsAscii-cons}
 use Rattle.std.proofs.Math.ListN.{get_or}
 use Rattle.std.proofs.lemmas.List.{drop_all, at_drop_more}
+use Rattle.std.proofs.lemmas.List.Elements.{All-head, All-tail}
 use Rattle.std.specs.Prelude.{All}
 use Rattle.lay_units.specs.Units.{IsPosition}
 use Rattle.lay_face.proofs.ClusterSums.{all_next}
@@ -23,7 +24,7 @@ use Rattle.lay_units.specs.declared.records.ClusterWidth.{ClusterWidth}
 use Rattle.lay_face.specs.FaceValue.{FaceValue}
 use Rattle.lay_face.specs.declared.clusters.Setting.{Setting}
 use Rattle.lay_face.specs.Clusters.{chars_width, cluster_width, placed_widths, widths_of}
-use Rattle.lay_face.specs.PlainTexts.{IsPlain, plain_width_of}
+use Rattle.lay_face.specs.PlainTexts.{IsPlain, plain_width_of, plain_widths}
 
 -- the classes of ASCII without CR
 abbrev pub is_calm : GraphemeClusterBreak → Bool
@@ -95,11 +96,6 @@ plain_graphemes text is =
     ap (λ cs. map encode_utf8_all (cut (is_grapheme_break true) [] cs [])) (plain_chars text is)
     ∙ ap (map encode_utf8_all) (cut_plain [] text is) ∙ encode_singles text is
 
--- the widths of a plain text from a byte on
-abbrev pub plain_widths : FaceValue → Setting → ℕ → List ℕ → List ClusterWidth
-plain_widths face s k [] = []
-plain_widths face s k (b ∷ bs) = record { place = k; width = record { 0 = plain_width_of face s b } } ∷ plain_widths face s (k + 1) bs
-
 one_byte : (face : FaceValue) (s : Setting) (b : ℕ) → b < 128 → b ≢ 13 → cluster_width face s (b ∷ []) ≡ plain_width_of face s b
 one_byte face s b below other =
     ap (λ cs. chars_width face s cs +ℤ (if b == 10 then pos 0 else s.letter.0)) (plain_chars (b ∷ []) (below, other, tt)) ∙ measured (b == 10) _ s.letter.0
@@ -126,3 +122,21 @@ pub plain_next : (face : FaceValue) (s : Setting) (out : List ClusterWidth) (k :
     → IsPosition (plain_width_of face s (get_or text k d))
 plain_next face s out k text d below plain is fits =
     all_next (λ (w : ClusterWidth). IsPosition w.width.0) out _ _ _ (sym (at_drop_more (λ bs. out ++ plain_widths face s k bs) text k d below) ∙ is ∙ plain_widths_are face s text plain) fits
+
+-- each byte of a plain text is plain
+pub plain_at : (text : List ℕ) (k d : ℕ) → k < length text → IsPlain text → (get_or text k d < 128) × (get_or text k d ≢ 13)
+plain_at [] k d below is = absurd (omega (arith, below))
+plain_at (b ∷ bs) zero d below is = (is.0, is.1)
+plain_at (b ∷ bs) (suc k) d below is = plain_at bs k d (omega (arith, below)) is.2
+
+fits_at : (face : FaceValue) (s : Setting) (place : ℕ) (text : List ℕ) (k d : ℕ) → k < length text → All (λ (w : ClusterWidth). IsPosition w.width.0) (plain_widths face s place text)
+    → IsPosition (plain_width_of face s (get_or text k d))
+fits_at face s place [] k d below fits = absurd (omega (arith, below))
+fits_at face s place (b ∷ bs) zero d below fits = All-head (λ (w : ClusterWidth). IsPosition w.width.0) _ _ fits
+fits_at face s place (b ∷ bs) (suc k) d below fits = fits_at face s (place + 1) bs k d (omega (arith, below)) (All-tail (λ (w : ClusterWidth). IsPosition w.width.0) _ _ fits)
+
+-- so is each of its widths within the bounds
+pub plain_fits_at : (face : FaceValue) (s : Setting) (text : List ℕ) (k d : ℕ) → k < length text → IsPlain text → All (λ (w : ClusterWidth). IsPosition w.width.0) (widths_of face s text)
+    → IsPosition (plain_width_of face s (get_or text k d))
+plain_fits_at face s text k d below plain fits =
+    fits_at face s 0 text k d below (subst (All (λ (w : ClusterWidth). IsPosition w.width.0)) (sym (plain_widths_are face s text plain)) fits)

@@ -1,6 +1,7 @@
 -- Texts of ASCII without CR: each byte is a character and a grapheme cluster of its own (CR LF would be
 -- one cluster of two). What the code knows of such a text is said here in bytes.
-use Rattle.std.specs.Prelude.{ℕ, ◌==◌, ℤ, pos, ◌+ℤ◌, ◌<◌, ◌≢◌, List, [], ◌∷◌, if◌then◌else◌}
+use Rattle.std.specs.Prelude.{ℕ, ◌==◌, ◌+◌, ℤ, pos, ◌+ℤ◌, ◌<◌, ◌≢◌, List, [], ◌∷◌, if◌then◌else◌}
+use Rattle.lay_units.specs.declared.records.ClusterWidth.{ClusterWidth}
 use Rattle.lay_face.specs.declared.clusters.Setting.{Setting}
 use Rattle.lay_face.specs.FaceValue.{FaceValue}
 use Rattle.lay_face.specs.Clusters.{char_width}
@@ -12,3 +13,8 @@ IsPlain (b ∷ bs) = (b < 128) × (b ≢ 13) × IsPlain bs
 -- the width of a cluster of one byte
 abbrev pub plain_width_of : FaceValue → Setting → ℕ → ℤ
 plain_width_of face s b = if b == 10 then pos 0 else char_width face s b +ℤ s.letter.0
+
+-- the widths of a plain text from a byte on
+abbrev pub plain_widths : FaceValue → Setting → ℕ → List ℕ → List ClusterWidth
+plain_widths face s k [] = []
+plain_widths face s k (b ∷ bs) = record { place = k; width = record { 0 = plain_width_of face s b } } ∷ plain_widths face s (k + 1) bs

@@ -1,14 +1,18 @@
 //! Widths of grapheme clusters.
 
 ghost use Rattle.std.specs.Prelude.{
+  ℕ,
   ◌≡◌,
+  ◌==◌,
   pos,
   ◌+ℤ◌,
   ◌≤ℤ◌,
   neg_ℤ,
   IfOk,
+  IfSome,
   OnOk,
   IsTrue,
+  false,
   List,
   [],
   ◌∷◌,
@@ -89,7 +93,8 @@ impl Face {
         Ok(WidthList::new(widths))
     }
 
-    fn plain_width(&self, byte: u8, setting: Setting) -> Unit
+    /// The width of a character of a plain text.
+    pub fn plain_width(&self, byte: u8, setting: Setting) -> Unit
         requires setting { SettingFits self.now setting }
         requires width { IsPosition (plain_width_of self.now setting byte) }
         ensures { result.0 ≡ plain_width_of self.now setting byte }
@@ -99,6 +104,18 @@ impl Face {
         }
         let width = self.char_width(char::from(byte), setting);
         spaced(width, setting.letter)
+    }
+
+    /// The width that all characters of plain texts have in this setting but linefeeds and spaces, where it is one.
+    pub fn common_width(&self, setting: Setting) -> Option<Unit>
+        requires { SettingFits self.now setting }
+        ensures { IfSome result (λ w. (b : ℕ) → (b == 10) ≡ false → is_word_space b ≡ false
+            → plain_width_of self.now setting b ≡ w.0) }
+    {
+        match self.common_advance(setting.size) {
+            Some(advance) => Some(Unit(sum(advance, setting.letter))),
+            None => None,
+        }
     }
 
     fn cluster_width(&self, cluster: &str, setting: Setting) -> Unit
@@ -174,7 +191,7 @@ fn is_word_space(c: char) -> bool
 }
 
 /// Whether each byte is ASCII and none is a CR.
-fn plain(text: &[u8]) -> bool
+pub fn plain(text: &[u8]) -> bool
     ensures { IsTrue result → IsPlain text.now }
 {
     for k in 0..text.len() {

@@ -1,13 +1,13 @@
 //! Faces.
 
-ghost use Rattle.std.specs.Prelude.{◌≡◌, ◌≤◌, pos, ◌*ℤ◌, All, IfOk, length};
+ghost use Rattle.std.specs.Prelude.{ℕ, ◌≡◌, ◌≤◌, pos, ◌*ℤ◌, All, IfOk, IfSome, length};
 ghost use Rattle.lay_units.specs.Units.{IsPosition, IsUsed};
 ghost use Rattle.lay_face.specs.declared.pairs.AdvancePair.{AdvancePair as Pair};
 ghost use Rattle.lay_face.specs.Clusters.{WidthsFit};
 ghost use Rattle.lay_face.specs.Faces.{FitsAt, MeasuresAreNear, face_of, entry_of, thousandths_of};
 
 use crate::pairs::PairList;
-use crate::table::{table_entry, table_of};
+use crate::table::{has_no_entry, table_entry, table_of};
 use lay_units::{NoMemory, Unit};
 use std::alloc::Global;
 use std::collections::BTreeMap;
@@ -158,6 +158,19 @@ impl Face {
         let _ = &self.table;
     }
 
+    /// The advance that all characters have at this font size, where the face has no table.
+    pub fn common_advance(&self, size: Unit) -> Option<Unit>
+        requires size { IsPosition size.0 }
+        requires advances { (c : ℕ) → IsPosition (thousandths_of (entry_of self.now c) size.0) }
+        ensures value { IfSome result (λ w. (c : ℕ) → thousandths_of (entry_of self.now c) size.0 ≡ w.0) }
+        ensures fits { IfSome result (λ w. IsPosition w.0) }
+    {
+        if !has_no_entry(&self.table) {
+            return None;
+        }
+        Some(self.advance(' ', size))
+    }
+
     fn entry(&self, c: char) -> u32
         ensures { result ≡ entry_of self.now c }
     {
@@ -165,7 +178,19 @@ impl Face {
     }
 }
 
+/// In 64 bits where the product fits them, since a division of 128 bits takes much longer.
 fn thousandths(number: u32, size: Unit) -> Unit
+    requires size { IsPosition size.0 }
+    requires result { IsPosition (thousandths_of number size.0) }
+    ensures { result.0 ≡ thousandths_of number size.0 }
+{
+    match i64::from(number).checked_mul(size.0) {
+        Some(product) => Unit(product.div_euclid(1000)),
+        None => wide_thousandths(number, size),
+    }
+}
+
+fn wide_thousandths(number: u32, size: Unit) -> Unit
     requires size { IsPosition size.0 }
     requires result { IsPosition (thousandths_of number size.0) }
     ensures { result.0 ≡ thousandths_of number size.0 }

@@ -1,1 +1,2 @@
 pub mod OpenInlines
+pub mod PlainWords

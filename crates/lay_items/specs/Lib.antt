@@ -2,3 +2,4 @@ pub mod GatheredWidths
 pub mod InlineItems
 pub mod InlineSegments
 pub mod OpenBoxes
+pub mod PlainWords

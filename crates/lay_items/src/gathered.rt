@@ -1,6 +1,6 @@
 //! The clusters of a text, gathered.
 
-ghost use Rattle.std.specs.Prelude.{◌≡◌, ◌∷◌, ◌++◌, [], true, option_to_list, IfOk, OnOk};
+ghost use Rattle.std.specs.Prelude.{◌≡◌, ◌+ℤ◌, ◌&&◌, ◌∷◌, ◌++◌, [], true, option_to_list, IfOk, OnOk};
 ghost use Rattle.lay_space.specs.Tokens.{next_place};
 ghost use Rattle.lay_items.specs.GatheredWidths.{gathered, gathered_after, goes_on, is_small, stands_alone, with_cluster};
 
@@ -58,7 +58,7 @@ fn goes_on(before: Option<ClusterWidth>, width: ClusterWidth) -> bool
     ensures { result ≡ goes_on before width }
 {
     match before {
-        Some(before) => is_small(before.width) && is_small(width.width),
+        Some(before) => are_small(before.width, width.width),
         None => true,
     }
 }
@@ -70,10 +70,24 @@ fn with_cluster(before: Option<ClusterWidth>, width: ClusterWidth) -> ClusterWid
     match before {
         Some(before) => ClusterWidth {
             place: before.place,
-            width: Unit(before.width.0 + width.width.0),
+            width: sum(before.width, width.width),
         },
         None => width,
     }
+}
+
+/// Whether both widths are added up.
+pub fn are_small(a: Unit, b: Unit) -> bool
+    ensures { result ≡ (is_small a.0 && is_small b.0) }
+{
+    is_small(a) && is_small(b)
+}
+
+pub fn sum(a: Unit, b: Unit) -> Unit
+    requires { (is_small a.0 && is_small b.0) ≡ true }
+    ensures { result.0 ≡ a.0 +ℤ b.0 }
+{
+    Unit(a.0 + b.0)
 }
 
 /// Widths from here on are not added up.
@@ -95,7 +109,7 @@ fn put_before(out: &mut Vec<ClusterWidth>, before: Option<ClusterWidth>) -> Resu
     Ok(())
 }
 
-fn put_width(out: &mut Vec<ClusterWidth>, width: ClusterWidth) -> Result<(), NoMemory>
+pub fn put_width(out: &mut Vec<ClusterWidth>, width: ClusterWidth) -> Result<(), NoMemory>
     ensures { OnOk result (out.new.items ≡ out.old.items ++ width ∷ []) }
 {
     out.push(width)?;

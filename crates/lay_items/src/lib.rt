@@ -13,6 +13,7 @@ mod leaves;
 mod measured;
 mod modes;
 mod open_boxes;
+mod plain_texts;
 
 pub use container_items::inline_items;
 pub use container_segments::inline_segments;

@@ -4,12 +4,14 @@ ghost use Rattle.std.specs.Prelude.{◌≡◌, slice_get, IfOk};
 ghost use Rattle.lay_units.specs.Units.{IsUsed};
 ghost use Rattle.lay_style.specs.LengthValues.{length_of, size_of};
 ghost use Rattle.lay_face.specs.Clusters.{widths_of};
+ghost use Rattle.lay_items.specs.GatheredWidths.{gathered};
 ghost use Rattle.lay_items.specs.InlineSegments.{measured, measured_item, setting_of, widths_in};
 
 use crate::gathered::gathered;
 use crate::open_boxes::push_item;
+use crate::plain_texts::plain_gathered;
 use lay_box_tree::BoxNode;
-use lay_face::Face;
+use lay_face::{Face, Setting, plain};
 use lay_space::{Item, ItemList};
 use lay_style::TextStyle;
 use lay_units::{MOST_TEXT, NoMemory, Unit, WidthList, clamp, clamp_size};
@@ -71,32 +73,45 @@ fn widths_at(
     ensures { IfOk result (λ l. l ≡ widths_in face.now (slice_get boxes.now place) text.now) }
 {
     match boxes.get(place as usize) {
-        Some(node) => {
-            let widths = text_widths(alloc, face, &node.style.text, text)?;
-            gathered(alloc, text.as_bytes(), widths.as_slice())
-        }
+        Some(node) => text_widths(alloc, face, &node.style.text, text),
         None => Ok(WidthList::new(Vec::new(alloc))),
     }
 }
 
-/// The widths of the clusters of a text in a style. No document has a text of more than 2^20 bytes; for one there
-/// would be no memory.
+/// The widths of the words and spaces of a text in a style. No document has a text of more than 2^20 bytes; for one
+/// there would be no memory.
 fn text_widths(
     alloc: Global,
     face: &Face,
     style: &TextStyle,
     text: &str,
 ) -> Result<WidthList, NoMemory>
-    ensures { IfOk result (λ l. l ≡ widths_of face.now (setting_of style.now) text.now) }
+    ensures { IfOk result (λ l. l ≡ gathered text.now (widths_of face.now (setting_of style.now) text.now)) }
 {
     if text.len() > MOST_TEXT {
         return Err(NoMemory);
     }
-    let size = size_of(style.font_size);
-    let letter = length_of(style.letter_spacing);
-    let word = length_of(style.word_spacing);
-    face.widths_fit(text, size, letter, word);
-    face.cluster_widths(alloc, text, size, letter, word)
+    let set = setting_of(style);
+    face.widths_fit(text, set.size, set.letter, set.word);
+    let bytes = text.as_bytes();
+    if plain(bytes) {
+        return plain_gathered(alloc, face, set, bytes);
+    }
+    let widths = face.cluster_widths(alloc, text, set.size, set.letter, set.word)?;
+    gathered(alloc, bytes, widths.as_slice())
+}
+
+fn setting_of(style: &TextStyle) -> Setting
+    ensures value { result ≡ setting_of style.now }
+    ensures size { IsUsed result.size.0 }
+    ensures letter { IsUsed result.letter.0 }
+    ensures word { IsUsed result.word.0 }
+{
+    Setting {
+        size: size_of(style.font_size),
+        letter: length_of(style.letter_spacing),
+        word: length_of(style.word_spacing),
+    }
 }
 
 fn length_of(length: Unit) -> Unit

@@ -1,5 +1,6 @@
 pub mod Breaks
 pub mod CleanTexts
+pub mod ItemLists
 pub mod Laws
 pub mod Modes
 pub mod Segments

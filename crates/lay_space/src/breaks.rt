@@ -42,8 +42,6 @@ ghost use Rattle.lay_space.specs.Breaks.{
 };
 
 use crate::tokens::{ClusterKind, Token};
-use lay_units::NoMemory;
-use std::alloc::Global;
 
 /// A token, or a place where a line may break, or has to where `forced`.
 #[derive(Clone, Copy)]
@@ -52,151 +50,38 @@ pub enum Entry {
     Break(bool),
 }
 
-/// The content with its breaks.
-pub fn entries_of(alloc: Global, tokens: &[Token]) -> Result<Vec<Entry>, NoMemory>
-    ensures { IfOk result (λ v. v.items ≡ entries_of tokens.now) }
-{
-    let mut settler = Settler {
-        out: Vec::with_capacity(alloc, tokens.len())?,
-        at: None,
-        started: false,
-        held: Vec::new(alloc),
-    };
-    let mut seen = Seen {
-        solid: false,
-        atomic: None,
-    };
-    for k in 0..tokens.len() {
-        seen = settler.put_with_breaks(tokens[k], &tokens[k + 1..], seen)?;
-    }
-    settler.flush()?;
-    Ok(settler.out)
-}
-
 /// What is known between two tokens: whether content stands here since the last break, and, after the
 /// start of an inline box, whether an atomic follows. So a row of starts is looked through once.
 #[derive(Clone, Copy)]
-struct Seen {
-    solid: bool,
-    atomic: Option<bool>,
+pub struct Seen {
+    pub solid: bool,
+    pub atomic: Option<bool>,
 }
 
-/// The entries so far; the break behind which things may still go back, whether something waits behind it that no
-/// end goes back over, and all that waits there.
-#[derive(Drop)]
-struct Settler {
-    out: Vec<Entry>,
-    at: Option<bool>,
-    started: bool,
-    held: Vec<Entry>,
+/// The breaks before and after a token, and what is known after it.
+#[derive(Clone, Copy)]
+pub struct Around {
+    pub before: bool,
+    pub after: Option<bool>,
+    pub seen: Seen,
 }
 
-impl Settler {
-    /// Puts a token with the breaks before and after it.
-    fn put_with_breaks(
-        &mut self,
-        token: Token,
-        next: &[Token],
-        seen: Seen,
-    ) -> Result<Seen, NoMemory>
-        requires { IfSome seen.atomic (λ b. leads_to_atomic (token ∷ next.now) ≡ b) }
-        ensures entries { IfOk result (λ s. self.old.out.items ++ settled self.old.at self.old.started
-            self.old.held.items (broken seen.solid (token ∷ next.now))
-            ≡ self.new.out.items ++ settled self.new.at self.new.started self.new.held.items
-            (broken s.solid next.now)) }
-        ensures atomic { IfOk result (λ s. IfSome s.atomic (λ b. leads_to_atomic next.now ≡ b)) }
-    {
-        let atomic = atomic_after(token, next, seen.atomic);
-        let before = breaks_before(token, next, atomic);
-        let after = break_after(token, next);
-        self.put_front(seen.solid && before)?;
-        self.put_content(token)?;
-        self.put_back(after)?;
-        let solid = solid_after(after, solid_now(token, before, seen.solid));
-        Ok(Seen { solid, atomic })
-    }
-
-    fn put_front(&mut self, here: bool) -> Result<(), NoMemory>
-        ensures { OnOk result ((xs : List Entry)
-            → self.old.out.items ++ settled self.old.at self.old.started self.old.held.items
-            (front_break here ++ xs) ≡ self.new.out.items ++ settled self.new.at self.new.started
-            self.new.held.items xs) }
-    {
-        if here {
-            self.put_break(false)?;
-        }
-        Ok(())
-    }
-
-    fn put_back(&mut self, here: Option<bool>) -> Result<(), NoMemory>
-        ensures { OnOk result ((xs : List Entry)
-            → self.old.out.items ++ settled self.old.at self.old.started self.old.held.items
-            (back_break here ++ xs) ≡ self.new.out.items ++ settled self.new.at self.new.started
-            self.new.held.items xs) }
-    {
-        if let Some(forced) = here {
-            self.put_break(forced)?;
-        }
-        Ok(())
-    }
-
-    fn put_break(&mut self, forced: bool) -> Result<(), NoMemory>
-        ensures { OnOk result ((xs : List Entry)
-            → self.old.out.items ++ settled self.old.at self.old.started self.old.held.items
-            (Break forced ∷ xs) ≡ self.new.out.items ++ settled self.new.at self.new.started
-            self.new.held.items xs) }
-    {
-        self.flush()?;
-        self.at = Some(forced);
-        self.started = false;
-        Ok(())
-    }
-
-    fn put_content(&mut self, token: Token) -> Result<(), NoMemory>
-        ensures { OnOk result ((xs : List Entry)
-            → self.old.out.items ++ settled self.old.at self.old.started self.old.held.items
-            (Content token ∷ xs) ≡ self.new.out.items ++ settled self.new.at self.new.started
-            self.new.held.items xs) }
-    {
-        if let Some(forced) = self.at {
-            if goes_back(token, forced, self.started) {
-                return push_entry(&mut self.out, Entry::Content(token));
-            }
-            if waits(token) {
-                push_entry(&mut self.held, Entry::Content(token))?;
-                self.started = self.started || keeps_ends(token);
-                return Ok(());
-            }
-        }
-        self.flush()?;
-        push_entry(&mut self.out, Entry::Content(token))?;
-        self.at = None;
-        self.started = false;
-        Ok(())
-    }
-
-    /// Puts the break that things may go back behind, and what waits there.
-    fn flush(&mut self) -> Result<(), NoMemory>
-        ensures out { OnOk result (self.new.out.items
-            ≡ self.old.out.items ++ flushed self.old.at self.old.held.items) }
-        ensures held { OnOk result (self.new.held.items ≡ []) }
-    {
-        if let Some(forced) = self.at {
-            push_entry(&mut self.out, Entry::Break(forced))?;
-        }
-        if self.held.is_empty() {
-            return Ok(());
-        }
-        self.out.append(&mut self.held)?;
-        Ok(())
-    }
-}
-
-fn push_entry(out: &mut Vec<Entry>, entry: Entry) -> Result<(), NoMemory>
-    ensures { OnOk result (out.new.items ≡ out.old.items ++ entry ∷ []) }
+/// The breaks around a token.
+pub fn breaks_around(token: Token, next: &[Token], seen: Seen) -> Around
+    requires { IfSome seen.atomic (λ b. leads_to_atomic (token ∷ next.now) ≡ b) }
+    ensures broken { broken seen.solid (token ∷ next.now) ≡ front_break result.before ++ Content token
+        ∷ back_break result.after ++ broken result.seen.solid next.now }
+    ensures atomic { IfSome result.seen.atomic (λ b. leads_to_atomic next.now ≡ b) }
 {
-    out.push(entry)?;
-    Ok(())
+    let atomic = atomic_after(token, next, seen.atomic);
+    let before = breaks_before(token, next, atomic);
+    let after = break_after(token, next);
+    let solid = solid_after(after, solid_now(token, before, seen.solid));
+    Around {
+        before: seen.solid && before,
+        after,
+        seen: Seen { solid, atomic },
+    }
 }
 
 /// Whether an atomic follows, where that has been looked up or is looked up here.
@@ -327,35 +212,6 @@ fn solid_after(here: Option<bool>, solid: bool) -> bool
     match here {
         Some(_) => false,
         None => solid,
-    }
-}
-
-fn goes_back(token: Token, forced: bool, started: bool) -> bool
-    ensures { result ≡ goes_back token forced started }
-{
-    match token {
-        Token::TextEnd | Token::End(_) => !started,
-        Token::Float(_) | Token::Anchor(_) => !forced,
-        _ => false,
-    }
-}
-
-fn waits(token: Token) -> bool
-    ensures { result ≡ waits token }
-{
-    match token {
-        Token::Cluster(_) | Token::Atomic(_, _) => false,
-        _ => true,
-    }
-}
-
-/// Whether no end goes back over it.
-fn keeps_ends(token: Token) -> bool
-    ensures { result ≡ keeps_ends token }
-{
-    match token {
-        Token::Start(_) | Token::Float(_) | Token::Anchor(_) => true,
-        _ => false,
     }
 }
 

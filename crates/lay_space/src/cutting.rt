@@ -15,6 +15,7 @@ ghost use Rattle.std.specs.Prelude.{
   OnOk,
   length,
   slice_get,
+  option_to_list,
   string_bytes,
 };
 ghost use Rattle.std.specs.Str.{IsCharBoundary};
@@ -33,64 +34,62 @@ ghost use Rattle.lay_space.specs.Segments.{
   segments_of,
 };
 
-use crate::breaks::{Entry, entries_of};
+use crate::breaks::Entry;
 use crate::item::{Item, ItemList};
-use crate::segment::{Segment, SegmentList};
-use crate::tokens::{Cluster, Token, tokens_of, without_leading_spaces};
+use crate::segment::Segment;
+use crate::tokens::{Cluster, Token};
 use crate::white_space::push_item;
 use lay_units::{ClusterWidth, NoMemory, Text, WidthList};
 use std::alloc::Global;
 use std::mem;
 
-/// The segments of inline content that white space processing left, with the widths of the clusters of
-/// its texts (CSS 2.2, 16.6 and 9.4.2).
-pub fn segments(alloc: Global, items: &[Item]) -> Result<SegmentList, NoMemory>
-    ensures { IfOk result (λ l. l ≡ segments_of items.now) }
-{
-    let tokens = tokens_of(alloc, items)?;
-    let tokens = without_leading_spaces(alloc, &tokens)?;
-    let entries = entries_of(alloc, &tokens)?;
-    let mut cutter = Cutter {
-        done: Vec::new(alloc),
-        current: Vec::new(alloc),
-        held: Vec::new(alloc),
-    };
-    for k in 0..entries.len() {
-        cutter.put(alloc, items, entries[k], &entries[k + 1..])?;
-    }
-    cutter.end(alloc, items)?;
-    Ok(SegmentList::new(cutter.done))
-}
-
 /// The segments so far, the items since the last break, and the clusters of a text that goes on.
 #[derive(Drop)]
-struct Cutter {
-    done: Vec<Segment>,
-    current: Vec<Item>,
-    held: Vec<Cluster>,
+pub struct Cutter {
+    pub done: Vec<Segment>,
+    pub current: Vec<Item>,
+    pub held: Vec<Cluster>,
 }
 
 impl Cutter {
-    fn put(
-        &mut self,
-        alloc: Global,
-        items: &[Item],
-        entry: Entry,
-        rest: &[Entry],
-    ) -> Result<(), NoMemory>
-        ensures { OnOk result
-            (self.old.done.items ++ cut items.now self.old.current.items self.old.held.items
-            (entry ∷ rest.now) ≡ self.new.done.items ++ cut items.now self.new.current.items
-            self.new.held.items rest.now) }
+    /// The cutter that nothing was put into yet, of so many tokens: of a text, half of them most often end segments.
+    pub fn new(alloc: Global, tokens: usize) -> Result<Cutter, NoMemory>
+        ensures done { IfOk result (λ c. c.done.items ≡ []) }
+        ensures current { IfOk result (λ c. c.current.items ≡ []) }
+        ensures held { IfOk result (λ c. c.held.items ≡ []) }
     {
-        let _ = rest;
+        Ok(Cutter {
+            done: Vec::with_capacity(alloc, tokens / 2 + 1)?,
+            current: Vec::new(alloc),
+            held: Vec::with_capacity(alloc, 2)?,
+        })
+    }
+
+    pub fn put_all(&mut self, alloc: Global, items: &[Item], entries: &[Entry]) -> Result<(), NoMemory>
+        ensures { OnOk result ((xs : List Entry)
+            → self.old.done.items ++ cut items.now self.old.current.items self.old.held.items
+            (entries.now ++ xs) ≡ self.new.done.items ++ cut items.now self.new.current.items
+            self.new.held.items xs) }
+    {
+        for k in 0..entries.len() {
+            self.put(alloc, items, entries[k])?;
+        }
+        Ok(())
+    }
+
+    fn put(&mut self, alloc: Global, items: &[Item], entry: Entry) -> Result<(), NoMemory>
+        ensures { OnOk result ((xs : List Entry)
+            → self.old.done.items ++ cut items.now self.old.current.items self.old.held.items
+            (entry ∷ xs) ≡ self.new.done.items ++ cut items.now self.new.current.items
+            self.new.held.items xs) }
+    {
         match entry {
             Entry::Content(token) => self.put_token(alloc, items, token),
             Entry::Break(forced) => self.put_break(alloc, items, forced),
         }
     }
 
-    fn put_token(&mut self, alloc: Global, items: &[Item], token: Token) -> Result<(), NoMemory>
+    pub fn put_token(&mut self, alloc: Global, items: &[Item], token: Token) -> Result<(), NoMemory>
         ensures { OnOk result ((xs : List Entry)
             → self.old.done.items ++ cut items.now self.old.current.items self.old.held.items
             (entry.Content token ∷ xs) ≡ self.new.done.items ++ cut items.now self.new.current.items
@@ -110,7 +109,7 @@ impl Cutter {
         }
     }
 
-    fn put_break(&mut self, alloc: Global, items: &[Item], forced: bool) -> Result<(), NoMemory>
+    pub fn put_break(&mut self, alloc: Global, items: &[Item], forced: bool) -> Result<(), NoMemory>
         ensures done { OnOk result (self.new.done.items
             ≡ self.old.done.items ++ record {
               items = self.old.current.items ++ text_of items.now
@@ -120,13 +119,28 @@ impl Cutter {
         ensures current { OnOk result (self.new.current.items ≡ []) }
         ensures held { OnOk result (self.new.held.items ≡ []) }
     {
-        self.close(alloc, items)?;
-        let current = mem::replace(&mut self.current, Vec::new(alloc));
-        self.done.push(Segment {
-            items: ItemList::new(current),
-            forced,
-        })?;
+        let items = self.take(alloc, items)?;
+        self.done.push(Segment { items, forced })?;
         Ok(())
+    }
+
+    /// Takes the items since the last break, of which most often there is one.
+    fn take(&mut self, alloc: Global, items: &[Item]) -> Result<ItemList, NoMemory>
+        ensures taken { IfOk result (λ l. l ≡ self.old.current.items ++ text_of items.now self.old.held.items) }
+        ensures current { OnOk result (self.new.current.items ≡ []) }
+        ensures held { OnOk result (self.new.held.items ≡ []) }
+        ensures done { OnOk result (self.new.done.items ≡ self.old.done.items) }
+    {
+        let text = text_of(alloc, items, &self.held)?;
+        self.held.clear();
+        if !self.current.is_empty() {
+            push_if_any(&mut self.current, text)?;
+            return Ok(ItemList::new(mem::replace(&mut self.current, Vec::new(alloc))));
+        }
+        match text {
+            Some(text) => Ok(ItemList::one(text)),
+            None => Ok(ItemList::new(Vec::new(alloc))),
+        }
     }
 
     fn put_item(&mut self, alloc: Global, items: &[Item], item: Item) -> Result<(), NoMemory>
@@ -146,12 +160,13 @@ impl Cutter {
         ensures held { OnOk result (self.new.held.items ≡ []) }
         ensures done { OnOk result (self.new.done.items ≡ self.old.done.items) }
     {
-        put_text(alloc, &mut self.current, items, &self.held)?;
+        let text = text_of(alloc, items, &self.held)?;
+        push_if_any(&mut self.current, text)?;
         self.held.clear();
         Ok(())
     }
 
-    fn end(&mut self, alloc: Global, items: &[Item]) -> Result<(), NoMemory>
+    pub fn end(&mut self, alloc: Global, items: &[Item]) -> Result<(), NoMemory>
         ensures { OnOk result (self.new.done.items
             ≡ self.old.done.items ++ cut items.now self.old.current.items self.old.held.items []) }
     {
@@ -163,26 +178,29 @@ impl Cutter {
     }
 }
 
-/// Puts the text that these clusters make, if there are any.
-fn put_text(
-    alloc: Global,
-    out: &mut Vec<Item>,
-    items: &[Item],
-    clusters: &[Cluster],
-) -> Result<(), NoMemory>
-    ensures { OnOk result (out.new.items ≡ out.old.items ++ text_of items.now clusters.now) }
+/// The text that these clusters make, if there are any.
+fn text_of(alloc: Global, items: &[Item], clusters: &[Cluster]) -> Result<Option<Item>, NoMemory>
+    ensures { IfOk result (λ t. option_to_list t ≡ text_of items.now clusters.now) }
 {
     let Some(first) = clusters.first() else {
-        return Ok(());
+        return Ok(None);
     };
     let joined = join(alloc, items, clusters)?;
-    let text = Item::Text {
+    Ok(Some(Item::Text {
         node: first.node,
         text: Text::new(joined.text),
         mode: first.mode,
         widths: WidthList::new(joined.widths),
-    };
-    push_item(out, text)
+    }))
+}
+
+fn push_if_any(out: &mut Vec<Item>, item: Option<Item>) -> Result<(), NoMemory>
+    ensures { OnOk result (out.new.items ≡ out.old.items ++ option_to_list item) }
+{
+    match item {
+        Some(item) => push_item(out, item),
+        None => Ok(()),
+    }
 }
 
 #[derive(Drop)]
@@ -195,7 +213,7 @@ fn join(alloc: Global, items: &[Item], clusters: &[Cluster]) -> Result<Joined, N
     ensures text { IfOk result (λ j. string_bytes j.text ≡ joined items.now clusters.now) }
     ensures widths { IfOk result (λ j. j.widths.items ≡ placed items.now 0 clusters.now) }
 {
-    let mut text = String::new(alloc);
+    let mut text = String::with_capacity(alloc, room_of(items, clusters))?;
     let mut widths = Vec::with_capacity(alloc, clusters.len())?;
     for k in 0..clusters.len() {
         put_cluster(
@@ -207,6 +225,15 @@ fn join(alloc: Global, items: &[Item], clusters: &[Cluster]) -> Result<Joined, N
         )?;
     }
     Ok(Joined { text, widths })
+}
+
+/// How much room the text of these clusters takes where they follow one another.
+fn room_of(items: &[Item], clusters: &[Cluster]) -> usize {
+    let (Some(first), Some(last)) = (clusters.first(), clusters.last()) else {
+        return 0;
+    };
+    let most = text_at(items, first.item).len();
+    last.to.saturating_sub(first.from).min(most)
 }
 
 fn put_cluster(

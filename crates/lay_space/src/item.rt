@@ -1,10 +1,11 @@
 //! Inline content of a block container.
 
-ghost use Rattle.std.specs.Prelude.{◌≡◌};
+ghost use Rattle.std.specs.Prelude.{◌≡◌, ◌∷◌, []};
 ghost use Rattle.lay_space.specs.Modes.{collapses, joins_lines, wraps};
 
 use lay_units::{Text, WidthList};
 use std::marker::Model;
+use std::slice;
 
 /// The values of `white-space` (CSS 2.2, 16.6).
 #[derive(Clone, Copy)]
@@ -67,16 +68,24 @@ pub enum Item {
 /// Inline content, in document order.
 #[derive(Drop)]
 pub struct ItemList {
-    items: Vec<Item>,
+    items: Items,
+}
+
+/// One item by itself takes no memory of its own: most segments have one.
+#[derive(Drop)]
+enum Items {
+    One(Item),
+    Many(Vec<Item>),
 }
 
 impl Model for ItemList {
     ghost use Rattle.std.specs.Prelude.{List};
     ghost use Rattle.lay_space.specs.declared.item.Item.{Item};
+    ghost use Rattle.lay_space.specs.ItemLists.{listed};
 
     ghost Value = { List Item };
 
-    ghost view = { λ l. l.items.items };
+    ghost view = { λ l. listed l.items };
 }
 
 impl ItemList {
@@ -84,13 +93,27 @@ impl ItemList {
     pub fn new(items: Vec<Item>) -> ItemList
         ensures { result ≡ items.items }
     {
-        ItemList { items }
+        ItemList {
+            items: Items::Many(items),
+        }
+    }
+
+    /// The list of this item.
+    pub fn one(item: Item) -> ItemList
+        ensures { result ≡ item ∷ [] }
+    {
+        ItemList {
+            items: Items::One(item),
+        }
     }
 
     /// The items, in order.
     pub fn as_slice(&self) -> &[Item]
         ensures { result.now ≡ self.now }
     {
-        self.items.as_slice()
+        match &self.items {
+            Items::One(item) => slice::from_ref(item),
+            Items::Many(items) => items.as_slice(),
+        }
     }
 }

@@ -13,12 +13,13 @@ mod cutting;
 mod item;
 mod laws;
 mod segment;
+mod settling;
 mod tokens;
 mod white_space;
 
-pub use cutting::segments;
 pub use item::{Item, ItemList, Mode};
 pub use laws::{breaks_keep_content, no_space_after_space};
 pub use segment::{Segment, SegmentList};
+pub use settling::segments;
 pub use tokens::{ClusterKind, cluster_kind};
 pub use white_space::process;

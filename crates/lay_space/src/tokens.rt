@@ -1,6 +1,6 @@
 //! Inline content as flat tokens.
 
-ghost use Rattle.std.specs.Prelude.{◌≡◌, ◌+◌, ◌≤◌, ◌==◌, ◌∷◌, ◌++◌, IfOk, OnOk, slice_index, true, false, []};
+ghost use Rattle.std.specs.Prelude.{◌≡◌, ◌+◌, ◌≤◌, ◌==◌, ◌∷◌, ◌++◌, IfOk, OnOk, slice_index, List, true, false, []};
 ghost use Rattle.lay_space.specs.Tokens.{
   is_byte,
   space_kind,
@@ -58,19 +58,34 @@ pub enum Token {
     Anchor(u32),
 }
 
-/// The tokens of inline content, in order.
+/// The tokens of inline content, in order, without the collapsible spaces that surely begin a line.
 pub fn tokens_of(alloc: Global, items: &[Item]) -> Result<Vec<Token>, NoMemory>
-    ensures { IfOk result (λ v. v.items ≡ tokens_of 0 items.now) }
+    ensures { IfOk result (λ v. v.items ≡ without_leading_spaces true (tokens_of 0 items.now)) }
 {
-    let mut out = Vec::with_capacity(alloc, items.len())?;
+    let mut out = Vec::with_capacity(alloc, room_of(items))?;
+    let mut first = true;
     for k in 0..items.len() {
-        put_item(&mut out, k, &items[k])?;
+        first = put_item(&mut out, first, k, &items[k])?;
     }
     Ok(out)
 }
 
-fn put_item(out: &mut Vec<Token>, place: usize, item: &Item) -> Result<(), NoMemory>
-    ensures { OnOk result (out.new.items ≡ out.old.items ++ tokens_of_item place item.now) }
+/// How many tokens items have at most.
+fn room_of(items: &[Item]) -> usize {
+    let mut room = items.len();
+    for item in items {
+        if let Item::Text { widths, .. } = item {
+            room = room.saturating_add(widths.as_slice().len());
+        }
+    }
+    room
+}
+
+/// Puts the tokens of an item, of which `first` says whether it surely begins a line, and says so of what follows it.
+fn put_item(out: &mut Vec<Token>, first: bool, place: usize, item: &Item) -> Result<bool, NoMemory>
+    ensures { IfOk result (λ next. (rest : List Token)
+        → out.old.items ++ without_leading_spaces first (tokens_of_item place item.now ++ rest)
+        ≡ out.new.items ++ without_leading_spaces next rest) }
 {
     let token = match item {
         Item::Text {
@@ -79,15 +94,13 @@ fn put_item(out: &mut Vec<Token>, place: usize, item: &Item) -> Result<(), NoMem
             mode,
             widths,
         } => {
-            put_clusters(
-                out,
-                place,
-                *node,
-                *mode,
-                text.as_str().as_bytes(),
-                widths.as_slice(),
-            )?;
-            Token::TextEnd
+            let of = TextOf {
+                item: place,
+                node: *node,
+                mode: *mode,
+            };
+            let first = put_clusters(out, first, of, text.as_str().as_bytes(), widths.as_slice())?;
+            return put_unless_leading(out, first, Token::TextEnd);
         }
         Item::Atomic(node, mode) => Token::Atomic(*node, *mode),
         Item::Start(node) => Token::Start(*node),
@@ -95,50 +108,65 @@ fn put_item(out: &mut Vec<Token>, place: usize, item: &Item) -> Result<(), NoMem
         Item::Float(node) => Token::Float(*node),
         Item::Anchor(node) => Token::Anchor(*node),
     };
-    push_token(out, token)
+    put_unless_leading(out, first, token)
+}
+
+/// The place of a text's item, the number of its box and its `white-space`.
+#[derive(Clone, Copy)]
+struct TextOf {
+    item: usize,
+    node: u32,
+    mode: Mode,
 }
 
 fn put_clusters(
     out: &mut Vec<Token>,
-    item: usize,
-    node: u32,
-    mode: Mode,
+    first: bool,
+    of: TextOf,
     text: &[u8],
     widths: &[ClusterWidth],
-) -> Result<(), NoMemory>
-    ensures { OnOk result (out.new.items ≡ out.old.items ++ cluster_tokens item node mode text.now
-        widths.now) }
+) -> Result<bool, NoMemory>
+    ensures { IfOk result (λ next. (rest : List Token)
+        → out.old.items ++ without_leading_spaces first (cluster_tokens of.item of.node of.mode text.now widths.now ++ rest)
+        ≡ out.new.items ++ without_leading_spaces next rest) }
 {
+    let mut first = first;
     for k in 0..widths.len() {
-        let token = cluster_token(item, node, mode, text, widths[k], &widths[k + 1..]);
-        push_token(out, token)?;
+        let token = cluster_token(of, text, widths[k], &widths[k + 1..]);
+        first = put_unless_leading(out, first, token)?;
     }
-    Ok(())
+    Ok(first)
 }
 
-fn cluster_token(
-    item: usize,
-    node: u32,
-    mode: Mode,
-    text: &[u8],
-    width: ClusterWidth,
-    rest: &[ClusterWidth],
-) -> Token
-    ensures { result ∷ cluster_tokens item node mode text.now rest.now
-        ≡ cluster_tokens item node mode text.now (width ∷ rest.now) }
+fn cluster_token(of: TextOf, text: &[u8], width: ClusterWidth, rest: &[ClusterWidth]) -> Token
+    ensures { result ∷ cluster_tokens of.item of.node of.mode text.now rest.now
+        ≡ cluster_tokens of.item of.node of.mode text.now (width ∷ rest.now) }
 {
     let from = width.place;
     let to = next_place(text, rest);
-    let kind = cluster_kind(mode, text, from, to);
+    let kind = cluster_kind(of.mode, text, from, to);
     Token::Cluster(Cluster {
-        item,
-        node,
-        mode,
+        item: of.item,
+        node: of.node,
+        mode: of.mode,
         kind,
         from,
         to,
         width: width.width,
     })
+}
+
+/// Puts a token that doesn't collapse at the start of a line.
+fn put_unless_leading(out: &mut Vec<Token>, first: bool, token: Token) -> Result<bool, NoMemory>
+    ensures { IfOk result (λ next. (rest : List Token)
+        → out.old.items ++ without_leading_spaces first (token ∷ rest)
+        ≡ out.new.items ++ without_leading_spaces next rest) }
+{
+    if first && is_collapsible(token) {
+        return Ok(first);
+    }
+    out.push(token)?;
+    Ok(begins_line(first, token))
 }
 
 fn next_place(text: &[u8], rest: &[ClusterWidth]) -> usize
@@ -226,42 +254,6 @@ fn byte_at(text: &[u8], at: usize) -> u8
         Some(byte) => *byte,
         None => 0,
     }
-}
-
-fn push_token(out: &mut Vec<Token>, token: Token) -> Result<(), NoMemory>
-    ensures { OnOk result (out.new.items ≡ out.old.items ++ token ∷ []) }
-{
-    out.push(token)?;
-    Ok(())
-}
-
-/// The tokens without the collapsible spaces that surely begin a line.
-pub fn without_leading_spaces(alloc: Global, tokens: &[Token]) -> Result<Vec<Token>, NoMemory>
-    ensures { IfOk result (λ v. v.items ≡ without_leading_spaces true tokens.now) }
-{
-    let mut out = Vec::with_capacity(alloc, tokens.len())?;
-    let mut first = true;
-    for k in 0..tokens.len() {
-        first = put_unless_leading(&mut out, first, tokens[k], &tokens[k + 1..])?;
-    }
-    Ok(out)
-}
-
-fn put_unless_leading(
-    out: &mut Vec<Token>,
-    first: bool,
-    token: Token,
-    rest: &[Token],
-) -> Result<bool, NoMemory>
-    ensures { IfOk result (λ next. out.old.items ++ without_leading_spaces first (token ∷ rest.now)
-        ≡ out.new.items ++ without_leading_spaces next rest.now) }
-{
-    let _ = rest;
-    if first && is_collapsible(token) {
-        return Ok(first);
-    }
-    out.push(token)?;
-    Ok(begins_line(first, token))
 }
 
 fn is_collapsible(token: Token) -> bool

@@ -1,5 +1,5 @@
 use Rattle.std.proofs.Common.{◌≡◌, ◌++◌, drop}
-use Rattle.lay_face.proofs.PlainTexts.{plain_widths}
+use Rattle.lay_face.specs.PlainTexts.{plain_widths}
 use Rattle.lay_face.proofs.face.Face.plain_widths.Given as goal
 
 abbrev pub invariant-loop-k : goal.invariant-loop-k
