@@ -1,9 +1,9 @@
 //! First and last parts of inline boxes (CSS 2.2, 9.2.1.1).
 
-ghost use Rattle.std.specs.Prelude.{◌≡◌, ◌≢◌, ◌<◌, ◌+◌, ℕ, Some, Bool, not, length, slice_index_or, false, IfOk, OnOk, is_some};
+ghost use Rattle.std.specs.Prelude.{◌≡◌, ◌≢◌, ◌<◌, ◌+◌, ℕ, Some, Bool, not, length, slice_index_or, IfOk, OnOk, is_some};
 ghost use Rattle.std.specs.BTreeMap.{get};
 ghost use Rattle.std.specs.Ordering.{nat_cmp};
-ghost use Rattle.lay_box_parts.specs.InlineParts.{AreInlineParts, id_at, is_first_part, is_inline_at, is_last_part};
+ghost use Rattle.lay_box_parts.specs.InlineParts.{AreInlineParts, id_at, is_first_part, is_inline_at, is_last_part, no_part};
 ghost use Rattle.lay_box_parts.specs.LatestParts.{IsLatest};
 
 use lay_box_tree::{BoxKind, BoxNode};
@@ -26,15 +26,8 @@ pub fn inline_parts(alloc: Global, boxes: &[BoxNode]) -> Result<Vec<InlinePart>,
     ensures { IfOk result (λ v. AreInlineParts boxes.now v.items) }
 {
     let mut latest = BTreeMap::new(alloc);
-    let first = first_parts(alloc, boxes, &mut latest)?;
-    let mut parts = Vec::with_capacity(alloc, boxes.len())?;
-    for k in 0..boxes.len() {
-        let part = InlinePart {
-            first: first[k],
-            last: is_last_part(boxes, &latest, k),
-        };
-        parts.push(part)?;
-    }
+    let mut parts = first_parts(alloc, boxes, &mut latest)?;
+    put_last_parts(boxes, &latest, &mut parts);
     Ok(parts)
 }
 
@@ -43,18 +36,32 @@ fn first_parts(
     alloc: Global,
     boxes: &[BoxNode],
     latest: &mut BTreeMap<u32, usize>,
-) -> Result<Vec<bool>, NoMemory>
+) -> Result<Vec<InlinePart>, NoMemory>
     requires { (id : ℕ) → IsLatest boxes.now 0 id (get nat_cmp latest.old id) }
     ensures count { IfOk result (λ v. length v.items ≡ length boxes.now) }
-    ensures each { IfOk result (λ v. (k : ℕ) → k < length boxes.now → slice_index_or v.items k false ≡ is_first_part boxes.now k) }
+    ensures each { IfOk result (λ v. (k : ℕ) → k < length boxes.now → (slice_index_or v.items k no_part).first ≡ is_first_part boxes.now k) }
     ensures latest { OnOk result ((id : ℕ) → IsLatest boxes.now (length boxes.now) id (get nat_cmp latest.new id)) }
 {
-    let mut first = Vec::with_capacity(alloc, boxes.len())?;
+    let mut parts = Vec::with_capacity(alloc, boxes.len())?;
     for k in 0..boxes.len() {
-        let is_first = take_note(boxes, latest, k)?;
-        first.push(is_first)?;
+        let first = take_note(boxes, latest, k)?;
+        parts.push(InlinePart { first, last: false })?;
     }
-    Ok(first)
+    Ok(parts)
+}
+
+/// Says of each box whether it is the last part of an inline box, where these are the places of the last ones.
+fn put_last_parts(boxes: &[BoxNode], latest: &BTreeMap<u32, usize>, parts: &mut [InlinePart])
+    requires count { length parts.old ≡ length boxes.now }
+    requires first { (k : ℕ) → k < length boxes.now → (slice_index_or parts.old k no_part).first ≡ is_first_part boxes.now k }
+    requires latest { (id : ℕ) → IsLatest boxes.now (length boxes.now) id (get nat_cmp latest.now id) }
+    ensures { AreInlineParts boxes.now parts.new }
+{
+    for k in 0..boxes.len() {
+        let first = parts[k].first;
+        let last = is_last_part(boxes, latest, k);
+        parts[k] = InlinePart { first, last };
+    }
 }
 
 /// Notes the box at k, if it is an inline box, as the latest part. Whether it is the first one.

@@ -19,8 +19,14 @@ use std::sync::Arc;
 /// Whoever is given them shares them.
 #[derive(Drop)]
 pub struct ContextBoxes {
-    tree: Arc<BoxTree>,
-    containers: Arc<Vec<usize>>,
+    shared: Arc<TreeContainers>,
+}
+
+/// The boxes, and the nearest block container of each.
+#[derive(Drop)]
+struct TreeContainers {
+    tree: BoxTree,
+    containers: Vec<usize>,
 }
 
 impl Model for ContextBoxes {
@@ -31,9 +37,9 @@ impl Model for ContextBoxes {
 
     ghost Value = { List BoxNode };
 
-    ghost view = { λ b. b.tree.value };
+    ghost view = { λ b. b.shared.value.tree };
 
-    ghost invariant = { λ b. AreContextBoxes b.tree.value × AreContainers b.tree.value b.containers.value.items };
+    ghost invariant = { λ b. AreContextBoxes b.shared.value.tree × AreContainers b.shared.value.tree b.shared.value.containers.items };
 }
 
 impl ContextBoxes {
@@ -43,16 +49,15 @@ impl ContextBoxes {
         ensures { IfOk result (λ b. b ≡ tree) }
     {
         let containers = tree.containers(alloc)?;
-        let containers = Arc::new(alloc, containers)?;
-        let tree = Arc::new(alloc, tree)?;
-        Ok(ContextBoxes { tree, containers })
+        let shared = Arc::new(alloc, TreeContainers { tree, containers })?;
+        Ok(ContextBoxes { shared })
     }
 
     /// The boxes as a tree.
     pub fn tree(&self) -> &BoxTree
         ensures { result.now ≡ self.now }
     {
-        &self.tree
+        &self.shared.tree
     }
 
     /// The boxes, in order.
@@ -60,7 +65,7 @@ impl ContextBoxes {
         ensures boxes { result.now ≡ self.now }
         ensures are { AreContextBoxes self.now }
     {
-        self.tree.as_slice()
+        self.shared.tree.as_slice()
     }
 
     /// The computed style of the box at k.
@@ -68,7 +73,7 @@ impl ContextBoxes {
         requires { k < length self.now }
         ensures { result.now ≡ style_at (box_styles self.now) k }
     {
-        &self.tree.as_slice()[k].style
+        &self.shared.tree.as_slice()[k].style
     }
 
     /// Whether the box at k is that of an inner context.
@@ -76,7 +81,7 @@ impl ContextBoxes {
         requires { k < length self.now }
         ensures { result ≡ is_inner self.now k }
     {
-        self.tree.as_slice()[k].inner
+        self.shared.tree.as_slice()[k].inner
     }
 
     /// Whether the box at k is that of an inner context which floats.
@@ -84,7 +89,7 @@ impl ContextBoxes {
         requires { k < length self.now }
         ensures { result ≡ is_float self.now k }
     {
-        self.tree.as_slice()[k].inner && self.tree.role(k).is_float()
+        self.shared.tree.as_slice()[k].inner && self.shared.tree.role(k).is_float()
     }
 
     /// What the box at k is in its formatting context.
@@ -92,7 +97,7 @@ impl ContextBoxes {
         requires { k < length self.now }
         ensures { result ≡ role_at self.now k }
     {
-        self.tree.role(k)
+        self.shared.tree.role(k)
     }
 
     /// The place of the nearest block container of the box at k; the context's own box is its own.
@@ -102,7 +107,7 @@ impl ContextBoxes {
         ensures within { result < length self.now }
         ensures before { 0 < k → result < k }
     {
-        container_at(self.tree.as_slice(), &self.containers, k)
+        container_at(self.shared.tree.as_slice(), &self.shared.containers, k)
     }
 
     /// Whether the box at k is anonymous (9.2.1.1).
@@ -110,7 +115,7 @@ impl ContextBoxes {
         requires { k < length self.now }
         ensures { result ≡ is_anonymous self.now k }
     {
-        self.tree.as_slice()[k].anonymous
+        self.shared.tree.as_slice()[k].anonymous
     }
 
     /// The sides that the box at k clears.
@@ -118,16 +123,15 @@ impl ContextBoxes {
         requires { k < length self.now }
         ensures { result ≡ clear_at self.now k }
     {
-        self.tree.clear(k)
+        self.shared.tree.clear(k)
     }
 
     /// The same boxes, shared.
     pub fn share(&self) -> Result<ContextBoxes, NoMemory>
         ensures { IfOk result (λ b. b ≡ self.now) }
     {
-        let tree = self.tree.clone()?;
-        let containers = self.containers.clone()?;
-        Ok(ContextBoxes { tree, containers })
+        let shared = self.shared.clone()?;
+        Ok(ContextBoxes { shared })
     }
 }
 

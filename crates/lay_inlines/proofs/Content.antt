@@ -1,5 +1,5 @@
 -- The content of a line, stretch by stretch.
-use Rattle.std.proofs.Common.{◌≡◌, ◌∙◌, ℕ, ◌+◌, ◌<◌, List, [], ◌∷◌, ◌++◌, length, drop, get_or, refl, sym, ap}
+use Rattle.std.proofs.Common.{◌≡◌, ◌∙◌, ℕ, ◌+◌, ◌<◌, List, [], ◌∷◌, ◌++◌, length, drop, get_or, refl, sym, ap, subst}
 use Rattle.std.proofs.lemmas.List.{drop_more, append_assoc}
 use Rattle.lay_line_content.specs.declared.content.Part.{Part}
 use Rattle.lay_line_content.specs.declared.content.Stretch.{Stretch}
@@ -7,6 +7,9 @@ use Rattle.lay_line_content.specs.declared.frame.Frame.{Frame}
 use Rattle.lay_line_content.specs.declared.pen.Pen.{Pen}
 use Rattle.lay_line_content.specs.Pens.{over, over_all}
 use Rattle.lay_inlines.specs.declared.strokes.Stroke.{Stroke}
+use Rattle.lay_units.specs.declared.length.Unit.{Unit}
+use Rattle.lay_inlines.specs.Looks.{LookAs}
+use Rattle.lay_inlines.proofs.Looks.{looks_behind}
 use Rattle.lay_inlines.specs.Raises.{RaisesValue, raise_of, raises_after, raises_after_all}
 use Rattle.lay_inlines.specs.Strokes.{parts_of, strokes, stroke_of}
 
@@ -29,7 +32,19 @@ raises-append r (x ∷ xs) ys = raises-append (raises_after r x) xs ys
 
 -- the strokes of some parts, and then those of the rest
 pub draw_more : (fr : Frame) (p q : Pen) (r s : RaisesValue) (xs ys : List Part) (out new : List Stroke)
-    → new ≡ out ++ strokes fr p r xs → q ≡ over_all fr p xs → s ≡ raises_after_all r xs → new ++ strokes fr q s ys ≡ out ++ strokes fr p r (xs ++ ys)
-draw_more fr p q r s xs ys out new e f g =
-    (λ i. e i ++ strokes fr (f i) (g i) ys) ∙ append_assoc out (strokes fr p r xs) (strokes fr (over_all fr p xs) (raises_after_all r xs) ys)
-    ∙ ap (λ (ss : List Stroke). out ++ ss) (sym (strokes-append fr p r xs ys))
+    → LookAs new (out ++ strokes fr p r xs) → q ≡ over_all fr p xs → s ≡ raises_after_all r xs
+    → LookAs (new ++ strokes fr q s ys) (out ++ strokes fr p r (xs ++ ys))
+draw_more fr p q r s xs ys out new l f g =
+    subst (λ (zs : List Stroke). LookAs (new ++ strokes fr q s ys) zs)
+    (append_assoc out (strokes fr p r xs) (strokes fr q s ys) ∙ (λ i. out ++ (strokes fr p r xs ++ strokes fr (f i) (g i) ys))
+    ∙ ap (λ (ss : List Stroke). out ++ ss) (sym (strokes-append fr p r xs ys)))
+    (looks_behind new (out ++ strokes fr p r xs) (strokes fr q s ys) l)
+
+-- one stroke more, and then those of the rest
+pub drawn_more : (fr : Frame) (p q : Pen) (r s : RaisesValue) (x : Part) (raise : Unit) (xs : List Part) (out new : List Stroke)
+    → q ≡ over fr p x → raise ≡ raise_of r x → s ≡ raises_after r x → LookAs new (out ++ stroke_of x raise p q ∷ [])
+    → LookAs (new ++ strokes fr q s xs) (out ++ strokes fr p r (x ∷ xs))
+drawn_more fr p q r s x raise xs out new e f g l =
+    subst (λ (ys : List Stroke). LookAs (new ++ strokes fr q s xs) ys)
+    (append_assoc out (stroke_of x raise p q ∷ []) (strokes fr q s xs) ∙ (λ i. out ++ stroke_of x (f i) p (e i) ∷ strokes fr (e i) (g i) xs))
+    (looks_behind new (out ++ stroke_of x raise p q ∷ []) (strokes fr q s xs) l)

@@ -1,6 +1,7 @@
 mod AtomicPieces
 mod Backward
 mod Content
+mod Looks
 mod OpenBoxSteps
 mod PartRaises
 mod PenPlaces

@@ -3,6 +3,7 @@ pub mod Behind
 pub mod Bounds
 pub mod Laws
 pub mod LinePieces
+pub mod Looks
 pub mod OpenBoxes
 pub mod Raises
 pub mod Spans

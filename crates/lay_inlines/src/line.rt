@@ -87,7 +87,8 @@ impl Sheet {
             &mut self.behind.spans,
             line.areas,
             line.origin(last.solid),
-        )
+        )?;
+        Ok(())
     }
 }
 

@@ -1,7 +1,8 @@
 //! The content of a line, with the pen.
 
-ghost use Rattle.std.specs.Prelude.{◌≡◌, ◌++◌, ◌||◌, IfOk, OnOk};
+ghost use Rattle.std.specs.Prelude.{◌≡◌, ◌++◌, ◌∷◌, [], ◌||◌, ◌-◌, IsTrue, length, slice_index_or, IfOk, OnOk};
 ghost use Rattle.lay_inlines.specs.Bounds.{PensWithin};
+ghost use Rattle.lay_inlines.specs.Looks.{IsBitOf, LookAs};
 ghost use Rattle.lay_inlines.specs.Raises.{raises_after_all};
 ghost use Rattle.lay_inlines.specs.Strokes.{is_content, shown_of, place, strokes, parts_of};
 ghost use Rattle.lay_line_content.specs.Pens.{over_all};
@@ -39,8 +40,7 @@ pub fn draw(
     stretches: &[Stretch],
 ) -> Result<Pen, NoMemory>
     requires { PensWithin frame.now pen (parts_of stretches.now) }
-    ensures strokes { OnOk result (out.new.items
-        ≡ out.old.items ++ strokes frame.now pen raises.old (parts_of stretches.now)) }
+    ensures strokes { OnOk result (LookAs out.new.items (out.old.items ++ strokes frame.now pen raises.old (parts_of stretches.now))) }
     ensures raises { OnOk result (raises.new ≡ raises_after_all raises.old (parts_of stretches.now)) }
     ensures pen { IfOk result (λ p. p ≡ over_all frame.now pen (parts_of stretches.now)) }
 {
@@ -59,7 +59,7 @@ fn draw_parts(
     parts: &[Part],
 ) -> Result<Pen, NoMemory>
     requires { PensWithin frame.now pen parts.now }
-    ensures strokes { OnOk result (out.new.items ≡ out.old.items ++ strokes frame.now pen raises.old parts.now) }
+    ensures strokes { OnOk result (LookAs out.new.items (out.old.items ++ strokes frame.now pen raises.old parts.now)) }
     ensures raises { OnOk result (raises.new ≡ raises_after_all raises.old parts.now) }
     ensures pen { IfOk result (λ p. p ≡ over_all frame.now pen parts.now) }
 {
@@ -67,16 +67,67 @@ fn draw_parts(
     for k in 0..parts.len() {
         let part = parts[k];
         let after = before.over(frame, part);
-        out.push(Stroke {
+        let stroke = Stroke {
             part,
             raise: raises.of(part),
             before,
             after,
-        })?;
+        };
+        put(out, stroke)?;
         raises.pass(part)?;
         before = after;
     }
     Ok(before)
+}
+
+/// Adds a stroke. A bit of a text makes one with the bits of it right before, so that a line has few.
+fn put(out: &mut Vec<Stroke>, stroke: Stroke) -> Result<(), NoMemory>
+    ensures { OnOk result (LookAs out.new.items (out.old.items ++ stroke ∷ [])) }
+{
+    let with_space = Stroke {
+        before: begin_with_last(out, &stroke),
+        ..stroke
+    };
+    let with_word = Stroke {
+        before: begin_with_last(out, &with_space),
+        ..with_space
+    };
+    out.push(with_word)?;
+    Ok(())
+}
+
+/// Where a stroke begins that reaches over the last of these too, which then leaves, if both are bits of one text.
+fn begin_with_last(out: &mut Vec<Stroke>, stroke: &Stroke) -> Pen
+    ensures { LookAs (out.new.items ++ record stroke.now { before = result } ∷ []) (out.old.items ++ stroke.now ∷ []) }
+{
+    let Part::Text(bit) = stroke.part else {
+        return stroke.before;
+    };
+    if !ends_with_bit(out.as_slice(), bit.text, stroke.raise) {
+        return stroke.before;
+    }
+    match out.pop() {
+        Some(last) => last.before,
+        None => stroke.before,
+    }
+}
+
+/// Whether the last of these is a bit of this text, raised so far.
+fn ends_with_bit(strokes: &[Stroke], text: u32, raise: Unit) -> bool
+    ensures { IsTrue result → (d : Stroke) → IsBitOf (slice_index_or strokes.now (length strokes.now - 1) d) text raise }
+{
+    let count = strokes.len();
+    count != 0 && is_bit_of(&strokes[count - 1], text, raise)
+}
+
+/// Whether a stroke shows a bit of this text where content follows it, raised so far.
+fn is_bit_of(stroke: &Stroke, text: u32, raise: Unit) -> bool
+    ensures { IsTrue result → IsBitOf stroke.now text raise }
+{
+    match shown_of(stroke.part, stroke.before.started) {
+        Shown::OfText(of) => of == text && stroke.raise.0 == raise.0,
+        _ => false,
+    }
 }
 
 /// Whether collapsible spaces beside it stay.

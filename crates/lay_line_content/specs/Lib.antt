@@ -1,3 +1,4 @@
 pub mod Extents
 pub mod LineContents
+pub mod PartLists
 pub mod Pens

@@ -8,30 +8,48 @@ use std::marker::Model;
 /// The parts of a stretch, in order.
 #[derive(Drop)]
 pub struct PartList {
-    items: Vec<Part>,
+    parts: Parts,
+}
+
+/// Parts of a stretch. Most stretches are a word, or a word and a space: so few lie where the stretch does.
+#[derive(Drop)]
+enum Parts {
+    One([Part; 1]),
+    Two([Part; 2]),
+    Many(Vec<Part>),
 }
 
 impl Model for PartList {
     ghost use Rattle.std.specs.Prelude.{List};
     ghost use Rattle.lay_line_content.specs.declared.content.Part.{Part};
+    ghost use Rattle.lay_line_content.specs.PartLists.{parts_in};
 
     ghost Value = { List Part };
 
-    ghost view = { λ l. l.items.items };
+    ghost view = { λ l. parts_in l.parts };
 }
 
 impl PartList {
-    /// The list of these, which is taken over without a copy.
+    /// The list of these.
     pub fn new(items: Vec<Part>) -> PartList
         ensures { result ≡ items.items }
     {
-        PartList { items }
+        let parts = match items.len() {
+            1 => Parts::One([items[0]]),
+            2 => Parts::Two([items[0], items[1]]),
+            _ => Parts::Many(items),
+        };
+        PartList { parts }
     }
 
     pub fn as_slice(&self) -> &[Part]
         ensures { result.now ≡ self.now }
     {
-        self.items.as_slice()
+        match &self.parts {
+            Parts::One(parts) => parts,
+            Parts::Two(parts) => parts,
+            Parts::Many(parts) => parts.as_slice(),
+        }
     }
 }
 

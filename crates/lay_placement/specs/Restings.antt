@@ -18,5 +18,5 @@ pub record IsResting (i : PlaceInput) (p : ContextPlaces) (corners : List Corner
   pub corner_count : length corners ≡ length i.boxes
   pub each_corner : (k : ℕ) → k < length i.boxes → corner_at corners k ≡ corner_of_box i p k
   pub near : AreNearCorners corners
-  pub top_count : length tops ≡ length i.boxes
+  pub top_count : (k : ℕ) → k < length i.boxes → is_anchor (role_at i.boxes k) ≡ true → k < length tops
   pub each_top : (k : ℕ) → k < length i.boxes → is_anchor (role_at i.boxes k) ≡ true → top_at tops k ≡ anchor_line i p k

@@ -1,6 +1,6 @@
 //! Static positions (CSS 2.2, 9.6): the lines that have anchors.
 
-ghost use Rattle.std.specs.Prelude.{ℕ, ◌≡◌, ◌<◌, ◌==◌, true, take, drop, length, Some, None, IfOk, OnOk, if◌then◌else◌};
+ghost use Rattle.std.specs.Prelude.{ℕ, ◌≡◌, ◌<◌, ◌==◌, true, false, IsFalse, take, drop, length, Some, None, IfOk, OnOk, if◌then◌else◌};
 ghost use Rattle.lay_box_tree.specs.Roles.{role_at};
 ghost use Rattle.lay_flow.specs.Children.{flag_at};
 ghost use Rattle.lay_context_boxes.specs.Containing.{container_of};
@@ -21,8 +21,25 @@ use lay_space::{Item, Segment};
 use lay_units::{NoMemory, Unit};
 use std::alloc::Global;
 
-/// For each anchor the top of the line that has it, and None where it is in no line; what it says of other boxes means nothing.
+/// For each anchor the top of the line that has it, and None where it is in no line; what it says of other boxes means nothing,
+/// and where there is no anchor it is empty.
 pub(crate) fn anchor_lines(
+    alloc: Global,
+    input: &PlaceInput,
+    places: &BoxPlaces,
+) -> Result<Vec<Option<Unit>>, NoMemory>
+    requires { HaveCounts input.now.boxes places.now }
+    ensures count { IfOk result (λ v. (k : ℕ) → k < length input.now.boxes → is_anchor (role_at input.now.boxes k) ≡ true → k < length v.items) }
+    ensures each { IfOk result (λ v. (k : ℕ) → k < length input.now.boxes → is_anchor (role_at input.now.boxes k) ≡ true → top_at v.items k ≡ anchor_line input.now places.now k) }
+{
+    if !has_anchor(input.context_boxes()) {
+        return Ok(Vec::new(alloc));
+    }
+    tops_of_lines(alloc, input, places)
+}
+
+/// The same, where there may be an anchor.
+fn tops_of_lines(
     alloc: Global,
     input: &PlaceInput,
     places: &BoxPlaces,
@@ -40,6 +57,18 @@ pub(crate) fn anchor_lines(
         }
     }
     Ok(tops)
+}
+
+/// Whether there may be an anchor among these boxes.
+fn has_anchor(boxes: &ContextBoxes) -> bool
+    ensures { IsFalse result → (k : ℕ) → k < length boxes.now → is_anchor (role_at boxes.now k) ≡ false }
+{
+    for k in 0..boxes.as_slice().len() {
+        if is_anchor(boxes.role(k)) {
+            return true;
+        }
+    }
+    false
 }
 
 /// Whether each box holds an anchor.

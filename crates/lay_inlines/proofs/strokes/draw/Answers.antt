@@ -3,9 +3,11 @@ use Rattle.lay_line_content.specs.declared.content.Part.{Part}
 use Rattle.lay_line_content.specs.declared.pen.Pen.{Pen}
 use Rattle.lay_line_content.specs.Pens.{over_all}
 use Rattle.lay_inlines.specs.Bounds.{PensWithin}
+use Rattle.lay_inlines.specs.Looks.{LookAs}
 use Rattle.lay_inlines.specs.Raises.{RaisesValue, raises_after_all}
 use Rattle.lay_inlines.specs.Strokes.{parts_of, strokes}
 use Rattle.lay_inlines.proofs.Content.{parts_more, over_all-append, raises-append, draw_more}
+use Rattle.lay_inlines.proofs.Looks.{looks_through}
 use Rattle.lay_inlines.proofs.PenPlaces.{front_within, back_within}
 use Rattle.lay_inlines.proofs.strokes.draw.Goals as goal
 
@@ -30,10 +32,11 @@ loop-k-preserved c =
     let pen = c.in_ok-pen.ensures.pen ∙ ap (λ (xs : List Part). over_all fr p xs) same in
     let raises = c.in_ok-pen.ensures.raises ∙ ap (λ (xs : List Part). raises_after_all r xs) same in
     let all = subst (λ (xs : List Part). PensWithin fr p xs) more c.loop-k.invariant.fits in
+    let strokes_here = subst (λ (xs : List Part). LookAs c.draw_parts.new.out.items (c.loop-k.out.items ++ strokes fr p r xs)) same c.in_ok-pen.ensures.strokes in
     record {
-      strokes = draw_more fr p c.in_ok-pen.pen r c.draw_parts.new.raises here.parts rest c.loop-k.out.items c.draw_parts.new.out.items
-          (c.in_ok-pen.ensures.strokes ∙ ap (λ (xs : List Part). c.loop-k.out.items ++ strokes fr p r xs) same) pen raises
-          ∙ ap (λ (xs : List Part). c.loop-k.out.items ++ strokes fr p r xs) (sym more) ∙ c.loop-k.invariant.strokes;
+      strokes = looks_through _ _ _ (draw_more fr p c.in_ok-pen.pen r c.draw_parts.new.raises here.parts rest c.loop-k.out.items c.draw_parts.new.out.items strokes_here pen raises)
+          (subst (λ (xs : List Part). LookAs (c.loop-k.out.items ++ strokes fr p r xs) (c.args.out.now.items ++ strokes fr c.args.pen c.args.raises.now (parts_of c.args.stretches.now)))
+          more c.loop-k.invariant.strokes);
       raises = ap (λ (s : RaisesValue). raises_after_all s rest) raises ∙ sym (raises-append r here.parts rest)
           ∙ ap (λ (xs : List Part). raises_after_all r xs) (sym more) ∙ c.loop-k.invariant.raises;
       pen = ap (λ (q : Pen). over_all fr q rest) pen ∙ sym (over_all-append fr p here.parts rest) ∙ ap (λ (xs : List Part). over_all fr p xs) (sym more) ∙ c.loop-k.invariant.pen;

@@ -4,7 +4,7 @@ use Rattle.lay_context_boxes.specs.Containing.{container_of}
 use Rattle.lay_flow_boxes.specs.ContextBlocks.{is_anchor}
 use Rattle.lay_placement.specs.AnchorLines.{top_at}
 use Rattle.lay_placement.specs.StaticPositions.{anchor_line}
-use Rattle.lay_placement.proofs.anchor_lines.anchor_lines.Given as goal
+use Rattle.lay_placement.proofs.anchor_lines.tops_of_lines.Given as goal
 
 abbrev pub invariant-loop-c : goal.invariant-loop-c
 invariant-loop-c l = record {
