@@ -1,9 +1,9 @@
 -- Rules that change nothing.
-use Rattle.std.proofs.Common.{rules, ◌≡◌, Bool, true, false, ◌||◌, ◌&&◌, not, List, [], ◌∷◌, ◌++◌, refl, ap, sym, subst, ◌∙◌, IsTrue, Option, None, Some}
+use Rattle.std.proofs.Common.{rules, ◌≡◌, Bool, true, false, ◌||◌, ◌&&◌, not, List, [], ◌∷◌, ◌++◌, refl, ap, sym, ◌∙◌, IsTrue, Option, None, Some}
 use Rattle.std.specs.List.{list_any}
 use Rattle.lay_anonymous_boxes.specs.Boxes.{Tree, tree, trees_of, facts_of, in_box, remade, all_remade}
-use Rattle.lay_anonymous_boxes.specs.Forms.{is_tabular_container, is_table_part, is_in_flow}
-use Rattle.lay_anonymous_boxes.specs.Irrelevant.{kept_from, kept_gap, is_irrelevant, is_irrelevant_between, is_irrelevant_in_container, is_table_part_box, is_table_part_there, without_white_space}
+use Rattle.lay_anonymous_boxes.specs.Forms.{is_tabular_container, is_in_flow}
+use Rattle.lay_anonymous_boxes.specs.Irrelevant.{kept_from, kept_gap, is_table_part_box, is_table_part_there, without_white_space}
 use Rattle.lay_anonymous_boxes.specs.Runs.{gathered, is_faulty_box, is_white_box}
 use Rattle.lay_anonymous_boxes.specs.declared.facts.Facts.{Facts}
 use Rattle.lay_anonymous_boxes.specs.declared.facts.Form.{Form}

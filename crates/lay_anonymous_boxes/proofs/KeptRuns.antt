@@ -1,11 +1,11 @@
 -- Runs of floats and anchors alone, which are left as they are.
-use Rattle.std.proofs.Common.{rules, ◌≡◌, Bool, true, false, ◌||◌, ◌&&◌, not, List, [], ◌∷◌, ◌++◌, refl, ap, sym, ◌∙◌, filter, true≢false}
+use Rattle.std.proofs.Common.{◌≡◌, Bool, true, false, ◌||◌, ◌&&◌, not, List, [], ◌∷◌, ◌++◌, refl, ap, sym, ◌∙◌, filter, true≢false}
 use Rattle.std.proofs.Math.Bool.{and-false}
 use Rattle.std.specs.List.{list_any}
 use Rattle.lay_anonymous_boxes.specs.Boxes.{Tree, facts_of}
 use Rattle.lay_anonymous_boxes.specs.BrokenInlines.{is_block_box, is_no_text_box, is_unseen}
-use Rattle.lay_anonymous_boxes.specs.Forms.{is_block, is_in_flow, is_inline_level, is_text, is_white}
-use Rattle.lay_anonymous_boxes.specs.InlineRuns.{block_round, is_loose, is_loose_box, is_no_block, is_seen_box}
+use Rattle.lay_anonymous_boxes.specs.Forms.{is_in_flow, is_inline_level, is_text, is_white}
+use Rattle.lay_anonymous_boxes.specs.InlineRuns.{block_round, is_loose_box, is_no_block, is_seen_box}
 use Rattle.lay_anonymous_boxes.specs.Runs.{gathered, gathered_from, is_some, is_white_box, run_over}
 use Rattle.lay_anonymous_boxes.specs.declared.facts.Facts.{Facts}
 use Rattle.lay_anonymous_boxes.specs.declared.facts.Form.{Form}

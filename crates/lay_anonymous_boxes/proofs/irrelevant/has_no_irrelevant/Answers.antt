@@ -1,4 +1,4 @@
-use Rattle.std.proofs.Common.{rules, ◌≡◌, false, sym, ◌∙◌}
+use Rattle.std.proofs.Common.{rules, ◌≡◌, false}
 use Rattle.std.specs.List.{list_any}
 use Rattle.lay_anonymous_boxes.specs.Irrelevant.{is_table_part_box}
 use Rattle.lay_anonymous_boxes.specs.Runs.{is_white_box}

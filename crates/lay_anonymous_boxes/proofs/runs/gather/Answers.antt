@@ -1,5 +1,5 @@
-use Rattle.std.proofs.Common.{rules, sym, IsTrue, subst}
-use Rattle.lay_anonymous_boxes.proofs.Kept.{none_gathered, isnt}
+use Rattle.std.proofs.Common.{rules, sym}
+use Rattle.lay_anonymous_boxes.proofs.Kept.{none_gathered}
 use Rattle.lay_anonymous_boxes.proofs.runs.gather.Goals as goal
 
 -- nothing is faulty
