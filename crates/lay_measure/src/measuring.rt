@@ -4,12 +4,14 @@ ghost use Rattle.std.specs.Prelude.{ℕ, List, ◌≡◌, ◌≢◌, ◌<◌, �
 ghost use Rattle.lay_doc.specs.Tree.{IsTree};
 ghost use Rattle.lay_box_tree.specs.BoxColumns.{box_parents};
 ghost use Rattle.lay_box_tree.specs.Containers.{box_parent};
+ghost use Rattle.lay_box_tree.specs.Roles.{role_of};
 ghost use Rattle.lay_items.specs.InlineSegments.{segments_in};
 ghost use Rattle.lay_measure.specs.Children.{Child};
 ghost use Rattle.lay_measure.specs.ChildTotals.{totals_of};
+ghost use Rattle.lay_measure.specs.LineParts.{contribution};
 ghost use Rattle.lay_measure.specs.LineWidths.{inline_widths};
 ghost use Rattle.lay_measure.specs.ReplacedWidths.{replaced_width};
-ghost use Rattle.lay_measure.specs.PreferredWidths.{as_child, children, content_widths, lines_widths, own_widths, preferred_as, preferred_of};
+ghost use Rattle.lay_measure.specs.PreferredWidths.{children, content_widths, lines_widths, own_widths, preferred_as, preferred_of};
 
 use crate::children::{ChildTotals, NO_CHILDREN};
 use crate::contributions::contribution;
@@ -101,7 +103,8 @@ fn put_child(
     let parent = parent_of(boxes, k);
     let inside = totals_at(totals, k);
     let behind = totals_at(totals, parent);
-    let with_child = with_child(alloc, of, k, node, inside, behind)?;
+    let widths = child_widths(alloc, of, k, node, inside)?;
+    let with_child = behind.behind(node.role(), widths)?;
     put_totals(totals, parent, with_child);
     Ok(())
 }
@@ -133,25 +136,21 @@ fn put_totals(totals: &mut [ChildTotals], p: usize, at_p: ChildTotals)
     totals[p] = at_p;
 }
 
-/// What some children of a box come to with the box at k before them, where these are what the children of that come
-/// to.
-fn with_child(
+/// What the box at k, which has these children, gives to the preferred widths of its parent.
+fn child_widths(
     alloc: Global,
     of: &MeasureIn<'_>,
     k: usize,
     node: &BoxNode,
     inside: ChildTotals,
-    behind: ChildTotals,
-) -> Result<ChildTotals, NoMemory>
+) -> Result<PreferredWidths, NoMemory>
     requires tree { IsTree (box_parents of.now.boxes) }
     requires few { length of.now.boxes ≤ 4294967295 }
     requires inside { k < length of.now.boxes }
-    ensures { IfOk result (λ t. (cs ds : List Child) → inside ≡ totals_of cs → behind ≡ totals_of ds → t ≡ totals_of (as_child of.now k node.now cs ++ ds)) }
+    ensures { IfOk result (λ w. (cs : List Child) → inside ≡ totals_of cs → w ≡ contribution node.now (own_widths of.now k (role_of node.now) cs)) }
 {
-    let role = node.role();
-    let own = own_widths(alloc, of, k, role, inside)?;
-    let widths = contribution(node, own)?;
-    behind.behind(role, widths)
+    let own = own_widths(alloc, of, k, node.role(), inside)?;
+    contribution(node, own)
 }
 
 /// The preferred widths of the box at k, which has this role and these children.
