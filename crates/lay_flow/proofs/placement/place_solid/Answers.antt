@@ -14,9 +14,7 @@ use Rattle.lay_flow.proofs.PlacedOn.{pushed_on}
 use Rattle.lay_flow.proofs.WeightFacts.{light_at}
 use Rattle.lay_flow.proofs.SoFar.{Wrote}
 use Rattle.lay_flow.proofs.WroteColumns.{wrote_extent, wrote_length}
-use Rattle.lay_flow.proofs.LaidLines.{mark_position}
 use Rattle.lay_flow.proofs.PassFits.{mark_is_near}
-use Rattle.std.proofs.lemmas.Int.{ints}
 use Rattle.lay_flow.proofs.PlaceSteps.{solid_fits, solid_near, knows_solid}
 use Rattle.lay_flow.proofs.placement.place_solid.Goals as goal
 
