@@ -28,7 +28,13 @@ pub fn plain_gathered(
     let mut from = 0;
     while from < text.len() {
         let word = word_at(face, setting, common, text, from);
-        put_width(&mut out, ClusterWidth { place: from, width: word.width })?;
+        put_width(
+            &mut out,
+            ClusterWidth {
+                place: from,
+                width: word.width,
+            },
+        )?;
         from = word.to;
     }
     Ok(WidthList::new(out))
@@ -42,13 +48,7 @@ struct Word {
 }
 
 /// The word or the space that begins at a place of a plain text.
-fn word_at(
-    face: &Face,
-    setting: Setting,
-    common: Option<Unit>,
-    text: &[u8],
-    from: usize,
-) -> Word
+fn word_at(face: &Face, setting: Setting, common: Option<Unit>, text: &[u8], from: usize) -> Word
     requires plain { IsPlain text.now }
     requires fits { WidthsFit face.now setting text.now }
     requires common { IfSome common (IsCommon face.now setting) }
@@ -60,7 +60,10 @@ fn word_at(
 {
     if parts_words(text[from]) {
         let width = face.plain_width(text[from], setting);
-        return Word { to: from + 1, width };
+        return Word {
+            to: from + 1,
+            width,
+        };
     }
     let mut width = width_in_word(face, setting, common, text[from]);
     for to in from + 1..text.len() {
@@ -73,7 +76,10 @@ fn word_at(
         }
         width = sum(width, next);
     }
-    Word { to: text.len(), width }
+    Word {
+        to: text.len(),
+        width,
+    }
 }
 
 /// The width of a character of a word.

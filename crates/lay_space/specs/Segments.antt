@@ -6,6 +6,7 @@ use Rattle.lay_units.specs.declared.records.ClusterWidth.{ClusterWidth}
 use Rattle.lay_space.specs.declared.item.Item.{Item}
 use Rattle.lay_space.specs.declared.item.Item.TheVariants as item
 use Rattle.lay_space.specs.declared.tokens.Cluster.{Cluster}
+use Rattle.lay_space.specs.declared.tokens.Token.{Token}
 use Rattle.lay_space.specs.declared.tokens.Token.TheVariants as token
 use Rattle.lay_space.specs.declared.breaks.Entry.{Entry}
 use Rattle.lay_space.specs.declared.breaks.Entry.TheVariants as entry
@@ -53,6 +54,15 @@ text_of items (c ∷ cs) = item.Text c.node (joined items (c ∷ cs)) c.mode (pl
 abbrev pub last_segment : List Item → List Segment
 last_segment [] = []
 last_segment (x ∷ xs) = record { items = x ∷ xs; forced = false } ∷ []
+
+abbrev pub is_cluster : Token → Bool
+is_cluster (token.Cluster c) = true
+is_cluster token.TextEnd = false
+is_cluster (token.Atomic n m) = false
+is_cluster (token.Start n) = false
+is_cluster (token.End n) = false
+is_cluster (token.Float n) = false
+is_cluster (token.Anchor n) = false
 
 -- The segments of these entries, where `current` are the items since the last break, and `held` the clusters
 -- after them of a text that goes on.

@@ -24,6 +24,7 @@ ghost use Rattle.lay_space.specs.declared.breaks.Entry.{Entry};
 ghost use Rattle.lay_space.specs.declared.breaks.Entry.TheVariants as entry;
 ghost use Rattle.lay_space.specs.Segments.{
   is_boundary,
+  is_cluster,
   part_of,
   bytes_of,
   cluster_bytes,
@@ -65,7 +66,12 @@ impl Cutter {
         })
     }
 
-    pub fn put_all(&mut self, alloc: Global, items: &[Item], entries: &[Entry]) -> Result<(), NoMemory>
+    pub fn put_all(
+        &mut self,
+        alloc: Global,
+        items: &[Item],
+        entries: &[Entry],
+    ) -> Result<(), NoMemory>
         ensures { OnOk result ((xs : List Entry)
             → self.old.done.items ++ cut items.now self.old.current.items self.old.held.items
             (entries.now ++ xs) ≡ self.new.done.items ++ cut items.now self.new.current.items
@@ -95,11 +101,23 @@ impl Cutter {
             (entry.Content token ∷ xs) ≡ self.new.done.items ++ cut items.now self.new.current.items
             self.new.held.items xs) }
     {
+        if let Token::Cluster(cluster) = token {
+            self.held.push(cluster)?;
+            return Ok(());
+        }
+        self.put_other(alloc, items, token)
+    }
+
+    /// Puts what is no cluster.
+    fn put_other(&mut self, alloc: Global, items: &[Item], token: Token) -> Result<(), NoMemory>
+        requires { is_cluster token ≡ false }
+        ensures { OnOk result ((xs : List Entry)
+            → self.old.done.items ++ cut items.now self.old.current.items self.old.held.items
+            (entry.Content token ∷ xs) ≡ self.new.done.items ++ cut items.now self.new.current.items
+            self.new.held.items xs) }
+    {
         match token {
-            Token::Cluster(cluster) => {
-                self.held.push(cluster)?;
-                Ok(())
-            }
+            Token::Cluster(_) => Ok(()),
             Token::TextEnd => self.close(alloc, items),
             Token::Atomic(node, mode) => self.put_item(alloc, items, Item::Atomic(node, mode)),
             Token::Start(node) => self.put_item(alloc, items, Item::Start(node)),

@@ -82,7 +82,12 @@ impl Settler {
         Ok(())
     }
 
-    fn put_back(&mut self, alloc: Global, items: &[Item], here: Option<bool>) -> Result<(), NoMemory>
+    fn put_back(
+        &mut self,
+        alloc: Global,
+        items: &[Item],
+        here: Option<bool>,
+    ) -> Result<(), NoMemory>
         ensures { OnOk result ((xs : List Entry)
             → self.old.cutter.done.items ++ cut items.now self.old.cutter.current.items self.old.cutter.held.items
             (settled self.old.at self.old.started self.old.waiting.items (back_break here ++ xs))
