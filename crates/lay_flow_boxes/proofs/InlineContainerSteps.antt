@@ -39,19 +39,19 @@ set_other flags k j other = grind (arith, elements, other)
 set_count : (flags : List Bool) (k : ℕ) → length (slice_set flags k true) ≡ length flags
 set_count flags k = grind (arith, elements)
 
-no_more : (h a b c : Bool) → c ≡ false → (h || (a && b && c)) ≡ h
+pub no_more : (h a b c : Bool) → c ≡ false → (h || (a && b && c)) ≡ h
 no_more true a b c e = refl
 no_more false true true c e = e
 no_more false true false c e = refl
 no_more false false b c e = refl
 
-other_more : (h a b c : Bool) → b ≡ false → (h || (a && b && c)) ≡ h
+pub other_more : (h a b c : Bool) → b ≡ false → (h || (a && b && c)) ≡ h
 other_more true a b c e = refl
 other_more false true true c e = absurd cc
 other_more false true false c e = refl
 other_more false false b c e = refl
 
-one_here : (h a b c : Bool) → a ≡ true → b ≡ true → c ≡ true → (h || (a && b && c)) ≡ true
+pub one_here : (h a b c : Bool) → a ≡ true → b ≡ true → c ≡ true → (h || (a && b && c)) ≡ true
 one_here true a b c p q r = refl
 one_here false true true c p q r = r
 one_here false true false c p q r = absurd cc
@@ -64,13 +64,13 @@ none_more level boxes flags n so_far is = record {
   each = λ c lt. so_far.each c lt ∙ rw (add-one n) (sym (no_more (holds level boxes c n) (nat_lt 0 n) (container_of boxes n == c) (is_of level boxes n) is));
 }
 
-positive_lt : (k : ℕ) → 0 < k → nat_lt 0 k ≡ true
+pub positive_lt : (k : ℕ) → 0 < k → nat_lt 0 k ≡ true
 positive_lt k positive = grind (arith, nat_tests, positive)
 
-same_eq : (k : ℕ) → (k == k) ≡ true
+pub same_eq : (k : ℕ) → (k == k) ≡ true
 same_eq k = eq-eqb k k refl
 
-other_eq : (j k : ℕ) → j ≢ k → (j == k) ≡ false
+pub other_eq : (j k : ℕ) → j ≢ k → (j == k) ≡ false
 other_eq j k other = ne_eqb j k other
 
 here_more : (level : Level) (boxes : List BoxNode) (flags : List Bool) (n c : ℕ) → container_of boxes n ≡ c → HoldersTo level boxes flags n → 0 < n → c < length boxes → is_of level boxes n ≡ true

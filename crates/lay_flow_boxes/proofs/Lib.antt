@@ -1,3 +1,4 @@
+pub mod AloneSteps
 pub mod FlowBoxSteps
 pub mod FlowFacts
 pub mod InlineContainerSteps

@@ -1,3 +1,4 @@
+pub mod AloneInLines
 pub mod ContextBlocks
 pub mod FlowShapes
 pub mod InlineContainers

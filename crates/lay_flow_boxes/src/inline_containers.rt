@@ -2,6 +2,7 @@
 
 ghost use Rattle.std.specs.Prelude.{ℕ, ◌≡◌, ◌<◌, length, IfOk};
 ghost use Rattle.lay_flow.specs.Children.{flag_at};
+ghost use Rattle.lay_flow_boxes.specs.AloneInLines.{AreAlone};
 ghost use Rattle.lay_flow_boxes.specs.InlineContainers.{holds, is_beside_lines, is_block_box, is_inline_container, is_of, is_own_container};
 
 use lay_box_tree::Role;
@@ -23,27 +24,36 @@ pub(crate) fn inline_containers(alloc: Global, boxes: &ContextBoxes) -> Result<V
     ensures count { IfOk result (λ v. length v.items ≡ length boxes.now) }
     ensures each { IfOk result (λ v. (k : ℕ) → k < length boxes.now → flag_at v.items k ≡ is_inline_container boxes.now k) }
 {
-    let inline = holders(alloc, boxes, Level::Inline)?;
-    let blocks = holders(alloc, boxes, Level::Block)?;
-    let count = boxes.as_slice().len();
-    let mut containers = Vec::with_capacity(alloc, count)?;
-    for k in 0..count {
-        let alone = is_inline_container(boxes, &inline, &blocks, k);
-        containers.push(alone)?;
-    }
+    let mut containers = holders(alloc, boxes, Level::Inline)?;
+    leave_out_holders(boxes, &mut containers);
+    leave_out_others(boxes, &mut containers);
     Ok(containers)
 }
 
-/// Whether the box at k is one, where these say what stands in it.
-fn is_inline_container(boxes: &ContextBoxes, inline: &[bool], blocks: &[bool], k: usize) -> bool
-    requires place { k < length boxes.now }
-    requires inline_count { k < length inline.now }
-    requires block_count { k < length blocks.now }
-    requires inline { flag_at inline.now k ≡ holds Level.Inline boxes.now k (length boxes.now) }
-    requires blocks { flag_at blocks.now k ≡ holds Level.Block boxes.now k (length boxes.now) }
-    ensures { result ≡ is_inline_container boxes.now k }
+/// Leaves the boxes out in which block-level boxes stand.
+fn leave_out_holders(boxes: &ContextBoxes, containers: &mut [bool])
+    requires count { length containers.old ≡ length boxes.now }
+    requires each { (c : ℕ) → c < length boxes.now → flag_at containers.old c ≡ holds Level.Inline boxes.now c (length boxes.now) }
+    ensures { AreAlone boxes.now containers.new (length boxes.now) }
 {
-    is_block_box(boxes.role(k)) && flag_at(inline, k) && !flag_at(blocks, k)
+    for k in 1..boxes.as_slice().len() {
+        if is_of(Level::Block, boxes, k) {
+            let container = boxes.container(k);
+            containers[container] = false;
+        }
+    }
+}
+
+/// Leaves the boxes out that are no block boxes.
+fn leave_out_others(boxes: &ContextBoxes, containers: &mut [bool])
+    requires { AreAlone boxes.now containers.old (length boxes.now) }
+    ensures count { length containers.new ≡ length boxes.now }
+    ensures each { (k : ℕ) → k < length boxes.now → flag_at containers.new k ≡ is_inline_container boxes.now k }
+{
+    for k in 0..boxes.as_slice().len() {
+        let alone = containers[k];
+        containers[k] = is_block_box(boxes.role(k)) && alone;
+    }
 }
 
 /// Whether a box of this level stands in each box.
@@ -95,11 +105,4 @@ pub(crate) fn is_block_box(role: Role) -> bool
     ensures { result ≡ is_block_box role }
 {
     matches!(role, Role::Own | Role::Block)
-}
-
-fn flag_at(flags: &[bool], k: usize) -> bool
-    requires { k < length flags.now }
-    ensures { result ≡ flag_at flags.now k }
-{
-    flags[k]
 }

@@ -75,10 +75,10 @@ returns c =
     let last : c.in_ok-last.last ≡ over_all fr p xs = c.in_ok-last.ensures.pen ∙ ap (λ (q : Pen). over_all fr q xs) c.blank-blank.ensures in
     let edges : right_edges areas c.as_slice-strokes.result.now ≡ right_edges areas exact = ap (right_edges areas) c.as_slice-strokes.ensures.value ∙ same_edges drawn exact areas looks in
     let shown : spans_of areas c.in_ok-last.last.solid.0 c.as_slice-strokes.result.now ≡ spans_of areas (over_all fr p xs).solid.0 exact =
-        (λ i. spans_of areas (last i).solid.0 (c.as_slice-strokes.ensures.value i)) ∙ same_spans drawn exact areas (over_all fr p xs).solid.0 looks in
+    (λ i. spans_of areas (last i).solid.0 (c.as_slice-strokes.ensures.value i)) ∙ same_spans drawn exact areas (over_all fr p xs).solid.0 looks in
     let strut : c.behind_strut.result.now ≡ behind_strut row.shifts = c.behind_strut.ensures ∙ ap behind_strut shifts in
     let spans : reverse c.fill.new.self.spans.items ≡ line_spans areas fr row ns xs =
-        c.in_ok-fill.ensures.spans ∙ (λ i. open_spans (c.blank-blank.ensures i).at.0 (last i).solid.0 (edges i) (strut i) ns ++ shown i) in
+    c.in_ok-fill.ensures.spans ∙ (λ i. open_spans (c.blank-blank.ensures i).at.0 (last i).solid.0 (edges i) (strut i) ns ++ shown i) in
     let x : c.origin.result.x.0 ≡ origin_of line.container row (content_end fr row xs) = c.origin.ensures.x ∙ ap (λ (q : Pen). origin_of line.container row q.solid.0) last in
     c.in_ok-write.ensures
     ∙ (λ i. c.in_ok-push.ensures.items i ++ map (piece_of areas (x i) (c.origin.ensures.y i)) (spans i))
