@@ -86,7 +86,7 @@ fn keeps_tree<R: BoxRule>(tree: &Subtree) -> bool
     ensures { IsTrue result → remade R.made tree.now ≡ tree.now ∷ [] }
 {
     let children = tree.children.as_slice();
-    keeps_all::<R>(children) && R::keeps(tree.facts, children)
+    (children.is_empty() || keeps_all::<R>(children)) && R::keeps(tree.facts, children)
 }
 
 /// The same of some trees.

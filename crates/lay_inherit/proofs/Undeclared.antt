@@ -40,7 +40,7 @@ pub undeclared : (first last : ℕ) (ds : List Declaration) → list_any (is_wit
 undeclared first last [] none p low high = refl
 undeclared first last (d ∷ ds) none p low high =
     let other : is_same_property p d.property ≡ false =
-        apart first last (number_of p) d low high (first_not (is_within first last d) (list_any (is_within first last) ds) none) (is_same_property p d.property) refl in
+    apart first last (number_of p) d low high (first_not (is_within first last d) (list_any (is_within first last) ds) none) (is_same_property p d.property) refl in
     let step : declared_value p (d ∷ ds) ≡ declared_value p ds = simp other refl in
     step ∙ undeclared first last ds (second_not (is_within first last d) (list_any (is_within first last) ds) none) p low high
 
