@@ -3,3 +3,4 @@ pub mod FaceValue
 pub mod Faces
 pub mod Laws
 pub mod PlainTexts
+pub mod FirstEntries

@@ -1,18 +1,14 @@
 //! Widths of grapheme clusters.
 
 ghost use Rattle.std.specs.Prelude.{
-  ℕ,
   ◌≡◌,
-  ◌==◌,
   pos,
   ◌+ℤ◌,
   ◌≤ℤ◌,
   neg_ℤ,
   IfOk,
-  IfSome,
   OnOk,
   IsTrue,
-  false,
   List,
   [],
   ◌∷◌,
@@ -104,18 +100,6 @@ impl Face {
         }
         let width = self.char_width(char::from(byte), setting);
         spaced(width, setting.letter)
-    }
-
-    /// The width that all characters of plain texts have in this setting but linefeeds and spaces, where it is one.
-    pub fn common_width(&self, setting: Setting) -> Option<Unit>
-        requires { SettingFits self.now setting }
-        ensures { IfSome result (λ w. (b : ℕ) → (b == 10) ≡ false → is_word_space b ≡ false
-            → plain_width_of self.now setting b ≡ w.0) }
-    {
-        match self.common_advance(setting.size) {
-            Some(advance) => Some(Unit(sum(advance, setting.letter))),
-            None => None,
-        }
     }
 
     fn cluster_width(&self, cluster: &str, setting: Setting) -> Unit

@@ -1,13 +1,13 @@
 //! Faces.
 
-ghost use Rattle.std.specs.Prelude.{ℕ, ◌≡◌, ◌≤◌, pos, ◌*ℤ◌, All, IfOk, IfSome, length};
+ghost use Rattle.std.specs.Prelude.{◌≡◌, ◌≤◌, pos, ◌*ℤ◌, All, IfOk, length};
 ghost use Rattle.lay_units.specs.Units.{IsPosition, IsUsed};
 ghost use Rattle.lay_face.specs.declared.pairs.AdvancePair.{AdvancePair as Pair};
 ghost use Rattle.lay_face.specs.Clusters.{WidthsFit};
 ghost use Rattle.lay_face.specs.Faces.{FitsAt, MeasuresAreNear, face_of, entry_of, thousandths_of};
 
 use crate::pairs::PairList;
-use crate::table::{has_no_entry, table_entry, table_of};
+use crate::table::{first_entries, table_entry, table_of};
 use lay_units::{NoMemory, Unit};
 use std::alloc::Global;
 use std::collections::BTreeMap;
@@ -18,6 +18,8 @@ use std::marker::Model;
 #[derive(Drop)]
 pub struct Face {
     table: BTreeMap<u32, u32>,
+    /// The advances of the first code points, which most characters have, to be read at once.
+    first: Vec<u32>,
     default_advance: u32,
     ascent: u32,
     descent: u32,
@@ -28,6 +30,7 @@ pub struct Face {
 impl Model for Face {
     ghost use Rattle.lay_face.specs.FaceValue.{FaceValue};
     ghost use Rattle.lay_face.specs.Faces.{IsInRange};
+    ghost use Rattle.lay_face.specs.FirstEntries.{AreEntries};
 
     ghost Value = { FaceValue };
 
@@ -47,7 +50,7 @@ impl Model for Face {
       descent = f.descent;
       x_height = f.x_height;
       normal_line_height = f.normal_line_height;
-    }) };
+    }) × AreEntries f.table.entries f.default_advance f.first.items };
 }
 
 impl Face {
@@ -71,8 +74,10 @@ impl Face {
         ensures { IfOk result (λ f. f ≡ face_of pairs default_advance ascent descent x_height normal_line_height) }
     {
         let table = table_of(alloc, pairs.as_slice())?;
+        let first = first_entries(alloc, &table, default_advance)?;
         Ok(Face {
             table,
+            first,
             default_advance,
             ascent,
             descent,
@@ -158,23 +163,13 @@ impl Face {
         let _ = &self.table;
     }
 
-    /// The advance that all characters have at this font size, where the face has no table.
-    pub fn common_advance(&self, size: Unit) -> Option<Unit>
-        requires size { IsPosition size.0 }
-        requires advances { (c : ℕ) → IsPosition (thousandths_of (entry_of self.now c) size.0) }
-        ensures value { IfSome result (λ w. (c : ℕ) → thousandths_of (entry_of self.now c) size.0 ≡ w.0) }
-        ensures fits { IfSome result (λ w. IsPosition w.0) }
-    {
-        if !has_no_entry(&self.table) {
-            return None;
-        }
-        Some(self.advance(' ', size))
-    }
-
     fn entry(&self, c: char) -> u32
         ensures { result ≡ entry_of self.now c }
     {
-        table_entry(&self.table, u32::from(c)).unwrap_or(self.default_advance)
+        match self.first.get(c as usize) {
+            Some(advance) => *advance,
+            None => table_entry(&self.table, u32::from(c)).unwrap_or(self.default_advance),
+        }
     }
 }
 

@@ -1,11 +1,10 @@
 //! The widths of plain texts, gathered in one pass.
 
-ghost use Rattle.std.specs.Prelude.{◌≡◌, ◌≤◌, ◌<◌, ◌∷◌, length, drop, None, false, IfOk, IfSome};
-ghost use Rattle.lay_units.specs.Units.{IsPosition};
-ghost use Rattle.lay_face.specs.Clusters.{SettingFits, WidthsFit, widths_of};
-ghost use Rattle.lay_face.specs.PlainTexts.{IsPlain, plain_width_of, plain_widths};
+ghost use Rattle.std.specs.Prelude.{◌≡◌, ◌≤◌, ◌<◌, ◌∷◌, length, drop, None, IfOk};
+ghost use Rattle.lay_face.specs.Clusters.{WidthsFit, widths_of};
+ghost use Rattle.lay_face.specs.PlainTexts.{IsPlain, plain_widths};
 ghost use Rattle.lay_items.specs.GatheredWidths.{gathered, gathered_after};
-ghost use Rattle.lay_items.specs.PlainWords.{IsCommon, parts_words};
+ghost use Rattle.lay_items.specs.PlainWords.{parts_words};
 
 use crate::gathered::{are_small, put_width, sum};
 use lay_face::{Face, Setting};
@@ -23,11 +22,10 @@ pub fn plain_gathered(
     requires fits { WidthsFit face.now setting text.now }
     ensures { IfOk result (λ l. l ≡ gathered text.now (widths_of face.now setting text.now)) }
 {
-    let common = face.common_width(setting);
     let mut out = Vec::with_capacity(alloc, text.len() / 2 + 1)?;
     let mut from = 0;
     while from < text.len() {
-        let word = word_at(face, setting, common, text, from);
+        let word = word_at(face, setting, text, from);
         put_width(
             &mut out,
             ClusterWidth {
@@ -48,29 +46,27 @@ struct Word {
 }
 
 /// The word or the space that begins at a place of a plain text.
-fn word_at(face: &Face, setting: Setting, common: Option<Unit>, text: &[u8], from: usize) -> Word
+fn word_at(face: &Face, setting: Setting, text: &[u8], from: usize) -> Word
     requires plain { IsPlain text.now }
     requires fits { WidthsFit face.now setting text.now }
-    requires common { IfSome common (IsCommon face.now setting) }
     requires inside { from < length text.now }
     ensures gathered { gathered_after text.now None (plain_widths face.now setting from (drop from text.now))
         ≡ record { place = from; width = result.width } ∷ gathered_after text.now None (plain_widths face.now setting result.to (drop result.to text.now)) }
     ensures forward { from < result.to }
     ensures inside { result.to ≤ length text.now }
 {
+    let mut width = face.plain_width(text[from], setting);
     if parts_words(text[from]) {
-        let width = face.plain_width(text[from], setting);
         return Word {
             to: from + 1,
             width,
         };
     }
-    let mut width = width_in_word(face, setting, common, text[from]);
     for to in from + 1..text.len() {
         if parts_words(text[to]) {
             return Word { to, width };
         }
-        let next = width_in_word(face, setting, common, text[to]);
+        let next = face.plain_width(text[to], setting);
         if !are_small(width, next) {
             return Word { to, width };
         }
@@ -79,21 +75,6 @@ fn word_at(face: &Face, setting: Setting, common: Option<Unit>, text: &[u8], fro
     Word {
         to: text.len(),
         width,
-    }
-}
-
-/// The width of a character of a word.
-fn width_in_word(face: &Face, setting: Setting, common: Option<Unit>, byte: u8) -> Unit
-    requires setting { SettingFits face.now setting }
-    requires width { IsPosition (plain_width_of face.now setting byte) }
-    requires common { IfSome common (IsCommon face.now setting) }
-    requires word { parts_words byte ≡ false }
-    requires plain { byte < 128 }
-    ensures { result.0 ≡ plain_width_of face.now setting byte }
-{
-    match common {
-        Some(width) => width,
-        None => face.plain_width(byte, setting),
     }
 }
 
