@@ -21,6 +21,6 @@ pub record StandInputFits (i : StandInput) : Type 0 where
   pub left : IsStart i.left.0
   pub position : OwnPlaceFits i.position
 
--- a width or a border edge of the root's own box
+-- where a border edge of the root's own box can be
 abbrev pub IsOfRootBox : ℤ → Type 0
 IsOfRootBox v = (neg_ℤ (pos (2 ^ 40)) ≤ℤ v) × (v ≤ℤ pos (2 ^ 40))
