@@ -10,7 +10,6 @@ use Rattle.lay_sizes.specs.OwnBoxes.{OwnBoxFits, OwnBoxesFit, own_box_at}
 use Rattle.lay_formatting.specs.FormattingContexts.{AreFormattingContexts, FormattingContext, formatting_context_at}
 use Rattle.lay_pieces.specs.InnerPieces.{AreNearInnerPieces, inner_pieces_at}
 use Rattle.lay_pieces.specs.NearPieces.{AreNearPieces}
-use Rattle.lay_context.specs.Settling.{AreBelow}
 
 -- the number of an inner formatting context, or 0, is that of one of them
 pub inner_within : (contexts : List FormattingContext) (i k : ℕ) → AreFormattingContexts contexts → i < length contexts → k < length (formatting_context_at contexts i).inner → slice_index (formatting_context_at contexts i).inner k < length contexts
@@ -20,25 +19,12 @@ inner_within contexts i k are lt within = by (slice_index (formatting_context_at
     by zero is = omega (arith, lt)
     by (suc j) is = are.within i (suc j) lt (record { box = k; within = within; number = is; some = omega arith })
 
--- what is found by numbers, with one more
-pub one_more_of : {X : Type 0} (f : ℕ → X) (numbers : List ℕ) (k : ℕ) (xs : List X) (x : X) → k < length numbers → xs ≡ map f (take k numbers) → x ≡ f (slice_index numbers k)
-    → xs ++ x ∷ [] ≡ map f (take (k + 1) numbers)
-one_more_of f numbers k xs x lt are is =
+-- what is found by numbers that are found so, with one more
+pub one_more_of : {X : Type 0} (f : ℕ → X) (g : ℕ → ℕ) (numbers : List ℕ) (k : ℕ) (xs : List X) (x : X) → k < length numbers → xs ≡ map f (map g (take k numbers)) → x ≡ f (g (slice_index numbers k))
+    → xs ++ x ∷ [] ≡ map f (map g (take (k + 1) numbers))
+one_more_of f g numbers k xs x lt are is =
     let more : take (k + 1) numbers ≡ take k numbers ++ slice_index numbers k ∷ [] = take_more numbers k 0 lt in
-    rw (more, map-append f (take k numbers) (slice_index numbers k ∷ []), are, is) refl
-
--- numbers below another one, with one more
-numbers_before : (ns : List ℕ) (n k : ℕ) → k < length ns → slice_index (ns ++ n ∷ []) k ≡ slice_index ns k
-numbers_before ns n k lt = grind (arith, elements)
-
-numbers_last : (ns : List ℕ) (n k : ℕ) → k ≡ length ns → slice_index (ns ++ n ∷ []) k ≡ n
-numbers_last ns n k e = grind (arith, elements)
-
-pub one_more_below : (bound : ℕ) (ns : List ℕ) (n : ℕ) → AreBelow bound ns → n < bound → AreBelow bound (ns ++ n ∷ [])
-one_more_below bound ns n below own k lt = elim (cases_lt k (length ns)) [
-  | inl low ↦ rw (numbers_before ns n k low) (below k low)
-  | inr high ↦ (let counted = length-append ns (n ∷ []) in rw (numbers_last ns n k (omega (arith, high, lt, counted))) own)
-]
+    rw (more, map-append g (take k numbers) (slice_index numbers k ∷ []), map-append f (map g (take k numbers)) (g (slice_index numbers k) ∷ []), are, is) refl
 
 read_before : (os : List OwnBox) (o : OwnBox) (k : ℕ) → k < length os → own_box_at (os ++ o ∷ []) k ≡ own_box_at os k
 read_before os o k lt = grind (arith, elements)

@@ -1,4 +1,5 @@
 pub mod CornerSteps
+pub mod FlowSettings
 pub mod GivenFacts
 pub mod MeasuredInward
 pub mod OneCorners

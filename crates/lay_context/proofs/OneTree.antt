@@ -1,5 +1,5 @@
 -- Two workings that meet the equations of a document are equal, task by task in their order, and so are their trees.
-use Rattle.std.proofs.Common.{◌≡◌, ℕ, zero, suc, ◌+◌, ◌<◌, List, length, refl, sym, ap, subst, ◌∙◌, arith, option_map}
+use Rattle.std.proofs.Common.{◌≡◌, ℕ, zero, suc, ◌+◌, ◌<◌, List, length, refl, sym, subst, ◌∙◌, arith, option_map}
 use Rattle.lay_doc.specs.Document.{parents_of, declarations_of}
 use Rattle.lay_doc.proofs.OneStyles.{one_style_column_lem, same_list}
 use Rattle.lay_boxgen.proofs.NodeColumns.{length-parents}
@@ -17,9 +17,8 @@ use Rattle.lay_context.specs.declared.task.Phase.TheVariants.{Measure, Size, Pla
 use Rattle.lay_context.specs.declared.task.Task.{Task}
 use Rattle.lay_context.specs.declared.input.Input.{Input}
 use Rattle.lay_context_sizes.specs.ContextSizes.{not_sized}
-use Rattle.lay_context.specs.DocumentLayout.{widths_in}
 use Rattle.lay_context.specs.Laws.{HasContextBoxes, OneSolution}
-use Rattle.lay_context.specs.Local.{Workings, IsLocal, IsTaskDone, flow_input, input_by, input_of, measure_input, size_input, stand_input, table_input, value_by, value_of}
+use Rattle.lay_context.specs.Local.{Workings, IsLocal, IsTaskDone, flow_input, input_by, input_of, measure_input, stand_input, table_input, value_of}
 use Rattle.lay_context.specs.Measured.{is_measured}
 use Rattle.lay_context.specs.Medium.{Medium}
 use Rattle.lay_context.specs.Needs.{turn_of}

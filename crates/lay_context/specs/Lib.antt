@@ -4,6 +4,7 @@ pub mod Local
 pub mod Measured
 pub mod Medium
 pub mod Needs
+pub mod OneProof
 pub mod OwnHeights
 pub mod OwnOffsets
 pub mod PageCorners

@@ -1,9 +1,8 @@
 -- What the loop over tasks keeps: the tasks that had their turn are done, and so what the next one needs is there.
-use Rattle.std.specs.Prelude.{ℕ, ◌≡◌, ◌<◌, List, length, slice_index, IfSome}
+use Rattle.std.specs.Prelude.{ℕ, ◌≡◌, ◌<◌, List, length, IfSome}
 use Rattle.lay_box_tree.specs.declared.box_tree.BoxNode.{BoxNode}
 use Rattle.lay_table_grid.specs.GridBounds.{PlacesAreBelow}
-use Rattle.lay_formatting.specs.FormattingContexts.{AreFormattingContexts, FormattingContext, boxes_in}
-use Rattle.lay_positioned.specs.Levels.{HasLevels}
+use Rattle.lay_formatting.specs.FormattingContexts.{FormattingContext, boxes_in}
 use Rattle.lay_context.specs.declared.task.Phase.TheVariants.{Size}
 use Rattle.lay_context.specs.declared.task.Task.{Task}
 use Rattle.lay_context.specs.declared.value.Value.{Value}
@@ -19,10 +18,6 @@ pub record AreOfBoxes (boxes : List BoxNode) (sized : SizedContext) : Type 0 whe
   pub count : length sized.boxes ≡ length boxes
   pub grid : IfSome sized.table (λ table. PlacesAreBelow (length boxes) table.grid)
 
--- numbers below another one
-abbrev pub AreBelow : ℕ → List ℕ → Type 0
-AreBelow n numbers = (k : ℕ) → k < length numbers → slice_index numbers k < n
-
 -- the sizes that a task reads are of the boxes that they are beside
 pub record IsReady (contexts : List FormattingContext) (w : Workings) (task : Task) : Type 0 where
   pub within : task.context < length contexts
@@ -33,11 +28,6 @@ pub record IsReady (contexts : List FormattingContext) (w : Workings) (task : Ta
 pub record AreDoneTo (medium : Medium) (contexts : List FormattingContext) (levels : List ℕ) (w : Workings) (turn : ℕ) : Type 0 where
   pub counts : HasCounts contexts w
   pub done : (task : Task) → task.context < length contexts → turn_of levels task < turn → IsTaskDone medium contexts w task
-
--- these are the levels of formatting contexts
-pub record IsPlan (contexts : List FormattingContext) (levels : List ℕ) : Type 0 where
-  pub are : AreFormattingContexts contexts
-  pub has : HasLevels contexts levels
 
 -- a task has been given a value that is right beside the others
 pub record IsSettled (medium : Medium) (contexts : List FormattingContext) (before : Workings) (task : Task) (after : Workings) : Type 0 where

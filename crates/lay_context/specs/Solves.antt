@@ -1,10 +1,10 @@
 -- What it means that a tree solves a document: there are workings, a column of a value per formatting context for each quantity,
 -- that meet their equations, and the tree's rectangles are theirs. They are computed styles (CSS 2.2, 6.1), the contexts and the
 -- boxes that they generate (9.2 and 9.4.1), the formatting contexts of these, with those of anonymous tables and cells (17.2.1),
--- preferred widths where they count, each one's beside those of the ones inside it (10.3.5, 17.5.2), used sizes, each beside the containing block
--- that the one around gives (10.1 to 10.5, 17.5.2), the placement of each beside those inside it (8.3.1, 9.4, 9.5, 10.6, 17.5.3),
--- and where they stand on the page. `Local` says of each value what it is right beside. A document whose root generates no box has
--- the tree without contexts.
+-- preferred widths where they count, each one's beside those of the ones inside it (10.3.5, 17.5.2), used sizes, each beside the
+-- containing block that the one around gives (10.1 to 10.5, 17.5.2), the placement of each beside those inside it (8.3.1, 9.4,
+-- 9.5, 10.6, 17.5.3), and where they stand on the page. `Local` says of each value what it is right beside. A document whose root
+-- generates no box has the tree without contexts.
 use Rattle.std.specs.Prelude.{ℕ, zero, suc, ◌≡◌, ◌<◌, Bool, true, false, List, [], ◌∷◌, ◌++◌, length, slice_index, Option, None, Some}
 use Rattle.lay_units.specs.declared.length.Unit.{Unit as Length}
 use Rattle.lay_units.specs.declared.records.Len.TheVariants.{Of as of}

@@ -1,5 +1,5 @@
 -- What is given of where a formatting context stands itself is within bounds.
-use Rattle.std.specs.Prelude.{◌≡◌, length, ⊤}
+use Rattle.std.specs.Prelude.{◌≡◌, ◌^◌, ℤ, pos, neg_ℤ, ◌≤ℤ◌, length, ⊤}
 use Rattle.lay_sizes.specs.SizeColumns.{HaveSizeBounds}
 use Rattle.lay_context_boxes.specs.ContextBoxes.{AreContextBoxes}
 use Rattle.lay_positioned.specs.OffsetBounds.{IsStart}
@@ -20,3 +20,7 @@ pub record StandInputFits (i : StandInput) : Type 0 where
   pub size_bounds : HaveSizeBounds i.sizes
   pub left : IsStart i.left.0
   pub position : OwnPlaceFits i.position
+
+-- where a border edge of the root's own box can be
+abbrev pub IsOfRootBox : ℤ → Type 0
+IsOfRootBox v = (neg_ℤ (pos (2 ^ 40)) ≤ℤ v) × (v ≤ℤ pos (2 ^ 40))

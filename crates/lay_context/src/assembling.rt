@@ -2,17 +2,15 @@
 
 ghost use Rattle.std.specs.Prelude.{◌≡◌, ◌+◌, ◌^◌, ◌<◌, ◌≤◌, length, IfOk};
 ghost use Rattle.lay_frag.specs.Pieces.{IsContextInRange};
-ghost use Rattle.lay_pieces.specs.Corners.{AreNearCorners};
 ghost use Rattle.lay_pieces.specs.NearPieces.{IsRectNear};
-ghost use Rattle.lay_context.specs.Settling.{AreKnown};
 ghost use Rattle.lay_context.specs.Solves.{IsAssembled, page_context, page_contexts, page_rect, page_width};
 
-use crate::known::Known;
+use crate::known_context::KnownContext;
+use crate::laid_contexts::{ContextsOnPage, LaidContexts};
 use crate::page_corners::{corner_at, page_corners, standing_of};
 use crate::settings::cell_of;
-use lay_formatting::FormattingContexts;
 use lay_frag::{Placed, Tree};
-use lay_pieces::{Corner, near_position};
+use lay_pieces::near_position;
 use lay_sizes::OwnBox;
 use lay_table_sizes::CellSize;
 use lay_units::{NoMemory, Rect, Unit};
@@ -21,38 +19,30 @@ use std::alloc::Global;
 /// More pieces than a report can number.
 const TOO_MANY_PIECES: usize = 4294967296;
 
-/// The tree of these formatting contexts, whose values are known.
-pub(crate) fn assemble(
-    alloc: Global,
-    contexts: &FormattingContexts,
-    known: &Known,
-) -> Result<Tree, NoMemory>
-    requires known { AreKnown contexts.now known.now }
-    ensures { IfOk result (IsAssembled contexts.now known.now) }
+/// The tree of these formatting contexts.
+pub(crate) fn assemble(alloc: Global, laid: &LaidContexts<'_>) -> Result<Tree, NoMemory>
+    ensures { IfOk result (IsAssembled laid.now.contexts.now laid.now.known.now) }
 {
-    let corners = page_corners(alloc, contexts, known)?;
-    tree_of(alloc, contexts, known, &corners)
+    let corners = page_corners(alloc, laid)?;
+    let on_page = ContextsOnPage {
+        laid: *laid,
+        corners: &corners,
+    };
+    tree_of(alloc, &on_page)
 }
 
-/// The tree of these formatting contexts, whose corners on the page are known. NoMemory is also the answer for 2^32
-/// pieces or more.
-fn tree_of(
-    alloc: Global,
-    contexts: &FormattingContexts,
-    known: &Known,
-    corners: &[Corner],
-) -> Result<Tree, NoMemory>
-    requires known { AreKnown contexts.now known.now }
-    requires corners { length corners.now ≡ length contexts.now }
-    requires near { AreNearCorners corners.now }
-    ensures { IfOk result (λ t. t ≡ page_contexts contexts.now known.now corners.now (length contexts.now)) }
+/// The tree of these formatting contexts, which stand there on the page. NoMemory is also the answer for 2^32 pieces or
+/// more.
+fn tree_of(alloc: Global, on_page: &ContextsOnPage<'_>) -> Result<Tree, NoMemory>
+    ensures { IfOk result (λ t. t ≡ page_contexts on_page.now.laid.contexts.now on_page.now.laid.known.now on_page.now.corners.now (length on_page.now.laid.contexts.now)) }
 {
+    let contexts = on_page.laid.contexts;
     let count = contexts.len();
     let mut tree = Vec::with_capacity(alloc, count)?;
     let mut pieces = 0;
     for i in 0..count {
         if !contexts.at(i).is_anonymous() {
-            let context = page_context(contexts, known, corners, i)?;
+            let context = page_context(on_page, i)?;
             pieces = with_few(pieces, &context)?;
             tree.push(context)?;
         }
@@ -75,50 +65,41 @@ fn with_few(before: usize, context: &Placed) -> Result<usize, NoMemory>
 }
 
 /// The formatting context with this number on the page.
-fn page_context(
-    contexts: &FormattingContexts,
-    known: &Known,
-    corners: &[Corner],
-    i: usize,
-) -> Result<Placed, NoMemory>
-    requires known { AreKnown contexts.now known.now }
-    requires within { i < length contexts.now }
-    requires corners { length corners.now ≡ length contexts.now }
-    requires near { AreNearCorners corners.now }
-    ensures value { IfOk result (λ c. c ≡ page_context contexts.now known.now corners.now i) }
+fn page_context(on_page: &ContextsOnPage<'_>, i: usize) -> Result<Placed, NoMemory>
+    requires { i < length on_page.now.laid.contexts.now }
+    ensures value { IfOk result (λ c. c ≡ page_context on_page.now.laid.contexts.now on_page.now.laid.known.now on_page.now.corners.now i) }
     ensures range { IfOk result IsContextInRange }
     ensures few { IfOk result (λ c. length c.pieces ≤ 2147483648) }
 {
-    let rect = page_rect(contexts, known, corners, i)?;
-    let shift = standing_of(contexts, known, i).shift;
-    let pieces = known.placement(i).pieces()?;
-    let boxes = contexts.at(i).boxes().as_slice();
+    let laid = &on_page.laid;
+    let rect = page_rect(on_page, i)?;
+    let shift = standing_of(laid, i).shift;
+    let pieces = laid.known.placed(i).placement().pieces()?;
+    let boxes = laid.contexts.at(i).boxes().as_slice();
     Ok(Placed::new(boxes[0].node, rect, shift, pieces))
 }
 
 /// The border box of the formatting context with this number on the page. NoMemory is the answer where it is wider than 2^60
 /// units, which it is in no document within the limits.
-fn page_rect(
-    contexts: &FormattingContexts,
-    known: &Known,
-    corners: &[Corner],
-    i: usize,
-) -> Result<Rect, NoMemory>
-    requires known { AreKnown contexts.now known.now }
-    requires within { i < length contexts.now }
-    requires corners { length corners.now ≡ length contexts.now }
-    requires near { AreNearCorners corners.now }
-    ensures rect { IfOk result (λ r. r ≡ page_rect contexts.now known.now corners.now i) }
+fn page_rect(on_page: &ContextsOnPage<'_>, i: usize) -> Result<Rect, NoMemory>
+    requires { i < length on_page.now.laid.contexts.now }
+    ensures rect { IfOk result (λ r. r ≡ page_rect on_page.now.laid.contexts.now on_page.now.laid.known.now on_page.now.corners.now i) }
     ensures near { IfOk result IsRectNear }
 {
-    let corner = corner_at(corners, i);
-    let width = page_width(cell_of(contexts, known, i), known.placement(i).own());
+    let laid = &on_page.laid;
+    let at = KnownContext {
+        contexts: laid.contexts,
+        known: laid.known,
+        number: i,
+    };
+    let corner = corner_at(on_page.corners, i);
+    let width = page_width(cell_of(&at), laid.known.placed(i).placement().own());
     let width = near_position(width)?;
     Ok(Rect {
         x: corner.x,
         y: corner.y,
         w: width,
-        h: standing_of(contexts, known, i).height,
+        h: standing_of(laid, i).height,
     })
 }
 

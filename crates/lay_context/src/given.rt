@@ -1,18 +1,19 @@
 //! What a task is given, from the values of the tasks that it needs.
 
-ghost use Rattle.std.specs.Prelude.{◌≡◌, ◌<◌, Some, IfOk, length, map};
+ghost use Rattle.std.specs.Prelude.{◌≡◌, ◌<◌, Some, IfOk, length, slice_index};
 ghost use Rattle.lay_sizes.specs.OwnBoxes.{OwnBoxFits, OwnBoxesFit};
 ghost use Rattle.lay_pieces.specs.InnerPieces.{AreNearInnerPieces, pieces_or_none};
 ghost use Rattle.lay_pieces.specs.NearPieces.{AreNearPieces};
-ghost use Rattle.lay_context.specs.DocumentLayout.{flow_number, flow_numbers, inner_widths_in, own_box_in, pieces_in};
+ghost use Rattle.lay_formatting.specs.FormattingContexts.{formatting_context_at};
+ghost use Rattle.lay_context.specs.DocumentLayout.{flow_number, inner_boxes, inner_pieces, inner_widths, inner_widths_in, own_box_in, pieces_in};
 ghost use Rattle.lay_context.specs.Local.{flow_input, input_of, measure_as, measure_input, place_input, size_input, stand_input, table_input};
 ghost use Rattle.lay_context.specs.Measured.{is_measured};
 ghost use Rattle.lay_context.specs.Settings.{sizes_in};
-ghost use Rattle.lay_context.specs.Settling.{AreBelow, IsReady};
-ghost use Rattle.lay_context.specs.declared.task.Phase.TheVariants.{Place, Size};
+ghost use Rattle.lay_context.specs.Settling.{IsReady};
 
 use crate::input::Input;
 use crate::known::Known;
+use crate::known_context::{KnownContext, ReadyToPlace, ReadyToSize};
 use crate::measured::is_measured;
 use crate::medium::Medium;
 use crate::own_heights::own_height_rule;
@@ -44,28 +45,24 @@ pub(crate) fn input(
     requires ready { IsReady contexts.now known.now task }
     ensures { IfOk result (λ i. i ≡ input_of medium.now contexts.now known.now task) }
 {
-    let i = task.context;
+    let at = KnownContext {
+        contexts,
+        known,
+        number: task.context,
+    };
     match task.phase {
-        Phase::Measure => measure_as(alloc, medium, contexts, known, i),
-        Phase::Size => Ok(Input::Size(size_input(medium, contexts, known, i)?)),
-        Phase::Place => place_input(alloc, medium, contexts, known, i),
+        Phase::Measure => measure_as(alloc, medium, &at),
+        Phase::Size => Ok(Input::Size(size_input(medium, &ReadyToSize { at })?)),
+        Phase::Place => place_input(alloc, medium, &ReadyToPlace { at }),
     }
 }
 
 /// What the preferred widths of a formatting context are worked out of, where they count.
-fn measure_as(
-    alloc: Global,
-    medium: &Medium,
-    contexts: &FormattingContexts,
-    known: &Known,
-    i: usize,
-) -> Result<Input, NoMemory>
-    requires within { i < length contexts.now }
-    requires widths { length known.now.widths ≡ length contexts.now }
-    ensures { IfOk result (λ v. v ≡ measure_as (is_measured contexts.now i) (measure_input medium.now contexts.now known.now i)) }
+fn measure_as(alloc: Global, medium: &Medium, at: &KnownContext<'_>) -> Result<Input, NoMemory>
+    ensures { IfOk result (λ v. v ≡ measure_as (is_measured at.now.contexts.now at.now.number) (measure_input medium.now at.now.contexts.now at.now.known.now at.now.number)) }
 {
-    if is_measured(contexts, i) {
-        Ok(Input::Measure(measure_input(alloc, medium, contexts, known, i)?))
+    if is_measured(at.contexts, at.number) {
+        Ok(Input::Measure(measure_input(alloc, medium, at)?))
     } else {
         Ok(Input::Unmeasured)
     }
@@ -74,94 +71,69 @@ fn measure_as(
 fn measure_input(
     alloc: Global,
     medium: &Medium,
-    contexts: &FormattingContexts,
-    known: &Known,
-    i: usize,
+    at: &KnownContext<'_>,
 ) -> Result<MeasureInput, NoMemory>
-    requires within { i < length contexts.now }
-    requires widths { length known.now.widths ≡ length contexts.now }
-    ensures { IfOk result (λ v. v ≡ measure_input medium.now contexts.now known.now i) }
+    ensures { IfOk result (λ v. v ≡ measure_input medium.now at.now.contexts.now at.now.known.now at.now.number) }
 {
-    let boxes = contexts.at(i).boxes().share()?;
-    let numbers = flow_numbers(alloc, contexts, i)?;
-    let inner = inner_widths(alloc, known, &numbers)?;
+    let boxes = at.formatting_context().boxes().share()?;
+    let inner = inner_widths(alloc, at)?;
     let face = medium.face()?;
     Ok(MeasureInput::new(boxes, inner, face))
 }
 
-fn size_input(
-    medium: &Medium,
-    contexts: &FormattingContexts,
-    known: &Known,
-    i: usize,
-) -> Result<SizeInput, NoMemory>
-    requires ready { IsReady contexts.now known.now (record { context = i; phase = Size }) }
-    ensures { IfOk result (λ v. v ≡ size_input medium.now contexts.now known.now i) }
+fn size_input(medium: &Medium, ready: &ReadyToSize<'_>) -> Result<SizeInput, NoMemory>
+    ensures { IfOk result (λ v. v ≡ size_input medium.now ready.now.at.contexts.now ready.now.at.known.now ready.now.at.number) }
 {
-    let boxes = contexts.at(i).boxes().share()?;
-    let setting = setting_of(medium.viewport(), contexts, known, i)?;
-    Ok(SizeInput::new(boxes, known.widths(i), setting))
+    let at = &ready.at;
+    let boxes = at.formatting_context().boxes().share()?;
+    let setting = setting_of(medium, ready)?;
+    Ok(SizeInput::new(boxes, at.known.widths(at.number), setting))
 }
 
-fn place_input(
-    alloc: Global,
-    medium: &Medium,
-    contexts: &FormattingContexts,
-    known: &Known,
-    i: usize,
-) -> Result<Input, NoMemory>
-    requires ready { IsReady contexts.now known.now (record { context = i; phase = Place }) }
-    ensures { IfOk result (λ v. v ≡ place_input medium.now contexts.now known.now i) }
+fn place_input(alloc: Global, medium: &Medium, ready: &ReadyToPlace<'_>) -> Result<Input, NoMemory>
+    ensures { IfOk result (λ v. v ≡ place_input medium.now ready.now.at.contexts.now ready.now.at.known.now ready.now.at.number) }
 {
-    let stand = stand_input(medium, contexts, known, i)?;
-    match known.sizes(i).shared_table()? {
+    let stand = stand_input(medium, ready)?;
+    match ready.at.known.sizes(ready.at.number).shared_table()? {
         Some(table) => {
-            let table = table_input(alloc, contexts, known, i, table)?;
+            let table = table_input(alloc, ready, table)?;
             Ok(Input::PlaceTable(table, stand))
         }
         None => {
-            let flow = flow_input(alloc, medium, contexts, known, i)?;
+            let flow = flow_input(alloc, medium, ready)?;
             Ok(Input::Place(flow, stand))
         }
     }
 }
 
-/// What says where the formatting context with this number stands itself.
-fn stand_input(
-    medium: &Medium,
-    contexts: &FormattingContexts,
-    known: &Known,
-    i: usize,
-) -> Result<StandInput, NoMemory>
-    requires ready { IsReady contexts.now known.now (record { context = i; phase = Place }) }
-    ensures { IfOk result (λ v. v ≡ stand_input medium.now contexts.now known.now i) }
+/// What says where the formatting context stands itself.
+fn stand_input(medium: &Medium, ready: &ReadyToPlace<'_>) -> Result<StandInput, NoMemory>
+    ensures { IfOk result (λ v. v ≡ stand_input medium.now ready.now.at.contexts.now ready.now.at.known.now ready.now.at.number) }
 {
-    let boxes = contexts.at(i).boxes().share()?;
-    let sized = known.sizes(i);
+    let at = &ready.at;
+    let boxes = at.formatting_context().boxes().share()?;
+    let sized = at.known.sizes(at.number);
     let sizes = sized.boxes().share()?;
     let _ = sizes.as_slice();
-    let position = own_place_of(medium.viewport(), contexts, known, i)?;
+    let position = own_place_of(medium, at)?;
     Ok(StandInput::new(boxes, sizes, sized.left(), position))
 }
 
 /// What the placement of a table is given.
 fn table_input(
     alloc: Global,
-    contexts: &FormattingContexts,
-    known: &Known,
-    i: usize,
+    ready: &ReadyToPlace<'_>,
     table: TableSizes,
 ) -> Result<TableInput, NoMemory>
-    requires ready { IsReady contexts.now known.now (record { context = i; phase = Place }) }
-    requires table { (sizes_in known.now.sizes i).table ≡ Some table }
-    ensures { IfOk result (λ v. v ≡ table_input contexts.now known.now i table) }
+    requires table { (sizes_in ready.now.at.known.now.sizes ready.now.at.number).table ≡ Some table }
+    ensures { IfOk result (λ v. v ≡ table_input ready.now.at.contexts.now ready.now.at.known.now ready.now.at.number table) }
 {
-    let boxes = contexts.at(i).boxes().share()?;
-    let sizes = known.sizes(i).boxes().share()?;
+    let at = &ready.at;
+    let boxes = at.formatting_context().boxes().share()?;
+    let sizes = at.known.sizes(at.number).boxes().share()?;
     let _ = sizes.as_slice();
-    let numbers = flow_numbers(alloc, contexts, i)?;
-    let inner = inner_boxes(alloc, known, &numbers)?;
-    let pieces = inner_pieces(alloc, contexts, known, &numbers)?;
+    let inner = inner_boxes(alloc, at)?;
+    let pieces = inner_pieces(alloc, at)?;
     Ok(TableInput::new(boxes, sizes, table, inner, pieces))
 }
 
@@ -169,42 +141,37 @@ fn table_input(
 fn flow_input(
     alloc: Global,
     medium: &Medium,
-    contexts: &FormattingContexts,
-    known: &Known,
-    i: usize,
+    ready: &ReadyToPlace<'_>,
 ) -> Result<PlaceInput, NoMemory>
-    requires ready { IsReady contexts.now known.now (record { context = i; phase = Place }) }
-    ensures { IfOk result (λ v. v ≡ flow_input medium.now contexts.now known.now i) }
+    ensures { IfOk result (λ v. v ≡ flow_input medium.now ready.now.at.contexts.now ready.now.at.known.now ready.now.at.number) }
 {
-    let boxes = contexts.at(i).boxes().share()?;
-    let sized = known.sizes(i);
+    let at = &ready.at;
+    let boxes = at.formatting_context().boxes().share()?;
+    let sized = at.known.sizes(at.number);
     let sizes = sized.boxes().share()?;
-    let numbers = flow_numbers(alloc, contexts, i)?;
-    let inner = inner_boxes(alloc, known, &numbers)?;
-    let pieces = inner_pieces(alloc, contexts, known, &numbers)?;
-    let own_height = own_height_rule(boxes.as_slice(), sizes.as_slice(), sized.stretched());
+    let _ = sizes.as_slice();
+    let inner = inner_boxes(alloc, at)?;
+    let pieces = inner_pieces(alloc, at)?;
+    let own_height = own_height_rule(&boxes, sized);
     let face = medium.face()?;
     let flow = PlaceInput::new(boxes, sizes, inner, pieces, face);
     Ok(flow.with_own_height(own_height))
 }
 
-/// For each box of the formatting context with this number the number of the inner one in flow or floating whose box it is,
-/// or 0.
-fn flow_numbers(
-    alloc: Global,
-    contexts: &FormattingContexts,
-    i: usize,
-) -> Result<Vec<usize>, NoMemory>
-    requires { i < length contexts.now }
-    ensures numbers { IfOk result (λ v. v.items ≡ flow_numbers contexts.now i) }
-    ensures within { IfOk result (λ v. AreBelow (length contexts.now) v.items) }
+/// The formatting context in flow or floating whose box the one at k is; where there is none, that with the number 0.
+fn inner_at<'a>(at: &KnownContext<'a>, k: usize) -> KnownContext<'a>
+    requires { k < length (formatting_context_at at.now.contexts.now at.now.number).inner }
+    ensures contexts { result.contexts.now ≡ at.now.contexts.now }
+    ensures known { result.known.now ≡ at.now.known.now }
+    ensures number { result.number ≡ flow_number at.now.contexts.now (slice_index (formatting_context_at at.now.contexts.now at.now.number).inner k) }
 {
-    let inner = contexts.at(i).inner();
-    let mut numbers = Vec::with_capacity(alloc, inner.len())?;
-    for k in 0..inner.len() {
-        numbers.push(flow_number(contexts, inner[k]))?;
+    let inner = at.formatting_context().inner();
+    let number = flow_number(at.contexts, inner[k]);
+    KnownContext {
+        contexts: at.contexts,
+        known: at.known,
+        number,
     }
-    Ok(numbers)
 }
 
 /// The number of a formatting context in flow or floating; of another one 0.
@@ -219,90 +186,72 @@ fn flow_number(contexts: &FormattingContexts, number: usize) -> usize
     number
 }
 
-/// The preferred widths of the formatting contexts with these numbers.
-fn inner_widths(
-    alloc: Global,
-    known: &Known,
-    numbers: &[usize],
-) -> Result<Vec<PreferredWidths>, NoMemory>
-    requires { AreBelow (length known.now.widths) numbers.now }
-    ensures { IfOk result (λ v. v.items ≡ map (inner_widths_in known.now.widths) numbers.now) }
+/// The preferred widths of the formatting contexts inside this one.
+fn inner_widths(alloc: Global, at: &KnownContext<'_>) -> Result<Vec<PreferredWidths>, NoMemory>
+    ensures { IfOk result (λ v. v.items ≡ inner_widths at.now.contexts.now at.now.known.now.widths at.now.number) }
 {
-    let mut widths = Vec::with_capacity(alloc, numbers.len())?;
-    for k in 0..numbers.len() {
-        widths.push(inner_widths_in(known, numbers[k]))?;
+    let count = at.formatting_context().inner().len();
+    let mut widths = Vec::with_capacity(alloc, count)?;
+    for k in 0..count {
+        widths.push(inner_widths_in(&inner_at(at, k)))?;
     }
     Ok(widths)
 }
 
-/// The preferred widths of the formatting context with this number, where 0 stands for none.
-fn inner_widths_in(known: &Known, number: usize) -> PreferredWidths
-    requires { number < length known.now.widths }
-    ensures { result ≡ inner_widths_in known.now.widths number }
+/// The preferred widths of this one, where 0 stands for none.
+fn inner_widths_in(at: &KnownContext<'_>) -> PreferredWidths
+    ensures { result ≡ inner_widths_in at.now.known.now.widths at.now.number }
 {
-    if number == 0 {
+    if at.number == 0 {
         return NO_WIDTHS;
     }
-    known.widths(number)
+    at.known.widths(at.number)
 }
 
-/// The own boxes of the formatting contexts with these numbers.
-fn inner_boxes(alloc: Global, known: &Known, numbers: &[usize]) -> Result<OwnBoxes, NoMemory>
-    requires { AreBelow (length known.now.places) numbers.now }
-    ensures boxes { IfOk result (λ b. b ≡ map (own_box_in known.now.places) numbers.now) }
+/// The own boxes of the formatting contexts inside this one.
+fn inner_boxes(alloc: Global, at: &KnownContext<'_>) -> Result<OwnBoxes, NoMemory>
+    ensures boxes { IfOk result (λ b. b ≡ inner_boxes at.now.contexts.now at.now.known.now.places at.now.number) }
     ensures fit { IfOk result OwnBoxesFit }
 {
-    let mut boxes = Vec::with_capacity(alloc, numbers.len())?;
-    for k in 0..numbers.len() {
-        boxes.push(own_box_in(known, numbers[k]))?;
+    let count = at.formatting_context().inner().len();
+    let mut boxes = Vec::with_capacity(alloc, count)?;
+    for k in 0..count {
+        boxes.push(own_box_in(&inner_at(at, k)))?;
     }
     Ok(OwnBoxes::new(boxes))
 }
 
-/// The own box of the formatting context with this number, where 0 stands for none.
-fn own_box_in(known: &Known, number: usize) -> OwnBox
-    requires { number < length known.now.places }
-    ensures value { result ≡ own_box_in known.now.places number }
+/// The own box of this one, where 0 stands for none.
+fn own_box_in(at: &KnownContext<'_>) -> OwnBox
+    ensures value { result ≡ own_box_in at.now.known.now.places at.now.number }
     ensures fits { OwnBoxFits result }
 {
-    if number == 0 {
+    if at.number == 0 {
         return NO_OWN_BOX;
     }
-    known.placement(number).own()
+    at.known.placed(at.number).placement().own()
 }
 
-/// The pieces of those of these formatting contexts that are anonymous.
-fn inner_pieces(
-    alloc: Global,
-    contexts: &FormattingContexts,
-    known: &Known,
-    numbers: &[usize],
-) -> Result<InnerPieces, NoMemory>
-    requires contexts { AreBelow (length contexts.now) numbers.now }
-    requires places { AreBelow (length known.now.places) numbers.now }
-    ensures pieces { IfOk result (λ p. p ≡ map (pieces_in contexts.now known.now.places) numbers.now) }
+/// The pieces of those of the formatting contexts inside this one that are anonymous.
+fn inner_pieces(alloc: Global, at: &KnownContext<'_>) -> Result<InnerPieces, NoMemory>
+    ensures pieces { IfOk result (λ p. p ≡ inner_pieces at.now.contexts.now at.now.known.now.places at.now.number) }
     ensures near { IfOk result AreNearInnerPieces }
 {
-    let mut pieces = Vec::with_capacity(alloc, numbers.len())?;
-    for k in 0..numbers.len() {
-        pieces.push(pieces_in(contexts, known, numbers[k])?)?;
+    let count = at.formatting_context().inner().len();
+    let mut pieces = Vec::with_capacity(alloc, count)?;
+    for k in 0..count {
+        pieces.push(pieces_in(&inner_at(at, k))?)?;
     }
     Ok(InnerPieces::new(pieces))
 }
 
-/// The pieces of the formatting context with this number where it is anonymous.
-fn pieces_in(
-    contexts: &FormattingContexts,
-    known: &Known,
-    number: usize,
-) -> Result<Option<Arc<Pieces>>, NoMemory>
-    requires contexts { number < length contexts.now }
-    requires places { number < length known.now.places }
-    ensures pieces { IfOk result (λ p. pieces_or_none p ≡ pieces_in contexts.now known.now.places number) }
+/// The pieces of this one where it is anonymous, and 0 stands for none.
+fn pieces_in(at: &KnownContext<'_>) -> Result<Option<Arc<Pieces>>, NoMemory>
+    ensures pieces { IfOk result (λ p. pieces_or_none p ≡ pieces_in at.now.contexts.now at.now.known.now.places at.now.number) }
     ensures near { IfOk result (λ p. AreNearPieces (pieces_or_none p)) }
 {
-    if number == 0 || !contexts.at(number).is_anonymous() {
+    if at.number == 0 || !at.formatting_context().is_anonymous() {
         return Ok(None);
     }
-    Ok(Some(known.placement(number).pieces()?))
+    Ok(Some(at.known.placed(at.number).placement().pieces()?))
 }

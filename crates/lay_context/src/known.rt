@@ -1,11 +1,8 @@
 //! The values of a layout's tasks, as far as they are known.
 
 ghost use Rattle.std.specs.Prelude.{◌≡◌, ◌<◌, [], length, replicate, IfOk};
-ghost use Rattle.lay_sizes.specs.SizeColumns.{HaveSizeBounds};
-ghost use Rattle.lay_pieces.specs.Corners.{IsCornerNear};
-ghost use Rattle.lay_pieces.specs.Standings.{AreNearStandings};
 ghost use Rattle.lay_context.specs.DocumentLayout.{widths_in};
-ghost use Rattle.lay_context.specs.PlacedContexts.{not_placed, placed_in, placement_in};
+ghost use Rattle.lay_context.specs.PlacedContexts.{not_placed, placed_in};
 ghost use Rattle.lay_context.specs.Local.{with_value};
 ghost use Rattle.lay_context.specs.Settings.{laid, sizes_in};
 
@@ -38,7 +35,7 @@ impl Model for Known {
 
     ghost view = { λ k. record { widths = k.widths.items; sizes = k.sizes.items; places = k.places.items } };
 
-    ghost invariant = { λ k. length k.places.items ≡ length k.sizes.items };
+    ghost invariant = { λ k. (length k.widths.items ≡ length k.sizes.items) × (length k.places.items ≡ length k.sizes.items) };
 }
 
 impl Known {
@@ -81,28 +78,17 @@ impl Known {
         &self.sizes[i]
     }
 
-    /// The placement of the formatting context with this number.
-    pub(crate) fn placement(&self, i: usize) -> &Placement
+    /// The placement of the formatting context with this number, and where it stands itself.
+    pub(crate) fn placed(&self, i: usize) -> &PlacedContext
         requires { i < length self.now.places }
-        ensures { result.now ≡ placement_in self.now.places i }
+        ensures { result.now ≡ placed_in self.now.places i }
     {
-        self.places[i].placement()
-    }
-
-    /// Where the formatting context with this number stands itself.
-    pub(crate) fn offset(&self, i: usize) -> Corner
-        requires { i < length self.now.places }
-        ensures offset { result ≡ (placed_in self.now.places i).offset }
-        ensures near { IsCornerNear result }
-    {
-        self.places[i].offset()
+        &self.places[i]
     }
 
     /// Notes a value of the formatting context with this number.
     pub(crate) fn set(&mut self, i: usize, value: Value)
-        requires widths { i < length self.old.widths }
-        requires sizes { i < length self.old.sizes }
-        requires places { i < length self.old.places }
+        requires { i < length self.old.sizes }
         ensures { self.new ≡ with_value self.old i value }
     {
         match value {
@@ -131,27 +117,15 @@ impl Layouts for Known {
 
     ghost count = { λ k. length k.sizes };
 
-    fn sizes(&self, i: usize) -> &[BoxSizes]
-        requires { i < length self.now.sizes }
-        ensures sizes { result.now ≡ (laid self.now.sizes self.now.places i).sizes }
-        ensures bounds { HaveSizeBounds result.now }
-    {
+    fn sizes(&self, i: usize) -> &[BoxSizes] {
         self.sizes[i].boxes().as_slice()
     }
 
-    fn standings(&self, i: usize) -> &[Standing]
-        requires { i < length self.now.sizes }
-        ensures standings { result.now ≡ (laid self.now.sizes self.now.places i).standings }
-        ensures near { AreNearStandings result.now }
-    {
+    fn standings(&self, i: usize) -> &[Standing] {
         self.places[i].placement().standings()
     }
 
-    fn offset(&self, i: usize) -> Corner
-        requires { i < length self.now.sizes }
-        ensures offset { result ≡ (laid self.now.sizes self.now.places i).offset }
-        ensures near { IsCornerNear result }
-    {
+    fn offset(&self, i: usize) -> Corner {
         self.places[i].offset()
     }
 }

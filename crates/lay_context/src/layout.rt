@@ -7,8 +7,7 @@ ghost use Rattle.lay_doc.specs.Document.{parents_of, declarations_of};
 ghost use Rattle.lay_context.specs.Local.{IsLocal};
 ghost use Rattle.lay_context.specs.Needs.{round_start};
 ghost use Rattle.lay_context.specs.OwnOffsets.{IsOwnOffset};
-ghost use Rattle.lay_context.specs.Settling.{AreDoneTo, IsPlan, IsReady, IsSettled};
-ghost use Rattle.lay_table_grid.specs.Laws.{GridsAreOfBoxes};
+ghost use Rattle.lay_context.specs.Settling.{AreDoneTo, IsReady, IsSettled};
 ghost use Rattle.lay_context.specs.Local.{HasCounts};
 ghost use Rattle.lay_context.specs.Solves.{Solves, SolvesContexts, viewport_of};
 
@@ -16,9 +15,11 @@ use crate::assembling::assemble;
 use crate::given::input;
 use crate::input::Input;
 use crate::known::Known;
+use crate::laid_contexts::LaidContexts;
 use crate::medium::Medium;
 use crate::own_offsets::own_offset;
 use crate::placed_context::PlacedContext;
+use crate::plan::Plan;
 use crate::stand_input::StandInput;
 use crate::task::{Phase, Task};
 use crate::value::Value;
@@ -77,14 +78,6 @@ fn viewport_of(doc: &Doc) -> ContainingBlock
     }
 }
 
-/// What the tasks of a layout share: the medium, the formatting contexts, and the levels of these.
-#[derive(Clone, Copy)]
-struct Plan<'a> {
-    medium: &'a Medium,
-    contexts: &'a FormattingContexts,
-    levels: &'a [usize],
-}
-
 /// The layout of these formatting contexts: each task in its turn, and the tree put together of the values.
 fn lay_contexts(
     alloc: Global,
@@ -105,13 +98,15 @@ fn lay_contexts(
     for level in 0..level_count(&levels) {
         lay_level(alloc, &plan, &mut known, level)?;
     }
-    assemble(alloc, contexts, &known)
+    let laid = LaidContexts {
+        contexts,
+        known: &known,
+    };
+    assemble(alloc, &laid)
 }
 
 /// Measures all formatting contexts, from the last one to the first.
-fn measure_all(alloc: Global, plan: &Plan, known: &mut Known) -> Result<(), NoMemory>
-    requires plan { IsPlan plan.now.contexts.now plan.now.levels.now }
-    requires grids { GridsAreOfBoxes }
+fn measure_all(alloc: Global, plan: &Plan<'_>, known: &mut Known) -> Result<(), NoMemory>
     requires before { HasCounts plan.now.contexts.now known.old }
     ensures { OnOk result (AreDoneTo plan.now.medium.now plan.now.contexts.now plan.now.levels.now known.new (length plan.now.contexts.now)) }
 {
@@ -128,9 +123,12 @@ fn measure_all(alloc: Global, plan: &Plan, known: &mut Known) -> Result<(), NoMe
 
 /// Sizes the formatting contexts of a level, from the first one to the last, and then places them from the last to the
 /// first.
-fn lay_level(alloc: Global, plan: &Plan, known: &mut Known, level: usize) -> Result<(), NoMemory>
-    requires plan { IsPlan plan.now.contexts.now plan.now.levels.now }
-    requires grids { GridsAreOfBoxes }
+fn lay_level(
+    alloc: Global,
+    plan: &Plan<'_>,
+    known: &mut Known,
+    level: usize,
+) -> Result<(), NoMemory>
     requires before { AreDoneTo plan.now.medium.now plan.now.contexts.now plan.now.levels.now known.old (round_start (length plan.now.contexts.now) level) }
     ensures { OnOk result (AreDoneTo plan.now.medium.now plan.now.contexts.now plan.now.levels.now known.new (round_start (length plan.now.contexts.now) (level + 1))) }
 {
@@ -138,13 +136,17 @@ fn lay_level(alloc: Global, plan: &Plan, known: &mut Known, level: usize) -> Res
     place_level(alloc, plan, known, level)
 }
 
-fn size_level(alloc: Global, plan: &Plan, known: &mut Known, level: usize) -> Result<(), NoMemory>
-    requires plan { IsPlan plan.now.contexts.now plan.now.levels.now }
-    requires grids { GridsAreOfBoxes }
+fn size_level(
+    alloc: Global,
+    plan: &Plan<'_>,
+    known: &mut Known,
+    level: usize,
+) -> Result<(), NoMemory>
     requires before { AreDoneTo plan.now.medium.now plan.now.contexts.now plan.now.levels.now known.old (round_start (length plan.now.contexts.now) level) }
     ensures { OnOk result (AreDoneTo plan.now.medium.now plan.now.contexts.now plan.now.levels.now known.new (round_start (length plan.now.contexts.now) level + length plan.now.contexts.now)) }
 {
-    for i in 0..plan.contexts.len() {
+    let count = plan.contexts.len();
+    for i in 0..count {
         if plan.levels[i] == level {
             let task = Task {
                 context: i,
@@ -156,9 +158,12 @@ fn size_level(alloc: Global, plan: &Plan, known: &mut Known, level: usize) -> Re
     Ok(())
 }
 
-fn place_level(alloc: Global, plan: &Plan, known: &mut Known, level: usize) -> Result<(), NoMemory>
-    requires plan { IsPlan plan.now.contexts.now plan.now.levels.now }
-    requires grids { GridsAreOfBoxes }
+fn place_level(
+    alloc: Global,
+    plan: &Plan<'_>,
+    known: &mut Known,
+    level: usize,
+) -> Result<(), NoMemory>
     requires before { AreDoneTo plan.now.medium.now plan.now.contexts.now plan.now.levels.now known.old (round_start (length plan.now.contexts.now) level + length plan.now.contexts.now) }
     ensures { OnOk result (AreDoneTo plan.now.medium.now plan.now.contexts.now plan.now.levels.now known.new (round_start (length plan.now.contexts.now) (level + 1))) }
 {
@@ -213,6 +218,6 @@ fn placed(placement: Placement, stand: &StandInput) -> Result<PlacedContext, NoM
     ensures placement { IfOk result (λ p. p.placement ≡ placement) }
     ensures offset { IfOk result (λ p. IsOwnOffset stand.now placement.own p.offset) }
 {
-    let offset = own_offset(stand, placement.own())?;
+    let offset = own_offset(stand, &placement)?;
     Ok(PlacedContext::new(placement, offset))
 }

@@ -2,32 +2,24 @@
 
 ghost use Rattle.std.specs.Prelude.{◌≡◌, ◌<◌, length, slice_get};
 ghost use Rattle.lay_sizes.specs.SizeBounds.{SizeFits};
-ghost use Rattle.lay_sizes.specs.SizeColumns.{HaveSizeBounds};
 ghost use Rattle.lay_flow_boxes.specs.PlaceInputs.{HeightRuleFits, height_rule_of};
-ghost use Rattle.lay_context_sizes.specs.ContextSizes.{IsStretchedSize};
 ghost use Rattle.lay_context.specs.OwnHeights.{height_of_content, height_rule_as, own_height_rule};
 
-use lay_box_tree::{BoxKind, BoxNode};
+use lay_box_tree::BoxKind;
+use lay_context_boxes::ContextBoxes;
+use lay_context_sizes::SizedContext;
 use lay_flow::HeightRule;
 use lay_sizes::BoxSizes;
 use lay_units::{Len, Unit};
 
-/// The height that the content of the own box is to have among these boxes, which have these sizes, or where it is
-/// stretched to a height.
-pub(crate) fn own_height_rule(
-    boxes: &[BoxNode],
-    sizes: &[BoxSizes],
-    stretched: Option<Unit>,
-) -> HeightRule
-    requires boxes { 0 < length boxes.now }
-    requires sizes { 0 < length sizes.now }
-    requires bounds { HaveSizeBounds sizes.now }
-    requires stretched { IsStretchedSize stretched }
-    ensures rule { result ≡ own_height_rule boxes.now sizes.now stretched }
+/// The height that the content of the own box is to have among these boxes, which have these sizes.
+pub(crate) fn own_height_rule(boxes: &ContextBoxes, sized: &SizedContext) -> HeightRule
+    requires { 0 < length sized.now.boxes }
+    ensures rule { result ≡ own_height_rule boxes.now sized.now.boxes sized.now.stretched }
     ensures fits { HeightRuleFits result }
 {
-    match stretched {
-        None => height_rule_as(&boxes[0].kind, sizes[0]),
+    match sized.stretched() {
+        None => height_rule_as(&boxes.as_slice()[0].kind, sized.boxes().as_slice()[0]),
         Some(height) => HeightRule {
             given: Len::Of(height),
             min: Unit(0),

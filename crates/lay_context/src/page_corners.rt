@@ -1,108 +1,85 @@
 //! Where formatting contexts stand on the page.
 
 ghost use Rattle.std.specs.Prelude.{◌≡◌, ◌<◌, ◌≤◌, ◌+ℤ◌, length, IfOk};
-ghost use Rattle.lay_sizes.specs.OwnBoxes.{OwnBoxFits};
-ghost use Rattle.lay_sizes.specs.UsedLengths.{no_length};
 ghost use Rattle.lay_pieces.specs.Corners.{AreNearCorners, IsCornerNear, IsNear, corner_at};
 ghost use Rattle.lay_pieces.specs.Standings.{IsStandingNear, standing_at};
-ghost use Rattle.lay_context.specs.PageCorners.{HasPageCorners, beside, flow_standing, inner_corner, lowered, standing_of};
+ghost use Rattle.lay_context.specs.PageCorners.{HasPageCorners, beside, flow_standing, inner_corner, lowered, own_standing, standing_of};
 ghost use Rattle.lay_context.specs.PlacedContexts.{placed_in};
-ghost use Rattle.lay_context.specs.Settling.{AreKnown};
 
-use crate::known::Known;
-use lay_formatting::FormattingContexts;
+use crate::laid_contexts::LaidContexts;
+use crate::placed_context::PlacedContext;
 use lay_pieces::{Corner, Standing, near_position};
 use lay_positioned::is_absolute;
-use lay_sizes::OwnBox;
 use lay_units::{NoMemory, Unit};
 use std::alloc::Global;
 
 /// The corners of the border boxes of formatting contexts on the page, in their order.
-pub(crate) fn page_corners(
-    alloc: Global,
-    contexts: &FormattingContexts,
-    known: &Known,
-) -> Result<Vec<Corner>, NoMemory>
-    requires known { AreKnown contexts.now known.now }
-    ensures corners { IfOk result (λ v. HasPageCorners (placed_in known.now.places 0).offset contexts.now known.now.places v.items) }
+pub(crate) fn page_corners(alloc: Global, laid: &LaidContexts<'_>) -> Result<Vec<Corner>, NoMemory>
+    ensures corners { IfOk result (λ v. HasPageCorners (placed_in laid.now.known.now.places 0).offset laid.now.contexts.now laid.now.known.now.places v.items) }
     ensures near { IfOk result (λ v. AreNearCorners v.items) }
 {
-    let count = contexts.len();
+    let count = laid.contexts.len();
     let mut corners = Vec::with_capacity(alloc, count)?;
     for i in 0..count {
-        let corner = page_corner(contexts, known, &corners, i)?;
+        let corner = page_corner(laid, &corners, i)?;
         corners.push(corner)?;
     }
     Ok(corners)
 }
 
 /// The corner of the formatting context with this number on the page, where those of the ones before it are known.
-fn page_corner(
-    contexts: &FormattingContexts,
-    known: &Known,
-    corners: &[Corner],
-    i: usize,
-) -> Result<Corner, NoMemory>
-    requires known { AreKnown contexts.now known.now }
-    requires within { i < length contexts.now }
+fn page_corner(laid: &LaidContexts<'_>, corners: &[Corner], i: usize) -> Result<Corner, NoMemory>
+    requires within { i < length laid.now.contexts.now }
     requires before { i ≤ length corners.now }
-    ensures first { IfOk result (λ c. i ≡ 0 → c ≡ (placed_in known.now.places 0).offset) }
-    ensures inner { IfOk result (λ c. 0 < i → c ≡ inner_corner contexts.now known.now.places corners.now i) }
+    ensures first { IfOk result (λ c. i ≡ 0 → c ≡ (placed_in laid.now.known.now.places 0).offset) }
+    ensures inner { IfOk result (λ c. 0 < i → c ≡ inner_corner laid.now.contexts.now laid.now.known.now.places corners.now i) }
     ensures near { IfOk result IsCornerNear }
 {
     if i == 0 {
-        return Ok(known.offset(0));
+        return Ok(laid.known.placed(0).offset());
     }
-    inner_corner(contexts, known, corners, i)
+    inner_corner(laid, corners, i)
 }
 
 /// The corner of the formatting context with this number on the page, which isn't the root's, where those of the ones
 /// before it are known.
-fn inner_corner(
-    contexts: &FormattingContexts,
-    known: &Known,
-    corners: &[Corner],
-    i: usize,
-) -> Result<Corner, NoMemory>
-    requires known { AreKnown contexts.now known.now }
+fn inner_corner(laid: &LaidContexts<'_>, corners: &[Corner], i: usize) -> Result<Corner, NoMemory>
     requires inner { 0 < i }
-    requires within { i < length contexts.now }
+    requires within { i < length laid.now.contexts.now }
     requires before { i ≤ length corners.now }
-    ensures corner { IfOk result (λ c. c ≡ inner_corner contexts.now known.now.places corners.now i) }
+    ensures corner { IfOk result (λ c. c ≡ inner_corner laid.now.contexts.now laid.now.known.now.places corners.now i) }
     ensures near { IfOk result IsCornerNear }
 {
-    let outer = contexts.at(i).outer();
-    let shift = standing_of(contexts, known, outer).shift;
+    let outer = laid.contexts.at(i).outer();
+    let shift = standing_of(laid, outer).shift;
     let content = lowered(shift, corner_at(corners, outer))?;
-    beside(content, standing_of(contexts, known, i).corner)
+    beside(content, standing_of(laid, i).corner)
 }
 
 /// How the formatting context with this number stands.
-pub(crate) fn standing_of(contexts: &FormattingContexts, known: &Known, i: usize) -> Standing
-    requires known { AreKnown contexts.now known.now }
-    requires within { i < length contexts.now }
-    ensures standing { result ≡ standing_of contexts.now known.now.places i }
+pub(crate) fn standing_of(laid: &LaidContexts<'_>, i: usize) -> Standing
+    requires { i < length laid.now.contexts.now }
+    ensures standing { result ≡ standing_of laid.now.contexts.now laid.now.known.now.places i }
     ensures fits { IsStandingNear result }
 {
-    if is_absolute(contexts, i) {
-        return own_standing(known.offset(i), known.placement(i).own());
+    if is_absolute(laid.contexts, i) {
+        return own_standing(laid.known.placed(i));
     }
-    flow_standing(contexts, known, i)
+    flow_standing(laid, i)
 }
 
 /// How it stands in flow or floating.
-fn flow_standing(contexts: &FormattingContexts, known: &Known, i: usize) -> Standing
-    requires known { AreKnown contexts.now known.now }
-    requires within { i < length contexts.now }
-    ensures standing { result ≡ flow_standing contexts.now known.now.places i }
+fn flow_standing(laid: &LaidContexts<'_>, i: usize) -> Standing
+    requires { i < length laid.now.contexts.now }
+    ensures standing { result ≡ flow_standing laid.now.contexts.now laid.now.known.now.places i }
     ensures fits { IsStandingNear result }
 {
-    let context = contexts.at(i);
     if i == 0 {
-        return own_standing(known.offset(0), known.placement(0).own());
+        return own_standing(laid.known.placed(0));
     }
+    let context = laid.contexts.at(i);
     standing_at(
-        known.placement(context.outer()).standings(),
+        laid.known.placed(context.outer()).placement().standings(),
         context.outer_box(),
     )
 }
@@ -115,15 +92,13 @@ fn standing_at(standings: &[Standing], k: usize) -> Standing
 }
 
 /// The root and an absolutely positioned one stand where they say themselves.
-fn own_standing(offset: Corner, own: OwnBox) -> Standing
-    requires offset { IsCornerNear offset }
-    requires own { OwnBoxFits own }
-    ensures standing { result ≡ record { corner = offset; height = own.height; shift = no_length } }
+fn own_standing(placed: &PlacedContext) -> Standing
+    ensures standing { result ≡ own_standing placed.now }
     ensures fits { IsStandingNear result }
 {
     Standing {
-        corner: offset,
-        height: own.height,
+        corner: placed.offset(),
+        height: placed.placement().own().height,
         shift: Unit(0),
     }
 }

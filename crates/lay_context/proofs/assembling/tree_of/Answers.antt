@@ -14,9 +14,9 @@ loop-i-preserved c = elim c.if-not-is_anonymous.branch [
       let total = w.in_ok-pieces.ensures {u = tt} in
       let of_element = rw c.at.ensures.context at (sym c.is_anonymous.ensures ∙ w.if-not-is_anonymous.true) in
       rw (w.tree-is, w.pieces-is, pushed)
-      (list_next c.args.contexts.now c.args.known.now c.args.corners.now c.loop-i.i c.loop-i.tree.items c.loop-i.pieces w.in_ok-pieces.pieces w.in_ok-context.context of_element found.value c.loop-i.invariant found.range total.count total.few))
+      (list_next c.args.on_page.now.laid.contexts.now c.args.on_page.now.laid.known.now c.args.on_page.now.corners.now c.loop-i.i c.loop-i.tree.items c.loop-i.pieces w.in_ok-pieces.pieces w.in_ok-context.context of_element found.value c.loop-i.invariant found.range total.count total.few))
   | else-not-is_anonymous w ↦ (
       let anonymous = rw c.at.ensures.context at (sym (w.if-not-is_anonymous.ensures {u = tt})) in
       rw (w.tree-is, w.pieces-is)
-      (skip_next c.args.contexts.now c.args.known.now c.args.corners.now c.loop-i.i c.loop-i.tree.items c.loop-i.pieces anonymous c.loop-i.invariant))
+      (skip_next c.args.on_page.now.laid.contexts.now c.args.on_page.now.laid.known.now c.args.on_page.now.corners.now c.loop-i.i c.loop-i.tree.items c.loop-i.pieces anonymous c.loop-i.invariant))
 ]

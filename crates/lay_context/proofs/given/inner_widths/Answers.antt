@@ -1,11 +1,12 @@
-use Rattle.lay_context.specs.DocumentLayout.{inner_widths_in}
+use Rattle.lay_formatting.specs.FormattingContexts.{formatting_context_at}
+use Rattle.lay_context.specs.DocumentLayout.{flow_number, inner_widths_in}
 use Rattle.lay_context.proofs.GivenFacts.{one_more_of}
 use Rattle.lay_context.proofs.given.inner_widths.Goals as goal
 
-pub inner_widths_in-requires : goal.inner_widths_in-requires
-inner_widths_in-requires c = c.requires c.loop-k.k c.loop-k-test.true
-
 pub loop-k-preserved : goal.loop-k-preserved
 loop-k-preserved c =
+    let at = c.args.at.now in
     let pushed = (c.in_ok-push.ensures {u = tt}).items in
-    rw pushed (one_more_of (inner_widths_in c.args.known.now.widths) c.args.numbers.now c.loop-k.k c.loop-k.widths.items c.inner_widths_in.result c.loop-k-test.true c.loop-k.invariant c.inner_widths_in.ensures)
+    let within = rw (c.inner-count.ensures, c.formatting_context.ensures.context) at c.loop-k-test.true in
+    let is = rw (c.inner_at.ensures.known, c.inner_at.ensures.number) at c.inner_widths_in.ensures in
+    rw pushed (one_more_of (inner_widths_in at.known.now.widths) (flow_number at.contexts.now) (formatting_context_at at.contexts.now at.number).inner c.loop-k.k c.loop-k.widths.items c.inner_widths_in.result within c.loop-k.invariant is)

@@ -1,4 +1,4 @@
-use Rattle.lay_context.proofs.OneValue.{OneAnswer, one_local_lem}
+use Rattle.lay_context.proofs.OneValue.{one_local_lem}
 use Rattle.lay_context.proofs.laws.one_local.Goals as goal
 
 pub returns : goal.returns

@@ -5,13 +5,13 @@ use Rattle.lay_context.proofs.layout.size_level.Goals.{then-plan-i+in_ok-settle,
 
 pub settle-requires : goal.settle-requires
 settle-requires c = record {
-  ready = size_ready c.args.plan.now.medium.now c.args.plan.now.contexts.now c.args.plan.now.levels.now c.requires.plan.are c.requires.plan.has c.requires.grids c.loop-i.known c.args.level c.loop-i.i (omega arith) c.if-plan-i.true c.loop-i.invariant;
+  ready = size_ready c.args.plan.now.medium.now c.args.plan.now.contexts.now c.args.plan.now.levels.now c.len-count.ensures.are c.args.plan.now.has_levels c.args.plan.now.grids c.loop-i.known c.args.level c.loop-i.i (omega arith) c.if-plan-i.true c.loop-i.invariant;
 }
 
 pub loop-i-preserved : goal.loop-i-preserved
 loop-i-preserved c = elim c.if-plan-i.branch [
   | then-plan-i+in_ok-settle w ↦
-      rw w.known-is (one_sized c.args.plan.now.medium.now c.args.plan.now.contexts.now c.args.plan.now.levels.now c.requires.plan.are c.requires.plan.has c.requires.grids c.loop-i.known w.settle.new.known c.args.level c.loop-i.i (omega arith) w.if-plan-i.true c.loop-i.invariant w.in_ok-settle.ensures)
+      rw w.known-is (one_sized c.args.plan.now.medium.now c.args.plan.now.contexts.now c.args.plan.now.levels.now c.len-count.ensures.are c.args.plan.now.has_levels c.args.plan.now.grids c.loop-i.known w.settle.new.known c.args.level c.loop-i.i (omega arith) w.if-plan-i.true c.loop-i.invariant w.in_ok-settle.ensures)
   | else-plan-i w ↦
-      rw w.known-is (none_sized c.args.plan.now.medium.now c.args.plan.now.contexts.now c.args.plan.now.levels.now c.requires.plan.are c.requires.plan.has c.requires.grids c.loop-i.known c.args.level c.loop-i.i (omega arith) w.if-plan-i.false c.loop-i.invariant)
+      rw w.known-is (none_sized c.args.plan.now.medium.now c.args.plan.now.contexts.now c.args.plan.now.levels.now c.len-count.ensures.are c.args.plan.now.has_levels c.args.plan.now.grids c.loop-i.known c.args.level c.loop-i.i (omega arith) w.if-plan-i.false c.loop-i.invariant)
 ]

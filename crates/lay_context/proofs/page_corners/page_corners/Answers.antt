@@ -9,7 +9,7 @@ loop-i-preserved c =
     let found = c.in_ok-corner.ensures {u = tt} in
     let inner = rw c.deref.ensures.value at found.inner in
     record {
-      corners = rw pushed (one_more (placed_in c.args.known.now.places 0).offset c.args.contexts.now c.args.known.now.places c.loop-i.corners.items c.loop-i.i c.in_ok-corner.corner
+      corners = rw pushed (one_more (placed_in c.args.laid.now.known.now.places 0).offset c.args.laid.now.contexts.now c.args.laid.now.known.now.places c.loop-i.corners.items c.loop-i.i c.in_ok-corner.corner
           c.len-count.ensures.are (omega arith) c.loop-i.invariant.corners found.first inner);
       near = rw pushed (one_more_near c.loop-i.corners.items c.in_ok-corner.corner c.loop-i.invariant.near found.near);
     }

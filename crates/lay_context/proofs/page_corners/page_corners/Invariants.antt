@@ -5,6 +5,6 @@ use Rattle.lay_context.proofs.page_corners.page_corners.Given as goal
 
 abbrev pub invariant-loop-i : goal.invariant-loop-i
 invariant-loop-i l = record {
-  corners : PageCornersTo (placed_in l.known.places 0).offset l.contexts l.known.places l.corners.items l.i;
+  corners : PageCornersTo (placed_in l.laid.known.now.places 0).offset l.laid.contexts.now l.laid.known.now.places l.corners.items l.i;
   near : AreNearCorners l.corners.items;
 }
