@@ -1,3 +1,5 @@
+mod Kept
+mod KeptRuns
 pub mod BoxMeasures
 pub mod BoxStages
 pub mod Broken

@@ -31,7 +31,7 @@ module _ (fault : Facts → Bool) (close : List Tree → List Tree) where
   over (x ∷ xs) gap h = refl
 
   -- a box that isn't faulty stays, where no run is open
-  stays : (t : Tree) (ts : List Tree) → fault (facts_of t) ≡ false → gathered fault close (t ∷ ts) ≡ t ∷ gathered fault close ts
+  pub stays : (t : Tree) (ts : List Tree) → fault (facts_of t) ≡ false → gathered fault close (t ∷ ts) ≡ t ∷ gathered fault close ts
   stays t ts h = simp h refl
 
   -- a gap behind an open run

@@ -45,6 +45,9 @@ is_table_part_there (Some f) = is_in_flow f.flow && is_table_part f.form
 abbrev pub is_irrelevant_between : Option Facts → Option Facts → Bool
 is_irrelevant_between before after = is_table_part_there before && is_table_part_there after
 
+abbrev pub is_table_part_box : Tree → Bool
+is_table_part_box t = is_table_part (facts_of t).form
+
 -- white space that is irrelevant in such a parent, between these neighbours
 abbrev pub is_irrelevant : Form → Option Facts → Option Facts → Bool
 is_irrelevant parent before after = is_irrelevant_in_container parent before after || is_irrelevant_between before after

@@ -15,6 +15,9 @@ is_white_box t = is_white (facts_of t).form
 abbrev pub anonymous_facts : Facts → Form → Facts
 anonymous_facts f form = record { node = f.node; place = f.place; form = form; anonymous = true; flow = InFlow; inner = false }
 
+abbrev pub is_faulty_box : (Facts → Bool) → Tree → Bool
+is_faulty_box fault t = fault (facts_of t)
+
 -- an anonymous box in a box with these facts, round these boxes
 abbrev pub anonymous_box : Facts → Form → List Tree → Tree
 anonymous_box f form run = tree (anonymous_facts f form) (trees_of run)

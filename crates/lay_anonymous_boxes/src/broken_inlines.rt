@@ -116,6 +116,10 @@ pub struct BreakInlines;
 impl BoxRule for BreakInlines {
     ghost made = { broken };
 
+    fn keeps(facts: Facts, children: &[Subtree]) -> bool {
+        !(is_inline(facts.form) && has_block(children))
+    }
+
     fn make(
         alloc: Global,
         facts: Facts,

@@ -8,7 +8,7 @@ use crate::inline_runs::WrapRuns;
 use crate::irrelevant::KeepRelevant;
 use crate::missing_children::WrapChildren;
 use crate::missing_parents::AddParents;
-use crate::subtree::{Subtree, remake, remake_all};
+use crate::subtree::{Subtree, remade};
 use crate::table_wrappers::FillWrappers;
 use lay_units::NoMemory;
 use std::alloc::Global;
@@ -17,11 +17,12 @@ use std::alloc::Global;
 pub fn generate(alloc: Global, tree: Subtree) -> Result<Vec<Subtree>, NoMemory>
     ensures { IfOk result (λ v. v.items ≡ generated tree) }
 {
-    let mut trees = Vec::new(alloc);
-    remake::<KeepRelevant>(alloc, tree, &mut trees)?;
-    let trees = remake_all::<WrapChildren>(alloc, trees)?;
-    let trees = remake_all::<AddParents>(alloc, trees)?;
-    let trees = remake_all::<FillWrappers>(alloc, trees)?;
-    let trees = remake_all::<BreakInlines>(alloc, trees)?;
-    remake_all::<WrapRuns>(alloc, trees)
+    let mut trees = Vec::with_capacity(alloc, 1)?;
+    trees.push(tree)?;
+    let trees = remade::<KeepRelevant>(alloc, trees)?;
+    let trees = remade::<WrapChildren>(alloc, trees)?;
+    let trees = remade::<AddParents>(alloc, trees)?;
+    let trees = remade::<FillWrappers>(alloc, trees)?;
+    let trees = remade::<BreakInlines>(alloc, trees)?;
+    remade::<WrapRuns>(alloc, trees)
 }

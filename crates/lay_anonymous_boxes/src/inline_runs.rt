@@ -4,11 +4,11 @@ ghost use Rattle.std.specs.Prelude.{◌≡◌, ◌++◌, List, OnOk, IfOk};
 ghost use Rattle.std.specs.List.{list_any};
 ghost use Rattle.lay_anonymous_boxes.specs.declared.facts.Facts.{Facts};
 ghost use Rattle.lay_anonymous_boxes.specs.Boxes.{Tree, in_box};
-ghost use Rattle.lay_anonymous_boxes.specs.InlineRuns.{is_no_block, is_seen_box, block_round, run_wrapped};
+ghost use Rattle.lay_anonymous_boxes.specs.InlineRuns.{is_no_block, is_seen_box, is_loose, is_loose_box, block_round, run_wrapped};
 
 use crate::broken_inlines::{has_block, is_unseen, put_but_texts};
 use crate::facts::{Facts, Form};
-use crate::forms::{is_block, is_block_container};
+use crate::forms::{is_block, is_block_container, is_text};
 use crate::runs::{RunRule, anonymous_box, gather};
 use crate::subtree::{BoxRule, Subtree};
 use lay_units::NoMemory;
@@ -19,6 +19,20 @@ fn has_seen(boxes: &[Subtree]) -> bool
     ensures { result ≡ list_any is_seen_box boxes.now }
 {
     boxes.iter().any(|child| !is_unseen(child.facts()))
+}
+
+/// Whether a box among blocks is not left as it is: an inline-level box in flow, or a text.
+fn is_loose(facts: Facts) -> bool
+    ensures { result ≡ is_loose facts }
+{
+    !is_block(facts) && (!is_unseen(facts) || is_text(facts.form))
+}
+
+/// Whether such a box is among these.
+fn has_loose(boxes: &[Subtree]) -> bool
+    ensures { result ≡ list_any is_loose_box boxes.now }
+{
+    boxes.iter().any(|child| is_loose(child.facts()))
 }
 
 /// Anonymous blocks go round what is no block.
@@ -71,6 +85,10 @@ pub struct WrapRuns;
 
 impl BoxRule for WrapRuns {
     ghost made = { in_box run_wrapped };
+
+    fn keeps(facts: Facts, children: &[Subtree]) -> bool {
+        !is_block_container(facts.form) || !has_block(children) || !has_loose(children)
+    }
 
     fn make(
         alloc: Global,

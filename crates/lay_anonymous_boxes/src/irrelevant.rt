@@ -1,8 +1,10 @@
 //! Irrelevant boxes are removed (CSS 2.2, 17.2.1, the first stage).
 
-ghost use Rattle.std.specs.Prelude.{◌≡◌, ◌++◌, ◌∷◌, [], None, List, OnOk, IfOk};
+ghost use Rattle.std.specs.Prelude.{◌≡◌, ◌++◌, ◌∷◌, [], None, List, OnOk, IfOk, IsTrue};
+ghost use Rattle.std.specs.List.{list_any};
 ghost use Rattle.lay_anonymous_boxes.specs.Boxes.{Tree, in_box};
-ghost use Rattle.lay_anonymous_boxes.specs.Irrelevant.{column_group_children, is_descendant_or_none, is_irrelevant_in_container, is_table_part_there, is_irrelevant_between, is_irrelevant, kept_gap, kept_from, without_white_space, relevant};
+ghost use Rattle.lay_anonymous_boxes.specs.Irrelevant.{column_group_children, is_descendant_or_none, is_irrelevant_in_container, is_table_part_there, is_irrelevant_between, is_irrelevant, is_table_part_box, kept_gap, kept_from, without_white_space, relevant};
+ghost use Rattle.lay_anonymous_boxes.specs.Runs.{is_white_box};
 
 use crate::facts::{Facts, Form};
 use crate::forms::{
@@ -110,6 +112,27 @@ impl Sifting {
     }
 }
 
+/// Whether white space is among these boxes.
+fn has_white(boxes: &[Subtree]) -> bool
+    ensures { result ≡ list_any is_white_box boxes.now }
+{
+    boxes.iter().any(|child| is_white(child.facts().form))
+}
+
+/// Whether a caption or an internal table box is among these boxes.
+fn has_table_part(boxes: &[Subtree]) -> bool
+    ensures { result ≡ list_any is_table_part_box boxes.now }
+{
+    boxes.iter().any(|child| is_table_part(child.facts().form))
+}
+
+/// Whether it is seen at once that no white space among the children is irrelevant.
+fn has_no_irrelevant(parent: Form, children: &[Subtree]) -> bool
+    ensures { IsTrue result → without_white_space parent children.now ≡ children.now }
+{
+    !has_white(children) || (!is_tabular_container(parent) && !has_table_part(children))
+}
+
 /// The children without irrelevant white space.
 fn without_white_space(
     alloc: Global,
@@ -118,6 +141,9 @@ fn without_white_space(
 ) -> Result<Vec<Subtree>, NoMemory>
     ensures { IfOk result (λ v. v.items ≡ without_white_space parent children.items) }
 {
+    if has_no_irrelevant(parent, children.as_slice()) {
+        return Ok(children);
+    }
     let mut sifting = Sifting::new(alloc);
     for child in children {
         sifting.take(alloc, parent, child)?;
@@ -157,6 +183,12 @@ pub struct KeepRelevant;
 
 impl BoxRule for KeepRelevant {
     ghost made = { in_box relevant };
+
+    fn keeps(facts: Facts, children: &[Subtree]) -> bool {
+        !is_column(facts.form)
+            && !is_column_group(facts.form)
+            && has_no_irrelevant(facts.form, children)
+    }
 
     fn make(
         alloc: Global,

@@ -7,7 +7,7 @@ ghost use Rattle.lay_anonymous_boxes.specs.MissingChildren.{is_no_proper_table_c
 
 use crate::facts::{Facts, Form};
 use crate::forms::{is_cell, is_in_flow, is_proper_table_child, is_row, is_row_group, is_table};
-use crate::runs::{RunRule, anonymous_box, gather};
+use crate::runs::{RunRule, anonymous_box, gather, has_faulty};
 use crate::subtree::{BoxRule, Subtree};
 use lay_units::NoMemory;
 use std::alloc::Global;
@@ -137,6 +137,16 @@ pub struct WrapChildren;
 
 impl BoxRule for WrapChildren {
     ghost made = { in_box child_wrapped };
+
+    fn keeps(facts: Facts, children: &[Subtree]) -> bool {
+        if is_table(facts.form) {
+            !has_faulty(&RowRoundInTable { parent: facts }, children)
+        } else if is_row_group(facts.form) {
+            !has_faulty(&RowRoundInGroup { parent: facts }, children)
+        } else {
+            !is_row(facts.form) || !has_faulty(&CellRound { parent: facts }, children)
+        }
+    }
 
     fn make(
         alloc: Global,

@@ -10,7 +10,7 @@ use crate::forms::{
     is_caption, is_cell, is_column, is_column_group, is_in_flow, is_inline, is_row, is_row_group,
     is_table,
 };
-use crate::runs::{RunRule, anonymous_box, gather};
+use crate::runs::{RunRule, anonymous_box, gather, has_faulty};
 use crate::subtree::{BoxRule, Subtree};
 use lay_units::NoMemory;
 use std::alloc::Global;
@@ -128,6 +128,11 @@ pub struct AddParents;
 
 impl BoxRule for AddParents {
     ghost made = { in_box parented };
+
+    fn keeps(facts: Facts, children: &[Subtree]) -> bool {
+        (is_row(facts.form) || !has_faulty(&RowRoundCells { parent: facts }, children))
+            && !has_faulty(&TableRound { parent: facts }, children)
+    }
 
     fn make(
         alloc: Global,

@@ -1,9 +1,10 @@
 //! Runs of consecutive siblings (CSS 2.2, 17.2.1).
 
 ghost use Rattle.std.specs.Prelude.{◌≡◌, ◌++◌, ◌∷◌, [], Bool, List, OnOk, IfOk};
+ghost use Rattle.std.specs.List.{list_any};
 ghost use Rattle.lay_anonymous_boxes.specs.declared.facts.Facts.{Facts};
 ghost use Rattle.lay_anonymous_boxes.specs.Boxes.{Tree};
-ghost use Rattle.lay_anonymous_boxes.specs.Runs.{gathered, gathered_from, run_over, anonymous_facts, anonymous_box};
+ghost use Rattle.lay_anonymous_boxes.specs.Runs.{gathered, gathered_from, run_over, anonymous_facts, anonymous_box, is_faulty_box};
 
 use crate::facts::{Facts, Form};
 use crate::forms::is_white;
@@ -85,6 +86,13 @@ impl Gathering {
     }
 }
 
+/// Whether a child is faulty.
+pub fn has_faulty<R: RunRule>(rule: &R, children: &[Subtree]) -> bool
+    ensures { result ≡ list_any (is_faulty_box (R.faulty rule.now)) children.now }
+{
+    children.iter().any(|child| rule.is_faulty(child.facts()))
+}
+
 /// The children, with each run of consecutive faulty ones replaced. Each child is moved a bounded number
 /// of times.
 pub fn gather<R: RunRule>(
@@ -94,6 +102,9 @@ pub fn gather<R: RunRule>(
 ) -> Result<Vec<Subtree>, NoMemory>
     ensures { IfOk result (λ v. v.items ≡ gathered (R.faulty rule.now) (R.closed rule.now) children.items) }
 {
+    if !has_faulty(rule, children.as_slice()) {
+        return Ok(children);
+    }
     let mut gathering = Gathering::new(alloc);
     for child in children {
         gathering.take(alloc, rule, child)?;

@@ -1,6 +1,6 @@
 //! Trees of boxes, and making them anew.
 
-ghost use Rattle.std.specs.Prelude.{◌≡◌, ◌++◌, List, OnOk, IfOk};
+ghost use Rattle.std.specs.Prelude.{◌≡◌, ◌++◌, ◌∷◌, [], List, OnOk, IfOk, IsTrue};
 ghost use Rattle.lay_anonymous_boxes.specs.declared.facts.Facts.{Facts};
 ghost use Rattle.lay_anonymous_boxes.specs.Boxes.{Tree, tree, trees_of, facts_of, remade, all_remade};
 
@@ -56,6 +56,10 @@ impl Subtree {
 pub trait BoxRule {
     ghost made: { Facts → List Tree → List Tree };
 
+    /// Whether it is seen at once that a box with these children stands for itself.
+    fn keeps(facts: Facts, children: &[Subtree]) -> bool
+        ensures { IsTrue result → made facts children.now ≡ tree facts (trees_of children.now) ∷ [] };
+
     /// Puts the boxes at the end of `out`.
     fn make(
         alloc: Global,
@@ -68,11 +72,7 @@ pub trait BoxRule {
 
 /// Puts what a rule makes of a tree at the end of `out`.
 #[cycle(remake)]
-pub fn remake<R: BoxRule>(
-    alloc: Global,
-    tree: Subtree,
-    out: &mut Vec<Subtree>,
-) -> Result<(), NoMemory>
+fn remake<R: BoxRule>(alloc: Global, tree: Subtree, out: &mut Vec<Subtree>) -> Result<(), NoMemory>
     ensures { OnOk result (out.new.items ≡ out.old.items ++ remade R.made tree) }
 {
     let Subtree { facts, children } = tree;
@@ -80,10 +80,42 @@ pub fn remake<R: BoxRule>(
     R::make(alloc, facts, children, out)
 }
 
+/// Whether it is seen at once that a rule leaves a tree as it is.
+#[cycle(keeps)]
+fn keeps_tree<R: BoxRule>(tree: &Subtree) -> bool
+    ensures { IsTrue result → remade R.made tree.now ≡ tree.now ∷ [] }
+{
+    let children = tree.children.as_slice();
+    (children.is_empty() || keeps_all::<R>(children)) && R::keeps(tree.facts, children)
+}
+
+/// The same of some trees.
+#[cycle(keeps)]
+fn keeps_all<R: BoxRule>(trees: &[Subtree]) -> bool
+    ensures { IsTrue result → all_remade R.made (trees_of trees.now) ≡ trees.now }
+{
+    for tree in trees {
+        if !keeps_tree::<R>(tree) {
+            return false;
+        }
+    }
+    true
+}
+
+/// What a rule makes of some trees: nothing new, where each box stands for itself.
+pub fn remade<R: BoxRule>(alloc: Global, trees: Vec<Subtree>) -> Result<Vec<Subtree>, NoMemory>
+    ensures { IfOk result (λ v. v.items ≡ all_remade R.made (trees_of trees.items)) }
+{
+    if keeps_all::<R>(trees.as_slice()) {
+        return Ok(trees);
+    }
+    remake_all::<R>(alloc, trees)
+}
+
 /// What a rule makes of some trees. It goes as deep as the boxes are nested, which the document's depth
 /// bounds.
 #[cycle(remake)]
-pub fn remake_all<R: BoxRule>(alloc: Global, trees: Vec<Subtree>) -> Result<Vec<Subtree>, NoMemory>
+fn remake_all<R: BoxRule>(alloc: Global, trees: Vec<Subtree>) -> Result<Vec<Subtree>, NoMemory>
     ensures { IfOk result (λ v. v.items ≡ all_remade R.made (trees_of trees.items)) }
 {
     let mut out = Vec::new(alloc);

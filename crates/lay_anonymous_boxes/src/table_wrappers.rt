@@ -62,6 +62,10 @@ pub struct FillWrappers;
 impl BoxRule for FillWrappers {
     ghost made = { in_box in_wrapper };
 
+    fn keeps(facts: Facts, _children: &[Subtree]) -> bool {
+        !is_table(facts.form)
+    }
+
     fn make(
         alloc: Global,
         facts: Facts,

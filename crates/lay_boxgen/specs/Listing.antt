@@ -1,5 +1,5 @@
 -- A part's trees as a list of boxes: each box before its children, with the place of its parent box.
-use Rattle.std.specs.Prelude.{ℕ, ◌+◌, List, [], ◌∷◌, ◌++◌, length, slice_get, if◌then◌else◌, Option, None, Some}
+use Rattle.std.specs.Prelude.{ℕ, Bool, ◌+◌, List, [], ◌∷◌, ◌++◌, length, slice_get, if◌then◌else◌, Option, None, Some}
 use Rattle.lay_style.specs.declared.style.Style.{Style}
 use Rattle.lay_style.specs.ComputedStyle.{style_at}
 use Rattle.lay_style.specs.Places.{place_of}
@@ -43,9 +43,13 @@ kind_of text (Column span) = kind.Column span
 kind_of text (Cell colspan rowspan) = kind.Cell colspan rowspan
 kind_of text Anchor = kind.Anchor
 
+-- the style of a box of a node with this style
+abbrev pub box_style : Bool → Style → Style
+box_style anonymous style = if anonymous then anonymous_style style else style
+
 -- the style of a box with these facts
 abbrev pub style_of : List Style → Facts → Style
-style_of styles f = if f.anonymous then anonymous_style (style_at styles f.place) else style_at styles f.place
+style_of styles f = box_style f.anonymous (style_at styles f.place)
 
 -- an anchor has the style of its parent box
 abbrev pub style_below : List Style → Facts → Facts → Style

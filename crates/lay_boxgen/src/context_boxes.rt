@@ -44,7 +44,7 @@ fn boxes_at(
     ensures tree { IfOk result (λ v. IsBoxTree v.items) }
 {
     let trees = part_trees(alloc, nodes, styles, place)?;
-    listed_part(alloc, Sources { nodes, styles }, trees)
+    listed_part(alloc, Sources { nodes, styles }, &trees)
 }
 
 /// The trees of the context of the node at a place, but for what is in the boxes of inner contexts.

@@ -1,8 +1,8 @@
 //! The trees of a part as a list of boxes.
 
-ghost use Rattle.std.specs.Prelude.{◌≡◌, ◌++◌, ℕ, List, OnOk, IfOk, length};
+ghost use Rattle.std.specs.Prelude.{◌≡◌, ◌++◌, ◌∷◌, [], ℕ, List, OnOk, IfOk, IfSome, length};
 ghost use Rattle.lay_anonymous_boxes.specs.Boxes.{Tree, trees_of};
-ghost use Rattle.lay_boxgen.specs.Listing.{text_at, kind_of, style_of, style_below, box_node, listed, all_listed, listed_part};
+ghost use Rattle.lay_boxgen.specs.Listing.{text_at, box_style, kind_of, style_of, style_below, box_node, listed, all_listed, listed_part};
 ghost use Rattle.lay_boxgen.specs.Parts.{put, all_put, put_list, nothing};
 
 use crate::anonymous_style::anonymous_style;
@@ -34,24 +34,43 @@ impl<'a> Sources<'a> {
     }
 
     /// The style of a box.
-    fn style_of(self, facts: Facts) -> Result<Style, NoMemory>
-        ensures { IfOk result (λ s. s ≡ style_of self.entry.styles.now facts) }
+    fn style_of(self, facts: Facts) -> Option<BoxStyle<'a>>
+        ensures { IfSome result (λ s. box_style s.anonymous s.style.now ≡ style_of self.entry.styles.now facts) }
     {
-        match self.styles.get(facts.place) {
-            None => Err(NoMemory),
-            Some(style) if facts.anonymous => Ok(anonymous_style(style)),
-            Some(style) => Ok(*style),
-        }
+        Some(BoxStyle {
+            style: self.styles.get(facts.place)?,
+            anonymous: facts.anonymous,
+        })
     }
 
     /// The style of a box below another, which an anchor has too.
-    fn style_below(self, above: Facts, facts: Facts) -> Result<Style, NoMemory>
-        ensures { IfOk result (λ s. s ≡ style_below self.entry.styles.now above facts) }
+    fn style_below(self, above: Facts, facts: Facts) -> Option<BoxStyle<'a>>
+        ensures { IfSome result (λ s. box_style s.anonymous s.style.now ≡ style_below self.entry.styles.now above facts) }
     {
         if is_anchor(facts.form) {
             self.style_of(above)
         } else {
             self.style_of(facts)
+        }
+    }
+}
+
+/// The style of a box, which is that of its node or of an anonymous box there. It is large, and copied where the box
+/// is made.
+#[derive(Clone, Copy)]
+struct BoxStyle<'a> {
+    style: &'a Style,
+    anonymous: bool,
+}
+
+impl BoxStyle<'_> {
+    fn value(self) -> Style
+        ensures { result ≡ box_style self.entry.anonymous self.entry.style.now }
+    {
+        if self.anonymous {
+            anonymous_style(self.style)
+        } else {
+            *self.style
         }
     }
 }
@@ -88,28 +107,6 @@ struct ParentBox {
     place: u32,
 }
 
-/// A box below another.
-fn box_node(
-    alloc: Global,
-    sources: Sources<'_>,
-    parent: ParentBox,
-    facts: Facts,
-) -> Result<BoxNode, NoMemory>
-    ensures { IfOk result (λ b. b ≡ box_node sources.entry.nodes.now sources.entry.styles.now parent.facts parent.place facts) }
-{
-    let text = sources.text_at(alloc, facts.place)?;
-    let style = sources.style_below(parent.facts, facts)?;
-    Ok(BoxNode {
-        node: facts.node,
-        parent: parent.place,
-        kind: kind_of(facts.form, text),
-        flow: facts.flow,
-        anonymous: facts.anonymous,
-        inner: facts.inner,
-        style,
-    })
-}
-
 /// A place in the list, where so many boxes can be numbered.
 fn number(place: usize) -> Result<u32, NoMemory>
     ensures { IfOk result (λ n. n ≡ place) }
@@ -120,24 +117,51 @@ fn number(place: usize) -> Result<u32, NoMemory>
     }
 }
 
+/// Puts a box below another at the end of `out`.
+fn push_box(
+    alloc: Global,
+    sources: Sources<'_>,
+    parent: ParentBox,
+    facts: Facts,
+    out: &mut Vec<BoxNode>,
+) -> Result<(), NoMemory>
+    ensures { OnOk result (out.new.items ≡ out.old.items ++ box_node sources.entry.nodes.now sources.entry.styles.now parent.facts parent.place facts ∷ []) }
+{
+    let Some(style) = sources.style_below(parent.facts, facts) else {
+        return Err(NoMemory);
+    };
+    let text = sources.text_at(alloc, facts.place)?;
+    out.push(BoxNode {
+        node: facts.node,
+        parent: parent.place,
+        kind: kind_of(facts.form, text),
+        flow: facts.flow,
+        anonymous: facts.anonymous,
+        inner: facts.inner,
+        style: style.value(),
+    })?;
+    Ok(())
+}
+
 /// Puts the boxes of a tree below a box at the end of `out`.
 #[cycle(list)]
 fn list(
     alloc: Global,
     sources: Sources<'_>,
     parent: ParentBox,
-    tree: Subtree,
+    tree: &Subtree,
     out: &mut Vec<BoxNode>,
 ) -> Result<(), NoMemory>
-    ensures { OnOk result (out.new.items ≡ out.old.items ++ listed sources.entry.nodes.now sources.entry.styles.now parent.facts parent.place (length out.old.items) (put nothing tree)) }
+    ensures { OnOk result (out.new.items ≡ out.old.items ++ listed sources.entry.nodes.now sources.entry.styles.now parent.facts parent.place (length out.old.items) (put nothing tree.now)) }
 {
-    let Subtree { facts, children } = tree;
+    let facts = tree.facts;
     let place = number(out.len())?;
-    out.push(box_node(alloc, sources, parent, facts)?)?;
+    push_box(alloc, sources, parent, facts, out)?;
     if is_closed(facts) {
         return Ok(());
     }
-    list_all(alloc, sources, ParentBox { facts, place }, children, out)
+    let below = ParentBox { facts, place };
+    list_all(alloc, sources, below, tree.children.as_slice(), out)
 }
 
 /// Puts the boxes of some trees there.
@@ -146,10 +170,10 @@ fn list_all(
     alloc: Global,
     sources: Sources<'_>,
     parent: ParentBox,
-    trees: Vec<Subtree>,
+    trees: &[Subtree],
     out: &mut Vec<BoxNode>,
 ) -> Result<(), NoMemory>
-    ensures { OnOk result (out.new.items ≡ out.old.items ++ all_listed sources.entry.nodes.now sources.entry.styles.now parent.facts parent.place (length out.old.items) (all_put nothing (trees_of trees.items))) }
+    ensures { OnOk result (out.new.items ≡ out.old.items ++ all_listed sources.entry.nodes.now sources.entry.styles.now parent.facts parent.place (length out.old.items) (all_put nothing (trees_of trees.now))) }
 {
     for tree in trees {
         list(alloc, sources, parent, tree, out)?;
@@ -157,19 +181,38 @@ fn list_all(
     Ok(())
 }
 
+/// How many boxes a tree has that are not inside those of inner contexts.
+#[cycle(count)]
+fn count(tree: &Subtree) -> usize {
+    if is_closed(tree.facts) {
+        return 1;
+    }
+    count_all(tree.children.as_slice()).saturating_add(1)
+}
+
+/// The same of some trees.
+#[cycle(count)]
+fn count_all(trees: &[Subtree]) -> usize {
+    let mut all: usize = 0;
+    for tree in trees {
+        all = all.saturating_add(count(tree));
+    }
+    all
+}
+
 /// The boxes of a context, of the trees that are generated in it. The first counts as its own parent box.
 pub fn listed_part(
     alloc: Global,
     sources: Sources<'_>,
-    trees: Vec<Subtree>,
+    trees: &[Subtree],
 ) -> Result<Vec<BoxNode>, NoMemory>
-    ensures { IfOk result (λ v. v.items ≡ listed_part sources.entry.nodes.now sources.entry.styles.now (put_list nothing trees.items)) }
+    ensures { IfOk result (λ v. v.items ≡ listed_part sources.entry.nodes.now sources.entry.styles.now (put_list nothing trees.now)) }
 {
     let Some(first) = trees.first() else {
         return Ok(Vec::new(alloc));
     };
     let facts = first.facts();
-    let mut out = Vec::new(alloc);
+    let mut out = Vec::with_capacity(alloc, count_all(trees))?;
     let own = ParentBox { facts, place: 0 };
     list_all(alloc, sources, own, trees, &mut out)?;
     Ok(out)

@@ -1,3 +1,4 @@
 pub mod StyleSteps
 pub mod ValuesFit
 pub mod StyleBounds
+mod Undeclared

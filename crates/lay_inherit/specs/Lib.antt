@@ -1,3 +1,4 @@
 pub mod Rules
 pub mod StylesTo
 pub mod StylesFit
+pub mod Within

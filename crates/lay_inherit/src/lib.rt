@@ -7,6 +7,7 @@
 #![tactic(auto)]
 
 mod cascade;
+mod declared;
 mod initial;
 mod keywords;
 mod laws;

@@ -2,9 +2,11 @@
 //! initial one.
 
 ghost use Rattle.std.specs.Prelude.{◌≡◌};
+ghost use Rattle.lay_inherit.specs.Within.{widths_of_styles};
 ghost use Rattle.lay_style.specs.ComputedStyle.{font_size, offsets, margins, paddings, border_styles, width_of_style, border_widths, borders, sizing, text_style, table_style, styled, computed_style};
 
 use crate::cascade::cascaded;
+use crate::declared::declares;
 use crate::initial::initial_style;
 use crate::lengths::{font_size_of, px};
 use crate::own::Own;
@@ -31,6 +33,9 @@ fn offsets(
 ) -> Edges<LengthPercentageOrAuto>
     ensures { result ≡ offsets own.now.font parent.now initial.now own.now.decls.now }
 {
+    if !declares(own.decls, 4, 7) {
+        return *initial;
+    }
     Edges {
         top: own.offset(Property::Top, parent.top, initial.top),
         right: own.offset(Property::Right, parent.right, initial.right),
@@ -47,6 +52,9 @@ fn margins(
 ) -> Edges<LengthPercentageOrAuto>
     ensures { result ≡ margins own.now.font parent.now initial.now own.now.decls.now }
 {
+    if !declares(own.decls, 15, 18) {
+        return *initial;
+    }
     Edges {
         top: own.offset(Property::MarginTop, parent.top, initial.top),
         right: own.offset(Property::MarginRight, parent.right, initial.right),
@@ -63,6 +71,9 @@ fn paddings(
 ) -> Edges<LengthPercentage>
     ensures { result ≡ paddings own.now.font parent.now initial.now own.now.decls.now }
 {
+    if !declares(own.decls, 19, 22) {
+        return *initial;
+    }
     Edges {
         top: own.least_size(Property::PaddingTop, parent.top, initial.top),
         right: own.least_size(Property::PaddingRight, parent.right, initial.right),
@@ -79,6 +90,9 @@ fn border_styles(
 ) -> Edges<BorderStyle>
     ensures { result ≡ border_styles parent.now initial.now own.now.decls.now }
 {
+    if !declares(own.decls, 27, 30) {
+        return *initial;
+    }
     Edges {
         top: own.border_style(Property::BorderTopStyle, parent.top, initial.top),
         right: own.border_style(Property::BorderRightStyle, parent.right, initial.right),
@@ -97,6 +111,18 @@ fn width_of_style(style: BorderStyle, width: Unit) -> Unit
     }
 }
 
+/// The widths of borders of these styles, where these are declared.
+fn widths_of_styles(style: &Edges<BorderStyle>, width: &Edges<Unit>) -> Edges<Unit>
+    ensures { result ≡ widths_of_styles style.now width.now }
+{
+    Edges {
+        top: width_of_style(style.top, width.top),
+        right: width_of_style(style.right, width.right),
+        bottom: width_of_style(style.bottom, width.bottom),
+        left: width_of_style(style.left, width.left),
+    }
+}
+
 /// The widths of the borders (8.5.1), which have these styles.
 fn border_widths(
     own: &Own<'_>,
@@ -106,6 +132,9 @@ fn border_widths(
 ) -> Edges<Unit>
     ensures { result ≡ border_widths own.now.font style.now parent.now initial.now own.now.decls.now }
 {
+    if !declares(own.decls, 23, 26) {
+        return widths_of_styles(style, initial);
+    }
     Edges {
         top: width_of_style(
             style.top,
@@ -141,6 +170,9 @@ fn borders(own: &Own<'_>, parent: &Borders, initial: &Borders) -> Borders
 fn sizing(own: &Own<'_>, parent: &Sizing, initial: &Sizing) -> Sizing
     ensures { result ≡ sizing own.now.font parent.now initial.now own.now.decls.now }
 {
+    if !declares(own.decls, 9, 14) {
+        return *initial;
+    }
     Sizing {
         width: own.size(Property::Width, parent.width, initial.width),
         height: own.size(Property::Height, parent.height, initial.height),
@@ -155,6 +187,13 @@ fn sizing(own: &Own<'_>, parent: &Sizing, initial: &Sizing) -> Sizing
 fn text_style(own: &Own<'_>, parent: &TextStyle, initial: &TextStyle) -> TextStyle
     ensures { result ≡ text_style own.now.font parent.now initial.now own.now.decls.now }
 {
+    if !declares(own.decls, 33, 39) {
+        return TextStyle {
+            font_size: own.font,
+            vertical_align: initial.vertical_align,
+            ..*parent
+        };
+    }
     TextStyle {
         font_size: own.font,
         line_height: own.line_height(parent.line_height, initial.line_height),
@@ -179,6 +218,12 @@ fn text_style(own: &Own<'_>, parent: &TextStyle, initial: &TextStyle) -> TextSty
 fn table_style(own: &Own<'_>, parent: &TableStyle, initial: &TableStyle) -> TableStyle
     ensures { result ≡ table_style own.now.font parent.now initial.now own.now.decls.now }
 {
+    if !declares(own.decls, 40, 45) {
+        return TableStyle {
+            layout: initial.layout,
+            ..*parent
+        };
+    }
     TableStyle {
         layout: own.table_layout(parent.layout, initial.layout),
         border_collapse: own.border_collapse(parent.border_collapse, initial.border_collapse),

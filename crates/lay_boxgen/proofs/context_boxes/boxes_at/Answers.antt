@@ -10,6 +10,6 @@ pub returns-clause-tree : goal.returns-clause-tree
 returns-clause-tree c =
     let nodes = c.args.nodes.now in
     let styles = c.args.styles.now in
-    let own : put_list nothing c.in_ok-trees.trees.items ≡ part nodes styles c.args.place = search rules in
-    IfOk-weaker c.listed_part.result (λ v. v.items ≡ listed_part nodes styles (put_list nothing c.in_ok-trees.trees.items)) (λ v. IsBoxTree v.items)
+    let own : put_list nothing c.deref.result.now ≡ part nodes styles c.args.place = search rules in
+    IfOk-weaker c.listed_part.result (λ v. v.items ≡ listed_part nodes styles (put_list nothing c.deref.result.now)) (λ v. IsBoxTree v.items)
     (λ v e. rw (e, own) (listed_box_tree nodes styles c.args.place)) c.listed_part.ensures

@@ -9,7 +9,7 @@ pub returns : goal.returns
 returns c =
     let nodes = c.args.sources.nodes.now in
     let styles = c.args.sources.styles.now in
-    let trees = c.args.trees.items in
+    let trees = c.args.trees.now in
     let own = c.facts-facts.result in
     let first : option_map facts_of (slice_get trees 0) ≡ Some own = search rules in
     let all : c.list_all.new.out.items ≡ all_listed nodes styles own 0 0 (all_put nothing (trees_of trees)) = search rules in

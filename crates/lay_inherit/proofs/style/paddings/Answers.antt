@@ -1,0 +1,11 @@
+use Rattle.std.proofs.Common.{rules, ◌≡◌, false, sym}
+use Rattle.std.specs.List.{list_any}
+use Rattle.lay_inherit.specs.Within.{is_within}
+use Rattle.lay_inherit.proofs.Undeclared.{no_paddings}
+use Rattle.lay_inherit.proofs.style.paddings.Goals as goal
+
+pub returns-then-not-declares : goal.returns-then-not-declares
+returns-then-not-declares c =
+    let own = c.args.own.now in
+    let none : list_any (is_within 19 22) own.decls.now ≡ false = search rules in
+    sym (no_paddings own.font own.decls.now c.args.parent.now c.args.initial.now none)

@@ -1,0 +1,11 @@
+use Rattle.std.proofs.Common.{rules, ◌≡◌, false, sym}
+use Rattle.std.specs.List.{list_any}
+use Rattle.lay_inherit.specs.Within.{is_within}
+use Rattle.lay_inherit.proofs.Undeclared.{no_table_style}
+use Rattle.lay_inherit.proofs.style.table_style.Goals as goal
+
+pub returns-then-not-declares : goal.returns-then-not-declares
+returns-then-not-declares c =
+    let own = c.args.own.now in
+    let none : list_any (is_within 40 45) own.decls.now ≡ false = search rules in
+    sym (no_table_style own.font own.decls.now c.args.parent.now c.args.initial.now none)
