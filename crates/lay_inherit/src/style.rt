@@ -33,7 +33,7 @@ fn offsets(
 ) -> Edges<LengthPercentageOrAuto>
     ensures { result ≡ offsets own.now.font parent.now initial.now own.now.decls.now }
 {
-    if !declares(own.decls, 4, 7) {
+    if !declares(own.decls, Property::Top, Property::Left) {
         return *initial;
     }
     Edges {
@@ -52,7 +52,7 @@ fn margins(
 ) -> Edges<LengthPercentageOrAuto>
     ensures { result ≡ margins own.now.font parent.now initial.now own.now.decls.now }
 {
-    if !declares(own.decls, 15, 18) {
+    if !declares(own.decls, Property::MarginTop, Property::MarginLeft) {
         return *initial;
     }
     Edges {
@@ -71,7 +71,7 @@ fn paddings(
 ) -> Edges<LengthPercentage>
     ensures { result ≡ paddings own.now.font parent.now initial.now own.now.decls.now }
 {
-    if !declares(own.decls, 19, 22) {
+    if !declares(own.decls, Property::PaddingTop, Property::PaddingLeft) {
         return *initial;
     }
     Edges {
@@ -90,7 +90,11 @@ fn border_styles(
 ) -> Edges<BorderStyle>
     ensures { result ≡ border_styles parent.now initial.now own.now.decls.now }
 {
-    if !declares(own.decls, 27, 30) {
+    if !declares(
+        own.decls,
+        Property::BorderTopStyle,
+        Property::BorderLeftStyle,
+    ) {
         return *initial;
     }
     Edges {
@@ -132,7 +136,11 @@ fn border_widths(
 ) -> Edges<Unit>
     ensures { result ≡ border_widths own.now.font style.now parent.now initial.now own.now.decls.now }
 {
-    if !declares(own.decls, 23, 26) {
+    if !declares(
+        own.decls,
+        Property::BorderTopWidth,
+        Property::BorderLeftWidth,
+    ) {
         return widths_of_styles(style, initial);
     }
     Edges {
@@ -170,7 +178,7 @@ fn borders(own: &Own<'_>, parent: &Borders, initial: &Borders) -> Borders
 fn sizing(own: &Own<'_>, parent: &Sizing, initial: &Sizing) -> Sizing
     ensures { result ≡ sizing own.now.font parent.now initial.now own.now.decls.now }
 {
-    if !declares(own.decls, 9, 14) {
+    if !declares(own.decls, Property::Width, Property::MaxHeight) {
         return *initial;
     }
     Sizing {
@@ -187,7 +195,7 @@ fn sizing(own: &Own<'_>, parent: &Sizing, initial: &Sizing) -> Sizing
 fn text_style(own: &Own<'_>, parent: &TextStyle, initial: &TextStyle) -> TextStyle
     ensures { result ≡ text_style own.now.font parent.now initial.now own.now.decls.now }
 {
-    if !declares(own.decls, 33, 39) {
+    if !declares(own.decls, Property::LineHeight, Property::VerticalAlign) {
         return TextStyle {
             font_size: own.font,
             vertical_align: initial.vertical_align,
@@ -218,7 +226,7 @@ fn text_style(own: &Own<'_>, parent: &TextStyle, initial: &TextStyle) -> TextSty
 fn table_style(own: &Own<'_>, parent: &TableStyle, initial: &TableStyle) -> TableStyle
     ensures { result ≡ table_style own.now.font parent.now initial.now own.now.decls.now }
 {
-    if !declares(own.decls, 40, 45) {
+    if !declares(own.decls, Property::TableLayout, Property::EmptyCells) {
         return TableStyle {
             layout: initial.layout,
             ..*parent
