@@ -18,7 +18,8 @@ use Rattle.lay_context.specs.declared.task.Task.{Task}
 use Rattle.lay_context.specs.declared.input.Input.{Input}
 use Rattle.lay_context_sizes.specs.ContextSizes.{not_sized}
 use Rattle.lay_context.specs.Laws.{HasContextBoxes, OneSolution}
-use Rattle.lay_context.specs.Local.{Workings, IsLocal, IsTaskDone, flow_input, input_by, input_of, measure_input, stand_input, table_input, value_of}
+use Rattle.lay_context.specs.Local.{IsLocal, IsTaskDone, flow_input, input_of, measure_input, stand_input, table_input, value_of}
+use Rattle.lay_context.specs.Workings.{Workings}
 use Rattle.lay_context.specs.Measured.{is_measured}
 use Rattle.lay_context.specs.Medium.{Medium}
 use Rattle.lay_context.specs.Needs.{turn_of}
@@ -46,7 +47,7 @@ module _ (one : OneAnswer) (medium : Medium) (contexts : List FormattingContext)
   AllDone w = (task : Task) → task.context < length contexts → IsTaskDone medium contexts w task
 
   -- what a task is given are the boxes of a formatting context
-  boxes_given : (w : Workings) (phase : Phase) (i : ℕ) → i < length contexts → HasContextBoxes (input_by medium contexts w phase i)
+  boxes_given : (w : Workings) (phase : Phase) (i : ℕ) → i < length contexts → HasContextBoxes (input_of medium contexts w (record { context = i; phase = phase }))
   boxes_given w Measure i lt = measured_boxes (is_measured contexts i) (measure_input medium contexts w i)
   boxes_given w Size i lt = are.boxes i lt
   boxes_given w Place i lt = placed_boxes (flow_input medium contexts w i) (stand_input medium contexts w i) (option_map (table_input contexts w i) (sizes_in w.sizes i).table) (are.boxes i lt)

@@ -14,7 +14,8 @@ use Rattle.lay_flow_boxes.specs.PlaceInputs.{HeightRuleFits, PlaceInputFits, hei
 use Rattle.lay_table_rows.specs.TableInputs.{TableInputFits}
 use Rattle.lay_context_sizes.specs.ContextSizes.{SizedContext}
 use Rattle.lay_context.specs.DocumentLayout.{flow_number, flow_numbers, inner_boxes, inner_pieces, own_box_in, pieces_in}
-use Rattle.lay_context.specs.Local.{Workings, flow_input, table_input}
+use Rattle.lay_context.specs.Local.{flow_input, table_input}
+use Rattle.lay_context.specs.Workings.{Workings}
 use Rattle.lay_context.specs.Medium.{Medium}
 use Rattle.lay_context.specs.Settings.{sizes_in}
 use Rattle.lay_context.specs.Settling.{AreOfBoxes}

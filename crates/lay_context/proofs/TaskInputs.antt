@@ -17,10 +17,11 @@ use Rattle.lay_context.specs.declared.value.Value.TheVariants as value
 use Rattle.lay_context_sizes.specs.ContextSizes.{SizedContext}
 use Rattle.lay_context.specs.DocumentLayout.{flow_numbers, inner_boxes, inner_pieces, inner_widths, inner_widths_in, own_box_in, painted_of, pieces_in, widths_in}
 use Rattle.lay_context.specs.Laws.{InputsComeOfNeeds}
-use Rattle.lay_context.specs.Local.{Workings, input_by, place_as, value_by}
+use Rattle.lay_context.specs.Local.{place_as, value_by, input_of}
+use Rattle.lay_context.specs.Workings.{Workings}
 use Rattle.lay_context.specs.Medium.{Medium}
 use Rattle.lay_context.specs.OwnHeights.{own_height_rule}
-use Rattle.lay_context.specs.Needs.{IsAround, needs_by}
+use Rattle.lay_context.specs.Needs.{IsAround, Needs}
 use Rattle.lay_context.specs.PlacedContexts.{PlacedContext, placed_in, placement_in}
 use Rattle.lay_context.specs.Settings.{flow_place, flow_setting, laid, own_place_of, setting_in, sizes_in}
 use Rattle.lay_context.specs.declared.own_place.OwnPlace.{OwnPlace}
@@ -101,13 +102,13 @@ placed_same medium contexts i a b x y p q o u sizes inner pieces place = rw (siz
 module _ (medium : Medium) (contexts : List FormattingContext) (v w : Workings) (are : AreFormattingContexts contexts) (i : ℕ) (within : i < length contexts) where
   -- an absolutely positioned one is given the same, where those on its way are the same
   absolute_same : ((j : ℕ) → IsOnWay contexts i j → sizes_in v.sizes j ≡ sizes_in w.sizes j) → ((j : ℕ) → IsOnWay contexts i j → placed_in v.places j ≡ placed_in w.places j)
-      → absolute_setting medium.viewport contexts (laid v.sizes v.places) i ≡ absolute_setting medium.viewport contexts (laid w.sizes w.places) i
-  absolute_same sizes places = same_setting medium.viewport contexts (laid v.sizes v.places) (laid w.sizes w.places) i are within
+      → absolute_setting medium.viewport contexts (laid v) i ≡ absolute_setting medium.viewport contexts (laid w) i
+  absolute_same sizes places = same_setting medium.viewport contexts (laid v) (laid w) i are within
       (λ j on. same_layout (sizes_in v.sizes j) (sizes_in w.sizes j) (placed_in v.places j) (placed_in w.places j) (sizes j on) (places j on))
 
-  setting_by : (b : Bool) → is_absolute contexts i ≡ b → ((j : ℕ) → needs_by contexts Size i Size j → sizes_in v.sizes j ≡ sizes_in w.sizes j) → ((j : ℕ) → needs_by contexts Size i Place j → placed_in v.places j ≡ placed_in w.places j)
-      → (if b then Absolute (absolute_setting medium.viewport contexts (laid v.sizes v.places) i) else flow_setting medium.viewport contexts v.sizes i)
-      ≡ (if b then Absolute (absolute_setting medium.viewport contexts (laid w.sizes w.places) i) else flow_setting medium.viewport contexts w.sizes i)
+  setting_by : (b : Bool) → is_absolute contexts i ≡ b → ((j : ℕ) → Needs contexts (record { context = i; phase = Size }) (record { context = j; phase = Size }) → sizes_in v.sizes j ≡ sizes_in w.sizes j) → ((j : ℕ) → Needs contexts (record { context = i; phase = Size }) (record { context = j; phase = Place }) → placed_in v.places j ≡ placed_in w.places j)
+      → (if b then Absolute (absolute_setting medium.viewport contexts (laid v) i) else flow_setting medium.viewport contexts v.sizes i)
+      ≡ (if b then Absolute (absolute_setting medium.viewport contexts (laid w) i) else flow_setting medium.viewport contexts w.sizes i)
   setting_by true is sizes places =
       ap Absolute (absolute_same (λ j on. sizes j (inr (record { absolute = is; way = on }))) (λ j on. places j (record { absolute = is; way = on })))
   setting_by false is sizes places = by i refl
@@ -119,14 +120,14 @@ module _ (medium : Medium) (contexts : List FormattingContext) (v w : Workings) 
           let around : IsAround contexts i outer = record { in_flow = is; some = omega (arith, e); is = ap (λ m. (formatting_context_at contexts m).outer) (sym e) } in
           ap (λ (sized : SizedContext). setting_in (boxes_in contexts outer) sized (formatting_context_at contexts (suc k)).outer_box) (sizes outer (inl around))
 
-  position_by : (b : Bool) → is_absolute contexts i ≡ b → ((j : ℕ) → needs_by contexts Place i Size j → sizes_in v.sizes j ≡ sizes_in w.sizes j) → ((j : ℕ) → needs_by contexts Place i Place j → placed_in v.places j ≡ placed_in w.places j)
-      → (if b then own_place.Absolute (absolute_setting medium.viewport contexts (laid v.sizes v.places) i) else flow_place medium.viewport i)
-      ≡ (if b then own_place.Absolute (absolute_setting medium.viewport contexts (laid w.sizes w.places) i) else flow_place medium.viewport i)
+  position_by : (b : Bool) → is_absolute contexts i ≡ b → ((j : ℕ) → Needs contexts (record { context = i; phase = Place }) (record { context = j; phase = Size }) → sizes_in v.sizes j ≡ sizes_in w.sizes j) → ((j : ℕ) → Needs contexts (record { context = i; phase = Place }) (record { context = j; phase = Place }) → placed_in v.places j ≡ placed_in w.places j)
+      → (if b then own_place.Absolute (absolute_setting medium.viewport contexts (laid v) i) else flow_place medium.viewport i)
+      ≡ (if b then own_place.Absolute (absolute_setting medium.viewport contexts (laid w) i) else flow_place medium.viewport i)
   position_by true is sizes places =
       ap own_place.Absolute (absolute_same (λ j on. sizes j (inr (record { absolute = is; way = on }))) (λ j on. places j (inr (record { absolute = is; way = on }))))
   position_by false is sizes places = refl
 
-  input_same : (phase : Phase) → ((needed : Phase) (j : ℕ) → needs_by contexts phase i needed j → value_by v needed j ≡ value_by w needed j) → input_by medium contexts v phase i ≡ input_by medium contexts w phase i
+  input_same : (phase : Phase) → ((needed : Phase) (j : ℕ) → Needs contexts (record { context = i; phase = phase }) (record { context = j; phase = needed }) → value_by v needed j ≡ value_by w needed j) → input_of medium contexts v (record { context = i; phase = phase }) ≡ input_of medium contexts w (record { context = i; phase = phase })
   input_same Measure same =
       let inner : inner_widths contexts v.widths i ≡ inner_widths contexts w.widths i =
       widths_same v.widths w.widths (flow_numbers contexts i) (λ k lt some. (let j : ℕ = slice_index (flow_numbers contexts i) k in
@@ -148,7 +149,7 @@ module _ (medium : Medium) (contexts : List FormattingContext) (v w : Workings) 
       let position = position_by (is_absolute contexts i) refl (λ j needs. size_value (sizes_in v.sizes j) (sizes_in w.sizes j) (same Size j needs))
       (λ j needs. place_value (placed_in v.places j) (placed_in w.places j) (same Place j needs)) in
       placed_same medium contexts i (sizes_in v.sizes i) (sizes_in w.sizes i) (inner_boxes contexts v.places i) (inner_boxes contexts w.places i) (inner_pieces contexts v.places i) (inner_pieces contexts w.places i)
-      (own_place_of medium.viewport contexts v.sizes v.places i) (own_place_of medium.viewport contexts w.sizes w.places i) sizes inner pieces position
+      (own_place_of medium.viewport contexts v i) (own_place_of medium.viewport contexts w i) sizes inner pieces position
 
 pub inputs_come_of_needs_lem : InputsComeOfNeeds
 inputs_come_of_needs_lem medium contexts v w task are within same =

@@ -12,7 +12,7 @@ use Rattle.lay_context.specs.declared.task.Phase.TheVariants.{Measure, Size, Pla
 use Rattle.lay_context.specs.declared.task.Task.{Task}
 use Rattle.lay_context.specs.DocumentLayout.{flow_number}
 use Rattle.lay_context.specs.Laws.{NeedsComeFirst}
-use Rattle.lay_context.specs.Needs.{IsInsideFlow, IsOnWayOf, needs_by, round_start, turn_by}
+use Rattle.lay_context.specs.Needs.{IsInsideFlow, IsOnWayOf, Needs, round_start, turn_by}
 
 abbrev task : ℕ → Phase → Task
 task i phase = record { context = i; phase = phase }
@@ -92,7 +92,7 @@ module _ (contexts : List FormattingContext) (levels : List ℕ) (are : AreForma
   sizes_lower : (i j x y : ℕ) → level j < level i → x < n + n → round_start n (level j) + x < round_start n (level i) + y
   sizes_lower i j x y lt within = let e = lower (level j) (level i) (n + n) x y lt within in omega (arith, e)
 
-  pub before : (phase : Phase) (i : ℕ) → i < n → (needed : Phase) (j : ℕ) → needs_by contexts phase i needed j → IsBefore phase i needed j
+  pub before : (phase : Phase) (i : ℕ) → i < n → (needed : Phase) (j : ℕ) → Needs contexts (record { context = i; phase = phase }) (record { context = j; phase = needed }) → IsBefore phase i needed j
   before Measure i lt Measure j needs =
       let inside = inner_level i j lt needs in
       record { within = inside.1; earlier = omega (arith, inside.0, inside.1) }

@@ -15,7 +15,8 @@ use Rattle.lay_context.specs.declared.value.Value.{Value}
 use Rattle.lay_context.specs.declared.value.Value.TheVariants as value
 use Rattle.lay_context_sizes.specs.ContextSizes.{SizedContext}
 use Rattle.lay_context.specs.DocumentLayout.{widths_in}
-use Rattle.lay_context.specs.Local.{HasCounts, Workings, IsLocal, IsTaskDone, flow_input, input_by, input_of, measure_input, size_input, stand_input, table_input, value_by, value_of, with_value}
+use Rattle.lay_context.specs.Local.{HasCounts, IsLocal, IsTaskDone, flow_input, input_of, measure_input, size_input, stand_input, table_input, value_by, value_of, with_value}
+use Rattle.lay_context.specs.Workings.{Workings}
 use Rattle.lay_context.specs.Measured.{is_measured}
 use Rattle.lay_context.specs.Medium.{Medium}
 use Rattle.lay_context.specs.Needs.{round_start, turn_of}
@@ -57,7 +58,7 @@ places_length xs i x = grind (arith, elements)
 
 module _ (medium : Medium) (contexts : List FormattingContext) (w : Workings) where
   -- the value of the task itself
-  here : (phase : Phase) (i : ℕ) (v : Value) → i < length contexts → HasCounts contexts w → IsLocal (input_by medium contexts w phase i) v → value_by (with_value w i v) phase i ≡ v
+  here : (phase : Phase) (i : ℕ) (v : Value) → i < length contexts → HasCounts contexts w → IsLocal (input_of medium contexts w (record { context = i; phase = phase })) v → value_by (with_value w i v) phase i ≡ v
   here Measure i (value.Measure m) lt counts local = ap value.Measure (widths_here w.widths i m (omega (arith, counts.widths)))
   here Measure i (value.Size z) lt counts local = absurd (measured_not_sized (is_measured contexts i) (measure_input medium contexts w i) z local)
   here Measure i (value.Place p) lt counts local = absurd (measured_not_placed (is_measured contexts i) (measure_input medium contexts w i) p local)
@@ -69,7 +70,7 @@ module _ (medium : Medium) (contexts : List FormattingContext) (w : Workings) wh
   here Place i (value.Place p) lt counts local = ap value.Place (places_here w.places i p (omega (arith, counts.places)))
 
   -- that of another one
-  other : (phase : Phase) (i : ℕ) (v : Value) → IsLocal (input_by medium contexts w phase i) v → (q : Phase) (j : ℕ) → ((phase ≡ q) → i ≢ j) → value_by (with_value w i v) q j ≡ value_by w q j
+  other : (phase : Phase) (i : ℕ) (v : Value) → IsLocal (input_of medium contexts w (record { context = i; phase = phase })) v → (q : Phase) (j : ℕ) → ((phase ≡ q) → i ≢ j) → value_by (with_value w i v) q j ≡ value_by w q j
   other Measure i (value.Measure m) local Measure j differ = ap value.Measure (widths_other w.widths i j m (differ refl))
   other Measure i (value.Measure m) local Size j differ = refl
   other Measure i (value.Measure m) local Place j differ = refl

@@ -7,7 +7,7 @@ use Rattle.lay_frag.specs.Pieces.{Context as PageContext, frags_of, page_pieces,
 use Rattle.lay_frag.proofs.PieceLemmas.{length-page_pieces}
 use Rattle.lay_formatting.specs.FormattingContexts.{FormattingContext, formatting_context_at}
 use Rattle.lay_pieces.specs.declared.corner.Corner.{Corner}
-use Rattle.lay_context.specs.Local.{Workings}
+use Rattle.lay_context.specs.Workings.{Workings}
 use Rattle.lay_context.specs.Solves.{page_context, page_contexts}
 
 -- the tree is this one, its contexts are in range, and they have so many pieces, fewer than 2^32

@@ -11,7 +11,8 @@ use Rattle.lay_context.specs.declared.input.Input.{Input}
 use Rattle.lay_context.specs.declared.input.Input.TheVariants as input
 use Rattle.lay_context.specs.declared.task.Task.{Task}
 use Rattle.lay_context.specs.declared.value.Value.{Value}
-use Rattle.lay_context.specs.Local.{IsLocal, Workings, input_of, value_of}
+use Rattle.lay_context.specs.Local.{IsLocal, input_of, value_of}
+use Rattle.lay_context.specs.Workings.{Workings}
 use Rattle.lay_context.specs.Measured.{ShrinksOutward, is_measured}
 use Rattle.lay_context.specs.Medium.{Medium}
 use Rattle.lay_context.specs.Needs.{Needs, turn_of}

@@ -13,3 +13,4 @@ pub mod Settings
 pub mod Settling
 pub mod Solves
 pub mod StandInputs
+pub mod Workings

@@ -3,7 +3,6 @@
 -- alone.
 use Rattle.std.specs.Prelude.{ℕ, ◌≡◌, Bool, true, false, List, length, slice_set, Option, None, Some, option_map}
 use Rattle.lay_measure.specs.MeasureInValue.{no_widths}
-use Rattle.lay_measure.specs.declared.preferred_widths.PreferredWidths.{PreferredWidths}
 use Rattle.lay_table_sizes.specs.TableSizesValue.{TableSizesValue}
 use Rattle.lay_formatting.specs.FormattingContexts.{FormattingContext, boxes_in}
 use Rattle.lay_flow_boxes.specs.PlaceInputs.{PlaceInput}
@@ -17,7 +16,7 @@ use Rattle.lay_context.specs.declared.input.Input.{Input}
 use Rattle.lay_context.specs.declared.input.Input.TheVariants as input
 use Rattle.lay_context.specs.declared.value.Value.{Value}
 use Rattle.lay_context.specs.declared.value.Value.TheVariants as value
-use Rattle.lay_context_sizes.specs.ContextSizes.{SizedContext, HasSizes}
+use Rattle.lay_context_sizes.specs.ContextSizes.{HasSizes}
 use Rattle.lay_context_sizes.specs.ContextWidths.{HasWidths}
 use Rattle.lay_context.specs.DocumentLayout.{inner_boxes, inner_pieces, inner_widths, widths_in}
 use Rattle.lay_context_sizes.specs.Inputs.{MeasureInput, SizeInput}
@@ -25,8 +24,9 @@ use Rattle.lay_context.specs.Measured.{is_measured}
 use Rattle.lay_context.specs.Medium.{Medium}
 use Rattle.lay_context.specs.OwnHeights.{own_height_rule}
 use Rattle.lay_context.specs.OwnOffsets.{IsOwnOffset, StandInput}
-use Rattle.lay_context.specs.PlacedContexts.{PlacedContext, placed_in}
+use Rattle.lay_context.specs.PlacedContexts.{placed_in}
 use Rattle.lay_context.specs.Settings.{own_place_of, setting_of, sizes_in}
+use Rattle.lay_context.specs.Workings.{Workings}
 
 -- a value is right beside what its task is given
 abbrev pub IsLocal : Input → Value → Type 0
@@ -36,12 +36,6 @@ IsLocal (input.Size i) (value.Size sizes) = HasSizes i sizes
 IsLocal (input.Place i at) (value.Place answer) = IsPlacement i answer.placement × IsOwnOffset at answer.placement.own answer.offset
 IsLocal (input.PlaceTable i at) (value.Place answer) = IsTablePlacement i answer.placement × IsOwnOffset at answer.placement.own answer.offset
 IsLocal _ _ = ⊥
-
--- columns of values, with one for each formatting context
-pub record Workings : Type 0 where
-  pub widths : List PreferredWidths
-  pub sizes : List SizedContext
-  pub places : List PlacedContext
 
 -- there are as many of each
 pub record HasCounts (contexts : List FormattingContext) (w : Workings) : Type 0 where
@@ -62,7 +56,7 @@ abbrev pub size_input : Medium → List FormattingContext → Workings → ℕ �
 size_input medium contexts w i = record {
   boxes = boxes_in contexts i;
   widths = widths_in w.widths i;
-  setting = setting_of medium.viewport contexts w.sizes w.places i;
+  setting = setting_of medium.viewport contexts w i;
 }
 
 -- what the placement of boxes in block flow is given
@@ -92,7 +86,7 @@ stand_input medium contexts w i = record {
   boxes = boxes_in contexts i;
   sizes = (sizes_in w.sizes i).boxes;
   left = (sizes_in w.sizes i).left;
-  position = own_place_of medium.viewport contexts w.sizes w.places i;
+  position = own_place_of medium.viewport contexts w i;
 }
 
 abbrev pub place_as : PlaceInput → Option TableInput → StandInput → Input
@@ -103,14 +97,14 @@ abbrev pub place_input : Medium → List FormattingContext → Workings → ℕ 
 place_input medium contexts w i =
     place_as (flow_input medium contexts w i) (option_map (table_input contexts w i) (sizes_in w.sizes i).table) (stand_input medium contexts w i)
 
-abbrev pub input_by : Medium → List FormattingContext → Workings → Phase → ℕ → Input
-input_by medium contexts w phase.Measure i = measure_as (is_measured contexts i) (measure_input medium contexts w i)
-input_by medium contexts w phase.Size i = input.Size (size_input medium contexts w i)
-input_by medium contexts w phase.Place i = place_input medium contexts w i
-
 -- what a task is given, from these values
 abbrev pub input_of : Medium → List FormattingContext → Workings → Task → Input
-input_of medium contexts w task = input_by medium contexts w task.phase task.context
+input_of medium contexts w task = by task.phase
+  where
+    by : Phase → Input
+    by phase.Measure = measure_as (is_measured contexts task.context) (measure_input medium contexts w task.context)
+    by phase.Size = input.Size (size_input medium contexts w task.context)
+    by phase.Place = place_input medium contexts w task.context
 
 abbrev pub value_by : Workings → Phase → ℕ → Value
 value_by w phase.Measure i = value.Measure (widths_in w.widths i)

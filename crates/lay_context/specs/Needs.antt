@@ -30,20 +30,20 @@ pub record IsAround (contexts : List FormattingContext) (i j : ℕ) : Type 0 whe
   pub some : 0 < i
   pub is : j ≡ (formatting_context_at contexts i).outer
 
-abbrev pub needs_by : List FormattingContext → Phase → ℕ → Phase → ℕ → Type 0
-needs_by contexts Measure i Measure j = IsInsideFlow contexts i j
-needs_by contexts Measure i Size j = ⊥
-needs_by contexts Measure i Place j = ⊥
-needs_by contexts Size i Measure j = j ≡ i
-needs_by contexts Size i Size j = IsAround contexts i j ⊎ IsOnWayOf contexts i j
-needs_by contexts Size i Place j = IsOnWayOf contexts i j
-needs_by contexts Place i Measure j = ⊥
-needs_by contexts Place i Size j = (j ≡ i) ⊎ IsOnWayOf contexts i j
-needs_by contexts Place i Place j = IsInsideFlow contexts i j ⊎ IsOnWayOf contexts i j
-
 -- the first task needs the value of the second
 abbrev pub Needs : List FormattingContext → Task → Task → Type 0
-Needs contexts task needed = needs_by contexts task.phase task.context needed.phase needed.context
+Needs contexts task needed = by task.phase needed.phase
+  where
+    by : Phase → Phase → Type 0
+    by Measure Measure = IsInsideFlow contexts task.context needed.context
+    by Measure Size = ⊥
+    by Measure Place = ⊥
+    by Size Measure = needed.context ≡ task.context
+    by Size Size = IsAround contexts task.context needed.context ⊎ IsOnWayOf contexts task.context needed.context
+    by Size Place = IsOnWayOf contexts task.context needed.context
+    by Place Measure = ⊥
+    by Place Size = (needed.context ≡ task.context) ⊎ IsOnWayOf contexts task.context needed.context
+    by Place Place = IsInsideFlow contexts task.context needed.context ⊎ IsOnWayOf contexts task.context needed.context
 
 -- the first turn of the round of a level, of n formatting contexts
 abbrev pub round_start : (n level : ℕ) → ℕ

@@ -10,7 +10,7 @@ use Rattle.lay_sizes.specs.declared.sizing.BoxSizes.{BoxSizes}
 use Rattle.lay_formatting.specs.FormattingContexts.{FormattingContext}
 use Rattle.lay_context_sizes.specs.ContextSizes.{SizedContext}
 use Rattle.lay_context.specs.declared.task.Task.{Task}
-use Rattle.lay_context.specs.Local.{Workings}
+use Rattle.lay_context.specs.Workings.{Workings}
 use Rattle.lay_context.specs.Settling.{AreOfBoxes, IsReady}
 
 AreOfBoxes-prop : (boxes : List BoxNode) (sized : SizedContext) → IsProp (AreOfBoxes boxes sized)

@@ -17,7 +17,8 @@ use Rattle.lay_positioned.specs.Absolute.{is_absolute}
 use Rattle.lay_positioned.specs.Layouts.{Layout}
 use Rattle.lay_positioned.specs.Settings.{absolute_setting}
 use Rattle.lay_context_sizes.specs.ContextSizes.{SizedContext, not_sized}
-use Rattle.lay_context.specs.PlacedContexts.{PlacedContext, placed_in, placement_in}
+use Rattle.lay_context.specs.PlacedContexts.{placed_in, placement_in}
+use Rattle.lay_context.specs.Workings.{Workings}
 use Rattle.lay_context.specs.declared.own_place.OwnPlace.{OwnPlace}
 use Rattle.lay_context.specs.declared.own_place.OwnPlace.TheVariants as own_place
 use Rattle.lay_context_sizes.specs.declared.setting.Setting.{Setting}
@@ -64,24 +65,24 @@ flow_setting viewport contexts sizes (suc i) =
     setting_in (boxes_in contexts c.outer) (sizes_in sizes c.outer) c.outer_box
 
 -- what is known of the formatting contexts, by their numbers
-abbrev pub laid : List SizedContext → List PlacedContext → ℕ → Layout
-laid sizes places i = record {
-  sizes = (sizes_in sizes i).boxes;
-  standings = (placement_in places i).standings;
-  offset = (placed_in places i).offset;
+abbrev pub laid : Workings → ℕ → Layout
+laid w i = record {
+  sizes = (sizes_in w.sizes i).boxes;
+  standings = (placement_in w.places i).standings;
+  offset = (placed_in w.places i).offset;
 }
 
-abbrev pub setting_of : ContainingBlock → List FormattingContext → List SizedContext → List PlacedContext → ℕ → Setting
-setting_of viewport contexts sizes places i =
-    if is_absolute contexts i then Absolute (absolute_setting viewport contexts (laid sizes places) i)
-    else flow_setting viewport contexts sizes i
+abbrev pub setting_of : ContainingBlock → List FormattingContext → Workings → ℕ → Setting
+setting_of viewport contexts w i =
+    if is_absolute contexts i then Absolute (absolute_setting viewport contexts (laid w) i)
+    else flow_setting viewport contexts w.sizes i
 
 -- what says where the formatting context with this number stands
 abbrev pub flow_place : ContainingBlock → ℕ → OwnPlace
 flow_place viewport zero = own_place.Root viewport
 flow_place viewport (suc i) = own_place.Inner
 
-abbrev pub own_place_of : ContainingBlock → List FormattingContext → List SizedContext → List PlacedContext → ℕ → OwnPlace
-own_place_of viewport contexts sizes places i =
-    if is_absolute contexts i then own_place.Absolute (absolute_setting viewport contexts (laid sizes places) i)
+abbrev pub own_place_of : ContainingBlock → List FormattingContext → Workings → ℕ → OwnPlace
+own_place_of viewport contexts w i =
+    if is_absolute contexts i then own_place.Absolute (absolute_setting viewport contexts (laid w) i)
     else flow_place viewport i

@@ -7,7 +7,8 @@ use Rattle.lay_context.specs.declared.task.Phase.TheVariants.{Size}
 use Rattle.lay_context.specs.declared.task.Task.{Task}
 use Rattle.lay_context.specs.declared.value.Value.{Value}
 use Rattle.lay_context_sizes.specs.ContextSizes.{SizedContext}
-use Rattle.lay_context.specs.Local.{HasCounts, Workings, IsLocal, IsTaskDone, input_of, with_value}
+use Rattle.lay_context.specs.Local.{HasCounts, IsLocal, IsTaskDone, input_of, with_value}
+use Rattle.lay_context.specs.Workings.{Workings}
 use Rattle.lay_context.specs.Medium.{Medium}
 use Rattle.lay_context.specs.Needs.{Needs, turn_of}
 use Rattle.lay_context.specs.PlacedContexts.{placement_in}

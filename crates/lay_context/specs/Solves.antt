@@ -26,7 +26,8 @@ use Rattle.lay_table_sizes.specs.declared.cell_size.CellSize.{CellSize}
 use Rattle.lay_pieces.specs.declared.corner.Corner.{Corner}
 use Rattle.lay_pieces.specs.Corners.{corner_at}
 use Rattle.lay_context.specs.declared.task.Task.{Task}
-use Rattle.lay_context.specs.Local.{HasCounts, IsTaskDone, Workings}
+use Rattle.lay_context.specs.Local.{HasCounts, IsTaskDone}
+use Rattle.lay_context.specs.Workings.{Workings}
 use Rattle.lay_context.specs.Medium.{Medium}
 use Rattle.lay_context.specs.PageCorners.{HasPageCorners, standing_of}
 use Rattle.lay_context.specs.PlacedContexts.{placed_in, placement_in}

@@ -29,7 +29,7 @@ pub(crate) struct Known {
 
 impl Model for Known {
     ghost use Rattle.std.specs.Prelude.{◌≡◌, length};
-    ghost use Rattle.lay_context.specs.Local.{Workings};
+    ghost use Rattle.lay_context.specs.Workings.{Workings};
 
     ghost Value = { Workings };
 
@@ -113,7 +113,7 @@ fn not_placed(alloc: Global, no_pieces: &Arc<Pieces>) -> Result<PlacedContext, N
 }
 
 impl Layouts for Known {
-    ghost laid = { λ k. laid k.sizes k.places };
+    ghost laid = { λ k. laid k };
 
     ghost count = { λ k. length k.sizes };
 

@@ -24,7 +24,7 @@ use lay_units::{Len, NoMemory};
 /// The setting of the own box of a formatting context. NoMemory is the answer where formatting contexts on the way to its
 /// containing block are more than 2^60 units from another, which they are in no document within the limits.
 pub(crate) fn setting_of(medium: &Medium, ready: &ReadyToSize<'_>) -> Result<Setting, NoMemory>
-    ensures setting { IfOk result (λ s. s ≡ setting_of medium.now.viewport ready.now.at.contexts.now ready.now.at.known.now.sizes ready.now.at.known.now.places ready.now.at.number) }
+    ensures setting { IfOk result (λ s. s ≡ setting_of medium.now.viewport ready.now.at.contexts.now ready.now.at.known.now ready.now.at.number) }
     ensures fits { IfOk result OwnSettingFits }
 {
     if is_absolute(ready.at.contexts, ready.at.number) {
@@ -35,7 +35,7 @@ pub(crate) fn setting_of(medium: &Medium, ready: &ReadyToSize<'_>) -> Result<Set
 
 /// What says where a formatting context stands. NoMemory is the answer as for its setting.
 pub(crate) fn own_place_of(medium: &Medium, at: &KnownContext<'_>) -> Result<OwnPlace, NoMemory>
-    ensures position { IfOk result (λ p. p ≡ own_place_of medium.now.viewport at.now.contexts.now at.now.known.now.sizes at.now.known.now.places at.now.number) }
+    ensures position { IfOk result (λ p. p ≡ own_place_of medium.now.viewport at.now.contexts.now at.now.known.now at.now.number) }
     ensures fits { IfOk result OwnPlaceFits }
 {
     if is_absolute(at.contexts, at.number) {
@@ -49,7 +49,7 @@ pub(crate) fn own_place_of(medium: &Medium, at: &KnownContext<'_>) -> Result<Own
 
 /// What an absolutely positioned one is given.
 fn absolute_setting(medium: &Medium, at: &KnownContext<'_>) -> Result<AbsoluteSetting, NoMemory>
-    ensures setting { IfOk result (λ s. s ≡ absolute_setting medium.now.viewport at.now.contexts.now (laid at.now.known.now.sizes at.now.known.now.places) at.now.number) }
+    ensures setting { IfOk result (λ s. s ≡ absolute_setting medium.now.viewport at.now.contexts.now (laid at.now.known.now) at.now.number) }
     ensures fits { IfOk result SettingFits }
 {
     setting(medium.viewport(), at.contexts, at.known, at.number)
