@@ -1,6 +1,6 @@
 //! The values of a layout's tasks, as far as they are known.
 
-ghost use Rattle.std.specs.Prelude.{◌≡◌, ◌<◌, [], length, replicate, IfOk};
+ghost use Rattle.std.specs.Prelude.{◌≡◌, ◌<◌, [], length, IfOk};
 ghost use Rattle.lay_context.specs.DocumentLayout.{widths_in};
 ghost use Rattle.lay_context.specs.PlacedContexts.{not_placed, placed_in};
 ghost use Rattle.lay_context.specs.Local.{with_value};

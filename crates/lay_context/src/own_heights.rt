@@ -1,9 +1,9 @@
 //! How high the own box of a formatting context is to be.
 
-ghost use Rattle.std.specs.Prelude.{◌≡◌, ◌<◌, length, slice_get};
+ghost use Rattle.std.specs.Prelude.{◌≡◌, ◌<◌, length};
 ghost use Rattle.lay_sizes.specs.SizeBounds.{SizeFits};
 ghost use Rattle.lay_flow_boxes.specs.PlaceInputs.{HeightRuleFits, height_rule_of};
-ghost use Rattle.lay_context.specs.OwnHeights.{height_of_content, height_rule_as, own_height_rule};
+ghost use Rattle.lay_context.specs.OwnHeights.{height_rule_as, own_height_rule};
 
 use lay_box_tree::BoxKind;
 use lay_context_boxes::ContextBoxes;

@@ -1,7 +1,6 @@
 //! What is given of where a formatting context stands itself.
 
 ghost use Rattle.std.specs.Prelude.{◌≡◌};
-ghost use Rattle.lay_context_boxes.specs.ContextBoxes.{AreContextBoxes};
 ghost use Rattle.lay_context.specs.OwnOffsets.{StandInput as Plain};
 ghost use Rattle.lay_context.specs.StandInputs.{StandInputFits};
 
