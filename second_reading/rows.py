@@ -81,7 +81,7 @@ class Rows:
             heights.append(height)
         if heights:
             heights[-1] += max(0, self.least_height - sum(heights) - self.spacing * (self.count + 1))
-        return heights
+        return [size_within_limit(height) for height in heights]
 
     # -- places
 
@@ -97,7 +97,7 @@ class Rows:
         """The content height of the table."""
         if not self.heights:
             return self.least_height
-        return self.tops[-1] - self.table.border.top - self.table.padding.top
+        return size_within_limit(self.tops[-1] - self.table.border.top - self.table.padding.top)
 
     def bottom(self, row):
         return self.tops[row] + self.heights[row]
