@@ -186,11 +186,15 @@ def segments_of(parts):
 # -- what is seen, 9.4.2
 
 def is_seen(part, edges_of=used_edges):
-    """A line with this part is seen: text, preserved white space, an atomic box, or an edge of an inline box, not 0."""
+    """A line with this part is seen: text, preserved white space, an atomic box, or an edge of an inline box, not 0.
+
+    Edges above and below count where the box starts. Further lines that it is on are seen too, but nothing of it stands
+    before a float there.
+    """
     if isinstance(part, Cluster):
         return part.kind != 'space'
     box = part.box
-    if isinstance(part, Atomic) or has_vertical_edges(box, edges_of):
+    if isinstance(part, Atomic) or isinstance(part, Start) and has_vertical_edges(box, edges_of):
         return True
     side, has_side = ('left', box.is_first) if isinstance(part, Start) else ('right', box.is_last)
     return has_side and any(getattr(edges, side) for edges in edges_of(box))

@@ -93,7 +93,7 @@ MISTAKES = {
         ('a float behind a linefeed stands before it', 'elif before and not before.is_forced:', 'elif before:'),
         ('a float behind the edge of an inline box is in the segment',
          'if current.has_content():', 'if current.parts:'),
-        ('a margin above an inline box says nothing', ' or has_vertical_edges(box, edges_of)', ''),
+        ('a margin above an inline box says nothing', ' or isinstance(part, Start) and has_vertical_edges(box, edges_of)', ''),
         ('the left edge of a later part is seen', 'return has_side and any(', 'return any('),
         ('stops are 8 spaces of 16px apart', "face.advance(' ', box.style['font-size'])", "face.advance(' ', 1024)"),
     ],
