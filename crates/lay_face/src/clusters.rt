@@ -9,6 +9,7 @@ ghost use Rattle.std.specs.Prelude.{
   IfOk,
   OnOk,
   IsTrue,
+  ◌↔◌,
   List,
   [],
   ◌∷◌,
@@ -57,7 +58,7 @@ impl Face {
     {
         let setting = Setting { size, letter, word };
         let bytes = text.as_bytes();
-        if plain(bytes) {
+        if is_plain(bytes) {
             return self.plain_widths(alloc, bytes, setting);
         }
         let mut widths = Vec::new(alloc);
@@ -89,7 +90,7 @@ impl Face {
         Ok(WidthList::new(widths))
     }
 
-    /// The width of a character of a plain text.
+    /// The width of a character of a plain text, in 1/64 px: below 2^62 units in absolute value, and 0 for a linefeed.
     pub fn plain_width(&self, byte: u8, setting: Setting) -> Unit
         requires setting { SettingFits self.now setting }
         requires width { IsPosition (plain_width_of self.now setting byte) }
@@ -174,9 +175,9 @@ fn is_word_space(c: char) -> bool
     c == ' ' || c == '\u{a0}'
 }
 
-/// Whether each byte is ASCII and none is a CR.
-pub fn plain(text: &[u8]) -> bool
-    ensures { IsTrue result → IsPlain text.now }
+/// Whether each byte is ASCII and none is a CR, so that each is a grapheme cluster.
+pub fn is_plain(text: &[u8]) -> bool
+    ensures { IsTrue result ↔ IsPlain text.now }
 {
     for k in 0..text.len() {
         if text[k] > 127 || text[k] == b'\r' {

@@ -11,7 +11,7 @@ use crate::gathered::gathered;
 use crate::open_boxes::push_item;
 use crate::plain_texts::plain_gathered;
 use lay_box_tree::BoxNode;
-use lay_face::{Face, Setting, plain};
+use lay_face::{Face, Setting, is_plain};
 use lay_space::{Item, ItemList};
 use lay_style::TextStyle;
 use lay_units::{MOST_TEXT, NoMemory, Unit, WidthList, clamp, clamp_size};
@@ -94,7 +94,7 @@ fn text_widths(
     let set = setting_of(style);
     face.widths_fit(text, set.size, set.letter, set.word);
     let bytes = text.as_bytes();
-    if plain(bytes) {
+    if is_plain(bytes) {
         return plain_gathered(alloc, face, set, bytes);
     }
     let widths = face.cluster_widths(alloc, text, set.size, set.letter, set.word)?;
