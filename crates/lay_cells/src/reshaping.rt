@@ -138,27 +138,34 @@ fn take_over<W: Work>(
     }
 }
 
+/// Where the cells of a new shape come from: the places of the old ones by their keys, and the keys whose cells take
+/// nothing over.
+#[derive(Drop)]
+struct Origins<'a, W: Work> {
+    index: &'a BTreeMap<W::Key, usize>,
+    fresh: &'a BTreeSet<W::Key>,
+}
+
 /// The cell at a place takes over what is kept under its key, or takes the next number. The greatest
 /// number that is drawn then.
 fn settle_at<W: Work>(
     cells: &mut Vec<Cell<W::Key, W::Input, Done<W>>>,
     place: usize,
     old: &mut Vec<Cell<W::Key, W::Input, Done<W>>>,
-    index: &BTreeMap<W::Key, usize>,
-    fresh: &BTreeSet<W::Key>,
+    origins: &Origins<'_, W>,
     draws: u64,
 ) -> u64
     requires wired { HasIndex W.Key.cmp (map wire_of cells.old.items) }
     requires within { place < length cells.old.items }
-    requires old_wired { IsWired W.Key.cmp index.now (map wire_of old.old.items) }
+    requires old_wired { IsWired W.Key.cmp origins.now.index.now (map wire_of old.old.items) }
     requires few { draws < 2 ^ 64 - 1 }
-    ensures rows { Settles (map row_of old.old.items) (λ k. contains W.Key.cmp fresh.now k ≡ true) (map row_of cells.old.items) place draws
+    ensures rows { Settles (map row_of old.old.items) (λ k. contains W.Key.cmp origins.now.fresh.now k ≡ true) (map row_of cells.old.items) place draws
         (map row_of cells.new.items) (map row_of old.new.items) result }
     ensures wires { map wire_of cells.new.items ≡ map wire_of cells.old.items }
     ensures old_wires { map wire_of old.new.items ≡ map wire_of old.old.items }
 {
     let key = cell_at::<W>(cells.as_slice(), place).key;
-    match carried_from::<W>(old.as_slice(), index, fresh, key) {
+    match carried_from::<W>(old.as_slice(), origins.index, origins.fresh, key) {
         Some(from) => {
             take_over::<W>(cells, place, old, from);
             draws
@@ -188,9 +195,10 @@ pub fn settle_all<W: Work>(
         (map entry_of (map row_of cells.old.items)) (map row_of cells.new.items) result }
     ensures wires { map wire_of cells.new.items ≡ map wire_of cells.old.items }
 {
+    let origins = Origins::<W> { index, fresh };
     let mut drawn = draws;
     for place in 0..cells.len() {
-        drawn = settle_at::<W>(cells, place, old, index, fresh, drawn);
+        drawn = settle_at::<W>(cells, place, old, &origins, drawn);
     }
     drawn
 }
