@@ -5,14 +5,13 @@ use Rattle.std.proofs.lemmas.Grind.{elements}
 use Rattle.lay_formatting.specs.FormattingContexts.{FormattingContext, AreFormattingContexts, formatting_context_at}
 use Rattle.lay_pieces.specs.Corners.{AreNearCorners, IsCornerNear, corner_at}
 use Rattle.lay_pieces.specs.declared.corner.Corner.{Corner}
-use Rattle.lay_context.specs.PlacedContexts.{PlacedContext}
+use Rattle.lay_context.specs.PlacedContexts.{PlacedContext, placed_in}
 use Rattle.lay_context.specs.PageCorners.{HasPageCorners, inner_corner}
 
--- those before n have their corners
-pub record PageCornersTo (root : Corner) (contexts : List FormattingContext) (places : List PlacedContext) (corners : List Corner) (n : ℕ) : Type 0 where
-  pub count : length corners ≡ n
-  pub first : 0 < n → corner_at corners 0 ≡ root
-  pub inner : (i : ℕ) → 0 < i → i < n → corner_at corners i ≡ inner_corner contexts places corners i
+-- these are the corners of the first ones
+pub record PageCornersTo (contexts : List FormattingContext) (places : List PlacedContext) (corners : List Corner) : Type 0 where
+  pub first : 0 < length corners → corner_at corners 0 ≡ (placed_in places 0).offset
+  pub inner : (i : ℕ) → 0 < i → i < length corners → corner_at corners i ≡ inner_corner contexts places corners i
 
 read_before : (cs : List Corner) (c : Corner) (k : ℕ) → k < length cs → corner_at (cs ++ c ∷ []) k ≡ corner_at cs k
 read_before cs c k lt = grind (arith, elements)
@@ -26,21 +25,22 @@ inner_before contexts places cs c are i some within le =
     let outer = are.outer i some within in
     rw (read_before cs c (formatting_context_at contexts i).outer (omega (arith, outer, le))) refl
 
-pub one_more : (root : Corner) (contexts : List FormattingContext) (places : List PlacedContext) (cs : List Corner) (n : ℕ) (c : Corner) → AreFormattingContexts contexts → n < length contexts
-    → PageCornersTo root contexts places cs n → (n ≡ 0 → c ≡ root) → (0 < n → c ≡ inner_corner contexts places cs n) → PageCornersTo root contexts places (cs ++ c ∷ []) (n + 1)
-one_more root contexts places cs n c are within so_far first inner = record {
-  count = grind (arith, elements, so_far.count);
-  first = λ some. elim (cases_lt 0 n) [
-    | inl low ↦ read_before cs c 0 (omega (arith, low, so_far.count)) ∙ so_far.first low
-    | inr high ↦ (let q : n ≡ 0 = omega (arith, high) in read_last cs c 0 (omega (arith, q, so_far.count)) ∙ first q)
-  ];
-  inner = λ i some lt. elim (cases_lt i n) [
-    | inl low ↦ read_before cs c i (omega (arith, low, so_far.count)) ∙ so_far.inner i some low ∙ sym (inner_before contexts places cs c are i some (omega (arith, low, within)) (omega (arith, low, so_far.count)))
-    | inr high ↦ (let q : i ≡ n = omega (arith, high, lt) in
-        let more : 0 < n = omega (arith, q, some) in
-        rw q (read_last cs c n (sym so_far.count) ∙ inner more ∙ sym (inner_before contexts places cs c are n more within (omega (arith, so_far.count)))))
-  ];
-}
+pub one_more : (contexts : List FormattingContext) (places : List PlacedContext) (cs : List Corner) (c : Corner) → AreFormattingContexts contexts → length cs < length contexts
+    → PageCornersTo contexts places cs → (length cs ≡ 0 → c ≡ (placed_in places 0).offset) → (0 < length cs → c ≡ inner_corner contexts places cs (length cs)) → PageCornersTo contexts places (cs ++ c ∷ [])
+one_more contexts places cs c are within so_far first inner =
+    let counted = length-append cs (c ∷ []) in
+    record {
+      first = λ some. elim (cases_lt 0 (length cs)) [
+        | inl low ↦ read_before cs c 0 low ∙ so_far.first low
+        | inr high ↦ (let q : length cs ≡ 0 = omega (arith, high) in read_last cs c 0 (sym q) ∙ first q)
+      ];
+      inner = λ i some lt. elim (cases_lt i (length cs)) [
+        | inl low ↦ read_before cs c i low ∙ so_far.inner i some low ∙ sym (inner_before contexts places cs c are i some (omega (arith, low, within)) (omega (arith, low)))
+        | inr high ↦ (let q : i ≡ length cs = omega (arith, high, lt, counted) in
+            let more : 0 < length cs = omega (arith, q, some) in
+            rw q (read_last cs c (length cs) refl ∙ inner more ∙ sym (inner_before contexts places cs c are (length cs) more within (omega arith))))
+      ];
+    }
 
 pub one_more_near : (cs : List Corner) (c : Corner) → AreNearCorners cs → IsCornerNear c → AreNearCorners (cs ++ c ∷ [])
 one_more_near cs c near more i lt = elim (cases_lt i (length cs)) [
@@ -48,10 +48,10 @@ one_more_near cs c near more i lt = elim (cases_lt i (length cs)) [
   | inr high ↦ (let counted = length-append cs (c ∷ []) in rw (read_last cs c i (omega (arith, high, lt, counted))) more)
 ]
 
-pub all_corners : (root : Corner) (contexts : List FormattingContext) (places : List PlacedContext) (cs : List Corner) (n : ℕ) → n ≡ length contexts
-    → PageCornersTo root contexts places cs n → HasPageCorners root contexts places cs
-all_corners root contexts places cs n e so_far = record {
-  count = so_far.count ∙ e;
+pub all_corners : (contexts : List FormattingContext) (places : List PlacedContext) (cs : List Corner) → length cs ≡ length contexts
+    → PageCornersTo contexts places cs → HasPageCorners contexts places cs
+all_corners contexts places cs e so_far = record {
+  count = e;
   first = λ some. so_far.first (omega (arith, e, some));
   inner = λ i some lt. so_far.inner i some (omega (arith, e, lt));
 }

@@ -8,7 +8,7 @@ use Rattle.lay_pieces.specs.declared.corner.Corner.{Corner}
 use Rattle.lay_context.specs.PlacedContexts.{PlacedContext}
 use Rattle.lay_context.specs.PageCorners.{HasPageCorners, inner_corner}
 
-module _ (root : Corner) (contexts : List FormattingContext) (places : List PlacedContext) (are : AreFormattingContexts contexts) (x y : List Corner) (a : HasPageCorners root contexts places x) (b : HasPageCorners root contexts places y) where
+module _ (contexts : List FormattingContext) (places : List PlacedContext) (are : AreFormattingContexts contexts) (x y : List Corner) (a : HasPageCorners contexts places x) (b : HasPageCorners contexts places y) where
   inner_same : (i : ℕ) → 0 < i → i < length contexts → ((j : ℕ) → j < i → corner_at x j ≡ corner_at y j) → inner_corner contexts places x i ≡ inner_corner contexts places y i
   inner_same i some within same = let e = same _ (are.outer i some within) in rw e refl
 

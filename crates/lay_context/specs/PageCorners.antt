@@ -42,8 +42,8 @@ inner_corner contexts places corners i =
     let outer = (formatting_context_at contexts i).outer in
     beside (lowered (standing_of contexts places outer).shift (corner_at corners outer)) (standing_of contexts places i).corner
 
--- these are the corners of their border boxes on the page, where the root's has this one
-pub record HasPageCorners (root : Corner) (contexts : List FormattingContext) (places : List PlacedContext) (corners : List Corner) : Type 0 where
+-- these are the corners of their border boxes on the page
+pub record HasPageCorners (contexts : List FormattingContext) (places : List PlacedContext) (corners : List Corner) : Type 0 where
   pub count : length corners ≡ length contexts
-  pub first : 0 < length contexts → corner_at corners 0 ≡ root
+  pub first : 0 < length contexts → corner_at corners 0 ≡ (placed_in places 0).offset
   pub inner : (i : ℕ) → 0 < i → i < length contexts → corner_at corners i ≡ inner_corner contexts places corners i

@@ -73,7 +73,7 @@ page_contexts contexts w corners (suc n) =
 -- the tree is put together of these values, each where it stands on the page
 pub record IsAssembled (contexts : List FormattingContext) (w : Workings) (tree : List PageContext) : Type 0 where
   pub corners : List Corner
-  pub has_corners : HasPageCorners (placed_in w.places 0).offset contexts w.places corners
+  pub has_corners : HasPageCorners contexts w.places corners
   pub tree_is : tree ≡ page_contexts contexts w corners (length contexts)
 
 -- the tree of these formatting contexts, on a medium, has the rectangles of workings that meet their equations

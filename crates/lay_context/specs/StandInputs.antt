@@ -22,5 +22,5 @@ pub record StandInputFits (i : StandInput) : Type 0 where
   pub position : OwnPlaceFits i.position
 
 -- where a border edge of the root's own box can be
-abbrev pub IsOfRootBox : ℤ → Type 0
-IsOfRootBox v = (neg_ℤ (pos (2 ^ 40)) ≤ℤ v) × (v ≤ℤ pos (2 ^ 40))
+abbrev pub IsRootEdge : ℤ → Type 0
+IsRootEdge v = (neg_ℤ (pos (2 ^ 40)) ≤ℤ v) × (v ≤ℤ pos (2 ^ 40))

@@ -6,7 +6,7 @@ ghost use Rattle.lay_sizes.specs.SizeBounds.{SizeFits};
 ghost use Rattle.lay_sizes.specs.SizeColumns.{sizes_at};
 ghost use Rattle.lay_pieces.specs.Corners.{IsCornerNear, IsNear};
 ghost use Rattle.lay_context.specs.OwnOffsets.{IsOwnOffset, is_right, root_corner, root_left};
-ghost use Rattle.lay_context.specs.StandInputs.{IsOfRootBox};
+ghost use Rattle.lay_context.specs.StandInputs.{IsRootEdge};
 
 use crate::own_place::OwnPlace;
 use crate::root_box::RootBox;
@@ -66,7 +66,7 @@ fn root_corner(root: &RootBox, style: &Style) -> Corner
 }
 
 fn moved(edge: Unit, by: Unit) -> Unit
-    requires edge { IsOfRootBox edge.0 }
+    requires edge { IsRootEdge edge.0 }
     requires by { IsUsed by.0 }
     ensures sum { result ≡ record { 0 = edge.0 +ℤ by.0 } }
     ensures near { IsNear result.0 }
@@ -76,7 +76,7 @@ fn moved(edge: Unit, by: Unit) -> Unit
 
 fn root_left(root: &RootBox, style: &Style) -> Unit
     ensures left { result ≡ root_left root.now.viewport style.now root.now.sizes }
-    ensures bounds { IsOfRootBox result.0 }
+    ensures bounds { IsRootEdge result.0 }
 {
     if is_right(flow_of(style), style.float) {
         return root.left_of_right();

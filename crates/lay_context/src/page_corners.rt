@@ -15,7 +15,7 @@ use std::alloc::Global;
 
 /// The corners of the border boxes of formatting contexts on the page, in their order.
 pub(crate) fn page_corners(alloc: Global, laid: &LaidContexts<'_>) -> Result<Vec<Corner>, NoMemory>
-    ensures corners { IfOk result (λ v. HasPageCorners (placed_in laid.now.known.now.places 0).offset laid.now.contexts.now laid.now.known.now.places v.items) }
+    ensures corners { IfOk result (λ v. HasPageCorners laid.now.contexts.now laid.now.known.now.places v.items) }
     ensures near { IfOk result (λ v. AreNearCorners v.items) }
 {
     let count = laid.contexts.len();

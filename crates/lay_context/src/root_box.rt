@@ -7,7 +7,7 @@ ghost use Rattle.lay_sizes.specs.OwnBoxes.{IsBoxSize};
 ghost use Rattle.lay_sizes.specs.SizeBounds.{SizeFits};
 ghost use Rattle.lay_positioned.specs.ViewportBounds.{ViewportFits};
 ghost use Rattle.lay_context.specs.OneProof.{SizeFits-prop};
-ghost use Rattle.lay_context.specs.StandInputs.{IsOfRootBox};
+ghost use Rattle.lay_context.specs.StandInputs.{IsRootEdge};
 
 use lay_sizes::{BoxSizes, ContainingBlock, border_width};
 use lay_units::Unit;
@@ -25,7 +25,7 @@ impl RootBox {
     /// Its left border edge where it stands at the right edge of the viewport.
     pub(crate) fn left_of_right(&self) -> Unit
         ensures left { result ≡ record { 0 = self.now.viewport.width.0 -ℤ self.now.sizes.widths.margin_right.0 -ℤ border_width self.now.sizes } }
-        ensures bounds { IsOfRootBox result.0 }
+        ensures bounds { IsRootEdge result.0 }
     {
         let margin = self.sizes.widths.margin_right;
         left_of_right(self.viewport.width, margin, self.border_width())
@@ -46,7 +46,7 @@ fn left_of_right(viewport: Unit, margin: Unit, width: Unit) -> Unit
     requires margin { IsUsed margin.0 }
     requires width { IsBoxSize width.0 }
     ensures left { result ≡ record { 0 = viewport.0 -ℤ margin.0 -ℤ width.0 } }
-    ensures bounds { IsOfRootBox result.0 }
+    ensures bounds { IsRootEdge result.0 }
 {
     Unit(viewport.0 - margin.0 - width.0)
 }

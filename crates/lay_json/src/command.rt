@@ -6,7 +6,7 @@ ghost use Rattle.lay_json.specs.Fields.{Gives};
 ghost use Rattle.lay_json.specs.Commands.{action_named, action_of, named_node, set_command, clear_command, text_command, insert_command, remove_command, command_for, command_of};
 
 use crate::fault::{Field, InputFault, Spot};
-use crate::fields::{object_of, required_number, required_text};
+use crate::fields::{NUMBERS, object_of, required_number, required_text};
 use crate::new_node::{declaration_of, new_node};
 use crate::node_form::node_form;
 use lay_commands::Cmd;
@@ -57,7 +57,7 @@ fn action_of(object: &Value, place: Spot) -> Result<Action, InputFault>
 fn named_node(object: &Value, place: Spot) -> Result<NodeId, InputFault>
     ensures { result ≡ named_node place (view object.now) }
 {
-    let id = required_number(0, 4294967295, object, Field::Node, place)?;
+    let id = required_number(NUMBERS, object, Field::Node, place)?;
     Ok(NodeId(id as u32))
 }
 
@@ -106,7 +106,7 @@ fn text_command(alloc: Global, object: &Value, place: Spot) -> Result<Edit, Inpu
 fn insert_command(alloc: Global, object: &Value, place: Spot) -> Result<Edit, InputFault>
     ensures { Gives result (insert_command place (view object.now)) }
 {
-    let index = required_number(0, 4294967295, object, Field::Index, place)?;
+    let index = required_number(NUMBERS, object, Field::Index, place)?;
     let form = node_form(object, place)?;
     match new_node(alloc, &form, object)? {
         Ok(new) => Ok(Edit::Insert {

@@ -7,13 +7,21 @@ ghost use Rattle.lay_json.specs.Fields.{Gives, number_or};
 ghost use Rattle.lay_json.specs.FaceFields.{are_pairs, pair_of, pairs_from, few_pairs, pairs_of, advances, face_in, default_face, run_face};
 
 use crate::fault::{Field, InputFault, Spot};
-use crate::fields::{has_at_most, is_pair, list_of, number_or, object_of, pair_within, value_in};
+use crate::fields::{
+    Bounds, has_at_most, is_pair, list_of, number_or, object_of, pair_within, value_in,
+};
 use lay_face::{AdvancePair, Face, PairList};
 use lay_units::NoMemory;
 use serde_json::Value;
 use std::alloc::Global;
 
 const MOST_PAIRS: usize = 65536;
+
+/// An advance or a metric of the face, in thousandths of the font size.
+const THOUSANDTHS: Bounds = Bounds {
+    low: 0,
+    high: 10000,
+};
 
 fn are_pairs(items: &[Value]) -> bool
     ensures { result ≡ are_pairs (items_view items.now) }
@@ -107,7 +115,7 @@ fn thousandths(absent: u32, face: &Value, field: Field) -> Result<u32, InputFaul
     ensures value { result ≡ number_or absent 0 10000 field Spot.Run (view face.now) }
     ensures high { IfOk result (λ n. n ≤ 10000) }
 {
-    let n = number_or(u64::from(absent), 0, 10000, face, field, Spot::Run)?;
+    let n = number_or(u64::from(absent), THOUSANDTHS, face, field, Spot::Run)?;
     Ok(n as u32)
 }
 

@@ -73,69 +73,89 @@ pub(crate) fn required_text(object: &Value, field: Field, place: Spot) -> Result
     text_of(required(object, field, place)?, field, place)
 }
 
-/// The whole number that a value is, where it is one from `low` to `high`.
-pub(crate) fn whole_within(low: u64, high: u64, value: Option<&Value>) -> Option<u64>
-    ensures value { result ≡ whole_within low high (option_map (λ v. view v.now) value.entry) }
-    ensures low { IfSome result (λ n. low ≤ n) }
-    ensures high { IfSome result (λ n. n ≤ high) }
-{
-    let n = value?.as_u64()?;
-    if low <= n && n <= high { Some(n) } else { None }
+/// The whole numbers from `low` to `high`.
+#[derive(Clone, Copy)]
+pub(crate) struct Bounds {
+    pub low: u64,
+    pub high: u64,
 }
 
-/// A value that must be a whole number from `low` to `high`.
+/// The ids that nodes have.
+pub(crate) const IDS: Bounds = Bounds {
+    low: 1,
+    high: 4294967295,
+};
+
+/// What names a node, where 0 names none, or a place among children.
+pub(crate) const NUMBERS: Bounds = Bounds {
+    low: 0,
+    high: 4294967295,
+};
+
+/// The whole number that a value is, where it is one of these.
+pub(crate) fn whole_within(bounds: Bounds, value: Option<&Value>) -> Option<u64>
+    ensures value { result ≡ whole_within bounds.low bounds.high (option_map (λ v. view v.now) value.entry) }
+    ensures low { IfSome result (λ n. bounds.low ≤ n) }
+    ensures high { IfSome result (λ n. n ≤ bounds.high) }
+{
+    let n = value?.as_u64()?;
+    if bounds.low <= n && n <= bounds.high {
+        Some(n)
+    } else {
+        None
+    }
+}
+
+/// A value that must be one of these whole numbers.
 pub(crate) fn number_of(
-    low: u64,
-    high: u64,
+    bounds: Bounds,
     value: &Value,
     field: Field,
     place: Spot,
 ) -> Result<u64, InputFault>
-    ensures value { result ≡ number_of low high field place (view value.now) }
-    ensures low { IfOk result (λ n. low ≤ n) }
-    ensures high { IfOk result (λ n. n ≤ high) }
+    ensures value { result ≡ number_of bounds.low bounds.high field place (view value.now) }
+    ensures low { IfOk result (λ n. bounds.low ≤ n) }
+    ensures high { IfOk result (λ n. n ≤ bounds.high) }
 {
     if !value.is_number() {
         return Err(InputFault::WrongKind { field, place });
     }
-    match whole_within(low, high, Some(value)) {
+    match whole_within(bounds, Some(value)) {
         Some(n) => Ok(n),
         None => Err(InputFault::BadNumber { field, place }),
     }
 }
 
-/// A whole number from `low` to `high` that must be there.
+/// One of these whole numbers, which must be there.
 pub(crate) fn required_number(
-    low: u64,
-    high: u64,
+    bounds: Bounds,
     object: &Value,
     field: Field,
     place: Spot,
 ) -> Result<u64, InputFault>
-    ensures value { result ≡ required_number low high field place (view object.now) }
-    ensures low { IfOk result (λ n. low ≤ n) }
-    ensures high { IfOk result (λ n. n ≤ high) }
+    ensures value { result ≡ required_number bounds.low bounds.high field place (view object.now) }
+    ensures low { IfOk result (λ n. bounds.low ≤ n) }
+    ensures high { IfOk result (λ n. n ≤ bounds.high) }
 {
-    number_of(low, high, required(object, field, place)?, field, place)
+    number_of(bounds, required(object, field, place)?, field, place)
 }
 
-/// A whole number from `low` to `high`, or `absent` where the object hasn't the field.
+/// One of these whole numbers, which is `absent` where the object hasn't the field.
 pub(crate) fn number_or(
     absent: u64,
-    low: u64,
-    high: u64,
+    bounds: Bounds,
     object: &Value,
     field: Field,
     place: Spot,
 ) -> Result<u64, InputFault>
-    requires low { low ≤ absent }
-    requires high { absent ≤ high }
-    ensures value { result ≡ number_or absent low high field place (view object.now) }
-    ensures low { IfOk result (λ n. low ≤ n) }
-    ensures high { IfOk result (λ n. n ≤ high) }
+    requires low { bounds.low ≤ absent }
+    requires high { absent ≤ bounds.high }
+    ensures value { result ≡ number_or absent bounds.low bounds.high field place (view object.now) }
+    ensures low { IfOk result (λ n. bounds.low ≤ n) }
+    ensures high { IfOk result (λ n. n ≤ bounds.high) }
 {
     match value_in(object, field) {
-        Some(value) => number_of(low, high, value, field, place),
+        Some(value) => number_of(bounds, value, field, place),
         None => Ok(absent),
     }
 }
@@ -166,8 +186,8 @@ pub(crate) fn pair_within(low: u64, first: u64, second: u64, value: &Value) -> O
     ensures low { IfSome result (λ p. (low ≤ p.0) × (low ≤ p.1)) }
     ensures high { IfSome result (λ p. (p.0 ≤ first) × (p.1 ≤ second)) }
 {
-    let a = whole_within(low, first, value.get(0usize))?;
-    let b = whole_within(low, second, value.get(1usize))?;
+    let a = whole_within(Bounds { low, high: first }, value.get(0usize))?;
+    let b = whole_within(Bounds { low, high: second }, value.get(1usize))?;
     Some((a, b))
 }
 

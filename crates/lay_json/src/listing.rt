@@ -5,7 +5,7 @@ ghost use Rattle.serde_json.specs.View.{view, items_view};
 ghost use Rattle.lay_json.specs.Listing.{id_in, ids_in, IsListOf};
 
 use crate::fault::Field;
-use crate::fields::{value_in, whole_within};
+use crate::fields::{IDS, value_in, whole_within};
 use lay_doc::NodeId;
 use lay_run::NodeList;
 use lay_units::NoMemory;
@@ -16,7 +16,7 @@ use std::alloc::Global;
 fn id_in(node: &Value) -> NodeId
     ensures { result ≡ id_in (view node.now) }
 {
-    let id = whole_within(1, 4294967295, value_in(node, Field::Id));
+    let id = whole_within(IDS, value_in(node, Field::Id));
     NodeId(id.unwrap_or(0) as u32)
 }
 

@@ -8,11 +8,15 @@ ghost use Rattle.lay_json.specs.NodeForms.{kind_named, kind_name, are_texts, tex
 
 use crate::fault::{Field, InputFault, Spot};
 use crate::fields::{
-    number_or, object_of, required_number, required_sides, required_text, value_in,
+    Bounds, IDS, NUMBERS, number_or, object_of, required_number, required_sides, required_text,
+    value_in,
 };
 use lay_doc::{Kind, NodeId};
 use lay_units::Unit;
 use serde_json::{Map, Value};
+
+/// How many columns or rows a cell spans.
+const SPANS: Bounds = Bounds { low: 1, high: 64 };
 
 /// What `kind` names.
 #[derive(Clone, Copy)]
@@ -99,8 +103,8 @@ fn element_form(object: &Value, place: Spot) -> Result<Kind, InputFault>
     ensures form { IfOk result (λ k. IsNodeForm k [] []) }
 {
     check_style(object, place)?;
-    let colspan = number_or(1, 1, 64, object, Field::Colspan, place)?;
-    let rowspan = number_or(1, 1, 64, object, Field::Rowspan, place)?;
+    let colspan = number_or(1, SPANS, object, Field::Colspan, place)?;
+    let rowspan = number_or(1, SPANS, object, Field::Rowspan, place)?;
     Ok(Kind::Element {
         colspan: colspan as u32,
         rowspan: rowspan as u32,
@@ -140,8 +144,8 @@ pub(crate) fn node_form(object: &Value, place: Spot) -> Result<NodeForm, InputFa
     ensures value { result ≡ node_form place (view object.now) }
     ensures form { IfOk result (λ f. IsNodeForm f.kind [] []) }
 {
-    let id = required_number(1, 4294967295, object, Field::Id, place)?;
-    let parent = required_number(0, 4294967295, object, Field::Parent, place)?;
+    let id = required_number(IDS, object, Field::Id, place)?;
+    let parent = required_number(NUMBERS, object, Field::Parent, place)?;
     let name = kind_name(object, place)?;
     let kind = form_named(object, place, name)?;
     Ok(NodeForm {
