@@ -82,7 +82,7 @@ module _ (one : OneAnswer) (medium : Medium) (contexts : List FormattingContext)
       let x = a.assembled in
       let y = b.assembled in
       let cornered : HasPageCorners contexts v.places y.corners = rw places y.has_corners in
-      let corners : x.corners ≡ y.corners = one_corner_column (placed_in v.places 0).offset contexts v.places are x.corners y.corners x.has_corners cornered in
+      let corners : x.corners ≡ y.corners = one_corner_column contexts v.places are x.corners y.corners x.has_corners cornered in
       let listed : page_contexts contexts v x.corners (length contexts) ≡ page_contexts contexts w y.corners (length contexts) = page_contexts_same contexts v w x.corners y.corners sizes places corners (length contexts) in
       x.tree_is ∙ listed ∙ sym y.tree_is
 

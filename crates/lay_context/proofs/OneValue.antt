@@ -13,7 +13,7 @@ use Rattle.lay_context.specs.declared.value.Value.{Value}
 use Rattle.lay_context.specs.declared.value.Value.TheVariants as value
 use Rattle.lay_context.specs.Laws.{HasContextBoxes}
 use Rattle.lay_context.specs.Local.{IsLocal, measure_as, place_as}
-use Rattle.lay_context.specs.OwnOffsets.{StandInput}
+use Rattle.lay_own_place.specs.OwnOffsets.{StandInput}
 use Rattle.lay_context.proofs.PlaceFacts.{same_placed}
 
 -- what each phase answers is the only answer

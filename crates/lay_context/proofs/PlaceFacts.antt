@@ -1,5 +1,5 @@
 -- A placement is that of boxes in block flow, or of a table.
-use Rattle.std.proofs.Common.{◌≡◌, ℕ, zero, suc, Bool, true, false, [], ◌∷◌, length, length-append, refl, ap, sym, subst, ◌∙◌, arith, Option, None, Some, option_map}
+use Rattle.std.proofs.Common.{◌≡◌, ℕ, zero, suc, Bool, true, false, [], ◌∷◌, length, length-append, refl, ap, subst, ◌∙◌, arith, Option, None, Some, option_map}
 use Rattle.lay_measure.specs.declared.preferred_widths.PreferredWidths.{PreferredWidths}
 use Rattle.lay_pieces.specs.Placements.{Placement}
 use Rattle.lay_flow_boxes.specs.PlaceInputs.{PlaceInput}
@@ -12,15 +12,12 @@ use Rattle.lay_table.specs.TableStandings.{TablePlaces, standing_of}
 use Rattle.lay_table_sizes.specs.TableSizesValue.{TableSizesValue}
 use Rattle.lay_context.specs.declared.value.Value.TheVariants as value
 use Rattle.lay_sizes.specs.declared.own_boxes.OwnBox.{OwnBox}
-use Rattle.lay_formatting.specs.FormattingBoxes.{box_at}
 use Rattle.lay_pieces.specs.declared.corner.Corner.{Corner}
-use Rattle.lay_positioned.proofs.OneAbsoluteBox.{one_offset_lem}
+use Rattle.lay_own_place.proofs.OnePlace.{one_own_place_lem}
 use Rattle.lay_context_sizes.specs.ContextSizes.{SizedContext}
 use Rattle.lay_context_sizes.specs.Inputs.{MeasureInput}
-use Rattle.lay_context.specs.OwnOffsets.{IsOwnOffset, IsOwnOffsetBy, StandInput}
+use Rattle.lay_own_place.specs.OwnOffsets.{IsOwnOffset, StandInput}
 use Rattle.lay_context.specs.PlacedContexts.{PlacedContext}
-use Rattle.lay_context.specs.declared.own_place.OwnPlace.{OwnPlace}
-use Rattle.lay_context.specs.declared.own_place.OwnPlace.TheVariants.{Inner, Root, Absolute}
 use Rattle.lay_context.specs.Local.{IsLocal, measure_as, place_as}
 
 pub measured_not_sized : (b : Bool) (i : MeasureInput) (sized : SizedContext) → IsLocal (measure_as b i) (value.Size sized) → ⊥
@@ -58,19 +55,13 @@ table_stands i p is = ap (λ (a : Placement). length a.standings) is.answer_is �
 abbrev placed_as : Placement → Corner → PlacedContext
 placed_as placement offset = record { placement = placement; offset = offset }
 
-module _ (at : StandInput) where
-  -- there is one offset beside a placement
-  one_offset_by : (o : OwnPlace) (own : OwnBox) (a b : Corner) → IsOwnOffsetBy o at own a → IsOwnOffsetBy o at own b → a ≡ b
-  one_offset_by Inner own a b p q = p ∙ sym q
-  one_offset_by (Root viewport) own a b p q = p ∙ sym q
-  one_offset_by (Absolute s) own a b p q = one_offset_lem s (box_at at.boxes 0) at.left own.height a b p q
-
-  pub same_placed : (p q : PlacedContext) → p.placement ≡ q.placement → IsOwnOffset at p.placement.own p.offset → IsOwnOffset at q.placement.own q.offset → p ≡ q
-  same_placed p q e a b =
-      let own : p.placement.own ≡ q.placement.own = ap (λ (x : Placement). x.own) e in
-      let offset : p.offset ≡ q.offset = one_offset_by at.position q.placement.own p.offset q.offset (subst (λ (o : OwnBox). IsOwnOffset at o p.offset) own a) b in
-      let r : placed_as p.placement p.offset ≡ placed_as q.placement q.offset = rw (e, offset) refl in
-      r
+-- there is one offset beside a placement
+pub same_placed : (at : StandInput) (p q : PlacedContext) → p.placement ≡ q.placement → IsOwnOffset at p.placement.own p.offset → IsOwnOffset at q.placement.own q.offset → p ≡ q
+same_placed at p q e a b =
+    let own : p.placement.own ≡ q.placement.own = ap (λ (x : Placement). x.own) e in
+    let offset : p.offset ≡ q.offset = one_own_place_lem at q.placement.own p.offset q.offset (subst (λ (o : OwnBox). IsOwnOffset at o p.offset) own a) b in
+    let r : placed_as p.placement p.offset ≡ placed_as q.placement q.offset = rw (e, offset) refl in
+    r
 
 module _ (flow : PlaceInput) (at : StandInput) (of : TableSizesValue → TableInput) (same : (t : TableSizesValue) → (of t).boxes ≡ flow.boxes) where
   -- each box has its standing

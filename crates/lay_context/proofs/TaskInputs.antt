@@ -24,8 +24,8 @@ use Rattle.lay_context.specs.OwnHeights.{own_height_rule}
 use Rattle.lay_context.specs.Needs.{IsAround, Needs}
 use Rattle.lay_context.specs.PlacedContexts.{PlacedContext, placed_in, placement_in}
 use Rattle.lay_context.specs.Settings.{flow_place, flow_setting, laid, own_place_of, setting_in, sizes_in}
-use Rattle.lay_context.specs.declared.own_place.OwnPlace.{OwnPlace}
-use Rattle.lay_context.specs.declared.own_place.OwnPlace.TheVariants as own_place
+use Rattle.lay_own_place.specs.declared.own_place.OwnPlace.{OwnPlace}
+use Rattle.lay_own_place.specs.declared.own_place.OwnPlace.TheVariants as own_place
 use Rattle.lay_context_sizes.specs.declared.setting.Setting.TheVariants.{Absolute}
 
 pub width_value : (x y : PreferredWidths) → value.Measure x ≡ value.Measure y → x ≡ y

@@ -6,11 +6,9 @@ pub mod Medium
 pub mod Needs
 pub mod OneProof
 pub mod OwnHeights
-pub mod OwnOffsets
 pub mod PageCorners
 pub mod PlacedContexts
 pub mod Settings
 pub mod Settling
 pub mod Solves
-pub mod StandInputs
 pub mod Workings

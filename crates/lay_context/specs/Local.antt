@@ -23,7 +23,7 @@ use Rattle.lay_context_sizes.specs.Inputs.{MeasureInput, SizeInput}
 use Rattle.lay_context.specs.Measured.{is_measured}
 use Rattle.lay_context.specs.Medium.{Medium}
 use Rattle.lay_context.specs.OwnHeights.{own_height_rule}
-use Rattle.lay_context.specs.OwnOffsets.{IsOwnOffset, StandInput}
+use Rattle.lay_own_place.specs.OwnOffsets.{IsOwnOffset, StandInput}
 use Rattle.lay_context.specs.PlacedContexts.{placed_in}
 use Rattle.lay_context.specs.Settings.{own_place_of, setting_of, sizes_in}
 use Rattle.lay_context.specs.Workings.{Workings}

@@ -1,12 +1,7 @@
--- What is known of a formatting context that is ready, and of used sizes, is known in one way: the facts have one proof, so that a
--- type may keep them.
+-- What is known of a formatting context that is ready is known in one way: the facts have one proof, so that a type may keep them.
 use Rattle.std.specs.Prelude.{List}
 use Rattle.std.proofs.Props.{props}
-use Rattle.lay_units.specs.declared.records.Len.{Len}
-use Rattle.lay_units.specs.declared.records.Len.TheVariants.{Auto as auto, Of as of}
 use Rattle.lay_box_tree.specs.declared.box_tree.BoxNode.{BoxNode}
-use Rattle.lay_sizes.specs.SizeBounds.{IsUsedSizeOrAuto, SizeFits}
-use Rattle.lay_sizes.specs.declared.sizing.BoxSizes.{BoxSizes}
 use Rattle.lay_formatting.specs.FormattingContexts.{FormattingContext}
 use Rattle.lay_context_sizes.specs.ContextSizes.{SizedContext}
 use Rattle.lay_context.specs.declared.task.Task.{Task}
@@ -18,10 +13,3 @@ AreOfBoxes-prop boxes sized = hlevel props
 
 pub IsReady-prop : (contexts : List FormattingContext) (w : Workings) (task : Task) → IsProp (IsReady contexts w task)
 IsReady-prop contexts w task = hlevel (props, AreOfBoxes-prop)
-
-IsUsedSizeOrAuto-prop : (v : Len) → IsProp (IsUsedSizeOrAuto v)
-IsUsedSizeOrAuto-prop auto = hlevel props
-IsUsedSizeOrAuto-prop (of v) = hlevel props
-
-pub SizeFits-prop : (z : BoxSizes) → IsProp (SizeFits z)
-SizeFits-prop z = hlevel (props, IsUsedSizeOrAuto-prop)

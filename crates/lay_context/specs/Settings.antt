@@ -19,8 +19,8 @@ use Rattle.lay_positioned.specs.Settings.{absolute_setting}
 use Rattle.lay_context_sizes.specs.ContextSizes.{SizedContext, not_sized}
 use Rattle.lay_context.specs.PlacedContexts.{placed_in, placement_in}
 use Rattle.lay_context.specs.Workings.{Workings}
-use Rattle.lay_context.specs.declared.own_place.OwnPlace.{OwnPlace}
-use Rattle.lay_context.specs.declared.own_place.OwnPlace.TheVariants as own_place
+use Rattle.lay_own_place.specs.declared.own_place.OwnPlace.{OwnPlace}
+use Rattle.lay_own_place.specs.declared.own_place.OwnPlace.TheVariants as own_place
 use Rattle.lay_context_sizes.specs.declared.setting.Setting.{Setting}
 use Rattle.lay_context_sizes.specs.declared.setting.Setting.TheVariants.{Absolute, Block, Cell}
 

@@ -30,7 +30,7 @@ use Rattle.lay_context.specs.Local.{HasCounts, IsTaskDone}
 use Rattle.lay_context.specs.Workings.{Workings}
 use Rattle.lay_context.specs.Medium.{Medium}
 use Rattle.lay_context.specs.PageCorners.{HasPageCorners, standing_of}
-use Rattle.lay_context.specs.PlacedContexts.{placed_in, placement_in}
+use Rattle.lay_context.specs.PlacedContexts.{placement_in}
 use Rattle.lay_context.specs.Settings.{cell_of}
 
 -- A cell is as wide as its columns, also where these are narrower than its borders and paddings (17.5.2.1). Others are as wide as

@@ -21,14 +21,10 @@ mod layout;
 mod measured;
 mod medium;
 mod own_heights;
-mod own_offsets;
-mod own_place;
 mod page_corners;
 mod placed_context;
 mod plan;
-mod root_box;
 mod settings;
-mod stand_input;
 mod task;
 mod value;
 

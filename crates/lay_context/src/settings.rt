@@ -6,14 +6,14 @@ ghost use Rattle.lay_sizes.specs.SizeColumns.{sizes_at};
 ghost use Rattle.lay_positioned.specs.Absolute.{is_absolute};
 ghost use Rattle.lay_positioned.specs.Settings.{SettingFits, absolute_setting};
 ghost use Rattle.lay_context_sizes.specs.Inputs.{OwnSettingFits};
-ghost use Rattle.lay_context.specs.StandInputs.{OwnPlaceFits};
+ghost use Rattle.lay_own_place.specs.StandInputs.{OwnPlaceFits};
 ghost use Rattle.lay_context.specs.Settings.{caption_block, cell_given, cell_of, flow_setting, laid, own_place_of, setting_as, setting_in_table, setting_of};
 
 use crate::known_context::{KnownContext, ReadyToSize};
 use crate::medium::Medium;
-use crate::own_place::OwnPlace;
 use lay_context_boxes::{ContextBoxes, block_around};
 use lay_context_sizes::Setting;
+use lay_own_place::OwnPlace;
 use lay_pieces::ContextSizes;
 use lay_positioned::{AbsoluteSetting, is_absolute, setting};
 use lay_sizes::{BoxSizes, ContainingBlock, NO_SIZES, content_block};

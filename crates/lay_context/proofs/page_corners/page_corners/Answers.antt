@@ -1,4 +1,4 @@
-use Rattle.std.proofs.Common.{arith, sym}
+use Rattle.std.proofs.Common.{arith}
 use Rattle.std.proofs.lemmas.Grind.{elements}
 use Rattle.lay_context.proofs.CornerSteps.{one_more, one_more_near}
 use Rattle.lay_context.proofs.page_corners.page_corners.Goals as goal

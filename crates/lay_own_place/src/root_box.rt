@@ -6,8 +6,8 @@ ghost use Rattle.lay_sizes.specs.BoxSizes.{border_width};
 ghost use Rattle.lay_sizes.specs.OwnBoxes.{IsBoxSize};
 ghost use Rattle.lay_sizes.specs.SizeBounds.{SizeFits};
 ghost use Rattle.lay_positioned.specs.ViewportBounds.{ViewportFits};
-ghost use Rattle.lay_context.specs.OneProof.{SizeFits-prop};
-ghost use Rattle.lay_context.specs.StandInputs.{IsRootEdge};
+ghost use Rattle.lay_own_place.specs.OneProof.{SizeFits-prop};
+ghost use Rattle.lay_own_place.specs.StandInputs.{IsRootEdge};
 
 use lay_sizes::{BoxSizes, ContainingBlock, border_width};
 use lay_units::Unit;

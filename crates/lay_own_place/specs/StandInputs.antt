@@ -5,9 +5,9 @@ use Rattle.lay_context_boxes.specs.ContextBoxes.{AreContextBoxes}
 use Rattle.lay_positioned.specs.OffsetBounds.{IsStart}
 use Rattle.lay_positioned.specs.Settings.{SettingFits}
 use Rattle.lay_positioned.specs.ViewportBounds.{ViewportFits}
-use Rattle.lay_context.specs.OwnOffsets.{StandInput}
-use Rattle.lay_context.specs.declared.own_place.OwnPlace.{OwnPlace}
-use Rattle.lay_context.specs.declared.own_place.OwnPlace.TheVariants.{Inner, Root, Absolute}
+use Rattle.lay_own_place.specs.OwnOffsets.{StandInput}
+use Rattle.lay_own_place.specs.declared.own_place.OwnPlace.{OwnPlace}
+use Rattle.lay_own_place.specs.declared.own_place.OwnPlace.TheVariants.{Inner, Root, Absolute}
 
 abbrev pub OwnPlaceFits : OwnPlace → Type 0
 OwnPlaceFits Inner = ⊤

@@ -22,8 +22,8 @@ use Rattle.lay_formatting.specs.FormattingBoxes.{box_at}
 use Rattle.lay_pieces.specs.declared.corner.Corner.{Corner}
 use Rattle.lay_pieces.specs.Corners.{no_corner}
 use Rattle.lay_positioned.specs.Offsets.{IsOffset}
-use Rattle.lay_context.specs.declared.own_place.OwnPlace.{OwnPlace}
-use Rattle.lay_context.specs.declared.own_place.OwnPlace.TheVariants.{Inner, Root, Absolute}
+use Rattle.lay_own_place.specs.declared.own_place.OwnPlace.{OwnPlace}
+use Rattle.lay_own_place.specs.declared.own_place.OwnPlace.TheVariants.{Inner, Root, Absolute}
 
 abbrev pub is_right : Flow → Float → Bool
 is_right Floating float.Right = true

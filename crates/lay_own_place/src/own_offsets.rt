@@ -5,8 +5,8 @@ ghost use Rattle.lay_units.specs.Units.{IsUsed};
 ghost use Rattle.lay_sizes.specs.SizeBounds.{SizeFits};
 ghost use Rattle.lay_sizes.specs.SizeColumns.{sizes_at};
 ghost use Rattle.lay_pieces.specs.Corners.{IsCornerNear, IsNear};
-ghost use Rattle.lay_context.specs.OwnOffsets.{IsOwnOffset, is_right, root_corner, root_left};
-ghost use Rattle.lay_context.specs.StandInputs.{IsRootEdge};
+ghost use Rattle.lay_own_place.specs.OwnOffsets.{IsOwnOffset, is_right, root_corner, root_left};
+ghost use Rattle.lay_own_place.specs.StandInputs.{IsRootEdge};
 
 use crate::own_place::OwnPlace;
 use crate::root_box::RootBox;
@@ -25,8 +25,10 @@ const NO_CORNER: Corner = Corner {
     y: Unit(0),
 };
 
-/// Where the formatting context that is placed so stands by itself.
-pub(crate) fn own_offset(input: &StandInput, placement: &Placement) -> Result<Corner, NoMemory>
+/// Where the formatting context that is placed so stands by itself: the corner of its border box, in 1/64 px, at most 2^60 units
+/// away from where it is counted. NoMemory is the answer where an absolutely positioned one is further away, which none of a
+/// document within the limits is.
+pub fn own_offset(input: &StandInput, placement: &Placement) -> Result<Corner, NoMemory>
     ensures offset { IfOk result (IsOwnOffset input.now placement.now.own) }
     ensures near { IfOk result IsCornerNear }
 {

@@ -1,8 +1,8 @@
 //! What is given of where a formatting context stands itself.
 
 ghost use Rattle.std.specs.Prelude.{◌≡◌};
-ghost use Rattle.lay_context.specs.OwnOffsets.{StandInput as Plain};
-ghost use Rattle.lay_context.specs.StandInputs.{StandInputFits};
+ghost use Rattle.lay_own_place.specs.OwnOffsets.{StandInput as Plain};
+ghost use Rattle.lay_own_place.specs.StandInputs.{StandInputFits};
 
 use crate::own_place::OwnPlace;
 use lay_context_boxes::ContextBoxes;
@@ -22,8 +22,8 @@ pub struct StandInput {
 }
 
 impl Model for StandInput {
-    ghost use Rattle.lay_context.specs.OwnOffsets.{StandInput as Plain};
-    ghost use Rattle.lay_context.specs.StandInputs.{StandInputFits};
+    ghost use Rattle.lay_own_place.specs.OwnOffsets.{StandInput as Plain};
+    ghost use Rattle.lay_own_place.specs.StandInputs.{StandInputFits};
 
     ghost Value = { Plain };
 
@@ -33,7 +33,8 @@ impl Model for StandInput {
 }
 
 impl StandInput {
-    pub(crate) fn new(
+    /// These boxes with these sizes, at this distance from the left, standing there.
+    pub fn new(
         boxes: ContextBoxes,
         sizes: ContextSizes,
         left: Unit,
@@ -58,6 +59,7 @@ impl StandInput {
         &self.boxes
     }
 
+    /// The used sizes of the boxes.
     pub(crate) fn sizes(&self) -> &[BoxSizes]
         ensures { result.now ≡ self.now.sizes }
     {

@@ -1,0 +1,4 @@
+pub mod Laws
+pub mod OneProof
+pub mod OwnOffsets
+pub mod StandInputs
