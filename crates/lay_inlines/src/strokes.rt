@@ -66,7 +66,7 @@ fn draw_parts(
     let mut before = pen;
     for k in 0..parts.len() {
         let part = parts[k];
-        let after = before.over(frame, part);
+        let after = before.over(frame, &part);
         let stroke = Stroke {
             part,
             raise: raises.of(part),

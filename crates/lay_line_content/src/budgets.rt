@@ -43,13 +43,13 @@ fn spend_parts(left: u64, tab: Unit, parts: &[Part]) -> Option<u64>
 {
     let mut left = left;
     for k in 0..parts.len() {
-        left = spend(left, spread_of_part(tab, parts[k]))?;
+        left = spend(left, spread_of_part(tab, &parts[k]))?;
     }
     Some(left)
 }
 
-fn spread_of_part(tab: Unit, part: Part) -> u64
-    ensures { result ≡ spread_of_part tab.0 part }
+fn spread_of_part(tab: Unit, part: &Part) -> u64
+    ensures { result ≡ spread_of_part tab.0 part.now }
 {
     match part {
         Part::Space(advance) | Part::PreservedSpace(advance) | Part::Text(advance) => distance(
@@ -90,14 +90,14 @@ fn spend_boxes(left: u64, parts: &[Part]) -> Option<u64>
 {
     let mut left = left;
     for k in 0..parts.len() {
-        left = spend(left, boxes_of_part(parts[k]))?;
+        left = spend(left, boxes_of_part(&parts[k]))?;
     }
     Some(left)
 }
 
 /// Whether a part is an inline box or an atomic box, as a number.
-pub fn boxes_of_part(part: Part) -> u64
-    ensures { result ≡ boxes_of_part part }
+pub fn boxes_of_part(part: &Part) -> u64
+    ensures { result ≡ boxes_of_part part.now }
 {
     match part {
         Part::Start(_) | Part::Atomic(_) => 1,
@@ -173,14 +173,14 @@ fn spend_lift(left: u64, parts: &[Part]) -> Option<u64>
 {
     let mut left = left;
     for k in 0..parts.len() {
-        left = spend_part(left, parts[k])?;
+        left = spend_part(left, &parts[k])?;
     }
     Some(left)
 }
 
-fn spend_part(left: u64, part: Part) -> Option<u64>
-    ensures some { IfSome result (λ rest. lift_of_part part + rest ≡ left) }
-    ensures none { result ≡ None → left < lift_of_part part }
+fn spend_part(left: u64, part: &Part) -> Option<u64>
+    ensures some { IfSome result (λ rest. lift_of_part part.now + rest ≡ left) }
+    ensures none { result ≡ None → left < lift_of_part part.now }
 {
     match part {
         Part::Start(start) => spend_box(left, start.extent, start.shift),

@@ -81,7 +81,7 @@ fn is_text(parts: &[Part]) -> bool
     ensures { IsTrue result → total boxes_of_part parts.now ≡ 0 }
 {
     for k in 0..parts.len() {
-        if boxes_of_part(parts[k]) != 0 {
+        if boxes_of_part(&parts[k]) != 0 {
             return false;
         }
     }
@@ -118,19 +118,19 @@ fn read_all(
         ≡ read_all (reading_of boxes.old.items line.old) parts.now) }
 {
     for k in 0..parts.len() {
-        read(line, boxes, parts[k])?;
+        read(line, boxes, &parts[k])?;
     }
     Ok(())
 }
 
-fn read(line: &mut LineParts, boxes: &mut Vec<InlineStart>, part: Part) -> Result<(), NoMemory>
+fn read(line: &mut LineParts, boxes: &mut Vec<InlineStart>, part: &Part) -> Result<(), NoMemory>
     requires { length line.old.parts < 2 ^ 32 }
     ensures { OnOk result (reading_of boxes.new.items line.new
-        ≡ read (reading_of boxes.old.items line.old) part) }
+        ≡ read (reading_of boxes.old.items line.old) part.now) }
 {
     match part {
         Part::Start(start) => {
-            boxes.push(start)?;
+            boxes.push(*start)?;
             line.open(start.extent, start.shift)?;
         }
         Part::End(_) => {

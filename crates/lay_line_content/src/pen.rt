@@ -85,15 +85,15 @@ impl Pen {
     {
         let mut pen = self;
         for k in 0..parts.len() {
-            pen = pen.over(frame, parts[k]);
+            pen = pen.over(frame, &parts[k]);
         }
         pen
     }
 
     /// After one part more.
-    pub fn over(self, frame: &Frame, part: Part) -> Pen
-        requires { PenFits (over frame.now self part) }
-        ensures { result ≡ over frame.now self part }
+    pub fn over(self, frame: &Frame, part: &Part) -> Pen
+        requires { PenFits (over frame.now self part.now) }
+        ensures { result ≡ over frame.now self part.now }
     {
         match part {
             Part::Space(advance) => self.spaced(advance.width),
