@@ -1,8 +1,10 @@
 //! The content of lines, kept.
 
-ghost use Rattle.std.specs.Prelude.{◌≡◌, ◌≤◌, ◌<◌, [], length, Some, IfOk, IfSome};
+ghost use Rattle.std.specs.Prelude.{List, ◌≡◌, ◌≤◌, [], length, Some, IfOk, IfSome};
 ghost use Rattle.lay_doc.specs.Tree.{IsTree};
 ghost use Rattle.lay_box_tree.specs.BoxColumns.{box_parents};
+ghost use Rattle.lay_box_tree.specs.declared.box_tree.BoxNode.{BoxNode};
+ghost use Rattle.lay_face.specs.FaceValue.{FaceValue};
 ghost use Rattle.lay_items.specs.InlineContents.{AreContents, kept_at};
 ghost use Rattle.lay_items.specs.InlineSegments.{segments_in};
 
@@ -76,9 +78,9 @@ impl InlineContents {
         })
     }
 
-    /// What is kept of the box at a place.
+    /// The content of the lines of the box at a place, where it is kept.
     pub fn at(&self, k: usize) -> Option<&[Segment]>
-        ensures { IfSome result (λ s. kept_at self.now k ≡ Some s.now) }
+        ensures { (face : FaceValue) (boxes : List BoxNode) → AreContents face boxes self.now → IfSome result (λ s. s.now ≡ segments_in face boxes k) }
     {
         match &self.shared {
             Some(kept) => kept.at(k),
@@ -100,6 +102,7 @@ impl InlineContents {
 }
 
 impl KeptSegments {
+    /// What is kept of the box at a place.
     fn at(&self, k: usize) -> Option<&[Segment]>
         ensures { IfSome result (λ s. kept_at self.now k ≡ Some s.now) }
     {
