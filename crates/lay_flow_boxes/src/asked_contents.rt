@@ -3,18 +3,18 @@
 ghost use Rattle.std.specs.Prelude.{◌≡◌, length, IfOk};
 ghost use Rattle.lay_items.specs.InlineContents.{AreContents};
 
-use lay_box_tree::Role;
+use lay_box_tree::{BoxKind, BoxNode};
 use lay_context_boxes::ContextBoxes;
 use lay_face::Face;
 use lay_items::InlineContents;
 use lay_units::NoMemory;
 use std::alloc::Global;
 
-/// For which boxes the content of the lines that hold them is asked for more than once.
+/// For which boxes the content of the lines that have them is asked for more than once.
 #[derive(Clone, Copy)]
 pub enum Asked {
-    /// For what is in lines.
-    Lines,
+    /// For texts, and so for all lines that take long to make.
+    Texts,
     /// For anchors alone.
     Anchors,
 }
@@ -28,17 +28,17 @@ pub fn contents_of(
 ) -> Result<InlineContents, NoMemory>
     ensures { IfOk result (AreContents face.now boxes.now) }
 {
-    if !is_any_asked(boxes, asked) {
+    if !is_any_asked(boxes.as_slice(), asked) {
         return Ok(InlineContents::none());
     }
     let holders = asked_holders(alloc, boxes, asked)?;
     InlineContents::new(alloc, boxes.as_slice(), face, &holders)
 }
 
-/// Whether there is such a box.
-fn is_any_asked(boxes: &ContextBoxes, asked: Asked) -> bool {
-    for k in 0..boxes.as_slice().len() {
-        if is_asked(boxes.role(k), asked) {
+/// Whether there is such a box among these.
+pub fn is_any_asked(boxes: &[BoxNode], asked: Asked) -> bool {
+    for k in 0..boxes.len() {
+        if is_asked(&boxes[k], asked) {
             return true;
         }
     }
@@ -49,10 +49,10 @@ fn is_any_asked(boxes: &ContextBoxes, asked: Asked) -> bool {
 fn asked_holders(alloc: Global, boxes: &ContextBoxes, asked: Asked) -> Result<Vec<bool>, NoMemory>
     ensures { IfOk result (λ v. length v.items ≡ length boxes.now) }
 {
-    let count = boxes.as_slice().len();
-    let mut holders = vec![in alloc; false; count]?;
-    for k in 0..count {
-        if is_asked(boxes.role(k), asked) {
+    let nodes = boxes.as_slice();
+    let mut holders = vec![in alloc; false; nodes.len()]?;
+    for k in 0..nodes.len() {
+        if is_asked(&nodes[k], asked) {
             let container = boxes.container(k);
             holders[container] = true;
         }
@@ -60,9 +60,9 @@ fn asked_holders(alloc: Global, boxes: &ContextBoxes, asked: Asked) -> Result<Ve
     Ok(holders)
 }
 
-fn is_asked(role: Role, asked: Asked) -> bool {
+fn is_asked(node: &BoxNode, asked: Asked) -> bool {
     match asked {
-        Asked::Lines => role.is_inline_level(),
-        Asked::Anchors => matches!(role, Role::Anchor),
+        Asked::Texts => matches!(node.kind, BoxKind::Text(_)),
+        Asked::Anchors => matches!(node.kind, BoxKind::Anchor),
     }
 }

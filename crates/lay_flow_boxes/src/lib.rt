@@ -16,7 +16,7 @@ mod line_boxes;
 mod place_input;
 mod shape;
 
-pub use asked_contents::{Asked, contents_of};
+pub use asked_contents::{Asked, contents_of, is_any_asked};
 pub use laws::one_flow_shape;
 pub use place_input::PlaceInput;
 pub use shape::{FlowShape, flow_shape};
