@@ -1,6 +1,7 @@
 //! What the preferred widths and the used sizes of a formatting context are worked out of.
 
 ghost use Rattle.std.specs.Prelude.{◌≡◌};
+ghost use Rattle.lay_items.specs.InlineContents.{AreContents};
 ghost use Rattle.lay_context_boxes.specs.ContextBoxes.{AreContextBoxes};
 ghost use Rattle.lay_formatting.specs.FormattingBoxes.{box_at};
 ghost use Rattle.lay_context_sizes.specs.Inputs.{SizeInputFits};
@@ -9,32 +10,50 @@ use crate::setting::Setting;
 use lay_box_tree::BoxNode;
 use lay_context_boxes::ContextBoxes;
 use lay_face::Face;
+use lay_items::InlineContents;
 use lay_measure::PreferredWidths;
 use std::marker::Model;
 use std::sync::Arc;
 
 /// The boxes of a formatting context, the preferred widths of inner ones at the places of their boxes, and the face of
-/// texts.
+/// texts. The content of lines may be known already.
 #[derive(Drop)]
 pub struct MeasureInput {
     boxes: ContextBoxes,
     inner: Vec<PreferredWidths>,
     face: Arc<Face>,
+    contents: InlineContents,
 }
 
 impl Model for MeasureInput {
+    ghost use Rattle.lay_items.specs.InlineContents.{AreContents};
     ghost use Rattle.lay_context_sizes.specs.Inputs.{MeasureInput as Plain};
 
     ghost Value = { Plain };
 
     ghost view = { λ i. record { boxes = i.boxes; inner = i.inner.items; face = i.face.value } };
+
+    ghost invariant = { λ i. AreContents i.face.value i.boxes i.contents };
 }
 
 impl MeasureInput {
     pub fn new(boxes: ContextBoxes, inner: Vec<PreferredWidths>, face: Arc<Face>) -> MeasureInput
         ensures { result ≡ record { boxes = boxes; inner = inner.items; face = face.value } }
     {
-        MeasureInput { boxes, inner, face }
+        MeasureInput {
+            boxes,
+            inner,
+            face,
+            contents: InlineContents::none(),
+        }
+    }
+
+    /// The same, with this content of the lines of its boxes.
+    pub fn with_contents(self, contents: InlineContents) -> MeasureInput
+        requires { AreContents self.face self.boxes contents }
+        ensures { result ≡ self }
+    {
+        MeasureInput { contents, ..self }
     }
 
     pub fn boxes(&self) -> &[BoxNode]
@@ -54,6 +73,13 @@ impl MeasureInput {
         ensures { result.now ≡ self.now.face }
     {
         &self.face
+    }
+
+    /// The content of lines, as far as it is known.
+    pub fn contents(&self) -> &InlineContents
+        ensures { AreContents self.now.face self.now.boxes result.now }
+    {
+        &self.contents
     }
 }
 

@@ -35,5 +35,5 @@ fn flow_widths(alloc: Global, input: &MeasureInput) -> Result<PreferredWidths, N
     }
     let parts = inline_parts(alloc, boxes)?;
     let of = MeasureIn::new(boxes, &parts, input.inner(), input.face());
-    measure(alloc, &of)
+    measure(alloc, &of.with_contents(input.contents()))
 }

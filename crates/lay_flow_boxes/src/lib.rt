@@ -6,6 +6,7 @@
 //! (`specs/Laws.antt`).
 #![tactic(auto)]
 
+mod asked_contents;
 mod box_columns;
 mod context_blocks;
 mod context_shapes;
@@ -15,6 +16,7 @@ mod line_boxes;
 mod place_input;
 mod shape;
 
+pub use asked_contents::{Asked, contents_of, is_any_asked};
 pub use laws::one_flow_shape;
 pub use place_input::PlaceInput;
 pub use shape::{FlowShape, flow_shape};

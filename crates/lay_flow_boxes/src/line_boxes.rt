@@ -1,6 +1,7 @@
 //! The boxes of one context that hold lines.
 
 ghost use Rattle.std.specs.Prelude.{◌≡◌, ◌<◌, Some, None, length, IfOk, if◌then◌else◌};
+ghost use Rattle.lay_items.specs.InlineSegments.{segments_in};
 ghost use Rattle.lay_content.specs.SeenLines.{has_seen_line};
 ghost use Rattle.lay_flow_boxes.specs.ContextBlocks.{content_of_box, line_container, lines_in};
 ghost use Rattle.lay_flow_boxes.specs.FlowShapes.{measures_in};
@@ -13,6 +14,7 @@ use lay_box_parts::InlinePart;
 use lay_content::{BoxMeasures, Container, has_seen_line, line_content};
 use lay_items::inline_segments;
 use lay_line_content::LineContent;
+use lay_space::Segment;
 use lay_units::{NoMemory, Unit};
 use std::alloc::Global;
 
@@ -54,11 +56,30 @@ fn content_of_box(alloc: Global, of: &Shaping<'_>, k: usize) -> Result<LineConte
     ensures { IfOk result (λ c. c ≡ content_of_box (measures_in of.now.input.now of.now.parts.now) of.now.lefts.now k) }
 {
     let input = of.input;
+    if let Some(segments) = input.segments_at(k) {
+        return content_of_segments(alloc, of, k, segments);
+    }
+    let segments = inline_segments(alloc, input.boxes(), k, input.face())?;
+    content_of_segments(alloc, of, k, segments.as_slice())
+}
+
+/// The same, where these are the segments of the box.
+fn content_of_segments(
+    alloc: Global,
+    of: &Shaping<'_>,
+    k: usize,
+    segments: &[Segment],
+) -> Result<LineContent, NoMemory>
+    requires shaping { IsShaping of.now.input.now.boxes of.now.lefts.now of.now.inline_containers.now }
+    requires place { k < length of.now.input.now.boxes }
+    requires segments { segments.now ≡ segments_in of.now.input.now.face of.now.input.now.boxes k }
+    ensures { IfOk result (λ c. c ≡ content_of_box (measures_in of.now.input.now of.now.parts.now) of.now.lefts.now k) }
+{
+    let input = of.input;
     let boxes = input.boxes();
     let measures = BoxMeasures::new(boxes, of.parts, input.sizes(), input.inner(), input.face());
-    let segments = inline_segments(alloc, boxes, k, input.face())?;
     let container = line_container(of, k);
-    match line_content(alloc, &measures, container, segments.as_slice())? {
+    match line_content(alloc, &measures, container, segments)? {
         Some(content) => Ok(content),
         None => Err(NoMemory),
     }

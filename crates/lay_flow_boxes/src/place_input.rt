@@ -1,24 +1,29 @@
 //! What the placement of a context is given.
 
-ghost use Rattle.std.specs.Prelude.{◌≡◌, ◌<◌, length};
+ghost use Rattle.std.specs.Prelude.{◌≡◌, ◌<◌, IfSome, length};
 ghost use Rattle.lay_box_tree.specs.Roles.{clear_at, role_at};
 ghost use Rattle.lay_sizes.specs.SizeColumns.{sizes_at};
 ghost use Rattle.lay_context_boxes.specs.Containing.{container_of};
 ghost use Rattle.lay_context_boxes.specs.ContextBoxes.{is_float};
+ghost use Rattle.lay_items.specs.InlineContents.{AreContents};
+ghost use Rattle.lay_items.specs.InlineSegments.{segments_in};
 ghost use Rattle.lay_flow_boxes.specs.PlaceInputs.{HeightRuleFits, PlaceInputFits, height_rule_of};
 
 use lay_box_tree::{BoxNode, Role};
 use lay_context_boxes::ContextBoxes;
 use lay_face::Face;
 use lay_flow::HeightRule;
+use lay_items::InlineContents;
 use lay_pieces::{ContextSizes, InnerPieces, OwnBoxes};
 use lay_sizes::{BoxSizes, OwnBox};
+use lay_space::Segment;
 use lay_style::Clear;
 use std::marker::Model;
 use std::sync::Arc;
 
 /// The boxes of a formatting context, their used sizes, the own boxes of the formatting contexts inside it, the pieces of the
-/// anonymous ones among those, what is given of the height of its own box, and the face of texts.
+/// anonymous ones among those, what is given of the height of its own box, and the face of texts. The content of lines may
+/// be known already.
 #[derive(Drop)]
 pub struct PlaceInput {
     boxes: ContextBoxes,
@@ -27,16 +32,18 @@ pub struct PlaceInput {
     pieces: InnerPieces,
     own_height: HeightRule,
     face: Arc<Face>,
+    contents: InlineContents,
 }
 
 impl Model for PlaceInput {
+    ghost use Rattle.lay_items.specs.InlineContents.{AreContents};
     ghost use Rattle.lay_flow_boxes.specs.PlaceInputs.{PlaceInput as Plain, PlaceInputFits};
 
     ghost Value = { Plain };
 
     ghost view = { λ i. record { boxes = i.boxes; sizes = i.sizes; inner = i.inner; pieces = i.pieces; own_height = i.own_height; face = i.face.value } };
 
-    ghost invariant = { λ i. PlaceInputFits (record { boxes = i.boxes; sizes = i.sizes; inner = i.inner; pieces = i.pieces; own_height = i.own_height; face = i.face.value }) };
+    ghost invariant = { λ i. PlaceInputFits (record { boxes = i.boxes; sizes = i.sizes; inner = i.inner; pieces = i.pieces; own_height = i.own_height; face = i.face.value }) × AreContents i.face.value i.boxes i.contents };
 }
 
 impl PlaceInput {
@@ -59,6 +66,7 @@ impl PlaceInput {
             pieces,
             own_height,
             face,
+            contents: InlineContents::none(),
         }
     }
 
@@ -68,6 +76,21 @@ impl PlaceInput {
         ensures { result ≡ record self { own_height = own_height } }
     {
         PlaceInput { own_height, ..self }
+    }
+
+    /// The same, with this content of the lines of its boxes.
+    pub fn with_contents(self, contents: InlineContents) -> PlaceInput
+        requires { AreContents self.face self.boxes contents }
+        ensures { result ≡ self }
+    {
+        PlaceInput { contents, ..self }
+    }
+
+    /// The content of the lines of the box at k, where it is known.
+    pub fn segments_at(&self, k: usize) -> Option<&[Segment]>
+        ensures { IfSome result (λ s. s.now ≡ segments_in self.now.face self.now.boxes k) }
+    {
+        self.contents.at(k)
     }
 
     /// The pieces of the anonymous formatting contexts in it.

@@ -1,4 +1,5 @@
 pub mod GatheredWidths
+pub mod InlineContents
 pub mod InlineItems
 pub mod InlineSegments
 pub mod OpenBoxes

@@ -9,6 +9,7 @@
 mod container_items;
 mod container_segments;
 mod gathered;
+mod inline_contents;
 mod leaves;
 mod measured;
 mod modes;
@@ -17,4 +18,5 @@ mod plain_texts;
 
 pub use container_items::inline_items;
 pub use container_segments::inline_segments;
+pub use inline_contents::InlineContents;
 pub use modes::mode_of;

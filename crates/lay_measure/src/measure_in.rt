@@ -1,26 +1,33 @@
 //! What preferred widths depend on.
 
-ghost use Rattle.std.specs.Prelude.{◌≡◌};
+ghost use Rattle.std.specs.Prelude.{◌≡◌, IfSome};
+ghost use Rattle.lay_items.specs.InlineContents.{AreContents};
+ghost use Rattle.lay_items.specs.InlineSegments.{segments_in};
 ghost use Rattle.lay_measure.specs.MeasureInValue.{inner_at, part_at};
 
 use crate::preferred_widths::{NO_WIDTHS, PreferredWidths};
 use lay_box_parts::InlinePart;
 use lay_box_tree::BoxNode;
 use lay_face::Face;
+use lay_items::InlineContents;
+use lay_space::Segment;
 use std::marker::Model;
 
 /// The boxes of a context, lent: with which parts of inline boxes they are, the preferred widths of the inner
 /// contexts in flow or floating, which stand at the places of their boxes, and the face. A table's wrapper has the
-/// widths of its border box there.
+/// widths of its border box there. The content of lines may be known already.
 #[derive(Drop)]
 pub struct MeasureIn<'a> {
     boxes: &'a [BoxNode],
     parts: &'a [InlinePart],
     inner: &'a [PreferredWidths],
     face: &'a Face,
+    contents: Option<&'a InlineContents>,
 }
 
 impl<'a> Model for MeasureIn<'a> {
+    ghost use Rattle.std.specs.Prelude.{IfSome};
+    ghost use Rattle.lay_items.specs.InlineContents.{AreContents};
     ghost use Rattle.lay_measure.specs.MeasureInValue.{MeasureInValue};
 
     ghost Value = { MeasureInValue };
@@ -31,6 +38,8 @@ impl<'a> Model for MeasureIn<'a> {
       inner = m.inner.now;
       face = m.face.now;
     } };
+
+    ghost invariant = { λ m. IfSome m.contents (λ c. AreContents m.face.now m.boxes.now c.now) };
 }
 
 impl<'a> MeasureIn<'a> {
@@ -48,6 +57,28 @@ impl<'a> MeasureIn<'a> {
             parts,
             inner,
             face,
+            contents: None,
+        }
+    }
+
+    /// The same, with this content of their lines.
+    pub fn with_contents(self, contents: &'a InlineContents) -> MeasureIn<'a>
+        requires { AreContents self.face self.boxes contents.now }
+        ensures { result ≡ self.entry }
+    {
+        MeasureIn {
+            contents: Some(contents),
+            ..self
+        }
+    }
+
+    /// The content of the lines of the box at k, where it is known.
+    pub(crate) fn segments_at(&self, k: usize) -> Option<&'a [Segment]>
+        ensures { IfSome result (λ s. s.now ≡ segments_in self.now.face self.now.boxes k) }
+    {
+        match self.contents {
+            Some(contents) => contents.at(k),
+            None => None,
         }
     }
 

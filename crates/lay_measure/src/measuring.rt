@@ -215,6 +215,9 @@ fn styled_widths(
     requires inside { k < length of.now.boxes }
     ensures { IfOk result (λ w. w ≡ inline_widths of.now style.now (segments_in of.now.face of.now.boxes k)) }
 {
+    if let Some(segments) = of.segments_at(k) {
+        return inline_widths(alloc, of, style, segments);
+    }
     let segments = inline_segments(alloc, of.boxes(), k, of.face())?;
     inline_widths(alloc, of, style, segments.as_slice())
 }
