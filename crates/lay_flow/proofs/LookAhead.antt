@@ -11,8 +11,8 @@ use Rattle.lay_margins.specs.Collapse.{Holds, collapse}
 use Rattle.lay_flow.specs.Lengths.{length_at}
 use Rattle.lay_flow.specs.Children.{flag_at}
 use Rattle.lay_flow.specs.MarginRuns.{Entry, margin, mark, margins, has_top, block_at, run_at, parts_tops, to_top, run_before, joins_bottom, may_collapse_through}
-use Rattle.lay_flow.specs.BlockPositions.{Extents, start_before}
-use Rattle.lay_flow.specs.BlockLayout.{BlockLayout, IsBlockLayout}
+use Rattle.lay_flow.specs.BlockLayout.{BlockLayout}
+use Rattle.lay_flow.specs.BlockPositions.{IsBlockLayout, start_before}
 use Rattle.lay_flow.specs.Pass.Gathered.{Gathered, IsAround}
 use Rattle.lay_flow.specs.Pass.MarginPlace.{IsPlace}
 use Rattle.lay_flow.specs.Pass.LookAhead.{ComesTo, IsOutermost, Reads, ReadsAll}
@@ -35,7 +35,7 @@ place_before boxes tree k positive within = record {
   next = λ w. omega arith;
 }
 
-module _ (boxes : List FlowBox) (tree : IsTree (parents_of boxes)) (extents : Extents) (clear_edges : List Length) (w : BlockLayout) (is : IsBlockLayout boxes extents clear_edges w)
+module _ (boxes : List FlowBox) (tree : IsTree (parents_of boxes)) (w : BlockLayout) (is : IsBlockLayout boxes w)
     (before : StrutValue) (first k outermost : ℕ) (comes : ComesTo boxes w before first k) (positive : 0 < first) (order : first ≤ k) (within : k < length boxes) (outer : IsOutermost boxes first k outermost) where
   top_k : 0 < k
   top_k = omega (arith, positive, order)
@@ -47,14 +47,14 @@ module _ (boxes : List FlowBox) (tree : IsTree (parents_of boxes)) (extents : Ex
       let same = one_first boxes w.runs there.first first (parent_at boxes k) k there.is_gathered order (λ j lt le. comes.tops j lt ∙ low_not j first le) (λ j lt low. comes.tops j lt ∙ low_yes j first low) in
       subst (λ (f : ℕ). Gathered boxes w.runs f (parent_at boxes k) k) same there.is_gathered
 
-  start_k : length_at w.places.starts k ≡ start_before boxes w.runs w.places (parent_at boxes k) k
-  start_k = start_flows boxes extents clear_edges w is k top_k within (comes.later k (omega arith))
+  start_k : length_at w.places.starts k ≡ start_before boxes w (parent_at boxes k) k
+  start_k = start_flows boxes w is k top_k within (comes.later k (omega arith))
 
   -- the boxes that hold it in its run start where the run does
-  start_there : (c : ℕ) → outermost ≤ c → c ≤ k → IsAround boxes c (k + 1) → length_at w.places.starts c ≡ start_before boxes w.runs w.places (parent_at boxes k) k
+  start_there : (c : ℕ) → outermost ≤ c → c ≤ k → IsAround boxes c (k + 1) → length_at w.places.starts c ≡ start_before boxes w (parent_at boxes k) k
   start_there c least most inside = elim (cases_lt c k) [
     | inl lt ↦ (let o = outer.most in let f = outer.from (omega (arith, least, lt)) in let up = inside k lt (omega arith) in
-        one_start boxes tree w.runs is.has_runs extents clear_edges w.places is.has_positions first (parent_at boxes k) k (place_before boxes tree k top_k within) gathered_k c c
+        one_start boxes tree w is first (parent_at boxes k) k (place_before boxes tree k top_k within) gathered_k c c
         (omega (arith, f, least)) up (λ i low high. inside i low (omega (arith, high))) (omega arith) lt)
     | inr ge ↦ (let e : c ≡ k = omega (arith, most, ge) in ap (length_at w.places.starts) e ∙ start_k)
   ]
@@ -75,8 +75,8 @@ module _ (boxes : List FlowBox) (tree : IsTree (parents_of boxes)) (extents : Ex
   all_above c run strut least most inside same stands rise holds = record {
     all = margins run;
     strut_holds = holds;
-    mark = let p = outer.positive in same ∙ mark_standing boxes extents clear_edges w is c (omega (arith, p, least)) (omega (arith, most, within)) stands
-        ∙ sum_same (length_at w.places.starts c) (start_before boxes w.runs w.places (parent_at boxes k) k) (run_at w.runs.top_runs c) run (start_there c least most inside) rise;
+    mark = let p = outer.positive in same ∙ mark_standing boxes w is c (omega (arith, p, least)) (omega (arith, most, within)) stands
+        ∙ sum_same (length_at w.places.starts c) (start_before boxes w (parent_at boxes k) k) (run_at w.runs.top_runs c) run (start_there c least most inside) rise;
   }
 
   -- a box is opened
@@ -245,8 +245,8 @@ module _ (boxes : List FlowBox) (tree : IsTree (parents_of boxes)) (extents : Ex
           all = margins (run_before boxes w.runs p m);
           strut_holds = was.strut_holds;
           mark = i.mark ∙ ap (length_at w.places.marks) e
-              ∙ mark_through boxes extents clear_edges w is p positive_p inner_p (passes_p ∙ passes) alone
-              ∙ sum_same (length_at w.places.starts p) (start_before boxes w.runs w.places (parent_at boxes k) k) (run_before boxes w.runs p (length boxes)) (run_before boxes w.runs p m) start here;
+              ∙ mark_through boxes w is p positive_p inner_p (passes_p ∙ passes) alone
+              ∙ sum_same (length_at w.places.starts p) (start_before boxes w (parent_at boxes k) k) (run_before boxes w.runs p (length boxes)) (run_before boxes w.runs p m) start here;
         }
 
     -- it is collapsed through, and the run goes on
@@ -282,7 +282,7 @@ module _ (boxes : List FlowBox) (tree : IsTree (parents_of boxes)) (extents : Ex
                     | inr ne ↦ (let x = at.inside j (omega (arith, from, ne)) b in omega (arith, x, up))
                   ]
                 ];
-                mark = i.mark ∙ ap (length_at w.places.marks) e ∙ mark_inherits boxes extents clear_edges w is p positive_p inner_p through
+                mark = i.mark ∙ ap (length_at w.places.marks) e ∙ mark_inherits boxes w is p positive_p inner_p through
                     (g.is_gathered.leads (parent_at boxes p) p (omega (arith, low, least)) lt up ∙ low_not (parent_at boxes p) g.first_there (omega (arith, low, over)));
               },
             )

@@ -34,15 +34,15 @@ module _ (boxes : List FlowBox) (tree : IsTree (parents_of boxes)) (from : Outse
             | inl before ↦ was.inside (omega (arith, a, before)) i a before
             | inr here ↦ (let e : i ≡ m = omega (arith, here, b) in let u = was.above (omega (arith, a, e)) in rw e u)
           ];
-          reads = λ extents clear_edges w is comes. reads_top boxes tree extents clear_edges w is from.strut from.first from.k from.outermost comes out.least out.most out.within out.is_outermost m begun within strut
-              (was.reads extents clear_edges w is comes) next (adds _ (was.reads extents clear_edges w is comes).strut_holds) plain;
+          reads = λ w is comes. reads_top boxes tree w is from.strut from.first from.k from.outermost comes out.least out.most out.within out.is_outermost m begun within strut
+              (was.reads w is comes) next (adds _ (was.reads w is comes).strut_holds) plain;
         }
 
     pub opened_read : parts_tops boxes m ≡ true → HasRead boxes from next
     opened_read parts = record {
       fits = fits;
-      reads_all = λ extents clear_edges w is comes. ends_below_top boxes tree extents clear_edges w is from.strut from.first from.k from.outermost comes out.least out.most out.within out.is_outermost m was.begun within strut
-          (was.reads extents clear_edges w is comes) next (adds _ (was.reads extents clear_edges w is comes).strut_holds) parts was.place;
+      reads_all = λ w is comes. ends_below_top boxes tree w is from.strut from.first from.k from.outermost comes out.least out.most out.within out.is_outermost m was.begun within strut
+          (was.reads w is comes) next (adds _ (was.reads w is comes).strut_holds) parts was.place;
     }
 
   module _ (p m : ℕ) (strut : StrutValue) (was : IsReading boxes from strut p m) (after : from.k < m) (ends : m < length boxes → parent_at boxes m < p) where
@@ -52,18 +52,18 @@ module _ (boxes : List FlowBox) (tree : IsTree (parents_of boxes)) (from : Outse
     pub closed_read : may_collapse_through (block_at boxes p) ≡ false → HasRead boxes from strut
     closed_read parts = record {
       fits = was.fits;
-      reads_all = λ extents clear_edges w is comes. ends_inside_box boxes tree extents clear_edges w is from.strut from.first from.k from.outermost comes out.least out.most out.within out.is_outermost p m was.place least after ends strut
-          (was.reads extents clear_edges w is comes) parts;
+      reads_all = λ w is comes. ends_inside_box boxes tree w is from.strut from.first from.k from.outermost comes out.least out.most out.within out.is_outermost p m was.place least after ends strut
+          (was.reads w is comes) parts;
     }
 
     pub closed_last : p ≡ from.outermost → HasRead boxes from strut
     closed_last last = record {
       fits = was.fits;
-      reads_all = λ extents clear_edges w is comes. true_or (may_collapse_through (block_at boxes p)) _
-          (λ passes. ends_before_bottom boxes tree extents clear_edges w is from.strut from.first from.k from.outermost comes out.least out.most out.within out.is_outermost p m was.place least after ends strut
-          (was.reads extents clear_edges w is comes) last passes)
-          (λ parts. ends_inside_box boxes tree extents clear_edges w is from.strut from.first from.k from.outermost comes out.least out.most out.within out.is_outermost p m was.place least after ends strut
-          (was.reads extents clear_edges w is comes) parts);
+      reads_all = λ w is comes. true_or (may_collapse_through (block_at boxes p)) _
+          (λ passes. ends_before_bottom boxes tree w is from.strut from.first from.k from.outermost comes out.least out.most out.within out.is_outermost p m was.place least after ends strut
+          (was.reads w is comes) last passes)
+          (λ parts. ends_inside_box boxes tree w is from.strut from.first from.k from.outermost comes out.least out.most out.within out.is_outermost p m was.place least after ends strut
+          (was.reads w is comes) parts);
     }
 
     pub closed_reading : (next : StrutValue) → StrutFits next → WithMargin strut next (block_at boxes p).margin_bottom.0 → (p ≡ from.outermost → ⊥) → may_collapse_through (block_at boxes p) ≡ true → IsReading boxes from next (parent_at boxes p) m
@@ -86,8 +86,8 @@ module _ (boxes : List FlowBox) (tree : IsTree (parents_of boxes)) (from : Outse
           first_place = λ e. absurd (omega (arith, e, after));
           above = λ lt. round p (omega (arith, l, λ (e : p ≡ from.outermost). other e)) a;
           inside = λ lt. round;
-          reads = λ extents clear_edges w is comes. reads_bottom boxes tree extents clear_edges w is from.strut from.first from.k from.outermost comes out.least out.most out.within out.is_outermost p m was.place least after ends strut
-              (was.reads extents clear_edges w is comes) other passes next (adds _ (was.reads extents clear_edges w is comes).strut_holds) round;
+          reads = λ w is comes. reads_bottom boxes tree w is from.strut from.first from.k from.outermost comes out.least out.most out.within out.is_outermost p m was.place least after ends strut
+              (was.reads w is comes) other passes next (adds _ (was.reads w is comes).strut_holds) round;
         }
 
 pub parts_is : (boxes : List FlowBox) (m : ℕ) → 0 < m → parts_tops boxes m ≡ not (is_zero (block_at boxes m).edge_top.0)
@@ -134,7 +134,7 @@ begins_reading boxes from begins fits place =
       first_place = λ e. refl;
       above = λ lt. outer.inside from.k lt (omega arith);
       inside = λ lt i low high. outer.inside i low (omega (arith, high));
-      reads = λ extents clear_edges w is comes. record {
+      reads = λ w is comes. record {
         strut_holds = comes.strut_holds;
         own = λ lt. comes.tops from.outermost lt ∙ low_not from.outermost from.first (outer.from lt);
         holder = λ lt. absurd (omega (arith, lt));

@@ -9,8 +9,8 @@ use Rattle.lay_doc.specs.Tree.{IsTree}
 use Rattle.lay_flow.specs.Lengths.{length_at}
 use Rattle.lay_flow.specs.Children.{flag_at}
 use Rattle.lay_flow.specs.MarginRuns.{Entry, block_at, margins, has_top, run_at, run_before, run_across}
-use Rattle.lay_flow.specs.BlockPositions.{Extents, start_before}
-use Rattle.lay_flow.specs.BlockLayout.{BlockLayout, IsBlockLayout}
+use Rattle.lay_flow.specs.BlockLayout.{BlockLayout}
+use Rattle.lay_flow.specs.BlockPositions.{IsBlockLayout, start_before}
 use Rattle.lay_flow.specs.Pass.State.{Marked, Settled, PassState, IsAt}
 use Rattle.lay_flow.proofs.ChildPlaces.{next_none}
 use Rattle.lay_flow.proofs.GatheredRuns.{begins as gathered_begins}
@@ -21,7 +21,7 @@ use Rattle.lay_flow.proofs.RunReach.{RunEnds, mark_here, waiting_open, tops_here
 use Rattle.lay_flow.proofs.SoFar.{so_far_settled}
 use Rattle.lay_flow.proofs.Truths.{true_false, true_or}
 
-module _ (boxes : List FlowBox) (extents : Extents) (clear_edges : List Length) (y : BlockLayout) (is : IsBlockLayout boxes extents clear_edges y) (tree : IsTree (parents_of boxes)) where
+module _ (boxes : List FlowBox) (y : BlockLayout) (is : IsBlockLayout boxes y) (tree : IsTree (parents_of boxes)) where
   -- the marks, once every run has ended
   marks_to : (flags : List Bool) (marks : List Length) (n : ℕ) → n ≤ length boxes → Marked boxes y marks flags n
       → ((j : ℕ) → j < n → flag_at flags j ≡ true → has_top (parent_at boxes j) (run_at y.runs.before_tops j) ≡ false → length_at marks j ≡ length_at y.places.marks j)
@@ -39,11 +39,11 @@ module _ (boxes : List FlowBox) (extents : Extents) (clear_edges : List Length) 
       (λ t. true_or (has_top (parent_at boxes k) (run_at y.runs.before_tops k)) (length_at marks k ≡ length_at y.places.marks k)
       (λ top. marked.inherits k less t top
       ∙ marks_to flags marks n within marked kept known root m (omega (arith, le)) (parent_at boxes k) (omega (arith, b, lt))
-      ∙ sym (mark_inherits boxes extents clear_edges y is k (omega arith) (omega (arith, less, within)) (sym same ∙ t) top))
+      ∙ sym (mark_inherits boxes y is k (omega arith) (omega (arith, less, within)) (sym same ∙ t) top))
       (λ top. kept k less t top))
       (λ f. marked.stands k less f (sym same ∙ f))
 
-  module _ (now : PassState) (was : IsAt boxes clear_edges y now 0 (length boxes)) (end : ℤ) (reach : RunEnds now.hangs now.start now.strut end) where
+  module _ (now : PassState) (was : IsAt boxes y now 0 (length boxes)) (end : ℤ) (reach : RunEnds now.hangs now.start now.strut end) where
     at_end : IsPlace boxes 0 (length boxes)
     at_end = record { parent = was.in_run.gathered.parent; within = omega arith; inside = was.in_run.gathered.inside; next = λ w. absurd (omega (arith, w)) }
 
@@ -54,21 +54,21 @@ module _ (boxes : List FlowBox) (extents : Extents) (clear_edges : List Length) 
     flows : now.hangs ≡ true → flag_at y.runs.through now.first ≡ false
     flows t = let h = was.in_run.hanging t in let o = h.open_yet in let l = was.in_run.gathered.least in absurd (omega (arith, o, l))
 
-    pub reach_end : end ≡ start_before boxes y.runs y.places 0 (length boxes) +ℤ collapse (margins (run_before boxes y.runs 0 (length boxes)))
+    pub reach_end : end ≡ start_before boxes y 0 (length boxes) +ℤ collapse (margins (run_before boxes y.runs 0 (length boxes)))
     reach_end =
         let whole = ap margins across in
-        reach_is boxes extents clear_edges y is tree now 0 (length boxes) was.in_run at_end now.strut end reach (rw whole was.in_run.strut_holds) flows
-        ∙ ap (λ (run : List Entry). start_before boxes y.runs y.places 0 (length boxes) +ℤ collapse (margins run)) across
+        reach_is boxes y is tree now 0 (length boxes) was.in_run at_end now.strut end reach (rw whole was.in_run.strut_holds) flows
+        ∙ ap (λ (run : List Entry). start_before boxes y 0 (length boxes) +ℤ collapse (margins run)) across
 
     -- at the end all boxes have the marks and the heights of the layout
     pub all_marks : (marks : List Length) → length_at now.marks 0 ≡ length_at y.places.marks 0 → Settled boxes now.through now.marks marks now.first (length boxes) end
         → (j : ℕ) → j < length boxes → length_at marks j ≡ length_at y.places.marks j
     all_marks marks root settled =
         let so_far = so_far_settled boxes tree y now.through now.heights now.marks marks now.first 0 (length boxes) end was.in_run.gathered.least was.in_run.gathered.most (omega arith)
-        (tops_here boxes extents clear_edges y is tree now 0 (length boxes) was.in_run at_end)
-        (λ j a b code truth. let open_yet = waiting_open boxes extents clear_edges y is tree now 0 (length boxes) was.in_run at_end was.so_far j a b code in
-        mark_here boxes extents clear_edges y is tree now 0 (length boxes) was.in_run at_end j a open_yet.0 open_yet.1 truth
-        ∙ ap (λ (run : List Entry). start_before boxes y.runs y.places 0 (length boxes) +ℤ collapse (margins run)) across ∙ sym reach_end) settled was.so_far in
+        (tops_here boxes y is tree now 0 (length boxes) was.in_run at_end)
+        (λ j a b code truth. let open_yet = waiting_open boxes y is tree now 0 (length boxes) was.in_run at_end was.so_far j a b code in
+        mark_here boxes y is tree now 0 (length boxes) was.in_run at_end j a open_yet.0 open_yet.1 truth
+        ∙ ap (λ (run : List Entry). start_before boxes y 0 (length boxes) +ℤ collapse (margins run)) across ∙ sym reach_end) settled was.so_far in
         marks_to now.through marks (length boxes) (omega arith) so_far.marked so_far.kept (λ j a b. (was.so_far.closed j a b).pass)
         (let l = was.in_run.gathered.least in settled.before 0 l ∙ root) (length boxes) (omega arith)
 
@@ -77,7 +77,7 @@ module _ (boxes : List FlowBox) (extents : Extents) (clear_edges : List Length) 
 
   -- before the first box
   pub begins : (now : PassState) → 0 < length boxes → now.first ≡ 1 → now.hangs ≡ false
-      → Holds now.strut [] → now.start ≡ length_at y.places.marks 0 +ℤ (block_at boxes 0).edge_top.0 → length_at now.marks 0 ≡ length_at y.places.marks 0 → ((j : ℕ) → flag_at now.through j ≡ false) → IsAt boxes clear_edges y now 0 1
+      → Holds now.strut [] → now.start ≡ length_at y.places.marks 0 +ℤ (block_at boxes 0).edge_top.0 → length_at now.marks 0 ≡ length_at y.places.marks 0 → ((j : ℕ) → flag_at now.through j ≡ false) → IsAt boxes y now 0 1
   begins now some first hangs holds start root fresh = record {
     so_far = record {
       passed = λ j b c. absurd (true_false (flag_at now.through j) c (fresh j));

@@ -7,8 +7,8 @@ ghost use Rattle.lay_flow.specs.declared.hypothetical_edge.Outset.{Outset};
 ghost use Rattle.lay_flow.specs.Boxes.{parent_at};
 ghost use Rattle.lay_flow.specs.Children.{flag_at};
 ghost use Rattle.lay_flow.specs.Lengths.{length_at};
-ghost use Rattle.lay_flow.specs.BlockLayout.{BlockLayout, IsBlockLayout};
-ghost use Rattle.lay_flow.specs.BlockPositions.{Extents, start_before};
+ghost use Rattle.lay_flow.specs.BlockLayout.{BlockLayout};
+ghost use Rattle.lay_flow.specs.BlockPositions.{IsBlockLayout, start_before};
 ghost use Rattle.lay_flow.specs.Pass.LookAhead.{HasRead, IsOutermost, IsOutset, IsReading};
 ghost use Rattle.lay_flow.specs.MarginRuns.{block_at, has_top, margins, may_collapse_through, run_before};
 ghost use Rattle.lay_flow.specs.Pass.Bounds.{IsCollapseNear};
@@ -56,8 +56,8 @@ struct Ahead {
 /// The top border edge that the box would have where neither it nor a later box had clearance. The pass is before its
 /// top margin, in a run that starts at `start`, with the margins of a strut.
 pub(crate) fn hypothetical_edge(before: &BoxInRun<'_>, start: Near, used: UsedStrut) -> Unit
-    ensures edge { (extents : Extents) (clear_edges : List Unit) (w : BlockLayout) → IsBlockLayout before.now.at.boxes.list.now extents clear_edges w → ((j : ℕ) → before.now.at.k ≤ j → flag_at w.runs.clears j ≡ false)
-        → Holds used.strut (margins (run_before before.now.at.boxes.list.now w.runs (parent_at before.now.at.boxes.list.now before.now.at.k) before.now.at.k)) → start.unit.0 ≡ start_before before.now.at.boxes.list.now w.runs w.places (parent_at before.now.at.boxes.list.now before.now.at.k) before.now.at.k
+    ensures edge { (w : BlockLayout) → IsBlockLayout before.now.at.boxes.list.now w → ((j : ℕ) → before.now.at.k ≤ j → flag_at w.runs.clears j ≡ false)
+        → Holds used.strut (margins (run_before before.now.at.boxes.list.now w.runs (parent_at before.now.at.boxes.list.now before.now.at.k) before.now.at.k)) → start.unit.0 ≡ start_before before.now.at.boxes.list.now w (parent_at before.now.at.boxes.list.now before.now.at.k) before.now.at.k
         → ((j : ℕ) → j < before.now.at.k → has_top j (run_before before.now.at.boxes.list.now w.runs (parent_at before.now.at.boxes.list.now before.now.at.k) before.now.at.k) ≡ not (nat_lt j before.now.first))
         → result.0 ≡ length_at w.places.marks before.now.at.k }
     ensures near { IsCollapseNear (result.0 -ℤ start.unit.0) }

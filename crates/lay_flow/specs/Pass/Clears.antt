@@ -10,7 +10,6 @@ use Rattle.lay_flow.specs.Lengths.{length_at}
 use Rattle.lay_flow.specs.Children.{flag_at}
 use Rattle.lay_flow.specs.BlockFloats.{shape_at}
 use Rattle.lay_flow.specs.Clearance.{IsAbove}
-use Rattle.lay_flow.specs.BlockPositions.{Extents}
 use Rattle.lay_flow.specs.BlockLayout.{BlockLayout}
 use Rattle.lay_flow.specs.Pass.State.{PassState}
 use Rattle.lay_flow.specs.Pass.Knows.{MayBe, IsCandidate}
@@ -31,5 +30,5 @@ IsAboveFloats floats clear hypothetical = (bottom : Option Length) × IsClearEdg
 -- clearance from the box at k on
 abbrev pub IsEdgeWithout : List FlowBox → PassState → ℕ → List Length → ℕ → ℤ → Type 0
 IsEdgeWithout boxes now n known k edge =
-    (extents : Extents) (clear_edges : List Length) (w : BlockLayout) → MayBe boxes n known extents → IsCandidate boxes extents clear_edges w now.clears now.clear_edges k → ((j : ℕ) → k ≤ j → flag_at w.runs.clears j ≡ false)
+    (w : BlockLayout) → MayBe boxes n known w.extents → IsCandidate boxes w now.clears now.clear_edges k → ((j : ℕ) → k ≤ j → flag_at w.runs.clears j ≡ false)
     → edge ≡ length_at w.places.marks k

@@ -8,9 +8,9 @@ use Rattle.lay_flow.specs.Lengths.{length_at}
 use Rattle.lay_flow.specs.Children.{flag_at}
 use Rattle.lay_flow.specs.MarginRuns.{block_at}
 use Rattle.lay_flow.specs.BlockFloats.{Spot, spot_at, shape_at}
-use Rattle.lay_flow.specs.BlockPositions.{Extents, is_placed}
+use Rattle.lay_flow.specs.BlockPositions.{IsBlockLayout, is_placed}
 use Rattle.lay_flow.specs.Weights.{weight}
-use Rattle.lay_flow.specs.BlockLayout.{BlockLayout, IsBlockLayout}
+use Rattle.lay_flow.specs.BlockLayout.{BlockLayout, Extents}
 use Rattle.lay_flow.specs.Clearance.{HasClearance}
 use Rattle.lay_flow.specs.Pass.State.{PassState, IsAt, IsBefore}
 use Rattle.lay_flow.specs.Pass.Bounds.{StateFits, IsStartNear, IsEdgeNear}
@@ -29,10 +29,10 @@ abbrev pub AreExtentsKept : List FlowBox → ℕ → List Length → List Length
 AreExtentsKept boxes k old new = (j : ℕ) → (is_placed (block_at boxes j).inside ≡ true → j < k) → length_at new j ≡ length_at old j
 
 -- a layout that the blocks may have at last: the boxes before m have the clearance that was decided
-pub record IsCandidate (boxes : List FlowBox) (extents : Extents) (clear_edges : List Length) (y : BlockLayout) (flags : List Bool) (edges : List Length) (m : ℕ) : Type 0 where
-  pub is_layout : IsBlockLayout boxes extents clear_edges y
+pub record IsCandidate (boxes : List FlowBox) (y : BlockLayout) (flags : List Bool) (edges : List Length) (m : ℕ) : Type 0 where
+  pub is_layout : IsBlockLayout boxes y
   pub clears : (j : ℕ) → j < m → flag_at y.runs.clears j ≡ flag_at flags j
-  pub edge : (j : ℕ) → j < m → flag_at flags j ≡ true → length_at clear_edges j ≡ length_at edges j
+  pub edge : (j : ℕ) → j < m → flag_at flags j ≡ true → length_at y.clear_edges j ≡ length_at edges j
 
 -- spots of which those that are known are the same
 abbrev pub ArePlacesKept : List Spot → List Spot → Type 0
@@ -42,8 +42,8 @@ ArePlacesKept old new = (j : ℕ) → j < length old → spot_at new j ≡ spot_
 abbrev pub AreDecided : List FlowBox → List Bool → List Length → Placing → ℕ → Type 0
 AreDecided boxes flags edges placing m =
     (k : ℕ) → 0 < k → k < m → (shape_at boxes k).float ≡ None
-    → (extents : Extents) (clear_edges : List Length) (y : BlockLayout) (places : List Spot) → MayBe boxes (length placing.places) placing.extents extents → IsCandidate boxes extents clear_edges y flags edges m → ArePlacesKept placing.places places
-    → HasClearance boxes extents clear_edges places y k
+    → (y : BlockLayout) (places : List Spot) → MayBe boxes (length placing.places) placing.extents y.extents → IsCandidate boxes y flags edges m → ArePlacesKept placing.places places
+    → HasClearance boxes y places k
 
 -- the columns of clearance, as far as the boxes before m are decided
 pub record AreClears (boxes : List FlowBox) (flags : List Bool) (edges : List Length) (m : ℕ) : Type 0 where
@@ -58,7 +58,7 @@ pub record AreClears (boxes : List FlowBox) (flags : List Bool) (edges : List Le
 pub record Knows (boxes : List FlowBox) (now : PassState) (placing : Placing) (p m : ℕ) : Type 0 where
   pub fits : StateFits boxes now p m
   pub near : IsStartNear (weight boxes m) now.start
-  pub is_at : (extents : Extents) (clear_edges : List Length) (y : BlockLayout) → MayBe boxes (length placing.places) placing.extents extents → IsCandidate boxes extents clear_edges y now.clears now.clear_edges m → IsAt boxes clear_edges y now p m
+  pub is_at : (y : BlockLayout) → MayBe boxes (length placing.places) placing.extents y.extents → IsCandidate boxes y now.clears now.clear_edges m → IsAt boxes y now p m
   pub no_extents : HaveNoExtent boxes placing.extents
   pub placed : PlacesTo boxes now.marks placing (length placing.places)
   pub early : length placing.places ≤ now.first
@@ -69,7 +69,7 @@ pub record Knows (boxes : List FlowBox) (now : PassState) (placing : Placing) (p
 pub record IsReady (boxes : List FlowBox) (now : PassState) (placing : Placing) (k : ℕ) : Type 0 where
   pub fits : StateFits boxes now (parent_at boxes k) k
   pub near : IsEdgeNear (weight boxes k) now.start
-  pub is_before : (extents : Extents) (clear_edges : List Length) (y : BlockLayout) → MayBe boxes (length placing.places) placing.extents extents → IsCandidate boxes extents clear_edges y now.clears now.clear_edges (k + 1) → IsBefore boxes clear_edges y now k
+  pub is_before : (y : BlockLayout) → MayBe boxes (length placing.places) placing.extents y.extents → IsCandidate boxes y now.clears now.clear_edges (k + 1) → IsBefore boxes y now k
   pub no_extents : HaveNoExtent boxes placing.extents
   pub placed : PlacesTo boxes now.marks placing (length placing.places)
   pub early : length placing.places ≤ now.first

@@ -13,8 +13,8 @@ use Rattle.lay_flow.specs.Lengths.{length_at}
 use Rattle.lay_flow.specs.Pass.Gathered.{IsAround}
 use Rattle.lay_flow.specs.Pass.MarginPlace.{IsPlace}
 use Rattle.lay_flow.specs.MarginRuns.{margins, has_top, run_before}
-use Rattle.lay_flow.specs.BlockPositions.{Extents, start_before}
-use Rattle.lay_flow.specs.BlockLayout.{BlockLayout, IsBlockLayout}
+use Rattle.lay_flow.specs.BlockLayout.{BlockLayout}
+use Rattle.lay_flow.specs.BlockPositions.{IsBlockLayout, start_before}
 use Rattle.lay_flow.specs.Pass.Struts.{StrutFits}
 
 -- in this layout neither the box at k nor a later one has clearance, the strut holds the margins of the run before the top
@@ -57,7 +57,7 @@ pub record Reads (boxes : List FlowBox) (w : BlockLayout) (k outermost : ℕ) (s
 pub record ReadsAll (boxes : List FlowBox) (w : BlockLayout) (k : ℕ) (strut : StrutValue) : Type 0 where
   pub all : List ℤ
   pub strut_holds : Holds strut all
-  pub mark : length_at w.places.marks k ≡ start_before boxes w.runs w.places (parent_at boxes k) k +ℤ collapse all
+  pub mark : length_at w.places.marks k ≡ start_before boxes w (parent_at boxes k) k +ℤ collapse all
 
 -- the look ahead came to the place (p, m)
 pub record IsReading (boxes : List FlowBox) (from : Outset) (strut : StrutValue) (p m : ℕ) : Type 0 where
@@ -67,11 +67,11 @@ pub record IsReading (boxes : List FlowBox) (from : Outset) (strut : StrutValue)
   pub first_place : m ≡ from.k → p ≡ parent_at boxes from.k
   pub above : from.outermost < m → from.outermost ≤ p
   pub inside : from.outermost < m → IsAround boxes from.outermost m
-  pub reads : (extents : Extents) (clear_edges : List Length) (w : BlockLayout) → IsBlockLayout boxes extents clear_edges w → ComesTo boxes w from.strut from.first from.k
+  pub reads : (w : BlockLayout) → IsBlockLayout boxes w → ComesTo boxes w from.strut from.first from.k
       → Reads boxes w from.k from.outermost strut p m
 
 -- the look ahead came to its end
 pub record HasRead (boxes : List FlowBox) (from : Outset) (strut : StrutValue) : Type 0 where
   pub fits : StrutFits strut
-  pub reads_all : (extents : Extents) (clear_edges : List Length) (w : BlockLayout) → IsBlockLayout boxes extents clear_edges w → ComesTo boxes w from.strut from.first from.k
+  pub reads_all : (w : BlockLayout) → IsBlockLayout boxes w → ComesTo boxes w from.strut from.first from.k
       → ReadsAll boxes w from.k strut

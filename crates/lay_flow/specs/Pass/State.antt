@@ -51,36 +51,36 @@ pub record IsSoFar (boxes : List FlowBox) (y : BlockLayout) (flags : List Bool) 
   pub open_yet : (j : ℕ) → j ≤ p → IsAround boxes j m → flag_at flags j ≡ false
 
 -- the run hangs from the clear edge of the box at `first`
-pub record Hangs (boxes : List FlowBox) (clear_edges : List Length) (y : BlockLayout) (now : PassState) (p m : ℕ) : Type 0 where
+pub record Hangs (boxes : List FlowBox) (y : BlockLayout) (now : PassState) (p m : ℕ) : Type 0 where
   pub clears : flag_at y.runs.clears now.first ≡ true
-  pub edge : now.start ≡ length_at clear_edges now.first
+  pub edge : now.start ≡ length_at y.clear_edges now.first
   pub open_yet : now.first ≤ p
   pub contains : IsAround boxes now.first m
 
 -- the run that comes to the place (p, m) is that of the layout y
-pub record IsInRun (boxes : List FlowBox) (clear_edges : List Length) (y : BlockLayout) (now : PassState) (p m : ℕ) : Type 0 where
+pub record IsInRun (boxes : List FlowBox) (y : BlockLayout) (now : PassState) (p m : ℕ) : Type 0 where
   pub gathered : Gathered boxes y.runs now.first p m
   pub strut_holds : Holds now.strut (margins (run_before boxes y.runs p m))
-  pub start_is : now.hangs ≡ false → now.start ≡ start_before boxes y.runs y.places p m
-  pub hanging : now.hangs ≡ true → Hangs boxes clear_edges y now p m
+  pub start_is : now.hangs ≡ false → now.start ≡ start_before boxes y p m
+  pub hanging : now.hangs ≡ true → Hangs boxes y now p m
 
 -- what is kept at the place (p, m) is that of y
-pub record IsAt (boxes : List FlowBox) (clear_edges : List Length) (y : BlockLayout) (now : PassState) (p m : ℕ) : Type 0 where
+pub record IsAt (boxes : List FlowBox) (y : BlockLayout) (now : PassState) (p m : ℕ) : Type 0 where
   pub so_far : IsSoFar boxes y now.through now.heights now.marks now.first p m
-  pub in_run : IsInRun boxes clear_edges y now p m
+  pub in_run : IsInRun boxes y now p m
 
 -- the clearance of the box at k begins a run, before its top margin
-pub record BeginsRun (clear_edges : List Length) (y : BlockLayout) (now : PassState) (k : ℕ) : Type 0 where
+pub record BeginsRun (y : BlockLayout) (now : PassState) (k : ℕ) : Type 0 where
   pub clears : flag_at y.runs.clears k ≡ true
   pub first_is : now.first ≡ k
   pub hangs : now.hangs ≡ true
-  pub edge : now.start ≡ length_at clear_edges k
+  pub edge : now.start ≡ length_at y.clear_edges k
   pub strut_holds : Holds now.strut []
 
 -- what is kept before the top margin of the box at k, and behind its clearance if it has that, is that of y
-pub record IsBefore (boxes : List FlowBox) (clear_edges : List Length) (y : BlockLayout) (now : PassState) (k : ℕ) : Type 0 where
+pub record IsBefore (boxes : List FlowBox) (y : BlockLayout) (now : PassState) (k : ℕ) : Type 0 where
   pub so_far : IsSoFar boxes y now.through now.heights now.marks now.first (parent_at boxes k) k
-  pub run : ((flag_at y.runs.clears k ≡ false) × IsInRun boxes clear_edges y now (parent_at boxes k) k) ⊎ BeginsRun clear_edges y now k
+  pub run : ((flag_at y.runs.clears k ≡ false) × IsInRun boxes y now (parent_at boxes k) k) ⊎ BeginsRun y now k
 
 -- the marks of the boxes from f on, before m, were set once their run ended at end
 pub record Settled (boxes : List FlowBox) (flags : List Bool) (old new : List Length) (f m : ℕ) (end : ℤ) : Type 0 where
