@@ -4,7 +4,6 @@ use Rattle.std.proofs.lemmas.Bool.{cases_lt, cases_eq}
 use Rattle.lay_flow.specs.declared.flow_box.FlowBox.{FlowBox}
 use Rattle.lay_flow.specs.Boxes.{parent_at, parents_of}
 use Rattle.lay_flow.proofs.BoxTrees.{parent_before, parents_together}
-use Rattle.lay_units.specs.declared.length.Unit.{Unit as Length}
 use Rattle.lay_doc.specs.Tree.{IsTree}
 use Rattle.lay_margins.specs.Collapse.{collapse}
 use Rattle.lay_flow.specs.Lengths.{length_at}
@@ -12,8 +11,8 @@ use Rattle.lay_flow.specs.Children.{flag_at, last_child}
 use Rattle.lay_flow.specs.MarginRuns.{margins, has_top, is_barred, block_at, run_at, run_before, joins_bottom, may_join_bottoms, may_collapse_through}
 use Rattle.lay_flow.specs.BlockLayout.{BlockLayout}
 use Rattle.lay_flow.specs.BlockPositions.{IsBlockLayout, start_before, start_below, border_height}
-use Rattle.lay_flow.specs.Pass.Gathered.{Gathered, IsAround}
-use Rattle.lay_flow.specs.Pass.MarginPlace.{IsPlace}
+use Rattle.lay_flow.specs.Pass.Gathered.{Gathered}
+use Rattle.lay_flow.specs.Pass.MarginPlace.{IsPlace, IsAround, margin_place}
 use Rattle.lay_flow.proofs.ContentHeights.{content_bottom, content_inner}
 use Rattle.lay_flow.proofs.Truths.{true_false, true_or, low_yes, low_not}
 use Rattle.lay_flow.proofs.RunsAgree.{Same, Closed, last_there, inside_up}
@@ -52,7 +51,7 @@ module _ (boxes : List FlowBox) (tree : IsTree (parents_of boxes)) (y : BlockLay
     next = λ w. let e = ends w in parents_together boxes tree p m lt w e;
   }
 
-  gathered_z : Gathered boxes z.runs first p m
+  gathered_z : Gathered boxes z.runs first (margin_place p m)
   gathered_z = also_gathered boxes tree y is z also first p m at was
 
   run_is : run_before boxes y.runs p m ≡ run_before boxes z.runs p m
@@ -80,7 +79,7 @@ module _ (boxes : List FlowBox) (tree : IsTree (parents_of boxes)) (y : BlockLay
   abbrev MarkSame : Type 0
   MarkSame = length_at y.places.marks p ≡ length_at z.places.marks p
 
-  closed_up : (next : ℕ) → Gathered boxes y.runs next (parent_at boxes p) m → MarksTo boxes tree y is z also next
+  closed_up : (next : ℕ) → Gathered boxes y.runs next (margin_place (parent_at boxes p) m) → MarksTo boxes tree y is z also next
       → IsClosed boxes tree y is z also p → StartsAlike boxes tree y is z also next (parent_at boxes p) m
       → AlikeAt boxes tree y is z also next (parent_at boxes p) m
   closed_up next g marks here start = record {
@@ -106,7 +105,7 @@ module _ (boxes : List FlowBox) (tree : IsTree (parents_of boxes)) (y : BlockLay
   bottom_same : start_before boxes y p m ≡ start_before boxes z p m → MarkSame → length_at y.extents.depths p ≡ length_at z.extents.depths p → content_bottom boxes y p ≡ content_bottom boxes z p
   bottom_same start mark extent = go (last_child boxes p m) refl
     where
-      runs : Same boxes y.runs z.runs p m
+      runs : Same boxes y.runs z.runs (margin_place p m)
       runs = same_runs boxes tree y is z also first p m at was
 
       go : (o : Option ℕ) → last_child boxes p m ≡ o → content_bottom boxes y p ≡ content_bottom boxes z p
@@ -136,7 +135,7 @@ module _ (boxes : List FlowBox) (tree : IsTree (parents_of boxes)) (y : BlockLay
   start_through r through = let e = last_y in rw (e, through) refl
 
   closed_standing : flag_at y.runs.through p ≡ false → start_before boxes y p m ≡ start_before boxes z p m → MarkSame → length_at y.extents.depths p ≡ length_at z.extents.depths p
-      → (next : ℕ) → Gathered boxes y.runs next (parent_at boxes p) m → MarksTo boxes tree y is z also next
+      → (next : ℕ) → Gathered boxes y.runs next (margin_place (parent_at boxes p) m) → MarksTo boxes tree y is z also next
       → AlikeAt boxes tree y is z also next (parent_at boxes p) m
   closed_standing stands start mark extent next g marks =
       let height = height_standing start mark extent stands in
@@ -227,13 +226,13 @@ module _ (boxes : List FlowBox) (tree : IsTree (parents_of boxes)) (y : BlockLay
         a ∙ sym b
 
     -- it has clearance
-    is_first : IsHanging boxes y first p m → parent_at boxes p < first → first ≡ p
+    is_first : IsHanging boxes y first (margin_place p m) → parent_at boxes p < first → first ≡ p
     is_first h low = elim (cases_eq first p) [
       | inl e ↦ e
       | inr ne ↦ (let i = h.contains p (omega (arith, from, ne)) lt in absurd (omega (arith, i, low)))
     ]
 
-    starts_cleared : IsHanging boxes y first p m → first ≡ p → length_at y.places.starts p ≡ length_at z.places.starts p
+    starts_cleared : IsHanging boxes y first (margin_place p m) → first ≡ p → length_at y.places.starts p ≡ length_at z.places.starts p
     starts_cleared h e =
         let clears = ap (flag_at y.runs.clears) (sym e) ∙ h.clears in
         let edge = was.edges p lt clears in

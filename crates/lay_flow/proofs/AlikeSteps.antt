@@ -3,7 +3,6 @@ use Rattle.std.proofs.Common.{◌≡◌, ◌⊎◌, ℕ, ◌+◌, ◌<◌, ◌�
 use Rattle.std.proofs.lemmas.Bool.{cases_lt}
 use Rattle.lay_flow.specs.declared.flow_box.FlowBox.{FlowBox}
 use Rattle.lay_flow.specs.Boxes.{parent_at, parents_of}
-use Rattle.lay_units.specs.declared.length.Unit.{Unit as Length}
 use Rattle.lay_doc.specs.Tree.{IsTree}
 use Rattle.lay_margins.specs.Collapse.{collapse}
 use Rattle.lay_flow.specs.Lengths.{length_at}
@@ -11,8 +10,8 @@ use Rattle.lay_flow.specs.Children.{flag_at}
 use Rattle.lay_flow.specs.MarginRuns.{Entry, margin, mark, margins, block_at, run_at, parts_tops, to_top, run_before}
 use Rattle.lay_flow.specs.BlockLayout.{BlockLayout}
 use Rattle.lay_flow.specs.BlockPositions.{IsBlockLayout, start_before}
-use Rattle.lay_flow.specs.Pass.Gathered.{Gathered, IsAround}
-use Rattle.lay_flow.specs.Pass.MarginPlace.{IsPlace}
+use Rattle.lay_flow.specs.Pass.Gathered.{Gathered}
+use Rattle.lay_flow.specs.Pass.MarginPlace.{IsPlace, IsAround, margin_place}
 use Rattle.lay_flow.proofs.Truths.{true_false, true_or}
 use Rattle.lay_flow.proofs.RunFacts.{goes_in, ends_above, lead_goes_on, top_run_is, parting_stands}
 use Rattle.lay_flow.proofs.LayoutFacts.{mark_standing, start_flows}
@@ -31,7 +30,7 @@ module _ (boxes : List FlowBox) (tree : IsTree (parents_of boxes)) (y : BlockLay
   IsClosed = ClosedAlike boxes tree y is z also
 
   abbrev pub StartsAlike : ℕ → ℕ → ℕ → Type 0
-  StartsAlike first p m = (start_before boxes y p m ≡ start_before boxes z p m) ⊎ IsHanging boxes y first p m
+  StartsAlike first p m = (start_before boxes y p m ≡ start_before boxes z p m) ⊎ IsHanging boxes y first (margin_place p m)
 
   abbrev pub MarksTo : ℕ → Type 0
   MarksTo m = (j : ℕ) → j < m → length_at y.places.marks j ≡ length_at z.places.marks j
@@ -46,7 +45,7 @@ module _ (boxes : List FlowBox) (tree : IsTree (parents_of boxes)) (y : BlockLay
     run_is : run_before boxes y.runs (parent_at boxes k) k ≡ run_before boxes z.runs (parent_at boxes k) k
     run_is = same_run boxes tree y is z also first (parent_at boxes k) k at was
 
-    gathered_z : Gathered boxes z.runs first (parent_at boxes k) k
+    gathered_z : Gathered boxes z.runs first (margin_place (parent_at boxes k) k)
     gathered_z = also_gathered boxes tree y is z also first (parent_at boxes k) k at was
 
     wider : (c : ℕ) → c ≤ parent_at boxes k → IsAround boxes c k → IsAround boxes c (k + 1)
@@ -78,7 +77,7 @@ module _ (boxes : List FlowBox) (tree : IsTree (parents_of boxes)) (y : BlockLay
     marks_above_clearance cleared also_cleared = marks_same boxes tree y is z also first (parent_at boxes k) k at was run_up (ended_by_clearance cleared also_cleared)
 
     module _ (clear_same : flag_at y.runs.clears k ≡ flag_at z.runs.clears k) (edge_same : flag_at y.runs.clears k ≡ true → length_at y.clear_edges k ≡ length_at z.clear_edges k) where
-      opened : (next : ℕ) → Gathered boxes y.runs next k (k + 1) → MarksTo next → StartsAlike next k (k + 1) → AlikeAt next k (k + 1)
+      opened : (next : ℕ) → Gathered boxes y.runs next (margin_place k (k + 1)) → MarksTo next → StartsAlike next k (k + 1) → AlikeAt next k (k + 1)
       opened next g marks start = record {
         gathered = g;
         clears = λ j lt. elim (cases_lt j k) [

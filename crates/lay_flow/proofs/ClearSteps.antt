@@ -18,17 +18,18 @@ use Rattle.lay_flow.specs.BlockLayout.{BlockLayout}
 use Rattle.lay_flow.specs.BlockPositions.{IsBlockLayout, is_lines, start_before}
 use Rattle.lay_flow.specs.BlockFloats.{Spot, shape_at, floats_before}
 use Rattle.lay_flow.specs.Clearance.{IsHypothetical, HasClearedFloat, IsAbove, lower_of, HasClearance}
-use Rattle.lay_flow.specs.Pass.State.{PassState, IsAt, Settled}
+use Rattle.lay_flow.specs.Pass.State.{PassState, IsAt, Settled, columns_of, Clearances, clearances_of, ended_run}
 use Rattle.lay_flow.specs.Pass.Bounds.{IsEdgeNear, IsCollapseNear}
 use Rattle.lay_flow.specs.Pass.Struts.{StrutFits}
 use Rattle.lay_flow.specs.Pass.Placed.{Placing, PlacesTo}
 use Rattle.lay_flow.specs.Pass.Knows.{Knows, IsReady, MayBe, IsCandidate, AreExtentsKept, ArePlacesKept}
-use Rattle.lay_flow.specs.Pass.Clears.{HasWaitingFloat, IsAboveFloats, IsEdgeWithout}
+use Rattle.lay_flow.specs.Pass.Clears.{HasWaitingFloat, IsAboveFloats}
 use Rattle.lay_flow.proofs.ClearedFloats.{edge_of_more, higher_with_more}
 use Rattle.lay_flow.proofs.HangingRuns.{hangs_at_edge}
 use Rattle.lay_flow.proofs.Hypotheticals.{some_hypothetical_lem}
 use Rattle.lay_flow.proofs.Openings.{opened_cleared}
 use Rattle.lay_flow.proofs.PassFits.{fits_cleared, start_edge_near}
+use Rattle.lay_flow.proofs.PlacedOn.{IsMarkWithout}
 use Rattle.lay_flow.proofs.PassSteps.{may_before, no_extents_kept, places_before, decided_placed}
 use Rattle.lay_flow.proofs.PlaceSteps.{floats_same}
 use Rattle.lay_flow.proofs.RunFacts.{lead_goes_on}
@@ -40,15 +41,16 @@ use Rattle.lay_flow.specs.Weights.{weight}
 use Rattle.lay_flow.proofs.BlockKinds.{placed_none}
 use Rattle.lay_flow.proofs.FlowBoxFacts.{in_lines_unclear}
 use Rattle.lay_flow.proofs.PlacedInRuns.{placed_in_run}
+use Rattle.lay_flow.specs.Pass.MarginPlace.{margin_place}
 
 no_some : {A : Type 0} (v : A) → None ≡ Some v → ⊥
 no_some v e = grind (arith, e)
 
 module _ (boxes : List FlowBox) (tree : IsTree (parents_of boxes)) (are_tree : IsFlowTree boxes) (now : PassState) (placing : Placing) (k : ℕ) (positive : 0 < k) (within : k < length boxes)
-    (was : Knows boxes now placing (parent_at boxes k) k) where
+    (was : Knows boxes now placing (margin_place (parent_at boxes k) k)) where
   -- the boxes before the run are placed
   pub knows_placed : (placing' : Placing) → PlacesTo boxes now.marks placing' now.first → AreExtentsKept boxes (length placing.places) placing.extents placing'.extents → ArePlacesKept placing.places placing'.places
-      → Knows boxes now placing' (parent_at boxes k) k
+      → Knows boxes now placing' (margin_place (parent_at boxes k) k)
   knows_placed placing' placed kept same =
       let l = placed.places_length in
       let early = was.early in
@@ -61,28 +63,28 @@ module _ (boxes : List FlowBox) (tree : IsTree (parents_of boxes)) (are_tree : I
         placed = subst (λ (n : ℕ). PlacesTo boxes now.marks placing' n) (sym l) placed;
         early = omega (arith, l);
         are_clears = was.are_clears;
-        decided = decided_placed boxes now.clears now.clear_edges placing placing' k more kept same was.decided;
+        decided = decided_placed boxes (clearances_of now) placing placing' k more kept same was.decided;
       }
 
   -- a layout that may be at last is one before the box at k, too
-  earlier : (y : BlockLayout) (flags : List Bool) (edges : List Length) → ((j : ℕ) → j < k → flag_at flags j ≡ flag_at now.clears j) → ((j : ℕ) → j < k → length_at edges j ≡ length_at now.clear_edges j)
-      → IsCandidate boxes y flags edges (k + 1) → IsCandidate boxes y now.clears now.clear_edges k
-  earlier y flags edges same_flags same_edges candidate = record {
+  earlier : (y : BlockLayout) (more : Clearances) → ((j : ℕ) → j < k → flag_at more.flags j ≡ flag_at now.clears j) → ((j : ℕ) → j < k → length_at more.edges j ≡ length_at now.clear_edges j)
+      → IsCandidate boxes y more (k + 1) → IsCandidate boxes y (clearances_of now) k
+  earlier y more same_flags same_edges candidate = record {
     is_layout = candidate.is_layout;
     clears = λ j lt. candidate.clears j (omega (arith, lt)) ∙ same_flags j lt;
     edge = λ j lt t. candidate.edge j (omega (arith, lt)) (same_flags j lt ∙ t) ∙ same_edges j lt;
   }
 
   -- the hypothetical layout of the box at k
-  module _ (y : BlockLayout) (may_be : MayBe boxes (length placing.places) placing.extents y.extents) (candidate : IsCandidate boxes y now.clears now.clear_edges k) where
+  module _ (y : BlockLayout) (may_be : MayBe boxes (length placing.places) placing.extents y.extents) (candidate : IsCandidate boxes y (clearances_of now) k) where
     module _ (without : BlockLayout) (is : IsHypothetical boxes y k without) where
-      may_be_without : IsCandidate boxes without now.clears now.clear_edges k
+      may_be_without : IsCandidate boxes without (clearances_of now) k
       may_be_without = record { is_layout = is.is_layout; clears = λ j lt. is.earlier j lt ∙ candidate.clears j lt; edge = λ j lt t. ap (λ (es : List Length). length_at es j) is.edges_are ∙ candidate.edge j lt t }
 
       depths_without : MayBe boxes (length placing.places) placing.extents without.extents
       depths_without = subst (MayBe boxes (length placing.places) placing.extents) (sym is.extents_are) may_be
 
-      at_without : IsAt boxes without now (parent_at boxes k) k
+      at_without : IsAt boxes without now (margin_place (parent_at boxes k) k)
       at_without = was.is_at without depths_without may_be_without
 
       lead_without : run_at without.runs.before_tops k ≡ run_before boxes without.runs (parent_at boxes k) k
@@ -106,7 +108,7 @@ module _ (boxes : List FlowBox) (tree : IsTree (parents_of boxes)) (are_tree : I
           (j, side.0, w.2, side.1, side.2, ap (has_top j) lead_without ∙ at_without.in_run.gathered.own j w.1 w.2)
 
   -- a run that hangs has the box at k at its clear edge
-  pub hanging_edge : now.hangs ≡ true → IsEdgeWithout boxes now (length placing.places) placing.extents k now.start
+  pub hanging_edge : now.hangs ≡ true → IsMarkWithout boxes now placing k now.start
   hanging_edge t w may_be candidate later =
       let run = (was.is_at w may_be candidate).in_run in
       let h = run.hanging t in
@@ -118,7 +120,7 @@ module _ (boxes : List FlowBox) (tree : IsTree (parents_of boxes)) (are_tree : I
       → Holds now.strut (margins (run_before boxes w.runs (parent_at boxes k) k)) → now.start ≡ start_before boxes w (parent_at boxes k) k
       → ((j : ℕ) → j < k → has_top j (run_before boxes w.runs (parent_at boxes k) k) ≡ not (nat_lt j now.first))
       → edge ≡ length_at w.places.marks k)
-      → IsEdgeWithout boxes now (length placing.places) placing.extents k edge
+      → IsMarkWithout boxes now placing k edge
   flowing_edge f edge ahead w may_be candidate later =
       let run = (was.is_at w may_be candidate).in_run in
       ahead w candidate.is_layout later run.strut_holds (run.start_is f) (λ j lt. elim (cases_lt j now.first) [
@@ -128,13 +130,13 @@ module _ (boxes : List FlowBox) (tree : IsTree (parents_of boxes)) (are_tree : I
 
   -- it is decided that the box at k has no clearance
   pub ready_unclear : ((shape_at boxes k).float ≡ None
-      → (y : BlockLayout) (places : List Spot) → MayBe boxes (length placing.places) placing.extents y.extents → IsCandidate boxes y now.clears now.clear_edges (k + 1) → ArePlacesKept placing.places places
+      → (y : BlockLayout) (places : List Spot) → MayBe boxes (length placing.places) placing.extents y.extents → IsCandidate boxes y (clearances_of now) (k + 1) → ArePlacesKept placing.places places
       → HasClearance boxes y places k) → IsReady boxes now placing k
   ready_unclear here = record {
     fits = was.fits;
     near = start_edge_near (weight boxes k) now.start was.near;
     is_before = λ y may_be candidate.
-        let at = was.is_at y may_be (earlier y now.clears now.clear_edges (λ j lt. refl) (λ j lt. refl) candidate) in
+        let at = was.is_at y may_be (earlier y (clearances_of now) (λ j lt. refl) (λ j lt. refl) candidate) in
         record { so_far = at.so_far; run = inl (candidate.clears k (omega arith) ∙ was.are_clears.later k (omega arith), at.in_run) };
     no_extents = was.no_extents;
     placed = was.placed;
@@ -148,13 +150,13 @@ module _ (boxes : List FlowBox) (tree : IsTree (parents_of boxes)) (are_tree : I
       no_edge = was.are_clears.no_edge;
     };
     decided = λ j low lt none y places may_be candidate kept. elim (cases_lt j k) [
-      | inl before ↦ was.decided j low before none y places may_be (earlier y now.clears now.clear_edges (λ j lt. refl) (λ j lt. refl) candidate) kept
+      | inl before ↦ was.decided j low before none y places may_be (earlier y (clearances_of now) (λ j lt. refl) (λ j lt. refl) candidate) kept
       | inr from ↦ (let e : j ≡ k = omega (arith, from, lt) in
           subst (λ (j : ℕ). HasClearance boxes y places j) (sym e) (here (ap (λ (j : ℕ). (shape_at boxes j).float) (sym e) ∙ none) y places may_be candidate kept))
     ];
   }
 
-  unclear_here : (y : BlockLayout) → IsCandidate boxes y now.clears now.clear_edges (k + 1) → flag_at y.runs.clears k ≡ false
+  unclear_here : (y : BlockLayout) → IsCandidate boxes y (clearances_of now) (k + 1) → flag_at y.runs.clears k ≡ false
   unclear_here y candidate = candidate.clears k (omega arith) ∙ was.are_clears.later k (omega arith)
 
   -- a box that goes past no floats
@@ -173,16 +175,16 @@ module _ (boxes : List FlowBox) (tree : IsTree (parents_of boxes)) (are_tree : I
       })
 
   -- no box in the run holds lines
-  bare : is_in_lines (box_at boxes k).kind ≡ false → (y : BlockLayout) → MayBe boxes (length placing.places) placing.extents y.extents → IsCandidate boxes y now.clears now.clear_edges k
+  bare : is_in_lines (box_at boxes k).kind ≡ false → (y : BlockLayout) → MayBe boxes (length placing.places) placing.extents y.extents → IsCandidate boxes y (clearances_of now) k
       → (j : ℕ) → now.first ≤ j → j < k → is_lines (block_at boxes j).inside ≡ false
   bare out y may_be candidate j from lt =
       let at = was.is_at y may_be candidate in
       (placed_none (block_at boxes j).inside (placed_in_run boxes are_tree y.runs candidate.is_layout.has_runs now.first k positive within out at.in_run.gathered j from lt)).0
 
-  ready_beside : is_in_lines (box_at boxes k).kind ≡ false → (edge : ℤ) (bottom : Option Length) → length placing.places ≡ now.first → IsEdgeWithout boxes now (length placing.places) placing.extents k edge → IsClearEdge placing.floats (shape_at boxes k).clear bottom
+  ready_beside : is_in_lines (box_at boxes k).kind ≡ false → (edge : ℤ) (bottom : Option Length) → length placing.places ≡ now.first → IsMarkWithout boxes now placing k edge → IsClearEdge placing.floats (shape_at boxes k).clear bottom
       → (HasWaitingFloat boxes now.first k → ⊥) → (IsAbove edge bottom → ⊥) → IsReady boxes now placing k
   ready_beside out edge bottom settled edge_is is_bottom none_waits below = ready_unclear (λ none y places may_be candidate kept.
-      let before = earlier y now.clears now.clear_edges (λ j lt. refl) (λ j lt. refl) candidate in
+      let before = earlier y (clearances_of now) (λ j lt. refl) (λ j lt. refl) candidate in
       let there = some_hypothetical_lem boxes y k tree are_tree.some candidate.is_layout in
       let unclear = unclear_here y candidate in
       let mark = edge_is there.0 (depths_without y may_be before there.0 there.1) (may_be_without y may_be before there.0 there.1) there.1.later in
@@ -205,17 +207,17 @@ module _ (boxes : List FlowBox) (tree : IsTree (parents_of boxes)) (are_tree : I
       })
 
   -- a box that stands below the floats that it goes past, none of which is in its run
-  pub ready_below : (edge : ℤ) (bottom : Option Length) → length placing.places ≡ now.first → IsEdgeWithout boxes now (length placing.places) placing.extents k edge → IsClearEdge placing.floats (shape_at boxes k).clear bottom
+  pub ready_below : (edge : ℤ) (bottom : Option Length) → length placing.places ≡ now.first → IsMarkWithout boxes now placing k edge → IsClearEdge placing.floats (shape_at boxes k).clear bottom
       → (HasWaitingFloat boxes now.first k → ⊥) → (IsAbove edge bottom → ⊥) → IsReady boxes now placing k
   ready_below edge bottom settled edge_is is_bottom none_waits below = true_or (is_in_lines (box_at boxes k).kind) (IsReady boxes now placing k)
       (λ in_lines. ready_unasked (λ none. in_lines_unclear boxes k in_lines))
       (λ out. ready_beside out edge bottom settled edge_is is_bottom none_waits below)
 
   -- its clearance begins a run
-  module _ (hypothetical : ℤ) (flows : (shape_at boxes k).float ≡ None) (settled : length placing.places ≡ now.first) (edge_is : IsEdgeWithout boxes now (length placing.places) placing.extents k hypothetical)
+  module _ (hypothetical : ℤ) (flows : (shape_at boxes k).float ≡ None) (settled : length placing.places ≡ now.first) (edge_is : IsMarkWithout boxes now placing k hypothetical)
       (decides : HasWaitingFloat boxes now.first k ⊎ IsAboveFloats placing.floats (shape_at boxes k).clear hypothetical)
       (marks edges : List Length) (flags : List Bool) (placing' : Placing) (end edge : ℤ) (bottom' : Option Length) (strut' : StrutValue)
-      (ends : RunEnds now.hangs now.start now.strut end) (ended : IsCollapseNear (end -ℤ now.start)) (settles : Settled boxes now.through now.marks marks now.first k end)
+      (ends : RunEnds now.hangs now.start now.strut end) (ended : IsCollapseNear (end -ℤ now.start)) (settles : Settled boxes (ended_run (columns_of now) k end) now.marks marks)
       (placed : PlacesTo boxes marks placing' k) (kept : AreExtentsKept boxes (length placing.places) placing.extents placing'.extents) (same : ArePlacesKept placing.places placing'.places)
       (is_bottom' : IsClearEdge placing'.floats (shape_at boxes k).clear bottom') (lower : edge ≡ lower_of bottom' hypothetical) (near : IsEdgeNear (weight boxes k) edge)
       (wrote_flag : Wrote flag_at now.clears flags k true) (wrote_edge : Wrote length_at now.clear_edges edges k edge) (fits' : StrutFits strut') (empty : Holds strut' []) where
@@ -228,12 +230,12 @@ module _ (boxes : List FlowBox) (tree : IsTree (parents_of boxes)) (are_tree : I
     same_edges : (j : ℕ) → j < k → length_at edges j ≡ length_at now.clear_edges j
     same_edges j lt = wrote_edge.other j (λ e. omega (arith, e, lt))
 
-    module _ (y : BlockLayout) (may_be' : MayBe boxes (length placing'.places) placing'.extents y.extents) (candidate : IsCandidate boxes y flags edges (k + 1)) where
+    module _ (y : BlockLayout) (may_be' : MayBe boxes (length placing'.places) placing'.extents y.extents) (candidate : IsCandidate boxes y (record { flags = flags; edges = edges }) (k + 1)) where
       may_be : MayBe boxes (length placing.places) placing.extents y.extents
       may_be = may_before boxes placing placing' y.extents more kept may_be'
 
-      before : IsCandidate boxes y now.clears now.clear_edges k
-      before = earlier y flags edges same_flags same_edges candidate
+      before : IsCandidate boxes y (clearances_of now) k
+      before = earlier y (record { flags = flags; edges = edges }) same_flags same_edges candidate
 
       clears_here : flag_at y.runs.clears k ≡ true
       clears_here = candidate.clears k (omega arith) ∙ wrote_flag.here

@@ -12,11 +12,11 @@ use Rattle.lay_flow.specs.Children.{flag_at}
 use Rattle.lay_flow.specs.MarginRuns.{Entry, margin, margins, has_top, is_barred, block_at, run_at, run_before, run_across, joins_bottom, may_collapse_through, may_join_bottoms}
 use Rattle.lay_flow.specs.BlockLayout.{BlockLayout}
 use Rattle.lay_flow.specs.BlockPositions.{IsBlockLayout, start_before, start_below}
-use Rattle.lay_flow.specs.Pass.State.{Settled, PassState, IsAt}
+use Rattle.lay_flow.specs.Pass.State.{Settled, PassState, IsAt, columns_of, ended_run}
 use Rattle.lay_flow.proofs.CollapsedThrough.{through_inside}
 use Rattle.lay_flow.proofs.GatheredRuns.{comes_here, comes_up, last_up, childless_on, passes_here, close_joined as gathered_joined, close_parted as gathered_parted}
 use Rattle.lay_flow.proofs.LayoutFacts.{start_next, start_clears_through, mark_through}
-use Rattle.lay_flow.specs.Pass.MarginPlace.{IsPlace}
+use Rattle.lay_flow.specs.Pass.MarginPlace.{IsPlace, margin_place}
 use Rattle.lay_flow.proofs.Openings.{WithMargin}
 use Rattle.lay_flow.proofs.RunEntries.{margins-append}
 use Rattle.lay_flow.proofs.RunFacts.{ends_inside, to_bottom_is, joins_is}
@@ -25,7 +25,7 @@ use Rattle.lay_flow.proofs.SoFar.{Wrote, so_far_settled, so_far_closed, so_far_t
 use Rattle.lay_flow.proofs.Truths.{true_false, true_or, low_not}
 
 module _ (boxes : List FlowBox) (y : BlockLayout) (is : IsBlockLayout boxes y) (tree : IsTree (parents_of boxes))
-    (now : PassState) (p m : ℕ) (positive : 0 < p) (was : IsAt boxes y now p m) (ends : m < length boxes → parent_at boxes m < p) where
+    (now : PassState) (p m : ℕ) (positive : 0 < p) (was : IsAt boxes y now (margin_place p m)) (ends : m < length boxes → parent_at boxes m < p) where
   lt : p < m
   lt = was.in_run.gathered.parent
 
@@ -79,7 +79,7 @@ module _ (boxes : List FlowBox) (y : BlockLayout) (is : IsBlockLayout boxes y) (
 
   -- the run that its clearance began starts above its clear edge
   pub started : (start : ℤ) → may_collapse_through (block_at boxes p) ≡ true → now.hangs ≡ true → now.first ≡ p → ((ms : List ℤ) → Holds now.strut ms → start ≡ now.start -ℤ collapse ms)
-      → IsAt boxes y (record now { start = start; hangs = false }) p m
+      → IsAt boxes y (record now { start = start; hangs = false }) (margin_place p m)
   started start may hangs first value = record {
     so_far = was.so_far;
     in_run = record {
@@ -98,7 +98,7 @@ module _ (boxes : List FlowBox) (y : BlockLayout) (is : IsBlockLayout boxes y) (
   pub close_passing : (marks heights : List Length) (flags : List Bool) (strut : StrutValue) (mark : ℤ) → may_collapse_through (block_at boxes p) ≡ true → now.first ≤ p → (now.hangs ≡ true → now.first < p)
       → RunEnds now.hangs now.start now.strut mark
       → Wrote length_at now.marks marks p mark → Wrote length_at now.heights heights p (pos 0) → Wrote flag_at now.through flags p true → WithMargin now.strut strut bottom
-      → IsAt boxes y (record now { marks = marks; heights = heights; through = flags; strut = strut }) (parent_at boxes p) m
+      → IsAt boxes y (record now { marks = marks; heights = heights; through = flags; strut = strut }) (margin_place (parent_at boxes p) m)
   close_passing marks heights flags strut mark may waits below reach wrote_mark wrote_height wrote_flag holds =
       let g = was.in_run.gathered in
       let truth = through_here may waits in
@@ -106,7 +106,7 @@ module _ (boxes : List FlowBox) (y : BlockLayout) (is : IsBlockLayout boxes y) (
       let zero_high : length_at y.places.heights p ≡ pos 0 = is.has_positions.height p within_p ∙ rw truth refl in
       let start = starts_here boxes y is tree now p m was.in_run place_below p waits (omega arith) inside in
       record {
-        so_far = so_far_through boxes tree y p m positive lt within inside now.through flags now.heights heights now.marks marks now.first mark g.least waits truth zero_high wrote_mark wrote_height wrote_flag (mark_is truth) was.so_far;
+        so_far = so_far_through boxes tree y p m positive lt within inside (columns_of now) (record { marks = marks; heights = heights; through = flags; first = now.first }) mark refl g.least waits truth zero_high wrote_mark wrote_height wrote_flag (mark_is truth) was.so_far;
         in_run = record {
           gathered = gathered_joined boxes tree y.runs is.has_runs p m positive lt within ends inside now.first g joined;
           strut_holds = holds_joined strut joined holds;
@@ -152,18 +152,18 @@ module _ (boxes : List FlowBox) (y : BlockLayout) (is : IsBlockLayout boxes y) (
         mark_here boxes y is tree now p m was.in_run place_below j a open_yet.0 open_yet.1 truth_j
         ∙ ap (λ (run : List Entry). start_before boxes y p m +ℤ collapse (margins run)) (out_parted parted) ∙ sym reach_parted
 
-    module _ (marks : List Length) (settled : Settled boxes now.through now.marks marks now.first m end) where
+    module _ (marks : List Length) (settled : Settled boxes (ended_run (columns_of now) m end) now.marks marks) where
       pub mark_parted : length_at marks p ≡ length_at y.places.marks p
       mark_parted =
-          (so_far_settled boxes tree y now.through now.heights now.marks marks now.first p m end was.in_run.gathered.least was.in_run.gathered.most within
+          (so_far_settled boxes tree y (columns_of now) marks p m end was.in_run.gathered.least was.in_run.gathered.most within
           (tops_here boxes y is tree now p m was.in_run place_below) ends_parted settled was.so_far).marked.stands p lt code_open truth
 
       -- its bottom margin begins a run
       pub close_parted : (heights : List Length) (strut : StrutValue) (start : ℤ) → Wrote length_at now.heights heights p (length_at y.places.heights p) → start ≡ length_at marks p +ℤ length_at heights p → Holds strut (bottom ∷ [])
-          → IsAt boxes y (record now { marks = marks; heights = heights; start = start; strut = strut; first = m; hangs = false }) (parent_at boxes p) m
+          → IsAt boxes y (record now { marks = marks; heights = heights; start = start; strut = strut; first = m; hangs = false }) (margin_place (parent_at boxes p) m)
       close_parted heights strut start wrote starts holds = record {
-        so_far = so_far_closed boxes tree y p m positive lt within inside now.through now.heights heights marks m truth wrote
-            (so_far_settled boxes tree y now.through now.heights now.marks marks now.first p m end was.in_run.gathered.least was.in_run.gathered.most within
+        so_far = so_far_closed boxes tree y p m positive lt within inside (record (columns_of now) { marks = marks; first = m }) heights truth wrote
+            (so_far_settled boxes tree y (columns_of now) marks p m end was.in_run.gathered.least was.in_run.gathered.most within
             (tops_here boxes y is tree now p m was.in_run place_below) ends_parted settled was.so_far);
         in_run = record {
           gathered = gathered_parted boxes tree y.runs is.has_runs p m positive lt within ends inside parted;
@@ -179,9 +179,9 @@ module _ (boxes : List FlowBox) (y : BlockLayout) (is : IsBlockLayout boxes y) (
 
   pub close_joined : (heights : List Length) (strut : StrutValue) (start : ℤ) → flag_at y.runs.through p ≡ false → joins_bottom boxes y.runs p ≡ true → p < now.first
       → Wrote length_at now.heights heights p (length_at y.places.heights p) → start ≡ length_at now.marks p +ℤ length_at heights p → WithMargin now.strut strut bottom
-      → IsAt boxes y (record now { heights = heights; start = start; strut = strut }) (parent_at boxes p) m
+      → IsAt boxes y (record now { heights = heights; start = start; strut = strut }) (margin_place (parent_at boxes p) m)
   close_joined heights strut start truth joined before wrote starts holds = record {
-    so_far = so_far_closed boxes tree y p m positive lt within inside now.through now.heights heights now.marks now.first truth wrote was.so_far;
+    so_far = so_far_closed boxes tree y p m positive lt within inside (columns_of now) heights truth wrote was.so_far;
     in_run = record {
       gathered = gathered_joined boxes tree y.runs is.has_runs p m positive lt within ends inside now.first was.in_run.gathered joined;
       strut_holds = holds_joined strut joined holds;

@@ -4,16 +4,15 @@ use Rattle.std.proofs.lemmas.Bool.{cases_lt}
 use Rattle.lay_flow.specs.declared.flow_box.FlowBox.{FlowBox}
 use Rattle.lay_flow.specs.Boxes.{parent_at, parents_of}
 use Rattle.lay_flow.proofs.BoxTrees.{parent_before}
-use Rattle.lay_units.specs.declared.length.Unit.{Unit as Length}
 use Rattle.lay_doc.specs.Tree.{IsTree}
 use Rattle.lay_flow.specs.Lengths.{length_at}
 use Rattle.lay_flow.specs.Children.{flag_at}
 use Rattle.lay_flow.specs.MarginRuns.{Runs, HasRuns, block_at, parts_tops, joins_bottom, may_collapse_through}
 use Rattle.lay_flow.specs.BlockLayout.{BlockLayout}
 use Rattle.lay_flow.specs.BlockPositions.{start_before, IsBlockLayout}
-use Rattle.lay_flow.specs.Pass.MarginPlace.{IsPlace}
+use Rattle.lay_flow.specs.Pass.MarginPlace.{IsPlace, IsAround, margin_place}
 use Rattle.lay_flow.proofs.MarginWalk.{walk_to}
-use Rattle.lay_flow.specs.Pass.Gathered.{IsAround, Gathered}
+use Rattle.lay_flow.specs.Pass.Gathered.{Gathered}
 use Rattle.lay_flow.proofs.Truths.{not_low}
 use Rattle.lay_flow.proofs.LayoutFacts.{start_flows}
 use Rattle.lay_flow.proofs.GatheredRuns.{gathers, one_first, childless, open_plain, open_cleared, open_parting, close_joined, close_parted, joined_through, last_up, passes_here, begins}
@@ -78,7 +77,7 @@ module _ (boxes : List FlowBox) (tree : IsTree (parents_of boxes)) (y : BlockLay
   -- while one of the boxes of a run is open, the run hasn't moved
   record Started (p m : ℕ) : Type 0 where
     pub first : ℕ
-    pub is_gathered : Gathered boxes y.runs first p m
+    pub is_gathered : Gathered boxes y.runs first (margin_place p m)
     pub starts : (d j : ℕ) → first ≤ d → d ≤ p → IsAround boxes d m → d ≤ j → j < m → length_at y.places.starts j ≡ start_before boxes y p m
 
   pub start_inside : (k : ℕ) → 0 < k → k < length boxes → parts_tops boxes k ≡ false → length_at y.places.starts k ≡ start_before boxes y k (k + 1)
@@ -127,7 +126,7 @@ module _ (boxes : List FlowBox) (tree : IsTree (parents_of boxes)) (y : BlockLay
       }
 
   -- the boxes in an open box whose top margin is in the run start where the run does
-  pub one_start : (first p m : ℕ) → IsPlace boxes p m → Gathered boxes y.runs first p m → (d j : ℕ) → first ≤ d → d ≤ p → IsAround boxes d m → d ≤ j → j < m → length_at y.places.starts j ≡ start_before boxes y p m
+  pub one_start : (first p m : ℕ) → IsPlace boxes p m → Gathered boxes y.runs first (margin_place p m) → (d j : ℕ) → first ≤ d → d ≤ p → IsAround boxes d m → d ≤ j → j < m → length_at y.places.starts j ≡ start_before boxes y p m
   one_start first p m at g d j a b holds over lt =
       let some : 0 < length boxes = let x = at.parent in let z = at.within in omega (arith, x, z) in
       let there = walk_to boxes tree Started closes_started opens_started (record {

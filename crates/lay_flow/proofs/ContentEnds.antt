@@ -4,7 +4,6 @@ use Rattle.std.proofs.lemmas.Bool.{cases_lt}
 use Rattle.std.proofs.lemmas.Int.{ints}
 use Rattle.lay_flow.specs.declared.flow_box.FlowBox.{FlowBox}
 use Rattle.lay_flow.specs.Boxes.{parent_at, parents_of}
-use Rattle.lay_units.specs.declared.length.Unit.{Unit as Length}
 use Rattle.lay_margins.specs.Collapse.{collapse}
 use Rattle.lay_doc.specs.Tree.{IsTree}
 use Rattle.lay_flow.specs.Lengths.{length_at}
@@ -22,9 +21,10 @@ use Rattle.lay_flow.proofs.RunEntries.{top_here}
 use Rattle.lay_flow.proofs.RunFacts.{first_comes, next_comes}
 use Rattle.lay_flow.proofs.RunReach.{mark_here}
 use Rattle.lay_flow.proofs.Truths.{true_false}
+use Rattle.lay_flow.specs.Pass.MarginPlace.{margin_place}
 
 module _ (boxes : List FlowBox) (y : BlockLayout) (is : IsBlockLayout boxes y) (tree : IsTree (parents_of boxes))
-    (now : PassState) (p m : ℕ) (positive : 0 < p) (was : IsAt boxes y now p m) (ends : m < length boxes → parent_at boxes m < p) where
+    (now : PassState) (p m : ℕ) (positive : 0 < p) (was : IsAt boxes y now (margin_place p m)) (ends : m < length boxes → parent_at boxes m < p) where
   within_p : p < length boxes
   within_p = let a = was.in_run.gathered.parent in let b = was.in_run.gathered.within in omega (arith, a, b)
 

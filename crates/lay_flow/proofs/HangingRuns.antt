@@ -5,7 +5,6 @@ use Rattle.std.proofs.lemmas.Int.{ints}
 use Rattle.lay_flow.specs.declared.flow_box.FlowBox.{FlowBox}
 use Rattle.lay_flow.specs.Boxes.{parent_at, parents_of}
 use Rattle.lay_flow.proofs.BoxTrees.{parent_before, parents_together}
-use Rattle.lay_units.specs.declared.length.Unit.{Unit as Length}
 use Rattle.lay_doc.specs.Tree.{IsTree}
 use Rattle.lay_margins.specs.Collapse.{collapse}
 use Rattle.lay_flow.specs.Lengths.{length_at}
@@ -13,13 +12,14 @@ use Rattle.lay_flow.specs.Children.{flag_at}
 use Rattle.lay_flow.specs.MarginRuns.{margins, has_top, run_at, run_before}
 use Rattle.lay_flow.specs.BlockLayout.{BlockLayout}
 use Rattle.lay_flow.specs.BlockPositions.{IsBlockLayout, start_before}
-use Rattle.lay_flow.specs.Pass.Gathered.{Gathered, IsAround}
+use Rattle.lay_flow.specs.Pass.Gathered.{Gathered}
 use Rattle.lay_flow.proofs.Truths.{true_false, true_or, low_not}
 use Rattle.lay_flow.proofs.RunFacts.{goes_in, lead_goes_on, lead_begins}
 use Rattle.lay_flow.proofs.LayoutFacts.{mark_standing, mark_inherits, mark_through, start_flows, start_clears, start_clears_through}
 use Rattle.lay_flow.proofs.GatheredRuns.{next_here}
 use Rattle.lay_flow.proofs.CollapsedThrough.{through_inside, one_start}
 use Rattle.lay_flow.proofs.LookAhead.{place_before}
+use Rattle.lay_flow.specs.Pass.MarginPlace.{IsAround, margin_place}
 
 module _ (boxes : List FlowBox) (tree : IsTree (parents_of boxes)) (w : BlockLayout) (is : IsBlockLayout boxes w) where
   -- a box with clearance stands at its clear edge
@@ -36,7 +36,7 @@ module _ (boxes : List FlowBox) (tree : IsTree (parents_of boxes)) (w : BlockLay
       own_lead : flag_at w.runs.through d ≡ true → has_top (parent_at boxes d) (run_at w.runs.before_tops d) ≡ false
       own_lead t = let lead = lead_begins boxes w.runs is.has_runs d positive within cleared in ap (has_top (parent_at boxes d)) lead
 
-  module _ (first k : ℕ) (within : k < length boxes) (g : Gathered boxes w.runs first (parent_at boxes k) k) (cleared : flag_at w.runs.clears first ≡ true) (unclear : flag_at w.runs.clears k ≡ false)
+  module _ (first k : ℕ) (within : k < length boxes) (g : Gathered boxes w.runs first (margin_place (parent_at boxes k) k)) (cleared : flag_at w.runs.clears first ≡ true) (unclear : flag_at w.runs.clears k ≡ false)
       (above : first ≤ parent_at boxes k) (contains : IsAround boxes first k) where
     positive : 0 < first
     positive = g.least

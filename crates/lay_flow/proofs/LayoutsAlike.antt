@@ -4,7 +4,6 @@ use Rattle.std.proofs.lemmas.Bool.{cases_lt}
 use Rattle.lay_flow.specs.declared.flow_box.FlowBox.{FlowBox}
 use Rattle.lay_flow.specs.Boxes.{parent_at, parents_of}
 use Rattle.lay_flow.proofs.BoxTrees.{parent_before}
-use Rattle.lay_units.specs.declared.length.Unit.{Unit as Length}
 use Rattle.lay_doc.specs.Tree.{IsTree}
 use Rattle.lay_margins.specs.Collapse.{collapse}
 use Rattle.lay_flow.specs.Lengths.{length_at}
@@ -12,8 +11,8 @@ use Rattle.lay_flow.specs.Children.{flag_at}
 use Rattle.lay_flow.specs.MarginRuns.{Entry, margins, has_top, run_at, run_before}
 use Rattle.lay_flow.specs.BlockLayout.{BlockLayout}
 use Rattle.lay_flow.specs.BlockPositions.{IsBlockLayout, start_before}
-use Rattle.lay_flow.specs.Pass.Gathered.{Gathered, IsAround}
-use Rattle.lay_flow.specs.Pass.MarginPlace.{IsPlace}
+use Rattle.lay_flow.specs.Pass.Gathered.{Gathered}
+use Rattle.lay_flow.specs.Pass.MarginPlace.{IsPlace, IsAround, MarginPlace, margin_place}
 use Rattle.lay_flow.proofs.Truths.{true_or}
 use Rattle.lay_flow.proofs.RunsAgree.{Same}
 use Rattle.lay_flow.proofs.RunsUpTo.{runs_up_to, run_up_to}
@@ -44,11 +43,11 @@ open_or_ended boxes j (suc m) = elim (open_or_ended boxes j m) [
   ]
 ]
 
--- the run that comes to the place (p, m) was begun by clearance of the box at `first`, which is open
-pub record IsHanging (boxes : List FlowBox) (y : BlockLayout) (first p m : ℕ) : Type 0 where
+-- the run that comes to a place was begun by clearance of the box at `first`, which is open
+pub record IsHanging (boxes : List FlowBox) (y : BlockLayout) (first : ℕ) (at : MarginPlace) : Type 0 where
   pub clears : flag_at y.runs.clears first ≡ true
-  pub above : first ≤ p
-  pub contains : IsAround boxes first m
+  pub above : first ≤ at.inner
+  pub contains : IsAround boxes first at.next
 
 module _ (boxes : List FlowBox) (tree : IsTree (parents_of boxes)) (y : BlockLayout) (is : IsBlockLayout boxes y)
     (z : BlockLayout) (also : IsBlockLayout boxes z) where
@@ -59,28 +58,28 @@ module _ (boxes : List FlowBox) (tree : IsTree (parents_of boxes)) (y : BlockLay
 
   -- the layouts are alike at the place (p, m): the boxes before `first` have their marks
   pub record Alike (first p m : ℕ) : Type 0 where
-    pub gathered : Gathered boxes y.runs first p m
+    pub gathered : Gathered boxes y.runs first (margin_place p m)
     pub clears : (j : ℕ) → j < m → flag_at y.runs.clears j ≡ flag_at z.runs.clears j
     pub edges : (j : ℕ) → j < m → flag_at y.runs.clears j ≡ true → length_at y.clear_edges j ≡ length_at z.clear_edges j
     pub mark : (j : ℕ) → j < first → length_at y.places.marks j ≡ length_at z.places.marks j
     pub closed : (j : ℕ) → p < j → j < m → ClosedAlike j
     pub gone : (j i : ℕ) → j < i → i < m → parent_at boxes i < j → ClosedAlike j
-    pub start : (start_before boxes y p m ≡ start_before boxes z p m) ⊎ IsHanging boxes y first p m
+    pub start : (start_before boxes y p m ≡ start_before boxes z p m) ⊎ IsHanging boxes y first (margin_place p m)
 
   module _ (first p m : ℕ) (at : IsPlace boxes p m) (was : Alike first p m) where
-    pub same_runs : Same boxes y.runs z.runs p m
+    pub same_runs : Same boxes y.runs z.runs (margin_place p m)
     same_runs = runs_up_to boxes tree y.runs z.runs is.has_runs also.has_runs m was.clears p m at (omega arith)
 
     pub same_run : run_before boxes y.runs p m ≡ run_before boxes z.runs p m
     same_run = run_up_to boxes tree y.runs z.runs is.has_runs also.has_runs m was.clears p m at (omega arith)
 
-    pub also_gathered : Gathered boxes z.runs first p m
+    pub also_gathered : Gathered boxes z.runs first (margin_place p m)
     also_gathered =
         let there = gathers boxes tree z.runs also.has_runs p m at in
         let e = same_run in
         let same = one_first boxes z.runs there.first first p m there.is_gathered was.gathered.most
         (λ j lt le. ap (has_top j) (sym e) ∙ was.gathered.own j le lt) (λ j lt low. ap (has_top j) (sym e) ∙ was.gathered.older j low) in
-        subst (λ (f : ℕ). Gathered boxes z.runs f p m) same there.is_gathered
+        subst (λ (f : ℕ). Gathered boxes z.runs f (margin_place p m)) same there.is_gathered
 
     -- the run ended: this is the whole run of the top margin of an open box in it
     pub record EndsIn (run : List Entry) (c : ℕ) : Type 0 where

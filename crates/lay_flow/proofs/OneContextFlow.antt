@@ -3,7 +3,6 @@ use Rattle.std.proofs.Common.{◌≡◌, ℕ, ◌+◌, ◌<◌, ◌≤◌, false
 use Rattle.lay_flow.specs.FlowBoxes.{IsFlowTree}
 use Rattle.lay_flow.specs.declared.flow_box.FlowBox.{FlowBox}
 use Rattle.lay_flow.specs.Boxes.{parent_at, parents_of}
-use Rattle.lay_units.specs.declared.length.Unit.{Unit as Length}
 use Rattle.lay_doc.specs.Tree.{IsTree}
 use Rattle.lay_doc.proofs.OneStyles.{same_list}
 use Rattle.lay_floats.specs.declared.requests.Clear.TheVariants.{Both as clear_both}
@@ -14,12 +13,11 @@ use Rattle.lay_flow.specs.Children.{flag_at}
 use Rattle.lay_flow.specs.MarginRuns.{block_at, run_before}
 use Rattle.lay_flow.specs.BlockLayout.{BlockLayout}
 use Rattle.lay_flow.specs.BlockPositions.{is_placed, start_before}
-use Rattle.lay_flow.specs.BlockFloats.{Spot, no_spot, place_at, floats_before}
+use Rattle.lay_flow.specs.BlockFloats.{Spot, no_spot, floats_before}
 use Rattle.lay_flow.specs.ContextFlow.{Flow, IsContextFlow}
 use Rattle.lay_flow.specs.Pass.MarginPlace.{IsPlace}
 use Rattle.lay_flow.specs.Laws.{OneContextFlow, OneFlowOf}
-use Rattle.lay_flow.specs.FlowPlaces.{no_box_place, border_box, place_in_lines}
-use Rattle.lay_flow.specs.Boxes.{box_at}
+use Rattle.lay_flow.specs.FlowPlaces.{no_box_place, border_box_in}
 use Rattle.lay_flow.proofs.Truths.{true_false, true_or}
 use Rattle.lay_flow.proofs.BlockKinds.{joins_flow}
 use Rattle.lay_flow.proofs.BlockLayoutLaws.{one_block_layout_lem, same_lengths}
@@ -127,7 +125,7 @@ one_flow_of_lem boxes out other are is also =
     let e = one_context_flow_lem boxes is.flow also.flow are is.is_flow also.is_flow in
     let boxes_same : out.boxes ≡ other.boxes = same_list no_box_place out.boxes other.boxes (is.places.count ∙ sym also.places.count) (λ k lt. let l = is.places.count in
     is.places.each k (omega (arith, lt, l))
-    ∙ ap (λ (f : Flow). border_box (box_at boxes k).kind (record { 0 = length_at f.layout.places.marks k }) (record { 0 = length_at f.layout.places.heights k }) (place_at f.places k) (place_in_lines f.places k)) e
+    ∙ ap (λ (f : Flow). border_box_in boxes f k) e
     ∙ sym (also.places.each k (omega (arith, lt, l)))) in
     let lines_same : out.lines ≡ other.lines = is.places.lines ∙ ap (λ (f : Flow). map (λ (p : Spot). p.lines.rows) f.places) e ∙ sym also.places.lines in
     λ i. record { boxes = boxes_same i; lines = lines_same i }

@@ -12,14 +12,14 @@ use Rattle.lay_doc.specs.Tree.{IsTree}
 use Rattle.lay_flow.specs.Lengths.{length_at}
 use Rattle.lay_flow.specs.Children.{flag_at}
 use Rattle.lay_flow.specs.MarginRuns.{Entry, margin, mark, margins, has_top, block_at, run_at, parts_tops, to_top, run_before, run_across}
-use Rattle.lay_flow.specs.Pass.Gathered.{Gathered, IsAround}
+use Rattle.lay_flow.specs.Pass.Gathered.{Gathered}
 use Rattle.lay_flow.specs.BlockLayout.{BlockLayout}
 use Rattle.lay_flow.specs.BlockPositions.{IsBlockLayout, start_before}
-use Rattle.lay_flow.specs.Pass.State.{Settled, PassState, IsInRun, IsAt, BeginsRun, IsBefore}
+use Rattle.lay_flow.specs.Pass.State.{Settled, PassState, IsInRun, IsAt, BeginsRun, IsBefore, columns_of, ended_run}
 use Rattle.lay_flow.proofs.CollapsedThrough.{through_inside}
 use Rattle.lay_flow.proofs.GatheredRuns.{childless, next_here, open_plain, open_cleared, open_parting}
 use Rattle.lay_flow.proofs.LayoutFacts.{start_first, start_flows, start_clears, mark_standing}
-use Rattle.lay_flow.specs.Pass.MarginPlace.{IsPlace}
+use Rattle.lay_flow.specs.Pass.MarginPlace.{IsPlace, IsAround, margin_place}
 use Rattle.lay_flow.proofs.RunEntries.{margins-append}
 use Rattle.lay_flow.proofs.RunFacts.{first_comes, goes_in, ends_above, lead_goes_on, lead_begins, top_run_is, parting_stands}
 use Rattle.lay_flow.proofs.RunReach.{RunEnds, mark_here, waiting_open, tops_here, reach_is}
@@ -34,7 +34,7 @@ abbrev pub WithMargin : StrutValue → StrutValue → ℤ → Type 0
 WithMargin old new v = (ms : List ℤ) → Holds old ms → Holds new (ms ++ v ∷ [])
 
 -- the place before the top margin of a box
-pub place_above : (boxes : List FlowBox) (y : BlockLayout) (now : PassState) (k : ℕ) → IsInRun boxes y now (parent_at boxes k) k → IsPlace boxes (parent_at boxes k) k
+pub place_above : (boxes : List FlowBox) (y : BlockLayout) (now : PassState) (k : ℕ) → IsInRun boxes y now (margin_place (parent_at boxes k) k) → IsPlace boxes (parent_at boxes k) k
 place_above boxes y now k run = record { parent = run.gathered.parent; within = run.gathered.within; inside = run.gathered.inside; next = λ w. omega arith }
 
 module _ (boxes : List FlowBox) (y : BlockLayout) (is : IsBlockLayout boxes y) (tree : IsTree (parents_of boxes))
@@ -63,10 +63,10 @@ module _ (boxes : List FlowBox) (y : BlockLayout) (is : IsBlockLayout boxes y) (
     | inr here ↦ (let e : i ≡ k = omega (arith, here, high) in rw e le)
   ]
 
-  pub opened : (now : PassState) (strut : StrutValue) → parts_tops boxes k ≡ false → WithMargin now.strut strut top → IsBefore boxes y now k → IsAt boxes y (pushed now strut) k (k + 1)
-  opened now strut plain holds was = record { so_far = so_far_opened boxes tree y now.through now.heights now.marks now.first k positive within was.so_far; in_run = elim was.run [ inl both ↦ goes_on both.0 both.1 | inr begins ↦ hangs begins ] }
+  pub opened : (now : PassState) (strut : StrutValue) → parts_tops boxes k ≡ false → WithMargin now.strut strut top → IsBefore boxes y now k → IsAt boxes y (pushed now strut) (margin_place k (k + 1))
+  opened now strut plain holds was = record { so_far = so_far_opened boxes tree y (columns_of now) k positive within was.so_far; in_run = elim was.run [ inl both ↦ goes_on both.0 both.1 | inr begins ↦ hangs begins ] }
     where
-      goes_on : flag_at y.runs.clears k ≡ false → IsInRun boxes y now (parent_at boxes k) k → IsInRun boxes y (pushed now strut) k (k + 1)
+      goes_on : flag_at y.runs.clears k ≡ false → IsInRun boxes y now (margin_place (parent_at boxes k) k) → IsInRun boxes y (pushed now strut) (margin_place k (k + 1))
       goes_on unclear run = record {
         gathered = open_plain boxes tree y.runs is.has_runs k positive within now.first run.gathered plain unclear;
         strut_holds = let e = ap margins (to_top_here plain) ∙ top_margins unclear in rw e (holds (margins c) run.strut_holds);
@@ -74,13 +74,13 @@ module _ (boxes : List FlowBox) (y : BlockLayout) (is : IsBlockLayout boxes y) (
         hanging = λ t. let h = run.hanging t in let le = h.open_yet in let u = up in record { clears = h.clears; edge = h.edge; open_yet = omega (arith, le, u); contains = contains_more now.first le h.contains };
       }
 
-      hangs : BeginsRun y now k → IsInRun boxes y (pushed now strut) k (k + 1)
+      hangs : BeginsRun y now k → IsInRun boxes y (pushed now strut) (margin_place k (k + 1))
       hangs begins =
           let same = begins.first_is in
           let lead = lead_begins boxes y.runs is.has_runs k positive within begins.clears in
           let one : margins (run_before boxes y.runs k (k + 1)) ≡ top ∷ [] = ap margins (to_top_here plain) ∙ ap (λ (xs : List Entry). margins (xs ++ mark k ∷ margin top ∷ [])) lead in
           record {
-            gathered = subst (λ (f : ℕ). Gathered boxes y.runs f k (k + 1)) (sym same) (open_cleared boxes tree y.runs is.has_runs k positive within plain begins.clears);
+            gathered = subst (λ (f : ℕ). Gathered boxes y.runs f (margin_place k (k + 1))) (sym same) (open_cleared boxes tree y.runs is.has_runs k positive within plain begins.clears);
             strut_holds = rw one (holds [] begins.strut_holds);
             start_is = λ f. absurd (true_false now.hangs begins.hangs f);
             hanging = λ t. record {
@@ -113,7 +113,7 @@ module _ (boxes : List FlowBox) (y : BlockLayout) (is : IsBlockLayout boxes y) (
             minus_plus : (s e c : ℤ) → s ≡ e -ℤ c → s +ℤ c ≡ e
             minus_plus s e c h = omega (arith, ints, h)
 
-        goes_on : flag_at y.runs.clears k ≡ false → IsInRun boxes y now (parent_at boxes k) k → length_at y.places.marks j ≡ end
+        goes_on : flag_at y.runs.clears k ≡ false → IsInRun boxes y now (margin_place (parent_at boxes k) k) → length_at y.places.marks j ≡ end
         goes_on unclear run =
             let at = place_above boxes y now k run in
             let into : run_across boxes y.runs (parent_at boxes k) k ≡ run_at y.runs.top_runs k = goes_in boxes y.runs (parent_at boxes k) k k (next_here boxes tree y.runs is.has_runs k positive within) unclear in
@@ -139,7 +139,7 @@ module _ (boxes : List FlowBox) (y : BlockLayout) (is : IsBlockLayout boxes y) (
     tops_wall : (j : ℕ) → now.first ≤ j → j < k + 1 → has_top (parent_at boxes j) (run_at y.runs.before_tops j) ≡ not (nat_lt (parent_at boxes j) now.first)
     tops_wall j a b = elim was.run [ inl both ↦ goes_on both.0 both.1 | inr begins ↦ hangs begins ]
       where
-        goes_on : flag_at y.runs.clears k ≡ false → IsInRun boxes y now (parent_at boxes k) k → has_top (parent_at boxes j) (run_at y.runs.before_tops j) ≡ not (nat_lt (parent_at boxes j) now.first)
+        goes_on : flag_at y.runs.clears k ≡ false → IsInRun boxes y now (margin_place (parent_at boxes k) k) → has_top (parent_at boxes j) (run_at y.runs.before_tops j) ≡ not (nat_lt (parent_at boxes j) now.first)
         goes_on unclear run = elim (cases_lt j k) [
           | inl lt ↦ tops_here boxes y is tree now (parent_at boxes k) k run (place_above boxes y now k run) j a lt
           | inr ge ↦ (let same : j ≡ k = omega (arith, b, ge) in subst (λ (j : ℕ). has_top (parent_at boxes j) (run_at y.runs.before_tops j) ≡ not (nat_lt (parent_at boxes j) now.first)) (sym same) here)
@@ -165,14 +165,14 @@ module _ (boxes : List FlowBox) (y : BlockLayout) (is : IsBlockLayout boxes y) (
     first_most : now.first ≤ k
     first_most = elim was.run [ inl both ↦ both.1.gathered.most | inr begins ↦ (let f = begins.first_is in omega (arith, f)) ]
 
-    pub opened_wall : (marks : List Length) (empty_strut : StrutValue) (start : ℤ) → Holds empty_strut [] → Settled boxes now.through now.marks marks now.first (k + 1) end → start ≡ length_at marks k +ℤ (block_at boxes k).edge_top.0
-        → IsAt boxes y (record now { marks = marks; start = start; strut = empty_strut; first = k + 1; hangs = false }) k (k + 1)
+    pub opened_wall : (marks : List Length) (empty_strut : StrutValue) (start : ℤ) → Holds empty_strut [] → Settled boxes (ended_run (columns_of now) (k + 1) end) now.marks marks → start ≡ length_at marks k +ℤ (block_at boxes k).edge_top.0
+        → IsAt boxes y (record now { marks = marks; start = start; strut = empty_strut; first = k + 1; hangs = false }) (margin_place k (k + 1))
     opened_wall marks empty_strut start empty settled starts =
         let f = first_most in
         let e = childless boxes tree y.runs is.has_runs k positive within in
         let come : run_before boxes y.runs k (k + 1) ≡ [] = first_comes boxes y.runs k (k + 1) e ∙ rw wall refl in
-        let so_far = so_far_settled boxes tree y now.through now.heights now.marks marks now.first k (k + 1) end first_least (omega (arith, f)) (omega (arith, within)) tops_wall ends_wall settled
-        (so_far_opened boxes tree y now.through now.heights now.marks now.first k positive within was.so_far) in
+        let so_far = so_far_settled boxes tree y (columns_of now) marks k (k + 1) end first_least (omega (arith, f)) (omega (arith, within)) tops_wall ends_wall settled
+        (so_far_opened boxes tree y (columns_of now) k positive within was.so_far) in
         record {
           so_far = so_far;
           in_run = record {
@@ -185,7 +185,7 @@ module _ (boxes : List FlowBox) (y : BlockLayout) (is : IsBlockLayout boxes y) (
         }
 
   -- where the run ends, before the clearance of the box
-  module _ (now : PassState) (end : ℤ) (clears : flag_at y.runs.clears k ≡ true) (ends : RunEnds now.hangs now.start now.strut end) (was : IsAt boxes y now (parent_at boxes k) k) where
+  module _ (now : PassState) (end : ℤ) (clears : flag_at y.runs.clears k ≡ true) (ends : RunEnds now.hangs now.start now.strut end) (was : IsAt boxes y now (margin_place (parent_at boxes k) k)) where
     at_above : IsPlace boxes (parent_at boxes k) k
     at_above = place_above boxes y now k was.in_run
 
@@ -209,10 +209,10 @@ module _ (boxes : List FlowBox) (y : BlockLayout) (is : IsBlockLayout boxes y) (
         mark_here boxes y is tree now (parent_at boxes k) k was.in_run at_above j a open_yet.0 open_yet.1 truth ∙ sym reach
 
     -- the clearance begins a run
-    pub opened_cleared : (marks edges : List Length) (flags : List Bool) (empty_strut : StrutValue) (edge : ℤ) → Holds empty_strut [] → Settled boxes now.through now.marks marks now.first k end → edge ≡ length_at y.clear_edges k
+    pub opened_cleared : (marks edges : List Length) (flags : List Bool) (empty_strut : StrutValue) (edge : ℤ) → Holds empty_strut [] → Settled boxes (ended_run (columns_of now) k end) now.marks marks → edge ≡ length_at y.clear_edges k
         → IsBefore boxes y (record now { marks = marks; clears = flags; clear_edges = edges; start = edge; strut = empty_strut; first = k; hangs = true }) k
     opened_cleared marks edges flags empty_strut edge empty settled edge_is = record {
-      so_far = so_far_settled boxes tree y now.through now.heights now.marks marks now.first (parent_at boxes k) k end was.in_run.gathered.least was.in_run.gathered.most (omega (arith, within))
+      so_far = so_far_settled boxes tree y (columns_of now) marks (parent_at boxes k) k end was.in_run.gathered.least was.in_run.gathered.most (omega (arith, within))
           (tops_here boxes y is tree now (parent_at boxes k) k was.in_run at_above) ends_cleared settled was.so_far;
       run = inr (record { clears = clears; first_is = refl; hangs = refl; edge = edge_is; strut_holds = empty });
     }

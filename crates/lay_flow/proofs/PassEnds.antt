@@ -16,7 +16,7 @@ use Rattle.lay_flow.specs.MarginRuns.{Entry, margins, block_at, run_at, run_befo
 use Rattle.lay_flow.specs.BlockLayout.{BlockLayout, Extents}
 use Rattle.lay_flow.specs.BlockPositions.{IsBlockLayout, content_top, start_below, start_before, border_height, content_height, is_solid}
 use Rattle.lay_flow.specs.ContextFlow.{AreContextPlaces}
-use Rattle.lay_flow.specs.Pass.State.{PassState, Settled}
+use Rattle.lay_flow.specs.Pass.State.{PassState, Settled, columns_of, clearances_of, ended_run}
 use Rattle.lay_flow.specs.FlowBoxes.{AreFlowBoxes}
 use Rattle.lay_flow.specs.Pass.Bounds.{clears_of, clear_edges_of, StateFits, AreBoxHeights, held_end}
 use Rattle.lay_flow.specs.Pass.Struts.{StrutFits}
@@ -33,6 +33,7 @@ use Rattle.lay_flow.proofs.RunReach.{RunEnds}
 use Rattle.lay_flow.proofs.SoFar.{Wrote}
 use Rattle.lay_flow.proofs.Truths.{true_false}
 use Rattle.lay_flow.proofs.WholePass.{begins, all_marks, all_heights, reach_end}
+use Rattle.lay_flow.specs.Pass.MarginPlace.{margin_place}
 
 pub flags_at : (n k : ℕ) → flag_at (replicate n false) k ≡ false
 flags_at zero k = refl
@@ -63,7 +64,7 @@ module _ (boxes : List FlowBox) (input : AreFlowBoxes boxes) where
       → Holds now.strut [] → StrutFits now.strut → now.start ≡ (block_at boxes 0).edge_top.0
       → ((j : ℕ) → length_at now.marks j ≡ pos 0) → ((j : ℕ) → length_at now.heights j ≡ pos 0) → ((j : ℕ) → flag_at now.through j ≡ false)
       → ((j : ℕ) → flag_at now.clears j ≡ false) → ((j : ℕ) → length_at now.clear_edges j ≡ pos 0)
-      → Knows boxes now placing 0 1
+      → Knows boxes now placing (margin_place 0 1)
   knows_first now placing placed no_extents l1 l2 l3 l4 l5 first hangs holds fits start marks heights flags clears edges =
       let some = input.is_tree.some in
       let inset = (block_fits boxes input 0 some).edge_top in
@@ -122,9 +123,9 @@ module _ (boxes : List FlowBox) (input : AreFlowBoxes boxes) where
           bottom ∙ two (start_below y c) (start_before boxes y 0 (length boxes)) (run_at y.runs.to_bottoms c) (run_before boxes y.runs 0 (length boxes)) (sym start) (sym run)
 
   pub all_places : (now : PassState) (placing placing' : Placing) (marks heights : List Length) (bottom : Option Length) (end over mark height : ℤ)
-      → Knows boxes now placing 0 (length boxes)
+      → Knows boxes now placing (margin_place 0 (length boxes))
       → RunEnds now.hangs now.start now.strut end
-      → Settled boxes now.through now.marks marks now.first (length boxes) end
+      → Settled boxes (ended_run (columns_of now) (length boxes) end) now.marks marks
       → PlacesTo boxes marks placing' (length boxes) → AreExtentsKept boxes (length placing.places) placing.extents placing'.extents → ArePlacesKept placing.places placing'.places
       → IsClearEdge placing'.floats clear_both bottom
       → mark ≡ length_at marks 0 → over ≡ held_end (block_at boxes 0).inside (mark +ℤ (block_at boxes 0).edge_top.0) (length_at placing'.extents 0) end
@@ -138,7 +139,7 @@ module _ (boxes : List FlowBox) (input : AreFlowBoxes boxes) where
       let y : BlockLayout = record { extents = extents; clear_edges = now.clear_edges; runs = there.0; places = there.1 } in
       let is = there.3 in
       let clears : (k : ℕ) → flag_at y.runs.clears k ≡ flag_at now.clears k = λ k. ap (λ (flags : List Bool). flag_at flags k) there.2 in
-      let candidate : IsCandidate boxes y now.clears now.clear_edges n = record { is_layout = is; clears = λ j lt. clears j; edge = λ j lt t. refl } in
+      let candidate : IsCandidate boxes y (clearances_of now) n = record { is_layout = is; clears = λ j lt. clears j; edge = λ j lt t. refl } in
       let positive = known.fits.first_least in
       let may_be : MayBe boxes (length placing.places) placing.extents extents = λ j lt is_there. kept j (λ s. lt) in
       let no_extents = no_extents_kept boxes placing.extents placing'.extents (length placing.places) kept known.no_extents in

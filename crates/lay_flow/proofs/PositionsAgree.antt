@@ -4,7 +4,6 @@ use Rattle.std.proofs.lemmas.Bool.{cases_lt, cases_eq}
 use Rattle.lay_flow.specs.declared.flow_box.FlowBox.{FlowBox}
 use Rattle.lay_flow.specs.Boxes.{parent_at, parents_of}
 use Rattle.lay_flow.proofs.BoxTrees.{parent_before}
-use Rattle.lay_units.specs.declared.length.Unit.{Unit as Length}
 use Rattle.lay_doc.specs.Tree.{IsTree}
 use Rattle.lay_heights.specs.AutoHeights.{root_height_of}
 use Rattle.lay_flow.specs.Lengths.{length_at}
@@ -16,6 +15,7 @@ use Rattle.lay_flow.proofs.ContentHeights.{content_bottom, content_inner, conten
 use Rattle.lay_flow.proofs.ChildPlaces.{last_same}
 use Rattle.lay_flow.proofs.MarginWalk.{walk}
 use Rattle.lay_flow.proofs.RunsAgree.{last_there, none_left, inside_up}
+use Rattle.lay_flow.specs.Pass.MarginPlace.{MarginPlace, margin_place}
 
 -- the second columns are worked out from the first
 pub record AreNextPositions (boxes : List FlowBox) (old : BlockLayout) (new : Positions) : Type 0 where
@@ -23,12 +23,12 @@ pub record AreNextPositions (boxes : List FlowBox) (old : BlockLayout) (new : Po
   pub mark : (k : ℕ) → k < length boxes → length_at new.marks k ≡ mark_of boxes old k
   pub height : (k : ℕ) → k < length boxes → length_at new.heights k ≡ height_of boxes old k
 
--- the columns agree up to the place (p, m)
-pub record SamePositions (boxes : List FlowBox) (s t : Positions) (p m : ℕ) : Type 0 where
-  pub start : (j : ℕ) → j < m → length_at s.starts j ≡ length_at t.starts j
-  pub mark : (j : ℕ) → j < m → length_at s.marks j ≡ length_at t.marks j
-  pub closed : (j : ℕ) → p < j → j < m → length_at s.heights j ≡ length_at t.heights j
-  pub gone : (j i : ℕ) → j < i → i < m → parent_at boxes i < j → length_at s.heights j ≡ length_at t.heights j
+-- the columns agree up to a place
+pub record SamePositions (boxes : List FlowBox) (s t : Positions) (at : MarginPlace) : Type 0 where
+  pub start : (j : ℕ) → j < at.next → length_at s.starts j ≡ length_at t.starts j
+  pub mark : (j : ℕ) → j < at.next → length_at s.marks j ≡ length_at t.marks j
+  pub closed : (j : ℕ) → at.inner < j → j < at.next → length_at s.heights j ≡ length_at t.heights j
+  pub gone : (j i : ℕ) → j < i → i < at.next → parent_at boxes i < j → length_at s.heights j ≡ length_at t.heights j
 
 module _ (boxes : List FlowBox) (tree : IsTree (parents_of boxes)) (y : BlockLayout) (a b : ℕ → Positions)
     (a_next : (i : ℕ) → AreNextPositions boxes (record y { places = a i }) (a (suc i))) (b_next : (i : ℕ) → AreNextPositions boxes (record y { places = b i }) (b (suc i))) where
@@ -41,12 +41,12 @@ module _ (boxes : List FlowBox) (tree : IsTree (parents_of boxes)) (y : BlockLay
     pub within : m ≤ length boxes
     pub inside : (i : ℕ) → p < i → i < m → p ≤ parent_at boxes i
     pub after : ℕ
-    pub same : (i : ℕ) → after ≤ i → SamePositions boxes (a i) (b i) p m
+    pub same : (i : ℕ) → after ≤ i → SamePositions boxes (a i) (b i) (margin_place p m)
 
   below_same : (s t : Positions) (c : ℕ) → length_at s.starts c ≡ length_at t.starts c → length_at s.marks c ≡ length_at t.marks c → length_at s.heights c ≡ length_at t.heights c → start_below (with s) c ≡ start_below (with t) c
   below_same s t c e f g = rw (e, f, g) refl
 
-  before_same : (s t : Positions) (p m : ℕ) → p < m → SamePositions boxes s t p m → start_before boxes (with s) p m ≡ start_before boxes (with t) p m
+  before_same : (s t : Positions) (p m : ℕ) → p < m → SamePositions boxes s t (margin_place p m) → start_before boxes (with s) p m ≡ start_before boxes (with t) p m
   before_same s t p m lt was = go (last_child boxes p m) refl
     where
       go : (o : Option ℕ) → last_child boxes p m ≡ o → start_before boxes (with s) p m ≡ start_before boxes (with t) p m
@@ -76,7 +76,7 @@ module _ (boxes : List FlowBox) (tree : IsTree (parents_of boxes)) (y : BlockLay
       mark : (i : ℕ) → was.after ≤ i → length_at (a (suc (suc i))).marks k ≡ length_at (b (suc (suc i))).marks k
       mark i le = (a_next (suc i)).mark k within ∙ mark_same (a (suc i)) (b (suc i)) k positive (start i le) ((was.same (suc i) (omega (arith, le))).mark (parent_at boxes k) was.parent) ∙ sym ((b_next (suc i)).mark k within)
 
-      later : (i : ℕ) → suc (suc was.after) ≤ i → SamePositions boxes (a i) (b i) k (k + 1)
+      later : (i : ℕ) → suc (suc was.after) ≤ i → SamePositions boxes (a i) (b i) (margin_place k (k + 1))
       later zero le = absurd (omega (arith, le))
       later (suc zero) le = absurd (omega (arith, le))
       later (suc (suc i)) le =
@@ -100,7 +100,7 @@ module _ (boxes : List FlowBox) (tree : IsTree (parents_of boxes)) (y : BlockLay
           }
 
   -- the heights of two boxes with the same ends of content
-  content_same : (s t : Positions) (p m : ℕ) → last_child boxes p (length boxes) ≡ last_child boxes p m → p < m → SamePositions boxes s t p m
+  content_same : (s t : Positions) (p m : ℕ) → last_child boxes p (length boxes) ≡ last_child boxes p m → p < m → SamePositions boxes s t (margin_place p m)
       → content_height boxes (with s) p ≡ content_height boxes (with t) p
   content_same s t p m last lt was = by_place p refl
     where
@@ -147,7 +147,7 @@ module _ (boxes : List FlowBox) (tree : IsTree (parents_of boxes)) (y : BlockLay
       up : parent_at boxes p < p
       up = parent_before boxes tree p positive inner
 
-      later : (i : ℕ) → suc was.after ≤ i → SamePositions boxes (a i) (b i) (parent_at boxes p) m
+      later : (i : ℕ) → suc was.after ≤ i → SamePositions boxes (a i) (b i) (margin_place (parent_at boxes p) m)
       later zero le = absurd (omega (arith, le))
       later (suc i) le =
           let last = last_same boxes p m (length boxes) within (none_left boxes tree p m lt ends) in
@@ -176,7 +176,7 @@ module _ (boxes : List FlowBox) (tree : IsTree (parents_of boxes)) (y : BlockLay
     same = start;
   }) some
     where
-      start : (i : ℕ) → 1 ≤ i → SamePositions boxes (a i) (b i) 0 1
+      start : (i : ℕ) → 1 ≤ i → SamePositions boxes (a i) (b i) (margin_place 0 1)
       start zero le = absurd (omega (arith, le))
       start (suc i) le = record {
         start = λ j high. let e : j ≡ 0 = omega (arith, high) in subst (λ (j : ℕ). length_at (a (suc i)).starts j ≡ length_at (b (suc i)).starts j) (sym e) ((a_next i).start 0 some ∙ sym ((b_next i).start 0 some));

@@ -4,7 +4,6 @@ use Rattle.std.proofs.lemmas.Bool.{cases_lt, cases_eq}
 use Rattle.lay_flow.specs.declared.flow_box.FlowBox.{FlowBox}
 use Rattle.lay_flow.specs.Boxes.{parent_at, parents_of}
 use Rattle.lay_flow.proofs.BoxTrees.{parent_before}
-use Rattle.lay_units.specs.declared.length.Unit.{Unit as Length}
 use Rattle.lay_doc.specs.Tree.{IsTree}
 use Rattle.lay_flow.specs.Lengths.{length_at}
 use Rattle.lay_flow.specs.Children.{last_child, flag_at}
@@ -16,6 +15,7 @@ use Rattle.lay_flow.proofs.ChildPlaces.{last_same}
 use Rattle.lay_flow.proofs.MarginWalk.{opens}
 use Rattle.lay_flow.proofs.RunsAgree.{last_there, none_left, inside_up}
 use Rattle.lay_flow.proofs.PositionsAgree.{SamePositions}
+use Rattle.lay_flow.specs.Pass.MarginPlace.{margin_place}
 
 module _ (boxes : List FlowBox) (tree : IsTree (parents_of boxes)) (y w : BlockLayout)
     (is : HasPositions boxes y) (also : HasPositions boxes (record w { runs = y.runs }))
@@ -28,7 +28,7 @@ module _ (boxes : List FlowBox) (tree : IsTree (parents_of boxes)) (y w : BlockL
     pub parent : p < m
     pub within : m ≤ length boxes
     pub inside : (i : ℕ) → p < i → i < m → p ≤ parent_at boxes i
-    pub alike : SamePositions boxes y.places w.places p m
+    pub alike : SamePositions boxes y.places w.places (margin_place p m)
 
   abbrev UpTo : ℕ → ℕ → Type 0
   UpTo p m = (m ≤ limit ⊎ ((p ≡ limit) × (m ≡ limit + 1))) → Agrees p m
@@ -36,7 +36,7 @@ module _ (boxes : List FlowBox) (tree : IsTree (parents_of boxes)) (y w : BlockL
   below_same : (c : ℕ) → length_at y.places.starts c ≡ length_at w.places.starts c → length_at y.places.marks c ≡ length_at w.places.marks c → length_at y.places.heights c ≡ length_at w.places.heights c → start_below y c ≡ start_below z c
   below_same c e f g = rw (e, f, g) refl
 
-  before_same : (p m : ℕ) → p < m → SamePositions boxes y.places w.places p m → start_before boxes y p m ≡ start_before boxes z p m
+  before_same : (p m : ℕ) → p < m → SamePositions boxes y.places w.places (margin_place p m) → start_before boxes y p m ≡ start_before boxes z p m
   before_same p m lt was = go (last_child boxes p m) refl
     where
       go : (o : Option ℕ) → last_child boxes p m ≡ o → start_before boxes y p m ≡ start_before boxes z p m
@@ -90,7 +90,7 @@ module _ (boxes : List FlowBox) (tree : IsTree (parents_of boxes)) (y w : BlockL
       mark : length_at y.places.marks k ≡ length_at w.places.marks k
       mark = let w = was in is.mark k within ∙ mark_same k positive start (w.alike.mark (parent_at boxes k) w.parent) ∙ sym (also.mark k within)
 
-  content_same : (p m : ℕ) → 0 < p → length_at y.extents.depths p ≡ length_at w.extents.depths p → last_child boxes p (length boxes) ≡ last_child boxes p m → p < m → SamePositions boxes y.places w.places p m
+  content_same : (p m : ℕ) → 0 < p → length_at y.extents.depths p ≡ length_at w.extents.depths p → last_child boxes p (length boxes) ≡ last_child boxes p m → p < m → SamePositions boxes y.places w.places (margin_place p m)
       → content_height boxes y p ≡ content_height boxes z p
   content_same p m positive depth last lt was = content_inner boxes y p positive ∙ between ∙ sym (content_inner boxes z p positive)
     where

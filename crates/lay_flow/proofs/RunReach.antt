@@ -5,20 +5,18 @@ use Rattle.std.proofs.lemmas.Int.{ints}
 use Rattle.lay_flow.specs.declared.flow_box.FlowBox.{FlowBox}
 use Rattle.lay_flow.specs.Boxes.{parent_at, parents_of}
 use Rattle.lay_flow.proofs.BoxTrees.{parent_before}
-use Rattle.lay_units.specs.declared.length.Unit.{Unit as Length}
 use Rattle.lay_margins.specs.StrutValue.{StrutValue}
 use Rattle.lay_margins.specs.Collapse.{Holds, collapse}
 use Rattle.lay_doc.specs.Tree.{IsTree}
 use Rattle.lay_flow.specs.Lengths.{length_at}
 use Rattle.lay_flow.specs.Children.{flag_at}
 use Rattle.lay_flow.specs.MarginRuns.{margins, has_top, run_at, run_across}
-use Rattle.lay_flow.specs.Pass.Gathered.{IsAround}
 use Rattle.lay_flow.specs.BlockLayout.{BlockLayout}
 use Rattle.lay_flow.specs.BlockPositions.{IsBlockLayout, start_before}
-use Rattle.lay_flow.specs.Pass.State.{PassState, IsSoFar, IsInRun}
+use Rattle.lay_flow.specs.Pass.State.{PassState, IsSoFar, IsInRun, columns_of}
 use Rattle.lay_flow.proofs.CollapsedThrough.{one_start}
 use Rattle.lay_flow.proofs.LayoutFacts.{mark_standing, start_clears}
-use Rattle.lay_flow.specs.Pass.MarginPlace.{IsPlace}
+use Rattle.lay_flow.specs.Pass.MarginPlace.{IsPlace, IsAround, margin_place}
 use Rattle.lay_flow.proofs.Truths.{true_false, true_or}
 
 -- where a run ends that starts at `start` or hangs from it
@@ -33,7 +31,7 @@ back : (s e c : ℤ) → s ≡ e -ℤ c → e ≡ s +ℤ c
 back s e c h = omega (arith, ints, h)
 
 module _ (boxes : List FlowBox) (y : BlockLayout) (is : IsBlockLayout boxes y) (tree : IsTree (parents_of boxes))
-    (now : PassState) (p m : ℕ) (in_run : IsInRun boxes y now p m) (at : IsPlace boxes p m) where
+    (now : PassState) (p m : ℕ) (in_run : IsInRun boxes y now (margin_place p m)) (at : IsPlace boxes p m) where
   pub starts_here : (j : ℕ) → now.first ≤ j → j ≤ p → IsAround boxes j m → length_at y.places.starts j ≡ start_before boxes y p m
   starts_here j a b holds = let lt = at.parent in one_start boxes tree y is now.first p m at in_run.gathered j j a b holds (omega arith) (omega (arith, b, lt))
 
@@ -52,7 +50,7 @@ module _ (boxes : List FlowBox) (y : BlockLayout) (is : IsBlockLayout boxes y) (
       mark_standing boxes y is j (positive_here j a) (within_here j b) truth ∙ (λ i. start i +ℤ collapse (margins (rise i)))
 
   -- the boxes that wait are open
-  pub waiting_open : IsSoFar boxes y now.through now.heights now.marks now.first p m → (j : ℕ) → now.first ≤ j → j < m → flag_at now.through j ≡ false → (j ≤ p) × IsAround boxes j m
+  pub waiting_open : IsSoFar boxes y (columns_of now) (margin_place p m) → (j : ℕ) → now.first ≤ j → j < m → flag_at now.through j ≡ false → (j ≤ p) × IsAround boxes j m
   waiting_open so_far j a b code = (
     elim (cases_lt p j) [
       | inl over ↦ absurd (true_false (flag_at now.through j) ((so_far.closed j over b).pass ∙ in_run.gathered.closed j a over b) code)
