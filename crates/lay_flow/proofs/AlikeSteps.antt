@@ -3,16 +3,15 @@ use Rattle.std.proofs.Common.{◌≡◌, ◌⊎◌, ℕ, ◌+◌, ◌<◌, ◌�
 use Rattle.std.proofs.lemmas.Bool.{cases_lt}
 use Rattle.lay_flow.specs.declared.flow_box.FlowBox.{FlowBox}
 use Rattle.lay_flow.specs.Boxes.{parent_at, parents_of}
-use Rattle.lay_units.specs.declared.length.Unit.{Unit as Length}
 use Rattle.lay_doc.specs.Tree.{IsTree}
 use Rattle.lay_margins.specs.Collapse.{collapse}
 use Rattle.lay_flow.specs.Lengths.{length_at}
 use Rattle.lay_flow.specs.Children.{flag_at}
 use Rattle.lay_flow.specs.MarginRuns.{Entry, margin, mark, margins, block_at, run_at, parts_tops, to_top, run_before}
-use Rattle.lay_flow.specs.BlockPositions.{Extents, start_before}
-use Rattle.lay_flow.specs.BlockLayout.{BlockLayout, IsBlockLayout}
-use Rattle.lay_flow.specs.Pass.Gathered.{Gathered, IsAround}
-use Rattle.lay_flow.specs.Pass.MarginPlace.{IsPlace}
+use Rattle.lay_flow.specs.BlockLayout.{BlockLayout}
+use Rattle.lay_flow.specs.BlockPositions.{IsBlockLayout, start_before}
+use Rattle.lay_flow.specs.Pass.Gathered.{Gathered}
+use Rattle.lay_flow.specs.Pass.MarginPlace.{IsPlace, IsAround, margin_place}
 use Rattle.lay_flow.proofs.Truths.{true_false, true_or}
 use Rattle.lay_flow.proofs.RunFacts.{goes_in, ends_above, lead_goes_on, top_run_is, parting_stands}
 use Rattle.lay_flow.proofs.LayoutFacts.{mark_standing, start_flows}
@@ -22,16 +21,16 @@ use Rattle.lay_flow.proofs.LookAhead.{place_before}
 use Rattle.lay_flow.proofs.HangingRuns.{stands_at_edge}
 use Rattle.lay_flow.proofs.LayoutsAlike.{IsHanging, ClosedAlike, Alike, EndsIn, same_run, also_gathered, start_same, marks_same}
 
-module _ (boxes : List FlowBox) (tree : IsTree (parents_of boxes)) (extents : Extents) (clear_edges : List Length) (y : BlockLayout) (is : IsBlockLayout boxes extents clear_edges y)
-    (others : Extents) (other_edges : List Length) (z : BlockLayout) (also : IsBlockLayout boxes others other_edges z) where
+module _ (boxes : List FlowBox) (tree : IsTree (parents_of boxes)) (y : BlockLayout) (is : IsBlockLayout boxes y)
+    (z : BlockLayout) (also : IsBlockLayout boxes z) where
   abbrev pub AlikeAt : ℕ → ℕ → ℕ → Type 0
-  AlikeAt = Alike boxes tree extents clear_edges y is others other_edges z also
+  AlikeAt = Alike boxes tree y is z also
 
   abbrev pub IsClosed : ℕ → Type 0
-  IsClosed = ClosedAlike boxes tree extents clear_edges y is others other_edges z also
+  IsClosed = ClosedAlike boxes tree y is z also
 
   abbrev pub StartsAlike : ℕ → ℕ → ℕ → Type 0
-  StartsAlike first p m = (start_before boxes y.runs y.places p m ≡ start_before boxes z.runs z.places p m) ⊎ IsHanging boxes y first p m
+  StartsAlike first p m = (start_before boxes y p m ≡ start_before boxes z p m) ⊎ IsHanging boxes y first (margin_place p m)
 
   abbrev pub MarksTo : ℕ → Type 0
   MarksTo m = (j : ℕ) → j < m → length_at y.places.marks j ≡ length_at z.places.marks j
@@ -44,10 +43,10 @@ module _ (boxes : List FlowBox) (tree : IsTree (parents_of boxes)) (extents : Ex
     run_up = run_before boxes y.runs (parent_at boxes k) k
 
     run_is : run_before boxes y.runs (parent_at boxes k) k ≡ run_before boxes z.runs (parent_at boxes k) k
-    run_is = same_run boxes tree extents clear_edges y is others other_edges z also first (parent_at boxes k) k at was
+    run_is = same_run boxes tree y is z also first (parent_at boxes k) k at was
 
-    gathered_z : Gathered boxes z.runs first (parent_at boxes k) k
-    gathered_z = also_gathered boxes tree extents clear_edges y is others other_edges z also first (parent_at boxes k) k at was
+    gathered_z : Gathered boxes z.runs first (margin_place (parent_at boxes k) k)
+    gathered_z = also_gathered boxes tree y is z also first (parent_at boxes k) k at was
 
     wider : (c : ℕ) → c ≤ parent_at boxes k → IsAround boxes c k → IsAround boxes c (k + 1)
     wider c above inside i low high = elim (cases_lt i k) [
@@ -56,7 +55,7 @@ module _ (boxes : List FlowBox) (tree : IsTree (parents_of boxes)) (extents : Ex
     ]
 
     abbrev EndsBeforeTop : List Entry → ℕ → Type 0
-    EndsBeforeTop = EndsIn boxes tree extents clear_edges y is others other_edges z also first (parent_at boxes k) k at was
+    EndsBeforeTop = EndsIn boxes tree y is z also first (parent_at boxes k) k at was
 
     -- clearance of the box at k ends the run
     pub ended_by_clearance : flag_at y.runs.clears k ≡ true → flag_at z.runs.clears k ≡ true → (c : ℕ) → first ≤ c → c ≤ parent_at boxes k → IsAround boxes c k → EndsBeforeTop run_up c
@@ -75,10 +74,10 @@ module _ (boxes : List FlowBox) (tree : IsTree (parents_of boxes)) (extents : Ex
         }
 
     pub marks_above_clearance : flag_at y.runs.clears k ≡ true → flag_at z.runs.clears k ≡ true → MarksTo k
-    marks_above_clearance cleared also_cleared = marks_same boxes tree extents clear_edges y is others other_edges z also first (parent_at boxes k) k at was run_up (ended_by_clearance cleared also_cleared)
+    marks_above_clearance cleared also_cleared = marks_same boxes tree y is z also first (parent_at boxes k) k at was run_up (ended_by_clearance cleared also_cleared)
 
-    module _ (clear_same : flag_at y.runs.clears k ≡ flag_at z.runs.clears k) (edge_same : flag_at y.runs.clears k ≡ true → length_at clear_edges k ≡ length_at other_edges k) where
-      opened : (next : ℕ) → Gathered boxes y.runs next k (k + 1) → MarksTo next → StartsAlike next k (k + 1) → AlikeAt next k (k + 1)
+    module _ (clear_same : flag_at y.runs.clears k ≡ flag_at z.runs.clears k) (edge_same : flag_at y.runs.clears k ≡ true → length_at y.clear_edges k ≡ length_at z.clear_edges k) where
+      opened : (next : ℕ) → Gathered boxes y.runs next (margin_place k (k + 1)) → MarksTo next → StartsAlike next k (k + 1) → AlikeAt next k (k + 1)
       opened next g marks start = record {
         gathered = g;
         clears = λ j lt. elim (cases_lt j k) [
@@ -87,7 +86,7 @@ module _ (boxes : List FlowBox) (tree : IsTree (parents_of boxes)) (extents : Ex
         ];
         edges = λ j lt c. elim (cases_lt j k) [
           | inl low ↦ was.edges j low c
-          | inr ge ↦ (let e : j ≡ k = omega (arith, lt, ge) in ap (length_at clear_edges) e ∙ edge_same (ap (flag_at y.runs.clears) (sym e) ∙ c) ∙ ap (length_at other_edges) (sym e))
+          | inr ge ↦ (let e : j ≡ k = omega (arith, lt, ge) in ap (length_at y.clear_edges) e ∙ edge_same (ap (flag_at y.runs.clears) (sym e) ∙ c) ∙ ap (length_at z.clear_edges) (sym e))
         ];
         mark = marks;
         closed = λ j low high. absurd (omega (arith, low, high));
@@ -101,11 +100,11 @@ module _ (boxes : List FlowBox) (tree : IsTree (parents_of boxes)) (extents : Ex
       opened_plain : parts_tops boxes k ≡ false → flag_at y.runs.clears k ≡ false → AlikeAt first k (k + 1)
       opened_plain plain unclear = opened first (open_plain boxes tree y.runs is.has_runs k positive within first was.gathered plain unclear) was.mark start
         where
-          inside_y : start_before boxes y.runs y.places k (k + 1) ≡ start_before boxes y.runs y.places (parent_at boxes k) k
-          inside_y = sym (start_inside boxes tree y.runs is.has_runs extents clear_edges y.places is.has_positions k positive within plain) ∙ start_flows boxes extents clear_edges y is k positive within unclear
+          inside_y : start_before boxes y k (k + 1) ≡ start_before boxes y (parent_at boxes k) k
+          inside_y = sym (start_inside boxes tree y is k positive within plain) ∙ start_flows boxes y is k positive within unclear
 
-          inside_z : start_before boxes z.runs z.places k (k + 1) ≡ start_before boxes z.runs z.places (parent_at boxes k) k
-          inside_z = sym (start_inside boxes tree z.runs also.has_runs others other_edges z.places also.has_positions k positive within plain) ∙ start_flows boxes others other_edges z also k positive within (sym clear_same ∙ unclear)
+          inside_z : start_before boxes z k (k + 1) ≡ start_before boxes z (parent_at boxes k) k
+          inside_z = sym (start_inside boxes tree z also k positive within plain) ∙ start_flows boxes z also k positive within (sym clear_same ∙ unclear)
 
           start : StartsAlike first k (k + 1)
           start = elim was.start [
@@ -142,10 +141,10 @@ module _ (boxes : List FlowBox) (tree : IsTree (parents_of boxes)) (extents : Ex
           tops_same = let e = lead_goes_on boxes y.runs is.has_runs k positive within unclear ∙ run_is ∙ sym (lead_goes_on boxes z.runs also.has_runs k positive within (sym clear_same ∙ unclear)) in rw e refl
 
       module _ (parts : parts_tops boxes k ≡ true) where
-        start_y : start_before boxes y.runs y.places k (k + 1) ≡ length_at y.places.marks k +ℤ (block_at boxes k).edge_top.0
+        start_y : start_before boxes y k (k + 1) ≡ length_at y.places.marks k +ℤ (block_at boxes k).edge_top.0
         start_y = let e = childless boxes tree y.runs is.has_runs k positive within in rw (e, parts) refl
 
-        start_z : start_before boxes z.runs z.places k (k + 1) ≡ length_at z.places.marks k +ℤ (block_at boxes k).edge_top.0
+        start_z : start_before boxes z k (k + 1) ≡ length_at z.places.marks k +ℤ (block_at boxes k).edge_top.0
         start_z = let e = childless boxes tree z.runs also.has_runs k positive within in rw (e, parts) refl
 
         opened_parting : MarksTo k → length_at y.places.marks k ≡ length_at z.places.marks k → AlikeAt (k + 1) k (k + 1)
@@ -156,22 +155,22 @@ module _ (boxes : List FlowBox) (tree : IsTree (parents_of boxes)) (extents : Ex
 
         parting_clear : flag_at y.runs.clears k ≡ true → AlikeAt (k + 1) k (k + 1)
         parting_clear cleared = opened_parting (marks_above_clearance cleared (sym clear_same ∙ cleared))
-            (stands_at_edge boxes tree extents clear_edges y is k positive within cleared ∙ edge_same cleared ∙ sym (stands_at_edge boxes tree others other_edges z also k positive within (sym clear_same ∙ cleared)))
+            (stands_at_edge boxes tree y is k positive within cleared ∙ edge_same cleared ∙ sym (stands_at_edge boxes tree z also k positive within (sym clear_same ∙ cleared)))
 
         parting_plain : flag_at y.runs.clears k ≡ false → AlikeAt (k + 1) k (k + 1)
         parting_plain unclear =
             let run : List Entry = to_top boxes y.runs k in
-            let start = start_same boxes tree extents clear_edges y is others other_edges z also first (parent_at boxes k) k at was run (ended_by_edge parts unclear) in
+            let start = start_same boxes tree y is z also first (parent_at boxes k) k at was run (ended_by_edge parts unclear) in
             let also_unclear : flag_at z.runs.clears k ≡ false = sym clear_same ∙ unclear in
             let rise : run_at y.runs.top_runs k ≡ to_top boxes y.runs k = top_run_is boxes y.runs is.has_runs k positive within ∙ rw parts refl in
             let also_rise : run_at z.runs.top_runs k ≡ to_top boxes z.runs k = top_run_is boxes z.runs also.has_runs k positive within ∙ rw parts refl in
             let lead = lead_goes_on boxes y.runs is.has_runs k positive within unclear ∙ run_is ∙ sym (lead_goes_on boxes z.runs also.has_runs k positive within also_unclear) in
             let tops = rise ∙ ap (λ (xs : List Entry). xs ++ mark k ∷ margin (block_at boxes k).margin_top.0 ∷ []) lead ∙ sym also_rise in
-            let starts = start_flows boxes extents clear_edges y is k positive within unclear ∙ start ∙ sym (start_flows boxes others other_edges z also k positive within also_unclear) in
-            opened_parting (marks_same boxes tree extents clear_edges y is others other_edges z also first (parent_at boxes k) k at was run (ended_by_edge parts unclear))
-            (mark_standing boxes extents clear_edges y is k positive within (parting_stands boxes y.runs is.has_runs k positive within parts)
+            let starts = start_flows boxes y is k positive within unclear ∙ start ∙ sym (start_flows boxes z also k positive within also_unclear) in
+            opened_parting (marks_same boxes tree y is z also first (parent_at boxes k) k at was run (ended_by_edge parts unclear))
+            (mark_standing boxes y is k positive within (parting_stands boxes y.runs is.has_runs k positive within parts)
             ∙ (λ i. starts i +ℤ collapse (margins (tops i)))
-            ∙ sym (mark_standing boxes others other_edges z also k positive within (parting_stands boxes z.runs also.has_runs k positive within parts)))
+            ∙ sym (mark_standing boxes z also k positive within (parting_stands boxes z.runs also.has_runs k positive within parts)))
 
       pub record SomeOpened : Type 0 where
         pub next : ℕ

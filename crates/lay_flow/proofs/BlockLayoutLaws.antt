@@ -8,7 +8,8 @@ use Rattle.lay_doc.proofs.OneStyles.{same_list}
 use Rattle.lay_flow.specs.Lengths.{no_length, length_at}
 use Rattle.lay_flow.specs.Children.{flag_at}
 use Rattle.lay_flow.specs.MarginRuns.{Runs, HasRuns, through_of, before_top_of, to_bottom_of, top_run_of, bottom_run_of}
-use Rattle.lay_flow.specs.BlockPositions.{Extents, Positions, HasPositions, start_of, mark_of, height_of}
+use Rattle.lay_flow.specs.BlockLayout.{Extents, Positions, BlockLayout}
+use Rattle.lay_flow.specs.BlockPositions.{HasPositions, start_of, mark_of, height_of, IsBlockLayout}
 use Rattle.lay_flow.specs.Laws.{OneBlockLayout, SomeBlockLayout}
 use Rattle.lay_flow.proofs.Lengths.{same_length}
 use Rattle.lay_flow.proofs.Tabulated.{tab, tab_length, tab_at}
@@ -37,28 +38,31 @@ one_runs boxes r x tree some c is also =
 pub same_lengths : (xs ys : List Length) → length xs ≡ length ys → ((k : ℕ) → k < length xs → length_at xs k ≡ length_at ys k) → xs ≡ ys
 same_lengths xs ys e each = same_list no_length xs ys e (λ k lt. same_length (slice_index_or xs k no_length) (slice_index_or ys k no_length) (each k lt))
 
-next_positions : (boxes : List FlowBox) (r : Runs) (extents : Extents) (clear_edges : List Length) (s : Positions) → HasPositions boxes r extents clear_edges s → AreNextPositions boxes r extents clear_edges s s
-next_positions boxes r extents clear_edges s is = record { start = is.start; mark = is.mark; height = is.height }
+next_positions : (boxes : List FlowBox) (y : BlockLayout) → HasPositions boxes y → AreNextPositions boxes y y.places
+next_positions boxes y is = record { start = is.start; mark = is.mark; height = is.height }
 
 same_positions : (s t : Positions) → s.starts ≡ t.starts → s.marks ≡ t.marks → s.heights ≡ t.heights → s ≡ t
 same_positions s t e f g = λ i. record { starts = e i; marks = f i; heights = g i }
 
-pub one_positions : (boxes : List FlowBox) (r : Runs) (extents : Extents) (clear_edges : List Length) (s t : Positions) → IsTree (parents_of boxes) → 0 < length boxes
-    → HasPositions boxes r extents clear_edges s → HasPositions boxes r extents clear_edges t → s ≡ t
-one_positions boxes r extents clear_edges s t tree some is also =
-    let st = stands boxes tree r extents clear_edges (λ i. s) (λ i. t) (λ i. next_positions boxes r extents clear_edges s is) (λ i. next_positions boxes r extents clear_edges t also) some in
-    let all = all_positions boxes tree r extents clear_edges (λ i. s) (λ i. t) (λ i. next_positions boxes r extents clear_edges s is) (λ i. next_positions boxes r extents clear_edges t also) some st.after (omega arith) in
+one_positions : (boxes : List FlowBox) (y : BlockLayout) (t : Positions) → IsTree (parents_of boxes) → 0 < length boxes → HasPositions boxes y → HasPositions boxes (record y { places = t }) → y.places ≡ t
+one_positions boxes y t tree some is also =
+    let s = y.places in
+    let mine : (i : ℕ) → AreNextPositions boxes y s = λ i. next_positions boxes y is in
+    let other : (i : ℕ) → AreNextPositions boxes (record y { places = t }) t = λ i. next_positions boxes (record y { places = t }) also in
+    let st = stands boxes tree y (λ i. s) (λ i. t) mine other some in
+    let all = all_positions boxes tree y (λ i. s) (λ i. t) mine other some st.after (omega arith) in
     same_positions s t
     (same_lengths s.starts t.starts (is.starts_length ∙ sym also.starts_length) (λ k lt. all.start k (omega (arith, lt, is.starts_length))))
     (same_lengths s.marks t.marks (is.marks_length ∙ sym also.marks_length) (λ k lt. all.mark k (omega (arith, lt, is.marks_length))))
     (same_lengths s.heights t.heights (is.heights_length ∙ sym also.heights_length) (λ k lt. all.height k (omega (arith, lt, is.heights_length))))
 
 pub one_block_layout_lem : OneBlockLayout
-one_block_layout_lem boxes extents clear_edges y z tree some c is also =
+one_block_layout_lem boxes y z tree some extents edges c is also =
     let e = one_runs boxes y.runs z.runs tree some c is.has_runs also.has_runs in
-    let there = subst (λ (r : Runs). HasPositions boxes r extents clear_edges z.places) (sym e) also.has_positions in
-    let f = one_positions boxes y.runs extents clear_edges y.places z.places tree some is.has_positions there in
-    λ i. record { runs = e i; places = f i }
+    let alike : (record z { places = y.places }) ≡ y = λ i. record { extents = sym extents i; clear_edges = sym edges i; runs = sym e i; places = y.places } in
+    let there = subst (λ (x : BlockLayout). HasPositions boxes (record x { places = z.places })) alike also.has_positions in
+    let f = one_positions boxes y z.places tree some is.has_positions there in
+    λ i. record { extents = extents i; clear_edges = edges i; runs = e i; places = f i }
 
 module _ (boxes : List FlowBox) (tree : IsTree (parents_of boxes)) (some : 0 < length boxes) (clears : List Bool) where
   -- the runs worked out once more from these
@@ -117,33 +121,33 @@ module _ (boxes : List FlowBox) (tree : IsTree (parents_of boxes)) (some : 0 < l
 abbrev as_length : ℤ → Length
 as_length v = record { 0 = v }
 
-module _ (boxes : List FlowBox) (tree : IsTree (parents_of boxes)) (some : 0 < length boxes) (r : Runs) (extents : Extents) (clear_edges : List Length) where
+module _ (boxes : List FlowBox) (tree : IsTree (parents_of boxes)) (some : 0 < length boxes) (y : BlockLayout) where
   -- the positions worked out once more from these
   abbrev placed_again : Positions → Positions
   placed_again s = record {
-    starts = tab (λ k. as_length (start_of boxes r clear_edges s k)) (length boxes);
-    marks = tab (λ k. as_length (mark_of boxes r s k)) (length boxes);
-    heights = tab (λ k. as_length (height_of boxes r extents s k)) (length boxes);
+    starts = tab (λ k. as_length (start_of boxes (record y { places = s }) k)) (length boxes);
+    marks = tab (λ k. as_length (mark_of boxes (record y { places = s }) k)) (length boxes);
+    heights = tab (λ k. as_length (height_of boxes (record y { places = s }) k)) (length boxes);
   }
 
   abbrev place_turn : ℕ → Positions
   place_turn zero = record { starts = []; marks = []; heights = [] }
   place_turn (suc i) = placed_again (place_turn i)
 
-  place_next : (i : ℕ) → AreNextPositions boxes r extents clear_edges (place_turn i) (place_turn (suc i))
+  place_next : (i : ℕ) → AreNextPositions boxes (record y { places = place_turn i }) (place_turn (suc i))
   place_next i = record {
-    start = λ k lt. ap (λ (v : Length). v.0) (tab_at (λ k. as_length (start_of boxes r clear_edges (place_turn i) k)) no_length (length boxes) k lt);
-    mark = λ k lt. ap (λ (v : Length). v.0) (tab_at (λ k. as_length (mark_of boxes r (place_turn i) k)) no_length (length boxes) k lt);
-    height = λ k lt. ap (λ (v : Length). v.0) (tab_at (λ k. as_length (height_of boxes r extents (place_turn i) k)) no_length (length boxes) k lt);
+    start = λ k lt. ap (λ (v : Length). v.0) (tab_at (λ k. as_length (start_of boxes (record y { places = place_turn i }) k)) no_length (length boxes) k lt);
+    mark = λ k lt. ap (λ (v : Length). v.0) (tab_at (λ k. as_length (mark_of boxes (record y { places = place_turn i }) k)) no_length (length boxes) k lt);
+    height = λ k lt. ap (λ (v : Length). v.0) (tab_at (λ k. as_length (height_of boxes (record y { places = place_turn i }) k)) no_length (length boxes) k lt);
   }
 
   abbrev place_last : ℕ
-  place_last = (stands boxes tree r extents clear_edges place_turn (λ i. place_turn (suc i)) place_next (λ i. place_next (suc i)) some).after
+  place_last = (stands boxes tree y place_turn (λ i. place_turn (suc i)) place_next (λ i. place_next (suc i)) some).after
 
-  positions_there : HasPositions boxes r extents clear_edges (place_turn (suc place_last))
+  positions_there : HasPositions boxes (record y { places = place_turn (suc place_last) })
   positions_there =
       let n : ℕ = place_last in
-      let all = all_positions boxes tree r extents clear_edges place_turn (λ i. place_turn (suc i)) place_next (λ i. place_next (suc i)) some n (omega arith) in
+      let all = all_positions boxes tree y place_turn (λ i. place_turn (suc i)) place_next (λ i. place_next (suc i)) some n (omega arith) in
       let next = place_next (suc n) in
       record {
         starts_length = tab_length _ (length boxes);
@@ -154,11 +158,19 @@ module _ (boxes : List FlowBox) (tree : IsTree (parents_of boxes)) (some : 0 < l
         height = λ k lt. all.height k lt ∙ next.height k lt;
       }
 
+-- the layout with these extents and clear edges
+pub layout_there : (boxes : List FlowBox) (extents : Extents) (clear_edges : List Length) (clears : List Bool) → IsTree (parents_of boxes) → 0 < length boxes → length clears ≡ length boxes
+    → (r : Runs) × (s : Positions) × (r.clears ≡ clears) × IsBlockLayout boxes (record { extents = extents; clear_edges = clear_edges; runs = r; places = s })
+layout_there boxes extents clear_edges clears tree some l =
+    let r : Runs = turn boxes tree some clears (at_last boxes tree some clears) in
+    let y : BlockLayout = record { extents = extents; clear_edges = clear_edges; runs = r; places = record { starts = []; marks = []; heights = [] } } in (
+      r,
+      place_turn boxes tree some y (suc (place_last boxes tree some y)),
+      turn_clears boxes tree some clears (at_last boxes tree some clears),
+      record { has_runs = runs_there boxes tree some clears l; has_positions = positions_there boxes tree some y },
+    )
+
 pub some_block_layout_lem : SomeBlockLayout
 some_block_layout_lem boxes extents clear_edges clears tree some l =
-    let r : Runs = turn boxes tree some clears (at_last boxes tree some clears) in
-    let s : Positions = place_turn boxes tree some r extents clear_edges (suc (place_last boxes tree some r extents clear_edges)) in (
-      record { runs = r; places = s },
-      turn_clears boxes tree some clears (at_last boxes tree some clears),
-      record { has_runs = runs_there boxes tree some clears l; has_positions = positions_there boxes tree some r extents clear_edges },
-    )
+    let there = layout_there boxes extents clear_edges clears tree some l in
+    (record { extents = extents; clear_edges = clear_edges; runs = there.0; places = there.1 }, refl, refl, there.2, there.3)

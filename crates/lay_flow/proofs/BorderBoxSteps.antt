@@ -17,7 +17,7 @@ use Rattle.lay_floats.specs.Within.{IsWithin}
 use Rattle.lay_lines.specs.declared.row.Ended.{Ended}
 use Rattle.lay_lines.specs.Lines.{LinesValue, LinesWithin, NodePlaceWithin, RowWithin}
 use Rattle.lay_flow.specs.FlowBoxes.{AreFlowBoxes}
-use Rattle.lay_flow.specs.FlowPlaces.{AreNearRows, IsFlowOf, border_box, box_place_at, line_places, place_in_lines, place_or}
+use Rattle.lay_flow.specs.FlowPlaces.{AreNearRows, IsFlowOf, border_box, border_box_in, box_place_at, line_places, own_place, place_in_lines, place_or}
 use Rattle.lay_flow.specs.Pass.Columns.{AreBorderBoxes, AreColumnsOf, AreCorners, AreNearColumns, IsFarPlace, corner_at, joined}
 use Rattle.lay_flow.specs.Lengths.{length_at}
 use Rattle.lay_flow.specs.Pass.Bounds.{AreBoxHeights, AreNear, reach}
@@ -149,8 +149,8 @@ module _ (boxes : List FlowBox) (columns : FlowColumns) (is : AreColumnsOf boxes
     places = record {
       count = of.count;
       each = λ k lt. of.each k lt
-          ∙ (λ i. border_box (box_at boxes k).kind (record { 0 = length_at (is.are.tops_are i) k }) (record { 0 = length_at (is.are.heights_are i) k }) (place_is k i) (in_lines_is k lt i))
-          ∙ ap (λ (ps : List Spot). border_box (box_at boxes k).kind (record { 0 = length_at is.are.flow.layout.places.marks k }) (record { 0 = length_at is.are.flow.layout.places.heights k }) (place_at ps k) (place_in_lines ps k)) is.are.places_are;
+          ∙ (λ i. border_box (box_at boxes k).kind (record { 0 = length_at (is.are.tops_are i) k }) (record { 0 = length_at (is.are.heights_are i) k }) (own_place (box_at boxes k).kind (place_is k i) (in_lines_is k lt i)))
+          ∙ ap (λ (ps : List Spot). border_box_in boxes (record is.are.flow { places = ps }) k) is.are.places_are;
       lines = sym is.rows_are ∙ ap (map (λ p. p.lines.rows)) is.are.places_are;
     };
   }

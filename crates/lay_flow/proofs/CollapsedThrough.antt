@@ -4,15 +4,15 @@ use Rattle.std.proofs.lemmas.Bool.{cases_lt}
 use Rattle.lay_flow.specs.declared.flow_box.FlowBox.{FlowBox}
 use Rattle.lay_flow.specs.Boxes.{parent_at, parents_of}
 use Rattle.lay_flow.proofs.BoxTrees.{parent_before}
-use Rattle.lay_units.specs.declared.length.Unit.{Unit as Length}
 use Rattle.lay_doc.specs.Tree.{IsTree}
 use Rattle.lay_flow.specs.Lengths.{length_at}
 use Rattle.lay_flow.specs.Children.{flag_at}
 use Rattle.lay_flow.specs.MarginRuns.{Runs, HasRuns, block_at, parts_tops, joins_bottom, may_collapse_through}
-use Rattle.lay_flow.specs.BlockPositions.{Extents, Positions, HasPositions, start_before}
-use Rattle.lay_flow.specs.Pass.MarginPlace.{IsPlace}
+use Rattle.lay_flow.specs.BlockLayout.{BlockLayout}
+use Rattle.lay_flow.specs.BlockPositions.{start_before, IsBlockLayout}
+use Rattle.lay_flow.specs.Pass.MarginPlace.{IsPlace, IsAround, margin_place}
 use Rattle.lay_flow.proofs.MarginWalk.{walk_to}
-use Rattle.lay_flow.specs.Pass.Gathered.{IsAround, Gathered}
+use Rattle.lay_flow.specs.Pass.Gathered.{Gathered}
 use Rattle.lay_flow.proofs.Truths.{not_low}
 use Rattle.lay_flow.proofs.LayoutFacts.{start_flows}
 use Rattle.lay_flow.proofs.GatheredRuns.{gathers, one_first, childless, open_plain, open_cleared, open_parting, close_joined, close_parted, joined_through, last_up, passes_here, begins}
@@ -73,69 +73,66 @@ module _ (boxes : List FlowBox) (tree : IsTree (parents_of boxes)) (r : Runs) (i
         unparted = g.unparted k (omega (arith, own, lt)) low;
       }
 
-  module _ (extents : Extents) (clear_edges : List Length) (s : Positions) (has : HasPositions boxes r extents clear_edges s) where
-    -- while one of the boxes of a run is open, the run hasn't moved
-    record Started (p m : ℕ) : Type 0 where
-      pub first : ℕ
-      pub is_gathered : Gathered boxes r first p m
-      pub starts : (d j : ℕ) → first ≤ d → d ≤ p → IsAround boxes d m → d ≤ j → j < m → length_at s.starts j ≡ start_before boxes r s p m
+module _ (boxes : List FlowBox) (tree : IsTree (parents_of boxes)) (y : BlockLayout) (is : IsBlockLayout boxes y) where
+  -- while one of the boxes of a run is open, the run hasn't moved
+  record Started (p m : ℕ) : Type 0 where
+    pub first : ℕ
+    pub is_gathered : Gathered boxes y.runs first (margin_place p m)
+    pub starts : (d j : ℕ) → first ≤ d → d ≤ p → IsAround boxes d m → d ≤ j → j < m → length_at y.places.starts j ≡ start_before boxes y p m
 
-    start_is : (k : ℕ) → 0 < k → k < length boxes → flag_at r.clears k ≡ false → length_at s.starts k ≡ start_before boxes r s (parent_at boxes k) k
-    start_is = start_flows boxes extents clear_edges (record { runs = r; places = s }) (record { has_runs = is; has_positions = has })
+  pub start_inside : (k : ℕ) → 0 < k → k < length boxes → parts_tops boxes k ≡ false → length_at y.places.starts k ≡ start_before boxes y k (k + 1)
+  start_inside k positive within plain = let e = childless boxes tree y.runs is.has_runs k positive within in rw (e, plain) refl
 
-    pub start_inside : (k : ℕ) → 0 < k → k < length boxes → parts_tops boxes k ≡ false → length_at s.starts k ≡ start_before boxes r s k (k + 1)
-    start_inside k positive within plain = let e = childless boxes tree r is k positive within in rw (e, plain) refl
+  opens_started : (k : ℕ) → 0 < k → k < length boxes → Started (parent_at boxes k) k → Started k (k + 1)
+  opens_started k positive within was = go (parts_tops boxes k) refl (flag_at y.runs.clears k) refl
+    where
+      go : (b : Bool) → parts_tops boxes k ≡ b → (c : Bool) → flag_at y.runs.clears k ≡ c → Started k (k + 1)
+      go true parts c e = record { first = k + 1; is_gathered = open_parting boxes tree y.runs is.has_runs k positive within parts; starts = λ d j a b holds over lt. absurd (omega (arith, a, b)) }
+      go false plain true cleared = record {
+        first = k;
+        is_gathered = open_cleared boxes tree y.runs is.has_runs k positive within plain cleared;
+        starts = λ d j a b holds over lt. let e : j ≡ k = omega (arith, a, over, lt) in ap (length_at y.places.starts) e ∙ start_inside k positive within plain;
+      }
+      go false plain false unclear = record {
+        first = was.first;
+        is_gathered = open_plain boxes tree y.runs is.has_runs k positive within was.first was.is_gathered plain unclear;
+        starts = λ d j a b holds over lt. elim (cases_lt j k) [
+          | inl low ↦ was.starts d j a (holds k (omega (arith, over, low)) (omega arith)) (λ i x z. holds i x (omega (arith, z))) over low
+              ∙ sym (start_flows boxes y is k positive within unclear) ∙ start_inside k positive within plain
+          | inr high ↦ (let e : j ≡ k = omega (arith, lt, high) in ap (length_at y.places.starts) e ∙ start_inside k positive within plain)
+        ];
+      }
 
-    opens_started : (k : ℕ) → 0 < k → k < length boxes → Started (parent_at boxes k) k → Started k (k + 1)
-    opens_started k positive within was = go (parts_tops boxes k) refl (flag_at r.clears k) refl
-      where
-        go : (b : Bool) → parts_tops boxes k ≡ b → (c : Bool) → flag_at r.clears k ≡ c → Started k (k + 1)
-        go true parts c e = record { first = k + 1; is_gathered = open_parting boxes tree r is k positive within parts; starts = λ d j a b holds over lt. absurd (omega (arith, a, b)) }
-        go false plain true cleared = record {
-          first = k;
-          is_gathered = open_cleared boxes tree r is k positive within plain cleared;
-          starts = λ d j a b holds over lt. let e : j ≡ k = omega (arith, a, over, lt) in ap (length_at s.starts) e ∙ start_inside k positive within plain;
-        }
-        go false plain false unclear = record {
-          first = was.first;
-          is_gathered = open_plain boxes tree r is k positive within was.first was.is_gathered plain unclear;
-          starts = λ d j a b holds over lt. elim (cases_lt j k) [
-            | inl low ↦ was.starts d j a (holds k (omega (arith, over, low)) (omega arith)) (λ i x z. holds i x (omega (arith, z))) over low
-                ∙ sym (start_is k positive within unclear) ∙ start_inside k positive within plain
-            | inr high ↦ (let e : j ≡ k = omega (arith, lt, high) in ap (length_at s.starts) e ∙ start_inside k positive within plain)
-          ];
-        }
+  closes_started : (p m : ℕ) → 0 < p → p < m → m ≤ length boxes → (m < length boxes → parent_at boxes m < p) → Started p m → Started (parent_at boxes p) m
+  closes_started p m positive lt within ends was = go (joins_bottom boxes y.runs p) refl
+    where
+      less : parent_at boxes p < p
+      less = parent_before boxes tree p positive (omega (arith, lt, within))
 
-    closes_started : (p m : ℕ) → 0 < p → p < m → m ≤ length boxes → (m < length boxes → parent_at boxes m < p) → Started p m → Started (parent_at boxes p) m
-    closes_started p m positive lt within ends was = go (joins_bottom boxes r p) refl
-      where
-        less : parent_at boxes p < p
-        less = parent_before boxes tree p positive (omega (arith, lt, within))
+      go : (b : Bool) → joins_bottom boxes y.runs p ≡ b → Started (parent_at boxes p) m
+      go false parted = record {
+        first = m;
+        is_gathered = close_parted boxes tree y.runs is.has_runs p m positive lt within ends was.is_gathered.inside parted;
+        starts = λ d j a b holds over low. absurd (omega (arith, a, over, low));
+      }
+      go true joined = record {
+        first = was.first;
+        is_gathered = close_joined boxes tree y.runs is.has_runs p m positive lt within ends was.is_gathered.inside was.first was.is_gathered joined;
+        starts = λ d j a b holds over low.
+            let through = joined_through boxes tree y.runs is.has_runs p m positive lt within ends was.is_gathered.inside was.first was.is_gathered joined (omega (arith, a, b, less)) in
+            let last = last_up boxes tree y.runs is.has_runs p m positive lt within ends was.is_gathered.inside in
+            let below : start_before boxes y (parent_at boxes p) m ≡ length_at y.places.starts p = rw (last, through) refl in
+            was.starts d j a (omega (arith, b, less)) holds over low ∙ sym (was.starts d p a (omega (arith, b, less)) holds (omega (arith, b, less)) lt) ∙ sym below;
+      }
 
-        go : (b : Bool) → joins_bottom boxes r p ≡ b → Started (parent_at boxes p) m
-        go false parted = record {
-          first = m;
-          is_gathered = close_parted boxes tree r is p m positive lt within ends was.is_gathered.inside parted;
-          starts = λ d j a b holds over low. absurd (omega (arith, a, over, low));
-        }
-        go true joined = record {
-          first = was.first;
-          is_gathered = close_joined boxes tree r is p m positive lt within ends was.is_gathered.inside was.first was.is_gathered joined;
-          starts = λ d j a b holds over low.
-              let through = joined_through boxes tree r is p m positive lt within ends was.is_gathered.inside was.first was.is_gathered joined (omega (arith, a, b, less)) in
-              let last = last_up boxes tree r is p m positive lt within ends was.is_gathered.inside in
-              let below : start_before boxes r s (parent_at boxes p) m ≡ length_at s.starts p = rw (last, through) refl in
-              was.starts d j a (omega (arith, b, less)) holds over low ∙ sym (was.starts d p a (omega (arith, b, less)) holds (omega (arith, b, less)) lt) ∙ sym below;
-        }
-
-    -- the boxes in an open box whose top margin is in the run start where the run does
-    pub one_start : (first p m : ℕ) → IsPlace boxes p m → Gathered boxes r first p m → (d j : ℕ) → first ≤ d → d ≤ p → IsAround boxes d m → d ≤ j → j < m → length_at s.starts j ≡ start_before boxes r s p m
-    one_start first p m at g d j a b holds over lt =
-        let some : 0 < length boxes = let x = at.parent in let z = at.within in omega (arith, x, z) in
-        let there = walk_to boxes tree Started closes_started opens_started (record {
-          first = 1;
-          is_gathered = begins boxes tree r is some;
-          starts = λ d j a b holds over lt. absurd (omega (arith, a, b));
-        }) p m at in
-        let same = one_first boxes r there.first first p m there.is_gathered g.most (λ i x z. g.own i z x) (λ i x z. g.older i z) in
-        there.starts d j (omega (arith, a, same)) b holds over lt
+  -- the boxes in an open box whose top margin is in the run start where the run does
+  pub one_start : (first p m : ℕ) → IsPlace boxes p m → Gathered boxes y.runs first (margin_place p m) → (d j : ℕ) → first ≤ d → d ≤ p → IsAround boxes d m → d ≤ j → j < m → length_at y.places.starts j ≡ start_before boxes y p m
+  one_start first p m at g d j a b holds over lt =
+      let some : 0 < length boxes = let x = at.parent in let z = at.within in omega (arith, x, z) in
+      let there = walk_to boxes tree Started closes_started opens_started (record {
+        first = 1;
+        is_gathered = begins boxes tree y.runs is.has_runs some;
+        starts = λ d j a b holds over lt. absurd (omega (arith, a, b));
+      }) p m at in
+      let same = one_first boxes y.runs there.first first p m there.is_gathered g.most (λ i x z. g.own i z x) (λ i x z. g.older i z) in
+      there.starts d j (omega (arith, a, same)) b holds over lt

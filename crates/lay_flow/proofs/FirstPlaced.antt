@@ -58,8 +58,8 @@ module _ (boxes : List FlowBox) (marks : List Length) (now : PlacingState) (is :
   none_placed = record { places = []; are = are_none; to = subst (PlacesTo boxes marks (placing_of now [])) (sym none) to_none }
 
   -- and then the first ones are
-  pub none_placed_to : (then : PlacingState) (m : ℕ) → GoesOn boxes marks now then (length now.places.items) m → ArePlacedOn boxes marks then [] m
-  none_placed_to then m goes = goes [] are_none (subst (PlacesTo boxes marks (placing_of now [])) (sym none) to_none)
+  pub none_placed_to : (then : PlacingState) → GoesOn boxes marks now then → ArePlacedOn boxes marks then []
+  none_placed_to then goes = goes [] are_none (subst (PlacesTo boxes marks (placing_of now [])) (sym none) to_none)
 
   pub first_extents : (then : PlacingState) → AreExtentsKept boxes (length now.places.items) now.extents.items then.extents.items → HaveNoExtent boxes then.extents.items
   first_extents then kept = no_extents_kept boxes now.extents.items then.extents.items (length now.places.items) kept (λ j flow. ap (λ (xs : List Length). length_at xs j) is.extents ∙ lengths_at (length boxes) j)

@@ -46,9 +46,10 @@ has_back xs x f P old new w = elim (cases_lt w.0 (length xs)) [
     last xs x f i ge e = grind (arith, elements, e, ge)
 
 -- the floats of the sides to clear have the same places, and boxes that hold lines the same lines
-pub record SameCleared (boxes : List FlowBox) (clear : Clear) (places others : List Spot) (n : ℕ) : Type 0 where
-  pub float : (j : ℕ) (side : Side) → j < n → (shape_at boxes j).float ≡ Some side → Clears clear side → place_at places j ≡ place_at others j
-  pub lines : (j : ℕ) → j < n → is_lines (block_at boxes j).inside ≡ true → lines_at places j ≡ lines_at others j
+module _ (boxes : List FlowBox) (clear : Clear) where
+  pub record SameCleared (places others : List Spot) (n : ℕ) : Type 0 where
+    pub float : (j : ℕ) (side : Side) → j < n → (shape_at boxes j).float ≡ Some side → Clears clear side → place_at places j ≡ place_at others j
+    pub lines : (j : ℕ) → j < n → is_lines (block_at boxes j).inside ≡ true → lines_at places j ≡ lines_at others j
 
 pub same_back : (boxes : List FlowBox) (clear : Clear) (places others : List Spot) (n : ℕ) → SameCleared boxes clear places others n → SameCleared boxes clear others places n
 same_back boxes clear places others n same = record { float = λ j side lt e c. sym (same.float j side lt e c); lines = λ j lt e. sym (same.lines j lt e) }

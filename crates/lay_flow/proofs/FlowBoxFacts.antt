@@ -20,11 +20,11 @@ use Rattle.lay_flow.specs.BlockSizes.{BlockFits}
 use Rattle.lay_flow.specs.BlockFloats.{content_of, no_shape, shape_of, shape_at}
 use Rattle.lay_flow.specs.BlockPositions.{is_placed, is_solid}
 use Rattle.lay_flow.specs.MarginRuns.{block_of, block_at, block_with, no_block}
-use Rattle.lay_flow.specs.Pass.Gathered.{IsAround}
 use Rattle.lay_flow.specs.Pass.Placed.{ShapeFits}
 use Rattle.lay_flow.proofs.BoxTrees.{parent_before, root_parent}
 use Rattle.lay_flow.proofs.BlockKinds.{solid_placed}
 use Rattle.lay_flow.proofs.Truths.{true_false}
+use Rattle.lay_flow.specs.Pass.MarginPlace.{IsAround}
 
 block_box_fits : (b : BlockBox) (inside : Inside) → BlockBoxFits b → BlockFits (block_with b inside)
 block_box_fits b inside fits = record {

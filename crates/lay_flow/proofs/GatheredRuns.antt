@@ -7,9 +7,9 @@ use Rattle.lay_flow.proofs.BoxTrees.{parent_before}
 use Rattle.lay_doc.specs.Tree.{IsTree}
 use Rattle.lay_flow.specs.Children.{is_child, last_child, next_child, flag_at}
 use Rattle.lay_flow.specs.MarginRuns.{Runs, HasRuns, Entry, margin, mark, clear, has_top, is_barred, block_at, run_at, parts_tops, to_top, run_before, run_across, joins_bottom, may_join_bottoms, may_collapse_through}
-use Rattle.lay_flow.specs.Pass.Gathered.{IsAround, Gathered}
+use Rattle.lay_flow.specs.Pass.Gathered.{Gathered}
 use Rattle.lay_flow.proofs.ChildPlaces.{not_child, child_is, last_none, last_same, last_some, next_none, next_same, next_some}
-use Rattle.lay_flow.specs.Pass.MarginPlace.{IsPlace}
+use Rattle.lay_flow.specs.Pass.MarginPlace.{IsPlace, IsAround, margin_place}
 use Rattle.lay_flow.proofs.MarginWalk.{walk_to}
 use Rattle.lay_flow.proofs.RunsAgree.{none_left, inside_up}
 use Rattle.lay_flow.proofs.RunEntries.{top_there, top_here, top_none, bottom_same}
@@ -62,7 +62,7 @@ module _ (boxes : List FlowBox) (tree : IsTree (parents_of boxes)) (r : Runs) (i
     opened_rise plain = top_run_is boxes r is k positive within ∙ rw plain refl
 
     -- the run goes on in the box
-    pub open_plain : (first : ℕ) → Gathered boxes r first (parent_at boxes k) k → parts_tops boxes k ≡ false → flag_at r.clears k ≡ false → Gathered boxes r first k (k + 1)
+    pub open_plain : (first : ℕ) → Gathered boxes r first (margin_place (parent_at boxes k) k) → parts_tops boxes k ≡ false → flag_at r.clears k ≡ false → Gathered boxes r first (margin_place k (k + 1))
     open_plain first was plain unclear = record {
       parent = omega arith;
       within = omega (arith, within);
@@ -121,7 +121,7 @@ module _ (boxes : List FlowBox) (tree : IsTree (parents_of boxes)) (r : Runs) (i
         ]
 
     -- its clearance begins a run
-    pub open_cleared : parts_tops boxes k ≡ false → flag_at r.clears k ≡ true → Gathered boxes r k k (k + 1)
+    pub open_cleared : parts_tops boxes k ≡ false → flag_at r.clears k ≡ true → Gathered boxes r k (margin_place k (k + 1))
     open_cleared plain cleared = record {
       parent = omega arith;
       within = omega (arith, within);
@@ -149,7 +149,7 @@ module _ (boxes : List FlowBox) (tree : IsTree (parents_of boxes)) (r : Runs) (i
         other j ne = let f : (k == j) ≡ false = ne_eqb k j ne in rw f refl
 
     -- a border or a padding parts its top margin from what is in it
-    pub open_parting : parts_tops boxes k ≡ true → Gathered boxes r (k + 1) k (k + 1)
+    pub open_parting : parts_tops boxes k ≡ true → Gathered boxes r (k + 1) (margin_place k (k + 1))
     open_parting parts = record {
       parent = omega arith;
       within = omega (arith, within);
@@ -203,14 +203,14 @@ module _ (boxes : List FlowBox) (tree : IsTree (parents_of boxes)) (r : Runs) (i
         ∙ (let e = next_same boxes (parent_at boxes p) (p + 1) m (length boxes) (omega (arith, lt)) (λ k a b. between k (omega (arith, a)) b) in
         going_same boxes r (parent_at boxes p) (p + 1) m e (next_comes boxes r (parent_at boxes p) (p + 1) p last_after ∙ sym comes_up))
 
-    pub passes_here : (first : ℕ) → Gathered boxes r first p m → flag_at r.through p ≡ (may_collapse_through (block_at boxes p) && not (nat_lt p first))
+    pub passes_here : (first : ℕ) → Gathered boxes r first (margin_place p m) → flag_at r.through p ≡ (may_collapse_through (block_at boxes p) && not (nat_lt p first))
     passes_here first was = passes_is boxes r is p positive inner ∙ ap (λ (b : Bool). may_collapse_through (block_at boxes p) && b) (ap (has_top p) comes_here ∙ elim (cases_lt p first) [
       | inl low ↦ was.older p low ∙ sym (low_yes p first low)
       | inr high ↦ was.own p high lt ∙ sym (low_not p first high)
     ])
 
     -- a box that joins the run of its top margin to its bottom margin is collapsed through
-    pub joined_through : (first : ℕ) → Gathered boxes r first p m → joins_bottom boxes r p ≡ true → first ≤ p → flag_at r.through p ≡ true
+    pub joined_through : (first : ℕ) → Gathered boxes r first (margin_place p m) → joins_bottom boxes r p ≡ true → first ≤ p → flag_at r.through p ≡ true
     joined_through first was joined le = by_through (flag_at r.through p) refl
       where
         by_through : (b : Bool) → flag_at r.through p ≡ b → flag_at r.through p ≡ true
@@ -224,7 +224,7 @@ module _ (boxes : List FlowBox) (tree : IsTree (parents_of boxes)) (r : Runs) (i
             left_of a b c f e = grind (arith, f, e)
 
     -- its bottom margin adjoins the margin before it
-    pub close_joined : (first : ℕ) → Gathered boxes r first p m → joins_bottom boxes r p ≡ true → Gathered boxes r first (parent_at boxes p) m
+    pub close_joined : (first : ℕ) → Gathered boxes r first (margin_place p m) → joins_bottom boxes r p ≡ true → Gathered boxes r first (margin_place (parent_at boxes p) m)
     close_joined first was joined = record {
       parent = omega (arith, less, lt);
       within = within;
@@ -261,7 +261,7 @@ module _ (boxes : List FlowBox) (tree : IsTree (parents_of boxes)) (r : Runs) (i
         come = comes_up ∙ to_bottom_is boxes r is p positive inner ∙ (let h = comes_here in rw (joined, h) refl)
 
     -- its bottom margin begins a run
-    pub close_parted : joins_bottom boxes r p ≡ false → Gathered boxes r m (parent_at boxes p) m
+    pub close_parted : joins_bottom boxes r p ≡ false → Gathered boxes r m (margin_place (parent_at boxes p) m)
     close_parted parted = record {
       parent = omega (arith, less, lt);
       within = within;
@@ -286,7 +286,7 @@ module _ (boxes : List FlowBox) (tree : IsTree (parents_of boxes)) (r : Runs) (i
         come = comes_up ∙ to_bottom_is boxes r is p positive inner ∙ rw parted refl
 
   -- before the first child of the context's own box
-  pub begins : 0 < length boxes → Gathered boxes r 1 0 1
+  pub begins : 0 < length boxes → Gathered boxes r 1 (margin_place 0 1)
   begins some = record {
     parent = omega arith;
     within = omega (arith, some);
@@ -309,7 +309,7 @@ module _ (boxes : List FlowBox) (tree : IsTree (parents_of boxes)) (r : Runs) (i
 
   pub record SomeGathered (p m : ℕ) : Type 0 where
     pub first : ℕ
-    pub is_gathered : Gathered boxes r first p m
+    pub is_gathered : Gathered boxes r first (margin_place p m)
 
   opens_gathered : (k : ℕ) → 0 < k → k < length boxes → SomeGathered (parent_at boxes k) k → SomeGathered k (k + 1)
   opens_gathered k positive within was = go (parts_tops boxes k) refl (flag_at r.clears k) refl
@@ -331,7 +331,7 @@ module _ (boxes : List FlowBox) (tree : IsTree (parents_of boxes)) (r : Runs) (i
       walk_to boxes tree SomeGathered closes_gathered opens_gathered (record { first = 1; is_gathered = begins (omega (arith, a, b)) }) p m at
 
 -- the same boxes are in the same run
-pub one_first : (boxes : List FlowBox) (r : Runs) (f g p m : ℕ) → Gathered boxes r f p m → g ≤ m → ((j : ℕ) → j < m → g ≤ j → has_top j (run_before boxes r p m) ≡ true) → ((j : ℕ) → j < m → j < g → has_top j (run_before boxes r p m) ≡ false) → f ≡ g
+pub one_first : (boxes : List FlowBox) (r : Runs) (f g p m : ℕ) → Gathered boxes r f (margin_place p m) → g ≤ m → ((j : ℕ) → j < m → g ≤ j → has_top j (run_before boxes r p m) ≡ true) → ((j : ℕ) → j < m → j < g → has_top j (run_before boxes r p m) ≡ false) → f ≡ g
 one_first boxes r f g p m is most own older = elim (cases_lt f g) [
   | inl low ↦ absurd (true_false (has_top f (run_before boxes r p m)) (is.own f (omega arith) (omega (arith, low, most))) (older f (omega (arith, low, most)) low))
   | inr high ↦ elim (cases_eq f g) [

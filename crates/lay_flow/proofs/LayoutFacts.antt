@@ -2,22 +2,21 @@
 use Rattle.std.proofs.Common.{◌≡◌, ℕ, zero, suc, ◌<◌, true, false, ◌+ℤ◌, ◌-ℤ◌, List, length, refl, ◌∙◌, arith, Some, None, if◌then◌else◌}
 use Rattle.lay_flow.specs.declared.flow_box.FlowBox.{FlowBox}
 use Rattle.lay_flow.specs.Boxes.{parent_at}
-use Rattle.lay_units.specs.declared.length.Unit.{Unit as Length}
 use Rattle.lay_margins.specs.Collapse.{collapse}
 use Rattle.lay_flow.specs.Lengths.{length_at}
 use Rattle.lay_flow.specs.Children.{last_child, flag_at}
-use Rattle.lay_flow.specs.MarginRuns.{Runs, margins, has_top, block_at, run_at, parts_tops, run_before}
-use Rattle.lay_flow.specs.BlockPositions.{Extents, Positions, start_below, start_before}
-use Rattle.lay_flow.specs.BlockLayout.{BlockLayout, IsBlockLayout}
+use Rattle.lay_flow.specs.MarginRuns.{margins, has_top, block_at, run_at, parts_tops, run_before}
+use Rattle.lay_flow.specs.BlockLayout.{BlockLayout}
+use Rattle.lay_flow.specs.BlockPositions.{IsBlockLayout, start_below, start_before}
 
-module _ (boxes : List FlowBox) (r : Runs) (s : Positions) where
-  pub start_first : (p m : ℕ) → last_child boxes p m ≡ None → start_before boxes r s p m ≡ (if parts_tops boxes p then (length_at s.marks p +ℤ (block_at boxes p).edge_top.0) else length_at s.starts p)
+module _ (boxes : List FlowBox) (y : BlockLayout) where
+  pub start_first : (p m : ℕ) → last_child boxes p m ≡ None → start_before boxes y p m ≡ (if parts_tops boxes p then (length_at y.places.marks p +ℤ (block_at boxes p).edge_top.0) else length_at y.places.starts p)
   start_first p m e = rw e refl
 
-  pub start_next : (p m c : ℕ) → last_child boxes p m ≡ Some c → start_before boxes r s p m ≡ start_below r s c
+  pub start_next : (p m c : ℕ) → last_child boxes p m ≡ Some c → start_before boxes y p m ≡ start_below y c
   start_next p m c e = rw e refl
 
-module _ (boxes : List FlowBox) (extents : Extents) (clear_edges : List Length) (y : BlockLayout) (is : IsBlockLayout boxes extents clear_edges y) where
+module _ (boxes : List FlowBox) (y : BlockLayout) (is : IsBlockLayout boxes y) where
   pub mark_standing : (j : ℕ) → 0 < j → j < length boxes → flag_at y.runs.through j ≡ false → length_at y.places.marks j ≡ length_at y.places.starts j +ℤ collapse (margins (run_at y.runs.top_runs j))
   mark_standing zero lt within p = absurd (omega (arith, lt))
   mark_standing (suc j) lt within p = is.has_positions.mark (suc j) within ∙ rw p refl
@@ -30,15 +29,15 @@ module _ (boxes : List FlowBox) (extents : Extents) (clear_edges : List Length) 
   mark_through zero lt within p h = absurd (omega (arith, lt))
   mark_through (suc j) lt within p h = is.has_positions.mark (suc j) within ∙ rw (p, h) refl
 
-  pub start_flows : (k : ℕ) → 0 < k → k < length boxes → flag_at y.runs.clears k ≡ false → length_at y.places.starts k ≡ start_before boxes y.runs y.places (parent_at boxes k) k
+  pub start_flows : (k : ℕ) → 0 < k → k < length boxes → flag_at y.runs.clears k ≡ false → length_at y.places.starts k ≡ start_before boxes y (parent_at boxes k) k
   start_flows zero lt within f = absurd (omega (arith, lt))
   start_flows (suc k) lt within f = is.has_positions.start (suc k) within ∙ rw f refl
 
   -- a run that clearance begins starts so that its box stands at the clear edge
-  pub start_clears : (k : ℕ) → 0 < k → k < length boxes → flag_at y.runs.clears k ≡ true → flag_at y.runs.through k ≡ false → length_at y.places.starts k ≡ length_at clear_edges k -ℤ collapse (margins (run_at y.runs.top_runs k))
+  pub start_clears : (k : ℕ) → 0 < k → k < length boxes → flag_at y.runs.clears k ≡ true → flag_at y.runs.through k ≡ false → length_at y.places.starts k ≡ length_at y.clear_edges k -ℤ collapse (margins (run_at y.runs.top_runs k))
   start_clears zero lt within f t = absurd (omega (arith, lt))
   start_clears (suc k) lt within f t = is.has_positions.start (suc k) within ∙ rw (f, t) refl
 
-  pub start_clears_through : (k : ℕ) → 0 < k → k < length boxes → flag_at y.runs.clears k ≡ true → flag_at y.runs.through k ≡ true → length_at y.places.starts k ≡ length_at clear_edges k -ℤ collapse (margins (run_before boxes y.runs k (length boxes)))
+  pub start_clears_through : (k : ℕ) → 0 < k → k < length boxes → flag_at y.runs.clears k ≡ true → flag_at y.runs.through k ≡ true → length_at y.places.starts k ≡ length_at y.clear_edges k -ℤ collapse (margins (run_before boxes y.runs k (length boxes)))
   start_clears_through zero lt within f t = absurd (omega (arith, lt))
   start_clears_through (suc k) lt within f t = is.has_positions.start (suc k) within ∙ rw (f, t) refl

@@ -4,18 +4,18 @@ use Rattle.std.proofs.lemmas.Bool.{cases_lt, cases_eq}
 use Rattle.lay_flow.specs.declared.flow_box.FlowBox.{FlowBox}
 use Rattle.lay_flow.specs.Boxes.{parent_at, parents_of}
 use Rattle.lay_flow.proofs.BoxTrees.{parent_before, parents_together}
-use Rattle.lay_units.specs.declared.length.Unit.{Unit as Length}
 use Rattle.lay_doc.specs.Tree.{IsTree}
 use Rattle.lay_margins.specs.StrutValue.{StrutValue}
 use Rattle.lay_margins.specs.Collapse.{Holds, collapse}
 use Rattle.lay_flow.specs.Lengths.{length_at}
 use Rattle.lay_flow.specs.Children.{flag_at}
 use Rattle.lay_flow.specs.MarginRuns.{Entry, margin, mark, margins, has_top, block_at, run_at, parts_tops, to_top, run_before, joins_bottom, may_collapse_through}
-use Rattle.lay_flow.specs.BlockPositions.{Extents, start_before}
-use Rattle.lay_flow.specs.BlockLayout.{BlockLayout, IsBlockLayout}
-use Rattle.lay_flow.specs.Pass.Gathered.{Gathered, IsAround}
-use Rattle.lay_flow.specs.Pass.MarginPlace.{IsPlace}
-use Rattle.lay_flow.specs.Pass.LookAhead.{ComesTo, IsOutermost, Reads, ReadsAll}
+use Rattle.lay_flow.specs.BlockLayout.{BlockLayout}
+use Rattle.lay_flow.specs.BlockPositions.{IsBlockLayout, start_before}
+use Rattle.lay_flow.specs.Pass.Gathered.{Gathered}
+use Rattle.lay_flow.specs.Pass.MarginPlace.{IsPlace, IsAround, margin_place}
+use Rattle.lay_flow.specs.Pass.LookAhead.{ComesTo, IsOutermost, IsOutset, Reads, ReadsAll, reading}
+use Rattle.lay_flow.specs.declared.hypothetical_edge.Outset.{Outset}
 use Rattle.lay_flow.proofs.Truths.{true_false, true_or, low_not, low_yes}
 use Rattle.lay_flow.proofs.RunEntries.{margins-append, top_there, top_here, bottom_same}
 use Rattle.lay_flow.proofs.RunFacts.{goes_in, ends_inside, joins_is, lead_goes_on, top_run_is, to_bottom_is, parting_stands}
@@ -35,26 +35,47 @@ place_before boxes tree k positive within = record {
   next = λ w. omega arith;
 }
 
-module _ (boxes : List FlowBox) (tree : IsTree (parents_of boxes)) (extents : Extents) (clear_edges : List Length) (w : BlockLayout) (is : IsBlockLayout boxes extents clear_edges w)
-    (before : StrutValue) (first k outermost : ℕ) (comes : ComesTo boxes w before first k) (positive : 0 < first) (order : first ≤ k) (within : k < length boxes) (outer : IsOutermost boxes first k outermost) where
+module _ (boxes : List FlowBox) (tree : IsTree (parents_of boxes)) (w : BlockLayout) (is : IsBlockLayout boxes w)
+    (from : Outset) (out : IsOutset boxes from) (comes : ComesTo boxes w from) where
+  abbrev first : ℕ
+  first = from.first
+
+  abbrev k : ℕ
+  k = from.k
+
+  abbrev outermost : ℕ
+  outermost = from.outermost
+
+  abbrev outer : IsOutermost boxes from.first from.k from.outermost
+  outer = out.is_outermost
+
+  positive : 0 < from.first
+  positive = out.least
+
+  order : from.first ≤ from.k
+  order = out.most
+
+  within : from.k < length boxes
+  within = out.within
+
   top_k : 0 < k
   top_k = omega (arith, positive, order)
 
   -- the margins of the run before the box
-  gathered_k : Gathered boxes w.runs first (parent_at boxes k) k
+  gathered_k : Gathered boxes w.runs first (margin_place (parent_at boxes k) k)
   gathered_k =
       let there = gathers boxes tree w.runs is.has_runs (parent_at boxes k) k (place_before boxes tree k top_k within) in
       let same = one_first boxes w.runs there.first first (parent_at boxes k) k there.is_gathered order (λ j lt le. comes.tops j lt ∙ low_not j first le) (λ j lt low. comes.tops j lt ∙ low_yes j first low) in
-      subst (λ (f : ℕ). Gathered boxes w.runs f (parent_at boxes k) k) same there.is_gathered
+      subst (λ (f : ℕ). Gathered boxes w.runs f (margin_place (parent_at boxes k) k)) same there.is_gathered
 
-  start_k : length_at w.places.starts k ≡ start_before boxes w.runs w.places (parent_at boxes k) k
-  start_k = start_flows boxes extents clear_edges w is k top_k within (comes.later k (omega arith))
+  start_k : length_at w.places.starts k ≡ start_before boxes w (parent_at boxes k) k
+  start_k = start_flows boxes w is k top_k within (comes.later k (omega arith))
 
   -- the boxes that hold it in its run start where the run does
-  start_there : (c : ℕ) → outermost ≤ c → c ≤ k → IsAround boxes c (k + 1) → length_at w.places.starts c ≡ start_before boxes w.runs w.places (parent_at boxes k) k
+  start_there : (c : ℕ) → outermost ≤ c → c ≤ k → IsAround boxes c (k + 1) → length_at w.places.starts c ≡ start_before boxes w (parent_at boxes k) k
   start_there c least most inside = elim (cases_lt c k) [
     | inl lt ↦ (let o = outer.most in let f = outer.from (omega (arith, least, lt)) in let up = inside k lt (omega arith) in
-        one_start boxes tree w.runs is.has_runs extents clear_edges w.places is.has_positions first (parent_at boxes k) k (place_before boxes tree k top_k within) gathered_k c c
+        one_start boxes tree w is first (parent_at boxes k) k (place_before boxes tree k top_k within) gathered_k c c
         (omega (arith, f, least)) up (λ i low high. inside i low (omega (arith, high))) (omega arith) lt)
     | inr ge ↦ (let e : c ≡ k = omega (arith, most, ge) in ap (length_at w.places.starts) e ∙ start_k)
   ]
@@ -75,17 +96,17 @@ module _ (boxes : List FlowBox) (tree : IsTree (parents_of boxes)) (extents : Ex
   all_above c run strut least most inside same stands rise holds = record {
     all = margins run;
     strut_holds = holds;
-    mark = let p = outer.positive in same ∙ mark_standing boxes extents clear_edges w is c (omega (arith, p, least)) (omega (arith, most, within)) stands
-        ∙ sum_same (length_at w.places.starts c) (start_before boxes w.runs w.places (parent_at boxes k) k) (run_at w.runs.top_runs c) run (start_there c least most inside) rise;
+    mark = let p = outer.positive in same ∙ mark_standing boxes w is c (omega (arith, p, least)) (omega (arith, most, within)) stands
+        ∙ sum_same (length_at w.places.starts c) (start_before boxes w (parent_at boxes k) k) (run_at w.runs.top_runs c) run (start_there c least most inside) rise;
   }
 
   -- a box is opened
-  module _ (m : ℕ) (from : k ≤ m) (inner : m < length boxes) (strut : StrutValue) (was : Reads boxes w k outermost strut (parent_at boxes m) m) where
+  module _ (m : ℕ) (begun : k ≤ m) (inner : m < length boxes) (strut : StrutValue) (was : Reads boxes w from (reading strut (parent_at boxes m) m)) where
     positive_m : 0 < m
-    positive_m = omega (arith, positive, order, from)
+    positive_m = omega (arith, positive, order, begun)
 
     unclear : flag_at w.runs.clears m ≡ false
-    unclear = comes.later m from
+    unclear = comes.later m begun
 
     lead : run_at w.runs.before_tops m ≡ run_before boxes w.runs (parent_at boxes m) m
     lead = lead_goes_on boxes w.runs is.has_runs m positive_m inner unclear
@@ -100,7 +121,7 @@ module _ (boxes : List FlowBox) (tree : IsTree (parents_of boxes)) (extents : Ex
     margins_up = ap (λ (xs : List Entry). margins (xs ++ mark m ∷ margin (block_at boxes m).margin_top.0 ∷ [])) lead ∙ margins-append run_up top
 
     pub reads_top : (next : StrutValue) → Holds next (margins (run_before boxes w.runs (parent_at boxes m) m) ++ (block_at boxes m).margin_top.0 ∷ []) → parts_tops boxes m ≡ false
-        → Reads boxes w k outermost next m (m + 1)
+        → Reads boxes w from (reading next m (m + 1))
     reads_top next holds plain =
         let come : run_before boxes w.runs m (m + 1) ≡ to_top boxes w.runs m = opened_top boxes tree w.runs is.has_runs m positive_m inner plain in
         let e = ap margins come ∙ margins_up in
@@ -113,29 +134,25 @@ module _ (boxes : List FlowBox) (tree : IsTree (parents_of boxes)) (extents : Ex
             | inr ge ↦ (let e : outermost ≡ m = omega (arith, ge, lt) in rw e (top_here m (block_at boxes m).margin_top.0 run_up))
           ];
           holder = λ lt. elim (cases_lt k m) [
-            | inl low ↦ (let h = was.holder low in let u = h.1.above in let c = h.1.most in (
-              h.0,
-              record {
-                least = h.1.least;
-                most = c;
-                above = omega (arith, c, from);
-                inside = λ i a b. elim (cases_lt i m) [
-                  | inl before ↦ h.1.inside i a before
-                  | inr here ↦ (let e : i ≡ m = omega (arith, here, b) in rw e u)
-                ];
-                mark = h.1.mark;
-              },
-            ))
-            | inr ge ↦ (let e : k ≡ m = omega (arith, ge, from) in (
-              k,
-              record {
-                least = o;
-                most = omega arith;
-                above = omega (arith, e);
-                inside = λ i a b. absurd (omega (arith, e, a, b));
-                mark = refl;
-              },
-            ))
+            | inl low ↦ (let h = was.holder low in let u = h.above in let c = h.most in record {
+              box = h.box;
+              least = h.least;
+              most = c;
+              above = omega (arith, c, begun);
+              inside = λ i a b. elim (cases_lt i m) [
+                | inl before ↦ h.inside i a before
+                | inr here ↦ (let e : i ≡ m = omega (arith, here, b) in rw e u)
+              ];
+              mark = h.mark;
+            })
+            | inr ge ↦ (let e : k ≡ m = omega (arith, ge, begun) in record {
+              box = k;
+              least = o;
+              most = omega arith;
+              above = omega (arith, e);
+              inside = λ i a b. absurd (omega (arith, e, a, b));
+              mark = refl;
+            })
           ];
         }
 
@@ -146,7 +163,7 @@ module _ (boxes : List FlowBox) (tree : IsTree (parents_of boxes)) (extents : Ex
         let held : Holds next (margins (to_top boxes w.runs m)) = rw e holds in
         let rise : run_at w.runs.top_runs m ≡ to_top boxes w.runs m = top_run_is boxes w.runs is.has_runs m positive_m inner ∙ rw parts refl in
         elim (cases_lt k m) [
-          | inl low ↦ (let h = was.holder low in let c : ℕ = h.0 in let i = h.1 in
+          | inl low ↦ (let i = was.holder low in let c : ℕ = i.box in
               let p = outer.positive in let l = i.least in let u = i.above in let par = at.parent in let most = i.most in
               let own = was.own (omega (arith, l, u, par)) in
               let there = gathers boxes tree w.runs is.has_runs (parent_at boxes m) m at in
@@ -162,7 +179,7 @@ module _ (boxes : List FlowBox) (tree : IsTree (parents_of boxes)) (extents : Ex
               (λ t. absurd (true_false (parts_tops boxes m) parts (through_inside boxes tree w.runs is.has_runs c m (omega (arith, p, l)) (omega (arith, most, low)) inner contains t).unparted)) (λ f. f) in
               let risen = there.is_gathered.rise c (omega (arith, within_run, l)) u i.inside ∙ goes_in boxes w.runs (parent_at boxes m) m m (next_here boxes tree w.runs is.has_runs m positive_m inner) unclear ∙ rise in
               all_above c (to_top boxes w.runs m) next l most (λ j a b. i.inside j a (omega (arith, b, low))) i.mark stands risen held)
-          | inr ge ↦ (let e : m ≡ k = omega (arith, ge, from) in let o = outer.most in
+          | inr ge ↦ (let e : m ≡ k = omega (arith, ge, begun) in let o = outer.most in
               let parts_k = subst (λ (j : ℕ). parts_tops boxes j ≡ true) e parts in
               let rise_k = subst (λ (j : ℕ). run_at w.runs.top_runs j ≡ to_top boxes w.runs j) e rise in
               let held_k = subst (λ (j : ℕ). Holds next (margins (to_top boxes w.runs j))) e held in
@@ -170,7 +187,7 @@ module _ (boxes : List FlowBox) (tree : IsTree (parents_of boxes)) (extents : Ex
         ]
 
   -- a box is closed
-  module _ (p m : ℕ) (at : IsPlace boxes p m) (least : outermost ≤ p) (after : k < m) (ends : m < length boxes → parent_at boxes m < p) (strut : StrutValue) (was : Reads boxes w k outermost strut p m) where
+  module _ (p m : ℕ) (at : IsPlace boxes p m) (least : outermost ≤ p) (after : k < m) (ends : m < length boxes → parent_at boxes m < p) (strut : StrutValue) (was : Reads boxes w from (reading strut p m)) where
     positive_p : 0 < p
     positive_p = let o = outer.positive in omega (arith, o, least)
 
@@ -188,7 +205,7 @@ module _ (boxes : List FlowBox) (tree : IsTree (parents_of boxes)) (extents : Ex
 
     record InRun : Type 0 where
       pub first_there : ℕ
-      pub is_gathered : Gathered boxes w.runs first_there p m
+      pub is_gathered : Gathered boxes w.runs first_there (margin_place p m)
       pub low : first_there ≤ outermost
 
     gathered_p : InRun
@@ -217,7 +234,7 @@ module _ (boxes : List FlowBox) (tree : IsTree (parents_of boxes)) (extents : Ex
     ends_inside_box parts =
         let g = gathered_p in
         let low = g.low in
-        let h = was.holder after in let c : ℕ = h.0 in let i = h.1 in
+        let i = was.holder after in let c : ℕ = i.box in
         let l = i.least in let u = i.above in let most = i.most in
         let stands_p : flag_at w.runs.through p ≡ false = passes_p ∙ parts in
         let parted : joins_bottom boxes w.runs p ≡ false = true_or (joins_bottom boxes w.runs p) (joins_bottom boxes w.runs p ≡ false)
@@ -235,7 +252,7 @@ module _ (boxes : List FlowBox) (tree : IsTree (parents_of boxes)) (extents : Ex
     -- the outermost box is collapsed through
     pub ends_before_bottom : p ≡ outermost → may_collapse_through (block_at boxes p) ≡ true → ReadsAll boxes w k strut
     ends_before_bottom is_last passes =
-        let h = was.holder after in let c : ℕ = h.0 in let i = h.1 in
+        let i = was.holder after in let c : ℕ = i.box in
         let l = i.least in let u = i.above in let most = i.most in
         let e : c ≡ p = omega (arith, l, u, is_last) in
         let alone : has_top (parent_at boxes p) (run_at w.runs.before_tops p) ≡ false = subst (λ (j : ℕ). has_top (parent_at boxes j) (run_at w.runs.before_tops j) ≡ false) (sym is_last) outermost_alone in
@@ -245,13 +262,13 @@ module _ (boxes : List FlowBox) (tree : IsTree (parents_of boxes)) (extents : Ex
           all = margins (run_before boxes w.runs p m);
           strut_holds = was.strut_holds;
           mark = i.mark ∙ ap (length_at w.places.marks) e
-              ∙ mark_through boxes extents clear_edges w is p positive_p inner_p (passes_p ∙ passes) alone
-              ∙ sum_same (length_at w.places.starts p) (start_before boxes w.runs w.places (parent_at boxes k) k) (run_before boxes w.runs p (length boxes)) (run_before boxes w.runs p m) start here;
+              ∙ mark_through boxes w is p positive_p inner_p (passes_p ∙ passes) alone
+              ∙ sum_same (length_at w.places.starts p) (start_before boxes w (parent_at boxes k) k) (run_before boxes w.runs p (length boxes)) (run_before boxes w.runs p m) start here;
         }
 
     -- it is collapsed through, and the run goes on
     pub reads_bottom : (p ≡ outermost → ⊥) → may_collapse_through (block_at boxes p) ≡ true → (next : StrutValue) → Holds next (margins (run_before boxes w.runs p m) ++ (block_at boxes p).margin_bottom.0 ∷ [])
-        → IsAround boxes outermost m → Reads boxes w k outermost next (parent_at boxes p) m
+        → IsAround boxes outermost m → Reads boxes w from (reading next (parent_at boxes p) m)
     reads_bottom other passes next holds round =
         let g = gathered_p in
         let low = g.low in
@@ -268,33 +285,29 @@ module _ (boxes : List FlowBox) (tree : IsTree (parents_of boxes)) (extents : Ex
         record {
           strut_holds = let e = ap margins come ∙ margins-append c (margin bottom ∷ []) in rw e holds;
           own = λ lt. ap (has_top outermost) come ∙ bottom_same outermost bottom c ∙ own_top;
-          holder = λ lt_k. let h = was.holder after in let i = h.1 in let u = i.above in let l = i.least in let most = i.most in elim (cases_eq h.0 p) [
-            | inl e ↦ (
-              parent_at boxes p,
-              record {
-                least = over;
-                most = omega (arith, up, e, most);
-                above = omega arith;
-                inside = λ j a b. elim (cases_lt j p) [
-                  | inl before ↦ parents_together boxes tree j p before inner_p a
-                  | inr from ↦ elim (cases_eq j p) [
-                    | inl same ↦ rw same (omega arith)
-                    | inr ne ↦ (let x = at.inside j (omega (arith, from, ne)) b in omega (arith, x, up))
-                  ]
-                ];
-                mark = i.mark ∙ ap (length_at w.places.marks) e ∙ mark_inherits boxes extents clear_edges w is p positive_p inner_p through
-                    (g.is_gathered.leads (parent_at boxes p) p (omega (arith, low, least)) lt up ∙ low_not (parent_at boxes p) g.first_there (omega (arith, low, over)));
-              },
-            )
-            | inr ne ↦ (
-              h.0,
-              record {
-                least = l;
-                most = most;
-                above = i.inside p (omega (arith, ne, u)) lt;
-                inside = i.inside;
-                mark = i.mark;
-              },
-            )
+          holder = λ lt_k. let i = was.holder after in let u = i.above in let l = i.least in let most = i.most in elim (cases_eq i.box p) [
+            | inl e ↦ record {
+              box = parent_at boxes p;
+              least = over;
+              most = omega (arith, up, e, most);
+              above = omega arith;
+              inside = λ j a b. elim (cases_lt j p) [
+                | inl before ↦ parents_together boxes tree j p before inner_p a
+                | inr from ↦ elim (cases_eq j p) [
+                  | inl same ↦ rw same (omega arith)
+                  | inr ne ↦ (let x = at.inside j (omega (arith, from, ne)) b in omega (arith, x, up))
+                ]
+              ];
+              mark = i.mark ∙ ap (length_at w.places.marks) e ∙ mark_inherits boxes w is p positive_p inner_p through
+                  (g.is_gathered.leads (parent_at boxes p) p (omega (arith, low, least)) lt up ∙ low_not (parent_at boxes p) g.first_there (omega (arith, low, over)));
+            }
+            | inr ne ↦ record {
+              box = i.box;
+              least = l;
+              most = most;
+              above = i.inside p (omega (arith, ne, u)) lt;
+              inside = i.inside;
+              mark = i.mark;
+            }
           ];
         }

@@ -8,18 +8,17 @@ use Rattle.lay_doc.specs.Tree.{IsTree}
 use Rattle.lay_margins.specs.StrutValue.{StrutValue}
 use Rattle.lay_flow.specs.declared.hypothetical_edge.Outset.{Outset}
 use Rattle.lay_flow.specs.MarginRuns.{block_at, is_zero, parts_tops, may_collapse_through}
-use Rattle.lay_flow.specs.Pass.Gathered.{IsAround}
-use Rattle.lay_flow.specs.Pass.MarginPlace.{IsPlace}
+use Rattle.lay_flow.specs.Pass.MarginPlace.{IsPlace, IsAround}
 use Rattle.lay_flow.specs.Pass.Struts.{StrutFits}
-use Rattle.lay_flow.specs.Pass.LookAhead.{IsOutset, IsReading, HasRead}
+use Rattle.lay_flow.specs.Pass.LookAhead.{IsOutset, IsReading, HasRead, reading}
 use Rattle.lay_flow.proofs.Truths.{true_or, low_not}
 use Rattle.lay_flow.proofs.RunsAgree.{inside_up}
 use Rattle.lay_flow.proofs.Openings.{WithMargin}
 use Rattle.lay_flow.proofs.LookAhead.{reads_top, ends_below_top, ends_inside_box, ends_before_bottom, reads_bottom}
 
 module _ (boxes : List FlowBox) (tree : IsTree (parents_of boxes)) (from : Outset) (out : IsOutset boxes from) where
-  module _ (m : ℕ) (within : m < length boxes) (strut next : StrutValue) (was : IsReading boxes from strut (parent_at boxes m) m) (fits : StrutFits next) (adds : WithMargin strut next (block_at boxes m).margin_top.0) where
-    pub opened_reading : parts_tops boxes m ≡ false → IsReading boxes from next m (m + 1)
+  module _ (m : ℕ) (within : m < length boxes) (strut next : StrutValue) (was : IsReading boxes from (reading strut (parent_at boxes m) m)) (fits : StrutFits next) (adds : WithMargin strut next (block_at boxes m).margin_top.0) where
+    pub opened_reading : parts_tops boxes m ≡ false → IsReading boxes from (reading next m (m + 1))
     opened_reading plain =
         let begun = was.begun in
         let o = out.is_outermost.most in
@@ -34,39 +33,39 @@ module _ (boxes : List FlowBox) (tree : IsTree (parents_of boxes)) (from : Outse
             | inl before ↦ was.inside (omega (arith, a, before)) i a before
             | inr here ↦ (let e : i ≡ m = omega (arith, here, b) in let u = was.above (omega (arith, a, e)) in rw e u)
           ];
-          reads = λ extents clear_edges w is comes. reads_top boxes tree extents clear_edges w is from.strut from.first from.k from.outermost comes out.least out.most out.within out.is_outermost m begun within strut
-              (was.reads extents clear_edges w is comes) next (adds _ (was.reads extents clear_edges w is comes).strut_holds) plain;
+          reads = λ w is comes. reads_top boxes tree w is from out comes m begun within strut
+              (was.reads w is comes) next (adds _ (was.reads w is comes).strut_holds) plain;
         }
 
     pub opened_read : parts_tops boxes m ≡ true → HasRead boxes from next
     opened_read parts = record {
       fits = fits;
-      reads_all = λ extents clear_edges w is comes. ends_below_top boxes tree extents clear_edges w is from.strut from.first from.k from.outermost comes out.least out.most out.within out.is_outermost m was.begun within strut
-          (was.reads extents clear_edges w is comes) next (adds _ (was.reads extents clear_edges w is comes).strut_holds) parts was.place;
+      reads_all = λ w is comes. ends_below_top boxes tree w is from out comes m was.begun within strut
+          (was.reads w is comes) next (adds _ (was.reads w is comes).strut_holds) parts was.place;
     }
 
-  module _ (p m : ℕ) (strut : StrutValue) (was : IsReading boxes from strut p m) (after : from.k < m) (ends : m < length boxes → parent_at boxes m < p) where
+  module _ (p m : ℕ) (strut : StrutValue) (was : IsReading boxes from (reading strut p m)) (after : from.k < m) (ends : m < length boxes → parent_at boxes m < p) where
     least : from.outermost ≤ p
     least = let o = out.is_outermost.most in was.above (omega (arith, o, after))
 
     pub closed_read : may_collapse_through (block_at boxes p) ≡ false → HasRead boxes from strut
     closed_read parts = record {
       fits = was.fits;
-      reads_all = λ extents clear_edges w is comes. ends_inside_box boxes tree extents clear_edges w is from.strut from.first from.k from.outermost comes out.least out.most out.within out.is_outermost p m was.place least after ends strut
-          (was.reads extents clear_edges w is comes) parts;
+      reads_all = λ w is comes. ends_inside_box boxes tree w is from out comes p m was.place least after ends strut
+          (was.reads w is comes) parts;
     }
 
     pub closed_last : p ≡ from.outermost → HasRead boxes from strut
     closed_last last = record {
       fits = was.fits;
-      reads_all = λ extents clear_edges w is comes. true_or (may_collapse_through (block_at boxes p)) _
-          (λ passes. ends_before_bottom boxes tree extents clear_edges w is from.strut from.first from.k from.outermost comes out.least out.most out.within out.is_outermost p m was.place least after ends strut
-          (was.reads extents clear_edges w is comes) last passes)
-          (λ parts. ends_inside_box boxes tree extents clear_edges w is from.strut from.first from.k from.outermost comes out.least out.most out.within out.is_outermost p m was.place least after ends strut
-          (was.reads extents clear_edges w is comes) parts);
+      reads_all = λ w is comes. true_or (may_collapse_through (block_at boxes p)) _
+          (λ passes. ends_before_bottom boxes tree w is from out comes p m was.place least after ends strut
+          (was.reads w is comes) last passes)
+          (λ parts. ends_inside_box boxes tree w is from out comes p m was.place least after ends strut
+          (was.reads w is comes) parts);
     }
 
-    pub closed_reading : (next : StrutValue) → StrutFits next → WithMargin strut next (block_at boxes p).margin_bottom.0 → (p ≡ from.outermost → ⊥) → may_collapse_through (block_at boxes p) ≡ true → IsReading boxes from next (parent_at boxes p) m
+    pub closed_reading : (next : StrutValue) → StrutFits next → WithMargin strut next (block_at boxes p).margin_bottom.0 → (p ≡ from.outermost → ⊥) → may_collapse_through (block_at boxes p) ≡ true → IsReading boxes from (reading next (parent_at boxes p) m)
     closed_reading next fits adds other passes =
         let a = was.place.parent in let b = was.place.within in
         let o = out.is_outermost.most in let pos = out.is_outermost.positive in
@@ -86,8 +85,8 @@ module _ (boxes : List FlowBox) (tree : IsTree (parents_of boxes)) (from : Outse
           first_place = λ e. absurd (omega (arith, e, after));
           above = λ lt. round p (omega (arith, l, λ (e : p ≡ from.outermost). other e)) a;
           inside = λ lt. round;
-          reads = λ extents clear_edges w is comes. reads_bottom boxes tree extents clear_edges w is from.strut from.first from.k from.outermost comes out.least out.most out.within out.is_outermost p m was.place least after ends strut
-              (was.reads extents clear_edges w is comes) other passes next (adds _ (was.reads extents clear_edges w is comes).strut_holds) round;
+          reads = λ w is comes. reads_bottom boxes tree w is from out comes p m was.place least after ends strut
+              (was.reads w is comes) other passes next (adds _ (was.reads w is comes).strut_holds) round;
         }
 
 pub parts_is : (boxes : List FlowBox) (m : ℕ) → 0 < m → parts_tops boxes m ≡ not (is_zero (block_at boxes m).edge_top.0)
@@ -116,14 +115,14 @@ after_outset boxes from out p to m begun first next other = elim (cases_lt from.
 ]
 
 -- a look ahead ends before all boxes are closed
-pub ends_before_root : (boxes : List FlowBox) (from : Outset) → IsOutset boxes from → (strut : StrutValue) → IsReading boxes from strut 0 (length boxes) → ⊥
+pub ends_before_root : (boxes : List FlowBox) (from : Outset) → IsOutset boxes from → (strut : StrutValue) → IsReading boxes from (reading strut 0 (length boxes)) → ⊥
 ends_before_root boxes from out strut was =
     let o = out.is_outermost.most in let pos = out.is_outermost.positive in let w = out.within in
     let a = was.above (omega (arith, o, w)) in
     omega (arith, a, pos)
 
 -- the look ahead begins
-pub begins_reading : (boxes : List FlowBox) (from : Outset) → IsOutset boxes from → StrutFits from.strut → IsPlace boxes (parent_at boxes from.k) from.k → IsReading boxes from from.strut (parent_at boxes from.k) from.k
+pub begins_reading : (boxes : List FlowBox) (from : Outset) → IsOutset boxes from → StrutFits from.strut → IsPlace boxes (parent_at boxes from.k) from.k → IsReading boxes from (reading from.strut (parent_at boxes from.k) from.k)
 begins_reading boxes from begins fits place =
     let outer = begins.is_outermost in
     let most = outer.most in
@@ -134,7 +133,7 @@ begins_reading boxes from begins fits place =
       first_place = λ e. refl;
       above = λ lt. outer.inside from.k lt (omega arith);
       inside = λ lt i low high. outer.inside i low (omega (arith, high));
-      reads = λ extents clear_edges w is comes. record {
+      reads = λ w is comes. record {
         strut_holds = comes.strut_holds;
         own = λ lt. comes.tops from.outermost lt ∙ low_not from.outermost from.first (outer.from lt);
         holder = λ lt. absurd (omega (arith, lt));

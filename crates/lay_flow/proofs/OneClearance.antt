@@ -17,9 +17,9 @@ use Rattle.lay_floats.proofs.Unique.{one_clear_edge_lem}
 use Rattle.lay_flow.specs.Lengths.{length_at}
 use Rattle.lay_flow.specs.Children.{flag_at}
 use Rattle.lay_flow.specs.MarginRuns.{Runs, Entry, has_top, block_at, run_at, run_before}
+use Rattle.lay_flow.specs.BlockLayout.{BlockLayout, Extents}
 use Rattle.lay_flow.specs.BlockPositions.{HasPositions, is_placed}
 use Rattle.lay_flow.specs.BlockFloats.{Spot, spot_at, shape_at, floats_before}
-use Rattle.lay_flow.specs.BlockLayout.{BlockLayout}
 use Rattle.lay_flow.specs.Clearance.{HasClearedFloat, IsAbove, HasClearance, NeedsClearance, lower_of}
 use Rattle.lay_flow.specs.ContextFlow.{Flow, IsContextFlow}
 use Rattle.lay_flow.specs.Boxes.{box_at}
@@ -96,7 +96,7 @@ no_need boxes k in_lines floats without bottom is_bottom (inr above) =
 module _ (boxes : List FlowBox) (tree : IsTree (parents_of boxes)) (some : 0 < length boxes) (are : IsFlowTree boxes)
     (f g : Flow) (is : IsContextFlow boxes f) (also : IsContextFlow boxes g)
     (first k : ℕ) (positive : 0 < k) (within : k < length boxes)
-    (was : AlikeAt boxes tree f.extents f.clear_edges f.layout is.layout g.extents g.clear_edges g.layout also.layout first (parent_at boxes k) k) where
+    (was : AlikeAt boxes tree f.layout is.layout g.layout also.layout first (parent_at boxes k) k) where
   -- what is placed before a box that doesn't stand in lines isn't in its run
   module _ (out : is_in_lines (box_at boxes k).kind ≡ false) where
     placed_before : (j : ℕ) → j < k → is_placed (block_at boxes j).inside ≡ true → j < first
@@ -105,16 +105,16 @@ module _ (boxes : List FlowBox) (tree : IsTree (parents_of boxes)) (some : 0 < l
       | inr from ↦ absurd (true_false (is_placed (block_at boxes j).inside) placed (placed_in_run boxes are f.layout.runs is.layout.has_runs first k positive within out was.gathered j from lt))
     ]
 
-    extents_before : (j : ℕ) → 0 < j → j < k → length_at f.extents.depths j ≡ length_at g.extents.depths j
-    extents_before j low lt = true_or (is_placed (block_at boxes j).inside) (length_at f.extents.depths j ≡ length_at g.extents.depths j)
+    extents_before : (j : ℕ) → 0 < j → j < k → length_at f.layout.extents.depths j ≡ length_at g.layout.extents.depths j
+    extents_before j low lt = true_or (is_placed (block_at boxes j).inside) (length_at f.layout.extents.depths j ≡ length_at g.layout.extents.depths j)
         (λ placed. let less = placed_before j lt placed in extent_placed boxes tree are f g is also j (omega (arith, lt, within)) placed (λ i a. was.mark i (omega (arith, a, less))))
         (λ flows. extent_other boxes tree are f g is also j (omega (arith, lt, within)) flows)
 
   module _ (none : (shape_at boxes k).float ≡ None) (out : is_in_lines (box_at boxes k).kind ≡ false) where
-    here : HasClearance boxes f.extents f.clear_edges f.places f.layout k
+    here : HasClearance boxes f.layout f.places k
     here = is.clearance k positive within none
 
-    there : HasClearance boxes g.extents g.clear_edges g.places g.layout k
+    there : HasClearance boxes g.layout g.places k
     there = also.clearance k positive within none
 
     -- the hypothetical layouts have the same runs
@@ -135,12 +135,14 @@ module _ (boxes : List FlowBox) (tree : IsTree (parents_of boxes)) (some : 0 < l
     mark_without =
         let h = here.is_hypothetical in
         let t = there.is_hypothetical in
-        let positions : HasPositions boxes here.without.runs g.extents g.clear_edges there.without.places = subst (λ (r : Runs). HasPositions boxes r g.extents g.clear_edges there.without.places) (sym runs_without) t.is_layout.has_positions in
-        let edges : (j : ℕ) → j ≤ k → flag_at here.without.runs.clears j ≡ true → length_at f.clear_edges j ≡ length_at g.clear_edges j = λ j le cleared. elim (cases_lt j k) [
-          | inl low ↦ was.edges j low (sym (h.earlier j low) ∙ cleared)
+        let positions : HasPositions boxes (record there.without { runs = here.without.runs }) = subst (λ (r : Runs). HasPositions boxes (record there.without { runs = r })) (sym runs_without) t.is_layout.has_positions in
+        let depths : (j : ℕ) → 0 < j → j < k → length_at here.without.extents.depths j ≡ length_at there.without.extents.depths j = λ j low lt.
+        ap (λ (e : Extents). length_at e.depths j) h.extents_are ∙ extents_before out j low lt ∙ sym (ap (λ (e : Extents). length_at e.depths j) t.extents_are) in
+        let edges : (j : ℕ) → j ≤ k → flag_at here.without.runs.clears j ≡ true → length_at here.without.clear_edges j ≡ length_at there.without.clear_edges j = λ j le cleared. elim (cases_lt j k) [
+          | inl low ↦ ap (λ (es : List Length). length_at es j) h.edges_are ∙ was.edges j low (sym (h.earlier j low) ∙ cleared) ∙ sym (ap (λ (es : List Length). length_at es j) t.edges_are)
           | inr high ↦ absurd (true_false (flag_at here.without.runs.clears j) cleared (h.later j high))
         ] in
-        marks_up_to boxes tree here.without.runs f.extents g.extents f.clear_edges g.clear_edges here.without.places there.without.places h.is_layout.has_positions positions k (extents_before out) edges some within k (omega arith)
+        marks_up_to boxes tree here.without there.without h.is_layout.has_positions positions k depths edges some within k (omega arith)
 
     -- the run before the box is that of the flow
     run_without : run_at here.without.runs.before_tops k ≡ run_before boxes f.layout.runs (parent_at boxes k) k
@@ -196,10 +198,10 @@ module _ (boxes : List FlowBox) (tree : IsTree (parents_of boxes)) (some : 0 < l
       | inr free ↦ clear_by_edge free
     ]
 
-    edge_in_flow : flag_at f.layout.runs.clears k ≡ true → length_at f.clear_edges k ≡ length_at g.clear_edges k
+    edge_in_flow : flag_at f.layout.runs.clears k ≡ true → length_at f.layout.clear_edges k ≡ length_at g.layout.clear_edges k
     edge_in_flow cleared =
         let also_cleared = sym clear_in_flow ∙ cleared in
-        let marks = marks_above_clearance boxes tree f.extents f.clear_edges f.layout is.layout g.extents g.clear_edges g.layout also.layout first k positive within was cleared also_cleared in
+        let marks = marks_above_clearance boxes tree f.layout is.layout g.layout also.layout first k positive within was cleared also_cleared in
         let floats = floats_same boxes f.places g.places k (places_to boxes tree are f g is also k (omega (arith, within)) marks) in
         let bottom = one_clear_edge_lem (floats_before boxes f.places k) (shape_at boxes k).clear here.bottom there.bottom here.is_bottom (subst (λ (fs : List Placed). IsClearEdge fs (shape_at boxes k).clear there.bottom) (sym floats) there.is_bottom) in
         let mark = mark_without in
@@ -223,11 +225,11 @@ module _ (boxes : List FlowBox) (tree : IsTree (parents_of boxes)) (some : 0 < l
           (λ out. clear_in_flow e out)
       go (Some side) e = is.float_clear k side within e ∙ sym (also.float_clear k side within e)
 
-  pub one_edge : flag_at f.layout.runs.clears k ≡ true → length_at f.clear_edges k ≡ length_at g.clear_edges k
+  pub one_edge : flag_at f.layout.runs.clears k ≡ true → length_at f.layout.clear_edges k ≡ length_at g.layout.clear_edges k
   one_edge cleared = go (shape_at boxes k).float refl
     where
-      go : (o : Option Side) → (shape_at boxes k).float ≡ o → length_at f.clear_edges k ≡ length_at g.clear_edges k
-      go None e = true_or (is_in_lines (box_at boxes k).kind) (length_at f.clear_edges k ≡ length_at g.clear_edges k)
+      go : (o : Option Side) → (shape_at boxes k).float ≡ o → length_at f.layout.clear_edges k ≡ length_at g.layout.clear_edges k
+      go None e = true_or (is_in_lines (box_at boxes k).kind) (length_at f.layout.clear_edges k ≡ length_at g.layout.clear_edges k)
           (λ in_lines. absurd (true_false (flag_at f.layout.runs.clears k) cleared (unclear in_lines f is e)))
           (λ out. edge_in_flow e out cleared)
       go (Some side) e = absurd (true_false (flag_at f.layout.runs.clears k) cleared (is.float_clear k side within e))

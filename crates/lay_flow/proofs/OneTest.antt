@@ -9,6 +9,7 @@ use Rattle.lay_floats.specs.declared.placed.Placed.{Placed}
 use Rattle.lay_lines.specs.Lines.{LinesValue, AreLines}
 use Rattle.lay_flow.specs.declared.block.Inside.{Inside}
 use Rattle.lay_flow.specs.declared.block.Inside.TheVariants.{Blocks as blocks_inside, Lines as lines_inside, Solid as solid_inside}
+use Rattle.lay_flow.specs.BlockLayout.{BlockLayout, Extents}
 use Rattle.lay_flow.specs.BlockPositions.{is_lines, is_placed}
 use Rattle.lay_flow.proofs.BlockKinds.{lines_placed}
 use Rattle.lay_flow.proofs.OneLineList.{one_line_list}
@@ -21,7 +22,6 @@ use Rattle.lay_flow.specs.declared.flow_box.FlowBox.{FlowBox}
 use Rattle.lay_flow.specs.Boxes.{box_at, parent_at, parents_of}
 use Rattle.lay_flow.specs.Lengths.{length_at}
 use Rattle.lay_flow.specs.MarginRuns.{block_at, has_top, run_at, run_before}
-use Rattle.lay_flow.specs.BlockLayout.{BlockLayout}
 use Rattle.lay_flow.specs.BlockFloats.{Spot, ceiling, content_of, float_of, float_request, floats_before, line_content_of, lines_at, place_at, shape_at}
 use Rattle.lay_flow.specs.Clearance.{AreFloatPlaces, IsHypothetical, NeedsClearance}
 use Rattle.lay_flow.specs.ContextFlow.{Flow, IsContextFlow}
@@ -42,13 +42,16 @@ use Rattle.lay_flow.proofs.RunsUpTo.{run_up_to}
 use Rattle.lay_flow.proofs.Truths.{true_false, true_or}
 
 module _ (boxes : List FlowBox) (are : IsFlowTree boxes) (f : Flow) (is : IsContextFlow boxes f) (k : ℕ) (positive : 0 < k) (within : k < length boxes)
-    (without : BlockLayout) (h : IsHypothetical boxes f.extents f.clear_edges f.layout k without) where
+    (without : BlockLayout) (h : IsHypothetical boxes f.layout k without) where
   tree : IsTree (parents_of boxes)
   tree = are.tree
 
+  depth : (j : ℕ) → length_at f.layout.extents.depths j ≡ length_at without.extents.depths j
+  depth j = sym (ap (λ (e : Extents). length_at e.depths j) h.extents_are)
+
   record AreAlike (p m : ℕ) : Type 0 where
     pub first : ℕ
-    pub alike : AlikeAt boxes tree f.extents f.clear_edges f.layout is.layout f.extents f.clear_edges without h.is_layout first p m
+    pub alike : AlikeAt boxes tree f.layout is.layout without h.is_layout first p m
 
   abbrev UpTo : ℕ → ℕ → Type 0
   UpTo p m = m ≤ k → AreAlike p m
@@ -56,14 +59,14 @@ module _ (boxes : List FlowBox) (are : IsFlowTree boxes) (f : Flow) (is : IsCont
   opened : (j : ℕ) → 0 < j → j < length boxes → UpTo (parent_at boxes j) j → UpTo j (j + 1)
   opened j low inner before le =
       let was = before (omega (arith, le)) in
-      let next = opens_alike boxes tree f.extents f.clear_edges f.layout is.layout f.extents f.clear_edges without h.is_layout was.first j low inner was.alike
-      (sym (h.earlier j (omega (arith, le)))) (λ c. refl) in
+      let next = opens_alike boxes tree f.layout is.layout without h.is_layout was.first j low inner was.alike
+      (sym (h.earlier j (omega (arith, le)))) (λ c. sym (ap (λ (es : List Length). length_at es j) h.edges_are)) in
       record { first = next.next; alike = next.alike }
 
   closed : (p m : ℕ) → 0 < p → p < m → m ≤ length boxes → (m < length boxes → parent_at boxes m < p) → UpTo p m → UpTo (parent_at boxes p) m
   closed p m low lt inner ends before le =
       let was = before le in
-      let next = closes_alike boxes tree f.extents f.clear_edges f.layout is.layout f.extents f.clear_edges without h.is_layout was.first p m low was.alike ends (λ marks. refl) (λ may. refl) in
+      let next = closes_alike boxes tree f.layout is.layout without h.is_layout was.first p m low was.alike ends (λ marks. depth p) (λ may. depth p) in
       record { first = next.next; alike = next.alike }
 
   begun : UpTo 0 1
@@ -72,7 +75,7 @@ module _ (boxes : List FlowBox) (are : IsFlowTree boxes) (f : Flow) (is : IsCont
     alike = record {
       gathered = begins boxes tree f.layout.runs is.layout.has_runs are.some;
       clears = λ j lt. sym (h.earlier j (omega (arith, lt, le)));
-      edges = λ j lt c. refl;
+      edges = λ j lt c. sym (ap (λ (es : List Length). length_at es j) h.edges_are);
       mark = λ j lt. let e : j ≡ 0 = omega (arith, lt) in subst (λ (j : ℕ). length_at f.layout.places.marks j ≡ length_at without.places.marks j) (sym e) mark_root;
       closed = λ j low high. absurd (omega (arith, low, high));
       gone = λ j i low high lower. absurd (omega (arith, low, high));

@@ -14,7 +14,7 @@ use Rattle.lay_flow.specs.BlockSizes.{IsInset, IsBoxSize, IsNear}
 use Rattle.lay_flow.specs.Children.{flag_at}
 use Rattle.lay_flow.specs.MarginRuns.{block_at, parts_tops}
 use Rattle.lay_flow.specs.BlockPositions.{is_solid}
-use Rattle.lay_flow.specs.Pass.State.{PassState, Settled}
+use Rattle.lay_flow.specs.Pass.State.{PassState, Settled, columns_of, ended_run}
 use Rattle.lay_flow.specs.Pass.Bounds.{StateFits, IsStartNear, IsRunNear, IsEdgeNear, IsMarkNear, IsCollapseNear, reach}
 use Rattle.lay_flow.specs.Pass.Struts.{StrutFits}
 use Rattle.lay_flow.proofs.Openings.{pushed}
@@ -85,7 +85,7 @@ higher_near j k v le near = let a = near.0 in let b = near.1 in (omega (arith, i
 
 -- the marks once a run has ended
 pub settled_near : (boxes : List FlowBox) (flags : List Bool) (old new : List Length) (f m : ℕ) (end : ℤ) → IsTree (parents_of boxes) → 0 < f → m ≤ length boxes
-    → ((j : ℕ) → IsMarkNear (weight boxes j) (length_at old j)) → ((j : ℕ) → f ≤ j → IsMarkNear (weight boxes j) end) → Settled boxes flags old new f m end
+    → ((j : ℕ) → IsMarkNear (weight boxes j) (length_at old j)) → ((j : ℕ) → f ≤ j → IsMarkNear (weight boxes j) end) → Settled boxes (record { through = flags; first = f; next = m; mark = end }) old new
     → (n j : ℕ) → j < n → IsMarkNear (weight boxes j) (length_at new j)
 settled_near boxes flags old new f m end tree positive within was ended settled zero j lt = absurd (omega (arith, lt))
 settled_near boxes flags old new f m end tree positive within was ended settled (suc n) j lt = elim (cases_lt j f) [
@@ -106,7 +106,7 @@ settled_near boxes flags old new f m end tree positive within was ended settled 
 
 -- a run ends
 module _ (boxes : List FlowBox) (tree : IsTree (parents_of boxes)) (now : PassState) (p m : ℕ) (was : StateFits boxes now p m) (end : ℤ) (ended : IsCollapseNear (end -ℤ now.start)) where
-  pub marks_near : (n : ℕ) → n ≤ length boxes → (marks : List Length) → Settled boxes now.through now.marks marks now.first n end → (j : ℕ) → IsMarkNear (weight boxes j) (length_at marks j)
+  pub marks_near : (n : ℕ) → n ≤ length boxes → (marks : List Length) → Settled boxes (ended_run (columns_of now) n end) now.marks marks → (j : ℕ) → IsMarkNear (weight boxes j) (length_at marks j)
   marks_near n within marks settled j = settled_near boxes now.through now.marks marks now.first n end tree was.first_least within was.mark_near
       (λ i le. end_near (weight boxes now.first) (weight boxes i) now.start end was.start_near ended (weight_up boxes now.first i le)) settled (j + 1) j (omega arith)
 
@@ -136,7 +136,7 @@ module _ (boxes : List FlowBox) (tree : IsTree (parents_of boxes)) (now : PassSt
   }
 
   pub fits_parting : (k : ℕ) (marks : List Length) (end start : ℤ) (strut' : StrutValue) → k < length boxes → StateFits boxes now (parent_at boxes k) k
-      → Settled boxes now.through now.marks marks now.first (k + 1) end → IsCollapseNear (end -ℤ now.start) → IsStartNear (weight boxes (k + 1)) start → StrutFits strut'
+      → Settled boxes (ended_run (columns_of now) (k + 1) end) now.marks marks → IsCollapseNear (end -ℤ now.start) → IsStartNear (weight boxes (k + 1)) start → StrutFits strut'
       → StateFits boxes (record now { marks = marks; start = start; strut = strut'; first = k + 1; hangs = false }) k (k + 1)
   fits_parting k marks end start strut' within was settled ended near fits' = record {
     parent = omega arith;
@@ -155,7 +155,7 @@ module _ (boxes : List FlowBox) (tree : IsTree (parents_of boxes)) (now : PassSt
   }
 
   pub fits_cleared : (k : ℕ) (marks edges : List Length) (flags : List Bool) (end edge : ℤ) (strut' : StrutValue) → 0 < k → StateFits boxes now (parent_at boxes k) k
-      → Settled boxes now.through now.marks marks now.first k end → IsCollapseNear (end -ℤ now.start) → IsEdgeNear (weight boxes k) edge → StrutFits strut'
+      → Settled boxes (ended_run (columns_of now) k end) now.marks marks → IsCollapseNear (end -ℤ now.start) → IsEdgeNear (weight boxes k) edge → StrutFits strut'
       → StateFits boxes (record now { marks = marks; clears = flags; clear_edges = edges; start = edge; strut = strut'; first = k; hangs = true }) (parent_at boxes k) k
   fits_cleared k marks edges flags end edge strut' positive was settled ended near fits' = record {
     parent = was.parent;
@@ -242,7 +242,7 @@ module _ (boxes : List FlowBox) (tree : IsTree (parents_of boxes)) (now : PassSt
     }
 
     pub fits_parted : (marks heights : List Length) (end height start : ℤ) (strut' : StrutValue)
-        → Settled boxes now.through now.marks marks now.first m end → IsCollapseNear (end -ℤ now.start)
+        → Settled boxes (ended_run (columns_of now) m end) now.marks marks → IsCollapseNear (end -ℤ now.start)
         → IsStartNear (weight boxes m) start → (is_solid (block_at boxes p).inside ≡ false → IsBoxSize height) → Wrote length_at now.heights heights p height → StrutFits strut'
         → StateFits boxes (record now { marks = marks; heights = heights; start = start; strut = strut'; first = m; hangs = false }) (parent_at boxes p) m
     fits_parted marks heights end height start strut' settled ended near size wrote fits' =

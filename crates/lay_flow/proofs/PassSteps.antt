@@ -16,10 +16,10 @@ use Rattle.lay_flow.specs.Lengths.{length_at}
 use Rattle.lay_flow.specs.BlockSizes.{IsBoxSize}
 use Rattle.lay_flow.specs.Children.{flag_at}
 use Rattle.lay_flow.specs.MarginRuns.{block_at, parts_tops, joins_bottom, may_collapse_through, may_join_bottoms}
-use Rattle.lay_flow.specs.BlockPositions.{Extents, border_height, is_placed, is_solid}
-use Rattle.lay_flow.specs.BlockLayout.{BlockLayout}
+use Rattle.lay_flow.specs.BlockLayout.{BlockLayout, Extents}
+use Rattle.lay_flow.specs.BlockPositions.{border_height, is_placed, is_solid}
 use Rattle.lay_flow.specs.BlockFloats.{Spot, content_of, line_content_of, lines_at, shape_at, place_at, floats_before, float_request, solid_request, ceiling}
-use Rattle.lay_flow.specs.Pass.State.{PassState, IsAt, Settled}
+use Rattle.lay_flow.specs.Pass.State.{PassState, IsAt, Settled, columns_of, Clearances, clearances_of, ended_run}
 use Rattle.lay_flow.specs.FlowBoxes.{AreFlowBoxes}
 use Rattle.lay_flow.specs.Pass.Bounds.{IsStartNear, IsMarkNear, IsCollapseNear, held_end, held_height, is_barred, reach}
 use Rattle.lay_flow.specs.Pass.Struts.{StrutFits}
@@ -37,6 +37,7 @@ use Rattle.lay_flow.proofs.SoFar.{Wrote}
 use Rattle.lay_flow.proofs.Truths.{true_false, true_or, low_yes}
 use Rattle.lay_flow.specs.Weights.{weight}
 use Rattle.lay_flow.proofs.WeightFacts.{weight_up, weight_over}
+use Rattle.lay_flow.specs.Pass.MarginPlace.{margin_place}
 
 -- boxes stay placed where the marks before them are the same
 pub placed_kept : (boxes : List FlowBox) (old new : List Length) (now : Placing) (n : ℕ) → IsTree (parents_of boxes) → n ≤ length boxes
@@ -75,16 +76,16 @@ pub places_before : (old new places : List Spot) → length old ≤ length new �
 places_before old new places le kept are j lt = are j (omega (arith, lt, le)) ∙ kept j lt
 
 -- what was decided stays so when more boxes are placed
-pub decided_placed : (boxes : List FlowBox) (flags : List Bool) (edges : List Length) (old new : Placing) (m : ℕ)
+pub decided_placed : (boxes : List FlowBox) (decided : Clearances) (old new : Placing) (m : ℕ)
     → length old.places ≤ length new.places → AreExtentsKept boxes (length old.places) old.extents new.extents → ArePlacesKept old.places new.places
-    → AreDecided boxes flags edges old m → AreDecided boxes flags edges new m
-decided_placed boxes flags edges old new m le kept same was k positive lt none extents clear_edges y places may_be candidate are =
-    was k positive lt none extents clear_edges y places (may_before boxes old new extents le kept may_be) candidate (places_before old.places new.places places le same are)
+    → AreDecided boxes decided old m → AreDecided boxes decided new m
+decided_placed boxes decided old new m le kept same was k positive lt none y places may_be candidate are =
+    was k positive lt none y places (may_before boxes old new y.extents le kept may_be) candidate (places_before old.places new.places places le same are)
 
 -- the run was begun by clearance of a child of p
-barred_same : (boxes : List FlowBox) (extents : Extents) (clear_edges : List Length) (y : BlockLayout) (now : PassState) (p m : ℕ) → m ≤ length boxes → AreClears boxes now.clears now.clear_edges m
-    → IsCandidate boxes extents clear_edges y now.clears now.clear_edges m → (nat_lt now.first m && flag_at y.runs.clears now.first && parent_at boxes now.first == p) ≡ is_barred boxes now p
-barred_same boxes extents clear_edges y now p m within are candidate = elim (cases_lt now.first m) [
+barred_same : (boxes : List FlowBox) (y : BlockLayout) (now : PassState) (p m : ℕ) → m ≤ length boxes → AreClears boxes (clearances_of now) m
+    → IsCandidate boxes y (clearances_of now) m → (nat_lt now.first m && flag_at y.runs.clears now.first && parent_at boxes now.first == p) ≡ is_barred boxes now p
+barred_same boxes y now p m within are candidate = elim (cases_lt now.first m) [
   | inl lt ↦ (let a = candidate.clears now.first lt in let l = are.clears_length in
       let t : nat_lt now.first m ≡ true = grind (arith, lt) in
       let u : nat_lt now.first (length now.clears) ≡ true = lower now.first (length now.clears) (omega (arith, lt, within, l)) in
@@ -104,11 +105,11 @@ barred_same boxes extents clear_edges y now p m within are candidate = elim (cas
 module _ (boxes : List FlowBox) (tree : IsTree (parents_of boxes)) (now : PassState) (placing : Placing) where
   pub knows_opened : (k : ℕ) (strut : StrutValue) → 0 < k → k < length boxes → parts_tops boxes k ≡ false → IsReady boxes now placing k → StrutFits strut
       → WithMargin now.strut strut (block_at boxes k).margin_top.0
-      → Knows boxes (pushed now strut) placing k (k + 1)
+      → Knows boxes (pushed now strut) placing (margin_place k (k + 1))
   knows_opened k strut positive within plain was fits holds = record {
     fits = fits_opened boxes tree now k strut within plain was.fits fits;
     near = edge_later_near (weight boxes k) (weight boxes (k + 1)) now.start (weight_over boxes k (k + 1) (omega arith)) was.near;
-    is_at = λ extents clear_edges y may_be candidate. opened boxes extents clear_edges y candidate.is_layout tree k positive within now strut plain holds (was.is_before extents clear_edges y may_be candidate);
+    is_at = λ y may_be candidate. opened boxes y candidate.is_layout tree k positive within now strut plain holds (was.is_before y may_be candidate);
     no_extents = was.no_extents;
     placed = was.placed;
     early = was.early;
@@ -118,17 +119,17 @@ module _ (boxes : List FlowBox) (tree : IsTree (parents_of boxes)) (now : PassSt
 
   pub knows_parting : (k : ℕ) (marks : List Length) (end start : ℤ) (strut strut' : StrutValue) → AreFlowBoxes boxes → 0 < k → k < length boxes → parts_tops boxes k ≡ true → IsReady boxes now placing k
       → WithMargin now.strut strut (block_at boxes k).margin_top.0 → RunEnds now.hangs now.start strut end → IsCollapseNear (end -ℤ now.start)
-      → Settled boxes now.through now.marks marks now.first (k + 1) end → start ≡ end +ℤ (block_at boxes k).edge_top.0 → StrutFits strut' → Holds strut' []
-      → Knows boxes (record now { marks = marks; start = start; strut = strut'; first = k + 1; hangs = false }) placing k (k + 1)
+      → Settled boxes (ended_run (columns_of now) (k + 1) end) now.marks marks → start ≡ end +ℤ (block_at boxes k).edge_top.0 → StrutFits strut' → Holds strut' []
+      → Knows boxes (record now { marks = marks; start = start; strut = strut'; first = k + 1; hangs = false }) placing (margin_place k (k + 1))
   knows_parting k marks end start strut strut' input positive within parting was holds ends ended settled starts fits' empty =
       let f = was.fits.first_most in
       let near = below_near (weight boxes k) (weight boxes (k + 1)) end (block_at boxes k).edge_top.0 start (end_near (weight boxes now.first) (weight boxes k) now.start end was.fits.start_near ended (weight_up boxes now.first k f)) (inset_height (block_at boxes k).edge_top.0 (block_fits boxes input k within).edge_top) starts (weight_over boxes k (k + 1) (omega arith)) in
       record {
         fits = fits_parting boxes tree now k marks end start strut' within was.fits settled ended near fits';
         near = near;
-        is_at = λ extents clear_edges y may_be candidate.
-            let before = was.is_before extents clear_edges y may_be candidate in
-            opened_wall boxes extents clear_edges y candidate.is_layout tree k positive within now strut end parting holds ends before marks strut' start empty settled
+        is_at = λ y may_be candidate.
+            let before = was.is_before y may_be candidate in
+            opened_wall boxes y candidate.is_layout tree k positive within now strut end parting holds ends before marks strut' start empty settled
             (starts ∙ ap (λ (v : ℤ). v +ℤ (block_at boxes k).edge_top.0) (sym (settled.stands k f (omega arith) (before.so_far.fresh k (omega arith)))));
         no_extents = was.no_extents;
         placed = let early = was.early in placed_kept boxes now.marks marks placing (length placing.places) tree (omega (arith, f, early, within)) was.placed (λ j lt. settled.before j (omega (arith, lt, early)));
@@ -137,16 +138,16 @@ module _ (boxes : List FlowBox) (tree : IsTree (parents_of boxes)) (now : PassSt
         decided = was.decided;
       }
 
-  module _ (p m : ℕ) (input : AreFlowBoxes boxes) (positive : 0 < p) (ends : m < length boxes → parent_at boxes m < p) (was : Knows boxes now placing p m) where
+  module _ (p m : ℕ) (input : AreFlowBoxes boxes) (positive : 0 < p) (ends : m < length boxes → parent_at boxes m < p) (was : Knows boxes now placing (margin_place p m)) where
     places_within : length placing.places ≤ length boxes
     places_within = let early = was.early in let few = was.fits.first_most in let within = was.fits.within in omega (arith, early, few, within)
 
     pub knows_started : (start : ℤ) → may_collapse_through (block_at boxes p) ≡ true → now.hangs ≡ true → now.first ≡ p → ((ms : List ℤ) → Holds now.strut ms → start ≡ now.start -ℤ collapse ms) → IsCollapseNear (now.start -ℤ start)
-        → Knows boxes (record now { start = start; hangs = false }) placing p m
+        → Knows boxes (record now { start = start; hangs = false }) placing (margin_place p m)
     knows_started start may hangs first value collapsed = record {
       fits = fits_started boxes tree now p m positive was.fits start hangs collapsed;
       near = let lt = was.fits.parent in run_later_near (weight boxes now.first) (weight boxes m) start (weight_over boxes now.first m (omega (arith, first, lt))) (above_near (weight boxes now.first) now.start start (was.fits.edge_near hangs) collapsed);
-      is_at = λ extents clear_edges y may_be candidate. started boxes extents clear_edges y candidate.is_layout tree now p m positive (was.is_at extents clear_edges y may_be candidate) ends start may hangs first value;
+      is_at = λ y may_be candidate. started boxes y candidate.is_layout tree now p m positive (was.is_at y may_be candidate) ends start may hangs first value;
       no_extents = was.no_extents;
       placed = was.placed;
       early = was.early;
@@ -158,11 +159,11 @@ module _ (boxes : List FlowBox) (tree : IsTree (parents_of boxes)) (now : PassSt
         → RunEnds now.hangs now.start now.strut end → IsCollapseNear (end -ℤ now.start)
         → Wrote length_at now.marks marks p end → Wrote length_at now.heights heights p (pos 0) → Wrote flag_at now.through flags p true
         → StrutFits strut' → WithMargin now.strut strut' (block_at boxes p).margin_bottom.0
-        → Knows boxes (record now { marks = marks; heights = heights; through = flags; strut = strut' }) placing (parent_at boxes p) m
+        → Knows boxes (record now { marks = marks; heights = heights; through = flags; strut = strut' }) placing (margin_place (parent_at boxes p) m)
     knows_through marks heights flags end strut' may waits below reach ended wrote_mark wrote_height wrote_flag fits' holds = record {
       fits = fits_through boxes tree now p m positive was.fits marks heights flags end strut' waits wrote_mark wrote_height wrote_flag ended fits';
       near = was.near;
-      is_at = λ extents clear_edges y may_be candidate. close_passing boxes extents clear_edges y candidate.is_layout tree now p m positive (was.is_at extents clear_edges y may_be candidate) ends marks heights flags strut' end may waits below reach wrote_mark wrote_height wrote_flag holds;
+      is_at = λ y may_be candidate. close_passing boxes y candidate.is_layout tree now p m positive (was.is_at y may_be candidate) ends marks heights flags strut' end may waits below reach wrote_mark wrote_height wrote_flag holds;
       no_extents = was.no_extents;
       placed = placed_kept boxes now.marks marks placing (length placing.places) tree places_within was.placed (λ j lt. wrote_mark.other j (λ same. let early = was.early in omega (arith, lt, early, same, waits)));
       early = was.early;
@@ -180,25 +181,25 @@ module _ (boxes : List FlowBox) (tree : IsTree (parents_of boxes)) (now : PassSt
       | inr high ↦ settled (joined_passes boxes p (was.fits.unparted p high was.fits.parent) may)
     ]
 
-    module _ (extents : Extents) (clear_edges : List Length) (y : BlockLayout) (may_be : MayBe boxes (length placing.places) placing.extents extents) (candidate : IsCandidate boxes extents clear_edges y now.clears now.clear_edges m) where
-      at : IsAt boxes clear_edges y now p m
-      at = was.is_at extents clear_edges y may_be candidate
+    module _ (y : BlockLayout) (may_be : MayBe boxes (length placing.places) placing.extents y.extents) (candidate : IsCandidate boxes y (clearances_of now) m) where
+      at : IsAt boxes y now (margin_place p m)
+      at = was.is_at y may_be candidate
 
       stands : (may_collapse_through (block_at boxes p) ≡ true → p < now.first) → flag_at y.runs.through p ≡ false
-      stands settled = passes_is boxes extents clear_edges y candidate.is_layout tree now p m positive at ends
+      stands settled = passes_is boxes y candidate.is_layout tree now p m positive at ends
           ∙ true_or (may_collapse_through (block_at boxes p)) ((may_collapse_through (block_at boxes p) && not (nat_lt p now.first)) ≡ false)
           (λ t. let low = low_yes p now.first (settled t) in rw (t, low) refl)
           (λ f. rw f refl)
 
       joins_here : joins_bottom boxes y.runs p ≡ (flag_at y.runs.through p || (may_join_bottoms (block_at boxes p) && not (is_barred boxes now p)))
-      joins_here = joined_here boxes extents clear_edges y candidate.is_layout tree now p m positive at ends
-          ∙ ap (λ (b : Bool). flag_at y.runs.through p || (may_join_bottoms (block_at boxes p) && not b)) (barred_same boxes extents clear_edges y now p m was.fits.within was.are_clears candidate)
+      joins_here = joined_here boxes y candidate.is_layout tree now p m positive at ends
+          ∙ ap (λ (b : Bool). flag_at y.runs.through p || (may_join_bottoms (block_at boxes p) && not b)) (barred_same boxes y now p m was.fits.within was.are_clears candidate)
 
     pub knows_joined : (heights : List Length) (mark height start : ℤ) (strut' : StrutValue) → may_join_bottoms (block_at boxes p) ≡ true → is_barred boxes now p ≡ false → (may_collapse_through (block_at boxes p) ≡ true → p < now.first)
         → mark ≡ length_at now.marks p → IsBoxSize height → height ≡ border_height (block_at boxes p) (length_at placing.extents p) (now.start -ℤ (mark +ℤ (block_at boxes p).edge_top.0))
         → start ≡ mark +ℤ height → Wrote length_at now.heights heights p height
         → StrutFits strut' → WithMargin now.strut strut' (block_at boxes p).margin_bottom.0
-        → Knows boxes (record now { heights = heights; start = start; strut = strut'; hangs = false }) placing (parent_at boxes p) m
+        → Knows boxes (record now { heights = heights; start = start; strut = strut'; hangs = false }) placing (margin_place (parent_at boxes p) m)
     knows_joined heights mark height start strut' may unbarred settled marked size is_height starts wrote fits' holds = record {
       fits = let f = fits_joined boxes tree now p m positive was.fits heights height start strut' near size wrote fits' in record {
         parent = f.parent;
@@ -216,9 +217,9 @@ module _ (boxes : List FlowBox) (tree : IsTree (parents_of boxes)) (now : PassSt
         sized = f.sized;
       };
       near = later_near (weight boxes now.first) (weight boxes m) start (weight_up boxes now.first m was.fits.first_most) near;
-      is_at = λ extents clear_edges y may_be candidate.
-          let at = there extents clear_edges y may_be candidate in
-          let off = not_hanging boxes extents clear_edges y candidate.is_layout tree now p m positive (was.is_at extents clear_edges y may_be candidate) ends before in
+      is_at = λ y may_be candidate.
+          let at = there y may_be candidate in
+          let off = not_hanging boxes y candidate.is_layout tree now p m positive (was.is_at y may_be candidate) ends before in
           record {
             so_far = at.so_far;
             in_run = record {
@@ -241,31 +242,31 @@ module _ (boxes : List FlowBox) (tree : IsTree (parents_of boxes)) (now : PassSt
         near : IsStartNear (weight boxes now.first) start
         near = below_near (weight boxes p) (weight boxes now.first) mark height start (subst (IsMarkNear (weight boxes p)) (sym marked) (was.fits.mark_near p)) size starts (weight_over boxes p now.first before)
 
-        there : (extents : Extents) (clear_edges : List Length) (y : BlockLayout) → MayBe boxes (length placing.places) placing.extents extents → IsCandidate boxes extents clear_edges y now.clears now.clear_edges m
-            → IsAt boxes clear_edges y (record now { heights = heights; start = start; strut = strut' }) (parent_at boxes p) m
-        there extents clear_edges y may_be candidate =
+        there : (y : BlockLayout) → MayBe boxes (length placing.places) placing.extents y.extents → IsCandidate boxes y (clearances_of now) m
+            → IsAt boxes y (record now { heights = heights; start = start; strut = strut' }) (margin_place (parent_at boxes p) m)
+        there y may_be candidate =
             let is = candidate.is_layout in
-            let at = was.is_at extents clear_edges y may_be candidate in
-            let truth = stands extents clear_edges y may_be candidate settled in
+            let at = was.is_at y may_be candidate in
+            let truth = stands y may_be candidate settled in
             let none_of = placed_none (block_at boxes p).inside (joins_flow (block_at boxes p) may) in
-            let ext : is_solid (block_at boxes p).inside ≡ true → length_at placing.extents p ≡ length_at extents.depths p = λ solid. absurd (true_false (is_solid (block_at boxes p).inside) solid none_of.1) in
-            let joined : joins_bottom boxes y.runs p ≡ true = joins_here extents clear_edges y may_be candidate ∙ rw (truth, may, unbarred) refl in
-            let mark_is = marked ∙ at.so_far.marked.stands p before (code_open boxes extents clear_edges y is tree now p m positive at ends) truth in
-            let bottom = content_margin boxes y.runs extents y.places p none_of.0 ∙ bottom_joined boxes extents clear_edges y is tree now p m positive at ends joined before in
-            let from = at.in_run.start_is (not_hanging boxes extents clear_edges y is tree now p m positive at ends before) in
-            let height_is = height_there boxes extents clear_edges y is tree now p m positive at ends height mark now.start truth mark_is (from ∙ sym bottom) (is_height ∙ same_border_height (block_at boxes p) (length_at placing.extents p) (length_at extents.depths p) (now.start -ℤ (mark +ℤ (block_at boxes p).edge_top.0)) ext) in
+            let ext : is_solid (block_at boxes p).inside ≡ true → length_at placing.extents p ≡ length_at y.extents.depths p = λ solid. absurd (true_false (is_solid (block_at boxes p).inside) solid none_of.1) in
+            let joined : joins_bottom boxes y.runs p ≡ true = joins_here y may_be candidate ∙ rw (truth, may, unbarred) refl in
+            let mark_is = marked ∙ at.so_far.marked.stands p before (code_open boxes y is tree now p m positive at ends) truth in
+            let bottom = content_margin boxes y p none_of.0 ∙ bottom_joined boxes y is tree now p m positive at ends joined before in
+            let from = at.in_run.start_is (not_hanging boxes y is tree now p m positive at ends before) in
+            let height_is = height_there boxes y is tree now p m positive at ends height mark now.start truth mark_is (from ∙ sym bottom) (is_height ∙ same_border_height (block_at boxes p) (length_at placing.extents p) (length_at y.extents.depths p) (now.start -ℤ (mark +ℤ (block_at boxes p).edge_top.0)) ext) in
             let wrote_height : Wrote length_at now.heights heights p (length_at y.places.heights p) = subst (λ (v : ℤ). Wrote length_at now.heights heights p v) height_is wrote in
-            close_joined boxes extents clear_edges y is tree now p m positive at ends heights strut' start truth joined before wrote_height
+            close_joined boxes y is tree now p m positive at ends heights strut' start truth joined before wrote_height
             (starts ∙ (λ i. marked i +ℤ (sym wrote.here) i)) holds
 
     pub knows_parted : (marks heights : List Length) (placing' : Placing) (end mark height start : ℤ) (strut' : StrutValue) → (may_join_bottoms (block_at boxes p) && not (is_barred boxes now p)) ≡ false → (may_collapse_through (block_at boxes p) ≡ true → p < now.first)
         → RunEnds now.hangs now.start now.strut end → IsCollapseNear (end -ℤ now.start)
-        → Settled boxes now.through now.marks marks now.first m end
+        → Settled boxes (ended_run (columns_of now) m end) now.marks marks
         → PlacesTo boxes marks placing' m → AreExtentsKept boxes (length placing.places) placing.extents placing'.extents → ArePlacesKept placing.places placing'.places
         → mark ≡ length_at marks p → (is_solid (block_at boxes p).inside ≡ false → IsBoxSize height) → height ≡ border_height (block_at boxes p) (length_at placing'.extents p) (held_height (block_at boxes p).inside (length_at placing'.extents p) (end -ℤ (mark +ℤ (block_at boxes p).edge_top.0)))
         → start ≡ mark +ℤ height → Wrote length_at now.heights heights p height
         → StrutFits strut' → Holds strut' ((block_at boxes p).margin_bottom.0 ∷ [])
-        → Knows boxes (record now { marks = marks; heights = heights; start = start; strut = strut'; first = m; hangs = false }) placing' (parent_at boxes p) m
+        → Knows boxes (record now { marks = marks; heights = heights; start = start; strut = strut'; first = m; hangs = false }) placing' (margin_place (parent_at boxes p) m)
     knows_parted marks heights placing' end mark height start strut' may settled reaches ended settles placed kept same marked size is_height starts wrote fits' holds = record {
       fits = fits_parted boxes tree now p m positive was.fits marks heights end height start strut' settles ended start_near size wrote fits';
       near = start_near;
@@ -274,7 +275,7 @@ module _ (boxes : List FlowBox) (tree : IsTree (parents_of boxes)) (now : PassSt
       placed = let e = placed.places_length in subst (λ (n : ℕ). PlacesTo boxes marks placing' n) (sym e) placed;
       early = let e = placed.places_length in omega (arith, e);
       are_clears = was.are_clears;
-      decided = decided_placed boxes now.clears now.clear_edges placing placing' m more kept same was.decided;
+      decided = decided_placed boxes (clearances_of now) placing placing' m more kept same was.decided;
     }
       where
         more : length placing.places ≤ length placing'.places
@@ -292,24 +293,24 @@ module _ (boxes : List FlowBox) (tree : IsTree (parents_of boxes)) (now : PassSt
         ext_there : (extents : Extents) → MayBe boxes (length placing'.places) placing'.extents extents → is_placed (block_at boxes p).inside ≡ true → length_at placing'.extents p ≡ length_at extents.depths p
         ext_there extents may_be is_there = let l = placed.places_length in let lt = was.fits.parent in sym (may_be p (omega (arith, l, lt)) is_there)
 
-        there : (extents : Extents) (clear_edges : List Length) (y : BlockLayout) → MayBe boxes (length placing'.places) placing'.extents extents → IsCandidate boxes extents clear_edges y now.clears now.clear_edges m
-            → IsAt boxes clear_edges y (record now { marks = marks; heights = heights; start = start; strut = strut'; first = m; hangs = false }) (parent_at boxes p) m
-        there extents clear_edges y may_be' candidate =
+        there : (y : BlockLayout) → MayBe boxes (length placing'.places) placing'.extents y.extents → IsCandidate boxes y (clearances_of now) m
+            → IsAt boxes y (record now { marks = marks; heights = heights; start = start; strut = strut'; first = m; hangs = false }) (margin_place (parent_at boxes p) m)
+        there y may_be' candidate =
             let is = candidate.is_layout in
-            let may_be = may_before boxes placing placing' extents more kept may_be' in
-            let ext = ext_there extents may_be' in
-            let at = was.is_at extents clear_edges y may_be candidate in
-            let truth = stands extents clear_edges y may_be candidate settled in
-            let parted : joins_bottom boxes y.runs p ≡ false = joins_here extents clear_edges y may_be candidate ∙ rw (truth, may) refl in
-            let mark_is = marked ∙ mark_parted boxes extents clear_edges y is tree now p m positive at ends truth parted end reaches marks settles in
-            let bottom = reach_parted boxes extents clear_edges y is tree now p m positive at ends truth parted end reaches ∙ sym (bottom_parted boxes extents clear_edges y is tree now p m positive at ends parted truth) in
+            let may_be = may_before boxes placing placing' y.extents more kept may_be' in
+            let ext = ext_there y.extents may_be' in
+            let at = was.is_at y may_be candidate in
+            let truth = stands y may_be candidate settled in
+            let parted : joins_bottom boxes y.runs p ≡ false = joins_here y may_be candidate ∙ rw (truth, may) refl in
+            let mark_is = marked ∙ mark_parted boxes y is tree now p m positive at ends truth parted end reaches marks settles in
+            let bottom = reach_parted boxes y is tree now p m positive at ends truth parted end reaches ∙ sym (bottom_parted boxes y is tree now p m positive at ends parted truth) in
             let inside = (block_at boxes p).inside in
             let top : ℤ = mark +ℤ (block_at boxes p).edge_top.0 in
-            let bottom_is = held_same inside top (length_at y.places.marks p +ℤ (block_at boxes p).edge_top.0) (length_at placing'.extents p) (length_at extents.depths p) end _
+            let bottom_is = held_same inside top (length_at y.places.marks p +ℤ (block_at boxes p).edge_top.0) (length_at placing'.extents p) (length_at y.extents.depths p) end _
             (ap (λ (v : ℤ). v +ℤ (block_at boxes p).edge_top.0) mark_is) ext bottom in
             let held_is = ap (λ (v : ℤ). border_height (block_at boxes p) (length_at placing'.extents p) v) (held_between inside top (length_at placing'.extents p) end) in
-            let height_is = height_there boxes extents clear_edges y is tree now p m positive at ends height mark (held_end inside top (length_at placing'.extents p) end) truth mark_is bottom_is
-            (is_height ∙ held_is ∙ same_border_height (block_at boxes p) (length_at placing'.extents p) (length_at extents.depths p) (held_end inside top (length_at placing'.extents p) end -ℤ top) (λ solid. ext (solid_placed inside solid))) in
+            let height_is = height_there boxes y is tree now p m positive at ends height mark (held_end inside top (length_at placing'.extents p) end) truth mark_is bottom_is
+            (is_height ∙ held_is ∙ same_border_height (block_at boxes p) (length_at placing'.extents p) (length_at y.extents.depths p) (held_end inside top (length_at placing'.extents p) end -ℤ top) (λ solid. ext (solid_placed inside solid))) in
             let wrote_height : Wrote length_at now.heights heights p (length_at y.places.heights p) = subst (λ (v : ℤ). Wrote length_at now.heights heights p v) height_is wrote in
-            close_parted boxes extents clear_edges y is tree now p m positive at ends truth parted end reaches marks settles heights strut' start wrote_height
+            close_parted boxes y is tree now p m positive at ends truth parted end reaches marks settles heights strut' start wrote_height
             (starts ∙ (λ i. marked i +ℤ (sym wrote.here) i)) holds

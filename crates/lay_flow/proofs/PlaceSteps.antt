@@ -206,22 +206,23 @@ no_lines_within n = record {
 pub no_spot_near : (n : ℕ) → IsPlaceNear n no_spot
 no_spot_near n = record { x = (omega (arith, ints), omega (arith, ints)); y = (omega (arith, ints), omega (arith, ints)); lines = no_lines_within n }
 
--- what holds of one more box that is placed
-pub record IsAdded (boxes : List FlowBox) (marks : List Length) (now : Placing) (k : ℕ) (p : Spot) (extents : List Length) (floats : List Placed) : Type 0 where
-  pub extents_length : length extents ≡ length boxes
-  pub earlier : (j : ℕ) → j < k → length_at extents j ≡ length_at now.extents j
-  pub floats_are : floats ≡ floats_after now.floats (block_at boxes k).inside (shape_at boxes k) p
-  pub within : All (BoxWithin (reach (weight boxes (k + 1)))) floats
-  pub near : IsPlaceNear (weight boxes (k + 1)) p
-  pub root : k ≡ 0 → p.place ≡ no_place
-  pub float : (side : Side) → 0 < k → (shape_at boxes k).float ≡ Some side → IsFloatPlace now.floats (float_request (shape_at boxes k) side (ceiling boxes marks k)) p.place.x.0 p.place.y.0
-  pub solid : 0 < k → is_solid (block_at boxes k).inside ≡ true → IsSolidPlace now.floats (solid_request (shape_at boxes k) (length_at marks k)) p.place.x.0 p.place.y.0
-  pub extent : 0 < k → is_solid (block_at boxes k).inside ≡ true → length_at extents k ≡ p.place.y.0 -ℤ length_at marks k +ℤ (shape_at boxes k).height.0
-  pub low : 0 < k → is_solid (block_at boxes k).inside ≡ true → IsWithin (reach (weight boxes (k + 1))) (length_at marks k +ℤ length_at extents k)
-  pub other : 0 < k → (shape_at boxes k).float ≡ None → is_solid (block_at boxes k).inside ≡ false → p.place ≡ no_place
-  pub lines : is_lines (block_at boxes k).inside ≡ true → AreLines (line_content_of (box_at boxes k).kind) (content_of (box_at boxes k).kind).left (content_of (box_at boxes k).kind).right (length_at marks k +ℤ (block_at boxes k).edge_top.0) now.floats p.lines
-  pub lines_extent : is_lines (block_at boxes k).inside ≡ true → length_at extents k ≡ p.lines.end.0 -ℤ (length_at marks k +ℤ (block_at boxes k).edge_top.0)
-  pub no_lines_else : is_lines (block_at boxes k).inside ≡ false → p.lines ≡ no_lines
+module _ (boxes : List FlowBox) (marks : List Length) (now : Placing) (k : ℕ) (p : Spot) where
+  -- what holds of one more box that is placed
+  pub record IsAdded (extents : List Length) (floats : List Placed) : Type 0 where
+    pub extents_length : length extents ≡ length boxes
+    pub earlier : (j : ℕ) → j < k → length_at extents j ≡ length_at now.extents j
+    pub floats_are : floats ≡ floats_after now.floats (block_at boxes k).inside (shape_at boxes k) p
+    pub within : All (BoxWithin (reach (weight boxes (k + 1)))) floats
+    pub near : IsPlaceNear (weight boxes (k + 1)) p
+    pub root : k ≡ 0 → p.place ≡ no_place
+    pub float : (side : Side) → 0 < k → (shape_at boxes k).float ≡ Some side → IsFloatPlace now.floats (float_request (shape_at boxes k) side (ceiling boxes marks k)) p.place.x.0 p.place.y.0
+    pub solid : 0 < k → is_solid (block_at boxes k).inside ≡ true → IsSolidPlace now.floats (solid_request (shape_at boxes k) (length_at marks k)) p.place.x.0 p.place.y.0
+    pub extent : 0 < k → is_solid (block_at boxes k).inside ≡ true → length_at extents k ≡ p.place.y.0 -ℤ length_at marks k +ℤ (shape_at boxes k).height.0
+    pub low : 0 < k → is_solid (block_at boxes k).inside ≡ true → IsWithin (reach (weight boxes (k + 1))) (length_at marks k +ℤ length_at extents k)
+    pub other : 0 < k → (shape_at boxes k).float ≡ None → is_solid (block_at boxes k).inside ≡ false → p.place ≡ no_place
+    pub lines : is_lines (block_at boxes k).inside ≡ true → AreLines (line_content_of (box_at boxes k).kind) (content_of (box_at boxes k).kind).left (content_of (box_at boxes k).kind).right (length_at marks k +ℤ (block_at boxes k).edge_top.0) now.floats p.lines
+    pub lines_extent : is_lines (block_at boxes k).inside ≡ true → length_at extents k ≡ p.lines.end.0 -ℤ (length_at marks k +ℤ (block_at boxes k).edge_top.0)
+    pub no_lines_else : is_lines (block_at boxes k).inside ≡ false → p.lines ≡ no_lines
 
 module _ (boxes : List FlowBox) (marks : List Length) (now : Placing) (k : ℕ) (was : PlacesTo boxes marks now k) (p : Spot) where
   same_before : (n : ℕ) → n ≤ k → floats_before boxes (now.places ++ p ∷ []) n ≡ floats_before boxes now.places n

@@ -12,12 +12,13 @@ use Rattle.lay_flow.specs.Pass.Gathered.{Gathered}
 use Rattle.lay_flow.proofs.BlockKinds.{blocks_not_placed}
 use Rattle.lay_flow.proofs.FlowBoxFacts.{around_holds}
 use Rattle.lay_flow.proofs.RunFacts.{passes_is}
+use Rattle.lay_flow.specs.Pass.MarginPlace.{margin_place}
 
 passes_blocks : (b : Block) (more : Bool) → (may_collapse_through b && more) ≡ true → is_blocks b.inside ≡ true
 passes_blocks b more e = grind (arith, e)
 
 module _ (boxes : List FlowBox) (are : IsFlowTree boxes) (r : Runs) (is : HasRuns boxes r) (first k : ℕ) (positive : 0 < k) (within : k < length boxes) (out : is_in_lines (box_at boxes k).kind ≡ false)
-    (gathered : Gathered boxes r first (parent_at boxes k) k) where
+    (gathered : Gathered boxes r first (margin_place (parent_at boxes k) k)) where
   pub placed_in_run : (j : ℕ) → first ≤ j → j < k → is_placed (block_at boxes j).inside ≡ false
   placed_in_run j from lt = elim (cases_lt (parent_at boxes k) j) [
     | inl over ↦ through (gathered.closed j from over lt)

@@ -1,5 +1,6 @@
 -- The columns of the code beside the spots that they are of.
-use Rattle.std.proofs.Common.{◌≡◌, suc, ℕ, ◌<◌, ◌≤◌, ℤ, List, [], ◌∷◌, ◌++◌, length, map, true, arith, refl, sym, ap, ◌∙◌, subst}
+use Rattle.std.proofs.Common.{◌≡◌, suc, ℕ, ◌+◌, false, ◌<◌, ◌≤◌, ℤ, List, [], ◌∷◌, ◌++◌, length, map, true, arith, refl, sym, ap, ◌∙◌, subst}
+use Rattle.std.proofs.lemmas.Grind.{elements}
 use Rattle.std.proofs.lemmas.Int.{ints}
 use Rattle.lay_doc.specs.Tree.{IsTree}
 use Rattle.lay_units.specs.declared.length.Unit.{Unit as Length}
@@ -8,12 +9,15 @@ use Rattle.lay_flow.specs.declared.placement.Placing.{Placing as PlacingState}
 use Rattle.lay_flow.specs.Boxes.{parents_of}
 use Rattle.lay_flow.specs.Lengths.{length_at}
 use Rattle.lay_flow.specs.BlockFloats.{Spot}
-use Rattle.lay_flow.specs.Pass.State.{PassState}
+use Rattle.lay_flow.specs.Pass.State.{PassState, clearances_of}
+use Rattle.lay_flow.specs.BlockLayout.{BlockLayout}
+use Rattle.lay_flow.specs.Children.{flag_at}
+use Rattle.lay_flow.specs.Pass.Knows.{IsCandidate, MayBe}
 use Rattle.lay_flow.specs.Pass.Clears.{IsEdgeWithout}
 use Rattle.lay_flow.specs.FlowBoxes.{AreFlowBoxes}
 use Rattle.lay_flow.specs.MarginRuns.{block_at}
 use Rattle.lay_flow.specs.BlockPositions.{is_lines}
-use Rattle.lay_flow.specs.Pass.Bounds.{IsLineDepth}
+use Rattle.lay_flow.specs.Pass.Bounds.{IsLineDepth, state_of}
 use Rattle.lay_flow.specs.Pass.Placed.{Placing, PlacesTo}
 use Rattle.lay_flow.proofs.WeightFacts.{light_at}
 use Rattle.lay_flow.specs.declared.pass.Pass.{Pass}
@@ -25,12 +29,26 @@ pub map_length : {A B : Type 0} (f : A → B) (xs : List A) → length (map f xs
 map_length f [] = refl
 map_length f (x ∷ xs) = ap suc (map_length f xs)
 
+one_longer : {A : Type 0} (xs : List A) (x : A) → length (xs ++ x ∷ []) ≡ length xs + 1
+one_longer xs x = grind (arith, elements)
+
+-- one more entry
+pub counted : {A : Type 0} (old new : List A) (x : A) (k : ℕ) → length old ≡ k → new ≡ old ++ x ∷ [] → length new ≡ k + 1
+counted old new x k e pushed = ap length pushed ∙ one_longer old x ∙ ap (λ (n : ℕ). n + 1) e
+
 pub map_push : {A B : Type 0} (f : A → B) (xs : List A) (x : A) → map f (xs ++ x ∷ []) ≡ map f xs ++ f x ∷ []
 map_push f [] x = refl
 map_push f (y ∷ xs) x = ap (λ (ys : List _). f y ∷ ys) (map_push f xs x)
 
 pub places_count : (now : PlacingState) (places : List Spot) → AreSpots now places → length places ≡ length now.places.items
 places_count now places are = sym (map_length (λ (p : Spot). p.place) places) ∙ ap length are.places_are
+
+pub placed_count : (boxes : List FlowBox) (marks : List Length) (now : PlacingState) (n : ℕ) → ArePlaced boxes marks now n → length now.places.items ≡ n
+placed_count boxes marks now n is = sym (places_count now is.places is.are) ∙ is.to.places_length
+
+-- of the boxes before the first without an entry
+pub placed_so_far : (boxes : List FlowBox) (marks : List Length) (now : PlacingState) (n : ℕ) → ArePlaced boxes marks now n → (places : List Spot) → PlacesTo boxes marks (placing_of now places) (length now.places.items) → PlacesTo boxes marks (placing_of now places) n
+placed_so_far boxes marks now n is places = subst (PlacesTo boxes marks (placing_of now places)) (placed_count boxes marks now n is)
 
 module _ (boxes : List FlowBox) (old new : List Length) (now : PlacingState) (places : List Spot) (tree : IsTree (parents_of boxes)) (are : AreSpots now places)
     (few : length places ≤ length boxes) (placed : PlacesTo boxes old (placing_of now places) (length places)) (same : (j : ℕ) → j < length places → length_at new j ≡ length_at old j) where
@@ -44,11 +62,11 @@ module _ (boxes : List FlowBox) (old new : List Length) (now : PlacingState) (pl
   pub kept_places : ArePlaced boxes new now (length now.places.items)
   kept_places = record { places = places; are = are; to = kept }
 
-module _ (boxes : List FlowBox) (old new : List Length) (now then : PlacingState) (places : List Spot) (m : ℕ) (tree : IsTree (parents_of boxes)) (are : AreSpots now places)
+module _ (boxes : List FlowBox) (old new : List Length) (now then : PlacingState) (places : List Spot) (tree : IsTree (parents_of boxes)) (are : AreSpots now places)
     (few : length places ≤ length boxes) (placed : PlacesTo boxes old (placing_of now places) (length places)) (same : (j : ℕ) → j < length places → length_at new j ≡ length_at old j)
-    (goes : GoesOn boxes new now then (length now.places.items) m) where
+    (goes : GoesOn boxes new now then) where
   -- and more are placed
-  pub placed_on : ArePlacedOn boxes new then places m
+  pub placed_on : ArePlacedOn boxes new then places
   placed_on = goes places are (subst (PlacesTo boxes new (placing_of now places)) (places_count now places are) (placed_kept boxes old new (placing_of now places) (length places) tree few placed same))
 
 -- the boxes that a pass has placed stay so where the boxes before its run keep their marks
@@ -63,16 +81,22 @@ module _ (boxes : List FlowBox) (tree : IsTree (parents_of boxes)) (flow : Pass)
   pub known_placed : ArePlaced boxes marks flow.placing (length flow.placing.places.items)
   known_placed = kept_places boxes flow.marks.items marks flow.placing known.places tree known.are few known.knows.placed alike
 
-  pub known_placed_on : (then : PlacingState) (n : ℕ) → GoesOn boxes marks flow.placing then (length flow.placing.places.items) n → ArePlacedOn boxes marks then known.places n
-  known_placed_on then n goes = placed_on boxes flow.marks.items marks flow.placing then known.places n tree known.are few known.knows.placed alike goes
+  pub known_placed_on : (then : PlacingState) → GoesOn boxes marks flow.placing then → ArePlacedOn boxes marks then known.places
+  known_placed_on then goes = placed_on boxes flow.marks.items marks flow.placing then known.places tree known.are few known.knows.placed alike goes
 
-module _ (boxes : List FlowBox) (now : PassState) (placing : PlacingState) (places : List Spot) (are : AreSpots placing places) (k : ℕ) (edge : ℤ) where
+module _ (boxes : List FlowBox) (now : PassState) (placing : Placing) (k : ℕ) where
+  -- this is the mark of the box at k in each layout without clearance from it on
+  abbrev pub IsMarkWithout : ℤ → Type 0
+  IsMarkWithout edge =
+      (w : BlockLayout) → MayBe boxes (length placing.places) placing.extents w.extents → IsCandidate boxes w (clearances_of now) k → ((j : ℕ) → k ≤ j → flag_at w.runs.clears j ≡ false) → edge ≡ length_at w.places.marks k
+
+module _ (boxes : List FlowBox) (flow : Pass) (places : List Spot) (are : AreSpots flow.placing places) (k : ℕ) (edge : ℤ) where
   -- the depths that are known are those of the spots
-  pub edge_of : IsEdgeWithout boxes now (length places) placing.extents.items k edge → IsEdgeWithout boxes now (length placing.places.items) placing.extents.items k edge
-  edge_of is = subst (λ (n : ℕ). IsEdgeWithout boxes now n placing.extents.items k edge) (places_count placing places are) is
+  pub edge_of : IsMarkWithout boxes (state_of flow) (placing_of flow.placing places) k edge → IsEdgeWithout boxes flow k edge
+  edge_of is w may_be = is w (subst (λ (n : ℕ). MayBe boxes n flow.placing.extents.items w.extents) (sym (places_count flow.placing places are)) may_be)
 
-  pub edge_known : IsEdgeWithout boxes now (length placing.places.items) placing.extents.items k edge → IsEdgeWithout boxes now (length places) placing.extents.items k edge
-  edge_known is = subst (λ (n : ℕ). IsEdgeWithout boxes now n placing.extents.items k edge) (sym (places_count placing places are)) is
+  pub edge_known : IsEdgeWithout boxes flow k edge → IsMarkWithout boxes (state_of flow) (placing_of flow.placing places) k edge
+  edge_known is w may_be = is w (subst (λ (n : ℕ). MayBe boxes n flow.placing.extents.items w.extents) (places_count flow.placing places are) may_be)
 
 -- the lines of a box end near
 pub line_depth : (boxes : List FlowBox) → AreFlowBoxes boxes → (marks : List Length) (now : Placing) (n : ℕ) → PlacesTo boxes marks now n → (k : ℕ) → k < n → n ≤ length boxes → is_lines (block_at boxes k).inside ≡ true
@@ -84,10 +108,10 @@ line_depth boxes input marks now n to k lt le lines =
     let e = to.lines_extent k lt lines in
     (omega (arith, ints, a, light, e), omega (arith, ints, b, light, e))
 
-module _ (boxes : List FlowBox) (marks : List Length) (old new : PlacingState) (places : List Spot) (are : AreSpots old places) (p : Spot) (m : ℕ)
+module _ (boxes : List FlowBox) (marks : List Length) (old new : PlacingState) (places : List Spot) (are : AreSpots old places) (p : Spot) (k : ℕ) (known : ArePlaced boxes marks old k)
     (pushed : new.places.items ≡ old.places.items ++ p.place ∷ []) (rows : new.rows.items ≡ old.rows.items ++ p.lines.rows ∷ []) (met : new.met.items ≡ old.met.items ++ p.lines.places ∷ []) where
   -- one more spot
-  pub pushed_on : PlacesTo boxes marks (placing_of new (places ++ p ∷ [])) m → ArePlacedOn boxes marks new places m
+  pub pushed_on : PlacesTo boxes marks (placing_of new (places ++ p ∷ [])) (k + 1) → ArePlacedOn boxes marks new places
   pushed_on to = record {
     places = places ++ p ∷ [];
     are = record {
@@ -95,25 +119,27 @@ module _ (boxes : List FlowBox) (marks : List Length) (old new : PlacingState) (
       rows_are = map_push (λ (q : Spot). q.lines.rows) places p ∙ (λ i. are.rows_are i ++ p.lines.rows ∷ []) ∙ sym rows;
       met_are = map_push (λ (q : Spot). q.lines.places) places p ∙ (λ i. are.met_are i ++ p.lines.places ∷ []) ∙ sym met;
     };
-    to = to;
+    to = subst (PlacesTo boxes marks (placing_of new (places ++ p ∷ []))) (sym (counted old.places.items new.places.items p.place k (placed_count boxes marks old k known) pushed)) to;
     same = λ j lt. old_place places p j lt;
   }
 
--- no step keeps all
-pub goes_nowhere : (boxes : List FlowBox) (marks : List Length) (now : PlacingState) (n : ℕ) → GoesOn boxes marks now now n n
-goes_nowhere boxes marks now n places are to = record { places = places; are = are; to = to; same = λ j lt. refl }
-
 -- a step more
-pub placed_further : (boxes : List FlowBox) (marks : List Length) (old new : PlacingState) (n m : ℕ) → ArePlaced boxes marks old n → GoesOn boxes marks old new n m → ArePlaced boxes marks new m
-placed_further boxes marks old new n m was goes = let next = goes was.places was.are was.to in record { places = next.places; are = next.are; to = next.to }
+pub placed_further : (boxes : List FlowBox) (marks : List Length) (old new : PlacingState) (n m : ℕ) → ArePlaced boxes marks old n → GoesOn boxes marks old new → length new.places.items ≡ m → ArePlaced boxes marks new m
+placed_further boxes marks old new n m was goes count =
+    let next = goes was.places was.are (subst (PlacesTo boxes marks (placing_of old was.places)) (sym (placed_count boxes marks old n was)) was.to) in
+    record { places = next.places; are = next.are; to = subst (PlacesTo boxes marks (placing_of new next.places)) count next.to }
 
-pub goes_further : (boxes : List FlowBox) (marks : List Length) (old mid new : PlacingState) (n k m : ℕ) → GoesOn boxes marks old mid n k → n ≤ k → GoesOn boxes marks mid new k m → GoesOn boxes marks old new n m
-goes_further boxes marks old mid new n k m first le then places are to =
+pub goes_further : (boxes : List FlowBox) (marks : List Length) (old mid new : PlacingState) → GoesOn boxes marks old mid → length old.places.items ≤ length mid.places.items → GoesOn boxes marks mid new → GoesOn boxes marks old new
+goes_further boxes marks old mid new first le then places are to =
     let there = first places are to in
     let next = then there.places there.are there.to in
     let a = to.places_length in let b = there.to.places_length in
     record { places = next.places; are = next.are; to = next.to; same = λ j lt. next.same j (omega (arith, lt, a, b, le)) ∙ there.same j lt }
 
+-- the boxes before the one at m are placed, if so many have an entry
+pub placed_to : (boxes : List FlowBox) (marks : List Length) (now : PlacingState) (before : List Spot) (on : ArePlacedOn boxes marks now before) (m : ℕ) → length now.places.items ≡ m → PlacesTo boxes marks (placing_of now on.places) m
+placed_to boxes marks now before on m count = subst (PlacesTo boxes marks (placing_of now on.places)) count on.to
+
 -- the depths have an entry for each box
-pub within_extents : (boxes : List FlowBox) (marks : List Length) (now : PlacingState) (before : List Spot) (m : ℕ) → ArePlacedOn boxes marks now before m → (k : ℕ) → k < length boxes → k < length now.extents.items
-within_extents boxes marks now before m goes k lt = let l = goes.to.extents_length in omega (arith, l, lt)
+pub within_extents : (boxes : List FlowBox) (marks : List Length) (now : PlacingState) (before : List Spot) → ArePlacedOn boxes marks now before → (k : ℕ) → k < length boxes → k < length now.extents.items
+within_extents boxes marks now before goes k lt = let l = goes.to.extents_length in omega (arith, l, lt)

@@ -95,7 +95,7 @@ module _ (boxes : List FlowBox) (tree : IsTree (parents_of boxes)) (are : IsFlow
       ]
 
   -- and so their depths
-  pub extent_placed : (k : ℕ) → k < length boxes → is_placed (block_at boxes k).inside ≡ true → SameMarks (k + 1) → length_at f.extents.depths k ≡ length_at g.extents.depths k
+  pub extent_placed : (k : ℕ) → k < length boxes → is_placed (block_at boxes k).inside ≡ true → SameMarks (k + 1) → length_at f.layout.extents.depths k ≡ length_at g.layout.extents.depths k
   extent_placed k within placed marks =
       let place = places_to (k + 1) (omega (arith, within)) marks k (omega arith) in
       let mark = marks k (omega arith) in
@@ -111,5 +111,5 @@ module _ (boxes : List FlowBox) (tree : IsTree (parents_of boxes)) (are : IsFlow
         | inr ge ↦ (let z : k ≡ 0 = omega (arith, ge) in absurd (true_false (is_solid (block_at boxes 0).inside) (ap (λ (j : ℕ). is_solid (block_at boxes j).inside) (sym z) ∙ solid) (root_not_solid boxes are)))
       ]
 
-  pub extent_other : (k : ℕ) → k < length boxes → is_placed (block_at boxes k).inside ≡ false → length_at f.extents.depths k ≡ length_at g.extents.depths k
+  pub extent_other : (k : ℕ) → k < length boxes → is_placed (block_at boxes k).inside ≡ false → length_at f.layout.extents.depths k ≡ length_at g.layout.extents.depths k
   extent_other k within flows = is.no_extent k within flows ∙ sym (also.no_extent k within flows)

@@ -4,56 +4,60 @@ use Rattle.std.proofs.lemmas.Bool.{cases_lt, cases_eq}
 use Rattle.lay_flow.specs.declared.flow_box.FlowBox.{FlowBox}
 use Rattle.lay_flow.specs.Boxes.{parent_at, parents_of}
 use Rattle.lay_flow.proofs.BoxTrees.{parent_before}
-use Rattle.lay_units.specs.declared.length.Unit.{Unit as Length}
 use Rattle.lay_doc.specs.Tree.{IsTree}
 use Rattle.lay_heights.specs.AutoHeights.{root_height_of}
 use Rattle.lay_flow.specs.Lengths.{length_at}
 use Rattle.lay_flow.specs.Children.{last_child}
-use Rattle.lay_flow.specs.MarginRuns.{Runs, block_at}
-use Rattle.lay_flow.specs.BlockPositions.{Extents, Positions, start_below, start_before, start_of, mark_of, content_height, height_of}
+use Rattle.lay_flow.specs.MarginRuns.{block_at}
+use Rattle.lay_flow.specs.BlockLayout.{Positions, BlockLayout}
+use Rattle.lay_flow.specs.BlockPositions.{start_below, start_before, start_of, mark_of, content_height, height_of}
 use Rattle.lay_flow.proofs.ContentHeights.{content_bottom, content_inner, content_root}
 use Rattle.lay_flow.proofs.ChildPlaces.{last_same}
 use Rattle.lay_flow.proofs.MarginWalk.{walk}
 use Rattle.lay_flow.proofs.RunsAgree.{last_there, none_left, inside_up}
+use Rattle.lay_flow.specs.Pass.MarginPlace.{MarginPlace, margin_place}
 
 -- the second columns are worked out from the first
-pub record AreNextPositions (boxes : List FlowBox) (r : Runs) (extents : Extents) (clear_edges : List Length) (old new : Positions) : Type 0 where
-  pub start : (k : ℕ) → k < length boxes → length_at new.starts k ≡ start_of boxes r clear_edges old k
-  pub mark : (k : ℕ) → k < length boxes → length_at new.marks k ≡ mark_of boxes r old k
-  pub height : (k : ℕ) → k < length boxes → length_at new.heights k ≡ height_of boxes r extents old k
+pub record AreNextPositions (boxes : List FlowBox) (old : BlockLayout) (new : Positions) : Type 0 where
+  pub start : (k : ℕ) → k < length boxes → length_at new.starts k ≡ start_of boxes old k
+  pub mark : (k : ℕ) → k < length boxes → length_at new.marks k ≡ mark_of boxes old k
+  pub height : (k : ℕ) → k < length boxes → length_at new.heights k ≡ height_of boxes old k
 
--- the columns agree up to the place (p, m)
-pub record SamePositions (boxes : List FlowBox) (s t : Positions) (p m : ℕ) : Type 0 where
-  pub start : (j : ℕ) → j < m → length_at s.starts j ≡ length_at t.starts j
-  pub mark : (j : ℕ) → j < m → length_at s.marks j ≡ length_at t.marks j
-  pub closed : (j : ℕ) → p < j → j < m → length_at s.heights j ≡ length_at t.heights j
-  pub gone : (j i : ℕ) → j < i → i < m → parent_at boxes i < j → length_at s.heights j ≡ length_at t.heights j
+-- the columns agree up to a place
+pub record SamePositions (boxes : List FlowBox) (s t : Positions) (at : MarginPlace) : Type 0 where
+  pub start : (j : ℕ) → j < at.next → length_at s.starts j ≡ length_at t.starts j
+  pub mark : (j : ℕ) → j < at.next → length_at s.marks j ≡ length_at t.marks j
+  pub closed : (j : ℕ) → at.inner < j → j < at.next → length_at s.heights j ≡ length_at t.heights j
+  pub gone : (j i : ℕ) → j < i → i < at.next → parent_at boxes i < j → length_at s.heights j ≡ length_at t.heights j
 
-module _ (boxes : List FlowBox) (tree : IsTree (parents_of boxes)) (r : Runs) (extents : Extents) (clear_edges : List Length) (a b : ℕ → Positions)
-    (a_next : (i : ℕ) → AreNextPositions boxes r extents clear_edges (a i) (a (suc i))) (b_next : (i : ℕ) → AreNextPositions boxes r extents clear_edges (b i) (b (suc i))) where
+module _ (boxes : List FlowBox) (tree : IsTree (parents_of boxes)) (y : BlockLayout) (a b : ℕ → Positions)
+    (a_next : (i : ℕ) → AreNextPositions boxes (record y { places = a i }) (a (suc i))) (b_next : (i : ℕ) → AreNextPositions boxes (record y { places = b i }) (b (suc i))) where
+  abbrev with : Positions → BlockLayout
+  with s = record y { places = s }
+
   -- from some time on they agree up to there
   pub record Stands (p m : ℕ) : Type 0 where
     pub parent : p < m
     pub within : m ≤ length boxes
     pub inside : (i : ℕ) → p < i → i < m → p ≤ parent_at boxes i
     pub after : ℕ
-    pub same : (i : ℕ) → after ≤ i → SamePositions boxes (a i) (b i) p m
+    pub same : (i : ℕ) → after ≤ i → SamePositions boxes (a i) (b i) (margin_place p m)
 
-  below_same : (s t : Positions) (c : ℕ) → length_at s.starts c ≡ length_at t.starts c → length_at s.marks c ≡ length_at t.marks c → length_at s.heights c ≡ length_at t.heights c → start_below r s c ≡ start_below r t c
+  below_same : (s t : Positions) (c : ℕ) → length_at s.starts c ≡ length_at t.starts c → length_at s.marks c ≡ length_at t.marks c → length_at s.heights c ≡ length_at t.heights c → start_below (with s) c ≡ start_below (with t) c
   below_same s t c e f g = rw (e, f, g) refl
 
-  before_same : (s t : Positions) (p m : ℕ) → p < m → SamePositions boxes s t p m → start_before boxes r s p m ≡ start_before boxes r t p m
+  before_same : (s t : Positions) (p m : ℕ) → p < m → SamePositions boxes s t (margin_place p m) → start_before boxes (with s) p m ≡ start_before boxes (with t) p m
   before_same s t p m lt was = go (last_child boxes p m) refl
     where
-      go : (o : Option ℕ) → last_child boxes p m ≡ o → start_before boxes r s p m ≡ start_before boxes r t p m
+      go : (o : Option ℕ) → last_child boxes p m ≡ o → start_before boxes (with s) p m ≡ start_before boxes (with t) p m
       go None e = let f = was.mark p lt in let g = was.start p lt in rw (e, f, g) refl
       go (Some c) e = let l = last_there boxes p m c e in rw e (below_same s t c (was.start c l.1) (was.mark c l.1) (was.closed c l.0 l.1))
 
-  start_same : (s t : Positions) (k : ℕ) → 0 < k → start_before boxes r s (parent_at boxes k) k ≡ start_before boxes r t (parent_at boxes k) k → start_of boxes r clear_edges s k ≡ start_of boxes r clear_edges t k
+  start_same : (s t : Positions) (k : ℕ) → 0 < k → start_before boxes (with s) (parent_at boxes k) k ≡ start_before boxes (with t) (parent_at boxes k) k → start_of boxes (with s) k ≡ start_of boxes (with t) k
   start_same s t zero positive e = absurd (omega (arith, positive))
   start_same s t (suc k) positive e = rw e refl
 
-  mark_same : (s t : Positions) (k : ℕ) → 0 < k → length_at s.starts k ≡ length_at t.starts k → length_at s.marks (parent_at boxes k) ≡ length_at t.marks (parent_at boxes k) → mark_of boxes r s k ≡ mark_of boxes r t k
+  mark_same : (s t : Positions) (k : ℕ) → 0 < k → length_at s.starts k ≡ length_at t.starts k → length_at s.marks (parent_at boxes k) ≡ length_at t.marks (parent_at boxes k) → mark_of boxes (with s) k ≡ mark_of boxes (with t) k
   mark_same s t zero positive e f = absurd (omega (arith, positive))
   mark_same s t (suc k) positive e f = rw (e, f) refl
 
@@ -72,7 +76,7 @@ module _ (boxes : List FlowBox) (tree : IsTree (parents_of boxes)) (r : Runs) (e
       mark : (i : ℕ) → was.after ≤ i → length_at (a (suc (suc i))).marks k ≡ length_at (b (suc (suc i))).marks k
       mark i le = (a_next (suc i)).mark k within ∙ mark_same (a (suc i)) (b (suc i)) k positive (start i le) ((was.same (suc i) (omega (arith, le))).mark (parent_at boxes k) was.parent) ∙ sym ((b_next (suc i)).mark k within)
 
-      later : (i : ℕ) → suc (suc was.after) ≤ i → SamePositions boxes (a i) (b i) k (k + 1)
+      later : (i : ℕ) → suc (suc was.after) ≤ i → SamePositions boxes (a i) (b i) (margin_place k (k + 1))
       later zero le = absurd (omega (arith, le))
       later (suc zero) le = absurd (omega (arith, le))
       later (suc (suc i)) le =
@@ -96,36 +100,36 @@ module _ (boxes : List FlowBox) (tree : IsTree (parents_of boxes)) (r : Runs) (e
           }
 
   -- the heights of two boxes with the same ends of content
-  content_same : (s t : Positions) (p m : ℕ) → last_child boxes p (length boxes) ≡ last_child boxes p m → p < m → SamePositions boxes s t p m
-      → content_height boxes r extents s p ≡ content_height boxes r extents t p
+  content_same : (s t : Positions) (p m : ℕ) → last_child boxes p (length boxes) ≡ last_child boxes p m → p < m → SamePositions boxes s t (margin_place p m)
+      → content_height boxes (with s) p ≡ content_height boxes (with t) p
   content_same s t p m last lt was = by_place p refl
     where
-      go : (o : Option ℕ) → last_child boxes p m ≡ o → content_bottom boxes r extents s p ≡ content_bottom boxes r extents t p
+      go : (o : Option ℕ) → last_child boxes p m ≡ o → content_bottom boxes (with s) p ≡ content_bottom boxes (with t) p
       go None e = let g = last ∙ e in let f = was.mark p lt in rw (g, f) refl
       go (Some c) e = let g = last ∙ e in let l = last_there boxes p m c e in let u = below_same s t c (was.start c l.1) (was.mark c l.1) (was.closed c l.0 l.1) in let f = was.mark p lt in rw (g, u, f) refl
 
-      bottom : content_bottom boxes r extents s p ≡ content_bottom boxes r extents t p
+      bottom : content_bottom boxes (with s) p ≡ content_bottom boxes (with t) p
       bottom = go (last_child boxes p m) refl
 
-      between : content_bottom boxes r extents s p -ℤ (length_at s.marks p +ℤ (block_at boxes p).edge_top.0) ≡ content_bottom boxes r extents t p -ℤ (length_at t.marks p +ℤ (block_at boxes p).edge_top.0)
+      between : content_bottom boxes (with s) p -ℤ (length_at s.marks p +ℤ (block_at boxes p).edge_top.0) ≡ content_bottom boxes (with t) p -ℤ (length_at t.marks p +ℤ (block_at boxes p).edge_top.0)
       between = let e = bottom in let f = was.mark p lt in rw (e, f) refl
 
-      reaches : (u v d e : ℤ) → u ≡ v → d ≡ e → root_height_of (record { 0 = u }) (record { 0 = d }) extents.floats ≡ root_height_of (record { 0 = v }) (record { 0 = e }) extents.floats
+      reaches : (u v d e : ℤ) → u ≡ v → d ≡ e → root_height_of (record { 0 = u }) (record { 0 = d }) y.extents.floats ≡ root_height_of (record { 0 = v }) (record { 0 = e }) y.extents.floats
       reaches u v d e same ends = rw (same, ends) refl
 
-      at_root : length_at s.marks 0 ≡ length_at t.marks 0 → content_bottom boxes r extents s 0 ≡ content_bottom boxes r extents t 0 → content_height boxes r extents s 0 ≡ content_height boxes r extents t 0
-      at_root mark ends = content_root boxes r extents s
-          ∙ reaches (length_at s.marks 0 +ℤ (block_at boxes 0).edge_top.0) (length_at t.marks 0 +ℤ (block_at boxes 0).edge_top.0) (content_bottom boxes r extents s 0) (content_bottom boxes r extents t 0)
+      at_root : length_at s.marks 0 ≡ length_at t.marks 0 → content_bottom boxes (with s) 0 ≡ content_bottom boxes (with t) 0 → content_height boxes (with s) 0 ≡ content_height boxes (with t) 0
+      at_root mark ends = content_root boxes (with s)
+          ∙ reaches (length_at s.marks 0 +ℤ (block_at boxes 0).edge_top.0) (length_at t.marks 0 +ℤ (block_at boxes 0).edge_top.0) (content_bottom boxes (with s) 0) (content_bottom boxes (with t) 0)
           (ap (λ (v : ℤ). v +ℤ (block_at boxes 0).edge_top.0) mark) ends
-          ∙ sym (content_root boxes r extents t)
+          ∙ sym (content_root boxes (with t))
 
-      by_place : (q : ℕ) → p ≡ q → content_height boxes r extents s p ≡ content_height boxes r extents t p
+      by_place : (q : ℕ) → p ≡ q → content_height boxes (with s) p ≡ content_height boxes (with t) p
       by_place zero e = let z = sym e in
-          subst (λ (k : ℕ). content_height boxes r extents s k ≡ content_height boxes r extents t k) z
-          (at_root (subst (λ (k : ℕ). length_at s.marks k ≡ length_at t.marks k) e (was.mark p lt)) (subst (λ (k : ℕ). content_bottom boxes r extents s k ≡ content_bottom boxes r extents t k) e bottom))
-      by_place (suc k) e = content_inner boxes r extents s p (omega (arith, e)) ∙ between ∙ sym (content_inner boxes r extents t p (omega (arith, e)))
+          subst (λ (k : ℕ). content_height boxes (with s) k ≡ content_height boxes (with t) k) z
+          (at_root (subst (λ (k : ℕ). length_at s.marks k ≡ length_at t.marks k) e (was.mark p lt)) (subst (λ (k : ℕ). content_bottom boxes (with s) k ≡ content_bottom boxes (with t) k) e bottom))
+      by_place (suc k) e = content_inner boxes (with s) p (omega (arith, e)) ∙ between ∙ sym (content_inner boxes (with t) p (omega (arith, e)))
 
-  height_same : (s t : Positions) (p : ℕ) → content_height boxes r extents s p ≡ content_height boxes r extents t p → height_of boxes r extents s p ≡ height_of boxes r extents t p
+  height_same : (s t : Positions) (p : ℕ) → content_height boxes (with s) p ≡ content_height boxes (with t) p → height_of boxes (with s) p ≡ height_of boxes (with t) p
   height_same s t p e = rw e refl
 
   close_stands : (p m : ℕ) → 0 < p → p < m → m ≤ length boxes → (m < length boxes → parent_at boxes m < p) → Stands p m → Stands (parent_at boxes p) m
@@ -143,7 +147,7 @@ module _ (boxes : List FlowBox) (tree : IsTree (parents_of boxes)) (r : Runs) (e
       up : parent_at boxes p < p
       up = parent_before boxes tree p positive inner
 
-      later : (i : ℕ) → suc was.after ≤ i → SamePositions boxes (a i) (b i) (parent_at boxes p) m
+      later : (i : ℕ) → suc was.after ≤ i → SamePositions boxes (a i) (b i) (margin_place (parent_at boxes p) m)
       later zero le = absurd (omega (arith, le))
       later (suc i) le =
           let last = last_same boxes p m (length boxes) within (none_left boxes tree p m lt ends) in
@@ -172,7 +176,7 @@ module _ (boxes : List FlowBox) (tree : IsTree (parents_of boxes)) (r : Runs) (e
     same = start;
   }) some
     where
-      start : (i : ℕ) → 1 ≤ i → SamePositions boxes (a i) (b i) 0 1
+      start : (i : ℕ) → 1 ≤ i → SamePositions boxes (a i) (b i) (margin_place 0 1)
       start zero le = absurd (omega (arith, le))
       start (suc i) le = record {
         start = λ j high. let e : j ≡ 0 = omega (arith, high) in subst (λ (j : ℕ). length_at (a (suc i)).starts j ≡ length_at (b (suc i)).starts j) (sym e) ((a_next i).start 0 some ∙ sym ((b_next i).start 0 some));

@@ -5,20 +5,18 @@ use Rattle.std.proofs.lemmas.Int.{ints}
 use Rattle.lay_flow.specs.declared.flow_box.FlowBox.{FlowBox}
 use Rattle.lay_flow.specs.Boxes.{parent_at, parents_of}
 use Rattle.lay_flow.proofs.BoxTrees.{parent_before}
-use Rattle.lay_units.specs.declared.length.Unit.{Unit as Length}
 use Rattle.lay_margins.specs.StrutValue.{StrutValue}
 use Rattle.lay_margins.specs.Collapse.{Holds, collapse}
 use Rattle.lay_doc.specs.Tree.{IsTree}
 use Rattle.lay_flow.specs.Lengths.{length_at}
 use Rattle.lay_flow.specs.Children.{flag_at}
 use Rattle.lay_flow.specs.MarginRuns.{margins, has_top, run_at, run_across}
-use Rattle.lay_flow.specs.Pass.Gathered.{IsAround}
-use Rattle.lay_flow.specs.BlockPositions.{Extents, start_before}
-use Rattle.lay_flow.specs.BlockLayout.{BlockLayout, IsBlockLayout}
-use Rattle.lay_flow.specs.Pass.State.{PassState, IsSoFar, IsInRun}
+use Rattle.lay_flow.specs.BlockLayout.{BlockLayout}
+use Rattle.lay_flow.specs.BlockPositions.{IsBlockLayout, start_before}
+use Rattle.lay_flow.specs.Pass.State.{PassState, IsSoFar, IsInRun, columns_of}
 use Rattle.lay_flow.proofs.CollapsedThrough.{one_start}
 use Rattle.lay_flow.proofs.LayoutFacts.{mark_standing, start_clears}
-use Rattle.lay_flow.specs.Pass.MarginPlace.{IsPlace}
+use Rattle.lay_flow.specs.Pass.MarginPlace.{IsPlace, IsAround, margin_place}
 use Rattle.lay_flow.proofs.Truths.{true_false, true_or}
 
 -- where a run ends that starts at `start` or hangs from it
@@ -32,10 +30,10 @@ sum_two a b c d e f = rw (e, f) refl
 back : (s e c : ℤ) → s ≡ e -ℤ c → e ≡ s +ℤ c
 back s e c h = omega (arith, ints, h)
 
-module _ (boxes : List FlowBox) (extents : Extents) (clear_edges : List Length) (y : BlockLayout) (is : IsBlockLayout boxes extents clear_edges y) (tree : IsTree (parents_of boxes))
-    (now : PassState) (p m : ℕ) (in_run : IsInRun boxes clear_edges y now p m) (at : IsPlace boxes p m) where
-  pub starts_here : (j : ℕ) → now.first ≤ j → j ≤ p → IsAround boxes j m → length_at y.places.starts j ≡ start_before boxes y.runs y.places p m
-  starts_here j a b holds = let lt = at.parent in one_start boxes tree y.runs is.has_runs extents clear_edges y.places is.has_positions now.first p m at in_run.gathered j j a b holds (omega arith) (omega (arith, b, lt))
+module _ (boxes : List FlowBox) (y : BlockLayout) (is : IsBlockLayout boxes y) (tree : IsTree (parents_of boxes))
+    (now : PassState) (p m : ℕ) (in_run : IsInRun boxes y now (margin_place p m)) (at : IsPlace boxes p m) where
+  pub starts_here : (j : ℕ) → now.first ≤ j → j ≤ p → IsAround boxes j m → length_at y.places.starts j ≡ start_before boxes y p m
+  starts_here j a b holds = let lt = at.parent in one_start boxes tree y is now.first p m at in_run.gathered j j a b holds (omega arith) (omega (arith, b, lt))
 
   positive_here : (j : ℕ) → now.first ≤ j → 0 < j
   positive_here j a = let l = in_run.gathered.least in omega (arith, l, a)
@@ -45,14 +43,14 @@ module _ (boxes : List FlowBox) (extents : Extents) (clear_edges : List Length) 
 
   -- the mark of an open box whose top margin is in the run
   pub mark_here : (j : ℕ) → now.first ≤ j → j ≤ p → IsAround boxes j m → flag_at y.runs.through j ≡ false
-      → length_at y.places.marks j ≡ start_before boxes y.runs y.places p m +ℤ collapse (margins (run_across boxes y.runs p m))
+      → length_at y.places.marks j ≡ start_before boxes y p m +ℤ collapse (margins (run_across boxes y.runs p m))
   mark_here j a b holds truth =
       let start = starts_here j a b holds in
       let rise = in_run.gathered.rise j a b holds in
-      mark_standing boxes extents clear_edges y is j (positive_here j a) (within_here j b) truth ∙ (λ i. start i +ℤ collapse (margins (rise i)))
+      mark_standing boxes y is j (positive_here j a) (within_here j b) truth ∙ (λ i. start i +ℤ collapse (margins (rise i)))
 
   -- the boxes that wait are open
-  pub waiting_open : IsSoFar boxes y now.through now.heights now.marks now.first p m → (j : ℕ) → now.first ≤ j → j < m → flag_at now.through j ≡ false → (j ≤ p) × IsAround boxes j m
+  pub waiting_open : IsSoFar boxes y (columns_of now) (margin_place p m) → (j : ℕ) → now.first ≤ j → j < m → flag_at now.through j ≡ false → (j ≤ p) × IsAround boxes j m
   waiting_open so_far j a b code = (
     elim (cases_lt p j) [
       | inl over ↦ absurd (true_false (flag_at now.through j) ((so_far.closed j over b).pass ∙ in_run.gathered.closed j a over b) code)
@@ -69,13 +67,13 @@ module _ (boxes : List FlowBox) (extents : Extents) (clear_edges : List Length) 
 
   -- where the run reaches to
   pub reach_is : (strut : StrutValue) (end : ℤ) → RunEnds now.hangs now.start strut end → Holds strut (margins (run_across boxes y.runs p m)) → (now.hangs ≡ true → flag_at y.runs.through now.first ≡ false)
-      → end ≡ start_before boxes y.runs y.places p m +ℤ collapse (margins (run_across boxes y.runs p m))
-  reach_is strut end ends holds stands = true_or now.hangs (end ≡ start_before boxes y.runs y.places p m +ℤ collapse (margins (run_across boxes y.runs p m)))
+      → end ≡ start_before boxes y p m +ℤ collapse (margins (run_across boxes y.runs p m))
+  reach_is strut end ends holds stands = true_or now.hangs (end ≡ start_before boxes y p m +ℤ collapse (margins (run_across boxes y.runs p m)))
       (λ t. let h = in_run.hanging t in
       let f : ℕ = now.first in
       let e = h.open_yet in
       let truth = stands t in
-      let clears = start_clears boxes extents clear_edges y is f (positive_here f (omega arith)) (within_here f e) h.clears truth in
-      ends.hanging t ∙ h.edge ∙ back (length_at y.places.starts f) (length_at clear_edges f) (collapse (margins (run_at y.runs.top_runs f))) clears
-      ∙ sym (mark_standing boxes extents clear_edges y is f (positive_here f (omega arith)) (within_here f e) truth) ∙ mark_here f (omega arith) e h.contains truth)
+      let clears = start_clears boxes y is f (positive_here f (omega arith)) (within_here f e) h.clears truth in
+      ends.hanging t ∙ h.edge ∙ back (length_at y.places.starts f) (length_at y.clear_edges f) (collapse (margins (run_at y.runs.top_runs f))) clears
+      ∙ sym (mark_standing boxes y is f (positive_here f (omega arith)) (within_here f e) truth) ∙ mark_here f (omega arith) e h.contains truth)
       (λ f. let s = in_run.start_is f in ends.value f _ holds ∙ ap (λ (v : ℤ). v +ℤ collapse (margins (run_across boxes y.runs p m))) s)

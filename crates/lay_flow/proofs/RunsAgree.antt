@@ -10,6 +10,7 @@ use Rattle.lay_flow.specs.Children.{is_child, last_child, flag_at}
 use Rattle.lay_flow.specs.MarginRuns.{Runs, Entry, has_top, block_at, run_at, run_before, may_collapse_through, through_of, before_top_of, to_bottom_of, top_run_of, bottom_run_of}
 use Rattle.lay_flow.proofs.ChildPlaces.{not_child, last_same}
 use Rattle.lay_flow.proofs.MarginWalk.{walk}
+use Rattle.lay_flow.specs.Pass.MarginPlace.{MarginPlace, margin_place}
 
 child_low : (boxes : List FlowBox) (p k : ℕ) → is_child boxes p k ≡ true → p < k
 child_low boxes p k t = grind (arith, t)
@@ -54,11 +55,11 @@ pub record Closed (r x : Runs) (j : ℕ) : Type 0 where
   pub pass : flag_at r.through j ≡ flag_at x.through j
   pub tail : run_at r.to_bottoms j ≡ run_at x.to_bottoms j
 
--- the columns agree up to the place (p, m)
-pub record Same (boxes : List FlowBox) (r x : Runs) (p m : ℕ) : Type 0 where
-  pub lead : (j : ℕ) → j < m → run_at r.before_tops j ≡ run_at x.before_tops j
-  pub closed : (j : ℕ) → p < j → j < m → Closed r x j
-  pub gone : (j i : ℕ) → j < i → i < m → parent_at boxes i < j → Closed r x j
+-- the columns agree up to a place
+pub record Same (boxes : List FlowBox) (r x : Runs) (at : MarginPlace) : Type 0 where
+  pub lead : (j : ℕ) → j < at.next → run_at r.before_tops j ≡ run_at x.before_tops j
+  pub closed : (j : ℕ) → at.inner < j → j < at.next → Closed r x j
+  pub gone : (j i : ℕ) → j < i → i < at.next → parent_at boxes i < j → Closed r x j
 
 module _ (boxes : List FlowBox) where
   pub before_same : (r x : Runs) (p m : ℕ) → run_at r.before_tops p ≡ run_at x.before_tops p → ((s : ℕ) → p < s → s < m → run_at r.to_bottoms s ≡ run_at x.to_bottoms s) → run_before boxes r p m ≡ run_before boxes x p m
@@ -89,7 +90,7 @@ module _ (boxes : List FlowBox) (tree : IsTree (parents_of boxes)) (a b : ℕ �
     pub within : m ≤ length boxes
     pub inside : (i : ℕ) → p < i → i < m → p ≤ parent_at boxes i
     pub after : ℕ
-    pub same : (i : ℕ) → after ≤ i → Same boxes (a i) (b i) p m
+    pub same : (i : ℕ) → after ≤ i → Same boxes (a i) (b i) (margin_place p m)
 
   open_settles : (k : ℕ) → 0 < k → k < length boxes → Settles (parent_at boxes k) k → Settles k (k + 1)
   open_settles k positive within was = record {
@@ -100,7 +101,7 @@ module _ (boxes : List FlowBox) (tree : IsTree (parents_of boxes)) (a b : ℕ �
     same = later;
   }
     where
-      later : (i : ℕ) → suc was.after ≤ i → Same boxes (a i) (b i) k (k + 1)
+      later : (i : ℕ) → suc was.after ≤ i → Same boxes (a i) (b i) (margin_place k (k + 1))
       later zero le = absurd (omega (arith, le))
       later (suc i) le =
           let before = was.same i (omega (arith, le)) in
@@ -148,7 +149,7 @@ module _ (boxes : List FlowBox) (tree : IsTree (parents_of boxes)) (a b : ℕ �
           ∙ tail_same boxes (a (suc i)) (b (suc i)) p positive (pass i le) (come (suc i) (omega (arith, le)))
           ∙ sym ((b_next (suc i)).to_bottom p inner)
 
-      later : (i : ℕ) → suc (suc was.after) ≤ i → Same boxes (a i) (b i) (parent_at boxes p) m
+      later : (i : ℕ) → suc (suc was.after) ≤ i → Same boxes (a i) (b i) (margin_place (parent_at boxes p) m)
       later zero le = absurd (omega (arith, le))
       later (suc zero) le = absurd (omega (arith, le))
       later (suc (suc i)) le =
@@ -175,7 +176,7 @@ module _ (boxes : List FlowBox) (tree : IsTree (parents_of boxes)) (a b : ℕ �
     same = start;
   }) some
     where
-      start : (i : ℕ) → 1 ≤ i → Same boxes (a i) (b i) 0 1
+      start : (i : ℕ) → 1 ≤ i → Same boxes (a i) (b i) (margin_place 0 1)
       start zero le = absurd (omega (arith, le))
       start (suc i) le = record {
         lead = λ j high. let e : j ≡ 0 = omega (arith, high) in subst (λ (j : ℕ). run_at (a (suc i)).before_tops j ≡ run_at (b (suc i)).before_tops j) (sym e)

@@ -7,8 +7,7 @@ use Rattle.lay_flow.proofs.BoxTrees.{parent_before}
 use Rattle.lay_doc.specs.Tree.{IsTree}
 use Rattle.lay_flow.specs.Children.{flag_at}
 use Rattle.lay_flow.specs.MarginRuns.{Runs, HasRuns, run_at, run_before}
-use Rattle.lay_flow.specs.Pass.Gathered.{IsAround}
-use Rattle.lay_flow.specs.Pass.MarginPlace.{IsPlace}
+use Rattle.lay_flow.specs.Pass.MarginPlace.{IsPlace, IsAround, margin_place}
 use Rattle.lay_flow.proofs.ChildPlaces.{last_same}
 use Rattle.lay_flow.proofs.MarginWalk.{walk_to}
 use Rattle.lay_flow.proofs.RunsAgree.{Same, Closed, none_left, inside_up, before_same, lead_same, pass_same, tail_same}
@@ -19,9 +18,9 @@ module _ (boxes : List FlowBox) (tree : IsTree (parents_of boxes)) (r x : Runs) 
     pub parent : p < m
     pub within : m ≤ length boxes
     pub inside : IsAround boxes p m
-    pub same : m ≤ limit → Same boxes r x p m
+    pub same : m ≤ limit → Same boxes r x (margin_place p m)
 
-  run_same : (p m : ℕ) → p < m → Same boxes r x p m → run_before boxes r p m ≡ run_before boxes x p m
+  run_same : (p m : ℕ) → p < m → Same boxes r x (margin_place p m) → run_before boxes r p m ≡ run_before boxes x p m
   run_same p m lt s = before_same boxes r x p m (s.lead p lt) (λ c low high. (s.closed c low high).tail)
 
   opens_agree : (k : ℕ) → 0 < k → k < length boxes → Agrees (parent_at boxes k) k → Agrees k (k + 1)
@@ -77,7 +76,7 @@ module _ (boxes : List FlowBox) (tree : IsTree (parents_of boxes)) (r x : Runs) 
       up : parent_at boxes p < p
       up = parent_before boxes tree p positive inner
 
-  pub runs_up_to : (p m : ℕ) → IsPlace boxes p m → m ≤ limit → Same boxes r x p m
+  pub runs_up_to : (p m : ℕ) → IsPlace boxes p m → m ≤ limit → Same boxes r x (margin_place p m)
   runs_up_to p m at le =
       let a = at.parent in let b = at.within in
       let some : 0 < length boxes = omega (arith, a, b) in

@@ -5,6 +5,7 @@ use Rattle.lay_flow.specs.declared.flow_box.FlowBox.{FlowBox}
 use Rattle.lay_flow.specs.Boxes.{parent_at}
 use Rattle.lay_flow.specs.Children.{is_child, last_child, next_child}
 use Rattle.lay_flow.proofs.ChildPlaces.{last_none, last_some, next_none, next_some, not_child}
+use Rattle.lay_flow.specs.Pass.MarginPlace.{MarginPlace, margin_place}
 
 pub child_parent : (boxes : List FlowBox) (p k : ℕ) → is_child boxes p k ≡ true → (p < k) × (parent_at boxes k ≡ p)
 child_parent boxes p k is = (grind (arith, is), grind (arith, is))
@@ -52,12 +53,12 @@ none_before boxes p (suc k) e j lt = go (is_child boxes p k) refl (none_before b
       | inr ne ↦ before (sym (rw f refl) ∙ e) j (omega (arith, lt, ne))
     ]
 
--- the first child of p from m on
-pub record IsNext (boxes : List FlowBox) (p m n c : ℕ) : Type 0 where
-  pub child : is_child boxes p c ≡ true
-  pub from : m ≤ c
+-- the first child of the innermost open box behind a place
+pub record IsNext (boxes : List FlowBox) (at : MarginPlace) (n c : ℕ) : Type 0 where
+  pub child : is_child boxes at.inner c ≡ true
+  pub from : at.next ≤ c
   pub within : c < n
-  pub none : (j : ℕ) → m ≤ j → j < c → is_child boxes p j ≡ false
+  pub none : (j : ℕ) → at.next ≤ j → j < c → is_child boxes at.inner j ≡ false
 
 abbrev here_or_none : List FlowBox → ℕ → ℕ → ℕ → Option ℕ
 here_or_none boxes p m k = if is_child boxes p k && not (nat_lt k m) then Some k else None
@@ -78,7 +79,7 @@ none_from boxes p m (suc k) e j le lt = go (next_child boxes p m k) refl (is_chi
       | inr ne ↦ before f j le (omega (arith, lt, ne))
     ]
 
-pub next_is : (boxes : List FlowBox) (p m n c : ℕ) → next_child boxes p m n ≡ Some c → IsNext boxes p m n c
+pub next_is : (boxes : List FlowBox) (p m n c : ℕ) → next_child boxes p m n ≡ Some c → IsNext boxes (margin_place p m) n c
 next_is boxes p m zero c e = absurd (no_some c e)
 next_is boxes p m (suc k) c e = go (next_child boxes p m k) refl (is_child boxes p k && not (nat_lt k m)) refl (next_is boxes p m k c)
   where
@@ -88,7 +89,7 @@ next_is boxes p m (suc k) c e = go (next_child boxes p m k) refl (is_child boxes
     from_here : (is_child boxes p k && not (nat_lt k m)) ≡ true → m ≤ k
     from_here t = grind (arith, t)
 
-    go : (o : Option ℕ) → next_child boxes p m k ≡ o → (b : Bool) → (is_child boxes p k && not (nat_lt k m)) ≡ b → (next_child boxes p m k ≡ Some c → IsNext boxes p m k c) → IsNext boxes p m (suc k) c
+    go : (o : Option ℕ) → next_child boxes p m k ≡ o → (b : Bool) → (is_child boxes p k && not (nat_lt k m)) ≡ b → (next_child boxes p m k ≡ Some c → IsNext boxes (margin_place p m) k c) → IsNext boxes (margin_place p m) (suc k) c
     go (Some d) f b t before =
         let same : d ≡ c = one_place d c (sym (rw f refl) ∙ e) in
         let was = before (f ∙ (λ i. Some (same i))) in

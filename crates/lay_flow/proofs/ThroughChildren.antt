@@ -7,7 +7,6 @@ use Rattle.lay_flow.specs.Boxes.{parent_at, parents_of}
 use Rattle.lay_flow.specs.Children.{is_child, last_child, flag_at}
 use Rattle.lay_flow.specs.Laws.{CollapsedThrough}
 use Rattle.lay_flow.specs.MarginRuns.{Runs, HasRuns, block_at, has_top, may_collapse_through, run_at, run_before}
-use Rattle.lay_flow.specs.Pass.Gathered.{IsAround}
 use Rattle.lay_flow.proofs.BoxTrees.{parents_together}
 use Rattle.lay_flow.proofs.CollapsedThrough.{end_of, end_place, through_inside}
 use Rattle.lay_flow.proofs.GatheredRuns.{gathers, last_over, passes_here}
@@ -16,6 +15,7 @@ use Rattle.lay_flow.proofs.RunFacts.{lead_goes_on, next_comes, passes_is}
 use Rattle.lay_flow.proofs.RunsAdjoin.{bottom_goes_on, first_open, joins_through, open_above}
 use Rattle.lay_flow.proofs.Siblings.{child_parent, last_is}
 use Rattle.lay_flow.proofs.Truths.{not_low}
+use Rattle.lay_flow.specs.Pass.MarginPlace.{IsAround}
 
 left_true : (a b : Bool) → (a && b) ≡ true → a ≡ true
 left_true a b t = grind (arith, t)

@@ -10,17 +10,18 @@ use Rattle.lay_flow.specs.MarginRuns.{Runs, run_at, parts_tops, run_before, run_
 use Rattle.lay_flow.proofs.ChildPlaces.{not_child, child_is, last_some, next_same, next_none, next_some}
 use Rattle.lay_flow.proofs.MarginWalk.{walk}
 use Rattle.lay_flow.proofs.RunsAgree.{none_left, inside_up, AreNext, Same, before_same, settles}
+use Rattle.lay_flow.specs.Pass.MarginPlace.{IsAround, MarginPlace, margin_place}
 
 abbrev pub some_of : Option ℕ → ℕ
 some_of None = 0
 some_of (Some k) = k
 
--- the columns of whole runs agree from the place (p, m) on
-pub record Later (boxes : List FlowBox) (r x : Runs) (p m : ℕ) : Type 0 where
-  pub go : run_across boxes r p m ≡ run_across boxes x p m
-  pub rise : (j : ℕ) → m ≤ j → j < length boxes → run_at r.top_runs j ≡ run_at x.top_runs j
-  pub fall : (j : ℕ) → m ≤ j → j < length boxes → run_at r.bottom_runs j ≡ run_at x.bottom_runs j
-  pub open_fall : (j : ℕ) → 0 < j → j ≤ p → ((i : ℕ) → j < i → i < m → j ≤ parent_at boxes i) → run_at r.bottom_runs j ≡ run_at x.bottom_runs j
+-- the columns of whole runs agree from a place on
+pub record Later (boxes : List FlowBox) (r x : Runs) (at : MarginPlace) : Type 0 where
+  pub go : run_across boxes r at.inner at.next ≡ run_across boxes x at.inner at.next
+  pub rise : (j : ℕ) → at.next ≤ j → j < length boxes → run_at r.top_runs j ≡ run_at x.top_runs j
+  pub fall : (j : ℕ) → at.next ≤ j → j < length boxes → run_at r.bottom_runs j ≡ run_at x.bottom_runs j
+  pub open_fall : (j : ℕ) → 0 < j → j ≤ at.inner → IsAround boxes j at.next → run_at r.bottom_runs j ≡ run_at x.bottom_runs j
 
 -- all columns agree
 pub record AllSame (boxes : List FlowBox) (r x : Runs) : Type 0 where
@@ -51,7 +52,7 @@ module _ (boxes : List FlowBox) (tree : IsTree (parents_of boxes)) (a b : ℕ �
   abbrev pub settled_at : ℕ
   settled_at = (settles boxes tree a b a_next b_next clears some).after
 
-  same_at : (i : ℕ) → settled_at ≤ i → Same boxes (a i) (b i) 0 (length boxes)
+  same_at : (i : ℕ) → settled_at ≤ i → Same boxes (a i) (b i) (margin_place 0 (length boxes))
   same_at = (settles boxes tree a b a_next b_next clears some).same
 
   through_alike : (i : ℕ) → settled_at < i → (j : ℕ) → j < length boxes → flag_at (a i).through j ≡ flag_at (b i).through j
@@ -99,7 +100,7 @@ module _ (boxes : List FlowBox) (tree : IsTree (parents_of boxes)) (a b : ℕ �
   pub record Ends (p m : ℕ) : Type 0 where
     pub after : ℕ
     pub least : settled_at ≤ after
-    pub later : (i : ℕ) → after ≤ i → Later boxes (a i) (b i) p m
+    pub later : (i : ℕ) → after ≤ i → Later boxes (a i) (b i) (margin_place p m)
 
   pub record Back (p m : ℕ) : Type 0 where
     pub parent : p < m
@@ -134,7 +135,7 @@ module _ (boxes : List FlowBox) (tree : IsTree (parents_of boxes)) (a b : ℕ �
       up : parent_at boxes p < p
       up = parent_before boxes tree p positive inner
 
-      later : (e : Ends (parent_at boxes p) m) → (i : ℕ) → suc e.after ≤ i → Later boxes (a i) (b i) p m
+      later : (e : Ends (parent_at boxes p) m) → (i : ℕ) → suc e.after ≤ i → Later boxes (a i) (b i) (margin_place p m)
       later e zero le = absurd (omega (arith, le))
       later e (suc i) le =
           let before = e.later i (omega (arith, le)) in
@@ -171,7 +172,7 @@ module _ (boxes : List FlowBox) (tree : IsTree (parents_of boxes)) (a b : ℕ �
       up : parent_at boxes k < k
       up = parent_before boxes tree k positive within
 
-      later : (e : Ends k (k + 1)) → (i : ℕ) → suc e.after ≤ i → Later boxes (a i) (b i) (parent_at boxes k) k
+      later : (e : Ends k (k + 1)) → (i : ℕ) → suc e.after ≤ i → Later boxes (a i) (b i) (margin_place (parent_at boxes k) k)
       later e zero le = absurd (omega (arith, le))
       later e (suc i) le =
           let before = e.later i (omega (arith, le)) in

@@ -25,69 +25,52 @@ use Rattle.lay_flow.specs.declared.block.Block.{Block}
 use Rattle.lay_flow.specs.declared.block.Inside.{Inside}
 use Rattle.lay_flow.specs.declared.block.Inside.TheVariants.{Blocks as blocks_inside, Lines as lines_inside, Solid as solid_inside}
 use Rattle.lay_flow.specs.Lengths.{length_at}
+use Rattle.lay_flow.specs.BlockLayout.{BlockLayout}
 use Rattle.lay_flow.specs.Children.{last_child, flag_at}
-use Rattle.lay_flow.specs.MarginRuns.{Runs, margins, has_top, block_at, run_at, parts_tops, joins_bottom, run_before}
-
--- Columns with an entry for each box.
-pub record Positions : Type 0 where
-  -- where the run of its top margin starts
-  pub starts : List Length
-  -- its mark: where its top border edge stands
-  pub marks : List Length
-  -- the height of its border box
-  pub heights : List Length
-
--- What is in the boxes of a context beside their blocks.
-pub record Extents : Type 0 where
-  -- how far the bottom border edge of a solid box lies below its mark, and the end of the lines in a box below the top of
-  -- its content, and 0 for other boxes
-  pub depths : List Length
-  -- the lowest bottom of the context's floats, if it has any
-  pub floats : Option Length
+use Rattle.lay_flow.specs.MarginRuns.{Runs, HasRuns, margins, has_top, block_at, run_at, parts_tops, joins_bottom, run_before}
 
 -- where a run starts that follows the box: at its bottom border edge, or, where the box is collapsed through,
 -- where the run of its margins starts
-abbrev pub start_below : Runs → Positions → ℕ → ℤ
-start_below r at s = if flag_at r.through s then length_at at.starts s else (length_at at.marks s +ℤ length_at at.heights s)
+abbrev pub start_below : BlockLayout → ℕ → ℤ
+start_below y s = if flag_at y.runs.through s then length_at y.places.starts s else (length_at y.places.marks s +ℤ length_at y.places.heights s)
 
 -- where the run starts that ends at the place (p, m) of the sequence of margins
-abbrev pub start_before : List FlowBox → Runs → Positions → ℕ → ℕ → ℤ
-start_before boxes r at p m = after (last_child boxes p m)
+abbrev pub start_before : List FlowBox → BlockLayout → ℕ → ℕ → ℤ
+start_before boxes y p m = after (last_child boxes p m)
   where
     after : Option ℕ → ℤ
-    after None = if parts_tops boxes p then (length_at at.marks p +ℤ (block_at boxes p).edge_top.0) else length_at at.starts p
-    after (Some s) = start_below r at s
+    after None = if parts_tops boxes p then (length_at y.places.marks p +ℤ (block_at boxes p).edge_top.0) else length_at y.places.starts p
+    after (Some s) = start_below y s
 
 -- the margins between the start of its run and its top border edge: those before its bottom margin, where the box is
 -- collapsed through, and else all
 abbrev pub margins_above : List FlowBox → Runs → ℕ → List ℤ
 margins_above boxes r k = margins (if flag_at r.through k then run_before boxes r k (length boxes) else run_at r.top_runs k)
 
--- A box with clearance begins a run. That starts where it has to so that the box stands at its clear edge, of
--- which there is a column with an entry for each box.
-abbrev pub start_of : List FlowBox → Runs → List Length → Positions → ℕ → ℤ
-start_of boxes r clear_edges at zero = pos 0
-start_of boxes r clear_edges at (suc k) =
-    if flag_at r.clears (suc k) then length_at clear_edges (suc k) -ℤ collapse (margins_above boxes r (suc k))
-    else start_before boxes r at (parent_at boxes (suc k)) (suc k)
+-- A box with clearance begins a run. That starts where it has to so that the box stands at its clear edge.
+abbrev pub start_of : List FlowBox → BlockLayout → ℕ → ℤ
+start_of boxes y zero = pos 0
+start_of boxes y (suc k) =
+    if flag_at y.runs.clears (suc k) then length_at y.clear_edges (suc k) -ℤ collapse (margins_above boxes y.runs (suc k))
+    else start_before boxes y (parent_at boxes (suc k)) (suc k)
 
 -- the run of the box's top margin has its parent's top margin
 abbrev pub meets_parents_top : List FlowBox → Runs → ℕ → Bool
 meets_parents_top boxes r k = has_top (parent_at boxes k) (run_at r.before_tops k)
 
-abbrev pub mark_of : List FlowBox → Runs → Positions → ℕ → ℤ
-mark_of boxes r at zero = pos 0
-mark_of boxes r at (suc k) =
-    if flag_at r.through (suc k) && meets_parents_top boxes r (suc k) then length_at at.marks (parent_at boxes (suc k))
-    else length_at at.starts (suc k) +ℤ collapse (margins_above boxes r (suc k))
+abbrev pub mark_of : List FlowBox → BlockLayout → ℕ → ℤ
+mark_of boxes y zero = pos 0
+mark_of boxes y (suc k) =
+    if flag_at y.runs.through (suc k) && meets_parents_top boxes y.runs (suc k) then length_at y.places.marks (parent_at boxes (suc k))
+    else length_at y.places.starts (suc k) +ℤ collapse (margins_above boxes y.runs (suc k))
 
 -- the top edge of the content of the box
-abbrev pub content_top : List FlowBox → Positions → ℕ → Length
-content_top boxes at k = record { 0 = length_at at.marks k +ℤ (block_at boxes k).edge_top.0 }
+abbrev pub content_top : List FlowBox → BlockLayout → ℕ → Length
+content_top boxes y k = record { 0 = length_at y.places.marks k +ℤ (block_at boxes k).edge_top.0 }
 
 -- the bottom edge of the bottom margin of the box, collapsed with those that it adjoins
-abbrev pub margin_bottom : Runs → Positions → ℕ → Length
-margin_bottom r at c = record { 0 = start_below r at c +ℤ collapse (margins (run_at r.to_bottoms c)) }
+abbrev pub margin_bottom : BlockLayout → ℕ → Length
+margin_bottom y c = record { 0 = start_below y c +ℤ collapse (margins (run_at y.runs.to_bottoms c)) }
 
 -- where the lines of the box end, if it holds lines
 abbrev pub line_end : Inside → Length → ℤ → Option Length
@@ -95,36 +78,36 @@ line_end blocks_inside top depth = None
 line_end lines_inside top depth = Some (record { 0 = top.0 +ℤ depth })
 line_end solid_inside top depth = None
 
-abbrev pub line_end_of : List FlowBox → Extents → Positions → ℕ → Option Length
-line_end_of boxes extents at k = line_end (block_at boxes k).inside (content_top boxes at k) (length_at extents.depths k)
+abbrev pub line_end_of : List FlowBox → BlockLayout → ℕ → Option Length
+line_end_of boxes y k = line_end (block_at boxes k).inside (content_top boxes y k) (length_at y.extents.depths k)
 
 -- where the content of the box may end (10.6.3): with its last line, with the bottom margin of its last child, where that
 -- doesn't adjoin the box's own, and with the border of that child
-abbrev pub ends_of : List FlowBox → Runs → Extents → Positions → ℕ → FlowEnds
-ends_of boxes r extents at k = after (last_child boxes k (length boxes))
+abbrev pub ends_of : List FlowBox → BlockLayout → ℕ → FlowEnds
+ends_of boxes y k = after (last_child boxes k (length boxes))
   where
     after : Option ℕ → FlowEnds
-    after None = record { top = content_top boxes at k; line = line_end_of boxes extents at k; margin = None; border = None }
+    after None = record { top = content_top boxes y k; line = line_end_of boxes y k; margin = None; border = None }
     after (Some c) = record {
-      top = content_top boxes at k;
-      line = line_end_of boxes extents at k;
-      margin = if joins_bottom boxes r k then None else Some (margin_bottom r at c);
-      border = Some (record { 0 = start_below r at c });
+      top = content_top boxes y k;
+      line = line_end_of boxes y k;
+      margin = if joins_bottom boxes y.runs k then None else Some (margin_bottom y c);
+      border = Some (record { 0 = start_below y c });
     }
 
 -- where the last line in the context's own box ends, or the last margin in it
-abbrev pub root_end : List FlowBox → Runs → Extents → Positions → Length
-root_end boxes r extents at = after (line_end_of boxes extents at 0) (last_child boxes 0 (length boxes))
+abbrev pub root_end : List FlowBox → BlockLayout → Length
+root_end boxes y = after (line_end_of boxes y 0) (last_child boxes 0 (length boxes))
   where
     after : Option Length → Option ℕ → Length
     after (Some line) child = line
-    after None None = content_top boxes at 0
-    after None (Some c) = margin_bottom r at c
+    after None None = content_top boxes y 0
+    after None (Some c) = margin_bottom y c
 
 -- the auto height of the content of the box: that of the context's own box by 10.6.7, and of others by 10.6.3
-abbrev pub content_height : List FlowBox → Runs → Extents → Positions → ℕ → ℤ
-content_height boxes r extents at zero = root_height_of (content_top boxes at 0) (root_end boxes r extents at) extents.floats
-content_height boxes r extents at (suc k) = auto_height_of (ends_of boxes r extents at (suc k))
+abbrev pub content_height : List FlowBox → BlockLayout → ℕ → ℤ
+content_height boxes y zero = root_height_of (content_top boxes y 0) (root_end boxes y) y.extents.floats
+content_height boxes y (suc k) = auto_height_of (ends_of boxes y (suc k))
 
 abbrev pub given_or_auto : Len → ℤ → ℤ
 given_or_auto auto height = height
@@ -153,16 +136,20 @@ border_height b extent content =
     if is_solid b.inside then extent
     else b.edge_top.0 +ℤ with_min_max_of (given_or_auto b.height (clamp_size_of content)) b.min_height.0 b.max_height +ℤ b.edge_bottom.0
 
-abbrev pub height_of : List FlowBox → Runs → Extents → Positions → ℕ → ℤ
-height_of boxes r extents at k =
-    if flag_at r.through k then pos 0
-    else border_height (block_at boxes k) (length_at extents.depths k) (content_height boxes r extents at k)
+abbrev pub height_of : List FlowBox → BlockLayout → ℕ → ℤ
+height_of boxes y k =
+    if flag_at y.runs.through k then pos 0
+    else border_height (block_at boxes k) (length_at y.extents.depths k) (content_height boxes y k)
 
--- these are the positions and the heights, where the runs, the extents and the clear edges are given
-pub record HasPositions (boxes : List FlowBox) (r : Runs) (extents : Extents) (clear_edges : List Length) (at : Positions) : Type 0 where
-  pub starts_length : length at.starts ≡ length boxes
-  pub marks_length : length at.marks ≡ length boxes
-  pub heights_length : length at.heights ≡ length boxes
-  pub start : (k : ℕ) → k < length boxes → length_at at.starts k ≡ start_of boxes r clear_edges at k
-  pub mark : (k : ℕ) → k < length boxes → length_at at.marks k ≡ mark_of boxes r at k
-  pub height : (k : ℕ) → k < length boxes → length_at at.heights k ≡ height_of boxes r extents at k
+-- these are the positions and the heights by the runs, the extents and the clear edges
+pub record HasPositions (boxes : List FlowBox) (y : BlockLayout) : Type 0 where
+  pub starts_length : length y.places.starts ≡ length boxes
+  pub marks_length : length y.places.marks ≡ length boxes
+  pub heights_length : length y.places.heights ≡ length boxes
+  pub start : (k : ℕ) → k < length boxes → length_at y.places.starts k ≡ start_of boxes y k
+  pub mark : (k : ℕ) → k < length boxes → length_at y.places.marks k ≡ mark_of boxes y k
+  pub height : (k : ℕ) → k < length boxes → length_at y.places.heights k ≡ height_of boxes y k
+
+pub record IsBlockLayout (boxes : List FlowBox) (y : BlockLayout) : Type 0 where
+  pub has_runs : HasRuns boxes y.runs
+  pub has_positions : HasPositions boxes y

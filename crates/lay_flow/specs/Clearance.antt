@@ -19,16 +19,18 @@ use Rattle.lay_units.specs.declared.length.Unit.{Unit as Length}
 use Rattle.lay_floats.specs.declared.requests.Side.{Side}
 use Rattle.lay_floats.specs.ClearEdge.{Clears, IsClearEdge}
 use Rattle.lay_floats.specs.FloatPlace.{IsFloatPlace}
-use Rattle.lay_flow.specs.BlockPositions.{Extents, is_lines}
+use Rattle.lay_flow.specs.BlockPositions.{IsBlockLayout, is_lines}
 use Rattle.lay_flow.specs.Lengths.{length_at}
 use Rattle.lay_flow.specs.Children.{flag_at}
 use Rattle.lay_flow.specs.MarginRuns.{Entry, block_at, has_top, run_at}
-use Rattle.lay_flow.specs.BlockLayout.{BlockLayout, IsBlockLayout}
+use Rattle.lay_flow.specs.BlockLayout.{BlockLayout}
 use Rattle.lay_flow.specs.BlockFloats.{AreLinesAt, Spot, ceiling, float_request, floats_before, place_at, shape_at}
 
--- the hypothetical layout of the box at k
-pub record IsHypothetical (boxes : List FlowBox) (extents : Extents) (clear_edges : List Length) (y : BlockLayout) (k : ℕ) (without : BlockLayout) : Type 0 where
-  pub is_layout : IsBlockLayout boxes extents clear_edges without
+-- the hypothetical layout of the box at k, with the extents and the clear edges of y
+pub record IsHypothetical (boxes : List FlowBox) (y : BlockLayout) (k : ℕ) (without : BlockLayout) : Type 0 where
+  pub is_layout : IsBlockLayout boxes without
+  pub extents_are : without.extents ≡ y.extents
+  pub edges_are : without.clear_edges ≡ y.clear_edges
   pub earlier : (j : ℕ) → j < k → flag_at without.runs.clears j ≡ flag_at y.runs.clears j
   pub later : (j : ℕ) → k ≤ j → flag_at without.runs.clears j ≡ false
 
@@ -57,11 +59,11 @@ lower_of None hypothetical = hypothetical
 lower_of (Some bottom) hypothetical = int_max bottom.0 hypothetical
 
 -- whether the box at k has clearance, and its clear edge
-pub record HasClearance (boxes : List FlowBox) (extents : Extents) (clear_edges : List Length) (places : List Spot) (y : BlockLayout) (k : ℕ) : Type 0 where
+pub record HasClearance (boxes : List FlowBox) (y : BlockLayout) (places : List Spot) (k : ℕ) : Type 0 where
   pub without : BlockLayout
-  pub is_hypothetical : IsHypothetical boxes extents clear_edges y k without
+  pub is_hypothetical : IsHypothetical boxes y k without
   -- the lowest bottom of the floats to clear
   pub bottom : Option Length
   pub is_bottom : IsClearEdge (floats_before boxes places k) (shape_at boxes k).clear bottom
   pub decides : (flag_at y.runs.clears k ≡ true) ↔ NeedsClearance boxes without k bottom
-  pub edge : flag_at y.runs.clears k ≡ true → length_at clear_edges k ≡ lower_of bottom (length_at without.places.marks k)
+  pub edge : flag_at y.runs.clears k ≡ true → length_at y.clear_edges k ≡ lower_of bottom (length_at without.places.marks k)

@@ -49,27 +49,41 @@ float_box b place = record {
   height = b.height;
 }
 
--- for a box with this mark and height, this place in the flow and this one in lines
-abbrev pub border_box : FlowKind → Length → Length → Place → Place → BoxPlace
-border_box (block b) mark height place in_lines = record { corner = record { x = b.x; y = mark }; height = height }
-border_box (lines l) mark height place in_lines = record { corner = record { x = l.block.x; y = mark }; height = height }
-border_box (solid b) mark height place in_lines = record { corner = place; height = b.height }
-border_box (float b) mark height place in_lines = float_box b place
-border_box (line_float b) mark height place in_lines = float_box b in_lines
-border_box inline mark height place in_lines = no_box_place
+-- of its place in the flow and that in lines the one that counts
+abbrev pub own_place : FlowKind → Place → Place → Place
+own_place (block b) place in_lines = place
+own_place (lines l) place in_lines = place
+own_place (solid b) place in_lines = place
+own_place (float b) place in_lines = place
+own_place (line_float b) place in_lines = in_lines
+own_place inline place in_lines = place
 
--- these are the places of the boxes with these marks, heights and spots in the flow
-pub record ArePlacesOf (boxes : List FlowBox) (marks heights : List Length) (places : List Spot) (out : FlowPlacesValue) : Type 0 where
+-- for a box with this mark, height and place
+abbrev pub border_box : FlowKind → Length → Length → Place → BoxPlace
+border_box (block b) mark height place = record { corner = record { x = b.x; y = mark }; height = height }
+border_box (lines l) mark height place = record { corner = record { x = l.block.x; y = mark }; height = height }
+border_box (solid b) mark height place = record { corner = place; height = b.height }
+border_box (float b) mark height place = float_box b place
+border_box (line_float b) mark height place = float_box b place
+border_box inline mark height place = no_box_place
+
+-- the border box of the box at k in a flow
+abbrev pub border_box_in : List FlowBox → Flow → ℕ → BoxPlace
+border_box_in boxes f k =
+    let kind = (box_at boxes k).kind in
+    border_box kind (record { 0 = length_at f.layout.places.marks k }) (record { 0 = length_at f.layout.places.heights k }) (own_place kind (place_at f.places k) (place_in_lines f.places k))
+
+-- these are the places of the boxes in a flow
+pub record ArePlacesOf (boxes : List FlowBox) (f : Flow) (out : FlowPlacesValue) : Type 0 where
   pub count : length out.boxes ≡ length boxes
-  pub each : (k : ℕ) → k < length boxes → box_place_at out.boxes k
-      ≡ border_box (box_at boxes k).kind (record { 0 = length_at marks k }) (record { 0 = length_at heights k }) (place_at places k) (place_in_lines places k)
-  pub lines : out.lines ≡ map (λ p. p.lines.rows) places
+  pub each : (k : ℕ) → k < length boxes → box_place_at out.boxes k ≡ border_box_in boxes f k
+  pub lines : out.lines ≡ map (λ p. p.lines.rows) f.places
 
 -- these are the places of the boxes of a context
 pub record IsFlowOf (boxes : List FlowBox) (out : FlowPlacesValue) : Type 0 where
   pub flow : Flow
   pub is_flow : IsContextFlow boxes flow
-  pub places : ArePlacesOf boxes flow.layout.places.marks flow.layout.places.heights flow.places out
+  pub places : ArePlacesOf boxes flow out
 
 -- corners at most 2^60 units away, and heights of border boxes
 pub record IsNearPlace (p : BoxPlace) : Type 0 where

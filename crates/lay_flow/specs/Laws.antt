@@ -13,17 +13,18 @@ use Rattle.lay_flow.specs.Clearance.{AreFloatPlaces, IsHypothetical, NeedsCleara
 use Rattle.lay_flow.specs.BlockFloats.{Spot, floats_before, shape_at}
 use Rattle.lay_flow.specs.ContextFlow.{Flow, IsContextFlow}
 use Rattle.lay_flow.specs.FlowPlaces.{FlowPlacesValue, IsFlowOf}
-use Rattle.lay_flow.specs.BlockPositions.{Extents}
-use Rattle.lay_flow.specs.BlockLayout.{BlockLayout, IsBlockLayout}
+use Rattle.lay_flow.specs.BlockLayout.{BlockLayout, Extents}
+use Rattle.lay_flow.specs.BlockPositions.{IsBlockLayout}
 
 -- where the boxes with clearance and their clear edges are given, the blocks of a context have one layout and no other
 abbrev pub OneBlockLayout : Type 0
-OneBlockLayout = (boxes : List FlowBox) (extents : Extents) (clear_edges : List Length) (y z : BlockLayout) → IsTree (parents_of boxes) → 0 < length boxes → y.runs.clears ≡ z.runs.clears
-    → IsBlockLayout boxes extents clear_edges y → IsBlockLayout boxes extents clear_edges z → y ≡ z
+OneBlockLayout = (boxes : List FlowBox) (y z : BlockLayout) → IsTree (parents_of boxes) → 0 < length boxes
+    → y.extents ≡ z.extents → y.clear_edges ≡ z.clear_edges → y.runs.clears ≡ z.runs.clears
+    → IsBlockLayout boxes y → IsBlockLayout boxes z → y ≡ z
 
 abbrev pub SomeBlockLayout : Type 0
 SomeBlockLayout = (boxes : List FlowBox) (extents : Extents) (clear_edges : List Length) (clears : List Bool) → IsTree (parents_of boxes) → 0 < length boxes → length clears ≡ length boxes
-    → (y : BlockLayout) × (y.runs.clears ≡ clears) × IsBlockLayout boxes extents clear_edges y
+    → (y : BlockLayout) × (y.extents ≡ extents) × (y.clear_edges ≡ clear_edges) × (y.runs.clears ≡ clears) × IsBlockLayout boxes y
 
 -- a context has one flow
 abbrev pub OneContextFlow : Type 0
@@ -35,17 +36,17 @@ OneFlowOf = (boxes : List FlowBox) (out other : FlowPlacesValue) → IsFlowTree 
 
 -- a box has one hypothetical layout and no other
 abbrev pub OneHypothetical : Type 0
-OneHypothetical = (boxes : List FlowBox) (extents : Extents) (clear_edges : List Length) (y without other : BlockLayout) (k : ℕ) → IsTree (parents_of boxes) → 0 < length boxes
-    → IsHypothetical boxes extents clear_edges y k without → IsHypothetical boxes extents clear_edges y k other → without ≡ other
+OneHypothetical = (boxes : List FlowBox) (y without other : BlockLayout) (k : ℕ) → IsTree (parents_of boxes) → 0 < length boxes
+    → IsHypothetical boxes y k without → IsHypothetical boxes y k other → without ≡ other
 
 abbrev pub SomeHypothetical : Type 0
-SomeHypothetical = (boxes : List FlowBox) (extents : Extents) (clear_edges : List Length) (y : BlockLayout) (k : ℕ) → IsTree (parents_of boxes) → 0 < length boxes
-    → IsBlockLayout boxes extents clear_edges y → (without : BlockLayout) × IsHypothetical boxes extents clear_edges y k without
+SomeHypothetical = (boxes : List FlowBox) (y : BlockLayout) (k : ℕ) → IsTree (parents_of boxes) → 0 < length boxes
+    → IsBlockLayout boxes y → (without : BlockLayout) × IsHypothetical boxes y k without
 
 -- the floats as they stand in the hypothetical layout of a box and those of the flow decide alike whether the box has clearance
 abbrev pub OneTest : Type 0
 OneTest = (boxes : List FlowBox) (f : Flow) (k : ℕ) (without : BlockLayout) (places : List Spot) (bottom other : Option Length) → IsFlowTree boxes → IsContextFlow boxes f → 0 < k → k < length boxes
-    → IsHypothetical boxes f.extents f.clear_edges f.layout k without → AreFloatPlaces boxes without.places.marks places k
+    → IsHypothetical boxes f.layout k without → AreFloatPlaces boxes without.places.marks places k
     → IsClearEdge (floats_before boxes places k) (shape_at boxes k).clear bottom → IsClearEdge (floats_before boxes f.places k) (shape_at boxes k).clear other
     → NeedsClearance boxes without k bottom ↔ NeedsClearance boxes without k other
 

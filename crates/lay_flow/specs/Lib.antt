@@ -3,8 +3,8 @@ pub mod Boxes
 pub mod Children
 pub mod MarginRuns
 pub mod Adjoining
-pub mod BlockPositions
 pub mod BlockLayout
+pub mod BlockPositions
 pub mod BlockSizes
 pub mod Weights
 pub mod FlowBoxes

@@ -1,7 +1,7 @@
 //! Boxes as margins and heights see them.
 
 ghost use Rattle.std.specs.Prelude.{◌≡◌};
-ghost use Rattle.lay_flow.specs.MarginRuns.{block_of, block_with, no_block};
+ghost use Rattle.lay_flow.specs.MarginRuns.{block_of, block_with};
 
 use crate::flow_box::{BlockBox, FlowBox, FlowKind, SolidBox};
 use lay_units::{Len, Unit};

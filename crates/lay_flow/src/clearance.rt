@@ -1,6 +1,6 @@
 //! Clearance: it is decided before the top margin of a box is read, and begins a run (CSS 2.2, 9.5.2).
 
-ghost use Rattle.std.specs.Prelude.{◌≡◌, ◌+◌, ◌<◌, ◌≤◌, ◌⊎◌, true, false, length, slice_index, None, Option, OnOk};
+ghost use Rattle.std.specs.Prelude.{◌≡◌, ◌+◌, ◌<◌, ◌≤◌, ◌⊎◌, true, false, length, None, Option, OnOk};
 ghost use Rattle.lay_units.specs.declared.length.Unit.{Unit};
 ghost use Rattle.lay_floats.specs.ClearEdge.{Clears};
 ghost use Rattle.lay_floats.specs.declared.requests.Clear.TheVariants.{None as clear_none};
@@ -8,7 +8,7 @@ ghost use Rattle.lay_flow.specs.Boxes.{parent_at};
 ghost use Rattle.lay_flow.specs.BlockFloats.{shape_at};
 ghost use Rattle.lay_flow.specs.Clearance.{IsAbove, lower_of};
 ghost use Rattle.lay_flow.specs.Pass.Clears.{HasWaitingFloat, IsAboveFloats, IsEdgeWithout, IsSideToClear};
-ghost use Rattle.lay_flow.specs.Pass.Bounds.{IsEdgeNear, state_of};
+ghost use Rattle.lay_flow.specs.Pass.Bounds.{IsEdgeNear};
 ghost use Rattle.lay_flow.specs.Pass.Known.{IsKnown, IsReadyAt};
 ghost use Rattle.lay_flow.specs.Weights.{weight};
 
@@ -72,7 +72,7 @@ fn clear_floats(child: &ChildAt<'_>, flow: &mut Pass) -> Result<(), NoMemory>
 // The hypothetical edge of the box.
 fn edge_without(child: &ChildAt<'_>, flow: &Pass) -> Unit
     requires { IsKnown child.now.at.boxes.list.now flow.now (parent_at child.now.at.boxes.list.now child.now.at.k) child.now.at.k }
-    ensures edge { IsEdgeWithout child.now.at.boxes.list.now (state_of flow.now) (length flow.now.placing.places.items) flow.now.placing.extents.items child.now.at.k result.0 }
+    ensures edge { IsEdgeWithout child.now.at.boxes.list.now flow.now child.now.at.k result.0 }
     ensures near { IsEdgeNear (weight child.now.at.boxes.list.now child.now.at.k) result.0 }
 {
     match flow.start {
@@ -151,7 +151,7 @@ fn begin_cleared(child: &ChildAt<'_>, flow: &mut Pass, hypothetical: Unit) -> Re
     requires flows { (shape_at child.now.at.boxes.list.now child.now.at.k).float ≡ None }
     requires settled { length flow.old.placing.places.items ≡ flow.old.first }
     requires known { IsKnown child.now.at.boxes.list.now flow.old (parent_at child.now.at.boxes.list.now child.now.at.k) child.now.at.k }
-    requires edge { IsEdgeWithout child.now.at.boxes.list.now (state_of flow.old) (length flow.old.placing.places.items) flow.old.placing.extents.items child.now.at.k hypothetical.0 }
+    requires edge { IsEdgeWithout child.now.at.boxes.list.now flow.old child.now.at.k hypothetical.0 }
     requires near { IsEdgeNear (weight child.now.at.boxes.list.now child.now.at.k) hypothetical.0 }
     requires decides { HasWaitingFloat child.now.at.boxes.list.now flow.old.first child.now.at.k ⊎ IsAboveFloats flow.old.placing.floats (shape_at child.now.at.boxes.list.now child.now.at.k).clear hypothetical.0 }
     ensures { OnOk result (IsReadyAt child.now.at.boxes.list.now flow.new child.now.at.k) }

@@ -1,6 +1,6 @@
 //! The places of the boxes of a context, in one pass over their margins in document order.
 
-ghost use Rattle.std.specs.Prelude.{◌≡◌, ℕ, ◌+◌, ◌-◌, ◌<◌, ◌≤◌, [], length, slice_index, replicate, IfOk, OnOk};
+ghost use Rattle.std.specs.Prelude.{◌≡◌, ◌+◌, ◌-◌, ◌<◌, ◌≤◌, [], length, replicate, IfOk, OnOk};
 ghost use Rattle.lay_flow.specs.Boxes.{parent_at};
 ghost use Rattle.lay_flow.specs.Lengths.{no_length};
 ghost use Rattle.lay_flow.specs.Pass.Bounds.{AreBoxHeights, AreNear};

@@ -1,6 +1,6 @@
 //! The places of the boxes of a block formatting context.
 
-ghost use Rattle.std.specs.Prelude.{◌≡◌, length};
+ghost use Rattle.std.specs.Prelude.{◌≡◌};
 ghost use Rattle.lay_flow.specs.FlowPlaces.{AreNearPlaces, AreNearRows};
 
 use lay_floats::Place;

@@ -1,6 +1,6 @@
 //! The steps of the pass: a box is opened or closed, and its top or bottom margin is read.
 
-ghost use Rattle.std.specs.Prelude.{◌≡◌, ◌+◌, ◌<◌, ◌≤◌, ◌&&◌, not, true, false, length, slice_index, OnOk};
+ghost use Rattle.std.specs.Prelude.{◌≡◌, ◌+◌, ◌<◌, ◌≤◌, ◌&&◌, not, true, false, length, OnOk};
 ghost use Rattle.lay_flow.specs.Boxes.{parent_at};
 ghost use Rattle.lay_flow.specs.MarginRuns.{block_at, may_collapse_through, may_join_bottoms, parts_tops};
 ghost use Rattle.lay_flow.specs.Pass.Bounds.{is_barred, is_hanging, state_of};

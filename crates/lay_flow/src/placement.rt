@@ -1,16 +1,14 @@
 //! Floats, solid boxes and lines find their places, in document order, once their marks are known.
 
-ghost use Rattle.std.specs.Prelude.{◌≡◌, ℕ, ◌+◌, ◌-ℤ◌, ◌+ℤ◌, ◌<◌, ◌≤◌, ◌++◌, ◌∷◌, [], All, length, pos, true, false, IfOk, OnOk, Some, None};
+ghost use Rattle.std.specs.Prelude.{◌≡◌, ℕ, ◌+◌, ◌-ℤ◌, ◌+ℤ◌, ◌<◌, ◌≤◌, ◌++◌, ◌∷◌, [], All, length, pos, true, IfOk, OnOk, Some};
 ghost use Rattle.std.specs.Int.{int_max};
 ghost use Rattle.lay_floats.specs.Within.{BoxWithin, IsWithin};
 ghost use Rattle.lay_lines.specs.Lines.{AreLines, LinesWithin, growth, lines_of};
 ghost use Rattle.lay_flow.specs.BlockFloats.{ceiling, content_of, float_request, line_content_of, solid_request, no_place, shape_at};
-ghost use Rattle.lay_flow.specs.BlockPositions.{is_lines, is_placed, is_solid};
-ghost use Rattle.lay_flow.specs.Boxes.{box_at};
+ghost use Rattle.lay_flow.specs.BlockPositions.{is_lines, is_solid};
 ghost use Rattle.lay_flow.specs.Weights.{weight};
 ghost use Rattle.lay_flow.specs.FlowBoxes.{KindFits};
 ghost use Rattle.lay_flow.specs.MarginRuns.{block_at, block_of};
-ghost use Rattle.lay_units.specs.Units.{IsPosition};
 ghost use Rattle.lay_flow.specs.Pass.Knows.{AreExtentsKept};
 ghost use Rattle.lay_flow.specs.Pass.Known.{ArePlaced, GoesOn};
 ghost use Rattle.lay_flow.specs.Pass.Placed.{IsCeilingNear};
@@ -47,7 +45,8 @@ pub(crate) fn place_up_to(
     requires within { m ≤ length of.now.boxes.list.now }
     requires order { length placing.old.places.items ≤ m }
     requires known { ArePlaced of.now.boxes.list.now of.now.marks.now placing.old (length placing.old.places.items) }
-    ensures placed { OnOk result (GoesOn of.now.boxes.list.now of.now.marks.now placing.old placing.new (length placing.old.places.items) m) }
+    ensures placed { OnOk result (GoesOn of.now.boxes.list.now of.now.marks.now placing.old placing.new) }
+    ensures count { OnOk result (length placing.new.places.items ≡ m) }
     ensures kept { OnOk result (AreExtentsKept of.now.boxes.list.now (length placing.old.places.items) placing.old.extents.items placing.new.extents.items) }
 {
     for k in placing.places.len()..m {
@@ -63,7 +62,8 @@ pub(crate) fn place_up_to(
 
 fn place_one(of: &MarkedBox<'_>, placing: &mut Placing) -> Result<(), NoMemory>
     requires known { ArePlaced of.now.at.boxes.list.now of.now.marks.now placing.old of.now.at.k }
-    ensures placed { OnOk result (GoesOn of.now.at.boxes.list.now of.now.marks.now placing.old placing.new of.now.at.k (of.now.at.k + 1)) }
+    ensures placed { OnOk result (GoesOn of.now.at.boxes.list.now of.now.marks.now placing.old placing.new) }
+    ensures count { OnOk result (length placing.new.places.items ≡ of.now.at.k + 1) }
     ensures kept { OnOk result (AreExtentsKept of.now.at.boxes.list.now of.now.at.k placing.old.extents.items placing.new.extents.items) }
 {
     if let Some(side) = of.at.side() {
@@ -86,7 +86,8 @@ fn place_one(of: &MarkedBox<'_>, placing: &mut Placing) -> Result<(), NoMemory>
 fn place_float(of: &MarkedBox<'_>, placing: &mut Placing, side: Side) -> Result<(), NoMemory>
     requires float { (shape_at of.now.at.boxes.list.now of.now.at.k).float ≡ Some side }
     requires known { ArePlaced of.now.at.boxes.list.now of.now.marks.now placing.old of.now.at.k }
-    ensures placed { OnOk result (GoesOn of.now.at.boxes.list.now of.now.marks.now placing.old placing.new of.now.at.k (of.now.at.k + 1)) }
+    ensures placed { OnOk result (GoesOn of.now.at.boxes.list.now of.now.marks.now placing.old placing.new) }
+    ensures count { OnOk result (length placing.new.places.items ≡ of.now.at.k + 1) }
     ensures kept { OnOk result (placing.new.extents.items ≡ placing.old.extents.items) }
 {
     let top = ceiling(of);
@@ -99,7 +100,8 @@ fn place_float(of: &MarkedBox<'_>, placing: &mut Placing, side: Side) -> Result<
 fn place_solid(of: &MarkedBox<'_>, placing: &mut Placing) -> Result<(), NoMemory>
     requires solid { is_solid (block_at of.now.at.boxes.list.now of.now.at.k).inside ≡ true }
     requires known { ArePlaced of.now.at.boxes.list.now of.now.marks.now placing.old of.now.at.k }
-    ensures placed { OnOk result (GoesOn of.now.at.boxes.list.now of.now.marks.now placing.old placing.new of.now.at.k (of.now.at.k + 1)) }
+    ensures placed { OnOk result (GoesOn of.now.at.boxes.list.now of.now.marks.now placing.old placing.new) }
+    ensures count { OnOk result (length placing.new.places.items ≡ of.now.at.k + 1) }
     ensures kept { OnOk result (AreExtentsKept of.now.at.boxes.list.now of.now.at.k placing.old.extents.items placing.new.extents.items) }
 {
     let shape = of.at.shape();
@@ -116,7 +118,8 @@ fn place_solid(of: &MarkedBox<'_>, placing: &mut Placing) -> Result<(), NoMemory
 fn place_lines(of: &MarkedBox<'_>, placing: &mut Placing) -> Result<(), NoMemory>
     requires lines { is_lines (block_at of.now.at.boxes.list.now of.now.at.k).inside ≡ true }
     requires known { ArePlaced of.now.at.boxes.list.now of.now.marks.now placing.old of.now.at.k }
-    ensures placed { OnOk result (GoesOn of.now.at.boxes.list.now of.now.marks.now placing.old placing.new of.now.at.k (of.now.at.k + 1)) }
+    ensures placed { OnOk result (GoesOn of.now.at.boxes.list.now of.now.marks.now placing.old placing.new) }
+    ensures count { OnOk result (length placing.new.places.items ≡ of.now.at.k + 1) }
     ensures kept { OnOk result (AreExtentsKept of.now.at.boxes.list.now of.now.at.k placing.old.extents.items placing.new.extents.items) }
 {
     let edge = of.at.block().edge_top;

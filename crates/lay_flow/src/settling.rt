@@ -2,8 +2,6 @@
 
 ghost use Rattle.std.specs.Prelude.{◌≡◌, ◌+◌, ◌<◌, ◌≤◌, length, List};
 ghost use Rattle.lay_units.specs.declared.length.Unit.{Unit};
-ghost use Rattle.lay_doc.specs.Tree.{IsTree};
-ghost use Rattle.lay_flow.specs.Boxes.{parents_of};
 ghost use Rattle.lay_flow.specs.Pass.State.{Settled};
 
 use crate::boxes::{BoxAt, Boxes};
@@ -30,7 +28,7 @@ impl EndedRun<'_> {
     /// earlier run keep the mark that they have.
     pub(crate) fn settle(&self, marks: &mut Vec<Unit>)
         requires { length marks.old.items ≡ length self.now.boxes.list.now }
-        ensures { Settled self.now.boxes.list.now self.now.through.now marks.old.items marks.new.items self.now.first self.now.end self.now.mark.0 }
+        ensures { Settled self.now.boxes.list.now (record { through = self.now.through.now; first = self.now.first; next = self.now.end; mark = self.now.mark.0 }) marks.old.items marks.new.items }
     {
         for k in self.first..self.end {
             self.settle_one(marks, k);
@@ -41,7 +39,8 @@ impl EndedRun<'_> {
         requires marks { length marks.old.items ≡ length self.now.boxes.list.now }
         requires order { self.now.first ≤ k }
         requires within { k < self.now.end }
-        ensures { (before : List Unit) → Settled self.now.boxes.list.now self.now.through.now before marks.old.items self.now.first k self.now.mark.0 → Settled self.now.boxes.list.now self.now.through.now before marks.new.items self.now.first (k + 1) self.now.mark.0 }
+        ensures { (before : List Unit) → Settled self.now.boxes.list.now (record { through = self.now.through.now; first = self.now.first; next = k; mark = self.now.mark.0 }) before marks.old.items
+            → Settled self.now.boxes.list.now (record { through = self.now.through.now; first = self.now.first; next = k + 1; mark = self.now.mark.0 }) before marks.new.items }
     {
         if !flag_at(self.through, k) {
             write_at(marks, k, self.mark);

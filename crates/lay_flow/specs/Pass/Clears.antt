@@ -1,5 +1,5 @@
 -- What a pass over a context decides before it reads the top margin of a box with `clear`.
-use Rattle.std.specs.Prelude.{ℕ, ◌≡◌, ◌<◌, ◌≤◌, ℤ, false, List, Option, Some}
+use Rattle.std.specs.Prelude.{ℕ, ◌≡◌, ◌<◌, ◌≤◌, ℤ, false, List, length, Option, Some}
 use Rattle.lay_flow.specs.declared.flow_box.FlowBox.{FlowBox}
 use Rattle.lay_units.specs.declared.length.Unit.{Unit as Length}
 use Rattle.lay_floats.specs.declared.placed.Placed.{Placed}
@@ -10,9 +10,10 @@ use Rattle.lay_flow.specs.Lengths.{length_at}
 use Rattle.lay_flow.specs.Children.{flag_at}
 use Rattle.lay_flow.specs.BlockFloats.{shape_at}
 use Rattle.lay_flow.specs.Clearance.{IsAbove}
-use Rattle.lay_flow.specs.BlockPositions.{Extents}
 use Rattle.lay_flow.specs.BlockLayout.{BlockLayout}
-use Rattle.lay_flow.specs.Pass.State.{PassState}
+use Rattle.lay_flow.specs.declared.pass.Pass.{Pass}
+use Rattle.lay_flow.specs.Pass.State.{clearances_of}
+use Rattle.lay_flow.specs.Pass.Bounds.{state_of}
 use Rattle.lay_flow.specs.Pass.Knows.{MayBe, IsCandidate}
 
 -- a float of a side to clear
@@ -27,9 +28,9 @@ HasWaitingFloat boxes first k = (j : ℕ) × (first ≤ j) × (j < k) × IsSideT
 abbrev pub IsAboveFloats : List Placed → Clear → ℤ → Type 0
 IsAboveFloats floats clear hypothetical = (bottom : Option Length) × IsClearEdge floats clear bottom × IsAbove hypothetical bottom
 
--- the mark of the box at k in each layout that the blocks may have with the depths known of the first n boxes, but without
--- clearance from the box at k on
-abbrev pub IsEdgeWithout : List FlowBox → PassState → ℕ → List Length → ℕ → ℤ → Type 0
-IsEdgeWithout boxes now n known k edge =
-    (extents : Extents) (clear_edges : List Length) (w : BlockLayout) → MayBe boxes n known extents → IsCandidate boxes extents clear_edges w now.clears now.clear_edges k → ((j : ℕ) → k ≤ j → flag_at w.runs.clears j ≡ false)
+-- the mark of the box at k in each layout that the blocks may have with the depths that the pass knows, but without clearance
+-- from the box at k on
+abbrev pub IsEdgeWithout : List FlowBox → Pass → ℕ → ℤ → Type 0
+IsEdgeWithout boxes flow k edge =
+    (w : BlockLayout) → MayBe boxes (length flow.placing.places.items) flow.placing.extents.items w.extents → IsCandidate boxes w (clearances_of (state_of flow)) k → ((j : ℕ) → k ≤ j → flag_at w.runs.clears j ≡ false)
     → edge ≡ length_at w.places.marks k

@@ -14,7 +14,7 @@ use Rattle.lay_flow.specs.BlockPositions.{is_solid}
 use Rattle.lay_flow.specs.BlockFloats.{Spot, no_place}
 use Rattle.lay_flow.specs.BlockSizes.{IsBoxSize, IsNear}
 use Rattle.lay_flow.specs.ContextFlow.{AreContextPlaces}
-use Rattle.lay_flow.specs.FlowPlaces.{AreNearRows, border_box, box_place_at, place_or}
+use Rattle.lay_flow.specs.FlowPlaces.{AreNearRows, border_box, box_place_at, own_place, place_or}
 
 -- a place at most 2^59 + 2^58 units away
 pub record IsFarPlace (p : Place) : Type 0 where
@@ -59,4 +59,4 @@ pub record AreNearColumns (boxes : List FlowBox) (out : FlowColumns) : Type 0 wh
 pub record AreBorderBoxes (boxes : List FlowBox) (columns : FlowColumns) (out : List BoxPlace) : Type 0 where
   pub count : length out ≡ length boxes
   pub each : (k : ℕ) → k < length boxes → box_place_at out k
-      ≡ border_box (box_at boxes k).kind (record { 0 = length_at columns.tops.items k }) (record { 0 = length_at columns.heights.items k }) (corner_at columns.places.items k) (corner_at columns.corners.items k)
+      ≡ border_box (box_at boxes k).kind (record { 0 = length_at columns.tops.items k }) (record { 0 = length_at columns.heights.items k }) (own_place (box_at boxes k).kind (corner_at columns.places.items k) (corner_at columns.corners.items k))

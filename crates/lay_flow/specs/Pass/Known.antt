@@ -1,10 +1,11 @@
 -- What the code of a pass knows at each place: its columns have each placement but for the floats that its lines leave.
-use Rattle.std.specs.Prelude.{ℕ, ◌≡◌, List, map}
+use Rattle.std.specs.Prelude.{ℕ, ◌≡◌, List, length, map}
 use Rattle.lay_units.specs.declared.length.Unit.{Unit as Length}
 use Rattle.lay_flow.specs.declared.flow_box.FlowBox.{FlowBox}
 use Rattle.lay_flow.specs.declared.pass.Pass.{Pass}
 use Rattle.lay_flow.specs.declared.placement.Placing.{Placing as PlacingState}
 use Rattle.lay_flow.specs.BlockFloats.{Spot}
+use Rattle.lay_flow.specs.Pass.MarginPlace.{margin_place}
 use Rattle.lay_flow.specs.Pass.Bounds.{state_of}
 use Rattle.lay_flow.specs.ContextFlow.{AreContextPlaces}
 use Rattle.lay_flow.specs.Pass.Placed.{AreCornersNear, Placing, PlacesTo}
@@ -25,22 +26,22 @@ pub record ArePlaced (boxes : List FlowBox) (marks : List Length) (now : Placing
   pub are : AreSpots now places
   pub to : PlacesTo boxes marks (placing_of now places) n
 
--- so are those before the one at m, and what was known before is kept
-pub record ArePlacedOn (boxes : List FlowBox) (marks : List Length) (now : PlacingState) (before : List Spot) (m : ℕ) : Type 0 where
+-- as many boxes are placed as have an entry, and what was known before is kept
+pub record ArePlacedOn (boxes : List FlowBox) (marks : List Length) (now : PlacingState) (before : List Spot) : Type 0 where
   pub places : List Spot
   pub are : AreSpots now places
-  pub to : PlacesTo boxes marks (placing_of now places) m
+  pub to : PlacesTo boxes marks (placing_of now places) (length now.places.items)
   pub same : ArePlacesKept before places
 
--- from each way in which the boxes before the one at n may be placed it goes on to that at m
-abbrev pub GoesOn : List FlowBox → List Length → PlacingState → PlacingState → ℕ → ℕ → Type 0
-GoesOn boxes marks old new n m = (places : List Spot) → AreSpots old places → PlacesTo boxes marks (placing_of old places) n → ArePlacedOn boxes marks new places m
+-- from each way in which the boxes may be placed that have an entry it goes on to more
+abbrev pub GoesOn : List FlowBox → List Length → PlacingState → PlacingState → Type 0
+GoesOn boxes marks old new = (places : List Spot) → AreSpots old places → PlacesTo boxes marks (placing_of old places) (length old.places.items) → ArePlacedOn boxes marks new places
 
 -- the pass is at the place (p, m)
 pub record IsKnown (boxes : List FlowBox) (flow : Pass) (p m : ℕ) : Type 0 where
   pub places : List Spot
   pub are : AreSpots flow.placing places
-  pub knows : Knows boxes (state_of flow) (placing_of flow.placing places) p m
+  pub knows : Knows boxes (state_of flow) (placing_of flow.placing places) (margin_place p m)
 
 -- the pass is before the top margin of the box at k
 pub record IsReadyAt (boxes : List FlowBox) (flow : Pass) (k : ℕ) : Type 0 where

@@ -4,25 +4,23 @@
 use Rattle.std.specs.Prelude.{ℕ, ◌≡◌, ◌<◌, ◌≤◌, ◌+◌, not, nat_lt, true, false, ℤ, ◌+ℤ◌, List, length}
 use Rattle.lay_flow.specs.declared.flow_box.FlowBox.{FlowBox}
 use Rattle.lay_flow.specs.Boxes.{parent_at}
-use Rattle.lay_units.specs.declared.length.Unit.{Unit as Length}
 use Rattle.lay_margins.specs.StrutValue.{StrutValue}
 use Rattle.lay_margins.specs.Collapse.{Holds, collapse}
 use Rattle.lay_flow.specs.declared.hypothetical_edge.Outset.{Outset}
 use Rattle.lay_flow.specs.Children.{flag_at}
 use Rattle.lay_flow.specs.Lengths.{length_at}
-use Rattle.lay_flow.specs.Pass.Gathered.{IsAround}
-use Rattle.lay_flow.specs.Pass.MarginPlace.{IsPlace}
+use Rattle.lay_flow.specs.Pass.MarginPlace.{IsAround, IsPlace, MarginPlace, margin_place}
 use Rattle.lay_flow.specs.MarginRuns.{margins, has_top, run_before}
-use Rattle.lay_flow.specs.BlockPositions.{Extents, start_before}
-use Rattle.lay_flow.specs.BlockLayout.{BlockLayout, IsBlockLayout}
+use Rattle.lay_flow.specs.BlockLayout.{BlockLayout}
+use Rattle.lay_flow.specs.BlockPositions.{IsBlockLayout, start_before}
 use Rattle.lay_flow.specs.Pass.Struts.{StrutFits}
 
--- in this layout neither the box at k nor a later one has clearance, the strut holds the margins of the run before the top
--- margin of the box, and that run has the top margins of the boxes from `first` on
-pub record ComesTo (boxes : List FlowBox) (w : BlockLayout) (strut : StrutValue) (first k : ℕ) : Type 0 where
-  pub later : (j : ℕ) → k ≤ j → flag_at w.runs.clears j ≡ false
-  pub strut_holds : Holds strut (margins (run_before boxes w.runs (parent_at boxes k) k))
-  pub tops : (j : ℕ) → j < k → has_top j (run_before boxes w.runs (parent_at boxes k) k) ≡ not (nat_lt j first)
+-- in this layout neither the box nor a later one has clearance, the strut holds the margins of the run before the top margin
+-- of the box, and that run has the top margins of the boxes from `first` on
+pub record ComesTo (boxes : List FlowBox) (w : BlockLayout) (from : Outset) : Type 0 where
+  pub later : (j : ℕ) → from.k ≤ j → flag_at w.runs.clears j ≡ false
+  pub strut_holds : Holds from.strut (margins (run_before boxes w.runs (parent_at boxes from.k) from.k))
+  pub tops : (j : ℕ) → j < from.k → has_top j (run_before boxes w.runs (parent_at boxes from.k) from.k) ≡ not (nat_lt j from.first)
 
 -- of the box at k and the boxes round it with their top margins in the run, this is the outermost
 pub record IsOutermost (boxes : List FlowBox) (first k outermost : ℕ) : Type 0 where
@@ -39,39 +37,46 @@ pub record IsOutset (boxes : List FlowBox) (from : Outset) : Type 0 where
   pub most : from.first ≤ from.k
   pub is_outermost : IsOutermost boxes from.first from.k from.outermost
 
--- the box at `holder` is open and stands as high as the one at k, which is in it
-pub record IsHolder (boxes : List FlowBox) (w : BlockLayout) (k outermost p m holder : ℕ) : Type 0 where
-  pub least : outermost ≤ holder
-  pub most : holder ≤ k
-  pub above : holder ≤ p
-  pub inside : IsAround boxes holder m
-  pub mark : length_at w.places.marks k ≡ length_at w.places.marks holder
+-- a box that is open at a place, which has the box of the look ahead in it and stands as high as that
+pub record Holder (boxes : List FlowBox) (w : BlockLayout) (from : Outset) (at : MarginPlace) : Type 0 where
+  pub box : ℕ
+  pub least : from.outermost ≤ box
+  pub most : box ≤ from.k
+  pub above : box ≤ at.inner
+  pub inside : IsAround boxes box at.next
+  pub mark : length_at w.places.marks from.k ≡ length_at w.places.marks box
 
--- the strut holds the margins of the run that comes to the place (p, m)
-pub record Reads (boxes : List FlowBox) (w : BlockLayout) (k outermost : ℕ) (strut : StrutValue) (p m : ℕ) : Type 0 where
-  pub strut_holds : Holds strut (margins (run_before boxes w.runs p m))
-  pub own : outermost < m → has_top outermost (run_before boxes w.runs p m) ≡ true
-  pub holder : k < m → (c : ℕ) × IsHolder boxes w k outermost p m c
+-- how far a look ahead came: the margins that it read, and the place
+pub record Reading : Type 0 where
+  pub strut : StrutValue
+  pub at : MarginPlace
+
+abbrev pub reading : StrutValue → ℕ → ℕ → Reading
+reading strut p m = record { strut = strut; at = margin_place p m }
+
+-- the strut holds the margins of the run that comes to the place
+pub record Reads (boxes : List FlowBox) (w : BlockLayout) (from : Outset) (so_far : Reading) : Type 0 where
+  pub strut_holds : Holds so_far.strut (margins (run_before boxes w.runs so_far.at.inner so_far.at.next))
+  pub own : from.outermost < so_far.at.next → has_top from.outermost (run_before boxes w.runs so_far.at.inner so_far.at.next) ≡ true
+  pub holder : from.k < so_far.at.next → Holder boxes w from so_far.at
 
 -- the strut holds all margins that there are between the start of the run and the top border edge of the box at k
 pub record ReadsAll (boxes : List FlowBox) (w : BlockLayout) (k : ℕ) (strut : StrutValue) : Type 0 where
   pub all : List ℤ
   pub strut_holds : Holds strut all
-  pub mark : length_at w.places.marks k ≡ start_before boxes w.runs w.places (parent_at boxes k) k +ℤ collapse all
+  pub mark : length_at w.places.marks k ≡ start_before boxes w (parent_at boxes k) k +ℤ collapse all
 
--- the look ahead came to the place (p, m)
-pub record IsReading (boxes : List FlowBox) (from : Outset) (strut : StrutValue) (p m : ℕ) : Type 0 where
-  pub fits : StrutFits strut
-  pub place : IsPlace boxes p m
-  pub begun : from.k ≤ m
-  pub first_place : m ≡ from.k → p ≡ parent_at boxes from.k
-  pub above : from.outermost < m → from.outermost ≤ p
-  pub inside : from.outermost < m → IsAround boxes from.outermost m
-  pub reads : (extents : Extents) (clear_edges : List Length) (w : BlockLayout) → IsBlockLayout boxes extents clear_edges w → ComesTo boxes w from.strut from.first from.k
-      → Reads boxes w from.k from.outermost strut p m
+-- the look ahead came so far
+pub record IsReading (boxes : List FlowBox) (from : Outset) (so_far : Reading) : Type 0 where
+  pub fits : StrutFits so_far.strut
+  pub place : IsPlace boxes so_far.at.inner so_far.at.next
+  pub begun : from.k ≤ so_far.at.next
+  pub first_place : so_far.at.next ≡ from.k → so_far.at.inner ≡ parent_at boxes from.k
+  pub above : from.outermost < so_far.at.next → from.outermost ≤ so_far.at.inner
+  pub inside : from.outermost < so_far.at.next → IsAround boxes from.outermost so_far.at.next
+  pub reads : (w : BlockLayout) → IsBlockLayout boxes w → ComesTo boxes w from → Reads boxes w from so_far
 
 -- the look ahead came to its end
 pub record HasRead (boxes : List FlowBox) (from : Outset) (strut : StrutValue) : Type 0 where
   pub fits : StrutFits strut
-  pub reads_all : (extents : Extents) (clear_edges : List Length) (w : BlockLayout) → IsBlockLayout boxes extents clear_edges w → ComesTo boxes w from.strut from.first from.k
-      → ReadsAll boxes w from.k strut
+  pub reads_all : (w : BlockLayout) → IsBlockLayout boxes w → ComesTo boxes w from → ReadsAll boxes w from.k strut

@@ -1,7 +1,7 @@
 use Rattle.std.proofs.Common.{◌≡◌, ℕ, ap, ◌∙◌, length, ◌+◌}
 use Rattle.lay_flow.specs.Boxes.{box_at}
 use Rattle.lay_flow.specs.Pass.Columns.{corner_at}
-use Rattle.lay_flow.specs.FlowPlaces.{IsNearPlace, border_box}
+use Rattle.lay_flow.specs.FlowPlaces.{IsNearPlace, border_box, own_place}
 use Rattle.lay_flow.specs.Lengths.{length_at}
 use Rattle.lay_flow.proofs.BorderBoxSteps.{one_longer, one_more}
 use Rattle.lay_flow.proofs.border_boxes.border_boxes.Goals as goal
@@ -13,7 +13,7 @@ loop-k-preserved c =
     let columns = c.args.columns.now in
     record {
       count = ap length ok.items ∙ one_longer c.loop-k.places.items c.border_box_at.result ∙ ap (λ (n : ℕ). n + 1) was.count;
-      each = rw ok.items (one_more (λ k p. p ≡ border_box (box_at c.args.boxes.now.list.now k).kind (record { 0 = length_at columns.tops.items k }) (record { 0 = length_at columns.heights.items k }) (corner_at columns.places.items k) (corner_at columns.corners.items k))
+      each = rw ok.items (one_more (λ k p. p ≡ border_box (box_at c.args.boxes.now.list.now k).kind (record { 0 = length_at columns.tops.items k }) (record { 0 = length_at columns.heights.items k }) (own_place (box_at c.args.boxes.now.list.now k).kind (corner_at columns.places.items k) (corner_at columns.corners.items k)))
           c.loop-k.places.items c.loop-k.k c.border_box_at.result was.count was.each c.border_box_at.ensures.value);
       near = rw ok.items (one_more (λ k p. IsNearPlace p) c.loop-k.places.items c.loop-k.k c.border_box_at.result was.count was.near c.border_box_at.ensures.near);
     }

@@ -13,7 +13,7 @@ use Rattle.lay_flow.specs.Weights.{weight}
 use Rattle.lay_flow.proofs.ClearSteps.{ready_cleared}
 use Rattle.lay_flow.proofs.PassFits.{begins_near, marks_near}
 use Rattle.lay_flow.specs.Pass.Known.{ArePlacedOn, IsReadyAt}
-use Rattle.lay_flow.proofs.PlacedOn.{edge_known, known_placed, known_placed_on, places_count}
+use Rattle.lay_flow.proofs.PlacedOn.{edge_known, known_placed, known_placed_on, places_count, placed_to}
 use Rattle.lay_flow.proofs.PlaceSteps.{lower_near}
 use Rattle.lay_flow.proofs.RunReach.{RunEnds}
 use Rattle.lay_flow.proofs.SoFar.{Wrote}
@@ -52,9 +52,9 @@ returns c =
     let settles = rw c.deref.ensures.value at c.settle.ensures in
     let f = known.fits in
     let done = c.in_ok-place_up_to.ensures {u = tt} in
-    let there = known_placed_on c.args.child.now.at.boxes.list.now c.args.child.now.at.boxes.are.is_tree.tree c.args.flow.now _ _ c.requires.known c.settle.new.marks.items (rw c.deref.ensures.value at c.settle.ensures).before c.place_up_to.new.placing c.args.child.now.at.k (rw c.deref-2.ensures.value at done.placed) in
-    let go : ArePlacedOn c.args.child.now.at.boxes.list.now c.settle.new.marks.items c.place_up_to.new.placing c.requires.known.places c.args.child.now.at.k → IsReadyAt c.args.child.now.at.boxes.list.now (record c.args.flow.now { marks = c.settle.new.marks; clear_edges = c.write_edge.new.clear_edges; start = hangs_from c.lower_of-edge.result; strut = c.no_margin-flow.result; first = c.args.child.now.at.k; placing = c.place_up_to.new.placing }) c.args.child.now.at.k = λ goes.
-    let placed = goes.to in
+    let there = known_placed_on c.args.child.now.at.boxes.list.now c.args.child.now.at.boxes.are.is_tree.tree c.args.flow.now _ _ c.requires.known c.settle.new.marks.items (rw c.deref.ensures.value at c.settle.ensures).before c.place_up_to.new.placing (rw c.deref-2.ensures.value at done.placed) in
+    let go : ArePlacedOn c.args.child.now.at.boxes.list.now c.settle.new.marks.items c.place_up_to.new.placing c.requires.known.places → IsReadyAt c.args.child.now.at.boxes.list.now (record c.args.flow.now { marks = c.settle.new.marks; clear_edges = c.write_edge.new.clear_edges; start = hangs_from c.lower_of-edge.result; strut = c.no_margin-flow.result; first = c.args.child.now.at.k; placing = c.place_up_to.new.placing }) c.args.child.now.at.k = λ goes.
+    let placed = placed_to _ _ _ _ goes _ done.count in
     let edge = c.lower_of-edge.result in
     let is_bottom = subst (λ (s : Clear). IsClearEdge c.place_up_to.new.placing.floats s c.clear_edge-bottom.result) c.clear.ensures c.clear_edge-bottom.ensures in
     let near = subst (IsEdgeNear (weight c.args.child.now.at.boxes.list.now k)) (sym c.lower_of-edge.ensures) (lower_near (weight c.args.child.now.at.boxes.list.now k) c.place_up_to.new.placing.floats _ c.clear_edge-bottom.result c.args.hypothetical.0 placed.within is_bottom c.requires.near) in
@@ -67,7 +67,7 @@ returns c =
       places = goes.places;
       are = goes.are;
       ready = ready_cleared c.args.child.now.at.boxes.list.now c.args.child.now.at.boxes.are.is_tree.tree c.args.child.now.at.boxes.are.is_tree (state_of old) (placing_of old.placing c.requires.known.places) k c.args.child.now.positive within known
-          c.args.hypothetical.0 c.requires.flows (places_count old.placing c.requires.known.places c.requires.known.are ∙ c.requires.settled) (edge_known c.args.child.now.at.boxes.list.now (state_of old) old.placing c.requires.known.places c.requires.known.are k c.args.hypothetical.0 c.requires.edge) c.requires.decides
+          c.args.hypothetical.0 c.requires.flows (places_count old.placing c.requires.known.places c.requires.known.are ∙ c.requires.settled) (edge_known c.args.child.now.at.boxes.list.now old c.requires.known.places c.requires.known.are k c.args.hypothetical.0 c.requires.edge) c.requires.decides
           _ _ _ (placing_of c.place_up_to.new.placing goes.places) c.end_of-end.result.0 edge.0 c.clear_edge-bottom.result c.no_margin-flow.result.strut
           ends c.end_of-end.ensures.near settles placed (subst (λ (n : ℕ). AreExtentsKept c.args.child.now.at.boxes.list.now n old.placing.extents.items c.place_up_to.new.placing.extents.items) (sym (places_count old.placing c.requires.known.places c.requires.known.are)) done.kept) goes.same is_bottom c.lower_of-edge.ensures near flag wrote c.no_margin-flow.result.fits c.no_margin-flow.ensures;
     } in

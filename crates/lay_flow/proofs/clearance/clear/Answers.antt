@@ -1,6 +1,6 @@
 use Rattle.std.proofs.Common.{ℕ, refl, sym, ◌∙◌, subst}
 use Rattle.lay_flow.proofs.ClearSteps.{knows_placed, ready_unasked}
-use Rattle.lay_flow.proofs.PlacedOn.{known_placed, known_placed_on, places_count}
+use Rattle.lay_flow.proofs.PlacedOn.{known_placed, known_placed_on, places_count, placed_to}
 use Rattle.lay_flow.specs.Boxes.{parent_at}
 use Rattle.lay_flow.specs.Pass.Bounds.{state_of}
 use Rattle.lay_flow.specs.Pass.Known.{ArePlacedOn, IsKnown, placing_of}
@@ -28,9 +28,9 @@ clear_floats-requires-clause-known c =
     let early = known.early in let few = f.first_most in let within = f.within in
     let old = c.args.flow.now in
     let done = c.in_ok-place_up_to.ensures {u = tt} in
-    let there = known_placed_on c.args.child.now.at.boxes.list.now c.args.child.now.at.boxes.are.is_tree.tree c.args.flow.now _ _ c.requires old.marks.items (λ j lt. refl) c.place_up_to.new.placing old.first (rw c.deref.ensures.value at done.placed) in
-    let go : ArePlacedOn c.args.child.now.at.boxes.list.now old.marks.items c.place_up_to.new.placing c.requires.places old.first → IsKnown c.args.child.now.at.boxes.list.now (record c.args.flow.now { placing = c.place_up_to.new.placing }) (parent_at c.args.child.now.at.boxes.list.now c.args.child.now.at.k) c.args.child.now.at.k = λ goes.
-    let placed = goes.to in
+    let there = known_placed_on c.args.child.now.at.boxes.list.now c.args.child.now.at.boxes.are.is_tree.tree c.args.flow.now _ _ c.requires old.marks.items (λ j lt. refl) c.place_up_to.new.placing (rw c.deref.ensures.value at done.placed) in
+    let go : ArePlacedOn c.args.child.now.at.boxes.list.now old.marks.items c.place_up_to.new.placing c.requires.places → IsKnown c.args.child.now.at.boxes.list.now (record c.args.flow.now { placing = c.place_up_to.new.placing }) (parent_at c.args.child.now.at.boxes.list.now c.args.child.now.at.k) c.args.child.now.at.k = λ goes.
+    let placed = placed_to _ _ _ _ goes _ done.count in
     record {
       places = goes.places;
       are = goes.are;
@@ -40,12 +40,4 @@ clear_floats-requires-clause-known c =
     go there
 
 pub clear_floats-requires-clause-settled : goal.clear_floats-requires-clause-settled
-clear_floats-requires-clause-settled c =
-    let known = c.requires.knows in
-    let f = known.fits in
-    let early = known.early in let few = f.first_most in let within = f.within in
-    let old = c.args.flow.now in
-    let done = c.in_ok-place_up_to.ensures {u = tt} in
-    let there = known_placed_on c.args.child.now.at.boxes.list.now c.args.child.now.at.boxes.are.is_tree.tree c.args.flow.now _ _ c.requires old.marks.items (λ j lt. refl) c.place_up_to.new.placing old.first (rw c.deref.ensures.value at done.placed) in
-    (λ (goes : ArePlacedOn c.args.child.now.at.boxes.list.now old.marks.items c.place_up_to.new.placing c.requires.places old.first).
-    sym (places_count c.place_up_to.new.placing goes.places goes.are) ∙ goes.to.places_length) there
+clear_floats-requires-clause-settled c = (c.in_ok-place_up_to.ensures {u = tt}).count

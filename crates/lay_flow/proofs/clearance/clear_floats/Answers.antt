@@ -16,7 +16,7 @@ returns-else-is_above c =
       places = c.requires.known.places;
       are = c.requires.known.are;
       ready = ready_below c.args.child.now.at.boxes.list.now c.args.child.now.at.boxes.are.is_tree.tree c.args.child.now.at.boxes.are.is_tree (state_of old) (placing_of old.placing c.requires.known.places) c.args.child.now.at.k c.args.child.now.positive c.args.child.now.at.within c.requires.known.knows
-          c.edge_without-hypothetical.result.0 c.clear_edge-bottom.result (places_count old.placing c.requires.known.places c.requires.known.are ∙ c.requires.settled) (edge_known c.args.child.now.at.boxes.list.now (state_of old) old.placing c.requires.known.places c.requires.known.are c.args.child.now.at.k _ c.edge_without-hypothetical.ensures.edge) is_bottom (c.if-has_waiting_float.ensures.hasnt refl) (c.if-is_above.ensures.isnt refl);
+          c.edge_without-hypothetical.result.0 c.clear_edge-bottom.result (places_count old.placing c.requires.known.places c.requires.known.are ∙ c.requires.settled) (edge_known c.args.child.now.at.boxes.list.now old c.requires.known.places c.requires.known.are c.args.child.now.at.k _ c.edge_without-hypothetical.ensures.edge) is_bottom (c.if-has_waiting_float.ensures.hasnt refl) (c.if-is_above.ensures.isnt refl);
     }
 
 pub begin_cleared-requires-clause-decides : goal.begin_cleared-requires-clause-decides

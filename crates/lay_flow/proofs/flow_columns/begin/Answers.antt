@@ -10,6 +10,7 @@ use Rattle.lay_flow.specs.Pass.Known.{placing_of}
 use Rattle.lay_flow.specs.declared.pass.RunStart.TheVariants.{At as starts_at}
 use Rattle.lay_flow.proofs.PassEnds.{knows_first, flags_at, lengths_at, no_edges, none_cleared}
 use Rattle.lay_flow.proofs.FirstPlaced.{IsEmpty, none_placed, none_placed_to, first_extents, mark_near_none}
+use Rattle.lay_flow.proofs.PlacedOn.{placed_to}
 use Rattle.lay_flow.proofs.flow_columns.begin.Goals as goal
 
 pub invariant_of-marked-clause-count : goal.invariant_of-marked-clause-count
@@ -48,14 +49,14 @@ returns c =
     let done = c.in_ok-place_up_to.ensures {u = tt} in
     let placing = c.place_up_to.new.placing in
     let empty : IsEmpty c.in_ok-placing.placing n = record { extents = made.extents; floats = made.floats; places = made.places; rows = made.rows; met = made.met } in
-    let goes = rw c.deref.ensures.value at (none_placed_to c.args.boxes.now.list.now _ c.in_ok-placing.placing empty placing 1 done.placed) in
+    let goes = rw c.deref.ensures.value at (none_placed_to c.args.boxes.now.list.now _ c.in_ok-placing.placing empty placing done.placed) in
     record {
       places = goes.places;
       are = goes.are;
       knows =
           knows_first c.args.boxes.now.list.now c.args.boxes.now.are
           (state_of (record { marks = c.in_ok-marks.marks; heights = c.in_ok-vec.field-0; through = c.in_ok-vec-2.field-0; clear_edges = c.in_ok-vec-3.field-0; start = starts_at c.block.result.edge_top; strut = c.no_margin.result; first = 1; placing = placing }))
-          (placing_of placing goes.places) goes.to (first_extents c.args.boxes.now.list.now c.in_ok-marks.marks.items c.in_ok-placing.placing empty placing done.kept)
+          (placing_of placing goes.places) (placed_to _ _ _ _ goes _ done.count) (first_extents c.args.boxes.now.list.now c.in_ok-marks.marks.items c.in_ok-placing.placing empty placing done.kept)
           (ap (λ (xs : List Length). length xs) marks ∙ grind (arith, elements))
           (ap (λ (xs : List Length). length xs) heights ∙ grind (arith, elements))
           (ap (λ (xs : List Bool). length xs) through ∙ grind (arith, elements))

@@ -13,7 +13,7 @@ use Rattle.lay_flow.specs.Pass.Known.{placing_of}
 use Rattle.lay_flow.proofs.SoFar.{Wrote}
 use Rattle.lay_flow.proofs.PassFits.{begins_near, mark_is_near, marks_near, end_is_near}
 use Rattle.lay_flow.specs.Pass.Known.{ArePlacedOn, IsFinished}
-use Rattle.lay_flow.proofs.PlacedOn.{known_placed, line_depth, known_placed_on, places_count, within_extents}
+use Rattle.lay_flow.proofs.PlacedOn.{known_placed, line_depth, known_placed_on, places_count, within_extents, placed_to}
 use Rattle.lay_flow.proofs.WeightFacts.{light_at}
 use Rattle.lay_flow.proofs.PlaceSteps.{clear_edge_position}
 use Rattle.lay_flow.proofs.PassEnds.{all_places, sized_boxes}
@@ -42,9 +42,9 @@ root_height-height-requires c =
     let done = c.in_ok-place_up_to.ensures {u = tt} in
     let old = c.args.flow.now in
     let fits = c.requires.knows.fits in
-    let there = known_placed_on c.args.boxes.now.list.now c.args.boxes.now.are.is_tree.tree c.args.flow.now _ _ c.requires c.settle.new.marks.items (rw c.deref.ensures.value at c.settle.ensures).before c.place_up_to.new.placing (length c.args.boxes.now.list.now) (rw c.deref-2.ensures.value at done.placed) in
-    (λ (goes : ArePlacedOn c.args.boxes.now.list.now c.settle.new.marks.items c.place_up_to.new.placing c.requires.places (length c.args.boxes.now.list.now)).
-    clear_edge_position (weight c.args.boxes.now.list.now (length c.args.boxes.now.list.now)) _ clear_both c.clear_edge-bottom.result c.args.boxes.now.are.light goes.to.within c.clear_edge-bottom.ensures) there
+    let there = known_placed_on c.args.boxes.now.list.now c.args.boxes.now.are.is_tree.tree c.args.flow.now _ _ c.requires c.settle.new.marks.items (rw c.deref.ensures.value at c.settle.ensures).before c.place_up_to.new.placing (rw c.deref-2.ensures.value at done.placed) in
+    (λ (goes : ArePlacedOn c.args.boxes.now.list.now c.settle.new.marks.items c.place_up_to.new.placing c.requires.places).
+    clear_edge_position (weight c.args.boxes.now.list.now (length c.args.boxes.now.list.now)) _ clear_both c.clear_edge-bottom.result c.args.boxes.now.are.light (placed_to _ _ _ _ goes (length c.args.boxes.now.list.now) done.count).within c.clear_edge-bottom.ensures) there
 
 pub invariant_of-root_end : goal.invariant_of-root_end
 invariant_of-root_end c =
@@ -56,14 +56,14 @@ invariant_of-standing-clause-lines c lines =
     let done = c.in_ok-place_up_to.ensures {u = tt} in
     let old = c.args.flow.now in
     let fits = c.requires.knows.fits in
-    let there = known_placed_on c.args.boxes.now.list.now c.args.boxes.now.are.is_tree.tree c.args.flow.now _ _ c.requires c.settle.new.marks.items (rw c.deref.ensures.value at c.settle.ensures).before c.place_up_to.new.placing (length c.args.boxes.now.list.now) (rw c.deref-2.ensures.value at done.placed) in
-    let go : ArePlacedOn c.args.boxes.now.list.now c.settle.new.marks.items c.place_up_to.new.placing c.requires.places (length c.args.boxes.now.list.now) → IsLineDepth c.length_at-mark.result.0 c.block-block.result.edge_top.0 c.length_at.result.0 = λ goes.
+    let there = known_placed_on c.args.boxes.now.list.now c.args.boxes.now.are.is_tree.tree c.args.flow.now _ _ c.requires c.settle.new.marks.items (rw c.deref.ensures.value at c.settle.ensures).before c.place_up_to.new.placing (rw c.deref-2.ensures.value at done.placed) in
+    let go : ArePlacedOn c.args.boxes.now.list.now c.settle.new.marks.items c.place_up_to.new.placing c.requires.places → IsLineDepth c.length_at-mark.result.0 c.block-block.result.edge_top.0 c.length_at.result.0 = λ goes.
     let some = c.args.boxes.now.are.is_tree.some in
     let block = c.block-block.ensures.value in
     let marked = rw c.deref-3.ensures.value at c.length_at-mark.ensures in
     let depth = rw c.deref-4.ensures.value at c.length_at.ensures in
     let there = rw block at lines in
-    rw (block, depth, marked) (line_depth c.args.boxes.now.list.now c.args.boxes.now.are c.settle.new.marks.items (placing_of c.place_up_to.new.placing goes.places) (length c.args.boxes.now.list.now) goes.to 0 some (omega arith) there) in
+    rw (block, depth, marked) (line_depth c.args.boxes.now.list.now c.args.boxes.now.are c.settle.new.marks.items (placing_of c.place_up_to.new.placing goes.places) (length c.args.boxes.now.list.now) (placed_to _ _ _ _ goes _ done.count) 0 some (omega arith) there) in
     go there
 
 pub returns-clause-finished : goal.returns-clause-finished
@@ -76,9 +76,9 @@ returns-clause-finished c =
     let done = c.in_ok-place_up_to.ensures {u = tt} in
     let old = c.args.flow.now in
     let fits = c.requires.knows.fits in
-    let there = known_placed_on c.args.boxes.now.list.now c.args.boxes.now.are.is_tree.tree c.args.flow.now _ _ c.requires c.settle.new.marks.items (rw c.deref.ensures.value at c.settle.ensures).before c.place_up_to.new.placing (length c.args.boxes.now.list.now) (rw c.deref-2.ensures.value at done.placed) in
-    let go : ArePlacedOn c.args.boxes.now.list.now c.settle.new.marks.items c.place_up_to.new.placing c.requires.places (length c.args.boxes.now.list.now) → IsFinished c.args.boxes.now.list.now (record c.args.flow.now { marks = c.settle.new.marks; heights = c.write_at.new.column; placing = c.place_up_to.new.placing }) = λ goes.
-    let placed = goes.to in
+    let there = known_placed_on c.args.boxes.now.list.now c.args.boxes.now.are.is_tree.tree c.args.flow.now _ _ c.requires c.settle.new.marks.items (rw c.deref.ensures.value at c.settle.ensures).before c.place_up_to.new.placing (rw c.deref-2.ensures.value at done.placed) in
+    let go : ArePlacedOn c.args.boxes.now.list.now c.settle.new.marks.items c.place_up_to.new.placing c.requires.places → IsFinished c.args.boxes.now.list.now (record c.args.flow.now { marks = c.settle.new.marks; heights = c.write_at.new.column; placing = c.place_up_to.new.placing }) = λ goes.
+    let placed = placed_to _ _ _ _ goes _ done.count in
     let placing = placing_of c.place_up_to.new.placing goes.places in
     let over = c.root_end.ensures ∙ (λ i. held_end (block i).inside (c.length_at-mark.result.0 +ℤ (block i).edge_top.0) (depth i) c.end_of-end.result.0) in
     let is_height = c.root_height-height.ensures.value
@@ -93,7 +93,7 @@ returns-clause-finished c =
       context = all_places c.args.boxes.now.list.now c.args.boxes.now.are (state_of old) (placing_of old.placing c.requires.places) placing _ _ c.clear_edge-bottom.result
           c.end_of-end.result.0 c.root_end.result.unit.0 c.length_at-mark.result.0 c.root_height-height.result.0 c.requires.knows ends settles placed kept goes.same c.clear_edge-bottom.ensures
           marked over is_height wrote_height;
-      near = goes.to.near;
+      near = placed.near;
     } in
     go there
 
@@ -119,8 +119,8 @@ length_at-requires c =
     let f = c.requires.knows.fits in
     let old = c.args.flow.now in
     let done = c.in_ok-place_up_to.ensures {u = tt} in
-    let there = known_placed_on c.args.boxes.now.list.now c.args.boxes.now.are.is_tree.tree c.args.flow.now _ _ c.requires c.settle.new.marks.items (rw c.deref.ensures.value at c.settle.ensures).before c.place_up_to.new.placing (length c.args.boxes.now.list.now) (rw c.deref-2.ensures.value at done.placed) in
-    rw c.deref-4.ensures.value (within_extents c.args.boxes.now.list.now c.settle.new.marks.items c.place_up_to.new.placing c.requires.places (length c.args.boxes.now.list.now) there 0 c.args.boxes.now.are.is_tree.some)
+    let there = known_placed_on c.args.boxes.now.list.now c.args.boxes.now.are.is_tree.tree c.args.flow.now _ _ c.requires c.settle.new.marks.items (rw c.deref.ensures.value at c.settle.ensures).before c.place_up_to.new.placing (rw c.deref-2.ensures.value at done.placed) in
+    rw c.deref-4.ensures.value (within_extents c.args.boxes.now.list.now c.settle.new.marks.items c.place_up_to.new.placing c.requires.places there 0 c.args.boxes.now.are.is_tree.some)
 
 pub invariant_of-standing-clause-near : goal.invariant_of-standing-clause-near
 invariant_of-standing-clause-near c =

@@ -1,6 +1,7 @@
 use Rattle.std.proofs.Common.{◌∙◌, sym, arith}
 use Rattle.lay_flow.proofs.LookAheadSteps.{opened_reading, opened_read, parts_is}
 use Rattle.lay_flow.proofs.hypothetical_edge.open.Goals as goal
+use Rattle.lay_flow.specs.Pass.LookAhead.{reading}
 
 pub returns-clause-going : goal.returns-clause-going
 returns-clause-going c plain from is reading =

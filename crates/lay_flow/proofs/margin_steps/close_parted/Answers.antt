@@ -16,7 +16,7 @@ use Rattle.lay_flow.proofs.SoFar.{Wrote}
 use Rattle.lay_flow.proofs.PassFits.{begins_near, mark_is_near, marks_near, end_is_near, box_height_position, extent_position}
 use Rattle.lay_flow.proofs.PassSteps.{knows_parted}
 use Rattle.lay_flow.specs.Pass.Known.{ArePlacedOn, IsKnown}
-use Rattle.lay_flow.proofs.PlacedOn.{known_placed, line_depth, known_placed_on, places_count, within_extents}
+use Rattle.lay_flow.proofs.PlacedOn.{known_placed, line_depth, known_placed_on, places_count, within_extents, placed_to}
 use Rattle.lay_flow.specs.Pass.Knows.{AreExtentsKept}
 use Rattle.lay_flow.proofs.RunReach.{RunEnds}
 use Rattle.lay_flow.proofs.Truths.{true_or}
@@ -57,13 +57,13 @@ invariant_of-standing-clause-lines c lines =
     let f = c.requires.known.knows.fits in let a = f.parent in let b = f.within in
     let old = c.args.flow.now in
     let done = c.in_ok-place_up_to.ensures {u = tt} in
-    let there = known_placed_on c.args.ending.now.at.boxes.list.now c.args.ending.now.at.boxes.are.is_tree.tree c.args.flow.now _ _ c.requires.known c.settle.new.marks.items (rw c.deref.ensures.value at c.settle.ensures).before c.place_up_to.new.placing c.args.ending.now.next (rw c.deref-2.ensures.value at done.placed) in
-    let go : ArePlacedOn c.args.ending.now.at.boxes.list.now c.settle.new.marks.items c.place_up_to.new.placing c.requires.known.places c.args.ending.now.next → IsLineDepth c.length_at-mark.result.0 c.args.ending.now.block.now.edge_top.0 c.length_at.result.0 = λ goes.
+    let there = known_placed_on c.args.ending.now.at.boxes.list.now c.args.ending.now.at.boxes.are.is_tree.tree c.args.flow.now _ _ c.requires.known c.settle.new.marks.items (rw c.deref.ensures.value at c.settle.ensures).before c.place_up_to.new.placing (rw c.deref-2.ensures.value at done.placed) in
+    let go : ArePlacedOn c.args.ending.now.at.boxes.list.now c.settle.new.marks.items c.place_up_to.new.placing c.requires.known.places → IsLineDepth c.length_at-mark.result.0 c.args.ending.now.block.now.edge_top.0 c.length_at.result.0 = λ goes.
     let block = c.args.ending.now.is in
     let marked = rw c.deref-3.ensures.value at c.length_at-mark.ensures in
     let depth = rw c.deref-4.ensures.value at c.length_at.ensures in
     let there = rw block at lines in
-    rw (block, depth, marked) (line_depth c.args.ending.now.at.boxes.list.now c.args.ending.now.at.boxes.are c.settle.new.marks.items (placing_of c.place_up_to.new.placing goes.places) c.args.ending.now.next goes.to c.args.ending.now.at.k a b there) in
+    rw (block, depth, marked) (line_depth c.args.ending.now.at.boxes.list.now c.args.ending.now.at.boxes.are c.settle.new.marks.items (placing_of c.place_up_to.new.placing goes.places) c.args.ending.now.next (placed_to _ _ _ _ goes _ done.count) c.args.ending.now.at.k a b there) in
     go there
 
 pub bottom-start-requires : goal.bottom-start-requires
@@ -77,9 +77,9 @@ bottom-start-requires c =
     let light_m = light_at c.args.ending.now.at.boxes.list.now c.args.ending.now.at.boxes.are c.args.ending.now.next b in
     let old = c.args.flow.now in
     let done = c.in_ok-place_up_to.ensures {u = tt} in
-    let there = known_placed_on c.args.ending.now.at.boxes.list.now c.args.ending.now.at.boxes.are.is_tree.tree c.args.flow.now _ _ c.requires.known c.settle.new.marks.items (rw c.deref.ensures.value at c.settle.ensures).before c.place_up_to.new.placing c.args.ending.now.next (rw c.deref-2.ensures.value at done.placed) in
-    (λ (goes : ArePlacedOn c.args.ending.now.at.boxes.list.now c.settle.new.marks.items c.place_up_to.new.placing c.requires.known.places c.args.ending.now.next).
-    let placed = goes.to in
+    let there = known_placed_on c.args.ending.now.at.boxes.list.now c.args.ending.now.at.boxes.are.is_tree.tree c.args.flow.now _ _ c.requires.known c.settle.new.marks.items (rw c.deref.ensures.value at c.settle.ensures).before c.place_up_to.new.placing (rw c.deref-2.ensures.value at done.placed) in
+    (λ (goes : ArePlacedOn c.args.ending.now.at.boxes.list.now c.settle.new.marks.items c.place_up_to.new.placing c.requires.known.places).
+    let placed = placed_to _ _ _ _ goes _ done.count in
     let extent = rw c.deref-4.ensures.value at c.length_at.ensures in
     let height = rw (block, extent) at c.height_to_margin-height.ensures.value in
     true_or (is_solid (block_at c.args.ending.now.at.boxes.list.now p).inside) (IsPosition c.height_to_margin-height.result.0)
@@ -99,9 +99,9 @@ returns c =
     let settles = rw c.deref.ensures.value at c.settle.ensures in
     let old = c.args.flow.now in
     let done = c.in_ok-place_up_to.ensures {u = tt} in
-    let there = known_placed_on c.args.ending.now.at.boxes.list.now c.args.ending.now.at.boxes.are.is_tree.tree c.args.flow.now _ _ c.requires.known c.settle.new.marks.items (rw c.deref.ensures.value at c.settle.ensures).before c.place_up_to.new.placing c.args.ending.now.next (rw c.deref-2.ensures.value at done.placed) in
-    let go : ArePlacedOn c.args.ending.now.at.boxes.list.now c.settle.new.marks.items c.place_up_to.new.placing c.requires.known.places c.args.ending.now.next → IsKnown c.args.ending.now.at.boxes.list.now (record c.args.flow.now { marks = c.settle.new.marks; heights = c.write_at.new.column; start = starts_at c.bottom-start.result; strut = c.lone_margin-flow.result; first = c.args.ending.now.next; placing = c.place_up_to.new.placing }) (parent_at c.args.ending.now.at.boxes.list.now c.args.ending.now.at.k) c.args.ending.now.next = λ goes.
-    let placed = goes.to in
+    let there = known_placed_on c.args.ending.now.at.boxes.list.now c.args.ending.now.at.boxes.are.is_tree.tree c.args.flow.now _ _ c.requires.known c.settle.new.marks.items (rw c.deref.ensures.value at c.settle.ensures).before c.place_up_to.new.placing (rw c.deref-2.ensures.value at done.placed) in
+    let go : ArePlacedOn c.args.ending.now.at.boxes.list.now c.settle.new.marks.items c.place_up_to.new.placing c.requires.known.places → IsKnown c.args.ending.now.at.boxes.list.now (record c.args.flow.now { marks = c.settle.new.marks; heights = c.write_at.new.column; start = starts_at c.bottom-start.result; strut = c.lone_margin-flow.result; first = c.args.ending.now.next; placing = c.place_up_to.new.placing }) (parent_at c.args.ending.now.at.boxes.list.now c.args.ending.now.at.k) c.args.ending.now.next = λ goes.
+    let placed = placed_to _ _ _ _ goes _ done.count in
     let extent = rw c.deref-4.ensures.value at c.length_at.ensures in
     let height = rw (block, extent) at c.height_to_margin-height.ensures.value in
     let size : is_solid (block_at c.args.ending.now.at.boxes.list.now p).inside ≡ false → IsBoxSize c.height_to_margin-height.result.0 = λ flow. c.height_to_margin-height.ensures.size (subst (λ (b : Block). is_solid b.inside ≡ false) (sym block) flow) in
@@ -126,5 +126,5 @@ length_at-requires c =
     let done = c.in_ok-place_up_to.ensures {u = tt} in
     let a = f.parent in let b = f.within in
     let inner : c.args.ending.now.at.k < length c.args.ending.now.at.boxes.list.now = omega (arith, a, b) in
-    let there = known_placed_on c.args.ending.now.at.boxes.list.now c.args.ending.now.at.boxes.are.is_tree.tree c.args.flow.now _ _ c.requires.known c.settle.new.marks.items (rw c.deref.ensures.value at c.settle.ensures).before c.place_up_to.new.placing c.args.ending.now.next (rw c.deref-2.ensures.value at done.placed) in
-    rw c.deref-4.ensures.value (within_extents c.args.ending.now.at.boxes.list.now c.settle.new.marks.items c.place_up_to.new.placing c.requires.known.places c.args.ending.now.next there c.args.ending.now.at.k inner)
+    let there = known_placed_on c.args.ending.now.at.boxes.list.now c.args.ending.now.at.boxes.are.is_tree.tree c.args.flow.now _ _ c.requires.known c.settle.new.marks.items (rw c.deref.ensures.value at c.settle.ensures).before c.place_up_to.new.placing (rw c.deref-2.ensures.value at done.placed) in
+    rw c.deref-4.ensures.value (within_extents c.args.ending.now.at.boxes.list.now c.settle.new.marks.items c.place_up_to.new.placing c.requires.known.places there c.args.ending.now.at.k inner)

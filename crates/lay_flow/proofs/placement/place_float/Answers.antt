@@ -11,7 +11,7 @@ use Rattle.lay_flow.specs.Pass.Placed.{IsCeilingNear}
 use Rattle.lay_flow.specs.Pass.Known.{placing_of}
 use Rattle.lay_flow.proofs.FlowBoxFacts.{float_block, positive_float, shape_fits}
 use Rattle.lay_flow.proofs.PlaceSteps.{box_fits, request_fits, knows_float}
-use Rattle.lay_flow.proofs.PlacedOn.{pushed_on}
+use Rattle.lay_flow.proofs.PlacedOn.{pushed_on, counted, placed_count, placed_so_far}
 use Rattle.lay_flow.proofs.WeightFacts.{light_at}
 use Rattle.lay_flow.proofs.placement.place_float.Goals as goal
 
@@ -55,6 +55,9 @@ returns-clause-placed c places are was =
     let floats = rw asked at put.placed in
     let push = c.in_ok-push_spot.ensures {u = tt} in
     let flow : is_placed (block_at boxes c.args.of.now.at.k).inside ≡ false = ap (λ (b : Block). is_placed b.inside) (float_block boxes c.args.of.now.at.k c.args.side c.requires.float) in
-    pushed_on boxes c.args.of.now.marks.now c.args.placing.now c.push_spot.new.placing places are here (c.args.of.now.at.k + 1) push.places push.rows push.met
-    (rw (push.extents, push.floats) (knows_float boxes c.args.of.now.marks.now (placing_of c.args.placing.now places) c.args.of.now.at.k was here c.args.side c.place.new.self
+    pushed_on boxes c.args.of.now.marks.now c.args.placing.now c.push_spot.new.placing places are here c.args.of.now.at.k c.requires.known push.places push.rows push.met
+    (rw (push.extents, push.floats) (knows_float boxes c.args.of.now.marks.now (placing_of c.args.placing.now places) c.args.of.now.at.k (placed_so_far _ _ _ _ c.requires.known places was) here c.args.side c.place.new.self
     (positive_float boxes c.args.of.now.at.boxes.are.is_tree c.args.of.now.at.k c.args.side c.requires.float) c.requires.float flow (shape_fits boxes c.args.of.now.at.boxes.are c.args.of.now.at.k within) near stands floats refl))
+
+pub returns-clause-count : goal.returns-clause-count
+returns-clause-count c = counted c.args.placing.now.places.items _ _ c.args.of.now.at.k (placed_count _ _ _ _ c.requires.known) (c.in_ok-push_spot.ensures {u = tt}).places

@@ -11,7 +11,7 @@ use Rattle.lay_flow.proofs.BlockKinds.{lines_placed}
 use Rattle.lay_flow.proofs.IndexedBoxes.{box_read}
 use Rattle.lay_flow.proofs.LaidLines.{end_near, floats_near, laid_lines, laid_near, mark_position, top_near}
 use Rattle.lay_flow.proofs.PlaceSteps.{knows_lines}
-use Rattle.lay_flow.proofs.PlacedOn.{pushed_on}
+use Rattle.lay_flow.proofs.PlacedOn.{pushed_on, counted, placed_count, placed_so_far}
 use Rattle.lay_flow.proofs.SoFar.{Wrote}
 use Rattle.lay_flow.proofs.WeightFacts.{light_at}
 use Rattle.lay_flow.proofs.WroteColumns.{wrote_extent, wrote_length}
@@ -43,9 +43,10 @@ invariant_of-end c =
     }
 
 pub returns-clause-placed : goal.returns-clause-placed
-returns-clause-placed c places are was =
+returns-clause-placed c places are known =
     let boxes = c.args.of.now.at.boxes.list.now in
     let k = c.args.of.now.at.k in
+    let was = placed_so_far _ _ _ _ c.requires.known places known in
     let within = c.args.of.now.at.within in
     let old = c.args.placing.now in
     let top = ap (λ (v : Length). v.0) c.sum_of.ensures ∙ (λ i. c.length_at.ensures i +ℤ (c.block.ensures.value i).edge_top.0) in
@@ -60,8 +61,11 @@ returns-clause-placed c places are was =
     let wrote : Wrote length_at old.extents.items c.write_at.new.column.items k (v.end.0 -ℤ (length_at c.args.of.now.marks.now k +ℤ (block_at boxes k).edge_top.0)) =
     subst (λ (v : ℤ). Wrote length_at old.extents.items c.write_at.new.column.items k v) value
     (subst (λ (xs : List Length). Wrote length_at old.extents.items xs k c.below-depth.result.0) (sym c.write_at.ensures) (wrote_length old.extents.items k c.below-depth.result (omega (arith, within, l)))) in
-    pushed_on boxes c.args.of.now.marks.now old _ places are here (k + 1) (c.in_ok-push.ensures {u = tt}).items (c.in_ok-push-2.ensures {u = tt}).items (c.in_ok-push-3.ensures {u = tt}).items
+    pushed_on boxes c.args.of.now.marks.now old _ places are here k c.requires.known (c.in_ok-push.ensures {u = tt}).items (c.in_ok-push-2.ensures {u = tt}).items (c.in_ok-push-3.ensures {u = tt}).items
     (knows_lines boxes c.args.of.now.marks.now (placing_of old places) k was here c.write_at.new.column.items c.lay_lines.new.floats c.requires.lines near laid wrote c.nowhere.ensures refl)
+
+pub returns-clause-count : goal.returns-clause-count
+returns-clause-count c = counted c.args.placing.now.places.items _ _ c.args.of.now.at.k (placed_count _ _ _ _ c.requires.known) (c.in_ok-push.ensures {u = tt}).items
 
 pub returns-clause-kept : goal.returns-clause-kept
 returns-clause-kept c =

@@ -10,7 +10,7 @@ use Rattle.lay_flow.specs.BlockSizes.{IsNear}
 use Rattle.lay_flow.specs.Pass.Known.{placing_of}
 use Rattle.lay_flow.proofs.BlockKinds.{solid_placed}
 use Rattle.lay_flow.proofs.FlowBoxFacts.{positive_solid, shape_fits, solid_flows}
-use Rattle.lay_flow.proofs.PlacedOn.{pushed_on}
+use Rattle.lay_flow.proofs.PlacedOn.{pushed_on, counted, placed_count, placed_so_far}
 use Rattle.lay_flow.proofs.WeightFacts.{light_at}
 use Rattle.lay_flow.proofs.SoFar.{Wrote}
 use Rattle.lay_flow.proofs.WroteColumns.{wrote_extent, wrote_length}
@@ -61,9 +61,12 @@ returns-clause-placed c places are was =
     let push = c.in_ok-push_spot.ensures {u = tt} in
     let here : Spot = record { place = p; lines = no_lines } in
     let none = solid_flows c.args.of.now.at.boxes.list.now c.args.of.now.at.k c.requires.solid in
-    pushed_on boxes c.args.of.now.marks.now old c.push_spot.new.placing places are here (c.args.of.now.at.k + 1) push.places push.rows push.met
-    (rw (push.extents, push.floats) (knows_solid boxes c.args.of.now.marks.now (placing_of old places) c.args.of.now.at.k was here c.write_at.new.column.items
+    pushed_on boxes c.args.of.now.marks.now old c.push_spot.new.placing places are here c.args.of.now.at.k c.requires.known push.places push.rows push.met
+    (rw (push.extents, push.floats) (knows_solid boxes c.args.of.now.marks.now (placing_of old places) c.args.of.now.at.k (placed_so_far _ _ _ _ c.requires.known places was) here c.write_at.new.column.items
     (positive_solid boxes c.args.of.now.at.boxes.are.is_tree c.args.of.now.at.k c.requires.solid) none c.requires.solid (shape_fits boxes c.args.of.now.at.boxes.are c.args.of.now.at.k within) (c.args.of.now.near c.args.of.now.at.k) stands wrote refl))
+
+pub returns-clause-count : goal.returns-clause-count
+returns-clause-count c = counted c.args.placing.now.places.items _ _ c.args.of.now.at.k (placed_count _ _ _ _ c.requires.known) (c.in_ok-push_spot.ensures {u = tt}).places
 
 pub returns-clause-kept : goal.returns-clause-kept
 returns-clause-kept c =

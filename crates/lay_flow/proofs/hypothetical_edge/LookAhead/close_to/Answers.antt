@@ -1,7 +1,7 @@
 use Rattle.std.proofs.Common.{◌<◌, ◌∙◌, sym, arith, subst, ℕ, length, inl, inr}
 use Rattle.std.proofs.lemmas.Bool.{cases_eq}
 use Rattle.lay_flow.specs.Boxes.{parent_at}
-use Rattle.lay_flow.specs.Pass.LookAhead.{IsReading}
+use Rattle.lay_flow.specs.Pass.LookAhead.{IsReading, reading}
 use Rattle.lay_flow.specs.MarginRuns.{block_at, may_collapse_through}
 use Rattle.lay_flow.proofs.LookAheadSteps.{closed_read, closed_last, closed_reading, after_outset, goes_past, ends_parted}
 use Rattle.lay_flow.proofs.hypothetical_edge.LookAhead.close_to.Goals as goal
@@ -31,4 +31,4 @@ loop-innermost-preserved c =
     let after : c.args.self.now.from.k < c.args.m = after_outset c.args.self.now.boxes.list.now c.args.self.now.from c.args.self.now.begins p c.holder_at-to.result c.args.m was.begun was.first_place c.holder_at-to.ensures.next test in
     let ends : c.args.m < length c.args.self.now.boxes.list.now → parent_at c.args.self.now.boxes.list.now c.args.m < p = λ w. (let n = c.holder_at-to.ensures.next w in let l = was.place.next w in omega (arith, n, l, test)) in
     let next = closed_reading c.args.self.now.boxes.list.now c.args.self.now.boxes.are.is_tree.tree c.args.self.now.from c.args.self.now.begins p c.args.m c.loop-innermost.used.strut was after ends c.with_margin-used.result.strut c.with_margin-used.result.fits adds goes.other goes.passes in
-    subst (λ (q : ℕ). IsReading c.args.self.now.boxes.list.now c.args.self.now.from c.with_margin-used.result.strut q c.args.m) (sym c.parent-innermost.ensures.value) next
+    subst (λ (q : ℕ). IsReading c.args.self.now.boxes.list.now c.args.self.now.from (reading c.with_margin-used.result.strut q c.args.m)) (sym c.parent-innermost.ensures.value) next

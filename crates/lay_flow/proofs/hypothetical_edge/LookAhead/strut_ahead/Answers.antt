@@ -1,5 +1,5 @@
 use Rattle.std.proofs.Common.{◌≡◌, ◌<◌, ℕ, arith, length, refl, subst, sym}
-use Rattle.lay_flow.specs.Pass.LookAhead.{IsReading, HasRead}
+use Rattle.lay_flow.specs.Pass.LookAhead.{IsReading, HasRead, reading}
 use Rattle.lay_flow.proofs.Truths.{true_or}
 use Rattle.lay_flow.proofs.LookAheadSteps.{begins_reading, ends_before_root}
 use Rattle.lay_flow.proofs.LookAhead.{place_before}
@@ -13,7 +13,7 @@ loop-m-init c =
     let positive : 0 < k = let a = begins.least in let b = begins.most in omega (arith, a, b) in
     let place = place_before boxes c.args.self.now.boxes.are.is_tree.tree k positive begins.within in (
       refl,
-      subst (λ (q : ℕ). IsReading boxes from from.strut q k) (sym c.parent.ensures.value) (begins_reading boxes from begins c.args.self.now.fits place),
+      subst (λ (q : ℕ). IsReading boxes from (reading from.strut q k)) (sym c.parent.ensures.value) (begins_reading boxes from begins c.args.self.now.fits place),
     )
 
 pub close_to-requires : goal.close_to-requires
@@ -21,7 +21,7 @@ close_to-requires c =
     let was = c.loop-m.invariant.1 in
     let a = was.begun in let w = was.place.within in
     let e : c.loop-m.m ≡ length c.args.self.now.boxes.list.now = omega (arith, w) in
-    subst (IsReading c.args.self.now.boxes.list.now c.args.self.now.from c.loop-m.ahead.used.strut c.loop-m.ahead.innermost) e was
+    subst (λ (n : ℕ). IsReading c.args.self.now.boxes.list.now c.args.self.now.from (reading c.loop-m.ahead.used.strut c.loop-m.ahead.innermost n)) e was
 
 pub returns : goal.returns
 returns c = true_or c.close_to.result.ended (HasRead c.args.self.now.boxes.list.now c.args.self.now.from c.close_to.result.used.strut)
