@@ -1,22 +1,14 @@
 -- Strokes that show the same.
-use Rattle.std.proofs.Common.{◌≡◌, ◌∙◌, ℕ, ◌==◌, ◌-◌, length, get_or, ◌||◌, ◌&&◌, ℤ, Bool, true, false, if◌then◌else◌, List, [], ◌∷◌, ◌++◌, refl, sym, ap, subst, arith}
+use Rattle.std.proofs.Common.{◌≡◌, ◌∙◌, ℕ, zero, suc, length, slice_set, get_or, ◌||◌, ℤ, Bool, List, [], ◌∷◌, ◌++◌, refl, sym, ap}
 use Rattle.std.specs.List.{All}
-use Rattle.std.proofs.lemmas.List.{append-nil, append_assoc, length-append}
+use Rattle.std.proofs.lemmas.List.{append-nil, append_assoc}
 use Rattle.std.proofs.lemmas.List.Elements.{All-nil, All-cons, All-head, All-tail}
-use Rattle.lay_units.specs.declared.length.Unit.{Unit}
-use Rattle.lay_line_content.specs.declared.content.Advance.{Advance}
 use Rattle.lay_line_content.specs.declared.content.InlineArea.{InlineArea}
-use Rattle.lay_line_content.specs.declared.content.Part.{Part}
-use Rattle.lay_line_content.specs.declared.content.Part.TheVariants.{Text}
-use Rattle.lay_line_content.specs.declared.pen.Pen.{Pen}
-use Rattle.lay_inlines.specs.declared.line_piece.LinePieceKind.TheVariants as on_line
-use Rattle.lay_inlines.specs.declared.spans.Span.{Span}
-use Rattle.lay_inlines.specs.declared.strokes.Shown.TheVariants.{OfText}
 use Rattle.lay_inlines.specs.declared.strokes.Stroke.{Stroke}
 use Rattle.lay_inlines.specs.Bounds.{StrokeWithin}
-use Rattle.lay_inlines.specs.Looks.{IsBitOf, LookAs}
-use Rattle.lay_inlines.specs.Spans.{edge_at, edges_before, is_text, right_edges, span_of, spans_of, with_shown, with_text}
-use Rattle.lay_inlines.specs.Strokes.{begin_of, end_of, has_content, is_content, place, shown_of, stays, stroke_of}
+use Rattle.lay_inlines.specs.Looks.{LookAs}
+use Rattle.lay_inlines.specs.Spans.{edge_at, edges_before, right_edges, spans_of, with_shown}
+use Rattle.lay_inlines.specs.Strokes.{begin_of, end_of, has_content, is_content, shown_of, stays}
 
 pub looks_same : (ss : List Stroke) → LookAs ss ss
 looks_same ss = record { content = λ rest. refl; edges = λ areas rest. refl; spans = λ areas end rest. refl; within = λ is. is }
@@ -71,74 +63,13 @@ same_edges xs ys areas l = ap (right_edges areas) (sym (append-nil xs)) ∙ l.ed
 pub same_spans : (xs ys : List Stroke) (areas : List InlineArea) (end : ℤ) → LookAs xs ys → spans_of areas end xs ≡ spans_of areas end ys
 same_spans xs ys areas end l = ap (spans_of areas end) (sym (append-nil xs)) ∙ l.spans areas end [] ∙ ap (spans_of areas end) (append-nil ys)
 
--- two bits of a text
-number_same : (n : ℕ) → true ≡ (n == n)
-number_same n = sym (grind arith)
-
-or_true : (b : Bool) → true ≡ (b || true)
-or_true true = refl
-or_true false = refl
-
-and_true : (b : Bool) → (b && true) ≡ b
-and_true true = refl
-and_true false = refl
-
-bit_over : (t : ℕ) (raise : Unit) (from to before over : ℤ) (s : Span) (ss : List Span) (same : Bool)
-    → (if same then span_of on_line.Text t raise from s.to.0 ∷ ss else span_of on_line.Text t raise from to ∷ s ∷ ss)
-    ≡ with_text t raise from over (if same then span_of on_line.Text t raise before s.to.0 ∷ ss else span_of on_line.Text t raise before to ∷ s ∷ ss)
-bit_over t raise from to before over s ss true =
-    ap (λ (b : Bool). if b then span_of on_line.Text t raise from s.to.0 ∷ ss else span_of on_line.Text t raise from over ∷ span_of on_line.Text t raise before s.to.0 ∷ ss) (number_same t)
-bit_over t raise from to before over s ss false =
-    ap (λ (b : Bool). if b then span_of on_line.Text t raise from to ∷ s ∷ ss else span_of on_line.Text t raise from over ∷ span_of on_line.Text t raise before to ∷ s ∷ ss) (number_same t)
-
-bits_are_one : (t : ℕ) (raise : Unit) (from to before over : ℤ) (ss : List Span)
-    → with_text t raise from to ss ≡ with_text t raise from over (with_text t raise before to ss)
-bits_are_one t raise from to before over [] =
-    ap (λ (b : Bool). if b then span_of on_line.Text t raise from to ∷ [] else span_of on_line.Text t raise from over ∷ span_of on_line.Text t raise before to ∷ []) (number_same t)
-bits_are_one t raise from to before over (s ∷ ss) = bit_over t raise from to before over s ss (is_text s.kind && (s.node == t))
-
--- a bit of a text that stays there, and one more of the same behind it
-pub bits_look_as : (x : Part) (w : Advance) (raise : Unit) (p q r s : Pen) → shown_of x p.started ≡ OfText w.text
-    → LookAs (stroke_of (Text w) raise p s ∷ []) (stroke_of x raise p q ∷ stroke_of (Text w) raise r s ∷ [])
-bits_look_as x w raise p q r s e = record {
-  content = λ rest. or_true (is_content x);
-  edges = λ areas rest i. edges_before areas (shown i) q.at.0 (right_edges areas rest);
-  spans = λ areas end rest. bits_are_one w.text raise p.at.0 (place s (has_content rest)) r.at.0 q.at.0 (spans_of areas end rest)
-      ∙ (λ i. with_shown areas (shown i) raise (place p (or_true (is_content x) i)) q.at.0 (edge_at (right_edges areas rest) 0 end)
-      (with_text w.text raise r.at.0 (place s (has_content rest)) (spans_of areas end rest)));
-  within = λ is. All-cons StrokeWithin (stroke_of (Text w) raise p s) []
-      (record { raise = (first is).raise; before = (first is).before; after = (second is).after })
-      (All-nil StrokeWithin);
-}
-  where
-    first : All StrokeWithin (stroke_of x raise p q ∷ stroke_of (Text w) raise r s ∷ []) → StrokeWithin (stroke_of x raise p q)
-    first is = All-head StrokeWithin (stroke_of x raise p q) (stroke_of (Text w) raise r s ∷ []) is
-
-    second : All StrokeWithin (stroke_of x raise p q ∷ stroke_of (Text w) raise r s ∷ []) → StrokeWithin (stroke_of (Text w) raise r s)
-    second is = All-head StrokeWithin (stroke_of (Text w) raise r s) [] (All-tail StrokeWithin (stroke_of x raise p q) (stroke_of (Text w) raise r s ∷ []) is)
-
-    shown : OfText w.text ≡ shown_of x (p.started && true)
-    shown = sym (ap (λ (b : Bool). shown_of x b) (and_true p.started) ∙ e)
-
--- the last of some strokes
-pub last_one : (xs : List Stroke) (x d : Stroke) → get_or (xs ++ x ∷ []) (length xs) d ≡ x
-last_one [] x d = refl
-last_one (y ∷ ys) x d = last_one ys x d
-
-pub as_long : (xs : List Stroke) (x : Stroke) → length (xs ++ x ∷ []) - 1 ≡ length xs
-as_long xs x = let n = length-append xs (x ∷ []) in omega (arith, n)
-
--- a bit of a text begins where the last stroke does
-pub with_last : (new old : List Stroke) (last s : Stroke) (w : Advance) → old ≡ new ++ last ∷ [] → s.part ≡ Text w → IsBitOf last w.text s.raise
-    → LookAs (new ++ record s { before = last.before } ∷ []) (old ++ s ∷ [])
-with_last new old last s w e f is =
-    subst (λ (ys : List Stroke). LookAs (new ++ record s { before = last.before } ∷ []) (ys ++ s ∷ [])) (sym e)
-    (subst (λ (zs : List Stroke). LookAs (new ++ record s { before = last.before } ∷ []) zs) (sym (append_assoc new (last ∷ []) (s ∷ [])))
-    (looks_after new (record s { before = last.before } ∷ []) (last ∷ s ∷ []) both))
-  where
-    so_far : LookAs (stroke_of (Text w) s.raise last.before s.after ∷ []) (last ∷ stroke_of (Text w) s.raise s.before s.after ∷ [])
-    so_far = subst (λ (u : Unit). LookAs (stroke_of (Text w) s.raise last.before s.after ∷ []) (stroke_of last.part u last.before last.after ∷ stroke_of (Text w) s.raise s.before s.after ∷ []))
-        (sym is.raised) (bits_look_as last.part w s.raise last.before last.after s.before s.after is.shows)
-
-    both : LookAs (record s { before = last.before } ∷ []) (last ∷ s ∷ [])
-    both = subst (λ (x : Part). LookAs (stroke_of x s.raise last.before s.after ∷ []) (last ∷ stroke_of x s.raise s.before s.after ∷ [])) (sym f) so_far
+-- the last of some strokes, where it reaches over one more
+pub last_reaches : (ss : List Stroke) (k : ℕ) (new s d : Stroke) → length ss ≡ suc k → LookAs (new ∷ []) (get_or ss k d ∷ s ∷ [])
+    → LookAs (slice_set ss k new) (ss ++ s ∷ [])
+last_reaches [] k new s d e l = absurd cc
+last_reaches (x ∷ []) zero new s d e l = l
+last_reaches (x ∷ []) (suc k) new s d e l = absurd cc
+last_reaches (x ∷ y ∷ ys) zero new s d e l = absurd cc
+last_reaches (x ∷ y ∷ ys) (suc k) new s d e l =
+    let is : length (y ∷ ys) ≡ suc k = cc in
+    looks_after_one x (slice_set (y ∷ ys) k new) ((y ∷ ys) ++ s ∷ []) (last_reaches (y ∷ ys) k new s d is l)

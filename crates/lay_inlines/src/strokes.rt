@@ -1,6 +1,6 @@
 //! The content of a line, with the pen.
 
-ghost use Rattle.std.specs.Prelude.{◌≡◌, ◌++◌, ◌∷◌, [], ◌||◌, ◌-◌, IsTrue, length, slice_index_or, IfOk, OnOk};
+ghost use Rattle.std.specs.Prelude.{◌≡◌, ◌++◌, ◌∷◌, [], ◌||◌, IsFalse, IsTrue, IfOk, OnOk};
 ghost use Rattle.lay_inlines.specs.Bounds.{PensWithin};
 ghost use Rattle.lay_inlines.specs.Looks.{IsBitOf, LookAs};
 ghost use Rattle.lay_inlines.specs.Raises.{raises_after_all};
@@ -80,44 +80,41 @@ fn draw_parts(
     Ok(before)
 }
 
-/// Adds a stroke. A bit of a text makes one with the bits of it right before, so that a line has few.
+/// Adds a stroke, or lets the last one reach over it too where both are bits of one text, so that a line has few.
 fn put(out: &mut Vec<Stroke>, stroke: Stroke) -> Result<(), NoMemory>
     ensures { OnOk result (LookAs out.new.items (out.old.items ++ stroke ∷ [])) }
 {
-    let with_space = Stroke {
-        before: begin_with_last(out, &stroke),
-        ..stroke
-    };
-    let with_word = Stroke {
-        before: begin_with_last(out, &with_space),
-        ..with_space
-    };
-    out.push(with_word)?;
+    if !reach_over(out, &stroke) {
+        out.push(stroke)?;
+    }
     Ok(())
 }
 
-/// Where a stroke begins that reaches over the last of these too, which then leaves, if both are bits of one text.
-fn begin_with_last(out: &mut Vec<Stroke>, stroke: &Stroke) -> Pen
-    ensures { LookAs (out.new.items ++ record stroke.now { before = result } ∷ []) (out.old.items ++ stroke.now ∷ []) }
-{
-    let Part::Text(bit) = stroke.part else {
-        return stroke.before;
-    };
-    if !ends_with_bit(out.as_slice(), bit.text, stroke.raise) {
-        return stroke.before;
-    }
-    match out.pop() {
-        Some(last) => last.before,
-        None => stroke.before,
-    }
-}
-
-/// Whether the last of these is a bit of this text, raised so far.
-fn ends_with_bit(strokes: &[Stroke], text: u32, raise: Unit) -> bool
-    ensures { IsTrue result → (d : Stroke) → IsBitOf (slice_index_or strokes.now (length strokes.now - 1) d) text raise }
+/// Lets the last of these reach over a stroke too, if both are bits of one text. Whether they are.
+fn reach_over(strokes: &mut [Stroke], stroke: &Stroke) -> bool
+    ensures over { IsTrue result → LookAs strokes.new (strokes.old ++ stroke.now ∷ []) }
+    ensures apart { IsFalse result → strokes.new ≡ strokes.old }
 {
     let count = strokes.len();
-    count != 0 && is_bit_of(&strokes[count - 1], text, raise)
+    if count == 0 || !goes_on(&strokes[count - 1], stroke) {
+        return false;
+    }
+    strokes[count - 1].after = stroke.after;
+    true
+}
+
+/// Whether a stroke shows one more bit of the text of which the one before it shows a bit. A space at the end of a line, where
+/// it shows nothing, leaves the end of the content where it is.
+fn goes_on(last: &Stroke, stroke: &Stroke) -> bool
+    ensures { IsTrue result → LookAs (record last.now { after = stroke.now.after } ∷ []) (last.now ∷ stroke.now ∷ []) }
+{
+    match last.part {
+        Part::Text(bit) => {
+            is_bit_of(stroke, bit.text, last.raise)
+                && (is_content(stroke.part) || stroke.after.solid.0 == last.after.solid.0)
+        }
+        _ => false,
+    }
 }
 
 /// Whether a stroke shows a bit of this text where content follows it, raised so far.

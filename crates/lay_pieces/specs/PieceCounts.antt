@@ -1,5 +1,5 @@
 -- What is kept of pieces while they are put together, so that the part of the next one is at hand.
-use Rattle.std.specs.Prelude.{ℕ, ◌≡◌, ◌+◌, ◌≤◌, List, length}
+use Rattle.std.specs.Prelude.{ℕ, ◌≡◌, ◌+◌, ◌≤◌, List, length, take, drop}
 use Rattle.std.specs.Option.{unwrap_or}
 use Rattle.std.specs.Ordering.{nat_cmp}
 use Rattle.std.specs.BTreeMap.{BTreeMap, get}
@@ -27,7 +27,14 @@ with_one counts Text = record { boxes = counts.boxes; lines = counts.lines; text
 abbrev pub counts_in : BTreeMap ℕ Counts → ℕ → Counts
 counts_in map id = unwrap_or (get nat_cmp map id) no_counts
 
--- a map says of each node how many of these pieces are its own, and they are few
+-- the pieces that are looked at one by one, and those behind them
+abbrev pub first_of : List Frag → List Frag
+first_of pieces = take 8 pieces
+
+abbrev pub behind_first : List Frag → List Frag
+behind_first pieces = drop 8 pieces
+
+-- a map says of each node how many of these pieces behind the first are its own, and they are few
 pub record AreCounted (pieces : List Frag) (map : BTreeMap ℕ Counts) : Type 0 where
-  pub each : (kind : FragKind) (id : ℕ) → count_in (counts_in map id) kind ≡ count_of kind id pieces
+  pub each : (kind : FragKind) (id : ℕ) → count_in (counts_in map id) kind ≡ count_of kind id (behind_first pieces)
   pub few : length pieces ≤ 2147483648

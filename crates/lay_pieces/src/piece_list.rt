@@ -1,9 +1,9 @@
 //! The pieces of a formatting context as they come, each with its part.
 
-ghost use Rattle.std.specs.Prelude.{ℕ, ◌≡◌, ◌≢◌, ◌≤◌, ◌∷◌, ◌++◌, [], length, IfOk, OnOk};
+ghost use Rattle.std.specs.Prelude.{ℕ, ◌≡◌, ◌≢◌, ◌<◌, ◌≤◌, ◌∷◌, ◌++◌, [], length, IfOk, OnOk};
 ghost use Rattle.lay_pieces.specs.NearPieces.{AreNearPieces, IsRectNear};
-ghost use Rattle.lay_pieces.specs.PieceParts.{numbered};
-ghost use Rattle.lay_pieces.specs.PieceCounts.{AreCounted, count_in, counts_in, with_one};
+ghost use Rattle.lay_pieces.specs.PieceParts.{count_of, is_kind, numbered};
+ghost use Rattle.lay_pieces.specs.PieceCounts.{AreCounted, behind_first, count_in, counts_in, first_of, with_one};
 
 use crate::corner::near_position;
 use lay_frag::{Frag, FragKind};
@@ -15,6 +15,9 @@ use std::marker::Model;
 /// The most pieces of a context.
 const MOST_PIECES: usize = 2147483648;
 
+/// How many pieces are looked at one by one. Most contexts have no more.
+const FIRST_PIECES: usize = 8;
+
 /// How many pieces a node has of each kind.
 #[derive(Clone, Copy)]
 pub struct Counts {
@@ -23,11 +26,12 @@ pub struct Counts {
     pub texts: u32,
 }
 
-/// Pieces of one formatting context, each with its part, and how many each node has. They are at most 2^31, and their edges
-/// and sizes are at most 2^60 units from 0.
+/// Pieces of one formatting context, each with its part. They are at most 2^31, and their edges and sizes are at most 2^60
+/// units from 0.
 #[derive(Drop)]
 pub struct PieceList {
     items: Vec<Frag>,
+    /// How many each node has behind the first.
     counts: BTreeMap<u32, Counts>,
 }
 
@@ -91,13 +95,63 @@ fn added(
     if items.len() >= MOST_PIECES {
         return Err(NoMemory);
     }
-    let node = counts_in(&counts, piece.node.0);
+    let first = count_of(first_of(&items), piece.kind, piece.node.0);
+    let behind = take_note(&mut counts, &items, piece)?;
     items.push(Frag {
-        part: count_in(node, piece.kind),
+        part: first + behind,
         ..piece
     })?;
-    put(&mut counts, piece.node.0, with_one(node, piece.kind))?;
     Ok(PieceList { items, counts })
+}
+
+/// Counts a piece that comes behind these, if it isn't one of the first. How many of its kind and node were counted before.
+fn take_note(
+    counts: &mut BTreeMap<u32, Counts>,
+    items: &[Frag],
+    piece: Frag,
+) -> Result<u32, NoMemory>
+    requires counted { AreCounted items.now counts.old }
+    requires room { length items.now < 2147483648 }
+    ensures before { IfOk result (λ n. n ≡ count_of piece.kind piece.node.0 (behind_first items.now)) }
+    ensures after { OnOk result (AreCounted (items.now ++ numbered items.now piece ∷ []) counts.new) }
+{
+    if items.len() < FIRST_PIECES {
+        return Ok(0);
+    }
+    let node = counts_in(counts, piece.node.0);
+    put(counts, piece.node.0, with_one(node, piece.kind))?;
+    Ok(count_in(node, piece.kind))
+}
+
+/// The first of these, or all.
+fn first_of(items: &[Frag]) -> &[Frag]
+    ensures { result.now ≡ first_of items.now }
+{
+    &items[..FIRST_PIECES.min(items.len())]
+}
+
+/// How many of these few pieces are of this kind and of the node with this id.
+fn count_of(pieces: &[Frag], kind: FragKind, id: u32) -> u32
+    requires { length pieces.now ≤ 8 }
+    ensures { result ≡ count_of kind id pieces.now }
+{
+    let mut count = 0;
+    for k in 0..pieces.len() {
+        if is_kind(pieces[k].kind, kind) && pieces[k].node.0 == id {
+            count += 1;
+        }
+    }
+    count
+}
+
+fn is_kind(a: FragKind, b: FragKind) -> bool
+    ensures { result ≡ is_kind a b }
+{
+    match a {
+        FragKind::Box => matches!(b, FragKind::Box),
+        FragKind::Line => matches!(b, FragKind::Line),
+        FragKind::Text => matches!(b, FragKind::Text),
+    }
 }
 
 /// A rectangle. NoMemory is the answer where one of its numbers is more than 2^60 units from 0.

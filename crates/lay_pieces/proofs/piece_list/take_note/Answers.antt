@@ -1,0 +1,27 @@
+use Rattle.std.proofs.Common.{◌≡◌, ◌∙◌, ◌≤◌, length, ap, arith}
+use Rattle.lay_pieces.specs.PieceCounts.{count_in, counts_in, with_one}
+use Rattle.lay_pieces.specs.PieceParts.{numbered}
+use Rattle.lay_pieces.proofs.PieceCountSteps.{count_behind, one_first, one_more}
+use Rattle.lay_pieces.proofs.piece_list.take_note.Goals as goal
+
+pub returns-then-items-lt-FIRST_PIECES-clause-after : goal.returns-then-items-lt-FIRST_PIECES-clause-after
+returns-then-items-lt-FIRST_PIECES-clause-after c =
+    one_first c.args.items.now (numbered c.args.items.now c.args.piece) c.args.counts.now c.requires.counted c.if-items-lt-FIRST_PIECES.true
+
+pub with_one-requires : goal.with_one-requires
+with_one-requires c =
+    let each = c.requires.counted.each c.args.piece.kind c.args.piece.node.0 in
+    let few = count_behind c.args.piece.kind c.args.piece.node.0 8 c.args.items.now in
+    rw c.counts_in-node.ensures (omega (arith, each, few, c.requires.counted.few))
+
+pub returns-clause-before : goal.returns-clause-before
+returns-clause-before c =
+    c.count_in.ensures ∙ ap (λ k. count_in k c.args.piece.kind) c.counts_in-node.ensures ∙ c.requires.counted.each c.args.piece.kind c.args.piece.node.0
+
+pub returns-clause-after : goal.returns-clause-after
+returns-clause-after c =
+    let put = c.in_ok-put.ensures {u = tt} in
+    let here : counts_in c.put.new.counts c.args.piece.node.0 ≡ with_one (counts_in c.args.counts.now c.args.piece.node.0) c.args.piece.kind =
+    put.here ∙ c.with_one.ensures ∙ ap (λ k. with_one k c.args.piece.kind) c.counts_in-node.ensures in
+    let many : 8 ≤ length c.args.items.now = omega (arith, c.if-items-lt-FIRST_PIECES.false) in
+    one_more c.args.items.now c.args.piece c.args.counts.now c.put.new.counts c.requires.counted many c.requires.room here put.others
