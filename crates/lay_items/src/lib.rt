@@ -16,5 +16,5 @@ mod open_boxes;
 mod plain_texts;
 
 pub use container_items::inline_items;
-pub use container_segments::inline_segments;
+pub use container_segments::{inline_segments, measured_items};
 pub use modes::mode_of;
