@@ -37,6 +37,9 @@ measured_item face boxes (item.Anchor k) = item.Anchor k
 abbrev pub measured : FaceValue → List BoxNode → List Item → List Item
 measured face boxes items = map (measured_item face boxes) items
 
--- the segments of the block container at c
+-- the items of the block container at c, and its segments
+abbrev pub items_in : FaceValue → List BoxNode → ℕ → List Item
+items_in face boxes c = measured face boxes (processed false (items_of boxes c))
+
 abbrev pub segments_in : FaceValue → List BoxNode → ℕ → List Segment
-segments_in face boxes c = segments_of (measured face boxes (processed false (items_of boxes c)))
+segments_in face boxes c = segments_of (items_in face boxes c)

@@ -3,13 +3,13 @@
 ghost use Rattle.std.specs.Prelude.{◌≡◌, ◌<◌, ◌≤◌, length, IfOk};
 ghost use Rattle.lay_doc.specs.Tree.{IsTree};
 ghost use Rattle.lay_box_tree.specs.BoxColumns.{box_parents};
-ghost use Rattle.lay_items.specs.InlineSegments.{segments_in};
+ghost use Rattle.lay_items.specs.InlineSegments.{items_in, segments_in};
 
 use crate::container_items::inline_items;
 use crate::measured::measured;
 use lay_box_tree::BoxNode;
 use lay_face::Face;
-use lay_space::{SegmentList, process, segments};
+use lay_space::{ItemList, SegmentList, process, segments};
 use lay_units::NoMemory;
 use std::alloc::Global;
 
@@ -27,8 +27,23 @@ pub fn inline_segments(
     requires there { container < length boxes.now }
     ensures { IfOk result (λ l. l ≡ segments_in face.now boxes.now container) }
 {
+    let items = measured_items(alloc, boxes, container, face)?;
+    segments(alloc, items.as_slice())
+}
+
+/// The same before it is cut.
+pub fn measured_items(
+    alloc: Global,
+    boxes: &[BoxNode],
+    container: usize,
+    face: &Face,
+) -> Result<ItemList, NoMemory>
+    requires tree { IsTree (box_parents boxes.now) }
+    requires few { length boxes.now ≤ 4294967295 }
+    requires there { container < length boxes.now }
+    ensures { IfOk result (λ l. l ≡ items_in face.now boxes.now container) }
+{
     let items = inline_items(alloc, boxes, container)?;
     let left = process(alloc, items.as_slice())?;
-    let measured = measured(alloc, face, boxes, left.as_slice())?;
-    segments(alloc, measured.as_slice())
+    measured(alloc, face, boxes, left.as_slice())
 }

@@ -17,6 +17,6 @@ mod open_boxes;
 mod plain_texts;
 
 pub use container_items::inline_items;
-pub use container_segments::inline_segments;
+pub use container_segments::{inline_segments, measured_items};
 pub use inline_contents::InlineContents;
 pub use modes::mode_of;
