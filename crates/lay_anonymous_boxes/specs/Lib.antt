@@ -9,5 +9,6 @@ pub mod TableWrappers
 pub mod BrokenInlines
 pub mod InlineRuns
 pub mod Generation
+pub mod Staying
 pub mod RunLaws
 pub mod BreakLaws

@@ -8,6 +8,7 @@ use crate::inline_runs::WrapRuns;
 use crate::irrelevant::KeepRelevant;
 use crate::missing_children::WrapChildren;
 use crate::missing_parents::AddParents;
+use crate::staying::stays;
 use crate::subtree::{Subtree, remade};
 use crate::table_wrappers::FillWrappers;
 use lay_units::NoMemory;
@@ -17,8 +18,12 @@ use std::alloc::Global;
 pub fn generate(alloc: Global, tree: Subtree) -> Result<Vec<Subtree>, NoMemory>
     ensures { IfOk result (λ v. v.items ≡ generated tree) }
 {
+    let unchanged = stays(&tree);
     let mut trees = Vec::with_capacity(alloc, 1)?;
     trees.push(tree)?;
+    if unchanged {
+        return Ok(trees);
+    }
     let trees = remade::<KeepRelevant>(alloc, trees)?;
     let trees = remade::<WrapChildren>(alloc, trees)?;
     let trees = remade::<AddParents>(alloc, trees)?;

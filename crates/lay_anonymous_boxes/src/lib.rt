@@ -19,6 +19,7 @@ mod laws;
 mod missing_children;
 mod missing_parents;
 mod runs;
+mod staying;
 mod subtree;
 mod table_wrappers;
 

@@ -1,8 +1,10 @@
 -- Flags that grow by one.
-use Rattle.std.proofs.Common.{◌≡◌, ◌<◌, ◌↔◌, ℕ, ◌+◌, Bool, false, IsTrue, List, [], ◌∷◌, ◌++◌, length, length-append, slice_index_or, refl, sym, subst, arith, inl, inr}
+use Rattle.std.proofs.Common.{◌≡◌, ◌<◌, ◌↔◌, ℕ, ◌+◌, ◌&&◌, Bool, true, false, IsTrue, List, [], ◌∷◌, ◌++◌, length, length-append, slice_index_or, refl, sym, subst, arith, inl, inr}
 use Rattle.std.proofs.lemmas.Bool.{cases_lt}
 use Rattle.std.proofs.lemmas.Grind.{elements}
-use Rattle.lay_boxgen.specs.Contexts.{AreFlagsOf}
+use Rattle.lay_style.specs.declared.style.Style.{Style}
+use Rattle.lay_doc.specs.declared.node.Node.{Node}
+use Rattle.lay_boxgen.specs.Contexts.{AreFlagsOf, GeneratesBox, IsContextAt, box_at, is_marked}
 
 module _ (P : ℕ → Type 0) where
   pub no_flags : AreFlagsOf P 0 []
@@ -25,3 +27,22 @@ module _ (P : ℕ → Type 0) where
           subst (λ (f : Bool). IsTrue f ↔ P k) (sym last) (subst (λ (j : ℕ). IsTrue b ↔ P j) here is))
     ];
   }
+
+left : (a b : Bool) → IsTrue (a && b) → IsTrue a
+left true b x = refl
+left false b x = absurd cc
+
+right : (a b : Bool) → IsTrue (a && b) → IsTrue b
+right true b x = x
+right false b x = absurd cc
+
+both : (a b : Bool) → IsTrue a → IsTrue b → IsTrue (a && b)
+both true b x y = y
+both false b x y = absurd cc
+
+-- a node is a context where its box is marked, and it generates one
+pub marked_and_generated : (nodes : List Node) (styles : List Style) (k : ℕ) (g : Bool) → IsTrue g ↔ GeneratesBox nodes styles k → IsTrue (is_marked (box_at nodes styles k) && g) ↔ IsContextAt nodes styles k
+marked_and_generated nodes styles k g is = (
+  λ x. record { establishes = left (is_marked (box_at nodes styles k)) g x; generates = is.0 (right (is_marked (box_at nodes styles k)) g x) },
+  λ c. both (is_marked (box_at nodes styles k)) g c.establishes (is.1 c.generates),
+)

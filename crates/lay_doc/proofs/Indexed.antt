@@ -1,7 +1,8 @@
 -- The index after an id was added, and the places of ids after one was put among them.
-use Rattle.std.proofs.Common.{◌≡◌, ℕ, zero, suc, ◌+◌, ◌<◌, ◌≤◌, List, [], ◌∷◌, ◌++◌, length, get_or, refl, sym, ap, ◌∙◌, arith, Option, Some, None, option_map, map, inl, inr, eqb, cond, IfSome}
+use Rattle.std.proofs.Common.{◌≡◌, ℕ, zero, suc, ◌+◌, ◌<◌, ◌≤◌, List, [], ◌∷◌, ◌++◌, length, get_or, refl, sym, ap, ◌∙◌, arith, Option, Some, None, false, option_map, map, inl, inr, eqb, cond, IfSome}
 use Rattle.std.specs.List.{insert}
 use Rattle.std.proofs.lemmas.Bool.{cases_eq, cases_lt, eq-eqb, ne_eqb}
+use Rattle.std.proofs.lemmas.Bool.Decides.{nat_tests}
 use Rattle.std.proofs.lemmas.Grind.{elements}
 use Rattle.std.proofs.lemmas.List.{get_or-map, length-append}
 use Rattle.std.proofs.lemmas.List.Edits.{length-insert}
@@ -9,7 +10,7 @@ use Rattle.lay_style.specs.Places.{place_of}
 use Rattle.lay_style.proofs.Places.{map_none, place_here, place_later}
 use Rattle.lay_doc.specs.declared.index.IdIndex.{IdIndex}
 use Rattle.lay_doc.specs.Tree.{shifted}
-use Rattle.lay_doc.specs.Index.{number_in, IsIndexOf}
+use Rattle.lay_doc.specs.Index.{is_up_to, number_in, IsIndexOf}
 use Rattle.lay_doc.proofs.PutTrees.{shifted_low, shifted_high}
 use Rattle.lay_doc.proofs.NodeColumns.{length-column}
 
@@ -45,10 +46,10 @@ place_insert_here (y ∷ ys) (suc at) new within fresh = elim (cases_eq y new) [
 ]
 
 -- the same numbers and places are the same index
-pub same_index : (a b : IdIndex) (ids : List ℕ) → b.numbers.entries ≡ a.numbers.entries → b.places.items ≡ a.places.items → IsIndexOf a ids → IsIndexOf b ids
-same_index a b ids numbers places is = record {
-  places = λ id. rw (numbers, places) (is.places id);
-  found = λ id. rw (numbers, places) (is.found id);
+pub same_index : (a b : IdIndex) (ids : List ℕ) → b.in_order ≡ a.in_order → b.numbers.entries ≡ a.numbers.entries → b.places.items ≡ a.places.items → IsIndexOf a ids → IsIndexOf b ids
+same_index a b ids in_order numbers places is = record {
+  places = λ id. rw (in_order, numbers, places) (is.places id);
+  found = λ id. rw (in_order, numbers, places) (is.found id);
   count = ap length places ∙ is.count;
   within = λ n. rw places (is.within n);
 }
@@ -115,3 +116,21 @@ index_added a b ids id at is within fresh adds =
         | inr high ↦ (let r = read_new a b id at n adds (omega arith) in omega arith)
       ];
     }
+
+up_to_none : (id : ℕ) → is_up_to id 0 ≡ false
+up_to_none id = grind (arith, nat_tests)
+
+number_none : (a : IdIndex) (id : ℕ) → a.in_order ≡ 0 → a.numbers.entries ≡ [] → number_in a id ≡ None
+number_none a id in_order numbers = rw (in_order, up_to_none id, numbers) refl
+
+none_indexed : (a : IdIndex) → a.in_order ≡ 0 → a.numbers.entries ≡ [] → a.places.items ≡ [] → IsIndexOf a []
+none_indexed a in_order numbers places = record {
+  places = λ x. rw (number_none a x in_order numbers) tt;
+  found = λ x. rw (number_none a x in_order numbers) refl;
+  count = ap length places;
+  within = λ n lt. (let none = ap length places in absurd (omega arith));
+}
+
+-- the index of the first id
+pub first_added : (a b : IdIndex) (id : ℕ) → a.in_order ≡ 0 → a.numbers.entries ≡ [] → a.places.items ≡ [] → Adds a b id 0 → IsIndexOf b (id ∷ [])
+first_added a b id in_order numbers places adds = index_added a b [] id 0 (none_indexed a in_order numbers places) (omega arith) refl adds

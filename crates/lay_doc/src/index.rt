@@ -5,7 +5,7 @@ ghost use Rattle.std.specs.BTreeMap.{get};
 ghost use Rattle.std.specs.Ordering.{nat_cmp};
 ghost use Rattle.lay_units.specs.Limits.{most_nodes};
 ghost use Rattle.lay_doc.specs.Tree.{shifted};
-ghost use Rattle.lay_doc.specs.Index.{number_in, place_in, HasPlaces, IsIndexOf};
+ghost use Rattle.lay_doc.specs.Index.{is_up_to, number_in, place_in, HasPlaces, IsIndexOf};
 ghost use Rattle.lay_doc.specs.Document.{ids_of};
 ghost use Rattle.std.specs.List.{remove_range};
 
@@ -17,8 +17,13 @@ use std::collections::BTreeMap;
 
 /// An id has the number of its insertion, which never changes, and each number the present place of its
 /// node. So a node that is put in the middle moves the places in one list, and touches the map once.
+///
+/// Most documents number their nodes in order: the first ids are 1, 2, 3 and so on, and stand in no map.
 #[derive(Drop)]
 pub struct IdIndex {
+    /// The ids from 1 up to this one came first, in this order.
+    in_order: usize,
+    /// The numbers of the other ids.
     numbers: BTreeMap<u32, usize>,
     places: Vec<usize>,
 }
@@ -26,10 +31,12 @@ pub struct IdIndex {
 impl IdIndex {
     /// The index of no node. Nothing is allocated.
     pub fn new(alloc: Global) -> IdIndex
+        ensures in_order { result.in_order ≡ 0 }
         ensures numbers { result.numbers.entries ≡ [] }
         ensures places { result.places.items ≡ [] }
     {
         IdIndex {
+            in_order: 0,
             numbers: BTreeMap::new(alloc),
             places: Vec::new(alloc),
         }
@@ -60,8 +67,19 @@ impl IdIndex {
         requires { HasPlaces self.now }
         ensures { result ≡ place_in self.now id }
     {
+        let number = self.number(id)?;
+        Some(self.places[number])
+    }
+
+    /// The number of this id.
+    fn number(&self, id: u32) -> Option<usize>
+        ensures { result ≡ number_in self.now id }
+    {
+        if is_up_to(id, self.in_order) {
+            return Some(id as usize - 1);
+        }
         let number = self.numbers.get(&id)?;
-        Some(self.places[*number])
+        Some(*number)
     }
 
     /// Notes that a node with this id was put before the place `at`. On an error all is as before.
@@ -71,17 +89,43 @@ impl IdIndex {
         requires within { (n : ℕ) → n < length self.old.places.items → slice_index self.old.places.items n < length self.old.places.items }
         ensures numbers { OnOk result ((x : ℕ) → number_in self.new x ≡ (if x == id then Some (length self.old.places.items) else number_in self.old x)) }
         ensures places { OnOk result (self.new.places.items ≡ map (shifted at) self.old.places.items ++ at ∷ []) }
+        ensures same_order { OnErr result (self.new.in_order ≡ self.old.in_order) }
         ensures same_numbers { OnErr result (self.new.numbers.entries ≡ self.old.numbers.entries) }
         ensures same_places { OnErr result (self.new.places.items ≡ self.old.places.items) }
     {
         self.places.reserve(1)?;
-        add_number(&mut self.numbers, id, self.places.len())?;
+        self.add_number(id)?;
         shift(&mut self.places, at);
         match self.places.push(at) {
             Ok(()) => Ok(()),
             Err(_) => unreachable!(),
         }
     }
+
+    /// Gives an id that has none the number behind all that have a place.
+    fn add_number(&mut self, id: u32) -> Result<(), NoMemory>
+        requires fresh { number_in self.old id ≡ None }
+        requires few { length self.old.places.items ≤ most_nodes }
+        ensures numbers { OnOk result ((x : ℕ) → number_in self.new x ≡ (if x == id then Some (length self.old.places.items) else number_in self.old x)) }
+        ensures same_places { self.new.places.items ≡ self.old.places.items }
+        ensures same_capacity { vec_capacity self.new.places ≡ vec_capacity self.old.places }
+        ensures same_order { OnErr result (self.new.in_order ≡ self.old.in_order) }
+        ensures same_numbers { OnErr result (self.new.numbers.entries ≡ self.old.numbers.entries) }
+    {
+        let number = self.places.len();
+        if number == self.in_order && id as usize == number + 1 {
+            self.in_order = number + 1;
+            return Ok(());
+        }
+        add_number(&mut self.numbers, id, number)
+    }
+}
+
+/// Whether an id is one of 1, 2, 3 and so on up to `last`.
+fn is_up_to(id: u32, last: usize) -> bool
+    ensures { result ≡ is_up_to id last }
+{
+    0 < id && id as usize <= last
 }
 
 /// The id of the node at a place among those but for the ones from the place `from` up to `to`.

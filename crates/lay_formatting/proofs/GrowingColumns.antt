@@ -55,7 +55,7 @@ list_kept lists h r ks other = grind (arith, elements, other)
 list_changed : (lists : List (List ℕ)) (h : ℕ) (ks : List ℕ) → h < length lists → slice_index_or (slice_set lists h ks) h [] ≡ ks
 list_changed lists h ks lt = grind (arith, elements, lt)
 
-not_home : (homes : List ℕ) (r k : ℕ) → slice_index homes k ≢ r → is_at_home homes r k ≡ false
+pub not_home : (homes : List ℕ) (r k : ℕ) → slice_index homes k ≢ r → is_at_home homes r k ≡ false
 not_home homes r zero other = refl
 not_home homes r (suc k) other = differs (slice_index homes (suc k)) r other
   where

@@ -10,3 +10,4 @@ pub mod GrowingList
 pub mod PartingFacts
 pub mod LeadingBack
 pub mod StandingAnchors
+pub mod WholePartings

@@ -48,7 +48,7 @@ module _ (boxes : List BoxNode) (homes : List ℕ) (are : AreContextBoxes boxes)
       let q = ap (λ (n : ℕ). length (at_home_before homes 0 n)) (add-one k) in
       omega (arith, below, step, q)
 
-  rank_same : (k : ℕ) → 0 < k → k < length boxes → rank homes k ≡ k
+  pub rank_same : (k : ℕ) → 0 < k → k < length boxes → rank homes k ≡ k
   rank_same zero positive lt = refl
   rank_same (suc k) positive lt =
       let e = rank_is homes 0 (suc k) (home_zero (suc k) positive lt) in

@@ -5,3 +5,4 @@ pub mod Homes
 pub mod Laws
 pub mod Listed
 pub mod Partings
+pub mod WholePartings

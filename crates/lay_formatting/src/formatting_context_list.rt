@@ -146,11 +146,13 @@ fn inner_numbers(
     requires inside { r < length (boxes_in contexts.now i) }
     ensures { IfOk result (λ v. v.items ≡ inner_numbers contexts.now (homes_of partings.now) i r) }
 {
-    let places = parting_at(partings, i).at_home(r);
-    let mut numbers = Vec::new(alloc);
+    let parting = parting_at(partings, i);
+    let count = parting.count_at_home(r);
+    let mut numbers = Vec::with_capacity(alloc, count.saturating_add(1))?;
     numbers.push(0)?;
-    for a in 0..places.len() {
-        numbers.push(inner_number(contexts, partings, i, places[a]))?;
+    for a in 0..count {
+        let number = inner_number(contexts, partings, i, parting.at_home(r, a));
+        numbers.push(number)?;
     }
     Ok(numbers)
 }

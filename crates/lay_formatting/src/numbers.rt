@@ -34,7 +34,7 @@ pub(crate) fn numbers(
 }
 
 /// The number behind the box at k, where that of a root there would be this one.
-fn behind(boxes: &[BoxNode], k: usize, number: usize) -> Result<usize, NoMemory>
+pub(crate) fn behind(boxes: &[BoxNode], k: usize, number: usize) -> Result<usize, NoMemory>
     requires within { k < length boxes.now }
     requires few { number ≤ most_formatting_contexts }
     ensures number { IfOk result (λ n. n ≡ (if is_root boxes.now k then (number + 1) else number)) }

@@ -1,13 +1,15 @@
 //! Where the boxes of a context go.
 
-ghost use Rattle.std.specs.Prelude.{◌≡◌, ◌<◌, ◌≤◌, [], IfOk, length, slice_index, slice_index_or};
+ghost use Rattle.std.specs.Prelude.{◌≡◌, ◌<◌, ◌≤◌, [], IfOk, IsTrue, length, slice_index, slice_index_or};
 ghost use Rattle.lay_context_boxes.specs.ContextBoxes.{AreContextBoxes};
 ghost use Rattle.lay_contexts.specs.Contexts.{boxes_in};
 ghost use Rattle.lay_formatting.specs.Partings.{ArePartings, IsParting, most_formatting_contexts, parting_at};
+ghost use Rattle.lay_formatting.specs.WholePartings.{HasOneRoot};
 
 use crate::homes::{homes, place_at};
-use crate::numbers::numbers;
+use crate::numbers::{behind, numbers};
 use crate::ranks::{Places, RankLists, ranks};
+use crate::roots::is_root;
 use lay_box_tree::BoxNode;
 use lay_contexts::Contexts;
 use lay_units::NoMemory;
@@ -18,6 +20,24 @@ use std::marker::Model;
 /// has; and behind the last one the number of the next context.
 #[derive(Drop)]
 pub(crate) struct Parting {
+    parts: Parts,
+}
+
+/// Most contexts have no root but their own box, and need no columns.
+#[derive(Drop)]
+enum Parts {
+    /// The number of the own box, that of the next context, and how many boxes are inside the own one.
+    Whole {
+        first: usize,
+        next: usize,
+        inside: usize,
+    },
+    Several(PartColumns),
+}
+
+/// A column for each that is known.
+#[derive(Drop)]
+struct PartColumns {
     homes: Vec<usize>,
     ranks: RankLists,
     numbers: Vec<usize>,
@@ -25,10 +45,11 @@ pub(crate) struct Parting {
 
 impl Model for Parting {
     ghost use Rattle.lay_formatting.specs.Partings.{Parting as Plain};
+    ghost use Rattle.lay_formatting.specs.WholePartings.{parting_of};
 
     ghost Value = { Plain };
 
-    ghost view = { λ p. record { homes = p.homes.items; ranks = p.ranks.ranks.items; at_home = p.ranks.at_home.items; numbers = p.numbers.items } };
+    ghost view = { λ p. parting_of p.parts };
 }
 
 impl Parting {
@@ -38,13 +59,35 @@ impl Parting {
         requires few { first ≤ most_formatting_contexts }
         ensures { IfOk result (IsParting boxes.now first) }
     {
+        if is_whole(boxes) {
+            return Parting::whole(boxes, first);
+        }
         let homes = homes(alloc, boxes)?;
         let ranks = ranks(alloc, &homes)?;
         let numbers = numbers(alloc, boxes, first)?;
         Ok(Parting {
-            homes,
-            ranks,
-            numbers,
+            parts: Parts::Several(PartColumns {
+                homes,
+                ranks,
+                numbers,
+            }),
+        })
+    }
+
+    /// That of boxes of which only the own one is a root.
+    fn whole(boxes: &[BoxNode], first: usize) -> Result<Parting, NoMemory>
+        requires are { AreContextBoxes boxes.now }
+        requires few { first ≤ most_formatting_contexts }
+        requires whole { HasOneRoot boxes.now }
+        ensures { IfOk result (IsParting boxes.now first) }
+    {
+        let next = behind(boxes, 0, first)?;
+        Ok(Parting {
+            parts: Parts::Whole {
+                first,
+                next,
+                inside: boxes.len() - 1,
+            },
         })
     }
 
@@ -53,7 +96,10 @@ impl Parting {
         requires { k < length self.now.homes }
         ensures { result ≡ slice_index self.now.homes k }
     {
-        place_at(&self.homes, k)
+        match &self.parts {
+            Parts::Whole { .. } => 0,
+            Parts::Several(columns) => place_at(&columns.homes, k),
+        }
     }
 
     /// The place of the box at k in the list of its home.
@@ -61,7 +107,10 @@ impl Parting {
         requires { k < length self.now.ranks }
         ensures { result ≡ slice_index self.now.ranks k }
     {
-        place_at(&self.ranks.ranks, k)
+        match &self.parts {
+            Parts::Whole { .. } => k,
+            Parts::Several(columns) => place_at(&columns.ranks.ranks, k),
+        }
     }
 
     /// The number of a root at k, or behind the last box that of the next context.
@@ -69,16 +118,49 @@ impl Parting {
         requires { k < length self.now.numbers }
         ensures { result ≡ slice_index self.now.numbers k }
     {
-        place_at(&self.numbers, k)
+        match &self.parts {
+            Parts::Whole { first, next, .. } => { if k == 0 { *first } else { *next } }
+            Parts::Several(columns) => place_at(&columns.numbers, k),
+        }
     }
 
-    /// The places of the boxes that are at home in the one at r.
-    pub(crate) fn at_home(&self, r: usize) -> &[usize]
+    /// How many boxes are at home in the one at r.
+    pub(crate) fn count_at_home(&self, r: usize) -> usize
         requires { r < length self.now.at_home }
-        ensures { result.now ≡ slice_index_or self.now.at_home r [] }
+        ensures { result ≡ length (slice_index_or self.now.at_home r []) }
     {
-        places_at(&self.ranks.at_home, r)
+        match &self.parts {
+            Parts::Whole { inside, .. } => { if r == 0 { *inside } else { 0 } }
+            Parts::Several(columns) => places_at(&columns.ranks.at_home, r).len(),
+        }
     }
+
+    /// The place of the box that stands at `a` among those at home in the one at r.
+    pub(crate) fn at_home(&self, r: usize, a: usize) -> usize
+        requires home { r < length self.now.at_home }
+        requires place { a < length (slice_index_or self.now.at_home r []) }
+        ensures { result ≡ slice_index (slice_index_or self.now.at_home r []) a }
+    {
+        match &self.parts {
+            Parts::Whole { inside, .. } => {
+                let _inside = *inside;
+                a + 1
+            }
+            Parts::Several(columns) => place_at(places_at(&columns.ranks.at_home, r), a),
+        }
+    }
+}
+
+/// Whether only the own box is a root.
+fn is_whole(boxes: &[BoxNode]) -> bool
+    ensures { IsTrue result → HasOneRoot boxes.now }
+{
+    for k in 1..boxes.len() {
+        if is_root(boxes, k) {
+            return false;
+        }
+    }
+    true
 }
 
 fn places_at(lists: &[Places], r: usize) -> &[usize]

@@ -48,11 +48,11 @@ fn listed(
     requires within { r < length boxes.now }
     ensures { IfOk result (λ v. v.items ≡ boxes_of_root boxes.now parting.now.homes r) }
 {
-    let places = parting.at_home(r);
+    let count = parting.count_at_home(r);
     let mut items = Vec::new(alloc);
     items.push(placed(alloc, &boxes[r], 0, false)?)?;
-    for a in 0..places.len() {
-        let member = member(alloc, boxes, parting, places[a])?;
+    for a in 0..count {
+        let member = member(alloc, boxes, parting, parting.at_home(r, a))?;
         items.push(member)?;
     }
     Ok(items)

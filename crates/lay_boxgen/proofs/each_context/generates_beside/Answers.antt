@@ -1,4 +1,4 @@
-use Rattle.std.proofs.Common.{rules, ◌≡◌, ◌<◌, IsTrue, false, length, slice_index, slice_index_or, arith, subst, sym}
+use Rattle.std.proofs.Common.{rules, ◌≡◌, ◌<◌, IsTrue, false, length, slice_index, slice_index_or, arith, ap, subst, sym, ◌∙◌}
 use Rattle.lay_doc.specs.Document.{parents_of}
 use Rattle.lay_boxgen.specs.Contexts.{GeneratesBox, box_at, has_box, keeps, below}
 use Rattle.lay_boxgen.proofs.NodeColumns.{length-parents}
@@ -10,6 +10,7 @@ returns-then-k-eq0 c =
     let nodes = c.args.nodes.now in
     let styles = c.args.styles.now in
     let low : c.args.k ≡ 0 = omega (arith, c.if-k-eq0.true) in
+    let own : c.args.facts ≡ box_at nodes styles 0 = c.requires.own ∙ ap (box_at nodes styles) low in
     let has : c.is_some.result ≡ has_box (box_at nodes styles 0) = search rules in (
       λ x. from_root nodes styles c.args.k low (subst IsTrue has x),
       λ g. subst IsTrue (sym has) (root_has nodes styles c.args.k g low),
