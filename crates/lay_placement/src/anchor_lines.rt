@@ -100,12 +100,17 @@ fn put_lines(
     requires count { length tops.old ≡ length input.now.boxes }
     ensures { OnOk result (ArePut input.now.boxes c tops.old tops.new (line_top (rows_at places.now.places c) (segments_in input.now.face input.now.boxes c))) }
 {
-    let segments = inline_segments(alloc, input.boxes(), c, input.face())?;
     let of = Holder {
         boxes: input.context_boxes(),
         container: c,
     };
-    put_rows(tops, &of, rows_at(&places.places, c), segments.as_slice());
+    let rows = rows_at(&places.places, c);
+    if let Some(segments) = input.segments_at(c) {
+        put_rows(tops, &of, rows, segments);
+        return Ok(());
+    }
+    let segments = inline_segments(alloc, input.boxes(), c, input.face())?;
+    put_rows(tops, &of, rows, segments.as_slice());
     Ok(())
 }
 
