@@ -1,28 +1,28 @@
 -- A box is closed.
 use Rattle.std.proofs.Common.{◌≡◌, ℕ, ◌<◌, ◌≤◌, ◌==◌, ◌&&◌, ◌||◌, not, nat_lt, Bool, true, false, ℤ, pos, ◌+ℤ◌, ◌-ℤ◌, List, [], ◌∷◌, ◌++◌, length, refl, sym, ap, ◌∙◌, arith, inl, inr}
 use Rattle.std.proofs.lemmas.Bool.{cases_eq}
-use Rattle.lay_flow.specs.declared.flow_box.FlowBox.{FlowBox}
-use Rattle.lay_flow.specs.Boxes.{parent_at, parents_of}
+use Rattle.lay_blocks.specs.declared.flow_box.FlowBox.{FlowBox}
+use Rattle.lay_blocks.specs.Boxes.{parent_at, parents_of}
 use Rattle.lay_units.specs.declared.length.Unit.{Unit as Length}
 use Rattle.lay_margins.specs.StrutValue.{StrutValue}
 use Rattle.lay_margins.specs.Collapse.{Holds, collapse}
 use Rattle.lay_doc.specs.Tree.{IsTree}
-use Rattle.lay_flow.specs.Lengths.{length_at}
-use Rattle.lay_flow.specs.Children.{flag_at}
-use Rattle.lay_flow.specs.MarginRuns.{Entry, margin, margins, has_top, is_barred, block_at, run_at, run_before, run_across, joins_bottom, may_collapse_through, may_join_bottoms}
-use Rattle.lay_flow.specs.BlockLayout.{BlockLayout}
-use Rattle.lay_flow.specs.BlockPositions.{IsBlockLayout, start_before, start_below}
+use Rattle.lay_blocks.specs.Lengths.{length_at}
+use Rattle.lay_blocks.specs.Children.{flag_at}
+use Rattle.lay_blocks.specs.MarginRuns.{Entry, margin, margins, has_top, is_barred, block_at, run_at, run_before, run_across, joins_bottom, may_collapse_through, may_join_bottoms}
+use Rattle.lay_blocks.specs.BlockLayout.{BlockLayout}
+use Rattle.lay_blocks.specs.BlockPositions.{IsBlockLayout, start_before, start_below}
 use Rattle.lay_flow.specs.Pass.State.{Settled, PassState, IsAt, columns_of, ended_run}
-use Rattle.lay_flow.proofs.CollapsedThrough.{through_inside}
-use Rattle.lay_flow.proofs.GatheredRuns.{comes_here, comes_up, last_up, childless_on, passes_here, close_joined as gathered_joined, close_parted as gathered_parted}
-use Rattle.lay_flow.proofs.LayoutFacts.{start_next, start_clears_through, mark_through}
-use Rattle.lay_flow.specs.Pass.MarginPlace.{IsPlace, margin_place}
+use Rattle.lay_blocks.proofs.CollapsedThrough.{through_inside}
+use Rattle.lay_blocks.proofs.GatheredRuns.{comes_here, comes_up, last_up, childless_on, passes_here, close_joined as gathered_joined, close_parted as gathered_parted}
+use Rattle.lay_blocks.proofs.LayoutFacts.{start_next, start_clears_through, mark_through}
+use Rattle.lay_blocks.specs.MarginPlace.{IsPlace, margin_place}
 use Rattle.lay_flow.proofs.Openings.{WithMargin}
-use Rattle.lay_flow.proofs.RunEntries.{margins-append}
-use Rattle.lay_flow.proofs.RunFacts.{ends_inside, to_bottom_is, joins_is}
+use Rattle.lay_blocks.proofs.RunEntries.{margins-append}
+use Rattle.lay_blocks.proofs.RunFacts.{ends_inside, to_bottom_is, joins_is}
 use Rattle.lay_flow.proofs.RunReach.{RunEnds, sum_two, starts_here, mark_here, waiting_open, tops_here, reach_is}
 use Rattle.lay_flow.proofs.SoFar.{Wrote, so_far_settled, so_far_closed, so_far_through}
-use Rattle.lay_flow.proofs.Truths.{true_false, true_or, low_not}
+use Rattle.lay_blocks.proofs.Truths.{true_false, true_or, low_not}
 
 module _ (boxes : List FlowBox) (y : BlockLayout) (is : IsBlockLayout boxes y) (tree : IsTree (parents_of boxes))
     (now : PassState) (p m : ℕ) (positive : 0 < p) (was : IsAt boxes y now (margin_place p m)) (ends : m < length boxes → parent_at boxes m < p) where
@@ -96,7 +96,7 @@ module _ (boxes : List FlowBox) (y : BlockLayout) (is : IsBlockLayout boxes y) (
 
   -- its margins are in one run
   pub close_passing : (marks heights : List Length) (flags : List Bool) (strut : StrutValue) (mark : ℤ) → may_collapse_through (block_at boxes p) ≡ true → now.first ≤ p → (now.hangs ≡ true → now.first < p)
-      → RunEnds now.hangs now.start now.strut mark
+      → RunEnds now mark
       → Wrote length_at now.marks marks p mark → Wrote length_at now.heights heights p (pos 0) → Wrote flag_at now.through flags p true → WithMargin now.strut strut bottom
       → IsAt boxes y (record now { marks = marks; heights = heights; through = flags; strut = strut }) (margin_place (parent_at boxes p) m)
   close_passing marks heights flags strut mark may waits below reach wrote_mark wrote_height wrote_flag holds =
@@ -128,7 +128,7 @@ module _ (boxes : List FlowBox) (y : BlockLayout) (is : IsBlockLayout boxes y) (
           reach.value f _ was.in_run.strut_holds ∙ (λ i. start i +ℤ collapse (margins (sym coming_here i))) ∙ sym (mark_through boxes y is p positive within_p truth none))
 
   -- where the run ends that comes to its bottom margin
-  module _ (truth : flag_at y.runs.through p ≡ false) (parted : joins_bottom boxes y.runs p ≡ false) (end : ℤ) (reach : RunEnds now.hangs now.start now.strut end) where
+  module _ (truth : flag_at y.runs.through p ≡ false) (parted : joins_bottom boxes y.runs p ≡ false) (end : ℤ) (reach : RunEnds now end) where
     stands : now.hangs ≡ true → flag_at y.runs.through now.first ≡ false
     stands t =
         let h = was.in_run.hanging t in

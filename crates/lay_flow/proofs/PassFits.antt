@@ -2,27 +2,27 @@
 use Rattle.std.proofs.Common.{◌≡◌, ℕ, zero, suc, ◌+◌, ◌<◌, ◌≤◌, Bool, true, false, ℤ, pos, neg_ℤ, ◌≤ℤ◌, ◌+ℤ◌, ◌-ℤ◌, List, length, refl, sym, ◌∙◌, arith, inl, inr, subst}
 use Rattle.std.proofs.lemmas.Bool.{cases_lt, cases_eq}
 use Rattle.std.proofs.lemmas.Int.{ints}
-use Rattle.lay_flow.specs.declared.flow_box.FlowBox.{FlowBox}
-use Rattle.lay_flow.specs.Boxes.{parent_at, parents_of}
-use Rattle.lay_flow.proofs.BoxTrees.{parent_before}
+use Rattle.lay_blocks.specs.declared.flow_box.FlowBox.{FlowBox}
+use Rattle.lay_blocks.specs.Boxes.{parent_at, parents_of}
+use Rattle.lay_blocks.proofs.BoxTrees.{parent_before}
 use Rattle.lay_units.specs.Units.{IsPosition}
 use Rattle.lay_units.specs.declared.length.Unit.{Unit as Length}
 use Rattle.lay_margins.specs.StrutValue.{StrutValue}
 use Rattle.lay_doc.specs.Tree.{IsTree}
-use Rattle.lay_flow.specs.Lengths.{length_at}
-use Rattle.lay_flow.specs.BlockSizes.{IsInset, IsBoxSize, IsNear}
-use Rattle.lay_flow.specs.Children.{flag_at}
-use Rattle.lay_flow.specs.MarginRuns.{block_at, parts_tops}
-use Rattle.lay_flow.specs.BlockPositions.{is_solid}
-use Rattle.lay_flow.specs.Pass.State.{PassState, Settled, columns_of, ended_run}
+use Rattle.lay_blocks.specs.Lengths.{length_at}
+use Rattle.lay_blocks.specs.BlockSizes.{IsInset, IsBoxSize, IsNear}
+use Rattle.lay_blocks.specs.Children.{flag_at}
+use Rattle.lay_blocks.specs.MarginRuns.{block_at, parts_tops}
+use Rattle.lay_blocks.specs.BlockPositions.{is_solid}
+use Rattle.lay_flow.specs.Pass.State.{PassState, RunEnd, Settled, columns_of, ended_run}
 use Rattle.lay_flow.specs.Pass.Bounds.{StateFits, IsStartNear, IsRunNear, IsEdgeNear, IsMarkNear, IsCollapseNear, reach}
 use Rattle.lay_flow.specs.Pass.Struts.{StrutFits}
 use Rattle.lay_flow.proofs.Openings.{pushed}
 use Rattle.lay_flow.proofs.SoFar.{Wrote}
-use Rattle.lay_flow.specs.Weights.{weight}
-use Rattle.lay_flow.proofs.Truths.{true_false, true_or}
-use Rattle.lay_flow.specs.FlowBoxes.{AreFlowBoxes}
-use Rattle.lay_flow.proofs.WeightFacts.{light_at, weight_up}
+use Rattle.lay_blocks.specs.Weights.{weight}
+use Rattle.lay_blocks.proofs.Truths.{true_false, true_or}
+use Rattle.lay_blocks.specs.FlowBoxes.{AreFlowBoxes}
+use Rattle.lay_blocks.proofs.WeightFacts.{light_at, weight_up}
 
 pub start_is_near : (k : ℕ) (v : ℤ) → k ≤ 8388608 → IsRunNear k v → IsNear v
 start_is_near k v few near = let a = near.0 in let b = near.1 in (omega (arith, ints, few, a), omega (arith, ints, few, b))
@@ -84,20 +84,20 @@ higher_near : (j k : ℕ) (v : ℤ) → j ≤ k → IsMarkNear j v → IsMarkNea
 higher_near j k v le near = let a = near.0 in let b = near.1 in (omega (arith, ints, a, le), omega (arith, ints, b, le))
 
 -- the marks once a run has ended
-pub settled_near : (boxes : List FlowBox) (flags : List Bool) (old new : List Length) (f m : ℕ) (end : ℤ) → IsTree (parents_of boxes) → 0 < f → m ≤ length boxes
-    → ((j : ℕ) → IsMarkNear (weight boxes j) (length_at old j)) → ((j : ℕ) → f ≤ j → IsMarkNear (weight boxes j) end) → Settled boxes (record { through = flags; first = f; next = m; mark = end }) old new
+pub settled_near : (boxes : List FlowBox) (run : RunEnd) (old new : List Length) → IsTree (parents_of boxes) → 0 < run.first → run.next ≤ length boxes
+    → ((j : ℕ) → IsMarkNear (weight boxes j) (length_at old j)) → ((j : ℕ) → run.first ≤ j → IsMarkNear (weight boxes j) run.mark) → Settled boxes run old new
     → (n j : ℕ) → j < n → IsMarkNear (weight boxes j) (length_at new j)
-settled_near boxes flags old new f m end tree positive within was ended settled zero j lt = absurd (omega (arith, lt))
-settled_near boxes flags old new f m end tree positive within was ended settled (suc n) j lt = elim (cases_lt j f) [
+settled_near boxes run old new tree positive within was ended settled zero j lt = absurd (omega (arith, lt))
+settled_near boxes run old new tree positive within was ended settled (suc n) j lt = elim (cases_lt j run.first) [
   | inl low ↦ subst (IsMarkNear (weight boxes j)) (sym (settled.before j low)) (was j)
-  | inr high ↦ elim (cases_lt j m) [
-    | inl inside ↦ true_or (flag_at flags j) (IsMarkNear (weight boxes j) (length_at new j))
-        (λ code. elim (cases_lt (parent_at boxes j) f) [
+  | inr high ↦ elim (cases_lt j run.next) [
+    | inl inside ↦ true_or (flag_at run.through j) (IsMarkNear (weight boxes j) (length_at new j))
+        (λ code. elim (cases_lt (parent_at boxes j) run.first) [
           | inl low ↦ subst (IsMarkNear (weight boxes j)) (sym (settled.keeps j high inside code low)) (was j)
           | inr up ↦ (let b = parent_before boxes tree j (omega (arith, positive, high)) (omega (arith, inside, within)) in
               subst (IsMarkNear (weight boxes j)) (sym (settled.inherits j high inside code up))
               (higher_near (weight boxes (parent_at boxes j)) (weight boxes j) (length_at new (parent_at boxes j)) (weight_up boxes (parent_at boxes j) j (omega (arith, b)))
-              (settled_near boxes flags old new f m end tree positive within was ended settled n (parent_at boxes j) (omega (arith, b, lt)))))
+              (settled_near boxes run old new tree positive within was ended settled n (parent_at boxes j) (omega (arith, b, lt)))))
         ])
         (λ code. subst (IsMarkNear (weight boxes j)) (sym (settled.stands j high inside code)) (ended j high))
     | inr after ↦ subst (IsMarkNear (weight boxes j)) (sym (settled.after j after)) (was j)
@@ -107,7 +107,7 @@ settled_near boxes flags old new f m end tree positive within was ended settled 
 -- a run ends
 module _ (boxes : List FlowBox) (tree : IsTree (parents_of boxes)) (now : PassState) (p m : ℕ) (was : StateFits boxes now p m) (end : ℤ) (ended : IsCollapseNear (end -ℤ now.start)) where
   pub marks_near : (n : ℕ) → n ≤ length boxes → (marks : List Length) → Settled boxes (ended_run (columns_of now) n end) now.marks marks → (j : ℕ) → IsMarkNear (weight boxes j) (length_at marks j)
-  marks_near n within marks settled j = settled_near boxes now.through now.marks marks now.first n end tree was.first_least within was.mark_near
+  marks_near n within marks settled j = settled_near boxes (ended_run (columns_of now) n end) now.marks marks tree was.first_least within was.mark_near
       (λ i le. end_near (weight boxes now.first) (weight boxes i) now.start end was.start_near ended (weight_up boxes now.first i le)) settled (j + 1) j (omega arith)
 
   pub end_is_near : AreFlowBoxes boxes → IsNear end

@@ -1,9 +1,9 @@
 -- What is known after each step of the pass.
 use Rattle.std.proofs.Common.{◌≡◌, ℕ, ◌+◌, ◌<◌, ◌≤◌, ◌==◌, ◌&&◌, ◌||◌, not, nat_lt, Bool, true, false, ℤ, pos, ◌+ℤ◌, ◌-ℤ◌, List, [], ◌∷◌, length, refl, sym, ap, ◌∙◌, arith, inl, inr, subst}
 use Rattle.std.proofs.lemmas.Bool.{cases_lt}
-use Rattle.lay_flow.specs.declared.flow_box.FlowBox.{FlowBox}
-use Rattle.lay_flow.specs.Boxes.{box_at, parent_at, parents_of}
-use Rattle.lay_flow.proofs.BoxTrees.{parent_before}
+use Rattle.lay_blocks.specs.declared.flow_box.FlowBox.{FlowBox}
+use Rattle.lay_blocks.specs.Boxes.{box_at, parent_at, parents_of}
+use Rattle.lay_blocks.proofs.BoxTrees.{parent_before}
 use Rattle.lay_units.specs.declared.length.Unit.{Unit as Length}
 use Rattle.lay_margins.specs.StrutValue.{StrutValue}
 use Rattle.lay_margins.specs.Collapse.{Holds, collapse}
@@ -12,32 +12,32 @@ use Rattle.lay_floats.specs.FloatPlace.{IsFloatPlace}
 use Rattle.lay_floats.specs.SolidPlace.{IsSolidPlace}
 use Rattle.lay_floats.specs.Within.{IsWithin}
 use Rattle.lay_doc.specs.Tree.{IsTree}
-use Rattle.lay_flow.specs.Lengths.{length_at}
-use Rattle.lay_flow.specs.BlockSizes.{IsBoxSize}
-use Rattle.lay_flow.specs.Children.{flag_at}
-use Rattle.lay_flow.specs.MarginRuns.{block_at, parts_tops, joins_bottom, may_collapse_through, may_join_bottoms}
-use Rattle.lay_flow.specs.BlockLayout.{BlockLayout, Extents}
-use Rattle.lay_flow.specs.BlockPositions.{border_height, is_placed, is_solid}
-use Rattle.lay_flow.specs.BlockFloats.{Spot, content_of, line_content_of, lines_at, shape_at, place_at, floats_before, float_request, solid_request, ceiling}
+use Rattle.lay_blocks.specs.Lengths.{length_at}
+use Rattle.lay_blocks.specs.BlockSizes.{IsBoxSize}
+use Rattle.lay_blocks.specs.Children.{flag_at}
+use Rattle.lay_blocks.specs.MarginRuns.{block_at, parts_tops, joins_bottom, may_collapse_through, may_join_bottoms}
+use Rattle.lay_blocks.specs.BlockLayout.{BlockLayout, Extents}
+use Rattle.lay_blocks.specs.BlockPositions.{border_height, is_placed, is_solid, held_end, held_height}
+use Rattle.lay_blocks.specs.BlockFloats.{Spot, content_of, line_content_of, lines_at, shape_at, place_at, floats_before, float_request, solid_request, ceiling}
 use Rattle.lay_flow.specs.Pass.State.{PassState, IsAt, Settled, columns_of, Clearances, clearances_of, ended_run}
-use Rattle.lay_flow.specs.FlowBoxes.{AreFlowBoxes}
-use Rattle.lay_flow.specs.Pass.Bounds.{IsStartNear, IsMarkNear, IsCollapseNear, held_end, held_height, is_barred, reach}
+use Rattle.lay_blocks.specs.FlowBoxes.{AreFlowBoxes}
+use Rattle.lay_flow.specs.Pass.Bounds.{IsStartNear, IsMarkNear, IsCollapseNear, is_barred, reach}
 use Rattle.lay_flow.specs.Pass.Struts.{StrutFits}
 use Rattle.lay_flow.specs.Pass.Placed.{Placing, PlacesTo}
 use Rattle.lay_flow.specs.Pass.Knows.{Knows, IsReady, MayBe, IsCandidate, HaveNoExtent, AreClears, AreDecided, AreExtentsKept, ArePlacesKept}
-use Rattle.lay_flow.proofs.FlowBoxFacts.{block_fits}
-use Rattle.lay_flow.proofs.ContentHeights.{content_margin, held_between, held_same, same_border_height}
-use Rattle.lay_flow.proofs.BlockKinds.{joined_passes, joins_flow, placed_none, solid_placed}
+use Rattle.lay_blocks.proofs.FlowBoxFacts.{block_fits}
+use Rattle.lay_blocks.proofs.ContentHeights.{content_margin, held_between, held_same, same_border_height}
+use Rattle.lay_blocks.proofs.BlockKinds.{joined_passes, joins_flow, placed_none, solid_placed}
 use Rattle.lay_flow.proofs.Openings.{WithMargin, pushed, opened, opened_wall}
 use Rattle.lay_flow.proofs.Closings.{passes_is, joined_here, code_open, not_hanging, started, close_passing, close_joined, close_parted, mark_parted, reach_parted}
 use Rattle.lay_flow.proofs.ContentEnds.{bottom_joined, bottom_parted, height_there}
 use Rattle.lay_flow.proofs.PassFits.{fits_opened, fits_parting, fits_started, fits_through, fits_joined, fits_parted, marks_near, end_near, below_near, inset_height, later_near, edge_later_near, run_later_near, above_near}
 use Rattle.lay_flow.proofs.RunReach.{RunEnds}
 use Rattle.lay_flow.proofs.SoFar.{Wrote}
-use Rattle.lay_flow.proofs.Truths.{true_false, true_or, low_yes}
-use Rattle.lay_flow.specs.Weights.{weight}
-use Rattle.lay_flow.proofs.WeightFacts.{weight_up, weight_over}
-use Rattle.lay_flow.specs.Pass.MarginPlace.{margin_place}
+use Rattle.lay_blocks.proofs.Truths.{true_false, true_or, low_yes}
+use Rattle.lay_blocks.specs.Weights.{weight}
+use Rattle.lay_blocks.proofs.WeightFacts.{weight_up, weight_over}
+use Rattle.lay_blocks.specs.MarginPlace.{margin_place}
 
 -- boxes stay placed where the marks before them are the same
 pub placed_kept : (boxes : List FlowBox) (old new : List Length) (now : Placing) (n : ℕ) → IsTree (parents_of boxes) → n ≤ length boxes
@@ -118,7 +118,7 @@ module _ (boxes : List FlowBox) (tree : IsTree (parents_of boxes)) (now : PassSt
   }
 
   pub knows_parting : (k : ℕ) (marks : List Length) (end start : ℤ) (strut strut' : StrutValue) → AreFlowBoxes boxes → 0 < k → k < length boxes → parts_tops boxes k ≡ true → IsReady boxes now placing k
-      → WithMargin now.strut strut (block_at boxes k).margin_top.0 → RunEnds now.hangs now.start strut end → IsCollapseNear (end -ℤ now.start)
+      → WithMargin now.strut strut (block_at boxes k).margin_top.0 → RunEnds (pushed now strut) end → IsCollapseNear (end -ℤ now.start)
       → Settled boxes (ended_run (columns_of now) (k + 1) end) now.marks marks → start ≡ end +ℤ (block_at boxes k).edge_top.0 → StrutFits strut' → Holds strut' []
       → Knows boxes (record now { marks = marks; start = start; strut = strut'; first = k + 1; hangs = false }) placing (margin_place k (k + 1))
   knows_parting k marks end start strut strut' input positive within parting was holds ends ended settled starts fits' empty =
@@ -156,7 +156,7 @@ module _ (boxes : List FlowBox) (tree : IsTree (parents_of boxes)) (now : PassSt
     }
 
     pub knows_through : (marks heights : List Length) (flags : List Bool) (end : ℤ) (strut' : StrutValue) → may_collapse_through (block_at boxes p) ≡ true → now.first ≤ p → (now.hangs ≡ true → now.first < p)
-        → RunEnds now.hangs now.start now.strut end → IsCollapseNear (end -ℤ now.start)
+        → RunEnds now end → IsCollapseNear (end -ℤ now.start)
         → Wrote length_at now.marks marks p end → Wrote length_at now.heights heights p (pos 0) → Wrote flag_at now.through flags p true
         → StrutFits strut' → WithMargin now.strut strut' (block_at boxes p).margin_bottom.0
         → Knows boxes (record now { marks = marks; heights = heights; through = flags; strut = strut' }) placing (margin_place (parent_at boxes p) m)
@@ -260,7 +260,7 @@ module _ (boxes : List FlowBox) (tree : IsTree (parents_of boxes)) (now : PassSt
             (starts ∙ (λ i. marked i +ℤ (sym wrote.here) i)) holds
 
     pub knows_parted : (marks heights : List Length) (placing' : Placing) (end mark height start : ℤ) (strut' : StrutValue) → (may_join_bottoms (block_at boxes p) && not (is_barred boxes now p)) ≡ false → (may_collapse_through (block_at boxes p) ≡ true → p < now.first)
-        → RunEnds now.hangs now.start now.strut end → IsCollapseNear (end -ℤ now.start)
+        → RunEnds now end → IsCollapseNear (end -ℤ now.start)
         → Settled boxes (ended_run (columns_of now) m end) now.marks marks
         → PlacesTo boxes marks placing' m → AreExtentsKept boxes (length placing.places) placing.extents placing'.extents → ArePlacesKept placing.places placing'.places
         → mark ≡ length_at marks p → (is_solid (block_at boxes p).inside ≡ false → IsBoxSize height) → height ≡ border_height (block_at boxes p) (length_at placing'.extents p) (held_height (block_at boxes p).inside (length_at placing'.extents p) (end -ℤ (mark +ℤ (block_at boxes p).edge_top.0)))

@@ -1,12 +1,12 @@
 -- One more box is placed: a float, a solid box, or another.
-use Rattle.std.proofs.Common.{◌≡◌, ℕ, zero, suc, ◌+◌, ◌*◌, ◌<◌, ◌≤◌, true, false, ℤ, pos, ◌+ℤ◌, ◌-ℤ◌, ◌≤ℤ◌, List, [], ◌∷◌, ◌++◌, length, All, get_or, slice_get, refl, sym, ap, ◌∙◌, arith, inl, inr, Option, Some, None, subst, IfSome}
+use Rattle.std.proofs.Common.{◌≡◌, ℕ, suc, ◌+◌, ◌*◌, ◌<◌, ◌≤◌, true, false, ℤ, pos, ◌+ℤ◌, ◌-ℤ◌, ◌≤ℤ◌, List, [], ◌∷◌, ◌++◌, length, All, get_or, slice_get, refl, sym, ap, ◌∙◌, arith, inl, inr, Option, Some, None, subst, IfSome}
 use Rattle.std.proofs.lemmas.Bool.{cases_lt}
 use Rattle.std.proofs.lemmas.Int.{ints, clamps}
 use Rattle.std.specs.Int.{int_max}
 use Rattle.lay_units.specs.Units.{IsPosition}
 use Rattle.std.proofs.lemmas.Grind.{elements}
 use Rattle.std.proofs.lemmas.List.Elements.{All-nil, All-push, All-same, All-weaker}
-use Rattle.lay_flow.specs.declared.flow_box.FlowBox.{FlowBox}
+use Rattle.lay_blocks.specs.declared.flow_box.FlowBox.{FlowBox}
 use Rattle.lay_units.specs.declared.length.Unit.{Unit as Length}
 use Rattle.lay_floats.specs.declared.placed.Placed.{Placed}
 use Rattle.lay_floats.specs.declared.requests.Side.{Side}
@@ -21,40 +21,30 @@ use Rattle.lay_floats.specs.FloatPlace.{IsFloatPlace, placed_at}
 use Rattle.lay_floats.specs.SolidPlace.{IsSolidPlace}
 use Rattle.lay_floats.specs.Within.{IsWithin, BoxWithin, RequestWithin}
 use Rattle.lay_floats.proofs.Bounds.{place_within_lem}
-use Rattle.lay_flow.specs.declared.shape.Shape.{Shape}
-use Rattle.lay_flow.specs.Lengths.{length_at}
-use Rattle.lay_flow.specs.MarginRuns.{block_at}
-use Rattle.lay_flow.specs.BlockPositions.{is_lines, is_placed, is_solid}
-use Rattle.lay_flow.specs.Boxes.{box_at}
-use Rattle.lay_flow.specs.Weights.{weight}
-use Rattle.lay_flow.specs.declared.block.Inside.{Inside}
-use Rattle.lay_flow.specs.declared.block.Inside.TheVariants.{Blocks as blocks_inside, Lines as lines_inside, Solid as solid_inside}
+use Rattle.lay_blocks.specs.declared.shape.Shape.{Shape}
+use Rattle.lay_blocks.specs.Lengths.{length_at}
+use Rattle.lay_blocks.specs.MarginRuns.{block_at}
+use Rattle.lay_blocks.specs.BlockPositions.{is_lines, is_placed, is_solid}
+use Rattle.lay_blocks.specs.Boxes.{box_at}
+use Rattle.lay_blocks.specs.Weights.{weight}
+use Rattle.lay_blocks.specs.declared.block.Inside.{Inside}
+use Rattle.lay_blocks.specs.declared.block.Inside.TheVariants.{Blocks as blocks_inside, Lines as lines_inside, Solid as solid_inside}
 use Rattle.lay_lines.specs.Lines.{LinesValue, AreLines, LinesWithin, RowWithin, NodePlaceWithin}
-use Rattle.lay_flow.specs.BlockFloats.{AreLinesAt, Spot, spot_at, no_spot, shape_at, place_at, no_place, lines_at, no_lines, line_content_of, content_of, float_of, floats_after, floats_before, float_request, solid_request, ceiling}
-use Rattle.lay_flow.specs.Clearance.{lower_of}
+use Rattle.lay_blocks.specs.BlockFloats.{AreLinesAt, Spot, spot_at, no_spot, shape_at, place_at, no_place, lines_at, no_lines, line_content_of, content_of, float_of, floats_after, floats_before, float_request, solid_request, ceiling}
+use Rattle.lay_blocks.specs.Clearance.{lower_of}
 use Rattle.lay_flow.specs.Pass.Bounds.{reach, IsMarkNear, IsEdgeNear}
-use Rattle.lay_flow.specs.Pass.Placed.{IsPlaceNear, Placing, PlacesTo, ShapeFits, IsCeilingNear}
+use Rattle.lay_flow.specs.Pass.Placed.{IsPlaceNear, Placing, PlacesTo, IsCeilingNear}
+use Rattle.lay_blocks.specs.BlockSizes.{ShapeFits}
 use Rattle.lay_flow.proofs.SoFar.{Wrote}
-use Rattle.lay_flow.proofs.BlockKinds.{placed_none, lines_placed, lines_not_solid, solid_not_lines}
-use Rattle.lay_flow.proofs.FlowBoxFacts.{placed_flows}
-use Rattle.lay_flow.proofs.Truths.{true_false}
-use Rattle.lay_flow.proofs.WeightFacts.{weight_up, weight_one_more}
+use Rattle.lay_blocks.proofs.BlockKinds.{placed_none, lines_placed, lines_not_solid, solid_not_lines}
+use Rattle.lay_blocks.proofs.FlowBoxFacts.{placed_flows}
+use Rattle.lay_blocks.proofs.Truths.{true_false}
+use Rattle.lay_blocks.proofs.WeightFacts.{weight_up, weight_one_more}
+use Rattle.lay_blocks.proofs.FloatLists.{floats_same, nothing_more}
 
 -- an element of which all have a property
 all_at : (P : Placed → Type 0) (floats : List Placed) (i : ℕ) (f : Placed) → All P floats → slice_get floats i ≡ Some f → P f
 all_at P floats i f all e = grind (arith, elements, all, e)
-
--- floats depend on the places before them alone
-pub floats_same : (boxes : List FlowBox) (places others : List Spot) (n : ℕ) → ((j : ℕ) → j < n → spot_at places j ≡ spot_at others j) → floats_before boxes places n ≡ floats_before boxes others n
-floats_same boxes places others zero same = refl
-floats_same boxes places others (suc k) same =
-    let e = floats_same boxes places others k (λ j lt. same j (omega (arith, lt))) in
-    let f = same k (omega arith) in
-    rw (e, f) refl
-
-pub nothing_more : (xs : List Placed) → xs ++ [] ≡ xs
-nothing_more [] = refl
-nothing_more (x ∷ xs) = ap (λ (zs : List Placed). x ∷ zs) (nothing_more xs)
 
 -- one more spot
 pub old_place : (places : List Spot) (p : Spot) (j : ℕ) → j < length places → get_or (places ++ p ∷ []) j no_spot ≡ get_or places j no_spot

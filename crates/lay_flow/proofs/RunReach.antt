@@ -1,28 +1,28 @@
 -- Where the boxes that wait for their marks come to stand.
-use Rattle.std.proofs.Common.{◌≡◌, ℕ, ◌<◌, ◌≤◌, not, nat_lt, Bool, true, false, ℤ, ◌+ℤ◌, ◌-ℤ◌, List, length, refl, sym, ap, ◌∙◌, arith, inl, inr}
+use Rattle.std.proofs.Common.{◌≡◌, ℕ, ◌<◌, ◌≤◌, not, nat_lt, true, false, ℤ, ◌+ℤ◌, ◌-ℤ◌, List, length, refl, sym, ap, ◌∙◌, arith, inl, inr}
 use Rattle.std.proofs.lemmas.Bool.{cases_lt}
 use Rattle.std.proofs.lemmas.Int.{ints}
-use Rattle.lay_flow.specs.declared.flow_box.FlowBox.{FlowBox}
-use Rattle.lay_flow.specs.Boxes.{parent_at, parents_of}
-use Rattle.lay_flow.proofs.BoxTrees.{parent_before}
+use Rattle.lay_blocks.specs.declared.flow_box.FlowBox.{FlowBox}
+use Rattle.lay_blocks.specs.Boxes.{parent_at, parents_of}
+use Rattle.lay_blocks.proofs.BoxTrees.{parent_before}
 use Rattle.lay_margins.specs.StrutValue.{StrutValue}
 use Rattle.lay_margins.specs.Collapse.{Holds, collapse}
 use Rattle.lay_doc.specs.Tree.{IsTree}
-use Rattle.lay_flow.specs.Lengths.{length_at}
-use Rattle.lay_flow.specs.Children.{flag_at}
-use Rattle.lay_flow.specs.MarginRuns.{margins, has_top, run_at, run_across}
-use Rattle.lay_flow.specs.BlockLayout.{BlockLayout}
-use Rattle.lay_flow.specs.BlockPositions.{IsBlockLayout, start_before}
+use Rattle.lay_blocks.specs.Lengths.{length_at}
+use Rattle.lay_blocks.specs.Children.{flag_at}
+use Rattle.lay_blocks.specs.MarginRuns.{margins, has_top, run_at, run_across}
+use Rattle.lay_blocks.specs.BlockLayout.{BlockLayout}
+use Rattle.lay_blocks.specs.BlockPositions.{IsBlockLayout, start_before}
 use Rattle.lay_flow.specs.Pass.State.{PassState, IsSoFar, IsInRun, columns_of}
-use Rattle.lay_flow.proofs.CollapsedThrough.{one_start}
-use Rattle.lay_flow.proofs.LayoutFacts.{mark_standing, start_clears}
-use Rattle.lay_flow.specs.Pass.MarginPlace.{IsPlace, IsAround, margin_place}
-use Rattle.lay_flow.proofs.Truths.{true_false, true_or}
+use Rattle.lay_blocks.proofs.CollapsedThrough.{one_start}
+use Rattle.lay_blocks.proofs.LayoutFacts.{mark_standing, start_clears}
+use Rattle.lay_blocks.specs.MarginPlace.{IsPlace, IsAround, margin_place}
+use Rattle.lay_blocks.proofs.Truths.{true_false, true_or}
 
--- where a run ends that starts at `start` or hangs from it
-pub record RunEnds (hangs : Bool) (start : ℤ) (strut : StrutValue) (end : ℤ) : Type 0 where
-  pub hanging : hangs ≡ true → end ≡ start
-  pub value : hangs ≡ false → (ms : List ℤ) → Holds strut ms → end ≡ start +ℤ collapse ms
+-- where the run ends: at its clear edge, if it hangs
+pub record RunEnds (now : PassState) (end : ℤ) : Type 0 where
+  pub hanging : now.hangs ≡ true → end ≡ now.start
+  pub value : now.hangs ≡ false → (ms : List ℤ) → Holds now.strut ms → end ≡ now.start +ℤ collapse ms
 
 pub sum_two : (a b c d : ℤ) → a ≡ b → c ≡ d → (a +ℤ c) ≡ (b +ℤ d)
 sum_two a b c d e f = rw (e, f) refl
@@ -66,7 +66,7 @@ module _ (boxes : List FlowBox) (y : BlockLayout) (is : IsBlockLayout boxes y) (
   tops_here j a b = let w = at.within in in_run.gathered.leads (parent_at boxes j) j a b (parent_before boxes tree j (positive_here j a) (omega (arith, b, w)))
 
   -- where the run reaches to
-  pub reach_is : (strut : StrutValue) (end : ℤ) → RunEnds now.hangs now.start strut end → Holds strut (margins (run_across boxes y.runs p m)) → (now.hangs ≡ true → flag_at y.runs.through now.first ≡ false)
+  pub reach_is : (strut : StrutValue) (end : ℤ) → RunEnds (record now { strut = strut }) end → Holds strut (margins (run_across boxes y.runs p m)) → (now.hangs ≡ true → flag_at y.runs.through now.first ≡ false)
       → end ≡ start_before boxes y p m +ℤ collapse (margins (run_across boxes y.runs p m))
   reach_is strut end ends holds stands = true_or now.hangs (end ≡ start_before boxes y p m +ℤ collapse (margins (run_across boxes y.runs p m)))
       (λ t. let h = in_run.hanging t in

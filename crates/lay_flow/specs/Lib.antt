@@ -1,16 +1,1 @@
-pub mod Lengths
-pub mod Boxes
-pub mod Children
-pub mod MarginRuns
-pub mod Adjoining
-pub mod BlockLayout
-pub mod BlockPositions
-pub mod BlockSizes
-pub mod Weights
-pub mod FlowBoxes
-pub mod BlockFloats
-pub mod Clearance
-pub mod ContextFlow
-pub mod FlowPlaces
-pub mod Laws
 pub mod Pass

@@ -1,8 +1,5 @@
 -- What the pass over the boxes of a context keeps, for its contracts alone: no definition of a flow stands here.
-pub mod OneProof
 pub mod Struts
-pub mod MarginPlace
-pub mod Gathered
 pub mod State
 pub mod Bounds
 pub mod LookAhead

@@ -3,18 +3,16 @@
 ghost use Rattle.std.specs.Prelude.{◌≡◌, ◌<◌, ◌+ℤ◌, pos, IfOk};
 ghost use Rattle.lay_units.specs.Units.{IsUsed};
 ghost use Rattle.lay_floats.specs.Within.{IsWithin};
-ghost use Rattle.lay_flow.specs.Boxes.{box_at};
-ghost use Rattle.lay_flow.specs.BlockSizes.{IsNear};
-ghost use Rattle.lay_flow.specs.FlowBoxes.{FloatBoxFits};
-ghost use Rattle.lay_flow.specs.FlowPlaces.{AreNearPlaces, IsFlowOf, IsNearPlace, border_box, float_box, own_place};
-ghost use Rattle.lay_flow.specs.Pass.Columns.{AreBorderBoxes, AreNearColumns, IsFarPlace, corner_at};
-ghost use Rattle.lay_flow.specs.Lengths.{length_at};
+ghost use Rattle.lay_blocks.specs.Boxes.{box_at};
+ghost use Rattle.lay_blocks.specs.BlockSizes.{IsNear};
+ghost use Rattle.lay_blocks.specs.FlowBoxes.{FloatBoxFits};
+ghost use Rattle.lay_blocks.specs.FlowPlaces.{AreNearPlaces, IsFlowOf, IsNearPlace, border_box, float_box, own_place, corner_at};
+ghost use Rattle.lay_flow.specs.Pass.Columns.{AreBorderBoxes, AreNearColumns, IsFarPlace};
+ghost use Rattle.lay_blocks.specs.Lengths.{length_at};
 
-use crate::boxes::{BoxAt, Boxes};
 use crate::columns::{length_at, place_at};
-use crate::flow_box::{FloatBox, FlowBox, FlowBoxes, FlowKind};
 use crate::flow_columns::{FlowColumns, flow_columns};
-use crate::flow_places::{BoxPlace, FlowPlaces};
+use lay_blocks::{BoxAt, BoxPlace, Boxes, FloatBox, FlowBox, FlowBoxes, FlowKind, FlowPlaces};
 use lay_floats::Place;
 use lay_units::{NoMemory, Unit};
 use std::alloc::Global;

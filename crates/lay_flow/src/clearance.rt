@@ -4,24 +4,23 @@ ghost use Rattle.std.specs.Prelude.{◌≡◌, ◌+◌, ◌<◌, ◌≤◌, ◌�
 ghost use Rattle.lay_units.specs.declared.length.Unit.{Unit};
 ghost use Rattle.lay_floats.specs.ClearEdge.{Clears};
 ghost use Rattle.lay_floats.specs.declared.requests.Clear.TheVariants.{None as clear_none};
-ghost use Rattle.lay_flow.specs.Boxes.{parent_at};
-ghost use Rattle.lay_flow.specs.BlockFloats.{shape_at};
-ghost use Rattle.lay_flow.specs.Clearance.{IsAbove, lower_of};
+ghost use Rattle.lay_blocks.specs.Boxes.{parent_at};
+ghost use Rattle.lay_blocks.specs.BlockFloats.{shape_at};
+ghost use Rattle.lay_blocks.specs.Clearance.{IsAbove, lower_of};
 ghost use Rattle.lay_flow.specs.Pass.Clears.{HasWaitingFloat, IsAboveFloats, IsEdgeWithout, IsSideToClear};
 ghost use Rattle.lay_flow.specs.Pass.Bounds.{IsEdgeNear};
 ghost use Rattle.lay_flow.specs.Pass.Known.{IsKnown, IsReadyAt};
-ghost use Rattle.lay_flow.specs.Weights.{weight};
+ghost use Rattle.lay_blocks.specs.Weights.{weight};
 
-use crate::boxes::{BoxAt, ChildAt};
 use crate::columns::write_edge;
 use crate::hypothetical_edge::hypothetical_edge;
 use crate::margin_place::BoxInRun;
 use crate::margin_run::{end_of, no_margin};
 use crate::marked_boxes::MarkedBoxes;
-use crate::near::Near;
 use crate::pass::{Pass, RunStart};
 use crate::placement::place_up_to;
 use crate::settling::EndedRun;
+use lay_blocks::{BoxAt, ChildAt, Near};
 use lay_floats::{Clear, Side};
 use lay_units::{NoMemory, Unit};
 

@@ -1,11 +1,10 @@
 //! Reading and writing a column of lengths.
 
 ghost use Rattle.std.specs.Prelude.{◌≡◌, ◌<◌, ◌+ℤ◌, length, slice_set};
-ghost use Rattle.lay_units.specs.Units.{IsPosition};
-ghost use Rattle.lay_flow.specs.Lengths.{length_at};
+ghost use Rattle.lay_blocks.specs.Lengths.{length_at};
 ghost use Rattle.lay_flow.specs.Pass.Bounds.{clears_of};
-ghost use Rattle.lay_flow.specs.Pass.Columns.{corner_at};
-ghost use Rattle.lay_flow.specs.Children.{flag_at};
+ghost use Rattle.lay_blocks.specs.FlowPlaces.{corner_at};
+ghost use Rattle.lay_blocks.specs.Children.{flag_at};
 
 use lay_floats::Place;
 use lay_units::Unit;
@@ -36,15 +35,6 @@ pub(crate) fn write_edge(clear_edges: &mut Vec<Option<Unit>>, k: usize, edge: Un
     ensures { clear_edges.new.items ≡ slice_set clear_edges.old.items k (Some edge) }
 {
     clear_edges[k] = Some(edge);
-}
-
-/// The sum of two positions.
-pub(crate) fn sum_of(a: Unit, b: Unit) -> Unit
-    requires a { IsPosition a.0 }
-    requires b { IsPosition b.0 }
-    ensures { result ≡ record { 0 = a.0 +ℤ b.0 } }
-{
-    Unit(a.0 + b.0)
 }
 
 pub(crate) fn flag_at(flags: &[bool], k: usize) -> bool

@@ -1,24 +1,21 @@
 //! The places of the boxes of a context, in one pass over their margins in document order.
 
 ghost use Rattle.std.specs.Prelude.{◌≡◌, ◌+◌, ◌-◌, ◌<◌, ◌≤◌, [], length, replicate, IfOk, OnOk};
-ghost use Rattle.lay_flow.specs.Boxes.{parent_at};
-ghost use Rattle.lay_flow.specs.Lengths.{no_length};
+ghost use Rattle.lay_blocks.specs.Boxes.{parent_at};
+ghost use Rattle.lay_blocks.specs.Lengths.{no_length};
 ghost use Rattle.lay_flow.specs.Pass.Bounds.{AreBoxHeights, AreNear};
 ghost use Rattle.lay_flow.specs.Pass.Columns.{AreColumnsOf, AreNearColumns};
 ghost use Rattle.lay_flow.specs.Pass.Known.{IsFinished, IsKnown};
 
-use crate::block_height::StandingBlock;
-use crate::boxes::{BoxAt, Boxes, ChildAt};
 use crate::columns::{length_at, write_at};
-use crate::line_corners::line_corners;
 use crate::margin_place::EndingBox;
 use crate::margin_run::{end_of, no_margin};
 use crate::margin_steps::{close, open};
 use crate::marked_boxes::MarkedBoxes;
-use crate::near::Near;
 use crate::pass::{Pass, RunStart};
 use crate::placement::{Placing, place_up_to};
 use crate::settling::EndedRun;
+use lay_blocks::{BoxAt, Boxes, ChildAt, Near, StandingBlock, line_corners};
 use lay_floats::{Clear, Floats, Place};
 use lay_lines::RowList;
 use lay_units::{NoMemory, Unit};

@@ -4,21 +4,20 @@ ghost use Rattle.std.specs.Prelude.{◌≡◌, ℕ, ◌+◌, ◌<◌, ◌≤◌,
 ghost use Rattle.lay_units.specs.declared.length.Unit.{Unit};
 ghost use Rattle.lay_margins.specs.Collapse.{Holds};
 ghost use Rattle.lay_flow.specs.declared.hypothetical_edge.Outset.{Outset};
-ghost use Rattle.lay_flow.specs.Boxes.{parent_at};
-ghost use Rattle.lay_flow.specs.Children.{flag_at};
-ghost use Rattle.lay_flow.specs.Lengths.{length_at};
-ghost use Rattle.lay_flow.specs.BlockLayout.{BlockLayout};
-ghost use Rattle.lay_flow.specs.BlockPositions.{IsBlockLayout, start_before};
+ghost use Rattle.lay_blocks.specs.Boxes.{parent_at};
+ghost use Rattle.lay_blocks.specs.Children.{flag_at};
+ghost use Rattle.lay_blocks.specs.Lengths.{length_at};
+ghost use Rattle.lay_blocks.specs.BlockLayout.{BlockLayout};
+ghost use Rattle.lay_blocks.specs.BlockPositions.{IsBlockLayout, start_before};
 ghost use Rattle.lay_flow.specs.Pass.LookAhead.{HasRead, IsOutermost, IsOutset, IsReading, reading};
-ghost use Rattle.lay_flow.specs.MarginRuns.{block_at, has_top, margins, may_collapse_through, run_before};
+ghost use Rattle.lay_blocks.specs.MarginRuns.{block_at, has_top, margins, may_collapse_through, run_before};
 ghost use Rattle.lay_flow.specs.Pass.Bounds.{IsCollapseNear};
 ghost use Rattle.lay_flow.specs.Pass.Struts.{StrutFits};
 
-use crate::boxes::{BoxAt, Boxes};
 use crate::margin_place::BoxInRun;
 use crate::margin_run::{run_end, with_margin};
-use crate::near::Near;
 use crate::used_strut::UsedStrut;
+use lay_blocks::{BoxAt, Boxes, Near};
 use lay_margins::Strut;
 use lay_units::Unit;
 

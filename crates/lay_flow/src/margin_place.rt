@@ -1,12 +1,11 @@
 //! The places of the sequence of margins of a context (CSS 2.2, 8.3.1).
 
 ghost use Rattle.std.specs.Prelude.{◌≡◌, ◌<◌, ◌≤◌, length};
-ghost use Rattle.lay_flow.specs.Boxes.{parent_at};
-ghost use Rattle.lay_flow.specs.BlockSizes.{BlockFits};
-ghost use Rattle.lay_flow.specs.MarginRuns.{block_at};
+ghost use Rattle.lay_blocks.specs.Boxes.{parent_at};
+ghost use Rattle.lay_blocks.specs.BlockSizes.{BlockFits};
+ghost use Rattle.lay_blocks.specs.MarginRuns.{block_at};
 
-use crate::block::Block;
-use crate::boxes::BoxAt;
+use lay_blocks::{Block, BoxAt};
 
 /// The innermost open box, which ends before the box at `next`.
 #[derive(Clone, Copy)]

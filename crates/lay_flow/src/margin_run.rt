@@ -3,13 +3,12 @@
 ghost use Rattle.std.specs.Prelude.{◌≡◌, ℤ, ◌+ℤ◌, ◌-ℤ◌, List, ◌∷◌, ◌++◌, [], true, false};
 ghost use Rattle.lay_units.specs.Units.{IsUsed};
 ghost use Rattle.lay_margins.specs.Collapse.{Holds, collapse};
-ghost use Rattle.lay_flow.specs.BlockSizes.{IsNear};
+ghost use Rattle.lay_blocks.specs.BlockSizes.{IsNear};
 ghost use Rattle.lay_flow.specs.Pass.Bounds.{IsCollapseNear, is_hanging, position_of};
 
-use crate::columns::sum_of;
-use crate::near::Near;
 use crate::pass::RunStart;
 use crate::used_strut::UsedStrut;
+use lay_blocks::{Near, sum_of};
 use lay_margins::Strut;
 use lay_units::Unit;
 

@@ -1,22 +1,20 @@
 //! The steps of the pass: a box is opened or closed, and its top or bottom margin is read.
 
 ghost use Rattle.std.specs.Prelude.{◌≡◌, ◌+◌, ◌<◌, ◌≤◌, ◌&&◌, not, true, false, length, OnOk};
-ghost use Rattle.lay_flow.specs.Boxes.{parent_at};
-ghost use Rattle.lay_flow.specs.MarginRuns.{block_at, may_collapse_through, may_join_bottoms, parts_tops};
+ghost use Rattle.lay_blocks.specs.Boxes.{parent_at};
+ghost use Rattle.lay_blocks.specs.MarginRuns.{block_at, may_collapse_through, may_join_bottoms, parts_tops};
 ghost use Rattle.lay_flow.specs.Pass.Bounds.{is_barred, is_hanging, state_of};
 ghost use Rattle.lay_flow.specs.Pass.Known.{IsKnown, IsReadyAt};
 
-use crate::block_height::StandingBlock;
-use crate::boxes::ChildAt;
 use crate::clearance::clear;
-use crate::columns::{is_cleared, length_at, sum_of, write_at, write_flag};
+use crate::columns::{is_cleared, length_at, write_at, write_flag};
 use crate::margin_place::EndingBox;
 use crate::margin_run::{end_of, lone_margin, no_margin, run_start, with_margin};
 use crate::marked_boxes::MarkedBoxes;
-use crate::near::Near;
 use crate::pass::{Pass, RunStart};
 use crate::placement::place_up_to;
 use crate::settling::EndedRun;
+use lay_blocks::{ChildAt, Near, StandingBlock, sum_of};
 use lay_units::{NoMemory, Unit};
 
 /// Reads the clearance and the top margin of the box, which is then the innermost open one.

@@ -1,11 +1,11 @@
 //! The boxes of a flow with their marks.
 
 ghost use Rattle.std.specs.Prelude.{◌≡◌, ℕ, length};
-ghost use Rattle.lay_flow.specs.Lengths.{length_at};
-ghost use Rattle.lay_flow.specs.Weights.{weight};
+ghost use Rattle.lay_blocks.specs.Lengths.{length_at};
+ghost use Rattle.lay_blocks.specs.Weights.{weight};
 ghost use Rattle.lay_flow.specs.Pass.Bounds.{IsMarkNear};
 
-use crate::boxes::{BoxAt, Boxes};
+use lay_blocks::{BoxAt, Boxes};
 use lay_units::Unit;
 
 /// The boxes of a flow, and their marks as far as they are known.

@@ -1,26 +1,20 @@
 //! Floats, solid boxes and lines find their places, in document order, once their marks are known.
 
-ghost use Rattle.std.specs.Prelude.{◌≡◌, ℕ, ◌+◌, ◌-ℤ◌, ◌+ℤ◌, ◌<◌, ◌≤◌, ◌++◌, ◌∷◌, [], All, length, pos, true, IfOk, OnOk, Some};
+ghost use Rattle.std.specs.Prelude.{◌≡◌, ◌+◌, ◌-ℤ◌, ◌+ℤ◌, ◌<◌, ◌≤◌, ◌++◌, ◌∷◌, [], length, true, OnOk, Some};
 ghost use Rattle.std.specs.Int.{int_max};
-ghost use Rattle.lay_floats.specs.Within.{BoxWithin, IsWithin};
-ghost use Rattle.lay_lines.specs.Lines.{AreLines, LinesWithin, growth, lines_of};
-ghost use Rattle.lay_flow.specs.BlockFloats.{ceiling, content_of, float_request, line_content_of, solid_request, no_place, shape_at};
-ghost use Rattle.lay_flow.specs.BlockPositions.{is_lines, is_solid};
-ghost use Rattle.lay_flow.specs.Weights.{weight};
-ghost use Rattle.lay_flow.specs.FlowBoxes.{KindFits};
-ghost use Rattle.lay_flow.specs.MarginRuns.{block_at, block_of};
+ghost use Rattle.lay_blocks.specs.BlockFloats.{ceiling, float_request, solid_request, no_place, shape_at};
+ghost use Rattle.lay_blocks.specs.BlockPositions.{is_lines, is_solid};
+ghost use Rattle.lay_blocks.specs.Weights.{weight};
+ghost use Rattle.lay_blocks.specs.MarginRuns.{block_at};
 ghost use Rattle.lay_flow.specs.Pass.Knows.{AreExtentsKept};
 ghost use Rattle.lay_flow.specs.Pass.Known.{ArePlaced, GoesOn};
 ghost use Rattle.lay_flow.specs.Pass.Placed.{IsCeilingNear};
 
-use crate::boxes::BoxAt;
-use crate::columns::{length_at, sum_of, write_at};
-use crate::flow_box::{FlowBox, FlowKind};
+use crate::columns::{length_at, write_at};
 use crate::marked_boxes::{MarkedBox, MarkedBoxes};
-use crate::near::Near;
-use crate::shape::Shape;
+use lay_blocks::{BoxAt, Near, Shape, sum_of};
 use lay_floats::{FloatReq, Floats, Place, Side, SolidReq};
-use lay_lines::{Lines, NodePlaceList, RowList, lay};
+use lay_lines::{NodePlaceList, RowList};
 use lay_units::{NoMemory, Unit};
 use std::alloc::Global;
 
@@ -134,33 +128,6 @@ fn place_lines(of: &MarkedBox<'_>, placing: &mut Placing) -> Result<(), NoMemory
     placing.rows.push(lines.rows)?;
     placing.met.push(lines.places)?;
     Ok(())
-}
-
-impl FlowBox {
-    // The lines of a box that holds lines, from the top of its content.
-    fn lay_lines(&self, alloc: Global, floats: &mut Floats, top: Near) -> Result<Lines, NoMemory>
-        requires lines { is_lines (block_of self.now.kind).inside ≡ true }
-        requires fits { KindFits self.now.kind }
-        requires floats { All (BoxWithin (pos 1152921504606846976)) floats.old }
-        ensures lines { IfOk result (λ out. AreLines (line_content_of self.now.kind) (content_of self.now.kind).left (content_of self.now.kind).right top.unit.0 floats.old (lines_of out floats.new)) }
-        ensures near { IfOk result (λ out. (r : ℕ) → 1125899906842624 ≤ r → r ≤ 1152921504606846976 → IsWithin (pos r) top.unit.0 → All (BoxWithin (pos r)) floats.old
-            → LinesWithin (pos (r + growth (line_content_of self.now.kind))) (lines_of out floats.new)) }
-    {
-        match &self.kind {
-            FlowKind::Lines(l) => {
-                let content = self.content();
-                lay(
-                    alloc,
-                    floats,
-                    &l.content,
-                    content.left,
-                    content.right,
-                    top.unit,
-                )
-            }
-            _ => unreachable!(),
-        }
-    }
 }
 
 // The lower of its mark and of the top of its containing block's content.

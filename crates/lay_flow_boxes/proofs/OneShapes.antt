@@ -6,10 +6,10 @@ use Rattle.lay_doc.proofs.OneStyles.{same_list}
 use Rattle.lay_box_tree.specs.declared.box_tree.BoxNode.{BoxNode}
 use Rattle.lay_box_parts.specs.declared.inline_part.InlinePart.{InlinePart}
 use Rattle.lay_box_parts.specs.InlineParts.{AreInlineParts, no_part}
-use Rattle.lay_flow.specs.declared.flow_box.FlowBox.{FlowBox}
-use Rattle.lay_flow.specs.declared.flow_box.HeightRule.{HeightRule}
-use Rattle.lay_flow.specs.Boxes.{no_box}
-use Rattle.lay_flow.specs.Lengths.{length_at, no_length}
+use Rattle.lay_blocks.specs.declared.flow_box.FlowBox.{FlowBox}
+use Rattle.lay_blocks.specs.declared.flow_box.HeightRule.{HeightRule}
+use Rattle.lay_blocks.specs.Boxes.{no_box}
+use Rattle.lay_blocks.specs.Lengths.{length_at, no_length}
 use Rattle.lay_content.specs.BoxMeasuresValue.{BoxMeasuresValue}
 use Rattle.lay_sizes.specs.declared.sizing.BoxSizes.{BoxSizes}
 use Rattle.lay_sizes.specs.declared.own_boxes.OwnBox.{OwnBox}

@@ -5,7 +5,7 @@ use Rattle.lay_units.specs.declared.length.Unit.{Unit as Length}
 use Rattle.lay_box_parts.specs.declared.inline_part.InlinePart.{InlinePart}
 use Rattle.lay_box_parts.specs.InlineParts.{AreInlineParts}
 use Rattle.lay_content.specs.BoxMeasuresValue.{BoxMeasuresValue}
-use Rattle.lay_flow.specs.declared.flow_box.FlowBox.{FlowBox}
+use Rattle.lay_blocks.specs.declared.flow_box.FlowBox.{FlowBox}
 use Rattle.lay_flow_boxes.specs.ContextBlocks.{AreFlowBoxesOf, HasLefts}
 use Rattle.lay_flow_boxes.specs.PlaceInputs.{PlaceInput}
 

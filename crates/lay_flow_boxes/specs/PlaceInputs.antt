@@ -7,7 +7,7 @@ use Rattle.lay_units.specs.Units.{IsUsedSize}
 use Rattle.lay_frag.specs.declared.frag.Frag.{Frag}
 use Rattle.lay_box_tree.specs.declared.box_tree.BoxNode.{BoxNode}
 use Rattle.lay_face.specs.FaceValue.{FaceValue}
-use Rattle.lay_flow.specs.declared.flow_box.HeightRule.{HeightRule}
+use Rattle.lay_blocks.specs.declared.flow_box.HeightRule.{HeightRule}
 use Rattle.lay_sizes.specs.declared.sizing.BoxSizes.{BoxSizes}
 use Rattle.lay_sizes.specs.declared.own_boxes.OwnBox.{OwnBox}
 use Rattle.lay_sizes.specs.SizeBounds.{IsUsedSizeOrAuto}

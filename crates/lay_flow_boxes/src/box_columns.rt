@@ -4,7 +4,7 @@ ghost use Rattle.std.specs.Prelude.{◌≡◌, ◌+ℤ◌, ◌<◌, length};
 ghost use Rattle.lay_units.specs.Units.{IsPosition};
 ghost use Rattle.lay_style.specs.ComputedStyle.{style_at};
 ghost use Rattle.lay_box_tree.specs.BoxColumns.{box_styles};
-ghost use Rattle.lay_flow.specs.Lengths.{length_at};
+ghost use Rattle.lay_blocks.specs.Lengths.{length_at};
 ghost use Rattle.lay_sizes.specs.SizeColumns.{HaveSizeBounds, sizes_at};
 ghost use Rattle.lay_sizes.specs.OwnBoxes.{OwnBoxFits, OwnBoxesFit, own_box_at};
 ghost use Rattle.lay_flow_boxes.specs.Outside.{outside};

@@ -9,10 +9,10 @@ ghost use Rattle.lay_items.specs.InlineContents.{AreContents};
 ghost use Rattle.lay_items.specs.InlineSegments.{segments_in};
 ghost use Rattle.lay_flow_boxes.specs.PlaceInputs.{HeightRuleFits, PlaceInputFits, height_rule_of};
 
+use lay_blocks::HeightRule;
 use lay_box_tree::{BoxNode, Role};
 use lay_context_boxes::ContextBoxes;
 use lay_face::Face;
-use lay_flow::HeightRule;
 use lay_items::InlineContents;
 use lay_pieces::{ContextSizes, InnerPieces, OwnBoxes};
 use lay_sizes::{BoxSizes, OwnBox};

@@ -1,6 +1,6 @@
 -- What follows for the columns of one formatting context from what they are.
 use Rattle.std.proofs.Common.{◌≤◌, ◌<◌, ◌∙◌, arith, length}
-use Rattle.lay_flow.specs.FlowPlaces.{AreNearPlaces}
+use Rattle.lay_blocks.specs.FlowPlaces.{AreNearPlaces}
 use Rattle.lay_sizes.specs.OwnBoxes.{IsBoxSize}
 use Rattle.lay_flow_boxes.specs.FlowShapes.{most_flow_boxes}
 use Rattle.lay_flow_boxes.specs.PlaceInputs.{PlaceInput}

@@ -4,7 +4,7 @@ use Rattle.std.specs.Prelude.{ℕ, List, [], slice_index_or}
 use Rattle.lay_units.specs.declared.length.Unit.{Unit as Length}
 use Rattle.lay_content.specs.BoxMeasuresValue.{BoxMeasuresValue}
 use Rattle.lay_lines.specs.declared.row.Ended.{Ended}
-use Rattle.lay_flow.specs.FlowPlaces.{FlowPlacesValue, IsFlowOf, box_place_at}
+use Rattle.lay_blocks.specs.FlowPlaces.{FlowPlacesValue, IsFlowOf, box_place_at}
 use Rattle.lay_relative.specs.declared.offset.Offset.{Offset}
 use Rattle.lay_relative.specs.Moves.{HasMoves}
 use Rattle.lay_flow_boxes.specs.FlowShapes.{FlowShape, IsFlowShape, measures_in}

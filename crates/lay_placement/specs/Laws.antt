@@ -6,7 +6,7 @@ use Rattle.lay_units.specs.declared.length.Unit.{Unit as Length}
 use Rattle.lay_frag.specs.declared.frag.Frag.{Frag}
 use Rattle.lay_lines.specs.declared.row.Ended.{Ended}
 use Rattle.lay_inlines.specs.LinePieces.{baseline_of}
-use Rattle.lay_flow.specs.FlowPlaces.{FlowPlacesValue}
+use Rattle.lay_blocks.specs.FlowPlaces.{FlowPlacesValue}
 use Rattle.lay_sizes.specs.UsedLengths.{no_length}
 use Rattle.lay_context_boxes.specs.ContextBoxes.{AreContextBoxes}
 use Rattle.lay_flow_boxes.specs.PlaceInputs.{PlaceInput}

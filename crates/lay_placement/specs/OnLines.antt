@@ -10,11 +10,11 @@ use Rattle.lay_inlines.specs.declared.align.Align.TheVariants as aligned
 use Rattle.lay_inlines.specs.declared.line_piece.LinePiece.{LinePiece}
 use Rattle.lay_inlines.specs.declared.lines.Container.{Container}
 use Rattle.lay_inlines.specs.LinePieces.{pieces_of}
-use Rattle.lay_flow.specs.declared.flow_box.BlockBox.{BlockBox}
-use Rattle.lay_flow.specs.declared.flow_box.FlowKind.{FlowKind}
-use Rattle.lay_flow.specs.declared.flow_box.FlowKind.TheVariants.{Block as block, Lines as lines, Solid as solid, Float as float, LineFloat as line_float, Inline as inline}
-use Rattle.lay_flow.specs.Boxes.{box_at}
-use Rattle.lay_flow.specs.FlowPlaces.{FlowPlacesValue}
+use Rattle.lay_blocks.specs.declared.flow_box.BlockBox.{BlockBox}
+use Rattle.lay_blocks.specs.declared.flow_box.FlowKind.{FlowKind}
+use Rattle.lay_blocks.specs.declared.flow_box.FlowKind.TheVariants.{Block as block, Lines as lines, Solid as solid, Float as float, LineFloat as line_float, Inline as inline}
+use Rattle.lay_blocks.specs.Boxes.{box_at}
+use Rattle.lay_blocks.specs.FlowPlaces.{FlowPlacesValue}
 use Rattle.lay_content.specs.BoxMeasuresValue.{BoxMeasuresValue}
 use Rattle.lay_content.specs.InlineBoxes.{areas_of}
 use Rattle.lay_flow_boxes.specs.PlaceInputs.{PlaceInput}

@@ -10,7 +10,7 @@ use Rattle.lay_space.specs.declared.item.Item.TheVariants as item
 use Rattle.lay_space.specs.declared.segment.Segment.{Segment}
 use Rattle.lay_items.specs.InlineSegments.{segments_in}
 use Rattle.lay_lines.specs.declared.row.Ended.{Ended}
-use Rattle.lay_flow.specs.FlowPlaces.{box_place_at}
+use Rattle.lay_blocks.specs.FlowPlaces.{box_place_at}
 use Rattle.lay_context_boxes.specs.Containing.{container_of}
 use Rattle.lay_flow_boxes.specs.ContextBlocks.{content_left}
 use Rattle.lay_flow_boxes.specs.PlaceInputs.{PlaceInput}

@@ -2,7 +2,7 @@
 
 ghost use Rattle.std.specs.Prelude.{ℕ, ◌≡◌, ◌<◌, ◌==◌, true, false, IsFalse, take, drop, length, Some, None, IfOk, OnOk, if◌then◌else◌};
 ghost use Rattle.lay_box_tree.specs.Roles.{role_at};
-ghost use Rattle.lay_flow.specs.Children.{flag_at};
+ghost use Rattle.lay_blocks.specs.Children.{flag_at};
 ghost use Rattle.lay_context_boxes.specs.Containing.{container_of};
 ghost use Rattle.lay_items.specs.InlineSegments.{segments_in};
 ghost use Rattle.lay_flow_boxes.specs.ContextBlocks.{is_anchor};

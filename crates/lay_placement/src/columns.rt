@@ -2,12 +2,12 @@
 
 ghost use Rattle.std.specs.Prelude.{◌≡◌, ◌<◌, ◌+ℤ◌, length};
 ghost use Rattle.lay_units.specs.Units.{IsPosition};
-ghost use Rattle.lay_flow.specs.FlowPlaces.{box_place_at};
-ghost use Rattle.lay_flow.specs.Lengths.{length_at};
+ghost use Rattle.lay_blocks.specs.FlowPlaces.{box_place_at};
+ghost use Rattle.lay_blocks.specs.Lengths.{length_at};
 ghost use Rattle.lay_sizes.specs.OwnBoxes.{own_box_at};
 ghost use Rattle.lay_sizes.specs.SizeColumns.{sizes_at};
 
-use lay_flow::BoxPlace;
+use lay_blocks::BoxPlace;
 use lay_sizes::{BoxSizes, OwnBox};
 use lay_units::Unit;
 

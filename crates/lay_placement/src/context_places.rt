@@ -7,7 +7,8 @@ ghost use Rattle.lay_relative.specs.Moves.{move_at};
 ghost use Rattle.lay_placement.specs.ContextPlaces.{HasPlaces, own_height, rows_at};
 ghost use Rattle.lay_placement.specs.Counts.{HaveCounts};
 
-use lay_flow::{FlowPlaces, flow};
+use lay_blocks::FlowPlaces;
+use lay_flow::flow;
 use lay_flow_boxes::{FlowShape, PlaceInput, flow_shape};
 use lay_lines::Ended;
 use lay_relative::{Offset, relative_moves};

@@ -2,8 +2,8 @@
 
 ghost use Rattle.std.specs.Prelude.{◌≡◌, ◌<◌, ◌≤◌, All, length, IfOk};
 ghost use Rattle.lay_content.specs.InlineBoxes.{areas_of};
-ghost use Rattle.lay_flow.specs.Boxes.{box_at};
-ghost use Rattle.lay_flow.specs.FlowBoxes.{KindFits};
+ghost use Rattle.lay_blocks.specs.Boxes.{box_at};
+ghost use Rattle.lay_blocks.specs.FlowBoxes.{KindFits};
 ghost use Rattle.lay_flow_boxes.specs.FlowShapes.{most_flow_boxes};
 ghost use Rattle.lay_inlines.specs.Bounds.{AreaWithin, RowWithin};
 ghost use Rattle.lay_placement.specs.ContextPlaces.{measures_of, rows_at};
@@ -11,8 +11,8 @@ ghost use Rattle.lay_placement.specs.Counts.{HaveCounts};
 ghost use Rattle.lay_placement.specs.OnLines.{AreOnLines, align_of, line_container, on_lines_at, on_lines_of};
 
 use crate::context_places::{BoxPlaces, rows_at};
+use lay_blocks::{BlockBox, FlowBox, FlowBoxes, FlowKind};
 use lay_content::{BoxMeasures, inline_areas};
-use lay_flow::{BlockBox, FlowBox, FlowBoxes, FlowKind};
 use lay_flow_boxes::PlaceInput;
 use lay_inlines::{Align, Container, LinePiece, LinePieceList, LinesGeometry, line_pieces};
 use lay_line_content::InlineArea;

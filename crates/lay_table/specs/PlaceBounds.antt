@@ -1,7 +1,7 @@
 -- Within which bounds the workings are, and how long their columns are.
 use Rattle.std.specs.Prelude.{ℕ, ◌≡◌, ◌<◌, List, length, All}
-use Rattle.lay_flow.specs.declared.flow_box.FlowBox.{FlowBox}
-use Rattle.lay_flow.specs.FlowBoxes.{KindFits}
+use Rattle.lay_blocks.specs.declared.flow_box.FlowBox.{FlowBox}
+use Rattle.lay_blocks.specs.FlowBoxes.{KindFits}
 use Rattle.lay_pieces.specs.declared.standing.Standing.{Standing}
 use Rattle.lay_pieces.specs.Corners.{IsCornerNear}
 use Rattle.lay_pieces.specs.Standings.{AreNearStandings, standing_at}

@@ -1,7 +1,7 @@
 //! Where the parts of a table stand: the workings.
 
 ghost use Rattle.std.specs.Prelude.{◌≡◌, ◌<◌, length, IfOk};
-ghost use Rattle.lay_flow.specs.FlowPlaces.{IsNearPlace, box_place_at};
+ghost use Rattle.lay_blocks.specs.FlowPlaces.{IsNearPlace, box_place_at};
 ghost use Rattle.lay_pieces.specs.Corners.{IsCornerNear};
 ghost use Rattle.lay_table.specs.Captions.{ArePlaces, captions_of};
 ghost use Rattle.lay_table.specs.PlaceBounds.{PlacesFit};
@@ -10,7 +10,7 @@ ghost use Rattle.lay_table.specs.TableStandings.{HasTablePlaces, column_spacing,
 
 use crate::captions::Captions;
 use crate::wrapper_flow::wrapper_flow;
-use lay_flow::{BoxPlace, FlowPlaces};
+use lay_blocks::{BoxPlace, FlowPlaces};
 use lay_pieces::Corner;
 use lay_table_grid::TableGrid;
 use lay_table_rows::{TableInput, TableRows, Tracks, near_sum, table_rows, table_sizes};

@@ -1,7 +1,7 @@
 //! The placement of a table.
 
 ghost use Rattle.std.specs.Prelude.{◌≡◌, IfOk, IfSome};
-ghost use Rattle.lay_flow.specs.FlowPlaces.{box_place_at};
+ghost use Rattle.lay_blocks.specs.FlowPlaces.{box_place_at};
 ghost use Rattle.lay_sizes.specs.OwnBoxes.{IsBaseline, OwnBoxFits, own_box};
 ghost use Rattle.lay_sizes.specs.SizeColumns.{sizes_at};
 ghost use Rattle.lay_table.specs.PlaceBounds.{PlacesFit};

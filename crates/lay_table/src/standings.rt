@@ -1,7 +1,7 @@
 //! Where the boxes of a table stand.
 
 ghost use Rattle.std.specs.Prelude.{ℕ, ◌≡◌, ◌<◌, ◌==◌, length, slice_index, IfOk, OnOk, if◌then◌else◌};
-ghost use Rattle.lay_flow.specs.FlowPlaces.{IsNearPlace, box_place_at};
+ghost use Rattle.lay_blocks.specs.FlowPlaces.{IsNearPlace, box_place_at};
 ghost use Rattle.lay_pieces.specs.Corners.{IsCornerNear, IsNear};
 ghost use Rattle.lay_pieces.specs.Standings.{AreNearStandings, IsStandingNear, standing_at};
 ghost use Rattle.lay_table_parts.specs.TableBoxes.{is_row_group};
@@ -14,8 +14,8 @@ ghost use Rattle.lay_table.specs.WrapperFlow.{places_in_wrapper};
 use crate::captions::Captions;
 use crate::groups::{GroupCounts, group_counts, rows_before, rows_within_box};
 use crate::places::{TablePlaces, place_at};
+use lay_blocks::BoxPlace;
 use lay_box_tree::BoxKind;
-use lay_flow::BoxPlace;
 use lay_pieces::{Corner, Standing, near_position};
 use lay_table_rows::{TableInput, Tracks, cell_height, cell_of, near_sum, shift_of};
 use lay_units::{NoMemory, Unit};

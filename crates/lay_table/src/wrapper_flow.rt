@@ -1,8 +1,8 @@
 //! The wrapper of a table as a block formatting context (CSS 2.2, 17.4).
 
 ghost use Rattle.std.specs.Prelude.{◌≡◌, ◌<◌, ◌++◌, length, IfOk, OnOk};
-ghost use Rattle.lay_flow.specs.FlowBoxes.{KindFits};
-ghost use Rattle.lay_flow.specs.FlowPlaces.{IsFlowOf};
+ghost use Rattle.lay_blocks.specs.FlowBoxes.{KindFits};
+ghost use Rattle.lay_blocks.specs.FlowPlaces.{IsFlowOf};
 ghost use Rattle.lay_sizes.specs.OwnBoxes.{OwnBoxFits};
 ghost use Rattle.lay_sizes.specs.SizeBounds.{IsInset, SizeFits};
 ghost use Rattle.lay_sizes.specs.SizeColumns.{sizes_at};
@@ -11,11 +11,12 @@ ghost use Rattle.lay_table.specs.PlaceBounds.{AllFit};
 ghost use Rattle.lay_table.specs.WrapperFlow.{box_inside, boxes_in_wrapper, caption_inside, captions_inside, places_in_wrapper, table_box, wrapper_box};
 
 use crate::captions::Captions;
-use lay_floats::Clear;
-use lay_flow::{
+use lay_blocks::{
     Across, BlockBox, FlowBox, FlowBoxes, FlowKind, FlowPlaces, HeightRule, SolidBox, Vertical,
-    flow, is_light,
+    is_light,
 };
+use lay_floats::Clear;
+use lay_flow::flow;
 use lay_sizes::{BoxSizes, OwnBox, own_box};
 use lay_table_rows::{
     TableInput, Tracks, border_height, own_box_at, sizes_at, sum_of, table_content, table_sizes,

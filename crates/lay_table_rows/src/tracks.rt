@@ -1,7 +1,7 @@
 //! Rows below each other, and columns beside each other.
 
 ghost use Rattle.std.specs.Prelude.{◌≡◌, ◌+◌, ◌≤◌, ◌<◌, length, IfOk};
-ghost use Rattle.lay_flow.specs.Lengths.{length_at};
+ghost use Rattle.lay_blocks.specs.Lengths.{length_at};
 ghost use Rattle.lay_pieces.specs.Corners.{IsNear};
 ghost use Rattle.lay_table_rows.specs.Tracks.{end_of, extent_of, start_of};
 ghost use Rattle.lay_table_rows.specs.TrackStarts.{AreStarts};

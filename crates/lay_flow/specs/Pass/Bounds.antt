@@ -2,21 +2,19 @@
 -- and what a run's margins collapse to, or a float, which together are less than 2^36 units; lines reach at most 2^38 units
 -- further for each weight of theirs; and the first float lies within 2^51 units.
 use Rattle.std.specs.Prelude.{ℕ, ◌≡◌, ◌+◌, ◌*◌, ◌<◌, ◌≤◌, ℤ, pos, neg_ℤ, ◌+ℤ◌, ◌≤ℤ◌, ◌==◌, ◌&&◌, nat_lt, Bool, true, false, List, length, map, is_some, Option, Some, None}
-use Rattle.lay_flow.specs.declared.flow_box.FlowBox.{FlowBox}
-use Rattle.lay_flow.specs.Boxes.{parent_at}
+use Rattle.lay_blocks.specs.declared.flow_box.FlowBox.{FlowBox}
+use Rattle.lay_blocks.specs.Boxes.{parent_at}
 use Rattle.lay_units.specs.Units.{limit}
 use Rattle.lay_units.specs.declared.length.Unit.{Unit as Length}
 use Rattle.lay_flow.specs.declared.pass.Pass.{Pass}
 use Rattle.lay_flow.specs.declared.pass.RunStart.{RunStart}
 use Rattle.lay_flow.specs.declared.pass.RunStart.TheVariants.{At as starts_at, HangsFrom as hangs_from}
-use Rattle.lay_flow.specs.declared.block.Inside.{Inside}
-use Rattle.lay_flow.specs.declared.block.Inside.TheVariants.{Blocks as blocks_inside, Lines as lines_inside, Solid as solid_inside}
-use Rattle.lay_flow.specs.Lengths.{length_at, no_length}
-use Rattle.lay_flow.specs.BlockSizes.{IsBoxSize, IsNear}
-use Rattle.lay_flow.specs.Children.{flag_at}
-use Rattle.lay_flow.specs.MarginRuns.{block_at, parts_tops}
-use Rattle.lay_flow.specs.BlockPositions.{is_solid}
-use Rattle.lay_flow.specs.Weights.{weight}
+use Rattle.lay_blocks.specs.Lengths.{length_at, no_length}
+use Rattle.lay_blocks.specs.BlockSizes.{IsBoxSize, IsNear}
+use Rattle.lay_blocks.specs.Children.{flag_at}
+use Rattle.lay_blocks.specs.MarginRuns.{block_at, parts_tops}
+use Rattle.lay_blocks.specs.BlockPositions.{is_solid}
+use Rattle.lay_blocks.specs.Weights.{weight}
 use Rattle.lay_flow.specs.Pass.State.{PassState}
 use Rattle.lay_flow.specs.Pass.Struts.{StrutFits}
 
@@ -39,22 +37,6 @@ IsRunNear w v = (neg_ℤ (pos (2251799813685248 + 68719476736 * w + 4294967296))
 -- a mark of the box behind them
 abbrev pub IsMarkNear : ℕ → ℤ → Type 0
 IsMarkNear w v = (neg_ℤ (pos (2251799813685248 + 68719476736 * w + 6442450944)) ≤ℤ v) × (v ≤ℤ pos (2251799813685248 + 68719476736 * w + 6442450944))
-
--- the height of what is in a box: of lines their depth
-abbrev pub held_height : Inside → ℤ → ℤ → ℤ
-held_height blocks_inside depth content = content
-held_height lines_inside depth content = depth
-held_height solid_inside depth content = content
-
--- where what is in a box ends
-abbrev pub held_end : Inside → ℤ → ℤ → ℤ → ℤ
-held_end blocks_inside top depth end = end
-held_end lines_inside top depth end = top +ℤ depth
-held_end solid_inside top depth end = end
-
--- lines that stand at a mark below an edge end near
-abbrev pub IsLineDepth : ℤ → ℤ → ℤ → Type 0
-IsLineDepth mark edge depth = IsNear (mark +ℤ edge +ℤ depth)
 
 -- what margins collapse to
 abbrev pub IsCollapseNear : ℤ → Type 0

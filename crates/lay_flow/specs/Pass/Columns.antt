@@ -1,39 +1,24 @@
 -- The columns that a pass leaves, an entry for each box, and their bounds: marks, heights, places, lines, and the corners that
 -- lines give to the floats that they met.
-use Rattle.std.specs.Prelude.{ℕ, ◌≡◌, ◌<◌, pos, false, List, [], ◌∷◌, ◌++◌, length, map, slice_index_or}
-use Rattle.lay_floats.specs.declared.requests.NodePlace.{NodePlace}
+use Rattle.std.specs.Prelude.{ℕ, ◌≡◌, ◌<◌, pos, false, List, ◌∷◌, ◌++◌, length, map}
 use Rattle.lay_floats.specs.declared.requests.Place.{Place}
 use Rattle.lay_floats.specs.Within.{IsWithin}
 use Rattle.lay_flow.specs.declared.flow_columns.FlowColumns.{FlowColumns}
-use Rattle.lay_flow.specs.declared.flow_box.FlowBox.{FlowBox}
-use Rattle.lay_flow.specs.declared.flow_places.BoxPlace.{BoxPlace}
-use Rattle.lay_flow.specs.Boxes.{box_at}
-use Rattle.lay_flow.specs.Lengths.{length_at}
-use Rattle.lay_flow.specs.MarginRuns.{block_at}
-use Rattle.lay_flow.specs.BlockPositions.{is_solid}
-use Rattle.lay_flow.specs.BlockFloats.{Spot, no_place}
-use Rattle.lay_flow.specs.BlockSizes.{IsBoxSize, IsNear}
-use Rattle.lay_flow.specs.ContextFlow.{AreContextPlaces}
-use Rattle.lay_flow.specs.FlowPlaces.{AreNearRows, border_box, box_place_at, own_place, place_or}
+use Rattle.lay_blocks.specs.declared.flow_box.FlowBox.{FlowBox}
+use Rattle.lay_blocks.specs.declared.flow_places.BoxPlace.{BoxPlace}
+use Rattle.lay_blocks.specs.Boxes.{box_at}
+use Rattle.lay_blocks.specs.Lengths.{length_at}
+use Rattle.lay_blocks.specs.MarginRuns.{block_at}
+use Rattle.lay_blocks.specs.BlockPositions.{is_solid}
+use Rattle.lay_blocks.specs.BlockFloats.{Spot}
+use Rattle.lay_blocks.specs.BlockSizes.{IsBoxSize, IsNear}
+use Rattle.lay_blocks.specs.ContextFlow.{AreContextPlaces}
+use Rattle.lay_blocks.specs.FlowPlaces.{AreNearRows, border_box, box_place_at, own_place, corner_at, AreCorners}
 
 -- a place at most 2^59 + 2^58 units away
 pub record IsFarPlace (p : Place) : Type 0 where
   pub x : IsWithin (pos 864691128455135232) p.x.0
   pub y : IsWithin (pos 864691128455135232) p.y.0
-
--- a place in a column of such
-abbrev pub corner_at : List Place → ℕ → Place
-corner_at places k = slice_index_or places k no_place
-
--- lists of places, one after the other
-abbrev pub joined : List (List NodePlace) → List NodePlace
-joined [] = []
-joined (ps ∷ pss) = ps ++ joined pss
-
--- a corner for each box: the last that these give to it
-pub record AreCorners (count : ℕ) (met : List (List NodePlace)) (corners : List Place) : Type 0 where
-  pub length_is : length corners ≡ count
-  pub each : (k : ℕ) → k < count → corner_at corners k ≡ place_or no_place k (joined met)
 
 -- the columns that a pass leaves are those of the context's flow, with these spots
 pub record AreColumnsOf (boxes : List FlowBox) (out : FlowColumns) : Type 0 where

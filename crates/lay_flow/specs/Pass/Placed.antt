@@ -1,6 +1,6 @@
 -- Floats, solid boxes and lines that are placed up to a place among the boxes, as a pass over a context has them.
 use Rattle.std.specs.Prelude.{ℕ, ◌≡◌, ◌+◌, ◌*◌, ◌<◌, ℤ, pos, ◌+ℤ◌, ◌-ℤ◌, true, false, List, length, Some, None, All}
-use Rattle.lay_flow.specs.declared.flow_box.FlowBox.{FlowBox}
+use Rattle.lay_blocks.specs.declared.flow_box.FlowBox.{FlowBox}
 use Rattle.lay_units.specs.declared.length.Unit.{Unit as Length}
 use Rattle.lay_floats.specs.declared.placed.Placed.{Placed}
 use Rattle.lay_floats.specs.declared.requests.Side.{Side}
@@ -8,21 +8,12 @@ use Rattle.lay_lines.specs.Lines.{LinesWithin}
 use Rattle.lay_floats.specs.FloatPlace.{IsFloatPlace}
 use Rattle.lay_floats.specs.SolidPlace.{IsSolidPlace}
 use Rattle.lay_floats.specs.Within.{BoxWithin, IsWithin}
-use Rattle.lay_flow.specs.declared.shape.Shape.{Shape}
-use Rattle.lay_flow.specs.Lengths.{length_at}
-use Rattle.lay_flow.specs.MarginRuns.{block_at}
-use Rattle.lay_flow.specs.BlockPositions.{is_lines, is_solid}
-use Rattle.lay_flow.specs.BlockFloats.{AreLinesAt, Spot, spot_at, shape_at, place_at, no_place, lines_at, no_lines, floats_before, float_request, solid_request, ceiling}
-use Rattle.lay_flow.specs.Weights.{weight}
+use Rattle.lay_blocks.specs.Lengths.{length_at}
+use Rattle.lay_blocks.specs.MarginRuns.{block_at}
+use Rattle.lay_blocks.specs.BlockPositions.{is_lines, is_solid}
+use Rattle.lay_blocks.specs.BlockFloats.{AreLinesAt, Spot, spot_at, shape_at, place_at, no_place, lines_at, no_lines, floats_before, float_request, solid_request, ceiling}
+use Rattle.lay_blocks.specs.Weights.{weight}
 use Rattle.lay_flow.specs.Pass.Bounds.{reach}
-
--- sizes are at most 2^34 units, and edges at most 2^50 units from the origin
-pub record ShapeFits (s : Shape) : Type 0 where
-  pub width : IsWithin (pos 17179869184) s.width.0
-  pub height : IsWithin (pos 17179869184) s.height.0
-  pub left : IsWithin (pos 1125899906842624) s.left.0
-  pub right : IsWithin (pos 1125899906842624) s.right.0
-  pub x : IsWithin (pos 1125899906842624) s.x.0
 
 -- what a pass keeps of floats, solid boxes and lines: the depths of the boxes, as far as they are known, the floats that
 -- stand, and the spots so far

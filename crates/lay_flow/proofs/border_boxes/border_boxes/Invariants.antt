@@ -1,8 +1,7 @@
 use Rattle.std.proofs.Common.{◌≡◌, ◌<◌, ℕ, length}
-use Rattle.lay_flow.specs.Boxes.{box_at}
-use Rattle.lay_flow.specs.Pass.Columns.{corner_at}
-use Rattle.lay_flow.specs.FlowPlaces.{IsNearPlace, border_box, own_place, box_place_at}
-use Rattle.lay_flow.specs.Lengths.{length_at}
+use Rattle.lay_blocks.specs.Boxes.{box_at}
+use Rattle.lay_blocks.specs.FlowPlaces.{IsNearPlace, border_box, own_place, box_place_at, corner_at}
+use Rattle.lay_blocks.specs.Lengths.{length_at}
 use Rattle.lay_flow.proofs.border_boxes.border_boxes.Given as goal
 
 abbrev pub invariant-loop-k : goal.invariant-loop-k

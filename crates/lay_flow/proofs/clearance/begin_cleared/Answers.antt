@@ -3,13 +3,13 @@ use Rattle.std.proofs.lemmas.List.{length-map}
 use Rattle.lay_units.specs.declared.length.Unit.{Unit as Length}
 use Rattle.lay_floats.specs.ClearEdge.{IsClearEdge}
 use Rattle.lay_floats.specs.declared.requests.Clear.{Clear}
-use Rattle.lay_flow.specs.Lengths.{length_at}
-use Rattle.lay_flow.specs.Children.{flag_at}
-use Rattle.lay_flow.specs.Pass.Bounds.{clears_of, clear_edges_of, state_of, IsMarkNear, IsEdgeNear, position_of, is_hanging}
+use Rattle.lay_blocks.specs.Lengths.{length_at}
+use Rattle.lay_blocks.specs.Children.{flag_at}
+use Rattle.lay_flow.specs.Pass.Bounds.{clears_of, clear_edges_of, state_of, IsMarkNear, IsEdgeNear}
 use Rattle.lay_flow.specs.Pass.Knows.{AreExtentsKept}
 use Rattle.lay_flow.specs.Pass.Known.{placing_of}
 use Rattle.lay_flow.specs.declared.pass.RunStart.TheVariants.{HangsFrom as hangs_from}
-use Rattle.lay_flow.specs.Weights.{weight}
+use Rattle.lay_blocks.specs.Weights.{weight}
 use Rattle.lay_flow.proofs.ClearSteps.{ready_cleared}
 use Rattle.lay_flow.proofs.PassFits.{begins_near, marks_near}
 use Rattle.lay_flow.specs.Pass.Known.{ArePlacedOn, IsReadyAt}
@@ -58,7 +58,7 @@ returns c =
     let edge = c.lower_of-edge.result in
     let is_bottom = subst (λ (s : Clear). IsClearEdge c.place_up_to.new.placing.floats s c.clear_edge-bottom.result) c.clear.ensures c.clear_edge-bottom.ensures in
     let near = subst (IsEdgeNear (weight c.args.child.now.at.boxes.list.now k)) (sym c.lower_of-edge.ensures) (lower_near (weight c.args.child.now.at.boxes.list.now k) c.place_up_to.new.placing.floats _ c.clear_edge-bottom.result c.args.hypothetical.0 placed.within is_bottom c.requires.near) in
-    let ends : RunEnds (is_hanging old.start) (position_of old.start) old.strut.strut c.end_of-end.result.0 = record { hanging = c.end_of-end.ensures.hanging; value = c.end_of-end.ensures.value } in
+    let ends : RunEnds (state_of old) c.end_of-end.result.0 = record { hanging = c.end_of-end.ensures.hanging; value = c.end_of-end.ensures.value } in
     let flag : Wrote flag_at (clears_of old.clear_edges.items) (clears_of c.write_edge.new.clear_edges.items) k true =
     subst (λ (xs : List (Option Length)). Wrote flag_at (clears_of old.clear_edges.items) (clears_of xs) k true) (sym c.write_edge.ensures) (wrote_cleared old.clear_edges.items k edge (omega (arith, within, l))) in
     let wrote : Wrote length_at (clear_edges_of old.clear_edges.items) (clear_edges_of c.write_edge.new.clear_edges.items) k edge.0 =

@@ -2,19 +2,19 @@ use Rattle.std.proofs.Common.{◌≡◌, false, ℕ, ◌+ℤ◌, pos, arith, sub
 use Rattle.lay_units.specs.declared.length.Unit.{Unit as Length}
 use Rattle.lay_floats.specs.declared.requests.Clear.TheVariants.{Both as clear_both}
 use Rattle.lay_heights.specs.AutoHeights.{root_height_of}
-use Rattle.lay_flow.specs.declared.block.Block.{Block}
-use Rattle.lay_flow.specs.Lengths.{length_at}
-use Rattle.lay_flow.specs.BlockPositions.{border_height, is_solid}
-use Rattle.lay_flow.specs.BlockSizes.{IsNear}
-use Rattle.lay_flow.specs.Weights.{weight}
-use Rattle.lay_flow.specs.Pass.Bounds.{IsLineDepth, held_end, state_of, IsMarkNear, position_of, is_hanging}
+use Rattle.lay_blocks.specs.declared.block.Block.{Block}
+use Rattle.lay_blocks.specs.Lengths.{length_at}
+use Rattle.lay_blocks.specs.BlockPositions.{border_height, is_solid, held_end}
+use Rattle.lay_blocks.specs.BlockSizes.{IsNear, IsLineDepth}
+use Rattle.lay_blocks.specs.Weights.{weight}
+use Rattle.lay_flow.specs.Pass.Bounds.{state_of, IsMarkNear}
 use Rattle.lay_flow.specs.Pass.Knows.{AreExtentsKept}
 use Rattle.lay_flow.specs.Pass.Known.{placing_of}
 use Rattle.lay_flow.proofs.SoFar.{Wrote}
 use Rattle.lay_flow.proofs.PassFits.{begins_near, mark_is_near, marks_near, end_is_near}
 use Rattle.lay_flow.specs.Pass.Known.{ArePlacedOn, IsFinished}
 use Rattle.lay_flow.proofs.PlacedOn.{known_placed, line_depth, known_placed_on, places_count, within_extents, placed_to}
-use Rattle.lay_flow.proofs.WeightFacts.{light_at}
+use Rattle.lay_blocks.proofs.WeightFacts.{light_at}
 use Rattle.lay_flow.proofs.PlaceSteps.{clear_edge_position}
 use Rattle.lay_flow.proofs.PassEnds.{all_places, sized_boxes}
 use Rattle.lay_flow.proofs.RunReach.{RunEnds}
@@ -85,7 +85,7 @@ returns-clause-finished c =
     ∙ ap (λ (b : Block). border_height b (pos 0) (root_height_of (record { 0 = c.length_at-mark.result.0 +ℤ b.edge_top.0 }) c.root_end.result.unit c.clear_edge-bottom.result)) block in
     let wrote_height : Wrote length_at old.heights.items c.write_at.new.column.items 0 c.root_height-height.result.0 =
     subst (λ (xs : List Length). Wrote length_at old.heights.items xs 0 c.root_height-height.result.0) (sym c.write_at.ensures) (wrote_length old.heights.items 0 c.root_height-height.result (omega (arith, some, l))) in
-    let ends : RunEnds (is_hanging old.start) (position_of old.start) old.strut.strut c.end_of-end.result.0 = record { hanging = c.end_of-end.ensures.hanging; value = c.end_of-end.ensures.value } in
+    let ends : RunEnds (state_of old) c.end_of-end.result.0 = record { hanging = c.end_of-end.ensures.hanging; value = c.end_of-end.ensures.value } in
     let kept = subst (λ (n : ℕ). AreExtentsKept c.args.boxes.now.list.now n old.placing.extents.items c.place_up_to.new.placing.extents.items) (sym (places_count old.placing c.requires.places c.requires.are)) done.kept in
     record {
       places = goes.places;

@@ -1,15 +1,15 @@
-use Rattle.lay_flow.specs.declared.block.Block.{Block}
-use Rattle.lay_flow.specs.BlockPositions.{is_solid}
-use Rattle.lay_flow.specs.MarginRuns.{block_at}
+use Rattle.lay_blocks.specs.declared.block.Block.{Block}
+use Rattle.lay_blocks.specs.BlockPositions.{is_solid}
+use Rattle.lay_blocks.specs.MarginRuns.{block_at}
 use Rattle.std.proofs.Common.{◌≡◌, false, arith, subst, sym, List, ap}
 use Rattle.lay_units.specs.declared.length.Unit.{Unit as Length}
-use Rattle.lay_flow.specs.Lengths.{length_at}
+use Rattle.lay_blocks.specs.Lengths.{length_at}
 use Rattle.lay_flow.specs.Pass.Known.{placing_of}
-use Rattle.lay_flow.specs.BlockSizes.{IsNear}
+use Rattle.lay_blocks.specs.BlockSizes.{IsNear}
 use Rattle.lay_flow.specs.Pass.Bounds.{state_of}
-use Rattle.lay_flow.proofs.WeightFacts.{light_at}
-use Rattle.lay_flow.specs.Weights.{weight}
-use Rattle.lay_flow.proofs.BlockKinds.{joins_flow, placed_none}
+use Rattle.lay_blocks.proofs.WeightFacts.{light_at}
+use Rattle.lay_blocks.specs.Weights.{weight}
+use Rattle.lay_blocks.proofs.BlockKinds.{joins_flow, placed_none}
 use Rattle.lay_flow.proofs.SoFar.{Wrote}
 use Rattle.lay_flow.proofs.PassFits.{begins_near, mark_is_near, box_height_position}
 use Rattle.lay_flow.proofs.PassSteps.{knows_joined}

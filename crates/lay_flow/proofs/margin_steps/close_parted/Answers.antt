@@ -1,17 +1,17 @@
 use Rattle.std.proofs.Common.{◌≡◌, ◌<◌, ℕ, false, arith, subst, sym, List, ap, ◌∙◌, length, refl}
 use Rattle.lay_units.specs.Units.{IsPosition}
 use Rattle.lay_units.specs.declared.length.Unit.{Unit as Length}
-use Rattle.lay_flow.specs.declared.block.Block.{Block}
-use Rattle.lay_flow.specs.Lengths.{length_at}
-use Rattle.lay_flow.specs.BlockSizes.{IsBoxSize, IsNear}
-use Rattle.lay_flow.specs.BlockPositions.{is_solid}
-use Rattle.lay_flow.specs.MarginRuns.{block_at}
-use Rattle.lay_flow.specs.Pass.Bounds.{IsLineDepth, state_of, IsMarkNear, position_of, is_hanging}
-use Rattle.lay_flow.specs.Boxes.{parent_at}
+use Rattle.lay_blocks.specs.declared.block.Block.{Block}
+use Rattle.lay_blocks.specs.Lengths.{length_at}
+use Rattle.lay_blocks.specs.BlockSizes.{IsBoxSize, IsNear, IsLineDepth}
+use Rattle.lay_blocks.specs.BlockPositions.{is_solid}
+use Rattle.lay_blocks.specs.MarginRuns.{block_at}
+use Rattle.lay_flow.specs.Pass.Bounds.{state_of, IsMarkNear}
+use Rattle.lay_blocks.specs.Boxes.{parent_at}
 use Rattle.lay_flow.specs.Pass.Known.{placing_of}
 use Rattle.lay_flow.specs.declared.pass.RunStart.TheVariants.{At as starts_at}
-use Rattle.lay_flow.proofs.WeightFacts.{light_at}
-use Rattle.lay_flow.specs.Weights.{weight}
+use Rattle.lay_blocks.proofs.WeightFacts.{light_at}
+use Rattle.lay_blocks.specs.Weights.{weight}
 use Rattle.lay_flow.proofs.SoFar.{Wrote}
 use Rattle.lay_flow.proofs.PassFits.{begins_near, mark_is_near, marks_near, end_is_near, box_height_position, extent_position}
 use Rattle.lay_flow.proofs.PassSteps.{knows_parted}
@@ -19,7 +19,7 @@ use Rattle.lay_flow.specs.Pass.Known.{ArePlacedOn, IsKnown}
 use Rattle.lay_flow.proofs.PlacedOn.{known_placed, line_depth, known_placed_on, places_count, within_extents, placed_to}
 use Rattle.lay_flow.specs.Pass.Knows.{AreExtentsKept}
 use Rattle.lay_flow.proofs.RunReach.{RunEnds}
-use Rattle.lay_flow.proofs.Truths.{true_or}
+use Rattle.lay_blocks.proofs.Truths.{true_or}
 use Rattle.lay_flow.proofs.WroteColumns.{wrote_length}
 use Rattle.lay_flow.proofs.margin_steps.close_parted.Goals as goal
 
@@ -108,7 +108,7 @@ returns c =
     let starts = ap (λ (v : Length). v.0) c.bottom-start.ensures in
     let wrote : Wrote length_at old.heights.items c.write_at.new.column.items p c.height_to_margin-height.result.0 =
     subst (λ (xs : List Length). Wrote length_at old.heights.items xs p c.height_to_margin-height.result.0) (sym c.write_at.ensures) (wrote_length old.heights.items p c.height_to_margin-height.result (omega (arith, a, b, l))) in
-    let ends : RunEnds (is_hanging old.start) (position_of old.start) old.strut.strut c.end_of-end.result.0 = record { hanging = c.end_of-end.ensures.hanging; value = c.end_of-end.ensures.value } in
+    let ends : RunEnds (state_of old) c.end_of-end.result.0 = record { hanging = c.end_of-end.ensures.hanging; value = c.end_of-end.ensures.value } in
     record {
       places = goes.places;
       are = goes.are;

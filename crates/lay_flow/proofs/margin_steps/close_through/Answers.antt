@@ -1,9 +1,9 @@
 use Rattle.std.proofs.Common.{arith, true, subst, sym, List, Bool, pos}
 use Rattle.lay_units.specs.declared.length.Unit.{Unit as Length}
-use Rattle.lay_flow.specs.Lengths.{length_at}
-use Rattle.lay_flow.specs.Children.{flag_at}
+use Rattle.lay_blocks.specs.Lengths.{length_at}
+use Rattle.lay_blocks.specs.Children.{flag_at}
 use Rattle.lay_flow.specs.Pass.Known.{placing_of}
-use Rattle.lay_flow.specs.Pass.Bounds.{state_of, position_of, is_hanging}
+use Rattle.lay_flow.specs.Pass.Bounds.{state_of}
 use Rattle.lay_flow.proofs.SoFar.{Wrote}
 use Rattle.lay_flow.proofs.PassFits.{begins_near}
 use Rattle.lay_flow.proofs.PassSteps.{knows_through}
@@ -29,7 +29,7 @@ returns c =
     subst (λ (xs : List Length). Wrote length_at old.heights.items xs p (pos 0)) (sym c.write_at-2.ensures) (wrote_length old.heights.items p zero (omega (arith, a, b, l2))) in
     let flag : Wrote flag_at old.through.items c.write_flag.new.flags.items p true =
     subst (λ (xs : List Bool). Wrote flag_at old.through.items xs p true) (sym c.write_flag.ensures) (wrote_flag old.through.items p true (omega (arith, a, b, l3))) in
-    let ends : RunEnds (is_hanging old.start) (position_of old.start) old.strut.strut c.end_of-mark.result.0 = record { hanging = c.end_of-mark.ensures.hanging; value = c.end_of-mark.ensures.value } in
+    let ends : RunEnds (state_of old) c.end_of-mark.result.0 = record { hanging = c.end_of-mark.ensures.hanging; value = c.end_of-mark.ensures.value } in
     record {
       places = c.requires.known.places;
       are = c.requires.known.are;

@@ -1,13 +1,14 @@
 use Rattle.std.proofs.Common.{arith, ap, ◌∙◌, ◌+ℤ◌}
 use Rattle.std.proofs.lemmas.Int.{ints}
 use Rattle.lay_units.specs.declared.length.Unit.{Unit as Length}
-use Rattle.lay_flow.specs.declared.block.Block.{Block}
+use Rattle.lay_blocks.specs.declared.block.Block.{Block}
 use Rattle.lay_flow.specs.Pass.Known.{placing_of}
-use Rattle.lay_flow.specs.Pass.Bounds.{state_of, position_of, is_hanging}
-use Rattle.lay_flow.proofs.WeightFacts.{light_at, weight_up}
-use Rattle.lay_flow.specs.Weights.{weight}
+use Rattle.lay_flow.specs.Pass.Bounds.{state_of, position_of}
+use Rattle.lay_blocks.proofs.WeightFacts.{light_at, weight_up}
+use Rattle.lay_blocks.specs.Weights.{weight}
 use Rattle.lay_flow.proofs.PassFits.{begins_near, end_near, mark_is_near}
 use Rattle.lay_flow.proofs.PassSteps.{knows_parting}
+use Rattle.lay_flow.proofs.Openings.{pushed}
 use Rattle.lay_flow.proofs.RunReach.{RunEnds}
 use Rattle.lay_flow.proofs.LaidLines.{inset_position}
 use Rattle.lay_flow.proofs.margin_steps.open_parting.Goals as goal
@@ -29,7 +30,7 @@ returns c =
     let settles = rw c.deref.ensures.value at c.settle.ensures in
     let starts = ap (λ (v : Length). v.0) c.sum_of-start.ensures ∙ ap (λ (b : Block). c.end_of-mark.result.0 +ℤ b.edge_top.0) c.block-block.ensures.value in
     let old = c.args.flow.now in
-    let ends : RunEnds (is_hanging old.start) (position_of old.start) c.with_margin-strut.result.strut c.end_of-mark.result.0 = record { hanging = c.end_of-mark.ensures.hanging; value = c.end_of-mark.ensures.value } in
+    let ends : RunEnds (pushed (state_of old) c.with_margin-strut.result.strut) c.end_of-mark.result.0 = record { hanging = c.end_of-mark.ensures.hanging; value = c.end_of-mark.ensures.value } in
     record {
       places = c.requires.ready.places;
       are = c.requires.ready.are;

@@ -1,5 +1,0 @@
-use Rattle.lay_flow.proofs.BlockLayoutLaws.{one_block_layout_lem}
-use Rattle.lay_flow.proofs.laws.one_block_layout.Goals as goal
-
-pub returns : goal.returns
-returns c = one_block_layout_lem

@@ -1,6 +1,0 @@
-use Rattle.std.proofs.Common.{◌≡◌, ◌+◌}
-use Rattle.lay_flow.specs.Weights.{weight}
-use Rattle.lay_flow.proofs.weights.is_light.Given as goal
-
-abbrev pub invariant-loop-k : goal.invariant-loop-k
-invariant-loop-k l = weight l.boxes l.k + l.left ≡ 8388608
