@@ -1,13 +1,14 @@
 -- The nearest part of an inline box that held a box.
-use Rattle.std.proofs.Common.{◌≡◌, inl, inr, ℕ, zero, suc, ◌+◌, ◌-◌, ◌<◌, ◌≤◌, Bool, true, false, List, [], ◌∷◌, ◌++◌, length, take, get_or, refl, ap, sym, subst, ◌∙◌, arith, Option, None, Some, MatchOption}
+use Rattle.std.proofs.Common.{◌≡◌, inl, inr, ℕ, zero, suc, ◌+◌, ◌-◌, ◌<◌, ◌≤◌, Bool, true, false, List, [], ◌∷◌, ◌++◌, length, take, replicate, get_or, refl, ap, sym, subst, ◌∙◌, arith, Option, None, Some, MatchOption}
 use Rattle.std.proofs.lemmas.Bool.{cases_lt}
+use Rattle.std.proofs.lemmas.List.{length-replicate}
 use Rattle.std.proofs.lemmas.Grind.{elements}
 use Rattle.lay_doc.specs.Tree.{IsTree, IsUnder}
 use Rattle.lay_box_tree.specs.BoxColumns.{box_parents}
 use Rattle.lay_box_tree.specs.Containers.{box_parent}
 use Rattle.lay_box_tree.specs.declared.box_tree.BoxNode.{BoxNode}
 use Rattle.lay_box_parts.specs.InlineParts.{id_at, is_inline_at, is_part_at}
-use Rattle.lay_broken_inlines.specs.FormerParents.{IsFormerParent, OneFormerParent, WasIn}
+use Rattle.lay_broken_inlines.specs.FormerParents.{AreFormerParents, IsFormerParent, OneFormerParent, WasIn}
 use Rattle.lay_broken_inlines.specs.OpenParts.{AreNextPlaces, AreOpen, GoesOn, IsNextTo, IsOver}
 use Rattle.lay_broken_inlines.specs.SubtreeEnds.{IsEnd}
 use Rattle.lay_broken_inlines.proofs.Ends.{in-end, out-end}
@@ -210,3 +211,16 @@ none-open boxes = record {
   rising = λ i j less lt. absurd (omega (arith, lt));
   all = λ p before is. absurd (omega (arith, before));
 }
+
+-- no inline box held any box where there is none
+none_there : (n k : ℕ) → get_or (replicate {A = Option ℕ} n None) k None ≡ None
+none_there zero k = refl
+none_there (suc n) zero = refl
+none_there (suc n) (suc k) = none_there n k
+
+pub none_broken : (boxes : List BoxNode) (parents : List (Option ℕ)) → parents ≡ replicate (length boxes) None
+    → ((k : ℕ) → k < length boxes → is_inline_at boxes k ≡ false) → AreFormerParents boxes parents
+none_broken boxes parents e none = rw e (record {
+  count = length-replicate (length boxes) None;
+  each = λ k lt. rw (none_there (length boxes) k) (λ p was. never (is_inline_at boxes p) was.part (none p (let before = was.before in omega (arith, before, lt))));
+})

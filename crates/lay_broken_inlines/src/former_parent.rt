@@ -1,7 +1,8 @@
 //! The inline box that held a box before it was broken (CSS 2.2, 9.2.1.1).
 
-ghost use Rattle.std.specs.Prelude.{◌≡◌, ◌<◌, ◌+◌, ◌≤◌, ℕ, length, slice_index, IfOk, OnOk, IsTrue, false, MatchOption, true};
+ghost use Rattle.std.specs.Prelude.{◌≡◌, ◌<◌, ◌+◌, ◌≤◌, ℕ, length, slice_index, IfOk, OnOk, IsFalse, IsTrue, false, MatchOption, true};
 ghost use Rattle.lay_doc.specs.Tree.{IsTree};
+ghost use Rattle.lay_box_parts.specs.InlineParts.{is_inline_at};
 ghost use Rattle.lay_box_tree.specs.BoxColumns.{box_parents};
 ghost use Rattle.lay_broken_inlines.specs.FormerParents.{AreFormerParents, IsFormerParent};
 ghost use Rattle.lay_broken_inlines.specs.OpenParts.{AreNextPlaces, AreOpen, GoesOn};
@@ -17,6 +18,16 @@ use std::alloc::Global;
 pub fn former_parents(alloc: Global, tree: &BoxTree) -> Result<Vec<Option<usize>>, NoMemory>
     ensures { IfOk result (λ v. AreFormerParents tree.now v.items) }
 {
+    if !has_inline(tree.as_slice()) {
+        return Ok(vec![in alloc; None; tree.as_slice().len()]?);
+    }
+    parents_of(alloc, tree)
+}
+
+/// The same, where there may be an inline box.
+fn parents_of(alloc: Global, tree: &BoxTree) -> Result<Vec<Option<usize>>, NoMemory>
+    ensures { IfOk result (λ v. AreFormerParents tree.now v.items) }
+{
     let boxes = tree.as_slice();
     let next = next_places(alloc, boxes)?;
     let ends = subtree_ends(alloc, boxes)?;
@@ -28,6 +39,18 @@ pub fn former_parents(alloc: Global, tree: &BoxTree) -> Result<Vec<Option<usize>
         note_open(boxes, &mut parts, k)?;
     }
     Ok(parents)
+}
+
+/// Whether there is an inline box among these boxes.
+fn has_inline(boxes: &[BoxNode]) -> bool
+    ensures { IsFalse result → (k : ℕ) → k < length boxes.now → is_inline_at boxes.now k ≡ false }
+{
+    for k in 0..boxes.len() {
+        if is_inline_at(boxes, k) {
+            return true;
+        }
+    }
+    false
 }
 
 /// The former parent of the box at k. Parts that can have held no box from there on are dropped.

@@ -1,18 +1,10 @@
-use Rattle.std.proofs.Common.{◌≡◌, ◌++◌, ◌∷◌, [], None, arith, rules}
-use Rattle.lay_broken_inlines.specs.FormerParents.{IsFormerParent}
-use Rattle.lay_broken_inlines.proofs.Ends.{each-longer, length-longer}
+use Rattle.std.proofs.Common.{◌≡◌, ◌<◌, ◌∙◌, ℕ, List, length, false, refl, subst, rules}
+use Rattle.lay_box_tree.specs.declared.box_tree.BoxNode.{BoxNode}
+use Rattle.lay_box_parts.specs.InlineParts.{is_inline_at}
+use Rattle.lay_broken_inlines.proofs.Nearest.{none_broken}
 use Rattle.lay_broken_inlines.proofs.former_parent.former_parents.Goals as goal
 
-pub loop-k-preserved : goal.loop-k-preserved
-loop-k-preserved c =
-    let boxes = c.as_slice-boxes.result.now in
-    let ps = c.loop-k.parents.items in
-    let parent = c.former_parent-parent.result in
-    let longer : c.push.new.self.items ≡ ps ++ parent ∷ [] = search rules in
-    let n = length-longer ps parent in
-    let count = c.loop-k.invariant.count in
-    rw longer (record {
-      count = omega (arith, n, count);
-      each = each-longer (IsFormerParent boxes) ps parent None c.loop-k.k count c.loop-k.invariant.each c.former_parent-parent.ensures.parent;
-      parts = c.in_ok-note_open.ensures;
-    })
+pub returns-then-not-has_inline : goal.returns-then-not-has_inline
+returns-then-not-has_inline c =
+    let none = subst (λ (bs : List BoxNode). (k : ℕ) → k < length bs → is_inline_at bs k ≡ false) c.as_slice.ensures.boxes (c.if-not-has_inline.ensures refl) in
+    none_broken c.args.tree.now c.in_ok-vec.field-0.items (c.in_ok-vec.ensures.items_if_clones_equal (λ y e. search rules) ∙ search rules) none

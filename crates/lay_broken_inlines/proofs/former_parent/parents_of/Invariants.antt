@@ -1,7 +1,7 @@
 use Rattle.std.proofs.Common.{◌≡◌, ◌<◌, ℕ, None, length, get_or}
 use Rattle.lay_broken_inlines.specs.FormerParents.{IsFormerParent}
 use Rattle.lay_broken_inlines.specs.OpenParts.{AreOpen}
-use Rattle.lay_broken_inlines.proofs.former_parent.former_parents.Given as goal
+use Rattle.lay_broken_inlines.proofs.former_parent.parents_of.Given as goal
 
 abbrev pub invariant-loop-k : goal.invariant-loop-k
 invariant-loop-k l = record {
