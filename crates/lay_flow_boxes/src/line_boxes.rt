@@ -10,8 +10,8 @@ use crate::box_columns::{length_at, sizes_at};
 use crate::context_blocks::{content_right, inside_edge};
 use crate::place_input::PlaceInput;
 use lay_box_parts::InlinePart;
-use lay_content::{BoxMeasures, Container, has_seen_line, line_content};
-use lay_items::inline_segments;
+use lay_content::{BoxMeasures, Container, has_seen_line, line_content_of_items};
+use lay_items::measured_items;
 use lay_line_content::LineContent;
 use lay_units::{NoMemory, Unit};
 use std::alloc::Global;
@@ -56,9 +56,9 @@ fn content_of_box(alloc: Global, of: &Shaping<'_>, k: usize) -> Result<LineConte
     let input = of.input;
     let boxes = input.boxes();
     let measures = BoxMeasures::new(boxes, of.parts, input.sizes(), input.inner(), input.face());
-    let segments = inline_segments(alloc, boxes, k, input.face())?;
+    let items = measured_items(alloc, boxes, k, input.face())?;
     let container = line_container(of, k);
-    match line_content(alloc, &measures, container, segments.as_slice())? {
+    match line_content_of_items(alloc, &measures, container, items.as_slice())? {
         Some(content) => Ok(content),
         None => Err(NoMemory),
     }

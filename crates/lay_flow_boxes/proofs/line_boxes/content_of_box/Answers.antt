@@ -1,5 +1,5 @@
 use Rattle.std.proofs.Common.{◌≡◌, ◌∙◌, refl}
-use Rattle.lay_items.specs.InlineSegments.{segments_in}
+use Rattle.lay_items.specs.InlineSegments.{items_in}
 use Rattle.lay_flow_boxes.specs.FlowShapes.{measures_in}
 use Rattle.lay_flow_boxes.proofs.line_boxes.content_of_box.Goals as goal
 
@@ -7,7 +7,7 @@ pub returns-in-Some : goal.returns-in-Some
 returns-in-Some c =
     let some = (c.in_ok-content.ensures {u = tt}).some in
     let is = rw c.in-Some.is at some in
-    let segments = c.in_ok-segments.ensures {u = tt} in
+    let items = c.in_ok-items.ensures {u = tt} in
     let measures : c.new-measures.result ≡ measures_in c.args.of.now.input.now c.args.of.now.parts.now = rw (c.new-measures.ensures, c.boxes-boxes.ensures.boxes, c.sizes.ensures, c.inner.ensures, c.face.ensures) refl in
-    let cut : c.as_slice.result.now ≡ segments_in c.args.of.now.input.now.face c.args.of.now.input.now.boxes c.args.k = c.as_slice.ensures ∙ segments ∙ rw (c.face-2.ensures, c.boxes-boxes.ensures.boxes) refl in
-    is ∙ rw (measures, cut, c.line_container-container.ensures) refl
+    let left : c.as_slice.result.now ≡ items_in c.args.of.now.input.now.face c.args.of.now.input.now.boxes c.args.k = c.as_slice.ensures ∙ items ∙ rw (c.face-2.ensures, c.boxes-boxes.ensures.boxes) refl in
+    is ∙ rw (measures, left, c.line_container-container.ensures) refl
