@@ -12,6 +12,7 @@ use Rattle.lay_face.specs.FaceValue.{FaceValue}
 use Rattle.lay_face.specs.Faces.{entry_of, thousandths_of}
 use Rattle.lay_sizes.specs.UsedLengths.{no_length}
 use Rattle.lay_space.specs.declared.segment.Segment.{Segment}
+use Rattle.lay_line_content.specs.declared.content.Stretch.{Stretch}
 use Rattle.lay_line_content.specs.LineContents.{LineContentValue, content_of}
 use Rattle.lay_content.specs.declared.container.Container.{Container}
 use Rattle.lay_content.specs.BoxMeasuresValue.{BoxMeasuresValue}
@@ -31,8 +32,12 @@ abbrev pub tab_in : FaceValue → Option BoxNode → ℤ
 tab_in face None = pos 0
 tab_in face (Some b) = pos 8 *ℤ thousandths_of (entry_of face 32) (font_size b.style.text)
 
--- the content of the lines of a container with these segments
-abbrev pub content_in : BoxMeasuresValue → Container → List Segment → LineContentValue
-content_in m c segments =
+-- the content of the lines of a container with these stretches
+abbrev pub content_with : BoxMeasuresValue → Container → List Stretch → LineContentValue
+content_with m c stretches =
     content_of (extent_at m c.place) (indent_in c.containing (slice_get m.boxes c.place))
-    (record { 0 = tab_in m.face (slice_get m.boxes c.place) }) (stretches_of m c true segments)
+    (record { 0 = tab_in m.face (slice_get m.boxes c.place) }) stretches
+
+-- and with these segments
+abbrev pub content_in : BoxMeasuresValue → Container → List Segment → LineContentValue
+content_in m c segments = content_with m c (stretches_of m c true segments)

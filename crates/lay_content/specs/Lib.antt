@@ -6,6 +6,7 @@ pub mod AtomicBoxes
 pub mod InlineBoxes
 pub mod LineFloats
 pub mod TextParts
+pub mod TextStretches
 pub mod Stretches
 pub mod Contents
 pub mod SeenLines

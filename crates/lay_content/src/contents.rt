@@ -2,8 +2,9 @@
 
 ghost use Rattle.std.specs.Prelude.{◌≡◌, pos, ◌*ℤ◌, slice_get, None, IfOk, IfSome};
 ghost use Rattle.lay_face.specs.Faces.{entry_of, thousandths_of};
+ghost use Rattle.lay_space.specs.Segments.{segments_of};
 ghost use Rattle.lay_line_content.specs.LineContents.{IsLineContent, IsTabDistance};
-ghost use Rattle.lay_content.specs.Contents.{content_in, indent_in, tab_in, used_indent};
+ghost use Rattle.lay_content.specs.Contents.{content_in, content_with, indent_in, tab_in, used_indent};
 ghost use Rattle.lay_content.specs.LineHeights.{font_size};
 
 use crate::box_measures::BoxMeasures;
@@ -11,10 +12,11 @@ use crate::container::Container;
 use crate::inline_boxes::extent_at;
 use crate::line_heights::font_size;
 use crate::stretches::stretches_of;
+use crate::text_stretches::stretches_of_items;
 use lay_box_tree::BoxNode;
 use lay_face::Face;
-use lay_line_content::{LineContent, StretchList};
-use lay_space::Segment;
+use lay_line_content::{LineContent, Stretch, StretchList};
+use lay_space::{Item, Segment};
 use lay_style::{LengthPercentage, TextStyle};
 use lay_units::{NoMemory, Unit, clamp, percent_of};
 use std::alloc::Global;
@@ -31,13 +33,38 @@ pub fn line_content(
     ensures fits { IfOk result (λ o. IfSome o IsLineContent) }
     ensures none { IfOk result (λ o. o ≡ None → IsLineContent (content_in measures.now container segments.now) → ⊥) }
 {
-    let Some(tab) = tab_at(measures, container.place) else {
-        return Ok(None);
-    };
+    let stretches = stretches_of(alloc, measures, container, segments)?;
+    Ok(content_with(measures, container, stretches))
+}
+
+/// The same of a container that has these items, as white space processing left them, with the widths of their texts.
+pub fn line_content_of_items(
+    alloc: Global,
+    measures: &BoxMeasures<'_>,
+    container: Container,
+    items: &[Item],
+) -> Result<Option<LineContent>, NoMemory>
+    ensures some { IfOk result (λ o. IfSome o (λ c. c ≡ content_in measures.now container (segments_of items.now))) }
+    ensures fits { IfOk result (λ o. IfSome o IsLineContent) }
+    ensures none { IfOk result (λ o. o ≡ None → IsLineContent (content_in measures.now container (segments_of items.now)) → ⊥) }
+{
+    let stretches = stretches_of_items(alloc, measures, container, items)?;
+    Ok(content_with(measures, container, stretches))
+}
+
+fn content_with(
+    measures: &BoxMeasures<'_>,
+    container: Container,
+    stretches: Vec<Stretch>,
+) -> Option<LineContent>
+    ensures some { IfSome result (λ c. c ≡ content_with measures.now container stretches.items) }
+    ensures fits { IfSome result IsLineContent }
+    ensures none { result ≡ None → IsLineContent (content_with measures.now container stretches.items) → ⊥ }
+{
+    let tab = tab_at(measures, container.place)?;
     let strut = extent_at(measures, container.place);
     let indent = indent_at(measures.boxes(), container);
-    let stretches = stretches_of(alloc, measures, container, segments)?;
-    Ok(LineContent::new(strut, indent, tab, StretchList::new(stretches)))
+    LineContent::new(strut, indent, tab, StretchList::new(stretches))
 }
 
 /// `text-indent` of a container.

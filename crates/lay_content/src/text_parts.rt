@@ -54,7 +54,7 @@ fn put_between(
     )
 }
 
-fn put_cluster(
+pub(crate) fn put_cluster(
     parts: &mut Vec<Part>,
     mode: Mode,
     kind: ClusterKind,
@@ -94,7 +94,7 @@ pub(crate) fn push_part(parts: &mut Vec<Part>, part: Part) -> Result<(), NoMemor
 }
 
 /// Where the next cluster begins, or the text ends.
-fn next_place(text: &[u8], rest: &[ClusterWidth]) -> usize
+pub(crate) fn next_place(text: &[u8], rest: &[ClusterWidth]) -> usize
     ensures { result ≡ next_place text.now rest.now }
 {
     match rest.first() {

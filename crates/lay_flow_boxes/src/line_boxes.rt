@@ -1,6 +1,6 @@
 //! The boxes of one context that hold lines.
 
-ghost use Rattle.std.specs.Prelude.{◌≡◌, ◌<◌, Some, None, length, IfOk, if◌then◌else◌};
+ghost use Rattle.std.specs.Prelude.{◌≡◌, ◌<◌, Some, None, length, IfOk, IfSome, if◌then◌else◌};
 ghost use Rattle.lay_items.specs.InlineSegments.{segments_in};
 ghost use Rattle.lay_content.specs.SeenLines.{has_seen_line};
 ghost use Rattle.lay_flow_boxes.specs.ContextBlocks.{content_of_box, line_container, lines_in};
@@ -11,8 +11,8 @@ use crate::box_columns::{length_at, sizes_at};
 use crate::context_blocks::{content_right, inside_edge};
 use crate::place_input::PlaceInput;
 use lay_box_parts::InlinePart;
-use lay_content::{BoxMeasures, Container, has_seen_line, line_content};
-use lay_items::inline_segments;
+use lay_content::{BoxMeasures, Container, has_seen_line, line_content, line_content_of_items};
+use lay_items::measured_items;
 use lay_line_content::LineContent;
 use lay_space::Segment;
 use lay_units::{NoMemory, Unit};
@@ -55,34 +55,59 @@ fn content_of_box(alloc: Global, of: &Shaping<'_>, k: usize) -> Result<LineConte
     requires place { k < length of.now.input.now.boxes }
     ensures { IfOk result (λ c. c ≡ content_of_box (measures_in of.now.input.now of.now.parts.now) of.now.lefts.now k) }
 {
-    let input = of.input;
-    if let Some(segments) = input.segments_at(k) {
-        return content_of_segments(alloc, of, k, segments);
+    let content = match of.input.segments_at(k) {
+        Some(segments) => content_of_segments(alloc, of, k, segments)?,
+        None => content_of_items(alloc, of, k)?,
+    };
+    match content {
+        Some(content) => Ok(content),
+        None => Err(NoMemory),
     }
-    let segments = inline_segments(alloc, input.boxes(), k, input.face())?;
-    content_of_segments(alloc, of, k, segments.as_slice())
 }
 
-/// The same, where these are the segments of the box.
+/// The same where these are the segments of the box, and None where it is out of the bounds of lines.
 fn content_of_segments(
     alloc: Global,
     of: &Shaping<'_>,
     k: usize,
     segments: &[Segment],
-) -> Result<LineContent, NoMemory>
+) -> Result<Option<LineContent>, NoMemory>
     requires shaping { IsShaping of.now.input.now.boxes of.now.lefts.now of.now.inline_containers.now }
     requires place { k < length of.now.input.now.boxes }
     requires segments { segments.now ≡ segments_in of.now.input.now.face of.now.input.now.boxes k }
-    ensures { IfOk result (λ c. c ≡ content_of_box (measures_in of.now.input.now of.now.parts.now) of.now.lefts.now k) }
+    ensures { IfOk result (λ o. IfSome o (λ c. c ≡ content_of_box (measures_in of.now.input.now of.now.parts.now) of.now.lefts.now k)) }
+{
+    let measures = measures_in(of);
+    line_content(alloc, &measures, line_container(of, k), segments)
+}
+
+/// The same, from what stands in the lines of the box.
+fn content_of_items(
+    alloc: Global,
+    of: &Shaping<'_>,
+    k: usize,
+) -> Result<Option<LineContent>, NoMemory>
+    requires shaping { IsShaping of.now.input.now.boxes of.now.lefts.now of.now.inline_containers.now }
+    requires place { k < length of.now.input.now.boxes }
+    ensures { IfOk result (λ o. IfSome o (λ c. c ≡ content_of_box (measures_in of.now.input.now of.now.parts.now) of.now.lefts.now k)) }
+{
+    let measures = measures_in(of);
+    let items = measured_items(alloc, of.input.boxes(), k, of.input.face())?;
+    line_content_of_items(alloc, &measures, line_container(of, k), items.as_slice())
+}
+
+/// What the measures of boxes in lines are taken of.
+fn measures_in<'a>(of: &Shaping<'a>) -> BoxMeasures<'a>
+    ensures { result ≡ measures_in of.now.input.now of.now.parts.now }
 {
     let input = of.input;
-    let boxes = input.boxes();
-    let measures = BoxMeasures::new(boxes, of.parts, input.sizes(), input.inner(), input.face());
-    let container = line_container(of, k);
-    match line_content(alloc, &measures, container, segments)? {
-        Some(content) => Ok(content),
-        None => Err(NoMemory),
-    }
+    BoxMeasures::new(
+        input.boxes(),
+        of.parts,
+        input.sizes(),
+        input.inner(),
+        input.face(),
+    )
 }
 
 /// The box at k, as the content of its lines takes it.
