@@ -18,3 +18,4 @@ pub mod Putting
 pub mod Settled
 pub mod SplitNodes
 pub mod WholeParts
+pub mod WalkSteps

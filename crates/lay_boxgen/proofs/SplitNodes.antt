@@ -104,7 +104,7 @@ tree-between nodes styles c e less le same h =
     ∙ (ap (λ r. first_tree (node_trees as_child c r (between c e styles ++ drop e styles))) (sym ns)
     ∙ ap (λ r. first_tree (node_trees as_child c (drop c nodes) r)) (sym ss))
 
-own-cut : (o : Option Tree) → option_map own_tree (option_map cut o) ≡ option_map cut_own o
+pub own-cut : (o : Option Tree) → option_map own_tree (option_map cut o) ≡ option_map cut_own o
 own-cut None = refl
 own-cut (Some t) = refl
 

@@ -1,5 +1,5 @@
 -- The trees of a context's part from the start: a parent has the boxes of inner contexts and anchors alone.
-use Rattle.std.specs.Prelude.{ℕ, Option, None, Some, List, [], ◌∷◌, if◌then◌else◌, option_map}
+use Rattle.std.specs.Prelude.{ℕ, ◌==◌, Bool, false, Option, None, Some, List, [], ◌∷◌, if◌then◌else◌, option_map}
 use Rattle.lay_style.specs.declared.style.Style.{Style}
 use Rattle.lay_doc.specs.declared.node.Node.{Node}
 use Rattle.lay_anonymous_boxes.specs.Boxes.{Tree, tree, no_trees}
@@ -14,6 +14,11 @@ abbrev pub as_leaf : Tree → Tree
 as_leaf (tree f children) =
     if is_absolute f.flow then tree (anchor_facts f) no_trees
     else (if is_closed f then tree f no_trees else tree f children)
+
+-- the first of these is a child of the node at k
+abbrev pub is_child_first : ℕ → List NodeTree → Bool
+is_child_first k [] = false
+is_child_first k (n ∷ ns) = n.parent == k
 
 -- a tree with nothing inside the boxes of inner contexts that are below its own box
 abbrev pub cut : Tree → Tree

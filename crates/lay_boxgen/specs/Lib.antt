@@ -9,6 +9,7 @@ pub mod BoxBounds
 pub mod KindLaws
 pub mod Contexts
 pub mod CutTrees
+pub mod ContextWalk
 pub mod Laws
 pub mod InnerBoxes
 pub mod TreeLaws

@@ -3,9 +3,9 @@
 ghost use Rattle.std.specs.Prelude.{◌≡◌, ◌<◌, ◌≤◌, [], IfOk, length};
 ghost use Rattle.lay_units.specs.Limits.{most_nodes};
 ghost use Rattle.lay_box_tree.specs.BoxColumns.{IsBoxTree};
-ghost use Rattle.lay_boxgen.specs.CutTrees.{generated_cut};
+ghost use Rattle.lay_boxgen.specs.CutTrees.{cut_tree_at, generated_cut};
 ghost use Rattle.lay_boxgen.specs.Listing.{boxes_of, boxes_at, listed_part};
-ghost use Rattle.lay_boxgen.specs.Parts.{part, put_list, nothing};
+ghost use Rattle.lay_boxgen.specs.Parts.{part};
 
 use crate::listing::{Sources, listed_part};
 use crate::node_trees::context_tree;
@@ -43,25 +43,24 @@ fn boxes_at(
     ensures boxes { IfOk result (λ v. v.items ≡ listed_part nodes.now styles.now (part nodes.now styles.now place)) }
     ensures tree { IfOk result (λ v. IsBoxTree v.items) }
 {
-    let trees = part_trees(alloc, nodes, styles, place)?;
-    listed_part(alloc, Sources { nodes, styles }, &trees)
+    let tree = context_tree(alloc, nodes, styles, place)?;
+    boxes_of_tree(alloc, Sources { nodes, styles }, place, tree)
 }
 
-/// The trees of the context of the node at a place, but for what is in the boxes of inner contexts.
-fn part_trees(
+/// The same, of the tree of the context before any rule.
+pub(crate) fn boxes_of_tree(
     alloc: Global,
-    nodes: &[Node],
-    styles: &[Style],
+    sources: Sources<'_>,
     place: usize,
-) -> Result<Vec<Subtree>, NoMemory>
-    requires place { place < length nodes.now }
-    requires styles { length styles.now ≡ length nodes.now }
-    requires few { length nodes.now ≤ most_nodes }
-    ensures { IfOk result (λ v. put_list nothing v.items ≡ part nodes.now styles.now place) }
+    tree: Option<Subtree>,
+) -> Result<Vec<BoxNode>, NoMemory>
+    requires { tree ≡ cut_tree_at sources.nodes.now sources.styles.now place }
+    ensures boxes { IfOk result (λ v. v.items ≡ listed_part sources.entry.nodes.now sources.entry.styles.now (part sources.entry.nodes.now sources.entry.styles.now place)) }
+    ensures tree { IfOk result (λ v. IsBoxTree v.items) }
 {
-    let tree = context_tree(alloc, nodes, styles, place)?;
+    let _ = place;
     let trees = generate_own(alloc, tree)?;
-    Ok(trees)
+    listed_part(alloc, sources, &trees)
 }
 
 /// What is generated of the tree of a context, if there is one.

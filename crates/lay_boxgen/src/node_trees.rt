@@ -4,7 +4,7 @@ ghost use Rattle.std.specs.Prelude.{◌≡◌, ◌<◌, ◌≤◌, ◌+◌, ℕ,
 ghost use Rattle.lay_units.specs.Limits.{most_nodes};
 ghost use Rattle.lay_doc.specs.Document.{parents_of};
 ghost use Rattle.lay_anonymous_boxes.specs.Boxes.{tree, no_trees};
-ghost use Rattle.lay_boxgen.specs.CutTrees.{as_leaf, cut_tree_at};
+ghost use Rattle.lay_boxgen.specs.CutTrees.{as_leaf, cut_tree_at, is_child_first};
 ghost use Rattle.lay_boxgen.specs.NodeTrees.{anchor_facts, children_of, others_than_children, box_with, with_node, node_trees, first_tree};
 ghost use Rattle.lay_boxgen.specs.Parts.{is_closed, own_tree};
 
@@ -43,7 +43,7 @@ fn anchor_facts(facts: Facts) -> Facts
 }
 
 /// The tree of a node as its parent has it in the part of a context.
-fn as_leaf(alloc: Global, tree: Subtree) -> Subtree
+pub fn as_leaf(alloc: Global, tree: Subtree) -> Subtree
     ensures { result ≡ as_leaf tree }
 {
     let facts = tree.facts();
@@ -67,17 +67,28 @@ fn take_children(
     ensures others { OnOk result (reverse stack.new.items ≡ others_than_children place (reverse stack.old.items)) }
 {
     let mut children = Vec::new(alloc);
-    while let Some(top) = stack.pop() {
-        if top.parent != place {
-            stack.push(top)?;
-            break;
-        }
-        let NodeTree { parent: _, tree } = top;
-        if let Some(tree) = tree {
+    while is_child_on_top(place, stack) {
+        if let Some(
+            NodeTree {
+                parent: _,
+                tree: Some(tree),
+            },
+        ) = stack.pop()
+        {
             children.push(as_leaf(alloc, tree))?;
         }
     }
     Ok(children)
+}
+
+/// Whether the tree on top is of a child of the node at a place.
+fn is_child_on_top(place: usize, stack: &[NodeTree]) -> bool
+    ensures { result ≡ is_child_first place (reverse stack.now) }
+{
+    match stack.last() {
+        None => false,
+        Some(top) => top.parent == place,
+    }
 }
 
 /// The box with these children, where there is one.
@@ -91,7 +102,7 @@ fn box_with(facts: Option<Facts>, children: Vec<Subtree>) -> Option<Subtree>
 }
 
 /// Puts a node, with its children in it, before the nodes behind it.
-fn put_node(
+pub fn put_node(
     alloc: Global,
     place: usize,
     node: &Node,
@@ -144,7 +155,7 @@ fn subtree_end(nodes: &[Node], place: usize) -> usize
 }
 
 /// The same tree, whose own box is seen from inside.
-fn own_tree(tree: Subtree) -> Subtree
+pub fn own_tree(tree: Subtree) -> Subtree
     ensures { result ≡ own_tree tree }
 {
     let Subtree { facts, children } = tree;

@@ -2,17 +2,15 @@
 
 ghost use Rattle.std.specs.Prelude.{ℕ, ◌≡◌, ◌<◌, IfOk, length, replicate, slice_index};
 ghost use Rattle.lay_context_boxes.specs.ContextBoxes.{AreContextBoxes};
-ghost use Rattle.lay_context_tree.specs.ContextTree.{boxes_of_place};
 ghost use Rattle.lay_context_tree.specs.DocumentContexts.{AreDocumentContexts, root_spot, spot_at};
 ghost use Rattle.lay_contexts.specs.ContextList.{AreContextsOf, AreNumberedTo, boxes_at, boxes_of_spots, spot_of};
 ghost use Rattle.lay_contexts.specs.ContextOrder.{AreInOrder};
-ghost use Rattle.lay_boxgen.specs.Contexts.{IsContextAt};
 ghost use Rattle.lay_contexts.specs.ListedContexts.{AreContextPlaces, AreSpots, IsSpot, boxes_of_places};
 
-use crate::context_places::{context_places, id_at};
+use crate::context_places::context_places;
 use crate::contexts::{Context, Contexts};
 use crate::standing::{Listed, Standing, boxes_at, stands_of};
-use lay_boxgen::boxes;
+use lay_boxgen::boxes_of_contexts;
 use lay_context_boxes::ContextBoxes;
 use lay_context_tree::ContextSpot;
 use lay_doc::Doc;
@@ -86,27 +84,17 @@ fn boxes_of(
     requires places { AreContextPlaces doc.now.nodes computed.now places.now }
     ensures { IfOk result (λ v. v.items ≡ boxes_of_places doc.now.nodes computed.now places.now) }
 {
+    let _ = doc.nodes();
+    let mut trees = boxes_of_contexts(alloc, doc, computed, places)?;
     let mut all = Vec::with_capacity(alloc, places.len())?;
-    for number in 0..places.len() {
-        let boxes = boxes_of_context(alloc, doc, computed, places[number])?;
+    for _ in 0..places.len() {
+        let Some(tree) = trees.pop() else {
+            return Err(NoMemory);
+        };
+        let boxes = ContextBoxes::new(alloc, tree)?;
         all.push(boxes)?;
     }
     Ok(all)
-}
-
-/// The boxes of the context of the node at a place.
-fn boxes_of_context(
-    alloc: Global,
-    doc: &Doc,
-    computed: &Computed,
-    place: usize,
-) -> Result<ContextBoxes, NoMemory>
-    requires styles { length computed.now ≡ length doc.now.nodes }
-    requires context { IsContextAt doc.now.nodes computed.now place }
-    ensures { IfOk result (λ b. b ≡ boxes_of_place doc.now.nodes computed.now place) }
-{
-    let tree = boxes(alloc, doc, computed, id_at(doc.nodes(), place))?;
-    ContextBoxes::new(alloc, tree)
 }
 
 /// The contexts at these places, whose boxes stand there.

@@ -1,11 +1,10 @@
 //! Which nodes of a document are contexts.
 
-ghost use Rattle.std.specs.Prelude.{◌≡◌, ◌<◌, IfOk, length, slice_index};
-ghost use Rattle.lay_doc.specs.Document.{ids_of};
+ghost use Rattle.std.specs.Prelude.{◌≡◌, IfOk, length};
 ghost use Rattle.lay_contexts.specs.ListedContexts.{AreContextPlaces};
 
 use lay_boxgen::context_flags;
-use lay_doc::{Doc, Node, NodeId};
+use lay_doc::Doc;
 use lay_style::Computed;
 use lay_units::NoMemory;
 use std::alloc::Global;
@@ -28,12 +27,4 @@ pub(crate) fn context_places(
         }
     }
     Ok(places)
-}
-
-/// The id of the node at a place.
-pub(crate) fn id_at(nodes: &[Node], k: usize) -> NodeId
-    requires { k < length nodes.now }
-    ensures { result.0 ≡ slice_index (ids_of nodes.now) k }
-{
-    nodes[k].id
 }

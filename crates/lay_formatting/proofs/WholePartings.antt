@@ -2,12 +2,12 @@
 use Rattle.std.proofs.Common.{◌≡◌, ℕ, zero, suc, ◌+◌, ◌<◌, ◌≤◌, ◌≢◌, ◌++◌, ◌∷◌, [], Bool, true, false, List, add-one, length, slice_index, slice_index_or, refl, ap, sym, subst, ◌∙◌, arith, inl, inr}
 use Rattle.std.specs.Prelude.{replicate}
 use Rattle.std.specs.List.{range_with_len}
-use Rattle.std.proofs.lemmas.Bool.{cases_eq, cases_lt}
+use Rattle.std.proofs.lemmas.Bool.{cases_lt}
 use Rattle.std.proofs.lemmas.List.FromFn.{length-range_with_len, get_or-range_with_len}
 use Rattle.lay_box_tree.specs.Containers.{box_parent}
 use Rattle.lay_box_tree.specs.declared.box_tree.BoxNode.{BoxNode}
 use Rattle.lay_context_boxes.specs.ContextBoxes.{AreContextBoxes}
-use Rattle.lay_formatting.specs.FormattingBoxes.{at_home_before, is_at_home}
+use Rattle.lay_formatting.specs.FormattingBoxes.{at_home_before}
 use Rattle.lay_formatting.specs.FormattingContextList.{roots_before}
 use Rattle.lay_formatting.specs.Homes.{AreHomes, IsHome, further, is_root, own, parent}
 use Rattle.lay_formatting.specs.Partings.{IsParting, most_formatting_contexts}
