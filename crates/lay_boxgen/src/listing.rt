@@ -55,12 +55,24 @@ impl<'a> Sources<'a> {
     }
 }
 
-/// The style of a box, which is that of its node or of an anonymous box there. It is large, and copied only where the
-/// box is made.
+/// The style of a box, which is that of its node or of an anonymous box there. It is large, and copied where the box
+/// is made.
 #[derive(Clone, Copy)]
 struct BoxStyle<'a> {
     style: &'a Style,
     anonymous: bool,
+}
+
+impl BoxStyle<'_> {
+    fn value(self) -> Style
+        ensures { result ≡ box_style self.entry.anonymous self.entry.style.now }
+    {
+        if self.anonymous {
+            anonymous_style(self.style)
+        } else {
+            *self.style
+        }
+    }
 }
 
 /// The kind of a box of this form, whose node has this text.
@@ -119,29 +131,16 @@ fn push_box(
         return Err(NoMemory);
     };
     let text = sources.text_at(alloc, facts.place)?;
-    let kind = kind_of(facts.form, text);
-    if style.anonymous {
-        let style = anonymous_style(style.style);
-        out.push(box_of(facts, parent.place, kind, &style))?;
-    } else {
-        out.push(box_of(facts, parent.place, kind, style.style))?;
-    }
-    Ok(())
-}
-
-/// A box below the one at the place `parent`.
-fn box_of(facts: Facts, parent: u32, kind: BoxKind, style: &Style) -> BoxNode
-    ensures { result ≡ record { node = facts.node; parent = parent; kind = kind; flow = facts.flow; anonymous = facts.anonymous; inner = facts.inner; style = style.now } }
-{
-    BoxNode {
+    out.push(BoxNode {
         node: facts.node,
-        parent,
-        kind,
+        parent: parent.place,
+        kind: kind_of(facts.form, text),
         flow: facts.flow,
         anonymous: facts.anonymous,
         inner: facts.inner,
-        style: *style,
-    }
+        style: style.value(),
+    })?;
+    Ok(())
 }
 
 /// Puts the boxes of a tree below a box at the end of `out`.

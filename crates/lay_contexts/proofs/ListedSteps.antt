@@ -5,12 +5,9 @@ use Rattle.std.proofs.lemmas.Grind.{elements}
 use Rattle.lay_style.specs.declared.style.Style.{Style}
 use Rattle.lay_style.specs.Places.{place_of}
 use Rattle.lay_doc.specs.declared.node.Node.{Node}
-use Rattle.lay_doc.specs.Document.{Document, IsDocument, ids_of}
 use Rattle.lay_doc.proofs.OneStyles.{same_list}
-use Rattle.lay_boxgen.specs.Contexts.{IsContext, IsContextAt, IsContextThere, box_at, is_marked}
-use Rattle.lay_boxgen.specs.Listing.{boxes_at, boxes_of}
+use Rattle.lay_boxgen.specs.Contexts.{IsContextAt, box_at, is_marked}
 use Rattle.lay_box_tree.specs.declared.box_tree.BoxNode.{BoxNode}
-use Rattle.lay_boxgen.proofs.NodeColumns.{length-ids}
 use Rattle.lay_context_tree.specs.ContextTree.{StandsIn, boxes_of_place}
 use Rattle.lay_context_tree.specs.DocumentContexts.{AreDocumentContexts, root_spot, spot_at}
 use Rattle.lay_context_tree.specs.declared.context_spot.ContextSpot.{ContextSpot}
@@ -18,34 +15,6 @@ use Rattle.lay_context_tree.proofs.OneStand.{marked-true, within}
 use Rattle.lay_contexts.specs.ContextList.{boxes_of_spots}
 use Rattle.lay_contexts.specs.ListedContexts.{AreContextPlaces, AreSpots, AreStanding, IsListed, IsSpot, Stands, boxes_of_places, standing_at}
 use Rattle.lay_contexts.specs.declared.standing.Standing.{Standing}
-
--- the place of an id is the only one that has it
-place_found : (ids : List ℕ) (k : ℕ) → k < length ids → ((j : ℕ) → j < k → slice_index ids j ≡ slice_index ids k → ⊥) → place_of (slice_index ids k) ids ≡ Some k
-place_found [] k less h = absurd (omega (arith, less))
-place_found (x ∷ xs) zero less h = simp (same x) refl
-  where
-    same : (y : ℕ) → (y == y) ≡ true
-    same y = grind (arith)
-place_found (x ∷ xs) (suc k) less h =
-    let other : (x == slice_index xs k) ≡ false = differs x (slice_index xs k) (h 0 (omega arith)) in
-    simp other (ap (option_map suc) (place_found xs k (omega (arith, less)) (λ j low e. h (suc j) (omega (arith, low)) e)))
-  where
-    differs : (a b : ℕ) → (a ≡ b → ⊥) → (a == b) ≡ false
-    differs a b n = grind (arith, n)
-
-pub own_place : (d : Document) (k : ℕ) → IsDocument d → k < length d.nodes → place_of (slice_index (ids_of d.nodes) k) (ids_of d.nodes) ≡ Some k
-own_place d k doc lt = place_found (ids_of d.nodes) k (omega (arith, lt, length-ids d.nodes)) (λ j low e. doc.ids j k low lt e)
-
--- its boxes
-pub boxes_here : (d : Document) (styles : List Style) (k id : ℕ) → IsDocument d → k < length d.nodes → id ≡ slice_index (ids_of d.nodes) k → boxes_of d styles id ≡ boxes_of_place d.nodes styles k
-boxes_here d styles k id doc lt e = ap (λ (i : ℕ). boxes_of d styles i) e ∙ ap (boxes_at d.nodes styles) (own_place d k doc lt)
-
--- and whether it is a context
-pub context_there : (d : Document) (styles : List Style) (k id : ℕ) (b : Bool) → IsDocument d → k < length d.nodes → id ≡ slice_index (ids_of d.nodes) k
-    → ((IsTrue b → IsContext d styles id) × (IsContext d styles id → IsTrue b)) → (IsTrue b → IsContextAt d.nodes styles k) × (IsContextAt d.nodes styles k → IsTrue b)
-context_there d styles k id b doc lt e both =
-    let there : place_of id (ids_of d.nodes) ≡ Some k = ap (λ (i : ℕ). place_of i (ids_of d.nodes)) e ∙ own_place d k doc lt in
-    subst (λ (o : Option ℕ). (IsTrue b → IsContextThere d.nodes styles o) × (IsContextThere d.nodes styles o → IsTrue b)) there both
 
 pub not_true : (b : Bool) → b ≡ false → IsTrue b → ⊥
 not_true true e t = cc
