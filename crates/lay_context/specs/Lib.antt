@@ -11,6 +11,7 @@ pub mod PageCorners
 pub mod PlacedContexts
 pub mod Settings
 pub mod Settling
+pub mod SharedContents
 pub mod Solves
 pub mod StandInputs
 pub mod Workings

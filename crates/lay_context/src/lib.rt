@@ -28,6 +28,7 @@ mod placed_context;
 mod plan;
 mod root_box;
 mod settings;
+mod shared_contents;
 mod stand_input;
 mod task;
 mod value;
