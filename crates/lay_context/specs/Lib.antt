@@ -10,5 +10,6 @@ pub mod PageCorners
 pub mod PlacedContexts
 pub mod Settings
 pub mod Settling
+pub mod SharedContents
 pub mod Solves
 pub mod Workings

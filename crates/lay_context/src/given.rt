@@ -1,10 +1,11 @@
 //! What a task is given, from the values of the tasks that it needs.
 
 ghost use Rattle.std.specs.Prelude.{◌≡◌, ◌<◌, Some, IfOk, length, slice_index};
+ghost use Rattle.lay_items.specs.InlineContents.{AreContents};
 ghost use Rattle.lay_sizes.specs.OwnBoxes.{OwnBoxFits, OwnBoxesFit};
 ghost use Rattle.lay_pieces.specs.InnerPieces.{AreNearInnerPieces, pieces_or_none};
 ghost use Rattle.lay_pieces.specs.NearPieces.{AreNearPieces};
-ghost use Rattle.lay_formatting.specs.FormattingContexts.{formatting_context_at};
+ghost use Rattle.lay_formatting.specs.FormattingContexts.{boxes_in, formatting_context_at};
 ghost use Rattle.lay_context.specs.DocumentLayout.{flow_number, inner_boxes, inner_pieces, inner_widths, inner_widths_in, own_box_in, pieces_in};
 ghost use Rattle.lay_context.specs.Local.{flow_input, input_of, measure_as, measure_input, place_input, size_input, stand_input, table_input};
 ghost use Rattle.lay_context.specs.Measured.{is_measured};
@@ -17,12 +18,14 @@ use crate::known_context::{KnownContext, ReadyToPlace, ReadyToSize};
 use crate::measured::is_measured;
 use crate::medium::Medium;
 use crate::own_heights::own_height_rule;
+use crate::plan::Plan;
 use crate::settings::{own_place_of, setting_of};
 use crate::task::{Phase, Task};
 use lay_context_sizes::{MeasureInput, SizeInput};
 use lay_flow_boxes::PlaceInput;
 use lay_formatting::FormattingContexts;
 use lay_frag::Pieces;
+use lay_items::InlineContents;
 use lay_measure::{NO_WIDTHS, PreferredWidths};
 use lay_own_place::StandInput;
 use lay_pieces::{InnerPieces, OwnBoxes};
@@ -37,32 +40,39 @@ use std::sync::Arc;
 /// What a task is given, where the values that it needs are known.
 pub(crate) fn input(
     alloc: Global,
-    medium: &Medium,
-    contexts: &FormattingContexts,
+    plan: &Plan<'_>,
     known: &Known,
     task: Task,
 ) -> Result<Input, NoMemory>
-    requires ready { IsReady contexts.now known.now task }
-    ensures { IfOk result (λ i. i ≡ input_of medium.now contexts.now known.now task) }
+    requires ready { IsReady plan.now.contexts.now known.now task }
+    ensures { IfOk result (λ i. i ≡ input_of plan.now.medium.now plan.now.contexts.now known.now task) }
 {
+    let medium = plan.medium;
     let at = KnownContext {
-        contexts,
+        contexts: plan.contexts,
         known,
         number: task.context,
     };
+    let contents = plan.contents_of(task.context);
     match task.phase {
-        Phase::Measure => measure_as(alloc, medium, &at),
+        Phase::Measure => measure_as(alloc, medium, &at, contents),
         Phase::Size => Ok(Input::Size(size_input(medium, &ReadyToSize { at })?)),
-        Phase::Place => place_input(alloc, medium, &ReadyToPlace { at }),
+        Phase::Place => place_input(alloc, medium, &ReadyToPlace { at }, contents),
     }
 }
 
 /// What the preferred widths of a formatting context are worked out of, where they count.
-fn measure_as(alloc: Global, medium: &Medium, at: &KnownContext<'_>) -> Result<Input, NoMemory>
+fn measure_as(
+    alloc: Global,
+    medium: &Medium,
+    at: &KnownContext<'_>,
+    contents: &InlineContents,
+) -> Result<Input, NoMemory>
+    requires { AreContents medium.now.face (boxes_in at.now.contexts.now at.now.number) contents.now }
     ensures { IfOk result (λ v. v ≡ measure_as (is_measured at.now.contexts.now at.now.number) (measure_input medium.now at.now.contexts.now at.now.known.now at.now.number)) }
 {
     if is_measured(at.contexts, at.number) {
-        Ok(Input::Measure(measure_input(alloc, medium, at)?))
+        Ok(Input::Measure(measure_input(alloc, medium, at, contents)?))
     } else {
         Ok(Input::Unmeasured)
     }
@@ -72,13 +82,16 @@ fn measure_input(
     alloc: Global,
     medium: &Medium,
     at: &KnownContext<'_>,
+    contents: &InlineContents,
 ) -> Result<MeasureInput, NoMemory>
+    requires { AreContents medium.now.face (boxes_in at.now.contexts.now at.now.number) contents.now }
     ensures { IfOk result (λ v. v ≡ measure_input medium.now at.now.contexts.now at.now.known.now at.now.number) }
 {
     let boxes = at.formatting_context().boxes().share()?;
     let inner = inner_widths(alloc, at)?;
     let face = medium.face()?;
-    Ok(MeasureInput::new(boxes, inner, face))
+    let contents = contents.share()?;
+    Ok(MeasureInput::new(boxes, inner, face).with_contents(contents))
 }
 
 fn size_input(medium: &Medium, ready: &ReadyToSize<'_>) -> Result<SizeInput, NoMemory>
@@ -90,7 +103,13 @@ fn size_input(medium: &Medium, ready: &ReadyToSize<'_>) -> Result<SizeInput, NoM
     Ok(SizeInput::new(boxes, at.known.widths(at.number), setting))
 }
 
-fn place_input(alloc: Global, medium: &Medium, ready: &ReadyToPlace<'_>) -> Result<Input, NoMemory>
+fn place_input(
+    alloc: Global,
+    medium: &Medium,
+    ready: &ReadyToPlace<'_>,
+    contents: &InlineContents,
+) -> Result<Input, NoMemory>
+    requires { AreContents medium.now.face (boxes_in ready.now.at.contexts.now ready.now.at.number) contents.now }
     ensures { IfOk result (λ v. v ≡ place_input medium.now ready.now.at.contexts.now ready.now.at.known.now ready.now.at.number) }
 {
     let stand = stand_input(medium, ready)?;
@@ -100,7 +119,7 @@ fn place_input(alloc: Global, medium: &Medium, ready: &ReadyToPlace<'_>) -> Resu
             Ok(Input::PlaceTable(table, stand))
         }
         None => {
-            let flow = flow_input(alloc, medium, ready)?;
+            let flow = flow_input(alloc, medium, ready, contents)?;
             Ok(Input::Place(flow, stand))
         }
     }
@@ -142,7 +161,9 @@ fn flow_input(
     alloc: Global,
     medium: &Medium,
     ready: &ReadyToPlace<'_>,
+    contents: &InlineContents,
 ) -> Result<PlaceInput, NoMemory>
+    requires { AreContents medium.now.face (boxes_in ready.now.at.contexts.now ready.now.at.number) contents.now }
     ensures { IfOk result (λ v. v ≡ flow_input medium.now ready.now.at.contexts.now ready.now.at.known.now ready.now.at.number) }
 {
     let at = &ready.at;
@@ -155,7 +176,8 @@ fn flow_input(
     let own_height = own_height_rule(&boxes, sized);
     let face = medium.face()?;
     let flow = PlaceInput::new(boxes, sizes, inner, pieces, face);
-    Ok(flow.with_own_height(own_height))
+    let contents = contents.share()?;
+    Ok(flow.with_own_height(own_height).with_contents(contents))
 }
 
 /// The formatting context in flow or floating whose box the one at k is; where there is none, that with the number 0.

@@ -19,6 +19,7 @@ use crate::laid_contexts::LaidContexts;
 use crate::medium::Medium;
 use crate::placed_context::PlacedContext;
 use crate::plan::Plan;
+use crate::shared_contents::shared_contents;
 use crate::task::{Phase, Task};
 use crate::value::Value;
 use lay_context_sizes::{context_sizes, context_widths};
@@ -87,10 +88,12 @@ fn lay_contexts(
 {
     grids_are_of_boxes();
     let levels = levels(alloc, contexts)?;
+    let contents = shared_contents(alloc, medium, contexts)?;
     let plan = Plan {
         medium,
         contexts,
         levels: &levels,
+        contents: &contents,
     };
     let mut known = Known::new(alloc, contexts.len())?;
     measure_all(alloc, &plan, &mut known)?;
@@ -115,7 +118,7 @@ fn measure_all(alloc: Global, plan: &Plan<'_>, known: &mut Known) -> Result<(), 
             context: count - 1 - done,
             phase: Phase::Measure,
         };
-        settle(alloc, plan.medium, plan.contexts, known, task)?;
+        settle(alloc, plan, known, task)?;
     }
     Ok(())
 }
@@ -151,7 +154,7 @@ fn size_level(
                 context: i,
                 phase: Phase::Size,
             };
-            settle(alloc, plan.medium, plan.contexts, known, task)?;
+            settle(alloc, plan, known, task)?;
         }
     }
     Ok(())
@@ -174,24 +177,18 @@ fn place_level(
                 context: i,
                 phase: Phase::Place,
             };
-            settle(alloc, plan.medium, plan.contexts, known, task)?;
+            settle(alloc, plan, known, task)?;
         }
     }
     Ok(())
 }
 
 /// Computes the value of a task, where the values that it needs are known.
-fn settle(
-    alloc: Global,
-    medium: &Medium,
-    contexts: &FormattingContexts,
-    known: &mut Known,
-    task: Task,
-) -> Result<(), NoMemory>
-    requires ready { IsReady contexts.now known.old task }
-    ensures { OnOk result (IsSettled medium.now contexts.now known.old task known.new) }
+fn settle(alloc: Global, plan: &Plan<'_>, known: &mut Known, task: Task) -> Result<(), NoMemory>
+    requires ready { IsReady plan.now.contexts.now known.old task }
+    ensures { OnOk result (IsSettled plan.now.medium.now plan.now.contexts.now known.old task known.new) }
 {
-    let input = input(alloc, medium, contexts, known, task)?;
+    let input = input(alloc, plan, known, task)?;
     let value = compute(alloc, &input)?;
     known.set(task.context, value);
     Ok(())

@@ -25,6 +25,7 @@ mod page_corners;
 mod placed_context;
 mod plan;
 mod settings;
+mod shared_contents;
 mod task;
 mod value;
 

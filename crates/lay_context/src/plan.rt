@@ -1,17 +1,43 @@
 //! What the tasks of a layout share.
 
+ghost use Rattle.std.specs.Prelude.{◌≡◌, ◌<◌, length};
+ghost use Rattle.lay_items.specs.InlineContents.{AreContents};
 ghost use Rattle.lay_table_grid.specs.Laws.{GridsAreOfBoxes};
+ghost use Rattle.lay_formatting.specs.FormattingContexts.{boxes_in};
 ghost use Rattle.lay_positioned.specs.Levels.{HasLevels};
+ghost use Rattle.lay_context.specs.OneProof.{HaveContents-prop};
+ghost use Rattle.lay_context.specs.SharedContents.{HaveContents, contents_in};
 
 use crate::medium::Medium;
 use lay_formatting::FormattingContexts;
+use lay_items::InlineContents;
 
-/// What the tasks of a layout share: the medium, the formatting contexts, and the levels of these.
+/// What the tasks of a layout share: the medium, the formatting contexts, the levels of these, and the content of their lines
+/// that more than one task asks for.
 #[derive(Clone, Copy)]
 pub(crate) struct Plan<'a> {
     pub medium: &'a Medium,
     pub contexts: &'a FormattingContexts,
     pub levels: &'a [usize],
+    pub contents: &'a [InlineContents],
     ghost has_levels: { HasLevels contexts.now levels.now },
     ghost grids: { GridsAreOfBoxes },
+    ghost have_contents: { HaveContents medium.now.face contexts.now contents.now } by { HaveContents-prop medium.now.face contexts.now contents.now },
+}
+
+impl<'a> Plan<'a> {
+    /// The content of the lines of the formatting context with this number, as far as it is shared.
+    pub(crate) fn contents_of(&self, i: usize) -> &'a InlineContents
+        requires { i < length self.now.contexts.now }
+        ensures { AreContents self.now.medium.now.face (boxes_in self.now.contexts.now i) result.now }
+    {
+        contents_at(self.contents, i)
+    }
+}
+
+fn contents_at(contents: &[InlineContents], i: usize) -> &InlineContents
+    requires { i < length contents.now }
+    ensures { result.now ≡ contents_in contents.now i }
+{
+    &contents[i]
 }
