@@ -15,7 +15,8 @@ use Rattle.lay_blocks.specs.Gathered.{Gathered}
 use Rattle.lay_blocks.specs.MarginPlace.{IsPlace, IsAround, margin_place}
 use Rattle.lay_blocks.proofs.ContentHeights.{content_bottom, content_inner}
 use Rattle.lay_blocks.proofs.Truths.{true_false, true_or, low_yes, low_not}
-use Rattle.lay_blocks.proofs.RunsAgree.{Same, Closed, last_there, inside_up}
+use Rattle.lay_blocks.proofs.RunsAgree.{Same, Closed, last_there}
+use Rattle.lay_blocks.proofs.MarginWalk.{inside_up}
 use Rattle.lay_blocks.proofs.RunsUpTo.{runs_up_to}
 use Rattle.lay_blocks.proofs.RunFacts.{ends_inside, joins_is}
 use Rattle.lay_blocks.proofs.LayoutFacts.{mark_through, start_clears_through}

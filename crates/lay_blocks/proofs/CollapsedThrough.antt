@@ -103,8 +103,8 @@ module _ (boxes : List FlowBox) (tree : IsTree (parents_of boxes)) (y : BlockLay
         ];
       }
 
-  closes_started : (p m : ℕ) → 0 < p → p < m → m ≤ length boxes → (m < length boxes → parent_at boxes m < p) → Started p m → Started (parent_at boxes p) m
-  closes_started p m positive lt within ends was = go (joins_bottom boxes y.runs p) refl
+  closes_started : (p m : ℕ) → 0 < p → p < m → m ≤ length boxes → (m < length boxes → parent_at boxes m < p) → IsAround boxes p m → Started p m → Started (parent_at boxes p) m
+  closes_started p m positive lt within ends inside was = go (joins_bottom boxes y.runs p) refl
     where
       less : parent_at boxes p < p
       less = parent_before boxes tree p positive (omega (arith, lt, within))
@@ -112,15 +112,15 @@ module _ (boxes : List FlowBox) (tree : IsTree (parents_of boxes)) (y : BlockLay
       go : (b : Bool) → joins_bottom boxes y.runs p ≡ b → Started (parent_at boxes p) m
       go false parted = record {
         first = m;
-        is_gathered = close_parted boxes tree y.runs is.has_runs p m positive lt within ends was.is_gathered.inside parted;
+        is_gathered = close_parted boxes tree y.runs is.has_runs p m positive lt within ends inside parted;
         starts = λ d j a b holds over low. absurd (omega (arith, a, over, low));
       }
       go true joined = record {
         first = was.first;
-        is_gathered = close_joined boxes tree y.runs is.has_runs p m positive lt within ends was.is_gathered.inside was.first was.is_gathered joined;
+        is_gathered = close_joined boxes tree y.runs is.has_runs p m positive lt within ends inside was.first was.is_gathered joined;
         starts = λ d j a b holds over low.
-            let through = joined_through boxes tree y.runs is.has_runs p m positive lt within ends was.is_gathered.inside was.first was.is_gathered joined (omega (arith, a, b, less)) in
-            let last = last_up boxes tree y.runs is.has_runs p m positive lt within ends was.is_gathered.inside in
+            let through = joined_through boxes tree y.runs is.has_runs p m positive lt within ends inside was.first was.is_gathered joined (omega (arith, a, b, less)) in
+            let last = last_up boxes tree y.runs is.has_runs p m positive lt within ends inside in
             let below : start_before boxes y (parent_at boxes p) m ≡ length_at y.places.starts p = rw (last, through) refl in
             was.starts d j a (omega (arith, b, less)) holds over low ∙ sym (was.starts d p a (omega (arith, b, less)) holds (omega (arith, b, less)) lt) ∙ sym below;
       }

@@ -77,11 +77,6 @@ content_margin boxes y p e = go (block_at boxes p).inside refl e
     go lines_inside i e = absurd (true_false true refl e)
     go solid_inside i e = rw i refl
 
-pub held_none : (inside : Inside) (top depth end : ℤ) → is_lines inside ≡ false → held_end inside top depth end ≡ end
-held_none blocks_inside top depth end e = refl
-held_none lines_inside top depth end e = absurd (true_false true refl e)
-held_none solid_inside top depth end e = refl
-
 -- the extent of a box that isn't solid doesn't count
 pub same_border_height : (b : Block) (e f content : ℤ) → (is_solid b.inside ≡ true → e ≡ f) → border_height b e content ≡ border_height b f content
 same_border_height b e f content same = true_or (is_solid b.inside) (border_height b e content ≡ border_height b f content)

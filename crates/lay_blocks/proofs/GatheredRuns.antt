@@ -10,8 +10,8 @@ use Rattle.lay_blocks.specs.MarginRuns.{Runs, HasRuns, Entry, margin, mark, clea
 use Rattle.lay_blocks.specs.Gathered.{Gathered}
 use Rattle.lay_blocks.proofs.ChildPlaces.{not_child, child_is, last_none, last_same, last_some, next_none, next_same, next_some}
 use Rattle.lay_blocks.specs.MarginPlace.{IsPlace, IsAround, margin_place}
-use Rattle.lay_blocks.proofs.MarginWalk.{walk_to}
-use Rattle.lay_blocks.proofs.RunsAgree.{none_left, inside_up}
+use Rattle.lay_blocks.proofs.MarginWalk.{walk_to, inside_up}
+use Rattle.lay_blocks.proofs.RunsAgree.{none_left}
 use Rattle.lay_blocks.proofs.RunEntries.{top_there, top_here, top_none, bottom_same}
 use Rattle.lay_blocks.proofs.RunFacts.{going_same, first_comes, next_comes, goes_in, goes_out, joins_is, lead_goes_on, lead_begins, top_run_is, to_bottom_is, bottom_run_is, passes_is}
 use Rattle.lay_blocks.proofs.BlockKinds.{joined_passes}
@@ -319,12 +319,12 @@ module _ (boxes : List FlowBox) (tree : IsTree (parents_of boxes)) (r : Runs) (i
       go false plain true cleared = record { first = k; is_gathered = open_cleared k positive within plain cleared }
       go false plain false unclear = record { first = was.first; is_gathered = open_plain k positive within was.first was.is_gathered plain unclear }
 
-  closes_gathered : (p m : ℕ) → 0 < p → p < m → m ≤ length boxes → (m < length boxes → parent_at boxes m < p) → SomeGathered p m → SomeGathered (parent_at boxes p) m
-  closes_gathered p m positive lt within ends was = go (joins_bottom boxes r p) refl
+  closes_gathered : (p m : ℕ) → 0 < p → p < m → m ≤ length boxes → (m < length boxes → parent_at boxes m < p) → IsAround boxes p m → SomeGathered p m → SomeGathered (parent_at boxes p) m
+  closes_gathered p m positive lt within ends inside was = go (joins_bottom boxes r p) refl
     where
       go : (b : Bool) → joins_bottom boxes r p ≡ b → SomeGathered (parent_at boxes p) m
-      go true joined = record { first = was.first; is_gathered = close_joined p m positive lt within ends was.is_gathered.inside was.first was.is_gathered joined }
-      go false parted = record { first = m; is_gathered = close_parted p m positive lt within ends was.is_gathered.inside parted }
+      go true joined = record { first = was.first; is_gathered = close_joined p m positive lt within ends inside was.first was.is_gathered joined }
+      go false parted = record { first = m; is_gathered = close_parted p m positive lt within ends inside parted }
 
   pub gathers : (p m : ℕ) → IsPlace boxes p m → SomeGathered p m
   gathers p m at = let a = at.parent in let b = at.within in

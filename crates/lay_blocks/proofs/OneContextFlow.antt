@@ -15,7 +15,7 @@ use Rattle.lay_blocks.specs.BlockLayout.{BlockLayout}
 use Rattle.lay_blocks.specs.BlockPositions.{is_placed, start_before}
 use Rattle.lay_blocks.specs.BlockFloats.{Spot, no_spot, floats_before}
 use Rattle.lay_blocks.specs.ContextFlow.{Flow, IsContextFlow}
-use Rattle.lay_blocks.specs.MarginPlace.{IsPlace}
+use Rattle.lay_blocks.specs.MarginPlace.{IsPlace, IsAround}
 use Rattle.lay_blocks.specs.Laws.{OneContextFlow, OneFlowOf}
 use Rattle.lay_blocks.specs.FlowPlaces.{no_box_place, border_box_in}
 use Rattle.lay_blocks.proofs.Truths.{true_false, true_or}
@@ -41,8 +41,8 @@ module _ (boxes : List FlowBox) (tree : IsTree (parents_of boxes)) (some : 0 < l
       (one_clear boxes tree some are f g is also was.first k positive within was.alike) (one_edge boxes tree some are f g is also was.first k positive within was.alike) in
       record { first = next.next; alike = next.alike }
 
-  closes : (p m : ℕ) → 0 < p → p < m → m ≤ length boxes → (m < length boxes → parent_at boxes m < p) → AreAlike p m → AreAlike (parent_at boxes p) m
-  closes p m positive lt within ends was =
+  closes : (p m : ℕ) → 0 < p → p < m → m ≤ length boxes → (m < length boxes → parent_at boxes m < p) → IsAround boxes p m → AreAlike p m → AreAlike (parent_at boxes p) m
+  closes p m positive lt within ends around was =
       let inner : p < length boxes = omega (arith, lt, within) in
       let next = closes_alike boxes tree f.layout is.layout g.layout also.layout was.first p m positive was.alike ends
       (λ marks. true_or (is_placed (block_at boxes p).inside) (length_at f.layout.extents.depths p ≡ length_at g.layout.extents.depths p)

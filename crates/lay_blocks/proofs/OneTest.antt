@@ -40,6 +40,7 @@ use Rattle.lay_blocks.proofs.PlacesAgree.{same_place}
 use Rattle.lay_blocks.proofs.RunFacts.{lead_goes_on}
 use Rattle.lay_blocks.proofs.RunsUpTo.{run_up_to}
 use Rattle.lay_blocks.proofs.Truths.{true_false, true_or}
+use Rattle.lay_blocks.specs.MarginPlace.{IsAround}
 
 module _ (boxes : List FlowBox) (are : IsFlowTree boxes) (f : Flow) (is : IsContextFlow boxes f) (k : ℕ) (positive : 0 < k) (within : k < length boxes)
     (without : BlockLayout) (h : IsHypothetical boxes f.layout k without) where
@@ -63,8 +64,8 @@ module _ (boxes : List FlowBox) (are : IsFlowTree boxes) (f : Flow) (is : IsCont
       (sym (h.earlier j (omega (arith, le)))) (λ c. sym (ap (λ (es : List Length). length_at es j) h.edges_are)) in
       record { first = next.next; alike = next.alike }
 
-  closed : (p m : ℕ) → 0 < p → p < m → m ≤ length boxes → (m < length boxes → parent_at boxes m < p) → UpTo p m → UpTo (parent_at boxes p) m
-  closed p m low lt inner ends before le =
+  closed : (p m : ℕ) → 0 < p → p < m → m ≤ length boxes → (m < length boxes → parent_at boxes m < p) → IsAround boxes p m → UpTo p m → UpTo (parent_at boxes p) m
+  closed p m low lt inner ends around before le =
       let was = before le in
       let next = closes_alike boxes tree f.layout is.layout without h.is_layout was.first p m low was.alike ends (λ marks. depth p) (λ may. depth p) in
       record { first = next.next; alike = next.alike }

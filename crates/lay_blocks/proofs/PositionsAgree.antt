@@ -14,8 +14,8 @@ use Rattle.lay_blocks.specs.BlockPositions.{start_below, start_before, start_of,
 use Rattle.lay_blocks.proofs.ContentHeights.{content_bottom, content_inner, content_root}
 use Rattle.lay_blocks.proofs.ChildPlaces.{last_same}
 use Rattle.lay_blocks.proofs.MarginWalk.{walk}
-use Rattle.lay_blocks.proofs.RunsAgree.{last_there, none_left, inside_up}
-use Rattle.lay_blocks.specs.MarginPlace.{MarginPlace, margin_place}
+use Rattle.lay_blocks.proofs.RunsAgree.{last_there, none_left}
+use Rattle.lay_blocks.specs.MarginPlace.{MarginPlace, margin_place, IsAround}
 
 -- the second columns are worked out from the first
 pub record AreNextPositions (boxes : List FlowBox) (old : BlockLayout) (new : Positions) : Type 0 where
@@ -37,9 +37,6 @@ module _ (boxes : List FlowBox) (tree : IsTree (parents_of boxes)) (y : BlockLay
 
   -- from some time on they agree up to there
   pub record Stands (p m : ℕ) : Type 0 where
-    pub parent : p < m
-    pub within : m ≤ length boxes
-    pub inside : (i : ℕ) → p < i → i < m → p ≤ parent_at boxes i
     pub after : ℕ
     pub same : (i : ℕ) → after ≤ i → SamePositions boxes (a i) (b i) (margin_place p m)
 
@@ -63,18 +60,18 @@ module _ (boxes : List FlowBox) (tree : IsTree (parents_of boxes)) (y : BlockLay
 
   open_stands : (k : ℕ) → 0 < k → k < length boxes → Stands (parent_at boxes k) k → Stands k (k + 1)
   open_stands k positive within was = record {
-    parent = omega arith;
-    within = omega (arith, within);
-    inside = λ i low high. absurd (omega (arith, low, high));
     after = suc (suc was.after);
     same = later;
   }
     where
+      less : parent_at boxes k < k
+      less = parent_before boxes tree k positive within
+
       start : (i : ℕ) → was.after ≤ i → length_at (a (suc i)).starts k ≡ length_at (b (suc i)).starts k
-      start i le = (a_next i).start k within ∙ start_same (a i) (b i) k positive (before_same (a i) (b i) (parent_at boxes k) k was.parent (was.same i le)) ∙ sym ((b_next i).start k within)
+      start i le = (a_next i).start k within ∙ start_same (a i) (b i) k positive (before_same (a i) (b i) (parent_at boxes k) k less (was.same i le)) ∙ sym ((b_next i).start k within)
 
       mark : (i : ℕ) → was.after ≤ i → length_at (a (suc (suc i))).marks k ≡ length_at (b (suc (suc i))).marks k
-      mark i le = (a_next (suc i)).mark k within ∙ mark_same (a (suc i)) (b (suc i)) k positive (start i le) ((was.same (suc i) (omega (arith, le))).mark (parent_at boxes k) was.parent) ∙ sym ((b_next (suc i)).mark k within)
+      mark i le = (a_next (suc i)).mark k within ∙ mark_same (a (suc i)) (b (suc i)) k positive (start i le) ((was.same (suc i) (omega (arith, le))).mark (parent_at boxes k) less) ∙ sym ((b_next (suc i)).mark k within)
 
       later : (i : ℕ) → suc (suc was.after) ≤ i → SamePositions boxes (a i) (b i) (margin_place k (k + 1))
       later zero le = absurd (omega (arith, le))
@@ -132,20 +129,14 @@ module _ (boxes : List FlowBox) (tree : IsTree (parents_of boxes)) (y : BlockLay
   height_same : (s t : Positions) (p : ℕ) → content_height boxes (with s) p ≡ content_height boxes (with t) p → height_of boxes (with s) p ≡ height_of boxes (with t) p
   height_same s t p e = rw e refl
 
-  close_stands : (p m : ℕ) → 0 < p → p < m → m ≤ length boxes → (m < length boxes → parent_at boxes m < p) → Stands p m → Stands (parent_at boxes p) m
-  close_stands p m positive lt within ends was = record {
-    parent = omega (arith, up, lt);
-    within = within;
-    inside = inside_up boxes tree p m inner up was.inside;
+  close_stands : (p m : ℕ) → 0 < p → p < m → m ≤ length boxes → (m < length boxes → parent_at boxes m < p) → IsAround boxes p m → Stands p m → Stands (parent_at boxes p) m
+  close_stands p m positive lt within ends inside was = record {
     after = suc was.after;
     same = later;
   }
     where
       inner : p < length boxes
       inner = omega (arith, lt, within)
-
-      up : parent_at boxes p < p
-      up = parent_before boxes tree p positive inner
 
       later : (i : ℕ) → suc was.after ≤ i → SamePositions boxes (a i) (b i) (margin_place (parent_at boxes p) m)
       later zero le = absurd (omega (arith, le))
@@ -169,9 +160,6 @@ module _ (boxes : List FlowBox) (tree : IsTree (parents_of boxes)) (y : BlockLay
 
   pub stands : 0 < length boxes → Stands 0 (length boxes)
   stands some = walk boxes tree Stands close_stands open_stands (record {
-    parent = omega arith;
-    within = omega (arith, some);
-    inside = λ i low high. absurd (omega (arith, low, high));
     after = 1;
     same = start;
   }) some

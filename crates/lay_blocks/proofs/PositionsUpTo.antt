@@ -13,9 +13,9 @@ use Rattle.lay_blocks.specs.BlockPositions.{HasPositions, start_below, start_bef
 use Rattle.lay_blocks.proofs.ContentHeights.{content_bottom, content_inner}
 use Rattle.lay_blocks.proofs.ChildPlaces.{last_same}
 use Rattle.lay_blocks.proofs.MarginWalk.{opens}
-use Rattle.lay_blocks.proofs.RunsAgree.{last_there, none_left, inside_up}
+use Rattle.lay_blocks.proofs.RunsAgree.{last_there, none_left}
 use Rattle.lay_blocks.proofs.PositionsAgree.{SamePositions}
-use Rattle.lay_blocks.specs.MarginPlace.{margin_place}
+use Rattle.lay_blocks.specs.MarginPlace.{margin_place, IsAround}
 
 module _ (boxes : List FlowBox) (tree : IsTree (parents_of boxes)) (y w : BlockLayout)
     (is : HasPositions boxes y) (also : HasPositions boxes (record w { runs = y.runs }))
@@ -24,14 +24,8 @@ module _ (boxes : List FlowBox) (tree : IsTree (parents_of boxes)) (y w : BlockL
   abbrev z : BlockLayout
   z = record w { runs = y.runs }
 
-  record Agrees (p m : ℕ) : Type 0 where
-    pub parent : p < m
-    pub within : m ≤ length boxes
-    pub inside : (i : ℕ) → p < i → i < m → p ≤ parent_at boxes i
-    pub alike : SamePositions boxes y.places w.places (margin_place p m)
-
   abbrev UpTo : ℕ → ℕ → Type 0
-  UpTo p m = (m ≤ limit ⊎ ((p ≡ limit) × (m ≡ limit + 1))) → Agrees p m
+  UpTo p m = (m ≤ limit ⊎ ((p ≡ limit) × (m ≡ limit + 1))) → SamePositions boxes y.places w.places (margin_place p m)
 
   below_same : (c : ℕ) → length_at y.places.starts c ≡ length_at w.places.starts c → length_at y.places.marks c ≡ length_at w.places.marks c → length_at y.places.heights c ≡ length_at w.places.heights c → start_below y c ≡ start_below z c
   below_same c e f g = rw (e, f, g) refl
@@ -57,38 +51,36 @@ module _ (boxes : List FlowBox) (tree : IsTree (parents_of boxes)) (y w : BlockL
 
   open_agrees : (k : ℕ) → 0 < k → k < length boxes → UpTo (parent_at boxes k) k → UpTo k (k + 1)
   open_agrees k positive within before cond = record {
-    parent = omega arith;
-    within = omega (arith, within);
-    inside = λ i low high. absurd (omega (arith, low, high));
-    alike = record {
-      start = λ j high. elim (cases_lt j k) [
-        | inl lt ↦ was.alike.start j lt
-        | inr ge ↦ (let e : j ≡ k = omega (arith, high, ge) in subst (λ (j : ℕ). length_at y.places.starts j ≡ length_at w.places.starts j) (sym e) start)
-      ];
-      mark = λ j high. elim (cases_lt j k) [
-        | inl lt ↦ was.alike.mark j lt
-        | inr ge ↦ (let e : j ≡ k = omega (arith, high, ge) in subst (λ (j : ℕ). length_at y.places.marks j ≡ length_at w.places.marks j) (sym e) mark)
-      ];
-      closed = λ j low high. absurd (omega (arith, low, high));
-      gone = λ j i low high lower. elim (cases_lt i k) [
-        | inl lt ↦ was.alike.gone j i low lt lower
-        | inr ge ↦ (let e : i ≡ k = omega (arith, high, ge) in was.alike.closed j (rw e at lower) (omega (arith, low, e)))
-      ];
-    };
+    start = λ j high. elim (cases_lt j k) [
+      | inl lt ↦ was.start j lt
+      | inr ge ↦ (let e : j ≡ k = omega (arith, high, ge) in subst (λ (j : ℕ). length_at y.places.starts j ≡ length_at w.places.starts j) (sym e) start)
+    ];
+    mark = λ j high. elim (cases_lt j k) [
+      | inl lt ↦ was.mark j lt
+      | inr ge ↦ (let e : j ≡ k = omega (arith, high, ge) in subst (λ (j : ℕ). length_at y.places.marks j ≡ length_at w.places.marks j) (sym e) mark)
+    ];
+    closed = λ j low high. absurd (omega (arith, low, high));
+    gone = λ j i low high lower. elim (cases_lt i k) [
+      | inl lt ↦ was.gone j i low lt lower
+      | inr ge ↦ (let e : i ≡ k = omega (arith, high, ge) in was.closed j (rw e at lower) (omega (arith, low, e)))
+    ];
   }
     where
       low_enough : (k + 1 ≤ limit ⊎ ((k ≡ limit) × (k + 1 ≡ limit + 1))) → k ≤ limit
       low_enough (inl le) = omega (arith, le)
       low_enough (inr e) = let f = e.0 in omega (arith, f)
 
-      was : Agrees (parent_at boxes k) k
+      less : parent_at boxes k < k
+      less = parent_before boxes tree k positive within
+
+      was : SamePositions boxes y.places w.places (margin_place (parent_at boxes k) k)
       was = before (inl (low_enough cond))
 
       start : length_at y.places.starts k ≡ length_at w.places.starts k
-      start = let w = was in is.start k within ∙ start_same k positive (low_enough cond) (before_same (parent_at boxes k) k w.parent w.alike) ∙ sym (also.start k within)
+      start = let w = was in is.start k within ∙ start_same k positive (low_enough cond) (before_same (parent_at boxes k) k less w) ∙ sym (also.start k within)
 
       mark : length_at y.places.marks k ≡ length_at w.places.marks k
-      mark = let w = was in is.mark k within ∙ mark_same k positive start (w.alike.mark (parent_at boxes k) w.parent) ∙ sym (also.mark k within)
+      mark = let w = was in is.mark k within ∙ mark_same k positive start (w.mark (parent_at boxes k) less) ∙ sym (also.mark k within)
 
   content_same : (p m : ℕ) → 0 < p → length_at y.extents.depths p ≡ length_at w.extents.depths p → last_child boxes p (length boxes) ≡ last_child boxes p m → p < m → SamePositions boxes y.places w.places (margin_place p m)
       → content_height boxes y p ≡ content_height boxes z p
@@ -104,23 +96,18 @@ module _ (boxes : List FlowBox) (tree : IsTree (parents_of boxes)) (y w : BlockL
   height_same : (p : ℕ) → length_at y.extents.depths p ≡ length_at w.extents.depths p → content_height boxes y p ≡ content_height boxes z p → height_of boxes y p ≡ height_of boxes z p
   height_same p e f = rw (e, f) refl
 
-  close_agrees : (p m : ℕ) → 0 < p → p < m → m ≤ length boxes → (m < length boxes → parent_at boxes m < p) → UpTo p m → UpTo (parent_at boxes p) m
-  close_agrees p m positive lt within ends before cond = record {
-    parent = omega (arith, up, lt);
-    within = within;
-    inside = inside_up boxes tree p m inner up was.inside;
-    alike = record {
-      start = was.alike.start;
-      mark = was.alike.mark;
-      closed = λ j low high. elim (cases_lt j p) [
-        | inl earlier ↦ was.alike.gone j p earlier lt low
-        | inr from ↦ elim (cases_eq j p) [
-          | inl e ↦ subst (λ (j : ℕ). length_at y.places.heights j ≡ length_at w.places.heights j) (sym e) mine
-          | inr ne ↦ was.alike.closed j (omega (arith, from, ne)) high
-        ]
-      ];
-      gone = was.alike.gone;
-    };
+  close_agrees : (p m : ℕ) → 0 < p → p < m → m ≤ length boxes → (m < length boxes → parent_at boxes m < p) → IsAround boxes p m → UpTo p m → UpTo (parent_at boxes p) m
+  close_agrees p m positive lt within ends inside before cond = record {
+    start = was.start;
+    mark = was.mark;
+    closed = λ j low high. elim (cases_lt j p) [
+      | inl earlier ↦ was.gone j p earlier lt low
+      | inr from ↦ elim (cases_eq j p) [
+        | inl e ↦ subst (λ (j : ℕ). length_at y.places.heights j ≡ length_at w.places.heights j) (sym e) mine
+        | inr ne ↦ was.closed j (omega (arith, from, ne)) high
+      ]
+    ];
+    gone = was.gone;
   }
     where
       inner : p < length boxes
@@ -133,7 +120,7 @@ module _ (boxes : List FlowBox) (tree : IsTree (parents_of boxes)) (y w : BlockL
       low_enough (inl le) = le
       low_enough (inr e) = let f = e.0 in let g = e.1 in let u = up in absurd (omega (arith, f, g, u, lt))
 
-      was : Agrees p m
+      was : SamePositions boxes y.places w.places (margin_place p m)
       was = before (inl (low_enough cond))
 
       mine : length_at y.places.heights p ≡ length_at w.places.heights p
@@ -141,22 +128,17 @@ module _ (boxes : List FlowBox) (tree : IsTree (parents_of boxes)) (y w : BlockL
           let w = was in
           let le = low_enough cond in
           let last = last_same boxes p m (length boxes) within (none_left boxes tree p m lt ends) in
-          is.height p inner ∙ height_same p (same p positive (omega (arith, lt, le))) (content_same p m positive (same p positive (omega (arith, lt, le))) last lt w.alike) ∙ sym (also.height p inner)
+          is.height p inner ∙ height_same p (same p positive (omega (arith, lt, le))) (content_same p m positive (same p positive (omega (arith, lt, le))) last lt w) ∙ sym (also.height p inner)
 
   -- the marks of the boxes up to the limit
   pub marks_up_to : 0 < length boxes → limit < length boxes → (j : ℕ) → j ≤ limit → length_at y.places.marks j ≡ length_at w.places.marks j
   marks_up_to some within j le =
-      (opens boxes tree UpTo close_agrees open_agrees limit begins within (inr (refl, refl))).alike.mark j (omega (arith, le))
+      (opens boxes tree UpTo close_agrees open_agrees limit begins within (inr (refl, refl))).mark j (omega (arith, le))
     where
       begins : UpTo 0 1
       begins cond = record {
-        parent = omega arith;
-        within = omega (arith, some);
-        inside = λ i low high. absurd (omega (arith, low, high));
-        alike = record {
-          start = λ j high. let e : j ≡ 0 = omega (arith, high) in subst (λ (j : ℕ). length_at y.places.starts j ≡ length_at w.places.starts j) (sym e) (is.start 0 some ∙ sym (also.start 0 some));
-          mark = λ j high. let e : j ≡ 0 = omega (arith, high) in subst (λ (j : ℕ). length_at y.places.marks j ≡ length_at w.places.marks j) (sym e) (is.mark 0 some ∙ sym (also.mark 0 some));
-          closed = λ j low high. absurd (omega (arith, low, high));
-          gone = λ j i low high lower. absurd (omega (arith, low, high));
-        };
+        start = λ j high. let e : j ≡ 0 = omega (arith, high) in subst (λ (j : ℕ). length_at y.places.starts j ≡ length_at w.places.starts j) (sym e) (is.start 0 some ∙ sym (also.start 0 some));
+        mark = λ j high. let e : j ≡ 0 = omega (arith, high) in subst (λ (j : ℕ). length_at y.places.marks j ≡ length_at w.places.marks j) (sym e) (is.mark 0 some ∙ sym (also.mark 0 some));
+        closed = λ j low high. absurd (omega (arith, low, high));
+        gone = λ j i low high lower. absurd (omega (arith, low, high));
       }

@@ -10,7 +10,7 @@ use Rattle.lay_blocks.specs.Children.{is_child, last_child, flag_at}
 use Rattle.lay_blocks.specs.MarginRuns.{Runs, Entry, has_top, block_at, run_at, run_before, may_collapse_through, through_of, before_top_of, to_bottom_of, top_run_of, bottom_run_of}
 use Rattle.lay_blocks.proofs.ChildPlaces.{not_child, last_same}
 use Rattle.lay_blocks.proofs.MarginWalk.{walk}
-use Rattle.lay_blocks.specs.MarginPlace.{MarginPlace, margin_place}
+use Rattle.lay_blocks.specs.MarginPlace.{MarginPlace, margin_place, IsAround}
 
 child_low : (boxes : List FlowBox) (p k : ℕ) → is_child boxes p k ≡ true → p < k
 child_low boxes p k t = grind (arith, t)
@@ -30,17 +30,6 @@ none_left boxes tree p m lt ends k le within = not_child boxes p k (λ low e. el
   | inr ne ↦ (let a = ends (omega (arith, le, within)) in
       let t = parents_together boxes tree m k (omega (arith, le, ne)) within (omega (arith, e, lt)) in omega (arith, a, t, e))
 ])
-
--- the boxes between the parent of p and m lie in that parent, if those between p and m lie in p
-pub inside_up : (boxes : List FlowBox) → IsTree (parents_of boxes) → (p m : ℕ) → p < length boxes → parent_at boxes p < p → ((i : ℕ) → p < i → i < m → p ≤ parent_at boxes i)
-    → (i : ℕ) → parent_at boxes p < i → i < m → parent_at boxes p ≤ parent_at boxes i
-inside_up boxes tree p m within up inside i low high = elim (cases_lt i p) [
-  | inl before ↦ parents_together boxes tree i p before within low
-  | inr from ↦ elim (cases_eq i p) [
-    | inl e ↦ rw e (omega arith)
-    | inr ne ↦ (let b = inside i (omega (arith, from, ne)) high in omega (arith, b, up))
-  ]
-]
 
 -- the second columns are worked out from the first
 pub record AreNext (boxes : List FlowBox) (r x : Runs) : Type 0 where
@@ -86,17 +75,11 @@ module _ (boxes : List FlowBox) (tree : IsTree (parents_of boxes)) (a b : ℕ �
     (clears : (i k : ℕ) → flag_at (a i).clears k ≡ flag_at (b i).clears k) where
   -- from some time on they agree up to there
   pub record Settles (p m : ℕ) : Type 0 where
-    pub parent : p < m
-    pub within : m ≤ length boxes
-    pub inside : (i : ℕ) → p < i → i < m → p ≤ parent_at boxes i
     pub after : ℕ
     pub same : (i : ℕ) → after ≤ i → Same boxes (a i) (b i) (margin_place p m)
 
   open_settles : (k : ℕ) → 0 < k → k < length boxes → Settles (parent_at boxes k) k → Settles k (k + 1)
   open_settles k positive within was = record {
-    parent = omega arith;
-    within = omega (arith, within);
-    inside = λ i low high. absurd (omega (arith, low, high));
     after = suc was.after;
     same = later;
   }
@@ -106,7 +89,7 @@ module _ (boxes : List FlowBox) (tree : IsTree (parents_of boxes)) (a b : ℕ �
       later (suc i) le =
           let before = was.same i (omega (arith, le)) in
           let now = was.same (suc i) (omega (arith, le)) in
-          let come = before_same boxes (a i) (b i) (parent_at boxes k) k (before.lead (parent_at boxes k) was.parent) (λ s low high. (before.closed s low high).tail) in
+          let come = before_same boxes (a i) (b i) (parent_at boxes k) k (before.lead (parent_at boxes k) (parent_before boxes tree k positive within)) (λ s low high. (before.closed s low high).tail) in
           let mine : run_at (a (suc i)).before_tops k ≡ run_at (b (suc i)).before_tops k =
           (a_next i).before_top k within ∙ lead_same boxes (a i) (b i) k positive (clears i k) come ∙ sym ((b_next i).before_top k within) in
           record {
@@ -121,20 +104,14 @@ module _ (boxes : List FlowBox) (tree : IsTree (parents_of boxes)) (a b : ℕ �
             ];
           }
 
-  close_settles : (p m : ℕ) → 0 < p → p < m → m ≤ length boxes → (m < length boxes → parent_at boxes m < p) → Settles p m → Settles (parent_at boxes p) m
-  close_settles p m positive lt within ends was = record {
-    parent = omega (arith, up, lt);
-    within = within;
-    inside = inside_up boxes tree p m inner up was.inside;
+  close_settles : (p m : ℕ) → 0 < p → p < m → m ≤ length boxes → (m < length boxes → parent_at boxes m < p) → IsAround boxes p m → Settles p m → Settles (parent_at boxes p) m
+  close_settles p m positive lt within ends inside was = record {
     after = suc (suc was.after);
     same = later;
   }
     where
       inner : p < length boxes
       inner = omega (arith, lt, within)
-
-      up : parent_at boxes p < p
-      up = parent_before boxes tree p positive inner
 
       come : (i : ℕ) → was.after ≤ i → run_before boxes (a i) p (length boxes) ≡ run_before boxes (b i) p (length boxes)
       come i le = let s = was.same i le in
@@ -169,9 +146,6 @@ module _ (boxes : List FlowBox) (tree : IsTree (parents_of boxes)) (a b : ℕ �
 
   pub settles : 0 < length boxes → Settles 0 (length boxes)
   settles some = walk boxes tree Settles close_settles open_settles (record {
-    parent = omega arith;
-    within = omega (arith, some);
-    inside = λ i low high. absurd (omega (arith, low, high));
     after = 1;
     same = start;
   }) some

@@ -60,9 +60,6 @@ pub record IsNext (boxes : List FlowBox) (at : MarginPlace) (n c : ℕ) : Type 0
   pub within : c < n
   pub none : (j : ℕ) → at.next ≤ j → j < c → is_child boxes at.inner j ≡ false
 
-abbrev here_or_none : List FlowBox → ℕ → ℕ → ℕ → Option ℕ
-here_or_none boxes p m k = if is_child boxes p k && not (nat_lt k m) then Some k else None
-
 pub none_from : (boxes : List FlowBox) (p m n : ℕ) → next_child boxes p m n ≡ None → (j : ℕ) → m ≤ j → j < n → is_child boxes p j ≡ false
 none_from boxes p m zero e j le lt = absurd (omega (arith, lt))
 none_from boxes p m (suc k) e j le lt = go (next_child boxes p m k) refl (is_child boxes p k && not (nat_lt k m)) refl (none_from boxes p m k)

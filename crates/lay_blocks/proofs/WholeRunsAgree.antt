@@ -9,7 +9,7 @@ use Rattle.lay_blocks.specs.Children.{is_child, last_child, next_child, flag_at}
 use Rattle.lay_blocks.specs.MarginRuns.{Runs, run_at, parts_tops, run_before, run_across, joins_bottom, top_run_of}
 use Rattle.lay_blocks.proofs.ChildPlaces.{not_child, child_is, last_some, next_same, next_none, next_some}
 use Rattle.lay_blocks.proofs.MarginWalk.{walk}
-use Rattle.lay_blocks.proofs.RunsAgree.{none_left, inside_up, AreNext, Same, before_same, settles}
+use Rattle.lay_blocks.proofs.RunsAgree.{none_left, AreNext, Same, before_same, settles}
 use Rattle.lay_blocks.specs.MarginPlace.{IsAround, MarginPlace, margin_place}
 
 abbrev pub some_of : Option ℕ → ℕ
@@ -102,10 +102,8 @@ module _ (boxes : List FlowBox) (tree : IsTree (parents_of boxes)) (a b : ℕ �
     pub least : settled_at ≤ after
     pub later : (i : ℕ) → after ≤ i → Later boxes (a i) (b i) (margin_place p m)
 
-  pub record Back (p m : ℕ) : Type 0 where
-    pub parent : p < m
-    pub inside : (i : ℕ) → p < i → i < m → p ≤ parent_at boxes i
-    pub back : Ends p m → Ends 0 1
+  abbrev Back : ℕ → ℕ → Type 0
+  Back p m = Ends p m → Ends 0 1
 
   -- the bottom margin of a box, and what follows
   fall_alike : (p m : ℕ) → 0 < p → p < m → m ≤ length boxes → (m < length boxes → parent_at boxes m < p) → ((i : ℕ) → p < i → i < m → p ≤ parent_at boxes i)
@@ -122,18 +120,11 @@ module _ (boxes : List FlowBox) (tree : IsTree (parents_of boxes)) (a b : ℕ �
       let last' = last_some boxes (parent_at boxes k) k m lt mine between in
       (a_next i).bottom_run k inner ∙ across_same boxes (a i) (parent_at boxes k) (k + 1) m next (last ∙ sym last') ∙ go ∙ sym (across_same boxes (b i) (parent_at boxes k) (k + 1) m next (last ∙ sym last')) ∙ sym ((b_next i).bottom_run k inner)
 
-  back_close : (p m : ℕ) → 0 < p → p < m → m ≤ length boxes → (m < length boxes → parent_at boxes m < p) → Back p m → Back (parent_at boxes p) m
-  back_close p m positive lt within ends was = record {
-    parent = omega (arith, up, lt);
-    inside = inside_up boxes tree p m inner up was.inside;
-    back = λ e. was.back (record { after = suc e.after; least = let l = e.least in omega (arith, l); later = later e });
-  }
+  back_close : (p m : ℕ) → 0 < p → p < m → m ≤ length boxes → (m < length boxes → parent_at boxes m < p) → IsAround boxes p m → Back p m → Back (parent_at boxes p) m
+  back_close p m positive lt within ends inside was e = was (record { after = suc e.after; least = let l = e.least in omega (arith, l); later = later e })
     where
       inner : p < length boxes
       inner = omega (arith, lt, within)
-
-      up : parent_at boxes p < p
-      up = parent_before boxes tree p positive inner
 
       later : (e : Ends (parent_at boxes p) m) → (i : ℕ) → suc e.after ≤ i → Later boxes (a i) (b i) (margin_place p m)
       later e zero le = absurd (omega (arith, le))
@@ -141,7 +132,7 @@ module _ (boxes : List FlowBox) (tree : IsTree (parents_of boxes)) (a b : ℕ �
           let before = e.later i (omega (arith, le)) in
           let now = e.later (suc i) (omega (arith, le)) in
           let l = e.least in
-          let mine = fall_alike p m positive lt within ends was.inside i before.go in
+          let mine = fall_alike p m positive lt within ends inside i before.go in
           let none = next_none boxes p m (length boxes) (none_left boxes tree p m lt ends) in
           record {
             go = across_alike (suc i) (omega (arith, l, le)) p m inner within (λ e t. mine) (λ c e. absurd (grind (arith, e, none)));
@@ -163,11 +154,7 @@ module _ (boxes : List FlowBox) (tree : IsTree (parents_of boxes)) (a b : ℕ �
       by_wall false t lead = rw t go
 
   back_open : (k : ℕ) → 0 < k → k < length boxes → Back (parent_at boxes k) k → Back k (k + 1)
-  back_open k positive within was = record {
-    parent = omega arith;
-    inside = λ i low high. absurd (omega (arith, low, high));
-    back = λ e. was.back (record { after = suc e.after; least = let l = e.least in omega (arith, l); later = later e });
-  }
+  back_open k positive within was e = was (record { after = suc e.after; least = let l = e.least in omega (arith, l); later = later e })
     where
       up : parent_at boxes k < k
       up = parent_before boxes tree k positive within
@@ -201,8 +188,7 @@ module _ (boxes : List FlowBox) (tree : IsTree (parents_of boxes)) (a b : ℕ �
 
   pub ends : Ends 0 1
   ends =
-      let was = walk boxes tree Back back_close back_open (record { parent = omega arith; inside = λ i low high. absurd (omega (arith, low, high)); back = λ l. l }) some in
-      was.back (record {
+      walk boxes tree Back back_close back_open (λ l. l) some (record {
         after = settled_at;
         least = omega arith;
         later = λ i le. record {

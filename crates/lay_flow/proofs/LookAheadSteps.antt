@@ -12,7 +12,7 @@ use Rattle.lay_blocks.specs.MarginPlace.{IsPlace, IsAround}
 use Rattle.lay_flow.specs.Pass.Struts.{StrutFits}
 use Rattle.lay_flow.specs.Pass.LookAhead.{IsOutset, IsReading, HasRead, reading}
 use Rattle.lay_blocks.proofs.Truths.{true_or, low_not}
-use Rattle.lay_blocks.proofs.RunsAgree.{inside_up}
+use Rattle.lay_blocks.proofs.MarginWalk.{inside_up}
 use Rattle.lay_flow.proofs.Openings.{WithMargin}
 use Rattle.lay_flow.proofs.LookAhead.{reads_top, ends_below_top, ends_inside_box, ends_before_bottom, reads_bottom}
 

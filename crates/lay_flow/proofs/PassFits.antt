@@ -36,9 +36,6 @@ module _ (boxes : List FlowBox) (are : AreFlowBoxes boxes) (now : PassState) (p 
       let a = fits.first_most in let b = fits.within in
       start_is_near (weight boxes now.first) now.start (light_at boxes are now.first (omega (arith, a, b))) fits.start_near
 
-  pub marked_near : (j : ℕ) → j < length boxes → IsNear (length_at now.marks j)
-  marked_near j lt = mark_is_near (weight boxes j) _ (light_at boxes are j (omega (arith, lt))) (fits.mark_near j)
-
 -- a mark at the end of a run, of a box from the run's first one on
 pub end_near : (f k : ℕ) (start end : ℤ) → IsRunNear f start → IsCollapseNear (end -ℤ start) → f ≤ k → IsMarkNear k end
 end_near f k start end near collapsed le =
