@@ -12,6 +12,7 @@ mod gathered;
 mod leaves;
 mod measured;
 mod modes;
+mod one_text;
 mod open_boxes;
 mod plain_texts;
 
