@@ -1,2 +1,3 @@
+pub mod OneText
 pub mod OpenInlines
 pub mod PlainWords

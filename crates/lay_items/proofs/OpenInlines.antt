@@ -87,7 +87,7 @@ parent_at [] k b within is = absurd (omega (arith, within))
 parent_at (x ∷ xs) zero b within is = ap (λ n. n.parent) (sym is)
 parent_at (x ∷ xs) (suc k) b within is = parent_at xs k b (omega (arith, within)) is
 
-box_next : (boxes : List BoxNode) (k : ℕ) (b : BoxNode) → k < length boxes → b ≡ get_or boxes k b → drop k boxes ≡ b ∷ drop (k + 1) boxes
+pub box_next : (boxes : List BoxNode) (k : ℕ) (b : BoxNode) → k < length boxes → b ≡ get_or boxes k b → drop k boxes ≡ b ∷ drop (k + 1) boxes
 box_next boxes k b within is = drop_more boxes k b within ∙ ap (λ x. x ∷ drop (k + 1) boxes) (sym is)
 
 -- the box at k isn't below the container but in another box there

@@ -7,6 +7,7 @@ ghost use Rattle.lay_items.specs.InlineSegments.{items_in, segments_in};
 
 use crate::container_items::inline_items;
 use crate::measured::measured;
+use crate::one_text::one_text;
 use lay_box_tree::BoxNode;
 use lay_face::Face;
 use lay_space::{ItemList, SegmentList, process, segments};
@@ -43,6 +44,9 @@ pub fn measured_items(
     requires there { container < length boxes.now }
     ensures { IfOk result (λ l. l ≡ items_in face.now boxes.now container) }
 {
+    if let Some(text) = one_text(alloc, boxes, container, face)? {
+        return Ok(ItemList::one(text));
+    }
     let items = inline_items(alloc, boxes, container)?;
     let left = process(alloc, items.as_slice())?;
     measured(alloc, face, boxes, left.as_slice())

@@ -13,6 +13,7 @@ mod inline_contents;
 mod leaves;
 mod measured;
 mod modes;
+mod one_text;
 mod open_boxes;
 mod plain_texts;
 

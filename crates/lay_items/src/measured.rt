@@ -63,7 +63,7 @@ fn measured_item(
 }
 
 /// The widths of the words and spaces of a text of the box at a place, and none where no box is there.
-fn widths_at(
+pub fn widths_at(
     alloc: Global,
     face: &Face,
     boxes: &[BoxNode],

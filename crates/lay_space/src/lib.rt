@@ -17,6 +17,7 @@ mod settling;
 mod tokens;
 mod white_space;
 
+pub use collapsing::clean;
 pub use item::{Item, ItemList, Mode};
 pub use laws::{breaks_keep_content, no_space_after_space};
 pub use segment::{Segment, SegmentList};

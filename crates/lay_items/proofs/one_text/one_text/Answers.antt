@@ -1,0 +1,11 @@
+use Rattle.std.proofs.Common.{ap, arith, refl, sym}
+use Rattle.lay_items.specs.InlineItems.{text_of}
+use Rattle.lay_items.proofs.OneText.{one_text_in}
+use Rattle.lay_items.proofs.one_text.one_text.Goals as goal
+
+pub returns : goal.returns
+returns c =
+    rw c.in_ok-copy.ensures
+    (one_text_in c.args.face.now c.args.boxes.now c.args.container c.index-boxes-place.result c.in-Text.text c.mode_of-mode.result c.in_ok-widths.widths (omega (arith, c.if-place-boxes.false))
+    c.index-boxes-place.is (c.if-not-is_text_in.ensures.parent refl) (c.if-not-is_text_in.ensures.role refl) (c.if-not-ends_before.ensures refl) (sym (ap text_of c.in-Text.is)) c.mode_of-mode.ensures
+    (rw c.as_str.ensures at (c.if-not-stays.ensures refl)) (rw c.as_str-2.ensures at c.in_ok-widths.ensures))
