@@ -14,7 +14,6 @@ use lay_line_content::{Advance, LineFloatList, Part, PartList, Stretch};
 use lay_space::{ClusterKind, Item, cluster_kind, segments};
 use lay_units::{ClusterWidth, NoMemory};
 use std::alloc::Global;
-use std::mem;
 
 /// The stretches of the content of a container, of which these are the items. One text, as most containers have, is cut
 /// here, without segments.
@@ -105,10 +104,11 @@ impl TextStretches {
         ensures parts { OnOk result (self.new.parts.items ≡ []) }
         ensures first { OnOk result (self.new.first ≡ self.old.first) }
     {
-        let parts = mem::replace(&mut self.parts, Vec::with_capacity(alloc, 2)?);
+        let parts = PartList::copied(alloc, &self.parts)?;
+        self.parts.clear();
         self.done.push(Stretch {
             heads: LineFloatList::new(Vec::new(alloc)),
-            parts: PartList::new(parts),
+            parts,
             floats: LineFloatList::new(Vec::new(alloc)),
             forced,
         })?;

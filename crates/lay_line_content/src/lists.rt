@@ -1,8 +1,10 @@
 //! Lists of the records that content is made of.
 
-ghost use Rattle.std.specs.Prelude.{◌≡◌};
+ghost use Rattle.std.specs.Prelude.{◌≡◌, IfOk};
 
 use crate::content::{LineFloat, Part, Stretch};
+use lay_units::NoMemory;
+use std::alloc::Global;
 use std::marker::Model;
 
 /// The parts of a stretch, in order.
@@ -40,6 +42,18 @@ impl PartList {
             _ => Parts::Many(items),
         };
         PartList { parts }
+    }
+
+    /// A copy of these.
+    pub fn copied(alloc: Global, items: &[Part]) -> Result<PartList, NoMemory>
+        ensures { IfOk result (λ l. l ≡ items.now) }
+    {
+        let parts = match items.len() {
+            1 => Parts::One([items[0]]),
+            2 => Parts::Two([items[0], items[1]]),
+            _ => Parts::Many(Vec::from_slice(alloc, items)?),
+        };
+        Ok(PartList { parts })
     }
 
     pub fn as_slice(&self) -> &[Part]
