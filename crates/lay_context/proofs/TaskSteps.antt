@@ -22,7 +22,7 @@ use Rattle.lay_context.specs.Medium.{Medium}
 use Rattle.lay_context.specs.Needs.{round_start, turn_of}
 use Rattle.lay_context.specs.PlacedContexts.{PlacedContext, placed_in}
 use Rattle.lay_context.specs.Settings.{sizes_in}
-use Rattle.lay_context.specs.Settling.{AreOfBoxes, IsReady, AreDoneTo, AreKnown, IsSettled}
+use Rattle.lay_context.specs.Settling.{AreOfBoxes, IsReady, AreDone, BeforeTurn, AreKnown, IsSettled}
 use Rattle.lay_context.specs.Solves.{IsAssembled, SolvesContexts}
 use Rattle.lay_context.proofs.PlaceFacts.{measured_not_placed, measured_not_sized, not_measured, not_sized, stands}
 use Rattle.lay_context.proofs.SizedFacts.{sizes_are_of_boxes}
@@ -100,7 +100,7 @@ module _ (medium : Medium) (contexts : List FormattingContext) (levels : List �
   sized_done w j lt done = sizes_are_of_boxes below (size_input medium contexts w j) (sizes_in w.sizes j) (are.boxes j lt) done
 
   -- needed sizes are of their boxes
-  pub ready : (w : Workings) (task : Task) → task.context < length contexts → AreDoneTo medium contexts levels w (turn_of levels task) → IsReady contexts w task
+  pub ready : (w : Workings) (task : Task) → task.context < length contexts → AreDone medium contexts w (BeforeTurn levels (turn_of levels task)) → IsReady contexts w task
   ready w task within so_far = record {
     within = within;
     counts = so_far.counts;
@@ -111,11 +111,11 @@ module _ (medium : Medium) (contexts : List FormattingContext) (levels : List �
   }
 
   -- nothing is done at first
-  pub none_done : (w : Workings) → HasCounts contexts w → AreDoneTo medium contexts levels w 0
+  pub none_done : (w : Workings) → HasCounts contexts w → AreDone medium contexts w (BeforeTurn levels 0)
   none_done w counts = record { counts = counts; done = λ task within lt. absurd (omega (arith, lt)) }
 
   -- a turn that no task has
-  pub skipped : (w : Workings) (turn : ℕ) → ((s : Task) → s.context < length contexts → turn_of levels s ≡ turn → ⊥) → AreDoneTo medium contexts levels w turn → AreDoneTo medium contexts levels w (turn + 1)
+  pub skipped : (w : Workings) (turn : ℕ) → ((s : Task) → s.context < length contexts → turn_of levels s ≡ turn → ⊥) → AreDone medium contexts w (BeforeTurn levels turn) → AreDone medium contexts w (BeforeTurn levels (turn + 1))
   skipped w turn none so_far = record {
     counts = so_far.counts;
     done = λ s within lt. elim (cases_lt (turn_of levels s) turn) [
@@ -140,11 +140,11 @@ module _ (medium : Medium) (contexts : List FormattingContext) (levels : List �
   -- the turn of a task, which is the only one that has it
   pub one_more : (w next : Workings) (task : Task) (turn : ℕ) → task.context < length contexts → turn_of levels task ≡ turn
       → ((s : Task) → s.context < length contexts → turn_of levels s ≡ turn → s ≡ task)
-      → AreDoneTo medium contexts levels w turn → IsSettled medium contexts w task next → AreDoneTo medium contexts levels next (turn + 1)
+      → AreDone medium contexts w (BeforeTurn levels turn) → IsSettled (input_of medium contexts w task) w task.context next → AreDone medium contexts next (BeforeTurn levels (turn + 1))
   one_more w next task turn within is alone so_far settled =
       let v : Value = settled.value in
       let a : Workings = with_value w task.context v in
-      let done : AreDoneTo medium contexts levels a (turn + 1) = record {
+      let done : AreDone medium contexts a (BeforeTurn levels (turn + 1)) = record {
         counts = counts_with medium contexts w task.context v so_far.counts;
         done = λ s there lt. elim (cases_lt (turn_of levels s) turn) [
           | inl low ↦ (let i = input_stays w task within v settled.local s there (omega (arith, low, is)) in
@@ -155,58 +155,58 @@ module _ (medium : Medium) (contexts : List FormattingContext) (levels : List �
               subst (λ (t : Task). IsTaskDone medium contexts a t) (sym q) (rw (i, x) settled.local))
         ];
       } in
-      subst (λ (k : Workings). AreDoneTo medium contexts levels k (turn + 1)) (sym settled.noted) done
+      subst (λ (k : Workings). AreDone medium contexts k (BeforeTurn levels (turn + 1))) (sym settled.noted) done
 
   -- the first round: preferred widths
-  pub one_measured : (w next : Workings) (done : ℕ) → done < length contexts → AreDoneTo medium contexts levels w done
-      → IsSettled medium contexts w (record { context = length contexts - 1 - done; phase = Measure }) next → AreDoneTo medium contexts levels next (done + 1)
+  pub one_measured : (w next : Workings) (done : ℕ) → done < length contexts → AreDone medium contexts w (BeforeTurn levels done)
+      → IsSettled (input_of medium contexts w (record { context = length contexts - 1 - done; phase = Measure })) w (length contexts - 1 - done) next → AreDone medium contexts next (BeforeTurn levels (done + 1))
   one_measured w next done lt so_far settled =
       let i : ℕ = length contexts - 1 - done in
       let counted = has.count in
       one_more w next (record { context = i; phase = Measure }) done (omega arith) (omega (arith, counted))
       (λ s within e. measured contexts levels are has s.phase s.context i (omega (arith, within, counted)) (omega (arith, counted)) (omega (arith, e, counted))) so_far settled
 
-  pub measure_ready : (w : Workings) (done : ℕ) → done < length contexts → AreDoneTo medium contexts levels w done
+  pub measure_ready : (w : Workings) (done : ℕ) → done < length contexts → AreDone medium contexts w (BeforeTurn levels done)
       → IsReady contexts w (record { context = length contexts - 1 - done; phase = Measure })
   measure_ready w done lt so_far =
       let i : ℕ = length contexts - 1 - done in
       let turn : turn_of levels (record { context = i; phase = Measure }) ≡ done = omega (arith, has.count) in
-      ready w (record { context = i; phase = Measure }) (omega arith) (subst (AreDoneTo medium contexts levels w) (sym turn) so_far)
+      ready w (record { context = i; phase = Measure }) (omega arith) (subst (λ (t : ℕ). AreDone medium contexts w (BeforeTurn levels t)) (sym turn) so_far)
 
   -- sizes in the round of a level
-  pub one_sized : (w next : Workings) (l i : ℕ) → i < length contexts → slice_index levels i ≡ l → AreDoneTo medium contexts levels w (round_start (length contexts) l + i)
-      → IsSettled medium contexts w (record { context = i; phase = Size }) next → AreDoneTo medium contexts levels next (round_start (length contexts) l + (i + 1))
+  pub one_sized : (w next : Workings) (l i : ℕ) → i < length contexts → slice_index levels i ≡ l → AreDone medium contexts w (BeforeTurn levels (round_start (length contexts) l + i))
+      → IsSettled (input_of medium contexts w (record { context = i; phase = Size })) w i next → AreDone medium contexts next (BeforeTurn levels (round_start (length contexts) l + (i + 1)))
   one_sized w next l i lt at so_far settled =
       let counted = has.count in
       let start : round_start (length levels) (slice_index levels i) ≡ round_start (length contexts) l = rw (at, counted) refl in
       let other : round_start (length contexts) l ≡ round_start (length levels) l = rw counted refl in
       let more = one_more w next (record { context = i; phase = Size }) (round_start (length contexts) l + i) lt (omega (arith, start))
       (λ s within e. (sized contexts levels are has s.phase s.context l i (omega (arith, within, counted)) (omega (arith, lt, counted)) (omega (arith, e, other))).0) so_far settled in
-      subst (AreDoneTo medium contexts levels next) (omega arith) more
+      subst (λ (t : ℕ). AreDone medium contexts next (BeforeTurn levels t)) (omega arith) more
 
-  pub none_sized : (w : Workings) (l i : ℕ) → i < length contexts → slice_index levels i ≢ l → AreDoneTo medium contexts levels w (round_start (length contexts) l + i)
-      → AreDoneTo medium contexts levels w (round_start (length contexts) l + (i + 1))
+  pub none_sized : (w : Workings) (l i : ℕ) → i < length contexts → slice_index levels i ≢ l → AreDone medium contexts w (BeforeTurn levels (round_start (length contexts) l + i))
+      → AreDone medium contexts w (BeforeTurn levels (round_start (length contexts) l + (i + 1)))
   none_sized w l i lt differ so_far =
       let counted = has.count in
       let other : round_start (length contexts) l ≡ round_start (length levels) l = rw counted refl in
       let more = skipped w (round_start (length contexts) l + i)
       (λ s within e. differ (sized contexts levels are has s.phase s.context l i (omega (arith, within, counted)) (omega (arith, lt, counted)) (omega (arith, e, other))).1) so_far in
-      subst (AreDoneTo medium contexts levels w) (omega arith) more
+      subst (λ (t : ℕ). AreDone medium contexts w (BeforeTurn levels t)) (omega arith) more
 
-  pub size_ready : (w : Workings) (l i : ℕ) → i < length contexts → slice_index levels i ≡ l → AreDoneTo medium contexts levels w (round_start (length contexts) l + i)
+  pub size_ready : (w : Workings) (l i : ℕ) → i < length contexts → slice_index levels i ≡ l → AreDone medium contexts w (BeforeTurn levels (round_start (length contexts) l + i))
       → IsReady contexts w (record { context = i; phase = Size })
   size_ready w l i lt at so_far =
       let counted = has.count in
       let start : round_start (length levels) (slice_index levels i) ≡ round_start (length contexts) l = rw (at, counted) refl in
       let turn : turn_of levels (record { context = i; phase = Size }) ≡ round_start (length contexts) l + i = omega (arith, start) in
-      ready w (record { context = i; phase = Size }) lt (subst (AreDoneTo medium contexts levels w) (sym turn) so_far)
+      ready w (record { context = i; phase = Size }) lt (subst (λ (t : ℕ). AreDone medium contexts w (BeforeTurn levels t)) (sym turn) so_far)
 
   -- and then placements
   abbrev place_turn : (l done : ℕ) → ℕ
   place_turn l done = round_start (length contexts) l + length contexts + done
 
-  pub one_placed_more : (w next : Workings) (l done : ℕ) → done < length contexts → slice_index levels (length contexts - 1 - done) ≡ l → AreDoneTo medium contexts levels w (place_turn l done)
-      → IsSettled medium contexts w (record { context = length contexts - 1 - done; phase = Place }) next → AreDoneTo medium contexts levels next (place_turn l (done + 1))
+  pub one_placed_more : (w next : Workings) (l done : ℕ) → done < length contexts → slice_index levels (length contexts - 1 - done) ≡ l → AreDone medium contexts w (BeforeTurn levels (place_turn l done))
+      → IsSettled (input_of medium contexts w (record { context = length contexts - 1 - done; phase = Place })) w (length contexts - 1 - done) next → AreDone medium contexts next (BeforeTurn levels (place_turn l (done + 1)))
   one_placed_more w next l done lt at so_far settled =
       let i : ℕ = length contexts - 1 - done in
       let counted = has.count in
@@ -214,40 +214,40 @@ module _ (medium : Medium) (contexts : List FormattingContext) (levels : List �
       let other : round_start (length contexts) l ≡ round_start (length levels) l = rw counted refl in
       let more = one_more w next (record { context = i; phase = Place }) (place_turn l done) (omega arith) (omega (arith, start, counted))
       (λ s within e. (placed contexts levels are has s.phase s.context l i (omega (arith, within, counted)) (omega (arith, counted)) (omega (arith, e, other, counted))).0) so_far settled in
-      subst (AreDoneTo medium contexts levels next) (omega arith) more
+      subst (λ (t : ℕ). AreDone medium contexts next (BeforeTurn levels t)) (omega arith) more
 
-  pub none_placed : (w : Workings) (l done : ℕ) → done < length contexts → slice_index levels (length contexts - 1 - done) ≢ l → AreDoneTo medium contexts levels w (place_turn l done)
-      → AreDoneTo medium contexts levels w (place_turn l (done + 1))
+  pub none_placed : (w : Workings) (l done : ℕ) → done < length contexts → slice_index levels (length contexts - 1 - done) ≢ l → AreDone medium contexts w (BeforeTurn levels (place_turn l done))
+      → AreDone medium contexts w (BeforeTurn levels (place_turn l (done + 1)))
   none_placed w l done lt differ so_far =
       let i : ℕ = length contexts - 1 - done in
       let counted = has.count in
       let other : round_start (length contexts) l ≡ round_start (length levels) l = rw counted refl in
       let more = skipped w (place_turn l done)
       (λ s within e. differ (placed contexts levels are has s.phase s.context l i (omega (arith, within, counted)) (omega (arith, counted)) (omega (arith, e, other, counted))).1) so_far in
-      subst (AreDoneTo medium contexts levels w) (omega arith) more
+      subst (λ (t : ℕ). AreDone medium contexts w (BeforeTurn levels t)) (omega arith) more
 
-  pub place_ready : (w : Workings) (l done : ℕ) → done < length contexts → slice_index levels (length contexts - 1 - done) ≡ l → AreDoneTo medium contexts levels w (place_turn l done)
+  pub place_ready : (w : Workings) (l done : ℕ) → done < length contexts → slice_index levels (length contexts - 1 - done) ≡ l → AreDone medium contexts w (BeforeTurn levels (place_turn l done))
       → IsReady contexts w (record { context = length contexts - 1 - done; phase = Place })
   place_ready w l done lt at so_far =
       let i : ℕ = length contexts - 1 - done in
       let counted = has.count in
       let start : round_start (length levels) (slice_index levels i) ≡ round_start (length contexts) l = rw (at, counted) refl in
       let turn : turn_of levels (record { context = i; phase = Place }) ≡ place_turn l done = omega (arith, start, counted) in
-      ready w (record { context = i; phase = Place }) (omega arith) (subst (AreDoneTo medium contexts levels w) (sym turn) so_far)
+      ready w (record { context = i; phase = Place }) (omega arith) (subst (λ (t : ℕ). AreDone medium contexts w (BeforeTurn levels t)) (sym turn) so_far)
 
   -- a round ends where that of the next level begins
-  pub next_round : (w : Workings) (l : ℕ) → AreDoneTo medium contexts levels w (place_turn l (length contexts)) → AreDoneTo medium contexts levels w (round_start (length contexts) (l + 1))
+  pub next_round : (w : Workings) (l : ℕ) → AreDone medium contexts w (BeforeTurn levels (place_turn l (length contexts))) → AreDone medium contexts w (BeforeTurn levels (round_start (length contexts) (l + 1)))
   next_round w l so_far =
       let n : ℕ = length contexts in
       let e : (l + 1) * (n + n) ≡ l * (n + n) + (n + n) = add-mul l 1 (n + n) ∙ ap (λ k. l * (n + n) + k) (one-mul (n + n)) in
-      subst (AreDoneTo medium contexts levels w) (omega (arith, e)) so_far
+      subst (λ (t : ℕ). AreDone medium contexts w (BeforeTurn levels t)) (omega (arith, e)) so_far
 
   -- the first round of levels begins where all are measured
-  pub first_round : (w : Workings) → AreDoneTo medium contexts levels w (length contexts) → AreDoneTo medium contexts levels w (round_start (length contexts) 0)
-  first_round w so_far = subst (AreDoneTo medium contexts levels w) (omega arith) so_far
+  pub first_round : (w : Workings) → AreDone medium contexts w (BeforeTurn levels (length contexts)) → AreDone medium contexts w (BeforeTurn levels (round_start (length contexts) 0))
+  first_round w so_far = subst (λ (t : ℕ). AreDone medium contexts w (BeforeTurn levels t)) (omega arith) so_far
 
   -- when all levels had their rounds, each task is done
-  module _ (w : Workings) (count : ℕ) (above : (i : ℕ) → i < length levels → slice_index levels i < count) (all : AreDoneTo medium contexts levels w (round_start (length contexts) count)) where
+  module _ (w : Workings) (count : ℕ) (above : (i : ℕ) → i < length levels → slice_index levels i < count) (all : AreDone medium contexts w (BeforeTurn levels (round_start (length contexts) count))) where
     each_done : (phase : Phase) (i : ℕ) → i < length contexts → IsTaskDone medium contexts w (record { context = i; phase = phase })
     each_done phase i lt =
         let counted = has.count in

@@ -3,11 +3,12 @@ use Rattle.std.specs.Prelude.{ℕ, ◌≡◌, ◌<◌, List, length, IfSome}
 use Rattle.lay_box_tree.specs.declared.box_tree.BoxNode.{BoxNode}
 use Rattle.lay_table_grid.specs.GridBounds.{PlacesAreBelow}
 use Rattle.lay_formatting.specs.FormattingContexts.{FormattingContext, boxes_in}
+use Rattle.lay_context.specs.declared.input.Input.{Input}
 use Rattle.lay_context.specs.declared.task.Phase.TheVariants.{Size}
 use Rattle.lay_context.specs.declared.task.Task.{Task}
 use Rattle.lay_context.specs.declared.value.Value.{Value}
 use Rattle.lay_context_sizes.specs.ContextSizes.{SizedContext}
-use Rattle.lay_context.specs.Local.{HasCounts, IsLocal, IsTaskDone, input_of, with_value}
+use Rattle.lay_context.specs.Local.{HasCounts, IsLocal, IsTaskDone, with_value}
 use Rattle.lay_context.specs.Workings.{Workings}
 use Rattle.lay_context.specs.Medium.{Medium}
 use Rattle.lay_context.specs.Needs.{Needs, turn_of}
@@ -25,16 +26,20 @@ pub record IsReady (contexts : List FormattingContext) (w : Workings) (task : Ta
   pub counts : HasCounts contexts w
   pub sized : (j : ℕ) → Needs contexts task (record { context = j; phase = Size }) → AreOfBoxes (boxes_in contexts j) (sizes_in w.sizes j)
 
--- the tasks before this turn are done, of formatting contexts that have these levels
-pub record AreDoneTo (medium : Medium) (contexts : List FormattingContext) (levels : List ℕ) (w : Workings) (turn : ℕ) : Type 0 where
+-- these tasks are done
+pub record AreDone (medium : Medium) (contexts : List FormattingContext) (w : Workings) (these : Task → Type 0) : Type 0 where
   pub counts : HasCounts contexts w
-  pub done : (task : Task) → task.context < length contexts → turn_of levels task < turn → IsTaskDone medium contexts w task
+  pub done : (task : Task) → task.context < length contexts → these task → IsTaskDone medium contexts w task
 
--- a task has been given a value that is right beside the others
-pub record IsSettled (medium : Medium) (contexts : List FormattingContext) (before : Workings) (task : Task) (after : Workings) : Type 0 where
+-- those that have their turn before this one, where the formatting contexts have these levels
+abbrev pub BeforeTurn : List ℕ → ℕ → Task → Type 0
+BeforeTurn levels turn task = turn_of levels task < turn
+
+-- a task that was given this has got a value that is right beside it, which is noted of the formatting context with this number
+pub record IsSettled (input : Input) (before : Workings) (i : ℕ) (after : Workings) : Type 0 where
   pub value : Value
-  pub local : IsLocal (input_of medium contexts before task) value
-  pub noted : after ≡ with_value before task.context value
+  pub local : IsLocal input value
+  pub noted : after ≡ with_value before i value
 
 -- the columns that a tree is put together of are as long as the boxes that they are of
 pub record AreKnown (contexts : List FormattingContext) (w : Workings) : Type 0 where

@@ -4,11 +4,10 @@ ghost use Rattle.std.specs.Prelude.{◌≡◌, ◌+◌, IfOk, OnOk, length};
 ghost use Rattle.lay_positioned.specs.ViewportBounds.{ViewportFits};
 ghost use Rattle.lay_style.specs.ComputedStyle.{HasStyles};
 ghost use Rattle.lay_doc.specs.Document.{parents_of, declarations_of};
-ghost use Rattle.lay_context.specs.Local.{IsLocal};
+ghost use Rattle.lay_context.specs.Local.{HasCounts, IsLocal, input_of};
 ghost use Rattle.lay_context.specs.Needs.{round_start};
 ghost use Rattle.lay_own_place.specs.OwnOffsets.{IsOwnOffset};
-ghost use Rattle.lay_context.specs.Settling.{AreDoneTo, IsReady, IsSettled};
-ghost use Rattle.lay_context.specs.Local.{HasCounts};
+ghost use Rattle.lay_context.specs.Settling.{AreDone, BeforeTurn, IsReady, IsSettled};
 ghost use Rattle.lay_context.specs.Solves.{Solves, SolvesContexts, viewport_of};
 
 use crate::assembling::assemble;
@@ -110,7 +109,7 @@ fn lay_contexts(
 /// Measures all formatting contexts, from the last one to the first.
 fn measure_all(alloc: Global, plan: &Plan<'_>, known: &mut Known) -> Result<(), NoMemory>
     requires before { HasCounts plan.now.contexts.now known.old }
-    ensures { OnOk result (AreDoneTo plan.now.medium.now plan.now.contexts.now plan.now.levels.now known.new (length plan.now.contexts.now)) }
+    ensures { OnOk result (AreDone plan.now.medium.now plan.now.contexts.now known.new (BeforeTurn plan.now.levels.now (length plan.now.contexts.now))) }
 {
     let count = plan.contexts.len();
     for done in 0..count {
@@ -131,8 +130,8 @@ fn lay_level(
     known: &mut Known,
     level: usize,
 ) -> Result<(), NoMemory>
-    requires before { AreDoneTo plan.now.medium.now plan.now.contexts.now plan.now.levels.now known.old (round_start (length plan.now.contexts.now) level) }
-    ensures { OnOk result (AreDoneTo plan.now.medium.now plan.now.contexts.now plan.now.levels.now known.new (round_start (length plan.now.contexts.now) (level + 1))) }
+    requires before { AreDone plan.now.medium.now plan.now.contexts.now known.old (BeforeTurn plan.now.levels.now (round_start (length plan.now.contexts.now) level)) }
+    ensures { OnOk result (AreDone plan.now.medium.now plan.now.contexts.now known.new (BeforeTurn plan.now.levels.now (round_start (length plan.now.contexts.now) (level + 1)))) }
 {
     size_level(alloc, plan, known, level)?;
     place_level(alloc, plan, known, level)
@@ -144,8 +143,8 @@ fn size_level(
     known: &mut Known,
     level: usize,
 ) -> Result<(), NoMemory>
-    requires before { AreDoneTo plan.now.medium.now plan.now.contexts.now plan.now.levels.now known.old (round_start (length plan.now.contexts.now) level) }
-    ensures { OnOk result (AreDoneTo plan.now.medium.now plan.now.contexts.now plan.now.levels.now known.new (round_start (length plan.now.contexts.now) level + length plan.now.contexts.now)) }
+    requires before { AreDone plan.now.medium.now plan.now.contexts.now known.old (BeforeTurn plan.now.levels.now (round_start (length plan.now.contexts.now) level)) }
+    ensures { OnOk result (AreDone plan.now.medium.now plan.now.contexts.now known.new (BeforeTurn plan.now.levels.now (round_start (length plan.now.contexts.now) level + length plan.now.contexts.now))) }
 {
     let count = plan.contexts.len();
     for i in 0..count {
@@ -166,8 +165,8 @@ fn place_level(
     known: &mut Known,
     level: usize,
 ) -> Result<(), NoMemory>
-    requires before { AreDoneTo plan.now.medium.now plan.now.contexts.now plan.now.levels.now known.old (round_start (length plan.now.contexts.now) level + length plan.now.contexts.now) }
-    ensures { OnOk result (AreDoneTo plan.now.medium.now plan.now.contexts.now plan.now.levels.now known.new (round_start (length plan.now.contexts.now) (level + 1))) }
+    requires before { AreDone plan.now.medium.now plan.now.contexts.now known.old (BeforeTurn plan.now.levels.now (round_start (length plan.now.contexts.now) level + length plan.now.contexts.now)) }
+    ensures { OnOk result (AreDone plan.now.medium.now plan.now.contexts.now known.new (BeforeTurn plan.now.levels.now (round_start (length plan.now.contexts.now) (level + 1)))) }
 {
     let count = plan.contexts.len();
     for done in 0..count {
@@ -186,7 +185,7 @@ fn place_level(
 /// Computes the value of a task, where the values that it needs are known.
 fn settle(alloc: Global, plan: &Plan<'_>, known: &mut Known, task: Task) -> Result<(), NoMemory>
     requires ready { IsReady plan.now.contexts.now known.old task }
-    ensures { OnOk result (IsSettled plan.now.medium.now plan.now.contexts.now known.old task known.new) }
+    ensures { OnOk result (IsSettled (input_of plan.now.medium.now plan.now.contexts.now known.old task) known.old task.context known.new) }
 {
     let input = input(alloc, plan, known, task)?;
     let value = compute(alloc, &input)?;

@@ -1,5 +1,5 @@
-use Rattle.lay_context.specs.Settling.{AreDoneTo}
+use Rattle.lay_context.specs.Settling.{AreDone, BeforeTurn}
 use Rattle.lay_context.proofs.layout.measure_all.Given as goal
 
 abbrev pub invariant-loop-done : goal.invariant-loop-done
-invariant-loop-done l = AreDoneTo l.plan.medium.now l.plan.contexts.now l.plan.levels.now l.known l.done
+invariant-loop-done l = AreDone l.plan.medium.now l.plan.contexts.now l.known (BeforeTurn l.plan.levels.now l.done)
