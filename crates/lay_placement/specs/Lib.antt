@@ -8,6 +8,7 @@ pub mod ContextPlaces
 pub mod Counts
 pub mod Laws
 pub mod OnLines
+pub mod OneBox
 pub mod Paintings
 pub mod Restings
 pub mod StaticPositions

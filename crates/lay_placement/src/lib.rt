@@ -5,8 +5,9 @@
 //! lay_flow_boxes, by how much they are moved is of lay_relative, and where they stand then is `specs/ContextPlaces.antt`. From
 //! there `specs/OnLines.antt` says what stands on lines, `specs/BoxStandings.antt` where each box stands (with
 //! `specs/AtomicCorners.antt` for atomic boxes on lines and `specs/StaticPositions.antt` for anchors),
-//! `specs/ContextPieces.antt` what is painted, and `specs/Baselines.antt` on what line the own box stands. A formatting context
-//! has one placement, of which offsets change corners alone (`specs/Laws.antt`).
+//! `specs/ContextPieces.antt` what is painted, and `specs/Baselines.antt` on what line the own box stands. Where there is but
+//! one box, no column is made (`specs/OneBox.antt`). A formatting context has one placement, of which offsets change corners
+//! alone (`specs/Laws.antt`).
 #![tactic(auto)]
 
 mod anchor_lines;
@@ -17,6 +18,7 @@ mod corners;
 mod first_baselines;
 mod laws;
 mod on_lines;
+mod one_box;
 mod pieces;
 mod placing;
 mod standings;

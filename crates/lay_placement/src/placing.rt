@@ -7,6 +7,7 @@ use crate::baselines::own_baseline;
 use crate::columns::{place_at, sizes_at};
 use crate::context_places::context_places;
 use crate::on_lines::on_lines_of;
+use crate::one_box::placement_of_one;
 use crate::pieces::{Painting, pieces_of};
 use crate::standings::standings_of;
 use lay_flow_boxes::PlaceInput;
@@ -22,7 +23,10 @@ use std::sync::Arc;
 pub fn placement(alloc: Global, input: &PlaceInput) -> Result<Placement, NoMemory>
     ensures { IfOk result (IsPlacement input.now) }
 {
-    let _ = input.boxes();
+    // One box needs no columns, which saves time where many floats are empty.
+    if input.boxes().len() == 1 {
+        return placement_of_one(alloc, input);
+    }
     let places = context_places(alloc, input)?;
     let on_lines = on_lines_of(alloc, input, &places)?;
     let standings = standings_of(alloc, input, &places, &on_lines)?;

@@ -1,0 +1,32 @@
+-- A block in which nothing stands.
+use Rattle.std.proofs.Common.{◌≡◌, ℤ, pos, ◌-ℤ◌, ◌+ℤ◌, arith}
+use Rattle.std.proofs.lemmas.Int.{ints}
+use Rattle.lay_units.specs.Units.{IsUsedSize}
+use Rattle.lay_units.specs.declared.records.Len.{Len}
+use Rattle.lay_units.specs.declared.records.Len.TheVariants as len
+use Rattle.lay_blocks.specs.declared.flow_box.HeightRule.{HeightRule}
+use Rattle.lay_blocks.specs.BlockPositions.{given_or_auto}
+use Rattle.lay_blocks.specs.BlockSizes.{BlockFits}
+use Rattle.lay_sizes.specs.declared.sizing.BoxSizes.{BoxSizes}
+use Rattle.lay_sizes.specs.SizeBounds.{IsUsedSizeOrAuto, SizeFits}
+use Rattle.lay_flow_boxes.specs.PlaceInputs.{HeightRuleFits}
+use Rattle.lay_placement.specs.OneBox.{empty_block}
+
+given_fits : (height : Len) → IsUsedSizeOrAuto height → IsUsedSize (given_or_auto height (pos 0))
+given_fits len.Auto fits = (omega (arith, ints), omega (arith, ints))
+given_fits (len.Of v) fits = fits
+
+-- it is within the bounds of blocks
+pub empty_fits : (z : BoxSizes) (height : HeightRule) → SizeFits z → HeightRuleFits height → BlockFits (empty_block z height)
+empty_fits z height fits rule = record {
+  margin_top = fits.margin_top;
+  margin_bottom = fits.margin_bottom;
+  edge_top = fits.top;
+  edge_bottom = fits.bottom;
+  height = given_fits height.given rule.given;
+  min_height = rule.min;
+}
+
+-- its content has no height
+pub no_content : (top : ℤ) → top -ℤ (pos 0 +ℤ top) ≡ pos 0
+no_content top = omega (arith, ints)
