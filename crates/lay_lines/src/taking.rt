@@ -17,16 +17,19 @@ use lay_floats::{Floats, one_float_place};
 use lay_line_content::{LineFloat, Stretch};
 use lay_units::{NoMemory, Unit};
 
-/// A line takes stretches as long as they fit. The answer is how far they come.
+/// A line takes stretches as long as they fit, from before all content. The answer is how far they come.
 pub fn take(
     floats: &mut Floats,
     met: &mut Met,
     line: &Line,
     stretches: &[Stretch],
+    blank: Reach,
 ) -> Result<Reach, NoMemory>
     requires frame { FrameFits line.now.frame }
     requires top { IsPosition line.now.top.0 }
     requires can { CanFill line.now.frame line.now.top.0 stretches.now (state_of floats.old met.old) }
+    requires blank { IsReach line.now.frame line.now.top.0 stretches.now floats.old blank }
+    requires count { blank.count ≡ 0 }
     ensures takes { IfOk result (λ t. Takes line.now.frame line.now.top.0 stretches.now
         (state_of floats.old met.old) t.count) }
     ensures fills { IfOk result (λ t. Fills line.now.frame line.now.top.0 stretches.now t.count
@@ -38,7 +41,7 @@ pub fn take(
         → IsFront floats.new after.floats) }
 {
     one_float_place();
-    let mut reach = Reach::first(floats, line, stretches);
+    let mut reach = blank;
     for k in 0..stretches.len() {
         if !take_next(floats, met, line, stretches, &mut reach)? {
             return Ok(reach);
