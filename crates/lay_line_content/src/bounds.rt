@@ -1,11 +1,12 @@
 //! Whether the content of lines is within its bounds.
 
-ghost use Rattle.std.specs.Prelude.{◌≡◌, ◌↔◌, ◌^◌, pos, IsTrue, All, None, IfSome};
+ghost use Rattle.std.specs.Prelude.{◌≡◌, ◌↔◌, ◌<◌, ◌^◌, pos, IsTrue, All, None, IfSome};
 ghost use Rattle.lay_units.specs.Units.{IsUsed};
 ghost use Rattle.lay_floats.specs.Within.{IsWithin};
 ghost use Rattle.lay_line_content.specs.Budgets.{Covers, Leaves, need_of, need_of_stretch};
 ghost use Rattle.lay_line_content.specs.LineContents.{
   IsLineContent,
+  boxes_of,
   content_of,
   ExtentWithin,
   IsTabDistance,
@@ -19,14 +20,17 @@ use crate::content::{LineFloat, Stretch};
 use crate::frame::Extent;
 use lay_units::Unit;
 
-/// The weight of content that is within its bounds.
-pub fn line_content_weight(
-    strut: Extent,
-    indent: Unit,
-    tab: Unit,
-    stretches: &[Stretch],
-) -> Option<u64>
-    ensures some { IfSome result (λ w. w ≡ lines_weight (content_of strut indent tab stretches.now)) }
+/// What is kept of content that is within its bounds: its weight, and whether it has inline boxes or atomic boxes.
+#[derive(Clone, Copy)]
+pub struct Summary {
+    pub weight: u64,
+    pub has_boxes: bool,
+}
+
+/// The summary of content that is within its bounds.
+pub fn summary_of(strut: Extent, indent: Unit, tab: Unit, stretches: &[Stretch]) -> Option<Summary>
+    ensures weight { IfSome result (λ s. s.weight ≡ lines_weight (content_of strut indent tab stretches.now)) }
+    ensures boxes { IfSome result (λ s. IsTrue s.has_boxes ↔ 0 < boxes_of stretches.now) }
     ensures fits { IfSome result (λ _. IsLineContent (content_of strut indent tab stretches.now)) }
     ensures none { result ≡ None → IsLineContent (content_of strut indent tab stretches.now) → ⊥ }
 {
@@ -35,7 +39,11 @@ pub fn line_content_weight(
     }
     let full = Budget::full();
     let left = left_after(full, tab, stretches)?;
-    weight_by(full.weight - left.weight, full.lift - left.lift)
+    let weight = weight_by(full.weight - left.weight, full.lift - left.lift)?;
+    Some(Summary {
+        weight,
+        has_boxes: left.boxes < full.boxes,
+    })
 }
 
 /// What these stretches leave, if they are within their bounds.
