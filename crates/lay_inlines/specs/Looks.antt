@@ -1,13 +1,11 @@
 -- Strokes that are drawn as one. Bits of a text that stand side by side on a line show nothing else than one bit that reaches
 -- over them all.
-use Rattle.std.specs.Prelude.{◌≡◌, ℕ, ℤ, List, ◌++◌, All}
-use Rattle.lay_units.specs.declared.length.Unit.{Unit}
+use Rattle.std.specs.Prelude.{◌≡◌, ℤ, List, ◌++◌, All}
 use Rattle.lay_line_content.specs.declared.content.InlineArea.{InlineArea}
 use Rattle.lay_inlines.specs.declared.strokes.Stroke.{Stroke}
-use Rattle.lay_inlines.specs.declared.strokes.Shown.TheVariants.{OfText}
 use Rattle.lay_inlines.specs.Bounds.{StrokeWithin}
 use Rattle.lay_inlines.specs.Spans.{right_edges, spans_of}
-use Rattle.lay_inlines.specs.Strokes.{has_content, shown_of}
+use Rattle.lay_inlines.specs.Strokes.{has_content}
 
 -- `new` shows the same as `old`, whatever stands behind them on the line
 pub record LookAs (new old : List Stroke) : Type 0 where
@@ -15,8 +13,3 @@ pub record LookAs (new old : List Stroke) : Type 0 where
   pub edges : (areas : List InlineArea) (rest : List Stroke) → right_edges areas (new ++ rest) ≡ right_edges areas (old ++ rest)
   pub spans : (areas : List InlineArea) (end : ℤ) (rest : List Stroke) → spans_of areas end (new ++ rest) ≡ spans_of areas end (old ++ rest)
   pub within : All StrokeWithin old → All StrokeWithin new
-
--- where content follows it, a stroke shows a bit of this text, which is raised so far
-pub record IsBitOf (s : Stroke) (text : ℕ) (raise : Unit) : Type 0 where
-  pub shows : shown_of s.part s.before.started ≡ OfText text
-  pub raised : s.raise ≡ raise

@@ -21,13 +21,13 @@ fn pass_parts(open_boxes: &mut Vec<u32>, parts: &[Part]) -> Result<(), NoMemory>
     ensures { OnOk result (open_boxes.new.items ≡ open_after open_boxes.old.items parts.now) }
 {
     for k in 0..parts.len() {
-        pass_part(open_boxes, parts[k])?;
+        pass_part(open_boxes, &parts[k])?;
     }
     Ok(())
 }
 
-fn pass_part(open_boxes: &mut Vec<u32>, part: Part) -> Result<(), NoMemory>
-    ensures { OnOk result (open_boxes.new.items ≡ open_after_part open_boxes.old.items part) }
+fn pass_part(open_boxes: &mut Vec<u32>, part: &Part) -> Result<(), NoMemory>
+    ensures { OnOk result (open_boxes.new.items ≡ open_after_part open_boxes.old.items part.now) }
 {
     match part {
         Part::Start(start) => {

@@ -54,8 +54,8 @@ impl<'a> Raises<'a> {
     }
 
     /// How far a part here is raised.
-    pub(crate) fn of(&self, part: Part) -> Unit
-        ensures { result ≡ raise_of self.now part }
+    pub(crate) fn of(&self, part: &Part) -> Unit
+        ensures { result ≡ raise_of self.now part.now }
     {
         match part {
             Part::Start(_) | Part::Atomic(_) => raise_at(self.coming, 0),
@@ -64,8 +64,8 @@ impl<'a> Raises<'a> {
     }
 
     /// Goes over a part.
-    pub(crate) fn pass(&mut self, part: Part) -> Result<(), NoMemory>
-        ensures { OnOk result (self.new ≡ raises_after self.old part) }
+    pub(crate) fn pass(&mut self, part: &Part) -> Result<(), NoMemory>
+        ensures { OnOk result (self.new ≡ raises_after self.old part.now) }
     {
         match part {
             Part::Start(_) => {

@@ -138,8 +138,8 @@ impl Behind {
             ≡ (is_content stroke.now.part || self.old.followed)) }
         ensures within { OnOk result (BehindWithin self.new) }
     {
-        let has_content = is_content(stroke.part) || self.followed;
-        let shown = shown_of(stroke.part, stroke.before.started && self.followed);
+        let has_content = is_content(&stroke.part) || self.followed;
+        let shown = shown_of(&stroke.part, stroke.before.started && self.followed);
         let standing = Standing {
             raise: stroke.raise,
             from: place(stroke.before, has_content),

@@ -2,9 +2,9 @@
 
 ghost use Rattle.std.specs.Prelude.{◌≡◌, ◌++◌, ◌∷◌, [], ◌||◌, IsFalse, IsTrue, IfOk, OnOk};
 ghost use Rattle.lay_inlines.specs.Bounds.{PensWithin};
-ghost use Rattle.lay_inlines.specs.Looks.{IsBitOf, LookAs};
-ghost use Rattle.lay_inlines.specs.Raises.{raises_after_all};
-ghost use Rattle.lay_inlines.specs.Strokes.{is_content, shown_of, place, strokes, parts_of};
+ghost use Rattle.lay_inlines.specs.Looks.{LookAs};
+ghost use Rattle.lay_inlines.specs.Raises.{raise_of, raises_after, raises_after_all};
+ghost use Rattle.lay_inlines.specs.Strokes.{is_content, shown_of, place, stroke_of, strokes, parts_of};
 ghost use Rattle.lay_line_content.specs.Pens.{over_all};
 
 use crate::raises::Raises;
@@ -65,71 +65,90 @@ fn draw_parts(
 {
     let mut before = pen;
     for k in 0..parts.len() {
-        let part = parts[k];
-        let after = before.over(frame, &part);
-        let stroke = Stroke {
-            part,
-            raise: raises.of(part),
-            before,
-            after,
-        };
-        put(out, stroke)?;
-        raises.pass(part)?;
+        let part = &parts[k];
+        let after = before.over(frame, part);
+        put(out, raises, part, &before, &after)?;
         before = after;
     }
     Ok(before)
 }
 
-/// Adds a stroke, or lets the last one reach over it too where both are bits of one text, so that a line has few.
-fn put(out: &mut Vec<Stroke>, stroke: Stroke) -> Result<(), NoMemory>
-    ensures { OnOk result (LookAs out.new.items (out.old.items ++ stroke ∷ [])) }
+/// Adds the stroke of a part between these pens, or lets the last one reach over it too where both are bits of one text, so
+/// that a line has few. The raises are then those behind it.
+fn put(
+    out: &mut Vec<Stroke>,
+    raises: &mut Raises,
+    part: &Part,
+    before: &Pen,
+    after: &Pen,
+) -> Result<(), NoMemory>
+    ensures strokes { OnOk result (LookAs out.new.items (out.old.items ++ stroke_of part.now (raise_of raises.old part.now) before.now after.now ∷ [])) }
+    ensures raises { OnOk result (raises.new ≡ raises_after raises.old part.now) }
 {
-    if !reach_over(out, &stroke) {
-        out.push(stroke)?;
+    if !reach_over(out, raises, part, before, after) {
+        out.push(Stroke {
+            part: *part,
+            raise: raises.of(part),
+            before: *before,
+            after: *after,
+        })?;
+        raises.pass(part)?;
     }
     Ok(())
 }
 
-/// Lets the last of these reach over a stroke too, if both are bits of one text. Whether they are.
-fn reach_over(strokes: &mut [Stroke], stroke: &Stroke) -> bool
-    ensures over { IsTrue result → LookAs strokes.new (strokes.old ++ stroke.now ∷ []) }
+/// Lets the last of these reach over a part too, which stands between these pens, if both are bits of one text. Whether
+/// they are.
+fn reach_over(
+    strokes: &mut [Stroke],
+    raises: &Raises,
+    part: &Part,
+    before: &Pen,
+    after: &Pen,
+) -> bool
+    ensures over { IsTrue result → LookAs strokes.new (strokes.old ++ stroke_of part.now (raise_of raises.now part.now) before.now after.now ∷ []) }
+    ensures raises { IsTrue result → raises_after raises.now part.now ≡ raises.now }
     ensures apart { IsFalse result → strokes.new ≡ strokes.old }
 {
     let count = strokes.len();
-    if count == 0 || !goes_on(&strokes[count - 1], stroke) {
+    if count == 0 || !goes_on(&strokes[count - 1], raises, part, before, after) {
         return false;
     }
-    strokes[count - 1].after = stroke.after;
+    strokes[count - 1].after = *after;
     true
 }
 
-/// Whether a stroke shows one more bit of the text of which the one before it shows a bit. A space at the end of a line, where
-/// it shows nothing, leaves the end of the content where it is.
-fn goes_on(last: &Stroke, stroke: &Stroke) -> bool
-    ensures { IsTrue result → LookAs (record last.now { after = stroke.now.after } ∷ []) (last.now ∷ stroke.now ∷ []) }
+/// Whether a part between these pens shows one more bit of the text of which the stroke before it shows a bit. A space at
+/// the end of a line, where it shows nothing, leaves the end of the content where it is.
+fn goes_on(last: &Stroke, raises: &Raises, part: &Part, before: &Pen, after: &Pen) -> bool
+    ensures over { IsTrue result → LookAs (record last.now { after = after.now } ∷ []) (last.now ∷ stroke_of part.now (raise_of raises.now part.now) before.now after.now ∷ []) }
+    ensures raises { IsTrue result → raises_after raises.now part.now ≡ raises.now }
 {
-    match last.part {
+    match &last.part {
         Part::Text(bit) => {
-            is_bit_of(stroke, bit.text, last.raise)
-                && (is_content(stroke.part) || stroke.after.solid.0 == last.after.solid.0)
+            is_bit_of(part, bit.text, before.started)
+                && raises.of(part).0 == last.raise.0
+                && (is_content(part) || after.solid.0 == last.after.solid.0)
         }
         _ => false,
     }
 }
 
-/// Whether a stroke shows a bit of this text where content follows it, raised so far.
-fn is_bit_of(stroke: &Stroke, text: u32, raise: Unit) -> bool
-    ensures { IsTrue result → IsBitOf stroke.now text raise }
+/// Whether a part shows a bit of this text where content follows it. A collapsible space does where it stays.
+fn is_bit_of(part: &Part, text: u32, stays: bool) -> bool
+    ensures shows { IsTrue result → shown_of part.now stays ≡ Shown.OfText text }
 {
-    match shown_of(stroke.part, stroke.before.started) {
-        Shown::OfText(of) => of == text && stroke.raise.0 == raise.0,
-        _ => false,
+    match part {
+        Part::Text(bit) | Part::PreservedSpace(bit) => bit.text == text,
+        Part::Space(space) => stays && space.text == text,
+        Part::Tab(of) => *of == text,
+        Part::Linefeed | Part::Start(_) | Part::End(_) | Part::Atomic(_) => false,
     }
 }
 
 /// Whether collapsible spaces beside it stay.
-pub fn is_content(part: Part) -> bool
-    ensures { result ≡ is_content part }
+pub fn is_content(part: &Part) -> bool
+    ensures { result ≡ is_content part.now }
 {
     match part {
         Part::PreservedSpace(_) | Part::Tab(_) | Part::Text(_) | Part::Atomic(_) => true,
@@ -138,13 +157,13 @@ pub fn is_content(part: Part) -> bool
 }
 
 /// What a part shows. A collapsible space is a part of its text where it stays on the line.
-pub fn shown_of(part: Part, stays: bool) -> Shown
-    ensures { result ≡ shown_of part stays }
+pub fn shown_of(part: &Part, stays: bool) -> Shown
+    ensures { result ≡ shown_of part.now stays }
 {
     match part {
         Part::Space(space) if stays => Shown::OfText(space.text),
         Part::PreservedSpace(space) => Shown::OfText(space.text),
-        Part::Tab(text) => Shown::OfText(text),
+        Part::Tab(text) => Shown::OfText(*text),
         Part::Text(text) => Shown::OfText(text.text),
         Part::Start(start) => Shown::Opens(start.node),
         Part::End(end) => Shown::Closes(end.node),

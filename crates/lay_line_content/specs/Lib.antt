@@ -1,3 +1,4 @@
+pub mod Budgets
 pub mod Extents
 pub mod LineContents
 pub mod PartLists

@@ -1,10 +1,12 @@
 //! Whether the content of lines is within its bounds.
 
-ghost use Rattle.std.specs.Prelude.{◌≡◌, ◌↔◌, ◌^◌, pos, IsTrue, All, None, IfSome};
+ghost use Rattle.std.specs.Prelude.{◌≡◌, ◌↔◌, ◌<◌, ◌^◌, pos, IsTrue, All, None, IfSome};
 ghost use Rattle.lay_units.specs.Units.{IsUsed};
 ghost use Rattle.lay_floats.specs.Within.{IsWithin};
+ghost use Rattle.lay_line_content.specs.Budgets.{Covers, Leaves, need_of, need_of_stretch};
 ghost use Rattle.lay_line_content.specs.LineContents.{
   IsLineContent,
+  boxes_of,
   content_of,
   ExtentWithin,
   IsTabDistance,
@@ -13,32 +15,60 @@ ghost use Rattle.lay_line_content.specs.LineContents.{
   lines_weight,
 };
 
-use crate::budgets::{are_boxes_few, is_spread_within, weight_within};
+use crate::budgets::{Budget, weight_by};
 use crate::content::{LineFloat, Stretch};
 use crate::frame::Extent;
 use lay_units::Unit;
 
-/// The weight of content that is within its bounds.
-pub fn line_content_weight(
-    strut: Extent,
-    indent: Unit,
-    tab: Unit,
-    stretches: &[Stretch],
-) -> Option<u64>
-    ensures some { IfSome result (λ w. w ≡ lines_weight (content_of strut indent tab stretches.now)) }
+/// What is kept of content that is within its bounds: its weight, and whether it has inline boxes or atomic boxes.
+#[derive(Clone, Copy)]
+pub struct Summary {
+    pub weight: u64,
+    pub has_boxes: bool,
+}
+
+/// The summary of content that is within its bounds.
+pub fn summary_of(strut: Extent, indent: Unit, tab: Unit, stretches: &[Stretch]) -> Option<Summary>
+    ensures weight { IfSome result (λ s. s.weight ≡ lines_weight (content_of strut indent tab stretches.now)) }
+    ensures boxes { IfSome result (λ s. IsTrue s.has_boxes ↔ 0 < boxes_of stretches.now) }
     ensures fits { IfSome result (λ _. IsLineContent (content_of strut indent tab stretches.now)) }
     ensures none { result ≡ None → IsLineContent (content_of strut indent tab stretches.now) → ⊥ }
 {
     if !is_extent_within(strut) || !is_used(indent) || !is_tab_distance(tab) {
         return None;
     }
-    if !are_stretches_within(stretches) || !is_spread_within(tab, stretches) {
+    let full = Budget::full();
+    let left = left_after(full, tab, stretches)?;
+    let weight = weight_by(full.weight - left.weight, full.lift - left.lift)?;
+    Some(Summary {
+        weight,
+        has_boxes: left.boxes < full.boxes,
+    })
+}
+
+/// What these stretches leave, if they are within their bounds.
+fn left_after(full: Budget, tab: Unit, stretches: &[Stretch]) -> Option<Budget>
+    ensures some { IfSome result (λ left. Leaves (need_of tab.0 stretches.now) full left) }
+    ensures within { IfSome result (λ _. All StretchWithin stretches.now) }
+    ensures none { result ≡ None → All StretchWithin stretches.now → Covers (need_of tab.0 stretches.now) full → ⊥ }
+{
+    let mut left = full;
+    for k in 0..stretches.len() {
+        left = left_after_one(left, tab, &stretches[k])?;
+    }
+    Some(left)
+}
+
+/// What a stretch leaves, if it is within its bounds.
+fn left_after_one(left: Budget, tab: Unit, stretch: &Stretch) -> Option<Budget>
+    ensures some { IfSome result (λ rest. Leaves (need_of_stretch tab.0 stretch.now) left rest) }
+    ensures within { IfSome result (λ _. StretchWithin stretch.now) }
+    ensures none { result ≡ None → StretchWithin stretch.now → Covers (need_of_stretch tab.0 stretch.now) left → ⊥ }
+{
+    if !is_stretch_within(stretch) {
         return None;
     }
-    if !are_boxes_few(stretches) {
-        return None;
-    }
-    weight_within(stretches)
+    left.after_stretch(tab, stretch)
 }
 
 fn is_used(length: Unit) -> bool
@@ -51,17 +81,6 @@ fn is_tab_distance(tab: Unit) -> bool
     ensures { IsTrue result ↔ IsTabDistance tab.0 }
 {
     0 <= tab.0 && tab.0 <= 35184372088832
-}
-
-fn are_stretches_within(stretches: &[Stretch]) -> bool
-    ensures { IsTrue result ↔ All StretchWithin stretches.now }
-{
-    for k in 0..stretches.len() {
-        if !is_stretch_within(&stretches[k]) {
-            return false;
-        }
-    }
-    true
 }
 
 fn is_stretch_within(stretch: &Stretch) -> bool

@@ -1,9 +1,9 @@
 //! The content of the lines of a container.
 
-ghost use Rattle.std.specs.Prelude.{◌≡◌, ◌≤◌, ◌^◌, None, IfSome};
-ghost use Rattle.lay_line_content.specs.LineContents.{IsLineContent, content_of, lines_weight};
+ghost use Rattle.std.specs.Prelude.{◌≡◌, ◌↔◌, ◌<◌, ◌≤◌, ◌^◌, IsTrue, None, IfSome};
+ghost use Rattle.lay_line_content.specs.LineContents.{IsLineContent, boxes_of, content_of, lines_weight};
 
-use crate::bounds::line_content_weight;
+use crate::bounds::{Summary, summary_of};
 use crate::content::Stretch;
 use crate::frame::Extent;
 use crate::lists::StretchList;
@@ -21,19 +21,20 @@ pub struct LineContent {
     indent: Unit,
     tab: Unit,
     stretches: StretchList,
-    weight: u64,
+    summary: Summary,
 }
 
 impl Model for LineContent {
-    ghost use Rattle.std.specs.Prelude.{◌≡◌};
-    ghost use Rattle.lay_line_content.specs.LineContents.{LineContentValue, IsLineContent, content_of, lines_weight};
+    ghost use Rattle.std.specs.Prelude.{◌≡◌, ◌↔◌, ◌<◌, IsTrue};
+    ghost use Rattle.lay_line_content.specs.LineContents.{LineContentValue, IsLineContent, boxes_of, content_of, lines_weight};
 
     ghost Value = { LineContentValue };
 
     ghost view = { λ c. content_of c.strut c.indent c.tab c.stretches };
 
     ghost invariant = { λ c. IsLineContent (content_of c.strut c.indent c.tab c.stretches)
-        × (c.weight ≡ lines_weight (content_of c.strut c.indent c.tab c.stretches)) };
+        × (c.summary.weight ≡ lines_weight (content_of c.strut c.indent c.tab c.stretches))
+        × (IsTrue c.summary.has_boxes ↔ 0 < boxes_of c.stretches) };
 }
 
 impl LineContent {
@@ -48,14 +49,14 @@ impl LineContent {
         ensures fits { IfSome result IsLineContent }
         ensures none { result ≡ None → IsLineContent (content_of strut indent tab stretches) → ⊥ }
     {
-        match line_content_weight(strut, indent, tab, stretches.as_slice()) {
+        match summary_of(strut, indent, tab, stretches.as_slice()) {
             None => None,
-            Some(weight) => Some(LineContent {
+            Some(summary) => Some(LineContent {
                 strut,
                 indent,
                 tab,
                 stretches,
-                weight,
+                summary,
             }),
         }
     }
@@ -87,7 +88,14 @@ impl LineContent {
         ensures value { result ≡ lines_weight self.now }
         ensures small { result ≤ 2 ^ 21 }
     {
-        self.weight
+        self.summary.weight
+    }
+
+    /// Whether it has inline boxes or atomic boxes.
+    pub fn has_boxes(&self) -> bool
+        ensures { IsTrue result ↔ 0 < boxes_of self.now.stretches }
+    {
+        self.summary.has_boxes
     }
 
     pub fn stretches(&self) -> &[Stretch]

@@ -6,6 +6,7 @@ ghost use Rattle.lay_line_content.specs.declared.content.Stretch.{Stretch as Str
 ghost use Rattle.lay_line_content.specs.Extents.{any_shows, reading_to, height_of};
 ghost use Rattle.lay_lines.specs.Filling.{IsTop};
 ghost use Rattle.lay_lines.specs.Meeting.{State, state_of, Meets, CanMeetAll, RoomsFit, FrameFits, IsFront};
+ghost use Rattle.lay_lines.specs.Reaching.{IsReach};
 ghost use Rattle.lay_lines.specs.Rows.{Position, Row, IsFilled, IsRow, CanRow, position_of, row_of};
 
 use crate::arithmetic::plus;
@@ -14,7 +15,7 @@ use crate::meeting::meet_all;
 use crate::met::Met;
 use crate::reach::Reach;
 use crate::taking::take;
-use crate::top::line_top;
+use crate::top::{Beginning, line_top};
 use lay_floats::{Floats, one_float_place, one_room};
 use lay_line_content::{Extent, InlineStart, Stretch, any_shows, line_shape};
 use lay_units::{NoMemory, Unit, UnitList};
@@ -99,12 +100,12 @@ fn fill_row(
 {
     one_float_place();
     one_room();
-    let top = headed_top(floats, met, start, stretches)?;
+    let Beginning { top, blank } = headed_top(floats, met, start, stretches)?;
     let line = Line {
         frame: start.frame,
         top,
     };
-    let reach = take(floats, met, &line, stretches)?;
+    let reach = take(floats, met, &line, stretches, blank)?;
     let seen = is_seen(boxes, reach.is_seen(&start.frame, stretches));
     let shape = line_shape(alloc, &start.frame, boxes, stretches, reach.count)?;
     let extent = Extent {
@@ -141,13 +142,13 @@ fn row_end(top: Unit, extent: Extent, seen: bool, from: Unit) -> Unit
     from
 }
 
-/// Meets the floats before the content, and finds the line's top.
+/// Meets the floats before the content, and finds where the line begins.
 fn headed_top(
     floats: &mut Floats,
     met: &mut Met,
     start: &Line,
     stretches: &[Stretch],
-) -> Result<Unit, NoMemory>
+) -> Result<Beginning, NoMemory>
     requires some { 0 < length stretches.now }
     requires frame { FrameFits start.now.frame }
     requires from { IsPosition start.now.top.0 }
@@ -160,9 +161,11 @@ fn headed_top(
     ensures heads { IfOk result (λ _. (s : StretchValue) → slice_get stretches.now 0 ≡ Some s
         → Meets start.now.frame start.now.top.0 stretches.now 0 s.heads
         (state_of floats.old met.old) (state_of floats.new met.new)) }
-    ensures top { IfOk result (λ top. IsTop start.now.frame start.now.top.0 stretches.now floats.new
-        top.0) }
-    ensures fits { IfOk result (λ top. IsPosition top.0) }
+    ensures top { IfOk result (λ b. IsTop start.now.frame start.now.top.0 stretches.now floats.new
+        b.top.0) }
+    ensures fits { IfOk result (λ b. IsPosition b.top.0) }
+    ensures blank { IfOk result (λ b. IsReach start.now.frame b.top.0 stretches.now floats.new b.blank) }
+    ensures count { IfOk result (λ b. b.blank.count ≡ 0) }
     ensures stopped { IfErr result (λ _. (s : StretchValue) (headed : State)
         → slice_get stretches.now 0 ≡ Some s
         → Meets start.now.frame start.now.top.0 stretches.now 0 s.heads

@@ -1,6 +1,6 @@
 //! What a line takes.
 
-ghost use Rattle.std.specs.Prelude.{◌≡◌, ◌↔◌, ◌⊎◌, suc, ◌+◌, ◌<◌, ◌≤◌, ℕ, IsTrue, List, length, slice_get, Some, None, IfOk, IfErr, IfSome};
+ghost use Rattle.std.specs.Prelude.{◌≡◌, ◌↔◌, ◌⊎◌, suc, ◌+◌, ◌<◌, ◌≤◌, ℕ, IsTrue, IsFalse, List, length, slice_get, Some, IfOk, IfErr, OnOk};
 ghost use Rattle.lay_units.specs.Units.{IsPosition};
 ghost use Rattle.lay_floats.specs.SolidPlace.{IsAlone};
 ghost use Rattle.lay_line_content.specs.declared.content.Stretch.{Stretch as StretchValue};
@@ -17,16 +17,19 @@ use lay_floats::{Floats, one_float_place};
 use lay_line_content::{LineFloat, Stretch};
 use lay_units::{NoMemory, Unit};
 
-/// A line takes stretches as long as they fit. The answer is how far they come.
+/// A line takes stretches as long as they fit, from before all content. The answer is how far they come.
 pub fn take(
     floats: &mut Floats,
     met: &mut Met,
     line: &Line,
     stretches: &[Stretch],
+    blank: Reach,
 ) -> Result<Reach, NoMemory>
     requires frame { FrameFits line.now.frame }
     requires top { IsPosition line.now.top.0 }
     requires can { CanFill line.now.frame line.now.top.0 stretches.now (state_of floats.old met.old) }
+    requires blank { IsReach line.now.frame line.now.top.0 stretches.now floats.old blank }
+    requires count { blank.count ≡ 0 }
     ensures takes { IfOk result (λ t. Takes line.now.frame line.now.top.0 stretches.now
         (state_of floats.old met.old) t.count) }
     ensures fills { IfOk result (λ t. Fills line.now.frame line.now.top.0 stretches.now t.count
@@ -38,11 +41,10 @@ pub fn take(
         → IsFront floats.new after.floats) }
 {
     one_float_place();
-    let mut reach = Reach::first(floats, line, stretches);
+    let mut reach = blank;
     for k in 0..stretches.len() {
-        match take_next(floats, met, line, stretches, &reach)? {
-            None => return Ok(reach),
-            Some(next) => reach = next,
+        if !take_next(floats, met, line, stretches, &mut reach)? {
+            return Ok(reach);
         }
         if stretches[k].forced {
             return Ok(reach);
@@ -51,54 +53,48 @@ pub fn take(
     Ok(reach)
 }
 
-/// Takes one more stretch where it fits.
+/// Takes one more stretch where it fits. Whether it does.
 fn take_next(
     floats: &mut Floats,
     met: &mut Met,
     line: &Line,
     stretches: &[Stretch],
-    reach: &Reach,
-) -> Result<Option<Reach>, NoMemory>
+    reach: &mut Reach,
+) -> Result<bool, NoMemory>
     requires frame { FrameFits line.now.frame }
     requires top { IsPosition line.now.top.0 }
-    requires reach { IsReach line.now.frame line.now.top.0 stretches.now floats.old reach.now }
-    requires some { reach.now.count < length stretches.now }
+    requires reach { IsReach line.now.frame line.now.top.0 stretches.now floats.old reach.old }
+    requires some { reach.old.count < length stretches.now }
     requires rooms { RoomsFit line.now.frame floats.old stretches.now }
-    requires floats { (s : StretchValue) → slice_get stretches.now reach.now.count ≡ Some s
+    requires floats { (s : StretchValue) → slice_get stretches.now reach.old.count ≡ Some s
         → CanMeetAll line.now.frame line.now.top.0 stretches.now
-        (suc reach.now.count) s.floats (state_of floats.old met.old) }
-    ensures takes { IfOk result (λ next. IfSome next
-        (λ r. TakesNext line.now.frame line.now.top.0 stretches.now reach.now.count
-        (state_of floats.old met.old) (state_of floats.new met.new))) }
-    ensures reach { IfOk result (λ next. IfSome next
-        (λ r. IsReach line.now.frame line.now.top.0 stretches.now floats.new r × (r.count
-        ≡ reach.now.count + 1))) }
-    ensures fits { IfOk result (λ next. IfSome next
-        (λ r. FitsNext line.now.frame line.now.top.0 stretches.now reach.now.count floats.old)) }
-    ensures full { IfOk result (λ next. next ≡ None
-        → FitsNext line.now.frame line.now.top.0 stretches.now reach.now.count floats.old → ⊥) }
-    ensures same { IfOk result (λ next. next ≡ None → state_of floats.new met.new
+        (suc reach.old.count) s.floats (state_of floats.old met.old) }
+    ensures takes { IfOk result (λ taken. IsTrue taken
+        → TakesNext line.now.frame line.now.top.0 stretches.now reach.old.count
+        (state_of floats.old met.old) (state_of floats.new met.new)) }
+    ensures reach { OnOk result (IsReach line.now.frame line.now.top.0 stretches.now floats.new reach.new) }
+    ensures count { IfOk result (λ taken. IsTrue taken → reach.new.count ≡ reach.old.count + 1) }
+    ensures fits { IfOk result (λ taken. IsTrue taken
+        → FitsNext line.now.frame line.now.top.0 stretches.now reach.old.count floats.old) }
+    ensures full { IfOk result (λ taken. IsFalse taken
+        → FitsNext line.now.frame line.now.top.0 stretches.now reach.old.count floats.old → ⊥) }
+    ensures same { IfOk result (λ taken. IsFalse taken → state_of floats.new met.new
         ≡ state_of floats.old met.old) }
+    ensures same_reach { IfOk result (λ taken. IsFalse taken → reach.new ≡ reach.old) }
     ensures stopped { IfErr result (λ _. (after : State)
-        → TakesNext line.now.frame line.now.top.0 stretches.now reach.now.count
+        → TakesNext line.now.frame line.now.top.0 stretches.now reach.old.count
         (state_of floats.old met.old) after → IsFront floats.new after.floats) }
     ensures stopped_in { IfErr result
-        (λ _. FitsNext line.now.frame line.now.top.0 stretches.now reach.now.count floats.old) }
+        (λ _. FitsNext line.now.frame line.now.top.0 stretches.now reach.old.count floats.old) }
 {
     let next = reach.next(floats, line, stretches);
     if !is_taken(floats, line, stretches, &next, is_zero(reach.count)) {
-        return Ok(None);
+        return Ok(false);
     }
-    let stretch = &stretches[reach.count];
-    let after = meet_after(
-        floats,
-        met,
-        line,
-        stretches,
-        &next,
-        stretch.floats.as_slice(),
-    )?;
-    Ok(Some(after))
+    let list = stretches[reach.count].floats.as_slice();
+    *reach = next;
+    meet_after(floats, met, line, stretches, reach, list)?;
+    Ok(true)
 }
 
 /// Whether a stretch more is taken, with which the line comes this far: it fits, or it is the first and no
@@ -145,26 +141,27 @@ fn meet_after(
     met: &mut Met,
     line: &Line,
     stretches: &[Stretch],
-    reach: &Reach,
+    reach: &mut Reach,
     list: &[LineFloat],
-) -> Result<Reach, NoMemory>
+) -> Result<(), NoMemory>
     requires frame { FrameFits line.now.frame }
     requires top { IsPosition line.now.top.0 }
-    requires reach { IsReach line.now.frame line.now.top.0 stretches.now floats.old reach.now }
-    requires count { reach.now.count ≤ length stretches.now }
-    requires floats { CanMeetAll line.now.frame line.now.top.0 stretches.now reach.now.count list.now
+    requires reach { IsReach line.now.frame line.now.top.0 stretches.now floats.old reach.old }
+    requires count { reach.old.count ≤ length stretches.now }
+    requires floats { CanMeetAll line.now.frame line.now.top.0 stretches.now reach.old.count list.now
         (state_of floats.old met.old) }
-    ensures meets { IfOk result (λ _. Meets line.now.frame line.now.top.0 stretches.now reach.now.count
+    ensures meets { OnOk result (Meets line.now.frame line.now.top.0 stretches.now reach.old.count
         list.now (state_of floats.old met.old) (state_of floats.new met.new)) }
-    ensures reach { IfOk result (λ r. IsReach line.now.frame line.now.top.0 stretches.now floats.new r) }
-    ensures count { IfOk result (λ r. r.count ≡ reach.now.count) }
+    ensures reach { OnOk result (IsReach line.now.frame line.now.top.0 stretches.now floats.new reach.new) }
+    ensures count { OnOk result (reach.new.count ≡ reach.old.count) }
     ensures stopped { IfErr result (λ _. (after : State)
-        → Meets line.now.frame line.now.top.0 stretches.now reach.now.count list.now
+        → Meets line.now.frame line.now.top.0 stretches.now reach.old.count list.now
         (state_of floats.old met.old) after → IsFront floats.new after.floats) }
 {
     if list.is_empty() {
-        return Ok(*reach);
+        return Ok(());
     }
     meet_all(floats, met, line, stretches, reach, list)?;
-    Ok(reach.in_room(floats, line, stretches))
+    *reach = reach.in_room(floats, line, stretches);
+    Ok(())
 }

@@ -1,4 +1,4 @@
-use Rattle.std.proofs.Common.{◌∙◌, ◌++◌, ◌+◌, List, drop, ap, sym, subst, rules}
+use Rattle.std.proofs.Common.{◌∙◌, ◌++◌, ◌+◌, List, drop, ap, refl, sym, subst, rules}
 use Rattle.std.proofs.lemmas.List.{drop_more}
 use Rattle.lay_line_content.specs.declared.content.Part.{Part}
 use Rattle.lay_line_content.specs.declared.pen.Pen.{Pen}
@@ -25,9 +25,9 @@ loop-k-preserved c =
     let rest = drop (c.loop-k.k + 1) xs in
     let old = c.loop-k.invariant in
     let pen = c.over-after.ensures in
-    let raises = c.in_ok-pass.ensures in
+    let raises = c.in_ok-put.ensures.raises in
     record {
-      strokes = looks_through _ _ _ (drawn_more fr p c.over-after.result r c.pass.new.self _ _ rest c.loop-k.out.items c.put.new.out.items pen c.of.ensures raises c.in_ok-put.ensures)
+      strokes = looks_through _ _ _ (drawn_more fr p c.over-after.result r c.put.new.raises _ _ rest c.loop-k.out.items c.put.new.out.items pen refl raises c.in_ok-put.ensures.strokes)
           (subst (λ (ys : List Part). LookAs (c.loop-k.out.items ++ strokes fr p r ys) (c.args.out.now.items ++ strokes fr c.args.pen c.args.raises.now xs)) more old.strokes);
       raises = ap (λ (s : RaisesValue). raises_after_all s rest) raises ∙ sym (ap (λ (ys : List Part). raises_after_all r ys) more) ∙ old.raises;
       pen = ap (λ (q : Pen). over_all fr q rest) pen ∙ sym (ap (λ (ys : List Part). over_all fr p ys) more) ∙ old.pen;

@@ -5,4 +5,4 @@ use Rattle.lay_inlines.proofs.strokes.reach_over.Goals as goal
 pub returns-clause-over : goal.returns-clause-over
 returns-clause-over c =
     let ss = c.args.strokes.now in
-    λ _. last_reaches ss (length ss - 1) _ c.args.stroke.now _ (omega arith) (c.if-not-goes_on.ensures refl)
+    λ _. last_reaches ss (length ss - 1) _ _ _ (omega arith) (c.if-not-goes_on.ensures.over refl)

@@ -1,10 +1,10 @@
-use Rattle.std.proofs.Common.{◌≡◌, ◌∙◌, ℕ, ◌+◌, ap, sym, subst, arith}
+use Rattle.std.proofs.Common.{◌∙◌, ℕ, ◌+◌, ap, sym, subst, arith}
 use Rattle.lay_line_content.specs.declared.content.Stretch.{Stretch}
-use Rattle.lay_line_content.proofs.Outcomes.{at_some, at_err}
+use Rattle.lay_line_content.proofs.Outcomes.{at_err}
 use Rattle.lay_line_content.proofs.PenOrder.{some_at}
 use Rattle.lay_lines.specs.Meeting.{state_of}
+use Rattle.lay_lines.specs.declared.reach.Reach.{Reach}
 use Rattle.lay_lines.specs.Filling.{FitsNext, TakesNext, Fills, Takes}
-use Rattle.lay_lines.specs.Reaching.{IsReach}
 use Rattle.lay_lines.proofs.Chains.{chain_more}
 use Rattle.lay_lines.proofs.Steps.{stretch_is, stops, ends, unforced_more, all_fit, rooms_next, can_next}
 use Rattle.lay_lines.proofs.Fronts.{take_stopped}
@@ -35,8 +35,8 @@ returns-in_err-take_next-clause-stopped c =
     at_err c.from_residual.result _ (λ n after takes all. take_stopped c.one_float_place.ensures fr y ss st now after k n c.take_next.new.floats c.loop-k-test.true inv.unforced inv.fits inv.fills fit
     (λ next t. step.stopped next (subst (λ (n : ℕ). TakesNext fr y ss n now next) (sym inv.count_is) t)) takes all)
 
-pub returns-in-None-clause-takes : goal.returns-in-None-clause-takes
-returns-in-None-clause-takes c =
+pub returns-then-not-branch-clause-takes : goal.returns-then-not-branch-clause-takes
+returns-then-not-branch-clause-takes c =
     let ss = c.args.stretches.now in
     let fr = c.args.line.now.frame in
     let y = c.args.line.now.top.0 in
@@ -45,9 +45,11 @@ returns-in-None-clause-takes c =
     let now = state_of c.loop-k.floats c.loop-k.met in
     let st = state_of c.args.floats.now c.args.met.now in
     let lt = c.loop-k-test.true in
-    subst (λ (n : ℕ). Takes fr y ss st n) (sym inv.count_is)
+    let step = c.in_ok-take_next.ensures in
+    let same = step.same_reach c.if-not-branch.true in
+    subst (λ (n : ℕ). Takes fr y ss st n) (sym (ap (λ (r : Reach). r.count) same ∙ inv.count_is))
     (stops fr y ss st now k (omega (arith, lt)) inv.unforced inv.fits inv.fills
-    (λ fit. c.in_ok-take_next.ensures.full c.in-None.is (subst (λ (n : ℕ). FitsNext fr y ss n now.floats) (sym inv.count_is) fit)))
+    (λ fit. step.full c.if-not-branch.true (subst (λ (n : ℕ). FitsNext fr y ss n now.floats) (sym inv.count_is) fit)))
 
 pub returns-then-stretches-k-clause-takes : goal.returns-then-stretches-k-clause-takes
 returns-then-stretches-k-clause-takes c =
@@ -61,10 +63,9 @@ returns-then-stretches-k-clause-takes c =
     let s = c.index-stretches-k.result in
     let is = stretch_is ss k s c.loop-k-test.true c.index-stretches-k.is in
     let step = c.in_ok-take_next.ensures in
-    let reach = at_some (λ r. IsReach fr y ss c.take_next.new.floats r × (r.count ≡ c.loop-k.reach.count + 1)) _ c.in-Some.next c.in-Some.is step.reach in
-    let fit = at_some (λ r. FitsNext fr y ss c.loop-k.reach.count now.floats) _ c.in-Some.next c.in-Some.is step.fits in
-    subst (λ (n : ℕ). Takes fr y ss st n) (sym (reach.1 ∙ ap (λ n. n + 1) inv.count_is))
-    (ends fr y ss st k s inv.unforced is (ap (λ (u : Stretch). u.forced) c.index-stretches-k.is ∙ c.if-stretches-k.true) (all_fit c.one_float_place.ensures fr y ss st now k inv.fits inv.fills (subst (λ (n : ℕ). FitsNext fr y ss n now.floats) inv.count_is fit)))
+    subst (λ (n : ℕ). Takes fr y ss st n) (sym (step.count c.if-not-branch.false ∙ ap (λ n. n + 1) inv.count_is))
+    (ends fr y ss st k s inv.unforced is (ap (λ (u : Stretch). u.forced) c.index-stretches-k.is ∙ c.if-stretches-k.true)
+    (all_fit c.one_float_place.ensures fr y ss st now k inv.fits inv.fills (subst (λ (n : ℕ). FitsNext fr y ss n now.floats) inv.count_is (step.fits c.if-not-branch.false))))
 
 pub returns-then-stretches-k-clause-fills : goal.returns-then-stretches-k-clause-fills
 returns-then-stretches-k-clause-fills c =
@@ -77,10 +78,8 @@ returns-then-stretches-k-clause-fills c =
     let st = state_of c.args.floats.now c.args.met.now in
     let after = state_of c.take_next.new.floats c.take_next.new.met in
     let step = c.in_ok-take_next.ensures in
-    let reach = at_some (λ r. IsReach fr y ss c.take_next.new.floats r × (r.count ≡ c.loop-k.reach.count + 1)) _ c.in-Some.next c.in-Some.is step.reach in
-    let takes = at_some (λ r. TakesNext fr y ss c.loop-k.reach.count now after) _ c.in-Some.next c.in-Some.is step.takes in
-    subst (λ (n : ℕ). Fills fr y ss n st after) (sym (reach.1 ∙ ap (λ n. n + 1) inv.count_is))
-    (chain_more (TakesNext fr y ss) k st now after inv.fills (subst (λ (n : ℕ). TakesNext fr y ss n now after) inv.count_is takes))
+    subst (λ (n : ℕ). Fills fr y ss n st after) (sym (step.count c.if-not-branch.false ∙ ap (λ n. n + 1) inv.count_is))
+    (chain_more (TakesNext fr y ss) k st now after inv.fills (subst (λ (n : ℕ). TakesNext fr y ss n now after) inv.count_is (step.takes c.if-not-branch.false)))
 
 pub loop-k-preserved : goal.loop-k-preserved
 loop-k-preserved c =
@@ -95,13 +94,10 @@ loop-k-preserved c =
     let s = c.index-stretches-k.result in
     let is = stretch_is ss k s c.loop-k-test.true c.index-stretches-k.is in
     let step = c.in_ok-take_next.ensures in
-    let reach = at_some (λ r. IsReach fr y ss c.take_next.new.floats r × (r.count ≡ c.loop-k.reach.count + 1)) _ c.in-Some.next c.in-Some.is step.reach in
-    let fit = at_some (λ r. FitsNext fr y ss c.loop-k.reach.count now.floats) _ c.in-Some.next c.in-Some.is step.fits in
-    let takes = at_some (λ r. TakesNext fr y ss c.loop-k.reach.count now after) _ c.in-Some.next c.in-Some.is step.takes in
     record {
-      count_is = reach.1 ∙ ap (λ n. n + 1) inv.count_is;
-      reach_is = reach.0;
-      fills = chain_more (TakesNext fr y ss) k st now after inv.fills (subst (λ (n : ℕ). TakesNext fr y ss n now after) inv.count_is takes);
-      fits = all_fit c.one_float_place.ensures fr y ss st now k inv.fits inv.fills (subst (λ (n : ℕ). FitsNext fr y ss n now.floats) inv.count_is fit);
+      count_is = step.count c.if-not-branch.false ∙ ap (λ n. n + 1) inv.count_is;
+      reach_is = step.reach;
+      fills = chain_more (TakesNext fr y ss) k st now after inv.fills (subst (λ (n : ℕ). TakesNext fr y ss n now after) inv.count_is (step.takes c.if-not-branch.false));
+      fits = all_fit c.one_float_place.ensures fr y ss st now k inv.fits inv.fills (subst (λ (n : ℕ). FitsNext fr y ss n now.floats) inv.count_is (step.fits c.if-not-branch.false));
       unforced = unforced_more ss k s inv.unforced is (ap (λ (u : Stretch). u.forced) c.index-stretches-k.is ∙ c.if-stretches-k.false);
     }

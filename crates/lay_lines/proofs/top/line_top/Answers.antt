@@ -2,10 +2,10 @@ use Rattle.std.proofs.Common.{arith}
 use Rattle.std.proofs.lemmas.Int.{ints}
 use Rattle.lay_lines.proofs.top.line_top.Goals as goal
 
-pub loop-top-preserved : goal.loop-top-preserved
-loop-top-preserved c =
+pub loop-blank-preserved : goal.loop-blank-preserved
+loop-blank-preserved c =
     let step = c.in-Some.ensures in
-    let so_far = c.loop-top.invariant in
+    let so_far = c.loop-blank.invariant in
     record {
       fits = step.fits;
       low = (let low = so_far.low in let lower = step.lower in omega (arith, ints, low, lower));
