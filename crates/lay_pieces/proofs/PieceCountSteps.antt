@@ -5,6 +5,7 @@ use Rattle.std.proofs.lemmas.Bool.{cases_eq, eq-eqb, ne_eqb}
 use Rattle.lay_frag.specs.declared.frag.Frag.{Frag}
 use Rattle.lay_frag.specs.declared.frag.FragKind.{FragKind}
 use Rattle.lay_frag.specs.declared.frag.FragKind.TheVariants.{Box, Line, Text}
+use Rattle.lay_pieces.specs.declared.piece_list.TheConstants.{FIRST_PIECES}
 use Rattle.lay_pieces.specs.declared.piece_list.Counts.{Counts}
 use Rattle.lay_pieces.specs.PieceCounts.{AreCounted, behind_first, count_in, counts_in, with_one}
 use Rattle.lay_pieces.specs.PieceParts.{count_of, is_kind, numbered}
@@ -73,29 +74,36 @@ one_behind (suc n) [] f le = absurd (omega (arith, le))
 one_behind (suc n) (g ∷ gs) f le = one_behind n gs f (omega (arith, le))
 
 -- a piece among the first isn't counted
-pub one_first : (fs : List Frag) (f : Frag) (map : BTreeMap ℕ Counts) → AreCounted fs map → length fs < 8 → AreCounted (fs ++ f ∷ []) map
+pub one_first : (fs : List Frag) (f : Frag) (map : BTreeMap ℕ Counts) → AreCounted fs map → length fs < FIRST_PIECES → AreCounted (fs ++ f ∷ []) map
 one_first fs f map so_far few = record {
-  each = λ kind id. let was = so_far.each kind id in let old : behind_first fs ≡ [] = none_before 8 fs few in
-      let new : behind_first (fs ++ f ∷ []) ≡ [] = none_behind 8 fs f few in rw new (was ∙ ap (count_of kind id) old);
+  each = λ kind id. let was = so_far.each kind id in let old : behind_first fs ≡ [] = none_before FIRST_PIECES fs few in
+      let new : behind_first (fs ++ f ∷ []) ≡ [] = none_behind FIRST_PIECES fs f few in rw new (was ∙ ap (count_of kind id) old);
   few = omega (arith, few, length-append fs (f ∷ []));
 }
 
+-- a map that says the same counts the same pieces
+pub same_counts : (fs : List Frag) (map next : BTreeMap ℕ Counts) → AreCounted fs map → ((id : ℕ) → counts_in next id ≡ counts_in map id) → AreCounted fs next
+same_counts fs map next so_far same = record {
+  each = λ kind id. ap (λ counts. count_in counts kind) (same id) ∙ so_far.each kind id;
+  few = so_far.few;
+}
+
 -- a map in which the counts of a piece's node have one more of its kind counts it too
-pub one_more : (fs : List Frag) (f : Frag) (map next : BTreeMap ℕ Counts) → AreCounted fs map → 8 ≤ length fs → length fs < 2147483648
+pub one_more : (fs : List Frag) (f : Frag) (map next : BTreeMap ℕ Counts) → AreCounted fs map → FIRST_PIECES ≤ length fs → length fs < 2147483648
     → counts_in next f.node.0 ≡ with_one (counts_in map f.node.0) f.kind → ((id : ℕ) → id ≢ f.node.0 → counts_in next id ≡ counts_in map id)
     → AreCounted (fs ++ numbered fs f ∷ []) next
 one_more fs f map next so_far many room here others = record {
   each = λ kind id. elim (cases_eq id f.node.0) [
     | inl same ↦ (let is : (f.node.0 == id) ≡ true = rw same (same_eq f.node.0) in
         let more = count_more kind id (behind_first fs) (numbered fs f) in
-        let all : behind_first (fs ++ numbered fs f ∷ []) ≡ behind_first fs ++ numbered fs f ∷ [] = one_behind 8 fs (numbered fs f) many in
+        let all : behind_first (fs ++ numbered fs f ∷ []) ≡ behind_first fs ++ numbered fs f ∷ [] = one_behind FIRST_PIECES fs (numbered fs f) many in
         let one = more_in (counts_in map f.node.0) f.kind kind in
         let was = so_far.each kind f.node.0 in
         let both = both_true (is_kind f.kind kind) (f.node.0 == id) is in
         rw (all, more, both, same, here) (rw (one, was) refl))
     | inr other ↦ (let is : (f.node.0 == id) ≡ false = other_eq f.node.0 id (λ e. other (sym e)) in
         let more = count_more kind id (behind_first fs) (numbered fs f) in
-        let all : behind_first (fs ++ numbered fs f ∷ []) ≡ behind_first fs ++ numbered fs f ∷ [] = one_behind 8 fs (numbered fs f) many in
+        let all : behind_first (fs ++ numbered fs f ∷ []) ≡ behind_first fs ++ numbered fs f ∷ [] = one_behind FIRST_PIECES fs (numbered fs f) many in
         let both = both_false (is_kind f.kind kind) (f.node.0 == id) is in
         let kept = others id other in
         let was = so_far.each kind id in

@@ -6,6 +6,7 @@ use Rattle.std.specs.BTreeMap.{BTreeMap, get}
 use Rattle.lay_frag.specs.declared.frag.Frag.{Frag}
 use Rattle.lay_frag.specs.declared.frag.FragKind.{FragKind}
 use Rattle.lay_frag.specs.declared.frag.FragKind.TheVariants.{Box, Line, Text}
+use Rattle.lay_pieces.specs.declared.piece_list.TheConstants.{FIRST_PIECES}
 use Rattle.lay_pieces.specs.declared.piece_list.Counts.{Counts}
 use Rattle.lay_pieces.specs.PieceParts.{count_of}
 
@@ -29,10 +30,10 @@ counts_in map id = unwrap_or (get nat_cmp map id) no_counts
 
 -- the pieces that are looked at one by one, and those behind them
 abbrev pub first_of : List Frag → List Frag
-first_of pieces = take 8 pieces
+first_of pieces = take FIRST_PIECES pieces
 
 abbrev pub behind_first : List Frag → List Frag
-behind_first pieces = drop 8 pieces
+behind_first pieces = drop FIRST_PIECES pieces
 
 -- a map says of each node how many of these pieces behind the first are its own, and they are few
 pub record AreCounted (pieces : List Frag) (map : BTreeMap ℕ Counts) : Type 0 where

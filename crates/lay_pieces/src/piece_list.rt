@@ -1,6 +1,6 @@
 //! The pieces of a formatting context as they come, each with its part.
 
-ghost use Rattle.std.specs.Prelude.{ℕ, ◌≡◌, ◌≢◌, ◌<◌, ◌≤◌, ◌∷◌, ◌++◌, [], length, IfOk, OnOk};
+ghost use Rattle.std.specs.Prelude.{ℕ, ◌≡◌, ◌≢◌, ◌<◌, ◌≤◌, ◌∷◌, ◌++◌, [], length, IfOk, OnErr, OnOk};
 ghost use Rattle.lay_pieces.specs.NearPieces.{AreNearPieces, IsRectNear};
 ghost use Rattle.lay_pieces.specs.PieceParts.{count_of, is_kind, numbered};
 ghost use Rattle.lay_pieces.specs.PieceCounts.{AreCounted, behind_first, count_in, counts_in, first_of, with_one};
@@ -59,14 +59,15 @@ impl PieceList {
         }
     }
 
-    /// These, and behind them a piece that counts those of its kind and node before it. NoMemory is also the answer
-    /// where it stands more than 2^60 units away, which it does in no document within the limits, and for more than 2^31
-    /// pieces.
-    pub fn with(self, piece: Frag) -> Result<PieceList, NoMemory>
-        ensures { IfOk result (λ p. p ≡ self ++ numbered self piece ∷ []) }
+    /// Puts a piece behind these, which counts those of its kind and node before it. NoMemory is also the answer where it
+    /// stands more than 2^60 units away, which it does in no document within the limits, and for more than 2^31 pieces; then
+    /// these stay as they are.
+    pub fn push(&mut self, piece: Frag) -> Result<(), NoMemory>
+        ensures ok { OnOk result (self.new ≡ self.old ++ numbered self.old piece ∷ []) }
+        ensures err { OnErr result (self.new ≡ self.old) }
     {
         let rect = near_rect(piece.rect)?;
-        added(self.items, self.counts, Frag { rect, ..piece })
+        add(&mut self.items, &mut self.counts, Frag { rect, ..piece })
     }
 
     /// The pieces, in order.
@@ -79,29 +80,32 @@ impl PieceList {
     }
 }
 
-/// These pieces, of which the counts are these, with one more.
-fn added(
-    items: Vec<Frag>,
-    counts: BTreeMap<u32, Counts>,
+/// Puts one more piece behind these, of which the counts are these. On an error all stays as it is.
+fn add(
+    items: &mut Vec<Frag>,
+    counts: &mut BTreeMap<u32, Counts>,
     piece: Frag,
-) -> Result<PieceList, NoMemory>
-    requires counted { AreCounted items.items counts }
-    requires all_near { AreNearPieces items.items }
+) -> Result<(), NoMemory>
+    requires counted { AreCounted items.old.items counts.old }
+    requires all_near { AreNearPieces items.old.items }
     requires near { IsRectNear piece.rect }
-    ensures { IfOk result (λ p. p ≡ items.items ++ numbered items.items piece ∷ []) }
+    ensures ok { OnOk result (items.new.items ≡ items.old.items ++ numbered items.old.items piece ∷ []) }
+    ensures err { OnErr result (items.new.items ≡ items.old.items) }
+    ensures counted { AreCounted items.new.items counts.new }
+    ensures all_near { AreNearPieces items.new.items }
 {
-    let mut items = items;
-    let mut counts = counts;
     if items.len() >= MOST_PIECES {
         return Err(NoMemory);
     }
-    let first = count_of(first_of(&items), piece.kind, piece.node.0);
-    let behind = take_note(&mut counts, &items, piece)?;
+    // Room first, so that what is counted can be put there.
+    items.reserve(1)?;
+    let first = count_of(first_of(items), piece.kind, piece.node.0);
+    let behind = take_note(counts, items, piece)?;
     items.push(Frag {
         part: first + behind,
         ..piece
     })?;
-    Ok(PieceList { items, counts })
+    Ok(())
 }
 
 /// Counts a piece that comes behind these, if it isn't one of the first. How many of its kind and node were counted before.
@@ -114,6 +118,7 @@ fn take_note(
     requires room { length items.now < 2147483648 }
     ensures before { IfOk result (λ n. n ≡ count_of piece.kind piece.node.0 (behind_first items.now)) }
     ensures after { OnOk result (AreCounted (items.now ++ numbered items.now piece ∷ []) counts.new) }
+    ensures err { OnErr result (AreCounted items.now counts.new) }
 {
     if items.len() < FIRST_PIECES {
         return Ok(0);
@@ -132,7 +137,7 @@ fn first_of(items: &[Frag]) -> &[Frag]
 
 /// How many of these few pieces are of this kind and of the node with this id.
 fn count_of(pieces: &[Frag], kind: FragKind, id: u32) -> u32
-    requires { length pieces.now ≤ 8 }
+    requires { length pieces.now ≤ FIRST_PIECES }
     ensures { result ≡ count_of kind id pieces.now }
 {
     let mut count = 0;
@@ -184,6 +189,7 @@ fn counts_in(counts: &BTreeMap<u32, Counts>, id: u32) -> Counts
 fn put(counts: &mut BTreeMap<u32, Counts>, id: u32, node: Counts) -> Result<(), NoMemory>
     ensures here { OnOk result (counts_in counts.new id ≡ node) }
     ensures others { OnOk result ((other : ℕ) → other ≢ id → counts_in counts.new other ≡ counts_in counts.old other) }
+    ensures err { OnErr result ((other : ℕ) → counts_in counts.new other ≡ counts_in counts.old other) }
 {
     counts.insert(id, node)?;
     Ok(())

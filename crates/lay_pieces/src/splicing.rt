@@ -1,6 +1,6 @@
 //! The pieces of anonymous formatting contexts among those of the one around them.
 
-ghost use Rattle.std.specs.Prelude.{◌≡◌, ◌<◌, ◌+ℤ◌, Some, length, slice_get, IfOk};
+ghost use Rattle.std.specs.Prelude.{◌≡◌, ◌<◌, ◌+ℤ◌, Some, length, slice_get, OnOk};
 ghost use Rattle.lay_units.specs.Units.{IsPosition};
 ghost use Rattle.lay_frag.specs.Pieces.{moved};
 ghost use Rattle.lay_pieces.specs.Corners.{IsNear};
@@ -15,24 +15,23 @@ use lay_frag::Frag;
 use lay_units::{NoMemory, Rect, Unit};
 
 impl PieceList {
-    /// These, and behind them those of an anonymous formatting context whose box is so wide and stands so, each counted from
-    /// the corner of that box. NoMemory is also the answer where one comes to stand more than 2^60 units away, or there
-    /// are more than 2^31.
-    pub fn with_spliced(
-        self,
+    /// Puts behind these those of an anonymous formatting context whose box is so wide and stands so, each counted from the
+    /// corner of that box. NoMemory is also the answer where one comes to stand more than 2^60 units away, or there are
+    /// more than 2^31.
+    pub fn push_spliced(
+        &mut self,
         width: Unit,
         standing: Standing,
         pieces: &[Frag],
-    ) -> Result<PieceList, NoMemory>
+    ) -> Result<(), NoMemory>
         requires standing { IsStandingNear standing }
         requires near { AreNearPieces pieces.now }
-        ensures { IfOk result (λ p. p ≡ with_pieces self (spliced width standing pieces.now)) }
+        ensures { OnOk result (self.new ≡ with_pieces self.old (spliced width standing pieces.now)) }
     {
-        let mut all = self;
         for k in 0..pieces.len() {
-            all = all.with(spliced_piece(width, standing, pieces, k))?;
+            self.push(spliced_piece(width, standing, pieces, k))?;
         }
-        Ok(all)
+        Ok(())
     }
 }
 

@@ -11,16 +11,10 @@ use lay_blocks::FlowPlaces;
 use lay_flow::flow;
 use lay_flow_boxes::{FlowShape, PlaceInput, flow_shape};
 use lay_lines::Ended;
-use lay_relative::{Offset, relative_moves};
-use lay_units::{NoMemory, Unit};
+use lay_relative::{BoxMoves, Offset, relative_moves};
+use lay_units::NoMemory;
 use std::alloc::Global;
 use std::marker::Model;
-
-/// Not moved.
-const NO_OFFSET: Offset = Offset {
-    right: Unit(0),
-    down: Unit(0),
-};
 
 /// Where the boxes of one formatting context stand, in the order of the boxes, in 1/64 px. Positions are counted from the
 /// corner of its own border box.
@@ -31,18 +25,15 @@ pub(crate) struct BoxPlaces {
     /// The corners and the heights of border boxes, and the lines of each box.
     pub places: FlowPlaces,
     /// By how much relative positioning moves them.
-    pub moves: Vec<Offset>,
+    pub moves: BoxMoves,
 }
 
 impl Model for BoxPlaces {
-    ghost use Rattle.lay_relative.specs.MoveBounds.{AreNearMoves};
     ghost use Rattle.lay_placement.specs.ContextPlaces.{ContextPlaces};
 
     ghost Value = { ContextPlaces };
 
-    ghost view = { λ p. record { shape = p.shape; places = p.places; moves = p.moves.items } };
-
-    ghost invariant = { λ p. AreNearMoves p.moves.items };
+    ghost view = { λ p. record { shape = p.shape; places = p.places; moves = p.moves } };
 }
 
 /// Where the boxes of one formatting context stand. NoMemory is also the answer for more boxes than 2^23, for a left border
@@ -78,8 +69,5 @@ pub(crate) fn move_of(places: &BoxPlaces, k: usize) -> Offset
     ensures value { result ≡ move_at places.now.moves k }
     ensures near { IsMoveNear result }
 {
-    match places.moves.get(k) {
-        Some(offset) => *offset,
-        None => NO_OFFSET,
-    }
+    places.moves.at(k)
 }

@@ -1,6 +1,6 @@
 //! The pieces of the boxes of one formatting context.
 
-ghost use Rattle.std.specs.Prelude.{◌≡◌, ◌<◌, ◌≤◌, length, IfOk};
+ghost use Rattle.std.specs.Prelude.{◌≡◌, ◌<◌, ◌≤◌, length, IfOk, OnOk};
 ghost use Rattle.std.specs.List.{flat_map};
 ghost use Rattle.lay_sizes.specs.BoxSizes.{border_width};
 ghost use Rattle.lay_sizes.specs.SizeColumns.{sizes_at};
@@ -46,69 +46,68 @@ pub(crate) fn pieces_of(alloc: Global, of: &Painting<'_>) -> Result<Vec<Frag>, N
 {
     let mut pieces = PieceList::new(alloc);
     for k in 0..of.input.boxes().len() {
-        pieces = with_box(pieces, of, k)?;
+        push_box(&mut pieces, of, k)?;
     }
     Ok(pieces.into_vec())
 }
 
-/// These pieces, and behind them those of the box at k.
-fn with_box(pieces: PieceList, of: &Painting<'_>, k: usize) -> Result<PieceList, NoMemory>
+/// Puts the pieces of the box at k behind these.
+fn push_box(pieces: &mut PieceList, of: &Painting<'_>, k: usize) -> Result<(), NoMemory>
     requires painting { IsPainting of.now.input.now of.now.places.now of.now.on_lines.now of.now.standings.now }
     requires place { k < length of.now.input.now.boxes }
-    ensures { IfOk result (λ p. p ≡ with_pieces pieces (pieces_of_box of.now.input.now of.now.places.now k)) }
+    ensures { OnOk result (pieces.new ≡ with_pieces pieces.old (pieces_of_box of.now.input.now of.now.places.now k)) }
 {
     if of.input.role(k).is_inline_level() {
-        return Ok(pieces);
+        return Ok(());
     }
     if of.input.context_boxes().is_inner(k) {
-        return with_inner(pieces, of, k);
+        return push_inner(pieces, of, k);
     }
-    let pieces = pieces.with(piece_of_box(of, k))?;
-    with_lines(pieces, of, on_lines_at(of.on_lines, k))
+    pieces.push(piece_of_box(of, k))?;
+    push_lines(pieces, of, on_lines_at(of.on_lines, k))
 }
 
-/// These pieces, and behind them those of the anonymous formatting context whose box is the one at k, if it is that of one.
-fn with_inner(pieces: PieceList, of: &Painting<'_>, k: usize) -> Result<PieceList, NoMemory>
+/// Puts the pieces of the anonymous formatting context whose box is the one at k behind these, if it is that of one.
+fn push_inner(pieces: &mut PieceList, of: &Painting<'_>, k: usize) -> Result<(), NoMemory>
     requires { IsPainting of.now.input.now of.now.places.now of.now.on_lines.now of.now.standings.now }
-    ensures { IfOk result (λ p. p ≡ with_pieces pieces (spliced_at of.now.input.now of.now.places.now k)) }
+    ensures { OnOk result (pieces.new ≡ with_pieces pieces.old (spliced_at of.now.input.now of.now.places.now k)) }
 {
     if k >= of.input.boxes().len() {
-        return Ok(pieces);
+        return Ok(());
     }
     let width = own_box_at(of.input.inner(), k).width;
-    pieces.with_spliced(width, standing_at(of, k), of.input.pieces().at(k))
+    pieces.push_spliced(width, standing_at(of, k), of.input.pieces().at(k))
 }
 
-/// These pieces, and behind them what is painted of these on lines.
-fn with_lines(
-    pieces: PieceList,
+/// Puts what is painted of these on lines behind these pieces.
+fn push_lines(
+    pieces: &mut PieceList,
     of: &Painting<'_>,
     on_lines: &[LinePiece],
-) -> Result<PieceList, NoMemory>
+) -> Result<(), NoMemory>
     requires { IsPainting of.now.input.now of.now.places.now of.now.on_lines.now of.now.standings.now }
-    ensures { IfOk result (λ p. p ≡ with_pieces pieces (flat_map (pieces_on_line of.now.input.now of.now.places.now) on_lines.now)) }
+    ensures { OnOk result (pieces.new ≡ with_pieces pieces.old (flat_map (pieces_on_line of.now.input.now of.now.places.now) on_lines.now)) }
 {
-    let mut all = pieces;
     for k in 0..on_lines.len() {
-        all = with_line_piece(all, of, on_lines[k])?;
+        push_line_piece(pieces, of, on_lines[k])?;
     }
-    Ok(all)
+    Ok(())
 }
 
-/// These pieces, and behind them what is painted of this one on a line.
-fn with_line_piece(
-    pieces: PieceList,
+/// Puts what is painted of this one on a line behind these pieces.
+fn push_line_piece(
+    pieces: &mut PieceList,
     of: &Painting<'_>,
     piece: LinePiece,
-) -> Result<PieceList, NoMemory>
+) -> Result<(), NoMemory>
     requires { IsPainting of.now.input.now of.now.places.now of.now.on_lines.now of.now.standings.now }
-    ensures { IfOk result (λ p. p ≡ with_pieces pieces (pieces_on_line of.now.input.now of.now.places.now piece)) }
+    ensures { OnOk result (pieces.new ≡ with_pieces pieces.old (pieces_on_line of.now.input.now of.now.places.now piece)) }
 {
     match piece.kind {
-        LinePieceKind::Line => pieces.with(piece_as(of, piece, FragKind::Line)?),
-        LinePieceKind::Inline => pieces.with(piece_as(of, piece, FragKind::Box)?),
-        LinePieceKind::Text => pieces.with(piece_as(of, piece, FragKind::Text)?),
-        LinePieceKind::Atomic => with_inner(pieces, of, piece.node as usize),
+        LinePieceKind::Line => pieces.push(piece_as(of, piece, FragKind::Line)?),
+        LinePieceKind::Inline => pieces.push(piece_as(of, piece, FragKind::Box)?),
+        LinePieceKind::Text => pieces.push(piece_as(of, piece, FragKind::Text)?),
+        LinePieceKind::Atomic => push_inner(pieces, of, piece.node as usize),
     }
 }
 

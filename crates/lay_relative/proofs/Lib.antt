@@ -1,2 +1,4 @@
 pub mod MoveSteps
+mod NoMoves
 pub mod OneMoves
+mod SomeFormers

@@ -3,7 +3,7 @@
 -- that is moved with it: "any resulting translation also affects the block-level box contained in the inline box" (9.2.1.1).
 -- The own box isn't moved here: the formatting context around it does that. By themselves neither is an anchor, which stands
 -- for what isn't in flow, nor a text, nor a part of a table, on which relative positioning has no effect.
-use Rattle.std.specs.Prelude.{ℕ, zero, suc, ◌≡◌, ◌<◌, ◌+ℤ◌, Bool, true, false, List, length, slice_index_or, Option, None, if◌then◌else◌}
+use Rattle.std.specs.Prelude.{ℕ, zero, suc, ◌≡◌, ◌<◌, ◌+ℤ◌, Bool, true, false, List, length, replicate, slice_index_or, Option, None, if◌then◌else◌}
 use Rattle.std.specs.Option.{unwrap_or}
 use Rattle.lay_style.specs.ComputedStyle.{style_at}
 use Rattle.lay_box_tree.specs.declared.box_role.Role.{Role}
@@ -16,7 +16,7 @@ use Rattle.lay_broken_inlines.specs.FormerParents.{AreFormerParents}
 use Rattle.lay_sizes.specs.declared.sizing.BoxSizes.{BoxSizes}
 use Rattle.lay_context_boxes.specs.ContainingBlocks.{block_around}
 use Rattle.lay_relative.specs.declared.offset.Offset.{Offset}
-use Rattle.lay_relative.specs.RelativeOffsets.{no_offset, relative_offset}
+use Rattle.lay_relative.specs.RelativeOffsets.{is_relative, no_offset, relative_offset}
 
 -- relative positioning acts on what has this role
 abbrev pub is_movable : Role → Bool
@@ -57,3 +57,11 @@ pub record HasMoves (boxes : List BoxNode) (sizes : List BoxSizes) (moves : List
   pub are_formers : AreFormerParents boxes formers
   pub count : length moves ≡ length boxes
   pub each : (k : ℕ) → k < length boxes → move_at moves k ≡ move_of boxes sizes formers moves k
+
+-- no box is relatively positioned
+abbrev pub NoneIsRelative : List BoxNode → Type 0
+NoneIsRelative boxes = (k : ℕ) → k < length boxes → is_relative (style_at (box_styles boxes) k).position ≡ false
+
+-- the moves of so many boxes, of which nothing is kept where none is moved
+abbrev pub all_moves : ℕ → Option (List Offset) → List Offset
+all_moves count kept = unwrap_or kept (replicate count no_offset)

@@ -5,10 +5,12 @@
 //! box depends on it. There is one such column (`specs/Laws.antt`).
 #![tactic(auto)]
 
+mod box_moves;
 mod laws;
 mod moves;
 mod offset;
 
+pub use box_moves::BoxMoves;
 pub use laws::one_column_of_moves;
 pub use moves::relative_moves;
 pub use offset::{Offset, relative_offset};

@@ -1,13 +1,14 @@
 //! By how much the boxes of one formatting context are moved.
 
-ghost use Rattle.std.specs.Prelude.{ℕ, ◌≡◌, ◌<◌, ◌+ℤ◌, Option, List, length, IfOk};
+ghost use Rattle.std.specs.Prelude.{ℕ, ◌≡◌, ◌<◌, ◌+ℤ◌, Option, List, IsFalse, length, IfOk};
 ghost use Rattle.lay_sizes.specs.SizeColumns.{HaveSizeBounds};
 ghost use Rattle.lay_broken_inlines.specs.FormerParents.{AreFormerParents};
 ghost use Rattle.lay_relative.specs.MoveBounds.{AreNearMoves, IsMoveNear, IsNear};
-ghost use Rattle.lay_relative.specs.Moves.{HasMoves, carrier, is_movable, move_at, move_of, own_offset, sum_of};
+ghost use Rattle.lay_relative.specs.Moves.{HasMoves, NoneIsRelative, carrier, is_movable, move_at, move_of, own_offset, sum_of};
 ghost use Rattle.lay_relative.specs.RelativeOffsets.{IsOffsetUsed};
 
-use crate::offset::{Offset, relative_offset};
+use crate::box_moves::BoxMoves;
+use crate::offset::{NO_OFFSET, Offset, is_relative, relative_offset};
 use lay_box_tree::Role;
 use lay_broken_inlines::former_parents;
 use lay_context_boxes::{ContextBoxes, block_around};
@@ -18,16 +19,39 @@ use std::alloc::Global;
 /// The greatest distance that a box is moved.
 const FAR: i64 = 1152921504606846976;
 
-/// Not moved.
-const NO_OFFSET: Offset = Offset {
-    right: Unit(0),
-    down: Unit(0),
-};
-
 /// By how much each box of a formatting context of these used sizes is moved from where it stands, from outer to inner boxes, in
 /// 1/64 px. NoMemory is also the answer where one is moved by more than 2^60 units, which it is in no document within the
 /// limits.
 pub fn relative_moves(
+    alloc: Global,
+    boxes: &ContextBoxes,
+    sizes: &[BoxSizes],
+) -> Result<BoxMoves, NoMemory>
+    requires count { length sizes.now ≡ length boxes.now }
+    requires bounds { HaveSizeBounds sizes.now }
+    ensures { IfOk result (HasMoves boxes.now sizes.now) }
+{
+    if !has_relative(boxes) {
+        return Ok(BoxMoves::none(boxes.as_slice().len()));
+    }
+    let moves = moves_of(alloc, boxes, sizes)?;
+    Ok(BoxMoves::new(moves))
+}
+
+/// Whether one of these boxes is relatively positioned.
+fn has_relative(boxes: &ContextBoxes) -> bool
+    ensures { IsFalse result → NoneIsRelative boxes.now }
+{
+    for k in 0..boxes.as_slice().len() {
+        if is_relative(boxes.style(k).position) {
+            return true;
+        }
+    }
+    false
+}
+
+/// The moves of these boxes, of which each may be moved.
+fn moves_of(
     alloc: Global,
     boxes: &ContextBoxes,
     sizes: &[BoxSizes],
@@ -79,11 +103,12 @@ fn own_offset(boxes: &ContextBoxes, sizes: &[BoxSizes], k: usize) -> Offset
     ensures value { result ≡ own_offset boxes.now sizes.now k }
     ensures used { IsOffsetUsed result }
 {
-    if !is_movable(boxes.role(k)) {
+    let style = boxes.style(k);
+    if !is_relative(style.position) || !is_movable(boxes.role(k)) {
         return NO_OFFSET;
     }
     let _ = boxes.container(k);
-    relative_offset(block_around(boxes, sizes, k), boxes.style(k))
+    relative_offset(block_around(boxes, sizes, k), style)
 }
 
 /// Whether relative positioning acts on what has this role.

@@ -15,6 +15,12 @@ pub struct Offset {
     pub down: Unit,
 }
 
+/// Not moved.
+pub(crate) const NO_OFFSET: Offset = Offset {
+    right: Unit(0),
+    down: Unit(0),
+};
+
 /// By how much a box of this style is moved by itself beside its containing block: at most 2^31 units each way. Only a
 /// relatively positioned one is.
 pub fn relative_offset(containing: ContainingBlock, style: &Style) -> Offset
@@ -22,10 +28,7 @@ pub fn relative_offset(containing: ContainingBlock, style: &Style) -> Offset
     ensures used { IsOffsetUsed result }
 {
     if !is_relative(style.position) {
-        return Offset {
-            right: Unit(0),
-            down: Unit(0),
-        };
+        return NO_OFFSET;
     }
     let width = Len::Of(containing.width);
     let height = containing.height;
@@ -42,7 +45,7 @@ pub fn relative_offset(containing: ContainingBlock, style: &Style) -> Offset
     }
 }
 
-fn is_relative(position: Position) -> bool
+pub(crate) fn is_relative(position: Position) -> bool
     ensures { result ≡ is_relative position }
 {
     matches!(position, Position::Relative)

@@ -1,6 +1,6 @@
 //! The pieces of a table.
 
-ghost use Rattle.std.specs.Prelude.{◌≡◌, ◌<◌, ◌≤◌, length, slice_index, IfOk};
+ghost use Rattle.std.specs.Prelude.{◌≡◌, ◌<◌, ◌≤◌, length, slice_index, IfOk, OnOk};
 ghost use Rattle.lay_box_tree.specs.BoxColumns.{box_ids};
 ghost use Rattle.lay_context_boxes.specs.ContextBoxes.{is_inner};
 ghost use Rattle.lay_pieces.specs.NearPieces.{AreNearPieces};
@@ -63,34 +63,34 @@ pub(crate) fn pieces_of(
 {
     let mut pieces = PieceList::new(alloc);
     for k in 0..input.boxes().len() {
-        pieces = with_box(pieces, input, places, standings, k)?;
+        push_box(&mut pieces, input, places, standings, k)?;
     }
     Ok(pieces.into_vec())
 }
 
-/// These pieces, and behind them those of the box at k.
-fn with_box(
-    pieces: PieceList,
+/// Puts the pieces of the box at k behind these.
+fn push_box(
+    pieces: &mut PieceList,
     input: &TableInput,
     places: &TablePlaces,
     standings: &[Standing],
     k: usize,
-) -> Result<PieceList, NoMemory>
+) -> Result<(), NoMemory>
     requires standings { AreStandings input.now places.now standings.now }
     requires place { k < length input.now.boxes }
-    ensures { IfOk result (λ p. p ≡ with_pieces pieces (pieces_of_box input.now places.now k)) }
+    ensures { OnOk result (pieces.new ≡ with_pieces pieces.old (pieces_of_box input.now places.now k)) }
 {
     let standing = standing_at(input, places, standings, k);
     if is_inner(input, k) {
-        return pieces.with_spliced(inner_width(input, k), standing, input.pieces(k));
+        return pieces.push_spliced(inner_width(input, k), standing, input.pieces(k));
     }
     match extent_of(input, k) {
-        Extent::Own => pieces.with(piece_of(input, standing, k, own_width(input, k))),
+        Extent::Own => pieces.push(piece_of(input, standing, k, own_width(input, k))),
         Extent::Columns => {
             let width = columns_width(places)?;
-            pieces.with(piece_of(input, standing, k, width))
+            pieces.push(piece_of(input, standing, k, width))
         }
-        Extent::Nothing => Ok(pieces),
+        Extent::Nothing => Ok(()),
     }
 }
 

@@ -1,26 +1,9 @@
-use Rattle.std.proofs.Common.{◌≡◌, ℕ, ap, ◌∙◌, arith, length}
-use Rattle.lay_pieces.specs.Corners.{corner_at}
-use Rattle.lay_placement.specs.AtomicCorners.{corner_among}
-use Rattle.lay_placement.specs.BoxStandings.{corner_in_flow}
-use Rattle.lay_placement.specs.OnLines.{on_lines_to}
-use Rattle.lay_placement.proofs.CornerColumns.{with_box}
+use Rattle.std.proofs.Common.{refl, arith}
+use Rattle.lay_placement.proofs.CornerColumns.{none_kept}
 use Rattle.lay_placement.proofs.corners.corners_of.Goals as goal
 
-pub loop-k-preserved : goal.loop-k-preserved
-loop-k-preserved c =
-    let put = c.in_ok-put_atomics.ensures {u = tt} in
-    let inv = c.loop-k.invariant in
-    let said = c.on_lines_at.ensures ∙ c.requires.on_lines.each c.loop-k.k (omega (arith, c.loop-k-test.true, c.requires.on_lines.count)) in
-    record {
-      count = put.count ∙ inv.count;
-      each = λ j lt. with_box c.args.input.now c.args.places.now c.loop-k.k j c.on_lines_at.result.now (corner_in_flow c.args.places.now.places j)
-          (corner_at c.loop-k.corners.items j) _ said (inv.each j lt) (put.each j (omega (arith, lt, inv.count)));
-      near = put.near;
-      within = omega (arith, c.loop-k-test.true);
-    }
-
-pub returns-clause-each : goal.returns-clause-each
-returns-clause-each c j lt =
-    let inv = c.loop-k.invariant in
-    let done : c.loop-k.k ≡ length c.args.input.now.boxes = omega (arith, c.loop-k-test.false, inv.within, c.requires.on_lines.count) in
-    inv.each j lt ∙ ap (λ (n : ℕ). corner_among (on_lines_to c.args.input.now c.args.places.now n) j (corner_in_flow c.args.places.now.places j)) done
+pub returns-then-not-has_atomics : goal.returns-then-not-has_atomics
+returns-then-not-has_atomics c = rw c.new.ensures.items (record {
+  each = λ k lt. none_kept c.args.input.now c.args.places.now c.args.on_lines.now k c.requires.on_lines (c.if-not-has_atomics.ensures refl);
+  near = λ k lt. absurd (omega (arith, lt));
+})

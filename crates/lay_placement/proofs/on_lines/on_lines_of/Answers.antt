@@ -1,13 +1,12 @@
-use Rattle.std.proofs.Common.{arith}
-use Rattle.std.proofs.lemmas.Grind.{elements}
-use Rattle.lay_placement.specs.OnLines.{on_lines_of}
-use Rattle.lay_placement.proofs.OnLineSteps.{one_more}
+use Rattle.std.proofs.Common.{◌≡◌, ◌<◌, ℕ, List, length, false, refl, rules, subst}
+use Rattle.lay_blocks.specs.declared.flow_box.FlowBox.{FlowBox}
+use Rattle.lay_blocks.specs.Boxes.{box_at}
+use Rattle.lay_placement.specs.OnLines.{holds_lines}
+use Rattle.lay_placement.proofs.OnLineSteps.{none_on_lines}
 use Rattle.lay_placement.proofs.on_lines.on_lines_of.Goals as goal
 
-pub loop-k-preserved : goal.loop-k-preserved
-loop-k-preserved c =
-    let pushed = (c.in_ok-push.ensures {u = tt}).items in
-    record {
-      count = rw pushed (grind (arith, elements, c.loop-k.invariant.count));
-      each = rw pushed (one_more (on_lines_of c.args.input.now c.args.places.now) c.loop-k.all.items c.loop-k.k c.in_ok-pieces.pieces c.loop-k.invariant.count c.loop-k.invariant.each (c.in_ok-pieces.ensures {u = tt}));
-    }
+pub returns-then-not-has_lines : goal.returns-then-not-has_lines
+returns-then-not-has_lines c =
+    let are : c.as_slice.result.now ≡ c.args.places.now.shape.flow_boxes = search rules in
+    let none = subst (λ (bs : List FlowBox). (k : ℕ) → k < length bs → holds_lines (box_at bs k).kind ≡ false) are (c.if-not-has_lines.ensures refl) in
+    rw c.new.ensures.items (none_on_lines c.args.input.now c.args.places.now c.requires.counts.box_count none)

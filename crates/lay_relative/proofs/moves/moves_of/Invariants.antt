@@ -1,7 +1,7 @@
 use Rattle.std.proofs.Common.{◌≡◌, ◌<◌, ℕ, length}
 use Rattle.lay_relative.specs.MoveBounds.{AreNearMoves}
 use Rattle.lay_relative.specs.Moves.{move_at, move_of}
-use Rattle.lay_relative.proofs.moves.relative_moves.Given as goal
+use Rattle.lay_relative.proofs.moves.moves_of.Given as goal
 
 abbrev pub invariant-loop-k : goal.invariant-loop-k
 invariant-loop-k l = record {
