@@ -1,11 +1,10 @@
 //! Texts in lines.
 
 ghost use Rattle.std.specs.Prelude.{◌≡◌, ◌+◌, ◌==◌, ◌++◌, ◌∷◌, [], OnOk};
-ghost use Rattle.lay_space.specs.Tokens.{next_place};
 ghost use Rattle.lay_content.specs.TextParts.{cluster_parts, linefeed_parts, parts_between, text_parts};
 
 use lay_line_content::{Advance, Part};
-use lay_space::{ClusterKind, Mode, cluster_kind};
+use lay_space::{ClusterKind, Mode, cluster_kind, next_place};
 use lay_units::{ClusterWidth, NoMemory};
 
 /// The number of a text's box, its `white-space` and its bytes.
@@ -91,14 +90,4 @@ pub(crate) fn push_part(parts: &mut Vec<Part>, part: Part) -> Result<(), NoMemor
 {
     parts.push(part)?;
     Ok(())
-}
-
-/// Where the next cluster begins, or the text ends.
-pub(crate) fn next_place(text: &[u8], rest: &[ClusterWidth]) -> usize
-    ensures { result ≡ next_place text.now rest.now }
-{
-    match rest.first() {
-        Some(width) => width.place,
-        None => text.len(),
-    }
 }

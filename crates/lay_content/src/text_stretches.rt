@@ -2,16 +2,16 @@
 
 ghost use Rattle.std.specs.Prelude.{◌≡◌, ◌∷◌, ◌++◌, [], true, IfOk, OnOk};
 ghost use Rattle.lay_space.specs.Segments.{is_boundary, segments_of};
-ghost use Rattle.lay_space.specs.Tokens.{kind_of, next_place};
+ghost use Rattle.lay_space.specs.Tokens.{kind_of};
 ghost use Rattle.lay_content.specs.Stretches.{stretches_of};
 ghost use Rattle.lay_content.specs.TextStretches.{breaks, cut_parts, cuts, ends_line, is_space, last_stretch, text_stretch, text_stretches};
 
 use crate::box_measures::BoxMeasures;
 use crate::container::Container;
 use crate::stretches::stretches_of;
-use crate::text_parts::{TextRun, next_place, push_part, put_cluster};
+use crate::text_parts::{TextRun, push_part, put_cluster};
 use lay_line_content::{Advance, LineFloatList, Part, PartList, Stretch};
-use lay_space::{ClusterKind, Item, cluster_kind, segments};
+use lay_space::{ClusterKind, Item, cluster_kind, next_place, segments};
 use lay_units::{ClusterWidth, NoMemory};
 use std::alloc::Global;
 

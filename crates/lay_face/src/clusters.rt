@@ -187,7 +187,8 @@ pub fn is_plain(text: &[u8]) -> bool
     true
 }
 
-fn put_width(widths: &mut Vec<ClusterWidth>, place: usize, width: Unit) -> Result<(), NoMemory>
+/// Puts a width, in 1/64 px, of what begins at this byte of a text behind these.
+pub fn put_width(widths: &mut Vec<ClusterWidth>, place: usize, width: Unit) -> Result<(), NoMemory>
     ensures { OnOk result (widths.new.items ≡ widths.old.items ++ record {
       place = place;
       width = width;
