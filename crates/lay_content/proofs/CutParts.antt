@@ -13,6 +13,7 @@ use Rattle.lay_space.specs.Segments.{bytes_of, cluster_bytes, is_boundary, joine
 use Rattle.lay_space.specs.Tokens.{kind_of, next_place, space_kind}
 use Rattle.lay_line_content.specs.declared.content.Part.{Part}
 use Rattle.lay_line_content.specs.declared.content.Part.TheVariants as part
+use Rattle.lay_content.specs.declared.text_parts.TextBox.{TextBox}
 use Rattle.lay_content.specs.TextParts.{advance, cluster_parts, parts_between, text_parts}
 use Rattle.lay_content.specs.TextStretches.{cut_parts, cuts}
 
@@ -100,64 +101,64 @@ within text at is = by (or_cases (at == length text) (nat_lt at (length text) &&
     by (inr e) = omega (arith, ltb-true at (length text) (and_parts (nat_lt at (length text)) (nat_lt (slice_index text at) 128 || nat_lt 191 (slice_index text at)) e).0)
 
 -- where a cluster stands in the text that it is cut into
-cut_in : (t : ℕ) (m : Mode) (text before after : List ℕ) (w : ClusterWidth) (to : ℕ) (b : Bool) → cuts text w.place to ≡ b
-    → parts_between t m (before ++ ((if b then slice_range text w.place to else []) ++ after)) (record { place = length before; width = w.width }) (length before + length (if b then slice_range text w.place to else []))
-    ≡ (if b then parts_between t m text w to else part.Text (advance t w.width) ∷ [])
-cut_in t m text before after w to true is =
+cut_in : (t : TextBox) (text before after : List ℕ) (w : ClusterWidth) (to : ℕ) (b : Bool) → cuts text w.place to ≡ b
+    → parts_between t (before ++ ((if b then slice_range text w.place to else []) ++ after)) (record { place = length before; width = w.width }) (length before + length (if b then slice_range text w.place to else []))
+    ≡ (if b then parts_between t text w to else part.Text (advance t.node w.width) ∷ [])
+cut_in t text before after w to true is =
     let parts = and_parts (not (nat_lt to w.place) && is_boundary text w.place) (is_boundary text to) is in
     let order : w.place ≤ to = ltb-false to w.place (not_true (nat_lt to w.place) (and_parts (not (nat_lt to w.place)) (is_boundary text w.place) parts.0).0) in
     let inside : to ≤ length text = within text to parts.1 in
     let l = to - w.place in
     let sum : w.place + l ≡ to = omega (arith, order) in
     let long : length (slice_range text w.place to) ≡ l = length-take-le l (drop w.place text) (omega (arith, length-drop w.place text, inside, order)) in
-    let there : kind_of m (before ++ (slice_range text w.place to ++ after)) (length before) (length before + l) ≡ kind_of m text w.place to =
-    same_kind m _ (length before) text w.place l (λ i below.
+    let there : kind_of t.mode (before ++ (slice_range text w.place to ++ after)) (length before) (length before + l) ≡ kind_of t.mode text w.place to =
+    same_kind t.mode _ (length before) text w.place l (λ i below.
     get_or-append-add before (slice_range text w.place to ++ after) i 0 ∙ get_or_append_left (slice_range text w.place to) after 0 i (omega (arith, long, below))
     ∙ get_or-take l (drop w.place text) i 0 below ∙ get_or-drop w.place text i 0)
-    ∙ ap (kind_of m text w.place) sum in
+    ∙ ap (kind_of t.mode text w.place) sum in
     let lone : (length before + l == length before + 1) ≡ (to == w.place + 1) = same_length (length before) w.place l 1 ∙ ap (λ n. n == w.place + 1) sum in
-    ap (λ n. parts_between t m (before ++ (slice_range text w.place to ++ after)) (record { place = length before; width = w.width }) (length before + n)) long
-    ∙ ap (λ k. cluster_parts t m k (length before + l == length before + 1) w.width) there ∙ ap (λ one. cluster_parts t m (kind_of m text w.place to) one w.width) lone
+    ap (λ n. parts_between t (before ++ (slice_range text w.place to ++ after)) (record { place = length before; width = w.width }) (length before + n)) long
+    ∙ ap (λ k. cluster_parts t k (length before + l == length before + 1) w.width) there ∙ ap (λ one. cluster_parts t (kind_of t.mode text w.place to) one w.width) lone
   where
     not_true : (b : Bool) → not b ≡ true → b ≡ false
     not_true true e = absurd cc
     not_true false e = refl
-cut_in t m text before after w to false is = ap (λ k. cluster_parts t m k (length before + 0 == length before + 1) w.width) (no_kind m _ (length before))
+cut_in t text before after w to false is = ap (λ k. cluster_parts t k (length before + 0 == length before + 1) w.width) (no_kind t.mode _ (length before))
 
 abbrev text_at : List Item → Cluster → List ℕ
 text_at items c = bytes_of (slice_get items c.item)
 
 -- the parts of a cluster of these items, cut out of its text
-abbrev pub cut_of : List Item → ℕ → Mode → Cluster → List Part
-cut_of items t m c = cut_parts t m (text_at items c) (record { place = c.from; width = c.width }) c.to
+abbrev pub cut_of : List Item → TextBox → Cluster → List Part
+cut_of items t c = cut_parts t (text_at items c) (record { place = c.from; width = c.width }) c.to
 
-abbrev pub cuts_of : List Item → ℕ → Mode → List Cluster → List Part
-cuts_of items t m [] = []
-cuts_of items t m (c ∷ cs) = cut_of items t m c ++ cuts_of items t m cs
+abbrev pub cuts_of : List Item → TextBox → List Cluster → List Part
+cuts_of items t [] = []
+cuts_of items t (c ∷ cs) = cut_of items t c ++ cuts_of items t cs
 
 next_is : (items : List Item) (all before : List ℕ) (p : ℕ) (cs : List Cluster) → all ≡ before ++ joined items cs → length before ≡ p → next_place all (placed items p cs) ≡ p
 next_is items all before p [] is long = ap length (is ∙ append-nil before) ∙ long
 next_is items all before p (c ∷ cs) is long = refl
 
-joined_parts : (items : List Item) (t : ℕ) (m : Mode) (cs : List Cluster) (all before : List ℕ) → all ≡ before ++ joined items cs
-    → text_parts t m all (placed items (length before) cs) ≡ cuts_of items t m cs
-joined_parts items t m [] all before is = refl
-joined_parts items t m (c ∷ cs) all before is =
+joined_parts : (items : List Item) (t : TextBox) (cs : List Cluster) (all before : List ℕ) → all ≡ before ++ joined items cs
+    → text_parts t all (placed items (length before) cs) ≡ cuts_of items t cs
+joined_parts items t [] all before is = refl
+joined_parts items t (c ∷ cs) all before is =
     let bytes = cluster_bytes items c in
     let more : all ≡ (before ++ bytes) ++ joined items cs = is ∙ sym (append_assoc before bytes (joined items cs)) in
     let long : length (before ++ bytes) ≡ length before + length bytes = length-append before bytes in
-    ap (λ to. parts_between t m all (record { place = length before; width = c.width }) to ++ text_parts t m all (placed items (length before + length bytes) cs))
+    ap (λ to. parts_between t all (record { place = length before; width = c.width }) to ++ text_parts t all (placed items (length before + length bytes) cs))
     (next_is items all (before ++ bytes) (length before + length bytes) cs more long)
-    ∙ ap (λ xs. parts_between t m xs (record { place = length before; width = c.width }) (length before + length bytes) ++ text_parts t m all (placed items (length before + length bytes) cs)) is
-    ∙ ap (λ ps. ps ++ text_parts t m all (placed items (length before + length bytes) cs))
-    (cut_in t m (text_at items c) before (joined items cs) (record { place = c.from; width = c.width }) c.to (cuts (text_at items c) c.from c.to) refl)
-    ∙ ap (λ n. cut_of items t m c ++ text_parts t m all (placed items n cs)) (sym long)
-    ∙ ap (λ ps. cut_of items t m c ++ ps) (joined_parts items t m cs all (before ++ bytes) more)
+    ∙ ap (λ xs. parts_between t xs (record { place = length before; width = c.width }) (length before + length bytes) ++ text_parts t all (placed items (length before + length bytes) cs)) is
+    ∙ ap (λ ps. ps ++ text_parts t all (placed items (length before + length bytes) cs))
+    (cut_in t (text_at items c) before (joined items cs) (record { place = c.from; width = c.width }) c.to (cuts (text_at items c) c.from c.to) refl)
+    ∙ ap (λ n. cut_of items t c ++ text_parts t all (placed items n cs)) (sym long)
+    ∙ ap (λ ps. cut_of items t c ++ ps) (joined_parts items t cs all (before ++ bytes) more)
 
 -- the clusters of a text that is cut out
-pub cut_text_parts : (items : List Item) (t : ℕ) (m : Mode) (cs : List Cluster) → text_parts t m (joined items cs) (placed items 0 cs) ≡ cuts_of items t m cs
-cut_text_parts items t m cs = joined_parts items t m cs (joined items cs) [] refl
+pub cut_text_parts : (items : List Item) (t : TextBox) (cs : List Cluster) → text_parts t (joined items cs) (placed items 0 cs) ≡ cuts_of items t cs
+cut_text_parts items t cs = joined_parts items t cs (joined items cs) [] refl
 
-pub cuts_more : (items : List Item) (t : ℕ) (m : Mode) (cs : List Cluster) (c : Cluster) → cuts_of items t m (cs ++ c ∷ []) ≡ cuts_of items t m cs ++ cut_of items t m c
-cuts_more items t m [] c = append-nil (cut_of items t m c)
-cuts_more items t m (d ∷ cs) c = ap (λ ps. cut_of items t m d ++ ps) (cuts_more items t m cs c) ∙ sym (append_assoc (cut_of items t m d) (cuts_of items t m cs) (cut_of items t m c))
+pub cuts_more : (items : List Item) (t : TextBox) (cs : List Cluster) (c : Cluster) → cuts_of items t (cs ++ c ∷ []) ≡ cuts_of items t cs ++ cut_of items t c
+cuts_more items t [] c = append-nil (cut_of items t c)
+cuts_more items t (d ∷ cs) c = ap (λ ps. cut_of items t d ++ ps) (cuts_more items t cs c) ∙ sym (append_assoc (cut_of items t d) (cuts_of items t cs) (cut_of items t c))

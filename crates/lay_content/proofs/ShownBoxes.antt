@@ -4,7 +4,6 @@ use Rattle.std.specs.Bool.{⊤}
 use Rattle.std.specs.List.{list_any, slice_get}
 use Rattle.lay_units.specs.declared.length.Unit.{Unit as Length}
 use Rattle.lay_units.specs.declared.records.ClusterWidth.{ClusterWidth}
-use Rattle.lay_space.specs.declared.item.Mode.{Mode}
 use Rattle.lay_space.specs.declared.item.Item.{Item}
 use Rattle.lay_space.specs.declared.item.Item.TheVariants as item
 use Rattle.lay_space.specs.declared.segment.Segment.{Segment}
@@ -24,6 +23,7 @@ use Rattle.lay_content.specs.BoxMeasuresValue.{BoxMeasuresValue, part_at}
 use Rattle.lay_content.specs.InlineBoxes.{has_vertical_edges, has_left_edges}
 use Rattle.lay_content.specs.SeenLines.{is_seen, has_seen_line}
 use Rattle.lay_content.specs.Stretches.{parts_at, parts_of, stretches_of}
+use Rattle.lay_content.specs.declared.text_parts.TextBox.{TextBox}
 use Rattle.lay_content.specs.TextParts.{cluster_parts, parts_between, text_parts}
 use Rattle.lay_content.proofs.Disjunctions.{or_false, or_assoc, or_left, or_more, or_through}
 use Rattle.lay_content.proofs.SeenPens.{seen_at, take_more}
@@ -106,27 +106,27 @@ both_seen (x ∷ xs) ys a b = (a.0, both_seen xs ys a.1 b)
 never_shows : (b : Bool) → false ≡ true → b ≡ true
 never_shows b e = absurd cc
 
-cluster_seen : (t : ℕ) (m : Mode) (kind : ClusterKind) (lone : Bool) (width : Length) → AreSeen (cluster_parts t m kind lone width)
-cluster_seen t m CollapsibleSpace lone width = (never_shows false, tt)
-cluster_seen t m PreservedSpace lone width = of_mode (wraps m)
+cluster_seen : (t : TextBox) (kind : ClusterKind) (lone : Bool) (width : Length) → AreSeen (cluster_parts t kind lone width)
+cluster_seen t CollapsibleSpace lone width = (never_shows false, tt)
+cluster_seen t PreservedSpace lone width = of_mode (wraps t.mode)
   where
-    of_mode : (b : Bool) → AreSeen (if b then part.PreservedSpace (record { text = t; width = width }) ∷ [] else part.Text (record { text = t; width = width }) ∷ [])
+    of_mode : (b : Bool) → AreSeen (if b then part.PreservedSpace (record { text = t.node; width = width }) ∷ [] else part.Text (record { text = t.node; width = width }) ∷ [])
     of_mode true = (never_shows true, tt)
     of_mode false = (never_shows true, tt)
-cluster_seen t m Linefeed true width = (never_shows true, tt)
-cluster_seen t m Linefeed false width = (never_shows true, (never_shows true, tt))
-cluster_seen t m Tab lone width = (never_shows true, tt)
-cluster_seen t m ZeroWidthSpace lone width = (never_shows true, tt)
-cluster_seen t m Other lone width = (never_shows true, tt)
+cluster_seen t Linefeed true width = (never_shows true, tt)
+cluster_seen t Linefeed false width = (never_shows true, (never_shows true, tt))
+cluster_seen t Tab lone width = (never_shows true, tt)
+cluster_seen t ZeroWidthSpace lone width = (never_shows true, tt)
+cluster_seen t Other lone width = (never_shows true, tt)
 
-text_seen : (t : ℕ) (m : Mode) (text : List ℕ) (ws : List ClusterWidth) → AreSeen (text_parts t m text ws)
-text_seen t m text [] = tt
-text_seen t m text (w ∷ ws) =
-    both_seen (parts_between t m text w (next_place text ws)) (text_parts t m text ws)
-    (cluster_seen t m (kind_of m text w.place (next_place text ws)) _ w.width) (text_seen t m text ws)
+text_seen : (t : TextBox) (text : List ℕ) (ws : List ClusterWidth) → AreSeen (text_parts t text ws)
+text_seen t text [] = tt
+text_seen t text (w ∷ ws) =
+    both_seen (parts_between t text w (next_place text ws)) (text_parts t text ws)
+    (cluster_seen t (kind_of t.mode text w.place (next_place text ws)) _ w.width) (text_seen t text ws)
 
 item_seen : (m : BoxMeasuresValue) (x : Item) → AreSeen (parts_at m x)
-item_seen m (item.Text k text mode widths) = text_seen k mode text widths
+item_seen m (item.Text k text mode widths) = text_seen (record { node = k; mode = mode }) text widths
 item_seen m (item.Start k) = (or_left (has_vertical_edges (sizes_at m.sizes k)) ((part_at m k).first && has_left_edges (sizes_at m.sizes k)), tt)
 item_seen m (item.End k) = (never_shows _, tt)
 item_seen m (item.Atomic k mode) = (never_shows true, tt)

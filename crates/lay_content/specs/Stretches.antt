@@ -18,7 +18,7 @@ use Rattle.lay_content.specs.TextParts.{text_parts}
 
 -- What an item is in a line. An anchor takes no room, and a float stands beside the line.
 abbrev pub parts_at : BoxMeasuresValue → Item → List Part
-parts_at m (item.Text k text mode widths) = text_parts k mode text widths
+parts_at m (item.Text k text mode widths) = text_parts (record { node = k; mode = mode }) text widths
 parts_at m (item.Start k) = part.Start (start_at m k) ∷ []
 parts_at m (item.End k) = part.End (end_at m k) ∷ []
 parts_at m (item.Atomic k mode) = part.Atomic (atomic_at m k) ∷ []

@@ -6,7 +6,6 @@
 use Rattle.std.specs.Prelude.{ℕ, ◌+◌, ◌==◌, Bool, List, [], ◌∷◌, ◌++◌, if◌then◌else◌}
 use Rattle.lay_units.specs.declared.length.Unit.{Unit as Length}
 use Rattle.lay_units.specs.declared.records.ClusterWidth.{ClusterWidth}
-use Rattle.lay_space.specs.declared.item.Mode.{Mode}
 use Rattle.lay_space.specs.declared.tokens.ClusterKind.{ClusterKind}
 use Rattle.lay_space.specs.declared.tokens.ClusterKind.TheVariants.{CollapsibleSpace, PreservedSpace, Linefeed, Tab, ZeroWidthSpace, Other}
 use Rattle.lay_space.specs.Modes.{wraps}
@@ -14,28 +13,30 @@ use Rattle.lay_space.specs.Tokens.{kind_of, next_place}
 use Rattle.lay_line_content.specs.declared.content.Advance.{Advance}
 use Rattle.lay_line_content.specs.declared.content.Part.{Part}
 use Rattle.lay_line_content.specs.declared.content.Part.TheVariants as part
+use Rattle.lay_content.specs.declared.text_parts.TextBox.{TextBox}
 
--- text of the box at t
+-- text of the box of this number
 abbrev pub advance : ℕ → Length → Advance
-advance t width = record { text = t; width = width }
+advance node width = record { text = node; width = width }
 
 abbrev pub linefeed_parts : Bool → Advance → List Part
 linefeed_parts lone a = if lone then part.Linefeed ∷ [] else part.Text a ∷ part.Linefeed ∷ []
 
--- A cluster of the box at t under this `white-space`, as parts. `lone` says that it is one byte.
-abbrev pub cluster_parts : ℕ → Mode → ClusterKind → Bool → Length → List Part
-cluster_parts t m CollapsibleSpace lone width = part.Space (advance t width) ∷ []
-cluster_parts t m PreservedSpace lone width = if wraps m then part.PreservedSpace (advance t width) ∷ [] else part.Text (advance t width) ∷ []
-cluster_parts t m Linefeed lone width = linefeed_parts lone (advance t width)
-cluster_parts t m Tab lone width = part.Tab t ∷ []
-cluster_parts t m ZeroWidthSpace lone width = part.Text (advance t width) ∷ []
-cluster_parts t m Other lone width = part.Text (advance t width) ∷ []
+-- A cluster of this kind and width of a text of the box t, as parts. `lone` says that it is one byte.
+abbrev pub cluster_parts : TextBox → ClusterKind → Bool → Length → List Part
+cluster_parts t CollapsibleSpace lone width = part.Space (advance t.node width) ∷ []
+cluster_parts t PreservedSpace lone width =
+    if wraps t.mode then part.PreservedSpace (advance t.node width) ∷ [] else part.Text (advance t.node width) ∷ []
+cluster_parts t Linefeed lone width = linefeed_parts lone (advance t.node width)
+cluster_parts t Tab lone width = part.Tab t.node ∷ []
+cluster_parts t ZeroWidthSpace lone width = part.Text (advance t.node width) ∷ []
+cluster_parts t Other lone width = part.Text (advance t.node width) ∷ []
 
 -- the cluster of a text that begins at this place, where the next one begins at `to`
-abbrev pub parts_between : ℕ → Mode → List ℕ → ClusterWidth → ℕ → List Part
-parts_between t m text w to = cluster_parts t m (kind_of m text w.place to) (to == w.place + 1) w.width
+abbrev pub parts_between : TextBox → List ℕ → ClusterWidth → ℕ → List Part
+parts_between t text w to = cluster_parts t (kind_of t.mode text w.place to) (to == w.place + 1) w.width
 
 -- the clusters of a text
-abbrev pub text_parts : ℕ → Mode → List ℕ → List ClusterWidth → List Part
-text_parts t m text [] = []
-text_parts t m text (w ∷ ws) = parts_between t m text w (next_place text ws) ++ text_parts t m text ws
+abbrev pub text_parts : TextBox → List ℕ → List ClusterWidth → List Part
+text_parts t text [] = []
+text_parts t text (w ∷ ws) = parts_between t text w (next_place text ws) ++ text_parts t text ws

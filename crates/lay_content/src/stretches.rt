@@ -8,7 +8,7 @@ use crate::box_measures::BoxMeasures;
 use crate::container::Container;
 use crate::inline_boxes::{end_at, start_at};
 use crate::line_floats::float_at;
-use crate::text_parts::{TextRun, push_part, put_text};
+use crate::text_parts::{TextBox, TextRun, push_part, put_text};
 use lay_line_content::{LineFloat, LineFloatList, Part, PartList, Stretch};
 use lay_space::{Item, Segment};
 use lay_units::NoMemory;
@@ -125,9 +125,11 @@ fn put_parts(parts: &mut Vec<Part>, measures: &BoxMeasures<'_>, item: &Item) -> 
         } => put_text(
             parts,
             TextRun {
-                text: *node,
-                mode: *mode,
-                bytes: text.as_str().as_bytes(),
+                of: TextBox {
+                    node: *node,
+                    mode: *mode,
+                },
+                text: text.as_str(),
             },
             widths.as_slice(),
         ),

@@ -1,19 +1,24 @@
 //! Texts in lines.
 
 ghost use Rattle.std.specs.Prelude.{◌≡◌, ◌+◌, ◌==◌, ◌++◌, ◌∷◌, [], OnOk};
-ghost use Rattle.lay_space.specs.Tokens.{next_place};
 ghost use Rattle.lay_content.specs.TextParts.{cluster_parts, linefeed_parts, parts_between, text_parts};
 
 use lay_line_content::{Advance, Part};
-use lay_space::{ClusterKind, Mode, cluster_kind};
-use lay_units::{ClusterWidth, NoMemory};
+use lay_space::{ClusterKind, Mode, cluster_kind, next_place};
+use lay_units::{ClusterWidth, NoMemory, Unit};
 
-/// The number of a text's box, its `white-space` and its bytes.
+/// The number of a text's box, and its `white-space`.
+#[derive(Clone, Copy)]
+pub(crate) struct TextBox {
+    pub node: u32,
+    pub mode: Mode,
+}
+
+/// A text, and its box.
 #[derive(Clone, Copy)]
 pub(crate) struct TextRun<'a> {
-    pub text: u32,
-    pub mode: Mode,
-    pub bytes: &'a [u8],
+    pub of: TextBox,
+    pub text: &'a str,
 }
 
 /// Puts the clusters of a text, as parts of a line.
@@ -22,10 +27,10 @@ pub(crate) fn put_text(
     run: TextRun<'_>,
     widths: &[ClusterWidth],
 ) -> Result<(), NoMemory>
-    ensures { OnOk result (parts.new.items ≡ parts.old.items ++ text_parts run.entry.text run.entry.mode run.entry.bytes.now widths.now) }
+    ensures { OnOk result (parts.new.items ≡ parts.old.items ++ text_parts run.entry.of run.entry.text.now widths.now) }
 {
     for k in 0..widths.len() {
-        let to = next_place(run.bytes, &widths[k + 1..]);
+        let to = next_place(run.text.as_bytes(), &widths[k + 1..]);
         put_between(parts, run, widths[k], to)?;
     }
     Ok(())
@@ -38,36 +43,32 @@ fn put_between(
     width: ClusterWidth,
     to: usize,
 ) -> Result<(), NoMemory>
-    ensures { OnOk result (parts.new.items ≡ parts.old.items ++ parts_between run.entry.text run.entry.mode run.entry.bytes.now width to) }
+    ensures { OnOk result (parts.new.items ≡ parts.old.items ++ parts_between run.entry.of run.entry.text.now width to) }
 {
-    let kind = cluster_kind(run.mode, run.bytes, width.place, to);
+    let kind = cluster_kind(run.of.mode, run.text.as_bytes(), width.place, to);
     let lone = to > width.place && to - width.place == 1;
-    put_cluster(
-        parts,
-        run.mode,
-        kind,
-        lone,
-        Advance {
-            text: run.text,
-            width: width.width,
-        },
-    )
+    put_cluster(parts, run.of, kind, lone, width.width)
 }
 
+/// Puts a cluster of this kind and width. `lone` says that it is one byte.
 pub(crate) fn put_cluster(
     parts: &mut Vec<Part>,
-    mode: Mode,
+    of: TextBox,
     kind: ClusterKind,
     lone: bool,
-    advance: Advance,
+    width: Unit,
 ) -> Result<(), NoMemory>
-    ensures { OnOk result (parts.new.items ≡ parts.old.items ++ cluster_parts advance.text mode kind lone advance.width) }
+    ensures { OnOk result (parts.new.items ≡ parts.old.items ++ cluster_parts of kind lone width) }
 {
+    let advance = Advance {
+        text: of.node,
+        width,
+    };
     let part = match kind {
         ClusterKind::CollapsibleSpace => Part::Space(advance),
-        ClusterKind::PreservedSpace if mode.wraps() => Part::PreservedSpace(advance),
+        ClusterKind::PreservedSpace if of.mode.wraps() => Part::PreservedSpace(advance),
         ClusterKind::Linefeed => return put_linefeed(parts, lone, advance),
-        ClusterKind::Tab => Part::Tab(advance.text),
+        ClusterKind::Tab => Part::Tab(of.node),
         ClusterKind::PreservedSpace | ClusterKind::ZeroWidthSpace | ClusterKind::Other => {
             Part::Text(advance)
         }
@@ -92,14 +93,4 @@ pub(crate) fn push_part(parts: &mut Vec<Part>, part: Part) -> Result<(), NoMemor
 {
     parts.push(part)?;
     Ok(())
-}
-
-/// Where the next cluster begins, or the text ends.
-pub(crate) fn next_place(text: &[u8], rest: &[ClusterWidth]) -> usize
-    ensures { result ≡ next_place text.now rest.now }
-{
-    match rest.first() {
-        Some(width) => width.place,
-        None => text.len(),
-    }
 }

@@ -1,17 +1,21 @@
 //! The stretches of a container whose lines hold one text.
 
 ghost use Rattle.std.specs.Prelude.{◌≡◌, ◌∷◌, ◌++◌, [], true, IfOk, OnOk};
-ghost use Rattle.lay_space.specs.Segments.{is_boundary, segments_of};
-ghost use Rattle.lay_space.specs.Tokens.{kind_of, next_place};
+ghost use Rattle.lay_space.specs.declared.item.Item.TheVariants as item;
+ghost use Rattle.lay_space.specs.Modes.{collapses, wraps};
+ghost use Rattle.lay_space.specs.Segments.{segments_of};
+ghost use Rattle.lay_space.specs.Tokens.{kind_of};
+ghost use Rattle.lay_content.specs.declared.container.Container.{Container};
+ghost use Rattle.lay_content.specs.BoxMeasuresValue.{BoxMeasuresValue};
 ghost use Rattle.lay_content.specs.Stretches.{stretches_of};
-ghost use Rattle.lay_content.specs.TextStretches.{breaks, cut_parts, cuts, ends_line, is_space, last_stretch, text_stretch, text_stretches};
+ghost use Rattle.lay_content.specs.TextStretches.{breaks, cut_parts, cuts, ends_line, is_space, last_stretch, text_stretch};
 
 use crate::box_measures::BoxMeasures;
 use crate::container::Container;
 use crate::stretches::stretches_of;
-use crate::text_parts::{TextRun, next_place, push_part, put_cluster};
+use crate::text_parts::{TextBox, TextRun, push_part, put_cluster};
 use lay_line_content::{Advance, LineFloatList, Part, PartList, Stretch};
-use lay_space::{ClusterKind, Item, cluster_kind, segments};
+use lay_space::{ClusterKind, Item, cluster_kind, is_boundary, next_place, segments};
 use lay_units::{ClusterWidth, NoMemory};
 use std::alloc::Global;
 
@@ -36,9 +40,11 @@ pub(crate) fn stretches_of_items(
         && mode.wraps()
     {
         let run = TextRun {
-            text: *node,
-            mode: *mode,
-            bytes: text.as_str().as_bytes(),
+            of: TextBox {
+                node: *node,
+                mode: *mode,
+            },
+            text: text.as_str(),
         };
         let stretches = text_stretches(alloc, run, widths.as_slice())?;
         return Ok(stretches);
@@ -47,83 +53,65 @@ pub(crate) fn stretches_of_items(
     stretches_of(alloc, measures, container, segments.as_slice())
 }
 
-/// The stretches of one text.
+/// The stretches of a text that stands alone in lines, where white space collapses and wraps.
 fn text_stretches(
     alloc: Global,
     run: TextRun<'_>,
     widths: &[ClusterWidth],
 ) -> Result<Vec<Stretch>, NoMemory>
-    ensures { IfOk result (λ v. v.items ≡ text_stretches run.entry.text run.entry.mode run.entry.bytes.now true [] widths.now) }
+    requires collapses { collapses run.of.mode ≡ true }
+    requires wraps { wraps run.of.mode ≡ true }
+    ensures { IfOk result (λ v. (m : BoxMeasuresValue) (c : Container) → v.items
+        ≡ stretches_of m c true (segments_of (item.Text run.entry.of.node run.entry.text.now run.entry.of.mode widths.now ∷ []))) }
 {
-    let mut stretches = TextStretches {
-        done: Vec::with_capacity(alloc, widths.len() / 2 + 1)?,
-        parts: Vec::with_capacity(alloc, 2)?,
-        first: true,
-    };
+    let mut done = Vec::with_capacity(alloc, widths.len() / 2 + 1)?;
+    let mut parts = Vec::with_capacity(alloc, 2)?;
+    let mut first = true;
     for k in 0..widths.len() {
-        stretches.put(alloc, run, widths[k], &widths[k + 1..])?;
-    }
-    stretches.end(alloc)
-}
-
-/// The stretches of a text so far, the parts since the last break, and whether a line surely begins here.
-#[derive(Drop)]
-struct TextStretches {
-    done: Vec<Stretch>,
-    parts: Vec<Part>,
-    first: bool,
-}
-
-impl TextStretches {
-    fn put(
-        &mut self,
-        alloc: Global,
-        run: TextRun<'_>,
-        width: ClusterWidth,
-        rest: &[ClusterWidth],
-    ) -> Result<(), NoMemory>
-        ensures { OnOk result (self.old.done.items ++ text_stretches run.entry.text run.entry.mode run.entry.bytes.now self.old.first self.old.parts.items (width ∷ rest.now)
-            ≡ self.new.done.items ++ text_stretches run.entry.text run.entry.mode run.entry.bytes.now self.new.first self.new.parts.items rest.now) }
-    {
-        let to = next_place(run.bytes, rest);
-        let kind = cluster_kind(run.mode, run.bytes, width.place, to);
-        if self.first && is_space(kind) {
-            return Ok(());
+        let to = next_place(run.text.as_bytes(), &widths[k + 1..]);
+        let kind = cluster_kind(run.of.mode, run.text.as_bytes(), widths[k].place, to);
+        if first && is_space(kind) {
+            continue;
         }
-        put_cut(&mut self.parts, run, width, to, kind)?;
-        self.first = ends_line(kind);
+        put_cut(&mut parts, run, widths[k], to, kind)?;
+        first = ends_line(kind);
         if breaks(kind) {
-            self.cut(alloc, ends_line(kind))?;
+            put_stretch(alloc, &mut done, &mut parts, first)?;
         }
-        Ok(())
     }
+    put_last(alloc, &mut done, &mut parts)?;
+    Ok(done)
+}
 
-    /// Ends a stretch.
-    fn cut(&mut self, alloc: Global, forced: bool) -> Result<(), NoMemory>
-        ensures done { OnOk result (self.new.done.items ≡ self.old.done.items ++ text_stretch self.old.parts.items forced ∷ []) }
-        ensures parts { OnOk result (self.new.parts.items ≡ []) }
-        ensures first { OnOk result (self.new.first ≡ self.old.first) }
-    {
-        let parts = PartList::copied(alloc, &self.parts)?;
-        self.parts.clear();
-        self.done.push(Stretch {
-            heads: LineFloatList::new(Vec::new(alloc)),
-            parts,
-            floats: LineFloatList::new(Vec::new(alloc)),
-            forced,
-        })?;
-        Ok(())
+/// Puts what stands behind the last break, if it is anything.
+fn put_last(alloc: Global, done: &mut Vec<Stretch>, parts: &mut Vec<Part>) -> Result<(), NoMemory>
+    ensures { OnOk result (done.new.items ≡ done.old.items ++ last_stretch parts.old.items) }
+{
+    if !parts.is_empty() {
+        put_stretch(alloc, done, parts, false)?;
     }
+    Ok(())
+}
 
-    fn end(self, alloc: Global) -> Result<Vec<Stretch>, NoMemory>
-        ensures { IfOk result (λ v. v.items ≡ self.done.items ++ last_stretch self.parts.items) }
-    {
-        let mut stretches = self;
-        if !stretches.parts.is_empty() {
-            stretches.cut(alloc, false)?;
-        }
-        Ok(stretches.done)
-    }
+/// Puts a stretch of these parts, of which none are left.
+fn put_stretch(
+    alloc: Global,
+    done: &mut Vec<Stretch>,
+    parts: &mut Vec<Part>,
+    forced: bool,
+) -> Result<(), NoMemory>
+    ensures done { OnOk result (done.new.items ≡ done.old.items ++ text_stretch parts.old.items forced ∷ []) }
+    ensures parts { OnOk result (parts.new.items ≡ []) }
+{
+    let stretch = Stretch {
+        heads: LineFloatList::new(Vec::new(alloc)),
+        parts: PartList::copied(alloc, parts)?,
+        floats: LineFloatList::new(Vec::new(alloc)),
+        forced,
+    };
+    done.push(stretch)?;
+    parts.clear();
+    Ok(())
 }
 
 /// Puts a cluster of this kind, cut out of its text.
@@ -134,18 +122,18 @@ fn put_cut(
     to: usize,
     kind: ClusterKind,
 ) -> Result<(), NoMemory>
-    requires { kind ≡ kind_of run.mode run.bytes.now width.place to }
-    ensures { OnOk result (parts.new.items ≡ parts.old.items ++ cut_parts run.entry.text run.entry.mode run.entry.bytes.now width to) }
+    requires { kind ≡ kind_of run.of.mode run.text.now width.place to }
+    ensures { OnOk result (parts.new.items ≡ parts.old.items ++ cut_parts run.entry.of run.entry.text.now width to) }
 {
-    let advance = Advance {
-        text: run.text,
-        width: width.width,
-    };
-    if !cuts(run.bytes, width.place, to) {
+    if !cuts(run.text, width.place, to) {
+        let advance = Advance {
+            text: run.of.node,
+            width: width.width,
+        };
         return push_part(parts, Part::Text(advance));
     }
     let lone = to - width.place == 1;
-    put_cluster(parts, run.mode, kind, lone, advance)
+    put_cluster(parts, run.of, kind, lone, width.width)
 }
 
 fn is_space(kind: ClusterKind) -> bool
@@ -175,17 +163,8 @@ fn breaks(kind: ClusterKind) -> bool
     }
 }
 
-fn cuts(text: &[u8], from: usize, to: usize) -> bool
+fn cuts(text: &str, from: usize, to: usize) -> bool
     ensures { result ≡ cuts text.now from to }
 {
     from <= to && is_boundary(text, from) && is_boundary(text, to)
-}
-
-fn is_boundary(text: &[u8], at: usize) -> bool
-    ensures { result ≡ is_boundary text.now at }
-{
-    if at < text.len() {
-        return text[at] < 128 || text[at] > 191;
-    }
-    at == text.len()
 }

@@ -16,14 +16,8 @@ use Rattle.unicode_segmentation.proofs.SegmentsLemmas.{concat-segments}
 use Rattle.lay_face.specs.FaceValue.{FaceValue}
 use Rattle.lay_face.specs.Faces.{IsInRange, entry_of}
 use Rattle.lay_face.specs.declared.clusters.Setting.{Setting}
-use Rattle.lay_face.specs.Clusters.{is_word_space, char_width, chars_width, is_linefeed, cluster_width, placed_widths, widths_of, WidthsFit}
+use Rattle.lay_face.specs.Clusters.{IsUsedSetting, is_word_space, char_width, chars_width, is_linefeed, cluster_width, placed_widths, widths_of, WidthsFit}
 use Rattle.lay_face.proofs.Measures.{measure_within, fits_lem}
-
--- the lengths of a setting are used lengths
-pub record IsUsedSetting (s : Setting) : Type 0 where
-  pub size : IsUsed s.size.0
-  pub letter : IsUsed s.letter.0
-  pub word : IsUsed s.word.0
 
 -- at most 2^35 from 0 for each of n
 abbrev pub WithinChars : ℕ → ℤ → Type 0

@@ -3,7 +3,7 @@
 -- after each cluster, so a letter and its combining marks aren't parted. A linefeed ends its line and has
 -- no width: CR LF, one cluster, is as wide as the CR.
 use Rattle.std.specs.Prelude.{ℕ, ◌+◌, ◌==◌, ◌||◌, ◌&&◌, slice_index, ℤ, pos, ◌+ℤ◌, Bool, true, List, [], ◌∷◌, All, length, if◌then◌else◌, chars}
-use Rattle.lay_units.specs.Units.{IsPosition}
+use Rattle.lay_units.specs.Units.{IsPosition, IsUsed}
 use Rattle.lay_units.specs.declared.records.ClusterWidth.{ClusterWidth}
 use Rattle.lay_face.specs.declared.clusters.Setting.{Setting}
 use Rattle.lay_face.specs.FaceValue.{FaceValue}
@@ -55,3 +55,9 @@ pub record SettingFits (face : FaceValue) (s : Setting) : Type 0 where
 pub record WidthsFit (face : FaceValue) (s : Setting) (text : List ℕ) : Type 0 where
   pub setting : SettingFits face s
   pub widths : All (λ (w : ClusterWidth). IsPosition w.width.0) (widths_of face s text)
+
+-- used lengths, as those of a document's styles are
+pub record IsUsedSetting (s : Setting) : Type 0 where
+  pub size : IsUsed s.size.0
+  pub letter : IsUsed s.letter.0
+  pub word : IsUsed s.word.0

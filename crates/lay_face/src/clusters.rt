@@ -2,6 +2,8 @@
 
 ghost use Rattle.std.specs.Prelude.{
   ◌≡◌,
+  ◌<◌,
+  if◌then◌else◌,
   pos,
   ◌+ℤ◌,
   ◌≤ℤ◌,
@@ -15,14 +17,16 @@ ghost use Rattle.std.specs.Prelude.{
   ◌∷◌,
   ◌++◌,
 };
-ghost use Rattle.lay_units.specs.Units.{IsPosition};
-ghost use Rattle.lay_face.specs.PlainTexts.{IsPlain, plain_width_of};
+ghost use Rattle.lay_units.specs.Units.{IsPosition, IsUsed};
+ghost use Rattle.lay_face.specs.Faces.{IsMeasure};
+ghost use Rattle.lay_face.specs.PlainTexts.{IsNear, IsPlain, plain_width_of};
 ghost use Rattle.lay_face.specs.Clusters.{
   is_word_space,
   char_width,
   spacing_after,
   cluster_width,
   widths_of,
+  IsUsedSetting,
   SettingFits,
   WidthsFit,
 };
@@ -103,6 +107,21 @@ impl Face {
         spaced(width, setting.letter)
     }
 
+    /// The same of a character of ASCII where the lengths of the setting are used lengths: at most 2^36 units from 0.
+    pub fn ascii_width(&self, byte: u8, setting: Setting) -> Unit
+        requires ascii { byte < 128 }
+        requires used { IsUsedSetting setting }
+        ensures value { result.0 ≡ plain_width_of self.now setting byte }
+        ensures near { IsNear result.0 }
+    {
+        if byte == b'\n' {
+            return Unit(0);
+        }
+        let advance = self.ascii_advance(byte, setting.size);
+        let word = word_spacing(byte, setting.word);
+        with_spacings(advance, word, setting.letter)
+    }
+
     fn cluster_width(&self, cluster: &str, setting: Setting) -> Unit
         requires setting { SettingFits self.now setting }
         requires width { IsPosition (cluster_width self.now setting cluster.now) }
@@ -130,6 +149,26 @@ impl Face {
         }
         advance.0
     }
+}
+
+/// The word-spacing at a character of ASCII.
+fn word_spacing(byte: u8, word: Unit) -> Unit
+    requires ascii { byte < 128 }
+    requires word { IsUsed word.0 }
+    ensures value { result.0 ≡ (if is_word_space byte then word.0 else pos 0) }
+    ensures used { IsUsed result.0 }
+{
+    if byte == b' ' { word } else { Unit(0) }
+}
+
+fn with_spacings(advance: Unit, word: Unit, letter: Unit) -> Unit
+    requires advance { IsMeasure advance.0 }
+    requires word { IsUsed word.0 }
+    requires letter { IsUsed letter.0 }
+    ensures value { result.0 ≡ advance.0 +ℤ word.0 +ℤ letter.0 }
+    ensures near { IsNear result.0 }
+{
+    Unit(advance.0 + word.0 + letter.0)
 }
 
 fn sum(a: Unit, b: Unit) -> i64
@@ -187,7 +226,8 @@ pub fn is_plain(text: &[u8]) -> bool
     true
 }
 
-fn put_width(widths: &mut Vec<ClusterWidth>, place: usize, width: Unit) -> Result<(), NoMemory>
+/// Puts a width, in 1/64 px, of what begins at this byte of a text behind these.
+pub fn put_width(widths: &mut Vec<ClusterWidth>, place: usize, width: Unit) -> Result<(), NoMemory>
     ensures { OnOk result (widths.new.items ≡ widths.old.items ++ record {
       place = place;
       width = width;

@@ -1,10 +1,10 @@
 //! Faces.
 
-ghost use Rattle.std.specs.Prelude.{◌≡◌, ◌≤◌, pos, ◌*ℤ◌, All, IfOk, length};
+ghost use Rattle.std.specs.Prelude.{◌≡◌, ◌≤◌, ◌<◌, pos, ◌*ℤ◌, All, IfOk, length};
 ghost use Rattle.lay_units.specs.Units.{IsPosition, IsUsed};
 ghost use Rattle.lay_face.specs.declared.pairs.AdvancePair.{AdvancePair as Pair};
 ghost use Rattle.lay_face.specs.Clusters.{WidthsFit};
-ghost use Rattle.lay_face.specs.Faces.{FitsAt, MeasuresAreNear, face_of, entry_of, thousandths_of};
+ghost use Rattle.lay_face.specs.Faces.{FitsAt, IsMeasure, MeasuresAreNear, face_of, entry_of, thousandths_of};
 
 use crate::pairs::PairList;
 use crate::table::{first_entries, table_entry, table_of};
@@ -30,7 +30,7 @@ pub struct Face {
 impl Model for Face {
     ghost use Rattle.lay_face.specs.FaceValue.{FaceValue};
     ghost use Rattle.lay_face.specs.Faces.{IsInRange};
-    ghost use Rattle.lay_face.specs.FirstEntries.{AreEntries};
+    ghost use Rattle.lay_face.specs.FirstEntries.{AreFirstEntries};
 
     ghost Value = { FaceValue };
 
@@ -50,7 +50,7 @@ impl Model for Face {
       descent = f.descent;
       x_height = f.x_height;
       normal_line_height = f.normal_line_height;
-    }) × AreEntries f.table.entries f.default_advance f.first.items };
+    }) × AreFirstEntries f.table.entries f.default_advance f.first.items };
 }
 
 impl Face {
@@ -163,6 +163,24 @@ impl Face {
         let _ = &self.table;
     }
 
+    /// The advance of a character of ASCII at a used font size, rounded down.
+    pub fn ascii_advance(&self, byte: u8, size: Unit) -> Unit
+        requires ascii { byte < 128 }
+        requires size { IsUsed size.0 }
+        ensures value { result.0 ≡ thousandths_of (entry_of self.now byte) size.0 }
+        ensures near { IsMeasure result.0 }
+    {
+        near_thousandths(self.ascii_entry(byte), size)
+    }
+
+    fn ascii_entry(&self, byte: u8) -> u32
+        requires ascii { byte < 128 }
+        ensures value { result ≡ entry_of self.now byte }
+        ensures most { result ≤ 10000 }
+    {
+        self.first[byte as usize]
+    }
+
     fn entry(&self, c: char) -> u32
         ensures { result ≡ entry_of self.now c }
     {
@@ -183,6 +201,16 @@ fn thousandths(number: u32, size: Unit) -> Unit
         Some(product) => Unit(product.div_euclid(1000)),
         None => wide_thousandths(number, size),
     }
+}
+
+/// The same of few thousandths of a used font size, which 64 bits hold.
+fn near_thousandths(number: u32, size: Unit) -> Unit
+    requires number { number ≤ 10000 }
+    requires size { IsUsed size.0 }
+    ensures value { result.0 ≡ thousandths_of number size.0 }
+    ensures near { IsMeasure result.0 }
+{
+    Unit((i64::from(number) * size.0).div_euclid(1000))
 }
 
 fn wide_thousandths(number: u32, size: Unit) -> Unit

@@ -12,7 +12,7 @@ mod laws;
 mod pairs;
 mod table;
 
-pub use clusters::{Setting, is_plain};
+pub use clusters::{Setting, is_plain, put_width};
 pub use face::Face;
 pub use laws::last_pair_wins;
 pub use pairs::{AdvancePair, PairList};

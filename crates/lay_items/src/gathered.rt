@@ -4,7 +4,8 @@ ghost use Rattle.std.specs.Prelude.{◌≡◌, ◌+ℤ◌, ◌&&◌, ◌∷◌, 
 ghost use Rattle.lay_space.specs.Tokens.{next_place};
 ghost use Rattle.lay_items.specs.GatheredWidths.{gathered, gathered_after, goes_on, is_small, stands_alone, with_cluster};
 
-use lay_space::{ClusterKind, Mode, cluster_kind};
+use lay_face::put_width;
+use lay_space::{ClusterKind, Mode, cluster_kind, next_place};
 use lay_units::{ClusterWidth, NoMemory, Unit, WidthList};
 use std::alloc::Global;
 
@@ -34,7 +35,7 @@ fn put_after(
 {
     if stands_alone(text, width.place, next_place(text, rest)) {
         put_before(out, before)?;
-        put_width(out, width)?;
+        put_width(out, width.place, width.width)?;
         return Ok(None);
     }
     if goes_on(before, width) {
@@ -104,24 +105,7 @@ fn put_before(out: &mut Vec<ClusterWidth>, before: Option<ClusterWidth>) -> Resu
     ensures { OnOk result (out.new.items ≡ out.old.items ++ option_to_list before) }
 {
     if let Some(width) = before {
-        put_width(out, width)?;
+        put_width(out, width.place, width.width)?;
     }
     Ok(())
-}
-
-pub fn put_width(out: &mut Vec<ClusterWidth>, width: ClusterWidth) -> Result<(), NoMemory>
-    ensures { OnOk result (out.new.items ≡ out.old.items ++ width ∷ []) }
-{
-    out.push(width)?;
-    Ok(())
-}
-
-/// Where the next cluster begins, or the text ends.
-fn next_place(text: &[u8], rest: &[ClusterWidth]) -> usize
-    ensures { result ≡ next_place text.now rest.now }
-{
-    match rest.first() {
-        Some(width) => width.place,
-        None => text.len(),
-    }
 }

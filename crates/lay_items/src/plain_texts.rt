@@ -6,9 +6,9 @@ ghost use Rattle.lay_face.specs.PlainTexts.{IsPlain, plain_widths};
 ghost use Rattle.lay_items.specs.GatheredWidths.{gathered, gathered_after};
 ghost use Rattle.lay_items.specs.PlainWords.{parts_words};
 
-use crate::gathered::{are_small, put_width, sum};
-use lay_face::{Face, Setting};
-use lay_units::{ClusterWidth, NoMemory, Unit, WidthList};
+use crate::gathered::{are_small, sum};
+use lay_face::{Face, Setting, put_width};
+use lay_units::{NoMemory, Unit, WidthList};
 use std::alloc::Global;
 
 /// The widths of the clusters of a plain text, with those that no line breaks between as one.
@@ -26,13 +26,7 @@ pub fn plain_gathered(
     let mut from = 0;
     while from < text.len() {
         let word = word_at(face, setting, text, from);
-        put_width(
-            &mut out,
-            ClusterWidth {
-                place: from,
-                width: word.width,
-            },
-        )?;
+        put_width(&mut out, from, word.width)?;
         from = word.to;
     }
     Ok(WidthList::new(out))

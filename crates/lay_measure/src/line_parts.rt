@@ -1,7 +1,6 @@
 //! What stands in lines, by its widths.
 
 ghost use Rattle.std.specs.Prelude.{◌≡◌, ◌++◌, ◌∷◌, [], slice_get, OnOk, IfOk};
-ghost use Rattle.lay_space.specs.Tokens.{next_place};
 ghost use Rattle.lay_measure.specs.LineParts.{cluster_part, end_in, end_of, has_left_edges, has_right_edges, has_vertical_edges, is_nonzero, line_parts, part_between, parts_at, parts_of, start_in, start_of, text_parts};
 
 use crate::contributions::{
@@ -10,7 +9,7 @@ use crate::contributions::{
 use crate::measure_in::MeasureIn;
 use crate::preferred_widths::PreferredWidths;
 use lay_box_parts::InlinePart;
-use lay_space::{ClusterKind, Item, Mode, Segment, cluster_kind};
+use lay_space::{ClusterKind, Item, Mode, Segment, cluster_kind, next_place};
 use lay_style::Style;
 use lay_units::{ClusterWidth, NoMemory, Unit};
 use std::alloc::Global;
@@ -119,16 +118,6 @@ fn cluster_part(mode: Mode, kind: ClusterKind, lone: bool, width: Unit) -> LineP
         | ClusterKind::Linefeed
         | ClusterKind::ZeroWidthSpace
         | ClusterKind::Other => LinePart::Cluster(width),
-    }
-}
-
-/// Where the next cluster begins, or the text ends.
-fn next_place(text: &[u8], rest: &[ClusterWidth]) -> usize
-    ensures { result ≡ next_place text.now rest.now }
-{
-    match rest.first() {
-        Some(width) => width.place,
-        None => text.len(),
     }
 }
 

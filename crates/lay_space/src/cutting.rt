@@ -300,7 +300,8 @@ fn part(text: &str, from: usize, to: usize) -> &str
     ""
 }
 
-fn is_boundary(text: &str, at: usize) -> bool
+/// Whether a text may be cut at this byte: a character begins there, or the text ends.
+pub fn is_boundary(text: &str, at: usize) -> bool
     ensures test { result ≡ is_boundary text.now at }
     ensures means { IsTrue result → IsCharBoundary text.now at }
 {

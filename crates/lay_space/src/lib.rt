@@ -18,9 +18,10 @@ mod tokens;
 mod white_space;
 
 pub use collapsing::clean;
+pub use cutting::is_boundary;
 pub use item::{Item, ItemList, Mode};
 pub use laws::{breaks_keep_content, no_space_after_space};
 pub use segment::{Segment, SegmentList};
 pub use settling::segments;
-pub use tokens::{ClusterKind, cluster_kind};
+pub use tokens::{ClusterKind, cluster_kind, next_place};
 pub use white_space::process;

@@ -169,7 +169,8 @@ fn put_unless_leading(out: &mut Vec<Token>, first: bool, token: Token) -> Result
     Ok(begins_line(first, token))
 }
 
-fn next_place(text: &[u8], rest: &[ClusterWidth]) -> usize
+/// Where the next cluster of a text begins, of which these are the clusters from there on, or where the text ends. In bytes.
+pub fn next_place(text: &[u8], rest: &[ClusterWidth]) -> usize
     ensures { result ≡ next_place text.now rest.now }
 {
     match rest.first() {

@@ -4,5 +4,4 @@ use Rattle.lay_content.proofs.text_parts.put_text.Given as goal
 
 abbrev pub invariant-loop-k : goal.invariant-loop-k
 invariant-loop-k l =
-    l.parts.items ++ text_parts l.run.text l.run.mode l.run.bytes.now (drop l.k l.widths)
-    ≡ l.fn.parts.items ++ text_parts l.run.text l.run.mode l.run.bytes.now l.widths
+    l.parts.items ++ text_parts l.run.of l.run.text.now (drop l.k l.widths) ≡ l.fn.parts.items ++ text_parts l.run.of l.run.text.now l.widths
