@@ -1,23 +1,26 @@
 -- One step of the walk over the nodes of a document.
-use Rattle.std.proofs.Common.{◌≡◌, ℕ, suc, ◌+◌, ◌-◌, ◌<◌, ◌≤◌, ◌==◌, ◌||◌, Bool, true, false, List, [], ◌∷◌, ◌++◌, Option, None, Some, arith, drop, get_or, inl, inr, length, option_map, refl, reverse, ap, slice_index, sym, ◌∙◌, if◌then◌else◌}
+use Rattle.std.proofs.Common.{◌≡◌, ℕ, suc, ◌+◌, ◌-◌, ◌<◌, ◌≤◌, ◌==◌, Bool, true, false, List, [], ◌∷◌, ◌++◌, Option, None, Some, arith, drop, get_or, inl, inr, length, option_map, refl, reverse, ap, slice_get, slice_index, subst, sym, IsTrue, ◌∙◌, if◌then◌else◌}
 use Rattle.std.proofs.Math.Seq.{drop-cons}
 use Rattle.std.proofs.lemmas.Bool.{cases_lt}
 use Rattle.std.proofs.lemmas.List.{reverse-append}
+use Rattle.std.proofs.lemmas.Grind.{elements}
 use Rattle.lay_style.specs.ComputedStyle.{style_at}
 use Rattle.lay_style.specs.InitialStyle.{initial_style}
 use Rattle.lay_style.specs.declared.style.Style.{Style}
 use Rattle.lay_doc.specs.declared.node.Node.{Node}
-use Rattle.lay_anonymous_boxes.specs.Boxes.{Tree, Trees, tree, no_trees}
+use Rattle.lay_anonymous_boxes.specs.Boxes.{Tree}
 use Rattle.lay_anonymous_boxes.specs.declared.facts.Facts.{Facts}
 use Rattle.lay_box_tree.specs.declared.box_tree.BoxNode.{BoxNode}
-use Rattle.lay_boxgen.specs.ContextWalk.{Rise, as_leaves, boxes_at_places}
+use Rattle.lay_boxgen.specs.Contexts.{IsContextAt, box_at, box_of_node, is_marked}
+use Rattle.lay_boxgen.specs.ContextWalk.{Rise, as_leaves, boxes_at_places, is_context_tree}
 use Rattle.lay_boxgen.specs.CutTrees.{as_leaf, cut_tree_at}
 use Rattle.lay_boxgen.specs.Listing.{listed_part}
 use Rattle.lay_boxgen.specs.NodeBoxes.{node_box}
-use Rattle.lay_boxgen.specs.NodeTrees.{anchor_facts, and_child, box_with, children_of, first_tree, node_trees, others_than_children, tree_at, with_node}
+use Rattle.lay_boxgen.specs.NodeTrees.{and_child, box_with, children_of, first_tree, node_trees, others_than_children, tree_at, with_node}
 use Rattle.lay_boxgen.specs.Parts.{own_tree, part}
 use Rattle.lay_boxgen.specs.declared.node_trees.NodeTree.{NodeTree}
 use Rattle.lay_boxgen.proofs.CutNodes.{tree-cut}
+use Rattle.lay_boxgen.proofs.NodeForms.{IsNodeBox, is-node_box}
 use Rattle.lay_boxgen.proofs.SplitNodes.{own-cut}
 
 abbrev same : Tree → Tree
@@ -56,12 +59,23 @@ module _ (k : ℕ) (n : Node) (s : Style) (xs ys : List NodeTree) (alike : as_le
       ap (λ (t : Option Tree). record { parent = n.parent; tree = option_map as_leaf t } ∷ as_leaves (others_than_children k xs)) same_first
       ∙ ap (λ (r : List NodeTree). record { parent = n.parent; tree = option_map as_leaf (first_tree (with_node as_leaf k n s ys)) } ∷ r) same_others
 
--- the leaf of a leaf
-leaf_by : (f : Facts) (us : Trees) (a c : Bool) → (a || c) ≡ true
-    → (if a then tree (anchor_facts f) no_trees else (if c then tree f no_trees else tree f no_trees)) ≡ (if a then tree (anchor_facts f) no_trees else (if c then tree f no_trees else tree f us))
-leaf_by f us true c some = refl
-leaf_by f us false true some = refl
-leaf_by f us false false some = absurd cc
+-- the box of a context is no inline box, so that its tree is that of a context
+closed_by : (k : ℕ) (n : Node) (o : Option Facts) (cs : List Tree) → IsNodeBox k n o → IsTrue (is_marked o) → is_context_tree (box_with o cs) ≡ true
+closed_by k n None cs box marked = absurd cc
+closed_by k n (Some f) cs box marked = (let inner : f.inner ≡ true = marked in rw (inner, box.context inner) refl)
+
+module _ (nodes : List Node) (styles : List Style) (n : ℕ) (node : Node) (style : Style) (is : node ≡ get_or nodes n node) (styled : style ≡ style_at styles n) (lt : n < length nodes) where
+  node_there : slice_get nodes n ≡ Some node
+  node_there = grind (arith, elements, is, lt)
+
+  box_there : box_at nodes styles n ≡ node_box n node style
+  box_there = ap (λ (o : Option Node). box_of_node n o (style_at styles n)) node_there ∙ ap (node_box n node) (sym styled)
+
+  -- the node that is put there is a context
+  pub next_context : (xs ws : List NodeTree) → ws ≡ with_node as_leaf n node style xs → IsContextAt nodes styles n → is_context_tree (first_tree ws) ≡ true
+  next_context xs ws put context =
+      ap (λ (ts : List NodeTree). is_context_tree (first_tree ts)) put
+      ∙ closed_by n node (node_box n node style) (children_of as_leaf n xs) (is-node_box n node style) (subst (λ (o : Option Facts). IsTrue (is_marked o)) box_there context.establishes)
 
 module _ (nodes : List Node) (styles : List Style) (n : ℕ) (node : Node) (style : Style) (is : node ≡ get_or nodes n node) (styled : style ≡ style_at styles n)
     (lt : n < length nodes) (count : length styles ≡ length nodes) where

@@ -1,15 +1,17 @@
 //! The boxes of all contexts of a document, in one walk over its nodes.
 
-ghost use Rattle.std.specs.Prelude.{ℕ, ◌≡◌, ◌<◌, ◌≤◌, ◌+◌, ◌-◌, Some, IfOk, IsTrue, OnOk, false, length, option_map, reverse, slice_index};
-ghost use Rattle.lay_boxgen.specs.ContextWalk.{IsWalkedTo, Rise, as_leaves, boxes_at_places};
+ghost use Rattle.std.specs.Prelude.{ℕ, ◌≡◌, ◌<◌, ◌≤◌, ◌+◌, ◌-◌, Some, IfOk, IsTrue, OnOk, true, false, length, option_map, reverse, slice_index};
+ghost use Rattle.lay_anonymous_boxes.specs.Boxes.{facts_of};
+ghost use Rattle.lay_boxgen.specs.Contexts.{IsContextAt};
+ghost use Rattle.lay_boxgen.specs.ContextWalk.{IsWalkedTo, Rise, as_leaves, boxes_at_places, is_context_tree};
 ghost use Rattle.lay_boxgen.specs.CutTrees.{as_leaf};
 ghost use Rattle.lay_boxgen.specs.NodeTrees.{first_tree};
-ghost use Rattle.lay_boxgen.specs.Parts.{own_tree};
+ghost use Rattle.lay_boxgen.specs.Parts.{is_closed, own_tree};
 
 use crate::context_boxes::boxes_of_tree;
 use crate::listing::Sources;
-use crate::node_trees::{NodeTree, as_leaf, is_closed, own_tree, put_node};
-use lay_anonymous_boxes::{Subtree, is_absolute};
+use crate::node_trees::{NodeTree, as_leaf, own_tree, put_node};
+use lay_anonymous_boxes::Subtree;
 use lay_box_tree::BoxTree;
 use lay_doc::Doc;
 use lay_style::{Computed, style_at};
@@ -26,7 +28,7 @@ struct Walk {
 }
 
 /// The boxes of the contexts of the nodes at these places, as `boxes` says them of one; those of the last place come first.
-/// A style is given for each node. NoMemory is also the answer where a node there establishes no context.
+/// Each of the nodes is a context, and a style is given for each node.
 pub fn boxes_of_contexts(
     alloc: Global,
     doc: &Doc,
@@ -35,6 +37,7 @@ pub fn boxes_of_contexts(
 ) -> Result<Vec<BoxTree>, NoMemory>
     requires styles { length style.now ≡ length doc.now.nodes }
     requires within { (j : ℕ) → j < length places.now → slice_index places.now j < length doc.now.nodes }
+    requires contexts { (j : ℕ) → j < length places.now → IsContextAt doc.now.nodes style.now (slice_index places.now j) }
     requires rising { Rise places.now }
     ensures { IfOk result (λ v. reverse v.items ≡ boxes_at_places doc.now.nodes style.now places.now) }
 {
@@ -64,6 +67,7 @@ fn walk_over(
 ) -> Result<(), NoMemory>
     requires place { at < length sources.nodes.now }
     requires styles { length sources.styles.now ≡ length sources.nodes.now }
+    requires contexts { (j : ℕ) → j < length places.now → IsContextAt sources.nodes.now sources.styles.now (slice_index places.now j) }
     requires rising { Rise places.now }
     requires before { IsWalkedTo sources.nodes.now sources.styles.now places.now (at + 1) walk.old.stack.items walk.old.boxes.items walk.old.left }
     ensures { OnOk result (IsWalkedTo sources.entry.nodes.now sources.entry.styles.now places.now at walk.new.stack.items walk.new.boxes.items walk.new.left) }
@@ -90,9 +94,9 @@ fn is_next(places: &[usize], left: usize, at: usize) -> bool
     left > 0 && places[left - 1] == at
 }
 
-/// Takes the tree on top, seen from inside, and leaves what its parent has of it. NoMemory is also the answer where that
-/// is the tree itself, which it isn't of a context.
+/// Takes the tree on top, which is that of a context, seen from inside, and leaves what its parent has of it.
 fn take_context(alloc: Global, stack: &mut Vec<NodeTree>) -> Result<Subtree, NoMemory>
+    requires { is_context_tree (first_tree (reverse stack.old.items)) ≡ true }
     ensures own { IfOk result (λ t. option_map own_tree (first_tree (reverse stack.old.items)) ≡ Some t) }
     ensures leaves { OnOk result (as_leaves (reverse stack.new.items) ≡ as_leaves (reverse stack.old.items)) }
 {
@@ -103,9 +107,9 @@ fn take_context(alloc: Global, stack: &mut Vec<NodeTree>) -> Result<Subtree, NoM
         },
     ) = stack.pop()
     else {
-        return Err(NoMemory);
+        unreachable!();
     };
-    let leaf = leaf_of(alloc, &tree)?;
+    let leaf = leaf_of(alloc, &tree);
     stack.push(NodeTree {
         parent,
         tree: Some(leaf),
@@ -114,12 +118,9 @@ fn take_context(alloc: Global, stack: &mut Vec<NodeTree>) -> Result<Subtree, NoM
 }
 
 /// What a parent has of the tree of a context.
-fn leaf_of(alloc: Global, tree: &Subtree) -> Result<Subtree, NoMemory>
-    ensures { IfOk result (λ t. as_leaf t ≡ as_leaf tree.now) }
+fn leaf_of(alloc: Global, tree: &Subtree) -> Subtree
+    requires { is_closed (facts_of tree.now) ≡ true }
+    ensures { as_leaf result ≡ as_leaf tree.now }
 {
-    let facts = tree.facts();
-    if !is_absolute(facts.flow) && !is_closed(facts) {
-        return Err(NoMemory);
-    }
-    Ok(as_leaf(alloc, Subtree::new(facts, Vec::new(alloc))))
+    as_leaf(alloc, Subtree::new(tree.facts(), Vec::new(alloc)))
 }

@@ -8,6 +8,7 @@ pub mod OneValue
 pub mod PieceRanges
 pub mod PlaceFacts
 pub mod PlaceInputs
+pub mod SharedSteps
 pub mod ShrinkSteps
 pub mod SizedFacts
 pub mod TaskInputs

@@ -1,14 +1,37 @@
--- The content of lines that the tasks of a layout share: of each formatting context what more than one task asks for.
-use Rattle.std.specs.Prelude.{ℕ, ◌≡◌, ◌<◌, List, [], length, slice_index_or}
+-- The content of lines that the tasks of a layout share: of each formatting context what more than one task asks for. Where a
+-- formatting context is measured, both its preferred widths and its lines are of the content of its lines. Where an anchor stands
+-- in lines, its line is looked up beside them.
+use Rattle.std.specs.Prelude.{ℕ, ◌≡◌, ◌<◌, ◌&&◌, true, List, [], Some, length, slice_index_or, if◌then◌else◌}
 use Rattle.lay_face.specs.FaceValue.{FaceValue}
-use Rattle.lay_items.specs.InlineContents.{AreContents, KeptSegments}
+use Rattle.lay_items.specs.InlineContents.{AreContents, KeptSegments, kept_at}
+use Rattle.lay_items.specs.InlineSegments.{segments_in}
+use Rattle.lay_flow_boxes.specs.AskedContents.{AreAskedContents, HoldsAsked, is_any_asked}
+use Rattle.lay_flow_boxes.specs.declared.asked_contents.Asked.{Asked}
+use Rattle.lay_flow_boxes.specs.declared.asked_contents.Asked.TheVariants.{Texts as texts, Anchors as anchors}
 use Rattle.lay_formatting.specs.FormattingContexts.{FormattingContext, boxes_in}
+use Rattle.lay_context.specs.Measured.{is_measured}
 
 -- that of the formatting context with this number
 abbrev pub contents_in : List KeptSegments → ℕ → KeptSegments
 contents_in contents i = slice_index_or contents i []
 
--- it is the content of their boxes, in this face
+-- for which boxes of the formatting context with this number more than one task asks
+abbrev pub asked_in : List FormattingContext → ℕ → Asked
+asked_in contexts i = if is_any_asked texts (boxes_in contexts i) && is_measured contexts i then texts else anchors
+
+-- it is the content of the lines that have such boxes, in this face, and no other
+pub record AreShared (face : FaceValue) (contexts : List FormattingContext) (contents : List KeptSegments) : Type 0 where
+  pub count : length contents ≡ length contexts
+  pub each : (i : ℕ) → i < length contexts → AreAskedContents (asked_in contexts i) face (boxes_in contexts i) (contents_in contents i)
+
+-- Where the formatting context with the number i is measured, this has the content of all its lines with a text: so no text is
+-- clustered once for widths and once more for lines.
+abbrev pub TextsAreKept : FaceValue → List FormattingContext → ℕ → KeptSegments → Type 0
+TextsAreKept face contexts i kept =
+    is_measured contexts i ≡ true → (k : ℕ) → HoldsAsked texts (boxes_in contexts i) k → kept_at kept k ≡ Some (segments_in face (boxes_in contexts i) k)
+
+-- it is the content of their boxes, in this face, and of texts that are measured all of it
 pub record HaveContents (face : FaceValue) (contexts : List FormattingContext) (contents : List KeptSegments) : Type 0 where
   pub count : length contents ≡ length contexts
   pub each : (i : ℕ) → i < length contexts → AreContents face (boxes_in contexts i) (contents_in contents i)
+  pub texts : (i : ℕ) → i < length contexts → TextsAreKept face contexts i (contents_in contents i)

@@ -6,7 +6,7 @@ ghost use Rattle.lay_table_grid.specs.Laws.{GridsAreOfBoxes};
 ghost use Rattle.lay_formatting.specs.FormattingContexts.{boxes_in};
 ghost use Rattle.lay_positioned.specs.Levels.{HasLevels};
 ghost use Rattle.lay_context.specs.OneProof.{HaveContents-prop};
-ghost use Rattle.lay_context.specs.SharedContents.{HaveContents, contents_in};
+ghost use Rattle.lay_context.specs.SharedContents.{HaveContents, TextsAreKept, contents_in};
 
 use crate::medium::Medium;
 use lay_formatting::FormattingContexts;
@@ -26,10 +26,13 @@ pub(crate) struct Plan<'a> {
 }
 
 impl<'a> Plan<'a> {
-    /// The content of the lines of the formatting context with this number, as far as it is shared.
+    /// The content of the lines of the formatting context with this number, as far as it is shared. All tasks that ask for it are
+    /// given the same.
     pub(crate) fn contents_of(&self, i: usize) -> &'a InlineContents
         requires { i < length self.now.contexts.now }
-        ensures { AreContents self.now.medium.now.face (boxes_in self.now.contexts.now i) result.now }
+        ensures same { result.now ≡ contents_in self.now.contents.now i }
+        ensures contents { AreContents self.now.medium.now.face (boxes_in self.now.contexts.now i) result.now }
+        ensures texts { TextsAreKept self.now.medium.now.face self.now.contexts.now i result.now }
     {
         contents_at(self.contents, i)
     }

@@ -1,7 +1,7 @@
 //! The content of lines that the tasks of a layout share.
 
-ghost use Rattle.std.specs.Prelude.{◌<◌, length, IfOk};
-ghost use Rattle.lay_context.specs.SharedContents.{HaveContents};
+ghost use Rattle.std.specs.Prelude.{◌≡◌, ◌<◌, length, IfOk};
+ghost use Rattle.lay_context.specs.SharedContents.{AreShared, HaveContents, asked_in};
 
 use crate::measured::is_measured;
 use crate::medium::Medium;
@@ -18,21 +18,24 @@ pub(crate) fn shared_contents(
     medium: &Medium,
     contexts: &FormattingContexts,
 ) -> Result<Vec<InlineContents>, NoMemory>
-    ensures { IfOk result (λ v. HaveContents medium.now.face contexts.now v.items) }
+    ensures shared { IfOk result (λ v. AreShared medium.now.face contexts.now v.items) }
+    ensures have { IfOk result (λ v. HaveContents medium.now.face contexts.now v.items) }
 {
     let face = medium.face()?;
     let count = contexts.len();
     let mut contents = Vec::with_capacity(alloc, count)?;
     for i in 0..count {
-        let asked = asked_of(contexts, i);
-        contents.push(contents_of(alloc, contexts.at(i).boxes(), &face, asked)?)?;
+        let asked = asked_in(contexts, i);
+        let kept = contents_of(alloc, contexts.at(i).boxes(), &face, asked)?;
+        contents.push(kept)?;
     }
     Ok(contents)
 }
 
 /// For which boxes of the formatting context with this number more than one task asks.
-fn asked_of(contexts: &FormattingContexts, i: usize) -> Asked
+fn asked_in(contexts: &FormattingContexts, i: usize) -> Asked
     requires { i < length contexts.now }
+    ensures { result ≡ asked_in contexts.now i }
 {
     let boxes = contexts.at(i).boxes().as_slice();
     if is_any_asked(boxes, Asked::Texts) && is_measured(contexts, i) {

@@ -18,25 +18,25 @@ none_read : (k : ℕ) → flag_at [] k ≡ false
 none_read zero = refl
 none_read (suc k) = refl
 
-none_set : (n k : ℕ) → flag_at (replicate n false) k ≡ false
+pub none_set : (n k : ℕ) → flag_at (replicate n false) k ≡ false
 none_set zero k = none_read k
 none_set (suc n) zero = refl
 none_set (suc n) (suc k) = none_set n k
 
-none_count : (n : ℕ) → length (replicate n false) ≡ n
+pub none_count : (n : ℕ) → length (replicate n false) ≡ n
 none_count n = grind (arith, elements)
 
 -- none stands in any before the first one
 pub none : (level : Level) (boxes : List BoxNode) → HoldersTo level boxes (replicate (length boxes) false) 1
 none level boxes = record { count = none_count (length boxes); each = λ c lt. none_set (length boxes) c }
 
-set_here : (flags : List Bool) (k : ℕ) → k < length flags → flag_at (slice_set flags k true) k ≡ true
+pub set_here : (flags : List Bool) (k : ℕ) → k < length flags → flag_at (slice_set flags k true) k ≡ true
 set_here flags k lt = grind (arith, elements, lt)
 
-set_other : (flags : List Bool) (k j : ℕ) → k ≢ j → flag_at (slice_set flags k true) j ≡ flag_at flags j
+pub set_other : (flags : List Bool) (k j : ℕ) → k ≢ j → flag_at (slice_set flags k true) j ≡ flag_at flags j
 set_other flags k j other = grind (arith, elements, other)
 
-set_count : (flags : List Bool) (k : ℕ) → length (slice_set flags k true) ≡ length flags
+pub set_count : (flags : List Bool) (k : ℕ) → length (slice_set flags k true) ≡ length flags
 set_count flags k = grind (arith, elements)
 
 pub no_more : (h a b c : Bool) → c ≡ false → (h || (a && b && c)) ≡ h

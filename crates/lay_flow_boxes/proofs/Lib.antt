@@ -1,4 +1,5 @@
 pub mod AloneSteps
+pub mod AskedSteps
 pub mod FlowBoxSteps
 pub mod FlowFacts
 pub mod InlineContainerSteps

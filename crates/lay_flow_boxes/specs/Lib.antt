@@ -1,4 +1,5 @@
 pub mod AloneInLines
+pub mod AskedContents
 pub mod ContextBlocks
 pub mod FlowShapes
 pub mod InlineContainers

@@ -1,11 +1,11 @@
 //! The content of lines, kept.
 
-ghost use Rattle.std.specs.Prelude.{List, ◌≡◌, ◌≤◌, [], length, Some, IfOk, IfSome};
+ghost use Rattle.std.specs.Prelude.{List, ◌≡◌, ◌≤◌, [], length, Some, None, IfOk, IfSome};
 ghost use Rattle.lay_doc.specs.Tree.{IsTree};
 ghost use Rattle.lay_box_tree.specs.BoxColumns.{box_parents};
 ghost use Rattle.lay_box_tree.specs.declared.box_tree.BoxNode.{BoxNode};
 ghost use Rattle.lay_face.specs.FaceValue.{FaceValue};
-ghost use Rattle.lay_items.specs.InlineContents.{AreContents, kept_at};
+ghost use Rattle.lay_items.specs.InlineContents.{AreContents, AreMarkedContents, kept_at};
 ghost use Rattle.lay_items.specs.InlineSegments.{segments_in};
 
 use crate::container_segments::inline_segments;
@@ -57,7 +57,8 @@ impl InlineContents {
         InlineContents { shared: None }
     }
 
-    /// The content of those of these boxes that are marked, in this face.
+    /// The content of those of these boxes that are marked, in this face. More than 2^32 boxes are want of memory; no
+    /// document has so many.
     pub fn new(
         alloc: Global,
         boxes: &[BoxNode],
@@ -66,10 +67,10 @@ impl InlineContents {
     ) -> Result<InlineContents, NoMemory>
         requires tree { IsTree (box_parents boxes.now) }
         requires count { length marked.now ≡ length boxes.now }
-        ensures { IfOk result (AreContents face.now boxes.now) }
+        ensures { IfOk result (AreMarkedContents face.now boxes.now marked.now) }
     {
         if boxes.len() > MOST_BOXES {
-            return Ok(InlineContents::none());
+            return Err(NoMemory);
         }
         let lists = kept_segments(alloc, boxes, face, marked)?;
         let shared = Arc::new(alloc, KeptSegments { lists })?;
@@ -80,7 +81,9 @@ impl InlineContents {
 
     /// The content of the lines of the box at a place, where it is kept.
     pub fn at(&self, k: usize) -> Option<&[Segment]>
-        ensures { (face : FaceValue) (boxes : List BoxNode) → AreContents face boxes self.now → IfSome result (λ s. s.now ≡ segments_in face boxes k) }
+        ensures some { IfSome result (λ s. kept_at self.now k ≡ Some s.now) }
+        ensures none { result ≡ None → kept_at self.now k ≡ None }
+        ensures content { (face : FaceValue) (boxes : List BoxNode) → AreContents face boxes self.now → IfSome result (λ s. s.now ≡ segments_in face boxes k) }
     {
         match &self.shared {
             Some(kept) => kept.at(k),
@@ -104,7 +107,8 @@ impl InlineContents {
 impl KeptSegments {
     /// What is kept of the box at a place.
     fn at(&self, k: usize) -> Option<&[Segment]>
-        ensures { IfSome result (λ s. kept_at self.now k ≡ Some s.now) }
+        ensures some { IfSome result (λ s. kept_at self.now k ≡ Some s.now) }
+        ensures none { result ≡ None → kept_at self.now k ≡ None }
     {
         match self.lists.get(k) {
             Some(Some(segments)) => Some(segments.as_slice()),
@@ -123,7 +127,7 @@ fn kept_segments(
     requires tree { IsTree (box_parents boxes.now) }
     requires few { length boxes.now ≤ 4294967295 }
     requires count { length marked.now ≡ length boxes.now }
-    ensures { IfOk result (λ v. AreContents face.now boxes.now v.items) }
+    ensures { IfOk result (λ v. AreMarkedContents face.now boxes.now marked.now v.items) }
 {
     let mut lists = Vec::with_capacity(alloc, marked.len())?;
     for k in 0..marked.len() {

@@ -17,3 +17,6 @@ returns c =
     walked.made ∙ ap (λ (m : ℕ). boxes_at_places c.nodes.result.now c.as_slice.result.now (drop m places)) left
     ∙ ap (λ (ns : List Node). boxes_at_places ns c.as_slice.result.now places) c.nodes.ensures.nodes
     ∙ ap (λ (ss : List Style). boxes_at_places c.args.doc.now.nodes ss places) c.as_slice.ensures
+
+pub walk_over-requires-clause-contexts : goal.walk_over-requires-clause-contexts
+walk_over-requires-clause-contexts c j lt = rw (c.nodes.ensures.nodes, c.as_slice.ensures) (c.requires.contexts j lt)

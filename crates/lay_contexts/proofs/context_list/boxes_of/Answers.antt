@@ -39,6 +39,9 @@ module _ (nodes : List Node) (styles : List Style) (places : List ℕ) (n : ℕ)
 pub boxes_of_contexts-requires-clause-within : goal.boxes_of_contexts-requires-clause-within
 boxes_of_contexts-requires-clause-within c j lt = context_within c.args.doc.now.nodes c.args.computed.now (slice_index c.args.places.now j) (c.requires.places.are j lt)
 
+pub boxes_of_contexts-requires-clause-contexts : goal.boxes_of_contexts-requires-clause-contexts
+boxes_of_contexts-requires-clause-contexts c j lt = c.requires.places.are j lt
+
 pub new-requires : goal.new-requires
 new-requires c =
     let nodes = c.args.doc.now.nodes in

@@ -1,9 +1,10 @@
-use Rattle.std.proofs.Common.{◌≡◌, length}
-use Rattle.lay_items.specs.InlineContents.{AreContents}
+use Rattle.std.proofs.Common.{ℕ, ◌≡◌, ◌<◌, false, length, slice_index_or}
+use Rattle.lay_items.specs.InlineContents.{kept_at, kept_where}
+use Rattle.lay_items.specs.InlineSegments.{segments_in}
 use Rattle.lay_items.proofs.inline_contents.kept_segments.Given as goal
 
 abbrev pub invariant-loop-k : goal.invariant-loop-k
 invariant-loop-k l = record {
   count : length l.lists.items ≡ l.k;
-  are : AreContents l.face l.boxes l.lists.items;
+  each : (j : ℕ) → j < l.k → kept_at l.lists.items j ≡ kept_where (slice_index_or l.marked j false) (segments_in l.face l.boxes j);
 }
