@@ -87,7 +87,6 @@ fn put_linefeed(parts: &mut Vec<Part>, lone: bool, advance: Advance) -> Result<(
 }
 
 /// Puts a part behind these.
-#[inline(always)]
 pub(crate) fn push_part(parts: &mut Vec<Part>, part: Part) -> Result<(), NoMemory>
     ensures { OnOk result (parts.new.items ≡ parts.old.items ++ part ∷ []) }
 {

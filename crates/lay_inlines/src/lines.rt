@@ -1,6 +1,7 @@
 //! The pieces of the lines of a block container.
 
-ghost use Rattle.std.specs.Prelude.{◌≡◌, ◌++◌, IfOk, OnOk};
+ghost use Rattle.std.specs.Prelude.{◌≡◌, ◌++◌, [], IsFalse, IfOk, OnOk};
+ghost use Rattle.lay_line_content.specs.LineContents.{boxes_of};
 ghost use Rattle.lay_lines.specs.Lines.{frame_of};
 ghost use Rattle.lay_lines.specs.Rows.{next_frame};
 ghost use Rattle.lay_inlines.specs.Bounds.{GeometryWithin, LineWithin, PensWithin};
@@ -60,33 +61,44 @@ pub fn line_pieces(alloc: Global, lines: &LinesGeometry) -> Result<LinePieceList
             areas: lines.areas,
         };
         let taken = front(rest, row.reach.count);
-        put_row(&mut sheet, &mut pieces, &mut open_boxes, &line, taken)?;
+        put_row(&mut sheet, &mut pieces, &open_boxes, &line, taken)?;
+        pass_row(&mut open_boxes, lines.content.has_boxes(), taken)?;
         frame = next_frame(frame, row.seen);
         rest = back(rest, row.reach.count);
     }
     Ok(LinePieceList::new(pieces))
 }
 
-/// Adds the pieces of a line, where it is seen. The open boxes are then those after it.
+/// Adds the pieces of a line on which these inline boxes are open from its start, where it is seen.
 fn put_row(
     sheet: &mut Sheet,
     out: &mut Vec<LinePiece>,
-    open_boxes: &mut Vec<u32>,
+    open_boxes: &[u32],
     line: &Line,
     taken: &[Stretch],
 ) -> Result<(), NoMemory>
     requires line { LineWithin line.now.container line.now.frame line.now.row.now line.now.areas.now }
     requires pens { PensWithin line.now.frame (blank_of line.now.frame line.now.row.now) (parts_of taken.now) }
-    ensures pieces { OnOk result (out.new.items
-        ≡ out.old.items ++ pieces_if_seen line.now.container line.now.areas.now line.now.frame line.now.row.now open_boxes.old.items
+    ensures { OnOk result (out.new.items
+        ≡ out.old.items ++ pieces_if_seen line.now.container line.now.areas.now line.now.frame line.now.row.now open_boxes.now
         (parts_of taken.now)) }
-    ensures open_boxes { OnOk result (open_boxes.new.items
-        ≡ open_after open_boxes.old.items (parts_of taken.now)) }
 {
     if line.row.seen {
-        sheet.put_line(out, line, open_boxes.as_slice(), taken)?;
+        sheet.put_line(out, line, open_boxes, taken)?;
     }
-    pass(open_boxes, taken)
+    Ok(())
+}
+
+/// Goes over the content of a line: the open boxes are then those after it. None opens where there are no boxes.
+fn pass_row(open_boxes: &mut Vec<u32>, has_boxes: bool, taken: &[Stretch]) -> Result<(), NoMemory>
+    requires none { IsFalse has_boxes → open_boxes.old.items ≡ [] }
+    requires no_boxes { IsFalse has_boxes → boxes_of taken.now ≡ 0 }
+    ensures { OnOk result (open_boxes.new.items ≡ open_after open_boxes.old.items (parts_of taken.now)) }
+{
+    if has_boxes {
+        pass(open_boxes, taken)?;
+    }
+    Ok(())
 }
 
 fn first_frame(lines: &LinesGeometry) -> Frame

@@ -91,7 +91,6 @@ impl Pen {
     }
 
     /// After one part more.
-    #[inline(always)]
     pub fn over(self, frame: &Frame, part: &Part) -> Pen
         requires { PenFits (over frame.now self part.now) }
         ensures { result ≡ over frame.now self part.now }

@@ -4,6 +4,7 @@ pub mod Fronts
 pub mod LineLists
 pub mod LineTops
 pub mod LinesWithin
+pub mod NoBoxes
 pub mod OneLines
 pub mod Reaches
 pub mod RowsWithin

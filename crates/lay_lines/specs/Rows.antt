@@ -11,6 +11,7 @@ use Rattle.lay_line_content.specs.declared.content.Stretch.{Stretch}
 use Rattle.lay_line_content.specs.declared.content.InlineStart.{InlineStart}
 use Rattle.lay_line_content.specs.declared.frame.Extent.{Extent}
 use Rattle.lay_line_content.specs.declared.frame.Frame.{Frame}
+use Rattle.lay_line_content.specs.LineContents.{boxes_of}
 use Rattle.lay_line_content.specs.Pens.{pen_to, seen_to}
 use Rattle.lay_line_content.specs.Extents.{any_shows, reading_to, parts_to, shape_of, height_of}
 use Rattle.lay_lines.specs.declared.reach.Reach.{Reach}
@@ -105,6 +106,11 @@ pub record AreRows (start : Position) (end : Laid) : Type 0 where
   pub count : ℕ
   pub rows : RowsTo count (record { rows = []; position = start }) end
   pub all : end.position.rest ≡ []
+
+-- no inline box is open, and none starts and no atomic box stands in what is left
+pub record OpensNone (open_boxes : List InlineStart) (rest : List Stretch) : Type 0 where
+  pub none : open_boxes ≡ []
+  pub no_boxes : boxes_of rest ≡ 0
 
 -- all that a line can give is within bounds
 pub record CanRow (p : Position) : Type 0 where

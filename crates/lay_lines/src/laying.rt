@@ -8,6 +8,7 @@ ghost use Rattle.lay_lines.specs.Meeting.{IsFront};
 use crate::laws::lines_are_near;
 use crate::line::Line;
 use crate::lists::{NodePlaceList, RowList};
+use crate::rest::Rest;
 use crate::rows::lay_rows;
 use lay_floats::{Floats, place_within};
 use lay_line_content::{Frame, LineContent};
@@ -51,7 +52,11 @@ pub fn lay(
         frame: frame_of(content, left, right),
         top,
     };
-    let rows = lay_rows(alloc, floats, &start, content.stretches())?;
+    let all = Rest {
+        stretches: content.stretches(),
+        has_boxes: content.has_boxes(),
+    };
+    let rows = lay_rows(alloc, floats, &start, all)?;
     Ok(Lines {
         rows: RowList::new(rows.rows),
         places: NodePlaceList::new(rows.places),

@@ -15,6 +15,7 @@ mod lists;
 mod meeting;
 mod met;
 mod reach;
+mod rest;
 mod row;
 mod rows;
 mod taking;

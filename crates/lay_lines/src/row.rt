@@ -1,24 +1,28 @@
 //! One line.
 
-ghost use Rattle.std.specs.Prelude.{◌≡◌, ◌<◌, ◌≤◌, ◌+ℤ◌, ◌||◌, true, if◌then◌else◌, List, length, slice_get, Some, IfOk, IfErr};
+ghost use Rattle.std.specs.Prelude.{◌≡◌, ◌<◌, ◌≤◌, ◌+ℤ◌, ◌||◌, true, if◌then◌else◌, IsFalse, ℕ, List, length, slice_get, Some, IfOk, IfErr};
 ghost use Rattle.lay_units.specs.Units.{IsPosition};
 ghost use Rattle.lay_line_content.specs.declared.content.Stretch.{Stretch as StretchValue};
-ghost use Rattle.lay_line_content.specs.Extents.{any_shows, reading_to, height_of};
+ghost use Rattle.lay_valign.specs.LineShape.{IsShape};
+ghost use Rattle.lay_valign.specs.PartsFit.{PartsFit};
+ghost use Rattle.lay_line_content.specs.Extents.{any_shows, parts_to, reading_to, height_of};
 ghost use Rattle.lay_lines.specs.Filling.{IsTop};
 ghost use Rattle.lay_lines.specs.Meeting.{State, state_of, Meets, CanMeetAll, RoomsFit, FrameFits, IsFront};
 ghost use Rattle.lay_lines.specs.Reaching.{IsReach};
-ghost use Rattle.lay_lines.specs.Rows.{Position, Row, IsFilled, IsRow, CanRow, position_of, row_of};
+ghost use Rattle.lay_lines.specs.Rows.{OpensNone, Position, Row, IsFilled, IsRow, CanRow, position_of, row_of};
 
 use crate::arithmetic::plus;
 use crate::line::Line;
 use crate::meeting::meet_all;
 use crate::met::Met;
 use crate::reach::Reach;
+use crate::rest::Rest;
 use crate::taking::take;
 use crate::top::{Beginning, line_top};
 use lay_floats::{Floats, one_float_place, one_room};
-use lay_line_content::{Extent, InlineStart, Stretch, any_shows, line_shape};
+use lay_line_content::{Extent, Frame, InlineStart, Stretch, any_shows, line_shape};
 use lay_units::{NoMemory, Unit, UnitList};
+use lay_valign::LineShape;
 use std::alloc::Global;
 use std::mem;
 
@@ -46,26 +50,28 @@ pub fn put_row(
     met: &mut Met,
     start: &Line,
     boxes: &mut Vec<InlineStart>,
-    stretches: &[Stretch],
+    rest: &Rest<'_>,
 ) -> Result<Ended, NoMemory>
-    requires some { 0 < length stretches.now }
+    requires some { 0 < length rest.now.stretches.now }
+    requires none { IsFalse rest.now.has_boxes → OpensNone boxes.old.items rest.now.stretches.now }
     requires can { CanRow
-        (position_of start.now.frame start.now.top.0 boxes.old.items stretches.now
+        (position_of start.now.frame start.now.top.0 boxes.old.items rest.now.stretches.now
         (state_of floats.old met.old)) }
     ensures row { IfOk result (λ e. (headed : State) × (filled : State)
-        × IsRow (position_of start.now.frame start.now.top.0 boxes.old.items stretches.now
+        × IsRow (position_of start.now.frame start.now.top.0 boxes.old.items rest.now.stretches.now
         (state_of floats.old met.old)) (row_of e headed filled (state_of floats.new met.new))) }
     ensures boxes { IfOk result (λ e. boxes.new.items
-        ≡ (reading_to start.now.frame boxes.old.items stretches.now e.reach.count).open_boxes) }
-    ensures within { IfOk result (λ e. e.reach.count ≤ length stretches.now) }
+        ≡ (reading_to start.now.frame boxes.old.items rest.now.stretches.now e.reach.count).open_boxes) }
+    ensures within { IfOk result (λ e. e.reach.count ≤ length rest.now.stretches.now) }
     ensures some { IfOk result (λ e. 0 < e.reach.count) }
     ensures stopped { IfErr result (λ _. (r : Row)
-        → IsRow (position_of start.now.frame start.now.top.0 boxes.old.items stretches.now
+        → IsRow (position_of start.now.frame start.now.top.0 boxes.old.items rest.now.stretches.now
         (state_of floats.old met.old)) r → IsFront floats.new r.after.floats) }
 {
     one_float_place();
     one_room();
-    let ended = fill_row(alloc, floats, met, start, boxes, stretches)?;
+    let stretches = rest.stretches;
+    let ended = fill_row(alloc, floats, met, start, boxes, rest)?;
     let waiting = mem::replace(&mut met.put_off, Vec::new(alloc));
     let under = Line {
         frame: start.frame,
@@ -83,23 +89,25 @@ fn fill_row(
     met: &mut Met,
     start: &Line,
     boxes: &mut Vec<InlineStart>,
-    stretches: &[Stretch],
+    rest: &Rest<'_>,
 ) -> Result<Ended, NoMemory>
-    requires some { 0 < length stretches.now }
+    requires some { 0 < length rest.now.stretches.now }
+    requires none { IsFalse rest.now.has_boxes → OpensNone boxes.old.items rest.now.stretches.now }
     requires can { CanRow
-        (position_of start.now.frame start.now.top.0 boxes.old.items stretches.now
+        (position_of start.now.frame start.now.top.0 boxes.old.items rest.now.stretches.now
         (state_of floats.old met.old)) }
     ensures filled { IfOk result (λ e. (headed : State) × ((after : State)
-        → IsFilled (position_of start.now.frame start.now.top.0 boxes.old.items stretches.now
+        → IsFilled (position_of start.now.frame start.now.top.0 boxes.old.items rest.now.stretches.now
         (state_of floats.old met.old)) (row_of e headed (state_of floats.new met.new) after))) }
     ensures boxes { IfOk result (λ e. boxes.new.items
-        ≡ (reading_to start.now.frame boxes.old.items stretches.now e.reach.count).open_boxes) }
+        ≡ (reading_to start.now.frame boxes.old.items rest.now.stretches.now e.reach.count).open_boxes) }
     ensures stopped { IfErr result (λ _. (r : Row)
-        → IsFilled (position_of start.now.frame start.now.top.0 boxes.old.items stretches.now
+        → IsFilled (position_of start.now.frame start.now.top.0 boxes.old.items rest.now.stretches.now
         (state_of floats.old met.old)) r → IsFront floats.new r.filled.floats) }
 {
     one_float_place();
     one_room();
+    let stretches = rest.stretches;
     let Beginning { top, blank } = headed_top(floats, met, start, stretches)?;
     let line = Line {
         frame: start.frame,
@@ -107,7 +115,7 @@ fn fill_row(
     };
     let reach = take(floats, met, &line, stretches, blank)?;
     let seen = is_seen(boxes, reach.is_seen(&start.frame, stretches));
-    let shape = line_shape(alloc, &start.frame, boxes, stretches, reach.count)?;
+    let shape = row_shape(alloc, &start.frame, boxes, rest, reach.count)?;
     let extent = Extent {
         above: shape.above,
         below: shape.below,
@@ -121,6 +129,28 @@ fn fill_row(
         seen,
         to,
     })
+}
+
+/// The shape of a line that takes so much. Where there are no boxes it is that of a line with no content. The open boxes are
+/// then those after it.
+fn row_shape(
+    alloc: Global,
+    frame: &Frame,
+    boxes: &mut Vec<InlineStart>,
+    rest: &Rest<'_>,
+    count: usize,
+) -> Result<LineShape, NoMemory>
+    requires count { count ≤ length rest.now.stretches.now }
+    requires none { IsFalse rest.now.has_boxes → OpensNone boxes.old.items rest.now.stretches.now }
+    requires fits { (n : ℕ) → PartsFit (parts_to frame.now boxes.old.items rest.now.stretches.now n) }
+    ensures shape { IfOk result (λ shape. IsShape (parts_to frame.now boxes.old.items rest.now.stretches.now count) shape) }
+    ensures boxes { IfOk result (λ _. boxes.new.items
+        ≡ (reading_to frame.now boxes.old.items rest.now.stretches.now count).open_boxes) }
+{
+    if rest.has_boxes {
+        return line_shape(alloc, frame, boxes, rest.stretches, count);
+    }
+    line_shape(alloc, frame, boxes, rest.stretches, 0)
 }
 
 fn is_seen(boxes: &Vec<InlineStart>, taken: bool) -> bool

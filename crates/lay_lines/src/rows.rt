@@ -1,15 +1,17 @@
 //! The lines of a container.
 
-ghost use Rattle.std.specs.Prelude.{◌≡◌, ◌≤◌, List, [], length, drop, map, IfOk, IfErr};
+ghost use Rattle.std.specs.Prelude.{◌≡◌, List, [], map, IsFalse, IfOk, IfErr};
 ghost use Rattle.lay_units.specs.Units.{IsPosition};
+ghost use Rattle.lay_line_content.specs.LineContents.{boxes_of};
 ghost use Rattle.lay_lines.specs.Meeting.{none_met, IsFront};
 ghost use Rattle.lay_lines.specs.Rows.{Laid, AreRows, CanLay, position_of, next_frame, ended_of};
 
 use crate::line::Line;
 use crate::met::Met;
+use crate::rest::Rest;
 use crate::row::{Ended, put_row};
 use lay_floats::{Floats, NodePlace, one_float_place, one_room};
-use lay_line_content::{Frame, Stretch};
+use lay_line_content::Frame;
 use lay_units::{NoMemory, Unit};
 use std::alloc::Global;
 
@@ -25,17 +27,18 @@ pub fn lay_rows(
     alloc: Global,
     floats: &mut Floats,
     start: &Line,
-    stretches: &[Stretch],
+    content: Rest<'_>,
 ) -> Result<Rows, NoMemory>
-    requires can { CanLay (position_of start.now.frame start.now.top.0 [] stretches.now
+    requires none { IsFalse content.has_boxes → boxes_of content.stretches.now ≡ 0 }
+    requires can { CanLay (position_of start.now.frame start.now.top.0 [] content.stretches.now
         (none_met floats.old)) }
     ensures rows { IfOk result (λ out. (laid : Laid)
-        × AreRows (position_of start.now.frame start.now.top.0 [] stretches.now
+        × AreRows (position_of start.now.frame start.now.top.0 [] content.entry.stretches.now
         (none_met floats.old)) laid × (map ended_of laid.rows ≡ out.rows.items) × (laid.position.from
         ≡ out.end.0) × (laid.position.state.places ≡ out.places.items) × (laid.position.state.floats
         ≡ floats.new)) }
     ensures stopped { IfErr result (λ _. (laid : Laid)
-        → AreRows (position_of start.now.frame start.now.top.0 [] stretches.now
+        → AreRows (position_of start.now.frame start.now.top.0 [] content.entry.stretches.now
         (none_met floats.old)) laid → IsFront floats.new laid.position.state.floats) }
 {
     one_float_place();
@@ -47,11 +50,11 @@ pub fn lay_rows(
         put_off: Vec::new(alloc),
     };
     let mut here = *start;
-    let mut rest = stretches;
-    while !rest.is_empty() {
-        let ended = put_row(alloc, floats, &mut met, &here, &mut boxes, rest)?;
+    let mut rest = content;
+    while !rest.stretches.is_empty() {
+        let ended = put_row(alloc, floats, &mut met, &here, &mut boxes, &rest)?;
         here = next_line(&here, &ended);
-        rest = rest_of(rest, ended.reach.count);
+        rest = rest.behind(ended.reach.count);
         rows.push(ended)?;
     }
     Ok(Rows {
@@ -80,11 +83,4 @@ fn next_line(line: &Line, ended: &Ended) -> Line
         frame,
         top: ended.to,
     }
-}
-
-fn rest_of(stretches: &[Stretch], count: usize) -> &[Stretch]
-    requires { count ≤ length stretches.now }
-    ensures { result.now ≡ drop count stretches.now }
-{
-    &stretches[count..]
 }

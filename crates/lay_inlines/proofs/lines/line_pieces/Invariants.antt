@@ -1,6 +1,6 @@
-use Rattle.std.proofs.Common.{◌≡◌, ◌≤◌, ◌^◌, ◌++◌, drop}
+use Rattle.std.proofs.Common.{◌≡◌, ◌≤◌, ◌^◌, ◌++◌, [], drop}
 use Rattle.lay_units.specs.Units.{IsUsed}
-use Rattle.lay_line_content.specs.LineContents.{spread_of}
+use Rattle.lay_line_content.specs.LineContents.{boxes_of, spread_of}
 use Rattle.lay_inlines.specs.LinePieces.{pieces_of, pieces_from}
 use Rattle.lay_inlines.proofs.lines.line_pieces.Given as goal
 
@@ -12,4 +12,6 @@ invariant-loop-k l = record {
   tab : l.frame.tab ≡ l.lines.content.now.tab;
   indent : IsUsed l.frame.indent.0;
   spread : spread_of l.lines.content.now.tab.0 l.rest ≤ 2 ^ 58;
+  none : boxes_of l.lines.content.now.stretches ≡ 0 → l.open_boxes.items ≡ [];
+  no_boxes : boxes_of l.lines.content.now.stretches ≡ 0 → boxes_of l.rest ≡ 0;
 }

@@ -1,8 +1,10 @@
-use Rattle.std.proofs.Common.{◌∙◌, ◌^◌, [], List, arith, sym, subst}
+use Rattle.std.proofs.Common.{◌∙◌, ◌^◌, [], List, inl, inr, ap, arith, sym, subst}
+use Rattle.std.proofs.lemmas.Bool.{cases_lt}
 use Rattle.lay_floats.specs.declared.placed.Placed.{Placed}
 use Rattle.lay_line_content.specs.declared.content.Stretch.{Stretch}
 use Rattle.lay_line_content.specs.declared.frame.Frame.{Frame}
-use Rattle.lay_line_content.proofs.Outcomes.{at_err}
+use Rattle.lay_line_content.specs.LineContents.{boxes_of}
+use Rattle.lay_line_content.proofs.Outcomes.{at_err, not_both}
 use Rattle.lay_lines.specs.Lines.{AreLines, lines_of, frame_of}
 use Rattle.lay_lines.specs.Meeting.{none_met, IsFront}
 use Rattle.lay_lines.specs.Rows.{AreRows, CanLay, position_of}
@@ -15,7 +17,12 @@ lay_rows-requires c =
     let top = c.args.top.0 in
     let none = none_met c.args.floats.now in
     let can = can_lay_lines c.place_within.ensures content c.args.left c.args.right top c.args.floats.now (2 ^ 60) c.stretches.ensures.fits c.requires.left c.requires.right (omega arith) (omega arith) c.requires.top c.requires.floats in
+    let boxes = boxes_of content.stretches in
     record {
+      none = λ f. ap boxes_of c.stretches.ensures.value ∙ elim (cases_lt 0 boxes) [
+        | inl some ↦ absurd (not_both c.has_boxes.result (c.has_boxes.ensures.1 some) f)
+        | inr least ↦ omega (arith, least)
+      ];
       can = subst (λ (fr : Frame). CanLay (position_of fr top [] c.stretches.result.now none)) (sym c.frame_of.ensures)
           (subst (λ (ss : List Stretch). CanLay (position_of (frame_of content c.args.left c.args.right) top [] ss none)) (sym c.stretches.ensures.value) can);
     }

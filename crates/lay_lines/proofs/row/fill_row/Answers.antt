@@ -13,7 +13,7 @@ pub returns-in_err-top-clause-stopped : goal.returns-in_err-top-clause-stopped
 returns-in_err-top-clause-stopped c =
     let fr = c.args.start.now.frame in
     let from = c.args.start.now.top.0 in
-    let ss = c.args.stretches.now in
+    let ss = c.args.rest.now.stretches.now in
     let st = state_of c.args.floats.now c.args.met.now in
     let p = position_of fr from c.args.boxes.now.items ss st in
     at_err c.from_residual.result _ (λ r f. front_trans _ _ _ (c.in_err-top.ensures.stopped f.first r.headed f.is f.heads) (filled_front p r f))
@@ -22,7 +22,7 @@ pub take-requires-clause-can : goal.take-requires-clause-can
 take-requires-clause-can c =
     let fr = c.args.start.now.frame in
     let from = c.args.start.now.top.0 in
-    let ss = c.args.stretches.now in
+    let ss = c.args.rest.now.stretches.now in
     let st = state_of c.args.floats.now c.args.met.now in
     let p = position_of fr from c.args.boxes.now.items ss st in
     let headed = state_of c.headed_top.new.floats c.headed_top.new.met in
@@ -35,7 +35,7 @@ pub returns-in_err-reach-clause-stopped : goal.returns-in_err-reach-clause-stopp
 returns-in_err-reach-clause-stopped c =
     let fr = c.args.start.now.frame in
     let from = c.args.start.now.top.0 in
-    let ss = c.args.stretches.now in
+    let ss = c.args.rest.now.stretches.now in
     let st = state_of c.args.floats.now c.args.met.now in
     let p = position_of fr from c.args.boxes.now.items ss st in
     let headed = state_of c.headed_top.new.floats c.headed_top.new.met in
@@ -44,14 +44,14 @@ returns-in_err-reach-clause-stopped c =
     let heads = c.in_ok-top.ensures.heads w.0 w.1 in
     at_err c.from_residual-in_err-reach.result _ (λ r f. taking_stopped (record { place = c.one_float_place.ensures; room = c.one_room.ensures }) p w.0 headed top c.take.new.floats r w.1 heads c.in_ok-top.ensures.top c.in_err-reach.ensures.stopped f)
 
-pub line_shape-requires-clause-fits : goal.line_shape-requires-clause-fits
-line_shape-requires-clause-fits c = c.requires.can.parts c.in_ok-reach.reach.count
+pub row_shape-requires-clause-fits : goal.row_shape-requires-clause-fits
+row_shape-requires-clause-fits c = c.requires.can.parts
 
 pub returns-in_err-shape-clause-stopped : goal.returns-in_err-shape-clause-stopped
 returns-in_err-shape-clause-stopped c =
     let fr = c.args.start.now.frame in
     let from = c.args.start.now.top.0 in
-    let ss = c.args.stretches.now in
+    let ss = c.args.rest.now.stretches.now in
     let st = state_of c.args.floats.now c.args.met.now in
     let p = position_of fr from c.args.boxes.now.items ss st in
     let headed = state_of c.headed_top.new.floats c.headed_top.new.met in
@@ -69,7 +69,7 @@ pub row_end-to-requires-clause-end : goal.row_end-to-requires-clause-end
 row_end-to-requires-clause-end c =
     let fr = c.args.start.now.frame in
     let from = c.args.start.now.top.0 in
-    let ss = c.args.stretches.now in
+    let ss = c.args.rest.now.stretches.now in
     let st = state_of c.args.floats.now c.args.met.now in
     let p = position_of fr from c.args.boxes.now.items ss st in
     let headed = state_of c.headed_top.new.floats c.headed_top.new.met in
@@ -90,7 +90,7 @@ pub returns-clause-filled : goal.returns-clause-filled
 returns-clause-filled c =
     let fr = c.args.start.now.frame in
     let from = c.args.start.now.top.0 in
-    let ss = c.args.stretches.now in
+    let ss = c.args.rest.now.stretches.now in
     let st = state_of c.args.floats.now c.args.met.now in
     let p = position_of fr from c.args.boxes.now.items ss st in
     let headed = state_of c.headed_top.new.floats c.headed_top.new.met in

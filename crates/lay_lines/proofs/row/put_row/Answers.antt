@@ -11,7 +11,7 @@ pub meet_all-requires-clause-top : goal.meet_all-requires-clause-top
 meet_all-requires-clause-top c =
     let fr = c.args.start.now.frame in
     let from = c.args.start.now.top.0 in
-    let ss = c.args.stretches.now in
+    let ss = c.args.rest.now.stretches.now in
     let st = state_of c.args.floats.now c.args.met.now in
     let p = position_of fr from c.args.boxes.now.items ss st in
     let y = c.in_ok-ended.ended.to.0 in
@@ -24,7 +24,7 @@ pub meet_all-requires-clause-floats : goal.meet_all-requires-clause-floats
 meet_all-requires-clause-floats c =
     let fr = c.args.start.now.frame in
     let from = c.args.start.now.top.0 in
-    let ss = c.args.stretches.now in
+    let ss = c.args.rest.now.stretches.now in
     let st = state_of c.args.floats.now c.args.met.now in
     let p = position_of fr from c.args.boxes.now.items ss st in
     let y = c.in_ok-ended.ended.to.0 in
@@ -41,7 +41,7 @@ pub returns-clause-row : goal.returns-clause-row
 returns-clause-row c =
     let fr = c.args.start.now.frame in
     let from = c.args.start.now.top.0 in
-    let ss = c.args.stretches.now in
+    let ss = c.args.rest.now.stretches.now in
     let st = state_of c.args.floats.now c.args.met.now in
     let p = position_of fr from c.args.boxes.now.items ss st in
     let y = c.in_ok-ended.ended.to.0 in
@@ -62,14 +62,14 @@ pub returns-clause-some : goal.returns-clause-some
 returns-clause-some c =
     let w = c.in_ok-ended.ensures.filled in
     let f = w.1 (state_of c.args.floats.now c.args.met.now) in
-    takes_some c.args.start.now.frame c.in_ok-ended.ended.top.0 c.args.stretches.now w.0 c.in_ok-ended.ended.reach.count c.requires.some
-    (top_fits c.args.start.now.frame c.in_ok-ended.ended.top.0 c.args.stretches.now w.0.floats f.top_is.begins) f.count_is
+    takes_some c.args.start.now.frame c.in_ok-ended.ended.top.0 c.args.rest.now.stretches.now w.0 c.in_ok-ended.ended.reach.count c.requires.some
+    (top_fits c.args.start.now.frame c.in_ok-ended.ended.top.0 c.args.rest.now.stretches.now w.0.floats f.top_is.begins) f.count_is
 
 pub returns-in_err-ended-clause-stopped : goal.returns-in_err-ended-clause-stopped
 returns-in_err-ended-clause-stopped c =
     let fr = c.args.start.now.frame in
     let from = c.args.start.now.top.0 in
-    let ss = c.args.stretches.now in
+    let ss = c.args.rest.now.stretches.now in
     let st = state_of c.args.floats.now c.args.met.now in
     let p = position_of fr from c.args.boxes.now.items ss st in
     at_err c.from_residual.result _ (λ r a. front_trans _ _ _ (c.in_err-ended.ensures.stopped r a.filled) (row_front p r a))
@@ -78,7 +78,7 @@ pub returns-in_err-meet_all-clause-stopped : goal.returns-in_err-meet_all-clause
 returns-in_err-meet_all-clause-stopped c =
     let fr = c.args.start.now.frame in
     let from = c.args.start.now.top.0 in
-    let ss = c.args.stretches.now in
+    let ss = c.args.rest.now.stretches.now in
     let st = state_of c.args.floats.now c.args.met.now in
     let p = position_of fr from c.args.boxes.now.items ss st in
     let y = c.in_ok-ended.ended.to.0 in
