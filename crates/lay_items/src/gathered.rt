@@ -78,7 +78,7 @@ fn with_cluster(before: Option<ClusterWidth>, width: ClusterWidth) -> ClusterWid
 }
 
 /// Whether both widths are added up.
-pub fn are_small(a: Unit, b: Unit) -> bool
+fn are_small(a: Unit, b: Unit) -> bool
     ensures { result ≡ (is_small a.0 && is_small b.0) }
 {
     is_small(a) && is_small(b)

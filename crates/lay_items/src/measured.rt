@@ -1,15 +1,16 @@
 //! Texts with the widths of their clusters.
 
-ghost use Rattle.std.specs.Prelude.{◌≡◌, slice_get, IfOk};
+ghost use Rattle.std.specs.Prelude.{◌≡◌, false, slice_get, IfOk, IfSome};
 ghost use Rattle.lay_units.specs.Units.{IsUsed};
 ghost use Rattle.lay_style.specs.LengthValues.{length_of, size_of};
-ghost use Rattle.lay_face.specs.Clusters.{widths_of};
+ghost use Rattle.lay_face.specs.Clusters.{IsUsedSetting, widths_of};
+ghost use Rattle.lay_space.specs.CleanTexts.{IsClean};
 ghost use Rattle.lay_items.specs.GatheredWidths.{gathered};
 ghost use Rattle.lay_items.specs.InlineSegments.{measured, measured_item, setting_of, widths_in};
 
 use crate::gathered::gathered;
 use crate::open_boxes::push_item;
-use crate::plain_texts::plain_gathered;
+use crate::plain_texts::{clean_gathered, plain_gathered};
 use lay_box_tree::BoxNode;
 use lay_face::{Face, Setting, is_plain};
 use lay_space::{Item, ItemList};
@@ -63,7 +64,7 @@ fn measured_item(
 }
 
 /// The widths of the words and spaces of a text of the box at a place, and none where no box is there.
-pub fn widths_at(
+fn widths_at(
     alloc: Global,
     face: &Face,
     boxes: &[BoxNode],
@@ -78,9 +79,24 @@ pub fn widths_at(
     }
 }
 
+/// The same of a text in a style, where a look at its characters says that white space processing leaves it as it is.
+pub fn clean_widths(
+    alloc: Global,
+    face: &Face,
+    style: &TextStyle,
+    text: &str,
+) -> Result<Option<WidthList>, NoMemory>
+    ensures { IfOk result (λ o. IfSome o (λ l. IsClean false text.now × (l ≡ gathered text.now (widths_of face.now (setting_of style.now) text.now)))) }
+{
+    if text.len() > MOST_TEXT {
+        return Ok(None);
+    }
+    clean_gathered(alloc, face, setting_of(style), text.as_bytes())
+}
+
 /// The widths of the words and spaces of a text in a style. No document has a text of more than 2^20 bytes; for one
 /// there would be no memory.
-fn text_widths(
+pub fn text_widths(
     alloc: Global,
     face: &Face,
     style: &TextStyle,
@@ -92,20 +108,18 @@ fn text_widths(
         return Err(NoMemory);
     }
     let set = setting_of(style);
-    face.widths_fit(text, set.size, set.letter, set.word);
     let bytes = text.as_bytes();
     if is_plain(bytes) {
         return plain_gathered(alloc, face, set, bytes);
     }
+    face.widths_fit(text, set.size, set.letter, set.word);
     let widths = face.cluster_widths(alloc, text, set.size, set.letter, set.word)?;
     gathered(alloc, bytes, widths.as_slice())
 }
 
 fn setting_of(style: &TextStyle) -> Setting
     ensures value { result ≡ setting_of style.now }
-    ensures size { IsUsed result.size.0 }
-    ensures letter { IsUsed result.letter.0 }
-    ensures word { IsUsed result.word.0 }
+    ensures used { IsUsedSetting result }
 {
     Setting {
         size: size_of(style.font_size),

@@ -1,20 +1,20 @@
 //! Containers that hold one text.
 
-ghost use Rattle.std.specs.Prelude.{◌≡◌, ◌<◌, ◌≤◌, ◌∷◌, [], length, drop, true, false, IfOk, IfSome};
+ghost use Rattle.std.specs.Prelude.{◌≡◌, ◌<◌, ◌≤◌, ◌∷◌, [], length, drop, true, false, Some, IfOk, IfSome};
 ghost use Rattle.lay_doc.specs.Tree.{IsTree};
 ghost use Rattle.lay_box_tree.specs.BoxColumns.{box_parents};
 ghost use Rattle.lay_box_tree.specs.Roles.{role_of};
 ghost use Rattle.lay_box_tree.specs.declared.box_role.Role.TheVariants as role;
 ghost use Rattle.lay_space.specs.WhiteSpace.{text_left};
-ghost use Rattle.lay_items.specs.InlineItems.{items_below};
-ghost use Rattle.lay_items.specs.InlineSegments.{items_in};
+ghost use Rattle.lay_items.specs.InlineItems.{items_below, mode_of};
+ghost use Rattle.lay_items.specs.InlineSegments.{items_in, widths_in};
 
-use crate::measured::widths_at;
+use crate::measured::{clean_widths, text_widths};
 use crate::modes::mode_of;
 use lay_box_tree::{BoxKind, BoxNode, Role};
 use lay_face::Face;
-use lay_space::{Item, Mode, clean};
-use lay_units::NoMemory;
+use lay_space::Item;
+use lay_units::{NoMemory, WidthList};
 use std::alloc::Global;
 
 /// The text of a container that holds it alone, with its widths, where white space processing leaves it as it is. None also
@@ -39,10 +39,13 @@ pub fn one_text(
     let BoxKind::Text(text) = &node.kind else {
         return Ok(None);
     };
-    if !is_text_in(node, container) || !stays(mode, text.as_str()) {
+    if !is_text_in(node, container) {
         return Ok(None);
     }
-    let widths = widths_at(alloc, face, boxes, place as u32, text.as_str())?;
+    let found = widths_if_it_stays(alloc, face, node, text.as_str())?;
+    let Some(widths) = found else {
+        return Ok(None);
+    };
     Ok(Some(Item::Text {
         node: place as u32,
         text: text.copy(alloc)?,
@@ -70,15 +73,20 @@ fn is_text_in(node: &BoxNode, container: usize) -> bool
     }
 }
 
-/// Whether white space processing leaves a text as it is.
-fn stays(mode: Mode, text: &str) -> bool
-    ensures { result ≡ true → text_left false mode text.now ≡ text.now }
+/// The widths of a text of this box, where a look says that white space processing leaves it as it is.
+fn widths_if_it_stays(
+    alloc: Global,
+    face: &Face,
+    node: &BoxNode,
+    text: &str,
+) -> Result<Option<WidthList>, NoMemory>
+    ensures stays { IfOk result (λ o. IfSome o (λ l. text_left false (mode_of node.now.style.text.white_space) text.now ≡ text.now)) }
+    ensures widths { IfOk result (λ o. IfSome o (λ l. l ≡ widths_in face.now (Some node.now) text.now)) }
 {
-    if !mode.collapses() {
-        return true;
+    let style = &node.style.text;
+    if mode_of(style.white_space).collapses() {
+        let widths = clean_widths(alloc, face, style, text)?;
+        return Ok(widths);
     }
-    match clean(text.as_bytes(), false) {
-        Some(_) => true,
-        None => false,
-    }
+    Ok(Some(text_widths(alloc, face, style, text)?))
 }

@@ -56,7 +56,7 @@ pub fn collapsed(alloc: Global, mode: Mode, text: &str, after_space: bool) -> Re
 
 /// Where white space processing leaves a text that collapses as it is, whether what follows stands after a space. None also
 /// where that isn't seen at a look.
-pub fn clean(text: &[u8], after_space: bool) -> Option<bool>
+fn clean(text: &[u8], after_space: bool) -> Option<bool>
     ensures { IfSome result (λ space. IsClean after_space text.now × (space
         ≡ ends_in_space after_space text.now)) }
 {

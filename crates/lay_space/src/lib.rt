@@ -17,7 +17,6 @@ mod settling;
 mod tokens;
 mod white_space;
 
-pub use collapsing::clean;
 pub use cutting::is_boundary;
 pub use item::{Item, ItemList, Mode};
 pub use laws::{breaks_keep_content, no_space_after_space};

@@ -6,6 +6,6 @@ use Rattle.lay_items.proofs.one_text.one_text.Goals as goal
 pub returns : goal.returns
 returns c =
     rw c.in_ok-copy.ensures
-    (one_text_in c.args.face.now c.args.boxes.now c.args.container c.index-boxes-place.result c.in-Text.text c.mode_of-mode.result c.in_ok-widths.widths (omega (arith, c.if-place-boxes.false))
+    (one_text_in c.args.face.now c.args.boxes.now c.args.container c.index-boxes-place.result c.in-Text.text c.mode_of-mode.result _ (omega (arith, c.if-place-boxes.false))
     c.index-boxes-place.is (c.if-not-is_text_in.ensures.parent refl) (c.if-not-is_text_in.ensures.role refl) (c.if-not-ends_before.ensures refl) (sym (ap text_of c.in-Text.is)) c.mode_of-mode.ensures
-    (rw c.as_str.ensures at (c.if-not-stays.ensures refl)) (rw c.as_str-2.ensures at c.in_ok-widths.ensures))
+    (rw (c.in-Some.is, c.as_str.ensures) at c.in_ok-found.ensures.stays) (rw (c.in-Some.is, c.as_str.ensures) at c.in_ok-found.ensures.widths))

@@ -1,30 +1,32 @@
-use Rattle.std.proofs.Common.{◌∙◌, sym}
-use Rattle.lay_face.proofs.PlainTexts.{plain_fits_at}
-use Rattle.lay_items.proofs.PlainWords.{space_stands, word_begins, word_ends, word_is_wide, word_more, word_stops}
+use Rattle.std.proofs.Common.{◌∙◌, arith, false, slice_index, sym}
+use Rattle.std.proofs.lemmas.Int.{ints}
+use Rattle.lay_items.proofs.PlainWords.{clean_word, in_word, small_both, word_begins, word_more}
 use Rattle.lay_items.proofs.plain_texts.word_at.Goals as goal
 
-pub plain_width-width-requires-clause-width : goal.plain_width-width-requires-clause-width
-plain_width-width-requires-clause-width c = plain_fits_at c.args.face.now c.args.setting _ _ 0 c.requires.inside c.requires.plain c.requires.fits.widths
-
-pub returns-then-parts_words-clause-gathered : goal.returns-then-parts_words-clause-gathered
-returns-then-parts_words-clause-gathered c = space_stands c.args.face.now c.args.setting c.args.text.now _ _ c.requires.inside c.plain_width-width.ensures (sym c.if-parts_words.ensures)
+pub ascii_width-width-requires-clause-ascii : goal.ascii_width-width-requires-clause-ascii
+ascii_width-width-requires-clause-ascii c = (in_word (slice_index c.args.text.now c.args.from) c.requires.begins).0
 
 pub loop-to-init : goal.loop-to-init
-loop-to-init c = word_begins c.args.face.now c.args.setting c.args.text.now _ _ c.requires.inside c.plain_width-width.ensures (sym c.if-parts_words.ensures)
+loop-to-init c =
+    let near = c.ascii_width-width.ensures.near in (
+      word_begins c.args.face.now c.args.setting c.args.text.now _ _ c.requires.inside c.ascii_width-width.ensures.value (in_word (slice_index c.args.text.now c.args.from) c.requires.begins).1,
+      (λ before. clean_word c.args.text.now c.args.from before c.requires.inside c.requires.begins),
+      (omega (arith, ints, near.0), omega (arith, ints, near.1)),
+    )
 
-pub returns-then-parts_words-2-clause-gathered : goal.returns-then-parts_words-2-clause-gathered
-returns-then-parts_words-2-clause-gathered c = c.loop-to.invariant ∙ word_stops c.args.face.now c.args.setting c.args.text.now _ _ c.loop-to-test.true (sym c.if-parts_words-2.ensures)
+pub ascii_width-requires-clause-ascii : goal.ascii_width-requires-clause-ascii
+ascii_width-requires-clause-ascii c = (in_word (slice_index c.args.text.now c.loop-to.to) (sym c.if-not-is_in_word.ensures)).0
 
-pub plain_width-next-requires-clause-width : goal.plain_width-next-requires-clause-width
-plain_width-next-requires-clause-width c = plain_fits_at c.args.face.now c.args.setting _ _ 0 c.loop-to-test.true c.requires.plain c.requires.fits.widths
-
-pub returns-then-not-are_small-clause-gathered : goal.returns-then-not-are_small-clause-gathered
-returns-then-not-are_small-clause-gathered c =
-    c.loop-to.invariant ∙ word_is_wide c.args.face.now c.args.setting c.args.text.now _ _ _ c.loop-to-test.true c.plain_width-next.ensures (sym c.if-parts_words-2.ensures) (sym c.if-not-are_small.ensures)
+pub sum-width-requires : goal.sum-width-requires
+sum-width-requires c = small_both c.loop-to.to _ _ (omega (arith, c.loop-to-test.true, c.requires.short)) c.loop-to.invariant.2 c.ascii_width.ensures.near
 
 pub loop-to-preserved : goal.loop-to-preserved
 loop-to-preserved c =
-    c.loop-to.invariant ∙ word_more c.args.face.now c.args.setting c.args.text.now _ _ _ _ _ c.loop-to-test.true c.plain_width-next.ensures (sym c.if-parts_words-2.ensures) (sym c.if-not-are_small.ensures) c.sum-width.ensures
-
-pub returns-clause-gathered : goal.returns-clause-gathered
-returns-clause-gathered c = c.loop-to.invariant ∙ word_ends c.args.face.now c.args.setting c.args.text.now _ _ c.loop-to-test.false
+    let is = sym c.if-not-is_in_word.ensures in
+    let small = small_both c.loop-to.to _ _ (omega (arith, c.loop-to-test.true, c.requires.short)) c.loop-to.invariant.2 c.ascii_width.ensures.near in
+    let near = c.ascii_width.ensures.near in
+    let before = c.loop-to.invariant.2 in (
+      c.loop-to.invariant.0 ∙ word_more c.args.face.now c.args.setting c.args.text.now _ _ _ _ _ c.loop-to-test.true c.ascii_width.ensures.value (in_word (slice_index c.args.text.now c.loop-to.to) is).1 small c.sum-width.ensures,
+      (λ b rest. c.loop-to.invariant.1 b (clean_word c.args.text.now c.loop-to.to false c.loop-to-test.true is rest)),
+      (omega (arith, ints, near.0, before.0, c.sum-width.ensures), omega (arith, ints, near.1, before.1, c.sum-width.ensures)),
+    )
