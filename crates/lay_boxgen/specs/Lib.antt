@@ -11,5 +11,6 @@ pub mod Contexts
 pub mod CutTrees
 pub mod ContextWalk
 pub mod Laws
+pub mod GeneratedBoxes
 pub mod InnerBoxes
 pub mod TreeLaws

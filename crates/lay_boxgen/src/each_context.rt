@@ -1,9 +1,10 @@
 //! Which nodes of a document are contexts, all at once.
 
-ghost use Rattle.std.specs.Prelude.{◌≡◌, ◌<◌, ◌↔◌, ◌&&◌, IsTrue, IfOk, length};
+ghost use Rattle.std.specs.Prelude.{◌≡◌, ◌<◌, IfOk, length};
 ghost use Rattle.lay_doc.specs.Document.{parents_of};
 ghost use Rattle.lay_doc.specs.Tree.{IsTree};
-ghost use Rattle.lay_boxgen.specs.Contexts.{AreContextFlags, AreFlagsOf, GeneratesBox, IsContextAt, box_at, is_marked};
+ghost use Rattle.lay_boxgen.specs.Contexts.{AreContextFlags};
+ghost use Rattle.lay_boxgen.specs.GeneratedBoxes.{AreGenerated, IsGenerated};
 
 use crate::contexts::{box_at, is_marked, keeps};
 use lay_anonymous_boxes::Facts;
@@ -23,40 +24,33 @@ pub fn context_flags(alloc: Global, doc: &Doc, style: &Computed) -> Result<Vec<b
     let mut generated = Vec::with_capacity(alloc, nodes.len())?;
     let mut contexts = Vec::with_capacity(alloc, nodes.len())?;
     for k in 0..nodes.len() {
-        let facts = box_at(nodes, styles, k);
-        let generates = generates_beside(nodes, styles, &generated, k, facts);
-        let context = is_context_beside(facts, generates);
-        generated.push(generates)?;
-        contexts.push(context)?;
+        let facts = generated_box(nodes, styles, &generated, k);
+        contexts.push(is_marked(facts))?;
+        generated.push(facts)?;
     }
     Ok(contexts)
 }
 
-/// Whether the node at k, whose box by itself is known, generates a box, where that is known of the nodes before it.
-fn generates_beside(
+/// The box that the node at k generates, where it does, and that is known of the nodes before it.
+fn generated_box(
     nodes: &[Node],
     styles: &[Style],
-    generated: &[bool],
+    generated: &[Option<Facts>],
     k: usize,
-    facts: Option<Facts>,
-) -> bool
+) -> Option<Facts>
     requires place { k < length nodes.now }
     requires styles { length styles.now ≡ length nodes.now }
     requires tree { IsTree (parents_of nodes.now) }
-    requires known { AreFlagsOf (GeneratesBox nodes.now styles.now) k generated.now }
-    requires own { facts ≡ box_at nodes.now styles.now k }
-    ensures { IsTrue result ↔ GeneratesBox nodes.now styles.now k }
+    requires known { AreGenerated nodes.now styles.now k generated.now }
+    ensures { IsGenerated nodes.now styles.now k result }
 {
+    let facts = box_at(nodes, styles, k);
     if k == 0 {
-        return facts.is_some();
+        return facts;
     }
-    let parent = parent_at(nodes, k);
-    generated[parent] && keeps(box_at(nodes, styles, parent), facts)
-}
-
-/// Whether a node with this box is a context, where it is known whether it generates one.
-fn is_context_beside(facts: Option<Facts>, generates: bool) -> bool
-    ensures { result ≡ (is_marked facts && generates) }
-{
-    is_marked(facts) && generates
+    let around = generated[parent_at(nodes, k)];
+    if keeps(around, facts) {
+        return facts;
+    }
+    None
 }

@@ -55,35 +55,23 @@ impl<'a> Sources<'a> {
     }
 }
 
-/// The style of a box, which is that of its node or of an anonymous box there. It is large, and copied where the box
-/// is made.
+/// The style of a box, which is that of its node or of an anonymous box there. It is large, and copied once, into the
+/// box.
 #[derive(Clone, Copy)]
 struct BoxStyle<'a> {
     style: &'a Style,
     anonymous: bool,
 }
 
-impl BoxStyle<'_> {
-    fn value(self) -> Style
-        ensures { result ≡ box_style self.entry.anonymous self.entry.style.now }
-    {
-        if self.anonymous {
-            anonymous_style(self.style)
-        } else {
-            *self.style
-        }
-    }
-}
-
-/// The kind of a box of this form, whose node has this text.
-fn kind_of(form: Form, text: Text) -> BoxKind
-    ensures { result ≡ kind_of text form }
+/// The kind of a box. That of a text has the text of its node.
+fn kind_of(alloc: Global, sources: Sources<'_>, facts: Facts) -> Result<BoxKind, NoMemory>
+    ensures { IfOk result (λ k. k ≡ kind_of (text_at sources.entry.nodes.now facts.place) facts.form) }
 {
-    match form {
+    Ok(match facts.form {
         Form::Block => BoxKind::Block,
         Form::InlineBlock => BoxKind::InlineBlock,
         Form::Inline => BoxKind::Inline,
-        Form::Text(_) => BoxKind::Text(text),
+        Form::Text(_) => BoxKind::Text(sources.text_at(alloc, facts.place)?),
         Form::Replaced { w, h, inline } => BoxKind::Replaced { w, h, inline },
         Form::Wrapper => BoxKind::Wrapper,
         Form::InlineWrapper => BoxKind::InlineWrapper,
@@ -97,7 +85,7 @@ fn kind_of(form: Form, text: Text) -> BoxKind
         Form::Column { span } => BoxKind::Column { span },
         Form::Cell { colspan, rowspan } => BoxKind::Cell { colspan, rowspan },
         Form::Anchor => BoxKind::Anchor,
-    }
+    })
 }
 
 /// A box that has others below it, and its place in the list.
@@ -130,17 +118,27 @@ fn push_box(
     let Some(style) = sources.style_below(parent.facts, facts) else {
         return Err(NoMemory);
     };
-    let text = sources.text_at(alloc, facts.place)?;
-    out.push(BoxNode {
+    let mut node = BoxNode {
         node: facts.node,
         parent: parent.place,
-        kind: kind_of(facts.form, text),
+        kind: kind_of(alloc, sources, facts)?,
         flow: facts.flow,
         anonymous: facts.anonymous,
         inner: facts.inner,
-        style: style.value(),
-    })?;
+        style: *style.style,
+    };
+    inherit_alone(style.anonymous, &mut node);
+    out.push(node)?;
     Ok(())
+}
+
+/// Makes the style of a box that of an anonymous one, where it is to be.
+fn inherit_alone(anonymous: bool, node: &mut BoxNode)
+    ensures { node.new ≡ record node.old { style = box_style anonymous node.old.style } }
+{
+    if anonymous {
+        node.style = anonymous_style(&node.style);
+    }
 }
 
 /// Puts the boxes of a tree below a box at the end of `out`.
