@@ -6,7 +6,7 @@ use Rattle.std.proofs.lemmas.Bool.{cases_eq, eq-eqb, ne_eqb}
 use Rattle.std.proofs.lemmas.Bool.Decides.{nat_tests}
 use Rattle.std.proofs.lemmas.Grind.{elements}
 use Rattle.std.proofs.lemmas.List.{reverse-append, take_more}
-use Rattle.std.proofs.lemmas.List.Folds.{find-append}
+use Rattle.std.proofs.lemmas.List.Folds.{find-append, list_any_more}
 use Rattle.lay_inlines.specs.declared.line_piece.LinePiece.{LinePiece}
 use Rattle.lay_pieces.specs.declared.corner.Corner.{Corner}
 use Rattle.lay_placement.specs.AtomicCorners.{atomic_piece, corner_among, corner_of_piece, has_atomic, is_atomic, is_atomic_of}
@@ -94,3 +94,6 @@ none_among (p ∷ ps) k c none =
     let first : is_atomic p.kind ≡ false = first_false (is_atomic p.kind) (has_atomic ps) none in
     let is : is_atomic_of k p ≡ false = rw first refl in
     among_more (p ∷ []) ps k c ∙ ap (corner_among ps k) (sym (other_piece p k c is)) ∙ none_among ps k c (second_false (is_atomic p.kind) (has_atomic ps) none)
+
+pub none_more : (pieces : List LinePiece) (i : ℕ) (d : LinePiece) → i < length pieces → has_atomic (take i pieces) ≡ false → is_atomic (slice_index_or pieces i d).kind ≡ false → has_atomic (take (i + 1) pieces) ≡ false
+none_more pieces i d lt none here = rw (list_any_more (λ p. is_atomic p.kind) pieces i d lt, none) here

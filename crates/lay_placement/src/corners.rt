@@ -54,7 +54,7 @@ fn has_atomic(pieces: &[LinePiece]) -> bool
     ensures { result ≡ has_atomic pieces.now }
 {
     for i in 0..pieces.len() {
-        if matches!(pieces[i].kind, LinePieceKind::Atomic) {
+        if is_atomic(pieces[i].kind) {
             return true;
         }
     }
@@ -126,7 +126,13 @@ fn put_atomic(corners: &mut Vec<Corner>, piece: LinePiece) -> Result<(), NoMemor
 fn is_atomic_among(piece: LinePiece, count: usize) -> bool
     ensures { result ≡ (is_atomic piece.kind && nat_lt piece.node count) }
 {
-    matches!(piece.kind, LinePieceKind::Atomic) && (piece.node as usize) < count
+    is_atomic(piece.kind) && (piece.node as usize) < count
+}
+
+fn is_atomic(kind: LinePieceKind) -> bool
+    ensures { result ≡ is_atomic kind }
+{
+    matches!(kind, LinePieceKind::Atomic)
 }
 
 fn corner_of_piece(piece: LinePiece) -> Result<Corner, NoMemory>
