@@ -13,6 +13,7 @@ use lay_line_content::{LineFloat, LineFloatList, Part, PartList, Stretch};
 use lay_space::{Item, Segment};
 use lay_units::NoMemory;
 use std::alloc::Global;
+use std::mem;
 
 /// The stretches of the content of a container.
 pub(crate) fn stretches_of(
@@ -24,41 +25,18 @@ pub(crate) fn stretches_of(
     ensures { IfOk result (λ v. v.items ≡ stretches_of measures.now container true segments.now) }
 {
     let mut stretches = Vec::with_capacity(alloc, segments.len())?;
-    let mut begins = true;
-    for k in 0..segments.len() {
-        let stretch = stretch_of(alloc, measures, container, begins, &segments[k])?;
-        stretches.push(stretch)?;
-        begins = segments[k].forced;
-    }
-    Ok(stretches)
-}
-
-/// A segment, of which `begins` says whether it surely begins a line.
-fn stretch_of(
-    alloc: Global,
-    measures: &BoxMeasures<'_>,
-    container: Container,
-    begins: bool,
-    segment: &Segment,
-) -> Result<Stretch, NoMemory>
-    ensures { IfOk result (λ s. s ≡ stretch_of measures.now container begins segment.now) }
-{
     let mut measured = Measured {
         heads: Vec::new(alloc),
-        parts: Vec::new(alloc),
+        parts: Vec::with_capacity(alloc, 2)?,
         floats: Vec::new(alloc),
-        ahead: begins,
+        ahead: true,
     };
-    let items = segment.items.as_slice();
-    for k in 0..items.len() {
-        measured.put(measures, container, &items[k])?;
+    for k in 0..segments.len() {
+        let stretch = measured.stretch_of(alloc, measures, container, &segments[k])?;
+        stretches.push(stretch)?;
+        measured.ahead = segments[k].forced;
     }
-    Ok(Stretch {
-        heads: LineFloatList::new(measured.heads),
-        parts: PartList::new(measured.parts),
-        floats: LineFloatList::new(measured.floats),
-        forced: segment.forced,
-    })
+    Ok(stretches)
 }
 
 /// What was measured of a segment, and whether no content came yet where a line begins.
@@ -71,6 +49,36 @@ struct Measured {
 }
 
 impl Measured {
+    /// A segment, of which `ahead` says whether it surely begins a line. Nothing is measured before, and nothing is left.
+    fn stretch_of(
+        &mut self,
+        alloc: Global,
+        measures: &BoxMeasures<'_>,
+        container: Container,
+        segment: &Segment,
+    ) -> Result<Stretch, NoMemory>
+        requires heads { self.old.heads.items ≡ [] }
+        requires parts { self.old.parts.items ≡ [] }
+        requires floats { self.old.floats.items ≡ [] }
+        ensures stretch { IfOk result (λ s. s ≡ stretch_of measures.now container self.old.ahead segment.now) }
+        ensures heads { OnOk result (self.new.heads.items ≡ []) }
+        ensures parts { OnOk result (self.new.parts.items ≡ []) }
+        ensures floats { OnOk result (self.new.floats.items ≡ []) }
+    {
+        let items = segment.items.as_slice();
+        for k in 0..items.len() {
+            self.put(measures, container, &items[k])?;
+        }
+        let parts = PartList::copied(alloc, &self.parts)?;
+        self.parts.clear();
+        Ok(Stretch {
+            heads: LineFloatList::new(mem::replace(&mut self.heads, Vec::new(alloc))),
+            parts,
+            floats: LineFloatList::new(mem::replace(&mut self.floats, Vec::new(alloc))),
+            forced: segment.forced,
+        })
+    }
+
     fn put(
         &mut self,
         measures: &BoxMeasures<'_>,

@@ -94,6 +94,7 @@ fn put_last(alloc: Global, done: &mut Vec<Stretch>, parts: &mut Vec<Part>) -> Re
 }
 
 /// Puts a stretch of these parts, of which none are left.
+#[inline(always)]
 fn put_stretch(
     alloc: Global,
     done: &mut Vec<Stretch>,

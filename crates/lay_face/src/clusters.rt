@@ -2,6 +2,7 @@
 
 ghost use Rattle.std.specs.Prelude.{
   ◌≡◌,
+  ◌≢◌,
   ◌<◌,
   if◌then◌else◌,
   pos,
@@ -122,6 +123,19 @@ impl Face {
         with_spacings(advance, word, setting.letter)
     }
 
+    /// The same of a character that is neither a space nor a linefeed.
+    pub fn letter_width(&self, byte: u8, setting: Setting) -> Unit
+        requires ascii { byte < 128 }
+        requires space { byte ≢ 32 }
+        requires linefeed { byte ≢ 10 }
+        requires used { IsUsedSetting setting }
+        ensures value { result.0 ≡ plain_width_of self.now setting byte }
+        ensures near { IsNear result.0 }
+    {
+        let advance = self.ascii_advance(byte, setting.size);
+        with_spacings(advance, Unit(0), setting.letter)
+    }
+
     fn cluster_width(&self, cluster: &str, setting: Setting) -> Unit
         requires setting { SettingFits self.now setting }
         requires width { IsPosition (cluster_width self.now setting cluster.now) }
@@ -227,6 +241,7 @@ pub fn is_plain(text: &[u8]) -> bool
 }
 
 /// Puts a width, in 1/64 px, of what begins at this byte of a text behind these.
+#[inline(always)]
 pub fn put_width(widths: &mut Vec<ClusterWidth>, place: usize, width: Unit) -> Result<(), NoMemory>
     ensures { OnOk result (widths.new.items ≡ widths.old.items ++ record {
       place = place;

@@ -124,6 +124,12 @@ in_word b is =
     let first = and_parts (nat_lt b 128) (not (parts_words b)) last.0 in
     (ltb-true b 128 first.0, isnt (parts_words b) first.1, differs b 13 (isnt (b == 13) last.1))
 
+pub letter : (b : ℕ) → is_in_word b ≡ true → (b ≢ 32) × (b ≢ 10)
+letter b is =
+    let own = in_word b is in
+    let first = neither (b == 32) (b == 10) (neither (b == 32 || b == 10) (b == 9) own.1).0 in
+    (differs b 32 first.0, differs b 10 first.1)
+
 -- what is no character of a word of a plain text
 pub between_words : (b : ℕ) → b < 128 → b ≢ 13 → is_in_word b ≡ false → parts_words b ≡ true
 between_words b below other is = by (parts_words b) (sym (rw (lt-ltb b 128 below, ne_eqb b 13 other) refl) ∙ is)

@@ -121,6 +121,7 @@ fn clean_part_at(
 }
 
 /// The word that begins at a place of a text. It ends before what isn't in a word.
+#[inline(always)]
 fn word_at(face: &Face, setting: Setting, text: &[u8], from: usize) -> Word
     requires short { length text.now ≤ 1048576 }
     requires used { IsUsedSetting setting }
@@ -133,12 +134,12 @@ fn word_at(face: &Face, setting: Setting, text: &[u8], from: usize) -> Word
     ensures forward { from < result.to }
     ensures inside { result.to ≤ length text.now }
 {
-    let mut width = face.ascii_width(text[from], setting);
+    let mut width = face.letter_width(text[from], setting);
     for to in from + 1..text.len() {
         if !is_in_word(text[to]) {
             return Word { to, width };
         }
-        width = sum(width, face.ascii_width(text[to], setting));
+        width = sum(width, face.letter_width(text[to], setting));
     }
     Word {
         to: text.len(),
