@@ -89,7 +89,7 @@ fn boxes_of(
     let mut all = Vec::with_capacity(alloc, places.len())?;
     for _ in 0..places.len() {
         let Some(tree) = trees.pop() else {
-            return Err(NoMemory);
+            unreachable!();
         };
         let boxes = ContextBoxes::new(alloc, tree)?;
         all.push(boxes)?;
