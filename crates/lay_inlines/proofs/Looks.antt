@@ -1,5 +1,5 @@
 -- Strokes that show the same.
-use Rattle.std.proofs.Common.{◌≡◌, ◌∙◌, ℕ, zero, suc, length, slice_set, get_or, ◌||◌, ℤ, Bool, List, [], ◌∷◌, ◌++◌, refl, sym, ap}
+use Rattle.std.proofs.Common.{◌≡◌, ◌∙◌, ◌||◌, ℤ, Bool, List, [], ◌∷◌, ◌++◌, refl, sym, ap, subst}
 use Rattle.std.specs.List.{All}
 use Rattle.std.proofs.lemmas.List.{append-nil, append_assoc}
 use Rattle.std.proofs.lemmas.List.Elements.{All-nil, All-cons, All-head, All-tail}
@@ -63,13 +63,7 @@ same_edges xs ys areas l = ap (right_edges areas) (sym (append-nil xs)) ∙ l.ed
 pub same_spans : (xs ys : List Stroke) (areas : List InlineArea) (end : ℤ) → LookAs xs ys → spans_of areas end xs ≡ spans_of areas end ys
 same_spans xs ys areas end l = ap (spans_of areas end) (sym (append-nil xs)) ∙ l.spans areas end [] ∙ ap (spans_of areas end) (append-nil ys)
 
--- the last of some strokes, where it reaches over one more
-pub last_reaches : (ss : List Stroke) (k : ℕ) (new s d : Stroke) → length ss ≡ suc k → LookAs (new ∷ []) (get_or ss k d ∷ s ∷ [])
-    → LookAs (slice_set ss k new) (ss ++ s ∷ [])
-last_reaches [] k new s d e l = absurd cc
-last_reaches (x ∷ []) zero new s d e l = l
-last_reaches (x ∷ []) (suc k) new s d e l = absurd cc
-last_reaches (x ∷ y ∷ ys) zero new s d e l = absurd cc
-last_reaches (x ∷ y ∷ ys) (suc k) new s d e l =
-    let is : length (y ∷ ys) ≡ suc k = cc in
-    looks_after_one x (slice_set (y ∷ ys) k new) ((y ∷ ys) ++ s ∷ []) (last_reaches (y ∷ ys) k new s d is l)
+-- the last of some strokes reaches over one more
+pub reaches_over : (front : List Stroke) (last new s : Stroke) → LookAs (new ∷ []) (last ∷ s ∷ []) → LookAs (front ++ new ∷ []) ((front ++ last ∷ []) ++ s ∷ [])
+reaches_over front last new s l =
+    subst (λ (ss : List Stroke). LookAs (front ++ new ∷ []) ss) (sym (append_assoc front (last ∷ []) (s ∷ []))) (looks_after front (new ∷ []) (last ∷ s ∷ []) l)

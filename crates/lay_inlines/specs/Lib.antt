@@ -7,4 +7,5 @@ pub mod Looks
 pub mod OpenBoxes
 pub mod Raises
 pub mod Spans
+pub mod StrokeLists
 pub mod Strokes

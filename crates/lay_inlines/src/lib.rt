@@ -17,6 +17,7 @@ mod open_boxes;
 mod raises;
 mod slices;
 mod spans;
+mod stroke_list;
 mod strokes;
 
 pub use align::Align;

@@ -11,7 +11,8 @@ use crate::line_piece::{LinePiece, LinePieceKind};
 use crate::lines::Container;
 use crate::raises::{Raises, behind_strut};
 use crate::spans::{Behind, Ends, OpenBoxes, Span, area_at};
-use crate::strokes::{Stroke, draw};
+use crate::stroke_list::StrokeList;
+use crate::strokes::draw;
 use lay_line_content::{Frame, InlineArea, Pen, Stretch};
 use lay_lines::Ended;
 use lay_units::{NoMemory, Rect, Unit};
@@ -37,17 +38,17 @@ pub struct Origin {
 #[derive(Drop)]
 pub(crate) struct Sheet {
     alloc: Global,
-    strokes: Vec<Stroke>,
+    strokes: StrokeList,
     behind: Behind,
 }
 
 impl Sheet {
     pub(crate) fn new(alloc: Global) -> Sheet
-        ensures { result.strokes.items ≡ [] }
+        ensures { result.strokes ≡ [] }
     {
         Sheet {
             alloc,
-            strokes: Vec::new(alloc),
+            strokes: StrokeList::new(alloc),
             behind: Behind::new(alloc),
         }
     }
@@ -75,12 +76,12 @@ impl Sheet {
             start: blank.at,
             end: last.solid,
         };
-        let strokes = self.strokes.as_slice();
         let open_boxes = OpenBoxes {
             nodes: open_boxes,
             raises: behind_strut(shifts),
         };
-        self.behind.fill(line.areas, strokes, &open_boxes, ends)?;
+        self.behind
+            .fill(line.areas, &self.strokes, &open_boxes, ends)?;
         out.push(line_box(line.container.node, line.row))?;
         write(
             out,

@@ -11,6 +11,7 @@ use crate::arithmetic::{minus, plus};
 use crate::line_piece::LinePieceKind;
 use crate::raises::raise_at;
 use crate::slices::from_end;
+use crate::stroke_list::StrokeList;
 use crate::strokes::{Shown, Stroke, is_content, place, shown_of};
 use lay_line_content::InlineArea;
 use lay_units::{NoMemory, Unit};
@@ -74,7 +75,7 @@ impl Behind {
     pub(crate) fn fill(
         &mut self,
         areas: &[InlineArea],
-        strokes: &[Stroke],
+        strokes: &StrokeList,
         open_boxes: &OpenBoxes,
         ends: Ends,
     ) -> Result<(), NoMemory>
@@ -98,7 +99,7 @@ impl Behind {
     fn put_all(
         &mut self,
         areas: &[InlineArea],
-        strokes: &[Stroke],
+        strokes: &StrokeList,
         end: Unit,
     ) -> Result<(), NoMemory>
         requires spans { self.old.spans.items ≡ [] }
@@ -113,7 +114,7 @@ impl Behind {
         ensures within { OnOk result (BehindWithin self.new) }
     {
         for done in 0..strokes.len() {
-            self.put(areas, from_end(strokes, done), end)?;
+            self.put(areas, strokes.from_end(done), end)?;
         }
         Ok(())
     }

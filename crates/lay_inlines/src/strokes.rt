@@ -8,6 +8,7 @@ ghost use Rattle.lay_inlines.specs.Strokes.{is_content, shown_of, place, stroke_
 ghost use Rattle.lay_line_content.specs.Pens.{over_all};
 
 use crate::raises::Raises;
+use crate::stroke_list::StrokeList;
 use lay_line_content::{Frame, Part, Pen, Stretch};
 use lay_units::{NoMemory, Unit};
 
@@ -33,14 +34,14 @@ pub enum Shown {
 
 /// Adds the strokes of these stretches, from a pen. The answer is the pen after them, and the raises are then those there.
 pub fn draw(
-    out: &mut Vec<Stroke>,
+    out: &mut StrokeList,
     raises: &mut Raises,
     frame: &Frame,
     pen: Pen,
     stretches: &[Stretch],
 ) -> Result<Pen, NoMemory>
     requires { PensWithin frame.now pen (parts_of stretches.now) }
-    ensures strokes { OnOk result (LookAs out.new.items (out.old.items ++ strokes frame.now pen raises.old (parts_of stretches.now))) }
+    ensures strokes { OnOk result (LookAs out.new (out.old ++ strokes frame.now pen raises.old (parts_of stretches.now))) }
     ensures raises { OnOk result (raises.new ≡ raises_after_all raises.old (parts_of stretches.now)) }
     ensures pen { IfOk result (λ p. p ≡ over_all frame.now pen (parts_of stretches.now)) }
 {
@@ -52,14 +53,14 @@ pub fn draw(
 }
 
 fn draw_parts(
-    out: &mut Vec<Stroke>,
+    out: &mut StrokeList,
     raises: &mut Raises,
     frame: &Frame,
     pen: Pen,
     parts: &[Part],
 ) -> Result<Pen, NoMemory>
     requires { PensWithin frame.now pen parts.now }
-    ensures strokes { OnOk result (LookAs out.new.items (out.old.items ++ strokes frame.now pen raises.old parts.now)) }
+    ensures strokes { OnOk result (LookAs out.new (out.old ++ strokes frame.now pen raises.old parts.now)) }
     ensures raises { OnOk result (raises.new ≡ raises_after_all raises.old parts.now) }
     ensures pen { IfOk result (λ p. p ≡ over_all frame.now pen parts.now) }
 {
@@ -76,13 +77,13 @@ fn draw_parts(
 /// Adds the stroke of a part between these pens, or lets the last one reach over it too where both are bits of one text, so
 /// that a line has few. The raises are then those behind it.
 fn put(
-    out: &mut Vec<Stroke>,
+    out: &mut StrokeList,
     raises: &mut Raises,
     part: &Part,
     before: &Pen,
     after: &Pen,
 ) -> Result<(), NoMemory>
-    ensures strokes { OnOk result (LookAs out.new.items (out.old.items ++ stroke_of part.now (raise_of raises.old part.now) before.now after.now ∷ [])) }
+    ensures strokes { OnOk result (LookAs out.new (out.old ++ stroke_of part.now (raise_of raises.old part.now) before.now after.now ∷ [])) }
     ensures raises { OnOk result (raises.new ≡ raises_after raises.old part.now) }
 {
     if !reach_over(out, raises, part, before, after) {
@@ -100,7 +101,7 @@ fn put(
 /// Lets the last of these reach over a part too, which stands between these pens, if both are bits of one text. Whether
 /// they are.
 fn reach_over(
-    strokes: &mut [Stroke],
+    strokes: &mut StrokeList,
     raises: &Raises,
     part: &Part,
     before: &Pen,
@@ -110,12 +111,13 @@ fn reach_over(
     ensures raises { IsTrue result → raises_after raises.now part.now ≡ raises.now }
     ensures apart { IsFalse result → strokes.new ≡ strokes.old }
 {
-    let count = strokes.len();
-    if count == 0 || !goes_on(&strokes[count - 1], raises, part, before, after) {
-        return false;
+    if let Some(last) = &mut strokes.last {
+        if goes_on(last, raises, part, before, after) {
+            last.after = *after;
+            return true;
+        }
     }
-    strokes[count - 1].after = *after;
-    true
+    false
 }
 
 /// Whether a part between these pens shows one more bit of the text of which the stroke before it shows a bit. A space at

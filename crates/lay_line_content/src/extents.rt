@@ -10,8 +10,8 @@ use crate::budgets::boxes_of_part;
 use crate::content::{InlineStart, Part, Stretch};
 use crate::frame::{Extent, Frame};
 use crate::line_parts::LineParts;
-use lay_units::{NoMemory, Unit, UnitList};
-use lay_valign::{LineShape, align};
+use lay_units::{NoMemory, Unit};
+use lay_valign::{LineShape, ShiftList, align};
 use std::alloc::Global;
 
 /// Whether one of these inline boxes makes each line seen that it is on: it has a margin, a border or a padding at its top or
@@ -45,23 +45,21 @@ pub fn line_shape(
         ≡ (reading_to frame.now boxes.old.items stretches.now count).open_boxes) }
 {
     if boxes.is_empty() && has_no_boxes(stretches, count) {
-        return strut_shape(alloc, frame.strut);
+        return Ok(strut_shape(frame.strut));
     }
     let line = line_parts(alloc, frame, boxes, stretches, count)?;
     align(alloc, line.as_slice())
 }
 
 /// The shape of a line of text alone, in no inline box: its only part is the strut.
-fn strut_shape(alloc: Global, strut: Extent) -> Result<LineShape, NoMemory>
-    ensures { IfOk result (λ shape. IsShape (strut_alone strut).parts shape) }
+fn strut_shape(strut: Extent) -> LineShape
+    ensures { IsShape (strut_alone strut).parts result }
 {
-    let mut shifts = Vec::new(alloc);
-    shifts.push(Unit(0))?;
-    Ok(LineShape {
-        shifts: UnitList::new(shifts),
+    LineShape {
+        shifts: ShiftList::one(Unit(0)),
         above: strut.above,
         below: strut.below,
-    })
+    }
 }
 
 /// Whether no inline box starts and no atomic box stands in the first stretches.

@@ -21,8 +21,8 @@ use crate::taking::take;
 use crate::top::{Beginning, line_top};
 use lay_floats::{Floats, one_float_place, one_room};
 use lay_line_content::{Extent, Frame, InlineStart, Stretch, any_shows, line_shape};
-use lay_units::{NoMemory, Unit, UnitList};
-use lay_valign::LineShape;
+use lay_units::{NoMemory, Unit};
+use lay_valign::{LineShape, ShiftList};
 use std::alloc::Global;
 use std::mem;
 
@@ -35,7 +35,7 @@ pub struct Ended {
     /// How far the baseline of each part of the line stands above the strut's: of the strut itself, of the inline
     /// boxes that are open at the line's start, outermost first, and then in order of each inline box that starts on
     /// the line and each atomic box on it.
-    pub shifts: UnitList,
+    pub shifts: ShiftList,
     /// How far the line box reaches above and below the strut's baseline (CSS 2.2, 10.8.1).
     pub extent: Extent,
     pub seen: bool,

@@ -3,6 +3,7 @@ pub mod Raises
 pub mod Subtrees
 pub mod LineShape
 pub mod PartsFit
+pub mod ShiftLists
 pub mod Near
 pub mod Laws
 pub mod Pass

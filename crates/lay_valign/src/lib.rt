@@ -12,9 +12,11 @@ mod parts;
 mod reaches;
 mod rises;
 mod roots;
+mod shift_list;
 mod subtrees;
 mod sums;
 
 pub use laws::{one_shape, shapes_are_near};
 pub use line::align;
 pub use parts::{LineShape, Part, Shift};
+pub use shift_list::ShiftList;

@@ -11,9 +11,10 @@ ghost use Rattle.lay_valign.specs.Pass.Columns.{IsWithin, SubtreesFit};
 ghost use Rattle.lay_valign.specs.Pass.Shifts.{AreShiftsTo};
 
 use crate::parts::{LineEdge, LineShape, Part, Shift, part_of};
+use crate::shift_list::ShiftList;
 use crate::subtrees::Subtrees;
 use crate::sums::{difference, narrow, sum};
-use lay_units::{NoMemory, Unit, UnitList};
+use lay_units::{NoMemory, Unit};
 use std::alloc::Global;
 
 /// The shape of the line with these parts, of which the first is the strut.
@@ -70,7 +71,7 @@ fn shifts_of(
     subtrees: &Subtrees,
     above: Unit,
     below: Unit,
-) -> Result<UnitList, NoMemory>
+) -> Result<ShiftList, NoMemory>
     requires parts { PartsFit parts.now }
     requires subtrees { SubtreesFit parts.now subtrees.now }
     requires line { IsLine parts.now subtrees.now above.0 below.0 }
@@ -80,7 +81,7 @@ fn shifts_of(
     for k in 0..parts.len() {
         shifts.push(shift(parts, subtrees, above, below, k))?;
     }
-    Ok(UnitList::new(shifts))
+    Ok(ShiftList::new(shifts))
 }
 
 fn shift(parts: &[Part], subtrees: &Subtrees, above: Unit, below: Unit, k: usize) -> Unit

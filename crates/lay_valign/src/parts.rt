@@ -3,7 +3,8 @@
 ghost use Rattle.std.specs.Prelude.{◌≡◌, ◌<◌, length};
 ghost use Rattle.lay_valign.specs.Parts.{begins, is_aligned, part_at};
 
-use lay_units::{Unit, UnitList};
+use crate::shift_list::ShiftList;
+use lay_units::Unit;
 
 /// How a part is aligned (CSS 2.2, 10.8.1). `By` raises its baseline so far above its parent's: it
 /// serves `baseline`, `sub`, `super`, lengths and percentages. `Middle` has the parent's x-height,
@@ -33,7 +34,7 @@ pub struct Part {
 /// above and below that.
 #[derive(Drop)]
 pub struct LineShape {
-    pub shifts: UnitList,
+    pub shifts: ShiftList,
     pub above: Unit,
     pub below: Unit,
 }

@@ -32,10 +32,10 @@ loop-k-preserved c =
     let pen = c.in_ok-pen.ensures.pen ∙ ap (λ (xs : List Part). over_all fr p xs) same in
     let raises = c.in_ok-pen.ensures.raises ∙ ap (λ (xs : List Part). raises_after_all r xs) same in
     let all = subst (λ (xs : List Part). PensWithin fr p xs) more c.loop-k.invariant.fits in
-    let strokes_here = subst (λ (xs : List Part). LookAs c.draw_parts.new.out.items (c.loop-k.out.items ++ strokes fr p r xs)) same c.in_ok-pen.ensures.strokes in
+    let strokes_here = subst (λ (xs : List Part). LookAs c.draw_parts.new.out (c.loop-k.out ++ strokes fr p r xs)) same c.in_ok-pen.ensures.strokes in
     record {
-      strokes = looks_through _ _ _ (draw_more fr p c.in_ok-pen.pen r c.draw_parts.new.raises here.parts rest c.loop-k.out.items c.draw_parts.new.out.items strokes_here pen raises)
-          (subst (λ (xs : List Part). LookAs (c.loop-k.out.items ++ strokes fr p r xs) (c.args.out.now.items ++ strokes fr c.args.pen c.args.raises.now (parts_of c.args.stretches.now)))
+      strokes = looks_through _ _ _ (draw_more fr p c.in_ok-pen.pen r c.draw_parts.new.raises here.parts rest c.loop-k.out c.draw_parts.new.out strokes_here pen raises)
+          (subst (λ (xs : List Part). LookAs (c.loop-k.out ++ strokes fr p r xs) (c.args.out.now ++ strokes fr c.args.pen c.args.raises.now (parts_of c.args.stretches.now)))
           more c.loop-k.invariant.strokes);
       raises = ap (λ (s : RaisesValue). raises_after_all s rest) raises ∙ sym (raises-append r here.parts rest)
           ∙ ap (λ (xs : List Part). raises_after_all r xs) (sym more) ∙ c.loop-k.invariant.raises;

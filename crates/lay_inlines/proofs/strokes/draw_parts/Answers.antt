@@ -27,8 +27,8 @@ loop-k-preserved c =
     let pen = c.over-after.ensures in
     let raises = c.in_ok-put.ensures.raises in
     record {
-      strokes = looks_through _ _ _ (drawn_more fr p c.over-after.result r c.put.new.raises _ _ rest c.loop-k.out.items c.put.new.out.items pen refl raises c.in_ok-put.ensures.strokes)
-          (subst (λ (ys : List Part). LookAs (c.loop-k.out.items ++ strokes fr p r ys) (c.args.out.now.items ++ strokes fr c.args.pen c.args.raises.now xs)) more old.strokes);
+      strokes = looks_through _ _ _ (drawn_more fr p c.over-after.result r c.put.new.raises _ _ rest c.loop-k.out c.put.new.out pen refl raises c.in_ok-put.ensures.strokes)
+          (subst (λ (ys : List Part). LookAs (c.loop-k.out ++ strokes fr p r ys) (c.args.out.now ++ strokes fr c.args.pen c.args.raises.now xs)) more old.strokes);
       raises = ap (λ (s : RaisesValue). raises_after_all s rest) raises ∙ sym (ap (λ (ys : List Part). raises_after_all r ys) more) ∙ old.raises;
       pen = ap (λ (q : Pen). over_all fr q rest) pen ∙ sym (ap (λ (ys : List Part). over_all fr p ys) more) ∙ old.pen;
       fits = subst (λ (q : Pen). PensWithin fr q rest) (sym pen) (next_within fr p xs c.loop-k.k _ (search rules) old.fits);

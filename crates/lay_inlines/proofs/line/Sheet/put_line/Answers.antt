@@ -30,9 +30,9 @@ fill-requires-clause-strokes c =
     let r = raises_of row.shifts (length c.args.open_boxes.now) in
     let xs = parts_of c.args.taken.now in
     let raises : c.in_ok-raises.raises ≡ r = c.in_ok-raises.ensures ∙ ap (λ (us : List Unit). raises_of us (length c.args.open_boxes.now)) c.as_slice-shifts.ensures in
-    let e : c.clear.new.self.items ++ strokes fr c.blank-blank.result c.in_ok-raises.raises xs ≡ strokes fr p r xs = (λ i. c.clear.ensures.items i ++ strokes fr (c.blank-blank.ensures i) (raises i) xs) in
+    let e : c.clear.new.self ++ strokes fr c.blank-blank.result c.in_ok-raises.raises xs ≡ strokes fr p r xs = (λ i. c.clear.ensures i ++ strokes fr (c.blank-blank.ensures i) (raises i) xs) in
     let drawn = c.in_ok-last.ensures.strokes.within (All-same StrokeWithin _ (strokes fr p r xs) e (strokes_within fr p r xs c.requires.pens (start_within row.shifts (length c.args.open_boxes.now) c.requires.line.row.shifts))) in
-    All-same StrokeWithin c.as_slice-strokes.result.now c.draw.new.out.items c.as_slice-strokes.ensures.value drawn
+    drawn
 
 pub fill-requires-clause-start : goal.fill-requires-clause-start
 fill-requires-clause-start c =
@@ -67,15 +67,15 @@ returns c =
     let p = blank_of fr row in
     let r = raises_of row.shifts (length ns) in
     let exact = strokes fr p r xs in
-    let drawn = c.draw.new.out.items in
+    let drawn = c.draw.new.out in
     let shifts = c.as_slice-shifts.ensures in
     let raises : c.in_ok-raises.raises ≡ r = c.in_ok-raises.ensures ∙ ap (λ (us : List Unit). raises_of us (length ns)) shifts in
-    let e : c.clear.new.self.items ++ strokes fr c.blank-blank.result c.in_ok-raises.raises xs ≡ exact = (λ i. c.clear.ensures.items i ++ strokes fr (c.blank-blank.ensures i) (raises i) xs) in
+    let e : c.clear.new.self ++ strokes fr c.blank-blank.result c.in_ok-raises.raises xs ≡ exact = (λ i. c.clear.ensures i ++ strokes fr (c.blank-blank.ensures i) (raises i) xs) in
     let looks = subst (λ (ss : List Stroke). LookAs drawn ss) e c.in_ok-last.ensures.strokes in
     let last : c.in_ok-last.last ≡ over_all fr p xs = c.in_ok-last.ensures.pen ∙ ap (λ (q : Pen). over_all fr q xs) c.blank-blank.ensures in
-    let edges : right_edges areas c.as_slice-strokes.result.now ≡ right_edges areas exact = ap (right_edges areas) c.as_slice-strokes.ensures.value ∙ same_edges drawn exact areas looks in
-    let shown : spans_of areas c.in_ok-last.last.solid.0 c.as_slice-strokes.result.now ≡ spans_of areas (over_all fr p xs).solid.0 exact =
-    (λ i. spans_of areas (last i).solid.0 (c.as_slice-strokes.ensures.value i)) ∙ same_spans drawn exact areas (over_all fr p xs).solid.0 looks in
+    let edges : right_edges areas drawn ≡ right_edges areas exact = same_edges drawn exact areas looks in
+    let shown : spans_of areas c.in_ok-last.last.solid.0 drawn ≡ spans_of areas (over_all fr p xs).solid.0 exact =
+    (λ i. spans_of areas (last i).solid.0 drawn) ∙ same_spans drawn exact areas (over_all fr p xs).solid.0 looks in
     let strut : c.behind_strut.result.now ≡ behind_strut row.shifts = c.behind_strut.ensures ∙ ap behind_strut shifts in
     let spans : reverse c.fill.new.self.spans.items ≡ line_spans areas fr row ns xs =
     c.in_ok-fill.ensures.spans ∙ (λ i. open_spans (c.blank-blank.ensures i).at.0 (last i).solid.0 (edges i) (strut i) ns ++ shown i) in
