@@ -96,7 +96,7 @@ impl Face {
     }
 
     /// The width of a character of a plain text, in 1/64 px: below 2^62 units in absolute value, and 0 for a linefeed.
-    pub fn plain_width(&self, byte: u8, setting: Setting) -> Unit
+    fn plain_width(&self, byte: u8, setting: Setting) -> Unit
         requires setting { SettingFits self.now setting }
         requires width { IsPosition (plain_width_of self.now setting byte) }
         ensures { result.0 ≡ plain_width_of self.now setting byte }
@@ -108,7 +108,8 @@ impl Face {
         spaced(width, setting.letter)
     }
 
-    /// The same of a character of ASCII where the lengths of the setting are used lengths: at most 2^36 units from 0.
+    /// The width of a character of ASCII, in 1/64 px, where the lengths of the setting are used lengths: 0 for a linefeed, and at
+    /// most 2^36 units from 0.
     pub fn ascii_width(&self, byte: u8, setting: Setting) -> Unit
         requires ascii { byte < 128 }
         requires used { IsUsedSetting setting }
@@ -123,7 +124,7 @@ impl Face {
         with_spacings(advance, word, setting.letter)
     }
 
-    /// The same of a character that is neither a space nor a linefeed.
+    /// The same of a character that is neither a space nor a linefeed (CSS 2.2, 16.4): its advance and `letter-spacing`.
     pub fn letter_width(&self, byte: u8, setting: Setting) -> Unit
         requires ascii { byte < 128 }
         requires space { byte ≢ 32 }

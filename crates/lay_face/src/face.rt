@@ -163,7 +163,8 @@ impl Face {
         let _ = &self.table;
     }
 
-    /// The advance of a character of ASCII at a used font size, rounded down.
+    /// The advance of a character of ASCII at a used font size, in 1/64 px, rounded down: at most ten times the greatest used
+    /// length from 0.
     pub fn ascii_advance(&self, byte: u8, size: Unit) -> Unit
         requires ascii { byte < 128 }
         requires size { IsUsed size.0 }

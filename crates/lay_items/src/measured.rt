@@ -79,21 +79,6 @@ fn widths_at(
     }
 }
 
-/// The same of a text in a style, where a look at its characters says that white space processing leaves it as it is.
-pub fn clean_widths(
-    alloc: Global,
-    face: &Face,
-    style: &TextStyle,
-    text: &str,
-) -> Result<Option<WidthList>, NoMemory>
-    ensures { IfOk result (λ o. IfSome o (λ l. IsClean false text.now × (l ≡ gathered text.now (widths_of face.now (setting_of style.now) text.now)))) }
-{
-    if text.len() > MOST_TEXT {
-        return Ok(None);
-    }
-    clean_gathered(alloc, face, setting_of(style), text.as_bytes())
-}
-
 /// The widths of the words and spaces of a text in a style. No document has a text of more than 2^20 bytes; for one
 /// there would be no memory.
 pub fn text_widths(
@@ -115,6 +100,21 @@ pub fn text_widths(
     face.widths_fit(text, set.size, set.letter, set.word);
     let widths = face.cluster_widths(alloc, text, set.size, set.letter, set.word)?;
     gathered(alloc, bytes, widths.as_slice())
+}
+
+/// The same where a look at the characters says that white space processing leaves the text as it is.
+pub fn clean_widths(
+    alloc: Global,
+    face: &Face,
+    style: &TextStyle,
+    text: &str,
+) -> Result<Option<WidthList>, NoMemory>
+    ensures { IfOk result (λ o. IfSome o (λ l. IsClean false text.now × (l ≡ gathered text.now (widths_of face.now (setting_of style.now) text.now)))) }
+{
+    if text.len() > MOST_TEXT {
+        return Ok(None);
+    }
+    clean_gathered(alloc, face, setting_of(style), text.as_bytes())
 }
 
 fn setting_of(style: &TextStyle) -> Setting
