@@ -17,7 +17,7 @@ use lay_units::{NoMemory, Rect, Unit};
 impl PieceList {
     /// Puts behind these those of an anonymous formatting context whose box is so wide and stands so, each counted from the
     /// corner of that box. NoMemory is also the answer where one comes to stand more than 2^60 units away, or there are
-    /// more than 2^31.
+    /// more than 2^31; then the first of them may stand there.
     pub fn push_spliced(
         &mut self,
         width: Unit,
