@@ -1,5 +1,5 @@
 -- What stands on the lines of the boxes of one formatting context (CSS 2.2, 9.4.2), in document order.
-use Rattle.std.specs.Prelude.{ℕ, zero, suc, ◌≡◌, ◌<◌, List, [], ◌++◌, length, slice_index_or}
+use Rattle.std.specs.Prelude.{ℕ, zero, suc, ◌≡◌, ◌<◌, Bool, true, false, List, [], ◌++◌, length, slice_index_or}
 use Rattle.lay_style.specs.declared.style_words.TextAlign.{TextAlign}
 use Rattle.lay_style.specs.declared.style_words.TextAlign.TheVariants as align
 use Rattle.lay_style.specs.ComputedStyle.{style_at}
@@ -46,6 +46,11 @@ pieces_on_lines m places k (float b) = []
 pieces_on_lines m places k (line_float b) = []
 pieces_on_lines m places k inline = []
 
+-- only such a box has any
+abbrev pub holds_lines : FlowKind → Bool
+holds_lines (lines l) = true
+holds_lines _ = false
+
 abbrev pub on_lines_of : PlaceInput → ContextPlaces → ℕ → List LinePiece
 on_lines_of i p k = pieces_on_lines (measures_of i p) p.places k (box_at p.shape.flow_boxes k).kind
 
@@ -54,11 +59,10 @@ abbrev pub on_lines_to : PlaceInput → ContextPlaces → ℕ → List LinePiece
 on_lines_to i p zero = []
 on_lines_to i p (suc k) = on_lines_to i p k ++ on_lines_of i p k
 
--- what is kept of the lines of each box
+-- what is kept of the lines of each box: nothing, where no box holds lines
 abbrev pub on_lines_at : List (List LinePiece) → ℕ → List LinePiece
 on_lines_at all k = slice_index_or all k []
 
 -- this is what stands on them
 pub record AreOnLines (i : PlaceInput) (p : ContextPlaces) (all : List (List LinePiece)) : Type 0 where
-  pub count : length all ≡ length i.boxes
   pub each : (k : ℕ) → k < length i.boxes → on_lines_at all k ≡ on_lines_of i p k

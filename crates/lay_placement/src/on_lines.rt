@@ -1,6 +1,6 @@
 //! What stands on the lines of the boxes of one formatting context.
 
-ghost use Rattle.std.specs.Prelude.{◌≡◌, ◌<◌, ◌≤◌, All, length, IfOk};
+ghost use Rattle.std.specs.Prelude.{ℕ, ◌≡◌, ◌<◌, ◌≤◌, All, IsFalse, false, length, IfOk};
 ghost use Rattle.lay_content.specs.InlineBoxes.{areas_of};
 ghost use Rattle.lay_blocks.specs.Boxes.{box_at};
 ghost use Rattle.lay_blocks.specs.FlowBoxes.{KindFits};
@@ -8,7 +8,7 @@ ghost use Rattle.lay_flow_boxes.specs.FlowShapes.{most_flow_boxes};
 ghost use Rattle.lay_inlines.specs.Bounds.{AreaWithin, RowWithin};
 ghost use Rattle.lay_placement.specs.ContextPlaces.{measures_of, rows_at};
 ghost use Rattle.lay_placement.specs.Counts.{HaveCounts};
-ghost use Rattle.lay_placement.specs.OnLines.{AreOnLines, align_of, line_container, on_lines_at, on_lines_of};
+ghost use Rattle.lay_placement.specs.OnLines.{AreOnLines, align_of, holds_lines, line_container, on_lines_at, on_lines_of};
 
 use crate::context_places::{BoxPlaces, rows_at};
 use lay_blocks::{BlockBox, FlowBox, FlowBoxes, FlowKind};
@@ -21,8 +21,41 @@ use lay_style::TextAlign;
 use lay_units::NoMemory;
 use std::alloc::Global;
 
-/// What stands on the lines of each box of a context, in the order of the boxes.
+/// What stands on the lines of each box of a context, in the order of the boxes. Nothing is kept where no box holds lines.
 pub(crate) fn on_lines_of(
+    alloc: Global,
+    input: &PlaceInput,
+    places: &BoxPlaces,
+) -> Result<Vec<LinePieceList>, NoMemory>
+    requires counts { HaveCounts input.now.boxes places.now }
+    ensures { IfOk result (λ v. AreOnLines input.now places.now v.items) }
+{
+    if !has_lines(places.shape.flow_boxes().as_slice()) {
+        return Ok(Vec::new(alloc));
+    }
+    on_lines_of_each(alloc, input, places)
+}
+
+/// Whether one of these boxes holds lines.
+fn has_lines(flow_boxes: &[FlowBox]) -> bool
+    ensures { IsFalse result → (k : ℕ) → k < length flow_boxes.now → holds_lines (box_at flow_boxes.now k).kind ≡ false }
+{
+    for k in 0..flow_boxes.len() {
+        if holds_lines(kind_in(flow_boxes, k)) {
+            return true;
+        }
+    }
+    false
+}
+
+fn holds_lines(kind: &FlowKind) -> bool
+    ensures { result ≡ holds_lines kind.now }
+{
+    matches!(kind, FlowKind::Lines(_))
+}
+
+/// The same, where a box may hold lines: what stands on those of each.
+fn on_lines_of_each(
     alloc: Global,
     input: &PlaceInput,
     places: &BoxPlaces,
@@ -42,10 +75,12 @@ pub(crate) fn on_lines_of(
 
 /// What stands on the lines of the box at k, where this is kept of all.
 pub(crate) fn on_lines_at(on_lines: &[LinePieceList], k: usize) -> &[LinePiece]
-    requires { k < length on_lines.now }
     ensures { result.now ≡ on_lines_at on_lines.now k }
 {
-    on_lines[k].as_slice()
+    match on_lines.get(k) {
+        Some(pieces) => pieces.as_slice(),
+        None => &[],
+    }
 }
 
 /// What is painted of each box on its lines.

@@ -6,7 +6,7 @@ ghost use Rattle.lay_relative.specs.MoveBounds.{IsMoveNear};
 ghost use Rattle.lay_flow_boxes.specs.ContextBlocks.{content_left, is_anchor};
 ghost use Rattle.lay_pieces.specs.Corners.{IsCornerNear, IsNear};
 ghost use Rattle.lay_pieces.specs.Standings.{AreNearStandings, IsStandingNear};
-ghost use Rattle.lay_placement.specs.BoxStandings.{border_height, moved_corner, resting_corner, standing_of_box, standings_to};
+ghost use Rattle.lay_placement.specs.BoxStandings.{border_height, corner_of_box, moved_corner, resting_corner, standing_of_box, standings_to};
 ghost use Rattle.lay_placement.specs.Counts.{HaveCounts};
 ghost use Rattle.lay_placement.specs.OnLines.{AreOnLines};
 ghost use Rattle.lay_placement.specs.Restings.{IsResting};
@@ -15,7 +15,7 @@ ghost use Rattle.lay_placement.specs.StaticPositions.{static_position};
 use crate::anchor_lines::anchor_lines;
 use crate::columns::{length_at, own_box_at, place_at, sizes_at, sum_of};
 use crate::context_places::{BoxPlaces, move_of};
-use crate::corners::corners_of;
+use crate::corners::{corner_in_flow, corners_of};
 use lay_box_tree::Role;
 use lay_flow_boxes::PlaceInput;
 use lay_inlines::LinePieceList;
@@ -100,7 +100,20 @@ fn resting_corner(of: &Resting<'_>, k: usize) -> Result<Corner, NoMemory>
     if is_anchor(of.input.role(k)) {
         return static_position(of, k);
     }
-    Ok(of.corners[k])
+    Ok(kept_corner(of, k))
+}
+
+/// Where the flow or lines put the border box of the box at k.
+fn kept_corner(of: &Resting<'_>, k: usize) -> Corner
+    requires resting { IsResting of.now.input.now of.now.places.now of.now.corners.now of.now.tops.now }
+    requires place { k < length of.now.input.now.boxes }
+    ensures corner { result ≡ corner_of_box of.now.input.now of.now.places.now k }
+    ensures near { IsCornerNear result }
+{
+    match of.corners.get(k) {
+        Some(corner) => *corner,
+        None => corner_in_flow(of.places, k),
+    }
 }
 
 /// Where an absolutely positioned box would stand in flow, whose anchor is the box at k (CSS 2.2, 9.6).

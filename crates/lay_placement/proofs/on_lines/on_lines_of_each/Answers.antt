@@ -2,7 +2,7 @@ use Rattle.std.proofs.Common.{arith}
 use Rattle.std.proofs.lemmas.Grind.{elements}
 use Rattle.lay_placement.specs.OnLines.{on_lines_of}
 use Rattle.lay_placement.proofs.OnLineSteps.{one_more}
-use Rattle.lay_placement.proofs.on_lines.on_lines_of.Goals as goal
+use Rattle.lay_placement.proofs.on_lines.on_lines_of_each.Goals as goal
 
 pub loop-k-preserved : goal.loop-k-preserved
 loop-k-preserved c =

@@ -1,6 +1,6 @@
 use Rattle.std.proofs.Common.{◌≡◌, ◌<◌, ℕ, length}
 use Rattle.lay_placement.specs.OnLines.{on_lines_at, on_lines_of}
-use Rattle.lay_placement.proofs.on_lines.on_lines_of.Given as goal
+use Rattle.lay_placement.proofs.on_lines.on_lines_of_each.Given as goal
 
 abbrev pub invariant-loop-k : goal.invariant-loop-k
 invariant-loop-k l = record {
