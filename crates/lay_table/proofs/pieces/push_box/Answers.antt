@@ -14,7 +14,7 @@ returns-in-Own c =
     let wide = c.own_width.ensures in
     let piece = rw (stands, wide) at c.piece_of.ensures in
     let is : pieces_of_box c.args.input.now c.args.places.now c.args.k ≡ c.piece_of.result ∷ [] = rw piece (own_piece c.args.input.now c.args.places.now c.args.k inner extent) in
-    rw is c.push.ensures
+    rw is c.push.ensures.ok
 
 pub returns-in_ok-width-in-Columns : goal.returns-in_ok-width-in-Columns
 returns-in_ok-width-in-Columns c =
@@ -24,4 +24,4 @@ returns-in_ok-width-in-Columns c =
     let wide = c.in_ok-width-in-Columns.ensures {u = tt} in
     let piece = rw (stands, wide) at c.piece_of-in-Columns.ensures in
     let is : pieces_of_box c.args.input.now c.args.places.now c.args.k ≡ c.piece_of-in-Columns.result ∷ [] = rw piece (column_piece c.args.input.now c.args.places.now c.args.k inner extent) in
-    rw is c.push-in-Columns.ensures
+    rw is c.push-in-Columns.ensures.ok
