@@ -1,12 +1,12 @@
 //! Where the boxes of one formatting context stand.
 
-ghost use Rattle.std.specs.Prelude.{◌≡◌, ◌<◌, true, length, IfOk};
+ghost use Rattle.std.specs.Prelude.{◌≡◌, ◌<◌, true, false, length, IfOk};
 ghost use Rattle.lay_box_tree.specs.Roles.{role_at};
 ghost use Rattle.lay_relative.specs.MoveBounds.{IsMoveNear};
 ghost use Rattle.lay_flow_boxes.specs.ContextBlocks.{content_left, is_anchor};
 ghost use Rattle.lay_pieces.specs.Corners.{IsCornerNear, IsNear};
 ghost use Rattle.lay_pieces.specs.Standings.{AreNearStandings, IsStandingNear};
-ghost use Rattle.lay_placement.specs.BoxStandings.{border_height, corner_of_box, moved_corner, resting_corner, standing_of_box, standings_to};
+ghost use Rattle.lay_placement.specs.BoxStandings.{border_height, corner_of_box, moved_corner, standing_of_box, standings_to};
 ghost use Rattle.lay_placement.specs.Counts.{HaveCounts};
 ghost use Rattle.lay_placement.specs.OnLines.{AreOnLines};
 ghost use Rattle.lay_placement.specs.Restings.{IsResting};
@@ -71,11 +71,29 @@ fn standing_of_box(of: &Resting<'_>, k: usize) -> Result<Standing, NoMemory>
     ensures standing { IfOk result (λ s. s ≡ standing_of_box of.now.input.now of.now.places.now k) }
     ensures near { IfOk result IsStandingNear }
 {
-    let corner = moved_corner(move_of(of.places, k), resting_corner(of, k)?)?;
-    let height = border_height(of.input, of.places, k);
+    if is_anchor(of.input.role(k)) {
+        return standing_of_anchor(of, k);
+    }
+    let corner = moved_corner(move_of(of.places, k), corner_of_box(of, k))?;
     Ok(Standing {
         corner,
-        height,
+        height: border_height(of.input, of.places, k),
+        shift: Unit(0),
+    })
+}
+
+/// Where the box at k stands, which is an anchor.
+fn standing_of_anchor(of: &Resting<'_>, k: usize) -> Result<Standing, NoMemory>
+    requires resting { IsResting of.now.input.now of.now.places.now of.now.corners.now of.now.tops.now }
+    requires place { k < length of.now.input.now.boxes }
+    requires anchor { is_anchor (role_at of.now.input.now.boxes k) ≡ true }
+    ensures standing { IfOk result (λ s. s ≡ standing_of_box of.now.input.now of.now.places.now k) }
+    ensures near { IfOk result IsStandingNear }
+{
+    let corner = moved_corner(move_of(of.places, k), static_position(of, k)?)?;
+    Ok(Standing {
+        corner,
+        height: Unit(0),
         shift: Unit(0),
     })
 }
@@ -90,21 +108,8 @@ fn moved_corner(by: Offset, corner: Corner) -> Result<Corner, NoMemory>
     near_corner(sum_of(by.right, corner.x), sum_of(by.down, corner.y))
 }
 
-/// Where the border box of the box at k comes to rest.
-fn resting_corner(of: &Resting<'_>, k: usize) -> Result<Corner, NoMemory>
-    requires resting { IsResting of.now.input.now of.now.places.now of.now.corners.now of.now.tops.now }
-    requires place { k < length of.now.input.now.boxes }
-    ensures corner { IfOk result (λ c. c ≡ resting_corner of.now.input.now of.now.places.now k) }
-    ensures near { IfOk result IsCornerNear }
-{
-    if is_anchor(of.input.role(k)) {
-        return static_position(of, k);
-    }
-    Ok(kept_corner(of, k))
-}
-
 /// Where the flow or lines put the border box of the box at k.
-fn kept_corner(of: &Resting<'_>, k: usize) -> Corner
+fn corner_of_box(of: &Resting<'_>, k: usize) -> Corner
     requires resting { IsResting of.now.input.now of.now.places.now of.now.corners.now of.now.tops.now }
     requires place { k < length of.now.input.now.boxes }
     ensures corner { result ≡ corner_of_box of.now.input.now of.now.places.now k }
@@ -146,16 +151,14 @@ fn content_left(input: &PlaceInput, places: &BoxPlaces, c: usize) -> Unit
     )
 }
 
-/// The height of the border box of the box at k.
+/// The height of the border box of the box at k, which is no anchor.
 fn border_height(input: &PlaceInput, places: &BoxPlaces, k: usize) -> Unit
     requires counts { HaveCounts input.now.boxes places.now }
     requires place { k < length input.now.boxes }
+    requires no_anchor { is_anchor (role_at input.now.boxes k) ≡ false }
     ensures height { result ≡ border_height input.now places.now k }
     ensures near { IsNear result.0 }
 {
-    if is_anchor(input.role(k)) {
-        return Unit(0);
-    }
     if input.context_boxes().is_inner(k) {
         return own_box_at(input.inner(), k).height;
     }
