@@ -1,3 +1,4 @@
+mod AnchorKinds
 pub mod AnchorRows
 pub mod AnchorSteps
 pub mod AreaFacts

@@ -1,13 +1,20 @@
 -- What is kept of anchors on lines while they are looked for: the top of the line that has each, if it was found.
-use Rattle.std.specs.Prelude.{ℕ, ◌≡◌, ◌≢◌, ◌<◌, ◌==◌, ◌&&◌, nat_lt, Bool, List, length, slice_index_or, Option, Some, None, if◌then◌else◌}
+use Rattle.std.specs.Prelude.{ℕ, ◌≡◌, ◌≢◌, ◌<◌, ◌==◌, ◌&&◌, nat_lt, Bool, true, false, List, length, slice_index_or, Option, Some, None, if◌then◌else◌}
 use Rattle.std.specs.List.{list_any}
 use Rattle.std.specs.Option.{is_none, option_or}
 use Rattle.lay_units.specs.declared.length.Unit.{Unit as Length}
 use Rattle.lay_space.specs.declared.item.Item.{Item}
 use Rattle.lay_space.specs.declared.segment.Segment.{Segment}
+use Rattle.lay_box_tree.specs.declared.box_tree.BoxKind.{BoxKind}
+use Rattle.lay_box_tree.specs.declared.box_tree.BoxKind.TheVariants as kind
 use Rattle.lay_box_tree.specs.declared.box_tree.BoxNode.{BoxNode}
 use Rattle.lay_context_boxes.specs.Containing.{container_of}
 use Rattle.lay_placement.specs.StaticPositions.{holds_anchor, is_anchor_of}
+
+-- no box of another kind is an anchor
+abbrev pub is_anchor_kind : BoxKind → Bool
+is_anchor_kind kind.Anchor = true
+is_anchor_kind _ = false
 
 abbrev pub top_at : List (Option Length) → ℕ → Option Length
 top_at tops k = slice_index_or tops k None

@@ -6,13 +6,14 @@ ghost use Rattle.lay_blocks.specs.Children.{flag_at};
 ghost use Rattle.lay_context_boxes.specs.Containing.{container_of};
 ghost use Rattle.lay_items.specs.InlineSegments.{segments_in};
 ghost use Rattle.lay_flow_boxes.specs.ContextBlocks.{is_anchor};
-ghost use Rattle.lay_placement.specs.AnchorLines.{ArePut, is_free, is_open, top_at, top_in_line, top_in_segment, top_of_item};
+ghost use Rattle.lay_placement.specs.AnchorLines.{ArePut, is_anchor_kind, is_free, is_open, top_at, top_in_line, top_in_segment, top_of_item};
 ghost use Rattle.lay_placement.specs.ContextPlaces.{rows_at};
 ghost use Rattle.lay_placement.specs.Counts.{HaveCounts};
 ghost use Rattle.lay_placement.specs.StaticPositions.{anchor_line, line_top};
 
 use crate::context_places::{BoxPlaces, rows_at};
 use crate::standings::is_anchor;
+use lay_box_tree::{BoxKind, BoxNode};
 use lay_context_boxes::ContextBoxes;
 use lay_flow_boxes::PlaceInput;
 use lay_items::inline_segments;
@@ -32,7 +33,7 @@ pub(crate) fn anchor_lines(
     ensures count { IfOk result (λ v. (k : ℕ) → k < length input.now.boxes → is_anchor (role_at input.now.boxes k) ≡ true → k < length v.items) }
     ensures each { IfOk result (λ v. (k : ℕ) → k < length input.now.boxes → is_anchor (role_at input.now.boxes k) ≡ true → top_at v.items k ≡ anchor_line input.now places.now k) }
 {
-    if !has_anchor(input.context_boxes()) {
+    if !has_anchor(input.boxes()) {
         return Ok(Vec::new(alloc));
     }
     tops_of_lines(alloc, input, places)
@@ -60,15 +61,21 @@ fn tops_of_lines(
 }
 
 /// Whether there may be an anchor among these boxes.
-fn has_anchor(boxes: &ContextBoxes) -> bool
+fn has_anchor(boxes: &[BoxNode]) -> bool
     ensures { IsFalse result → (k : ℕ) → k < length boxes.now → is_anchor (role_at boxes.now k) ≡ false }
 {
-    for k in 0..boxes.as_slice().len() {
-        if is_anchor(boxes.role(k)) {
+    for k in 0..boxes.len() {
+        if is_anchor_kind(&boxes[k].kind) {
             return true;
         }
     }
     false
+}
+
+fn is_anchor_kind(kind: &BoxKind) -> bool
+    ensures { result ≡ is_anchor_kind kind.now }
+{
+    matches!(kind, BoxKind::Anchor)
 }
 
 /// Whether each box holds an anchor.

@@ -1,4 +1,4 @@
-use Rattle.std.proofs.Common.{◌≡◌, [], ◌∷◌, false, sym, ap, ◌∙◌}
+use Rattle.std.proofs.Common.{◌≡◌, [], ◌∷◌, false, sym, ◌∙◌}
 use Rattle.lay_context_boxes.specs.ContextBoxes.{is_inner}
 use Rattle.lay_table_parts.specs.TableBoxes.{kind_at}
 use Rattle.lay_table.specs.declared.pieces.Extent.TheVariants.{Own, Columns}
