@@ -7,7 +7,7 @@ use Rattle.lay_frag.specs.declared.frag.FragKind.{FragKind}
 use Rattle.lay_frag.specs.declared.frag.FragKind.TheVariants.{Box, Line, Text}
 use Rattle.lay_pieces.specs.declared.piece_list.TheConstants.{FIRST_PIECES}
 use Rattle.lay_pieces.specs.declared.piece_list.Counts.{Counts}
-use Rattle.lay_pieces.specs.PieceCounts.{AreCounted, behind_first, count_in, counts_in, with_one}
+use Rattle.lay_pieces.specs.PieceCounts.{AreCounted, behind_first, count_in, counts_in, first_of, with_one}
 use Rattle.lay_pieces.specs.PieceParts.{count_of, is_kind, numbered}
 
 pub count_more : (kind : FragKind) (id : ℕ) (fs : List Frag) (f : Frag) → count_of kind id (fs ++ f ∷ []) ≡ count_of kind id fs + (if is_kind f.kind kind && f.node.0 == id then 1 else 0)
@@ -72,6 +72,13 @@ one_behind : (n : ℕ) (fs : List Frag) (f : Frag) → n ≤ length fs → drop 
 one_behind zero fs f le = refl
 one_behind (suc n) [] f le = absurd (omega (arith, le))
 one_behind (suc n) (g ∷ gs) f le = one_behind n gs f (omega (arith, le))
+
+-- few pieces are the first
+pub all_first : (kind : FragKind) (id : ℕ) (fs : List Frag) → length fs < FIRST_PIECES → count_of kind id (first_of fs) ≡ count_of kind id fs
+all_first kind id fs few =
+    let both = count_both kind id FIRST_PIECES fs in
+    let none : count_of kind id (behind_first fs) ≡ 0 = ap (count_of kind id) (none_before FIRST_PIECES fs few) in
+    omega (arith, both, none)
 
 -- a piece among the first isn't counted
 pub one_first : (fs : List Frag) (f : Frag) (map : BTreeMap ℕ Counts) → AreCounted fs map → length fs < FIRST_PIECES → AreCounted (fs ++ f ∷ []) map

@@ -94,12 +94,39 @@ fn add(
     ensures counted { AreCounted items.new.items counts.new }
     ensures all_near { AreNearPieces items.new.items }
 {
+    let first = count_of(first_of(items), piece.kind, piece.node.0);
+    if items.len() >= FIRST_PIECES {
+        return add_behind(items, counts, piece, first);
+    }
+    items.push(Frag {
+        part: first,
+        ..piece
+    })?;
+    Ok(())
+}
+
+/// The same behind the first pieces, of which so many are of its kind and node.
+fn add_behind(
+    items: &mut Vec<Frag>,
+    counts: &mut BTreeMap<u32, Counts>,
+    piece: Frag,
+    first: u32,
+) -> Result<(), NoMemory>
+    requires counted { AreCounted items.old.items counts.old }
+    requires all_near { AreNearPieces items.old.items }
+    requires near { IsRectNear piece.rect }
+    requires many { FIRST_PIECES ≤ length items.old.items }
+    requires first { first ≡ count_of piece.kind piece.node.0 (first_of items.old.items) }
+    ensures ok { OnOk result (items.new.items ≡ items.old.items ++ numbered items.old.items piece ∷ []) }
+    ensures err { OnErr result (items.new.items ≡ items.old.items) }
+    ensures counted { AreCounted items.new.items counts.new }
+    ensures all_near { AreNearPieces items.new.items }
+{
     if items.len() >= MOST_PIECES {
         return Err(NoMemory);
     }
     // Room first, so that what is counted can be put there.
     items.reserve(1)?;
-    let first = count_of(first_of(items), piece.kind, piece.node.0);
     let behind = take_note(counts, items, piece)?;
     items.push(Frag {
         part: first + behind,
@@ -108,21 +135,20 @@ fn add(
     Ok(())
 }
 
-/// Counts a piece that comes behind these, if it isn't one of the first. How many of its kind and node were counted before.
+/// Counts a piece that comes behind these. How many of its kind and node were counted before.
 fn take_note(
     counts: &mut BTreeMap<u32, Counts>,
     items: &[Frag],
     piece: Frag,
 ) -> Result<u32, NoMemory>
     requires counted { AreCounted items.now counts.old }
+    requires many { FIRST_PIECES ≤ length items.now }
     requires room { length items.now < 2147483648 }
     ensures before { IfOk result (λ n. n ≡ count_of piece.kind piece.node.0 (behind_first items.now)) }
     ensures after { OnOk result (AreCounted (items.now ++ numbered items.now piece ∷ []) counts.new) }
     ensures err { OnErr result (AreCounted items.now counts.new) }
 {
-    if items.len() < FIRST_PIECES {
-        return Ok(0);
-    }
+    let _ = items;
     let node = counts_in(counts, piece.node.0);
     put(counts, piece.node.0, with_one(node, piece.kind))?;
     Ok(count_in(node, piece.kind))

@@ -1,14 +1,9 @@
-use Rattle.std.proofs.Common.{◌≡◌, ◌∙◌, ◌≤◌, length, ap, arith}
+use Rattle.std.proofs.Common.{◌≡◌, ◌∙◌, ap, arith}
 use Rattle.std.proofs.lemmas.Result.{err_from_is_err_and}
 use Rattle.lay_pieces.specs.declared.piece_list.TheConstants.{FIRST_PIECES}
 use Rattle.lay_pieces.specs.PieceCounts.{count_in, counts_in, with_one}
-use Rattle.lay_pieces.specs.PieceParts.{numbered}
-use Rattle.lay_pieces.proofs.PieceCountSteps.{count_behind, one_first, one_more, same_counts}
+use Rattle.lay_pieces.proofs.PieceCountSteps.{count_behind, one_more, same_counts}
 use Rattle.lay_pieces.proofs.piece_list.take_note.Goals as goal
-
-pub returns-then-items-lt-FIRST_PIECES-clause-after : goal.returns-then-items-lt-FIRST_PIECES-clause-after
-returns-then-items-lt-FIRST_PIECES-clause-after c =
-    one_first c.args.items.now (numbered c.args.items.now c.args.piece) c.args.counts.now c.requires.counted c.if-items-lt-FIRST_PIECES.true
 
 pub with_one-requires : goal.with_one-requires
 with_one-requires c =
@@ -25,8 +20,7 @@ returns-clause-after c =
     let put = c.in_ok-put.ensures {u = tt} in
     let here : counts_in c.put.new.counts c.args.piece.node.0 ≡ with_one (counts_in c.args.counts.now c.args.piece.node.0) c.args.piece.kind =
     put.here ∙ c.with_one.ensures ∙ ap (λ k. with_one k c.args.piece.kind) c.counts_in-node.ensures in
-    let many : FIRST_PIECES ≤ length c.args.items.now = omega (arith, c.if-items-lt-FIRST_PIECES.false) in
-    one_more c.args.items.now c.args.piece c.args.counts.now c.put.new.counts c.requires.counted many c.requires.room here put.others
+    one_more c.args.items.now c.args.piece c.args.counts.now c.put.new.counts c.requires.counted c.requires.many c.requires.room here put.others
 
 pub returns-in_err-put-clause-err : goal.returns-in_err-put-clause-err
 returns-in_err-put-clause-err c =
