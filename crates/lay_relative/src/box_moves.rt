@@ -11,7 +11,7 @@ use std::marker::Model;
 /// By how much each box of a formatting context is moved, in the order of the boxes: at most 2^60 units each way.
 #[derive(Drop)]
 pub struct BoxMoves {
-    /// How many boxes there are.
+    /// How many boxes there are: so long is the list that contracts see.
     count: usize,
     /// The move of each; None where no box is moved, as in most formatting contexts.
     kept: Option<Vec<Offset>>,
