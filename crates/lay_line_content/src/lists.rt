@@ -45,6 +45,7 @@ impl PartList {
     }
 
     /// A copy of these.
+    #[inline(always)]
     pub fn copied(alloc: Global, items: &[Part]) -> Result<PartList, NoMemory>
         ensures { IfOk result (λ l. l ≡ items.now) }
     {
