@@ -2,7 +2,6 @@
 
 ghost use Rattle.std.specs.Prelude.{◌≡◌, ◌++◌, ◌∷◌, [], ℕ, List, OnOk, IfOk, IfSome, length};
 ghost use Rattle.lay_anonymous_boxes.specs.Boxes.{Tree, trees_of};
-ghost use Rattle.lay_boxgen.specs.AnonymousStyle.{anonymous_style};
 ghost use Rattle.lay_boxgen.specs.Listing.{text_at, box_style, kind_of, style_of, style_below, box_node, listed, all_listed, listed_part};
 ghost use Rattle.lay_boxgen.specs.Parts.{put, all_put, put_list, nothing};
 
@@ -119,49 +118,27 @@ fn push_box(
     let Some(style) = sources.style_below(parent.facts, facts) else {
         return Err(NoMemory);
     };
-    let kind = kind_of(alloc, sources, facts)?;
-    if style.anonymous {
-        return put_anonymous(parent.place, facts, kind, style.style, out);
-    }
-    put_box(parent.place, facts, kind, style.style, out)
-}
-
-/// Puts an anonymous box there, in one of this style. It stands by itself, since most boxes have the style of their node,
-/// which is then copied as a whole.
-#[inline(never)]
-fn put_anonymous(
-    parent: u32,
-    facts: Facts,
-    kind: BoxKind,
-    style: &Style,
-    out: &mut Vec<BoxNode>,
-) -> Result<(), NoMemory>
-    ensures { OnOk result (out.new.items ≡ out.old.items ++ record { node = facts.node; parent = parent; kind = kind; flow = facts.flow; anonymous = facts.anonymous; inner = facts.inner; style = anonymous_style style.now } ∷ []) }
-{
-    let inherited = anonymous_style(style);
-    put_box(parent, facts, kind, &inherited, out)
-}
-
-/// Puts a box of this style there.
-fn put_box(
-    parent: u32,
-    facts: Facts,
-    kind: BoxKind,
-    style: &Style,
-    out: &mut Vec<BoxNode>,
-) -> Result<(), NoMemory>
-    ensures { OnOk result (out.new.items ≡ out.old.items ++ record { node = facts.node; parent = parent; kind = kind; flow = facts.flow; anonymous = facts.anonymous; inner = facts.inner; style = style.now } ∷ []) }
-{
-    out.push(BoxNode {
+    let mut node = BoxNode {
         node: facts.node,
-        parent,
-        kind,
+        parent: parent.place,
+        kind: kind_of(alloc, sources, facts)?,
         flow: facts.flow,
         anonymous: facts.anonymous,
         inner: facts.inner,
-        style: *style,
-    })?;
+        style: *style.style,
+    };
+    inherit_alone(style.anonymous, &mut node);
+    out.push(node)?;
     Ok(())
+}
+
+/// Makes the style of a box that of an anonymous one, where it is to be.
+fn inherit_alone(anonymous: bool, node: &mut BoxNode)
+    ensures { node.new ≡ record node.old { style = box_style anonymous node.old.style } }
+{
+    if anonymous {
+        node.style = anonymous_style(&node.style);
+    }
 }
 
 /// Puts the boxes of a tree below a box at the end of `out`.
