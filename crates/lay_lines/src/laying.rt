@@ -6,7 +6,6 @@ ghost use Rattle.lay_lines.specs.Lines.{LinesValue, AreLines, LinesWithin, growt
 ghost use Rattle.lay_lines.specs.Meeting.{IsFront};
 
 use crate::laws::lines_are_near;
-use crate::line::Line;
 use crate::lists::{NodePlaceList, RowList};
 use crate::rest::Rest;
 use crate::rows::lay_rows;
@@ -48,15 +47,13 @@ pub fn lay(
 {
     place_within();
     lines_are_near();
-    let start = Line {
+    let all = Rest {
         frame: frame_of(content, left, right),
         top,
-    };
-    let all = Rest {
         stretches: content.stretches(),
         has_boxes: content.has_boxes(),
     };
-    let rows = lay_rows(alloc, floats, &start, all)?;
+    let rows = lay_rows(alloc, floats, all)?;
     Ok(Lines {
         rows: RowList::new(rows.rows),
         places: NodePlaceList::new(rows.places),

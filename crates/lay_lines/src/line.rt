@@ -4,21 +4,22 @@ ghost use Rattle.lay_units.specs.Units.{IsPosition};
 ghost use Rattle.lay_lines.specs.Meeting.{FrameFits, IsLineRoom};
 
 use lay_floats::Floats;
-use lay_line_content::Frame;
+use lay_line_content::{Frame, Stretch};
 use lay_units::Unit;
 
-/// A line at some top.
+/// A line at some top, and the content that comes to it.
 #[derive(Clone, Copy)]
-pub struct Line {
+pub struct Line<'a> {
     pub frame: Frame,
     pub top: Unit,
+    pub stretches: &'a [Stretch],
+    ghost frame_fits: { FrameFits frame },
+    ghost top_fits: { IsPosition top.0 },
 }
 
-impl Line {
+impl Line<'_> {
     /// The edges of the room that these floats leave to it.
     pub(crate) fn room(&self, floats: &Floats) -> (Unit, Unit)
-        requires frame { FrameFits self.now.frame }
-        requires top { IsPosition self.now.top.0 }
         ensures room { IsLineRoom self.now.frame self.now.top.0 floats.now result.0.0 result.1.0 }
         ensures left_fits { IsPosition result.0.0 }
         ensures right_fits { IsPosition result.1.0 }

@@ -1,7 +1,6 @@
 //! A line meets floats.
 
 ghost use Rattle.std.specs.Prelude.{◌≡◌, ◌≤◌, ℤ, IsTrue, IsFalse, List, length, IfOk, IfErr};
-ghost use Rattle.lay_units.specs.Units.{IsPosition};
 ghost use Rattle.lay_floats.specs.FloatPlace.{IsFloatPlace};
 ghost use Rattle.lay_lines.specs.Meeting.{
   State,
@@ -13,7 +12,6 @@ ghost use Rattle.lay_lines.specs.Meeting.{
   CanMeet,
   CanMeetAll,
   RoomsFit,
-  FrameFits,
   IsFront,
 };
 ghost use Rattle.lay_line_content.specs.Pens.{seen_to};
@@ -24,33 +22,30 @@ use crate::line::Line;
 use crate::met::Met;
 use crate::reach::Reach;
 use lay_floats::{FloatReq, Floats, NodePlace, one_float_place};
-use lay_line_content::{LineFloat, Stretch};
+use lay_line_content::LineFloat;
 use lay_units::{NoMemory, Unit};
 
 /// After so much of its content a line meets floats, one after the other.
 pub fn meet_all(
     floats: &mut Floats,
     met: &mut Met,
-    line: &Line,
-    stretches: &[Stretch],
+    line: &Line<'_>,
     reach: &Reach,
     list: &[LineFloat],
 ) -> Result<(), NoMemory>
-    requires frame { FrameFits line.now.frame }
-    requires top { IsPosition line.now.top.0 }
-    requires pen { IsPen line.now.frame stretches.now reach.now }
-    requires count { reach.now.count ≤ length stretches.now }
-    requires floats { CanMeetAll line.now.frame line.now.top.0 stretches.now reach.now.count list.now
+    requires pen { IsPen line.now.frame line.now.stretches.now reach.now }
+    requires count { reach.now.count ≤ length line.now.stretches.now }
+    requires floats { CanMeetAll line.now.frame line.now.top.0 line.now.stretches.now reach.now.count list.now
         (state_of floats.old met.old) }
-    ensures meets { IfOk result (λ _. Meets line.now.frame line.now.top.0 stretches.now reach.now.count
+    ensures meets { IfOk result (λ _. Meets line.now.frame line.now.top.0 line.now.stretches.now reach.now.count
         list.now (state_of floats.old met.old) (state_of floats.new met.new)) }
     ensures stopped { IfErr result (λ _. (after : State)
-        → Meets line.now.frame line.now.top.0 stretches.now reach.now.count list.now
+        → Meets line.now.frame line.now.top.0 line.now.stretches.now reach.now.count list.now
         (state_of floats.old met.old) after → IsFront floats.new after.floats) }
 {
     one_float_place();
     for float in list {
-        meet(floats, met, line, stretches, reach, float)?;
+        meet(floats, met, line, reach, float)?;
     }
     Ok(())
 }
@@ -58,26 +53,23 @@ pub fn meet_all(
 fn meet(
     floats: &mut Floats,
     met: &mut Met,
-    line: &Line,
-    stretches: &[Stretch],
+    line: &Line<'_>,
     reach: &Reach,
     float: &LineFloat,
 ) -> Result<(), NoMemory>
-    requires frame { FrameFits line.now.frame }
-    requires top { IsPosition line.now.top.0 }
-    requires pen { IsPen line.now.frame stretches.now reach.now }
-    requires count { reach.now.count ≤ length stretches.now }
-    requires rooms { RoomsFit line.now.frame floats.old stretches.now }
+    requires pen { IsPen line.now.frame line.now.stretches.now reach.now }
+    requires count { reach.now.count ≤ length line.now.stretches.now }
+    requires rooms { RoomsFit line.now.frame floats.old line.now.stretches.now }
     requires float { CanMeet line.now.top.0 floats.old float.now.req }
     ensures meets { IfOk result
-        (λ _. MeetsFloat line.now.frame line.now.top.0 stretches.now reach.now.count
+        (λ _. MeetsFloat line.now.frame line.now.top.0 line.now.stretches.now reach.now.count
         (state_of floats.old met.old) float.now (state_of floats.new met.new)) }
     ensures stopped { IfErr result (λ _. (after : State)
-        → MeetsFloat line.now.frame line.now.top.0 stretches.now reach.now.count
+        → MeetsFloat line.now.frame line.now.top.0 line.now.stretches.now reach.now.count
         (state_of floats.old met.old) float.now after → IsFront floats.new after.floats) }
 {
     one_float_place();
-    if has_to_wait(floats, met, line, stretches, reach, &float.req) {
+    if has_to_wait(floats, met, line, reach, &float.req) {
         met.put_off.push(*float)?;
         return Ok(());
     }
@@ -90,34 +82,25 @@ fn meet(
 }
 
 /// Whether the float has to wait until the line is over.
-fn has_to_wait(
-    floats: &Floats,
-    met: &Met,
-    line: &Line,
-    stretches: &[Stretch],
-    reach: &Reach,
-    req: &FloatReq,
-) -> bool
-    requires frame { FrameFits line.now.frame }
-    requires top { IsPosition line.now.top.0 }
-    requires pen { IsPen line.now.frame stretches.now reach.now }
-    requires count { reach.now.count ≤ length stretches.now }
-    requires rooms { RoomsFit line.now.frame floats.now stretches.now }
+fn has_to_wait(floats: &Floats, met: &Met, line: &Line<'_>, reach: &Reach, req: &FloatReq) -> bool
+    requires pen { IsPen line.now.frame line.now.stretches.now reach.now }
+    requires count { reach.now.count ≤ length line.now.stretches.now }
+    requires rooms { RoomsFit line.now.frame floats.now line.now.stretches.now }
     requires float { CanMeet line.now.top.0 floats.now req.now }
     ensures stands { IsFalse result → (x z : ℤ)
         → IsFloatPlace floats.now (below line.now.top.0 req.now) x z
-        → MayStand line.now.frame line.now.top.0 stretches.now reach.now.count
+        → MayStand line.now.frame line.now.top.0 line.now.stretches.now reach.now.count
         (state_of floats.now met.now) req.now x z }
-    ensures seen { IsTrue result → IsTrue (seen_to line.now.frame stretches.now reach.now.count) }
+    ensures seen { IsTrue result → IsTrue (seen_to line.now.frame line.now.stretches.now reach.now.count) }
     ensures waits { IsTrue result → (x z : ℤ)
-        → MayStand line.now.frame line.now.top.0 stretches.now reach.now.count
+        → MayStand line.now.frame line.now.top.0 line.now.stretches.now reach.now.count
         (state_of floats.now met.now) req.now x z → ⊥ }
 {
     one_float_place();
-    if !reach.is_seen(&line.frame, stretches) {
+    if !reach.is_seen(line) {
         return false;
     }
-    if !met.put_off.is_empty() || !reach.has_room(floats, line, stretches, req.width) {
+    if !met.put_off.is_empty() || !reach.has_room(floats, line, req.width) {
         return true;
     }
     let place = floats.place_of(&below(line.top, req));

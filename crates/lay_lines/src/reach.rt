@@ -3,14 +3,14 @@
 ghost use Rattle.std.specs.Prelude.{◌≡◌, ◌↔◌, ◌+◌, ◌<◌, ◌≤◌, ℤ, IsTrue, List, length};
 ghost use Rattle.lay_units.specs.Units.{IsPosition};
 ghost use Rattle.lay_line_content.specs.Pens.{seen_to};
-ghost use Rattle.lay_lines.specs.Meeting.{HasRoom, RoomsFit, FrameFits, IsLineRoom};
+ghost use Rattle.lay_lines.specs.Meeting.{HasRoom, RoomsFit, IsLineRoom};
 ghost use Rattle.lay_lines.specs.Filling.{HasFit};
 ghost use Rattle.lay_lines.specs.Reaching.{IsPen, IsReach};
 
 use crate::arithmetic::{are_same, is_at_most, wide_minus, wide_plus};
 use crate::line::Line;
 use lay_floats::{Floats, one_room};
-use lay_line_content::{Frame, Pen, Stretch};
+use lay_line_content::Pen;
 use lay_units::Unit;
 
 /// How far the first stretches of a line come, in the room between two edges.
@@ -24,13 +24,11 @@ pub struct Reach {
 
 impl Reach {
     /// Before all content, in the whole width of the container.
-    pub(crate) fn none(floats: &Floats, frame: &Frame, stretches: &[Stretch]) -> Reach
-        requires frame { FrameFits frame.now }
-        ensures pen { IsPen frame.now stretches.now result }
+    pub(crate) fn none(line: &Line<'_>) -> Reach
+        ensures pen { IsPen line.now.frame line.now.stretches.now result }
         ensures count { result.count ≡ 0 }
     {
-        let _ = floats;
-        let _ = stretches;
+        let frame = &line.frame;
         let start = frame.left;
         Reach {
             count: 0,
@@ -41,14 +39,11 @@ impl Reach {
     }
 
     /// Before all content, in the room that these floats leave.
-    pub(crate) fn first(floats: &Floats, line: &Line, stretches: &[Stretch]) -> Reach
-        requires frame { FrameFits line.now.frame }
-        requires top { IsPosition line.now.top.0 }
-        requires rooms { RoomsFit line.now.frame floats.now stretches.now }
-        ensures reach { IsReach line.now.frame line.now.top.0 stretches.now floats.now result }
+    pub(crate) fn first(floats: &Floats, line: &Line<'_>) -> Reach
+        requires rooms { RoomsFit line.now.frame floats.now line.now.stretches.now }
+        ensures reach { IsReach line.now.frame line.now.top.0 line.now.stretches.now floats.now result }
         ensures count { result.count ≡ 0 }
     {
-        let _ = stretches;
         let (start, end) = line.room(floats);
         Reach {
             count: 0,
@@ -59,11 +54,11 @@ impl Reach {
     }
 
     /// After one stretch more, in the same room.
-    pub(crate) fn next(self, floats: &Floats, line: &Line, stretches: &[Stretch]) -> Reach
-        requires rooms { RoomsFit line.now.frame floats.now stretches.now }
-        requires reach { IsReach line.now.frame line.now.top.0 stretches.now floats.now self }
-        requires some { self.count < length stretches.now }
-        ensures reach { IsReach line.now.frame line.now.top.0 stretches.now floats.now result }
+    pub(crate) fn next(self, floats: &Floats, line: &Line<'_>) -> Reach
+        requires rooms { RoomsFit line.now.frame floats.now line.now.stretches.now }
+        requires reach { IsReach line.now.frame line.now.top.0 line.now.stretches.now floats.now self }
+        requires some { self.count < length line.now.stretches.now }
+        ensures reach { IsReach line.now.frame line.now.top.0 line.now.stretches.now floats.now result }
         ensures count { result.count ≡ self.count + 1 }
     {
         let _ = floats;
@@ -71,25 +66,23 @@ impl Reach {
             count: self.count + 1,
             start: self.start,
             end: self.end,
-            pen: self.pen.past(&line.frame, &stretches[self.count]),
+            pen: self.pen.past(&line.frame, &line.stretches[self.count]),
         }
     }
 
     /// The same stretches, in the room that these floats leave.
-    pub(crate) fn in_room(self, floats: &Floats, line: &Line, stretches: &[Stretch]) -> Reach
-        requires frame { FrameFits line.now.frame }
-        requires top { IsPosition line.now.top.0 }
-        requires pen { IsPen line.now.frame stretches.now self }
-        requires rooms { RoomsFit line.now.frame floats.now stretches.now }
-        requires count { self.count ≤ length stretches.now }
-        ensures reach { IsReach line.now.frame line.now.top.0 stretches.now floats.now result }
+    pub(crate) fn in_room(self, floats: &Floats, line: &Line<'_>) -> Reach
+        requires pen { IsPen line.now.frame line.now.stretches.now self }
+        requires rooms { RoomsFit line.now.frame floats.now line.now.stretches.now }
+        requires count { self.count ≤ length line.now.stretches.now }
+        ensures reach { IsReach line.now.frame line.now.top.0 line.now.stretches.now floats.now result }
         ensures count { result.count ≡ self.count }
     {
         let (start, end) = line.room(floats);
         let pen = if are_same(start, self.start) {
             self.pen
         } else {
-            Pen::to(&line.frame, start, stretches, self.count)
+            Pen::to(&line.frame, start, line.stretches, self.count)
         };
         Reach {
             count: self.count,
@@ -100,49 +93,37 @@ impl Reach {
     }
 
     /// Whether the content fits, spaces at its end not counted.
-    pub(crate) fn fits(&self, floats: &Floats, line: &Line, stretches: &[Stretch]) -> bool
-        requires left { IsPosition line.now.frame.left.0 }
-        requires reach { IsReach line.now.frame line.now.top.0 stretches.now floats.now self.now }
-        ensures { IsTrue result ↔ HasFit line.now.frame line.now.top.0 stretches.now self.now.count
+    pub(crate) fn fits(&self, floats: &Floats, line: &Line<'_>) -> bool
+        requires reach { IsReach line.now.frame line.now.top.0 line.now.stretches.now floats.now self.now }
+        ensures { IsTrue result ↔ HasFit line.now.frame line.now.top.0 line.now.stretches.now self.now.count
             floats.now }
     {
         one_room();
         let _ = floats;
-        let _ = stretches;
         is_at_most(self.pen.visible, wide_minus(self.end, line.frame.left))
     }
 
     /// Whether a float of this width fits beside the content, in the room that these floats leave.
-    pub(crate) fn has_room(
-        &self,
-        floats: &Floats,
-        line: &Line,
-        stretches: &[Stretch],
-        width: Unit,
-    ) -> bool
-        requires frame { FrameFits line.now.frame }
-        requires top { IsPosition line.now.top.0 }
-        requires pen { IsPen line.now.frame stretches.now self.now }
-        requires rooms { RoomsFit line.now.frame floats.now stretches.now }
-        requires count { self.now.count ≤ length stretches.now }
+    pub(crate) fn has_room(&self, floats: &Floats, line: &Line<'_>, width: Unit) -> bool
+        requires pen { IsPen line.now.frame line.now.stretches.now self.now }
+        requires rooms { RoomsFit line.now.frame floats.now line.now.stretches.now }
+        requires count { self.now.count ≤ length line.now.stretches.now }
         requires width { IsPosition width.0 }
-        ensures { IsTrue result ↔ HasRoom line.now.frame line.now.top.0 stretches.now self.now.count
+        ensures { IsTrue result ↔ HasRoom line.now.frame line.now.top.0 line.now.stretches.now self.now.count
             floats.now width.0 }
     {
-        let here = self.in_room(floats, line, stretches);
-        here.leaves_room(floats, line, stretches, width)
+        let here = self.in_room(floats, line);
+        here.leaves_room(floats, line, width)
     }
 
-    fn leaves_room(&self, floats: &Floats, line: &Line, stretches: &[Stretch], width: Unit) -> bool
-        requires left { IsPosition line.now.frame.left.0 }
+    fn leaves_room(&self, floats: &Floats, line: &Line<'_>, width: Unit) -> bool
         requires width { IsPosition width.0 }
-        requires reach { IsReach line.now.frame line.now.top.0 stretches.now floats.now self.now }
-        ensures { IsTrue result ↔ HasRoom line.now.frame line.now.top.0 stretches.now self.now.count
+        requires reach { IsReach line.now.frame line.now.top.0 line.now.stretches.now floats.now self.now }
+        ensures { IsTrue result ↔ HasRoom line.now.frame line.now.top.0 line.now.stretches.now self.now.count
             floats.now width.0 }
     {
         one_room();
         let _ = floats;
-        let _ = stretches;
         is_at_most(
             wide_plus(self.pen.solid, width),
             wide_minus(self.end, line.frame.left),
@@ -150,12 +131,11 @@ impl Reach {
     }
 
     /// Whether something of the content is seen.
-    pub(crate) fn is_seen(&self, frame: &Frame, stretches: &[Stretch]) -> bool
-        requires { IsPen frame.now stretches.now self.now }
-        ensures { result ≡ seen_to frame.now stretches.now self.now.count }
+    pub(crate) fn is_seen(&self, line: &Line<'_>) -> bool
+        requires { IsPen line.now.frame line.now.stretches.now self.now }
+        ensures { result ≡ seen_to line.now.frame line.now.stretches.now self.now.count }
     {
-        let _ = frame;
-        let _ = stretches;
+        let _ = line;
         self.pen.seen
     }
 }

@@ -7,7 +7,7 @@ ghost use Rattle.lay_valign.specs.LineShape.{IsShape};
 ghost use Rattle.lay_valign.specs.PartsFit.{PartsFit};
 ghost use Rattle.lay_line_content.specs.Extents.{any_shows, parts_to, reading_to, height_of};
 ghost use Rattle.lay_lines.specs.Filling.{IsTop};
-ghost use Rattle.lay_lines.specs.Meeting.{State, state_of, Meets, CanMeetAll, RoomsFit, FrameFits, IsFront};
+ghost use Rattle.lay_lines.specs.Meeting.{State, state_of, Meets, CanMeetAll, RoomsFit, IsFront};
 ghost use Rattle.lay_lines.specs.Reaching.{IsReach};
 ghost use Rattle.lay_lines.specs.Rows.{OpensNone, Position, Row, IsFilled, IsRow, CanRow, position_of, row_of};
 
@@ -20,7 +20,7 @@ use crate::rest::Rest;
 use crate::taking::take;
 use crate::top::{Beginning, line_top};
 use lay_floats::{Floats, one_float_place, one_room};
-use lay_line_content::{Extent, Frame, InlineStart, Stretch, any_shows, line_shape};
+use lay_line_content::{Extent, InlineStart, any_shows, line_shape};
 use lay_units::{NoMemory, Unit};
 use lay_valign::{LineShape, ShiftList};
 use std::alloc::Global;
@@ -48,37 +48,36 @@ pub fn put_row(
     alloc: Global,
     floats: &mut Floats,
     met: &mut Met,
-    start: &Line,
     boxes: &mut Vec<InlineStart>,
     rest: &Rest<'_>,
 ) -> Result<Ended, NoMemory>
     requires some { 0 < length rest.now.stretches.now }
     requires none { IsFalse rest.now.has_boxes → OpensNone boxes.old.items rest.now.stretches.now }
     requires can { CanRow
-        (position_of start.now.frame start.now.top.0 boxes.old.items rest.now.stretches.now
+        (position_of rest.now.frame rest.now.top.0 boxes.old.items rest.now.stretches.now
         (state_of floats.old met.old)) }
     ensures row { IfOk result (λ e. (headed : State) × (filled : State)
-        × IsRow (position_of start.now.frame start.now.top.0 boxes.old.items rest.now.stretches.now
+        × IsRow (position_of rest.now.frame rest.now.top.0 boxes.old.items rest.now.stretches.now
         (state_of floats.old met.old)) (row_of e headed filled (state_of floats.new met.new))) }
     ensures boxes { IfOk result (λ e. boxes.new.items
-        ≡ (reading_to start.now.frame boxes.old.items rest.now.stretches.now e.reach.count).open_boxes) }
+        ≡ (reading_to rest.now.frame boxes.old.items rest.now.stretches.now e.reach.count).open_boxes) }
     ensures within { IfOk result (λ e. e.reach.count ≤ length rest.now.stretches.now) }
     ensures some { IfOk result (λ e. 0 < e.reach.count) }
     ensures stopped { IfErr result (λ _. (r : Row)
-        → IsRow (position_of start.now.frame start.now.top.0 boxes.old.items rest.now.stretches.now
+        → IsRow (position_of rest.now.frame rest.now.top.0 boxes.old.items rest.now.stretches.now
         (state_of floats.old met.old)) r → IsFront floats.new r.after.floats) }
 {
     one_float_place();
     one_room();
-    let stretches = rest.stretches;
-    let ended = fill_row(alloc, floats, met, start, boxes, rest)?;
+    let ended = fill_row(alloc, floats, met, boxes, rest)?;
     let waiting = mem::replace(&mut met.put_off, Vec::new(alloc));
     let under = Line {
-        frame: start.frame,
+        frame: rest.frame,
         top: ended.to,
+        stretches: rest.stretches,
     };
-    let blank = Reach::none(floats, &start.frame, stretches);
-    meet_all(floats, met, &under, stretches, &blank, waiting.as_slice())?;
+    let blank = Reach::none(&under);
+    meet_all(floats, met, &under, &blank, waiting.as_slice())?;
     Ok(ended)
 }
 
@@ -87,35 +86,39 @@ fn fill_row(
     alloc: Global,
     floats: &mut Floats,
     met: &mut Met,
-    start: &Line,
     boxes: &mut Vec<InlineStart>,
     rest: &Rest<'_>,
 ) -> Result<Ended, NoMemory>
     requires some { 0 < length rest.now.stretches.now }
     requires none { IsFalse rest.now.has_boxes → OpensNone boxes.old.items rest.now.stretches.now }
     requires can { CanRow
-        (position_of start.now.frame start.now.top.0 boxes.old.items rest.now.stretches.now
+        (position_of rest.now.frame rest.now.top.0 boxes.old.items rest.now.stretches.now
         (state_of floats.old met.old)) }
     ensures filled { IfOk result (λ e. (headed : State) × ((after : State)
-        → IsFilled (position_of start.now.frame start.now.top.0 boxes.old.items rest.now.stretches.now
+        → IsFilled (position_of rest.now.frame rest.now.top.0 boxes.old.items rest.now.stretches.now
         (state_of floats.old met.old)) (row_of e headed (state_of floats.new met.new) after))) }
     ensures boxes { IfOk result (λ e. boxes.new.items
-        ≡ (reading_to start.now.frame boxes.old.items rest.now.stretches.now e.reach.count).open_boxes) }
+        ≡ (reading_to rest.now.frame boxes.old.items rest.now.stretches.now e.reach.count).open_boxes) }
     ensures stopped { IfErr result (λ _. (r : Row)
-        → IsFilled (position_of start.now.frame start.now.top.0 boxes.old.items rest.now.stretches.now
+        → IsFilled (position_of rest.now.frame rest.now.top.0 boxes.old.items rest.now.stretches.now
         (state_of floats.old met.old)) r → IsFront floats.new r.filled.floats) }
 {
     one_float_place();
     one_room();
-    let stretches = rest.stretches;
-    let Beginning { top, blank } = headed_top(floats, met, start, stretches)?;
-    let line = Line {
-        frame: start.frame,
-        top,
+    let start = Line {
+        frame: rest.frame,
+        top: rest.top,
+        stretches: rest.stretches,
     };
-    let reach = take(floats, met, &line, stretches, blank)?;
-    let seen = is_seen(boxes, reach.is_seen(&start.frame, stretches));
-    let shape = row_shape(alloc, &start.frame, boxes, rest, reach.count)?;
+    let Beginning { top, blank } = headed_top(floats, met, &start)?;
+    let line = Line {
+        frame: rest.frame,
+        top,
+        stretches: rest.stretches,
+    };
+    let reach = take(floats, met, &line, blank)?;
+    let seen = is_seen(boxes, reach.is_seen(&line));
+    let shape = row_shape(alloc, boxes, rest, reach.count)?;
     let extent = Extent {
         above: shape.above,
         below: shape.below,
@@ -135,22 +138,21 @@ fn fill_row(
 /// then those after it.
 fn row_shape(
     alloc: Global,
-    frame: &Frame,
     boxes: &mut Vec<InlineStart>,
     rest: &Rest<'_>,
     count: usize,
 ) -> Result<LineShape, NoMemory>
     requires count { count ≤ length rest.now.stretches.now }
     requires none { IsFalse rest.now.has_boxes → OpensNone boxes.old.items rest.now.stretches.now }
-    requires fits { (n : ℕ) → PartsFit (parts_to frame.now boxes.old.items rest.now.stretches.now n) }
-    ensures shape { IfOk result (λ shape. IsShape (parts_to frame.now boxes.old.items rest.now.stretches.now count) shape) }
+    requires fits { (n : ℕ) → PartsFit (parts_to rest.now.frame boxes.old.items rest.now.stretches.now n) }
+    ensures shape { IfOk result (λ shape. IsShape (parts_to rest.now.frame boxes.old.items rest.now.stretches.now count) shape) }
     ensures boxes { IfOk result (λ _. boxes.new.items
-        ≡ (reading_to frame.now boxes.old.items rest.now.stretches.now count).open_boxes) }
+        ≡ (reading_to rest.now.frame boxes.old.items rest.now.stretches.now count).open_boxes) }
 {
     if rest.has_boxes {
-        return line_shape(alloc, frame, boxes, rest.stretches, count);
+        return line_shape(alloc, &rest.frame, boxes, rest.stretches, count);
     }
-    line_shape(alloc, frame, boxes, rest.stretches, 0)
+    line_shape(alloc, &rest.frame, boxes, rest.stretches, 0)
 }
 
 fn is_seen(boxes: &Vec<InlineStart>, taken: bool) -> bool
@@ -173,44 +175,31 @@ fn row_end(top: Unit, extent: Extent, seen: bool, from: Unit) -> Unit
 }
 
 /// Meets the floats before the content, and finds where the line begins.
-fn headed_top(
-    floats: &mut Floats,
-    met: &mut Met,
-    start: &Line,
-    stretches: &[Stretch],
-) -> Result<Beginning, NoMemory>
-    requires some { 0 < length stretches.now }
-    requires frame { FrameFits start.now.frame }
-    requires from { IsPosition start.now.top.0 }
-    requires heads { (s : StretchValue) → slice_get stretches.now 0 ≡ Some s
-        → CanMeetAll start.now.frame start.now.top.0 stretches.now 0 s.heads
+fn headed_top(floats: &mut Floats, met: &mut Met, start: &Line<'_>) -> Result<Beginning, NoMemory>
+    requires some { 0 < length start.now.stretches.now }
+    requires heads { (s : StretchValue) → slice_get start.now.stretches.now 0 ≡ Some s
+        → CanMeetAll start.now.frame start.now.top.0 start.now.stretches.now 0 s.heads
         (state_of floats.old met.old) }
-    requires rooms { (s : StretchValue) (headed : State) → slice_get stretches.now 0 ≡ Some s
-        → Meets start.now.frame start.now.top.0 stretches.now 0 s.heads
-        (state_of floats.old met.old) headed → RoomsFit start.now.frame headed.floats stretches.now }
-    ensures heads { IfOk result (λ _. (s : StretchValue) → slice_get stretches.now 0 ≡ Some s
-        → Meets start.now.frame start.now.top.0 stretches.now 0 s.heads
+    requires rooms { (s : StretchValue) (headed : State) → slice_get start.now.stretches.now 0 ≡ Some s
+        → Meets start.now.frame start.now.top.0 start.now.stretches.now 0 s.heads
+        (state_of floats.old met.old) headed → RoomsFit start.now.frame headed.floats start.now.stretches.now }
+    ensures heads { IfOk result (λ _. (s : StretchValue) → slice_get start.now.stretches.now 0 ≡ Some s
+        → Meets start.now.frame start.now.top.0 start.now.stretches.now 0 s.heads
         (state_of floats.old met.old) (state_of floats.new met.new)) }
-    ensures top { IfOk result (λ b. IsTop start.now.frame start.now.top.0 stretches.now floats.new
+    ensures top { IfOk result (λ b. IsTop start.now.frame start.now.top.0 start.now.stretches.now floats.new
         b.top.0) }
     ensures fits { IfOk result (λ b. IsPosition b.top.0) }
-    ensures blank { IfOk result (λ b. IsReach start.now.frame b.top.0 stretches.now floats.new b.blank) }
+    ensures blank { IfOk result (λ b. IsReach start.now.frame b.top.0 start.now.stretches.now floats.new b.blank) }
     ensures count { IfOk result (λ b. b.blank.count ≡ 0) }
     ensures stopped { IfErr result (λ _. (s : StretchValue) (headed : State)
-        → slice_get stretches.now 0 ≡ Some s
-        → Meets start.now.frame start.now.top.0 stretches.now 0 s.heads
+        → slice_get start.now.stretches.now 0 ≡ Some s
+        → Meets start.now.frame start.now.top.0 start.now.stretches.now 0 s.heads
         (state_of floats.old met.old) headed → IsFront floats.new headed.floats) }
 {
-    let blank = Reach::none(floats, &start.frame, stretches);
-    meet_all(
-        floats,
-        met,
-        start,
-        stretches,
-        &blank,
-        stretches[0].heads.as_slice(),
-    )?;
-    Ok(line_top(floats, &start.frame, start.top, stretches))
+    let blank = Reach::none(start);
+    let heads = start.stretches[0].heads.as_slice();
+    meet_all(floats, met, start, &blank, heads)?;
+    Ok(line_top(floats, start))
 }
 
 fn height_of(extent: Extent) -> Unit

@@ -1,11 +1,10 @@
 //! What a line takes.
 
 ghost use Rattle.std.specs.Prelude.{◌≡◌, ◌↔◌, ◌⊎◌, suc, ◌+◌, ◌<◌, ◌≤◌, ℕ, IsTrue, IsFalse, List, length, slice_get, Some, IfOk, IfErr, OnOk};
-ghost use Rattle.lay_units.specs.Units.{IsPosition};
 ghost use Rattle.lay_floats.specs.SolidPlace.{IsAlone};
 ghost use Rattle.lay_line_content.specs.declared.content.Stretch.{Stretch as StretchValue};
 ghost use Rattle.lay_line_content.specs.Pens.{strut_height};
-ghost use Rattle.lay_lines.specs.Meeting.{State, state_of, Meets, CanMeetAll, RoomsFit, FrameFits, IsFront};
+ghost use Rattle.lay_lines.specs.Meeting.{State, state_of, Meets, CanMeetAll, RoomsFit, IsFront};
 ghost use Rattle.lay_lines.specs.Filling.{HasFit, FitsNext, TakesNext, Fills, Takes, CanFill};
 ghost use Rattle.lay_lines.specs.Reaching.{IsReach};
 
@@ -14,39 +13,36 @@ use crate::meeting::meet_all;
 use crate::met::Met;
 use crate::reach::Reach;
 use lay_floats::{Floats, one_float_place};
-use lay_line_content::{LineFloat, Stretch};
-use lay_units::{NoMemory, Unit};
+use lay_line_content::LineFloat;
+use lay_units::NoMemory;
 
 /// A line takes stretches as long as they fit, from before all content. The answer is how far they come.
 pub fn take(
     floats: &mut Floats,
     met: &mut Met,
-    line: &Line,
-    stretches: &[Stretch],
+    line: &Line<'_>,
     blank: Reach,
 ) -> Result<Reach, NoMemory>
-    requires frame { FrameFits line.now.frame }
-    requires top { IsPosition line.now.top.0 }
-    requires can { CanFill line.now.frame line.now.top.0 stretches.now (state_of floats.old met.old) }
-    requires blank { IsReach line.now.frame line.now.top.0 stretches.now floats.old blank }
+    requires can { CanFill line.now.frame line.now.top.0 line.now.stretches.now (state_of floats.old met.old) }
+    requires blank { IsReach line.now.frame line.now.top.0 line.now.stretches.now floats.old blank }
     requires count { blank.count ≡ 0 }
-    ensures takes { IfOk result (λ t. Takes line.now.frame line.now.top.0 stretches.now
+    ensures takes { IfOk result (λ t. Takes line.now.frame line.now.top.0 line.now.stretches.now
         (state_of floats.old met.old) t.count) }
-    ensures fills { IfOk result (λ t. Fills line.now.frame line.now.top.0 stretches.now t.count
+    ensures fills { IfOk result (λ t. Fills line.now.frame line.now.top.0 line.now.stretches.now t.count
         (state_of floats.old met.old) (state_of floats.new met.new)) }
-    ensures reach { IfOk result (λ t. IsReach line.now.frame line.now.top.0 stretches.now floats.new t) }
+    ensures reach { IfOk result (λ t. IsReach line.now.frame line.now.top.0 line.now.stretches.now floats.new t) }
     ensures stopped { IfErr result (λ _. (n : ℕ) (after : State)
-        → Takes line.now.frame line.now.top.0 stretches.now (state_of floats.old met.old) n
-        → Fills line.now.frame line.now.top.0 stretches.now n (state_of floats.old met.old) after
+        → Takes line.now.frame line.now.top.0 line.now.stretches.now (state_of floats.old met.old) n
+        → Fills line.now.frame line.now.top.0 line.now.stretches.now n (state_of floats.old met.old) after
         → IsFront floats.new after.floats) }
 {
     one_float_place();
     let mut reach = blank;
-    for k in 0..stretches.len() {
-        if !take_next(floats, met, line, stretches, &mut reach)? {
+    for k in 0..line.stretches.len() {
+        if !take_next(floats, met, line, &mut reach)? {
             return Ok(reach);
         }
-        if stretches[k].forced {
+        if line.stretches[k].forced {
             return Ok(reach);
         }
     }
@@ -57,63 +53,52 @@ pub fn take(
 fn take_next(
     floats: &mut Floats,
     met: &mut Met,
-    line: &Line,
-    stretches: &[Stretch],
+    line: &Line<'_>,
     reach: &mut Reach,
 ) -> Result<bool, NoMemory>
-    requires frame { FrameFits line.now.frame }
-    requires top { IsPosition line.now.top.0 }
-    requires reach { IsReach line.now.frame line.now.top.0 stretches.now floats.old reach.old }
-    requires some { reach.old.count < length stretches.now }
-    requires rooms { RoomsFit line.now.frame floats.old stretches.now }
-    requires floats { (s : StretchValue) → slice_get stretches.now reach.old.count ≡ Some s
-        → CanMeetAll line.now.frame line.now.top.0 stretches.now
+    requires reach { IsReach line.now.frame line.now.top.0 line.now.stretches.now floats.old reach.old }
+    requires some { reach.old.count < length line.now.stretches.now }
+    requires rooms { RoomsFit line.now.frame floats.old line.now.stretches.now }
+    requires floats { (s : StretchValue) → slice_get line.now.stretches.now reach.old.count ≡ Some s
+        → CanMeetAll line.now.frame line.now.top.0 line.now.stretches.now
         (suc reach.old.count) s.floats (state_of floats.old met.old) }
     ensures takes { IfOk result (λ taken. IsTrue taken
-        → TakesNext line.now.frame line.now.top.0 stretches.now reach.old.count
+        → TakesNext line.now.frame line.now.top.0 line.now.stretches.now reach.old.count
         (state_of floats.old met.old) (state_of floats.new met.new)) }
-    ensures reach { OnOk result (IsReach line.now.frame line.now.top.0 stretches.now floats.new reach.new) }
+    ensures reach { OnOk result (IsReach line.now.frame line.now.top.0 line.now.stretches.now floats.new reach.new) }
     ensures count { IfOk result (λ taken. IsTrue taken → reach.new.count ≡ reach.old.count + 1) }
     ensures fits { IfOk result (λ taken. IsTrue taken
-        → FitsNext line.now.frame line.now.top.0 stretches.now reach.old.count floats.old) }
+        → FitsNext line.now.frame line.now.top.0 line.now.stretches.now reach.old.count floats.old) }
     ensures full { IfOk result (λ taken. IsFalse taken
-        → FitsNext line.now.frame line.now.top.0 stretches.now reach.old.count floats.old → ⊥) }
+        → FitsNext line.now.frame line.now.top.0 line.now.stretches.now reach.old.count floats.old → ⊥) }
     ensures same { IfOk result (λ taken. IsFalse taken → state_of floats.new met.new
         ≡ state_of floats.old met.old) }
     ensures same_reach { IfOk result (λ taken. IsFalse taken → reach.new ≡ reach.old) }
     ensures stopped { IfErr result (λ _. (after : State)
-        → TakesNext line.now.frame line.now.top.0 stretches.now reach.old.count
+        → TakesNext line.now.frame line.now.top.0 line.now.stretches.now reach.old.count
         (state_of floats.old met.old) after → IsFront floats.new after.floats) }
     ensures stopped_in { IfErr result
-        (λ _. FitsNext line.now.frame line.now.top.0 stretches.now reach.old.count floats.old) }
+        (λ _. FitsNext line.now.frame line.now.top.0 line.now.stretches.now reach.old.count floats.old) }
 {
-    let next = reach.next(floats, line, stretches);
-    if !is_taken(floats, line, stretches, &next, is_zero(reach.count)) {
+    let next = reach.next(floats, line);
+    if !is_taken(floats, line, &next, is_zero(reach.count)) {
         return Ok(false);
     }
-    let list = stretches[reach.count].floats.as_slice();
+    let list = line.stretches[reach.count].floats.as_slice();
     *reach = next;
-    meet_after(floats, met, line, stretches, reach, list)?;
+    meet_after(floats, met, line, reach, list)?;
     Ok(true)
 }
 
 /// Whether a stretch more is taken, with which the line comes this far: it fits, or it is the first and no
 /// float is beside the line.
-fn is_taken(
-    floats: &Floats,
-    line: &Line,
-    stretches: &[Stretch],
-    next: &Reach,
-    is_first: bool,
-) -> bool
-    requires frame { FrameFits line.now.frame }
-    requires top { IsPosition line.now.top.0 }
-    requires reach { IsReach line.now.frame line.now.top.0 stretches.now floats.now next.now }
-    ensures { IsTrue result ↔ HasFit line.now.frame line.now.top.0 stretches.now next.now.count
+fn is_taken(floats: &Floats, line: &Line<'_>, next: &Reach, is_first: bool) -> bool
+    requires reach { IsReach line.now.frame line.now.top.0 line.now.stretches.now floats.now next.now }
+    ensures { IsTrue result ↔ HasFit line.now.frame line.now.top.0 line.now.stretches.now next.now.count
         floats.now ⊎ (IsTrue is_first × IsAlone floats.now line.now.top.0
         (strut_height line.now.frame)) }
 {
-    if next.fits(floats, line, stretches) {
+    if next.fits(floats, line) {
         return true;
     }
     is_first && is_alone(floats, line)
@@ -125,9 +110,7 @@ fn is_zero(count: usize) -> bool
     count == 0
 }
 
-fn is_alone(floats: &Floats, line: &Line) -> bool
-    requires frame { FrameFits line.now.frame }
-    requires top { IsPosition line.now.top.0 }
+fn is_alone(floats: &Floats, line: &Line<'_>) -> bool
     ensures { IsTrue result ↔ IsAlone floats.now line.now.top.0 (strut_height line.now.frame) }
 {
     floats
@@ -139,29 +122,26 @@ fn is_alone(floats: &Floats, line: &Line) -> bool
 fn meet_after(
     floats: &mut Floats,
     met: &mut Met,
-    line: &Line,
-    stretches: &[Stretch],
+    line: &Line<'_>,
     reach: &mut Reach,
     list: &[LineFloat],
 ) -> Result<(), NoMemory>
-    requires frame { FrameFits line.now.frame }
-    requires top { IsPosition line.now.top.0 }
-    requires reach { IsReach line.now.frame line.now.top.0 stretches.now floats.old reach.old }
-    requires count { reach.old.count ≤ length stretches.now }
-    requires floats { CanMeetAll line.now.frame line.now.top.0 stretches.now reach.old.count list.now
+    requires reach { IsReach line.now.frame line.now.top.0 line.now.stretches.now floats.old reach.old }
+    requires count { reach.old.count ≤ length line.now.stretches.now }
+    requires floats { CanMeetAll line.now.frame line.now.top.0 line.now.stretches.now reach.old.count list.now
         (state_of floats.old met.old) }
-    ensures meets { OnOk result (Meets line.now.frame line.now.top.0 stretches.now reach.old.count
+    ensures meets { OnOk result (Meets line.now.frame line.now.top.0 line.now.stretches.now reach.old.count
         list.now (state_of floats.old met.old) (state_of floats.new met.new)) }
-    ensures reach { OnOk result (IsReach line.now.frame line.now.top.0 stretches.now floats.new reach.new) }
+    ensures reach { OnOk result (IsReach line.now.frame line.now.top.0 line.now.stretches.now floats.new reach.new) }
     ensures count { OnOk result (reach.new.count ≡ reach.old.count) }
     ensures stopped { IfErr result (λ _. (after : State)
-        → Meets line.now.frame line.now.top.0 stretches.now reach.old.count list.now
+        → Meets line.now.frame line.now.top.0 line.now.stretches.now reach.old.count list.now
         (state_of floats.old met.old) after → IsFront floats.new after.floats) }
 {
     if list.is_empty() {
         return Ok(());
     }
-    meet_all(floats, met, line, stretches, reach, list)?;
-    *reach = reach.in_room(floats, line, stretches);
+    meet_all(floats, met, line, reach, list)?;
+    *reach = reach.in_room(floats, line);
     Ok(())
 }

@@ -45,5 +45,5 @@ returns-in_err-push-2-clause-stopped c =
     let placed = c.in_ok-place.ensures.placed ∙ ap (λ (q : FloatReq). c.args.floats.now ++ placed_at q place.x.0 place.y.0 ∷ []) e in
     let ours = stands place.x.0 place.y.0 (c.has_to_wait.ensures.stands c.if-has_to_wait.false place.x.0 place.y.0 is) refl in
     at_err c.from_residual-in_err-push-2.result _ (λ after m.
-    (let same = one_met c.one_float_place.ensures c.args.line.now.frame c.args.line.now.top.0 c.args.stretches.now c.args.reach.now.count st float (stood st float place.x.0 place.y.0) after ours m in
+    (let same = one_met c.one_float_place.ensures c.args.line.now.frame c.args.line.now.top.0 c.args.line.now.stretches.now c.args.reach.now.count st float (stood st float place.x.0 place.y.0) after ours m in
     all_front _ _ (placed ∙ ap (λ (s : State). s.floats) same)))

@@ -15,7 +15,7 @@ meet-requires-clause-float c =
 
 pub loop-float-preserved : goal.loop-float-preserved
 loop-float-preserved c =
-    chain_more (MeetsAt c.args.line.now.frame c.args.line.now.top.0 c.args.stretches.now c.args.reach.now.count c.args.list.now) c.loop-float.float-index _
+    chain_more (MeetsAt c.args.line.now.frame c.args.line.now.top.0 c.args.line.now.stretches.now c.args.reach.now.count c.args.list.now) c.loop-float.float-index _
     (state_of c.loop-float.floats c.loop-float.met) _ c.loop-float.invariant
     (_, slice_get-get_or c.args.list.now c.loop-float.float-index _ c.loop-float-test.true, c.in_ok-meet.ensures.meets)
 
@@ -23,6 +23,6 @@ pub returns-in_err-meet-clause-stopped : goal.returns-in_err-meet-clause-stopped
 returns-in_err-meet-clause-stopped c =
     let list = c.args.list.now in
     let j = c.loop-float.float-index in
-    at_err c.from_residual.result _ (λ after all. meets_stopped c.one_float_place.ensures c.args.line.now.frame c.args.line.now.top.0 c.args.stretches.now c.args.reach.now.count list
+    at_err c.from_residual.result _ (λ after all. meets_stopped c.one_float_place.ensures c.args.line.now.frame c.args.line.now.top.0 c.args.line.now.stretches.now c.args.reach.now.count list
     (state_of c.args.floats.now c.args.met.now) (state_of c.loop-float.floats c.loop-float.met) after j _ c.meet.new.floats
     c.loop-float.invariant c.loop-float-test.true (slice_get-get_or list j _ c.loop-float-test.true) c.in_err-meet.ensures.stopped all)

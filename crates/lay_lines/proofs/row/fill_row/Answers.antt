@@ -11,8 +11,8 @@ use Rattle.lay_lines.proofs.row.fill_row.Goals as goal
 
 pub returns-in_err-top-clause-stopped : goal.returns-in_err-top-clause-stopped
 returns-in_err-top-clause-stopped c =
-    let fr = c.args.start.now.frame in
-    let from = c.args.start.now.top.0 in
+    let fr = c.args.rest.now.frame in
+    let from = c.args.rest.now.top.0 in
     let ss = c.args.rest.now.stretches.now in
     let st = state_of c.args.floats.now c.args.met.now in
     let p = position_of fr from c.args.boxes.now.items ss st in
@@ -20,8 +20,8 @@ returns-in_err-top-clause-stopped c =
 
 pub take-requires-clause-can : goal.take-requires-clause-can
 take-requires-clause-can c =
-    let fr = c.args.start.now.frame in
-    let from = c.args.start.now.top.0 in
+    let fr = c.args.rest.now.frame in
+    let from = c.args.rest.now.top.0 in
     let ss = c.args.rest.now.stretches.now in
     let st = state_of c.args.floats.now c.args.met.now in
     let p = position_of fr from c.args.boxes.now.items ss st in
@@ -33,8 +33,8 @@ take-requires-clause-can c =
 
 pub returns-in_err-reach-clause-stopped : goal.returns-in_err-reach-clause-stopped
 returns-in_err-reach-clause-stopped c =
-    let fr = c.args.start.now.frame in
-    let from = c.args.start.now.top.0 in
+    let fr = c.args.rest.now.frame in
+    let from = c.args.rest.now.top.0 in
     let ss = c.args.rest.now.stretches.now in
     let st = state_of c.args.floats.now c.args.met.now in
     let p = position_of fr from c.args.boxes.now.items ss st in
@@ -49,8 +49,8 @@ row_shape-requires-clause-fits c = c.requires.can.parts
 
 pub returns-in_err-shape-clause-stopped : goal.returns-in_err-shape-clause-stopped
 returns-in_err-shape-clause-stopped c =
-    let fr = c.args.start.now.frame in
-    let from = c.args.start.now.top.0 in
+    let fr = c.args.rest.now.frame in
+    let from = c.args.rest.now.top.0 in
     let ss = c.args.rest.now.stretches.now in
     let st = state_of c.args.floats.now c.args.met.now in
     let p = position_of fr from c.args.boxes.now.items ss st in
@@ -67,8 +67,8 @@ row_end-to-requires-clause-height c = c.requires.can.height c.in_ok-reach.reach.
 
 pub row_end-to-requires-clause-end : goal.row_end-to-requires-clause-end
 row_end-to-requires-clause-end c =
-    let fr = c.args.start.now.frame in
-    let from = c.args.start.now.top.0 in
+    let fr = c.args.rest.now.frame in
+    let from = c.args.rest.now.top.0 in
     let ss = c.args.rest.now.stretches.now in
     let st = state_of c.args.floats.now c.args.met.now in
     let p = position_of fr from c.args.boxes.now.items ss st in
@@ -88,8 +88,8 @@ row_end-to-requires-clause-end c =
 
 pub returns-clause-filled : goal.returns-clause-filled
 returns-clause-filled c =
-    let fr = c.args.start.now.frame in
-    let from = c.args.start.now.top.0 in
+    let fr = c.args.rest.now.frame in
+    let from = c.args.rest.now.top.0 in
     let ss = c.args.rest.now.stretches.now in
     let st = state_of c.args.floats.now c.args.met.now in
     let p = position_of fr from c.args.boxes.now.items ss st in

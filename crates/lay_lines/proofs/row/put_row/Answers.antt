@@ -7,10 +7,10 @@ use Rattle.lay_lines.proofs.Steps.{same_states, takes_some, top_fits, heads_from
 use Rattle.lay_lines.proofs.LineLists.{one_filled, row_front}
 use Rattle.lay_lines.proofs.row.put_row.Goals as goal
 
-pub meet_all-requires-clause-top : goal.meet_all-requires-clause-top
-meet_all-requires-clause-top c =
-    let fr = c.args.start.now.frame in
-    let from = c.args.start.now.top.0 in
+pub invariant_of-under-clause-top_fits : goal.invariant_of-under-clause-top_fits
+invariant_of-under-clause-top_fits c =
+    let fr = c.args.rest.now.frame in
+    let from = c.args.rest.now.top.0 in
     let ss = c.args.rest.now.stretches.now in
     let st = state_of c.args.floats.now c.args.met.now in
     let p = position_of fr from c.args.boxes.now.items ss st in
@@ -22,8 +22,8 @@ meet_all-requires-clause-top c =
 
 pub meet_all-requires-clause-floats : goal.meet_all-requires-clause-floats
 meet_all-requires-clause-floats c =
-    let fr = c.args.start.now.frame in
-    let from = c.args.start.now.top.0 in
+    let fr = c.args.rest.now.frame in
+    let from = c.args.rest.now.top.0 in
     let ss = c.args.rest.now.stretches.now in
     let st = state_of c.args.floats.now c.args.met.now in
     let p = position_of fr from c.args.boxes.now.items ss st in
@@ -39,8 +39,8 @@ meet_all-requires-clause-floats c =
 
 pub returns-clause-row : goal.returns-clause-row
 returns-clause-row c =
-    let fr = c.args.start.now.frame in
-    let from = c.args.start.now.top.0 in
+    let fr = c.args.rest.now.frame in
+    let from = c.args.rest.now.top.0 in
     let ss = c.args.rest.now.stretches.now in
     let st = state_of c.args.floats.now c.args.met.now in
     let p = position_of fr from c.args.boxes.now.items ss st in
@@ -62,13 +62,13 @@ pub returns-clause-some : goal.returns-clause-some
 returns-clause-some c =
     let w = c.in_ok-ended.ensures.filled in
     let f = w.1 (state_of c.args.floats.now c.args.met.now) in
-    takes_some c.args.start.now.frame c.in_ok-ended.ended.top.0 c.args.rest.now.stretches.now w.0 c.in_ok-ended.ended.reach.count c.requires.some
-    (top_fits c.args.start.now.frame c.in_ok-ended.ended.top.0 c.args.rest.now.stretches.now w.0.floats f.top_is.begins) f.count_is
+    takes_some c.args.rest.now.frame c.in_ok-ended.ended.top.0 c.args.rest.now.stretches.now w.0 c.in_ok-ended.ended.reach.count c.requires.some
+    (top_fits c.args.rest.now.frame c.in_ok-ended.ended.top.0 c.args.rest.now.stretches.now w.0.floats f.top_is.begins) f.count_is
 
 pub returns-in_err-ended-clause-stopped : goal.returns-in_err-ended-clause-stopped
 returns-in_err-ended-clause-stopped c =
-    let fr = c.args.start.now.frame in
-    let from = c.args.start.now.top.0 in
+    let fr = c.args.rest.now.frame in
+    let from = c.args.rest.now.top.0 in
     let ss = c.args.rest.now.stretches.now in
     let st = state_of c.args.floats.now c.args.met.now in
     let p = position_of fr from c.args.boxes.now.items ss st in
@@ -76,8 +76,8 @@ returns-in_err-ended-clause-stopped c =
 
 pub returns-in_err-meet_all-clause-stopped : goal.returns-in_err-meet_all-clause-stopped
 returns-in_err-meet_all-clause-stopped c =
-    let fr = c.args.start.now.frame in
-    let from = c.args.start.now.top.0 in
+    let fr = c.args.rest.now.frame in
+    let from = c.args.rest.now.top.0 in
     let ss = c.args.rest.now.stretches.now in
     let st = state_of c.args.floats.now c.args.met.now in
     let p = position_of fr from c.args.boxes.now.items ss st in

@@ -3,13 +3,13 @@ use Rattle.lay_lines.specs.Meeting.{none_met, state_of}
 use Rattle.lay_lines.specs.Rows.{OpensNone, Row, RowsTo, position_of, ended_of}
 use Rattle.lay_lines.proofs.rows.lay_rows.Given as goal
 
-abbrev pub decreases-loop-rest : goal.decreases-loop-rest
-decreases-loop-rest l = length l.rest.stretches.now
+abbrev pub decreases-loop-alloc : goal.decreases-loop-alloc
+decreases-loop-alloc l = length l.rest.stretches.now
 
-abbrev pub invariant-loop-rest : goal.invariant-loop-rest
-invariant-loop-rest l =
+abbrev pub invariant-loop-alloc : goal.invariant-loop-alloc
+invariant-loop-alloc l =
     (n : ℕ) × (rows : List Row)
-    × RowsTo n (record { rows = []; position = position_of l.start.frame l.start.top.0 [] l.fn.content.stretches.now (none_met l.fn.floats) })
-    (record { rows = rows; position = position_of l.here.frame l.here.top.0 l.boxes.items l.rest.stretches.now (state_of l.floats l.met) })
+    × RowsTo n (record { rows = []; position = position_of l.fn.all.frame l.fn.all.top.0 [] l.fn.all.stretches.now (none_met l.fn.floats) })
+    (record { rows = rows; position = position_of l.rest.frame l.rest.top.0 l.boxes.items l.rest.stretches.now (state_of l.floats l.met) })
     × (map ended_of rows ≡ l.rows.items)
     × (IsFalse l.rest.has_boxes → OpensNone l.boxes.items l.rest.stretches.now)

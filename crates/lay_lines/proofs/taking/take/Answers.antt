@@ -12,18 +12,18 @@ use Rattle.lay_lines.proofs.taking.take.Goals as goal
 
 pub take_next-requires-clause-rooms : goal.take_next-requires-clause-rooms
 take_next-requires-clause-rooms c =
-    let ss = c.args.stretches.now in
+    let ss = c.args.line.now.stretches.now in
     let w = some_at ss c.loop-k.k c.loop-k-test.true in
     rooms_next c.args.line.now.frame c.args.line.now.top.0 ss (state_of c.args.floats.now c.args.met.now) (state_of c.loop-k.floats c.loop-k.met) c.loop-k.k w.0 c.requires.can c.loop-k.invariant.fills w.1
 
 pub take_next-requires-clause-floats : goal.take_next-requires-clause-floats
 take_next-requires-clause-floats c =
-    can_next c.args.line.now.frame c.args.line.now.top.0 c.args.stretches.now (state_of c.args.floats.now c.args.met.now) (state_of c.loop-k.floats c.loop-k.met) c.loop-k.k c.loop-k.reach.count c.requires.can
+    can_next c.args.line.now.frame c.args.line.now.top.0 c.args.line.now.stretches.now (state_of c.args.floats.now c.args.met.now) (state_of c.loop-k.floats c.loop-k.met) c.loop-k.k c.loop-k.reach.count c.requires.can
     c.loop-k.invariant.fills c.loop-k.invariant.count_is
 
 pub returns-in_err-take_next-clause-stopped : goal.returns-in_err-take_next-clause-stopped
 returns-in_err-take_next-clause-stopped c =
-    let ss = c.args.stretches.now in
+    let ss = c.args.line.now.stretches.now in
     let fr = c.args.line.now.frame in
     let y = c.args.line.now.top.0 in
     let k = c.loop-k.k in
@@ -37,7 +37,7 @@ returns-in_err-take_next-clause-stopped c =
 
 pub returns-then-not-branch-clause-takes : goal.returns-then-not-branch-clause-takes
 returns-then-not-branch-clause-takes c =
-    let ss = c.args.stretches.now in
+    let ss = c.args.line.now.stretches.now in
     let fr = c.args.line.now.frame in
     let y = c.args.line.now.top.0 in
     let k = c.loop-k.k in
@@ -51,25 +51,25 @@ returns-then-not-branch-clause-takes c =
     (stops fr y ss st now k (omega (arith, lt)) inv.unforced inv.fits inv.fills
     (λ fit. step.full c.if-not-branch.true (subst (λ (n : ℕ). FitsNext fr y ss n now.floats) (sym inv.count_is) fit)))
 
-pub returns-then-stretches-k-clause-takes : goal.returns-then-stretches-k-clause-takes
-returns-then-stretches-k-clause-takes c =
-    let ss = c.args.stretches.now in
+pub returns-then-line-k-clause-takes : goal.returns-then-line-k-clause-takes
+returns-then-line-k-clause-takes c =
+    let ss = c.args.line.now.stretches.now in
     let fr = c.args.line.now.frame in
     let y = c.args.line.now.top.0 in
     let k = c.loop-k.k in
     let inv = c.loop-k.invariant in
     let now = state_of c.loop-k.floats c.loop-k.met in
     let st = state_of c.args.floats.now c.args.met.now in
-    let s = c.index-stretches-k.result in
-    let is = stretch_is ss k s c.loop-k-test.true c.index-stretches-k.is in
+    let s = c.index-line-k.result in
+    let is = stretch_is ss k s c.loop-k-test.true c.index-line-k.is in
     let step = c.in_ok-take_next.ensures in
     subst (λ (n : ℕ). Takes fr y ss st n) (sym (step.count c.if-not-branch.false ∙ ap (λ n. n + 1) inv.count_is))
-    (ends fr y ss st k s inv.unforced is (ap (λ (u : Stretch). u.forced) c.index-stretches-k.is ∙ c.if-stretches-k.true)
+    (ends fr y ss st k s inv.unforced is (ap (λ (u : Stretch). u.forced) c.index-line-k.is ∙ c.if-line-k.true)
     (all_fit c.one_float_place.ensures fr y ss st now k inv.fits inv.fills (subst (λ (n : ℕ). FitsNext fr y ss n now.floats) inv.count_is (step.fits c.if-not-branch.false))))
 
-pub returns-then-stretches-k-clause-fills : goal.returns-then-stretches-k-clause-fills
-returns-then-stretches-k-clause-fills c =
-    let ss = c.args.stretches.now in
+pub returns-then-line-k-clause-fills : goal.returns-then-line-k-clause-fills
+returns-then-line-k-clause-fills c =
+    let ss = c.args.line.now.stretches.now in
     let fr = c.args.line.now.frame in
     let y = c.args.line.now.top.0 in
     let k = c.loop-k.k in
@@ -83,7 +83,7 @@ returns-then-stretches-k-clause-fills c =
 
 pub loop-k-preserved : goal.loop-k-preserved
 loop-k-preserved c =
-    let ss = c.args.stretches.now in
+    let ss = c.args.line.now.stretches.now in
     let fr = c.args.line.now.frame in
     let y = c.args.line.now.top.0 in
     let k = c.loop-k.k in
@@ -91,13 +91,13 @@ loop-k-preserved c =
     let now = state_of c.loop-k.floats c.loop-k.met in
     let st = state_of c.args.floats.now c.args.met.now in
     let after = state_of c.take_next.new.floats c.take_next.new.met in
-    let s = c.index-stretches-k.result in
-    let is = stretch_is ss k s c.loop-k-test.true c.index-stretches-k.is in
+    let s = c.index-line-k.result in
+    let is = stretch_is ss k s c.loop-k-test.true c.index-line-k.is in
     let step = c.in_ok-take_next.ensures in
     record {
       count_is = step.count c.if-not-branch.false ∙ ap (λ n. n + 1) inv.count_is;
       reach_is = step.reach;
       fills = chain_more (TakesNext fr y ss) k st now after inv.fills (subst (λ (n : ℕ). TakesNext fr y ss n now after) inv.count_is (step.takes c.if-not-branch.false));
       fits = all_fit c.one_float_place.ensures fr y ss st now k inv.fits inv.fills (subst (λ (n : ℕ). FitsNext fr y ss n now.floats) inv.count_is (step.fits c.if-not-branch.false));
-      unforced = unforced_more ss k s inv.unforced is (ap (λ (u : Stretch). u.forced) c.index-stretches-k.is ∙ c.if-stretches-k.false);
+      unforced = unforced_more ss k s inv.unforced is (ap (λ (u : Stretch). u.forced) c.index-line-k.is ∙ c.if-line-k.false);
     }

@@ -7,8 +7,8 @@ use Rattle.lay_lines.proofs.top.line_top.Given as goal
 abbrev pub invariant-loop-blank : goal.invariant-loop-blank
 invariant-loop-blank l = record {
   fits : IsPosition l.top.0;
-  low : l.fn.from.0 ≤ℤ l.top.0;
-  least : (z : ℤ) → l.fn.from.0 ≤ℤ z → Begins l.frame z l.stretches l.floats → l.top.0 ≤ℤ z;
+  low : l.fn.start.top.0 ≤ℤ l.top.0;
+  least : (z : ℤ) → l.fn.start.top.0 ≤ℤ z → Begins l.start.frame z l.start.stretches.now l.floats → l.top.0 ≤ℤ z;
 }
 
 abbrev pub decreases-loop-blank : goal.decreases-loop-blank

@@ -9,7 +9,7 @@ use Rattle.lay_lines.proofs.top.next_top.Goals as goal
 pub returns-clause-none_higher : goal.returns-clause-none_higher
 returns-clause-none_higher c =
     let fr = c.args.line.now.frame in
-    let ss = c.args.stretches.now in
+    let ss = c.args.line.now.stretches.now in
     let floats = c.args.floats.now in
     if_some_map (λ (v : Unit). IsNextBottom floats c.args.line.now.top.0 c.strut_height.result.0 v.0) (λ (v : Unit). (z : ℤ) → Begins fr z ss floats → c.args.line.now.top.0 ≤ℤ z → v.0 ≤ℤ z) c.next_bottom.result
     c.next_bottom.ensures.some (λ v is z begins down. no_line_higher fr c.args.line.now.top.0 v.0 z ss floats c.first_fits.ensures.room

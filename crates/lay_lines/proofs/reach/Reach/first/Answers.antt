@@ -7,5 +7,5 @@ blank-requires-clause-fits c = (c.requires.rooms c.args.line.now.top.0 c.room.re
 
 pub returns-clause-reach : goal.returns-clause-reach
 returns-clause-reach c =
-    reach_is c.args.line.now.frame c.args.line.now.top.0 c.args.stretches.now c.args.floats.now zero c.room.result.0 c.room.result.1 c.blank.result c.requires.rooms
+    reach_is c.args.line.now.frame c.args.line.now.top.0 c.args.line.now.stretches.now c.args.floats.now zero c.room.result.0 c.room.result.1 c.blank.result c.requires.rooms
     c.room.ensures.room c.room.ensures.left_fits c.room.ensures.right_fits (omega arith) c.blank.ensures
