@@ -6,8 +6,7 @@ ghost use Rattle.lay_cells.specs.Plans.{AreNamed, ArePlaced, IsPlaced, blank_row
 ghost use Rattle.lay_cells.specs.Rows.{row_of};
 ghost use Rattle.lay_cells.specs.Shapes.{IsIn};
 
-use crate::cell::Cell;
-use crate::done::Done;
+use crate::cell::{Cell, CellOf};
 use crate::index::places_of;
 use crate::shape::Planned;
 use crate::work::Work;
@@ -20,7 +19,7 @@ fn blank_cell<W: Work>(
     alloc: Global,
     index: &BTreeMap<W::Key, usize>,
     plan: Planned<W::Key>,
-) -> Result<Cell<W::Key, W::Input, Done<W>>, NoMemory>
+) -> Result<CellOf<W>, NoMemory>
     requires { (k : W.Key) → IsIn plan.needs.items k → IsSome (get W.Key.cmp index.now k) }
     ensures row { IfOk result (λ c. row_of c ≡ blank_row (planned plan)) }
     ensures placed { IfOk result (λ c. IsPlaced W.Key.cmp index.now c) }
@@ -47,7 +46,7 @@ pub fn blank_cells<W: Work>(
     alloc: Global,
     index: &BTreeMap<W::Key, usize>,
     plans: Vec<Planned<W::Key>>,
-) -> Result<Vec<Cell<W::Key, W::Input, Done<W>>>, NoMemory>
+) -> Result<Vec<CellOf<W>>, NoMemory>
     requires { AreNamed W.Key.cmp index.now plans.items }
     ensures rows { IfOk result (λ cells. map row_of cells.items ≡ map blank_row (map planned plans.items)) }
     ensures placed { IfOk result (λ cells. ArePlaced W.Key.cmp index.now cells.items) }

@@ -1,5 +1,7 @@
 //! The data of one cell.
 
+use crate::done::Done;
+use crate::work::Work;
 use std::sync::Arc;
 
 /// A claim that is open, of the input that was handed in last.
@@ -26,3 +28,6 @@ pub struct Cell<K, I, D> {
     pub turns: u64,
     pub backs: u64,
 }
+
+/// A cell of this kind of work.
+pub type CellOf<W> = Cell<<W as Work>::Key, <W as Work>::Input, Done<W>>;

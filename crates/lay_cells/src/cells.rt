@@ -11,7 +11,7 @@ ghost use Rattle.lay_cells.specs.Steps.{ClaimsIn, FinishesIn, GivesBackIn};
 
 use crate::answers::{Claimed, Finished, Look, Released};
 use crate::blanks::blank_cells;
-use crate::cell::Cell;
+use crate::cell::CellOf;
 use crate::change::{claim_at, drawn, finish_at, give_back_at};
 use crate::done::Done;
 use crate::fresh::key_set;
@@ -32,7 +32,7 @@ use std::sync::Arc;
 /// and the count of the numbers that were drawn.
 #[derive(Drop)]
 pub struct Cells<W: Work> {
-    cells: Vec<Cell<W::Key, W::Input, Done<W>>>,
+    cells: Vec<CellOf<W>>,
     index: BTreeMap<W::Key, usize>,
     /// The place of the first dirty cell, or the number of cells.
     lowest: usize,

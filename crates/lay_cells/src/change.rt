@@ -7,7 +7,7 @@ ghost use Rattle.lay_cells.specs.Rows.{Row, row_of};
 ghost use Rattle.lay_cells.specs.Steps.{Claims, Finishes, GivesBack, draws_after};
 
 use crate::answers::{Claimed, Finished, Released};
-use crate::cell::{Cell, Open};
+use crate::cell::{CellOf, Open};
 use crate::done::Done;
 use crate::work::Work;
 use std::sync::Arc;
@@ -33,11 +33,7 @@ fn kept_is<W: Work>(kept: &Option<Done<W>>, input: &Arc<W::Input>) -> bool
 }
 
 /// A claim of a cell that is ready. A new claim takes this number.
-pub fn claim_cell<W: Work>(
-    cell: &mut Cell<W::Key, W::Input, Done<W>>,
-    input: Arc<W::Input>,
-    number: u64,
-) -> Claimed
+pub fn claim_cell<W: Work>(cell: &mut CellOf<W>, input: Arc<W::Input>, number: u64) -> Claimed
     requires laid { cell.old.laid < 2 ^ 64 - 1 }
     requires turns { cell.old.turns < 2 ^ 64 - 1 }
     ensures claims { Claims (row_of cell.old) number (arc_value input) result (row_of cell.new) }
@@ -68,7 +64,7 @@ pub fn claim_cell<W: Work>(
 }
 
 /// What finished work comes to at its cell.
-pub fn finish_cell<W: Work>(cell: &mut Cell<W::Key, W::Input, Done<W>>, done: Done<W>) -> Finished
+pub fn finish_cell<W: Work>(cell: &mut CellOf<W>, done: Done<W>) -> Finished
     ensures finishes { Finishes (row_of cell.old) done result (row_of cell.new) }
     ensures wire { wire_of cell.new ≡ wire_of cell.old }
 {
@@ -93,7 +89,7 @@ pub fn finish_cell<W: Work>(cell: &mut Cell<W::Key, W::Input, Done<W>>, done: Do
 }
 
 /// What a claim that is given back comes to at its cell.
-pub fn give_back_cell<W: Work>(cell: &mut Cell<W::Key, W::Input, Done<W>>, number: u64) -> Released
+pub fn give_back_cell<W: Work>(cell: &mut CellOf<W>, number: u64) -> Released
     requires { cell.old.backs < 2 ^ 64 - 1 }
     ensures gives_back { GivesBack (row_of cell.old) number result (row_of cell.new) }
     ensures wire { wire_of cell.new ≡ wire_of cell.old }
@@ -114,7 +110,7 @@ pub fn give_back_cell<W: Work>(cell: &mut Cell<W::Key, W::Input, Done<W>>, numbe
 
 /// A claim of the cell at a place, which is ready. A new claim takes this number.
 pub fn claim_at<W: Work>(
-    cells: &mut Vec<Cell<W::Key, W::Input, Done<W>>>,
+    cells: &mut Vec<CellOf<W>>,
     place: usize,
     input: Arc<W::Input>,
     number: u64,
@@ -127,11 +123,7 @@ pub fn claim_at<W: Work>(
 }
 
 /// What finished work comes to at the cell at a place.
-pub fn finish_at<W: Work>(
-    cells: &mut Vec<Cell<W::Key, W::Input, Done<W>>>,
-    place: usize,
-    done: Done<W>,
-) -> Finished
+pub fn finish_at<W: Work>(cells: &mut Vec<CellOf<W>>, place: usize, done: Done<W>) -> Finished
     requires { place < length cells.old.items }
     ensures { ChangesAt cells.old.items cells.new.items place (λ r q. Finishes r done result q) }
 {
@@ -139,11 +131,7 @@ pub fn finish_at<W: Work>(
 }
 
 /// What a claim that is given back comes to at the cell at a place.
-pub fn give_back_at<W: Work>(
-    cells: &mut Vec<Cell<W::Key, W::Input, Done<W>>>,
-    place: usize,
-    number: u64,
-) -> Released
+pub fn give_back_at<W: Work>(cells: &mut Vec<CellOf<W>>, place: usize, number: u64) -> Released
     requires within { place < length cells.old.items }
     requires small { (r : Row W.Key W.Input W.Value) → slice_get (map row_of cells.old.items) place ≡ Some r → r.backs < 2 ^ 64 - 1 }
     ensures { ChangesAt cells.old.items cells.new.items place (λ r q. GivesBack r number result q) }

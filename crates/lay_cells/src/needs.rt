@@ -6,12 +6,11 @@ ghost use Rattle.lay_cells.specs.Looks.{AreClean, IsFirstDirty};
 ghost use Rattle.lay_cells.specs.Reads.{AllClean, IsFirstDirtyKey};
 ghost use Rattle.lay_cells.specs.Rows.{Row, row_of};
 
-use crate::cell::Cell;
-use crate::done::Done;
+use crate::cell::CellOf;
 use crate::index::cell_at;
 use crate::work::Work;
 
-fn is_dirty<W: Work>(cells: &[Cell<W::Key, W::Input, Done<W>>], place: usize) -> bool
+fn is_dirty<W: Work>(cells: &[CellOf<W>], place: usize) -> bool
     requires { place < length cells.now }
     ensures { HasBit (map row_of cells.now) place result }
 {
@@ -19,10 +18,7 @@ fn is_dirty<W: Work>(cells: &[Cell<W::Key, W::Input, Done<W>>], place: usize) ->
 }
 
 /// Which of these places is the first whose cell is dirty.
-fn first_dirty_place<W: Work>(
-    cells: &[Cell<W::Key, W::Input, Done<W>>],
-    places: &[usize],
-) -> Option<usize>
+fn first_dirty_place<W: Work>(cells: &[CellOf<W>], places: &[usize]) -> Option<usize>
     requires { (n p : ℕ) → slice_get places.now n ≡ Some p → p < length cells.now }
     ensures some { IfSome result (λ n. (p : ℕ) × (slice_get places.now n ≡ Some p) × HasBit (map row_of cells.now) p true
         × ((m : ℕ) → m < n → (q : ℕ) → slice_get places.now m ≡ Some q → HasBit (map row_of cells.now) q false)) }
@@ -37,10 +33,7 @@ fn first_dirty_place<W: Work>(
 }
 
 /// The first dependency of the cell at a place that is dirty.
-pub fn first_dirty_need<W: Work>(
-    cells: &[Cell<W::Key, W::Input, Done<W>>],
-    place: usize,
-) -> Option<W::Key>
+pub fn first_dirty_need<W: Work>(cells: &[CellOf<W>], place: usize) -> Option<W::Key>
     requires wired { HasIndex W.Key.cmp (map wire_of cells.now) }
     requires within { place < length cells.now }
     ensures some { IfSome result (λ k. (r : Row W.Key W.Input W.Value) × (slice_get (map row_of cells.now) place ≡ Some r) × IsFirstDirty (map row_of cells.now) r.needs k) }
@@ -54,7 +47,7 @@ pub fn first_dirty_need<W: Work>(
 }
 
 /// The place of the first dirty cell, or the number of cells. The cells before `from` are clean.
-pub fn next_dirty<W: Work>(cells: &[Cell<W::Key, W::Input, Done<W>>], from: usize) -> usize
+pub fn next_dirty<W: Work>(cells: &[CellOf<W>], from: usize) -> usize
     requires { (j : ℕ) → j < from → (r : Row W.Key W.Input W.Value) → slice_get (map row_of cells.now) j ≡ Some r → r.dirty ≡ false }
     ensures { IsLowest (map row_of cells.now) result }
 {
@@ -67,10 +60,7 @@ pub fn next_dirty<W: Work>(cells: &[Cell<W::Key, W::Input, Done<W>>], from: usiz
 }
 
 /// The key of the first dirty cell.
-pub fn first_dirty_key<W: Work>(
-    cells: &[Cell<W::Key, W::Input, Done<W>>],
-    lowest: usize,
-) -> Option<W::Key>
+pub fn first_dirty_key<W: Work>(cells: &[CellOf<W>], lowest: usize) -> Option<W::Key>
     requires { IsLowest (map row_of cells.now) lowest }
     ensures some { IfSome result (IsFirstDirtyKey (map row_of cells.now)) }
     ensures none { IfNone result (AllClean (map row_of cells.now)) }

@@ -8,8 +8,7 @@ ghost use Rattle.lay_cells.specs.Reads.{IsLaid, KeepsNone, KeepsValue};
 ghost use Rattle.lay_cells.specs.Rows.{Row, Solved, row_of};
 
 use crate::answers::Look;
-use crate::cell::Cell;
-use crate::done::Done;
+use crate::cell::CellOf;
 use crate::index::{cell_at, find, find_cell};
 use crate::needs::first_dirty_need;
 use crate::work::Work;
@@ -17,7 +16,7 @@ use std::collections::BTreeMap;
 use std::sync::Arc;
 
 /// What a look at the cell at a place shows.
-fn look_at<W: Work>(cells: &[Cell<W::Key, W::Input, Done<W>>], place: usize) -> Look<W::Key>
+fn look_at<W: Work>(cells: &[CellOf<W>], place: usize) -> Look<W::Key>
     requires wired { HasIndex W.Key.cmp (map wire_of cells.now) }
     requires within { place < length cells.now }
     ensures { (r : Row W.Key W.Input W.Value) → slice_get (map row_of cells.now) place ≡ Some r → Looks (map row_of cells.now) r.key result }
@@ -33,7 +32,7 @@ fn look_at<W: Work>(cells: &[Cell<W::Key, W::Input, Done<W>>], place: usize) -> 
 
 /// What a look at the key shows.
 pub fn look_in<W: Work>(
-    cells: &[Cell<W::Key, W::Input, Done<W>>],
+    cells: &[CellOf<W>],
     index: &BTreeMap<W::Key, usize>,
     key: W::Key,
 ) -> Look<W::Key>
@@ -47,7 +46,7 @@ pub fn look_in<W: Work>(
 }
 
 /// The value that is kept of the cell.
-fn value_of<W: Work>(cell: &Cell<W::Key, W::Input, Done<W>>) -> Option<&Arc<W::Value>>
+fn value_of<W: Work>(cell: &CellOf<W>) -> Option<&Arc<W::Value>>
     ensures some { IfSome result (λ v. (d : Solved W.Key W.Input W.Value) × ((row_of cell.now).kept ≡ Some d) × (arc_value v.now ≡ d.value) × W.relates d.input d.value) }
     ensures none { IfNone result ((row_of cell.now).kept ≡ None) }
 {
@@ -59,7 +58,7 @@ fn value_of<W: Work>(cell: &Cell<W::Key, W::Input, Done<W>>) -> Option<&Arc<W::V
 
 /// The value that is kept under the key.
 pub fn value_in<'a, W: Work>(
-    cells: &'a [Cell<W::Key, W::Input, Done<W>>],
+    cells: &'a [CellOf<W>],
     index: &BTreeMap<W::Key, usize>,
     key: W::Key,
 ) -> Option<&'a Arc<W::Value>>
@@ -75,7 +74,7 @@ pub fn value_in<'a, W: Work>(
 
 /// How many claims of the cell of the key were granted.
 pub fn laid_in<W: Work>(
-    cells: &[Cell<W::Key, W::Input, Done<W>>],
+    cells: &[CellOf<W>],
     index: &BTreeMap<W::Key, usize>,
     key: W::Key,
 ) -> Option<u64>

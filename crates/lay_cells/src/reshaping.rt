@@ -10,8 +10,7 @@ ghost use Rattle.lay_cells.specs.Rows.{Row, entry_of, row_of};
 ghost use Rattle.lay_cells.specs.Settling.{IsToMark, Settles, TakesOver, taken_over};
 ghost use Rattle.lay_cells.specs.Shapes.{IsShape};
 
-use crate::cell::Cell;
-use crate::done::Done;
+use crate::cell::CellOf;
 use crate::fresh::has_key;
 use crate::index::{cell_at, find};
 use crate::marking::mark_at;
@@ -20,14 +19,14 @@ use crate::work::Work;
 use std::collections::{BTreeMap, BTreeSet};
 
 /// Gives the cell at a place, which is made anew, its number.
-fn number_at<W: Work>(cells: &mut Vec<Cell<W::Key, W::Input, Done<W>>>, place: usize, number: u64)
+fn number_at<W: Work>(cells: &mut Vec<CellOf<W>>, place: usize, number: u64)
     requires { place < length cells.old.items }
     ensures { ChangesAt cells.old.items cells.new.items place (λ r q. q ≡ record r { first = number; last = number }) }
 {
     number_cell::<W>(&mut cells[place], number);
 }
 
-fn number_cell<W: Work>(cell: &mut Cell<W::Key, W::Input, Done<W>>, number: u64)
+fn number_cell<W: Work>(cell: &mut CellOf<W>, number: u64)
     ensures row { row_of cell.new ≡ record (row_of cell.old) { first = number; last = number } }
     ensures wire { wire_of cell.new ≡ wire_of cell.old }
 {
@@ -36,10 +35,7 @@ fn number_cell<W: Work>(cell: &mut Cell<W::Key, W::Input, Done<W>>, number: u64)
 }
 
 /// Moves what is kept of a cell to the one that takes its place.
-fn carry_cell<W: Work>(
-    cell: &mut Cell<W::Key, W::Input, Done<W>>,
-    old: &mut Cell<W::Key, W::Input, Done<W>>,
-)
+fn carry_cell<W: Work>(cell: &mut CellOf<W>, old: &mut CellOf<W>)
     ensures row { row_of cell.new ≡ taken_over (row_of cell.old) (row_of old.old) }
     ensures wire { wire_of cell.new ≡ wire_of cell.old }
     ensures old_wire { wire_of old.new ≡ wire_of old.old }
@@ -57,9 +53,9 @@ fn carry_cell<W: Work>(
 
 /// Moves what is kept of the old cell at `from` to the cell at `place`.
 fn carry_at<W: Work>(
-    cells: &mut Vec<Cell<W::Key, W::Input, Done<W>>>,
+    cells: &mut Vec<CellOf<W>>,
     place: usize,
-    old: &mut Vec<Cell<W::Key, W::Input, Done<W>>>,
+    old: &mut Vec<CellOf<W>>,
     from: usize,
 )
     requires within { place < length cells.old.items }
@@ -80,7 +76,7 @@ fn same_keys<W: Work>(a: &[W::Key], b: &[W::Key]) -> bool
 
 /// The place of the old cell whose things the cell of the key takes over.
 fn carried_from<W: Work>(
-    old: &[Cell<W::Key, W::Input, Done<W>>],
+    old: &[CellOf<W>],
     index: &BTreeMap<W::Key, usize>,
     fresh: &BTreeSet<W::Key>,
     key: W::Key,
@@ -97,12 +93,7 @@ fn carried_from<W: Work>(
 
 /// Whether the cell at a place, which takes over what is kept of the old cell at `from`, is to be
 /// marked: it has other dependencies than the old cell, or one of them is dirty.
-fn is_to_mark<W: Work>(
-    cells: &[Cell<W::Key, W::Input, Done<W>>],
-    place: usize,
-    old: &[Cell<W::Key, W::Input, Done<W>>],
-    from: usize,
-) -> bool
+fn is_to_mark<W: Work>(cells: &[CellOf<W>], place: usize, old: &[CellOf<W>], from: usize) -> bool
     requires wired { HasIndex W.Key.cmp (map wire_of cells.now) }
     requires within { place < length cells.now }
     requires old_within { from < length old.now }
@@ -118,9 +109,9 @@ fn is_to_mark<W: Work>(
 
 /// The cell at a place takes over what is kept of the old cell at `from`, and is marked if need be.
 fn take_over<W: Work>(
-    cells: &mut Vec<Cell<W::Key, W::Input, Done<W>>>,
+    cells: &mut Vec<CellOf<W>>,
     place: usize,
-    old: &mut Vec<Cell<W::Key, W::Input, Done<W>>>,
+    old: &mut Vec<CellOf<W>>,
     from: usize,
 )
     requires wired { HasIndex W.Key.cmp (map wire_of cells.old.items) }
@@ -149,9 +140,9 @@ struct Origins<'a, W: Work> {
 /// The cell at a place takes over what is kept under its key, or takes the next number. The greatest
 /// number that is drawn then.
 fn settle_at<W: Work>(
-    cells: &mut Vec<Cell<W::Key, W::Input, Done<W>>>,
+    cells: &mut Vec<CellOf<W>>,
     place: usize,
-    old: &mut Vec<Cell<W::Key, W::Input, Done<W>>>,
+    old: &mut Vec<CellOf<W>>,
     origins: &Origins<'_, W>,
     draws: u64,
 ) -> u64
@@ -180,8 +171,8 @@ fn settle_at<W: Work>(
 /// Each cell takes over what is kept under its key, or takes the next number. The greatest number that
 /// is drawn then.
 pub fn settle_all<W: Work>(
-    cells: &mut Vec<Cell<W::Key, W::Input, Done<W>>>,
-    old: &mut Vec<Cell<W::Key, W::Input, Done<W>>>,
+    cells: &mut Vec<CellOf<W>>,
+    old: &mut Vec<CellOf<W>>,
     index: &BTreeMap<W::Key, usize>,
     fresh: &BTreeSet<W::Key>,
     draws: u64,
