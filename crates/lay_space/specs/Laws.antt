@@ -29,7 +29,7 @@ abbrev pub is_out_of_flow : Token → Bool
 is_out_of_flow (Cluster c) = false
 is_out_of_flow TextEnd = false
 is_out_of_flow (Atomic n m) = false
-is_out_of_flow (Start n) = false
+is_out_of_flow (Start n takes) = false
 is_out_of_flow (End n) = false
 is_out_of_flow (Float n) = true
 is_out_of_flow (Anchor n) = true
