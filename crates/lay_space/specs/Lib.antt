@@ -1,3 +1,4 @@
+pub mod AnchorLaws
 pub mod BreakPlaces
 pub mod Breaks
 pub mod CleanTexts

@@ -1,5 +1,6 @@
 //! Laws of the definitions. The functions do nothing.
 
+ghost use Rattle.lay_space.specs.AnchorLaws.{AnchorsMoveNoBreak};
 ghost use Rattle.lay_space.specs.Laws.{BreaksKeepContent, LinesBreakWhereTheyMay, NoSpaceAfterSpace};
 
 /// Where white space collapses, nothing of a text is left that is a tab, or a space after a space.
@@ -16,4 +17,9 @@ pub fn breaks_keep_content()
 /// or before the second, and a forced one exactly behind a preserved linefeed (16.6).
 pub fn lines_break_where_they_may()
     ensures { LinesBreakWhereTheyMay }
+{}
+
+/// Lines break where they break without anchors, and hold the same but for these (9.6).
+pub fn anchors_move_no_break()
+    ensures { AnchorsMoveNoBreak }
 {}
