@@ -1,3 +1,8 @@
+pub mod AnchorBreaks
+pub mod AnchorCuts
+pub mod AnchorEntries
+pub mod AnchorTokens
+pub mod BreakPlaces
 pub mod CleanTexts
 pub mod Collapsed
 pub mod KeptContent

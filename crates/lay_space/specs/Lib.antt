@@ -1,3 +1,5 @@
+pub mod AnchorLaws
+pub mod BreakPlaces
 pub mod Breaks
 pub mod CleanTexts
 pub mod ItemLists
