@@ -1,5 +1,5 @@
 -- Steps of a line.
-use Rattle.std.proofs.Common.{◌≡◌, ◌∙◌, ◌⊎◌, inl, inr, ℕ, zero, suc, ◌+◌, ◌<◌, ◌≤◌, ℤ, List, length, slice_get, get_or, Some, IsTrue, IsFalse, Bool, refl, sym, ap, subst, arith, add-one}
+use Rattle.std.proofs.Common.{◌≡◌, ◌∙◌, inl, inr, ℕ, zero, suc, ◌+◌, ◌<◌, ◌≤◌, ℤ, List, length, slice_get, get_or, Some, IsTrue, IsFalse, false, refl, sym, ap, subst, arith, add-one}
 use Rattle.std.proofs.lemmas.Bool.{cases_lt}
 use Rattle.std.proofs.lemmas.Option.{same_Some, slice_get_within, slice_get-get_or}
 use Rattle.lay_floats.specs.declared.placed.Placed.{Placed}
@@ -11,7 +11,7 @@ use Rattle.lay_line_content.specs.declared.content.LineFloat.{LineFloat}
 use Rattle.lay_line_content.specs.declared.content.Stretch.{Stretch}
 use Rattle.lay_line_content.specs.Pens.{strut_height}
 use Rattle.lay_line_content.proofs.Outcomes.{not_both}
-use Rattle.lay_lines.specs.Meeting.{State, below, stood, MeetsFloat, MeetsAt, Meets, CanMeetAll, RoomsFit}
+use Rattle.lay_lines.specs.Meeting.{State, below, stood, MeetsFloat, MeetsAt, MeetsTo, Meets, CanMeetAll, RoomsFit}
 use Rattle.lay_lines.specs.Meeting.MeetsFloat.{stands, waits}
 use Rattle.lay_lines.specs.Filling.{HasFit, TakesNoRoom, FitsNext, TakesNext, Fills, FitsAll, Takes, Begins, CanFill}
 use Rattle.lay_lines.proofs.Chains.{chain_one}
@@ -42,6 +42,15 @@ pub one_takes_next : OneFloatPlace → (fr : Frame) (y : ℤ) (ss : List Stretch
 one_takes_next one fr y ss k st a b p q =
     let e : q.stretch ≡ p.stretch = same_Some _ _ (sym q.is ∙ p.is) in
     one_meets one fr y ss (suc k) p.stretch.floats st a b p.meets (subst (λ (s : Stretch). Meets fr y ss (suc k) s.floats st b) e q.meets)
+
+-- floats that are met before all content don't wait
+pub none_waits : (fr : Frame) (y : ℤ) (ss : List Stretch) (fs : List LineFloat) (n : ℕ) (st after : State) → MeetsTo fr y ss 0 fs n st after → after.put_off ≡ st.put_off
+none_waits fr y ss fs zero st after c = ap (λ (s : State). s.put_off) c
+none_waits fr y ss fs (suc n) st after c = stays c.0 c.2.0 after c.2.2 ∙ none_waits fr y ss fs n st c.0 c.1
+  where
+    stays : (a : State) (f : LineFloat) (b : State) → MeetsFloat fr y ss 0 a f b → b.put_off ≡ a.put_off
+    stays a f b (stands x z may e) = ap (λ (s : State). s.put_off) e
+    stays a f b (waits seen not e) = absurd (not_both false seen refl)
 
 -- no stretch that a line took so far has to end it
 abbrev pub Unforced : List Stretch → ℕ → Type 0

@@ -16,7 +16,7 @@ use lay_floats::{Floats, one_float_place};
 use lay_line_content::LineFloat;
 use lay_units::NoMemory;
 
-/// A line takes stretches as long as they fit, from before all content. The answer is how far they come.
+/// A line takes stretches as long as they fit or take no room, from before all content. The answer is how far they come.
 pub fn take(
     floats: &mut Floats,
     met: &mut Met,
