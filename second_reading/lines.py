@@ -1,7 +1,7 @@
 """The lines of a block container, beside floats (CSS 2.2, 9.4.2, 9.5, 10.8.1, 16.1, 16.2 and 16.6.1).
 
-A line is filled from its start, a segment after the other, as long as each fits; a float is placed where it is met, and
-an absolute box has its static position in the line that meets it.
+A line is filled from its start, a segment after the other, as long as each fits or takes no room behind the others; a float
+is placed where it is met, and an absolute box has its static position in the line that meets it.
 """
 from collections import namedtuple
 
@@ -98,6 +98,14 @@ class LineFill:
         width = pen.place - pen.hanging - pen.start + (self.lines.next_indent() if pen.is_seen else 0)
         return width <= self.room.right - self.room.left
 
+    def takes_no_room(self, segment):
+        """With this segment the line's content reaches no further, but for spaces at the end (16.6)."""
+        pen = self.pen_with(segment.parts)
+        return pen.place - pen.hanging <= self.pen.place - self.pen.hanging
+
+    def goes_on(self, segment):
+        return self.fits(segment) or self.takes_no_room(segment)
+
     def take(self, segment):
         self.pen = self.pen_with(segment.parts)
         self.parts += segment.parts
@@ -175,7 +183,7 @@ class Lines:
         line.anchored += [box for box in heads if box.is_absolute]
         line.take(segments[first])
         behind = first + 1
-        while behind < len(segments) and not segments[behind - 1].is_forced and line.fits(segments[behind]):
+        while behind < len(segments) and not segments[behind - 1].is_forced and line.goes_on(segments[behind]):
             line.take(segments[behind])
             behind += 1
         self.end(line)
