@@ -82,8 +82,8 @@ How open places of the standard are read
 - 17.5.2.1: every table has the fixed layout. Percentages of columns and of cells of the first row, of paddings of these
   too, are there of the width that the table would have without its columns. What a cell over several columns has in
   excess of the spacings between them is shared out. The widths of groups and bounds of cells and columns don't count.
-- 17.5.2: without columns there is no spacing across, and rows and groups have no width; without rows there is none
-  down. A cell is as wide as its columns, also where its borders and paddings are wider.
+- 17.5.2: without columns there is no spacing across, and rows and groups are as wide as what the table box holds;
+  without rows there is none down. A cell is as wide as its columns, also where its borders and paddings are wider.
 - 17.5.3: the height of a row group and bounds of cells, rows and groups don't count. A cell's `height` is that of its
   content, in percent of the table's if that is definite. It isn't moved by the alignment on the baseline. The baseline
   of a cell without lines and rows is the bottom of what it holds. The rows of a table in the flow of a cell count, and
@@ -133,13 +133,18 @@ def pieces_in_line(box, piece):
                                               piece.width, piece.height)
 
 
+def width_of_rows(table):
+    """From the first column to the last one; without columns that of the content of the table box."""
+    return width_over_columns(table, 0, len(table.columns)) if table.columns else table.width
+
+
 def pieces_of_rows(table, row_box):
-    """The pieces of a row group or a row, from its first column to its last one, and of anonymous cells."""
+    """The pieces of a row group or a row, and of anonymous cells."""
     first, is_row = table.grid.places[row_box], row_box.display == 'table-row'
     top, count = table.rows.tops[first], 1 if is_row else len(row_box.children)
     height = table.rows.bottom(first + count - 1) - top if count else 0
     yield 'box', row_box.node.id, Rect(table.corner.left + left_of_column(table, 0), table.corner.top + top,
-                                       width_over_columns(table, 0, len(table.columns)), height)
+                                       width_of_rows(table), height)
     for child in row_box.children:
         if not is_row:
             yield from pieces_of_rows(table, child)

@@ -375,8 +375,9 @@ TABLE_MISTAKES = {
          'return (edges + [self.bottom(row)])[0]'),
     ],
     'report': [
-        ('a row is as wide as its table', 'width_over_columns(table, 0, len(table.columns)), height)',
-         'table.width, height)'),
+        ('a row is as wide as its table',
+         'width_over_columns(table, 0, len(table.columns)) if table.columns else table.width', 'table.width'),
+        ('a row without columns has no width', ' if table.columns else table.width', ''),
         ('a row group ends with its last row but one', 'first + count - 1) - top', 'first + max(count, 2) - 2) - top'),
     ],
 }
