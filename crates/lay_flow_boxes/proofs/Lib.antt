@@ -3,5 +3,7 @@ pub mod AskedSteps
 pub mod FlowBoxSteps
 pub mod FlowFacts
 pub mod InlineContainerSteps
+pub mod ItemSorts
 pub mod LeftSteps
+pub mod LinesAreItems
 pub mod OneShapes
