@@ -171,7 +171,7 @@ not_held boxes c (suc n) k none lt = elim (cases_lt k n) [
   | inr high ↦ (let q : k ≡ n = omega arith in rw q (or_second (holds block_level boxes c n) (stands_in block_level boxes c n) none))
 ]
 
-beside_by : (positive same of : Bool) → (positive && same && of) ≡ false → positive ≡ true → same ≡ true → of ≡ false
+pub beside_by : (positive same of : Bool) → (positive && same && of) ≡ false → positive ≡ true → same ≡ true → of ≡ false
 beside_by true true of none p s = none
 beside_by false same of none p s = absurd cc
 beside_by true false of none p s = absurd cc

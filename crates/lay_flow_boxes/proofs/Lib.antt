@@ -5,5 +5,6 @@ pub mod FlowFacts
 pub mod InlineContainerSteps
 pub mod ItemSorts
 pub mod LeftSteps
+pub mod LevelsAgree
 pub mod LinesAreItems
 pub mod OneShapes

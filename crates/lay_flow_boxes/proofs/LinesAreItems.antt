@@ -1,6 +1,7 @@
 -- The boxes that stand in the lines of a block container are the items of these lines, each once.
 use Rattle.std.proofs.Common.{◌≡◌, ◌≢◌, ℕ, zero, suc, ◌+◌, ◌<◌, ◌≤◌, ◌==◌, ◌&&◌, ◌||◌, not, Bool, true, false, List, [], ◌∷◌, ◌++◌, length, drop, slice_index_or, map, All, nat_lt, refl, sym, ap, subst, ◌∙◌, arith, inl, inr, if◌then◌else◌}
 use Rattle.std.proofs.lemmas.Bool.{cases_lt, eqb-true}
+use Rattle.std.proofs.lemmas.List.{drop_all}
 use Rattle.std.proofs.lemmas.List.Elements.{All-append, All-cons, All-nil}
 use Rattle.lay_box_tree.specs.BoxColumns.{box_parents}
 use Rattle.lay_box_tree.specs.Containers.{IsContainer, box_containers, box_parent, counts, further as at_further, parent as at_parent}
@@ -61,7 +62,7 @@ never : (b : Bool) → b ≡ true → b ≡ false → ⊥
 never true h e = cc
 never false h e = cc
 
-not_first : (boxes : List BoxNode) (p : ℕ) → counts boxes p ≡ false → 0 < p
+pub not_first : (boxes : List BoxNode) (p : ℕ) → counts boxes p ≡ false → 0 < p
 not_first boxes zero e = absurd cc
 not_first boxes (suc p) e = omega arith
 
@@ -146,7 +147,7 @@ inline_counts : (boxes : List BoxNode) (k : ℕ) (b : BoxNode) (bs : List BoxNod
 inline_counts boxes zero b bs positive e i = absurd (omega (arith, positive))
 inline_counts boxes (suc k) b bs positive e i = read_counts boxes (suc k) b bs e ∙ inline_kind b i
 
-within : (boxes : List BoxNode) (k : ℕ) (b : BoxNode) (bs : List BoxNode) → drop k boxes ≡ b ∷ bs → k < length boxes
+pub within : (boxes : List BoxNode) (k : ℕ) (b : BoxNode) (bs : List BoxNode) → drop k boxes ≡ b ∷ bs → k < length boxes
 within [] zero b bs e = absurd cc
 within [] (suc k) b bs e = absurd cc
 within (x ∷ xs) zero b bs e = omega arith
@@ -202,29 +203,57 @@ module _ (boxes : List BoxNode) (c : ℕ) (are : AreContextBoxes boxes) where
       one_container boxes j (container_of boxes j) c (containers_are_nearest_lem boxes j are within)
       (subst (IsContainer boxes j) e (at_parent j positive (subst (λ (p : ℕ). counts boxes p ≡ true) (sym e) open_one)))
 
--- what holds boxes is a container
-held_by : (positive same of : Bool) → (positive && same && of) ≡ true → same ≡ true
-held_by true true of e = refl
-held_by true false of e = absurd cc
-held_by false same of e = absurd cc
-
-holder_counts : (boxes : List BoxNode) (c n : ℕ) → AreContextBoxes boxes → n ≤ length boxes → holds inline_level boxes c n ≡ true → counts boxes c ≡ true
-holder_counts boxes c zero are le e = absurd cc
-holder_counts boxes c (suc n) are le e = by (holder_counts boxes c n are (omega (arith, le))) (holds inline_level boxes c n) (stands_in inline_level boxes c n) refl refl e
+-- a block box of the context is a container
+block_kind : (b : BoxNode) → is_block_box (role_of b) ≡ true → is_block_container b.kind ≡ true
+block_kind b e = by_flow b.flow b.style.float b.inner b.kind e
   where
-    by : (holds inline_level boxes c n ≡ true → counts boxes c ≡ true) → (a b : Bool) → holds inline_level boxes c n ≡ a → stands_in inline_level boxes c n ≡ b → (a || b) ≡ true → counts boxes c ≡ true
-    by before true b p q e = before p
-    by before false true p q e =
-        let same = eqb-true (container_of boxes n) c (held_by (nat_lt 0 n) (container_of boxes n == c) (is_of inline_level boxes n) q) in
-        container_counts boxes n c (subst (IsContainer boxes n) same (containers_are_nearest_lem boxes n are (omega (arith, le))))
-    by before false false p q e = absurd cc
+    by_kind : (inner : Bool) (k : BoxKind) → is_block_box (role_of_kind inner k) ≡ true → is_block_container k ≡ true
+    by_kind inner kind.Block e = refl
+    by_kind inner kind.Wrapper e = refl
+    by_kind inner kind.InlineBlock e = refl
+    by_kind inner kind.InlineWrapper e = refl
+    by_kind inner kind.Caption e = refl
+    by_kind inner (kind.Cell m n) e = refl
+    by_kind inner kind.Inline e = absurd cc
+    by_kind inner (kind.Text t) e = absurd cc
+    by_kind inner kind.Anchor e = absurd cc
+    by_kind inner kind.Table e = absurd cc
+    by_kind inner kind.RowGroup e = absurd cc
+    by_kind inner kind.HeaderGroup e = absurd cc
+    by_kind inner kind.FooterGroup e = absurd cc
+    by_kind inner kind.Row e = absurd cc
+    by_kind inner (kind.ColumnGroup n) e = absurd cc
+    by_kind inner (kind.Column n) e = absurd cc
+    by_kind inner (kind.Replaced w h true) e = absurd cc
+    by_kind inner (kind.Replaced w h false) e = absurd cc
 
-second_of : (a b c : Bool) → (a && b && c) ≡ true → b ≡ true
-second_of true true c e = refl
-second_of true false c e = absurd cc
-second_of false b c e = absurd cc
+    by_float : (f : Float) (r : Role) → is_block_box (float_role f r) ≡ true → is_block_box r ≡ true
+    by_float floating.None r e = e
+    by_float floating.Left r e = absurd cc
+    by_float floating.Right r e = absurd cc
+
+    by_flow : (w : Flow) (f : Float) (inner : Bool) (k : BoxKind) → is_block_box (role_in w f (role_of_kind inner k)) ≡ true → is_block_container k ≡ true
+    by_flow InFlow f inner k e = by_kind inner k e
+    by_flow Floating f inner k e = by_kind inner k (by_float f (role_of_kind inner k) e)
+    by_flow Absolute f inner k e = by_kind inner k e
+
+block_read : (boxes : List BoxNode) (k : ℕ) (bs : List BoxNode) → drop (suc k) boxes ≡ bs → suc k < length boxes → is_block_box (role_at boxes (suc k)) ≡ true → counts boxes (suc k) ≡ true
+block_read boxes k [] e lt block = absurd (some_behind boxes (suc k) e lt)
+block_read boxes k (b ∷ bs) e lt block =
+    read_counts boxes (suc k) b bs e ∙ block_kind b (ap is_block_box (sym (role_is boxes (suc k) b bs (omega arith) e)) ∙ block)
+
+pub block_counts : (boxes : List BoxNode) (k : ℕ) → k < length boxes → is_block_box (role_at boxes k) ≡ true → counts boxes k ≡ true
+block_counts boxes zero lt block = refl
+block_counts boxes (suc k) lt block = block_read boxes k (drop (suc k) boxes) refl lt block
+
+first_of : (a b c : Bool) → (a && b && c) ≡ true → a ≡ true
+first_of true b c e = refl
+first_of false b c e = absurd cc
 
 pub items_are_boxes_lem : ItemsAreBoxesInLines
-items_are_boxes_lem boxes c are lines =
-    let held = second_of (is_block_box (role_at boxes c)) (holds inline_level boxes c (length boxes)) (not (holds block_level boxes c (length boxes))) lines in
-    all_below boxes c are c (c + 1) (drop (c + 1) boxes) refl (omega arith) (from_own boxes c are (holder_counts boxes c (length boxes) are (omega arith) held))
+items_are_boxes_lem boxes c are lines = elim (cases_lt c (length boxes)) [
+  | inl lt ↦ all_below boxes c are c (c + 1) (drop (c + 1) boxes) refl (omega arith)
+      (from_own boxes c are (block_counts boxes c lt (first_of (is_block_box (role_at boxes c)) (holds inline_level boxes c (length boxes)) (not (holds block_level boxes c (length boxes))) lines)))
+  | inr past ↦ (let gone : drop (c + 1) boxes ≡ [] = drop_all (c + 1) boxes (omega (arith, past)) in
+      rw gone (All-nil (λ (x : Item). IsIn boxes c (named x).box)))
+]

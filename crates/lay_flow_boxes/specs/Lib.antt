@@ -7,5 +7,6 @@ pub mod Laws
 pub mod LineBoxes
 pub mod LineItems
 pub mod NearLefts
+pub mod OneLevel
 pub mod Outside
 pub mod PlaceInputs

@@ -2,6 +2,7 @@
 
 ghost use Rattle.lay_flow_boxes.specs.Laws.{OneFlowShape};
 ghost use Rattle.lay_flow_boxes.specs.LineItems.{BoxesInLinesAreItems, ItemsAreBoxesInLines};
+ghost use Rattle.lay_flow_boxes.specs.OneLevel.{WidthsAgreeOnLines};
 
 /// What the boxes of a formatting context are to its block flow is one thing.
 pub fn one_flow_shape()
@@ -16,4 +17,9 @@ pub fn boxes_in_lines_are_items()
 /// And no other box is.
 pub fn items_are_boxes_in_lines()
     ensures { ItemsAreBoxesInLines }
+{}
+
+/// Where a block container holds boxes of one level, preferred widths and block flow agree on which of them hold lines.
+pub fn widths_agree_on_lines()
+    ensures { WidthsAgreeOnLines }
 {}
