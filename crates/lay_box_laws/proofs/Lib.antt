@@ -5,3 +5,4 @@ pub mod ListedFacts
 pub mod OwnFlows
 pub mod InnerFlows
 pub mod AnonymousFlows
+pub mod OneLevels

@@ -1,3 +1,4 @@
 pub mod NodeTreeLaws
 pub mod WhiteSpaceLaws
 pub mod FlowLaws
+pub mod LevelLaws

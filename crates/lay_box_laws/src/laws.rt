@@ -1,6 +1,7 @@
 //! Laws of the definitions. The functions do nothing.
 
 ghost use Rattle.lay_box_laws.specs.FlowLaws.{AnonymousBoxesAreInFlow, InnerBoxesKeepFlow, OwnBoxesKeepFlow};
+ghost use Rattle.lay_box_laws.specs.LevelLaws.{BoxesHoldOneLevel};
 ghost use Rattle.lay_box_laws.specs.NodeTreeLaws.{ChildrenStandInOrder};
 ghost use Rattle.lay_box_laws.specs.WhiteSpaceLaws.{WhiteSpaceGoesByItself};
 
@@ -27,4 +28,9 @@ pub fn inner_boxes_keep_flow()
 /// Anonymous boxes are in flow.
 pub fn anonymous_boxes_are_in_flow()
     ensures { AnonymousBoxesAreInFlow }
+{}
+
+/// A block container holds boxes of one level in flow, and an inline box no block-level one.
+pub fn boxes_hold_one_level()
+    ensures { BoxesHoldOneLevel }
 {}

@@ -2,12 +2,12 @@
 //!
 //! `specs/NodeTreeLaws.antt` says what the tree of boxes is that generation starts from, and
 //! `specs/WhiteSpaceLaws.antt` of each child by itself whether it is irrelevant. `specs/FlowLaws.antt` says which of the
-//! boxes that come of it are anchors, and which are in flow.
+//! boxes that come of it are anchors, and which are in flow, and `specs/LevelLaws.antt` that each holds boxes of one level.
 #![tactic(auto)]
 
 mod laws;
 
 pub use laws::{
-    anonymous_boxes_are_in_flow, children_stand_in_order, inner_boxes_keep_flow,
-    own_boxes_keep_flow, white_space_goes_by_itself,
+    anonymous_boxes_are_in_flow, boxes_hold_one_level, children_stand_in_order,
+    inner_boxes_keep_flow, own_boxes_keep_flow, white_space_goes_by_itself,
 };

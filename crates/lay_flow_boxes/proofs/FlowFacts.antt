@@ -57,15 +57,15 @@ and_second : (a b : Bool) → (a && b) ≡ true → b ≡ true
 and_second true b h = h
 and_second false b h = absurd cc
 
-or_first : (a b : Bool) → (a || b) ≡ false → a ≡ false
+pub or_first : (a b : Bool) → (a || b) ≡ false → a ≡ false
 or_first true b h = absurd cc
 or_first false b h = refl
 
-or_second : (a b : Bool) → (a || b) ≡ false → b ≡ false
+pub or_second : (a b : Bool) → (a || b) ≡ false → b ≡ false
 or_second true b h = absurd cc
 or_second false b h = h
 
-not_true : (b : Bool) → not b ≡ true → b ≡ false
+pub not_true : (b : Bool) → not b ≡ true → b ≡ false
 not_true true h = absurd cc
 not_true false h = refl
 
@@ -151,7 +151,7 @@ kind_fits m own_height lefts k None own rule fits near =
     (own_block m.boxes m.sizes own_height lefts k) (record { 0 = length_at lefts k }) own (own_block_fits m.boxes m.sizes own_height lefts k rule fits near) near)
 
 -- a container counts, and isn't the box of an inner context
-container_counts : (boxes : List BoxNode) (k c : ℕ) → IsContainer boxes k c → counts boxes c ≡ true
+pub container_counts : (boxes : List BoxNode) (k c : ℕ) → IsContainer boxes k c → counts boxes c ≡ true
 container_counts boxes k c at_own = refl
 container_counts boxes k c (at_parent j positive e) = e
 container_counts boxes k c (at_further j d positive e up) = container_counts boxes (box_parent boxes j) d up
@@ -164,26 +164,26 @@ container_own boxes are k c within (at_further j d positive e up) =
     container_own boxes are (box_parent boxes j) d (omega (arith, less, within)) up
 
 -- what stands in a container before n and isn't held by it
-not_held : (boxes : List BoxNode) (c n k : ℕ) → holds block_level boxes c n ≡ false → k < n → stands_in block_level boxes c k ≡ false
+pub not_held : (boxes : List BoxNode) (c n k : ℕ) → holds block_level boxes c n ≡ false → k < n → stands_in block_level boxes c k ≡ false
 not_held boxes c zero k none lt = absurd (omega arith)
 not_held boxes c (suc n) k none lt = elim (cases_lt k n) [
   | inl low ↦ not_held boxes c n k (or_first (holds block_level boxes c n) (stands_in block_level boxes c n) none) low
   | inr high ↦ (let q : k ≡ n = omega arith in rw q (or_second (holds block_level boxes c n) (stands_in block_level boxes c n) none))
 ]
 
-beside_by : (positive same of : Bool) → (positive && same && of) ≡ false → positive ≡ true → same ≡ true → of ≡ false
+pub beside_by : (positive same of : Bool) → (positive && same && of) ≡ false → positive ≡ true → same ≡ true → of ≡ false
 beside_by true true of none p s = none
 beside_by false same of none p s = absurd cc
 beside_by true false of none p s = absurd cc
 
-positive_lt : (k : ℕ) → 0 < k → nat_lt 0 k ≡ true
+pub positive_lt : (k : ℕ) → 0 < k → nat_lt 0 k ≡ true
 positive_lt k positive = grind (arith, nat_tests, positive)
 
-same_eq : (k : ℕ) → (k == k) ≡ true
+pub same_eq : (k : ℕ) → (k == k) ≡ true
 same_eq k = eq-eqb k k refl
 
 -- what stands in a container that holds lines isn't in flow beside them, nor a container of the context
-in_line_container : (boxes : List BoxNode) (k : ℕ) → 0 < k → k < length boxes → is_inline_container boxes (container_of boxes k) ≡ true → is_of block_level boxes k ≡ false
+pub in_line_container : (boxes : List BoxNode) (k : ℕ) → 0 < k → k < length boxes → is_inline_container boxes (container_of boxes k) ≡ true → is_of block_level boxes k ≡ false
 in_line_container boxes k positive within is =
     let c : ℕ = container_of boxes k in
     let none = not_true (holds block_level boxes c (length boxes)) (and_second (is_block_box (role_at boxes c) && _) (not (holds block_level boxes c (length boxes))) is) in

@@ -3,5 +3,8 @@ pub mod AskedSteps
 pub mod FlowBoxSteps
 pub mod FlowFacts
 pub mod InlineContainerSteps
+pub mod ItemSorts
 pub mod LeftSteps
+pub mod LevelsAgree
+pub mod LinesAreItems
 pub mod OneShapes

@@ -5,6 +5,8 @@ pub mod FlowShapes
 pub mod InlineContainers
 pub mod Laws
 pub mod LineBoxes
+pub mod LineItems
 pub mod NearLefts
+pub mod OneLevel
 pub mod Outside
 pub mod PlaceInputs

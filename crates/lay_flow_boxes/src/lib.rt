@@ -17,6 +17,8 @@ mod place_input;
 mod shape;
 
 pub use asked_contents::{Asked, contents_of, is_any_asked};
-pub use laws::one_flow_shape;
+pub use laws::{
+    boxes_in_lines_are_items, items_are_boxes_in_lines, one_flow_shape, widths_agree_on_lines,
+};
 pub use place_input::PlaceInput;
 pub use shape::{FlowShape, flow_shape};

@@ -1,6 +1,9 @@
 mod AnchorKinds
 pub mod AnchorRows
+pub mod AnchorSegments
 pub mod AnchorSteps
+pub mod AnchoredRows
+pub mod AnchorsOnLines
 pub mod AreaFacts
 pub mod AtomicSteps
 pub mod CornerColumns

@@ -1,14 +1,19 @@
--- A formatting context has one placement, of which relative positioning changes corners alone (CSS 2.2, 9.4.3). And what the
--- baseline of its own box is (10.8.1 and 17.5.3), said once more without a search.
-use Rattle.std.specs.Prelude.{ℕ, ◌≡◌, ◌<◌, Bool, true, false, List, map, ◌∷◌, ◌++◌, Some, None}
+-- A formatting context has one placement, of which relative positioning changes corners alone (CSS 2.2, 9.4.3). An anchor in
+-- lines is on one of them (9.6). And what the baseline of its own box is (10.8.1 and 17.5.3), said once more without a search.
+use Rattle.std.specs.Prelude.{ℕ, ◌≡◌, ◌<◌, Bool, true, false, List, length, map, ◌∷◌, ◌++◌, Some, None}
 use Rattle.std.specs.List.{list_any}
+use Rattle.std.specs.Option.{is_some}
 use Rattle.lay_units.specs.declared.length.Unit.{Unit as Length}
 use Rattle.lay_frag.specs.declared.frag.Frag.{Frag}
+use Rattle.lay_box_tree.specs.Roles.{role_at}
 use Rattle.lay_lines.specs.declared.row.Ended.{Ended}
 use Rattle.lay_inlines.specs.LinePieces.{baseline_of}
 use Rattle.lay_blocks.specs.FlowPlaces.{FlowPlacesValue}
 use Rattle.lay_sizes.specs.UsedLengths.{no_length}
+use Rattle.lay_context_boxes.specs.Containing.{container_of}
 use Rattle.lay_context_boxes.specs.ContextBoxes.{AreContextBoxes}
+use Rattle.lay_flow_boxes.specs.ContextBlocks.{holds_lines, is_anchor}
+use Rattle.lay_flow_boxes.specs.LineItems.{AreHeldByOthers}
 use Rattle.lay_flow_boxes.specs.PlaceInputs.{PlaceInput}
 use Rattle.lay_relative.specs.declared.offset.Offset.{Offset}
 use Rattle.lay_pieces.specs.declared.standing.Standing.{Standing}
@@ -16,11 +21,17 @@ use Rattle.lay_pieces.specs.Corners.{no_corner}
 use Rattle.lay_pieces.specs.Placements.{Placement}
 use Rattle.lay_placement.specs.Baselines.{baseline_in, first_baseline, first_baseline_to, last_baseline}
 use Rattle.lay_placement.specs.ContextPlacements.{IsPlacement, placement_of}
-use Rattle.lay_placement.specs.ContextPlaces.{ContextPlaces}
+use Rattle.lay_placement.specs.ContextPlaces.{ContextPlaces, HasPlaces, measures_of}
+use Rattle.lay_placement.specs.StaticPositions.{anchor_line}
 
 -- beside what it is given, a formatting context has one placement
 abbrev pub OnePlacement : Type 0
 OnePlacement = (i : PlaceInput) (p q : Placement) → AreContextBoxes i.boxes → IsPlacement i p → IsPlacement i q → p ≡ q
+
+-- an anchor in a box that holds lines is on one of them
+abbrev pub AnchorsAreOnLines : Type 0
+AnchorsAreOnLines = (i : PlaceInput) (p : ContextPlaces) (k : ℕ) → AreContextBoxes i.boxes → AreHeldByOthers i.boxes → HasPlaces i p → k < length i.boxes
+    → is_anchor (role_at i.boxes k) ≡ true → holds_lines (measures_of i p) p.shape.lefts (container_of i.boxes k) ≡ true → is_some (anchor_line i p k) ≡ true
 
 abbrev pub any_seen : List Ended → Bool
 any_seen rows = list_any (λ row. row.seen) rows

@@ -1,6 +1,6 @@
 //! The laws of the definitions.
 
-ghost use Rattle.lay_placement.specs.Laws.{FirstBoxGivesBaseline, FirstSeenLineGivesBaseline, LastSeenLineGivesBaseline, OffsetsChangeCornersAlone, OnePlacement, UnseenLinesGiveNone};
+ghost use Rattle.lay_placement.specs.Laws.{AnchorsAreOnLines, FirstBoxGivesBaseline, FirstSeenLineGivesBaseline, LastSeenLineGivesBaseline, OffsetsChangeCornersAlone, OnePlacement, UnseenLinesGiveNone};
 
 /// The placement of a formatting context is the only one beside what it is given.
 pub fn one_placement()
@@ -23,4 +23,9 @@ pub fn first_baseline_is_first()
 /// Relative positioning changes no height, no baseline and nothing that is painted but where it stands.
 pub fn offsets_change_corners_alone()
     ensures { OffsetsChangeCornersAlone }
+{}
+
+/// An anchor in a box that holds lines is on one of them.
+pub fn anchors_are_on_lines()
+    ensures { AnchorsAreOnLines }
 {}
