@@ -22,7 +22,7 @@ use Rattle.lay_report.proofs.Joined.{AllLack, Lacks, all_lack_append, all_lack_p
 -- without the linefeeds
 
 abbrev pub command_body : List ℕ → ℕ → ℕ → Reply → List ℕ
-command_body word editor index reply = word ++ decimal editor ++ 32 ∷ decimal index ++ 32 ∷ reply_text reply
+command_body word editor index reply = word ++ decimal editor ++ codes " " ++ decimal index ++ codes " " ++ reply_text reply
 
 abbrev pub entry_body : Entry → List ℕ
 entry_body (Edit editor index edit reply) = command_body (codes "edit ") editor index reply
@@ -36,48 +36,37 @@ final_body version = codes "final " ++ decimal version
 abbrev pub laid_body : ℕ → List ℕ
 laid_body laid = codes "laid " ++ decimal laid
 
-abbrev rest_body : Frag → List ℕ
-rest_body f = decimal f.node.0 ++ 32 ∷ decimal f.part ++ 32 ∷ signed_decimal f.rect.x.0
-    ++ 32 ∷ signed_decimal f.rect.y.0 ++ 32 ∷ signed_decimal f.rect.w.0 ++ 32 ∷ signed_decimal f.rect.h.0
-
 abbrev frag_body : Frag → List ℕ
-frag_body f = kind_word f.kind ++ 32 ∷ rest_body f
-
-behind : (a b c : List ℕ) (x : ℕ) → b ≡ c ++ x ∷ [] → a ++ b ≡ (a ++ c) ++ x ∷ []
-behind a b c x e = ap (λ y. a ++ y) e ∙ sym (append_assoc a c (x ∷ []))
-
-command_ended : (word : List ℕ) (editor index : ℕ) (reply : Reply) → command_line word editor index reply ≡ ended (command_body word editor index reply)
-command_ended word editor index reply =
-    behind word _ (decimal editor ++ 32 ∷ decimal index ++ 32 ∷ reply_text reply) 10
-    (behind (decimal editor) _ (32 ∷ decimal index ++ 32 ∷ reply_text reply) 10
-    (ap (λ y. 32 ∷ y) (behind (decimal index) _ (32 ∷ reply_text reply) 10 refl)))
+frag_body f =
+    kind_word f.kind ++ codes " " ++ decimal f.node.0 ++ codes " " ++ decimal f.part ++ codes " " ++ signed_decimal f.rect.x.0
+    ++ codes " " ++ signed_decimal f.rect.y.0 ++ codes " " ++ signed_decimal f.rect.w.0 ++ codes " " ++ signed_decimal f.rect.h.0
 
 entry_ended : (e : Entry) → entry_line e ≡ ended (entry_body e)
-entry_ended (Edit editor index edit reply) = command_ended (codes "edit ") editor index reply
-entry_ended (Publish version) = behind (codes "publish ") _ (decimal version) 10 refl
-entry_ended (Latest editor index reply) = command_ended (codes "latest ") editor index reply
-entry_ended (Sync editor index reply) = command_ended (codes "sync ") editor index reply
+entry_ended (Edit editor index edit reply) = refl
+entry_ended (Publish version) = refl
+entry_ended (Latest editor index reply) = refl
+entry_ended (Sync editor index reply) = refl
 
 frag_ended : (f : Frag) → frag_line f ≡ ended (frag_body f)
-frag_ended f =
-    behind (kind_word f.kind) _ (32 ∷ rest_body f) 10 (ap (λ y. 32 ∷ y)
-    (behind (decimal f.node.0) _ _ 10 (ap (λ y. 32 ∷ y) (behind (decimal f.part) _ _ 10 (ap (λ y. 32 ∷ y)
-    (behind (signed_decimal f.rect.x.0) _ _ 10 (ap (λ y. 32 ∷ y) (behind (signed_decimal f.rect.y.0) _ _ 10 (ap (λ y. 32 ∷ y)
-    (behind (signed_decimal f.rect.w.0) _ (32 ∷ signed_decimal f.rect.h.0) 10 refl))))))))))
+frag_ended f = refl
 
 -- no line has a linefeed in it
 
-reply_lacks : (c : ℕ) (reply : Reply) → c ≡ 10 → Lacks c (reply_text reply)
-reply_lacks c (Accepted version) e = rw e (lacks_append 10 (codes "accepted ") (decimal version) refl (decimal_lacks 10 version (omega arith)))
-reply_lacks c (Refused fault) e = rw e (lacks_append 10 (codes "refused E") (decimal (fault_number fault)) refl (decimal_lacks 10 (fault_number fault) (omega arith)))
-reply_lacks c (Shown version) e = rw e (decimal_lacks 10 version (omega arith))
-reply_lacks c NoMemory e = rw e refl
+reply_lacks : (reply : Reply) → Lacks 10 (reply_text reply)
+reply_lacks (Accepted version) = lacks_append 10 (codes "accepted ") (decimal version) refl (decimal_lacks 10 version (omega arith))
+reply_lacks (Refused fault) = lacks_append 10 (codes "refused E") (decimal (fault_number fault)) refl (decimal_lacks 10 (fault_number fault) (omega arith))
+reply_lacks (Shown version) = decimal_lacks 10 version (omega arith)
+reply_lacks NoMemory = refl
+
+-- a text with a space and one more behind it
+field_lacks : (xs ys : List ℕ) → Lacks 10 xs → Lacks 10 ys → Lacks 10 (xs ++ codes " " ++ ys)
+field_lacks xs ys a b = lacks_append 10 (xs ++ codes " ") ys (lacks_append 10 xs (codes " ") a refl) b
 
 command_lacks : (word : List ℕ) (editor index : ℕ) (reply : Reply) → Lacks 10 word → Lacks 10 (command_body word editor index reply)
 command_lacks word editor index reply none =
-    lacks_append 10 word (decimal editor ++ 32 ∷ decimal index ++ 32 ∷ reply_text reply) none
-    (lacks_append 10 (decimal editor) (32 ∷ decimal index ++ 32 ∷ reply_text reply) (decimal_lacks 10 editor (omega arith))
-    (lacks_append 10 (decimal index) (32 ∷ reply_text reply) (decimal_lacks 10 index (omega arith)) (reply_lacks 10 reply refl)))
+    field_lacks (word ++ decimal editor ++ codes " " ++ decimal index) (reply_text reply)
+    (field_lacks (word ++ decimal editor) (decimal index) (lacks_append 10 word (decimal editor) none (decimal_lacks 10 editor (omega arith))) (decimal_lacks 10 index (omega arith)))
+    (reply_lacks reply)
 
 entry_lacks : (e : Entry) → Lacks 10 (entry_body e)
 entry_lacks (Edit editor index edit reply) = command_lacks (codes "edit ") editor index reply refl
@@ -90,15 +79,22 @@ kind_lacks Box = refl
 kind_lacks Line = refl
 kind_lacks Text = refl
 
+-- a word and six fields
+fields_lack : (word n p x y w h : List ℕ) → Lacks 10 word → Lacks 10 n → Lacks 10 p → Lacks 10 x → Lacks 10 y → Lacks 10 w → Lacks 10 h
+    → Lacks 10 (word ++ codes " " ++ n ++ codes " " ++ p ++ codes " " ++ x ++ codes " " ++ y ++ codes " " ++ w ++ codes " " ++ h)
+fields_lack word n p x y w h word_lacks n_lacks p_lacks x_lacks y_lacks w_lacks h_lacks =
+    let one = field_lacks word n word_lacks n_lacks in
+    let two = field_lacks (word ++ codes " " ++ n) p one p_lacks in
+    let three = field_lacks (word ++ codes " " ++ n ++ codes " " ++ p) x two x_lacks in
+    let four = field_lacks (word ++ codes " " ++ n ++ codes " " ++ p ++ codes " " ++ x) y three y_lacks in
+    let five = field_lacks (word ++ codes " " ++ n ++ codes " " ++ p ++ codes " " ++ x ++ codes " " ++ y) w four w_lacks in
+    field_lacks (word ++ codes " " ++ n ++ codes " " ++ p ++ codes " " ++ x ++ codes " " ++ y ++ codes " " ++ w) h five h_lacks
+
 frag_lacks : (f : Frag) → Lacks 10 (frag_body f)
 frag_lacks f =
-    lacks_append 10 (kind_word f.kind) (32 ∷ rest_body f) (kind_lacks f.kind)
-    (lacks_append 10 (decimal f.node.0) _ (decimal_lacks 10 f.node.0 (omega arith))
-    (lacks_append 10 (decimal f.part) _ (decimal_lacks 10 f.part (omega arith))
-    (lacks_append 10 (signed_decimal f.rect.x.0) _ (signed_lacks 10 f.rect.x.0 (omega arith))
-    (lacks_append 10 (signed_decimal f.rect.y.0) _ (signed_lacks 10 f.rect.y.0 (omega arith))
-    (lacks_append 10 (signed_decimal f.rect.w.0) (32 ∷ signed_decimal f.rect.h.0) (signed_lacks 10 f.rect.w.0 (omega arith))
-    (signed_lacks 10 f.rect.h.0 (omega arith)))))))
+    fields_lack (kind_word f.kind) (decimal f.node.0) (decimal f.part) (signed_decimal f.rect.x.0) (signed_decimal f.rect.y.0) (signed_decimal f.rect.w.0) (signed_decimal f.rect.h.0)
+    (kind_lacks f.kind) (decimal_lacks 10 f.node.0 (omega arith)) (decimal_lacks 10 f.part (omega arith))
+    (signed_lacks 10 f.rect.x.0 (omega arith)) (signed_lacks 10 f.rect.y.0 (omega arith)) (signed_lacks 10 f.rect.w.0 (omega arith)) (signed_lacks 10 f.rect.h.0 (omega arith))
 
 -- the lines of trees are those that begin with `b`, `t` or `li`
 abbrev is_of_tree : List ℕ → Bool
@@ -108,12 +104,13 @@ abbrev pub is_other : List ℕ → Bool
 is_other line = not (is_of_tree line)
 
 frag_of_tree : (f : Frag) → is_other (frag_body f) ≡ false
-frag_of_tree f = by f.kind (32 ∷ rest_body f)
+frag_of_tree f = by f.kind (decimal f.node.0) (decimal f.part) (signed_decimal f.rect.x.0) (signed_decimal f.rect.y.0) (signed_decimal f.rect.w.0) (signed_decimal f.rect.h.0)
   where
-    by : (kind : FragKind) (rest : List ℕ) → is_other (kind_word kind ++ rest) ≡ false
-    by Box rest = refl
-    by Line rest = refl
-    by Text rest = refl
+    by : (kind : FragKind) (n p x y w h : List ℕ)
+        → is_other (kind_word kind ++ codes " " ++ n ++ codes " " ++ p ++ codes " " ++ x ++ codes " " ++ y ++ codes " " ++ w ++ codes " " ++ h) ≡ false
+    by Box n p x y w h = refl
+    by Line n p x y w h = refl
+    by Text n p x y w h = refl
 
 entry_other : (e : Entry) → is_other (entry_body e) ≡ true
 entry_other (Edit editor index edit reply) = refl
@@ -160,10 +157,9 @@ entry_joined trees e = ap (λ a. a ++ shown_lines trees (shown_version e)) (entr
 last_joined : (version laid : ℕ) (trees : List PublishedTreeValue) → final_text version trees ++ laid_line laid ≡ joined (last_bodies version laid trees)
 last_joined version laid trees =
     append_assoc (final_line version) (shown_lines trees (Some version)) (laid_line laid)
-    ∙ (ap (λ a. a ++ (shown_lines trees (Some version) ++ laid_line laid)) (behind (codes "final ") _ (decimal version) 10 refl)
     ∙ ap (λ b. ended (final_body version) ++ b) (ap (λ a. a ++ laid_line laid) (shown_joined trees (Some version))
-    ∙ (ap (λ b. joined (shown_bodies trees (Some version)) ++ b) (behind (codes "laid ") _ (decimal laid) 10 refl ∙ sym (append-nil (ended (laid_body laid))))
-    ∙ sym (flat_map-append ended (shown_bodies trees (Some version)) (laid_body laid ∷ [])))))
+    ∙ (ap (λ b. joined (shown_bodies trees (Some version)) ++ b) (sym (append-nil (ended (laid_body laid))))
+    ∙ sym (flat_map-append ended (shown_bodies trees (Some version)) (laid_body laid ∷ []))))
 
 pub report_joined : (history : List Entry) (trees : List PublishedTreeValue) (laid : ℕ) → run_report history trees laid ≡ joined (report_bodies history trees laid)
 report_joined history trees laid =
@@ -183,10 +179,11 @@ shown_all_lack trees (Some version) = tree_all_lack (tree_at version trees)
 pub report_all_lack : (history : List Entry) (trees : List PublishedTreeValue) (laid : ℕ) → AllLack (report_bodies history trees laid)
 report_all_lack history trees laid =
     all_lack_append (flat_map (entry_bodies trees) history) (last_bodies (accepted history) laid trees)
-    (all_lack_parts (entry_bodies trees) (λ e. (entry_lacks e, shown_all_lack trees (shown_version e))) history)
-    (lacks_append 10 (codes "final ") (decimal (accepted history)) refl (decimal_lacks 10 (accepted history) (omega arith)),
-    all_lack_append (shown_bodies trees (Some (accepted history))) (laid_body laid ∷ []) (shown_all_lack trees (Some (accepted history)))
-    (lacks_append 10 (codes "laid ") (decimal laid) refl (decimal_lacks 10 laid (omega arith)), tt))
+    (all_lack_parts (entry_bodies trees) (λ e. (entry_lacks e, shown_all_lack trees (shown_version e))) history) (
+      lacks_append 10 (codes "final ") (decimal (accepted history)) refl (decimal_lacks 10 (accepted history) (omega arith)),
+      all_lack_append (shown_bodies trees (Some (accepted history))) (laid_body laid ∷ []) (shown_all_lack trees (Some (accepted history)))
+          (lacks_append 10 (codes "laid ") (decimal laid) refl (decimal_lacks 10 laid (omega arith)), tt),
+    )
 
 -- without the lines of trees
 
