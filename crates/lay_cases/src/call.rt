@@ -4,6 +4,7 @@ use crate::answer::Answer;
 use crate::terms::{Steps, Terms};
 use anyhow::{Result, bail};
 use lay_cli::{Status, top};
+use lay_core::Core;
 use lay_outside::{MemSink, MemSource, OpenGate};
 use std::alloc::{AllocError, Global};
 use std::sync::Wait;
@@ -19,20 +20,38 @@ pub(crate) fn call<R: Threads + Wait + Sync>(
     let words = words(alloc, terms.words())?;
     let mut source = source(alloc, document, terms.reading())?;
     let mut sink = sink(alloc, terms.room(), terms.writing())?;
-    let status = status(rt, alloc, &words, &mut source, &mut sink);
-    let status = format!(in alloc; "{status:?}")?;
+    let mut kept = None;
+    let status = top(
+        rt,
+        alloc,
+        &words,
+        &mut source,
+        &mut sink,
+        &OpenGate,
+        &mut kept,
+    );
+    let status = if terms.shows_kept() {
+        status_and_kept(alloc, status, &kept)?
+    } else {
+        format!(in alloc; "{status:?}")?
+    };
     Ok(Answer::new(status, sink.bytes().to_vec(alloc)?))
 }
 
-fn status<R: Threads + Wait + Sync>(
-    rt: &R,
+/// A status and the core that is kept, by the number of its history's entries and how much it laid out.
+fn status_and_kept(
     alloc: Global,
-    words: &[String],
-    source: &mut MemSource,
-    sink: &mut MemSink,
-) -> Status {
-    let mut kept = None;
-    top(rt, alloc, words, source, sink, &OpenGate, &mut kept)
+    status: Status,
+    kept: &Option<Core>,
+) -> Result<String, AllocError> {
+    match kept {
+        None => format!(in alloc; "{status:?}, nothing kept"),
+        Some(core) => {
+            let entries = core.history().len();
+            let laid = core.laid();
+            format!(in alloc; "{status:?}, kept {entries} entries, laid {laid}")
+        }
+    }
 }
 
 /// The words between blanks; none where the line is `-` alone.

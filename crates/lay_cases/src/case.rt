@@ -13,7 +13,8 @@
 //!
 //! Between two cases stands an empty line. The line `with ..` has the terms that aren't plain (`terms.rt`), and is left
 //! out where all are. A document may have lines that stand for copies (`copies.rt`). Under `answer Read` stands what the
-//! document is read as (`reading.rt`).
+//! document is read as (`reading.rt`). With the term `show-kept 1` the answer tells the core that is kept, behind the status:
+//! `Ok, kept 5 entries, laid 3`.
 
 use crate::answer::Wanted;
 use crate::terms::Terms;

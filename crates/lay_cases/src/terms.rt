@@ -11,6 +11,7 @@ pub(crate) struct Terms<'a> {
     writing: Steps,
     room: usize,
     front: Option<usize>,
+    shows_kept: bool,
 }
 
 /// How many bytes a stream takes at most in a call, and the number of the call that fails, from 1; 0 where none does.
@@ -33,6 +34,7 @@ pub const PLAIN: Terms<'static> = Terms {
     writing: EASY,
     room: 65536,
     front: None,
+    shows_kept: false,
 };
 
 impl<'a> Terms<'a> {
@@ -61,6 +63,7 @@ impl<'a> Terms<'a> {
         match key {
             "room" => self.room = number,
             "front" => self.front = Some(number),
+            "show-kept" => self.shows_kept = number > 0,
             "read-step" => self.reading.most = number,
             "read-fails" => self.reading.failing = number as u64,
             "write-step" => self.writing.most = number,
@@ -91,6 +94,11 @@ impl<'a> Terms<'a> {
     /// How many bytes the sink takes.
     pub(crate) fn room(&self) -> usize {
         self.room
+    }
+
+    /// Whether the answer tells the core that is kept.
+    pub(crate) fn shows_kept(&self) -> bool {
+        self.shows_kept
     }
 
     /// How many bytes of the answer are wanted, where it isn't all of them.

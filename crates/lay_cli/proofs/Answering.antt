@@ -1,5 +1,5 @@
 -- What bytes that have a fault give.
-use Rattle.std.proofs.Common.{◌≡◌, ◌≢◌, ℕ, ◌<◌, List, length, codes, refl, Option, Some, None, IfSome, Ok, Err, Result, IfOk}
+use Rattle.std.proofs.Common.{◌≡◌, ◌≢◌, ℕ, ◌<◌, List, length, codes, refl, inl, inr, Option, Some, None, IfSome, Ok, Err, Result, IfOk}
 use Rattle.lay_units.specs.declared.memory.NoMemory.{NoMemory}
 use Rattle.lay_json.specs.declared.fault.InputFault.{InputFault}
 use Rattle.lay_json.specs.declared.fault.InputFault.TheVariants.{TooLong, NoMemory as ran_out}
@@ -7,6 +7,7 @@ use Rattle.lay_json.specs.Reading.{IsReading, too_long}
 use Rattle.lay_cli.specs.declared.run_input.Input.{Input}
 use Rattle.lay_cli.specs.declared.run_input.Input.TheVariants.{Run as a_run, Refusal}
 use Rattle.lay_cli.specs.Answers.{IsFaultInput, IsInput}
+use Rattle.lay_cli.specs.Input.{IsDrained, IsReadOut}
 
 -- what a fault gives, the bytes give that have it
 pub input_of_fault : (bytes : List ℕ) (fault : InputFault) (result : Result Input NoMemory) → (fault ≢ ran_out → IsReading bytes (Err fault)) → IfOk result (IsFaultInput fault) → IfOk result (IsInput bytes)
@@ -18,3 +19,12 @@ input_of_fault bytes fault (Err e) reading is = tt
 pub too_many : (left : Option (List ℕ)) (line : List ℕ) → IfSome left (λ all. 16777216 < length all) → line ≡ codes "refused I1\n" → IfSome left (λ bytes. IsInput bytes (Refusal line))
 too_many None line over is = tt
 too_many (Some bytes) line over is = record { fault = TooLong; named = λ e. absurd cc; reading = too_long over refl; line_is = is }
+
+-- what was read to its end, or had too many bytes
+pub drained_out : (left now : Option (List ℕ)) → IsDrained left now → IsReadOut left now
+drained_out None now drained = tt
+drained_out (Some bytes) now drained = inl drained
+
+pub over_out : (left now : Option (List ℕ)) → IfSome left (λ all. 16777216 < length all) → IsReadOut left now
+over_out None now over = tt
+over_out (Some bytes) now over = inr over

@@ -26,9 +26,9 @@ of_run : (bytes line : List ℕ) (P : Run → Type 0) → OfRun bytes P → IsRe
 of_run bytes line P r refusal = not_both bytes line r.run r.spells refusal
 
 never_reported : (asked : Form) (bytes line text : List ℕ) (kept : Option State) → Reports asked (Some bytes) kept text → IsRefused asked bytes line → ⊥
-never_reported form.Scratch bytes line text kept report refusal = of_run bytes line _ report.1 refusal
+never_reported form.Scratch bytes line text kept report refusal = of_run bytes line _ report.1.solves refusal
 never_reported (form.Run workers) bytes line text None report refusal = report
-never_reported (form.Run workers) bytes line text (Some s) report refusal = of_run bytes line _ report refusal
+never_reported (form.Run workers) bytes line text (Some s) report refusal = of_run bytes line _ report.driven refusal
 never_reported (form.Gen size seed workers) bytes line text kept report refusal = refusal
 
 -- a run is reported

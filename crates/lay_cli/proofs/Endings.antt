@@ -9,7 +9,8 @@ use Rattle.lay_words.specs.declared.form.Form.TheVariants as form
 use Rattle.lay_cli.specs.declared.status.Status.{Status}
 use Rattle.lay_cli.specs.declared.status.Status.TheVariants.{Ok, Refused, ReadFault, WriteFault, NoMemory}
 use Rattle.lay_cli.specs.Statuses.{status_of}
-use Rattle.lay_cli.specs.Answers.{IsRunReport, IsScratchReport, OfKept, OfRun, Reports, Spells}
+use Rattle.lay_context.specs.Solves.{Solves}
+use Rattle.lay_cli.specs.Answers.{IsDriven, IsRunReport, IsScratchReport, OfKept, OfRun, Reports, Spells}
 use Rattle.lay_cli.specs.Endings.{Ends, SinkValue, TookFrontOf}
 
 front_weaker : (R P : Option State → List ℕ → Type 0) (F G : List ℕ → Type 0) (s t : SinkValue) → ((core : Option State) (text : List ℕ) → R core text → P core text) → ((line : List ℕ) → F line → G line)
@@ -102,11 +103,12 @@ of_bytes (Some bytes) run P spells holds = record { run = run; spells = spells; 
 
 -- what reports a run, reports the bytes that spell it
 pub scratch_reports : (left : Option (List ℕ)) (run : Run) → IfSome left (λ bytes. Spells bytes run) → (core : Option State) (text : List ℕ) → (core ≡ None) × IsScratchReport run text → Reports form.Scratch left core text
-scratch_reports left run spells core text is = (is.0, of_bytes left run (λ r. IsScratchReport r text) spells is.1)
+scratch_reports left run spells core text is =
+    (is.0, record { tree = is.1.tree; text_is = is.1.text_is; solves = of_bytes left run (λ r. Solves r.doc r.face is.1.tree) spells is.1.solves })
 
 pub run_reports : (workers : ℕ) (left : Option (List ℕ)) (run : Run) → IfSome left (λ bytes. Spells bytes run) → (core : Option State) (text : List ℕ) → OfKept core (λ s. IsRunReport run s text) → Reports (form.Run workers) left core text
 run_reports workers left run spells None text is = absurd is
-run_reports workers left run spells (Some s) text is = of_bytes left run (λ r. IsRunReport r s text) spells is
+run_reports workers left run spells (Some s) text is = record { text_is = is.text_is; whole = is.driven.whole; driven = of_bytes left run (λ r. IsDriven r s) spells is.driven }
 
 pub none_refused : (G : List ℕ → Type 0) (line : List ℕ) → ⊥ → G line
 none_refused G line n = absurd n

@@ -89,10 +89,23 @@ abbrev pub OfKept : Option State → (State → Type 0) → Type 0
 OfKept None P = ⊥
 OfKept (Some s) P = P s
 
--- the text reports what these words ask of the bytes, where they are told, and this core is kept
+-- the text is the report of a tree, which solves the document that the bytes spell, where they are told
+pub record IsTreeReport (left : Option (List ℕ)) (text : List ℕ) : Type 0 where
+  pub tree : List Context
+  pub text_is : text ≡ scratch_report tree
+  pub solves : IfSome left (λ bytes. OfRun bytes (λ run. Solves run.doc run.face tree))
+
+-- the text is the report of this core, whose last version is published; it answered the editors of the run that the bytes
+-- spell, where they are told
+pub record IsCoreReport (left : Option (List ℕ)) (s : State) (text : List ℕ) : Type 0 where
+  pub text_is : text ≡ run_report s.history s.trees s.laid
+  pub whole : IsWhole s.history
+  pub driven : IfSome left (λ bytes. OfRun bytes (λ run. IsDriven run s))
+
+-- the text reports what these words ask of the bytes, and this core is kept
 abbrev pub Reports : Form → Option (List ℕ) → Option State → List ℕ → Type 0
-Reports form.Scratch left kept text = (kept ≡ None) × IfSome left (λ bytes. OfRun bytes (λ run. IsScratchReport run text))
-Reports (form.Run workers) left kept text = OfKept kept (λ s. IfSome left (λ bytes. OfRun bytes (λ run. IsRunReport run s text)))
+Reports form.Scratch left kept text = (kept ≡ None) × IsTreeReport left text
+Reports (form.Run workers) left kept text = OfKept kept (λ s. IsCoreReport left s text)
 Reports (form.Gen size seed workers) left kept text = OfKept kept (λ s. IsSummary size seed s text)
 
 -- the line says why the bytes are refused; `gen` reads none

@@ -1,5 +1,5 @@
 -- What was read of a source.
-use Rattle.std.specs.Prelude.{ℕ, ◌≡◌, ◌<◌, List, [], ◌++◌, length, Option, Some, IfSome}
+use Rattle.std.specs.Prelude.{ℕ, ◌≡◌, ◌<◌, ◌⊎◌, List, [], ◌++◌, length, Option, Some, IfSome}
 use Rattle.lay_outside.specs.Outside.{Rose}
 use Rattle.lay_cli.specs.declared.input.SourceFault.{SourceFault}
 use Rattle.lay_cli.specs.declared.input.SourceFault.TheVariants.{TooLong, Failed, NoMemory}
@@ -11,6 +11,10 @@ WasAll left bytes = IfSome left (λ all. all ≡ bytes)
 -- where bytes were told, none is left
 abbrev pub IsDrained : Option (List ℕ) → Option (List ℕ) → Type 0
 IsDrained left now = IfSome left (λ all. now ≡ Some [])
+
+-- where bytes were told, none is left, or there were more than 16,777,216
+abbrev pub IsReadOut : Option (List ℕ) → Option (List ℕ) → Type 0
+IsReadOut left now = IfSome left (λ bytes. (now ≡ Some []) ⊎ (16777216 < length bytes))
 
 -- these were the first bytes, and those of `now` are left
 abbrev pub WasFirst : Option (List ℕ) → Option (List ℕ) → List ℕ → Type 0

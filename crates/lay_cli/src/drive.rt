@@ -6,7 +6,7 @@ ghost use Rattle.lay_outside.specs.Outside.{Rose};
 ghost use Rattle.lay_words.specs.declared.form.Form.TheVariants as form;
 ghost use Rattle.lay_cli.specs.Answers.{IsRunReport, IsSummary, IsSummaryOf, OfKept, Refuses, Reports};
 ghost use Rattle.lay_cli.specs.Endings.{Ends};
-ghost use Rattle.lay_cli.specs.Input.{IsDrained};
+ghost use Rattle.lay_cli.specs.Input.{IsDrained, IsReadOut};
 
 use crate::run_input::{Input, Lack, run_input};
 use crate::status::Status;
@@ -31,6 +31,7 @@ pub(crate) fn run<S: Source, K: Sink>(
     ensures ends { (workers : ℕ) → Ends (Reports (form.Run workers) (S.left source.old)) (Refuses (form.Run workers) (S.left source.old)) result
         (record { taken = K.taken sink.old; faults = K.faults sink.old }) (record { taken = K.taken sink.new; faults = K.faults sink.new }) kept.new }
     ensures drained { result ≡ Status.Ok → IsDrained (S.left source.old) (S.left source.new) }
+    ensures refused_read { result ≡ Status.Refused → IsReadOut (S.left source.old) (S.left source.new) }
     ensures read_fault { result ≡ Status.ReadFault → Rose (S.faults source.old) (S.faults source.new) × (K.taken sink.new ≡ K.taken sink.old) }
     ensures never_usage { result ≢ Status.Usage }
 {

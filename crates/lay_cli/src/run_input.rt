@@ -1,9 +1,9 @@
 //! The run that a source's bytes spell.
 
-ghost use Rattle.std.specs.Prelude.{◌≡◌, IfOk, IfErr, IfSome};
+ghost use Rattle.std.specs.Prelude.{◌≡◌, IfOk, IfErr, IfSome, OnOk};
 ghost use Rattle.lay_outside.specs.Outside.{Rose};
 ghost use Rattle.lay_cli.specs.Answers.{IsFaultInput, IsInput, IsRun};
-ghost use Rattle.lay_cli.specs.Input.{IsDrained};
+ghost use Rattle.lay_cli.specs.Input.{IsDrained, IsReadOut};
 
 use crate::input::{SourceFault, read_all};
 use crate::refusal::fault_line;
@@ -46,6 +46,7 @@ impl From<NoMemory> for Lack {
 pub(crate) fn run_input<S: Source>(alloc: Global, source: &mut S) -> Result<Input, Lack>
     ensures input { IfOk result (λ input. IfSome (S.left source.old) (λ bytes. IsInput bytes input)) }
     ensures drained { IfOk result (λ input. IsRun input → IsDrained (S.left source.old) (S.left source.new)) }
+    ensures read_out { OnOk result (IsReadOut (S.left source.old) (S.left source.new)) }
     ensures failed { IfErr result (λ e. e ≡ Lack.Failed → Rose (S.faults source.old) (S.faults source.new)) }
 {
     match read_all(alloc, source) {

@@ -5,7 +5,7 @@ ghost use Rattle.lay_outside.specs.Outside.{Rose};
 ghost use Rattle.lay_words.specs.declared.form.Form.TheVariants as form;
 ghost use Rattle.lay_cli.specs.Answers.{IsScratchReport, Refuses, Reports};
 ghost use Rattle.lay_cli.specs.Endings.{Ends};
-ghost use Rattle.lay_cli.specs.Input.{IsDrained};
+ghost use Rattle.lay_cli.specs.Input.{IsDrained, IsReadOut};
 
 use crate::run_input::{Input, Lack, run_input};
 use crate::status::Status;
@@ -20,6 +20,7 @@ pub(crate) fn scratch<S: Source, K: Sink>(alloc: Global, source: &mut S, sink: &
     ensures ends { Ends (Reports form.Scratch (S.left source.old)) (Refuses form.Scratch (S.left source.old)) result
         (record { taken = K.taken sink.old; faults = K.faults sink.old }) (record { taken = K.taken sink.new; faults = K.faults sink.new }) None }
     ensures drained { result ≡ Status.Ok → IsDrained (S.left source.old) (S.left source.new) }
+    ensures refused_read { result ≡ Status.Refused → IsReadOut (S.left source.old) (S.left source.new) }
     ensures read_fault { result ≡ Status.ReadFault → Rose (S.faults source.old) (S.faults source.new) × (K.taken sink.new ≡ K.taken sink.old) }
     ensures never_usage { result ≢ Status.Usage }
 {

@@ -10,13 +10,13 @@ use Rattle.lay_core.specs.State.{IsCounted}
 use Rattle.lay_core.specs.Laws.{LastTree}
 
 -- the tree of a version, of which P holds
-record IsFound (P : PublishedTreeValue → Type 0) (version : ℕ) (trees : List PublishedTreeValue) : Type 0 where
-  published : PublishedTreeValue
-  holds : P published
-  version_is : published.version ≡ version
-  at : tree_at version trees ≡ Some published.tree
+pub record IsFound (P : PublishedTreeValue → Type 0) (version : ℕ) (trees : List PublishedTreeValue) : Type 0 where
+  pub published : PublishedTreeValue
+  pub holds : P published
+  pub version_is : published.version ≡ version
+  pub at : tree_at version trees ≡ Some published.tree
 
-found : (P : PublishedTreeValue → Type 0) (version : ℕ) (trees : List PublishedTreeValue) → All P trees
+pub found : (P : PublishedTreeValue → Type 0) (version : ℕ) (trees : List PublishedTreeValue) → All P trees
     → list_any (λ v. v == version) (versions_of trees) ≡ true → IsFound P version trees
 found P version [] all e = absurd (search rules)
 found P version (t ∷ trees) all e = elim (cases_eq t.version version) [
@@ -48,7 +48,7 @@ last_in o (x ∷ xs) v e = elim (last_in (Some x) xs v e) [
   | inr later ↦ inr (or_true (x == v) (list_any (λ y. y == v) xs) later)
 ]
 
-listed : (xs : List ℕ) (v : ℕ) → last_or None xs ≡ Some v → list_any (λ x. x == v) xs ≡ true
+pub listed : (xs : List ℕ) (v : ℕ) → last_or None xs ≡ Some v → list_any (λ x. x == v) xs ≡ true
 listed xs v e = elim (last_in None xs v e) [ inl none ↦ absurd (not_none v none) | inr is ↦ is ]
 
 pub last_tree : LastTree

@@ -2,4 +2,5 @@ pub mod Kept
 pub mod Shown
 pub mod Trees
 pub mod LastTree
+pub mod ShownTrees
 pub mod One

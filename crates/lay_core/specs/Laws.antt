@@ -1,11 +1,12 @@
--- The state that a call leaves is the only one, but for want of memory; and what a core has whose last version is published.
-use Rattle.std.specs.Prelude.{ℕ, ◌≡◌, List, Some}
+-- The state that a call leaves is the only one, but for want of memory; and which trees a core has.
+use Rattle.std.specs.Prelude.{ℕ, ◌≡◌, List, slice_get, Some}
 use Rattle.lay_doc.specs.declared.edit.Edit.{Edit as Change}
 use Rattle.lay_doc.specs.Document.{IsDocument}
 use Rattle.lay_commands.specs.declared.command.Reply.{Reply}
 use Rattle.lay_commands.specs.declared.command.Reply.TheVariants.{NoMemory}
+use Rattle.lay_commands.specs.declared.history.Entry.{Entry}
 use Rattle.lay_frag.specs.Pieces.{Context}
-use Rattle.lay_history.specs.Histories.{accepted}
+use Rattle.lay_history.specs.Histories.{accepted, doc_at, shown_version}
 use Rattle.lay_history.specs.Legal.{IsWhole}
 use Rattle.lay_history.specs.Trees.{tree_at}
 use Rattle.lay_context.specs.Solves.{Solves}
@@ -42,3 +43,14 @@ pub record HasLastTree (s : State) : Type 0 where
 
 abbrev pub LastTree : Type 0
 LastTree = (s : State) → IsCore s → IsWhole s.history → HasLastTree s
+
+-- a version has a tree, which is the layout of its document
+pub record HasTreeOf (s : State) (version : ℕ) : Type 0 where
+  pub tree : List Context
+  pub at : tree_at version s.trees ≡ Some tree
+  pub solves : Solves (doc_at s.init s.history version) s.face tree
+
+-- each version that an entry shows has its tree
+abbrev pub ShownTrees : Type 0
+ShownTrees = (s : State) (k version : ℕ) (e : Entry) → IsCore s → slice_get s.history k ≡ Some e → shown_version e ≡ Some version
+    → HasTreeOf s version

@@ -1,6 +1,6 @@
 //! The laws of the core: what a call leaves is the only state that it may leave, but for want of memory.
 
-ghost use Rattle.lay_core.specs.Laws.{LastTree, OneEdit, OneLatest, OneRefreshing, OneSettling, OneSync};
+ghost use Rattle.lay_core.specs.Laws.{LastTree, OneEdit, OneLatest, OneRefreshing, OneSettling, OneSync, ShownTrees};
 
 use lay_context::one_solution;
 
@@ -40,4 +40,9 @@ pub fn one_sync()
 /// A core whose last version is published has the tree of its document.
 pub fn last_tree()
     ensures { LastTree }
+{}
+
+/// A core has the tree of each version that an entry of its history shows, which solves the document of the version.
+pub fn shown_trees()
+    ensures { ShownTrees }
 {}

@@ -12,4 +12,6 @@ mod editing;
 mod laws;
 
 pub use core_state::Core;
-pub use laws::{last_tree, one_edit, one_latest, one_refreshing, one_settling, one_sync};
+pub use laws::{
+    last_tree, one_edit, one_latest, one_refreshing, one_settling, one_sync, shown_trees,
+};

@@ -2,4 +2,5 @@ pub mod Lists
 pub mod OneMore
 pub mod Versions
 pub mod Shown
+pub mod ShownVersions
 pub mod Turns

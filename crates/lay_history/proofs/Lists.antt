@@ -23,6 +23,19 @@ get_some [] k lt e = absurd (omega (arith, lt))
 get_some (x ∷ xs) zero lt e = not_none x (sym e)
 get_some (x ∷ xs) (suc k) lt e = get_some xs k (omega (arith, lt)) e
 
+pub get_below : {X : Type 0} (xs : List X) (k : ℕ) (x : X) → slice_get xs k ≡ Some x → k < length xs
+get_below [] k x e = absurd (not_none x e)
+get_below (y ∷ ys) zero x e = omega arith
+get_below (y ∷ ys) (suc k) x e = let lt = get_below ys k x e in omega (arith, lt)
+
+-- a front of a list has the same at its places
+pub get_take : {X : Type 0} (xs : List X) (j k : ℕ) → j < k → slice_get (take k xs) j ≡ slice_get xs j
+get_take [] j zero lt = absurd (omega (arith, lt))
+get_take [] j (suc k) lt = refl
+get_take (x ∷ xs) j zero lt = absurd (omega (arith, lt))
+get_take (x ∷ xs) zero (suc k) lt = refl
+get_take (x ∷ xs) (suc j) (suc k) lt = get_take xs j k (omega (arith, lt))
+
 pub take_front : {X : Type 0} (n : ℕ) (xs ys : List X) → n ≤ length xs → take n (xs ++ ys) ≡ take n xs
 take_front zero xs ys le = refl
 take_front (suc n) [] ys le = absurd (omega (arith, le))

@@ -45,7 +45,7 @@ legal_more init h e legal follows k x at = elim (get_more h e x k at) [
 ]
 
 -- what holds of the empty history and of one more entry holds of each legal history
-front_holds : (P : List Entry → Type 0) (init : Document) (h : List Entry) (k : ℕ) → k ≤ length h → IsLegal init h → P []
+pub front_holds : (P : List Entry → Type 0) (init : Document) (h : List Entry) (k : ℕ) → k ≤ length h → IsLegal init h → P []
     → ((before : List Entry) (e : Entry) → MayFollow init before e → P before → P (before ++ e ∷ [])) → P (take k h)
 front_holds P init h zero le legal base step = base
 front_holds P init h (suc k) le legal base step =

@@ -41,7 +41,7 @@ last_holds : (P : ℕ → Type 0) (x : ℕ) (xs : List ℕ) (w : ℕ) → P x �
 last_holds P x [] w p all e = subst (λ o. IfSome o P) e p
 last_holds P x (y ∷ ys) w p all e = last_holds P y ys w (all 0 y (omega arith)) (λ k d lt. all (suc k) d (omega (arith, lt))) e
 
-last_of_all : (P : ℕ → Type 0) (xs : List ℕ) (w : ℕ) → All P xs → last_or None xs ≡ Some w → P w
+pub last_of_all : (P : ℕ → Type 0) (xs : List ℕ) (w : ℕ) → All P xs → last_or None xs ≡ Some w → P w
 last_of_all P [] w all e = absurd (not_none w e)
 last_of_all P (y ∷ ys) w all e = last_holds P y ys w (all 0 y (omega arith)) (λ k d lt. all (suc k) d (omega (arith, lt))) e
 

@@ -6,9 +6,9 @@ use Rattle.lay_doc.specs.declared.edit.Edit.{Edit as Change}
 use Rattle.lay_doc.specs.Document.{Document}
 use Rattle.lay_doc.specs.Edits.{after}
 use Rattle.lay_commands.specs.declared.command.Reply.{Reply}
-use Rattle.lay_commands.specs.declared.command.Reply.TheVariants.{Accepted}
+use Rattle.lay_commands.specs.declared.command.Reply.TheVariants.{Accepted, Shown}
 use Rattle.lay_commands.specs.declared.history.Entry.{Entry}
-use Rattle.lay_commands.specs.declared.history.Entry.TheVariants.{Edit, Publish}
+use Rattle.lay_commands.specs.declared.history.Entry.TheVariants.{Edit, Publish, Latest, Sync}
 
 -- the edit, where the reply to it is that it was accepted
 abbrev pub edit_if_accepted : Change → Reply → List Change
@@ -53,3 +53,14 @@ last_or before (v ∷ vs) = last_or (Some v) vs
 -- the version that was published last
 abbrev pub last_published : List Entry → Option ℕ
 last_published history = last_or None (published history)
+
+-- the version that a reply shows
+abbrev pub shown_by : Reply → Option ℕ
+shown_by (Shown version) = Some version
+shown_by _ = None
+
+-- the version that an entry shows to its editor
+abbrev pub shown_version : Entry → Option ℕ
+shown_version (Latest editor index reply) = shown_by reply
+shown_version (Sync editor index reply) = shown_by reply
+shown_version _ = None

@@ -1,11 +1,12 @@
 -- What follows of legal histories, and what determines a history.
-use Rattle.std.specs.Prelude.{ℕ, ◌≡◌, ◌+◌, ◌<◌, ◌≤◌, ⊤, List, [], ◌∷◌, length, slice_get, Some}
+use Rattle.std.specs.Prelude.{ℕ, ◌≡◌, ◌+◌, ◌<◌, ◌≤◌, ⊤, List, [], ◌∷◌, length, take, slice_get, Some}
 use Rattle.std.specs.List.{All}
 use Rattle.lay_doc.specs.Document.{Document}
 use Rattle.lay_commands.specs.declared.command.Cmd.{Cmd}
+use Rattle.lay_commands.specs.declared.command.Reply.{Reply}
 use Rattle.lay_commands.specs.declared.history.Entry.{Entry}
 use Rattle.lay_commands.specs.declared.history.Entry.TheVariants.{Edit, Publish, Latest, Sync}
-use Rattle.lay_history.specs.Histories.{accepted, published}
+use Rattle.lay_history.specs.Histories.{accepted, published, shown_by, shown_version}
 use Rattle.lay_history.specs.Legal.{IsLegal}
 use Rattle.lay_history.specs.Calls.{AnswersScripts, TakesTurns, calls}
 
@@ -18,6 +19,20 @@ VersionsRise = (init : Document) (history : List Entry) → IsLegal init history
 -- so there are at most one more than accepted edits
 abbrev pub FewVersions : Type 0
 FewVersions = (init : Document) (history : List Entry) → IsLegal init history → length (published history) ≤ accepted history + 1
+
+-- no entry shows an older version than one before it, whichever editors they are of
+abbrev pub ShownRise : List Entry → Type 0
+ShownRise history = (j k v w : ℕ) (a b : Entry) → j < k → slice_get history j ≡ Some a → slice_get history k ≡ Some b
+    → shown_version a ≡ Some v → shown_version b ≡ Some w → v ≤ w
+
+-- a `Sync` shows the version with all edits that were accepted before it
+abbrev pub SyncsShowAll : List Entry → Type 0
+SyncsShowAll history = (k v editor index : ℕ) (reply : Reply) → slice_get history k ≡ Some (Sync editor index reply)
+    → shown_by reply ≡ Some v → v ≡ accepted (take k history)
+
+-- the versions that a legal history shows never fall, and a `Sync` shows the last one
+abbrev pub ShownVersionsRise : Type 0
+ShownVersionsRise = (init : Document) (history : List Entry) → IsLegal init history → ShownRise history × SyncsShowAll history
 
 -- the lines of a report show the same of these entries: all but what an edit was
 abbrev pub ShowsSame : Entry → Entry → Type 0

@@ -1,6 +1,6 @@
 //! The laws of histories.
 
-ghost use Rattle.lay_history.specs.Laws.{FewVersions, OneHistory, OneOrder, VersionsRise};
+ghost use Rattle.lay_history.specs.Laws.{FewVersions, OneHistory, OneOrder, ShownVersionsRise, VersionsRise};
 
 /// The versions that a legal history publishes rise to the number of accepted edits.
 pub fn versions_rise()
@@ -10,6 +10,12 @@ pub fn versions_rise()
 /// A legal history publishes at most one version more than edits are accepted.
 pub fn few_versions()
     ensures { FewVersions }
+{}
+
+/// The versions that a legal history shows never fall, and a `Sync` shows the one with all edits that were accepted
+/// before it.
+pub fn shown_versions_rise()
+    ensures { ShownVersionsRise }
 {}
 
 /// What the lines of a report show of a history and the scripts of its editors determine it.

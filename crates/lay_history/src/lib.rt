@@ -9,5 +9,5 @@
 mod laws;
 mod published_tree;
 
-pub use laws::{few_versions, one_history, one_order, versions_rise};
+pub use laws::{few_versions, one_history, one_order, shown_versions_rise, versions_rise};
 pub use published_tree::{PublishedTree, tree_at};

@@ -15,7 +15,7 @@ use Rattle.lay_commands.specs.declared.command.Reply.{Reply}
 use Rattle.lay_commands.specs.declared.command.Reply.TheVariants.{Accepted, Refused, Shown, NoMemory}
 use Rattle.lay_frag.specs.Pieces.{Context}
 use Rattle.lay_frag.specs.Lines.{tree_text}
-use Rattle.lay_history.specs.Histories.{accepted}
+use Rattle.lay_history.specs.Histories.{accepted, shown_version}
 use Rattle.lay_history.specs.Trees.{PublishedTreeValue, tree_at}
 
 -- the number of a fault, as E1 to E11
@@ -52,17 +52,6 @@ entry_line (Sync editor index reply) = command_line (codes "sync ") editor index
 abbrev pub tree_lines : Option (List Context) → List ℕ
 tree_lines None = []
 tree_lines (Some tree) = tree_text tree
-
--- the version that a reply shows
-abbrev pub shown_by : Reply → Option ℕ
-shown_by (Shown version) = Some version
-shown_by _ = None
-
--- the version that an entry shows
-abbrev pub shown_version : Entry → Option ℕ
-shown_version (Latest editor index reply) = shown_by reply
-shown_version (Sync editor index reply) = shown_by reply
-shown_version _ = None
 
 -- the lines of the tree of a version that is shown
 abbrev pub shown_lines : List PublishedTreeValue → Option ℕ → List ℕ

@@ -1,10 +1,10 @@
 //! The report of a run.
 
 ghost use Rattle.std.specs.Prelude.{◌≡◌, ◌≤◌, IfErr, OnErr, OnOk, length, string_bytes, if◌then◌else◌};
-ghost use Rattle.lay_history.specs.Histories.{accepted, edit_in};
+ghost use Rattle.lay_history.specs.Histories.{accepted, edit_in, shown_by, shown_version};
 ghost use Rattle.lay_history.specs.Trees.{tree_at};
 ghost use Rattle.lay_outside.specs.Outside.{Rose, Took, TookFront};
-ghost use Rattle.lay_report.specs.Report.{entry_text, final_text, history_text, run_report, scratch_report, shown_by, shown_lines, shown_version, tree_lines};
+ghost use Rattle.lay_report.specs.Report.{entry_text, final_text, history_text, run_report, scratch_report, shown_lines, tree_lines};
 ghost use Rattle.lay_report.specs.Writing.{Pushes};
 
 use crate::buffer::hand_on;
