@@ -88,8 +88,8 @@ class Rows(LayoutCase):
         self.assert_boxes(
             block(1, '', table(2, 'width: 20px', foot(3, '', row(4, 'height: 1px')), row(5, 'height: 2px'),
                                head(6, '', row(7, 'height: 4px')), group(8, ''))),
-            '1 0 0 100 7', '2 0 0 20 7', '2 0 0 20 7', '3 0 6 0 1', '4 0 6 0 1', '5 0 4 0 2', '6 0 0 0 4', '7 0 0 0 4',
-            '8 0 6 0 0')
+            '1 0 0 100 7', '2 0 0 20 7', '2 0 0 20 7', '3 0 6 20 1', '4 0 6 20 1', '5 0 4 20 2', '6 0 0 20 4',
+            '7 0 0 20 4', '8 0 6 20 0')
 
     def test_content_stands_in_its_cell_by_vertical_align(self):
         self.assert_texts(
@@ -118,7 +118,7 @@ class Captions(LayoutCase):
         self.assert_boxes(
             block(1, '', table(2, 'width: 30px', caption(3, 'caption-side: bottom; height: 4px'),
                                row(4, 'height: 5px'), caption(5, 'height: 2px; margin-bottom: 1px; margin-left: 3px'))),
-            '1 0 0 100 12', '2 0 0 30 12', '2 0 3 30 5', '4 0 3 0 5', '3 0 8 30 4', '5 3 0 27 2')
+            '1 0 0 100 12', '2 0 0 30 12', '2 0 3 30 5', '4 0 3 30 5', '3 0 8 30 4', '5 3 0 27 2')
 
     def test_caption_does_not_make_a_table_wider(self):
         self.assert_boxes(
