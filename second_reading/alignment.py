@@ -46,14 +46,14 @@ def raise_over_parent(box, extent, parent, face):
         return within_limit(align.amount)
     if align.kind == 'percentage':
         return resolve(align, used_line_height(box.style, face))
-    return {
+    return within_limit({
         'baseline': 0,
         'sub': -(size // 5),
         'super': size // 3,
         'middle': (face.x_height(size) + extent.below - extent.above) // 2,
         'text-top': face.ascent(size) - extent.above,
         'text-bottom': extent.below - face.descent(size),
-    }[align.amount]
+    }[align.amount])
 
 
 def edge_of_line(box, strut):

@@ -41,6 +41,10 @@ BOUNDS = ('min-width', 'max-width', 'min-height', 'max-height')
 NATURAL_SIDES = [1, 3, 5, 8, 10, 16, 20, 20, 30, 40, 50, 90]
 GREAT_NATURAL_SIDES = [1, 20, 999999, 1000000]
 NEAR_THE_LIMIT = ['999999999px', '33554432px', '33554431.5px']
+# How often a document has fonts near the limit, in hundredths.
+GREAT_FONTS = 2
+GREAT_FACE_NUMBERS = [0, 250, 1000, 5000, 10000]
+ALIGNMENTS_BY_FONTS = ['middle', 'middle', 'text-top', 'text-top', 'text-bottom', 'text-bottom', 'super', '33554431px']
 REPLACED_DISPLAYS = ['inline', 'inline', 'inline-block', 'inline-table', 'table-cell', 'block', 'block', 'table',
                      'list-item', 'inherit']
 FACE_NUMBERS = (('xheight', [0, 250, 400, 500, 501, 1000, 3000]),)
@@ -62,7 +66,25 @@ class AtomicDocument(TextDocument):
         root = run['nodes'][0]['style']
         if self.hit(2):
             root['float'] = self.choice(['left', 'right'])
+        if self.hit(GREAT_FONTS):
+            self.add_great_font()
+            run['face'] = {name: self.choice(GREAT_FACE_NUMBERS) for name in ('ascent', 'descent', 'xheight', 'normal')}
         return run
+
+    def add_great_font(self):
+        """A block at the end of the root whose boxes are moved past the limit of lengths by their fonts."""
+        block = self.add_element(1, {'display': 'block', **self.great_font()})
+        self.add_text(block, 'a')
+        for _ in range(self.choice([1, 1, 2])):
+            style = {'vertical-align': self.choice(ALIGNMENTS_BY_FONTS), **self.great_font()}
+            if self.hit(25):
+                style['display'] = 'inline-block'
+            block = self.add_element(block, style)
+            self.add_text(block, 'b')
+
+    def great_font(self):
+        return {'font-size': self.choice(NEAR_THE_LIMIT + ['10px', '10000000px', '3355443.2px']),
+                'line-height': self.choice(['0', '0', '1', '10px', 'normal'])}
 
     # -- the tree
 

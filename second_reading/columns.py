@@ -27,6 +27,11 @@ def width_over_columns(table, column, count):
     return sum(table.column_widths[column:column + count]) + spacing_across(table) * max(0, count - 1)
 
 
+def width_of_rows(table):
+    """From the first column to the last one; the content box of a table without columns."""
+    return width_over_columns(table, 0, len(table.columns)) if table.columns else table.width
+
+
 def shares(amount, count):
     """Equal shares of an amount; units that are left over go one each to the first ones."""
     share, over = divmod(amount, count)

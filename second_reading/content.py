@@ -22,6 +22,7 @@ Cluster = namedtuple('Cluster', 'box text kind width')
 COLLAPSING = ('normal', 'nowrap', 'pre-line')
 BREAKING = ('normal', 'pre-wrap', 'pre-line')
 ZERO_WIDTH_SPACE = '\u200b'
+LEFT_EDGES = ('margin-left', 'border-left-width', 'padding-left')
 
 
 def mode(box):
@@ -112,26 +113,53 @@ def collapsed_parts(parts, face):
 class Segment:
     """Parts between two places where a line may break.
 
-    Boxes out of the flow are met behind it. Heads are those that stand before all else where a line surely begins. A
-    forced segment ends with a preserved linefeed, and so its line ends.
+    Boxes out of the flow are met behind it; `places` tells how many of its parts stand before each of them. Heads are
+    those that stand before all else where a line surely begins. A forced segment ends with a preserved linefeed, and so
+    its line ends.
     """
 
     def __init__(self):
-        self.heads, self.parts, self.met, self.is_forced = [], [], [], False
+        self.heads, self.parts, self.met, self.places, self.is_forced = [], [], [], [], False
 
     def is_empty(self):
         return not (self.heads or self.parts)
 
-    def has_content(self):
+    def has_text(self):
         """It has a text or an atomic box."""
         return any(isinstance(part, (Cluster, Atomic)) for part in self.parts)
 
+    def has_content(self):
+        """It has a text, an atomic box, or the start of an inline box that takes room."""
+        return self.has_text() or any(map(takes_room, self.parts))
+
+    def meet(self, box):
+        self.met.append(box)
+        self.places.append(len(self.parts))
+
     def part_starts(self):
-        """Takes away the starts at its end, right before an atomic box; gives the segment that they begin."""
-        behind = Segment()
+        """Takes away the starts at its end, right before an atomic box; gives the segment that they begin.
+
+        What is met behind one of them that takes room goes with it.
+        """
+        behind, all_parts, met = Segment(), list(self.parts), list(zip(self.met, self.places))
         while isinstance(self.parts[-1], Start):
             behind.parts.insert(0, self.parts.pop())
+        count = len(self.parts)
+        self.met, self.places = [], []
+        for box, place in met:
+            to, place = (behind, place - count) if any(map(takes_room, all_parts[count:place])) else (self, place)
+            to.met.append(box)
+            to.places.append(place)
         return behind
+
+
+def takes_room(part):
+    """It is the start of an inline box with a margin, border or padding at its left, not 0, be it in percent.
+
+    A later part of a broken box has none there, and a margin of `auto` is 0.
+    """
+    values = [part.box.style[name] for name in LEFT_EDGES] if isinstance(part, Start) and part.box.is_first else []
+    return any(value.kind != 'word' and value.amount for value in values)
 
 
 def breaks_beside(atomic):
@@ -153,25 +181,26 @@ def breaks_behind(part, following):
 def segments_of(parts):
     """The segments of the content.
 
-    Ends right behind a break stand before it, and so do boxes out of the flow behind one that isn't forced. Starts
-    right before an atomic box stand behind the break there, which parts it from a text or another atomic box.
+    Ends right behind a break stand before it, also where boxes out of the flow stand between, and so do these behind a
+    break that isn't forced. Starts right before an atomic box stand behind the break there, which parts it from a text
+    or another atomic box.
     """
     parts = list(parts)
     found, current = [], Segment()
     for part, following in zip(parts, parts[1:] + [None]):
         before = found[-1] if found else None
-        if isinstance(part, Atomic) and breaks_beside(part) and current.has_content():
+        if isinstance(part, Atomic) and breaks_beside(part) and current.has_text():
             behind = current.part_starts()
             found.append(current)
             current = behind
         if isinstance(part, OutOfFlow):
             if current.has_content():
-                current.met.append(part.box)
+                current.meet(part.box)
             elif before and not before.is_forced:
-                before.met.append(part.box)
+                before.meet(part.box)
             else:
                 current.heads.append(part.box)
-        elif isinstance(part, End) and before and current.is_empty():
+        elif isinstance(part, End) and before and not current.parts:
             before.parts.append(part)
         else:
             current.parts.append(part)

@@ -1,7 +1,7 @@
 """The lines of a block container, beside floats (CSS 2.2, 9.4.2, 9.5, 10.8.1, 16.1, 16.2 and 16.6.1).
 
-A line is filled from its start, a segment after the other, as long as each fits or takes no room behind the others; a float
-is placed where it is met, and an absolute box has its static position in the line that meets it.
+A line is filled from its start, a segment after the other, as long as each fits or takes no room; a float is placed
+where it is met, and an absolute box has its static position in the line that meets it.
 """
 from collections import namedtuple
 
@@ -89,22 +89,17 @@ class LineFill:
             pen.add(part)
         return pen
 
+    def width_to(self, pen):
+        """The width of content up to a pen, but for spaces at the end; only a seen line has the indent."""
+        return pen.place - pen.hanging - pen.start + (self.lines.next_indent() if pen.is_seen else 0)
+
     def fits(self, segment):
-        """The line's content fits its room with this segment, but for spaces at the end.
+        """The line's content fits its room with this segment."""
+        return self.width_to(self.pen_with(segment.parts)) <= self.room.right - self.room.left
 
-        Only a seen line has the indent.
-        """
-        pen = self.pen_with(segment.parts)
-        width = pen.place - pen.hanging - pen.start + (self.lines.next_indent() if pen.is_seen else 0)
-        return width <= self.room.right - self.room.left
-
-    def takes_no_room(self, segment):
-        """With this segment the line's content reaches no further, but for spaces at the end (16.6)."""
-        pen = self.pen_with(segment.parts)
-        return pen.place - pen.hanging <= self.pen.place - self.pen.hanging
-
-    def goes_on(self, segment):
-        return self.fits(segment) or self.takes_no_room(segment)
+    def goes_on_with(self, segment):
+        """A further segment is in this line: it fits, or it takes no room behind content that reaches out (16.6)."""
+        return self.fits(segment) or self.width_to(self.pen_with(segment.parts)) <= self.width_to(self.pen)
 
     def take(self, segment):
         self.pen = self.pen_with(segment.parts)
@@ -183,7 +178,7 @@ class Lines:
         line.anchored += [box for box in heads if box.is_absolute]
         line.take(segments[first])
         behind = first + 1
-        while behind < len(segments) and not segments[behind - 1].is_forced and line.goes_on(segments[behind]):
+        while behind < len(segments) and not segments[behind - 1].is_forced and line.goes_on_with(segments[behind]):
             line.take(segments[behind])
             behind += 1
         self.end(line)

@@ -59,8 +59,14 @@ How open places of the standard are read
 - 9.4.2: a line is seen, too, where an inline box on it has a margin, border or padding above or below.
 - 9.5: what is beside a line is asked over the height of its strut. A line with nothing in it goes down also where the
   floats beside it leave the whole width. A float inside a segment is met at its end, and one right behind a break that
-  isn't forced before it; once a float of a line is put off, so are the later ones.
-- 9.5: a line ends before the first segment that doesn't fit, also where a longer front would.
+  isn't forced before it; once a float of a line is put off, so are the later ones. Starts and ends of inline boxes put
+  no float inside a segment, but a start with a left margin, border or padding other than 0 does, also one in percent.
+- 9.5: a line ends before the first segment that doesn't fit, also where a longer front would. Behind content that
+  reaches out of its line a segment that doesn't make it longer still fits (16.6): a linefeed, spaces that are removed or
+  hang, an inline box without width.
+- 16.6.1: ends of inline boxes right behind a preserved linefeed stand before the break, whatever boxes out of the flow
+  stand between; these stand behind it.
+- 10.8.1: what `vertical-align` raises a box by is held within the limit of lengths, by each value.
 - 16.1: each block container indents its first line that is seen, also an anonymous block.
 - 16.4: letter-spacing is added behind each cluster, word-spacing at each U+0020 and U+00A0; a tab has neither.
 - 16.6: a line may break on each side of an atomic box, by the `white-space` of the box that directly holds it. The
@@ -82,7 +88,7 @@ How open places of the standard are read
 - 17.5.2.1: every table has the fixed layout. Percentages of columns and of cells of the first row, of paddings of these
   too, are there of the width that the table would have without its columns. What a cell over several columns has in
   excess of the spacings between them is shared out. The widths of groups and bounds of cells and columns don't count.
-- 17.5.2: without columns there is no spacing across, and rows and groups are as wide as what the table box holds;
+- 17.5.2: without columns there is no spacing across, and rows and groups are as wide as the table's content box;
   without rows there is none down. A cell is as wide as its columns, also where its borders and paddings are wider.
 - 17.5.3: the height of a row group and bounds of cells, rows and groups don't count. A cell's `height` is that of its
   content, in percent of the table's if that is definite. It isn't moved by the alignment on the baseline. The baseline
@@ -98,7 +104,7 @@ import collections
 import json
 import sys
 
-from columns import left_of_column, width_over_columns
+from columns import left_of_column, width_of_rows
 from face import Face
 from nodes import read_nodes
 from offsets import offset_of_inlines
@@ -133,13 +139,8 @@ def pieces_in_line(box, piece):
                                               piece.width, piece.height)
 
 
-def width_of_rows(table):
-    """From the first column to the last one; without columns that of the content of the table box."""
-    return width_over_columns(table, 0, len(table.columns)) if table.columns else table.width
-
-
 def pieces_of_rows(table, row_box):
-    """The pieces of a row group or a row, and of anonymous cells."""
+    """The pieces of a row group or a row, from its first column to its last one, and of anonymous cells."""
     first, is_row = table.grid.places[row_box], row_box.display == 'table-row'
     top, count = table.rows.tops[first], 1 if is_row else len(row_box.children)
     height = table.rows.bottom(first + count - 1) - top if count else 0

@@ -30,6 +30,8 @@ TABLE_PROFILES = {
 }
 TABLE_PROFILE_NAMES = sorted(TABLE_PROFILES) + ['borders', 'columns', 'heights']
 MORE_NODES = [4, 6, 8, 10, 12, 16]
+# How often a table without cells stands in the place of a child, in hundredths.
+BARE_TABLE = 3
 
 TABLE_WIDTHS = ['50px', '60px', '99px', '100px', '33px', '70.015625px', '0', '50%', '100%', '33.33%', 'auto']
 TABLE_HEIGHTS = ['0', '10px', '30px', '50px', '81px', '50%', '100%', 'auto']
@@ -72,7 +74,9 @@ class TableDocument(AtomicDocument):
 
     def add_child(self, parent, kind, depth):
         """One child: a table, a box of one without it, or what there is without tables."""
-        if depth < 7 and self.hit(self.tables.table if depth < 3 else self.tables.table / 4):
+        if depth < 7 and self.hit(BARE_TABLE):
+            self.add_bare_table(parent, depth)
+        elif depth < 7 and self.hit(self.tables.table if depth < 3 else self.tables.table / 4):
             self.add_table(parent, depth)
             self.add_blank(parent)
         elif depth < 7 and self.hit(self.tables.stray):
@@ -113,6 +117,22 @@ class TableDocument(AtomicDocument):
             self.add_inner(ident, part, depth + 1)
         self.add_odd(ident, depth)
         self.add_blank(ident)
+
+    def add_bare_table(self, parent, depth):
+        """A table whose rows have no cells, and mostly no columns."""
+        ident = self.add_element(parent, self.table_style())
+        if self.hit(40):
+            self.add_caption(ident, depth + 1)
+        if self.hit(10):
+            self.add_column(ident, 'table-column', depth + 1)
+        for _ in range(self.choice([1, 2, 2, 3])):
+            group = ident
+            if self.hit(50):
+                group = self.add_element(ident, self.inner_style(self.choice(GROUPS)))
+            for _ in range(self.choice([0, 1, 1, 2])):
+                style = self.inner_style('table-row')
+                style['height'] = self.choice(HEIGHTS)
+                self.add_element(group, style)
 
     def add_group(self, parent, display, depth):
         ident = self.add_element(parent, self.inner_style(display))

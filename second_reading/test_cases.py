@@ -40,11 +40,12 @@ class LayoutCase(unittest.TestCase):
     """Roots in a viewport of 100 by 80; a box is `id x y width height`, in the order of the report."""
 
     spans = {}                      # of cells, by their ids
+    face = {}
 
     def boxes_of(self, root, kinds=('box', 'line', 'text')):
         """What the report of a document with this root has of these kinds."""
         nodes = [{**node, **self.spans.get(node['id'], {})} for node in nodes_of(root)]
-        lines = [line.split() for line in report({'viewport': [100, 80], 'nodes': nodes}).splitlines()]
+        lines = [line.split() for line in report({'viewport': [100, 80], 'face': self.face, 'nodes': nodes}).splitlines()]
         return [' '.join([line[1]] + ['%.9g' % (int(number) / 64) for number in line[3:]])
                 for line in lines if line[0] in kinds]
 
@@ -264,6 +265,112 @@ class Lines(LayoutCase):
     def test_step_one_of_white_space_looks_inside_one_text(self):
         self.assert_texts(
             block(1, '', inline(2, '', (3, 'a ')), (4, '\n '), inline(5, '', (6, 'b'))), '3 0 2 16 16', '6 16 2 8 16')
+
+
+class EndsBehindLinefeeds(LayoutCase):
+    """What ends behind a preserved linefeed stands in the line before it; a character is 8 by 16, in a line of 20."""
+
+    def test_absolute_box_does_not_hold_an_end_back(self):
+        # its own static position is behind the linefeed
+        self.assert_boxes(
+            block(1, '', inline(2, 'white-space: pre; padding-bottom: 10px', (3, 'abc\n'),
+                                block(4, 'position: absolute; width: 5px; height: 5px'))),
+            '1 0 0 100 20', '1 0 0 100 20', '2 0 2 24 26', '3 0 2 24 16', '4 0 20 5 5')
+
+    def test_float_does_not_hold_an_end_back(self):
+        self.assert_boxes(
+            block(1, '', inline(2, 'white-space: pre; padding-right: 10px', (3, 'abc\n'), block(4, FLOAT)), (5, 'd')),
+            '1 0 0 100 40', '1 0 0 100 20', '2 0 2 34 16', '3 0 2 24 16', '1 50 20 50 20', '5 50 22 8 16',
+            '4 0 20 50 10')
+
+    def test_float_behind_the_last_linefeed_makes_no_line(self):
+        self.assert_boxes(
+            block(1, '', inline(2, 'white-space: pre; padding-right: 10px', (3, 'abc\n'), block(4, FLOAT))),
+            '1 0 0 100 30', '1 0 0 100 20', '2 0 2 34 16', '3 0 2 24 16', '4 0 20 50 10')
+
+    def test_ends_of_boxes_in_each_other_stand_before_the_linefeeds_break(self):
+        self.assert_boxes(
+            block(1, '', inline(2, 'white-space: pre; padding-right: 10px',
+                                inline(3, 'padding-right: 2px', (4, 'abc\n'), block(5, FLOAT)),
+                                block(6, 'position: absolute; width: 5px; height: 5px'))),
+            '1 0 0 100 30', '1 0 0 100 20', '2 0 2 36 16', '3 0 2 26 16', '4 0 2 24 16', '5 0 20 50 10', '6 0 20 5 5')
+
+    def test_box_that_starts_behind_a_linefeed_ends_there(self):
+        # and so does the box around it
+        self.assert_boxes(
+            block(1, '', inline(2, 'white-space: pre', (3, 'abc\n'),
+                                inline(4, 'padding-right: 5px', block(5, 'position: absolute; height: 5px')))),
+            '1 0 0 100 40', '1 0 0 100 20', '2 0 2 24 16', '3 0 2 24 16', '1 0 20 100 20', '2 0 22 5 16', '4 0 22 5 16',
+            '5 0 20 0 5')
+
+
+class WithoutRoom(LayoutCase):
+    """In a block of 10, lines are broken only as is necessary to fill them."""
+
+    def test_linefeed_behind_a_hanging_space_ends_its_line(self):
+        self.assert_boxes(
+            block(1, 'white-space: pre-wrap; width: 10px', (2, 'aaaaaa \nb')),
+            '1 0 0 10 40', '1 0 0 10 20', '2 0 2 56 16', '1 0 20 10 20', '2 0 22 8 16')
+
+    def test_empty_inline_box_stays_behind_a_long_word(self):
+        self.assert_boxes(
+            block(1, 'width: 10px', (2, 'aaaaaa '), inline(3, 'padding-top: 4px')),
+            '1 0 0 10 20', '1 0 0 10 20', '2 0 2 48 16', '3 48 -2 0 20')
+
+    def test_inline_box_whose_margin_takes_back_its_room_stays(self):
+        self.assert_boxes(
+            block(1, 'width: 10px', (2, 'aaaaaa '), inline(3, 'margin-left: -8px; padding-left: 8px')),
+            '1 0 0 10 20', '1 0 0 10 20', '2 0 2 48 16', '3 40 2 8 16')
+
+    def test_inline_box_with_room_begins_the_next_line(self):
+        self.assert_boxes(
+            block(1, 'width: 10px', (2, 'aaaaaa '), inline(3, 'padding-left: 1px')),
+            '1 0 0 10 40', '1 0 0 10 20', '2 0 2 48 16', '1 0 20 10 20', '3 0 22 1 16')
+
+
+class StartsWithRoom(LayoutCase):
+    """A float behind the start of an inline box with a left edge is met where the content of that box is."""
+
+    def test_float_behind_a_padding_stands_below_its_line(self):
+        # 76 are taken when it is met
+        self.assert_boxes(
+            block(1, '', inline(2, 'padding-left: 60px', block(3, FLOAT), (4, 'aa'))),
+            '1 0 0 100 30', '1 0 0 100 20', '2 0 2 76 16', '4 60 2 16 16', '3 0 20 50 10')
+
+    def test_float_goes_to_the_next_line_with_its_box(self):
+        # 92 are taken there, and the float has the other 8
+        self.assert_boxes(
+            block(1, '', (2, 'aaa '), inline(3, 'padding-left: 60px', block(4, 'float: left; width: 8px; height: 10px'),
+                                             (5, 'bbbb'))),
+            '1 0 0 100 40', '1 0 0 100 20', '2 0 2 24 16', '1 8 20 92 20', '3 8 22 92 16', '5 68 22 32 16',
+            '4 0 20 8 10')
+
+    def test_float_behind_a_start_without_room_is_met_before_the_break(self):
+        self.assert_boxes(
+            block(1, '', (2, 'aaa '), inline(3, '', block(4, 'float: left; width: 8px; height: 10px'),
+                                             (5, 'bbbbbbbbbb'))),
+            '1 0 0 100 40', '1 8 0 92 20', '2 8 2 24 16', '1 0 20 100 20', '3 0 22 80 16', '5 0 22 80 16', '4 0 0 8 10')
+
+    def top_of(self, declarations, met):
+        """The top of what stands behind the start of an inline box that is too long for the first line."""
+        boxes = self.boxes_of(block(1, '', (2, 'aaa '), inline(3, declarations, block(4, met), (5, 'bbbbbbbbbb'))))
+        return float(boxes[-1].split()[2])
+
+    def test_what_takes_room_at_a_start(self):
+        border = 'border-left-width: 2px; border-left-style: '
+        for met in ('float: left; width: 8px; height: 10px', 'position: absolute; height: 5px'):
+            for declarations in ('padding-left: 1px', 'padding-left: 1%', 'margin-left: 2px', 'margin-left: -4px',
+                                 'margin-left: 1%', 'margin-left: -1%', border + 'solid'):
+                self.assertEqual(20, self.top_of(declarations, met), declarations)
+            for declarations in ('', 'padding-left: 0%', 'margin-left: auto', 'padding-right: 2px', 'padding-top: 2px',
+                                 border + 'none', border + 'hidden'):
+                self.assertEqual(0, self.top_of(declarations, met), declarations)
+
+    def test_later_part_of_a_broken_box_has_no_left_edge(self):
+        self.assert_boxes(
+            block(1, '', inline(2, 'padding-left: 60px', (3, 'a'), block(4, 'height: 5px'), block(5, FLOAT), (6, 'aa'))),
+            '1 0 0 100 45', '1 0 0 100 20', '1 0 0 100 20', '2 0 2 68 16', '3 60 2 8 16', '4 0 20 100 5',
+            '1 0 25 100 20', '1 50 25 50 20', '2 50 27 16 16', '6 50 27 16 16', '5 0 25 50 10')
 
 
 if __name__ == '__main__':

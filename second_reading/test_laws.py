@@ -1,6 +1,7 @@
 """What holds of every layout, tried on random documents."""
 import unittest
 
+from alignment import vertical_align
 from atomic_documents import atomic_document
 from boxes import boxes_of_context
 from columns import all_spacings_across
@@ -92,7 +93,7 @@ class Laws(unittest.TestCase):
                         bottom = top + box.border_box_height + box.margin.bottom
                         self.assertLessEqual(line_top, top - box.margin.top)
                         self.assertLessEqual(bottom, line_top + line_height)
-                        align = box.style['vertical-align'].amount
+                        align = vertical_align(box).amount
                         if align == 'top':
                             self.assertEqual(line_top, top - box.margin.top)
                         if align == 'bottom':
@@ -180,7 +181,7 @@ class Laws(unittest.TestCase):
     def test_absolute_boxes_change_nothing_else(self):
         for run in self.positioned_runs():
             declared = [word for node in run['nodes'] for word in node.get('style', {}).values()]
-            if any('table' in word or word.startswith('pre') or word == 'inherit' for word in declared):
+            if any('table' in word or word == 'inherit' for word in declared):
                 continue
             gone = set()
             for node in run['nodes']:

@@ -66,6 +66,19 @@ class Columns(LayoutCase):
             '1 0 0 100 9', '2 0 0 100 9', '2 0 0 100 9', '3 4 2 92 5', '4 4 2 44 5', '5 52 2 44 5')
 
 
+class RowsWithoutColumns(LayoutCase):
+    def test_rows_and_groups_are_as_wide_as_the_content_box(self):
+        self.assert_boxes(
+            block(1, '', table(2, 'width: 60px; border-spacing: 4px 2px; padding-left: 3px', row(3, 'height: 5px'),
+                               group(4, '', row(5, 'height: 6px')), caption(6, 'height: 1px'))),
+            '1 0 0 100 18', '2 0 0 63 18', '2 0 1 63 17', '3 3 3 60 5', '4 3 10 60 6', '5 3 10 60 6', '6 0 0 63 1')
+
+    def test_table_that_shrinks_has_rows_without_width(self):
+        self.assert_boxes(
+            block(1, '', table(2, 'float: left', row(3, 'height: 5px'))),
+            '1 0 0 100 5', '2 0 0 0 5', '2 0 0 0 5', '3 0 0 0 5')
+
+
 class Rows(LayoutCase):
     """Cells stand at the top unless said."""
 
@@ -88,8 +101,8 @@ class Rows(LayoutCase):
         self.assert_boxes(
             block(1, '', table(2, 'width: 20px', foot(3, '', row(4, 'height: 1px')), row(5, 'height: 2px'),
                                head(6, '', row(7, 'height: 4px')), group(8, ''))),
-            '1 0 0 100 7', '2 0 0 20 7', '2 0 0 20 7', '3 0 6 20 1', '4 0 6 20 1', '5 0 4 20 2', '6 0 0 20 4', '7 0 0 20 4',
-            '8 0 6 20 0')
+            '1 0 0 100 7', '2 0 0 20 7', '2 0 0 20 7', '3 0 6 20 1', '4 0 6 20 1', '5 0 4 20 2', '6 0 0 20 4',
+            '7 0 0 20 4', '8 0 6 20 0')
 
     def test_content_stands_in_its_cell_by_vertical_align(self):
         self.assert_texts(

@@ -10,6 +10,7 @@ import random
 from collections import namedtuple
 
 from documents import print_documents
+from scenes import SCENES
 from styles import SIDES
 
 # How often something is drawn, in hundredths: children of a kind, and declarations.
@@ -31,6 +32,8 @@ PROFILE_NAMES = sorted(PROFILES) + ['floats', 'plain', 'white space']
 VIEWPORTS = [(100, 80), (100, 80), (100, 80), (200, 100), (61, 37), (40, 20), (800, 600), (120, 1)]
 COUNTS = [2, 3, 4, 5, 6, 7, 8, 9, 10, 12, 14, 16, 20]
 GREATEST_DEPTH = 8
+# How often a scene stands in the place of a child, in hundredths.
+SCENE = 5
 
 WORDS = ['a', 'bb', 'ccc', 'dddd', 'eeeee', 'aaaa', 'bbbb', 'ffffffff', 'gggggggggggg']
 BLANKS = [' ', ' ', ' ', ' ', ' ', '  ', '\n', '\n ', ' \n', '\t']
@@ -108,7 +111,9 @@ class TextDocument:
                 self.add_text(parent, self.choice(BLANKS_BESIDE_BLOCKS))
 
     def add_child(self, parent, kind, depth):
-        """One child: a text, an inline box, a float, a block, or what isn't shown."""
+        """One child: a text, an inline box, a float, a block, or what isn't shown; or nodes of a scene."""
+        if self.hit(SCENE):
+            return self.choice(SCENES)(self, parent)
         profile = self.profile
         number = self.rng.random() * 100 - profile.inline
         if number < 0:
