@@ -8,3 +8,4 @@ pub mod Modes
 pub mod Segments
 pub mod Tokens
 pub mod WhiteSpace
+pub mod WhiteSpaceLaws

@@ -2,10 +2,22 @@
 
 ghost use Rattle.lay_space.specs.AnchorLaws.{AnchorsMoveNoBreak};
 ghost use Rattle.lay_space.specs.Laws.{BreaksKeepContent, LinesBreakWhereTheyMay, NoSpaceAfterSpace};
+ghost use Rattle.lay_space.specs.WhiteSpaceLaws.{ContentCollapses, OnlyWhiteSpaceGoes};
 
 /// Where white space collapses, nothing of a text is left that is a tab, or a space after a space.
 pub fn no_space_after_space()
     ensures { NoSpaceAfterSpace }
+{}
+
+/// In what is left of content, no text that collapses has a tab, a space after a collapsible one, also of a text before, or a
+/// linefeed where lines are joined (16.6.1).
+pub fn content_collapses()
+    ensures { ContentCollapses }
+{}
+
+/// Of content nothing goes but white space, and of each row of it something is left (16.6.1).
+pub fn only_white_space_goes()
+    ensures { OnlyWhiteSpaceGoes }
 {}
 
 /// Content with its breaks is the same content in the same order.
