@@ -8,4 +8,6 @@ pub mod Collapsed
 pub mod KeptContent
 pub mod ProcessedContent
 pub mod Rows
+pub mod SegmentClusters
+pub mod SegmentItems
 pub mod Words

@@ -2,6 +2,7 @@
 
 ghost use Rattle.lay_space.specs.AnchorLaws.{AnchorsMoveNoBreak};
 ghost use Rattle.lay_space.specs.Laws.{BreaksKeepContent, LinesBreakWhereTheyMay, NoSpaceAfterSpace};
+ghost use Rattle.lay_space.specs.SegmentLaws.{SegmentsKeepClusters, TokensHoldClusters};
 ghost use Rattle.lay_space.specs.WhiteSpaceLaws.{ContentCollapses, OnlyWhiteSpaceGoes};
 
 /// Where white space collapses, nothing of a text is left that is a tab, or a space after a space.
@@ -34,4 +35,15 @@ pub fn lines_break_where_they_may()
 /// Lines break where they break without anchors, and hold the same but for these (9.6).
 pub fn anchors_move_no_break()
     ensures { AnchorsMoveNoBreak }
+{}
+
+/// Segments have each cluster of the content with its bytes and its width, but for collapsible spaces that surely begin a line.
+/// What is in flow keeps its order, and so do floats and anchors.
+pub fn segments_keep_clusters()
+    ensures { SegmentsKeepClusters }
+{}
+
+/// The clusters that segments are made of are those of the content.
+pub fn tokens_hold_clusters()
+    ensures { TokensHoldClusters }
 {}

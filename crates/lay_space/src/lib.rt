@@ -6,7 +6,8 @@
 //! (where lines may break). Laws: only white space goes, and where it collapses no space follows another, also
 //! across texts (`specs/WhiteSpaceLaws.antt`, `specs/Laws.antt`); breaks are put into the content without a
 //! change to it, and stand between the clusters and atomic boxes where 16.6 lets them
-//! (`specs/BreakPlaces.antt`); anchors move none (`specs/AnchorLaws.antt`).
+//! (`specs/BreakPlaces.antt`); anchors move none (`specs/AnchorLaws.antt`); segments have the clusters of the
+//! content with their bytes and widths (`specs/SegmentLaws.antt`).
 #![tactic(auto)]
 
 mod breaks;
@@ -23,7 +24,7 @@ pub use cutting::is_boundary;
 pub use item::{Item, ItemList, Mode};
 pub use laws::{
     anchors_move_no_break, breaks_keep_content, content_collapses, lines_break_where_they_may,
-    no_space_after_space, only_white_space_goes,
+    no_space_after_space, only_white_space_goes, segments_keep_clusters, tokens_hold_clusters,
 };
 pub use segment::{Segment, SegmentList};
 pub use settling::segments;
