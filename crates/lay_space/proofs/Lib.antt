@@ -6,4 +6,8 @@ pub mod BreakPlaces
 pub mod CleanTexts
 pub mod Collapsed
 pub mod KeptContent
+pub mod ProcessedContent
 pub mod Rows
+pub mod SegmentClusters
+pub mod SegmentItems
+pub mod Words

@@ -5,6 +5,8 @@ pub mod CleanTexts
 pub mod ItemLists
 pub mod Laws
 pub mod Modes
+pub mod SegmentLaws
 pub mod Segments
 pub mod Tokens
 pub mod WhiteSpace
+pub mod WhiteSpaceLaws
