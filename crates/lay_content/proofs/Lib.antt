@@ -5,4 +5,3 @@ pub mod SeenPens
 pub mod ShownBoxes
 pub mod TextStretches
 pub mod SeenRows
-pub mod Words

@@ -1,5 +1,3 @@
-pub mod GatheredRuns
 pub mod OneText
 pub mod OpenInlines
 pub mod PlainWords
-pub mod Words
