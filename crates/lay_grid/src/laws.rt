@@ -2,7 +2,7 @@
 
 ghost use Rattle.lay_grid.specs.Laws.{ColumnsHaveWidths, OneColumns, OneGrid, OneHeights};
 ghost use Rattle.lay_grid.specs.Laws.{OneListOfCells, OneListOfOwnWidths, OneRowBaselines};
-ghost use Rattle.lay_grid.specs.Laws.{OneSharing, RowsHaveHeights};
+ghost use Rattle.lay_grid.specs.Laws.{OneSharing, RowsHaveAGrid, RowsHaveHeights};
 ghost use Rattle.lay_grid.specs.Within.{ColumnsAreWithin, HeightsAreWithin, WidthsAreWithin};
 
 /// The cells of rows stand in one way.
@@ -38,6 +38,11 @@ pub fn one_heights()
 /// Rows have one list of baselines.
 pub fn one_row_baselines()
     ensures { OneRowBaselines }
+{}
+
+/// Rows have a grid, whatever cells they have.
+pub fn rows_have_a_grid()
+    ensures { RowsHaveAGrid }
 {}
 
 /// Columns have widths, whatever is asked of them.
