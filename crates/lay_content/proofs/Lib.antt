@@ -5,3 +5,4 @@ pub mod SeenPens
 pub mod ShownBoxes
 pub mod TextStretches
 pub mod SeenRows
+pub mod Words

@@ -1,9 +1,17 @@
 -- Laws of content.
-use Rattle.std.specs.Prelude.{◌≡◌, ℤ, pos, ◌+ℤ◌, List, None}
+use Rattle.std.specs.Prelude.{◌≡◌, ℕ, ℤ, pos, ◌+ℤ◌, List, None}
+use Rattle.std.specs.Str.{IsUtf8}
 use Rattle.std.specs.List.{list_any}
 use Rattle.lay_units.specs.declared.length.Unit.{Unit as Length}
+use Rattle.lay_face.specs.FaceValue.{FaceValue}
+use Rattle.lay_face.specs.Clusters.{widths_of}
+use Rattle.lay_face.specs.declared.clusters.Setting.{Setting}
 use Rattle.lay_floats.specs.declared.placed.Placed.{Placed}
 use Rattle.lay_space.specs.declared.segment.Segment.{Segment}
+use Rattle.lay_items.specs.GatheredWidths.{gathered}
+use Rattle.lay_line_content.specs.Pens.{over_all}
+use Rattle.lay_line_content.specs.declared.frame.Frame.{Frame}
+use Rattle.lay_line_content.specs.declared.pen.Pen.{Pen}
 use Rattle.lay_lines.specs.declared.row.Ended.{Ended}
 use Rattle.lay_lines.specs.Lines.{AreLines, LinesValue}
 use Rattle.lay_sizes.specs.declared.own_boxes.OwnBox.{OwnBox}
@@ -13,6 +21,8 @@ use Rattle.lay_content.specs.AtomicBoxes.{margin_extent}
 use Rattle.lay_content.specs.BoxMeasuresValue.{BoxMeasuresValue}
 use Rattle.lay_content.specs.Contents.{content_in}
 use Rattle.lay_content.specs.SeenLines.{has_seen_line}
+use Rattle.lay_content.specs.TextParts.{text_parts}
+use Rattle.lay_content.specs.declared.text_parts.TextBox.{TextBox}
 
 -- Content has a line that is seen exactly where some line is seen when it is laid, whatever floats stand beside it and
 -- wherever lines break. So whether a container holds lines is known before they are laid.
@@ -29,3 +39,12 @@ AtomicBoxesAreMarginBoxes =
     (o : OwnBox)
     → ((margin_extent o).above.0 +ℤ (margin_extent o).below.0 ≡ margin_height o)
     × (o.baseline ≡ None → (margin_extent o).below.0 ≡ pos 0)
+
+-- The content of a line comes as far over a text, and as much of it is seen and fits, whether the grapheme clusters of each
+-- word have one width together or each its own (16.4, 16.6).
+abbrev pub WordsAreTheirClusters : Type 0
+WordsAreTheirClusters =
+    (face : FaceValue) (setting : Setting) (text : List ℕ) (t : TextBox) (fr : Frame) (p : Pen)
+    → IsUtf8 text
+    → over_all fr p (text_parts t text (gathered text (widths_of face setting text)))
+    ≡ over_all fr p (text_parts t text (widths_of face setting text))
