@@ -24,7 +24,7 @@ use Rattle.lay_blocks.specs.Lengths.{length_at}
 use Rattle.lay_blocks.specs.MarginRuns.{block_at, block_of}
 use Rattle.lay_context_boxes.specs.Containing.{container_of}
 use Rattle.lay_context_boxes.proofs.ContainerSteps.{container_within}
-use Rattle.lay_flow_boxes.specs.ContextBlocks.{content_of_box, flow_box_of, holds_lines, is_anchor, lines_in, own_block}
+use Rattle.lay_flow_boxes.specs.ContextBlocks.{content_of_box, flow_box_of, holds_lines, is_anchor, line_container, lines_in, own_block}
 use Rattle.lay_flow_boxes.specs.InlineContainers.{is_inline_container}
 use Rattle.lay_flow_boxes.specs.LineItems.{IsInLinesAs, Sort, anchor, as_anchor, as_atomic, as_inline, as_left_float, as_right_float, as_text, sorts_of}
 use Rattle.lay_flow_boxes.specs.PlaceInputs.{PlaceInput}
@@ -71,7 +71,7 @@ module _ (i : PlaceInput) (p : ContextPlaces) (has : HasPlaces i p) (c : ℕ) (w
   kind_is = ap (λ (b : FlowBox). b.kind) (has.is_shape.are_flow_boxes.each c within) ∙ kind_with m i.own_height p.shape.lefts c (content_of_box m p.shape.lefts c) held
 
   stretches_are : length (line_content_of kind).stretches ≡ length (segments_in i.face i.boxes c)
-  stretches_are = ap (λ k. length (line_content_of k).stretches) kind_is ∙ stretch_count m _ true (segments_in i.face i.boxes c)
+  stretches_are = ap (λ k. length (line_content_of k).stretches) kind_is ∙ stretch_count m (line_container m p.shape.lefts c) true (segments_in i.face i.boxes c)
 
   taken : left_over (rows_at p.places c) (length (segments_in i.face i.boxes c)) ≡ 0
   taken =
