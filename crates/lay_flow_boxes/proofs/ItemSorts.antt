@@ -7,13 +7,12 @@ use Rattle.lay_box_tree.specs.Containers.{box_parent}
 use Rattle.lay_box_tree.specs.Roles.{box_roles, role_at, role_of}
 use Rattle.lay_box_tree.specs.declared.box_role.Role.{Role}
 use Rattle.lay_box_tree.specs.declared.box_role.Role.TheVariants as role
-use Rattle.lay_box_tree.specs.declared.box_tree.BoxKind.{BoxKind}
 use Rattle.lay_box_tree.specs.declared.box_tree.BoxNode.{BoxNode}
 use Rattle.lay_box_tree.proofs.BoxForests.{length-parents}
 use Rattle.lay_space.specs.declared.item.Item.{Item}
 use Rattle.lay_space.specs.declared.item.Item.TheVariants as item
-use Rattle.lay_space.specs.declared.item.Mode.{Mode}
-use Rattle.lay_items.specs.InlineItems.{items_as, items_at, items_below, mode_at, mode_of}
+use Rattle.lay_items.specs.InlineItems.{items_as, items_at, items_below}
+use Rattle.lay_items.specs.InlineStarts.{takes_room}
 use Rattle.lay_items.specs.OpenBoxes.{is_inline}
 use Rattle.lay_flow_boxes.specs.LineItems.{Sort, anchor, atomic, end, float, named, sorts_of, start, text}
 
@@ -56,41 +55,41 @@ sorts_append k [] ys = refl
 sorts_append k (x ∷ xs) ys = append_by ((named x).box == k) (named x).sort (sorts_of k xs) (sorts_of k ys) (sorts_of k (xs ++ ys)) (sorts_append k xs ys)
 
 -- of another box
-other_ends : (k i : ℕ) (inside : List Item) → i ≢ k → sorts_of k (item.Start i ∷ inside ++ item.End i ∷ []) ≡ sorts_of k inside
-other_ends k i inside other =
+other_ends : (k i : ℕ) (takes : Bool) (inside : List Item) → i ≢ k → sorts_of k (item.Start i takes ∷ inside ++ item.End i ∷ []) ≡ sorts_of k inside
+other_ends k i takes inside other =
     let no : (i == k) ≡ false = ne_eqb i k other in
     rw no (sorts_append k inside (item.End i ∷ []) ∙ rw no (append-nil (sorts_of k inside)))
 
-other_as : (r : Role) (holder own : Mode) (k i : ℕ) (kind : BoxKind) (inside : List Item) → i ≢ k
-    → sorts_of k (items_as r holder own i kind inside) ≡ (if is_inline r then sorts_of k inside else [])
-other_as role.Inline holder own k i kind inside other = other_ends k i inside other
-other_as role.Text holder own k i kind inside other = (let no = ne_eqb i k other in rw no refl)
-other_as role.Atomic holder own k i kind inside other = (let no = ne_eqb i k other in rw no refl)
-other_as role.LeftFloat holder own k i kind inside other = (let no = ne_eqb i k other in rw no refl)
-other_as role.RightFloat holder own k i kind inside other = (let no = ne_eqb i k other in rw no refl)
-other_as role.Anchor holder own k i kind inside other = (let no = ne_eqb i k other in rw no refl)
-other_as role.Own holder own k i kind inside other = refl
-other_as role.Block holder own k i kind inside other = refl
-other_as role.Solid holder own k i kind inside other = refl
-other_as role.TablePart holder own k i kind inside other = refl
+other_as : (boxes : List BoxNode) (r : Role) (k i : ℕ) (b : BoxNode) (inside : List Item) → i ≢ k
+    → sorts_of k (items_as boxes r i b inside) ≡ (if is_inline r then sorts_of k inside else [])
+other_as boxes role.Inline k i b inside other = other_ends k i (takes_room boxes i b) inside other
+other_as boxes role.Text k i b inside other = (let no = ne_eqb i k other in rw no refl)
+other_as boxes role.Atomic k i b inside other = (let no = ne_eqb i k other in rw no refl)
+other_as boxes role.LeftFloat k i b inside other = (let no = ne_eqb i k other in rw no refl)
+other_as boxes role.RightFloat k i b inside other = (let no = ne_eqb i k other in rw no refl)
+other_as boxes role.Anchor k i b inside other = (let no = ne_eqb i k other in rw no refl)
+other_as boxes role.Own k i b inside other = refl
+other_as boxes role.Block k i b inside other = refl
+other_as boxes role.Solid k i b inside other = refl
+other_as boxes role.TablePart k i b inside other = refl
 
 -- of the box itself
-own_ends : (k : ℕ) (inside : List Item) → sorts_of k inside ≡ [] → sorts_of k (item.Start k ∷ inside ++ item.End k ∷ []) ≡ start ∷ end ∷ []
-own_ends k inside none =
+own_ends : (k : ℕ) (takes : Bool) (inside : List Item) → sorts_of k inside ≡ [] → sorts_of k (item.Start k takes ∷ inside ++ item.End k ∷ []) ≡ start ∷ end ∷ []
+own_ends k takes inside none =
     let yes : (k == k) ≡ true = eq-eqb k k refl in
     rw yes (ap (λ r. start ∷ r) (sorts_append k inside (item.End k ∷ []) ∙ rw (yes, none) refl))
 
-same_as : (r : Role) (holder own : Mode) (k : ℕ) (kind : BoxKind) (inside : List Item) → sorts_of k inside ≡ [] → sorts_of k (items_as r holder own k kind inside) ≡ own_sorts r
-same_as role.Inline holder own k kind inside none = own_ends k inside none
-same_as role.Text holder own k kind inside none = (let yes : (k == k) ≡ true = eq-eqb k k refl in rw yes refl)
-same_as role.Atomic holder own k kind inside none = (let yes : (k == k) ≡ true = eq-eqb k k refl in rw yes refl)
-same_as role.LeftFloat holder own k kind inside none = (let yes : (k == k) ≡ true = eq-eqb k k refl in rw yes refl)
-same_as role.RightFloat holder own k kind inside none = (let yes : (k == k) ≡ true = eq-eqb k k refl in rw yes refl)
-same_as role.Anchor holder own k kind inside none = (let yes : (k == k) ≡ true = eq-eqb k k refl in rw yes refl)
-same_as role.Own holder own k kind inside none = refl
-same_as role.Block holder own k kind inside none = refl
-same_as role.Solid holder own k kind inside none = refl
-same_as role.TablePart holder own k kind inside none = refl
+same_as : (boxes : List BoxNode) (r : Role) (k : ℕ) (b : BoxNode) (inside : List Item) → sorts_of k inside ≡ [] → sorts_of k (items_as boxes r k b inside) ≡ own_sorts r
+same_as boxes role.Inline k b inside none = own_ends k (takes_room boxes k b) inside none
+same_as boxes role.Text k b inside none = (let yes : (k == k) ≡ true = eq-eqb k k refl in rw yes refl)
+same_as boxes role.Atomic k b inside none = (let yes : (k == k) ≡ true = eq-eqb k k refl in rw yes refl)
+same_as boxes role.LeftFloat k b inside none = (let yes : (k == k) ≡ true = eq-eqb k k refl in rw yes refl)
+same_as boxes role.RightFloat k b inside none = (let yes : (k == k) ≡ true = eq-eqb k k refl in rw yes refl)
+same_as boxes role.Anchor k b inside none = (let yes : (k == k) ≡ true = eq-eqb k k refl in rw yes refl)
+same_as boxes role.Own k b inside none = refl
+same_as boxes role.Block k b inside none = refl
+same_as boxes role.Solid k b inside none = refl
+same_as boxes role.TablePart k b inside none = refl
 
 none_if : (b : Bool) (xs : List Sort) → xs ≡ [] → (if b then xs else []) ≡ []
 none_if true xs e = e
@@ -104,8 +103,8 @@ none_by false k xs ys e f = f
 pub none_before : (boxes : List BoxNode) (k p i : ℕ) (bs : List BoxNode) → k < i → sorts_of k (items_below boxes p i bs) ≡ []
 none_before boxes k p i [] lt = refl
 none_before boxes k p i (b ∷ bs) lt =
-    none_by (b.parent == p) k (items_at boxes p i b (items_below boxes i (i + 1) bs)) (items_below boxes p (i + 1) bs)
-    (other_as (role_of b) (mode_at boxes p) (mode_of b.style.text.white_space) k i b.kind (items_below boxes i (i + 1) bs) (λ e. omega (arith, e, lt))
+    none_by (b.parent == p) k (items_at boxes i b (items_below boxes i (i + 1) bs)) (items_below boxes p (i + 1) bs)
+    (other_as boxes (role_of b) k i b (items_below boxes i (i + 1) bs) (λ e. omega (arith, e, lt))
     ∙ none_if (is_inline (role_of b)) (sorts_of k (items_below boxes i (i + 1) bs)) (none_before boxes k i (i + 1) bs (omega (arith, lt))))
     (none_before boxes k p (i + 1) bs (omega (arith, lt)))
 
@@ -178,16 +177,16 @@ module _ (boxes : List BoxNode) (tree : IsTree (box_parents boxes)) (k : ℕ) (p
   if_follow false xs h = refl
 
   -- of boxes in a box at i
-  in_box : (p i : ℕ) (b : BoxNode) (inside : List Item) → i ≢ k → (q ≢ i → Follows inside) → (q ≡ i → (sorts_of k inside ≡ own) × (sorts_of q inside ≡ []))
-      → Follows (items_at boxes p i b inside)
-  in_box p i b inside other deeper here =
-      let mine = other_as (role_of b) (mode_at boxes p) (mode_of b.style.text.white_space) k i b.kind inside other in
+  in_box : (i : ℕ) (b : BoxNode) (inside : List Item) → i ≢ k → (q ≢ i → Follows inside) → (q ≡ i → (sorts_of k inside ≡ own) × (sorts_of q inside ≡ []))
+      → Follows (items_at boxes i b inside)
+  in_box i b inside other deeper here =
+      let mine = other_as boxes (role_of b) k i b inside other in
       elim (cases_eq q i) [
         | inl same ↦ (let h = here same in
-            let parents : sorts_of q (items_at boxes p i b inside) ≡ own_sorts (role_of b) =
-            rw (sym same) (same_as (role_of b) (mode_at boxes p) (mode_of b.style.text.white_space) q b.kind inside h.1) in
+            let parents : sorts_of q (items_at boxes i b inside) ≡ own_sorts (role_of b) =
+            rw (sym same) (same_as boxes (role_of b) q b inside h.1) in
             mine ∙ inline_or (role_of b) (sorts_of k inside) h.0 ∙ sym (ap (spread own) parents))
-        | inr not_same ↦ (let parents = other_as (role_of b) (mode_at boxes p) (mode_of b.style.text.white_space) q i b.kind inside (λ e. not_same (sym e)) in
+        | inr not_same ↦ (let parents = other_as boxes (role_of b) q i b inside (λ e. not_same (sym e)) in
             mine ∙ if_follow (is_inline (role_of b)) inside (deeper not_same) ∙ sym (ap (spread own) parents))
       ]
 
@@ -206,8 +205,8 @@ module _ (boxes : List BoxNode) (tree : IsTree (box_parents boxes)) (k : ℕ) (p
     follows p i (b ∷ bs) e other =
         let next = behind boxes i b bs e in
         let at = parent_is boxes i b bs e in
-        follow_by (b.parent == p) (items_at boxes p i b (items_below boxes i (i + 1) bs)) (items_below boxes p (i + 1) bs)
-        (λ c. in_box p i b (items_below boxes i (i + 1) bs)
+        follow_by (b.parent == p) (items_at boxes i b (items_below boxes i (i + 1) bs)) (items_below boxes p (i + 1) bs)
+        (λ c. in_box i b (items_below boxes i (i + 1) bs)
         (λ same. (let here : box_parent boxes k ≡ b.parent = ap (box_parent boxes) (sym same) ∙ at in other (here ∙ eqb-true b.parent p c)))
         (λ deeper. follows i (i + 1) bs next deeper)
         (λ here. (below i (i + 1) bs next here (omega arith) (omega (arith, before, here)), none_before boxes q i (i + 1) bs (omega (arith, here)))))
@@ -223,11 +222,11 @@ module _ (boxes : List BoxNode) (tree : IsTree (box_parents boxes)) (k : ℕ) (p
         elim (cases_eq i k) [
           | inl same ↦ (let here : b.parent ≡ p = sym at ∙ ap (box_parent boxes) same ∙ is in
               let role = ap (role_at boxes) (sym same) ∙ role_is boxes i b bs (omega (arith, low)) e in
-              let mine : sorts_of k (items_at boxes p i b inside) ≡ own = rw same
-              (same_as (role_of b) (mode_at boxes p) (mode_of b.style.text.white_space) k b.kind (items_below boxes k (k + 1) bs) (none_before boxes k k (k + 1) bs (omega arith)) ∙ ap own_sorts (sym role)) in
-              one_first (b.parent == p) (items_at boxes p i b inside) (items_below boxes p (i + 1) bs) (eq-eqb b.parent p here) mine (none_before boxes k p (i + 1) bs (omega (arith, same))))
-          | inr other ↦ one_by (b.parent == p) (items_at boxes p i b inside) (items_below boxes p (i + 1) bs)
-              (λ c. other_as (role_of b) (mode_at boxes p) (mode_of b.style.text.white_space) k i b.kind inside other
+              let mine : sorts_of k (items_at boxes i b inside) ≡ own = rw same
+              (same_as boxes (role_of b) k b (items_below boxes k (k + 1) bs) (none_before boxes k k (k + 1) bs (omega arith)) ∙ ap own_sorts (sym role)) in
+              one_first (b.parent == p) (items_at boxes i b inside) (items_below boxes p (i + 1) bs) (eq-eqb b.parent p here) mine (none_before boxes k p (i + 1) bs (omega (arith, same))))
+          | inr other ↦ one_by (b.parent == p) (items_at boxes i b inside) (items_below boxes p (i + 1) bs)
+              (λ c. other_as boxes (role_of b) k i b inside other
               ∙ none_if (is_inline (role_of b)) (sorts_of k inside)
               (follows i (i + 1) bs next (λ same. omega (arith, same, is, low)) ∙ ap (spread own) (none_before boxes q i (i + 1) bs (omega (arith, is, low)))))
               (below p (i + 1) bs next is (omega (arith, low)) (omega (arith, high, other)))

@@ -20,8 +20,8 @@ use Rattle.lay_style.specs.declared.style_words.Float.{Float}
 use Rattle.lay_style.specs.declared.style_words.Float.TheVariants as floating
 use Rattle.lay_space.specs.declared.item.Item.{Item}
 use Rattle.lay_space.specs.declared.item.Item.TheVariants as item
-use Rattle.lay_space.specs.declared.item.Mode.{Mode}
-use Rattle.lay_items.specs.InlineItems.{items_as, items_at, items_below, items_of, mode_at, mode_of}
+use Rattle.lay_items.specs.InlineItems.{items_as, items_at, items_below, items_of}
+use Rattle.lay_items.specs.InlineStarts.{takes_room}
 use Rattle.lay_items.specs.OpenBoxes.{is_inline}
 use Rattle.lay_context_boxes.specs.Containing.{container_of}
 use Rattle.lay_context_boxes.specs.ContextBoxes.{AreContextBoxes, is_inner}
@@ -168,20 +168,20 @@ module _ (boxes : List BoxNode) (c : ℕ) (are : AreContextBoxes boxes) where
       (at_further j c positive (subst (λ (p : ℕ). counts boxes p ≡ false) (sym e) closed)
       (subst (λ (p : ℕ). IsContainer boxes p c) (sym e) (subst (IsContainer boxes k) is.container (containers_are_nearest_lem boxes k are is.within))))
 
-  all_as : (r : Role) (holder own : Mode) (k : ℕ) (kind : BoxKind) (inside : List Item) → IsIn boxes c k → (is_inline r ≡ true → All Stands inside)
-      → All Stands (items_as r holder own k kind inside)
-  all_as role.Inline holder own k kind inside is all =
-      All-cons Stands (item.Start k) (inside ++ item.End k ∷ []) is
+  all_as : (r : Role) (k : ℕ) (b : BoxNode) (inside : List Item) → IsIn boxes c k → (is_inline r ≡ true → All Stands inside)
+      → All Stands (items_as boxes r k b inside)
+  all_as role.Inline k b inside is all =
+      All-cons Stands (item.Start k (takes_room boxes k b)) (inside ++ item.End k ∷ []) is
       (All-append Stands inside (item.End k ∷ []) (all refl) (All-cons Stands (item.End k) [] is (All-nil Stands)))
-  all_as role.Text holder own k kind inside is all = All-cons Stands _ [] is (All-nil Stands)
-  all_as role.Atomic holder own k kind inside is all = All-cons Stands _ [] is (All-nil Stands)
-  all_as role.LeftFloat holder own k kind inside is all = All-cons Stands _ [] is (All-nil Stands)
-  all_as role.RightFloat holder own k kind inside is all = All-cons Stands _ [] is (All-nil Stands)
-  all_as role.Anchor holder own k kind inside is all = All-cons Stands _ [] is (All-nil Stands)
-  all_as role.Own holder own k kind inside is all = All-nil Stands
-  all_as role.Block holder own k kind inside is all = All-nil Stands
-  all_as role.Solid holder own k kind inside is all = All-nil Stands
-  all_as role.TablePart holder own k kind inside is all = All-nil Stands
+  all_as role.Text k b inside is all = All-cons Stands _ [] is (All-nil Stands)
+  all_as role.Atomic k b inside is all = All-cons Stands _ [] is (All-nil Stands)
+  all_as role.LeftFloat k b inside is all = All-cons Stands _ [] is (All-nil Stands)
+  all_as role.RightFloat k b inside is all = All-cons Stands _ [] is (All-nil Stands)
+  all_as role.Anchor k b inside is all = All-cons Stands _ [] is (All-nil Stands)
+  all_as role.Own k b inside is all = All-nil Stands
+  all_as role.Block k b inside is all = All-nil Stands
+  all_as role.Solid k b inside is all = All-nil Stands
+  all_as role.TablePart k b inside is all = All-nil Stands
 
   all_by : (b : Bool) (xs ys : List Item) → (b ≡ true → All Stands xs) → All Stands ys → All Stands (if b then xs ++ ys else ys)
   all_by true xs ys hx hy = All-append Stands xs ys (hx refl) hy
@@ -192,9 +192,9 @@ module _ (boxes : List BoxNode) (c : ℕ) (are : AreContextBoxes boxes) where
   all_below p i (b ∷ bs) e positive leads =
       let next = behind boxes i b bs e in
       let lt = within boxes i b bs e in
-      all_by (b.parent == p) (items_at boxes p i b (items_below boxes i (i + 1) bs)) (items_below boxes p (i + 1) bs)
+      all_by (b.parent == p) (items_at boxes i b (items_below boxes i (i + 1) bs)) (items_below boxes p (i + 1) bs)
       (λ same. (let is : IsIn boxes c i = record { behind = positive; within = lt; container = leads i positive lt (parent_is boxes i b bs e ∙ eqb-true b.parent p same) } in
-        all_as (role_of b) (mode_at boxes p) (mode_of b.style.text.white_space) i b.kind (items_below boxes i (i + 1) bs) is
+        all_as (role_of b) i b (items_below boxes i (i + 1) bs) is
         (λ inline. all_below i (i + 1) bs next (omega arith) (deeper i is (inline_counts boxes i b bs positive e inline)))))
       (all_below p (i + 1) bs next (omega arith) leads)
 

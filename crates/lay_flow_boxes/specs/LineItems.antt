@@ -29,7 +29,7 @@ pub record Named : Type 0 where
 abbrev pub named : Item → Named
 named (item.Text k content mode widths) = record { sort = text; box = k }
 named (item.Atomic k mode) = record { sort = atomic; box = k }
-named (item.Start k) = record { sort = start; box = k }
+named (item.Start k takes) = record { sort = start; box = k }
 named (item.End k) = record { sort = end; box = k }
 named (item.Float k) = record { sort = float; box = k }
 named (item.Anchor k) = record { sort = anchor; box = k }

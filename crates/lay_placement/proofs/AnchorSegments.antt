@@ -37,7 +37,7 @@ module _ (k : ℕ) where
   is_anchor_token (token.Cluster c) = false
   is_anchor_token token.TextEnd = false
   is_anchor_token (token.Atomic n m) = false
-  is_anchor_token (token.Start n) = false
+  is_anchor_token (token.Start n takes) = false
   is_anchor_token (token.End n) = false
   is_anchor_token (token.Float n) = false
 
@@ -57,7 +57,7 @@ module _ (k : ℕ) where
   named_anchor (item.Anchor n) e = refl
   named_anchor (item.Text n text mode widths) e = absurd cc
   named_anchor (item.Atomic n mode) e = absurd cc
-  named_anchor (item.Start n) e = absurd cc
+  named_anchor (item.Start n takes) e = absurd cc
   named_anchor (item.End n) e = absurd cc
   named_anchor (item.Float n) e = absurd cc
 
@@ -83,7 +83,7 @@ module _ (k : ℕ) where
   processed_same after [] = refl
   processed_same after (item.Text n text mode widths ∷ xs) = processed_same (space_after after mode text) xs
   processed_same after (item.Atomic n mode ∷ xs) = processed_same false xs
-  processed_same after (item.Start n ∷ xs) = processed_same after xs
+  processed_same after (item.Start n takes ∷ xs) = processed_same after xs
   processed_same after (item.End n ∷ xs) = processed_same after xs
   processed_same after (item.Float n ∷ xs) = processed_same after xs
   processed_same after (item.Anchor n ∷ xs) = ap (λ b. n == k || b) (processed_same after xs)
@@ -91,7 +91,7 @@ module _ (k : ℕ) where
   measured_one : (face : FaceValue) (boxes : List BoxNode) (x : Item) → is_anchor_of k (measured_item face boxes x) ≡ is_anchor_of k x
   measured_one face boxes (item.Text n text mode widths) = refl
   measured_one face boxes (item.Atomic n mode) = refl
-  measured_one face boxes (item.Start n) = refl
+  measured_one face boxes (item.Start n takes) = refl
   measured_one face boxes (item.End n) = refl
   measured_one face boxes (item.Float n) = refl
   measured_one face boxes (item.Anchor n) = refl
@@ -110,7 +110,7 @@ module _ (k : ℕ) where
   token_of_item i (item.Text n text m ws) =
       list_any-append is_anchor_token (cluster_tokens i n m text ws) (token.TextEnd ∷ []) ∙ ap (λ b. b || false) (no_clusters i n m text ws)
   token_of_item i (item.Atomic n mode) = refl
-  token_of_item i (item.Start n) = refl
+  token_of_item i (item.Start n takes) = refl
   token_of_item i (item.End n) = refl
   token_of_item i (item.Float n) = refl
   token_of_item i (item.Anchor n) = or_none (n == k)
@@ -125,7 +125,7 @@ module _ (k : ℕ) where
   no_space (token.Cluster c) e = refl
   no_space token.TextEnd e = refl
   no_space (token.Atomic n m) e = refl
-  no_space (token.Start n) e = refl
+  no_space (token.Start n takes) e = refl
   no_space (token.End n) e = refl
   no_space (token.Float n) e = refl
   no_space (token.Anchor n) e = absurd cc
@@ -145,7 +145,7 @@ module _ (k : ℕ) where
   no_flow (token.Cluster c) e = refl
   no_flow token.TextEnd e = refl
   no_flow (token.Atomic n m) e = refl
-  no_flow (token.Start n) e = refl
+  no_flow (token.Start n takes) e = refl
   no_flow (token.End n) e = refl
   no_flow (token.Float n) e = refl
   no_flow (token.Anchor n) e = absurd cc
@@ -193,7 +193,7 @@ module _ (k : ℕ) where
   cut_same items current held (entry.Content token.TextEnd ∷ xs) =
       cut_same items (current ++ text_of items held) [] xs ∙ ap (λ b. b || has_token (content_of xs)) (with_text current items held)
   cut_same items current held (entry.Content (token.Atomic n m) ∷ xs) = put current items held (item.Atomic n m) (has_token (content_of xs)) _ (cut_same items (current ++ text_of items held ++ item.Atomic n m ∷ []) [] xs)
-  cut_same items current held (entry.Content (token.Start n) ∷ xs) = put current items held (item.Start n) (has_token (content_of xs)) _ (cut_same items (current ++ text_of items held ++ item.Start n ∷ []) [] xs)
+  cut_same items current held (entry.Content (token.Start n takes) ∷ xs) = put current items held (item.Start n takes) (has_token (content_of xs)) _ (cut_same items (current ++ text_of items held ++ item.Start n takes ∷ []) [] xs)
   cut_same items current held (entry.Content (token.End n) ∷ xs) = put current items held (item.End n) (has_token (content_of xs)) _ (cut_same items (current ++ text_of items held ++ item.End n ∷ []) [] xs)
   cut_same items current held (entry.Content (token.Float n) ∷ xs) = put current items held (item.Float n) (has_token (content_of xs)) _ (cut_same items (current ++ text_of items held ++ item.Float n ∷ []) [] xs)
   cut_same items current held (entry.Content (token.Anchor n) ∷ xs) = put current items held (item.Anchor n) (has_token (content_of xs)) _ (cut_same items (current ++ text_of items held ++ item.Anchor n ∷ []) [] xs)

@@ -16,6 +16,7 @@ use Rattle.lay_content.specs.Stretches.{stretches_of}
 use Rattle.lay_content.specs.declared.container.Container.{Container}
 use Rattle.lay_blocks.specs.declared.flow_box.FlowBox.{FlowBox}
 use Rattle.lay_blocks.specs.declared.flow_box.FlowKind.{FlowKind}
+use Rattle.lay_blocks.specs.declared.flow_box.FlowKind.TheVariants.{Lines as with_lines}
 use Rattle.lay_blocks.specs.BlockFloats.{Spot, content_of, floats_before, line_content_of, lines_at, no_spot}
 use Rattle.lay_blocks.specs.BlockPositions.{is_lines}
 use Rattle.lay_blocks.specs.Boxes.{box_at}
@@ -23,7 +24,7 @@ use Rattle.lay_blocks.specs.Lengths.{length_at}
 use Rattle.lay_blocks.specs.MarginRuns.{block_at, block_of}
 use Rattle.lay_context_boxes.specs.Containing.{container_of}
 use Rattle.lay_context_boxes.proofs.ContainerSteps.{container_within}
-use Rattle.lay_flow_boxes.specs.ContextBlocks.{content_of_box, flow_box_of, holds_lines, is_anchor, lines_in}
+use Rattle.lay_flow_boxes.specs.ContextBlocks.{content_of_box, flow_box_of, holds_lines, is_anchor, line_container, lines_in, own_block}
 use Rattle.lay_flow_boxes.specs.InlineContainers.{is_inline_container}
 use Rattle.lay_flow_boxes.specs.LineItems.{IsInLinesAs, Sort, anchor, as_anchor, as_atomic, as_inline, as_left_float, as_right_float, as_text, sorts_of}
 use Rattle.lay_flow_boxes.specs.PlaceInputs.{PlaceInput}
@@ -63,14 +64,14 @@ module _ (i : PlaceInput) (p : ContextPlaces) (has : HasPlaces i p) (c : ℕ) (w
   held : lines_in m p.shape.lefts c ≡ Some (content_of_box m p.shape.lefts c)
   held = rw lines refl
 
-  kind : FlowKind
+  abbrev kind : FlowKind
   kind = (box_at p.shape.flow_boxes c).kind
 
-  kind_is : kind ≡ _
+  kind_is : kind ≡ with_lines (record { block = own_block m.boxes m.sizes i.own_height p.shape.lefts c; content = content_of_box m p.shape.lefts c })
   kind_is = ap (λ (b : FlowBox). b.kind) (has.is_shape.are_flow_boxes.each c within) ∙ kind_with m i.own_height p.shape.lefts c (content_of_box m p.shape.lefts c) held
 
   stretches_are : length (line_content_of kind).stretches ≡ length (segments_in i.face i.boxes c)
-  stretches_are = ap (λ k. length (line_content_of k).stretches) kind_is ∙ stretch_count m _ true (segments_in i.face i.boxes c)
+  stretches_are = ap (λ k. length (line_content_of k).stretches) kind_is ∙ stretch_count m (line_container m p.shape.lefts c) true (segments_in i.face i.boxes c)
 
   taken : left_over (rows_at p.places c) (length (segments_in i.face i.boxes c)) ≡ 0
   taken =
