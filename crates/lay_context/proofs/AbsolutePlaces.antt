@@ -1,6 +1,6 @@
 -- An absolutely positioned box stands in its containing block on the page: what is counted from one formatting context to the next
 -- leads from the page to where the tree has it.
-use Rattle.std.proofs.Common.{◌≡◌, ◌<◌, ℕ, zero, suc, Bool, true, false, if◌then◌else◌, ◌+ℤ◌, ◌-ℤ◌, List, length, refl, sym, ap, ◌∙◌, subst, arith, option_map}
+use Rattle.std.proofs.Common.{◌≡◌, ◌<◌, ℕ, zero, suc, Bool, true, false, if◌then◌else◌, ℤ, pos, ◌+ℤ◌, ◌-ℤ◌, List, length, refl, sym, ap, ◌∙◌, subst, arith, option_map}
 use Rattle.std.specs.Prelude.{Option, Some, None}
 use Rattle.std.proofs.lemmas.Int.{ints}
 use Rattle.lay_units.specs.declared.length.Unit.{Unit as Length}
@@ -29,7 +29,7 @@ use Rattle.lay_positioned.specs.AbsoluteSizes.{border_start}
 use Rattle.lay_positioned.specs.ContainingRects.{IsContainingRect, containing_in, held, initial, seen_from, viewport_rect, further as around}
 use Rattle.lay_positioned.specs.HoldersOutward.{Holder, IsHolderOf, IsHolderOutward, further, here, viewport as by_viewport}
 use Rattle.lay_positioned.specs.Layouts.{content_corner, step}
-use Rattle.lay_positioned.specs.Offsets.{IsOffset, corner_inside}
+use Rattle.lay_positioned.specs.Offsets.{IsOffset, axis_of_height, corner_inside}
 use Rattle.lay_positioned.specs.Settings.{absolute_setting, root_setting, setting_beside}
 use Rattle.lay_positioned.proofs.SettingValues.{containing}
 use Rattle.lay_context_sizes.specs.ContextSizes.{HasSizes, IsSizedAs, SizedContext}
@@ -48,7 +48,7 @@ use Rattle.lay_context.specs.DocumentLayout.{widths_in}
 use Rattle.lay_context.specs.Laws.{AbsoluteBoxesStandInContainingBlocks}
 use Rattle.lay_context.specs.Local.{IsLocal, flow_input, place_as, stand_input, table_input}
 use Rattle.lay_context.specs.Medium.{Medium}
-use Rattle.lay_context.specs.PageCorners.{beside, flow_standing, lowered, own_standing, standing_of}
+use Rattle.lay_context.specs.PageCorners.{HasPageCorners, beside, flow_standing, lowered, own_standing, standing_of}
 use Rattle.lay_context.specs.PlacedContexts.{PlacedContext, placed_in, placement_in}
 use Rattle.lay_context.specs.Settings.{flow_place, flow_setting, laid, sizes_in}
 use Rattle.lay_context.specs.Workings.{Workings}
@@ -56,7 +56,7 @@ use Rattle.lay_context.specs.Workings.{Workings}
 abbrev corner_of : (x y : Length) → Corner
 corner_of x y = record { x = x; y = y }
 
-abbrev length_of : _ → Length
+abbrev length_of : ℤ → Length
 length_of v = record { 0 = v }
 
 -- what is in a box is counted from the same place on the page, by where it stands in the one around and by that's step
@@ -79,7 +79,7 @@ lowered_none c =
     let e : c.y.0 +ℤ pos 0 ≡ c.y.0 = omega (arith, ints) in
     ap (λ v. corner_of c.x (length_of v)) e
 
-abbrev rect_at : (x y : _) (r : Rect) → Rect
+abbrev rect_at : (x y : ℤ) (r : Rect) → Rect
 rect_at x y r = record { x = record { 0 = x }; y = record { 0 = y }; w = r.w; h = r.h }
 
 -- counted from a corner and then from the page, a rectangle is counted from where that corner is counted from
@@ -142,7 +142,7 @@ module _ (p : PageLayout) where
 abbrev setting_from : Corner → AbsoluteSetting → AbsoluteSetting
 setting_from o s = record { rect = rect_on_page o s.rect; static_left = s.static_left; static_top = s.static_top }
 
-abbrev setting_as : Rect → (left top : _) → AbsoluteSetting
+abbrev setting_as : Rect → (left top : ℤ) → AbsoluteSetting
 setting_as r left top = record { rect = r; static_left = record { 0 = left }; static_top = record { 0 = top } }
 
 -- an anchor is as far from a containing block on the page as elsewhere
@@ -151,6 +151,17 @@ setting_moved o a r =
     let left : o.x.0 +ℤ a.x.0 -ℤ (o.x.0 +ℤ r.x.0) ≡ a.x.0 -ℤ r.x.0 = omega (arith, ints) in
     let top : o.y.0 +ℤ a.y.0 -ℤ (o.y.0 +ℤ r.y.0) ≡ a.y.0 -ℤ r.y.0 = omega (arith, ints) in
     ap (λ v. setting_as (rect_on_page o r) v (o.y.0 +ℤ a.y.0 -ℤ (o.y.0 +ℤ r.y.0))) left ∙ ap (λ v. setting_as (rect_on_page o r) (a.x.0 -ℤ r.x.0) v) top
+
+-- its axes don't change by that
+across_from : (b : Bool) (o : Corner) (s : AbsoluteSetting) (own : BoxNode) (widths : PreferredWidths) (width : Length) (out : AbsOut)
+    → IsAxisAcross b s own widths width out → IsAxisAcross b (setting_from o s) own widths width out
+across_from true o s own widths width out is = is
+across_from false o s own widths width out is = is
+
+down_from : (b : Bool) (o : Corner) (s : AbsoluteSetting) (own : BoxNode) (height : Length) (out : AbsOut)
+    → IsUsedAxis (axis_of_height b s own height) out → IsUsedAxis (axis_of_height b (setting_from o s) own height) out
+down_from true o s own height out is = is
+down_from false o s own height out is = is
 
 -- of what an absolutely positioned one is given its values are those of its equations
 record IsAcross (b : Bool) (s : AbsoluteSetting) (own : BoxNode) (widths : PreferredWidths) (width left : Length) : Type 0 where
@@ -205,10 +216,11 @@ module _ (medium : Medium) (p : PageLayout) (solved : IsSolved medium p) (i : �
   -- so it stands in that setting, counted from where its offset is counted
   stands_from : (o : Corner) → corner_at p.corners i ≡ beside o (placed_in p.workings.places i).offset → StandsIn p i (setting_from o setting)
   stands_from o at =
-      let out : AbsOut = across.out in
+      let wide = across in
+      let out : AbsOut = wide.out in
       let down : AbsOut = offset.out in
       let corner : (placed_in p.workings.places i).offset ≡ corner_inside setting sized.left (border_start down) = offset.corner_is in
-      let left : sized.left ≡ border_start out = across.left_is in
+      let left : sized.left ≡ border_start out = wide.left_is in
       let place : corner_at p.corners i ≡ beside o (corner_inside setting (border_start out) (border_start down)) =
       at ∙ ap (beside o) corner ∙ ap (λ l. beside o (corner_inside setting l (border_start down))) left in
       let x : (corner_at p.corners i).x.0 ≡ o.x.0 +ℤ (setting.rect.x.0 +ℤ (out.left.0 +ℤ out.margin_left.0)) = ap (λ (c : Corner). c.x.0) place in
@@ -216,8 +228,8 @@ module _ (medium : Medium) (p : PageLayout) (solved : IsSolved medium p) (i : �
       record {
         across = out;
         down = down;
-        is_across = across.is;
-        is_down = offset.down;
+        is_across = across_from (is_table boxes) o setting (box_at boxes 0) widths (sizes_at sized.boxes 0).widths.width out wide.is;
+        is_down = down_from (is_wrapper (box_at boxes 0).kind) o setting (box_at boxes 0) (placement_in p.workings.places i).own.height down offset.down;
         x = omega (arith, ints, x);
         y = omega (arith, ints, y);
       }

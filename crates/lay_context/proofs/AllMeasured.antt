@@ -79,8 +79,8 @@ measured_local true i widths e local = local
 measured_local false i widths e local = cc
 
 not_true : (b : Bool) → (b ≡ true → ⊥) → b ≡ false
-not_true true no = absurd (no refl)
-not_true false no = refl
+not_true true other = absurd (other refl)
+not_true false other = refl
 
 module _ (one : OneAnswer) (count : WidthsCountWhereShrunk) (medium : Medium) (contexts : List FormattingContext) (are : AreFormattingContexts contexts)
     (s t : List PageContext) (a : SolvesContexts medium contexts s) (b : SolvesMeasured medium contexts t) where
