@@ -13,5 +13,5 @@ mod room;
 
 pub use absolute::solve_absolute;
 pub use axis::{Axis, ContentSize};
-pub use laws::one_used_axis;
+pub use laws::{one_used_axis, some_used_axis};
 pub use room::shrinking_room;

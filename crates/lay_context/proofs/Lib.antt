@@ -1,3 +1,5 @@
+pub mod AbsolutePlaces
+pub mod AllMeasured
 pub mod CornerSteps
 pub mod FlowSettings
 pub mod GivenFacts

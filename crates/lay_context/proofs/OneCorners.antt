@@ -5,6 +5,7 @@ use Rattle.lay_doc.proofs.OneStyles.{same_list}
 use Rattle.lay_formatting.specs.FormattingContexts.{FormattingContext, AreFormattingContexts}
 use Rattle.lay_pieces.specs.Corners.{corner_at, no_corner}
 use Rattle.lay_pieces.specs.declared.corner.Corner.{Corner}
+use Rattle.lay_context.specs.Laws.{OnePageCorners}
 use Rattle.lay_context.specs.PlacedContexts.{PlacedContext}
 use Rattle.lay_context.specs.PageCorners.{HasPageCorners, inner_corner}
 
@@ -25,3 +26,6 @@ module _ (contexts : List FormattingContext) (places : List PlacedContext) (are 
 
   pub one_corner_column : x ≡ y
   one_corner_column = same_list no_corner x y (a.count ∙ sym b.count) (λ i lt. corners_before (length contexts) (omega arith) i (omega (arith, a.count)))
+
+pub one_page_corners_lem : OnePageCorners
+one_page_corners_lem contexts places x y are a b = one_corner_column contexts places are x y a b

@@ -1,6 +1,7 @@
 -- Two workings that meet the equations of a document are equal, task by task in their order, and so are their trees.
 use Rattle.std.proofs.Common.{◌≡◌, ℕ, zero, suc, ◌+◌, ◌<◌, List, length, refl, sym, subst, ◌∙◌, arith, option_map}
-use Rattle.lay_doc.specs.Document.{parents_of, declarations_of}
+use Rattle.lay_doc.specs.Document.{Document, IsDocument, parents_of, declarations_of}
+use Rattle.lay_face.specs.FaceValue.{FaceValue}
 use Rattle.lay_doc.proofs.OneStyles.{one_style_column_lem, same_list}
 use Rattle.lay_boxgen.proofs.NodeColumns.{length-parents}
 use Rattle.lay_frag.specs.Pieces.{Context as PageContext}
@@ -17,7 +18,7 @@ use Rattle.lay_context.specs.declared.task.Phase.TheVariants.{Measure, Size, Pla
 use Rattle.lay_context.specs.declared.task.Task.{Task}
 use Rattle.lay_context.specs.declared.input.Input.{Input}
 use Rattle.lay_context_sizes.specs.ContextSizes.{not_sized}
-use Rattle.lay_context.specs.Laws.{HasContextBoxes, OneSolution}
+use Rattle.lay_context.specs.Laws.{OneSolution}
 use Rattle.lay_context.specs.Local.{IsLocal, IsTaskDone, flow_input, input_of, measure_input, stand_input, table_input, value_of}
 use Rattle.lay_context.specs.Workings.{Workings}
 use Rattle.lay_context.specs.Measured.{is_measured}
@@ -26,14 +27,14 @@ use Rattle.lay_context.specs.Needs.{turn_of}
 use Rattle.lay_context.specs.PageCorners.{HasPageCorners}
 use Rattle.lay_context.specs.PlacedContexts.{not_placed, placed_in}
 use Rattle.lay_context.specs.Settings.{sizes_in}
-use Rattle.lay_context.specs.Solves.{SolvesContexts, medium_of, page_context, page_contexts}
+use Rattle.lay_context.specs.Solves.{Solves, SolvesContexts, medium_of, page_context, page_contexts}
 use Rattle.lay_context.proofs.OneCorners.{one_corner_column}
-use Rattle.lay_context.proofs.OneValue.{OneAnswer, measured_boxes, one_local_lem, placed_boxes}
-use Rattle.lay_context.proofs.TaskInputs.{inputs_come_of_needs_lem, place_value, size_value}
+use Rattle.lay_context.proofs.OneValue.{OneAnswer, one_local_lem}
+use Rattle.lay_context.proofs.TaskInputs.{input_again, place_value, size_value}
 use Rattle.lay_context.proofs.TaskOrder.{needs_come_first_lem}
 
 -- the contexts of a tree come of the sizes, the placements and the corners
-page_contexts_same : (contexts : List FormattingContext) (v w : Workings) (x y : List Corner) → v.sizes ≡ w.sizes → v.places ≡ w.places → x ≡ y → (n : ℕ)
+pub page_contexts_same : (contexts : List FormattingContext) (v w : Workings) (x y : List Corner) → v.sizes ≡ w.sizes → v.places ≡ w.places → x ≡ y → (n : ℕ)
     → page_contexts contexts v x n ≡ page_contexts contexts w y n
 page_contexts_same contexts v w x y sizes places corners zero = refl
 page_contexts_same contexts v w x y sizes places corners (suc n) =
@@ -46,22 +47,16 @@ module _ (one : OneAnswer) (medium : Medium) (contexts : List FormattingContext)
   abbrev AllDone : Workings → Type 0
   AllDone w = (task : Task) → task.context < length contexts → IsTaskDone medium contexts w task
 
-  -- what a task is given are the boxes of a formatting context
-  boxes_given : (w : Workings) (phase : Phase) (i : ℕ) → i < length contexts → HasContextBoxes (input_of medium contexts w (record { context = i; phase = phase }))
-  boxes_given w Measure i lt = measured_boxes (is_measured contexts i) (measure_input medium contexts w i)
-  boxes_given w Size i lt = are.boxes i lt
-  boxes_given w Place i lt = placed_boxes (flow_input medium contexts w i) (stand_input medium contexts w i) (option_map (table_input contexts w i) (sizes_in w.sizes i).table) (are.boxes i lt)
-
   one_value : (v w : Workings) (task : Task) → task.context < length contexts → IsTaskDone medium contexts v task → IsTaskDone medium contexts w task
       → input_of medium contexts v task ≡ input_of medium contexts w task → value_of v task ≡ value_of w task
   one_value v w task lt a b same =
-      one_local_lem one (input_of medium contexts v task) (value_of v task) (value_of w task) (boxes_given v task.phase task.context lt) a (subst (λ (i : Input). IsLocal i (value_of w task)) (sym same) b)
+      one_local_lem one (input_of medium contexts v task) (value_of v task) (value_of w task) a (subst (λ (i : Input). IsLocal i (value_of w task)) (sym same) b)
 
   -- values agree turn by turn, since what a task needs had its turn before
   agree : (levels : List ℕ) → HasLevels contexts levels → (v w : Workings) → AllDone v → AllDone w → (m : ℕ) (task : Task) → task.context < length contexts → turn_of levels task < m → value_of v task ≡ value_of w task
   agree levels has v w a b zero task there lt = absurd (omega (arith, lt))
   agree levels has v w a b (suc m) task there lt =
-      one_value v w task there (a task there) (b task there) (inputs_come_of_needs_lem medium contexts v w task are there (λ needed needs.
+      one_value v w task there (a task there) (b task there) (input_again medium contexts v w task are there (λ needed needs.
       (let had = needs_come_first_lem contexts levels task needed are has there needs in
       agree levels has v w a b m needed had.within (omega (arith, had.earlier, lt)))))
 
@@ -86,14 +81,20 @@ module _ (one : OneAnswer) (medium : Medium) (contexts : List FormattingContext)
       let listed : page_contexts contexts v x.corners (length contexts) ≡ page_contexts contexts w y.corners (length contexts) = page_contexts_same contexts v w x.corners y.corners sizes places corners (length contexts) in
       x.tree_is ∙ listed ∙ sym y.tree_is
 
+-- the formatting contexts of a solution stand in order
+pub in_order : FormattingContextsStandInOrder → (d : Document) (face : FaceValue) (s : List PageContext) → IsDocument d → (a : Solves d face s) → AreFormattingContexts a.formatting_contexts
+in_order stand_in_order d face s is a =
+    let counted : length a.styles ≡ length d.nodes = a.has_styles.length_is ∙ length-parents d.nodes in
+    stand_in_order a.contexts a.formatting_contexts (are_contexts d a.styles a.contexts is counted a.are_contexts) a.are_formatting_contexts
+
 pub one_solution_lem : OneAnswer → OneFormattingContextList → FormattingContextsStandInOrder → OneSolution
 one_solution_lem one one_list stand_in_order d face s t is a b =
     let styles = one_style_column_lem (parents_of d.nodes) (declarations_of d.nodes) a.styles b.styles is.tree a.has_styles b.has_styles in
     let listed : AreContextsOf d.nodes a.styles b.contexts = rw styles b.are_contexts in
     let counted : length a.styles ≡ length d.nodes = a.has_styles.length_is ∙ length-parents d.nodes in
     let contexts = one_context_list_lem d a.styles a.contexts b.contexts is counted a.are_contexts listed in
-    let in_order = are_contexts d a.styles a.contexts is counted a.are_contexts in
+    let ordered = are_contexts d a.styles a.contexts is counted a.are_contexts in
     let parted : AreFormattingContextsOf a.contexts b.formatting_contexts = rw contexts b.are_formatting_contexts in
-    let formatting = one_list a.contexts a.formatting_contexts b.formatting_contexts in_order a.are_formatting_contexts parted in
+    let formatting = one_list a.contexts a.formatting_contexts b.formatting_contexts ordered a.are_formatting_contexts parted in
     let other : SolvesContexts (medium_of d face) a.formatting_contexts t = rw formatting b.solves_contexts in
-    one_tree one (medium_of d face) a.formatting_contexts (stand_in_order a.contexts a.formatting_contexts in_order a.are_formatting_contexts) s t a.solves_contexts other
+    one_tree one (medium_of d face) a.formatting_contexts (in_order stand_in_order d face s is a) s t a.solves_contexts other

@@ -1,19 +1,13 @@
 -- Beside what it is given a task has one value.
-use Rattle.std.proofs.Common.{◌≡◌, Bool, true, false, ap, sym, ◌∙◌, Option, None, Some}
-use Rattle.lay_context_boxes.specs.ContextBoxes.{AreContextBoxes}
-use Rattle.lay_flow_boxes.specs.PlaceInputs.{PlaceInput}
+use Rattle.std.proofs.Common.{◌≡◌, ap, sym, ◌∙◌}
 use Rattle.lay_placement.specs.Laws.{OnePlacement}
 use Rattle.lay_table.specs.Laws.{OneTablePlacement}
-use Rattle.lay_table_rows.specs.TableInputs.{TableInput}
-use Rattle.lay_context_sizes.specs.Inputs.{MeasureInput}
 use Rattle.lay_context_sizes.specs.Laws.{OneContextSizes, OneContextWidths}
 use Rattle.lay_context.specs.declared.input.Input.{Input}
 use Rattle.lay_context.specs.declared.input.Input.TheVariants as input
 use Rattle.lay_context.specs.declared.value.Value.{Value}
 use Rattle.lay_context.specs.declared.value.Value.TheVariants as value
-use Rattle.lay_context.specs.Laws.{HasContextBoxes}
-use Rattle.lay_context.specs.Local.{IsLocal, measure_as, place_as}
-use Rattle.lay_own_place.specs.OwnOffsets.{StandInput}
+use Rattle.lay_context.specs.Local.{IsLocal}
 use Rattle.lay_context.proofs.PlaceFacts.{same_placed}
 
 -- what each phase answers is the only answer
@@ -23,40 +17,31 @@ pub record OneAnswer : Type 0 where
   pub placement : OnePlacement
   pub table_placement : OneTablePlacement
 
-pub one_local_lem : OneAnswer → (i : Input) (v w : Value) → HasContextBoxes i → IsLocal i v → IsLocal i w → v ≡ w
-one_local_lem one (input.Measure i) (value.Measure x) (value.Measure y) has a b = ap value.Measure (one.widths i x y a b)
-one_local_lem one (input.Measure i) (value.Measure x) (value.Size y) has a b = absurd b
-one_local_lem one (input.Measure i) (value.Measure x) (value.Place y) has a b = absurd b
-one_local_lem one (input.Measure i) (value.Size x) w has a b = absurd a
-one_local_lem one (input.Measure i) (value.Place x) w has a b = absurd a
-one_local_lem one input.Unmeasured (value.Measure x) (value.Measure y) has a b = ap value.Measure (a ∙ sym b)
-one_local_lem one input.Unmeasured (value.Measure x) (value.Size y) has a b = absurd b
-one_local_lem one input.Unmeasured (value.Measure x) (value.Place y) has a b = absurd b
-one_local_lem one input.Unmeasured (value.Size x) w has a b = absurd a
-one_local_lem one input.Unmeasured (value.Place x) w has a b = absurd a
-one_local_lem one (input.Size i) (value.Size x) (value.Size y) has a b = ap value.Size (one.sizes i x y has a b)
-one_local_lem one (input.Size i) (value.Size x) (value.Measure y) has a b = absurd b
-one_local_lem one (input.Size i) (value.Size x) (value.Place y) has a b = absurd b
-one_local_lem one (input.Size i) (value.Measure x) w has a b = absurd a
-one_local_lem one (input.Size i) (value.Place x) w has a b = absurd a
-one_local_lem one (input.Place i at) (value.Place x) (value.Place y) has a b =
-    ap value.Place (same_placed at x y (one.placement i x.placement y.placement has a.0 b.0) a.1 b.1)
-one_local_lem one (input.Place i at) (value.Place x) (value.Measure y) has a b = absurd b
-one_local_lem one (input.Place i at) (value.Place x) (value.Size y) has a b = absurd b
-one_local_lem one (input.Place i at) (value.Measure x) w has a b = absurd a
-one_local_lem one (input.Place i at) (value.Size x) w has a b = absurd a
-one_local_lem one (input.PlaceTable i at) (value.Place x) (value.Place y) has a b =
+pub one_local_lem : OneAnswer → (i : Input) (v w : Value) → IsLocal i v → IsLocal i w → v ≡ w
+one_local_lem one (input.Measure i) (value.Measure x) (value.Measure y) a b = ap value.Measure (one.widths i x y a b)
+one_local_lem one (input.Measure i) (value.Measure x) (value.Size y) a b = absurd b
+one_local_lem one (input.Measure i) (value.Measure x) (value.Place y) a b = absurd b
+one_local_lem one (input.Measure i) (value.Size x) w a b = absurd a
+one_local_lem one (input.Measure i) (value.Place x) w a b = absurd a
+one_local_lem one input.Unmeasured (value.Measure x) (value.Measure y) a b = ap value.Measure (a ∙ sym b)
+one_local_lem one input.Unmeasured (value.Measure x) (value.Size y) a b = absurd b
+one_local_lem one input.Unmeasured (value.Measure x) (value.Place y) a b = absurd b
+one_local_lem one input.Unmeasured (value.Size x) w a b = absurd a
+one_local_lem one input.Unmeasured (value.Place x) w a b = absurd a
+one_local_lem one (input.Size i) (value.Size x) (value.Size y) a b = ap value.Size (one.sizes i x y a.0 a.1 b.1)
+one_local_lem one (input.Size i) (value.Size x) (value.Measure y) a b = absurd b
+one_local_lem one (input.Size i) (value.Size x) (value.Place y) a b = absurd b
+one_local_lem one (input.Size i) (value.Measure x) w a b = absurd a
+one_local_lem one (input.Size i) (value.Place x) w a b = absurd a
+one_local_lem one (input.Place i at) (value.Place x) (value.Place y) a b =
+    ap value.Place (same_placed at x y (one.placement i x.placement y.placement a.0 a.1 b.1) a.2 b.2)
+one_local_lem one (input.Place i at) (value.Place x) (value.Measure y) a b = absurd b
+one_local_lem one (input.Place i at) (value.Place x) (value.Size y) a b = absurd b
+one_local_lem one (input.Place i at) (value.Measure x) w a b = absurd a
+one_local_lem one (input.Place i at) (value.Size x) w a b = absurd a
+one_local_lem one (input.PlaceTable i at) (value.Place x) (value.Place y) a b =
     ap value.Place (same_placed at x y (one.table_placement i x.placement y.placement a.0 b.0) a.1 b.1)
-one_local_lem one (input.PlaceTable i at) (value.Place x) (value.Measure y) has a b = absurd b
-one_local_lem one (input.PlaceTable i at) (value.Place x) (value.Size y) has a b = absurd b
-one_local_lem one (input.PlaceTable i at) (value.Measure x) w has a b = absurd a
-one_local_lem one (input.PlaceTable i at) (value.Size x) w has a b = absurd a
-
--- the boxes that tasks are given
-pub measured_boxes : (b : Bool) (i : MeasureInput) → HasContextBoxes (measure_as b i)
-measured_boxes true i = tt
-measured_boxes false i = tt
-
-pub placed_boxes : (flow : PlaceInput) (at : StandInput) (table : Option TableInput) → AreContextBoxes flow.boxes → HasContextBoxes (place_as flow table at)
-placed_boxes flow at None are = are
-placed_boxes flow at (Some table) are = tt
+one_local_lem one (input.PlaceTable i at) (value.Place x) (value.Measure y) a b = absurd b
+one_local_lem one (input.PlaceTable i at) (value.Place x) (value.Size y) a b = absurd b
+one_local_lem one (input.PlaceTable i at) (value.Measure x) w a b = absurd a
+one_local_lem one (input.PlaceTable i at) (value.Size x) w a b = absurd a

@@ -66,5 +66,5 @@ same_placed at p q e a b =
 module _ (flow : PlaceInput) (at : StandInput) (of : TableSizesValue → TableInput) (same : (t : TableSizesValue) → (of t).boxes ≡ flow.boxes) where
   -- each box has its standing
   pub stands : (o : Option TableSizesValue) (p : PlacedContext) → IsLocal (place_as flow (option_map of o) at) (value.Place p) → length p.placement.standings ≡ length flow.boxes
-  stands None p local = flow_stands flow p.placement local.0
+  stands None p local = flow_stands flow p.placement local.1
   stands (Some t) p local = rw (← same t) (table_stands (of t) p.placement local.0)

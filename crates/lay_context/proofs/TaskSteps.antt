@@ -26,7 +26,7 @@ use Rattle.lay_context.specs.Settling.{AreOfBoxes, IsReady, AreDone, BeforeTurn,
 use Rattle.lay_context.specs.Solves.{IsAssembled, SolvesContexts}
 use Rattle.lay_context.proofs.PlaceFacts.{measured_not_placed, measured_not_sized, not_measured, not_sized, stands}
 use Rattle.lay_context.proofs.SizedFacts.{sizes_are_of_boxes}
-use Rattle.lay_context.proofs.TaskInputs.{inputs_come_of_needs_lem}
+use Rattle.lay_context.proofs.TaskInputs.{input_again}
 use Rattle.lay_context.proofs.TaskOrder.{measured, needs_come_first_lem, placed, sized, turn_within}
 
 widths_other : (xs : List PreferredWidths) (i j : ℕ) (x : PreferredWidths) → i ≢ j → widths_in (slice_set xs i x) j ≡ widths_in xs j
@@ -97,7 +97,7 @@ module _ (medium : Medium) (contexts : List FormattingContext) (w : Workings) wh
 
 module _ (medium : Medium) (contexts : List FormattingContext) (levels : List ℕ) (are : AreFormattingContexts contexts) (has : HasLevels contexts levels) (below : GridsAreOfBoxes) where
   sized_done : (w : Workings) (j : ℕ) → j < length contexts → IsTaskDone medium contexts w (record { context = j; phase = Size }) → AreOfBoxes (boxes_in contexts j) (sizes_in w.sizes j)
-  sized_done w j lt done = sizes_are_of_boxes below (size_input medium contexts w j) (sizes_in w.sizes j) (are.boxes j lt) done
+  sized_done w j lt done = sizes_are_of_boxes below (size_input medium contexts w j) (sizes_in w.sizes j) (are.boxes j lt) done.1
 
   -- needed sizes are of their boxes
   pub ready : (w : Workings) (task : Task) → task.context < length contexts → AreDone medium contexts w (BeforeTurn levels (turn_of levels task)) → IsReady contexts w task
@@ -134,7 +134,7 @@ module _ (medium : Medium) (contexts : List FormattingContext) (levels : List �
 
     -- and what a task is given that has its turn by then
     input_stays : (s : Task) → s.context < length contexts → turn_of levels s ≤ turn_of levels task → input_of medium contexts after s ≡ input_of medium contexts w s
-    input_stays s there le = inputs_come_of_needs_lem medium contexts after w s are there (λ needed needs.
+    input_stays s there le = input_again medium contexts after w s are there (λ needed needs.
         (let had = needs_come_first_lem contexts levels s needed are has there needs in value_stays needed (omega (arith, had.earlier, le))))
 
   -- the turn of a task, which is the only one that has it

@@ -1,3 +1,6 @@
+pub mod AbsoluteOnPage
+pub mod Alike
+pub mod AllMeasured
 pub mod DocumentLayout
 pub mod Laws
 pub mod Local

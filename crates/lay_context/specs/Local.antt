@@ -3,6 +3,7 @@
 -- alone.
 use Rattle.std.specs.Prelude.{ℕ, ◌≡◌, Bool, true, false, List, length, slice_set, Option, None, Some, option_map}
 use Rattle.lay_measure.specs.MeasureInValue.{no_widths}
+use Rattle.lay_context_boxes.specs.ContextBoxes.{AreContextBoxes}
 use Rattle.lay_table_sizes.specs.TableSizesValue.{TableSizesValue}
 use Rattle.lay_formatting.specs.FormattingContexts.{FormattingContext, boxes_in}
 use Rattle.lay_flow_boxes.specs.PlaceInputs.{PlaceInput}
@@ -28,12 +29,14 @@ use Rattle.lay_context.specs.PlacedContexts.{placed_in}
 use Rattle.lay_context.specs.Settings.{own_place_of, setting_of, sizes_in}
 use Rattle.lay_context.specs.Workings.{Workings}
 
--- a value is right beside what its task is given
+-- A value is right beside what its task is given. What is sized and what is placed in block flow are the boxes of a formatting context,
+-- the own box before what is in it.
 abbrev pub IsLocal : Input → Value → Type 0
 IsLocal (input.Measure i) (value.Measure widths) = HasWidths i widths
 IsLocal input.Unmeasured (value.Measure widths) = widths ≡ no_widths
-IsLocal (input.Size i) (value.Size sizes) = HasSizes i sizes
-IsLocal (input.Place i at) (value.Place answer) = IsPlacement i answer.placement × IsOwnOffset at answer.placement.own answer.offset
+IsLocal (input.Size i) (value.Size sizes) = AreContextBoxes i.boxes × HasSizes i sizes
+IsLocal (input.Place i at) (value.Place answer) =
+    AreContextBoxes i.boxes × IsPlacement i answer.placement × IsOwnOffset at answer.placement.own answer.offset
 IsLocal (input.PlaceTable i at) (value.Place answer) = IsTablePlacement i answer.placement × IsOwnOffset at answer.placement.own answer.offset
 IsLocal _ _ = ⊥
 

@@ -16,6 +16,7 @@ shrinks_within (suc many) contexts zero = shrinks_to_fit (boxes_in contexts 0)
 shrinks_within (suc many) contexts (suc i) =
     shrinks_to_fit (boxes_in contexts (suc i)) || shrinks_within many contexts (formatting_context_at contexts (suc i)).outer
 
--- whether it is measured; as each stands behind the one around it, at most i are around the one with the number i
+-- Whether it is measured, the value of `ShrinksOutward` by the law `measured_where_shrunk`: as each stands behind the one around it, at
+-- most i are around the one with the number i.
 abbrev pub is_measured : List FormattingContext → ℕ → Bool
 is_measured contexts i = shrinks_within i contexts i

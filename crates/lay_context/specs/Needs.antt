@@ -1,8 +1,9 @@
--- The work of a layout, a task for each formatting context and phase, and which task needs the value of which: the only place that says
--- what depends on what. Preferred widths go from inner contexts to the one around them, and depend on nothing else (CSS 2.2,
--- 10.3.5). Sizes go from the context around to the one inside it (10.1), and placements from inner contexts to the one around
--- them (10.6.7). An absolutely positioned one needs, for its sizes and for its place, what is on the way out to its containing block
--- (10.1); and as it is out of flow, nothing around it needs what it answers (9.6).
+-- The work of a layout, a task for each formatting context and phase, and which task needs the value of which. Preferred widths go from
+-- inner contexts to the one around them (CSS 2.2, 10.3.5). Sizes go from the context around to the one inside it (10.1), and
+-- placements from inner contexts to the one around them (10.6.7). An absolutely positioned one needs, for its sizes and for its place,
+-- what is on the way out to its containing block (10.1); and as it is out of flow, nothing around it needs what it answers (9.6).
+-- This says on which values a task depends. What it is given of the formatting contexts themselves, as of the boxes around it, is said
+-- by `Alike`.
 use Rattle.std.specs.Prelude.{ℕ, ◌≡◌, ◌+◌, ◌-◌, ◌*◌, ◌<◌, ◌⊎◌, true, false, List, length, slice_index}
 use Rattle.lay_context.specs.declared.task.Phase.{Phase}
 use Rattle.lay_context.specs.declared.task.Phase.TheVariants.{Measure, Size, Place}

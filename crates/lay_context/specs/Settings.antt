@@ -38,7 +38,8 @@ abbrev pub setting_in_table : List BoxSizes → TableSizesValue → Option CellS
 setting_in_table sizes table (Some cell) = Cell (content_block (sizes_at sizes table.grid.table)) cell
 setting_in_table sizes table None = Block (caption_block (sizes_at sizes 0))
 
--- the setting of the box at k among boxes of these sizes
+-- The setting of the box at k among boxes of these sizes. Its containing block is that of the nearest block container, by the law
+-- `containers_are_nearest`.
 abbrev pub setting_as : List BoxNode → List BoxSizes → Option TableSizesValue → ℕ → Setting
 setting_as boxes sizes None k = Block (block_around boxes sizes k)
 setting_as boxes sizes (Some table) k = setting_in_table sizes table (cell_at table k)
@@ -72,6 +73,8 @@ laid w i = record {
   offset = (placed_in w.places i).offset;
 }
 
+-- The setting of the own box of the formatting context with this number. Of an absolutely positioned one it is the only one that
+-- `IsSetting` knows, by the law `settings_are_values`.
 abbrev pub setting_of : ContainingBlock → List FormattingContext → Workings → ℕ → Setting
 setting_of viewport contexts w i =
     if is_absolute contexts i then Absolute (absolute_setting viewport contexts (laid w) i)

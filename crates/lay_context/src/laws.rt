@@ -1,9 +1,9 @@
 //! The laws of the definitions: a task has one value and needs what the table says, so that a document has one
 //! layout.
 
-ghost use Rattle.lay_context.specs.Laws.{InputsComeOfNeeds, MeasuredGoesInward, MeasuredWhereShrunk, NeedsComeFirst, OneLocal, OneSolution};
+ghost use Rattle.lay_context.specs.Laws.{AbsoluteBoxesStandInContainingBlocks, InputsComeOfNeeds, MeasuredGoesInward, MeasuredWhereShrunk, MeasuringAllChangesNoTree, NeedsComeFirst, OneLocal, OnePageCorners, OneSolution};
 
-use lay_context_sizes::{one_context_sizes, one_context_widths};
+use lay_context_sizes::{one_context_sizes, one_context_widths, widths_count_where_shrunk};
 use lay_formatting::{formatting_contexts_stand_in_order, one_formatting_context_list};
 use lay_placement::one_placement;
 use lay_table::one_table_placement;
@@ -33,9 +33,31 @@ pub fn measured_goes_inward()
     ensures { MeasuredGoesInward }
 {}
 
+/// To work out the preferred widths of each formatting context, also where they don't count, changes no tree.
+pub fn measuring_all_changes_no_tree()
+    ensures { MeasuringAllChangesNoTree }
+{
+    one_context_widths();
+    one_context_sizes();
+    one_placement();
+    one_table_placement();
+    widths_count_where_shrunk();
+    formatting_contexts_stand_in_order();
+}
+
 /// What a task needs has its turn before it.
 pub fn needs_come_first()
     ensures { NeedsComeFirst }
+{}
+
+/// Formatting contexts that are placed stand on the page in one way.
+pub fn one_page_corners()
+    ensures { OnePageCorners }
+{}
+
+/// An absolutely positioned formatting context stands in its containing block on the page (CSS 2.2, 10.1 and 10.3.7).
+pub fn absolute_boxes_stand_in_containing_blocks()
+    ensures { AbsoluteBoxesStandInContainingBlocks }
 {}
 
 /// Two trees that solve one document are equal.

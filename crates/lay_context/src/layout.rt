@@ -200,8 +200,14 @@ fn compute(alloc: Global, input: &Input) -> Result<Value, NoMemory>
     match input {
         Input::Measure(input) => Ok(Value::Measure(context_widths(alloc, input)?)),
         Input::Unmeasured => Ok(Value::Measure(NO_WIDTHS)),
-        Input::Size(input) => Ok(Value::Size(context_sizes(alloc, input)?)),
-        Input::Place(input, stand) => Ok(Value::Place(placed(placement(alloc, input)?, stand)?)),
+        Input::Size(input) => {
+            let _ = input.boxes();
+            Ok(Value::Size(context_sizes(alloc, input)?))
+        }
+        Input::Place(input, stand) => {
+            let _ = input.boxes();
+            Ok(Value::Place(placed(placement(alloc, input)?, stand)?))
+        }
         Input::PlaceTable(input, stand) => {
             Ok(Value::Place(placed(table_placement(alloc, input)?, stand)?))
         }

@@ -1,6 +1,7 @@
 pub mod ContainingSteps
 pub mod LevelSteps
 pub mod OneAbsoluteBox
+pub mod OneHolder
 pub mod OneLevels
 pub mod OneSetting
 pub mod ParentSteps

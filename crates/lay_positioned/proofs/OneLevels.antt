@@ -5,7 +5,7 @@ use Rattle.std.proofs.lemmas.Bool.{cases_lt}
 use Rattle.lay_doc.proofs.OneStyles.{same_list}
 use Rattle.lay_formatting.specs.FormattingContexts.{AreFormattingContexts, FormattingContext, formatting_context_at}
 use Rattle.lay_positioned.specs.Absolute.{is_absolute, is_fixed}
-use Rattle.lay_positioned.specs.Laws.{OneLevels, WaysLeadDown, WaysLeadOut}
+use Rattle.lay_positioned.specs.Laws.{OneLevelCount, OneLevels, WaysLeadDown, WaysLeadOut}
 use Rattle.lay_positioned.specs.Levels.{HasLevels, one_if}
 use Rattle.lay_positioned.specs.Ways.{IsOnWay, IsOnWayFrom, further, here}
 use Rattle.lay_positioned.proofs.LevelSteps.{level_same}
@@ -65,3 +65,9 @@ ways_lead_out_lem contexts i j are within on = leads_out contexts are i j within
 
 pub ways_lead_down_lem : WaysLeadDown
 ways_lead_down_lem contexts levels i j are has within absolute on = leads_down contexts are levels i j has within absolute on
+
+pub one_level_count_lem : OneLevelCount
+one_level_count_lem levels x y a b =
+    let low = a.least y b.some b.above in
+    let high = b.least x a.some a.above in
+    omega (arith, low, high)

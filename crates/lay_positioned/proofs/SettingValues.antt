@@ -15,8 +15,8 @@ use Rattle.lay_positioned.specs.Holders.{IsHolderFor, IsNearestHolder, further, 
 use Rattle.lay_positioned.specs.Laws.{SettingsAreValues}
 use Rattle.lay_positioned.specs.Layouts.{Layout, step}
 use Rattle.lay_positioned.specs.Settings.{IsSetting, absolute_setting}
-use Rattle.lay_positioned.specs.Ways.{IsOnWay}
-use Rattle.lay_positioned.proofs.OneSetting.{settings_come_of_ways_lem}
+use Rattle.lay_positioned.specs.Ways.{AreAlikeAt, IsOnWay}
+use Rattle.lay_positioned.proofs.OneSetting.{alike, settings_come_of_ways_lem}
 use Rattle.lay_positioned.proofs.ParentSteps.{parent_before}
 
 module _ (boxes : List BoxNode) (tree : IsTree (box_parents boxes)) where
@@ -86,11 +86,11 @@ settings_are_values_lem viewport contexts laid (suc i) are within =
 pub setting_value : (viewport : ContainingBlock) (contexts : List FormattingContext) (laid : ℕ → Layout) (i : ℕ) (s : AbsoluteSetting) → AreFormattingContexts contexts
     → i < length contexts → IsSetting viewport contexts laid i s → s ≡ absolute_setting viewport contexts laid i
 setting_value viewport contexts laid i s are within is =
-    settings_come_of_ways_lem viewport contexts laid laid i s (absolute_setting viewport contexts laid i) (λ j on. refl) is (settings_are_values_lem viewport contexts laid i are within)
+    settings_come_of_ways_lem viewport contexts contexts laid laid i s (absolute_setting viewport contexts laid i) (alike contexts i) (λ j on. (alike contexts j, refl)) is (settings_are_values_lem viewport contexts laid i are within)
 
--- and it is the same wherever those on the way answer the same
-pub same_setting : (viewport : ContainingBlock) (contexts : List FormattingContext) (v w : ℕ → Layout) (i : ℕ) → AreFormattingContexts contexts → i < length contexts
-    → ((j : ℕ) → IsOnWay contexts i j → v j ≡ w j) → absolute_setting viewport contexts v i ≡ absolute_setting viewport contexts w i
-same_setting viewport contexts v w i are within same =
-    settings_come_of_ways_lem viewport contexts v w i (absolute_setting viewport contexts v i) (absolute_setting viewport contexts w i) same
-    (settings_are_values_lem viewport contexts v i are within) (settings_are_values_lem viewport contexts w i are within)
+-- and it is the same wherever those on the way are alike and answer the same
+pub same_setting : (viewport : ContainingBlock) (a b : List FormattingContext) (v w : ℕ → Layout) (i : ℕ) → AreFormattingContexts a → AreFormattingContexts b → i < length a → i < length b
+    → AreAlikeAt a b i → ((j : ℕ) → IsOnWay a i j → AreAlikeAt a b j × (v j ≡ w j)) → absolute_setting viewport a v i ≡ absolute_setting viewport b w i
+same_setting viewport a b v w i are_a are_b within_a within_b own same =
+    settings_come_of_ways_lem viewport a b v w i (absolute_setting viewport a v i) (absolute_setting viewport b w i) own same
+    (settings_are_values_lem viewport a v i are_a within_a) (settings_are_values_lem viewport b w i are_b within_b)

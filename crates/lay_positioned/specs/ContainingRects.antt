@@ -41,7 +41,8 @@ abbrev pub found_or : List BoxNode → Layout → Option ℕ → Rect → Rect
 found_or boxes layout (Some holder) outside = padding_box boxes layout holder
 found_or boxes layout None outside = outside
 
--- It is found in so many turns: there are no more formatting contexts around one than stand before it.
+-- The value of `IsContainingRect`, by the law `settings_are_values`: it is found in so many turns, as there are no more formatting
+-- contexts around one than stand before it.
 abbrev pub containing_in : (turns : ℕ) → ContainingBlock → (is_fixed : Bool) → List FormattingContext → (ℕ → Layout) → (i k : ℕ) → Rect
 containing_in zero viewport is_fixed contexts laid i k =
     found_or (boxes_in contexts i) (laid i) (holder_for is_fixed (boxes_in contexts i) k) (seen_from (laid 0).offset (viewport_rect viewport))

@@ -38,12 +38,14 @@ abbrev pub IsHolderFor : (is_fixed : Bool) → List BoxNode → ℕ → Option �
 IsHolderFor true boxes k holder = holder ≡ None
 IsHolderFor false boxes k holder = IsNearestHolder boxes k holder
 
--- It is found outward in so many turns: there are no more boxes around one than stand before it.
+-- The value of `IsNearestHolder`, found outward in so many turns: there are no more boxes around one than stand before it. That it is
+-- this is a part of the law `settings_are_values`.
 abbrev pub nearest_in : (turns : ℕ) → List BoxNode → ℕ → Option ℕ
 nearest_in zero boxes k = None
 nearest_in (suc turns) boxes k =
     if is_holder_at boxes (box_parent boxes k) then Some (box_parent boxes k) else nearest_in turns boxes (box_parent boxes k)
 
+-- and the value of `IsHolderFor`
 abbrev pub holder_for : (is_fixed : Bool) → List BoxNode → ℕ → Option ℕ
 holder_for true boxes k = None
 holder_for false boxes k = nearest_in k boxes k

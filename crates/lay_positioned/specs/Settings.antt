@@ -36,7 +36,7 @@ abbrev pub IsSetting : ContainingBlock → List FormattingContext → (ℕ → L
 IsSetting viewport contexts laid zero s = s ≡ root_setting viewport
 IsSetting viewport contexts laid (suc i) s = IsInnerSetting viewport contexts laid (suc i) s
 
--- that setting as a value
+-- the value of `IsSetting`, by the laws `settings_are_values` and `settings_come_of_ways`
 abbrev pub absolute_setting : ContainingBlock → List FormattingContext → (ℕ → Layout) → ℕ → AbsoluteSetting
 absolute_setting viewport contexts laid zero = root_setting viewport
 absolute_setting viewport contexts laid (suc i) =

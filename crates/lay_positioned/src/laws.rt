@@ -1,10 +1,30 @@
 //! The laws of the definitions. The functions do nothing.
 
-ghost use Rattle.lay_positioned.specs.Laws.{OneAbsoluteSizes, OneLevels, OneOffset, OneStretchedHeight, OneTableLeft, SettingsAreValues, SettingsComeOfWays, WaysLeadDown, WaysLeadOut};
+ghost use Rattle.lay_positioned.specs.Laws.{OneAbsoluteSizes, OneContainingRect, OneHolder, OneLevelCount, OneLevels, OneNearestHolder, OneOffset, OneStretchedHeight, OneTableLeft, SettingsAreValues, SettingsComeOfWays, WaysLeadDown, WaysLeadOut};
 
 /// Formatting contexts have one column of levels.
 pub fn one_levels()
     ensures { OneLevels }
+{}
+
+/// And these have one count.
+pub fn one_level_count()
+    ensures { OneLevelCount }
+{}
+
+/// Around a box one is the nearest that can be a containing block, or none is.
+pub fn one_nearest_holder()
+    ensures { OneNearestHolder }
+{}
+
+/// An absolutely positioned formatting context has one holder, or none.
+pub fn one_holder()
+    ensures { OneHolder }
+{}
+
+/// And one containing block.
+pub fn one_containing_rect()
+    ensures { OneContainingRect }
 {}
 
 /// What is on the way to a containing block has a lower level than what is positioned by that.

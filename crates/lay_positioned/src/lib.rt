@@ -22,10 +22,7 @@ mod sizes;
 mod tables;
 
 pub use absolute::{is_absolute, is_fixed};
-pub use laws::{
-    one_absolute_sizes, one_levels, one_offset, one_stretched_height, one_table_left,
-    settings_are_values, settings_come_of_ways, ways_lead_down, ways_lead_out,
-};
+pub use laws::{one_absolute_sizes, one_containing_rect, one_holder, one_level_count, one_levels, one_nearest_holder, one_offset, one_stretched_height, one_table_left, settings_are_values, settings_come_of_ways, ways_lead_down, ways_lead_out};
 pub use layouts::Layouts;
 pub use level_column::{level_count, levels};
 pub use offsets::own_offset;
