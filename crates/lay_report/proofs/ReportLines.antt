@@ -4,7 +4,6 @@ use Rattle.std.specs.List.{filter, flat_map}
 use Rattle.std.specs.Fmt.{decimal, signed_decimal}
 use Rattle.std.proofs.lemmas.List.Concat.{flat_map-append}
 use Rattle.std.proofs.lemmas.List.Elements.{filter-append}
-use Rattle.lay_doc.specs.declared.edit.EditFault.{EditFault}
 use Rattle.lay_commands.specs.declared.command.Reply.{Reply}
 use Rattle.lay_commands.specs.declared.command.Reply.TheVariants.{Accepted, Refused, Shown, NoMemory}
 use Rattle.lay_commands.specs.declared.history.Entry.{Entry}
@@ -12,11 +11,11 @@ use Rattle.lay_commands.specs.declared.history.Entry.TheVariants.{Edit, Publish,
 use Rattle.lay_frag.specs.declared.frag.Frag.{Frag}
 use Rattle.lay_frag.specs.declared.frag.FragKind.{FragKind}
 use Rattle.lay_frag.specs.declared.frag.FragKind.TheVariants.{Box, Line, Text}
-use Rattle.lay_frag.specs.Lines.{context_text, frag_line, kind_word, tree_text}
+use Rattle.lay_frag.specs.Lines.{context_text, frag_line, kind_word}
 use Rattle.lay_frag.specs.Pieces.{Context, page_pieces}
 use Rattle.lay_history.specs.Histories.{accepted, shown_version}
 use Rattle.lay_history.specs.Trees.{PublishedTreeValue, tree_at}
-use Rattle.lay_report.specs.Report.{command_line, entry_line, entry_text, fault_number, final_line, final_text, history_text, laid_line, reply_text, run_report, shown_lines, tree_lines}
+use Rattle.lay_report.specs.Report.{entry_line, entry_text, fault_number, final_line, final_text, laid_line, reply_text, run_report, shown_lines, tree_lines}
 use Rattle.lay_report.proofs.Joined.{AllLack, Lacks, all_lack_append, all_lack_parts, decimal_lacks, ended, joined, joined_parts, lacks_append, signed_lacks}
 
 -- without the linefeeds

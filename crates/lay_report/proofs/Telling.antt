@@ -1,5 +1,5 @@
 -- What equal reports tell of their histories.
-use Rattle.std.proofs.Common.{◌≡◌, ℕ, suc, ◌^◌, ◌<◌, ◌≤◌, ◌==◌, false, List, [], ◌∷◌, ◌++◌, length, map, drop, codes, refl, sym, ap, ◌∙◌, subst, arith, append_assoc, Option, Some, None, All, slice_index_or, if◌then◌else◌}
+use Rattle.std.proofs.Common.{◌≡◌, ℕ, suc, ◌^◌, ◌<◌, ◌≤◌, ◌==◌, false, List, [], ◌∷◌, ◌++◌, length, map, drop, codes, refl, sym, ap, ◌∙◌, arith, append_assoc, Option, Some, All, slice_index_or, if◌then◌else◌}
 use Rattle.std.specs.List.{filter}
 use Rattle.std.specs.Str.Parse.{AllDigits}
 use Rattle.std.specs.Fmt.{decimal}
@@ -14,9 +14,9 @@ use Rattle.lay_commands.specs.declared.history.Entry.{Entry}
 use Rattle.lay_commands.specs.declared.history.Entry.TheVariants.{Edit, Publish, Latest, Sync}
 use Rattle.lay_history.specs.Histories.{accepted}
 use Rattle.lay_history.specs.Laws.{OneHistory, ShowSame, ShowsSame}
-use Rattle.lay_history.proofs.Lists.{not_none, some_is}
+use Rattle.lay_history.proofs.Lists.{some_is}
 use Rattle.lay_report.specs.Laws.{IsEntryWithin, IsReplyWithin, ReportsShowEntries, ReportsTellHistories}
-use Rattle.lay_report.specs.Report.{fault_number, reply_text, run_report}
+use Rattle.lay_report.specs.Report.{fault_number, reply_text}
 use Rattle.lay_report.proofs.Joined.{decimal_lacks, same_front, same_lines}
 use Rattle.lay_report.proofs.ReportLines.{command_body, entry_body, final_body, is_other, laid_body, report_all_lack, report_bodies, report_filtered, report_joined}
 
