@@ -8,7 +8,7 @@ use Rattle.lay_space.specs.Breaks.{broken, settled, entries_of}
 use Rattle.lay_space.specs.BreakPlaces.{is_cluster_or_atomic, wrapped_atomic_is_next, may_break_behind, must_break_behind, break_behind, with_breaks}
 use Rattle.lay_space.specs.Laws.{content_of}
 use Rattle.lay_space.proofs.KeptContent.{content_broken}
-use Rattle.lay_space.proofs.BreakPlaces.{marks, lines_break_where_they_may_lem}
+use Rattle.lay_space.proofs.BreakPlaces.{marks, behinds, lines_break_where_they_may_lem}
 use Rattle.lay_space.proofs.AnchorBreaks.{TextsEnd, not_open}
 use Rattle.lay_space.proofs.AnchorTokens.{shut}
 
@@ -199,6 +199,9 @@ full_with_one false x xs solid e rest = rest solid
 full_with : (xs : List Token) (solid : Bool) → Full solid (with_breaks xs)
 full_with [] solid = tt
 full_with (x ∷ xs) solid = full_with_one (is_cluster_or_atomic x) x xs solid refl (full_with xs)
+
+pub broken_full : (xs : List Token) → Full false (broken false xs)
+broken_full xs = full_marks (broken false xs) false (subst (Full false) (sym (behinds xs).empty) (full_with xs false))
 
 pub entries_full : (xs : List Token) → Full false (entries_of xs)
 entries_full xs = full_marks (entries_of xs) false (subst (Full false) (sym (lines_break_where_they_may_lem xs)) (full_with xs false))

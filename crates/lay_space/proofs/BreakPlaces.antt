@@ -145,7 +145,7 @@ atomic_empty n NoWrap xs rest = ap (λ a. Content (Atomic n NoWrap) ∷ a) (goes
 atomic_empty n PreWrap xs rest = ap (λ a. Content (Atomic n PreWrap) ∷ a) (may_end xs rest)
 atomic_empty n PreLine xs rest = ap (λ a. Content (Atomic n PreLine) ∷ a) (may_end xs rest)
 
-behinds : (xs : List Token) → Behind xs
+pub behinds : (xs : List Token) → Behind xs
 behinds [] = record { solid = refl; empty = refl }
 behinds (Cluster c ∷ xs) =
     let rest = ap (λ a. Content (Cluster c) ∷ a) (behind_cluster c.kind (wraps c.mode) xs (behinds xs)) in

@@ -7,7 +7,7 @@ use Rattle.lay_space.specs.declared.tokens.Token.TheVariants.{Cluster, TextEnd, 
 use Rattle.lay_space.specs.declared.breaks.Entry.{Entry}
 use Rattle.lay_space.specs.declared.breaks.Entry.TheVariants.{Content, Break}
 use Rattle.lay_space.specs.Breaks.{broken, front_break, back_break, break_after, breaks_before, solid_after, is_solid, settled, goes_back, waits, is_start, flushed, entries_of}
-use Rattle.lay_space.specs.Laws.{content_of, is_out_of_flow, BreaksKeepContent}
+use Rattle.lay_space.specs.Laws.{content_of, is_out_of_flow, floats_pass, BreaksKeepContent}
 
 content_append : (a b : List Entry) → content_of (a ++ b) ≡ content_of a ++ content_of b
 content_append [] b = refl
@@ -159,8 +159,34 @@ out_grows (End n) f started held is stays can = λ e. none_more is_out_of_flow h
 out_grows (Float n) f started held is stays can = λ e. absurd (clash f (on f stays) e)
 out_grows (Anchor n) f started held is stays can = λ e. absurd (clash f (on f stays) e)
 
+abbrev pub is_met : Token → Bool
+is_met x = not (floats_pass x)
+
+-- behind a break that isn't forced waits nothing that a float doesn't pass
+abbrev pub WaitsMet : Bool → Bool → List Entry → Type 0
+WaitsMet f started held = f ≡ false → passing is_met held ≡ []
+
+met_stays : Stays is_met WaitsMet
+met_stays (Cluster c) f started held is back passes = absurd cc
+met_stays TextEnd f started held is back passes = absurd cc
+met_stays (Atomic n m) f started held is back passes = absurd cc
+met_stays (Start n takes) f started held is back passes = absurd cc
+met_stays (End n) f started held is back passes = absurd cc
+met_stays (Float n) f started held is back passes = is (off f back)
+met_stays (Anchor n) f started held is back passes = is (off f back)
+
+met_grows : Grows WaitsMet
+met_grows (Cluster c) f started held is stays can = absurd cc
+met_grows TextEnd f started held is stays can = λ e. none_more is_met held TextEnd refl (is e)
+met_grows (Atomic n m) f started held is stays can = absurd cc
+met_grows (Start n takes) f started held is stays can = λ e. none_more is_met held (Start n takes) (ap not can) (is e)
+met_grows (End n) f started held is stays can = λ e. none_more is_met held (End n) refl (is e)
+met_grows (Float n) f started held is stays can = λ e. absurd (clash f (on f stays) e)
+met_grows (Anchor n) f started held is stays can = λ e. absurd (clash f (on f stays) e)
+
 pub breaks_keep_content_lem : BreaksKeepContent
 breaks_keep_content_lem xs = record {
   flow = keeps_all in_flow WaitsInFlow flow_stays flow_grows (λ f e. refl) xs;
   out_of_flow = keeps_all is_out_of_flow WaitsOut out_stays out_grows (λ f e. refl) xs;
+  met = keeps_all is_met WaitsMet met_stays met_grows (λ f e. refl) xs;
 }

@@ -3,6 +3,7 @@ pub mod AnchorCuts
 pub mod AnchorEntries
 pub mod AnchorTokens
 pub mod BreakPlaces
+pub mod BreakSides
 pub mod CleanTexts
 pub mod Collapsed
 pub mod KeptContent

@@ -35,10 +35,21 @@ is_out_of_flow (End n) = false
 is_out_of_flow (Float n) = true
 is_out_of_flow (Anchor n) = true
 
--- what is in flow keeps its order, and what isn't keeps its own
+-- what a float or an anchor may stand before though it comes behind it
+abbrev pub floats_pass : Token → Bool
+floats_pass (Cluster c) = false
+floats_pass TextEnd = true
+floats_pass (Atomic n m) = false
+floats_pass (Start n takes) = not takes
+floats_pass (End n) = true
+floats_pass (Float n) = false
+floats_pass (Anchor n) = false
+
+-- what is in flow keeps its order, and so do floats and anchors, and these with what they don't pass
 pub record KeepsContent (xs ys : List Token) : Type 0 where
   pub flow : filter (λ x. not (is_out_of_flow x)) ys ≡ filter (λ x. not (is_out_of_flow x)) xs
   pub out_of_flow : filter is_out_of_flow ys ≡ filter is_out_of_flow xs
+  pub met : filter (λ x. not (floats_pass x)) ys ≡ filter (λ x. not (floats_pass x)) xs
 
 abbrev pub BreaksKeepContent : Type 0
 BreaksKeepContent = (xs : List Token) → KeepsContent xs (content_of (entries_of xs))

@@ -1,5 +1,6 @@
 pub mod AnchorLaws
 pub mod BreakPlaces
+pub mod BreakSides
 pub mod Breaks
 pub mod CleanTexts
 pub mod ItemLists

@@ -1,6 +1,7 @@
 //! Laws of the definitions. The functions do nothing.
 
 ghost use Rattle.lay_space.specs.AnchorLaws.{AnchorsMoveNoBreak};
+ghost use Rattle.lay_space.specs.BreakSides.{BreaksStandBetween};
 ghost use Rattle.lay_space.specs.Laws.{BreaksKeepContent, LinesBreakWhereTheyMay, NoSpaceAfterSpace};
 ghost use Rattle.lay_space.specs.SegmentLaws.{SegmentsKeepClusters, TokensHoldClusters};
 ghost use Rattle.lay_space.specs.WhiteSpaceLaws.{ContentCollapses, OnlyWhiteSpaceGoes};
@@ -21,7 +22,8 @@ pub fn only_white_space_goes()
     ensures { OnlyWhiteSpaceGoes }
 {}
 
-/// Content with its breaks is the same content in the same order.
+/// Content with its breaks is the same content in the same order, but that floats and anchors may stand before ends, and
+/// before starts of inline boxes that take no room.
 pub fn breaks_keep_content()
     ensures { BreaksKeepContent }
 {}
@@ -35,6 +37,12 @@ pub fn lines_break_where_they_may()
 /// Lines break where they break without anchors, and hold the same but for these (9.6).
 pub fn anchors_move_no_break()
     ensures { AnchorsMoveNoBreak }
+{}
+
+/// No end of an inline box or of a text stands right behind a break, and no float or anchor behind one that isn't forced
+/// without content between.
+pub fn breaks_stand_between()
+    ensures { BreaksStandBetween }
 {}
 
 /// Segments have each cluster of the content with its bytes and its width, but for collapsible spaces that surely begin a line.
