@@ -1,5 +1,5 @@
 -- Lines break where 16.6 lets them.
-use Rattle.std.proofs.Common.{◌≡◌, ℕ, ◌++◌, Bool, true, false, cond, if◌then◌else◌, ◌&&◌, ◌||◌, not, List, [], ◌∷◌, Option, Some, None, refl, sym, ap, ◌∙◌, append_assoc, append-nil}
+use Rattle.std.proofs.Common.{◌≡◌, ℕ, ◌++◌, Bool, true, false, cond, if◌then◌else◌, ◌&&◌, ◌||◌, not, List, [], ◌∷◌, Option, Some, None, refl, sym, ap, ◌∙◌, append-nil}
 use Rattle.std.specs.List.{filter}
 use Rattle.std.proofs.lemmas.List.Elements.{filter-append}
 use Rattle.lay_space.specs.declared.tokens.ClusterKind.{ClusterKind}
@@ -11,7 +11,7 @@ use Rattle.lay_space.specs.declared.breaks.Entry.TheVariants.{Content, Break}
 use Rattle.lay_space.specs.declared.item.Mode.{Mode}
 use Rattle.lay_space.specs.declared.item.Mode.TheVariants.{Normal, Pre, NoWrap, PreWrap, PreLine}
 use Rattle.lay_space.specs.Modes.{wraps}
-use Rattle.lay_space.specs.Breaks.{broken, front_break, back_break, break_after, break_after_cluster, leads_to_atomic, solid_after, space_follows, settled, goes_back, waits, is_start, flushed, entries_of}
+use Rattle.lay_space.specs.Breaks.{broken, front_break, back_break, break_after_cluster, leads_to_atomic, solid_after, space_follows, settled, goes_back, waits, is_start, flushed}
 use Rattle.lay_space.specs.BreakPlaces.{is_cluster_or_atomic, wrapped_atomic_is_next, is_opportunity, is_linefeed, with_breaks, is_break_or_solid}
 use Rattle.lay_space.specs.Laws.{LinesBreakWhereTheyMay}
 

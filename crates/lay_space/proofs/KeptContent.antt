@@ -77,7 +77,7 @@ content_one true (Some f) x es = refl
 content_one false None x es = refl
 content_one false (Some f) x es = refl
 
-content_broken : (solid : Bool) (xs : List Token) → content_of (broken solid xs) ≡ xs
+pub content_broken : (solid : Bool) (xs : List Token) → content_of (broken solid xs) ≡ xs
 content_broken solid [] = refl
 content_broken solid (x ∷ xs) =
     let after = solid_after (break_after x xs) ((solid && not (breaks_before x xs)) || is_solid x) in

@@ -1,5 +1,13 @@
+pub mod AnchorBreaks
+pub mod AnchorCuts
+pub mod AnchorEntries
+pub mod AnchorTokens
 pub mod BreakPlaces
 pub mod CleanTexts
 pub mod Collapsed
 pub mod KeptContent
+pub mod ProcessedContent
 pub mod Rows
+pub mod SegmentClusters
+pub mod SegmentItems
+pub mod Words

@@ -1,9 +1,12 @@
+pub mod AnchorLaws
 pub mod BreakPlaces
 pub mod Breaks
 pub mod CleanTexts
 pub mod ItemLists
 pub mod Laws
 pub mod Modes
+pub mod SegmentLaws
 pub mod Segments
 pub mod Tokens
 pub mod WhiteSpace
+pub mod WhiteSpaceLaws

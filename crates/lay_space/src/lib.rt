@@ -3,9 +3,11 @@
 //!
 //! Contracts cite `processed` of `specs/WhiteSpace.antt` and `segments_of` of `specs/Segments.antt`,
 //! which stands on `specs/Tokens.antt` (clusters and what they are to a line) and `specs/Breaks.antt`
-//! (where lines may break). Laws (`specs/Laws.antt`): no space follows another where spaces collapse;
-//! breaks are put into the content without a change to it, and stand between the clusters and atomic boxes
-//! where 16.6 lets them (`specs/BreakPlaces.antt`).
+//! (where lines may break). Laws: only white space goes, and where it collapses no space follows another, also
+//! across texts (`specs/WhiteSpaceLaws.antt`, `specs/Laws.antt`); breaks are put into the content without a
+//! change to it, and stand between the clusters and atomic boxes where 16.6 lets them
+//! (`specs/BreakPlaces.antt`); anchors move none (`specs/AnchorLaws.antt`); segments have the clusters of the
+//! content with their bytes and widths (`specs/SegmentLaws.antt`).
 #![tactic(auto)]
 
 mod breaks;
@@ -20,7 +22,10 @@ mod white_space;
 
 pub use cutting::is_boundary;
 pub use item::{Item, ItemList, Mode};
-pub use laws::{breaks_keep_content, lines_break_where_they_may, no_space_after_space};
+pub use laws::{
+    anchors_move_no_break, breaks_keep_content, content_collapses, lines_break_where_they_may,
+    no_space_after_space, only_white_space_goes, segments_keep_clusters, tokens_hold_clusters,
+};
 pub use segment::{Segment, SegmentList};
 pub use settling::segments;
 pub use tokens::{ClusterKind, cluster_kind, next_place};
