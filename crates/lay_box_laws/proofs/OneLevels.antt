@@ -279,18 +279,27 @@ wrapped_one : (f : Facts) (cs : List Tree) → EachOf HoldsOneLevel cs → (is_i
 wrapped_one f cs h inline = by (is_block_container f.form) (list_any is_block_box cs) refl refl
   where
     by : (a b : Bool) → is_block_container f.form ≡ a → list_any is_block_box cs ≡ b → EachBox HoldsOneLevel (tree f (trees_of (if a && b then gathered is_no_block (block_round f) cs else cs)))
-    by true true p q = (record {
-      container = λ c some. any_is is_in_line (gathered is_no_block (block_round f) cs) ∙ from_out f cs [];
-      inline = λ e. absurd (let never : true ≡ false = sym p ∙ no_container f.form e in cc);
-    }, each_in HoldsOneLevel (gathered is_no_block (block_round f) cs) (from_one f cs [] tt refl h))
-    by true false p q = (record {
-      container = λ c some. absurd (let never : true ≡ false = sym some ∙ (any_is is_block cs ∙ q) in cc);
-      inline = λ e. any_is is_block cs ∙ inline e;
-    }, each_in HoldsOneLevel cs h)
-    by false b p q = (record {
-      container = λ c some. absurd (let never : true ≡ false = sym c ∙ p in cc);
-      inline = λ e. any_is is_block cs ∙ inline e;
-    }, each_in HoldsOneLevel cs h)
+    by true true p q = (
+      record {
+        container = λ c some. any_is is_in_line (gathered is_no_block (block_round f) cs) ∙ from_out f cs [];
+        inline = λ e. absurd (let never : true ≡ false = sym p ∙ no_container f.form e in cc);
+      },
+      each_in HoldsOneLevel (gathered is_no_block (block_round f) cs) (from_one f cs [] tt refl h),
+    )
+    by true false p q = (
+      record {
+        container = λ c some. absurd (let never : true ≡ false = sym some ∙ (any_is is_block cs ∙ q) in cc);
+        inline = λ e. any_is is_block cs ∙ inline e;
+      },
+      each_in HoldsOneLevel cs h,
+    )
+    by false b p q = (
+      record {
+        container = λ c some. absurd (let never : true ≡ false = sym c ∙ p in cc);
+        inline = λ e. any_is is_block cs ∙ inline e;
+      },
+      each_in HoldsOneLevel cs h,
+    )
 
 mutual
   one_wrapped : (t : Tree) → EachBox HoldsNoBlock t → EachOf HoldsOneLevel (remade (in_box run_wrapped) t)
@@ -312,10 +321,13 @@ whole_one (Some t) = generated_one (own_tree t)
 
 put_by : (f : Facts) (us : Trees) → HoldsOneLevel f us → EachIn HoldsOneLevel (all_put nothing us) → (b : Bool) → EachBox HoldsOneLevel (tree f (if b then no_trees else all_put nothing us))
 put_by f us h g true = (record { container = λ c some. refl; inline = λ e. refl }, tt)
-put_by f us h g false = (record {
-  container = λ c some. any_put is_in_line us ∙ h.container c (sym (any_put is_block us) ∙ some);
-  inline = λ e. any_put is_block us ∙ h.inline e;
-}, g)
+put_by f us h g false = (
+  record {
+    container = λ c some. any_put is_in_line us ∙ h.container c (sym (any_put is_block us) ∙ some);
+    inline = λ e. any_put is_block us ∙ h.inline e;
+  },
+  g,
+)
 
 mutual
   one_put : (t : Tree) → EachBox HoldsOneLevel t → EachBox HoldsOneLevel (put nothing t)

@@ -223,6 +223,6 @@ widths_agree_lem m c are others one lt block =
     both_ways (holds_lines (children m c (c + 1) (drop (c + 1) boxes))) (holds inline_level boxes c (length boxes))
     (λ h. child_held boxes are c (block_counts boxes c lt block) (found_in m are c (c + 1) (drop (c + 1) boxes) refl (omega arith) h))
     (λ h. (let k = some_held boxes are c (length boxes) (omega arith) h in
-      let child = outermost boxes are c others (one c h) (k.place + 1) k.place (omega arith) k.is k.level in
-      said_of m are c child.place (c + 1) (drop (c + 1) boxes) refl (omega arith) child.least child.there child.parent child.level))
+    let child = outermost boxes are c others (one c h) (k.place + 1) k.place (omega arith) k.is k.level in
+    said_of m are c child.place (c + 1) (drop (c + 1) boxes) refl (omega arith) child.least child.there child.parent child.level))
     ∙ sym flow

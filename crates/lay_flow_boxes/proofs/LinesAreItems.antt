@@ -194,8 +194,8 @@ module _ (boxes : List BoxNode) (c : ℕ) (are : AreContextBoxes boxes) where
       let lt = within boxes i b bs e in
       all_by (b.parent == p) (items_at boxes i b (items_below boxes i (i + 1) bs)) (items_below boxes p (i + 1) bs)
       (λ same. (let is : IsIn boxes c i = record { behind = positive; within = lt; container = leads i positive lt (parent_is boxes i b bs e ∙ eqb-true b.parent p same) } in
-        all_as (role_of b) i b (items_below boxes i (i + 1) bs) is
-        (λ inline. all_below i (i + 1) bs next (omega arith) (deeper i is (inline_counts boxes i b bs positive e inline)))))
+      all_as (role_of b) i b (items_below boxes i (i + 1) bs) is
+      (λ inline. all_below i (i + 1) bs next (omega arith) (deeper i is (inline_counts boxes i b bs positive e inline)))))
       (all_below p (i + 1) bs next (omega arith) leads)
 
   from_own : counts boxes c ≡ true → Leads c

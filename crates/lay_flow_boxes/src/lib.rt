@@ -3,7 +3,8 @@
 //!
 //! `flow_shape` answers by `IsFlowShape` of `specs/FlowShapes.antt`. It stands on `specs/InlineContainers.antt` (which boxes
 //! hold lines alone) and `specs/ContextBlocks.antt` (blocks, lines, solid boxes and floats). There is one such shape
-//! (`specs/Laws.antt`).
+//! (`specs/Laws.antt`). `specs/LineItems.antt` says that the boxes in lines are the items of these, each once, and
+//! `specs/OneLevel.antt` that preferred widths agree with the flow on which boxes hold lines.
 #![tactic(auto)]
 
 mod asked_contents;

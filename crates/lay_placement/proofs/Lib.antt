@@ -1,3 +1,4 @@
+pub mod AnchorContents
 mod AnchorKinds
 pub mod AnchorRows
 pub mod AnchorSegments

@@ -1,3 +1,4 @@
+pub mod AnchorLaws
 pub mod AnchorLines
 pub mod AtomicCorners
 pub mod Baselines

@@ -1,5 +1,6 @@
 //! The laws of the definitions.
 
+ghost use Rattle.lay_placement.specs.AnchorLaws.{AnchorsAddNothingToLines};
 ghost use Rattle.lay_placement.specs.Laws.{AnchorsAreOnLines, FirstBoxGivesBaseline, FirstSeenLineGivesBaseline, LastSeenLineGivesBaseline, OffsetsChangeCornersAlone, OnePlacement, UnseenLinesGiveNone};
 
 /// The placement of a formatting context is the only one beside what it is given.
@@ -28,4 +29,9 @@ pub fn offsets_change_corners_alone()
 /// An anchor in a box that holds lines is on one of them.
 pub fn anchors_are_on_lines()
     ensures { AnchorsAreOnLines }
+{}
+
+/// The content of lines is the same without the anchors among it.
+pub fn anchors_add_nothing_to_lines()
+    ensures { AnchorsAddNothingToLines }
 {}

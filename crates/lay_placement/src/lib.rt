@@ -7,7 +7,7 @@
 //! `specs/AtomicCorners.antt` for atomic boxes on lines and `specs/StaticPositions.antt` for anchors),
 //! `specs/ContextPieces.antt` what is painted, and `specs/Baselines.antt` on what line the own box stands. Where there is but
 //! one box, no column is made (`specs/OneBox.antt`). A formatting context has one placement, of which offsets change corners
-//! alone, and an anchor in lines is on one of them (`specs/Laws.antt`).
+//! alone, and an anchor in lines is on one of them (`specs/Laws.antt`) and adds nothing to them (`specs/AnchorLaws.antt`).
 #![tactic(auto)]
 
 mod anchor_lines;
@@ -24,7 +24,7 @@ mod placing;
 mod standings;
 
 pub use laws::{
-    anchors_are_on_lines, first_baseline_is_first, last_seen_line_gives_baseline,
-    offsets_change_corners_alone, one_placement,
+    anchors_add_nothing_to_lines, anchors_are_on_lines, first_baseline_is_first,
+    last_seen_line_gives_baseline, offsets_change_corners_alone, one_placement,
 };
 pub use placing::placement;
