@@ -154,8 +154,8 @@ module _ (medium : Medium) (a b : List FormattingContext) (v w : Workings) (are_
       ≡ (if x then Absolute (absolute_setting medium.viewport b (laid w) i) else flow_setting medium.viewport b w.sizes i)
   setting_by true is alike same =
       ap Absolute (absolute_same alike.own (λ j on. alike.way j (record { absolute = is; way = on }))
-          (λ j on. size_value (sizes_in v.sizes j) (sizes_in w.sizes j) (same Size j (inr (record { absolute = is; way = on }))))
-          (λ j on. place_value (placed_in v.places j) (placed_in w.places j) (same Place j (record { absolute = is; way = on }))))
+      (λ j on. size_value (sizes_in v.sizes j) (sizes_in w.sizes j) (same Size j (inr (record { absolute = is; way = on }))))
+      (λ j on. place_value (placed_in v.places j) (placed_in w.places j) (same Place j (record { absolute = is; way = on }))))
   setting_by false is alike same =
       let outer : ℕ = (formatting_context_at a i).outer in
       flow_same medium.viewport a b v.sizes w.sizes i alike.own
@@ -167,8 +167,8 @@ module _ (medium : Medium) (a b : List FormattingContext) (v w : Workings) (are_
       ≡ (if x then own_place.Absolute (absolute_setting medium.viewport b (laid w) i) else flow_place medium.viewport i)
   position_by true is alike same =
       ap own_place.Absolute (absolute_same (alike.own is) (λ j on. alike.way j (record { absolute = is; way = on }))
-          (λ j on. size_value (sizes_in v.sizes j) (sizes_in w.sizes j) (same Size j (inr (record { absolute = is; way = on }))))
-          (λ j on. place_value (placed_in v.places j) (placed_in w.places j) (same Place j (inr (record { absolute = is; way = on })))))
+      (λ j on. size_value (sizes_in v.sizes j) (sizes_in w.sizes j) (same Size j (inr (record { absolute = is; way = on }))))
+      (λ j on. place_value (placed_in v.places j) (placed_in w.places j) (same Place j (inr (record { absolute = is; way = on })))))
   position_by false is alike same = refl
 
   measure_same : AreAlikeToMeasure a b i → AreSame Measure → input_of medium a v (record { context = i; phase = Measure }) ≡ input_of medium b w (record { context = i; phase = Measure })

@@ -26,5 +26,6 @@ measured_input medium contexts w task = by task.phase
 pub record SolvesMeasured (medium : Medium) (contexts : List FormattingContext) (tree : List PageContext) : Type 0 where
   pub workings : Workings
   pub counts : HasCounts contexts workings
-  pub done : (task : Task) → task.context < length contexts → IsLocal (measured_input medium contexts workings task) (value_of workings task)
+  pub done : (task : Task) → task.context < length contexts
+      → IsLocal (measured_input medium contexts workings task) (value_of workings task)
   pub assembled : IsAssembled contexts workings tree

@@ -1,5 +1,5 @@
--- A task has one value beside what it is given, and is given something by the tasks alone that it needs, of which each has its
--- turn before it. So a document has one layout.
+-- A task has one value beside what it is given, and no values give it anything but those of the tasks that it needs, of which each has
+-- its turn before it. So a document has one layout, and in that an absolutely positioned box stands in its containing block.
 use Rattle.std.specs.Prelude.{ℕ, ◌≡◌, ◌<◌, ◌↔◌, true, List, length}
 use Rattle.lay_doc.specs.Document.{Document, IsDocument}
 use Rattle.lay_frag.specs.Pieces.{Context as PageContext}
@@ -64,7 +64,8 @@ abbrev pub OnePageCorners : Type 0
 OnePageCorners = (contexts : List FormattingContext) (places : List PlacedContext) (x y : List Corner) → AreFormattingContexts contexts
     → HasPageCorners contexts places x → HasPageCorners contexts places y → x ≡ y
 
--- where the values of formatting contexts meet their equations, each absolutely positioned one stands in its containing block on the page
+-- where the values of formatting contexts meet their equations, each absolutely positioned one stands in its containing block on the
+-- page
 abbrev pub AbsoluteBoxesStandInContainingBlocks : Type 0
 AbsoluteBoxesStandInContainingBlocks = (medium : Medium) (p : PageLayout) (i : ℕ) → AreFormattingContexts p.contexts → IsSolved medium p
     → i < length p.contexts → is_absolute p.contexts i ≡ true → StandsInContainingBlock medium.viewport p i

@@ -18,7 +18,7 @@ pub fn one_local()
     one_table_placement();
 }
 
-/// A task is given nothing but what the tasks that it needs give it.
+/// Where the values that a task needs are equal, it is given the same, also among other formatting contexts that are alike for it.
 pub fn inputs_come_of_needs()
     ensures { InputsComeOfNeeds }
 {}

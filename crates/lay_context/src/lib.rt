@@ -30,7 +30,8 @@ mod task;
 mod value;
 
 pub use laws::{
-    absolute_boxes_stand_in_containing_blocks, inputs_come_of_needs, measured_goes_inward, measured_where_shrunk, measuring_all_changes_no_tree, needs_come_first, one_local,
+    absolute_boxes_stand_in_containing_blocks, inputs_come_of_needs, measured_goes_inward,
+    measured_where_shrunk, measuring_all_changes_no_tree, needs_come_first, one_local,
     one_page_corners, one_solution,
 };
 pub use layout::scratch;
