@@ -77,6 +77,7 @@ pub(crate) fn generate<K: Sink>(
     requires kept { kept.old ≡ None }
     ensures ends { Ends (λ kept text. OfKept kept (λ s. IsSummary size seed s text)) (λ line. ⊥) result
         (record { taken = K.taken sink.old; faults = K.faults sink.old }) (record { taken = K.taken sink.new; faults = K.faults sink.new }) kept.new }
+    ensures never_refused { result ≢ Status.Refused }
     ensures never_usage { result ≢ Status.Usage }
     ensures never_read_fault { result ≢ Status.ReadFault }
 {
