@@ -49,7 +49,8 @@ impl<'a> Cells<'a> {
     }
 }
 
-fn number<T: FromStr<Err = ParseIntError>>(word: &str) -> Result<T> {
+/// The number that a word is.
+pub(crate) fn number<T: FromStr<Err = ParseIntError>>(word: &str) -> Result<T> {
     match word.parse::<T>() {
         Ok(number) => Ok(number),
         Err(_) => bail!("no number: {word}"),

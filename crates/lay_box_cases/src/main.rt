@@ -7,14 +7,17 @@
 //! TEXT and ANSWER are.
 #![tactic(auto)]
 
+mod borders;
 mod boxes;
 mod cells;
 mod documents;
 mod floats;
 mod formatting;
+mod grids;
 mod heights;
 mod margins;
 mod parts;
+mod trees;
 mod widths;
 
 use anyhow::{Context, Result, bail};
@@ -103,6 +106,12 @@ fn answer(alloc: Global, call: &str, text: &str) -> Result<String> {
         "collapsed-margins" => margins::collapsed(alloc, text),
         "margin-runs" => margins::runs_of(alloc, text),
         "floats" => floats::answers(alloc, text),
+        "slots" => grids::slots_of(alloc, text),
+        "columns-fixed" => grids::columns(alloc, text),
+        "rows" => grids::heights(alloc, text),
+        "winner" => borders::winning(alloc, text),
+        "resolve" => borders::resolved(alloc, text),
+        "tree-lines" => trees::lines(alloc, text),
         _ => bail!("no call is named {call}"),
     }
 }

@@ -2,7 +2,7 @@
 use Rattle.std.proofs.Common.{◌≡◌, ℕ, zero, suc, ◌+◌, ◌≤◌, max, List, [], ◌∷◌, ◌++◌, slice_get, Some, ap, append-nil, append_assoc, arith}
 use Rattle.lay_grid.specs.declared.cells.Area.{Area}
 use Rattle.lay_grid.specs.declared.cells.Cell.{Cell}
-use Rattle.lay_grid.specs.Places.{areas_of, right_edge, StandsLeft, StandAfter}
+use Rattle.lay_grid.specs.Places.{areas_of, right_edge, HasRoom, StandsLeft, StandAfter}
 use Rattle.lay_grid.specs.Slots.{columns_of}
 use Rattle.lay_grid.specs.Within.{columns_spanned, ColumnsAreWithin}
 use Rattle.lay_grid.proofs.Places.{some_same}
@@ -13,13 +13,16 @@ member_below (x ∷ cells) zero cell at = let e = ap right_edge (some_same x cel
 member_below (x ∷ cells) (suc i) cell at = let h = member_below cells i cell at in omega (arith, h)
 
 -- right of all earlier cells there is room
-left_below : (earlier : List Cell) (area : Area) (left : ℕ) → StandsLeft earlier area left → left ≤ columns_of earlier
-left_below earlier area left s = s.least (columns_of earlier) (record {
+pub room_behind_all : (earlier : List Cell) (area : Area) → HasRoom earlier area (columns_of earlier)
+room_behind_all earlier area = record {
   right_of_its_row = λ i cell at same. member_below earlier i cell at;
   all_free = λ r c covers i cell at other.
       let f = covers.first_column in let g = other.last_column in let h = member_below earlier i cell at in
       absurd (omega (arith, f, g, h));
-})
+}
+
+left_below : (earlier : List Cell) (area : Area) (left : ℕ) → StandsLeft earlier area left → left ≤ columns_of earlier
+left_below earlier area left s = s.least (columns_of earlier) (room_behind_all earlier area)
 
 columns_push : (cells : List Cell) (cell : Cell) → columns_of (cells ++ cell ∷ []) ≡ max (columns_of cells) (right_edge cell)
 columns_push [] cell = omega (arith)

@@ -13,5 +13,6 @@ pub mod LeastRooms
 pub mod HeightSteps
 pub mod Exists
 pub mod ColumnsWithin
+pub mod CellsStand
 pub mod HeightsWithin
 pub mod WidthsWithin

@@ -3,23 +3,22 @@ use Rattle.std.proofs.Common.{◌≡◌, ℤ, Option, None, List, [], ◌∷◌,
 use Rattle.std.proofs.lemmas.Int.{ints}
 use Rattle.std.proofs.lemmas.List.{ext_get_or}
 use Rattle.lay_units.specs.declared.length.Unit.{Unit}
-use Rattle.lay_grid.specs.declared.columns.ColumnsIn.{ColumnsIn}
 use Rattle.lay_grid.specs.declared.heights.RowsIn.{RowsIn}
 use Rattle.lay_grid.specs.Shares.{AreShared}
-use Rattle.lay_grid.specs.Columns.{AreOwn, width_of_columns}
+use Rattle.lay_grid.specs.Columns.{width_of_columns}
 use Rattle.lay_grid.specs.Heights.{IsLowest, AreLowest}
-use Rattle.lay_grid.specs.Laws.{OneColumns, OneHeights}
+use Rattle.lay_grid.specs.Laws.{OneColumns, OneHeights, OneListOfOwnWidths}
 use Rattle.lay_grid.proofs.OneSharing.{one_sharing_lem}
 
-own_same : (c : ColumnsIn) (xs ys : List (Option Unit)) → AreOwn c xs → AreOwn c ys → xs ≡ ys
-own_same c xs ys p q =
+pub one_list_of_own_widths_lem : OneListOfOwnWidths
+one_list_of_own_widths_lem c xs ys p q =
     let a = p.as_many in
     ext_get_or None xs ys (p.as_many ∙ sym q.as_many) (λ i lt. p.own i (omega (arith, a, lt)) ∙ sym (q.own i (omega (arith, a, lt))))
 
 pub one_columns_lem : OneColumns
 one_columns_lem c v w p q =
     one_sharing_lem q.owns (width_of_columns c) v w (subst (λ (xs : List (Option Unit)). AreShared xs (width_of_columns c) v)
-    (own_same c p.owns q.owns p.own q.own) p.shared) q.shared
+    (one_list_of_own_widths_lem c p.owns q.owns p.own q.own) p.shared) q.shared
 
 height_same : (r : RowsIn) (above : List Unit) (x y : Unit) → IsLowest r above x.0 → IsLowest r above y.0 → x ≡ y
 height_same r above x y p q =

@@ -3,7 +3,8 @@
 //!
 //! Contracts cite `IsGrid` of `specs/Slots.antt`, `AreColumns` of `specs/Columns.antt`, `AreHeights`
 //! of `specs/Heights.antt` and `AreRowBaselines` of `specs/RowBaselines.antt`. They are relations,
-//! and have one value each (`specs/Laws.antt`).
+//! and have one value each. Rows have a grid and heights, and columns have widths, whatever is
+//! asked of them (`specs/Laws.antt`).
 #![tactic(auto)]
 
 mod baselines;
@@ -27,8 +28,9 @@ pub use given_widths::own_widths;
 pub use grid::slots;
 pub use heights::{RowCell, RowsIn, rows};
 pub use laws::{
-    columns_are_within, heights_are_within, one_columns, one_grid, one_heights, one_row_baselines,
-    widths_are_within,
+    columns_are_within, columns_have_widths, heights_are_within, one_columns, one_grid,
+    one_heights, one_list_of_cells, one_list_of_own_widths, one_row_baselines, one_sharing,
+    rows_have_a_grid, rows_have_heights, widths_are_within,
 };
 pub use lists::{FirstCells, RowCells, SlotList, SpanList, WidthOptions};
 pub use placing::standing_cells;

@@ -21,26 +21,32 @@ use Rattle.lay_sizes.specs.SizeColumns.{sizes_at}
 use Rattle.lay_table_parts.specs.TableBoxes.{kind_at}
 use Rattle.lay_table_sizes.specs.TableSizesValue.{cell_at}
 use Rattle.lay_table_sizes.specs.declared.cell_size.CellSize.{CellSize}
+use Rattle.lay_table_rows.specs.RowNeeds.{table_sizes}
 use Rattle.lay_table_rows.specs.TableInputs.{TableInput}
 use Rattle.lay_table_rows.specs.Tracks.{Tracks, extent_of}
 use Rattle.lay_table.specs.declared.pieces.Extent.{Extent}
-use Rattle.lay_table.specs.declared.pieces.Extent.TheVariants.{Own, Columns, Nothing}
+use Rattle.lay_table.specs.declared.pieces.Extent.TheVariants.{Own, Rows, Nothing}
 use Rattle.lay_table.specs.TableStandings.{TablePlaces, standing_of}
 
--- how wide the piece of a box is: as the box is sized, or as all columns of the table are; if it has a piece here
+-- how wide the piece of a box is: as the box is sized, or as the rows of the table are; if it has a piece here
 abbrev pub extent_by_kind : BoxKind → Extent
 extent_by_kind kind.Wrapper = Own
 extent_by_kind kind.InlineWrapper = Own
 extent_by_kind kind.Table = Own
-extent_by_kind kind.RowGroup = Columns
-extent_by_kind kind.HeaderGroup = Columns
-extent_by_kind kind.FooterGroup = Columns
-extent_by_kind kind.Row = Columns
+extent_by_kind kind.RowGroup = Rows
+extent_by_kind kind.HeaderGroup = Rows
+extent_by_kind kind.FooterGroup = Rows
+extent_by_kind kind.Row = Rows
 extent_by_kind _ = Nothing
 
--- from the left edge of the first column to the right edge of the last
-abbrev pub columns_width : Tracks → Length
-columns_width columns = record { 0 = extent_of columns 0 (length columns.lengths) }
+-- How wide rows and row groups are: from the left edge of the first column to the right edge of the last, and in a table without
+-- columns as wide as the content of the table box, at whose left edge they begin.
+abbrev pub rows_width : TableInput → Tracks → Length
+rows_width i columns = over columns.lengths
+  where
+    over : List Length → Length
+    over [] = (table_sizes i).widths.width
+    over (width ∷ widths) = record { 0 = extent_of columns 0 (length columns.lengths) }
 
 -- the border box of the box at k, which stands so and is so wide
 abbrev pub piece_of : List BoxNode → Standing → ℕ → Length → Frag
@@ -53,7 +59,7 @@ piece_of boxes standing k width = record {
 
 abbrev pub pieces_by : TableInput → TablePlaces → ℕ → Extent → List Frag
 pieces_by i p k Own = piece_of i.boxes (standing_of i p k) k (record { 0 = border_width (sizes_at i.sizes k) }) ∷ []
-pieces_by i p k Columns = piece_of i.boxes (standing_of i p k) k (columns_width p.columns) ∷ []
+pieces_by i p k Rows = piece_of i.boxes (standing_of i p k) k (rows_width i p.columns) ∷ []
 pieces_by i p k Nothing = []
 
 -- How wide the border box at k of an inner formatting context is: a cell's as its columns are, also where these are narrower than

@@ -1,7 +1,8 @@
 -- Where the boxes of a table stand (CSS 2.2, 17.4, 17.5 and 17.6.1), counted from the corner of the border box of its wrapper. The
 -- captions and the table box stand where the wrapper's flow puts them. Rows and row groups reach from the left edge of the first
--- column to the right edge of the last, and a cell over the columns and rows that it spans. A row group without rows has no
--- height, and stands where the next row would begin. Columns and column groups hold nothing, and stand nowhere.
+-- column to the right edge of the last, or where there are none, over the content of the table box; and a cell over the columns
+-- and rows that it spans. A row group without rows has no height, and stands where the next row would begin. Columns and column
+-- groups hold nothing, and stand nowhere.
 --
 -- Relative positioning moves none of them. 9.4.3: "The effect of 'position:relative' on table-row-group, table-header-group,
 -- table-footer-group, table-row, table-column-group, table-column, table-cell, and table-caption elements is undefined."

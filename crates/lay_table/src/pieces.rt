@@ -11,7 +11,7 @@ ghost use Rattle.lay_sizes.specs.BoxSizes.{border_width};
 ghost use Rattle.lay_sizes.specs.SizeColumns.{sizes_at};
 ghost use Rattle.lay_table_parts.specs.TableBoxes.{kind_at};
 ghost use Rattle.lay_table.specs.PlaceBounds.{AreStandings};
-ghost use Rattle.lay_table.specs.TablePieces.{columns_width, extent_by_kind, inner_width, piece_of, pieces_by, pieces_of_box, pieces_to};
+ghost use Rattle.lay_table.specs.TablePieces.{extent_by_kind, inner_width, piece_of, pieces_by, pieces_of_box, pieces_to, rows_width};
 ghost use Rattle.lay_table.specs.TableStandings.{standing_of};
 
 use crate::places::TablePlaces;
@@ -20,7 +20,7 @@ use lay_doc::NodeId;
 use lay_frag::{Frag, FragKind};
 use lay_pieces::{PieceList, Standing};
 use lay_sizes::border_width;
-use lay_table_rows::{TableInput, own_box_at, sizes_at};
+use lay_table_rows::{TableInput, own_box_at, sizes_at, table_sizes};
 use lay_units::{NoMemory, Rect, Unit};
 use std::alloc::Global;
 
@@ -29,8 +29,8 @@ use std::alloc::Global;
 pub enum Extent {
     /// As the box is sized.
     Own,
-    /// As all columns are.
-    Columns,
+    /// As rows are.
+    Rows,
     /// It has no piece here.
     Nothing,
 }
@@ -42,7 +42,7 @@ fn extent_by_kind(kind: &BoxKind) -> Extent
     match kind {
         BoxKind::Wrapper | BoxKind::InlineWrapper | BoxKind::Table => Extent::Own,
         BoxKind::RowGroup | BoxKind::HeaderGroup | BoxKind::FooterGroup | BoxKind::Row => {
-            Extent::Columns
+            Extent::Rows
         }
         _ => Extent::Nothing,
     }
@@ -86,8 +86,8 @@ fn push_box(
     }
     match extent_of(input, k) {
         Extent::Own => pieces.push(piece_of(input, standing, k, own_width(input, k))),
-        Extent::Columns => {
-            let width = columns_width(places)?;
+        Extent::Rows => {
+            let width = rows_width(input, places)?;
             pieces.push(piece_of(input, standing, k, width))
         }
         Extent::Nothing => Ok(()),
@@ -147,10 +147,13 @@ fn own_width(input: &TableInput, k: usize) -> Unit
     border_width(&sizes_at(input.sizes(), k))
 }
 
-/// How far all columns reach.
-fn columns_width(places: &TablePlaces) -> Result<Unit, NoMemory>
-    ensures { IfOk result (λ u. u ≡ columns_width places.now.columns) }
+/// How wide rows and row groups are: as far as the columns reach, or without any as the content of the table box.
+fn rows_width(input: &TableInput, places: &TablePlaces) -> Result<Unit, NoMemory>
+    ensures { IfOk result (λ u. u ≡ rows_width input.now places.now.columns) }
 {
+    if places.columns.len() == 0 {
+        return Ok(table_sizes(input).widths.width);
+    }
     places.columns.extent(0, places.columns.len())
 }
 

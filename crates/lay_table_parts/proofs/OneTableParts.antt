@@ -2,10 +2,11 @@
 use Rattle.std.proofs.Common.{◌≡◌, ℕ, List, [], ◌∷◌, refl, sym, ap, ◌∙◌, subst}
 use Rattle.lay_box_tree.specs.declared.box_tree.BoxNode.{BoxNode}
 use Rattle.lay_grid.specs.declared.cells.Cell.{Cell}
+use Rattle.lay_grid.specs.Slots.{columns_of, slots_from}
 use Rattle.lay_grid.proofs.OneGrid.{cells_same}
 use Rattle.lay_table_parts.specs.declared.placed.PlacedCell.{PlacedCell}
 use Rattle.lay_table_parts.specs.declared.rows.TableRow.{TableRow}
-use Rattle.lay_table_parts.specs.Laws.{OneTableParts}
+use Rattle.lay_table_parts.specs.Laws.{GridsAreOfPlacedCells, OneTableParts}
 use Rattle.lay_table_parts.specs.PlacedCells.{ArePlaced, column_total, places_of_cells, stands_of}
 use Rattle.lay_table_parts.specs.TableParts.{TableParts}
 
@@ -31,6 +32,11 @@ placed_same (x ∷ xs) (y ∷ ys) p s =
 pub placing_same : (boxes : List BoxNode) (rows : List TableRow) (xs ys : List PlacedCell) → ArePlaced boxes rows xs → ArePlaced boxes rows ys → xs ≡ ys
 placing_same boxes rows xs ys p q =
     placed_same xs ys (p.places ∙ sym q.places) (cells_same [] (stands_of xs) (stands_of ys) (p.areas ∙ sym q.areas) p.stand q.stand)
+
+pub grids_are_of_placed_cells_lem : GridsAreOfPlacedCells
+grids_are_of_placed_cells_lem boxes rows cells grid placed is =
+    let same = cells_same [] is.cells (stands_of cells) (is.areas ∙ sym placed.areas) is.places placed.stand in
+    record { slots = is.slots ∙ ap (λ (cs : List Cell). slots_from 0 cs) same; columns = is.columns ∙ ap columns_of same }
 
 abbrev parts_with : List BoxNode → ℕ → List TableRow → List PlacedCell → List ℕ → ℕ → TableParts
 parts_with boxes table rows cells column_boxes columns =

@@ -1,8 +1,13 @@
-//! The law of the definition. The function does nothing.
+//! Laws of the definitions. The functions do nothing.
 
-ghost use Rattle.lay_table_parts.specs.Laws.{OneTableParts};
+ghost use Rattle.lay_table_parts.specs.Laws.{GridsAreOfPlacedCells, OneTableParts};
 
 /// A list of boxes has one table, with one list of each of its parts.
 pub fn one_table_parts()
     ensures { OneTableParts }
+{}
+
+/// The grid of a table's rows has the table's cells where they stand.
+pub fn grids_are_of_placed_cells()
+    ensures { GridsAreOfPlacedCells }
 {}

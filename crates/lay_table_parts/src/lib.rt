@@ -16,7 +16,7 @@ mod places;
 mod rows;
 
 pub use kinds::{is_column_at, is_column_group_at, is_row_group_at};
-pub use laws::one_table_parts;
+pub use laws::{grids_are_of_placed_cells, one_table_parts};
 pub use parts::{Parts, table_parts};
 pub use placed::PlacedCell;
 pub use rows::{TableRow, footer_place, header_place};

@@ -1,0 +1,2 @@
+pub mod SmallGrids
+pub mod ShortTrees

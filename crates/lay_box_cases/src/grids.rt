@@ -1,0 +1,242 @@
+//! The slots of a table's grid, the widths of its columns and the heights of its rows. Lengths are from 0 to 65,535
+//! units, and there are at most 255 rows, columns, and cells of a row.
+
+ghost use Rattle.std.specs.Prelude.{◌+◌, ◌≡◌, ◌≤◌, length, All, IfOk};
+ghost use Rattle.lay_box_cases.specs.Small.{IsSmall, IsSmallCell, IsSmallNeed, IsSmallRow, IsSmallSpan, MayBeSmall};
+
+use crate::cells::{Cells, ample, number};
+use anyhow::{Result, bail};
+use lay_grid::{ColumnsIn, FirstCell, FirstCells, RowCell, RowCells, RowSpec, RowsIn, Span, SpanList, WidthOptions};
+use lay_grid::{columns_fixed, rows, slots};
+use lay_units::{Unit, UnitList};
+use std::alloc::Global;
+
+/// The number of columns of a grid, and its slots.
+pub(crate) fn slots_of(alloc: Global, text: &str) -> Result<String> {
+    let rows = row_specs(alloc, text)?;
+    let grid = ample(slots(alloc, &rows))?;
+    let mut out = String::new(alloc);
+    let columns = grid.columns;
+    write!(out, "{columns}")?;
+    for slot in grid.slots.as_slice() {
+        let cell = slot.cell;
+        let row = slot.row;
+        let column = slot.column;
+        write!(out, " {cell}@{row}.{column}")?;
+    }
+    Ok(out)
+}
+
+fn row_specs(alloc: Global, text: &str) -> Result<Vec<RowSpec>>
+    ensures few { IfOk result (λ v. length v.items ≤ 255) }
+    ensures small { IfOk result (λ v. All IsSmallRow v.items) }
+{
+    let mut rows = Vec::new(alloc);
+    for row in text.split(',') {
+        if rows.len() == 255 {
+            bail!("too many rows");
+        }
+        rows.push(row_spec(alloc, row)?)?;
+    }
+    Ok(rows)
+}
+
+/// A row: the number of its group, and its cells.
+fn row_spec(alloc: Global, text: &str) -> Result<RowSpec>
+    ensures { IfOk result IsSmallRow }
+{
+    let group = Cells::new(text).number()?;
+    let mut spans = Vec::new(alloc);
+    for word in text.split_whitespace().skip(1) {
+        if spans.len() == 255 {
+            bail!("too many cells");
+        }
+        spans.push(span(word)?)?;
+    }
+    Ok(RowSpec {
+        group,
+        cells: SpanList::new(spans),
+    })
+}
+
+/// How many columns and rows a cell spans.
+fn span(word: &str) -> Result<Span>
+    ensures { IfOk result IsSmallSpan }
+{
+    let Some((columns, rows)) = word.split_once('x') else {
+        bail!("no span: {word}");
+    };
+    let columns = number::<u8>(columns)?;
+    let rows = number::<u8>(rows)?;
+    Ok(Span {
+        columns: u32::from(columns),
+        rows: u32::from(rows.max(1)),
+    })
+}
+
+/// The widths of columns.
+pub(crate) fn columns(alloc: Global, text: &str) -> Result<String> {
+    let (table, given, first) = sections(text)?;
+    let (width, spacing) = two_lengths(table)?;
+    let given = lengths_or_none(alloc, given)?;
+    let first = first_cells(alloc, first, given.len())?;
+    let columns = ColumnsIn {
+        given: WidthOptions::new(given),
+        first: FirstCells::new(first),
+        width,
+        spacing,
+    };
+    out(alloc, &ample(columns_fixed(alloc, &columns))?)
+}
+
+/// The cells of the first row.
+fn first_cells(alloc: Global, text: &str, columns: usize) -> Result<Vec<FirstCell>>
+    ensures { IfOk result (λ v. All (IsSmallCell columns) v.items) }
+{
+    let mut cells = Vec::new(alloc);
+    for word in text.split_whitespace() {
+        let (place, span, width) = spanned(word, columns)?;
+        cells.push(FirstCell {
+            column: u32::from(place),
+            span: u32::from(span),
+            width: length_or_none(width)?,
+        })?;
+    }
+    Ok(cells)
+}
+
+/// The heights of rows.
+pub(crate) fn heights(alloc: Global, text: &str) -> Result<String> {
+    let (table, own, cells) = sections(text)?;
+    let (total, spacing) = two_lengths(table)?;
+    let own = lengths(alloc, own)?;
+    let cells = row_cells(alloc, cells, own.len())?;
+    let heights = RowsIn {
+        own: UnitList::new(own),
+        cells: RowCells::new(cells),
+        spacing,
+        total,
+    };
+    out(alloc, &ample(rows(alloc, &heights))?)
+}
+
+/// The cells of rows.
+fn row_cells(alloc: Global, text: &str, rows: usize) -> Result<Vec<RowCell>>
+    ensures { IfOk result (λ v. All (IsSmallNeed rows) v.items) }
+{
+    let mut cells = Vec::new(alloc);
+    for word in text.split_whitespace() {
+        let (place, span, needs) = spanned(word, rows)?;
+        let Some((height, baseline)) = needs.split_once('@') else {
+            bail!("no baseline: {word}");
+        };
+        cells.push(RowCell {
+            row: u32::from(place),
+            span: u32::from(span),
+            height: length(height)?,
+            baseline: length_or_none(baseline)?,
+        })?;
+    }
+    Ok(cells)
+}
+
+/// A cell's first row or column, how many it spans, and what else is said of it.
+fn spanned(word: &str, count: usize) -> Result<(u8, u8, &str)>
+    ensures some { IfOk result (λ t. 1 ≤ t.1) }
+    ensures inside { IfOk result (λ t. t.0 + t.1 ≤ count) }
+{
+    let Some((place, rest)) = word.split_once('+') else {
+        bail!("no place: {word}");
+    };
+    let Some((span, rest)) = rest.split_once('=') else {
+        bail!("no span: {word}");
+    };
+    let place = number::<u8>(place)?;
+    let span = number::<u8>(span)?;
+    if span == 0 || place as usize + span as usize > count {
+        bail!("a cell outside: {word}");
+    }
+    Ok((place, span, rest))
+}
+
+/// The three sections of a row of these tables.
+fn sections(text: &str) -> Result<(&str, &str, &str)> {
+    if let Some((first, rest)) = text.split_once(';') {
+        if let Some((second, third)) = rest.split_once(';') {
+            return Ok((first, second, third));
+        }
+    }
+    bail!("not three sections: {text}")
+}
+
+fn two_lengths(text: &str) -> Result<(Unit, Unit)>
+    ensures first { IfOk result (λ t. IsSmall t.0.0) }
+    ensures second { IfOk result (λ t. IsSmall t.1.0) }
+{
+    let mut cells = Cells::new(text);
+    let first = cells.number()?;
+    let second = cells.number()?;
+    cells.end()?;
+    Ok((units(first), units(second)))
+}
+
+fn lengths(alloc: Global, text: &str) -> Result<Vec<Unit>>
+    ensures few { IfOk result (λ v. length v.items ≤ 255) }
+    ensures small { IfOk result (λ v. All (λ (u : Unit). IsSmall u.0) v.items) }
+{
+    let mut lengths = Vec::new(alloc);
+    for word in text.split_whitespace() {
+        if lengths.len() == 255 {
+            bail!("too many lengths");
+        }
+        lengths.push(length(word)?)?;
+    }
+    Ok(lengths)
+}
+
+fn lengths_or_none(alloc: Global, text: &str) -> Result<Vec<Option<Unit>>>
+    ensures few { IfOk result (λ v. length v.items ≤ 255) }
+    ensures small { IfOk result (λ v. All MayBeSmall v.items) }
+{
+    let mut lengths = Vec::new(alloc);
+    for word in text.split_whitespace() {
+        if lengths.len() == 255 {
+            bail!("too many lengths");
+        }
+        lengths.push(length_or_none(word)?)?;
+    }
+    Ok(lengths)
+}
+
+fn length(word: &str) -> Result<Unit>
+    ensures { IfOk result (λ u. IsSmall u.0) }
+{
+    Ok(units(number(word)?))
+}
+
+fn length_or_none(word: &str) -> Result<Option<Unit>>
+    ensures { IfOk result MayBeSmall }
+{
+    if word == "auto" || word == "none" {
+        return Ok(None);
+    }
+    Ok(Some(length(word)?))
+}
+
+fn units(v: u16) -> Unit
+    ensures { IsSmall result.0 }
+{
+    Unit(i64::from(v))
+}
+
+fn out(alloc: Global, lengths: &UnitList) -> Result<String> {
+    let mut out = String::new(alloc);
+    for length in lengths.as_slice() {
+        if !out.is_empty() {
+            out.push(' ')?;
+        }
+        let units = length.0;
+        write!(out, "{units}")?;
+    }
+    Ok(out)
+}
