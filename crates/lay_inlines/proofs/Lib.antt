@@ -2,6 +2,7 @@ mod AtomicPieces
 mod Backward
 mod Content
 mod Looks
+mod NamedPieces
 mod OpenBoxSteps
 mod PartRaises
 mod PenPlaces

@@ -1,6 +1,7 @@
 -- What the definitions come to. The content of a line ends where it did when the line was filled. A collapsible space
 -- at the start or at the end of a line shows nothing, and moves nothing (CSS 2.2, 16.6.1). The pieces of a line that is seen
--- are of each of its atomic boxes once, in order. And each raise is the shift of that part of the line which has the
+-- are of each of its atomic boxes once, in order, of the inline boxes that are open at its start and then of those that
+-- start on it, and of each text of which a part stays on it, once. And each raise is the shift of that part of the line which has the
 -- place of the inline box or the atomic box among the line's parts (10.8.1).
 use Rattle.std.specs.Prelude.{ℕ, ◌≡◌, ◌<◌, List, [], ◌∷◌, ◌++◌, length, take, drop, map}
 use Rattle.lay_units.specs.declared.length.Unit.{Unit}
@@ -17,7 +18,9 @@ use Rattle.lay_lines.specs.Rows.{Position, Row, IsFilled, ended_of}
 use Rattle.lay_inlines.specs.declared.lines.Container.{Container}
 use Rattle.lay_inlines.specs.AtomicBoxes.{atomic_boxes, atomic_pieces}
 use Rattle.lay_inlines.specs.LinePieces.{content_end, line_pieces_of}
+use Rattle.lay_inlines.specs.NamedPieces.{EachOnce, TextsAreWhole, is_among, is_inline, pieces_of_kind, started_boxes, texts_on_line}
 use Rattle.lay_inlines.specs.Raises.{RaisesValue, raise_at, raises_after_all, raises_of}
+use Rattle.lay_inlines.specs.Spans.{is_text}
 use Rattle.lay_inlines.specs.Strokes.{parts_of}
 
 abbrev pub ContentEndsWithItsPen : Type 0
@@ -38,6 +41,21 @@ abbrev pub EachAtomicBoxHasOnePiece : Type 0
 EachAtomicBoxHasOnePiece =
     (c : Container) (areas : List InlineArea) (fr : Frame) (row : Ended) (ns : List ℕ) (xs : List Part)
     → atomic_pieces (line_pieces_of c areas fr row ns xs) ≡ atomic_boxes xs
+
+abbrev pub EachInlineBoxHasOnePiece : Type 0
+EachInlineBoxHasOnePiece =
+    (c : Container) (areas : List InlineArea) (fr : Frame) (row : Ended) (ns : List ℕ) (xs : List Part)
+    → pieces_of_kind is_inline (line_pieces_of c areas fr row ns xs) ≡ ns ++ started_boxes xs
+
+abbrev pub EachTextOnALineHasAPiece : Type 0
+EachTextOnALineHasAPiece =
+    (c : Container) (areas : List InlineArea) (fr : Frame) (row : Ended) (ns : List ℕ) (xs : List Part) (t : ℕ)
+    → is_among t (pieces_of_kind is_text (line_pieces_of c areas fr row ns xs)) ≡ is_among t (texts_on_line xs)
+
+abbrev pub NoTextHasTwoPieces : Type 0
+NoTextHasTwoPieces =
+    (c : Container) (areas : List InlineArea) (fr : Frame) (row : Ended) (ns : List ℕ) (xs : List Part) → TextsAreWhole xs
+    → EachOnce (pieces_of_kind is_text (line_pieces_of c areas fr row ns xs))
 
 -- the raises of the inline boxes that are open, and of what is to come, from their places among the parts of a line
 abbrev pub raises_in : List Unit → LineParts → RaisesValue

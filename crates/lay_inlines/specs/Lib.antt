@@ -4,6 +4,7 @@ pub mod Bounds
 pub mod Laws
 pub mod LinePieces
 pub mod Looks
+pub mod NamedPieces
 pub mod OpenBoxes
 pub mod Raises
 pub mod Spans

@@ -23,8 +23,8 @@ mod strokes;
 pub use align::Align;
 pub use bounds::{is_area_within, is_row_within};
 pub use laws::{
-    content_ends_with_its_pen, each_atomic_box_has_one_piece, raises_are_shifts_of_parts,
-    removed_spaces_show_nothing,
+    content_ends_with_its_pen, each_atomic_box_has_one_piece, each_inline_box_has_one_piece,
+    each_text_has_one_piece, raises_are_shifts_of_parts, removed_spaces_show_nothing,
 };
 pub use line_piece::{LinePiece, LinePieceKind, LinePieceList};
 pub use lines::{Container, LinesGeometry, line_pieces};

@@ -47,7 +47,7 @@ take_stopped one fr y ss st now after k n left within unforced fits fills fit st
     let can : Reaches ss (k + 1) = record { within = omega (arith, within); last = λ j t less e. unforced j t (omega (arith, less)) e } in
     let less : k < n = elim (cases_lt k n) [
       | inl low ↦ low
-      | inr high ↦ absurd (takes.most (k + 1) (omega arith) can (all_fit one fr y ss st now k fits fills fit))
+      | inr high ↦ absurd (takes.most (k + 1) (omega arith) can (all_fit fr y ss st now k fits fills fit))
     ] in
     let w = chain_cut floats_of (TakesNext fr y ss) (taken_front fr y ss) n k st after less all in
     let e = chain_one (TakesNext fr y ss) (one_takes_next one fr y ss) k st w.0 now w.2 fills in

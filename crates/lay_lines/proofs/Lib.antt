@@ -6,6 +6,7 @@ pub mod LineTops
 pub mod LinesWithin
 pub mod NoBoxes
 pub mod OneLines
+pub mod PlacedFloats
 pub mod Reaches
 pub mod RowsWithin
 pub mod Steps

@@ -1,5 +1,5 @@
 -- How far a line has come in its room.
-use Rattle.std.proofs.Common.{◌≡◌, ◌∙◌, ◌↔◌, ℕ, ◌+◌, ◌≤◌, ℤ, ◌+ℤ◌, ◌-ℤ◌, ◌≤ℤ◌, List, length, slice_get, Some, IsTrue, Bool, sym, ap, subst, arith, add-one}
+use Rattle.std.proofs.Common.{◌≡◌, ◌∙◌, ◌↔◌, ℕ, suc, ◌+◌, ◌≤◌, ℤ, ◌+ℤ◌, ◌-ℤ◌, ◌≤ℤ◌, List, length, slice_get, Some, IsTrue, Bool, sym, ap, subst, arith, add-one}
 use Rattle.std.proofs.lemmas.Option.{slice_get_within}
 use Rattle.lay_units.specs.Units.{IsPosition}
 use Rattle.lay_units.specs.declared.length.Unit.{Unit}
@@ -12,7 +12,7 @@ use Rattle.lay_line_content.specs.Pens.{past, pen_to, seen_to, PenFits, PensFit}
 use Rattle.lay_line_content.proofs.PenOrder.{pen_next, pen_fits, same_seen}
 use Rattle.lay_lines.specs.declared.reach.Reach.{Reach}
 use Rattle.lay_lines.specs.Meeting.{IsLineRoom, HasRoom, RoomsFit}
-use Rattle.lay_lines.specs.Filling.{HasFit}
+use Rattle.lay_lines.specs.Filling.{HasFit, TakesNoRoom}
 use Rattle.lay_lines.specs.Reaching.{IsPen, IsReach}
 
 abbrev pub reach_of : ℕ → Unit → Unit → Pen → Reach
@@ -53,6 +53,21 @@ fits_means one fr y ss floats r b d is e test = (
       let at_end = subst (λ (n : ℤ). (pen_to fr r.start.0 ss r.count).visible.0 ≤ℤ (n -ℤ fr.left.0)) same.1 at_start in
       test.1 (subst (λ (n : ℤ). r.pen.visible.0 ≤ℤ n) (sym e) (subst (λ (p : Pen). p.visible.0 ≤ℤ (r.end.0 -ℤ fr.left.0)) (sym is.pen_is.pen) at_end)))),
 )
+
+pub no_room_means : OneRoom → (fr : Frame) (y : ℤ) (ss : List Stretch) (floats : List Placed) (r before : Reach) (b : Bool) → IsReach fr y ss floats r → IsReach fr y ss floats before → r.count ≡ before.count + 1
+    → (IsTrue b ↔ r.pen.visible.0 ≤ℤ before.pen.visible.0) → (IsTrue b ↔ TakesNoRoom fr y ss before.count floats)
+no_room_means one fr y ss floats r before b is was e test =
+    let k = before.count in
+    let starts = one _ _ _ _ _ _ _ _ _ is.room was.room in
+    let here = is.pen_is.pen ∙ ap (λ (a : ℤ). pen_to fr a ss r.count) starts.0 ∙ ap (λ (n : ℕ). pen_to fr before.start.0 ss n) (e ∙ add-one k) in
+    let ends = ap (λ (p : Pen). p.visible.0) here in
+    let ends_before = ap (λ (p : Pen). p.visible.0) was.pen_is.pen in (
+      (λ t. (before.start.0, before.end.0, was.room, subst (λ (v : ℤ). v ≤ℤ (pen_to fr before.start.0 ss k).visible.0) ends (subst (λ (v : ℤ). r.pen.visible.0 ≤ℤ v) ends_before (test.0 t)))),
+      (λ h.
+          (let same = one _ _ _ _ _ _ _ _ _ h.2 was.room in
+          let at_start = subst (λ (a : ℤ). (pen_to fr a ss (suc k)).visible.0 ≤ℤ (pen_to fr a ss k).visible.0) same.0 h.3 in
+          test.1 (subst (λ (v : ℤ). r.pen.visible.0 ≤ℤ v) (sym ends_before) (subst (λ (v : ℤ). v ≤ℤ (pen_to fr before.start.0 ss k).visible.0) (sym ends) at_start)))),
+    )
 
 pub room_means : OneRoom → (fr : Frame) (y : ℤ) (ss : List Stretch) (floats : List Placed) (r : Reach) (width : ℤ) (b : Bool) (sum d : ℤ) → IsReach fr y ss floats r → sum ≡ r.pen.solid.0 +ℤ width → d ≡ r.end.0 -ℤ fr.left.0
     → (IsTrue b ↔ sum ≤ℤ d) → (IsTrue b ↔ HasRoom fr y ss r.count floats width)

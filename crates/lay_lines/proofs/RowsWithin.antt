@@ -1,5 +1,5 @@
 -- How far the lines of a container can stand, and that all that they can give is so within bounds.
-use Rattle.std.proofs.Common.{◌≡◌, ◌∙◌, ℕ, zero, suc, ◌+◌, ◌*◌, ◌<◌, ◌≤◌, ◌^◌, ℤ, pos, ◌+ℤ◌, Bool, true, false, if◌then◌else◌, List, [], ◌∷◌, ◌++◌, length, drop, map, slice_get, Option, Some, None, All, refl, sym, ap, subst, arith}
+use Rattle.std.proofs.Common.{◌≡◌, ◌∙◌, ℕ, zero, suc, ◌+◌, ◌*◌, ◌<◌, ◌≤◌, ◌^◌, ℤ, pos, ◌+ℤ◌, Bool, true, false, if◌then◌else◌, List, [], ◌∷◌, ◌++◌, length, drop, map, slice_get, Option, Some, None, All, sym, ap, subst, arith}
 use Rattle.std.proofs.Math.Nat.{mul-le-mul_left, mul-le-mul_right}
 use Rattle.std.proofs.lemmas.Int.{ints}
 use Rattle.std.proofs.lemmas.List.Elements.{All-push, All-weaker, All-drop}
@@ -14,19 +14,17 @@ use Rattle.lay_line_content.specs.declared.content.Stretch.{Stretch}
 use Rattle.lay_line_content.specs.declared.frame.Frame.{Frame}
 use Rattle.lay_line_content.specs.Extents.{reading_to, shape_of, height_of}
 use Rattle.lay_line_content.specs.LineContents.{total, spread_of_parts, spread_of, weight_of_stretch, weight_of, StretchWithin}
-use Rattle.lay_line_content.proofs.Outcomes.{not_both}
 use Rattle.lay_line_content.proofs.LineParts.{strut_part, box_lift, stretch_lift, stretch_boxes, Counted, to_counted}
 use Rattle.lay_line_content.proofs.PartShapes.{ShapeWithin, parts_fit, height_near, shape_within}
 use Rattle.lay_line_content.proofs.PensWithin.{wider, position}
 use Rattle.lay_line_content.proofs.Totals.{part_of, total_to, total_to_most, total_split, drop_less}
 use Rattle.lay_lines.specs.declared.row.Ended.{Ended}
-use Rattle.lay_lines.specs.Meeting.{State, MeetsFloat, MeetsTo, Meets, CanMeetAll, RoomsFit, FrameFits}
-use Rattle.lay_lines.specs.Meeting.MeetsFloat.{stands, waits}
+use Rattle.lay_lines.specs.Meeting.{State, Meets, CanMeetAll, RoomsFit, FrameFits}
 use Rattle.lay_lines.specs.Filling.{IsTop, CanFill}
 use Rattle.lay_lines.specs.Rows.{Position, Row, Laid, parts_of, emptied, IsFilled, IsRow, next_frame, after_row, AddsRow, RowsTo, CanRow, CanLay, ended_of}
 use Rattle.lay_lines.specs.Lines.{RowWithin}
 use Rattle.lay_lines.proofs.LineLists.{map_append_one}
-use Rattle.lay_lines.proofs.Steps.{takes_some, top_fits}
+use Rattle.lay_lines.proofs.Steps.{none_waits, takes_some, top_fits}
 use Rattle.lay_lines.proofs.FloatsWithin.{at_of, StateWithin, state_wider, FrameWithin, further, meets_within, can_meet_all, top_within, floats_to, fills_within, can_fill, room_start, room_end, rooms_fit}
 
 -- where the content of lines lifts at most t units, a line and each float add at most g
@@ -80,15 +78,6 @@ floats_counted (s ∷ ss) first is =
     let rest = floats_in ss in
     let e = ap (λ (o : Option Stretch). part_of (λ (t : Stretch). length t.heads) o) is in
     omega (arith, rest, e)
-
--- floats that are met before all content don't wait
-none_waits : (fr : Frame) (y : ℤ) (ss : List Stretch) (fs : List LineFloat) (n : ℕ) (st after : State) → MeetsTo fr y ss 0 fs n st after → length after.put_off ≡ length st.put_off
-none_waits fr y ss fs zero st after c = ap (λ (t : State). length t.put_off) c
-none_waits fr y ss fs (suc n) st after c = stays c.0 c.2.0 after c.2.2 ∙ none_waits fr y ss fs n st c.0 c.1
-  where
-    stays : (a : State) (f : LineFloat) (b : State) → MeetsFloat fr y ss 0 a f b → length b.put_off ≡ length a.put_off
-    stays a f b (stands x z may e) = ap (λ (t : State). length t.put_off) e
-    stays a f b (waits seen not e) = absurd (not_both false seen refl)
 
 end_within : (b : Bool) (m h : ℕ) (top height from to : ℤ) → IsWithin (pos m) top → IsWithin (pos h) height → IsWithin (pos m) from → to ≡ (if b then (top +ℤ height) else from) → IsWithin (pos (m + h)) to
 end_within true m h top height from to a b f e = let a0 = a.0 in let a1 = a.1 in let h0 = b.0 in let h1 = b.1 in (omega (arith, ints, e, a0, h0), omega (arith, ints, e, a1, h1))
@@ -302,7 +291,7 @@ module _ (law : PlaceWithin) (t g : ℕ) (grows : Grows t g) (m : ℕ) (p : Posi
         rest = All-drop StretchWithin r.reach.count p.rest w.rest;
         spread = omega (arith, spread, less);
         state = later_within r row;
-        none = none_waits p.frame r.to p.rest r.filled.put_off (length r.filled.put_off) (emptied r.filled) r.after row.later;
+        none = ap (λ (fs : List LineFloat). length fs) (none_waits p.frame r.to p.rest r.filled.put_off (length r.filled.put_off) (emptied r.filled) r.after row.later);
       }
 
 -- what stands after some lines

@@ -1,5 +1,5 @@
 -- Steps of a line.
-use Rattle.std.proofs.Common.{◌≡◌, ◌∙◌, ◌⊎◌, inl, inr, ℕ, zero, suc, ◌+◌, ◌<◌, ◌≤◌, ℤ, List, length, slice_get, get_or, Some, IsTrue, IsFalse, Bool, refl, sym, ap, subst, arith, add-one}
+use Rattle.std.proofs.Common.{◌≡◌, ◌∙◌, inl, inr, ℕ, zero, suc, ◌+◌, ◌<◌, ◌≤◌, ℤ, List, length, slice_get, get_or, Some, IsTrue, IsFalse, false, refl, sym, ap, subst, arith, add-one}
 use Rattle.std.proofs.lemmas.Bool.{cases_lt}
 use Rattle.std.proofs.lemmas.Option.{same_Some, slice_get_within, slice_get-get_or}
 use Rattle.lay_floats.specs.declared.placed.Placed.{Placed}
@@ -11,9 +11,9 @@ use Rattle.lay_line_content.specs.declared.content.LineFloat.{LineFloat}
 use Rattle.lay_line_content.specs.declared.content.Stretch.{Stretch}
 use Rattle.lay_line_content.specs.Pens.{strut_height}
 use Rattle.lay_line_content.proofs.Outcomes.{not_both}
-use Rattle.lay_lines.specs.Meeting.{State, below, stood, MeetsFloat, MeetsAt, Meets, CanMeetAll, RoomsFit}
+use Rattle.lay_lines.specs.Meeting.{State, below, stood, MeetsFloat, MeetsAt, MeetsTo, Meets, CanMeetAll, RoomsFit}
 use Rattle.lay_lines.specs.Meeting.MeetsFloat.{stands, waits}
-use Rattle.lay_lines.specs.Filling.{HasFit, FitsNext, TakesNext, Fills, FitsAll, Takes, Begins, CanFill}
+use Rattle.lay_lines.specs.Filling.{HasFit, TakesNoRoom, FitsNext, TakesNext, Fills, FitsAll, Takes, Begins, CanFill}
 use Rattle.lay_lines.proofs.Chains.{chain_one}
 
 abbrev pub made : List Placed → List NodePlace → List LineFloat → State
@@ -43,6 +43,15 @@ one_takes_next one fr y ss k st a b p q =
     let e : q.stretch ≡ p.stretch = same_Some _ _ (sym q.is ∙ p.is) in
     one_meets one fr y ss (suc k) p.stretch.floats st a b p.meets (subst (λ (s : Stretch). Meets fr y ss (suc k) s.floats st b) e q.meets)
 
+-- floats that are met before all content don't wait
+pub none_waits : (fr : Frame) (y : ℤ) (ss : List Stretch) (fs : List LineFloat) (n : ℕ) (st after : State) → MeetsTo fr y ss 0 fs n st after → after.put_off ≡ st.put_off
+none_waits fr y ss fs zero st after c = ap (λ (s : State). s.put_off) c
+none_waits fr y ss fs (suc n) st after c = stays c.0 c.2.0 after c.2.2 ∙ none_waits fr y ss fs n st c.0 c.1
+  where
+    stays : (a : State) (f : LineFloat) (b : State) → MeetsFloat fr y ss 0 a f b → b.put_off ≡ a.put_off
+    stays a f b (stands x z may e) = ap (λ (s : State). s.put_off) e
+    stays a f b (waits seen not e) = absurd (not_both false seen refl)
+
 -- no stretch that a line took so far has to end it
 abbrev pub Unforced : List Stretch → ℕ → Type 0
 Unforced ss k = (j : ℕ) (s : Stretch) → j < k → slice_get ss j ≡ Some s → IsFalse s.forced
@@ -56,26 +65,27 @@ unforced_more ss k s so_far is not j t lt e = elim (cases_lt j k) [
 ]
 
 pub none_fits : (fr : Frame) (y : ℤ) (ss : List Stretch) (st : State) → FitsAll fr y ss st 0
-none_fits fr y ss st = record { each = λ k mid lt fills. absurd (omega (arith, lt)) }
+none_fits fr y ss st = record { each = λ k lt. absurd (omega (arith, lt)) }
 
 -- one more fits
-pub all_fit : OneFloatPlace → (fr : Frame) (y : ℤ) (ss : List Stretch) (st now : State) (k : ℕ) → FitsAll fr y ss st k → Fills fr y ss k st now → FitsNext fr y ss k now.floats → FitsAll fr y ss st (k + 1)
-all_fit one fr y ss st now k so_far fills fit = record {
-  each = λ j mid lt there. elim (cases_lt j k) [
-    | inl low ↦ so_far.each j mid low there
+pub all_fit : (fr : Frame) (y : ℤ) (ss : List Stretch) (st now : State) (k : ℕ) → FitsAll fr y ss st k → Fills fr y ss k st now → FitsNext fr y ss k now.floats → FitsAll fr y ss st (k + 1)
+all_fit fr y ss st now k so_far fills fit = record {
+  each = λ j lt. elim (cases_lt j k) [
+    | inl low ↦ so_far.each j low
     | inr high ↦ (let same : j ≡ k = omega arith in
-        let at_k = subst (λ (n : ℕ). Fills fr y ss n st mid) same there in
-        let e = chain_one (TakesNext fr y ss) (one_takes_next one fr y ss) k st now mid fills at_k in
-        subst (λ (n : ℕ). FitsNext fr y ss n mid.floats) (sym same) (subst (λ (s : State). FitsNext fr y ss k s.floats) e fit))
+        subst (λ (n : ℕ). (mid : State) × Fills fr y ss n st mid × FitsNext fr y ss n mid.floats) (sym same) (now, fills, fit))
   ];
 }
 
 -- a line ends before the first stretch that doesn't fit
-pub stops : (fr : Frame) (y : ℤ) (ss : List Stretch) (st now : State) (k : ℕ) → k ≤ length ss → Unforced ss k → FitsAll fr y ss st k → Fills fr y ss k st now → (FitsNext fr y ss k now.floats → ⊥) → Takes fr y ss st k
-stops fr y ss st now k le unforced fits fills not = record {
+pub stops : OneFloatPlace → (fr : Frame) (y : ℤ) (ss : List Stretch) (st now : State) (k : ℕ) → k ≤ length ss → Unforced ss k → FitsAll fr y ss st k → Fills fr y ss k st now → (FitsNext fr y ss k now.floats → ⊥) → Takes fr y ss st k
+stops one fr y ss st now k le unforced fits fills not = record {
   can = record { within = le; last = λ j s less is. unforced j s (omega arith) is };
   fits = fits;
-  most = λ m less can all. not (all.each k now less fills);
+  most = λ m less can all.
+      (let there = all.each k less in
+      let e = chain_one (TakesNext fr y ss) (one_takes_next one fr y ss) k st there.0 now there.1 fills in
+      not (subst (λ (s : State). FitsNext fr y ss k s.floats) e there.2));
 }
 
 -- a forced stretch ends the line
@@ -98,30 +108,32 @@ runs_out fr y ss st k e unforced fits = record {
 pub takes_some : (fr : Frame) (y : ℤ) (ss : List Stretch) (st : State) (n : ℕ) → 0 < length ss → FitsNext fr y ss 0 st.floats → Takes fr y ss st n → 0 < n
 takes_some fr y ss st (suc n) some fit is = omega arith
 takes_some fr y ss st zero some fit is =
-    absurd (is.most 1 (omega arith) record { within = omega (arith, some); last = λ j s less e. absurd (omega (arith, less)) } record { each = λ k mid lt fills. first k mid lt fills })
-  where
-    first : (k : ℕ) (mid : State) → k < 1 → Fills fr y ss k st mid → FitsNext fr y ss k mid.floats
-    first zero mid lt fills = subst (λ (s : State). FitsNext fr y ss 0 s.floats) (sym fills) fit
-    first (suc k) mid lt fills = absurd (omega (arith, lt))
+    absurd (is.most 1 (omega arith) record { within = omega (arith, some); last = λ j s less e. absurd (omega (arith, less)) } record { each = λ k lt. (let same : k ≡ 0 = omega (arith, lt) in subst (λ (j : ℕ). (mid : State) × Fills fr y ss j st mid × FitsNext fr y ss j mid.floats) (sym same) (st, refl, fit)) })
 
 -- where a line begins its first stretch is taken
 pub top_fits : (fr : Frame) (y : ℤ) (ss : List Stretch) (floats : List Placed) → Begins fr y ss floats → FitsNext fr y ss 0 floats
 top_fits fr y ss floats (inl fit) = inl fit
-top_fits fr y ss floats (inr alone) = inr (refl, alone)
+top_fits fr y ss floats (inr alone) = inr (inl (refl, alone))
 
 pub stretch_is : (ss : List Stretch) (k : ℕ) (s : Stretch) → k < length ss → s ≡ get_or ss k s → slice_get ss k ≡ Some s
 stretch_is ss k s lt e = slice_get-get_or ss k s lt ∙ ap (λ (t : Stretch). Some t) (sym e)
 
--- the code's test says whether one stretch more is taken
-pub next_from : (fr : Frame) (y : ℤ) (ss : List Stretch) (k n : ℕ) (first : Bool) (floats : List Placed) → n ≡ k + 1 → (IsTrue first → k ≡ 0)
-    → HasFit fr y ss n floats ⊎ (IsTrue first × IsAlone floats y (strut_height fr)) → FitsNext fr y ss k floats
-next_from fr y ss k n first floats e zero_is (inl fit) = inl (subst (λ (m : ℕ). HasFit fr y ss m floats) (e ∙ add-one k) fit)
-next_from fr y ss k n first floats e zero_is (inr alone) = inr (zero_is alone.0, alone.1)
+-- which way a stretch fits that is the first of its line and doesn't fit the room, and one that is none
+pub first_alone : (fr : Frame) (y : ℤ) (ss : List Stretch) (k : ℕ) (floats : List Placed) → (HasFit fr y ss (suc k) floats → ⊥) → k ≡ 0 → FitsNext fr y ss k floats → IsAlone floats y (strut_height fr)
+first_alone fr y ss k floats not is (inl fit) = absurd (not fit)
+first_alone fr y ss k floats not is (inr (inl alone)) = alone.1
+first_alone fr y ss k floats not is (inr (inr none)) = absurd (let w = none.0 in omega (arith, is, w))
 
-pub next_to : (fr : Frame) (y : ℤ) (ss : List Stretch) (k n : ℕ) (first : Bool) (floats : List Placed) → n ≡ k + 1 → (k ≡ 0 → IsTrue first)
-    → FitsNext fr y ss k floats → HasFit fr y ss n floats ⊎ (IsTrue first × IsAlone floats y (strut_height fr))
-next_to fr y ss k n first floats e zero_is (inl fit) = inl (subst (λ (m : ℕ). HasFit fr y ss m floats) (sym (e ∙ add-one k)) fit)
-next_to fr y ss k n first floats e zero_is (inr alone) = inr (zero_is alone.0, alone.1)
+pub later_none : (fr : Frame) (y : ℤ) (ss : List Stretch) (k : ℕ) (floats : List Placed) → (HasFit fr y ss (suc k) floats → ⊥) → (k ≡ 0 → ⊥) → FitsNext fr y ss k floats → TakesNoRoom fr y ss k floats
+later_none fr y ss k floats not some (inl fit) = absurd (not fit)
+later_none fr y ss k floats not some (inr (inl alone)) = absurd (some alone.0)
+later_none fr y ss k floats not some (inr (inr none)) = none.1
+
+pub fit_at : (fr : Frame) (y : ℤ) (ss : List Stretch) (k n : ℕ) (floats : List Placed) → n ≡ k + 1 → HasFit fr y ss n floats → HasFit fr y ss (suc k) floats
+fit_at fr y ss k n floats e fit = subst (λ (m : ℕ). HasFit fr y ss m floats) (e ∙ add-one k) fit
+
+pub fit_of : (fr : Frame) (y : ℤ) (ss : List Stretch) (k n : ℕ) (floats : List Placed) → n ≡ k + 1 → HasFit fr y ss (suc k) floats → HasFit fr y ss n floats
+fit_of fr y ss k n floats e fit = subst (λ (m : ℕ). HasFit fr y ss m floats) (sym (e ∙ add-one k)) fit
 
 -- the floats of a stretch that is taken are met
 pub takes_from : (fr : Frame) (y : ℤ) (ss : List Stretch) (k n : ℕ) (s : Stretch) (list : List LineFloat) (st after : State) → slice_get ss k ≡ Some s → n ≡ k + 1 → list ≡ s.floats

@@ -1,4 +1,5 @@
 pub mod Filling
+pub mod FloatNumbers
 pub mod Laws
 pub mod Lines
 pub mod Meeting

@@ -1,6 +1,6 @@
 //! The laws of the definitions. The functions do nothing.
 
-ghost use Rattle.lay_lines.specs.Laws.{OneListOfRows, OneLines, LinesAreNear};
+ghost use Rattle.lay_lines.specs.Laws.{OneListOfRows, OneLines, LinesAreNear, EachFloatHasAPlace};
 
 use lay_floats::{one_float_place, one_room, place_within};
 
@@ -24,3 +24,8 @@ pub fn lines_are_near()
 {
     place_within();
 }
+
+/// Each float of content has a place when the lines of it are laid, and nothing else has one.
+pub fn each_float_has_a_place()
+    ensures { EachFloatHasAPlace }
+{}

@@ -21,7 +21,7 @@ mod rows;
 mod taking;
 mod top;
 
-pub use laws::{lines_are_near, one_lines};
+pub use laws::{each_float_has_a_place, lines_are_near, one_lines};
 pub use laying::{Lines, lay};
 pub use lists::{NodePlaceList, RowList};
 pub use reach::Reach;

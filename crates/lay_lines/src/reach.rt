@@ -4,7 +4,7 @@ ghost use Rattle.std.specs.Prelude.{◌≡◌, ◌↔◌, ◌+◌, ◌<◌, ◌�
 ghost use Rattle.lay_units.specs.Units.{IsPosition};
 ghost use Rattle.lay_line_content.specs.Pens.{seen_to};
 ghost use Rattle.lay_lines.specs.Meeting.{HasRoom, RoomsFit, IsLineRoom};
-ghost use Rattle.lay_lines.specs.Filling.{HasFit};
+ghost use Rattle.lay_lines.specs.Filling.{HasFit, TakesNoRoom};
 ghost use Rattle.lay_lines.specs.Reaching.{IsPen, IsReach};
 
 use crate::arithmetic::{are_same, is_at_most, wide_minus, wide_plus};
@@ -101,6 +101,20 @@ impl Reach {
         one_room();
         let _ = floats;
         is_at_most(self.pen.visible, wide_minus(self.end, line.frame.left))
+    }
+
+    /// Whether the last of these stretches takes no room behind those before it.
+    pub(crate) fn takes_no_room(&self, floats: &Floats, line: &Line<'_>, before: &Reach) -> bool
+        requires before { IsReach line.now.frame line.now.top.0 line.now.stretches.now floats.now before.now }
+        requires reach { IsReach line.now.frame line.now.top.0 line.now.stretches.now floats.now self.now }
+        requires count { self.now.count ≡ before.now.count + 1 }
+        ensures { IsTrue result ↔ TakesNoRoom line.now.frame line.now.top.0 line.now.stretches.now before.now.count
+            floats.now }
+    {
+        one_room();
+        let _ = floats;
+        let _ = line;
+        is_at_most(self.pen.visible, before.pen.visible)
     }
 
     /// Whether a float of this width fits beside the content, in the room that these floats leave.

@@ -1,11 +1,11 @@
 //! What a line takes.
 
-ghost use Rattle.std.specs.Prelude.{◌≡◌, ◌↔◌, ◌⊎◌, suc, ◌+◌, ◌<◌, ◌≤◌, ℕ, IsTrue, IsFalse, List, length, slice_get, Some, IfOk, IfErr, OnOk};
+ghost use Rattle.std.specs.Prelude.{◌≡◌, ◌↔◌, suc, ◌+◌, ◌<◌, ◌≤◌, ℕ, IsTrue, IsFalse, List, length, slice_get, Some, IfOk, IfErr, OnOk};
 ghost use Rattle.lay_floats.specs.SolidPlace.{IsAlone};
 ghost use Rattle.lay_line_content.specs.declared.content.Stretch.{Stretch as StretchValue};
 ghost use Rattle.lay_line_content.specs.Pens.{strut_height};
 ghost use Rattle.lay_lines.specs.Meeting.{State, state_of, Meets, CanMeetAll, RoomsFit, IsFront};
-ghost use Rattle.lay_lines.specs.Filling.{HasFit, FitsNext, TakesNext, Fills, Takes, CanFill};
+ghost use Rattle.lay_lines.specs.Filling.{FitsNext, TakesNext, Fills, Takes, CanFill};
 ghost use Rattle.lay_lines.specs.Reaching.{IsReach};
 
 use crate::line::Line;
@@ -16,7 +16,7 @@ use lay_floats::{Floats, one_float_place};
 use lay_line_content::LineFloat;
 use lay_units::NoMemory;
 
-/// A line takes stretches as long as they fit, from before all content. The answer is how far they come.
+/// A line takes stretches as long as they fit or take no room, from before all content. The answer is how far they come.
 pub fn take(
     floats: &mut Floats,
     met: &mut Met,
@@ -81,7 +81,7 @@ fn take_next(
         (λ _. FitsNext line.now.frame line.now.top.0 line.now.stretches.now reach.old.count floats.old) }
 {
     let next = reach.next(floats, line);
-    if !is_taken(floats, line, &next, is_zero(reach.count)) {
+    if !is_taken(floats, line, reach, &next) {
         return Ok(false);
     }
     let list = line.stretches[reach.count].floats.as_slice();
@@ -90,18 +90,22 @@ fn take_next(
     Ok(true)
 }
 
-/// Whether a stretch more is taken, with which the line comes this far: it fits, or it is the first and no
-/// float is beside the line.
-fn is_taken(floats: &Floats, line: &Line<'_>, next: &Reach, is_first: bool) -> bool
-    requires reach { IsReach line.now.frame line.now.top.0 line.now.stretches.now floats.now next.now }
-    ensures { IsTrue result ↔ HasFit line.now.frame line.now.top.0 line.now.stretches.now next.now.count
-        floats.now ⊎ (IsTrue is_first × IsAlone floats.now line.now.top.0
-        (strut_height line.now.frame)) }
+/// Whether a stretch more is taken, with which the line comes this far: it fits; or it is the first and no float is
+/// beside the line; or it is a later one and takes no room.
+fn is_taken(floats: &Floats, line: &Line<'_>, reach: &Reach, next: &Reach) -> bool
+    requires reach { IsReach line.now.frame line.now.top.0 line.now.stretches.now floats.now reach.now }
+    requires next { IsReach line.now.frame line.now.top.0 line.now.stretches.now floats.now next.now }
+    requires count { next.now.count ≡ reach.now.count + 1 }
+    ensures { IsTrue result ↔ FitsNext line.now.frame line.now.top.0 line.now.stretches.now reach.now.count
+        floats.now }
 {
     if next.fits(floats, line) {
         return true;
     }
-    is_first && is_alone(floats, line)
+    if is_zero(reach.count) {
+        return is_alone(floats, line);
+    }
+    next.takes_no_room(floats, line, reach)
 }
 
 fn is_zero(count: usize) -> bool

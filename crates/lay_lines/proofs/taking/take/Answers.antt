@@ -48,7 +48,7 @@ returns-then-not-branch-clause-takes c =
     let step = c.in_ok-take_next.ensures in
     let same = step.same_reach c.if-not-branch.true in
     subst (λ (n : ℕ). Takes fr y ss st n) (sym (ap (λ (r : Reach). r.count) same ∙ inv.count_is))
-    (stops fr y ss st now k (omega (arith, lt)) inv.unforced inv.fits inv.fills
+    (stops c.one_float_place.ensures fr y ss st now k (omega (arith, lt)) inv.unforced inv.fits inv.fills
     (λ fit. step.full c.if-not-branch.true (subst (λ (n : ℕ). FitsNext fr y ss n now.floats) (sym inv.count_is) fit)))
 
 pub returns-then-line-k-clause-takes : goal.returns-then-line-k-clause-takes
@@ -65,7 +65,7 @@ returns-then-line-k-clause-takes c =
     let step = c.in_ok-take_next.ensures in
     subst (λ (n : ℕ). Takes fr y ss st n) (sym (step.count c.if-not-branch.false ∙ ap (λ n. n + 1) inv.count_is))
     (ends fr y ss st k s inv.unforced is (ap (λ (u : Stretch). u.forced) c.index-line-k.is ∙ c.if-line-k.true)
-    (all_fit c.one_float_place.ensures fr y ss st now k inv.fits inv.fills (subst (λ (n : ℕ). FitsNext fr y ss n now.floats) inv.count_is (step.fits c.if-not-branch.false))))
+    (all_fit fr y ss st now k inv.fits inv.fills (subst (λ (n : ℕ). FitsNext fr y ss n now.floats) inv.count_is (step.fits c.if-not-branch.false))))
 
 pub returns-then-line-k-clause-fills : goal.returns-then-line-k-clause-fills
 returns-then-line-k-clause-fills c =
@@ -98,6 +98,6 @@ loop-k-preserved c =
       count_is = step.count c.if-not-branch.false ∙ ap (λ n. n + 1) inv.count_is;
       reach_is = step.reach;
       fills = chain_more (TakesNext fr y ss) k st now after inv.fills (subst (λ (n : ℕ). TakesNext fr y ss n now after) inv.count_is (step.takes c.if-not-branch.false));
-      fits = all_fit c.one_float_place.ensures fr y ss st now k inv.fits inv.fills (subst (λ (n : ℕ). FitsNext fr y ss n now.floats) inv.count_is (step.fits c.if-not-branch.false));
+      fits = all_fit fr y ss st now k inv.fits inv.fills (subst (λ (n : ℕ). FitsNext fr y ss n now.floats) inv.count_is (step.fits c.if-not-branch.false));
       unforced = unforced_more ss k s inv.unforced is (ap (λ (u : Stretch). u.forced) c.index-line-k.is ∙ c.if-line-k.false);
     }
