@@ -1,6 +1,7 @@
 pub mod AtomicExtents
 pub mod CutParts
 pub mod Disjunctions
+pub mod Heads
 pub mod SeenPens
 pub mod ShownBoxes
 pub mod TextStretches

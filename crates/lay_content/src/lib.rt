@@ -28,5 +28,5 @@ pub use areas::inline_areas;
 pub use box_measures::BoxMeasures;
 pub use container::Container;
 pub use contents::{line_content, line_content_of_items};
-pub use laws::{atomic_boxes_are_margin_boxes, seen_lines_are_seen};
+pub use laws::{atomic_boxes_are_margin_boxes, heads_of_content_begin_lines, seen_lines_are_seen};
 pub use seen_lines::has_seen_line;
