@@ -2,3 +2,4 @@ pub mod ColumnSteps
 pub mod NeedSteps
 pub mod TrackSteps
 pub mod OneTableRows
+pub mod SomeTableRows

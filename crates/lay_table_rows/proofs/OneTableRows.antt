@@ -8,7 +8,7 @@ use Rattle.lay_grid.proofs.RowBaselines.{one_row_baselines_lem}
 use Rattle.lay_sizes.specs.declared.sizing.BoxSizes.{BoxSizes}
 use Rattle.lay_sizes.specs.SizeColumns.{no_sizes}
 use Rattle.lay_table_sizes.proofs.OneCellSizes.{one_cell_sizes_lem}
-use Rattle.lay_table_rows.specs.Laws.{OneTableRows}
+use Rattle.lay_table_rows.specs.Laws.{CellsAreSizedOnce, OneTableRows}
 use Rattle.lay_table_rows.specs.RowNeeds.{needs_of, rows_in}
 use Rattle.lay_table_rows.specs.TableInputs.{TableInput, grid_of}
 use Rattle.lay_table_rows.specs.TableRows.{AreTracks, HaveCellSizes, bottoms_of, used_size}
@@ -36,3 +36,6 @@ one_table_rows_lem i x y a b =
     (subst (λ (t : Tracks). AreRowBaselines (bottoms_of i y.cells t) (length (grid_of i).rows) y.bottoms) (sym tracks) b.bottoms) in
     let bottoms = one_row_baselines_lem (bottoms_of i x.cells x.tracks) (length (grid_of i).rows) x.bottoms y.bottoms a.bottoms there in
     λ j. record { cells = cells j; tracks = tracks j; baselines = baselines j; bottoms = bottoms j }
+
+pub cells_are_sized_once_lem : CellsAreSizedOnce
+cells_are_sized_once_lem i rows c z has less sized = one_cell_sizes_lem _ _ _ _ _ (has.cells.each c less) sized
