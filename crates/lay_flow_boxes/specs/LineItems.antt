@@ -67,8 +67,8 @@ pub record IsIn (boxes : List BoxNode) (c k : ℕ) : Type 0 where
   pub container : container_of boxes k ≡ c
 
 abbrev pub BoxesInLinesAreItems : Type 0
-BoxesInLinesAreItems = (boxes : List BoxNode) (c k : ℕ) → AreContextBoxes boxes → AreHeldByOthers boxes → is_inline_container boxes c ≡ true → IsIn boxes c k
-    → IsInLinesAs (role_at boxes k) (sorts_of k (items_of boxes c))
+BoxesInLinesAreItems = (boxes : List BoxNode) (c k : ℕ) → AreContextBoxes boxes → AreHeldByOthers boxes
+    → is_inline_container boxes c ≡ true → IsIn boxes c k → IsInLinesAs (role_at boxes k) (sorts_of k (items_of boxes c))
 
 abbrev pub ItemsAreBoxesInLines : Type 0
 ItemsAreBoxesInLines = (boxes : List BoxNode) (c : ℕ) → AreContextBoxes boxes → is_inline_container boxes c ≡ true

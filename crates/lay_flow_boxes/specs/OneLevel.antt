@@ -16,5 +16,6 @@ abbrev pub HoldOneLevel : List BoxNode → Type 0
 HoldOneLevel boxes = (c : ℕ) → holds inline boxes c (length boxes) ≡ true → holds block boxes c (length boxes) ≡ false
 
 abbrev pub WidthsAgreeOnLines : Type 0
-WidthsAgreeOnLines = (m : MeasureInValue) (c : ℕ) → AreContextBoxes m.boxes → AreHeldByOthers m.boxes → HoldOneLevel m.boxes → c < length m.boxes → is_block_box (role_at m.boxes c) ≡ true
+WidthsAgreeOnLines = (m : MeasureInValue) (c : ℕ) → AreContextBoxes m.boxes → AreHeldByOthers m.boxes → HoldOneLevel m.boxes
+    → c < length m.boxes → is_block_box (role_at m.boxes c) ≡ true
     → holds_lines (children m c (c + 1) (drop (c + 1) m.boxes)) ≡ is_inline_container m.boxes c

@@ -9,4 +9,5 @@ use Rattle.lay_content.specs.Contents.{content_in}
 use Rattle.lay_content.specs.declared.container.Container.{Container}
 
 abbrev pub AnchorsAddNothingToLines : Type 0
-AnchorsAddNothingToLines = (m : BoxMeasuresValue) (c : Container) (segments : List Segment) → content_in m c (map segment_without_anchors segments) ≡ content_in m c segments
+AnchorsAddNothingToLines = (m : BoxMeasuresValue) (c : Container) (segments : List Segment)
+    → content_in m c (map segment_without_anchors segments) ≡ content_in m c segments

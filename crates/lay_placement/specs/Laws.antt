@@ -31,7 +31,8 @@ OnePlacement = (i : PlaceInput) (p q : Placement) → AreContextBoxes i.boxes �
 -- an anchor in a box that holds lines is on one of them
 abbrev pub AnchorsAreOnLines : Type 0
 AnchorsAreOnLines = (i : PlaceInput) (p : ContextPlaces) (k : ℕ) → AreContextBoxes i.boxes → AreHeldByOthers i.boxes → HasPlaces i p → k < length i.boxes
-    → is_anchor (role_at i.boxes k) ≡ true → holds_lines (measures_of i p) p.shape.lefts (container_of i.boxes k) ≡ true → is_some (anchor_line i p k) ≡ true
+    → is_anchor (role_at i.boxes k) ≡ true → holds_lines (measures_of i p) p.shape.lefts (container_of i.boxes k) ≡ true
+    → is_some (anchor_line i p k) ≡ true
 
 abbrev pub any_seen : List Ended → Bool
 any_seen rows = list_any (λ row. row.seen) rows
