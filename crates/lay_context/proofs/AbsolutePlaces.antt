@@ -9,13 +9,12 @@ use Rattle.lay_units.specs.declared.records.Rect.{Rect}
 use Rattle.lay_box_tree.specs.declared.box_tree.BoxNode.{BoxNode}
 use Rattle.lay_box_tree.specs.Kinds.{is_wrapper}
 use Rattle.lay_measure.specs.declared.preferred_widths.PreferredWidths.{PreferredWidths}
-use Rattle.lay_sizes.specs.declared.own_boxes.OwnBox.{OwnBox}
 use Rattle.lay_sizes.specs.declared.sizing.BoxSizes.{BoxSizes}
 use Rattle.lay_sizes.specs.declared.sizing.ContainingBlock.{ContainingBlock}
 use Rattle.lay_sizes.specs.SizeColumns.{sizes_at}
 use Rattle.lay_abspos.specs.AbsoluteAxis.{IsUsedAxis}
 use Rattle.lay_formatting.specs.FormattingBoxes.{box_at}
-use Rattle.lay_formatting.specs.FormattingContexts.{AreFormattingContexts, FormattingContext, boxes_in, formatting_context_at}
+use Rattle.lay_formatting.specs.FormattingContexts.{AreFormattingContexts, boxes_in, formatting_context_at}
 use Rattle.lay_pieces.specs.declared.corner.Corner.{Corner}
 use Rattle.lay_pieces.specs.declared.standing.Standing.{Standing}
 use Rattle.lay_pieces.specs.Corners.{corner_at, no_corner}
@@ -27,13 +26,12 @@ use Rattle.lay_positioned.specs.declared.settings.AbsoluteSetting.{AbsoluteSetti
 use Rattle.lay_positioned.specs.Absolute.{is_absolute, is_fixed}
 use Rattle.lay_positioned.specs.AbsoluteSizes.{border_start}
 use Rattle.lay_positioned.specs.ContainingRects.{IsContainingRect, containing_in, held, initial, seen_from, viewport_rect, further as around}
-use Rattle.lay_positioned.specs.HoldersOutward.{Holder, IsHolderOf, IsHolderOutward, further, here, viewport as by_viewport}
+use Rattle.lay_positioned.specs.HoldersOutward.{Holder, IsHolderOutward, further, here, viewport as by_viewport}
 use Rattle.lay_positioned.specs.Layouts.{content_corner, step}
 use Rattle.lay_positioned.specs.Offsets.{IsOffset, axis_of_height, corner_inside}
 use Rattle.lay_positioned.specs.Settings.{absolute_setting, root_setting, setting_beside}
 use Rattle.lay_positioned.proofs.SettingValues.{containing}
 use Rattle.lay_context_sizes.specs.ContextSizes.{HasSizes, IsSizedAs, SizedContext}
-use Rattle.lay_context_sizes.specs.Inputs.{SizeInput}
 use Rattle.lay_context_sizes.specs.TableContexts.{is_table}
 use Rattle.lay_context_sizes.specs.declared.setting.Setting.{Setting}
 use Rattle.lay_context_sizes.specs.declared.setting.Setting.TheVariants.{Absolute}
@@ -41,8 +39,7 @@ use Rattle.lay_own_place.specs.OwnOffsets.{IsOwnOffset, IsOwnOffsetBy, StandInpu
 use Rattle.lay_own_place.specs.declared.own_place.OwnPlace.{OwnPlace}
 use Rattle.lay_own_place.specs.declared.own_place.OwnPlace.TheVariants as own_place
 use Rattle.lay_context.specs.AbsoluteOnPage.{IsAxisAcross, IsSolved, PageLayout, StandsIn, StandsInContainingBlock, anchor_on_page, block_on_page, content_on_page, rect_on_page, setting_on_page}
-use Rattle.lay_context.specs.declared.task.Phase.TheVariants.{Measure, Size, Place}
-use Rattle.lay_context.specs.declared.task.Task.{Task}
+use Rattle.lay_context.specs.declared.task.Phase.TheVariants.{Size, Place}
 use Rattle.lay_context.specs.declared.value.Value.TheVariants as value
 use Rattle.lay_context.specs.DocumentLayout.{widths_in}
 use Rattle.lay_context.specs.Laws.{AbsoluteBoxesStandInContainingBlocks}
@@ -51,7 +48,6 @@ use Rattle.lay_context.specs.Medium.{Medium}
 use Rattle.lay_context.specs.PageCorners.{HasPageCorners, beside, flow_standing, lowered, own_standing, standing_of}
 use Rattle.lay_context.specs.PlacedContexts.{PlacedContext, placed_in, placement_in}
 use Rattle.lay_context.specs.Settings.{flow_place, flow_setting, laid, sizes_in}
-use Rattle.lay_context.specs.Workings.{Workings}
 
 abbrev corner_of : (x y : Length) → Corner
 corner_of x y = record { x = x; y = y }

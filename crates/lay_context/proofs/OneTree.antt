@@ -1,5 +1,5 @@
 -- Two workings that meet the equations of a document are equal, task by task in their order, and so are their trees.
-use Rattle.std.proofs.Common.{◌≡◌, ℕ, zero, suc, ◌+◌, ◌<◌, List, length, refl, sym, subst, ◌∙◌, arith, option_map}
+use Rattle.std.proofs.Common.{◌≡◌, ℕ, zero, suc, ◌+◌, ◌<◌, List, length, refl, sym, subst, ◌∙◌, arith}
 use Rattle.lay_doc.specs.Document.{Document, IsDocument, parents_of, declarations_of}
 use Rattle.lay_face.specs.FaceValue.{FaceValue}
 use Rattle.lay_doc.proofs.OneStyles.{one_style_column_lem, same_list}
@@ -13,15 +13,13 @@ use Rattle.lay_formatting.specs.Laws.{FormattingContextsStandInOrder, OneFormatt
 use Rattle.lay_positioned.specs.Levels.{HasLevels}
 use Rattle.lay_positioned.proofs.LevelSteps.{levels_are, levels_of}
 use Rattle.lay_pieces.specs.declared.corner.Corner.{Corner}
-use Rattle.lay_context.specs.declared.task.Phase.{Phase}
-use Rattle.lay_context.specs.declared.task.Phase.TheVariants.{Measure, Size, Place}
+use Rattle.lay_context.specs.declared.task.Phase.TheVariants.{Size, Place}
 use Rattle.lay_context.specs.declared.task.Task.{Task}
 use Rattle.lay_context.specs.declared.input.Input.{Input}
 use Rattle.lay_context_sizes.specs.ContextSizes.{not_sized}
 use Rattle.lay_context.specs.Laws.{OneSolution}
-use Rattle.lay_context.specs.Local.{IsLocal, IsTaskDone, flow_input, input_of, measure_input, stand_input, table_input, value_of}
+use Rattle.lay_context.specs.Local.{IsLocal, IsTaskDone, input_of, value_of}
 use Rattle.lay_context.specs.Workings.{Workings}
-use Rattle.lay_context.specs.Measured.{is_measured}
 use Rattle.lay_context.specs.Medium.{Medium}
 use Rattle.lay_context.specs.Needs.{turn_of}
 use Rattle.lay_context.specs.PageCorners.{HasPageCorners}

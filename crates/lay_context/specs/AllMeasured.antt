@@ -1,6 +1,6 @@
 -- The equations of a layout in which each formatting context has its preferred widths (CSS 2.2, 10.3.5), whether they count for
 -- anything or not. A layout works out those that count (`Measured`), and gets the same tree by it.
-use Rattle.std.specs.Prelude.{ℕ, ◌<◌, List, length}
+use Rattle.std.specs.Prelude.{◌<◌, List, length}
 use Rattle.lay_frag.specs.Pieces.{Context as PageContext}
 use Rattle.lay_formatting.specs.FormattingContexts.{FormattingContext}
 use Rattle.lay_context.specs.declared.input.Input.{Input}
