@@ -127,7 +127,7 @@ text_seen t text (w ∷ ws) =
 
 item_seen : (m : BoxMeasuresValue) (x : Item) → AreSeen (parts_at m x)
 item_seen m (item.Text k text mode widths) = text_seen (record { node = k; mode = mode }) text widths
-item_seen m (item.Start k) = (or_left (has_vertical_edges (sizes_at m.sizes k)) ((part_at m k).first && has_left_edges (sizes_at m.sizes k)), tt)
+item_seen m (item.Start k takes) = (or_left (has_vertical_edges (sizes_at m.sizes k)) ((part_at m k).first && has_left_edges (sizes_at m.sizes k)), tt)
 item_seen m (item.End k) = (never_shows _, tt)
 item_seen m (item.Atomic k mode) = (never_shows true, tt)
 item_seen m (item.Float k) = tt

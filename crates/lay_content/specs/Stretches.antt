@@ -19,7 +19,7 @@ use Rattle.lay_content.specs.TextParts.{text_parts}
 -- What an item is in a line. An anchor takes no room, and a float stands beside the line.
 abbrev pub parts_at : BoxMeasuresValue → Item → List Part
 parts_at m (item.Text k text mode widths) = text_parts (record { node = k; mode = mode }) text widths
-parts_at m (item.Start k) = part.Start (start_at m k) ∷ []
+parts_at m (item.Start k takes) = part.Start (start_at m k) ∷ []
 parts_at m (item.End k) = part.End (end_at m k) ∷ []
 parts_at m (item.Atomic k mode) = part.Atomic (atomic_at m k) ∷ []
 parts_at m (item.Float k) = []
@@ -29,12 +29,13 @@ abbrev pub parts_of : BoxMeasuresValue → List Item → List Part
 parts_of m [] = []
 parts_of m (x ∷ xs) = parts_at m x ++ parts_of m xs
 
--- whether an item is content that a float can stand after: some text, or an atomic box
+-- whether an item is content that a float can stand after: some text, an atomic box, or the start of an inline box with a
+-- left margin, border or padding that isn't 0
 abbrev pub is_content : Item → Bool
 is_content (item.Text k text mode []) = false
 is_content (item.Text k text mode (w ∷ ws)) = true
 is_content (item.Atomic k mode) = true
-is_content (item.Start k) = false
+is_content (item.Start k takes) = takes
 is_content (item.End k) = false
 is_content (item.Float k) = false
 is_content (item.Anchor k) = false
@@ -42,7 +43,7 @@ is_content (item.Anchor k) = false
 abbrev pub floats_at : BoxMeasuresValue → Container → Item → List LineFloat
 floats_at m c (item.Float k) = float_at m c k ∷ []
 floats_at m c (item.Text k text mode widths) = []
-floats_at m c (item.Start k) = []
+floats_at m c (item.Start k takes) = []
 floats_at m c (item.End k) = []
 floats_at m c (item.Atomic k mode) = []
 floats_at m c (item.Anchor k) = []

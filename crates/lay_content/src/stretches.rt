@@ -141,7 +141,7 @@ fn put_parts(parts: &mut Vec<Part>, measures: &BoxMeasures<'_>, item: &Item) -> 
             },
             widths.as_slice(),
         ),
-        Item::Start(place) => push_part(parts, Part::Start(start_at(measures, *place))),
+        Item::Start(place, _) => push_part(parts, Part::Start(start_at(measures, *place))),
         Item::End(place) => push_part(parts, Part::End(end_at(measures, *place))),
         Item::Atomic(place, _) => push_part(parts, Part::Atomic(atomic_at(measures, *place))),
         Item::Float(_) | Item::Anchor(_) => Ok(()),
@@ -155,6 +155,7 @@ fn is_content(item: &Item) -> bool
     match item {
         Item::Text { widths, .. } => !widths.as_slice().is_empty(),
         Item::Atomic(_, _) => true,
+        Item::Start(_, takes_room) => *takes_room,
         _ => false,
     }
 }

@@ -2,6 +2,7 @@
 
 ghost use Rattle.std.specs.Prelude.{ℕ, ◌≡◌, ◌<◌, ◌≤◌, length, IfOk};
 ghost use Rattle.lay_sizes.specs.SizeBounds.{SizeFits};
+ghost use Rattle.lay_box_parts.specs.InlineParts.{AreInlineParts};
 ghost use Rattle.lay_blocks.specs.Boxes.{box_at};
 ghost use Rattle.lay_sizes.specs.OwnBoxes.{own_box_at};
 ghost use Rattle.lay_flow_boxes.specs.ContextBlocks.{AreFlowBoxesOf, block_box, cleared_by, cleared_sides, float_box, float_side, flow_box_of, has_lines, height_rule, inner_box, is_anchor, kind_alone, kind_in_lines, own_block, side_of};
@@ -34,6 +35,7 @@ pub(crate) fn flow_boxes_of(
     lefts: &[Unit],
 ) -> Result<Vec<FlowBox>, NoMemory>
     requires few { length input.now.boxes ≤ most_flow_boxes }
+    requires parts { AreInlineParts input.now.boxes parts.now }
     requires lefts { length lefts.now ≡ length input.now.boxes }
     requires near { AreNearLefts lefts.now }
     ensures { IfOk result (λ v. AreFlowBoxesOf (measures_in input.now parts.now) input.now.own_height lefts.now v.items) }
@@ -61,7 +63,7 @@ fn flow_box_of(
     flow_boxes: &[FlowBox],
     k: usize,
 ) -> Result<FlowBox, NoMemory>
-    requires shaping { IsShaping of.now.input.now.boxes of.now.lefts.now of.now.inline_containers.now }
+    requires shaping { IsShaping of.now.input.now.boxes of.now.parts.now of.now.lefts.now of.now.inline_containers.now }
     requires place { k < length of.now.input.now.boxes }
     requires known { length flow_boxes.now ≡ k }
     requires before { (j : ℕ) → j < k → box_at flow_boxes.now j ≡ flow_box_of (measures_in of.now.input.now of.now.parts.now) of.now.input.now.own_height of.now.lefts.now j }

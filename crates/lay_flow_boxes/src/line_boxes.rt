@@ -34,7 +34,7 @@ pub(crate) fn lines_in(
     of: &Shaping<'_>,
     k: usize,
 ) -> Result<Option<LineContent>, NoMemory>
-    requires shaping { IsShaping of.now.input.now.boxes of.now.lefts.now of.now.inline_containers.now }
+    requires shaping { IsShaping of.now.input.now.boxes of.now.parts.now of.now.lefts.now of.now.inline_containers.now }
     requires place { k < length of.now.input.now.boxes }
     ensures { IfOk result (λ o. o ≡ lines_in (measures_in of.now.input.now of.now.parts.now) of.now.lefts.now k) }
 {
@@ -51,7 +51,7 @@ pub(crate) fn lines_in(
 
 /// What lines of the box at k would hold. NoMemory is also the answer where that is out of the bounds of lines.
 fn content_of_box(alloc: Global, of: &Shaping<'_>, k: usize) -> Result<LineContent, NoMemory>
-    requires shaping { IsShaping of.now.input.now.boxes of.now.lefts.now of.now.inline_containers.now }
+    requires shaping { IsShaping of.now.input.now.boxes of.now.parts.now of.now.lefts.now of.now.inline_containers.now }
     requires place { k < length of.now.input.now.boxes }
     ensures { IfOk result (λ c. c ≡ content_of_box (measures_in of.now.input.now of.now.parts.now) of.now.lefts.now k) }
 {
@@ -72,7 +72,7 @@ fn content_of_segments(
     k: usize,
     segments: &[Segment],
 ) -> Result<Option<LineContent>, NoMemory>
-    requires shaping { IsShaping of.now.input.now.boxes of.now.lefts.now of.now.inline_containers.now }
+    requires shaping { IsShaping of.now.input.now.boxes of.now.parts.now of.now.lefts.now of.now.inline_containers.now }
     requires place { k < length of.now.input.now.boxes }
     requires segments { segments.now ≡ segments_in of.now.input.now.face of.now.input.now.boxes k }
     ensures { IfOk result (λ o. IfSome o (λ c. c ≡ content_of_box (measures_in of.now.input.now of.now.parts.now) of.now.lefts.now k)) }
@@ -87,12 +87,12 @@ fn content_of_items(
     of: &Shaping<'_>,
     k: usize,
 ) -> Result<Option<LineContent>, NoMemory>
-    requires shaping { IsShaping of.now.input.now.boxes of.now.lefts.now of.now.inline_containers.now }
+    requires shaping { IsShaping of.now.input.now.boxes of.now.parts.now of.now.lefts.now of.now.inline_containers.now }
     requires place { k < length of.now.input.now.boxes }
     ensures { IfOk result (λ o. IfSome o (λ c. c ≡ content_of_box (measures_in of.now.input.now of.now.parts.now) of.now.lefts.now k)) }
 {
     let measures = measures_in(of);
-    let items = measured_items(alloc, of.input.boxes(), k, of.input.face())?;
+    let items = measured_items(alloc, of.input.boxes(), of.parts, k, of.input.face())?;
     line_content_of_items(alloc, &measures, line_container(of, k), items.as_slice())
 }
 
@@ -112,7 +112,7 @@ fn measures_in<'a>(of: &Shaping<'a>) -> BoxMeasures<'a>
 
 /// The box at k, as the content of its lines takes it.
 fn line_container(of: &Shaping<'_>, k: usize) -> Container
-    requires shaping { IsShaping of.now.input.now.boxes of.now.lefts.now of.now.inline_containers.now }
+    requires shaping { IsShaping of.now.input.now.boxes of.now.parts.now of.now.lefts.now of.now.inline_containers.now }
     requires place { k < length of.now.input.now.boxes }
     ensures { result ≡ line_container (measures_in of.now.input.now of.now.parts.now) of.now.lefts.now k }
 {

@@ -1,3 +1,5 @@
+pub mod GatheredRuns
 pub mod OneText
 pub mod OpenInlines
 pub mod PlainWords
+pub mod Words

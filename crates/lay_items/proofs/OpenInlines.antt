@@ -8,12 +8,11 @@ use Rattle.lay_box_tree.specs.Containers.{box_parent}
 use Rattle.lay_box_tree.specs.Roles.{role_of}
 use Rattle.lay_box_tree.specs.declared.box_role.Role.{Role}
 use Rattle.lay_box_tree.specs.declared.box_role.Role.TheVariants as role
-use Rattle.lay_box_tree.specs.declared.box_tree.BoxKind.{BoxKind}
 use Rattle.lay_box_tree.specs.declared.box_tree.BoxNode.{BoxNode}
-use Rattle.lay_space.specs.declared.item.Mode.{Mode}
 use Rattle.lay_space.specs.declared.item.Item.{Item}
 use Rattle.lay_space.specs.declared.item.Item.TheVariants as item
-use Rattle.lay_items.specs.InlineItems.{items_below, items_at, items_as, mode_at, mode_of}
+use Rattle.lay_items.specs.InlineItems.{items_below, items_at, items_as}
+use Rattle.lay_items.specs.InlineStarts.{takes_room}
 use Rattle.lay_items.specs.OpenBoxes.{to_come, all_items, innermost, Fall, is_inline}
 
 -- none of these boxes is a child of the box at q
@@ -68,15 +67,14 @@ skipped boxes c k (q ∷ qs) b bs fall =
 
 -- and one that stands in the innermost gives that what it gives
 held : (boxes : List BoxNode) (c k : ℕ) (qs : List ℕ) (b : BoxNode) (bs : List BoxNode) → innermost c qs ≡ b.parent → Fall c qs (b.parent + 1)
-    → to_come boxes c qs k (b ∷ bs) ≡ items_at boxes b.parent k b (items_below boxes k (k + 1) bs) ++ to_come boxes c qs (k + 1) bs
+    → to_come boxes c qs k (b ∷ bs) ≡ items_at boxes k b (items_below boxes k (k + 1) bs) ++ to_come boxes c qs (k + 1) bs
 held boxes c k [] b bs inside fall =
     let same : (b.parent == c) ≡ true = eq-eqb b.parent c (sym inside) in
-    rw same (ap (λ p. items_at boxes p k b (items_below boxes k (k + 1) bs) ++ items_below boxes c (k + 1) bs) inside)
+    rw same refl
 held boxes c k (q ∷ qs) b bs inside fall =
     let same : (b.parent == q) ≡ true = eq-eqb b.parent q (sym inside) in
     let less : q ≤ b.parent = omega (arith, inside) in
-    rw (same, skipped boxes c k qs b bs (fall_up c qs q b.parent less fall.1), append_assoc)
-    (ap (λ p. items_at boxes p k b (items_below boxes k (k + 1) bs) ++ (items_below boxes q (k + 1) bs ++ item.End q ∷ to_come boxes c qs (k + 1) bs)) inside)
+    rw (same, skipped boxes c k qs b bs (fall_up c qs q b.parent less fall.1), append_assoc) refl
 
 pub fall_low : (c : ℕ) (qs : List ℕ) (k : ℕ) → Fall c qs k → c < k
 fall_low c [] k is = is
@@ -101,42 +99,42 @@ past_skipped boxes c k items qs b within is fall elsewhere =
     lower [] fall elsewhere = omega (arith, fall, elsewhere)
     lower (q ∷ qs) fall elsewhere = (omega (arith, fall.0, elsewhere), fall.1)
 
-inline_gives : (r : Role) → is_inline r ≡ true → (holder own : Mode) (k : ℕ) (kind : BoxKind) (inside : List Item)
-    → items_as r holder own k kind inside ≡ item.Start k ∷ inside ++ item.End k ∷ []
-inline_gives role.Inline e holder own k kind inside = refl
-inline_gives role.Own e holder own k kind inside = absurd cc
-inline_gives role.Block e holder own k kind inside = absurd cc
-inline_gives role.Solid e holder own k kind inside = absurd cc
-inline_gives role.LeftFloat e holder own k kind inside = absurd cc
-inline_gives role.RightFloat e holder own k kind inside = absurd cc
-inline_gives role.Anchor e holder own k kind inside = absurd cc
-inline_gives role.Text e holder own k kind inside = absurd cc
-inline_gives role.Atomic e holder own k kind inside = absurd cc
-inline_gives role.TablePart e holder own k kind inside = absurd cc
+inline_gives : (r : Role) → is_inline r ≡ true → (boxes : List BoxNode) (k : ℕ) (b : BoxNode) (inside : List Item)
+    → items_as boxes r k b inside ≡ item.Start k (takes_room boxes k b) ∷ inside ++ item.End k ∷ []
+inline_gives role.Inline e boxes k b inside = refl
+inline_gives role.Own e boxes k b inside = absurd cc
+inline_gives role.Block e boxes k b inside = absurd cc
+inline_gives role.Solid e boxes k b inside = absurd cc
+inline_gives role.LeftFloat e boxes k b inside = absurd cc
+inline_gives role.RightFloat e boxes k b inside = absurd cc
+inline_gives role.Anchor e boxes k b inside = absurd cc
+inline_gives role.Text e boxes k b inside = absurd cc
+inline_gives role.Atomic e boxes k b inside = absurd cc
+inline_gives role.TablePart e boxes k b inside = absurd cc
 
 -- the box at k is an inline box that stands in the innermost open one
 pub past_inline : (boxes : List BoxNode) (c k : ℕ) (items : List Item) (qs : List ℕ) (b : BoxNode) → k < length boxes → b ≡ get_or boxes k b
     → Fall c qs (b.parent + 1) → innermost c qs ≡ b.parent → is_inline (role_of b) ≡ true
-    → all_items boxes c items qs k ≡ all_items boxes c (items ++ item.Start k ∷ []) (k ∷ qs) (k + 1)
+    → all_items boxes c items qs k ≡ all_items boxes c (items ++ item.Start k (takes_room boxes k b) ∷ []) (k ∷ qs) (k + 1)
 past_inline boxes c k items qs b within is fall inside inline =
     let next = box_next boxes k b within is in
     let bs = drop (k + 1) boxes in
     let below = items_below boxes k (k + 1) bs in
-    let gives = inline_gives (role_of b) inline (mode_at boxes b.parent) (mode_of b.style.text.white_space) k b.kind below in
+    let gives = inline_gives (role_of b) inline boxes k b below in
     ap (λ xs. items ++ to_come boxes c qs k xs) next
     ∙ ap (λ xs. items ++ xs) (held boxes c k qs b bs inside fall ∙ ap (λ xs. xs ++ to_come boxes c qs (k + 1) bs) gives)
-    ∙ ap (λ xs. items ++ item.Start k ∷ xs) (append_assoc below (item.End k ∷ []) (to_come boxes c qs (k + 1) bs))
-    ∙ sym (append_assoc items (item.Start k ∷ []) (to_come boxes c (k ∷ qs) (k + 1) bs))
+    ∙ ap (λ xs. items ++ item.Start k (takes_room boxes k b) ∷ xs) (append_assoc below (item.End k ∷ []) (to_come boxes c qs (k + 1) bs))
+    ∙ sym (append_assoc items (item.Start k (takes_room boxes k b) ∷ []) (to_come boxes c (k ∷ qs) (k + 1) bs))
 
 -- the box at k is another one that stands there
 pub past_leaf : (boxes : List BoxNode) (c k : ℕ) (items : List Item) (qs : List ℕ) (b : BoxNode) → k < length boxes → b ≡ get_or boxes k b
     → Fall c qs (b.parent + 1) → innermost c qs ≡ b.parent → (after : List Item)
-    → after ≡ items ++ items_at boxes b.parent k b (items_below boxes k (k + 1) (drop (k + 1) boxes))
+    → after ≡ items ++ items_at boxes k b (items_below boxes k (k + 1) (drop (k + 1) boxes))
     → all_items boxes c items qs k ≡ all_items boxes c after qs (k + 1)
 past_leaf boxes c k items qs b within is fall inside after put =
     let next = box_next boxes k b within is in
     let bs = drop (k + 1) boxes in
-    let own = items_at boxes b.parent k b (items_below boxes k (k + 1) bs) in
+    let own = items_at boxes k b (items_below boxes k (k + 1) bs) in
     ap (λ xs. items ++ to_come boxes c qs k xs) next
     ∙ ap (λ xs. items ++ xs) (held boxes c k qs b bs inside fall)
     ∙ sym (append_assoc items own (to_come boxes c qs (k + 1) bs))

@@ -19,6 +19,7 @@ use Rattle.lay_space.specs.declared.item.Mode.{Mode}
 use Rattle.lay_space.specs.declared.item.Mode.TheVariants as mode
 use Rattle.lay_space.specs.declared.item.Item.{Item}
 use Rattle.lay_space.specs.declared.item.Item.TheVariants as item
+use Rattle.lay_items.specs.InlineStarts.{takes_room}
 
 abbrev pub mode_of : WhiteSpace → Mode
 mode_of space.Normal = mode.Normal
@@ -36,29 +37,28 @@ abbrev pub text_of : BoxKind → List ℕ
 text_of (kind.Text text) = text
 text_of _ = []
 
--- what the box at k gives, where it has this role and its children give what is `inside`. An atomic box stands under the
+-- what the box b at k gives, where it has this role and its children give what is `inside`. An atomic box stands under the
 -- `white-space` of the box that directly holds it.
-abbrev pub items_as : Role → Mode → Mode → ℕ → BoxKind → List Item → List Item
-items_as role.Text holder own k kind inside = item.Text k (text_of kind) own [] ∷ []
-items_as role.Inline holder own k kind inside = item.Start k ∷ inside ++ item.End k ∷ []
-items_as role.Atomic holder own k kind inside = item.Atomic k holder ∷ []
-items_as role.LeftFloat holder own k kind inside = item.Float k ∷ []
-items_as role.RightFloat holder own k kind inside = item.Float k ∷ []
-items_as role.Anchor holder own k kind inside = item.Anchor k ∷ []
-items_as role.Own holder own k kind inside = []
-items_as role.Block holder own k kind inside = []
-items_as role.Solid holder own k kind inside = []
-items_as role.TablePart holder own k kind inside = []
+abbrev pub items_as : List BoxNode → Role → ℕ → BoxNode → List Item → List Item
+items_as boxes role.Text k b inside = item.Text k (text_of b.kind) (mode_of b.style.text.white_space) [] ∷ []
+items_as boxes role.Inline k b inside = item.Start k (takes_room boxes k b) ∷ inside ++ item.End k ∷ []
+items_as boxes role.Atomic k b inside = item.Atomic k (mode_at boxes b.parent) ∷ []
+items_as boxes role.LeftFloat k b inside = item.Float k ∷ []
+items_as boxes role.RightFloat k b inside = item.Float k ∷ []
+items_as boxes role.Anchor k b inside = item.Anchor k ∷ []
+items_as boxes role.Own k b inside = []
+items_as boxes role.Block k b inside = []
+items_as boxes role.Solid k b inside = []
+items_as boxes role.TablePart k b inside = []
 
--- what the box at k gives, of which p is the place of the parent
-abbrev pub items_at : List BoxNode → ℕ → ℕ → BoxNode → List Item → List Item
-items_at boxes p k b inside = items_as (role_of b) (mode_at boxes p) (mode_of b.style.text.white_space) k b.kind inside
+abbrev pub items_at : List BoxNode → ℕ → BoxNode → List Item → List Item
+items_at boxes k b inside = items_as boxes (role_of b) k b inside
 
 -- what the children of the box at p give that stand from the place k on, where these boxes stand
 abbrev pub items_below : List BoxNode → ℕ → ℕ → List BoxNode → List Item
 items_below boxes p k [] = []
 items_below boxes p k (b ∷ bs) =
-    if b.parent == p then items_at boxes p k b (items_below boxes k (k + 1) bs) ++ items_below boxes p (k + 1) bs
+    if b.parent == p then items_at boxes k b (items_below boxes k (k + 1) bs) ++ items_below boxes p (k + 1) bs
     else items_below boxes p (k + 1) bs
 
 -- what stands in the lines of the block container at c

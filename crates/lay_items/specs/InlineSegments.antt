@@ -29,7 +29,7 @@ widths_in face (Some b) text = gathered text (widths_of face (setting_of b.style
 abbrev pub measured_item : FaceValue → List BoxNode → Item → Item
 measured_item face boxes (item.Text k text mode widths) = item.Text k text mode (widths_in face (slice_get boxes k) text)
 measured_item face boxes (item.Atomic k mode) = item.Atomic k mode
-measured_item face boxes (item.Start k) = item.Start k
+measured_item face boxes (item.Start k takes) = item.Start k takes
 measured_item face boxes (item.End k) = item.End k
 measured_item face boxes (item.Float k) = item.Float k
 measured_item face boxes (item.Anchor k) = item.Anchor k

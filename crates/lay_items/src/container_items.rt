@@ -2,24 +2,28 @@
 
 ghost use Rattle.std.specs.Prelude.{ℕ, ◌≡◌, ◌<◌, ◌≤◌, [], length, drop, reverse, IfOk};
 ghost use Rattle.lay_doc.specs.Tree.{IsTree};
+ghost use Rattle.lay_box_parts.specs.InlineParts.{AreInlineParts};
 ghost use Rattle.lay_box_tree.specs.BoxColumns.{box_parents};
 ghost use Rattle.lay_items.specs.InlineItems.{items_below, items_of};
 ghost use Rattle.lay_items.specs.OpenBoxes.{Fall, all_items};
 
 use crate::open_boxes::OpenBoxes;
+use lay_box_parts::InlinePart;
 use lay_box_tree::BoxNode;
 use lay_space::ItemList;
 use lay_units::NoMemory;
 use std::alloc::Global;
 
-/// What stands in the lines of the block container at a place of a context's boxes, in the order of the box tree
-/// (CSS 2.2, 9.2.2, 9.4.2 and 9.5). Each item is named by the place of its box.
+/// What stands in the lines of the block container at a place of a context's boxes, which are these parts of inline boxes,
+/// in the order of the box tree (CSS 2.2, 9.2.2, 9.4.2 and 9.5). Each item is named by the place of its box.
 pub fn inline_items(
     alloc: Global,
     boxes: &[BoxNode],
+    parts: &[InlinePart],
     container: usize,
 ) -> Result<ItemList, NoMemory>
     requires tree { IsTree (box_parents boxes.now) }
+    requires parts { AreInlineParts boxes.now parts.now }
     requires few { length boxes.now ≤ 4294967295 }
     requires there { container < length boxes.now }
     ensures { IfOk result (λ l. l ≡ items_of boxes.now container) }
@@ -33,7 +37,7 @@ pub fn inline_items(
         if boxes[place].parent < below.container {
             return all_items(below, boxes, place);
         }
-        below.put(alloc, boxes, place as u32)?;
+        below.put(alloc, boxes, parts, place as u32)?;
     }
     all_items(below, boxes, boxes.len())
 }

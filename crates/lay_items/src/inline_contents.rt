@@ -2,6 +2,7 @@
 
 ghost use Rattle.std.specs.Prelude.{List, ◌≡◌, ◌≤◌, [], length, Some, None, IfOk, IfSome};
 ghost use Rattle.lay_doc.specs.Tree.{IsTree};
+ghost use Rattle.lay_box_parts.specs.InlineParts.{AreInlineParts};
 ghost use Rattle.lay_box_tree.specs.BoxColumns.{box_parents};
 ghost use Rattle.lay_box_tree.specs.declared.box_tree.BoxNode.{BoxNode};
 ghost use Rattle.lay_face.specs.FaceValue.{FaceValue};
@@ -9,6 +10,7 @@ ghost use Rattle.lay_items.specs.InlineContents.{AreContents, AreMarkedContents,
 ghost use Rattle.lay_items.specs.InlineSegments.{segments_in};
 
 use crate::container_segments::inline_segments;
+use lay_box_parts::{InlinePart, inline_parts};
 use lay_box_tree::BoxNode;
 use lay_face::Face;
 use lay_space::{Segment, SegmentList};
@@ -72,7 +74,8 @@ impl InlineContents {
         if boxes.len() > MOST_BOXES {
             return Err(NoMemory);
         }
-        let lists = kept_segments(alloc, boxes, face, marked)?;
+        let parts = inline_parts(alloc, boxes)?;
+        let lists = kept_segments(alloc, boxes, &parts, face, marked)?;
         let shared = Arc::new(alloc, KeptSegments { lists })?;
         Ok(InlineContents {
             shared: Some(shared),
@@ -121,10 +124,12 @@ impl KeptSegments {
 fn kept_segments(
     alloc: Global,
     boxes: &[BoxNode],
+    parts: &[InlinePart],
     face: &Face,
     marked: &[bool],
 ) -> Result<Vec<Option<SegmentList>>, NoMemory>
     requires tree { IsTree (box_parents boxes.now) }
+    requires parts { AreInlineParts boxes.now parts.now }
     requires few { length boxes.now ≤ 4294967295 }
     requires count { length marked.now ≡ length boxes.now }
     ensures { IfOk result (λ v. AreMarkedContents face.now boxes.now marked.now v.items) }
@@ -132,7 +137,7 @@ fn kept_segments(
     let mut lists = Vec::with_capacity(alloc, marked.len())?;
     for k in 0..marked.len() {
         let list = if marked[k] {
-            Some(inline_segments(alloc, boxes, k, face)?)
+            Some(inline_segments(alloc, boxes, parts, k, face)?)
         } else {
             None
         };

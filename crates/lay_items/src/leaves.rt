@@ -25,7 +25,7 @@ pub fn put_leaf(
     requires parent { node.now.parent < length boxes.now }
     requires leaf { is_inline (role_of node.now) ≡ false }
     ensures { OnOk result ((inside : List Item) → items.new.items
-        ≡ items.old.items ++ items_at boxes.now node.now.parent place node.now inside) }
+        ≡ items.old.items ++ items_at boxes.now place node.now inside) }
 {
     let item = match node.role() {
         Role::Text => text_item(alloc, node, place)?,

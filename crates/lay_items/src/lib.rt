@@ -10,6 +10,7 @@ mod container_items;
 mod container_segments;
 mod gathered;
 mod inline_contents;
+mod inline_starts;
 mod leaves;
 mod measured;
 mod modes;

@@ -56,7 +56,7 @@ fn measured_item(
             widths: widths_at(alloc, face, boxes, *node, text.as_str())?,
         },
         Item::Atomic(node, mode) => Item::Atomic(*node, *mode),
-        Item::Start(node) => Item::Start(*node),
+        Item::Start(node, takes_room) => Item::Start(*node, *takes_room),
         Item::End(node) => Item::End(*node),
         Item::Float(node) => Item::Float(*node),
         Item::Anchor(node) => Item::Anchor(*node),

@@ -2,6 +2,7 @@
 
 ghost use Rattle.std.specs.Prelude.{ℕ, ◌≡◌, ◌<◌, ◌≤◌, ◌+◌, ◌∷◌, ◌++◌, [], length, drop, reverse, Some, IfOk, OnOk};
 ghost use Rattle.lay_doc.specs.Tree.{IsTree};
+ghost use Rattle.lay_box_parts.specs.InlineParts.{AreInlineParts};
 ghost use Rattle.lay_box_tree.specs.BoxColumns.{box_parents};
 ghost use Rattle.lay_box_tree.specs.Containers.{box_parent};
 ghost use Rattle.lay_space.specs.declared.item.Item.TheVariants as item;
@@ -9,7 +10,9 @@ ghost use Rattle.lay_items.specs.InlineItems.{items_below};
 ghost use Rattle.lay_box_tree.specs.Roles.{role_of};
 ghost use Rattle.lay_items.specs.OpenBoxes.{Fall, all_items, innermost, is_inline};
 
+use crate::inline_starts::takes_room;
 use crate::leaves::put_leaf;
+use lay_box_parts::InlinePart;
 use lay_box_tree::{BoxNode, Role};
 use lay_space::Item;
 use lay_units::NoMemory;
@@ -25,8 +28,15 @@ pub struct OpenBoxes {
 
 impl OpenBoxes {
     /// Puts what the box at a place gives by itself, behind the ends of the boxes that are over.
-    pub fn put(&mut self, alloc: Global, boxes: &[BoxNode], place: u32) -> Result<(), NoMemory>
+    pub fn put(
+        &mut self,
+        alloc: Global,
+        boxes: &[BoxNode],
+        parts: &[InlinePart],
+        place: u32,
+    ) -> Result<(), NoMemory>
         requires tree { IsTree (box_parents boxes.now) }
+        requires parts { AreInlineParts boxes.now parts.now }
         requires there { place < length boxes.now }
         requires below { self.old.container ≤ box_parent boxes.now place }
         requires order { Fall self.old.container (reverse self.old.inlines.items) place }
@@ -41,7 +51,8 @@ impl OpenBoxes {
             return Ok(());
         }
         if is_inline(node) {
-            self.begin(place)?;
+            let takes_room = takes_room(boxes, parts, node, place as usize);
+            self.begin(place, takes_room)?;
             return Ok(());
         }
         put_leaf(alloc, &mut self.items, boxes, node, place)?;
@@ -73,12 +84,12 @@ impl OpenBoxes {
     }
 
     /// Begins the inline box at a place.
-    fn begin(&mut self, place: u32) -> Result<(), NoMemory>
-        ensures items { OnOk result (self.new.items.items ≡ self.old.items.items ++ item.Start place ∷ []) }
+    fn begin(&mut self, place: u32, takes_room: bool) -> Result<(), NoMemory>
+        ensures items { OnOk result (self.new.items.items ≡ self.old.items.items ++ item.Start place takes_room ∷ []) }
         ensures inlines { OnOk result (reverse self.new.inlines.items ≡ place ∷ reverse self.old.inlines.items) }
         ensures container { self.new.container ≡ self.old.container }
     {
-        push_item(&mut self.items, Item::Start(place))?;
+        push_item(&mut self.items, Item::Start(place, takes_room))?;
         self.inlines.push(place)?;
         Ok(())
     }

@@ -1,2 +1,3 @@
 pub mod WidestLines
 pub mod ChildrenBefore
+pub mod ChildLaws

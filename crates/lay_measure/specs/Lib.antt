@@ -7,3 +7,4 @@ pub mod WidestLine
 pub mod Children
 pub mod ChildTotals
 pub mod PreferredWidths
+pub mod Laws

@@ -101,7 +101,7 @@ text_parts m text (w ∷ ws) = part_between m text w (next_place text ws) ∷ te
 
 abbrev pub parts_at : MeasureInValue → Item → List LinePart
 parts_at m (item.Text k text mode widths) = text_parts mode text widths
-parts_at m (item.Start k) = start_in m k (slice_get m.boxes k) ∷ []
+parts_at m (item.Start k takes) = start_in m k (slice_get m.boxes k) ∷ []
 parts_at m (item.End k) = end_in m k (slice_get m.boxes k) ∷ []
 parts_at m (item.Atomic k mode) = part.Atomic (contribution_at m k) ∷ []
 parts_at m (item.Float k) = part.Float (contribution_at m k) ∷ []

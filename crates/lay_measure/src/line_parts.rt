@@ -73,7 +73,7 @@ fn put_item(parts: &mut Vec<LinePart>, of: &MeasureIn<'_>, item: &Item) -> Resul
             widths,
             ..
         } => put_text(parts, *mode, text.as_str().as_bytes(), widths.as_slice()),
-        Item::Start(place) => push_part(parts, start_at(of, *place)?),
+        Item::Start(place, _) => push_part(parts, start_at(of, *place)?),
         Item::End(place) => push_part(parts, end_at(of, *place)?),
         Item::Atomic(place, _) => push_part(parts, LinePart::Atomic(contribution_at(of, *place)?)),
         Item::Float(place) => push_part(parts, LinePart::Float(contribution_at(of, *place)?)),

@@ -1,6 +1,7 @@
 //! What preferred widths depend on.
 
 ghost use Rattle.std.specs.Prelude.{◌≡◌, IfSome};
+ghost use Rattle.lay_box_parts.specs.InlineParts.{AreInlineParts};
 ghost use Rattle.lay_items.specs.InlineContents.{AreContents};
 ghost use Rattle.lay_items.specs.InlineSegments.{segments_in};
 ghost use Rattle.lay_measure.specs.MeasureInValue.{inner_at, part_at};
@@ -27,6 +28,7 @@ pub struct MeasureIn<'a> {
 
 impl<'a> Model for MeasureIn<'a> {
     ghost use Rattle.std.specs.Prelude.{IfSome};
+    ghost use Rattle.lay_box_parts.specs.InlineParts.{AreInlineParts};
     ghost use Rattle.lay_items.specs.InlineContents.{AreContents};
     ghost use Rattle.lay_measure.specs.MeasureInValue.{MeasureInValue};
 
@@ -39,7 +41,7 @@ impl<'a> Model for MeasureIn<'a> {
       face = m.face.now;
     } };
 
-    ghost invariant = { λ m. IfSome m.contents (λ c. AreContents m.face.now m.boxes.now c.now) };
+    ghost invariant = { λ m. AreInlineParts m.boxes.now m.parts.now × IfSome m.contents (λ c. AreContents m.face.now m.boxes.now c.now) };
 }
 
 impl<'a> MeasureIn<'a> {
@@ -50,6 +52,7 @@ impl<'a> MeasureIn<'a> {
         inner: &'a [PreferredWidths],
         face: &'a Face,
     ) -> MeasureIn<'a>
+        requires { AreInlineParts boxes.now parts.now }
         ensures { result ≡ record { boxes = boxes.now; parts = parts.now; inner = inner.now; face = face.now } }
     {
         MeasureIn {
@@ -86,6 +89,13 @@ impl<'a> MeasureIn<'a> {
         ensures { result.now ≡ self.now.boxes }
     {
         self.boxes
+    }
+
+    /// Which parts of inline boxes they are.
+    pub(crate) fn parts(&self) -> &'a [InlinePart]
+        ensures { AreInlineParts self.now.boxes result.now }
+    {
+        self.parts
     }
 
     pub(crate) fn face(&self) -> &'a Face

@@ -218,6 +218,6 @@ fn styled_widths(
     if let Some(segments) = of.segments_at(k) {
         return inline_widths(alloc, of, style, segments);
     }
-    let segments = inline_segments(alloc, of.boxes(), k, of.face())?;
+    let segments = inline_segments(alloc, of.boxes(), of.parts(), k, of.face())?;
     inline_widths(alloc, of, style, segments.as_slice())
 }

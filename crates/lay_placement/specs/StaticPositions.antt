@@ -22,7 +22,7 @@ abbrev pub is_anchor_of : ℕ → Item → Bool
 is_anchor_of k (item.Anchor j) = j == k
 is_anchor_of k (item.Text j text mode widths) = false
 is_anchor_of k (item.Atomic j mode) = false
-is_anchor_of k (item.Start j) = false
+is_anchor_of k (item.Start j takes) = false
 is_anchor_of k (item.End j) = false
 is_anchor_of k (item.Float j) = false
 

@@ -13,6 +13,7 @@ ghost use Rattle.lay_placement.specs.StaticPositions.{anchor_line, line_top};
 
 use crate::context_places::{BoxPlaces, rows_at};
 use crate::standings::is_anchor;
+use lay_box_parts::inline_parts;
 use lay_box_tree::{BoxKind, BoxNode};
 use lay_context_boxes::ContextBoxes;
 use lay_flow_boxes::PlaceInput;
@@ -116,7 +117,8 @@ fn put_lines(
         put_rows(tops, &of, rows, segments);
         return Ok(());
     }
-    let segments = inline_segments(alloc, input.boxes(), c, input.face())?;
+    let parts = inline_parts(alloc, input.boxes())?;
+    let segments = inline_segments(alloc, input.boxes(), &parts, c, input.face())?;
     put_rows(tops, &of, rows, segments.as_slice());
     Ok(())
 }

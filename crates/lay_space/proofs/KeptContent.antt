@@ -6,7 +6,7 @@ use Rattle.lay_space.specs.declared.tokens.Token.{Token}
 use Rattle.lay_space.specs.declared.tokens.Token.TheVariants.{Cluster, TextEnd, Atomic, Start, End, Float, Anchor}
 use Rattle.lay_space.specs.declared.breaks.Entry.{Entry}
 use Rattle.lay_space.specs.declared.breaks.Entry.TheVariants.{Content, Break}
-use Rattle.lay_space.specs.Breaks.{broken, front_break, back_break, break_after, breaks_before, solid_after, is_solid, settled, goes_back, waits, keeps_ends, flushed, entries_of}
+use Rattle.lay_space.specs.Breaks.{broken, front_break, back_break, break_after, breaks_before, solid_after, is_solid, settled, goes_back, waits, is_start, flushed, entries_of}
 use Rattle.lay_space.specs.Laws.{content_of, is_out_of_flow, BreaksKeepContent}
 
 content_append : (a b : List Entry) → content_of (a ++ b) ≡ content_of a ++ content_of b
@@ -30,7 +30,7 @@ abbrev pub Stays : (Token → Bool) → (Bool → Bool → List Entry → Type 0
 Stays p Holds = (x : Token) (f started : Bool) (held : List Entry) → Holds f started held → goes_back x f started ≡ true → p x ≡ true → passing p held ≡ []
 
 abbrev pub Grows : (Bool → Bool → List Entry → Type 0) → Type 0
-Grows Holds = (x : Token) (f started : Bool) (held : List Entry) → Holds f started held → goes_back x f started ≡ false → waits x ≡ true → Holds f (started || keeps_ends x) (held ++ Content x ∷ [])
+Grows Holds = (x : Token) (f started : Bool) (held : List Entry) → Holds f started held → goes_back x f started ≡ false → waits x ≡ true → Holds f (started || is_start x) (held ++ Content x ∷ [])
 
 front_moved : (b : Bool) (x : Token) (h rest : List Token) → (b ≡ true → h ≡ []) → cond b (x ∷ h ++ rest) (h ++ rest) ≡ h ++ cond b (x ∷ rest) rest
 front_moved true x h rest none = ap (λ a. x ∷ a ++ rest) (none refl) ∙ sym (ap (λ a. a ++ x ∷ rest) (none refl))
@@ -43,10 +43,10 @@ at_end p at held x rest xs e =
     ∙ ap (λ a. passing p held ++ cond (p x) (x ∷ a) a) e
 
 one : (p : Token → Bool) (x : Token) (f started : Bool) (held xs : List Entry) (b w : Bool) → passing p (settled (Some f) started held xs) ≡ passing p held ++ passing p xs
-    → (b ≡ false → w ≡ true → passing p (settled (Some f) (started || keeps_ends x) (held ++ Content x ∷ []) xs) ≡ passing p (held ++ Content x ∷ []) ++ passing p xs)
+    → (b ≡ false → w ≡ true → passing p (settled (Some f) (started || is_start x) (held ++ Content x ∷ []) xs) ≡ passing p (held ++ Content x ∷ []) ++ passing p xs)
     → passing p (settled None false [] xs) ≡ passing p xs → (b ≡ true → p x ≡ true → passing p held ≡ [])
     → passing p (if b then Content x ∷ settled (Some f) started held xs
-    else (if w then settled (Some f) (started || keeps_ends x) (held ++ Content x ∷ []) xs else flushed (Some f) held ++ Content x ∷ settled None false [] xs))
+    else (if w then settled (Some f) (started || is_start x) (held ++ Content x ∷ []) xs else flushed (Some f) held ++ Content x ∷ settled None false [] xs))
     ≡ passing p held ++ passing p (Content x ∷ xs)
 one p x f started held xs true w same more none stays =
     ap (λ a. cond (p x) (x ∷ a) a) same ∙ front_moved (p x) x (passing p held) (passing p xs) (stays refl)
@@ -68,7 +68,7 @@ keeps p Holds stays grows fresh at started held (Break f ∷ xs) is =
 keeps p Holds stays grows fresh None started held (Content x ∷ xs) is = at_end p None held x (settled None false [] xs) xs (keeps p Holds stays grows fresh None false [] xs tt)
 keeps p Holds stays grows fresh (Some f) started held (Content x ∷ xs) is =
     one p x f started held xs (goes_back x f started) (waits x) (keeps p Holds stays grows fresh (Some f) started held xs is)
-    (λ e w. keeps p Holds stays grows fresh (Some f) (started || keeps_ends x) (held ++ Content x ∷ []) xs (grows x f started held is e w))
+    (λ e w. keeps p Holds stays grows fresh (Some f) (started || is_start x) (held ++ Content x ∷ []) xs (grows x f started held is e w))
     (keeps p Holds stays grows fresh None false [] xs tt) (λ e passes. stays x f started held is e passes)
 
 content_one : (a : Bool) (b : Option Bool) (x : Token) (es : List Entry) → content_of (front_break a ++ Content x ∷ back_break b ++ es) ≡ x ∷ content_of es
@@ -123,7 +123,7 @@ flow_stays : Stays in_flow WaitsInFlow
 flow_stays (Cluster c) f started held is back passes = absurd cc
 flow_stays TextEnd f started held is back passes = is (off started back)
 flow_stays (Atomic n m) f started held is back passes = absurd cc
-flow_stays (Start n) f started held is back passes = absurd cc
+flow_stays (Start n takes) f started held is back passes = absurd cc
 flow_stays (End n) f started held is back passes = is (off started back)
 flow_stays (Float n) f started held is back passes = absurd cc
 flow_stays (Anchor n) f started held is back passes = absurd cc
@@ -132,10 +132,10 @@ flow_grows : Grows WaitsInFlow
 flow_grows (Cluster c) f started held is stays can = absurd cc
 flow_grows TextEnd f started held is stays can = λ e. absurd (clash started (on started stays) (left_off started false e))
 flow_grows (Atomic n m) f started held is stays can = absurd cc
-flow_grows (Start n) f started held is stays can = λ e. absurd (clash true refl (right_off started true e))
+flow_grows (Start n takes) f started held is stays can = λ e. absurd (clash true refl (right_off started true e))
 flow_grows (End n) f started held is stays can = λ e. absurd (clash started (on started stays) (left_off started false e))
-flow_grows (Float n) f started held is stays can = λ e. absurd (clash true refl (right_off started true e))
-flow_grows (Anchor n) f started held is stays can = λ e. absurd (clash true refl (right_off started true e))
+flow_grows (Float n) f started held is stays can = λ e. none_more in_flow held (Float n) refl (is (left_off started false e))
+flow_grows (Anchor n) f started held is stays can = λ e. none_more in_flow held (Anchor n) refl (is (left_off started false e))
 
 -- behind a break that isn't forced no float waits
 abbrev pub WaitsOut : Bool → Bool → List Entry → Type 0
@@ -145,7 +145,7 @@ out_stays : Stays is_out_of_flow WaitsOut
 out_stays (Cluster c) f started held is back passes = absurd cc
 out_stays TextEnd f started held is back passes = absurd cc
 out_stays (Atomic n m) f started held is back passes = absurd cc
-out_stays (Start n) f started held is back passes = absurd cc
+out_stays (Start n takes) f started held is back passes = absurd cc
 out_stays (End n) f started held is back passes = absurd cc
 out_stays (Float n) f started held is back passes = is (off f back)
 out_stays (Anchor n) f started held is back passes = is (off f back)
@@ -154,7 +154,7 @@ out_grows : Grows WaitsOut
 out_grows (Cluster c) f started held is stays can = absurd cc
 out_grows TextEnd f started held is stays can = λ e. none_more is_out_of_flow held TextEnd refl (is e)
 out_grows (Atomic n m) f started held is stays can = absurd cc
-out_grows (Start n) f started held is stays can = λ e. none_more is_out_of_flow held (Start n) refl (is e)
+out_grows (Start n takes) f started held is stays can = λ e. none_more is_out_of_flow held (Start n takes) refl (is e)
 out_grows (End n) f started held is stays can = λ e. none_more is_out_of_flow held (End n) refl (is e)
 out_grows (Float n) f started held is stays can = λ e. absurd (clash f (on f stays) e)
 out_grows (Anchor n) f started held is stays can = λ e. absurd (clash f (on f stays) e)

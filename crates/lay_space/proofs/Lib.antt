@@ -1,3 +1,4 @@
+pub mod BreakPlaces
 pub mod CleanTexts
 pub mod Collapsed
 pub mod KeptContent

@@ -1,5 +1,5 @@
 -- Collapsed text has no tab, and no space after a space (CSS 2.2, 16.6.1). Breaks are put into content without
--- another change to it than that floats and anchors may stand earlier.
+-- another change to it than that floats and anchors may stand earlier, and they are where 16.6 lets them be.
 use Rattle.std.specs.Prelude.{ℕ, ◌≡◌, ◌≢◌, ◌==◌, List, [], ◌∷◌, Bool, true, false, not}
 use Rattle.std.specs.List.{filter}
 use Rattle.lay_space.specs.declared.item.Mode.{Mode}
@@ -9,6 +9,7 @@ use Rattle.lay_space.specs.declared.breaks.Entry.{Entry}
 use Rattle.lay_space.specs.declared.breaks.Entry.TheVariants.{Content, Break}
 use Rattle.lay_space.specs.WhiteSpace.{left_over}
 use Rattle.lay_space.specs.Breaks.{entries_of}
+use Rattle.lay_space.specs.BreakPlaces.{is_break_or_solid, with_breaks}
 
 -- none of these is a tab, and none a space that stands after a space (`after_space` says so of the first)
 abbrev pub IsCollapsed : Bool → List ℕ → Type 0
@@ -29,7 +30,7 @@ abbrev pub is_out_of_flow : Token → Bool
 is_out_of_flow (Cluster c) = false
 is_out_of_flow TextEnd = false
 is_out_of_flow (Atomic n m) = false
-is_out_of_flow (Start n) = false
+is_out_of_flow (Start n takes) = false
 is_out_of_flow (End n) = false
 is_out_of_flow (Float n) = true
 is_out_of_flow (Anchor n) = true
@@ -41,3 +42,7 @@ pub record KeepsContent (xs ys : List Token) : Type 0 where
 
 abbrev pub BreaksKeepContent : Type 0
 BreaksKeepContent = (xs : List Token) → KeepsContent xs (content_of (entries_of xs))
+
+-- between clusters and atomics, whatever else stands there
+abbrev pub LinesBreakWhereTheyMay : Type 0
+LinesBreakWhereTheyMay = (xs : List Token) → filter is_break_or_solid (entries_of xs) ≡ with_breaks xs

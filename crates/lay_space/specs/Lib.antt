@@ -1,3 +1,4 @@
+pub mod BreakPlaces
 pub mod Breaks
 pub mod CleanTexts
 pub mod ItemLists

@@ -28,7 +28,7 @@ abbrev pub bytes_of : Option Item → List ℕ
 bytes_of None = []
 bytes_of (Some (item.Text node text mode widths)) = text
 bytes_of (Some (item.Atomic n m)) = []
-bytes_of (Some (item.Start n)) = []
+bytes_of (Some (item.Start n takes)) = []
 bytes_of (Some (item.End n)) = []
 bytes_of (Some (item.Float n)) = []
 bytes_of (Some (item.Anchor n)) = []
@@ -59,7 +59,7 @@ abbrev pub is_cluster : Token → Bool
 is_cluster (token.Cluster c) = true
 is_cluster token.TextEnd = false
 is_cluster (token.Atomic n m) = false
-is_cluster (token.Start n) = false
+is_cluster (token.Start n takes) = false
 is_cluster (token.End n) = false
 is_cluster (token.Float n) = false
 is_cluster (token.Anchor n) = false
@@ -72,7 +72,7 @@ cut items current held (entry.Break f ∷ xs) = record { items = current ++ text
 cut items current held (entry.Content (token.Cluster c) ∷ xs) = cut items current (held ++ c ∷ []) xs
 cut items current held (entry.Content token.TextEnd ∷ xs) = cut items (current ++ text_of items held) [] xs
 cut items current held (entry.Content (token.Atomic n m) ∷ xs) = cut items (current ++ text_of items held ++ item.Atomic n m ∷ []) [] xs
-cut items current held (entry.Content (token.Start n) ∷ xs) = cut items (current ++ text_of items held ++ item.Start n ∷ []) [] xs
+cut items current held (entry.Content (token.Start n takes) ∷ xs) = cut items (current ++ text_of items held ++ item.Start n takes ∷ []) [] xs
 cut items current held (entry.Content (token.End n) ∷ xs) = cut items (current ++ text_of items held ++ item.End n ∷ []) [] xs
 cut items current held (entry.Content (token.Float n) ∷ xs) = cut items (current ++ text_of items held ++ item.Float n ∷ []) [] xs
 cut items current held (entry.Content (token.Anchor n) ∷ xs) = cut items (current ++ text_of items held ++ item.Anchor n ∷ []) [] xs

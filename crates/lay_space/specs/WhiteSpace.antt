@@ -62,7 +62,7 @@ processed after_space [] = []
 processed after_space (Text node text mode widths ∷ xs) =
     Text node (text_left after_space mode text) mode [] ∷ processed (space_after after_space mode text) xs
 processed after_space (Atomic node mode ∷ xs) = Atomic node mode ∷ processed false xs
-processed after_space (Start node ∷ xs) = Start node ∷ processed after_space xs
+processed after_space (Start node takes ∷ xs) = Start node takes ∷ processed after_space xs
 processed after_space (End node ∷ xs) = End node ∷ processed after_space xs
 processed after_space (Float node ∷ xs) = Float node ∷ processed after_space xs
 processed after_space (Anchor node ∷ xs) = Anchor node ∷ processed after_space xs

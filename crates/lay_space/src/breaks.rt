@@ -36,7 +36,6 @@ ghost use Rattle.lay_space.specs.Breaks.{
   goes_back,
   waits,
   is_start,
-  keeps_ends,
   flushed,
   entries_of,
 };
@@ -132,7 +131,7 @@ fn breaks_before(token: Token, next: &[Token], atomic: Option<bool>) -> bool
     let _ = next;
     match token {
         Token::Atomic(_, mode) => mode.wraps(),
-        Token::Start(_) => match atomic {
+        Token::Start(_, _) => match atomic {
             Some(atomic) => atomic,
             None => false,
         },
@@ -215,11 +214,11 @@ fn solid_after(here: Option<bool>, solid: bool) -> bool
     }
 }
 
-fn is_start(token: Token) -> bool
+pub fn is_start(token: Token) -> bool
     ensures { result ≡ is_start token }
 {
     match token {
-        Token::Start(_) => true,
+        Token::Start(_, _) => true,
         _ => false,
     }
 }

@@ -120,7 +120,9 @@ impl Cutter {
             Token::Cluster(_) => Ok(()),
             Token::TextEnd => self.close(alloc, items),
             Token::Atomic(node, mode) => self.put_item(alloc, items, Item::Atomic(node, mode)),
-            Token::Start(node) => self.put_item(alloc, items, Item::Start(node)),
+            Token::Start(node, takes_room) => {
+                self.put_item(alloc, items, Item::Start(node, takes_room))
+            }
             Token::End(node) => self.put_item(alloc, items, Item::End(node)),
             Token::Float(node) => self.put_item(alloc, items, Item::Float(node)),
             Token::Anchor(node) => self.put_item(alloc, items, Item::Anchor(node)),

@@ -59,7 +59,9 @@ pub enum Item {
         widths: WidthList,
     },
     Atomic(u32, Mode),
-    Start(u32),
+    /// Whether its left margin, border or padding isn't 0 (8.3 to 8.5): then it takes room, and is content for the floats
+    /// and anchors in it.
+    Start(u32, bool),
     End(u32),
     Float(u32),
     Anchor(u32),

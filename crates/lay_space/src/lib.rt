@@ -3,8 +3,9 @@
 //!
 //! Contracts cite `processed` of `specs/WhiteSpace.antt` and `segments_of` of `specs/Segments.antt`,
 //! which stands on `specs/Tokens.antt` (clusters and what they are to a line) and `specs/Breaks.antt`
-//! (where lines may break). Laws: no space follows another where spaces collapse, and breaks are put
-//! into the content without a change to it (`specs/Laws.antt`).
+//! (where lines may break). Laws (`specs/Laws.antt`): no space follows another where spaces collapse;
+//! breaks are put into the content without a change to it, and stand between the clusters and atomic boxes
+//! where 16.6 lets them (`specs/BreakPlaces.antt`).
 #![tactic(auto)]
 
 mod breaks;
@@ -19,7 +20,7 @@ mod white_space;
 
 pub use cutting::is_boundary;
 pub use item::{Item, ItemList, Mode};
-pub use laws::{breaks_keep_content, no_space_after_space};
+pub use laws::{breaks_keep_content, lines_break_where_they_may, no_space_after_space};
 pub use segment::{Segment, SegmentList};
 pub use settling::segments;
 pub use tokens::{ClusterKind, cluster_kind, next_place};

@@ -3,10 +3,10 @@
 ghost use Rattle.std.specs.Prelude.{◌≡◌, [], ◌∷◌, ◌++◌, List, None, false, IfOk, OnOk};
 ghost use Rattle.lay_space.specs.declared.breaks.Entry.{Entry};
 ghost use Rattle.lay_space.specs.declared.breaks.Entry.TheVariants as entry;
-ghost use Rattle.lay_space.specs.Breaks.{front_break, back_break, settled, goes_back, waits, keeps_ends, flushed};
+ghost use Rattle.lay_space.specs.Breaks.{front_break, back_break, settled, goes_back, waits, is_start, flushed};
 ghost use Rattle.lay_space.specs.Segments.{cut, segments_of};
 
-use crate::breaks::{Around, Entry, Seen, breaks_around};
+use crate::breaks::{Around, Entry, Seen, breaks_around, is_start};
 use crate::cutting::Cutter;
 use crate::item::Item;
 use crate::segment::SegmentList;
@@ -38,8 +38,8 @@ pub fn segments(alloc: Global, items: &[Item]) -> Result<SegmentList, NoMemory>
     settler.end(alloc, items)
 }
 
-/// The segments so far; the break behind which things may still go back, whether something waits behind it that no
-/// end goes back over, and all that waits there.
+/// The segments so far; the break behind which things may still go back, whether the start of an inline box waits behind
+/// it, over which no end goes back, and all that waits there.
 #[derive(Drop)]
 struct Settler {
     cutter: Cutter,
@@ -128,7 +128,7 @@ impl Settler {
         }
         if waits(token) {
             self.waiting.push(Entry::Content(token))?;
-            self.started = self.started || keeps_ends(token);
+            self.started = self.started || is_start(token);
             return Ok(());
         }
         self.put_behind(alloc, items, token)
@@ -196,16 +196,7 @@ fn waits(token: Token) -> bool
 {
     match token {
         Token::Cluster(_) | Token::Atomic(_, _) => false,
+        Token::Start(_, takes_room) => !takes_room,
         _ => true,
-    }
-}
-
-/// Whether no end goes back over it.
-fn keeps_ends(token: Token) -> bool
-    ensures { result ≡ keeps_ends token }
-{
-    match token {
-        Token::Start(_) | Token::Float(_) | Token::Anchor(_) => true,
-        _ => false,
     }
 }

@@ -52,7 +52,8 @@ pub enum Token {
     Cluster(Cluster),
     TextEnd,
     Atomic(u32, Mode),
-    Start(u32),
+    /// Whether it takes room.
+    Start(u32, bool),
     End(u32),
     Float(u32),
     Anchor(u32),
@@ -103,7 +104,7 @@ fn put_item(out: &mut Vec<Token>, first: bool, place: usize, item: &Item) -> Res
             return put_unless_leading(out, first, Token::TextEnd);
         }
         Item::Atomic(node, mode) => Token::Atomic(*node, *mode),
-        Item::Start(node) => Token::Start(*node),
+        Item::Start(node, takes_room) => Token::Start(*node, *takes_room),
         Item::End(node) => Token::End(*node),
         Item::Float(node) => Token::Float(*node),
         Item::Anchor(node) => Token::Anchor(*node),

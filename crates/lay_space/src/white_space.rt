@@ -44,7 +44,7 @@ fn put_processed(
             return put_text(alloc, out, *node, text.as_str(), *mode, after_space);
         }
         Item::Atomic(node, mode) => (Item::Atomic(*node, *mode), false),
-        Item::Start(node) => (Item::Start(*node), after_space),
+        Item::Start(node, takes_room) => (Item::Start(*node, *takes_room), after_space),
         Item::End(node) => (Item::End(*node), after_space),
         Item::Float(node) => (Item::Float(*node), after_space),
         Item::Anchor(node) => (Item::Anchor(*node), after_space),

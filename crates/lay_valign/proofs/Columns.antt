@@ -97,7 +97,7 @@ has_rises ps rises to = record { as_many = to.as_many; each = to.each }
 pub stand_first : (ps : List Part) (roots : List ℕ) → AreParts ps → RootsTo ps (length ps) roots → StandFirst roots
 stand_first ps roots are to k lt = (let e = to.as_many in root_first ps roots k are (has_roots ps roots to) (omega (arith, e, lt)))
 
-pub rises_within : (ps : List Part) (rises : List ℤ) → length ps < 2 ^ 32 → RisesTo ps (length ps) rises → All (IsWithin 95) rises
+pub rises_within : (ps : List Part) (rises : List ℤ) → length ps < 2 ^ 32 → RisesTo ps (length ps) rises → All (IsWithin 63) rises
 rises_within ps rises few to k d lt =
     let e = to.as_many in let within : k < length ps = omega (arith, e, lt) in
     let f = to.fits k within in let low = f.0 in let high = f.1 in

@@ -59,8 +59,8 @@ raised_all edge ps value floor n v le to = record {
 }
 
 pub raised_within : (edge : LineEdge) (ps : List Part) (s : Subtrees) (other floor v : ℤ)
-    → length s.aboves ≡ length ps → length s.belows ≡ length ps → All (IsWithin 96) s.aboves → All (IsWithin 96) s.belows
-    → IsRaised (IsAligned edge ps) (beyond s other) floor v → v ≤ℤ int_max floor (pos 158456325028528675187087900672 -ℤ other)
+    → length s.aboves ≡ length ps → length s.belows ≡ length ps → All (IsWithin 64) s.aboves → All (IsWithin 64) s.belows
+    → IsRaised (IsAligned edge ps) (beyond s other) floor v → v ≤ℤ int_max floor (pos 36893488147419103232 -ℤ other)
 raised_within edge ps s other floor v la lb fa fb is = elim is.least [
   | inl e ↦ omega (arith, ints, clamps, e)
   | inr found ↦ (

@@ -2,10 +2,10 @@
 use Rattle.std.proofs.Common.{◌≡◌, ℕ, zero, suc, ◌+◌, ◌*◌, ◌<◌, ◌≤◌, ℤ, pos, negsuc, ◌+ℤ◌, ◌-ℤ◌, ◌≤ℤ◌, neg_ℤ, List, [], ◌∷◌, inl, inr, length, refl, sym, ◌∙◌, arith, subst}
 use Rattle.std.proofs.Common.{Bool, true, false}
 use Rattle.std.specs.Prelude.{slice_index}
-use Rattle.std.proofs.lemmas.Int.{ints}
+use Rattle.std.proofs.lemmas.Int.{ints, clamps}
 use Rattle.std.proofs.lemmas.List.{get_or_default}
 use Rattle.std.proofs.lemmas.Bool.{cases_lt}
-use Rattle.lay_units.specs.Units.{half_of}
+use Rattle.lay_units.specs.Units.{clamp_of, half_of}
 use Rattle.lay_units.specs.declared.length.Unit.{Unit}
 use Rattle.lay_valign.specs.declared.parts.LineEdge.{LineEdge}
 use Rattle.lay_valign.specs.declared.parts.LineEdge.TheVariants.{TopEdge, BottomEdge}
@@ -73,17 +73,36 @@ lift_by s above below = distance above + distance below + distance (length_of s)
 
 -- a part's raise, and how far it reaches above and below its parent's baseline, are no more than its lift
 record RaiseNear (s : Shift) (above below : ℤ) : Type 0 where
-  raise : IsNear (lift_by s above below) (raise_by s above below)
-  over : IsNear (lift_by s above below) (raise_by s above below +ℤ above)
-  under : IsNear (lift_by s above below) (below -ℤ raise_by s above below)
+  raise : IsNear (lift_by s above below) (clamp_of (raise_by s above below))
+  over : IsNear (lift_by s above below) (clamp_of (raise_by s above below) +ℤ above)
+  under : IsNear (lift_by s above below) (below -ℤ clamp_of (raise_by s above below))
+
+-- a raise that is held within bounds stands between none and the one that isn't
+held_near : (n : ℕ) (r above below : ℤ) → IsNear n above → IsNear n below → IsNear n r → IsNear n (r +ℤ above) → IsNear n (below -ℤ r)
+    → IsNear n (clamp_of r) × IsNear n (clamp_of r +ℤ above) × IsNear n (below -ℤ clamp_of r)
+held_near n r above below a b p q t =
+    let a0 = a.0 in let a1 = a.1 in let b0 = b.0 in let b1 = b.1 in
+    let p0 = p.0 in let p1 = p.1 in let q0 = q.0 in let q1 = q.1 in let t0 = t.0 in let t1 = t.1 in (
+      (omega (arith, ints, clamps, p0), omega (arith, ints, clamps, p1)),
+      (omega (arith, ints, clamps, a0, q0), omega (arith, ints, clamps, a1, q1)),
+      (omega (arith, ints, clamps, b0, t0), omega (arith, ints, clamps, b1, t1)),
+    )
+
+lift_above : (s : Shift) (above below : ℤ) → IsNear (lift_by s above below) above
+lift_above s above below = wider (distance above) (lift_by s above below) above (omega arith) (near above)
+
+lift_below : (s : Shift) (above below : ℤ) → IsNear (lift_by s above below) below
+lift_below s above below = wider (distance below) (lift_by s above below) below (omega arith) (near below)
 
 near_by : (s : Shift) (above below r : ℤ) → r ≡ raise_by s above below → IsNear (lift_by s above below) r → IsNear (lift_by s above below) (r +ℤ above)
     → IsNear (lift_by s above below) (below -ℤ r) → RaiseNear s above below
-near_by s above below r e p q t = record {
-  raise = subst (IsNear (lift_by s above below)) e p;
-  over = subst (λ (v : ℤ). IsNear (lift_by s above below) (v +ℤ above)) e q;
-  under = subst (λ (v : ℤ). IsNear (lift_by s above below) (below -ℤ v)) e t;
-}
+near_by s above below r e p q t =
+    let h = held_near (lift_by s above below) r above below (lift_above s above below) (lift_below s above below) p q t in
+    record {
+      raise = subst (λ (v : ℤ). IsNear (lift_by s above below) (clamp_of v)) e h.0;
+      over = subst (λ (v : ℤ). IsNear (lift_by s above below) (clamp_of v +ℤ above)) e h.1;
+      under = subst (λ (v : ℤ). IsNear (lift_by s above below) (below -ℤ clamp_of v)) e h.2;
+    }
 
 -- with a raise that is half of something, floored
 half_near : (above below x r : ℤ) → (r +ℤ r) ≤ℤ (x +ℤ (below -ℤ above)) → (x +ℤ (below -ℤ above)) ≤ℤ ((r +ℤ r) +ℤ pos 1)
@@ -136,13 +155,13 @@ reach_same : (n : ℕ) (r q above below : ℤ) → r ≡ q → ReachNear n r abo
 reach_same n r q above below e is = subst (λ (v : ℤ). ReachNear n v above below) e is
 
 -- by where its parent's stands
-reach_from : (s : Shift) (above below : ℤ) (m n : ℕ) (parent : ℤ) → m ≤ n → IsNear m parent → ReachNear (n + lift_by s above below) (parent +ℤ raise_by s above below) above below
+reach_from : (s : Shift) (above below : ℤ) (m n : ℕ) (parent : ℤ) → m ≤ n → IsNear m parent → ReachNear (n + lift_by s above below) (parent +ℤ clamp_of (raise_by s above below)) above below
 reach_from s above below m n parent le is =
     let w = raise_near s above below in
     let l = lift_by s above below in
     let p0 = is.0 in let p1 = is.1 in
     let a0 = w.raise.0 in let a1 = w.raise.1 in let b0 = w.over.0 in let b1 = w.over.1 in let c0 = w.under.0 in let c1 = w.under.1 in
-    join n (lift_by s above below) parent (raise_by s above below) above below (wider m n parent le is) w.raise w.over w.under
+    join n (lift_by s above below) parent (clamp_of (raise_by s above below)) above below (wider m n parent le is) w.raise w.over w.under
   where
     join : (n l : ℕ) (p r above below : ℤ) → IsNear n p → IsNear l r → IsNear l (r +ℤ above) → IsNear l (below -ℤ r) → ReachNear (n + l) (p +ℤ r) above below
     join n l p r above below x y z t =

@@ -54,7 +54,7 @@ kept roots value n q v other is = record {
 }
 
 pub reaches_more : (roots : List ℕ) (value : ℕ → ℤ) (out : List ℤ) (n : ℕ) → StandFirst roots → n < length roots → ReachesTo roots value n out
-    → IsWithin 96 (value n)
+    → IsWithin 64 (value n)
     → ReachesTo roots value (n + 1) (widened out (get_or roots n 0) (value n))
 reaches_more roots value out n first within to fits = record {
   as_many = length_set _ _ _ ∙ grind (arith, elements, to.as_many);
@@ -103,14 +103,14 @@ reaches_more roots value out n first within to fits = record {
           subst (λ (z : ℤ). IsGreatestTo roots value (n + 1) q z) (sym e) (kept roots value n q (at out q) other (to.each q low root)))
     ]
 
-    wide_fits : All (IsWithin 96) wide
-    wide_fits = All-push (IsWithin 96) out v to.fits fits
+    wide_fits : All (IsWithin 64) wide
+    wide_fits = All-push (IsWithin 64) out v to.fits fits
 
-    more_fits : IsWithin 96 (int_max (at wide r) v)
+    more_fits : IsWithin 64 (int_max (at wide r) v)
     more_fits =
         let a = wide_fits r (pos 0) (grind (arith, elements, to.as_many, below)) in
         let p = a.0 in let q = a.1 in let f = fits.0 in let g = fits.1 in
         (omega (arith, ints, clamps, p, q, f, g), omega (arith, ints, clamps, p, q, f, g))
 
-    all_fit : All (IsWithin 96) (set wide r (int_max (at wide r) v))
-    all_fit = All-set (IsWithin 96) wide r (int_max (at wide r) v) more_fits wide_fits
+    all_fit : All (IsWithin 64) (set wide r (int_max (at wide r) v))
+    all_fit = All-set (IsWithin 64) wide r (int_max (at wide r) v) more_fits wide_fits

@@ -2,7 +2,7 @@
 -- `middle` has one floor: its midpoint stands half the x-height of the parent above the parent's
 -- baseline, or up to half a unit below that.
 use Rattle.std.specs.Prelude.{ℤ, pos, ◌+ℤ◌, ◌-ℤ◌}
-use Rattle.lay_units.specs.Units.{half_of}
+use Rattle.lay_units.specs.Units.{clamp_of, half_of}
 use Rattle.lay_valign.specs.declared.parts.Shift.{Shift}
 use Rattle.lay_valign.specs.declared.parts.Shift.TheVariants.{By, Middle, TextTop, TextBottom, Top}
 use Rattle.lay_valign.specs.declared.parts.Shift.TheVariants.{Bottom}
@@ -17,5 +17,6 @@ raise_by (TextBottom descent) above below = below -ℤ descent.0
 raise_by Top above below = pos 0
 raise_by Bottom above below = pos 0
 
+-- and held within bounds, as each used length is
 abbrev pub raise_of : Part → ℤ
-raise_of part = raise_by part.shift part.above.0 part.below.0
+raise_of part = clamp_of (raise_by part.shift part.above.0 part.below.0)

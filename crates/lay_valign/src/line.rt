@@ -51,9 +51,9 @@ fn extent(parts: &[Part], subtrees: &Subtrees) -> (Unit, Unit)
 /// other edge, which is so far from the baseline, lie within it.
 fn extended(parts: &[Part], subtrees: &Subtrees, edge: LineEdge, least: i128, other: i128) -> i128
     requires subtrees { SubtreesFit parts.now subtrees.now }
-    requires other { IsWithin 100 other }
+    requires other { IsWithin 67 other }
     ensures value { IsRaised (IsAligned edge parts.now) (beyond subtrees.now other) least result }
-    ensures most { result ≤ℤ int_max least (pos 158456325028528675187087900672 -ℤ other) }
+    ensures most { result ≤ℤ int_max least (pos 36893488147419103232 -ℤ other) }
 {
     let mut reach = least;
     for k in 1..parts.len() {
@@ -103,7 +103,7 @@ fn base(parts: &[Part], subtrees: &Subtrees, above: Unit, below: Unit, root: usi
     requires below { IsPosition below.0 }
     requires place { root < length parts.now }
     ensures value { result ≡ base_of parts.now subtrees.now above.0 below.0 root }
-    ensures within { IsWithin 97 result }
+    ensures within { IsWithin 65 result }
 {
     if root == 0 {
         return 0;
@@ -119,12 +119,12 @@ fn base(parts: &[Part], subtrees: &Subtrees, above: Unit, below: Unit, root: usi
 }
 
 fn base_by(shift: Shift, above: i128, below: i128, line_above: Unit, line_below: Unit) -> i128
-    requires above { IsWithin 96 above }
-    requires below { IsWithin 96 below }
+    requires above { IsWithin 64 above }
+    requires below { IsWithin 64 below }
     requires line_above { IsPosition line_above.0 }
     requires line_below { IsPosition line_below.0 }
     ensures value { result ≡ base_by shift above below line_above.0 line_below.0 }
-    ensures within { IsWithin 97 result }
+    ensures within { IsWithin 65 result }
 {
     match shift {
         Shift::Top => difference(i128::from(line_above.0), above),

@@ -2,14 +2,14 @@
 
 ghost use Rattle.std.specs.Prelude.{◌≡◌, ◌<◌, ◌+ℤ◌, ◌-ℤ◌, length, IfOk};
 ghost use Rattle.lay_units.specs.Units.{IsPosition, half_of};
-ghost use Rattle.lay_valign.specs.Raises.{raise_of};
+ghost use Rattle.lay_valign.specs.Raises.{raise_by, raise_of};
 ghost use Rattle.lay_valign.specs.Subtrees.{rise_of};
 ghost use Rattle.lay_valign.specs.PartsFit.{PartFits, PartsFit};
 ghost use Rattle.lay_valign.specs.Pass.Columns.{IsRise, IsWithin, RisesTo};
 
 use crate::parts::{Part, Shift, part_of};
 use crate::sums::sum;
-use lay_units::{NoMemory, Unit};
+use lay_units::{NoMemory, Unit, clamp};
 use std::alloc::Global;
 
 /// For each part, how far its baseline stands above its root's.
@@ -46,6 +46,15 @@ fn rise(parts: &[Part], rises: &[i128], k: usize) -> i128
 fn raise(part: Part) -> i128
     requires { PartFits part }
     ensures value { result ≡ raise_of part }
+    ensures within { IsWithin 31 result }
+{
+    i128::from(clamp(raise_by(part)).0)
+}
+
+/// The same before it is held within bounds.
+fn raise_by(part: Part) -> i128
+    requires { PartFits part }
+    ensures value { result ≡ raise_by part.shift part.above.0 part.below.0 }
     ensures within { IsWithin 63 result }
 {
     match part.shift {

@@ -63,18 +63,18 @@ impl Subtrees {
 
     pub fn above(&self, root: usize) -> i128
         requires place { root < length self.now.aboves }
-        requires fits { All (IsWithin 96) self.now.aboves }
+        requires fits { All (IsWithin 64) self.now.aboves }
         ensures value { result ≡ at self.now.aboves root }
-        ensures within { IsWithin 96 result }
+        ensures within { IsWithin 64 result }
     {
         self.aboves[root]
     }
 
     pub fn below(&self, root: usize) -> i128
         requires place { root < length self.now.belows }
-        requires fits { All (IsWithin 96) self.now.belows }
+        requires fits { All (IsWithin 64) self.now.belows }
         ensures value { result ≡ at self.now.belows root }
-        ensures within { IsWithin 96 result }
+        ensures within { IsWithin 64 result }
     {
         self.belows[root]
     }
@@ -82,10 +82,10 @@ impl Subtrees {
     pub fn height(&self, root: usize) -> i128
         requires above { root < length self.now.aboves }
         requires below { root < length self.now.belows }
-        requires aboves { All (IsWithin 96) self.now.aboves }
-        requires belows { All (IsWithin 96) self.now.belows }
+        requires aboves { All (IsWithin 64) self.now.aboves }
+        requires belows { All (IsWithin 64) self.now.belows }
         ensures value { result ≡ at self.now.aboves root +ℤ at self.now.belows root }
-        ensures within { IsWithin 97 result }
+        ensures within { IsWithin 65 result }
     {
         self.aboves[root] + self.belows[root]
     }

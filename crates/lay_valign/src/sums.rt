@@ -7,16 +7,16 @@ ghost use Rattle.lay_valign.specs.Pass.Columns.{IsWithin};
 use lay_units::Unit;
 
 pub fn sum(a: i128, b: i128) -> i128
-    requires a { IsWithin 100 a }
-    requires b { IsWithin 100 b }
+    requires a { IsWithin 67 a }
+    requires b { IsWithin 67 b }
     ensures { result ≡ a +ℤ b }
 {
     a + b
 }
 
 pub fn difference(a: i128, b: i128) -> i128
-    requires a { IsWithin 100 a }
-    requires b { IsWithin 100 b }
+    requires a { IsWithin 67 a }
+    requires b { IsWithin 67 b }
     ensures { result ≡ a -ℤ b }
 {
     a - b

@@ -12,7 +12,7 @@ IsWithin n v = (neg_ℤ (pos (2 ^ n)) ≤ℤ v) × (v ≤ℤ pos (2 ^ n))
 -- the rise of a part with so many before it
 abbrev pub IsRise : ℕ → ℤ → Type 0
 IsRise k v =
-    (neg_ℤ (pos (9223372036854775808 * k)) ≤ℤ v) × (v ≤ℤ pos (9223372036854775808 * k))
+    (neg_ℤ (pos (2147483648 * k)) ≤ℤ v) × (v ≤ℤ pos (2147483648 * k))
 
 pub record RootsTo (parts : List Part) (n : ℕ) (roots : List ℕ) : Type 0 where
   pub as_many : length roots ≡ n
@@ -31,8 +31,8 @@ StandFirst roots = (k : ℕ) → k < length roots → slice_index roots k ≤ k
 pub record SubtreesFit (parts : List Part) (s : Subtrees) : Type 0 where
   pub are_subtrees : AreSubtrees parts s
   pub first : StandFirst s.roots
-  pub rises : All (IsWithin 95) s.rises
+  pub rises : All (IsWithin 63) s.rises
   pub as_many_aboves : length s.aboves ≡ length parts
   pub as_many_belows : length s.belows ≡ length parts
-  pub aboves : All (IsWithin 96) s.aboves
-  pub belows : All (IsWithin 96) s.belows
+  pub aboves : All (IsWithin 64) s.aboves
+  pub belows : All (IsWithin 64) s.belows

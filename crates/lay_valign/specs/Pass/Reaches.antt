@@ -17,7 +17,7 @@ pub record ReachesTo (roots : List ℕ) (value : ℕ → ℤ) (n : ℕ) (reaches
   pub as_many : length reaches ≡ n
   pub each : (root : ℕ) → root < n → slice_index roots root ≡ root
       → IsGreatestTo roots value n root (at reaches root)
-  pub fits : All (IsWithin 96) reaches
+  pub fits : All (IsWithin 64) reaches
 
 -- one more value stands at the end, and that of its root is no less
 abbrev pub widened : List ℤ → ℕ → ℤ → List ℤ

@@ -22,5 +22,5 @@ loop-k-preserved c =
     let new : c.widen.new.reaches.items ≡ widened c.loop-k.belows.items (get_or c.args.roots.now c.loop-k.k 0) (value c.loop-k.k) =
     c.in_ok-widen.ensures ∙ ap (widened c.loop-k.belows.items (get_or c.args.roots.now c.loop-k.k 0)) (w ∙ e) in
     let more = reaches_more c.args.roots.now value c.loop-k.belows.items c.loop-k.k c.requires.first (omega (arith, few, lt)) c.loop-k.invariant
-    (subst (IsWithin 96) e c.difference.ensures.within) in
+    (subst (IsWithin 64) e c.difference.ensures.within) in
     subst (ReachesTo c.args.roots.now value (c.loop-k.k + 1)) (sym new) more

@@ -46,7 +46,8 @@ returns-then-is_inline-clause-items c =
     let inline : is_inline (role_of b) ≡ true = search rules in
     c.in_ok-innermost.ensures.items
     ∙ past_inline boxes container k items qs b c.requires.there c.index-boxes-place.is c.in_ok-innermost.ensures.order inside inline
-    ∙ ap (λ n. all_items boxes n (items ++ item.Start k ∷ []) (k ∷ qs) (k + 1)) (sym c.in_ok-begin.ensures.container)
+    ∙ ap (λ t. all_items boxes container (items ++ item.Start k t ∷ []) (k ∷ qs) (k + 1)) (sym c.takes_room-takes_room.ensures)
+    ∙ ap (λ n. all_items boxes n (items ++ item.Start k c.takes_room-takes_room.result ∷ []) (k ∷ qs) (k + 1)) (sym c.in_ok-begin.ensures.container)
     ∙ ap (λ xs. all_items boxes c.begin.new.self.container xs (k ∷ qs) (k + 1)) (sym c.in_ok-begin.ensures.items)
     ∙ ap (λ xs. all_items boxes c.begin.new.self.container c.begin.new.self.items.items xs (k + 1)) (sym c.in_ok-begin.ensures.inlines)
 

@@ -1,0 +1,13 @@
+//! Laws of the definitions. The functions do nothing.
+
+ghost use Rattle.lay_measure.specs.Laws.{FloatsAloneAddUp, LoneBlockGivesItsWidths};
+
+/// A box whose one child is a block has the preferred widths that this takes.
+pub fn lone_block_gives_its_widths()
+    ensures { LoneBlockGivesItsWidths }
+{}
+
+/// Floats alone have the sum of their preferred widths.
+pub fn floats_alone_add_up()
+    ensures { FloatsAloneAddUp }
+{}
