@@ -5,12 +5,14 @@ from alignment import vertical_align
 from atomic_documents import atomic_document
 from boxes import boxes_of_context
 from columns import all_spacings_across
+from content import Start, takes_room
 from documents import document
 from face import Face
 from grid import slots_of
 from margins import top_margin
 from nodes import read_nodes
 from page import Page
+from parts import InlineBox, TextBox
 from positioned_documents import positioned_document
 from report import report
 from rows import content_height
@@ -19,6 +21,13 @@ from table_documents import table_document
 from text_documents import text_document
 
 SEED, DOCUMENTS = 99, 300
+
+
+def floats_in(part):
+    """The floats in an inline box."""
+    if isinstance(part, InlineBox):
+        return [box for child in part.children for box in floats_in(child)]
+    return [part] if not isinstance(part, TextBox) and part.is_floating else []
 
 
 def boxes_from(box):
@@ -98,6 +107,18 @@ class Laws(unittest.TestCase):
                             self.assertEqual(line_top, top - box.margin.top)
                         if align == 'bottom':
                             self.assertEqual(bottom, line_top + line_height)
+
+    def test_float_is_not_above_the_line_where_a_box_with_a_left_edge_round_it_starts(self):
+        for flow in self.flows:
+            tops = {other.box: other.top for other in flow.floats}
+            for lines in flow.lines.values():
+                starts = {}
+                for line in lines:
+                    for piece in line.pieces:
+                        starts.setdefault(piece.box, line.pieces[0].top)
+                for box, line_top in starts.items():
+                    if isinstance(box, InlineBox) and takes_room(Start(box)):
+                        self.assertTrue(all(line_top <= tops[each] for each in floats_in(box)))
 
     def test_replaced_size_is_within_its_bounds(self):
         for box in self.context_boxes:
