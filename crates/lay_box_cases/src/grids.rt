@@ -12,6 +12,7 @@ use lay_units::{Unit, UnitList};
 use std::alloc::Global;
 
 /// The number of columns of a grid, and its slots.
+#[tactic(auto, using(crate::proofs::SmallGrids::spans_of_rows, crate::proofs::SmallGrids::cells_few))]
 pub(crate) fn slots_of(alloc: Global, text: &str) -> Result<String> {
     let rows = row_specs(alloc, text)?;
     let grid = ample(slots(alloc, &rows))?;
