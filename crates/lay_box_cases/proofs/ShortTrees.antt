@@ -1,5 +1,5 @@
 -- A tree of short lengths is within the bounds of trees.
-use Rattle.std.proofs.Common.{◌≡◌, ℕ, zero, suc, ◌+◌, ◌^◌, ◌<◌, ℤ, pos, ◌+ℤ◌, List, [], ◌∷◌, arith}
+use Rattle.std.proofs.Common.{◌≡◌, ℕ, zero, suc, ◌+◌, ◌^◌, ◌<◌, ℤ, pos, ◌+ℤ◌, List, [], ◌∷◌, slice_get, IfSome, arith}
 use Rattle.std.proofs.lemmas.Int.{ints}
 use Rattle.lay_units.specs.declared.length.Unit.{Unit}
 use Rattle.lay_units.specs.declared.records.Rect.{Rect}
@@ -58,6 +58,6 @@ tree_in_range own shift inner p s q = record { contexts = each; few = omega arit
       page = two _ _ (in_range own p) (moved_in_range own shift inner p s q);
     }
 
-    each : (j : ℕ) → j < 1 → _
+    each : (j : ℕ) → j < 1 → IfSome (slice_get (context own shift inner ∷ []) j) IsContextInRange
     each zero less = one
     each (suc j) less = absurd (omega (arith, less))

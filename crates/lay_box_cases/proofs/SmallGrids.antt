@@ -36,7 +36,7 @@ row_spanned r left (span ∷ spans) all =
     omega (arith, here, more)
 
 spanned_append : (v w : List Area) → columns_spanned (v ++ w) ≡ columns_spanned v + columns_spanned w
-spanned_append [] w = refl
+spanned_append [] w = omega arith
 spanned_append (area ∷ v) w = let more = spanned_append v w in omega (arith, more)
 
 -- the same of all rows

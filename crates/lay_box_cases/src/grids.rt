@@ -12,6 +12,7 @@ use lay_units::{Unit, UnitList};
 use std::alloc::Global;
 
 /// The number of columns of a grid, and its slots.
+#[tactic(auto, using(crate::proofs::SmallGrids::spans_of_rows, crate::proofs::SmallGrids::cells_few))]
 pub(crate) fn slots_of(alloc: Global, text: &str) -> Result<String> {
     let rows = row_specs(alloc, text)?;
     let grid = ample(slots(alloc, &rows))?;
@@ -79,7 +80,7 @@ pub(crate) fn columns(alloc: Global, text: &str) -> Result<String> {
     let (table, given, first) = sections(text)?;
     let (width, spacing) = two_lengths(table)?;
     let given = lengths_or_none(alloc, given)?;
-    let first = first_cells(alloc, first, given.len())?;
+    let first = first_cells(alloc, first, &given)?;
     let columns = ColumnsIn {
         given: WidthOptions::new(given),
         first: FirstCells::new(first),
@@ -90,12 +91,12 @@ pub(crate) fn columns(alloc: Global, text: &str) -> Result<String> {
 }
 
 /// The cells of the first row.
-fn first_cells(alloc: Global, text: &str, columns: usize) -> Result<Vec<FirstCell>>
-    ensures { IfOk result (λ v. All (IsSmallCell columns) v.items) }
+fn first_cells(alloc: Global, text: &str, columns: &[Option<Unit>]) -> Result<Vec<FirstCell>>
+    ensures { IfOk result (λ v. All (IsSmallCell (length columns.now)) v.items) }
 {
     let mut cells = Vec::new(alloc);
     for word in text.split_whitespace() {
-        let (place, span, width) = spanned(word, columns)?;
+        let (place, span, width) = spanned(word, columns.len())?;
         cells.push(FirstCell {
             column: u32::from(place),
             span: u32::from(span),
@@ -110,7 +111,7 @@ pub(crate) fn heights(alloc: Global, text: &str) -> Result<String> {
     let (table, own, cells) = sections(text)?;
     let (total, spacing) = two_lengths(table)?;
     let own = lengths(alloc, own)?;
-    let cells = row_cells(alloc, cells, own.len())?;
+    let cells = row_cells(alloc, cells, &own)?;
     let heights = RowsIn {
         own: UnitList::new(own),
         cells: RowCells::new(cells),
@@ -121,12 +122,12 @@ pub(crate) fn heights(alloc: Global, text: &str) -> Result<String> {
 }
 
 /// The cells of rows.
-fn row_cells(alloc: Global, text: &str, rows: usize) -> Result<Vec<RowCell>>
-    ensures { IfOk result (λ v. All (IsSmallNeed rows) v.items) }
+fn row_cells(alloc: Global, text: &str, rows: &[Unit]) -> Result<Vec<RowCell>>
+    ensures { IfOk result (λ v. All (IsSmallNeed (length rows.now)) v.items) }
 {
     let mut cells = Vec::new(alloc);
     for word in text.split_whitespace() {
-        let (place, span, needs) = spanned(word, rows)?;
+        let (place, span, needs) = spanned(word, rows.len())?;
         let Some((height, baseline)) = needs.split_once('@') else {
             bail!("no baseline: {word}");
         };

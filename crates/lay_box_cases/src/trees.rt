@@ -32,6 +32,7 @@ pub(crate) fn lines(alloc: Global, text: &str) -> Result<String> {
 }
 
 /// The tree of a context with this border box and shift, and with a text that stands so inside it.
+#[tactic(auto, using(crate::proofs::ShortTrees::tree_in_range))]
 fn tree(alloc: Global, own: Rect, shift: Unit, inner: Rect) -> Result<Tree>
     requires own { IsShortRect own }
     requires shift { IsShort shift.0 }
