@@ -149,7 +149,8 @@
     if (!match) { warn(job, 'generated content that is no text', element); return; }
     if (match[1] === '') return;                                                // an empty box, as for clearing: nothing is lost
     warn(job, 'generated content (its widths are sums of advances)', element);
-    const data = match[1].replace(/\\([0-9a-f]{1,6}) ?|\\(.)/gi, (_, code, plain) => code ? String.fromCodePoint(parseInt(code, 16)) : plain);
+    const data = match[1].replace(/\\([0-9a-f]{1,6}) ?|\\(.)/gi,
+      (_, code, plain) => code ? String.fromCodePoint(parseInt(code, 16)) : plain);
     addItem(job, { kind: 'text', up: item, data, made: true });
   }
   function visitReplaced(job, item) {
@@ -173,7 +174,8 @@
     if (!text) return;
     job.range.selectNodeContents(text);
     const rect = job.range.getClientRects()[0], box = element.getBoundingClientRect();
-    const room = rect ? rect.left - box.left - float(used['border-left-width']) - float(used['padding-left']) - float(used['text-indent']) : 0;
+    const before = ['border-left-width', 'padding-left', 'text-indent'].reduce((sum, name) => sum + float(used[name]), 0);
+    const room = rect ? rect.left - box.left - before : 0;
     if (room > 0 && room < box.width) addItem(job, { kind: 'marker', up: item, room });
   }
   // ::first-letter and ::first-line have no computed display where no rule is about them: their fonts tell.
@@ -200,7 +202,8 @@
       return;
     }
     if (depth > 126) { warn(job, 'deeper than 128 levels: left out', element); return; }
-    const item = { kind: 'element', element, up, used, tag: element.localName };
+    const turned = up && up.turned || used.transform !== 'none' || used['writing-mode'] !== 'horizontal-tb';
+    const item = { kind: 'element', element, up, used, turned, tag: element.localName };
     if (element.localName === 'br') { item.kind = 'break'; addItem(job, item); return; }
     if (element.localName === 'wbr') { addItem(job, { kind: 'text', up, data: '\u200b', made: true }); return; }
     if (REPLACED.has(element.localName)) { visitReplaced(job, item); return; }
@@ -426,7 +429,7 @@
     const used = item.up.used, pre = /^(pre|nowrap)$/.test(used['white-space']);
     return { job, item, used, data: item.data, fontSize: item.up.fontSize, letter: Math.floor(float(used['letter-spacing']) * 64),
       space: item.up.spaceWidth, breaks: pre ? null : item.breaks || new Set(), everywhere: /break-all/.test(used['word-break']), pre,
-      out: [], next: 0, top: null, left: 0, written: 0, solid: false, last: null };
+      out: [], next: 0, top: null, left: 0, right: 0, written: 0, solid: false, last: null };
   }
   function rectBetween(pen, from, to) {
     if (pen.item.made) return null;
@@ -434,9 +437,10 @@
     const rects = pen.job.range.getClientRects();
     return rects.length ? rects[rects.length - 1] : null;
   }
+  const startLine = (pen, rect) => Object.assign(pen, { top: rect.top, left: rect.left, written: 0, last: null });
   function toLineOf(pen, rect) {
     if (pen.top !== null && Math.abs(rect.top - pen.top) <= 0.5 && rect.left >= pen.left) return;
-    Object.assign(pen, { top: rect.top, left: rect.left, written: 0, last: null });
+    startLine(pen, rect);
   }
   const restOf = (pen, rect) => (rect.right - pen.left) * 64 - pen.letter - pen.written;
   // Writes a character that is `want` units wide. A word isn't made wider than it is: frozen boxes hold it exactly.
@@ -463,7 +467,7 @@
     if (cluster === '\t') { pen.top = null; pen.last = null; return; }
     if (pen.item.made) { pen.written += pen.space + pen.letter; return; }
     if (!rect || rect.width === 0) return;                                      // collapsed away
-    if (pen.top === null || Math.abs(rect.top - pen.top) > 0.5) Object.assign(pen, { top: rect.top, left: rect.left, written: 0, last: null });
+    if (pen.top === null || Math.abs(rect.top - pen.top) > 0.5) startLine(pen, rect);
     pen.written += pen.space + pen.letter;
     const over = Math.round((rect.right - pen.left) * 64 - pen.written);
     if (pen.last && Math.abs(over) >= 1 && pen.last.units + over >= 0) {        // kerning with the space, given to the character before
@@ -486,7 +490,10 @@
     const rect = rectBetween(pen, from, pen.next);
     if (!pen.item.made && !rect) return;
     const breaks = pen.solid && pen.breaks;
-    const cut = breaks && rect && pen.top !== null && rect.top > pen.top + 0.5 && !breaks.has(from);
+    // a new line goes on left of where the last character ended; a raised or transformed one doesn't
+    const cut = breaks && rect && pen.top !== null && rect.top > pen.top + 0.5 && rect.left < pen.right - 0.5 &&
+      !pen.item.up.turned && !breaks.has(from);
+    if (rect) pen.right = rect.right;
     if (cut && !pen.everywhere) warn(pen.job, 'word broken inside', at);
     if (breaks && (breaks.has(from) || pen.everywhere || cut)) pen.out.push('\u200b');
     if (pen.item.made) emit(pen, canvasAdvance(pen.job, pen.used, cluster) * pen.fontSize / 1000);
@@ -562,11 +569,15 @@
       warn(job, 'display: ' + making.display + (job.options.freeze ? ' (its items frozen)' : ''), at);
       making.display = /inline/.test(making.display) ? 'inline-block' : 'block';
     }
-    if (!DISPLAYS.has(making.display)) { warn(job, `display: ${making.display} (read as block)`, at); making.display = 'block'; }
+    if (!DISPLAYS.has(making.display)) {
+      if (!LAYOUT_OF_ITS_OWN.test(item.tag)) warn(job, `display: ${making.display} (read as block)`, at);
+      making.display = /^ruby/.test(making.display) ? 'inline' : 'block';
+    }
     if (making.isReplaced && isTable(making.display)) making.display = 'block';
     put(making, 'display', making.display);
     for (const [name, harmless, what] of UNKNOWN) {
-      if (!harmless.test(computed[name]) && (making.isRoot || computed[name] !== item.up.computed[name])) warn(job, what(computed[name]), at);
+      const told = !making.isRoot && computed[name] === item.up.computed[name];
+      if (!harmless.test(computed[name]) && !told) warn(job, what(computed[name]), at);
     }
     if (computed.transform !== 'none') item.moved = true;
     if (!item.emptied && (computed['column-count'] !== 'auto' || computed['column-width'] !== 'auto')) warn(job, 'columns', at);
@@ -589,7 +600,8 @@
     put(making, 'clear', making.frozen ? 'none' : computed.clear === 'both' ? 'both' : floating[computed.clear] || 'none');
     making.floats = making.style.float !== undefined;
     if (sticky && !making.frozen && item.stuck) {
-      for (const [side, axis] of [['left', 0], ['top', 1]]) put(making, side, pixelText(item.stuck[axis]) === '0' ? 'auto' : pixelText(item.stuck[axis]));
+      const moves = item.stuck.map(pixelText);
+      for (const [side, move] of [['left', moves[0]], ['top', moves[1]]]) put(making, side, move === '0' ? 'auto' : move);
     } else if (making.position !== 'static' && !making.frozen && !sticky) for (const side of SIDES) {
       const value = lengthText(computed[side], ['auto']);
       if (value === null) warn(job, 'offset: calc (used value taken)', at);
@@ -616,7 +628,10 @@
   function putLimit(making, dimension, limit) {
     const { job, computed, used, at } = making, name = limit + dimension, none = limit === 'min-' ? '0' : 'none';
     let value = lengthText(computed[name], ['auto', 'none']);
-    if (value === null) { warn(job, `${name}: ${computed[name].replace(/[\d.]+/g, '..')} (left out)`, at); return; }
+    if (value === null) {
+      if (!LAYOUT_OF_ITS_OWN.test(making.item.tag)) warn(job, `${name}: ${computed[name].replace(/[\d.]+/g, '..')} (left out)`, at);
+      return;
+    }
     const border = computed['box-sizing'] === 'border-box';
     if (value === 'auto' || value === 'none') value = none;
     else if (border && /px$/.test(value)) value = pixelText(Math.max(0, float(computed[name]) - edgesOf(used, dimension)));
@@ -665,7 +680,8 @@
   function putAlignedBlock(making) {
     const { job, item, used, style, at } = making;
     if (making.isRoot || !/^-(webkit|moz)-(center|right)$/.test(item.up.computed['text-align'])) return;
-    if (!/^(block|table|list-item)$/.test(making.display) || making.position !== 'static' || making.floats || !item.rect || !item.up.rect) return;
+    if (!/^(block|table|list-item)$/.test(making.display) || making.position !== 'static' || making.floats) return;
+    if (!item.rect || !item.up.rect) return;
     const left = item.rect[0] - (item.up.rect[0] + float(item.up.used['border-left-width']) + float(item.up.used['padding-left']));
     if (Math.abs(left - float(used['margin-left'])) <= 0.02) return;
     style['margin-left'] = pixelText(left);
@@ -674,7 +690,8 @@
   function putOverflow(making) {
     const { job, item, computed, used, at } = making;
     if (making.isReplaced) return;
-    let value = [computed['overflow-x'], computed['overflow-y']].find(word => /^(hidden|scroll|auto|overlay|clip)$/.test(word)) || 'visible';
+    const both = [computed['overflow-x'], computed['overflow-y']];
+    let value = both.find(word => /^(hidden|scroll|auto|overlay|clip)$/.test(word)) || 'visible';
     if (value === 'clip') { warn(job, 'overflow: clip (read as visible)', at); value = 'visible'; }
     if (value === 'overlay') value = 'auto';
     const ofViewport = item.element.localName === 'body' && item.up && item.up.computed['overflow-x'] === 'visible';
@@ -690,7 +707,8 @@
     if (!WHITE_SPACES.includes(space)) warn(job, 'white-space: ' + space, at);
     inherited['white-space'] = WHITE_SPACES.includes(space) ? space : /nowrap/.test(space) ? 'nowrap' : 'normal';
     const align = ALIGNMENTS[computed['text-align']] || 'left';
-    if (align === 'justify' && (making.isRoot || item.up.computed['text-align'] !== 'justify')) warn(job, 'text-align: justify (read as left)', at);
+    const told = !making.isRoot && item.up.computed['text-align'] === 'justify';
+    if (align === 'justify' && !told) warn(job, 'text-align: justify (read as left)', at);
     inherited['text-align'] = align;
     const indent = lengthText(computed['text-indent'], []);
     if (indent === null) warn(job, 'text-indent: calc (left out)', at);
@@ -720,7 +738,8 @@
   }
   // Units by which a control's or a broken image's baseline, that of its own text, stands above its bottom margin edge.
   function baselineOfText(item) {
-    const { element, used, probe } = item, below = float(used['margin-bottom']) + float(used['border-bottom-width']) + float(used['padding-bottom']);
+    const { element, used, probe } = item;
+    const below = ['margin-bottom', 'border-bottom-width', 'padding-bottom'].reduce((sum, name) => sum + float(used[name]), 0);
     if (element.localName === 'img' && !item.natural && element.alt) return Math.round((below + item.size[1] - probe.above) * 64);
     const texts = /^(button|input|select)$/.test(element.localName) && !/^(checkbox|radio|range|color|image|hidden)$/.test(element.type);
     if (!texts) return 0;
@@ -752,7 +771,7 @@
       value = lengthText(value, []);
       if (value === null) { warn(job, 'vertical-align: ' + computed['vertical-align'], at); value = 'baseline'; }
     }
-    const inLine = (/^inline/.test(display) || making.isReplaced && display === 'inline') && !isOut(making.position) && !making.floats && item.up;
+    const inLine = /^inline/.test(display) && !isOut(making.position) && !making.floats && item.up;
     if (job.measured && inLine) {
       if (/^(baseline|sub|super|-?[\d.]+px|0)$/.test(value)) value = raisedText(making, value);
       else if (making.isReplaced && item.rect && /^(middle|text-top|text-bottom)$/.test(value)) value = alignedText(making, value);
@@ -946,9 +965,9 @@
     if (item.kind === 'break') { writeBreak(job, item, parent); return; }
     if (item.kind === 'shut' || item.kind === 'marker') {
       job.kinds[item.id] = 'skip';
-      // what is hidden still parts margins
-      if (item.kind === 'shut') job.nodes.push({ id: item.id, parent, kind: 'element', style: { display: 'block', overflow: 'hidden', height: '0' } });
-      else job.nodes.push({ id: item.id, parent, kind: 'replaced', natural: [1, 1], style: { width: pixelText(item.room), height: '0' } });
+      const shut = { kind: 'element', style: { display: 'block', overflow: 'hidden', height: '0' } };    // what is hidden still parts margins
+      const marker = { kind: 'replaced', natural: [1, 1], style: { width: pixelText(item.room || 0), height: '0' } };
+      job.nodes.push({ id: item.id, parent, ...(item.kind === 'shut' ? shut : marker) });
       return;
     }
     const making = styleOf(job, item, inherited);
@@ -974,7 +993,7 @@
   }
   // All that needs probes in the page, which are gone afterwards.
   function measurePage(job) {
-    job.host = makeNode(job, 'div', 'all:initial;display:block;position:absolute;left:0;top:0;visibility:hidden;width:auto;white-space:nowrap');
+    job.host = makeNode(job, 'div', 'all:initial;display:block;position:absolute;left:0;top:0;visibility:hidden;white-space:nowrap');
     job.root.appendChild(job.host);
     try {
       countFonts(job);
@@ -1009,7 +1028,8 @@
   }
   if (window.layExportSettings && window.layExportSettings.manual) return undefined;
   const answer = window.layExport(), text = JSON.stringify(answer.run);
-  console.log(`lay: ${answer.info.nodes} nodes, ${text.length} bytes, ${answer.info.fonts} fonts, ${answer.warnings.length} kinds of warnings`);
+  const { nodes, fonts } = answer.info;
+  console.log(`lay: ${nodes} nodes, ${text.length} bytes, ${fonts} fonts, ${answer.warnings.length} kinds of warnings`);
   console.table(answer.warnings);
   offer(text);
   return answer;
