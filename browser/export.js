@@ -576,10 +576,10 @@
     if (making.isReplaced && isTable(making.display)) making.display = 'block';
     put(making, 'display', making.display);
     for (const [name, harmless, what] of UNKNOWN) {
-      const told = !making.isRoot && computed[name] === item.up.computed[name];
-      if (!harmless.test(computed[name]) && !told) warn(job, what(computed[name]), at);
+      const value = making.used[name], told = !making.isRoot && value === item.up.used[name];     // a box is needed to compute `transform`
+      if (!harmless.test(value) && !told) warn(job, what(value), at);
     }
-    if (computed.transform !== 'none') item.moved = true;
+    if (making.used.transform !== 'none') item.moved = true;
     if (!item.emptied && (computed['column-count'] !== 'auto' || computed['column-width'] !== 'auto')) warn(job, 'columns', at);
     if (making.display !== 'list-item' || computed['list-style-type'] === 'none') return;
     if (computed['list-style-position'] === 'inside') warn(job, 'list marker inside (an empty box of its width)', at);

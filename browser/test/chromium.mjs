@@ -10,7 +10,13 @@ const FLAGS = ['--headless', '--no-sandbox', '--disable-gpu', '--remote-debuggin
   '--allow-file-access-from-files', '--host-resolver-rules=MAP * ~NOTFOUND', '--window-size=800,600'];
 const LIMIT = 60000;
 
-export const pause = milliseconds => new Promise(done => setTimeout(done, milliseconds).unref());
+export const pause = milliseconds => new Promise(done => setTimeout(done, milliseconds));
+// Waits for `work`, but not longer.
+export async function within(milliseconds, work) {
+  let timer;
+  const late = new Promise(done => { timer = setTimeout(done, milliseconds); });
+  try { return await Promise.race([work, late]); } finally { clearTimeout(timer); }
+}
 
 export class Chromium {
   static async start() {
@@ -66,8 +72,8 @@ export class Chromium {
     return page;
   }
   async close() {
-    await Promise.race([this.send('Browser.close').catch(() => {}), pause(3000)]);
-    await Promise.race([this.gone, pause(3000)]);
+    await within(3000, this.send('Browser.close').catch(() => {}));
+    await within(3000, this.gone);
     if (this.process.exitCode === null) this.process.kill('SIGKILL');
     await pause(200);
     rmSync(this.folder, { recursive: true, force: true, maxRetries: 5, retryDelay: 200 });
@@ -91,11 +97,12 @@ class Page {
   async open(url) {
     const loaded = this.once('Page.loadEventFired');
     await this.send('Page.navigate', { url });
-    await Promise.race([loaded, pause(20000)]);
+    await within(20000, loaded);
   }
   async evaluate(expression) {
     const answer = await this.send('Runtime.evaluate', { expression, returnByValue: true, awaitPromise: true });
-    if (answer.exceptionDetails) throw new Error('in page: ' + (answer.exceptionDetails.exception?.description || answer.exceptionDetails.text));
+    const { exceptionDetails: fault } = answer;
+    if (fault) throw new Error('in page: ' + (fault.exception?.description || fault.text));
     return answer.result.value;
   }
   async picture() { return Buffer.from((await this.send('Page.captureScreenshot', { format: 'png' })).data, 'base64'); }

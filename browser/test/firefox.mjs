@@ -4,12 +4,12 @@ import { createServer, connect } from 'node:net';
 import { mkdtempSync, rmSync, writeFileSync } from 'node:fs';
 import { tmpdir } from 'node:os';
 import { join } from 'node:path';
-import { pause } from './chromium.mjs';
+import { pause, within } from './chromium.mjs';
 
 const LIMIT = 60000;
 // No requests of the browser's own, and scroll bars that take no room.
-const SETTINGS = { 'network.proxy.type': 1, 'network.proxy.http': '127.0.0.1', 'network.proxy.http_port': 9, 'network.proxy.ssl': '127.0.0.1',
-  'network.proxy.ssl_port': 9, 'app.update.enabled': false, 'datareporting.policy.dataSubmissionEnabled': false,
+const SETTINGS = { 'network.proxy.type': 1, 'network.proxy.http': '127.0.0.1', 'network.proxy.http_port': 9,
+  'network.proxy.ssl': '127.0.0.1', 'network.proxy.ssl_port': 9, 'app.update.enabled': false, 'datareporting.policy.dataSubmissionEnabled': false,
   'toolkit.telemetry.enabled': false, 'network.captive-portal-service.enabled': false, 'network.connectivity-service.enabled': false,
   'browser.safebrowsing.update.enabled': false, 'services.settings.server': '', 'extensions.update.enabled': false,
   'ui.useOverlayScrollbars': 1, 'widget.gtk.overlay-scrollbars.enabled': true };
@@ -17,23 +17,31 @@ const SETTINGS = { 'network.proxy.type': 1, 'network.proxy.http': '127.0.0.1', '
 const freePort = () => new Promise(done => {
   const server = createServer().listen(0, '127.0.0.1', () => { const { port } = server.address(); server.close(() => done(port)); });
 });
-const joined = port => new Promise((done, fail) => { const socket = connect(port, '127.0.0.1', () => done(socket)); socket.on('error', fail); });
+const joined = port => new Promise((done, fail) => {
+  const socket = connect(port, '127.0.0.1', () => done(socket));
+  socket.on('error', fail);
+});
 
 export class Firefox {
   static async start() {
     const browser = new Firefox(), port = await freePort();
     browser.folder = mkdtempSync(join(tmpdir(), 'lay-firefox-'));
     const settings = { 'marionette.port': port, ...SETTINGS };
-    writeFileSync(join(browser.folder, 'user.js'),
-      Object.entries(settings).map(([name, value]) => `user_pref(${JSON.stringify(name)}, ${JSON.stringify(value)});\n`).join(''));
-    browser.process = spawn(process.env.FIREFOX || 'firefox-esr', ['--headless', '--marionette', '--no-remote', '--profile', browser.folder],
+    const lines = Object.entries(settings).map(([name, value]) => `user_pref(${JSON.stringify(name)}, ${JSON.stringify(value)});\n`);
+    writeFileSync(join(browser.folder, 'user.js'), lines.join(''));
+    const words = ['--headless', '--marionette', '--no-remote', '--profile', browser.folder];
+    browser.process = spawn(process.env.FIREFOX || 'firefox-esr', words,
       { stdio: 'ignore', env: { ...process.env, MOZ_HEADLESS: '1', HOME: browser.folder } });
     browser.gone = new Promise(done => { browser.process.on('exit', done); browser.process.on('error', done); });
     for (let tries = 0; !browser.socket; tries++) {
-      try { browser.socket = await joined(port); } catch (error) { if (tries > 200) { await browser.close(); throw error; } await new Promise(done => setTimeout(done, 200)); }
+      try { browser.socket = await joined(port); } catch (error) {
+        if (tries > 200) { await browser.close(); throw error; }
+        await pause(200);
+      }
     }
     browser.listen();
-    const session = await browser.send('WebDriver:NewSession', { capabilities: { alwaysMatch: { timeouts: { script: LIMIT, pageLoad: 20000 } } } });
+    const timeouts = { script: LIMIT, pageLoad: 20000 };
+    const session = await browser.send('WebDriver:NewSession', { capabilities: { alwaysMatch: { timeouts } } });
     browser.version = 'Firefox/' + session.capabilities.browserVersion;
     return browser;
   }
@@ -60,7 +68,8 @@ export class Firefox {
   send(name, params = {}) {
     const id = ++this.last, bytes = Buffer.from(JSON.stringify([0, id, name, params]));
     return new Promise((done, fail) => {
-      const timer = setTimeout(() => fail(new Error(name + ' took too long')), LIMIT), ended = work => value => { clearTimeout(timer); work(value); };
+      const timer = setTimeout(() => fail(new Error(name + ' took too long')), LIMIT);
+      const ended = work => value => { clearTimeout(timer); work(value); };
       this.waiting.set(id, { done: ended(done), fail: ended(fail) });
       this.socket.write(bytes.length + ':'); this.socket.write(bytes);
     });
@@ -71,14 +80,15 @@ export class Firefox {
   async evaluate(expression) {
     const script = `const node = document.createElement('script'); node.textContent = arguments[0];
       document.documentElement.append(node); node.remove(); return (window.wrappedJSObject || window).layAnswer;`;
-    const text = `try { window.layAnswer = JSON.stringify({ value: ${expression} }); } catch (error) { window.layAnswer = JSON.stringify({ error: String(error) + error.stack }); }`;
+    const text = `try { window.layAnswer = JSON.stringify({ value: ${expression} }); } catch (error) {
+      window.layAnswer = JSON.stringify({ error: String(error) + error.stack }); }`;
     const answer = JSON.parse((await this.send('WebDriver:ExecuteScript', { script, args: [text] })).value);
     if (answer.error) throw new Error('in page: ' + answer.error);
     return answer.value;
   }
   async close() {
-    if (this.socket) await Promise.race([this.send('Marionette:Quit', { flags: ['eForceQuit'] }).catch(() => {}), pause(5000)]);
-    await Promise.race([this.gone, pause(5000)]);
+    if (this.socket) await within(5000, this.send('Marionette:Quit', { flags: ['eForceQuit'] }).catch(() => {}));
+    await within(5000, this.gone);
     if (this.process.exitCode === null) this.process.kill('SIGKILL');
     if (this.socket) this.socket.destroy();
     await pause(300);

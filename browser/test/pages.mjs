@@ -59,10 +59,13 @@ function tell({ file, mode, answer, milliseconds, same, report }) {
 const browser = await Chromium.start(), all = [];
 try {
   for (const file of files) {
-    try { const sum = tell(await judge(browser, file)); if (sum) all.push(sum); } catch (error) { console.log(`${file}: ${error.message.slice(0, 400)}`); }
+    try { const sum = tell(await judge(browser, file)); if (sum) all.push(sum); } catch (error) {
+      console.log(`${file}: ${error.message.slice(0, 400)}`);
+    }
   }
 } finally { await browser.close(); rmSync(folder, { recursive: true, force: true }); }
-const total = kind => ratio(all.reduce((t, sum) => ({ all: t.all + sum[kind].all, exact: t.exact + sum[kind].exact }), { all: 0, exact: 0 }));
+const add = (a, b) => ({ all: a.all + b.all, exact: a.exact + b.exact });
+const total = kind => ratio(all.map(sum => sum[kind]).reduce(add, { all: 0, exact: 0 }));
 const whole = all.filter(sum => sum.blocks.all === sum.blocks.exact).length;
-console.log(`${all.length} of ${files.length} pages at ${options.width} px: blocks ${total('blocks')} (${whole} pages whole), texts ${total('texts')}, ` +
-  `inline boxes ${total('inlines')}`);
+console.log(`${all.length} of ${files.length} pages at ${options.width} px: blocks ${total('blocks')} (${whole} pages whole), ` +
+  `texts ${total('texts')}, inline boxes ${total('inlines')}`);
