@@ -131,13 +131,18 @@
     for (const property of READ) answer[property] = style.getPropertyValue(property);
     return answer;
   }
-  const onPage = (job, rect) => [rect.left + job.scrollX, rect.top + job.scrollY, rect.width, rect.height];
+  // A client rectangle of an item on the page, as if nothing were scrolled.
+  const onPage = (job, rect, scrolled) => [rect.left + job.scrollX + scrolled[0], rect.top + job.scrollY + scrolled[1], rect.width, rect.height];
 
   // ---- The tree, with used values and rectangles --------------------------------------------------------------------------
 
   function addItem(job, item) {
+    const { up, element } = item, own = up && element && element.scrollTop !== undefined && !item.pseudo && element.localName !== 'body';
+    // by what the boxes around it are scrolled, and those around its contents
+    item.scrolled = !up || item.used && item.used.position === 'fixed' ? [0, 0] : up.scrolledInside;
+    item.scrolledInside = own && !item.wrapper ? [item.scrolled[0] + element.scrollLeft, item.scrolled[1] + element.scrollTop] : item.scrolled;
     item.kids = [];
-    if (item.up) item.up.kids.push(item);
+    if (up) up.kids.push(item);
     job.items.push(item);
     return item;
   }
@@ -233,7 +238,7 @@
     if (job.options.freeze && FROZEN.test(up.used.display)) {
       if (!/[^ \t\r\n\f]/.test(node.data)) return;
       job.range.selectNodeContents(node);                                       // an anonymous item round the text
-      const rect = onPage(job, job.range.getBoundingClientRect());
+      const rect = onPage(job, job.range.getBoundingClientRect(), up.scrolledInside);
       up = addItem(job, { kind: 'element', element: up.element, wrapper: true, up, used: { ...up.used, display: 'block' }, rect });
     }
     addItem(job, { kind: 'text', element: node, up, data: node.data });
@@ -251,7 +256,7 @@
     const list = [];
     job.range.selectNodeContents(item.element);
     for (const rect of job.range.getClientRects()) {
-      const next = onPage(job, rect), last = list[list.length - 1];
+      const next = onPage(job, rect, item.scrolled), last = list[list.length - 1];
       const meets = last && Math.abs(last[1] - next[1]) < 0.01 && Math.abs(last[3] - next[3]) < 0.01 &&
         Math.abs(last[0] + last[2] - next[0]) < 0.03;
       if (meets) last[2] = next[0] + next[2] - last[0]; else list.push(next);
@@ -262,7 +267,7 @@
     for (const item of job.items) {
       if (item.kind === 'text') { if (!item.made) item.rects = textRects(job, item); }
       else if (item.element && !item.pseudo && !item.wrapper) {
-        item.rects = [...item.element.getClientRects()].map(rect => onPage(job, rect));
+        item.rects = [...item.element.getClientRects()].map(rect => onPage(job, rect, item.scrolled));
       }
       item.rect = item.rect || item.rects && item.rects[0];
     }
@@ -532,7 +537,7 @@
     for (const item of job.items) if (item.used && /sticky$/.test(item.used.position) && !item.pseudo && item.rect) {
       const offsets = { position: 'relative', top: 'auto', right: 'auto', bottom: 'auto', left: 'auto' };
       withStyle(item.element, offsets, () => {
-        const rect = onPage(job, item.element.getBoundingClientRect());
+        const rect = onPage(job, item.element.getBoundingClientRect(), item.scrolled);
         item.stuck = [item.rect[0] - rect[0], item.rect[1] - rect[1]];
       });
     }
@@ -756,13 +761,15 @@
     else if (value !== 'baseline') units += Math.floor(float(value) * 64);
     return units === 0 ? 'baseline' : unitsText(units);
   }
-  // The words that are about the parent's font, as lengths.
+  // The words that are about the parent's font, as lengths: by how much a baseline is raised whose box has `above` and `below` of it.
   function alignedText(making, value) {
     const { item, used } = making, up = item.up, units = number => Math.round(number * 64);
-    const height = units(item.rect[3] + float(used['margin-top']) + float(used['margin-bottom']));
-    if (value === 'middle') return unitsText(Math.floor(units(up.probe.ex) / 2) - up.lower - Math.floor(height / 2));
-    if (value === 'text-top') return unitsText(units(up.probe.ascent) - up.lower - height);
-    return unitsText(-up.lower - units(up.probe.content - up.probe.ascent));
+    const height = making.isReplaced && item.rect[3] + float(used['margin-top']) + float(used['margin-bottom']);
+    const above = units(making.isReplaced ? height : item.probe.above);
+    const below = making.isReplaced ? 0 : item.line - above, lower = (making.isReplaced ? 0 : item.lower) - up.lower;
+    if (value === 'middle') return unitsText(Math.floor(units(up.probe.ex) / 2) + lower - Math.floor((above - below) / 2));
+    if (value === 'text-top') return unitsText(units(up.probe.ascent) + lower - above);
+    return unitsText(below + lower - units(up.probe.content - up.probe.ascent));
   }
   function putVerticalAlign(making) {
     const { job, item, computed, at, display } = making;
@@ -774,7 +781,9 @@
     const inLine = /^inline/.test(display) && !isOut(making.position) && !making.floats && item.up;
     if (job.measured && inLine) {
       if (/^(baseline|sub|super|-?[\d.]+px|0)$/.test(value)) value = raisedText(making, value);
-      else if (making.isReplaced && item.rect && /^(middle|text-top|text-bottom)$/.test(value)) value = alignedText(making, value);
+      else if (/^(middle|text-top|text-bottom)$/.test(value) && item.rect && (display === 'inline' || making.isReplaced)) {
+        value = alignedText(making, value);
+      }
     }
     if (display === 'table-cell' && !['top', 'middle', 'bottom', 'baseline'].includes(value)) value = 'baseline';
     put(making, 'vertical-align', value);
