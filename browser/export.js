@@ -132,15 +132,17 @@
     return answer;
   }
   // A client rectangle of an item on the page, as if nothing were scrolled.
-  const onPage = (job, rect, scrolled) => [rect.left + job.scrollX + scrolled[0], rect.top + job.scrollY + scrolled[1], rect.width, rect.height];
+  const onPage = (job, rect, scrolled) =>
+    [rect.left + job.scrollX + scrolled[0], rect.top + job.scrollY + scrolled[1], rect.width, rect.height];
 
   // ---- The tree, with used values and rectangles --------------------------------------------------------------------------
 
   function addItem(job, item) {
-    const { up, element } = item, own = up && element && element.scrollTop !== undefined && !item.pseudo && element.localName !== 'body';
+    const { up, element } = item, own = up && element && element.nodeType === 1 && !item.pseudo && element.localName !== 'body';
     // by what the boxes around it are scrolled, and those around its contents
     item.scrolled = !up || item.used && item.used.position === 'fixed' ? [0, 0] : up.scrolledInside;
-    item.scrolledInside = own && !item.wrapper ? [item.scrolled[0] + element.scrollLeft, item.scrolled[1] + element.scrollTop] : item.scrolled;
+    const [left, top] = item.scrolled;
+    item.scrolledInside = own && !item.wrapper ? [left + element.scrollLeft, top + element.scrollTop] : item.scrolled;
     item.kids = [];
     if (up) up.kids.push(item);
     job.items.push(item);
@@ -761,12 +763,23 @@
     else if (value !== 'baseline') units += Math.floor(float(value) * 64);
     return units === 0 ? 'baseline' : unitsText(units);
   }
-  // The words that are about the parent's font, as lengths: by how much a baseline is raised whose box has `above` and `below` of it.
-  function alignedText(making, value) {
-    const { item, used } = making, up = item.up, units = number => Math.round(number * 64);
-    const height = making.isReplaced && item.rect[3] + float(used['margin-top']) + float(used['margin-bottom']);
-    const above = units(making.isReplaced ? height : item.probe.above);
-    const below = making.isReplaced ? 0 : item.line - above, lower = (making.isReplaced ? 0 : item.lower) - up.lower;
+  // What a box in a line has above and below its baseline, in units; null where that isn't known: an inline-block of more than a line.
+  function aboveAndBelow(making) {
+    const { item, used, computed, display } = making, units = number => Math.round(number * 64);
+    const height = item.rect ? units(item.rect[3] + float(used['margin-top']) + float(used['margin-bottom'])) : 0;
+    if (!item.rect) return null;
+    if (making.isReplaced) return [height, 0];
+    if (display === 'inline') return [units(item.probe.above), item.line - units(item.probe.above)];
+    const oneLine = item.kids.length && item.kids.every(kid => kid.kind === 'text') && units(usedContent(item, 'height')) === item.line;
+    if (display !== 'inline-block' || !oneLine || computed['overflow-x'] !== 'visible') return null;
+    const before = float(used['margin-top']) + float(used['border-top-width']) + float(used['padding-top']);
+    const above = units(before + item.probe.above);
+    return [above, height - above];
+  }
+  // The words that are about the parent's font, as lengths: by how much the baseline is raised.
+  function alignedText(making, value, [above, below]) {
+    const { item } = making, up = item.up, units = number => Math.round(number * 64);
+    const lower = (making.isReplaced ? 0 : item.lower) - up.lower;
     if (value === 'middle') return unitsText(Math.floor(units(up.probe.ex) / 2) + lower - Math.floor((above - below) / 2));
     if (value === 'text-top') return unitsText(units(up.probe.ascent) + lower - above);
     return unitsText(below + lower - units(up.probe.content - up.probe.ascent));
@@ -781,9 +794,8 @@
     const inLine = /^inline/.test(display) && !isOut(making.position) && !making.floats && item.up;
     if (job.measured && inLine) {
       if (/^(baseline|sub|super|-?[\d.]+px|0)$/.test(value)) value = raisedText(making, value);
-      else if (/^(middle|text-top|text-bottom)$/.test(value) && item.rect && (display === 'inline' || making.isReplaced)) {
-        value = alignedText(making, value);
-      }
+      const extent = /^(middle|text-top|text-bottom)$/.test(value) && aboveAndBelow(making);
+      if (extent) value = alignedText(making, value, extent);
     }
     if (display === 'table-cell' && !['top', 'middle', 'bottom', 'baseline'].includes(value)) value = 'baseline';
     put(making, 'vertical-align', value);
@@ -974,7 +986,8 @@
     if (item.kind === 'break') { writeBreak(job, item, parent); return; }
     if (item.kind === 'shut' || item.kind === 'marker') {
       job.kinds[item.id] = 'skip';
-      const shut = { kind: 'element', style: { display: 'block', overflow: 'hidden', height: '0' } };    // what is hidden still parts margins
+      // what is hidden still parts margins
+      const shut = { kind: 'element', style: { display: 'block', overflow: 'hidden', height: '0' } };
       const marker = { kind: 'replaced', natural: [1, 1], style: { width: pixelText(item.room || 0), height: '0' } };
       job.nodes.push({ id: item.id, parent, ...(item.kind === 'shut' ? shut : marker) });
       return;
