@@ -296,10 +296,13 @@
     const text = makeNode(job, 'span', plain, 'xx'), mark = makeNode(job, 'span', 'all:initial;display:inline-block;width:0;height:0');
     const parted = makeNode(job, 'span', plain, 'x x'), alone = makeNode(job, 'span', spaced, 'xx');
     const ex = makeNode(job, 'span', plain + ';display:inline-block;height:0;width:1ex');
-    first.append(text, mark, parted, ex); second.append(alone); job.host.append(first, second);
+    const [lowered, raised] = ['sub', 'super'].map(word =>
+      makeNode(job, 'span', 'all:initial;display:inline-block;width:0;height:0;vertical-align:' + word));
+    first.append(text, mark, parted, ex, lowered, raised); second.append(alone); job.host.append(first, second);
     const textRect = contentRect(job, text), aloneRect = contentRect(job, alone), line = second.getBoundingClientRect();
-    const ascent = mark.getBoundingClientRect().bottom - textRect.top;
-    const probe = { ascent, content: textRect.height, above: aloneRect.top - line.top + ascent, line: line.height,
+    const baseline = mark.getBoundingClientRect().bottom, ascent = baseline - textRect.top;
+    const probe = { sub: baseline - lowered.getBoundingClientRect().bottom, super: baseline - raised.getBoundingClientRect().bottom,
+      ascent, content: textRect.height, above: aloneRect.top - line.top + ascent, line: line.height,
       space: contentRect(job, parted).width - textRect.width, ex: ex.getBoundingClientRect().width };
     first.remove(); second.remove(); job.probes.set(key, probe);
     return probe;
@@ -758,8 +761,7 @@
     const lowers = making.isReplaced ? false : display === 'inline' ||
       display === 'inline-block' && computed['overflow-x'] === 'visible' && item.kids.length;
     let units = (lowers ? item.lower : 0) - up.lower - (making.isReplaced ? baselineOfText(item) : 0);
-    if (value === 'sub') units -= Math.floor(up.fontSize / 5) + 64;
-    else if (value === 'super') units += Math.floor(up.fontSize / 3) + 64;
+    if (value === 'sub' || value === 'super') units += Math.round(up.probe[value] * 64);
     else if (value !== 'baseline') units += Math.floor(float(value) * 64);
     return units === 0 ? 'baseline' : unitsText(units);
   }
