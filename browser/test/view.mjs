@@ -3,20 +3,32 @@
 import { readFileSync, writeFileSync } from 'node:fs';
 import { Chromium } from './chromium.mjs';
 
-const [run, report, picture, mode = 'light', place] = process.argv.slice(2);
+const [run, report, picture, mode = 'light', place = ''] = process.argv.slice(2);
+
+// These run in the page.
+function show(texts, mode, place) {
+  const start = performance.now();
+  takeAll(texts);
+  element('picture').getBoundingClientRect();
+  const milliseconds = performance.now() - start;
+  document.documentElement.dataset.mode = mode;
+  if (place !== '') { element('slider').value = place; element('slider').oninput({ target: element('slider') }); }
+  const piece = state.pieces.find(piece => piece.kind !== 'block' && piece.kind !== 'line') || state.pieces[0];
+  tell(piece.node, piece);
+  return milliseconds;
+}
+function overlaps() {
+  const boxes = [...document.querySelectorAll('svg .label')].map(label => label.getBBox());
+  const meet = (a, b) => a.x < b.x + b.width && b.x < a.x + a.width && a.y + 3 < b.y + b.height && b.y + 3 < a.y + a.height;
+  return [boxes.length, boxes.reduce((sum, a, i) => sum + boxes.slice(i + 1).filter(b => meet(a, b)).length, 0)];
+}
+
 const browser = await Chromium.start();
 try {
-  const page = await browser.page(1280, 800);
+  const page = await browser.page(1280, 800), calling = (work, ...words) => page.evaluate(`(${work})(...${JSON.stringify(words)})`);
   await page.open(new URL('../view.html', import.meta.url).href);
-  const texts = JSON.stringify([readFileSync(run, 'utf8'), readFileSync(report, 'utf8')]);
-  const milliseconds = await page.evaluate(`(() => { const start = performance.now(); takeAll(${texts});
-    element('picture').getBoundingClientRect(); document.documentElement.dataset.mode = ${JSON.stringify(mode)};
-    if (${JSON.stringify(place ?? '')} !== '') { element('slider').value = ${JSON.stringify(place ?? '')}; element('slider').oninput({ target: element('slider') }); }
-    return performance.now() - start; })()`);
-  const boxes = await page.evaluate(`[...document.querySelectorAll('svg .label')].map(label => { const r = label.getBoundingClientRect(); return [r.left, r.top, r.right, r.bottom]; })`);
-  let over = 0;
-  boxes.forEach((a, i) => boxes.slice(i + 1).forEach(b => { if (a[0] < b[2] && b[0] < a[2] && a[1] + 2 < b[3] - 2 && b[1] + 2 < a[3] - 2) over++; }));
-  console.log(`${picture}: ${await page.evaluate('state.pieces.length')} pieces in ${Math.round(milliseconds)} ms, ${boxes.length} labels, ${over} pairs overlap`);
-  await page.evaluate(`(() => { const first = state.pieces.findIndex(piece => piece.kind !== 'block' && piece.kind !== 'line'); const piece = state.pieces[Math.max(0, first)]; tell(piece.node, piece); })()`);
+  const milliseconds = await calling(show, [run, report].map(file => readFileSync(file, 'utf8')), mode, place);
+  const [labels, over] = await calling(overlaps), pieces = await page.evaluate('state.pieces.length');
+  console.log(`${picture}: ${pieces} pieces in ${Math.round(milliseconds)} ms, ${labels} labels, ${over} pairs overlap`);
   writeFileSync(picture, await page.picture());
 } finally { await browser.close(); }
