@@ -1,3 +1,5 @@
 pub mod Filled
+pub mod OneAbsoluteBox
+pub mod OnePlace
 pub mod SomeAxis
 pub mod Unique

@@ -1,17 +1,44 @@
-//! Absolutely positioned boxes: the equation of offsets, margins and size along each axis, with the values that are
-//! `auto`, and the bounds of the size (CSS 2.2, 10.3.7 and 10.6.4, 10.4 and 10.7).
+//! Absolutely positioned boxes beside what each is given from outside (CSS 2.2, 10.3.7, 10.3.8, 10.4, 10.6.4 and 10.7).
 //!
-//! Contracts cite `IsUsedAxis` of `specs/AbsoluteAxis.antt`, a relation for both axes, which has one value for each box
-//! (`specs/Laws.antt`). A table shrinks to fit into `shrinking_room` of `specs/ShrinkingRooms.antt`.
+//! - `IsUsedAxis` of `specs/AbsoluteAxis.antt` is the equation of offsets, margins and size along one axis, a relation for both
+//!   axes, which has one value for each box (`specs/Laws.antt`). A table shrinks to fit into `shrinking_room` of
+//!   `specs/ShrinkingRooms.antt`.
+//! - `AbsoluteSetting` is what a box is given: its containing block and its static position. Beside it stand its used sizes
+//!   (`IsAbsoluteSized` of `specs/AbsoluteSizes.antt`, of a table `specs/AbsoluteTables.antt`) and its offset (`IsOffset` of
+//!   `specs/Offsets.antt`).
+//! - `IsOwnOffset` of `specs/OwnOffsets.antt` says where a formatting context stands by itself: an absolutely positioned one, and
+//!   the root's in the viewport (9.4.3).
 #![tactic(auto)]
 
 mod absolute;
+mod axes;
 mod axis;
 mod following;
 mod laws;
+mod lengths;
+mod offsets;
+mod own_offsets;
+mod own_place;
+mod place_laws;
 mod room;
+mod root_box;
+mod setting;
+mod setting_laws;
+mod sizes;
+mod stand_input;
+mod tables;
 
 pub use absolute::solve_absolute;
 pub use axis::{Axis, ContentSize};
 pub use laws::{one_used_axis, some_used_axis};
+pub use lengths::{inside, moved};
+pub use offsets::absolute_offset;
+pub use own_offsets::own_offset;
+pub use own_place::OwnPlace;
+pub use place_laws::one_own_place;
 pub use room::shrinking_room;
+pub use setting::{AbsoluteSetting, block_in};
+pub use setting_laws::{one_absolute_sizes, one_offset, one_stretched_height, one_table_left};
+pub use sizes::{AbsoluteSizes, absolute_sizes, stretched_height};
+pub use stand_input::StandInput;
+pub use tables::{table_left, table_room};

@@ -5,8 +5,9 @@ ghost use Rattle.std.specs.Prelude.{◌<◌, length};
 
 use crate::cells::{Cells, ample};
 use anyhow::{Result, bail};
-use lay_borders::{BorderStyle, Cand, CandList, CandLists, GridBorders, Origin};
-use lay_borders::{edge_width, resolve, winner};
+use lay_borders::{
+    BorderStyle, Cand, CandList, CandLists, GridBorders, Origin, edge_width, resolve, winner,
+};
 use lay_units::Unit;
 use std::alloc::Global;
 

@@ -4,8 +4,7 @@
 use crate::boxes::{draw, styled, trimmed};
 use crate::cells::ample;
 use anyhow::Result;
-use lay_contexts::contexts_of;
-use lay_formatting::{FormattingContext, formatting_contexts};
+use lay_contexts::{FormattingContext, contexts_of, formatting_contexts};
 use std::alloc::Global;
 
 /// The formatting contexts of a document.

@@ -6,8 +6,10 @@ ghost use Rattle.lay_box_cases.specs.Small.{IsSmall, IsSmallCell, IsSmallNeed, I
 
 use crate::cells::{Cells, ample, number};
 use anyhow::{Result, bail};
-use lay_grid::{ColumnsIn, FirstCell, FirstCells, RowCell, RowCells, RowSpec, RowsIn, Span, SpanList, WidthOptions};
-use lay_grid::{columns_fixed, rows, slots};
+use lay_grid::{
+    ColumnsIn, FirstCell, FirstCells, RowCell, RowCells, RowSpec, RowsIn, Span, SpanList,
+    WidthOptions, columns_fixed, rows, slots,
+};
 use lay_units::{Unit, UnitList};
 use std::alloc::Global;
 

@@ -4,8 +4,8 @@
 use crate::boxes::{push_box, root_boxes, trimmed};
 use crate::cells::ample;
 use anyhow::Result;
-use lay_box_parts::inline_parts;
-use lay_broken_inlines::former_parents;
+use lay_box_tree::inline_parts;
+use lay_relative::former_parents;
 use std::alloc::Global;
 
 /// First and last parts.

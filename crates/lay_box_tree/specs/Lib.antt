@@ -1,4 +1,9 @@
 pub mod BoxColumns
-pub mod Kinds
-pub mod Roles
 pub mod Containers
+pub mod Containing
+pub mod ContextBoxes
+pub mod InlineParts
+pub mod Kinds
+pub mod LatestParts
+pub mod PartLaws
+pub mod Roles

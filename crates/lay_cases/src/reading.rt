@@ -2,8 +2,7 @@
 
 use crate::answer::Answer;
 use anyhow::Result;
-use lay_commands::Cmd;
-use lay_doc::{BadDeclaration, Edit, Kind, NewNode, Node, NodeId};
+use lay_doc::{BadDeclaration, Cmd, Edit, Kind, NewNode, Node, NodeId};
 use lay_face::Face;
 use lay_json::read_run;
 use lay_run::RunDoc;

@@ -1,7 +1,7 @@
 -- The last version of a whole history is published.
 use Rattle.std.proofs.Common.{◌≡◌, ◌==◌, ◌⊎◌, ◌||◌, ℕ, Bool, true, false, List, [], ◌∷◌, inl, inr, refl, sym, ap, ◌∙◌, arith, Option, Some, None}
 use Rattle.std.specs.List.{list_any}
-use Rattle.lay_commands.specs.declared.history.Entry.{Entry}
+use Rattle.lay_doc.specs.declared.history.Entry.{Entry}
 use Rattle.lay_history.specs.Histories.{accepted, is_published, last_or, published}
 use Rattle.lay_history.specs.Legal.{IsWhole}
 

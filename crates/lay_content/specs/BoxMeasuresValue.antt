@@ -2,8 +2,8 @@
 -- their inline boxes, their used sizes, the boxes of inner contexts from outside, and the face.
 use Rattle.std.specs.Prelude.{ℕ, List, slice_index_or}
 use Rattle.lay_box_tree.specs.declared.box_tree.BoxNode.{BoxNode}
-use Rattle.lay_box_parts.specs.declared.inline_part.InlinePart.{InlinePart}
-use Rattle.lay_box_parts.specs.InlineParts.{no_part}
+use Rattle.lay_box_tree.specs.declared.inline_part.InlinePart.{InlinePart}
+use Rattle.lay_box_tree.specs.InlineParts.{no_part}
 use Rattle.lay_face.specs.FaceValue.{FaceValue}
 use Rattle.lay_sizes.specs.declared.sizing.BoxSizes.{BoxSizes}
 use Rattle.lay_sizes.specs.declared.own_boxes.OwnBox.{OwnBox}

@@ -9,7 +9,7 @@ use Rattle.lay_box_tree.specs.Roles.{role_of}
 use Rattle.lay_box_tree.specs.declared.box_role.Role.{Role}
 use Rattle.lay_box_tree.specs.declared.box_role.Role.TheVariants as role
 use Rattle.lay_box_tree.specs.declared.box_tree.BoxNode.{BoxNode}
-use Rattle.lay_box_parts.specs.declared.inline_part.InlinePart.{InlinePart}
+use Rattle.lay_box_tree.specs.declared.inline_part.InlinePart.{InlinePart}
 use Rattle.lay_face.specs.FaceValue.{FaceValue}
 use Rattle.lay_sizes.specs.declared.sizing.BoxSizes.{BoxSizes}
 use Rattle.lay_sizes.specs.SizeColumns.{sizes_at}

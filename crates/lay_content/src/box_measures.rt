@@ -6,8 +6,7 @@ ghost use Rattle.lay_sizes.specs.SizeBounds.{SizeFits};
 ghost use Rattle.lay_sizes.specs.SizeColumns.{sizes_at};
 ghost use Rattle.lay_content.specs.BoxMeasuresValue.{MeasuresFit, part_at};
 
-use lay_box_parts::InlinePart;
-use lay_box_tree::BoxNode;
+use lay_box_tree::{BoxNode, InlinePart};
 use lay_face::Face;
 use lay_sizes::{BoxSizes, NO_OWN_BOX, NO_SIZES, OwnBox};
 use std::marker::Model;

@@ -10,7 +10,7 @@ use crate::box_measures::BoxMeasures;
 use crate::line_heights::extent_of;
 use crate::sums::sum_of;
 use crate::vertical_alignment::shift_at;
-use lay_box_parts::InlinePart;
+use lay_box_tree::InlinePart;
 use lay_line_content::{Extent, InlineEnd, InlineStart};
 use lay_sizes::BoxSizes;
 use lay_units::Unit;

@@ -13,8 +13,8 @@ use Rattle.lay_sizes.specs.declared.sizing.BoxSizes.{BoxSizes}
 use Rattle.lay_sizes.specs.declared.sizing.ContainingBlock.{ContainingBlock}
 use Rattle.lay_sizes.specs.SizeColumns.{sizes_at}
 use Rattle.lay_abspos.specs.AbsoluteAxis.{IsUsedAxis}
-use Rattle.lay_formatting.specs.FormattingBoxes.{box_at}
-use Rattle.lay_formatting.specs.FormattingContexts.{AreFormattingContexts, boxes_in, formatting_context_at}
+use Rattle.lay_box_tree.specs.BoxColumns.{box_at}
+use Rattle.lay_contexts.specs.FormattingContexts.{AreFormattingContexts, boxes_in, formatting_context_at}
 use Rattle.lay_pieces.specs.declared.corner.Corner.{Corner}
 use Rattle.lay_pieces.specs.declared.standing.Standing.{Standing}
 use Rattle.lay_pieces.specs.Corners.{corner_at, no_corner}
@@ -22,22 +22,22 @@ use Rattle.lay_pieces.specs.Standings.{standing_at}
 use Rattle.lay_flow_boxes.specs.PlaceInputs.{PlaceInput}
 use Rattle.lay_table_rows.specs.TableInputs.{TableInput}
 use Rattle.lay_table_sizes.specs.TableSizesValue.{TableSizesValue}
-use Rattle.lay_positioned.specs.declared.settings.AbsoluteSetting.{AbsoluteSetting}
+use Rattle.lay_abspos.specs.declared.setting.AbsoluteSetting.{AbsoluteSetting}
 use Rattle.lay_positioned.specs.Absolute.{is_absolute, is_fixed}
-use Rattle.lay_positioned.specs.AbsoluteSizes.{border_start}
+use Rattle.lay_abspos.specs.AbsoluteSizes.{border_start}
 use Rattle.lay_positioned.specs.ContainingRects.{IsContainingRect, containing_in, held, initial, seen_from, viewport_rect, further as around}
 use Rattle.lay_positioned.specs.HoldersOutward.{Holder, IsHolderOutward, further, here, viewport as by_viewport}
 use Rattle.lay_positioned.specs.Layouts.{content_corner, step}
-use Rattle.lay_positioned.specs.Offsets.{IsOffset, axis_of_height, corner_inside}
+use Rattle.lay_abspos.specs.Offsets.{IsOffset, axis_of_height, corner_inside}
 use Rattle.lay_positioned.specs.Settings.{absolute_setting, root_setting, setting_beside}
 use Rattle.lay_positioned.proofs.SettingValues.{containing}
 use Rattle.lay_context_sizes.specs.ContextSizes.{HasSizes, IsSizedAs, SizedContext}
 use Rattle.lay_context_sizes.specs.TableContexts.{is_table}
 use Rattle.lay_context_sizes.specs.declared.setting.Setting.{Setting}
 use Rattle.lay_context_sizes.specs.declared.setting.Setting.TheVariants.{Absolute}
-use Rattle.lay_own_place.specs.OwnOffsets.{IsOwnOffset, IsOwnOffsetBy, StandInput}
-use Rattle.lay_own_place.specs.declared.own_place.OwnPlace.{OwnPlace}
-use Rattle.lay_own_place.specs.declared.own_place.OwnPlace.TheVariants as own_place
+use Rattle.lay_abspos.specs.OwnOffsets.{IsOwnOffset, IsOwnOffsetBy, StandInput}
+use Rattle.lay_abspos.specs.declared.own_place.OwnPlace.{OwnPlace}
+use Rattle.lay_abspos.specs.declared.own_place.OwnPlace.TheVariants as own_place
 use Rattle.lay_context.specs.AbsoluteOnPage.{IsAxisAcross, IsSolved, PageLayout, StandsIn, StandsInContainingBlock, anchor_on_page, block_on_page, content_on_page, rect_on_page, setting_on_page}
 use Rattle.lay_context.specs.declared.task.Phase.TheVariants.{Size, Place}
 use Rattle.lay_context.specs.declared.value.Value.TheVariants as value

@@ -7,8 +7,8 @@ use Rattle.lay_box_tree.specs.declared.box_tree.Flow.TheVariants.{Absolute as ab
 use Rattle.lay_measure.specs.declared.preferred_widths.PreferredWidths.{PreferredWidths}
 use Rattle.lay_sizes.specs.declared.sizing.BoxSizes.{BoxSizes}
 use Rattle.lay_sizes.specs.declared.sizing.ContainingBlock.{ContainingBlock}
-use Rattle.lay_formatting.specs.FormattingContexts.{AreFormattingContexts, FormattingContext, boxes_in, formatting_context_at}
-use Rattle.lay_formatting.specs.Laws.{FormattingContextsStandInOrder}
+use Rattle.lay_contexts.specs.FormattingContexts.{AreFormattingContexts, FormattingContext, boxes_in, formatting_context_at}
+use Rattle.lay_contexts.specs.FormattingLaws.{FormattingContextsStandInOrder}
 use Rattle.lay_frag.specs.Pieces.{Context as PageContext}
 use Rattle.lay_positioned.specs.Absolute.{is_absolute, is_absolute_flow, is_own_absolute}
 use Rattle.lay_positioned.specs.Settings.{absolute_setting}

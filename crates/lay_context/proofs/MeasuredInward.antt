@@ -1,6 +1,6 @@
 -- A formatting context is measured just where something shrinks to fit from it outward, and so what is inside it is, too.
 use Rattle.std.proofs.Common.{◌≡◌, ◌<◌, ◌≤◌, ℕ, zero, suc, Bool, true, false, ◌||◌, List, length, refl, ap, sym, ◌∙◌, arith}
-use Rattle.lay_formatting.specs.FormattingContexts.{AreFormattingContexts, FormattingContext, boxes_in, formatting_context_at}
+use Rattle.lay_contexts.specs.FormattingContexts.{AreFormattingContexts, FormattingContext, boxes_in, formatting_context_at}
 use Rattle.lay_context_sizes.specs.ShrinkToFit.{shrinks_to_fit}
 use Rattle.lay_context.specs.Laws.{MeasuredGoesInward, MeasuredWhereShrunk}
 use Rattle.lay_context.specs.Measured.{ShrinksOutward, around, is_measured, own, shrinks_within}

@@ -2,7 +2,7 @@
 use Rattle.std.proofs.Common.{◌≡◌, ℕ, zero, suc, ◌<◌, ◌≤◌, List, length, refl, sym, ◌∙◌, arith, inl, inr}
 use Rattle.std.proofs.lemmas.Bool.{cases_lt}
 use Rattle.lay_doc.proofs.OneStyles.{same_list}
-use Rattle.lay_formatting.specs.FormattingContexts.{FormattingContext, AreFormattingContexts}
+use Rattle.lay_contexts.specs.FormattingContexts.{FormattingContext, AreFormattingContexts}
 use Rattle.lay_pieces.specs.Corners.{corner_at, no_corner}
 use Rattle.lay_pieces.specs.declared.corner.Corner.{Corner}
 use Rattle.lay_context.specs.Laws.{OnePageCorners}

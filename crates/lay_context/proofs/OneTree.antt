@@ -7,9 +7,9 @@ use Rattle.lay_boxgen.proofs.NodeColumns.{length-parents}
 use Rattle.lay_frag.specs.Pieces.{Context as PageContext}
 use Rattle.lay_contexts.specs.ContextList.{AreContextsOf}
 use Rattle.lay_contexts.proofs.ContextNumbers.{are_contexts, one_context_list_lem}
-use Rattle.lay_formatting.specs.FormattingContexts.{FormattingContext, AreFormattingContexts}
-use Rattle.lay_formatting.specs.FormattingContextList.{AreFormattingContextsOf}
-use Rattle.lay_formatting.specs.Laws.{FormattingContextsStandInOrder, OneFormattingContextList}
+use Rattle.lay_contexts.specs.FormattingContexts.{FormattingContext, AreFormattingContexts}
+use Rattle.lay_contexts.specs.FormattingContextList.{AreFormattingContextsOf}
+use Rattle.lay_contexts.specs.FormattingLaws.{FormattingContextsStandInOrder, OneFormattingContextList}
 use Rattle.lay_positioned.specs.Levels.{HasLevels}
 use Rattle.lay_positioned.proofs.LevelSteps.{levels_are, levels_of}
 use Rattle.lay_pieces.specs.declared.corner.Corner.{Corner}

@@ -13,10 +13,10 @@ use Rattle.lay_table_sizes.specs.TableSizesValue.{TableSizesValue}
 use Rattle.lay_context.specs.declared.value.Value.TheVariants as value
 use Rattle.lay_sizes.specs.declared.own_boxes.OwnBox.{OwnBox}
 use Rattle.lay_pieces.specs.declared.corner.Corner.{Corner}
-use Rattle.lay_own_place.proofs.OnePlace.{one_own_place_lem}
+use Rattle.lay_abspos.proofs.OnePlace.{one_own_place_lem}
 use Rattle.lay_context_sizes.specs.ContextSizes.{SizedContext}
 use Rattle.lay_context_sizes.specs.Inputs.{MeasureInput}
-use Rattle.lay_own_place.specs.OwnOffsets.{IsOwnOffset, StandInput}
+use Rattle.lay_abspos.specs.OwnOffsets.{IsOwnOffset, StandInput}
 use Rattle.lay_context.specs.PlacedContexts.{PlacedContext}
 use Rattle.lay_context.specs.Local.{IsLocal, measure_as, place_as}
 

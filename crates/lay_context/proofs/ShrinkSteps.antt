@@ -1,6 +1,6 @@
 -- Whether something shrinks to fit, box by box outward.
 use Rattle.std.proofs.Common.{◌≡◌, ◌<◌, ℕ, zero, suc, Bool, true, false, ◌||◌, List, refl, ap, sym, ◌∙◌, arith}
-use Rattle.lay_formatting.specs.FormattingContexts.{FormattingContext, boxes_in, formatting_context_at}
+use Rattle.lay_contexts.specs.FormattingContexts.{FormattingContext, boxes_in, formatting_context_at}
 use Rattle.lay_context_sizes.specs.ShrinkToFit.{shrinks_to_fit}
 use Rattle.lay_context.specs.Measured.{shrinks_within}
 

@@ -4,7 +4,7 @@ use Rattle.lay_frag.specs.declared.frag.Frag.{Frag}
 use Rattle.lay_box_tree.specs.declared.box_tree.BoxNode.{BoxNode}
 use Rattle.lay_sizes.specs.declared.sizing.ContainingBlock.{ContainingBlock}
 use Rattle.lay_measure.specs.declared.preferred_widths.PreferredWidths.{PreferredWidths}
-use Rattle.lay_formatting.specs.FormattingContexts.{AreFormattingContexts, FormattingContext, formatting_context_at, boxes_in}
+use Rattle.lay_contexts.specs.FormattingContexts.{AreFormattingContexts, FormattingContext, formatting_context_at, boxes_in}
 use Rattle.lay_pieces.specs.Placements.{Placement}
 use Rattle.lay_positioned.specs.Absolute.{is_absolute, is_own_absolute}
 use Rattle.lay_positioned.specs.Layouts.{Layout}
@@ -31,8 +31,8 @@ use Rattle.lay_context.specs.OwnHeights.{own_height_rule}
 use Rattle.lay_context.specs.Needs.{Needs}
 use Rattle.lay_context.specs.PlacedContexts.{PlacedContext, placed_in, placement_in}
 use Rattle.lay_context.specs.Settings.{flow_place, flow_setting, laid, own_place_of, setting_in, setting_of, sizes_in}
-use Rattle.lay_own_place.specs.declared.own_place.OwnPlace.{OwnPlace}
-use Rattle.lay_own_place.specs.declared.own_place.OwnPlace.TheVariants as own_place
+use Rattle.lay_abspos.specs.declared.own_place.OwnPlace.{OwnPlace}
+use Rattle.lay_abspos.specs.declared.own_place.OwnPlace.TheVariants as own_place
 use Rattle.lay_context_sizes.specs.declared.setting.Setting.{Setting}
 use Rattle.lay_context_sizes.specs.declared.setting.Setting.TheVariants.{Absolute}
 

@@ -3,7 +3,7 @@ use Rattle.std.proofs.Common.{◌≡◌, ◌<◌, ℕ, ◌+◌, ◌-◌, ◌*◌
 use Rattle.std.proofs.Math.Nat.{mul_comm}
 use Rattle.std.proofs.lemmas.Nat.{div-mul-add, mod-mul-add, mul-add-lt}
 use Rattle.std.proofs.lemmas.List.{get_or-map, length-map}
-use Rattle.lay_formatting.specs.FormattingContexts.{FormattingContext, AreFormattingContexts, IsInside, formatting_context_at}
+use Rattle.lay_contexts.specs.FormattingContexts.{FormattingContext, AreFormattingContexts, IsInside, formatting_context_at}
 use Rattle.lay_positioned.specs.Absolute.{is_absolute}
 use Rattle.lay_positioned.specs.Levels.{HasLevels, one_if}
 use Rattle.lay_positioned.proofs.OneLevels.{leads_down, leads_out, level_inside}

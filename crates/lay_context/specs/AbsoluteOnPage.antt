@@ -14,17 +14,17 @@ use Rattle.lay_sizes.specs.SizeColumns.{sizes_at}
 use Rattle.lay_sizes.specs.UsedLengths.{no_length}
 use Rattle.lay_abspos.specs.declared.axis.ContentSize.TheVariants.{Shrinks as shrinks}
 use Rattle.lay_abspos.specs.AbsoluteAxis.{IsUsedAxis}
-use Rattle.lay_formatting.specs.FormattingBoxes.{box_at}
-use Rattle.lay_formatting.specs.FormattingContexts.{FormattingContext, boxes_in, formatting_context_at}
+use Rattle.lay_box_tree.specs.BoxColumns.{box_at}
+use Rattle.lay_contexts.specs.FormattingContexts.{FormattingContext, boxes_in, formatting_context_at}
 use Rattle.lay_pieces.specs.declared.corner.Corner.{Corner}
 use Rattle.lay_pieces.specs.Corners.{corner_at, no_corner}
 use Rattle.lay_pieces.specs.Standings.{standing_at}
-use Rattle.lay_positioned.specs.declared.settings.AbsoluteSetting.{AbsoluteSetting}
-use Rattle.lay_positioned.specs.AbsoluteAxes.{axis_across, wrapper_across}
-use Rattle.lay_positioned.specs.AbsoluteSizes.{own_axis_across}
+use Rattle.lay_abspos.specs.declared.setting.AbsoluteSetting.{AbsoluteSetting}
+use Rattle.lay_abspos.specs.AbsoluteAxes.{axis_across, wrapper_across}
+use Rattle.lay_abspos.specs.AbsoluteSizes.{own_axis_across}
 use Rattle.lay_positioned.specs.ContainingRects.{viewport_rect}
 use Rattle.lay_positioned.specs.HoldersOutward.{Holder, IsHolderOf}
-use Rattle.lay_positioned.specs.Offsets.{axis_of_height}
+use Rattle.lay_abspos.specs.Offsets.{axis_of_height}
 use Rattle.lay_positioned.specs.PaddingBoxes.{padding_box}
 use Rattle.lay_context_sizes.specs.TableContexts.{is_table}
 use Rattle.lay_context.specs.DocumentLayout.{widths_in}

@@ -5,7 +5,7 @@
 -- numbers of those inside it, and which of them are anonymous. An absolutely positioned one rests on the boxes of those on its way
 -- too, and on where each stands in the one around it.
 use Rattle.std.specs.Prelude.{ℕ, ◌≡◌, true, List}
-use Rattle.lay_formatting.specs.FormattingContexts.{FormattingContext, boxes_in, formatting_context_at}
+use Rattle.lay_contexts.specs.FormattingContexts.{FormattingContext, boxes_in, formatting_context_at}
 use Rattle.lay_positioned.specs.Absolute.{is_absolute}
 use Rattle.lay_positioned.specs.Ways.{AreAlikeAt}
 use Rattle.lay_context.specs.declared.task.Phase.{Phase}

@@ -2,7 +2,7 @@
 -- anything or not. A layout works out those that count (`Measured`), and gets the same tree by it.
 use Rattle.std.specs.Prelude.{◌<◌, List, length}
 use Rattle.lay_frag.specs.Pieces.{Context as PageContext}
-use Rattle.lay_formatting.specs.FormattingContexts.{FormattingContext}
+use Rattle.lay_contexts.specs.FormattingContexts.{FormattingContext}
 use Rattle.lay_context.specs.declared.input.Input.{Input}
 use Rattle.lay_context.specs.declared.input.Input.TheVariants as input
 use Rattle.lay_context.specs.declared.task.Phase.{Phase}

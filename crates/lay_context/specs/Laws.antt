@@ -4,7 +4,7 @@ use Rattle.std.specs.Prelude.{ℕ, ◌≡◌, ◌<◌, ◌↔◌, true, List, le
 use Rattle.lay_doc.specs.Document.{Document, IsDocument}
 use Rattle.lay_frag.specs.Pieces.{Context as PageContext}
 use Rattle.lay_face.specs.FaceValue.{FaceValue}
-use Rattle.lay_formatting.specs.FormattingContexts.{FormattingContext, AreFormattingContexts, IsInside}
+use Rattle.lay_contexts.specs.FormattingContexts.{FormattingContext, AreFormattingContexts, IsInside}
 use Rattle.lay_pieces.specs.declared.corner.Corner.{Corner}
 use Rattle.lay_positioned.specs.Absolute.{is_absolute}
 use Rattle.lay_positioned.specs.Levels.{HasLevels}

@@ -3,9 +3,9 @@
 -- alone.
 use Rattle.std.specs.Prelude.{ℕ, ◌≡◌, Bool, true, false, List, length, slice_set, Option, None, Some, option_map}
 use Rattle.lay_measure.specs.MeasureInValue.{no_widths}
-use Rattle.lay_context_boxes.specs.ContextBoxes.{AreContextBoxes}
+use Rattle.lay_box_tree.specs.ContextBoxes.{AreContextBoxes}
 use Rattle.lay_table_sizes.specs.TableSizesValue.{TableSizesValue}
-use Rattle.lay_formatting.specs.FormattingContexts.{FormattingContext, boxes_in}
+use Rattle.lay_contexts.specs.FormattingContexts.{FormattingContext, boxes_in}
 use Rattle.lay_flow_boxes.specs.PlaceInputs.{PlaceInput}
 use Rattle.lay_placement.specs.ContextPlacements.{IsPlacement}
 use Rattle.lay_table_rows.specs.TableInputs.{TableInput}
@@ -24,7 +24,7 @@ use Rattle.lay_context_sizes.specs.Inputs.{MeasureInput, SizeInput}
 use Rattle.lay_context.specs.Measured.{is_measured}
 use Rattle.lay_context.specs.Medium.{Medium}
 use Rattle.lay_context.specs.OwnHeights.{own_height_rule}
-use Rattle.lay_own_place.specs.OwnOffsets.{IsOwnOffset, StandInput}
+use Rattle.lay_abspos.specs.OwnOffsets.{IsOwnOffset, StandInput}
 use Rattle.lay_context.specs.PlacedContexts.{placed_in}
 use Rattle.lay_context.specs.Settings.{own_place_of, setting_of, sizes_in}
 use Rattle.lay_context.specs.Workings.{Workings}

@@ -1,7 +1,7 @@
 -- Which formatting contexts are measured: those whose own box may shrink to fit, or one around it (CSS 2.2, 10.3.5). The preferred
 -- widths of others count for nothing, so they have none.
 use Rattle.std.specs.Prelude.{ℕ, zero, suc, ◌≡◌, ◌<◌, Bool, true, ◌||◌, List}
-use Rattle.lay_formatting.specs.FormattingContexts.{FormattingContext, boxes_in, formatting_context_at}
+use Rattle.lay_contexts.specs.FormattingContexts.{FormattingContext, boxes_in, formatting_context_at}
 use Rattle.lay_context_sizes.specs.ShrinkToFit.{shrinks_to_fit}
 
 -- the own box of the one with the number i may shrink to fit, or that of one around it

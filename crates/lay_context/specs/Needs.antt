@@ -8,7 +8,7 @@ use Rattle.std.specs.Prelude.{ℕ, ◌≡◌, ◌+◌, ◌-◌, ◌*◌, ◌<◌
 use Rattle.lay_context.specs.declared.task.Phase.{Phase}
 use Rattle.lay_context.specs.declared.task.Phase.TheVariants.{Measure, Size, Place}
 use Rattle.lay_context.specs.declared.task.Task.{Task}
-use Rattle.lay_formatting.specs.FormattingContexts.{FormattingContext, formatting_context_at}
+use Rattle.lay_contexts.specs.FormattingContexts.{FormattingContext, formatting_context_at}
 use Rattle.lay_positioned.specs.Absolute.{is_absolute}
 use Rattle.lay_positioned.specs.Ways.{IsOnWay}
 use Rattle.lay_context.specs.DocumentLayout.{flow_numbers}

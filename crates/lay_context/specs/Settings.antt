@@ -11,16 +11,16 @@ use Rattle.lay_sizes.specs.BoxSizes.{content_block}
 use Rattle.lay_sizes.specs.SizeColumns.{sizes_at}
 use Rattle.lay_table_sizes.specs.TableSizesValue.{TableSizesValue, cell_at}
 use Rattle.lay_table_sizes.specs.declared.cell_size.CellSize.{CellSize}
-use Rattle.lay_formatting.specs.FormattingContexts.{FormattingContext, formatting_context_at, boxes_in}
-use Rattle.lay_context_boxes.specs.ContainingBlocks.{block_around}
+use Rattle.lay_contexts.specs.FormattingContexts.{FormattingContext, formatting_context_at, boxes_in}
+use Rattle.lay_pieces.specs.ContainingBlocks.{block_around}
 use Rattle.lay_positioned.specs.Absolute.{is_absolute}
 use Rattle.lay_positioned.specs.Layouts.{Layout}
 use Rattle.lay_positioned.specs.Settings.{absolute_setting}
 use Rattle.lay_context_sizes.specs.ContextSizes.{SizedContext, not_sized}
 use Rattle.lay_context.specs.PlacedContexts.{placed_in, placement_in}
 use Rattle.lay_context.specs.Workings.{Workings}
-use Rattle.lay_own_place.specs.declared.own_place.OwnPlace.{OwnPlace}
-use Rattle.lay_own_place.specs.declared.own_place.OwnPlace.TheVariants as own_place
+use Rattle.lay_abspos.specs.declared.own_place.OwnPlace.{OwnPlace}
+use Rattle.lay_abspos.specs.declared.own_place.OwnPlace.TheVariants as own_place
 use Rattle.lay_context_sizes.specs.declared.setting.Setting.{Setting}
 use Rattle.lay_context_sizes.specs.declared.setting.Setting.TheVariants.{Absolute, Block, Cell}
 

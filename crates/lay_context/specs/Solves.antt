@@ -20,8 +20,8 @@ use Rattle.lay_sizes.specs.declared.own_boxes.OwnBox.{OwnBox}
 use Rattle.lay_sizes.specs.declared.sizing.ContainingBlock.{ContainingBlock}
 use Rattle.lay_contexts.specs.Contexts.{Context}
 use Rattle.lay_contexts.specs.ContextList.{AreContextsOf}
-use Rattle.lay_formatting.specs.FormattingContexts.{FormattingContext, boxes_in, formatting_context_at}
-use Rattle.lay_formatting.specs.FormattingContextList.{AreFormattingContextsOf}
+use Rattle.lay_contexts.specs.FormattingContexts.{FormattingContext, boxes_in, formatting_context_at}
+use Rattle.lay_contexts.specs.FormattingContextList.{AreFormattingContextsOf}
 use Rattle.lay_table_sizes.specs.declared.cell_size.CellSize.{CellSize}
 use Rattle.lay_pieces.specs.declared.corner.Corner.{Corner}
 use Rattle.lay_pieces.specs.Corners.{corner_at}

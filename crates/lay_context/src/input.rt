@@ -1,8 +1,8 @@
 //! What a task of a layout is given.
 
+use lay_abspos::StandInput;
 use lay_context_sizes::{MeasureInput, SizeInput};
 use lay_flow_boxes::PlaceInput;
-use lay_own_place::StandInput;
 use lay_table_rows::TableInput;
 
 /// What a task is given.

@@ -1,14 +1,14 @@
 //! One formatting context, with what is known of all of them.
 
 ghost use Rattle.std.specs.Prelude.{◌≡◌, ◌<◌, length};
-ghost use Rattle.lay_formatting.specs.FormattingContexts.{AreFormattingContexts, formatting_context_at};
+ghost use Rattle.lay_contexts.specs.FormattingContexts.{AreFormattingContexts, formatting_context_at};
 ghost use Rattle.lay_context.specs.Local.{HasCounts};
 ghost use Rattle.lay_context.specs.OneProof.{IsReady-prop};
 ghost use Rattle.lay_context.specs.Settling.{IsReady};
 ghost use Rattle.lay_context.specs.declared.task.Phase.TheVariants.{Place, Size};
 
 use crate::known::Known;
-use lay_formatting::{FormattingContext, FormattingContexts};
+use lay_contexts::{FormattingContext, FormattingContexts};
 
 /// The formatting context with this number, and what is known of all of them so far.
 #[derive(Clone, Copy)]

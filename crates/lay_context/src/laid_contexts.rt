@@ -5,7 +5,7 @@ ghost use Rattle.lay_pieces.specs.Corners.{AreNearCorners};
 ghost use Rattle.lay_context.specs.Settling.{AreKnown};
 
 use crate::known::Known;
-use lay_formatting::FormattingContexts;
+use lay_contexts::FormattingContexts;
 use lay_pieces::Corner;
 
 /// The formatting contexts of a document, with the values of all of them.

@@ -4,7 +4,7 @@
 ghost use Rattle.lay_context.specs.Laws.{AbsoluteBoxesStandInContainingBlocks, InputsComeOfNeeds, MeasuredGoesInward, MeasuredWhereShrunk, MeasuringAllChangesNoTree, NeedsComeFirst, OneLocal, OnePageCorners, OneSolution};
 
 use lay_context_sizes::{one_context_sizes, one_context_widths, widths_count_where_shrunk};
-use lay_formatting::{formatting_contexts_stand_in_order, one_formatting_context_list};
+use lay_contexts::{formatting_contexts_stand_in_order, one_formatting_context_list};
 use lay_placement::one_placement;
 use lay_table::one_table_placement;
 

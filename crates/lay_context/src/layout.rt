@@ -1,12 +1,12 @@
 //! Layout of a document from scratch.
 
 ghost use Rattle.std.specs.Prelude.{◌≡◌, ◌+◌, IfOk, OnOk, length};
-ghost use Rattle.lay_positioned.specs.ViewportBounds.{ViewportFits};
+ghost use Rattle.lay_abspos.specs.ViewportBounds.{ViewportFits};
 ghost use Rattle.lay_style.specs.ComputedStyle.{HasStyles};
 ghost use Rattle.lay_doc.specs.Document.{parents_of, declarations_of};
 ghost use Rattle.lay_context.specs.Local.{HasCounts, IsLocal, input_of};
 ghost use Rattle.lay_context.specs.Needs.{round_start};
-ghost use Rattle.lay_own_place.specs.OwnOffsets.{IsOwnOffset};
+ghost use Rattle.lay_abspos.specs.OwnOffsets.{IsOwnOffset};
 ghost use Rattle.lay_context.specs.Settling.{AreDone, BeforeTurn, IsReady, IsSettled};
 ghost use Rattle.lay_context.specs.Solves.{Solves, SolvesContexts, viewport_of};
 
@@ -21,22 +21,21 @@ use crate::plan::Plan;
 use crate::shared_contents::shared_contents;
 use crate::task::{Phase, Task};
 use crate::value::Value;
+use lay_abspos::{StandInput, own_offset};
 use lay_context_sizes::{context_sizes, context_widths};
-use lay_contexts::contexts_of;
+use lay_contexts::{FormattingContexts, contexts_of, formatting_contexts};
 use lay_doc::Doc;
 use lay_face::Face;
-use lay_formatting::{FormattingContexts, formatting_contexts};
 use lay_frag::Tree;
 use lay_inherit::computed;
 use lay_measure::NO_WIDTHS;
-use lay_own_place::{StandInput, own_offset};
 use lay_pieces::Placement;
 use lay_placement::placement;
 use lay_positioned::{level_count, levels};
 use lay_sizes::ContainingBlock;
 use lay_style::Computed;
 use lay_table::table_placement;
-use lay_table_grid::grids_are_of_boxes;
+use lay_table_borders::grids_are_of_boxes;
 use lay_units::{Len, NoMemory, Unit};
 use std::alloc::Global;
 use std::sync::Arc;

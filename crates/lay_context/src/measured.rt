@@ -4,7 +4,7 @@ ghost use Rattle.std.specs.Prelude.{◌≡◌, ◌<◌, length};
 ghost use Rattle.lay_context.specs.Measured.{is_measured, shrinks_within};
 
 use lay_context_sizes::shrinks_to_fit;
-use lay_formatting::FormattingContexts;
+use lay_contexts::FormattingContexts;
 
 /// Whether the own box of the formatting context with this number may shrink to fit, or that of one around it, so that its
 /// preferred widths count.

@@ -1,7 +1,7 @@
 //! What a document is laid out on.
 
 ghost use Rattle.std.specs.Prelude.{◌≡◌, IfOk};
-ghost use Rattle.lay_positioned.specs.ViewportBounds.{ViewportFits};
+ghost use Rattle.lay_abspos.specs.ViewportBounds.{ViewportFits};
 
 use lay_face::Face;
 use lay_sizes::ContainingBlock;
@@ -18,7 +18,7 @@ pub(crate) struct Medium {
 }
 
 impl Model for Medium {
-    ghost use Rattle.lay_positioned.specs.ViewportBounds.{ViewportFits};
+    ghost use Rattle.lay_abspos.specs.ViewportBounds.{ViewportFits};
     ghost use Rattle.lay_context.specs.Medium.{Medium as Plain};
 
     ghost Value = { Plain };

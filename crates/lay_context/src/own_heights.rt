@@ -6,8 +6,7 @@ ghost use Rattle.lay_flow_boxes.specs.PlaceInputs.{HeightRuleFits, height_rule_o
 ghost use Rattle.lay_context.specs.OwnHeights.{height_rule_as, own_height_rule};
 
 use lay_blocks::HeightRule;
-use lay_box_tree::BoxKind;
-use lay_context_boxes::ContextBoxes;
+use lay_box_tree::{BoxKind, ContextBoxes};
 use lay_context_sizes::SizedContext;
 use lay_sizes::BoxSizes;
 use lay_units::{Len, Unit};

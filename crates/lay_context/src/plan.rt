@@ -2,14 +2,14 @@
 
 ghost use Rattle.std.specs.Prelude.{◌≡◌, ◌<◌, length};
 ghost use Rattle.lay_items.specs.InlineContents.{AreContents};
-ghost use Rattle.lay_table_grid.specs.Laws.{GridsAreOfBoxes};
-ghost use Rattle.lay_formatting.specs.FormattingContexts.{boxes_in};
+ghost use Rattle.lay_table_borders.specs.GridLaws.{GridsAreOfBoxes};
+ghost use Rattle.lay_contexts.specs.FormattingContexts.{boxes_in};
 ghost use Rattle.lay_positioned.specs.Levels.{HasLevels};
 ghost use Rattle.lay_context.specs.OneProof.{HaveContents-prop};
 ghost use Rattle.lay_context.specs.SharedContents.{HaveContents, TextsAreKept, contents_in};
 
 use crate::medium::Medium;
-use lay_formatting::FormattingContexts;
+use lay_contexts::FormattingContexts;
 use lay_items::InlineContents;
 
 /// What the tasks of a layout share: the medium, the formatting contexts, the levels of these, and the content of their lines

@@ -5,8 +5,8 @@ ghost use Rattle.lay_context.specs.SharedContents.{AreShared, HaveContents, aske
 
 use crate::measured::is_measured;
 use crate::medium::Medium;
+use lay_contexts::FormattingContexts;
 use lay_flow_boxes::{Asked, contents_of, is_any_asked};
-use lay_formatting::FormattingContexts;
 use lay_items::InlineContents;
 use lay_units::NoMemory;
 use std::alloc::Global;

@@ -1,10 +1,10 @@
 -- The box whose height percentages refer to isn't behind the one that they are in.
 use Rattle.std.proofs.Common.{ℕ, zero, suc, ◌<◌, ◌≤◌, Bool, true, false, List, length, arith, if◌then◌else◌}
 use Rattle.lay_box_tree.specs.declared.box_tree.BoxNode.{BoxNode}
-use Rattle.lay_context_boxes.specs.ContextBoxes.{AreContextBoxes}
-use Rattle.lay_context_boxes.specs.Containing.{container_of, is_anonymous}
-use Rattle.lay_context_boxes.proofs.ContainerSteps.{container_before}
-use Rattle.lay_context_boxes.specs.ContainingBlocks.{height_holder}
+use Rattle.lay_box_tree.specs.ContextBoxes.{AreContextBoxes}
+use Rattle.lay_box_tree.specs.Containing.{container_of, is_anonymous}
+use Rattle.lay_box_tree.proofs.ContainerSteps.{container_before}
+use Rattle.lay_pieces.specs.ContainingBlocks.{height_holder}
 
 holder_by : (boxes : List BoxNode) (c : ℕ) (b : Bool) → AreContextBoxes boxes → c < length boxes → (if b then container_of boxes c else c) ≤ c
 holder_by boxes zero true are within = omega arith

@@ -14,12 +14,12 @@ use Rattle.lay_sizes.specs.SizeColumns.{no_sizes, sizes_at}
 use Rattle.lay_sizes.proofs.OneSizes.{one_box_sizes_lem}
 use Rattle.lay_table_sizes.specs.TableSizesValue.{TableSizesValue}
 use Rattle.lay_table_sizes.specs.Laws.{OneCellSizes, OneTableSizes}
-use Rattle.lay_context_boxes.specs.Containing.{container_of}
-use Rattle.lay_context_boxes.specs.ContextBoxes.{AreContextBoxes, is_inner}
-use Rattle.lay_context_boxes.proofs.ContainerSteps.{container_before}
-use Rattle.lay_context_boxes.specs.ContainingBlocks.{block_around, block_in, height_holder}
-use Rattle.lay_formatting.specs.FormattingBoxes.{box_at}
-use Rattle.lay_positioned.proofs.OneAbsoluteBox.{one_absolute_sizes_lem, one_stretched_height_lem, one_table_left_lem}
+use Rattle.lay_box_tree.specs.Containing.{container_of}
+use Rattle.lay_box_tree.specs.ContextBoxes.{AreContextBoxes, is_inner}
+use Rattle.lay_box_tree.proofs.ContainerSteps.{container_before}
+use Rattle.lay_pieces.specs.ContainingBlocks.{block_around, block_in, height_holder}
+use Rattle.lay_box_tree.specs.BoxColumns.{box_at}
+use Rattle.lay_abspos.proofs.OneAbsoluteBox.{one_absolute_sizes_lem, one_stretched_height_lem, one_table_left_lem}
 use Rattle.lay_context_sizes.specs.ContextSizes.{IsSizedAs, IsStretchedIn, IsWrapperLeft, SizedContext}
 use Rattle.lay_context_sizes.specs.FlowSizes.{HasFlowSizes, IsBoxSized, IsOwnSized, inside_rule, own_rule_of}
 use Rattle.lay_context_sizes.specs.Inputs.{SizeInput, containing_block_in}

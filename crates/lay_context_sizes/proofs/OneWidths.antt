@@ -2,8 +2,8 @@
 use Rattle.std.proofs.Common.{◌≡◌, ◌<◌, Bool, true, false, List, length, ap, sym, ◌∙◌, arith}
 use Rattle.lay_doc.proofs.OneStyles.{same_list}
 use Rattle.lay_box_tree.specs.declared.box_tree.BoxNode.{BoxNode}
-use Rattle.lay_box_parts.specs.declared.inline_part.InlinePart.{InlinePart}
-use Rattle.lay_box_parts.specs.InlineParts.{AreInlineParts, no_part}
+use Rattle.lay_box_tree.specs.declared.inline_part.InlinePart.{InlinePart}
+use Rattle.lay_box_tree.specs.InlineParts.{AreInlineParts, no_part}
 use Rattle.lay_measure.specs.MeasureInValue.{MeasureInValue}
 use Rattle.lay_measure.specs.PreferredWidths.{preferred_of}
 use Rattle.lay_measure.specs.declared.preferred_widths.PreferredWidths.{PreferredWidths}

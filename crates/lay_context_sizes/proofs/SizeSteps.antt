@@ -9,10 +9,10 @@ use Rattle.lay_sizes.specs.declared.sizing.BoxSizes.{BoxSizes}
 use Rattle.lay_sizes.specs.BoxSizes.{content_block}
 use Rattle.lay_sizes.specs.SizeBounds.{SizeFits}
 use Rattle.lay_sizes.specs.SizeColumns.{HaveSizeBounds, no_sizes, sizes_at}
-use Rattle.lay_context_boxes.specs.Containing.{container_of}
-use Rattle.lay_context_boxes.specs.ContextBoxes.{AreContextBoxes, is_inner}
-use Rattle.lay_context_boxes.proofs.ContainerSteps.{container_before}
-use Rattle.lay_context_boxes.specs.ContainingBlocks.{block_around, height_holder}
+use Rattle.lay_box_tree.specs.Containing.{container_of}
+use Rattle.lay_box_tree.specs.ContextBoxes.{AreContextBoxes, is_inner}
+use Rattle.lay_box_tree.proofs.ContainerSteps.{container_before}
+use Rattle.lay_pieces.specs.ContainingBlocks.{block_around, height_holder}
 use Rattle.lay_context_sizes.specs.FlowSizes.{HaveInsideSizes, IsBoxSized}
 use Rattle.lay_context_sizes.proofs.HolderSteps.{holder_before}
 

@@ -17,10 +17,10 @@ use Rattle.lay_table_sizes.specs.TableSizes.{HasTableSizes}
 use Rattle.lay_table_sizes.specs.TableSizesValue.{TableSizesValue}
 use Rattle.lay_table_sizes.specs.declared.table_rule.TableRule.{TableRule}
 use Rattle.lay_table_sizes.specs.declared.table_rule.TableRule.TheVariants.{Fills, ShrinksInto, ShrinksToFit}
-use Rattle.lay_formatting.specs.FormattingBoxes.{box_at}
-use Rattle.lay_positioned.specs.AbsoluteSizes.{IsStretchedHeight}
-use Rattle.lay_positioned.specs.AbsoluteTables.{IsTableLeft, table_room}
-use Rattle.lay_positioned.specs.declared.settings.AbsoluteSetting.{AbsoluteSetting}
+use Rattle.lay_box_tree.specs.BoxColumns.{box_at}
+use Rattle.lay_abspos.specs.AbsoluteSizes.{IsStretchedHeight}
+use Rattle.lay_abspos.specs.AbsoluteTables.{IsTableLeft, table_room}
+use Rattle.lay_abspos.specs.declared.setting.AbsoluteSetting.{AbsoluteSetting}
 use Rattle.lay_context_sizes.specs.FlowSizes.{HasFlowSizes}
 use Rattle.lay_context_sizes.specs.Inputs.{SizeInput, containing_block_in}
 use Rattle.lay_context_sizes.specs.TableContexts.{is_table}

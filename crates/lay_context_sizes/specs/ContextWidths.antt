@@ -3,8 +3,8 @@
 -- columns (17.5.2).
 use Rattle.std.specs.Prelude.{◌≡◌, Bool, true, false, List}
 use Rattle.lay_box_tree.specs.declared.box_tree.BoxNode.{BoxNode}
-use Rattle.lay_box_parts.specs.declared.inline_part.InlinePart.{InlinePart}
-use Rattle.lay_box_parts.specs.InlineParts.{AreInlineParts}
+use Rattle.lay_box_tree.specs.declared.inline_part.InlinePart.{InlinePart}
+use Rattle.lay_box_tree.specs.InlineParts.{AreInlineParts}
 use Rattle.lay_face.specs.FaceValue.{FaceValue}
 use Rattle.lay_measure.specs.PreferredWidths.{preferred_of}
 use Rattle.lay_measure.specs.declared.preferred_widths.PreferredWidths.{PreferredWidths}

@@ -7,9 +7,9 @@ use Rattle.lay_box_tree.specs.declared.box_tree.BoxNode.{BoxNode}
 use Rattle.lay_face.specs.FaceValue.{FaceValue}
 use Rattle.lay_measure.specs.declared.preferred_widths.PreferredWidths.{PreferredWidths}
 use Rattle.lay_sizes.specs.declared.sizing.ContainingBlock.{ContainingBlock}
-use Rattle.lay_context_boxes.specs.ContextBoxes.{AreContextBoxes}
+use Rattle.lay_box_tree.specs.ContextBoxes.{AreContextBoxes}
 use Rattle.lay_context_sizes.specs.declared.setting.Setting.{Setting}
-use Rattle.lay_positioned.specs.Settings.{SettingFits, block_in}
+use Rattle.lay_abspos.specs.AbsoluteSettings.{SettingFits, block_in}
 use Rattle.lay_context_sizes.specs.declared.setting.Setting.TheVariants.{Absolute, Block, Cell}
 
 pub record MeasureInput : Type 0 where

@@ -2,7 +2,7 @@
 -- count for the sizes of what shrinks to fit alone.
 use Rattle.std.specs.Prelude.{◌≡◌, Bool, true, false}
 use Rattle.lay_measure.specs.declared.preferred_widths.PreferredWidths.{PreferredWidths}
-use Rattle.lay_context_boxes.specs.ContextBoxes.{AreContextBoxes}
+use Rattle.lay_box_tree.specs.ContextBoxes.{AreContextBoxes}
 use Rattle.lay_context_sizes.specs.ContextSizes.{SizedContext, HasSizes}
 use Rattle.lay_context_sizes.specs.ContextWidths.{HasWidths}
 use Rattle.lay_context_sizes.specs.Inputs.{MeasureInput, SizeInput}

@@ -2,13 +2,12 @@
 
 ghost use Rattle.std.specs.Prelude.{◌≡◌};
 ghost use Rattle.lay_items.specs.InlineContents.{AreContents};
-ghost use Rattle.lay_context_boxes.specs.ContextBoxes.{AreContextBoxes};
-ghost use Rattle.lay_formatting.specs.FormattingBoxes.{box_at};
+ghost use Rattle.lay_box_tree.specs.ContextBoxes.{AreContextBoxes};
+ghost use Rattle.lay_box_tree.specs.BoxColumns.{box_at};
 ghost use Rattle.lay_context_sizes.specs.Inputs.{SizeInputFits};
 
 use crate::setting::Setting;
-use lay_box_tree::BoxNode;
-use lay_context_boxes::ContextBoxes;
+use lay_box_tree::{BoxNode, ContextBoxes};
 use lay_face::Face;
 use lay_items::InlineContents;
 use lay_measure::PreferredWidths;

@@ -5,7 +5,7 @@ ghost use Rattle.lay_context_sizes.specs.ContextWidths.{HasFlowWidths, HasWidths
 
 use crate::inputs::MeasureInput;
 use crate::table_contexts::is_table;
-use lay_box_parts::inline_parts;
+use lay_box_tree::inline_parts;
 use lay_measure::{MeasureIn, PreferredWidths, measure};
 use lay_table_sizes::table_preferred_widths;
 use lay_units::NoMemory;

@@ -4,7 +4,7 @@ ghost use Rattle.std.specs.Prelude.{◌≡◌};
 ghost use Rattle.lay_units.specs.Units.{IsPosition};
 ghost use Rattle.lay_context_sizes.specs.Inputs.{OwnSettingFits, containing_block_in};
 
-use lay_positioned::{AbsoluteSetting, block_in};
+use lay_abspos::{AbsoluteSetting, block_in};
 use lay_sizes::ContainingBlock;
 use lay_table_sizes::CellSize;
 

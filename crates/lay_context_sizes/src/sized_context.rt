@@ -1,7 +1,7 @@
 //! What a formatting context answers of sizes.
 
 ghost use Rattle.std.specs.Prelude.{◌≡◌, IfOk};
-ghost use Rattle.lay_positioned.specs.OffsetBounds.{IsStart};
+ghost use Rattle.lay_abspos.specs.OffsetBounds.{IsStart};
 ghost use Rattle.lay_context_sizes.specs.ContextSizes.{SizedContext as Plain};
 ghost use Rattle.lay_context_sizes.specs.ContextSizes.{IsStretchedSize};
 
@@ -24,7 +24,7 @@ pub struct SizedContext {
 impl Model for SizedContext {
     ghost use Rattle.lay_context_sizes.specs.ContextSizes.{SizedContext as Plain};
     ghost use Rattle.lay_context_sizes.specs.ContextSizes.{IsStretchedSize};
-    ghost use Rattle.lay_positioned.specs.OffsetBounds.{IsStart};
+    ghost use Rattle.lay_abspos.specs.OffsetBounds.{IsStart};
 
     ghost Value = { Plain };
 

@@ -6,10 +6,10 @@ use Rattle.lay_style.specs.declared.style.Style.{Style}
 use Rattle.lay_doc.specs.Document.{Document, IsDocument}
 use Rattle.lay_doc.proofs.OneStyles.{same_list}
 use Rattle.lay_box_tree.specs.declared.box_tree.BoxNode.{BoxNode}
-use Rattle.lay_context_tree.specs.declared.context_spot.ContextSpot.{ContextSpot}
+use Rattle.lay_contexts.specs.declared.context_spot.ContextSpot.{ContextSpot}
 use Rattle.lay_contexts.specs.Contexts.{Context, AreContexts, IsInside, context_at, no_context}
-use Rattle.lay_context_tree.specs.DocumentContexts.{spot_at}
-use Rattle.lay_context_tree.proofs.OneList.{one_list_of_contexts}
+use Rattle.lay_contexts.specs.DocumentContexts.{spot_at}
+use Rattle.lay_contexts.proofs.OneList.{one_list_of_contexts}
 use Rattle.lay_contexts.specs.ContextList.{AreContextsOf, AreNumberedTo, IsNumberedTo, boxes_at, boxes_of_spots, number_before, spot_of}
 use Rattle.lay_contexts.specs.Laws.{OneContextList}
 use Rattle.lay_contexts.specs.ContextOrder.{AreInOrder}

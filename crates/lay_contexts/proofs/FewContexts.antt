@@ -3,8 +3,8 @@ use Rattle.std.proofs.Common.{◌≡◌, ◌<◌, ◌≤◌, ℕ, zero, suc, Lis
 use Rattle.lay_style.specs.declared.style.Style.{Style}
 use Rattle.lay_doc.specs.declared.node.Node.{Node}
 use Rattle.lay_contexts.proofs.ListedSteps.{context_within}
-use Rattle.lay_context_tree.specs.DocumentContexts.{AreDocumentContexts, spot_at}
-use Rattle.lay_context_tree.specs.declared.context_spot.ContextSpot.{ContextSpot}
+use Rattle.lay_contexts.specs.DocumentContexts.{AreDocumentContexts, spot_at}
+use Rattle.lay_contexts.specs.declared.context_spot.ContextSpot.{ContextSpot}
 
 module _ (nodes : List Node) (styles : List Style) (spots : List ContextSpot) (are : AreDocumentContexts nodes styles spots) where
   rises : (i : ℕ) → i < length spots → i ≤ (spot_at spots i).place

@@ -11,15 +11,15 @@ use Rattle.lay_box_tree.specs.declared.box_tree.BoxKind.TheVariants.{Block}
 use Rattle.lay_box_tree.specs.declared.box_tree.BoxNode.{BoxNode}
 use Rattle.lay_anonymous_boxes.specs.declared.facts.Facts.{Facts}
 use Rattle.lay_box_tree.specs.declared.box_tree.Flow.TheVariants.{InFlow}
-use Rattle.lay_box_laws.specs.FlowLaws.{flow_at, is_anchor, is_anchor_at}
-use Rattle.lay_box_laws.proofs.AnonymousFlows.{anonymous_flows}
-use Rattle.lay_box_laws.proofs.InnerFlows.{inner_flows}
-use Rattle.lay_box_laws.proofs.OwnFlows.{own_flows}
-use Rattle.lay_context_boxes.specs.Containing.{is_anonymous}
-use Rattle.lay_context_boxes.specs.ContextBoxes.{is_inner}
-use Rattle.lay_context_tree.specs.ContextTree.{StandsIn, boxes_of_place}
-use Rattle.lay_context_tree.specs.DocumentContexts.{AreDocumentContexts, spot_at}
-use Rattle.lay_context_tree.specs.declared.context_spot.ContextSpot.{ContextSpot}
+use Rattle.lay_contexts.specs.FlowLaws.{flow_at, is_anchor, is_anchor_at}
+use Rattle.lay_contexts.proofs.AnonymousFlows.{anonymous_flows}
+use Rattle.lay_contexts.proofs.InnerFlows.{inner_flows}
+use Rattle.lay_contexts.proofs.OwnFlows.{own_flows}
+use Rattle.lay_box_tree.specs.Containing.{is_anonymous}
+use Rattle.lay_box_tree.specs.ContextBoxes.{is_inner}
+use Rattle.lay_contexts.specs.ContextTree.{StandsIn, boxes_of_place}
+use Rattle.lay_contexts.specs.DocumentContexts.{AreDocumentContexts, spot_at}
+use Rattle.lay_contexts.specs.declared.context_spot.ContextSpot.{ContextSpot}
 use Rattle.lay_contexts.specs.Contexts.{Context, boxes_in, context_at}
 use Rattle.lay_contexts.specs.ContextList.{AreNumberedTo, boxes_of_spots}
 use Rattle.lay_contexts.specs.Laws.{AnonymousBoxesAreInFlow, ContextsKeepFlowAround, KeepsFlowAround}

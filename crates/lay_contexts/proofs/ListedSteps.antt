@@ -8,10 +8,10 @@ use Rattle.lay_doc.specs.declared.node.Node.{Node}
 use Rattle.lay_doc.proofs.OneStyles.{same_list}
 use Rattle.lay_boxgen.specs.Contexts.{IsContextAt, box_at, is_marked}
 use Rattle.lay_box_tree.specs.declared.box_tree.BoxNode.{BoxNode}
-use Rattle.lay_context_tree.specs.ContextTree.{StandsIn, boxes_of_place}
-use Rattle.lay_context_tree.specs.DocumentContexts.{AreDocumentContexts, root_spot, spot_at}
-use Rattle.lay_context_tree.specs.declared.context_spot.ContextSpot.{ContextSpot}
-use Rattle.lay_context_tree.proofs.OneStand.{marked-true, within}
+use Rattle.lay_contexts.specs.ContextTree.{StandsIn, boxes_of_place}
+use Rattle.lay_contexts.specs.DocumentContexts.{AreDocumentContexts, root_spot, spot_at}
+use Rattle.lay_contexts.specs.declared.context_spot.ContextSpot.{ContextSpot}
+use Rattle.lay_contexts.proofs.OneStand.{marked-true, within}
 use Rattle.lay_contexts.specs.ContextList.{boxes_of_spots}
 use Rattle.lay_contexts.specs.ListedContexts.{AreContextPlaces, AreSpots, AreStanding, IsListed, IsSpot, Stands, boxes_of_places, standing_at}
 use Rattle.lay_contexts.specs.declared.standing.Standing.{Standing}

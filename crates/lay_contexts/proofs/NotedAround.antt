@@ -5,10 +5,10 @@ use Rattle.lay_style.specs.declared.style.Style.{Style}
 use Rattle.lay_doc.specs.Document.{Document, IsDocument}
 use Rattle.lay_box_tree.specs.BoxColumns.{box_ids}
 use Rattle.lay_box_tree.specs.declared.box_tree.BoxNode.{BoxNode}
-use Rattle.lay_context_boxes.specs.ContextBoxes.{is_inner}
-use Rattle.lay_context_tree.specs.ContextTree.{boxes_of_place}
-use Rattle.lay_context_tree.specs.DocumentContexts.{AreDocumentContexts, spot_at}
-use Rattle.lay_context_tree.specs.declared.context_spot.ContextSpot.{ContextSpot}
+use Rattle.lay_box_tree.specs.ContextBoxes.{is_inner}
+use Rattle.lay_contexts.specs.ContextTree.{boxes_of_place}
+use Rattle.lay_contexts.specs.DocumentContexts.{AreDocumentContexts, spot_at}
+use Rattle.lay_contexts.specs.declared.context_spot.ContextSpot.{ContextSpot}
 use Rattle.lay_contexts.specs.Contexts.{Context, boxes_in, context_at}
 use Rattle.lay_contexts.specs.ContextList.{AreNumberedTo, boxes_of_spots, number_before}
 use Rattle.lay_contexts.specs.Laws.{ContextsAreNotedAround, IsNotedAround}

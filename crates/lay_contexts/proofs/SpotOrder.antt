@@ -14,13 +14,13 @@ use Rattle.lay_boxgen.proofs.ListedForests.{boxes_are_a_tree_lem}
 use Rattle.lay_boxgen.proofs.ListedLeaves.{inner_boxes_are_leaves_lem}
 use Rattle.lay_boxgen.proofs.NodeForms.{IsNodeBox, is-node_box}
 use Rattle.lay_boxgen.proofs.WholeParts.{context_is_one_box}
-use Rattle.lay_context_boxes.specs.ContextBoxes.{AreContextBoxes}
-use Rattle.lay_context_tree.specs.ContextTree.{boxes_of_place}
-use Rattle.lay_context_tree.specs.DocumentContexts.{AreDocumentContexts, root_spot, spot_at}
-use Rattle.lay_context_tree.specs.declared.context_spot.ContextSpot.{ContextSpot}
-use Rattle.lay_context_tree.proofs.Members.{forest, node-at, tree-is}
-use Rattle.lay_context_tree.proofs.OneList.{contexts_stand_in_order}
-use Rattle.lay_context_tree.proofs.OneStand.{marked-true, within}
+use Rattle.lay_box_tree.specs.ContextBoxes.{AreContextBoxes}
+use Rattle.lay_contexts.specs.ContextTree.{boxes_of_place}
+use Rattle.lay_contexts.specs.DocumentContexts.{AreDocumentContexts, root_spot, spot_at}
+use Rattle.lay_contexts.specs.declared.context_spot.ContextSpot.{ContextSpot}
+use Rattle.lay_contexts.proofs.Members.{forest, node-at, tree-is}
+use Rattle.lay_contexts.proofs.OneList.{contexts_stand_in_order}
+use Rattle.lay_contexts.proofs.OneStand.{marked-true, within}
 use Rattle.lay_contexts.specs.ContextList.{boxes_at, boxes_of_spots}
 use Rattle.lay_contexts.specs.ContextOrder.{AreInOrder}
 

@@ -1,5 +1,5 @@
--- The contexts of a document in document order, each with its boxes (CSS 2.2, 9.4.1): `AreDocumentContexts` of
--- lay_context_tree says which they are and where the box of each stands outside, in the context with this number in the list, at
+-- The contexts of a document in document order, each with its boxes (CSS 2.2, 9.4.1): `AreDocumentContexts`
+-- says which they are and where the box of each stands outside, in the context with this number in the list, at
 -- this place among the boxes of that one.
 --
 -- For example, a root has two floats, and in the first one is another. There are four contexts: the root's with the number 0,
@@ -9,9 +9,9 @@ use Rattle.std.specs.Prelude.{ℕ, zero, suc, ◌≡◌, ◌<◌, ◌==◌, ◌&
 use Rattle.lay_style.specs.declared.style.Style.{Style}
 use Rattle.lay_doc.specs.declared.node.Node.{Node}
 use Rattle.lay_box_tree.specs.declared.box_tree.BoxNode.{BoxNode}
-use Rattle.lay_context_tree.specs.ContextTree.{boxes_of_place}
-use Rattle.lay_context_tree.specs.DocumentContexts.{AreDocumentContexts, spot_at}
-use Rattle.lay_context_tree.specs.declared.context_spot.ContextSpot.{ContextSpot}
+use Rattle.lay_contexts.specs.ContextTree.{boxes_of_place}
+use Rattle.lay_contexts.specs.DocumentContexts.{AreDocumentContexts, spot_at}
+use Rattle.lay_contexts.specs.declared.context_spot.ContextSpot.{ContextSpot}
 use Rattle.lay_contexts.specs.Contexts.{Context, context_at}
 
 -- the boxes of each context

@@ -1,9 +1,9 @@
 -- The contexts of a document stand in order: each behind the one around it, in which its box is.
 use Rattle.std.specs.Prelude.{ℕ, ◌≡◌, ◌<◌, List, length}
 use Rattle.lay_box_tree.specs.declared.box_tree.BoxNode.{BoxNode}
-use Rattle.lay_context_tree.specs.DocumentContexts.{spot_at}
-use Rattle.lay_context_tree.specs.declared.context_spot.ContextSpot.{ContextSpot}
-use Rattle.lay_context_boxes.specs.ContextBoxes.{AreContextBoxes}
+use Rattle.lay_contexts.specs.DocumentContexts.{spot_at}
+use Rattle.lay_contexts.specs.declared.context_spot.ContextSpot.{ContextSpot}
+use Rattle.lay_box_tree.specs.ContextBoxes.{AreContextBoxes}
 use Rattle.lay_contexts.specs.ContextList.{boxes_at}
 
 pub record AreInOrder (spots : List ContextSpot) (boxes : List (List BoxNode)) : Type 0 where

@@ -4,9 +4,9 @@ use Rattle.lay_style.specs.declared.style.Style.{Style}
 use Rattle.lay_doc.specs.Document.{Document, IsDocument}
 use Rattle.lay_anonymous_boxes.specs.Forms.{is_absolute}
 use Rattle.lay_box_tree.specs.declared.box_tree.Flow.TheVariants.{InFlow}
-use Rattle.lay_box_laws.specs.FlowLaws.{flow_at, is_anchor_at}
-use Rattle.lay_context_boxes.specs.Containing.{is_anonymous}
-use Rattle.lay_context_boxes.specs.ContextBoxes.{is_inner}
+use Rattle.lay_contexts.specs.FlowLaws.{flow_at, is_anchor_at}
+use Rattle.lay_box_tree.specs.Containing.{is_anonymous}
+use Rattle.lay_box_tree.specs.ContextBoxes.{is_inner}
 use Rattle.lay_contexts.specs.Contexts.{Context, boxes_in, context_at}
 use Rattle.lay_contexts.specs.ContextList.{AreContextsOf}
 

@@ -5,9 +5,9 @@ use Rattle.lay_style.specs.declared.style.Style.{Style}
 use Rattle.lay_doc.specs.declared.node.Node.{Node}
 use Rattle.lay_boxgen.specs.Contexts.{IsContextAt}
 use Rattle.lay_box_tree.specs.declared.box_tree.BoxNode.{BoxNode}
-use Rattle.lay_context_tree.specs.ContextTree.{StandsIn, boxes_of_place}
-use Rattle.lay_context_tree.specs.DocumentContexts.{root_spot, spot_at}
-use Rattle.lay_context_tree.specs.declared.context_spot.ContextSpot.{ContextSpot}
+use Rattle.lay_contexts.specs.ContextTree.{StandsIn, boxes_of_place}
+use Rattle.lay_contexts.specs.DocumentContexts.{root_spot, spot_at}
+use Rattle.lay_contexts.specs.declared.context_spot.ContextSpot.{ContextSpot}
 use Rattle.lay_contexts.specs.declared.standing.Standing.{Standing}
 
 -- a node is in the list

@@ -1,18 +1,18 @@
 //! The contexts of a document with their boxes, in document order.
 
 ghost use Rattle.std.specs.Prelude.{ℕ, ◌≡◌, ◌<◌, IfOk, length, replicate, slice_index};
-ghost use Rattle.lay_context_boxes.specs.ContextBoxes.{AreContextBoxes};
-ghost use Rattle.lay_context_tree.specs.DocumentContexts.{AreDocumentContexts, root_spot, spot_at};
+ghost use Rattle.lay_box_tree.specs.ContextBoxes.{AreContextBoxes};
+ghost use Rattle.lay_contexts.specs.DocumentContexts.{AreDocumentContexts, root_spot, spot_at};
 ghost use Rattle.lay_contexts.specs.ContextList.{AreContextsOf, AreNumberedTo, boxes_at, boxes_of_spots, spot_of};
 ghost use Rattle.lay_contexts.specs.ContextOrder.{AreInOrder};
 ghost use Rattle.lay_contexts.specs.ListedContexts.{AreContextPlaces, AreSpots, IsSpot, boxes_of_places};
 
+use crate::ContextSpot;
 use crate::context_places::context_places;
 use crate::contexts::{Context, Contexts};
 use crate::standing::{Listed, Standing, boxes_at, stands_of};
+use lay_box_tree::ContextBoxes;
 use lay_boxgen::boxes_of_contexts;
-use lay_context_boxes::ContextBoxes;
-use lay_context_tree::ContextSpot;
 use lay_doc::Doc;
 use lay_style::Computed;
 use lay_units::NoMemory;

@@ -4,8 +4,8 @@ ghost use Rattle.std.specs.Prelude.{◌≡◌, ◌<◌, ◌≤◌, length, slice
 ghost use Rattle.lay_units.specs.Limits.{most_nodes};
 ghost use Rattle.lay_contexts.specs.Contexts.{AreContexts, context_at};
 
-use lay_context_boxes::ContextBoxes;
-use lay_context_tree::ContextSpot;
+use crate::ContextSpot;
+use lay_box_tree::ContextBoxes;
 use std::marker::Model;
 
 /// A context: the place of its node in the document, the number of the context around it, the place of its box

@@ -2,12 +2,12 @@
 
 ghost use Rattle.std.specs.Prelude.{◌≡◌, ◌<◌, IfOk, IfSome, Some, true, length, slice_index};
 ghost use Rattle.lay_doc.specs.Document.{ids_of};
-ghost use Rattle.lay_context_boxes.specs.ContextBoxes.{is_inner};
-ghost use Rattle.lay_context_tree.specs.ContextTree.{boxes_of_place};
+ghost use Rattle.lay_box_tree.specs.ContextBoxes.{is_inner};
+ghost use Rattle.lay_contexts.specs.ContextTree.{boxes_of_place};
 ghost use Rattle.lay_contexts.specs.ContextList.{boxes_at};
 ghost use Rattle.lay_contexts.specs.ListedContexts.{AreStanding, boxes_of_places};
 
-use lay_context_boxes::ContextBoxes;
+use lay_box_tree::ContextBoxes;
 use lay_doc::{Doc, NodeId};
 use lay_style::Computed;
 use lay_units::NoMemory;

@@ -1,6 +1,9 @@
+pub mod Fronts
 pub mod Kept
-pub mod Shown
-pub mod Trees
 pub mod LastTree
-pub mod ShownTrees
 pub mod One
+pub mod Quiet
+pub mod Shown
+pub mod ShownTrees
+pub mod Trees
+pub mod TurnSteps

@@ -2,9 +2,9 @@
 use Rattle.std.proofs.Common.{◌≡◌, Bool, true, false, List, Option, Some, None, refl, sym, ap, ◌∙◌}
 use Rattle.lay_doc.specs.Document.{IsDocument}
 use Rattle.lay_doc.specs.Edits.{after}
-use Rattle.lay_commands.specs.declared.command.Reply.{Reply}
-use Rattle.lay_commands.specs.declared.command.Reply.TheVariants.{Accepted, Refused, Shown, NoMemory}
-use Rattle.lay_commands.specs.declared.history.Entry.TheVariants.{Edit, Latest, Sync}
+use Rattle.lay_doc.specs.declared.command.Reply.{Reply}
+use Rattle.lay_doc.specs.declared.command.Reply.TheVariants.{Accepted, Refused, Shown, NoMemory}
+use Rattle.lay_doc.specs.declared.history.Entry.TheVariants.{Edit, Latest, Sync}
 use Rattle.lay_frag.specs.Pieces.{Context}
 use Rattle.lay_history.proofs.Lists.{not_none, some_is}
 use Rattle.lay_context.specs.Laws.{OneSolution}

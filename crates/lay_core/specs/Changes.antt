@@ -3,8 +3,8 @@ use Rattle.std.specs.Prelude.{ℕ, ◌≡◌, ◌+◌, Option, Some, None}
 use Rattle.lay_doc.specs.declared.edit.Edit.{Edit as Change}
 use Rattle.lay_doc.specs.Document.{Document}
 use Rattle.lay_doc.specs.Edits.{after, fault}
-use Rattle.lay_commands.specs.declared.command.Reply.{Reply}
-use Rattle.lay_commands.specs.declared.command.Reply.TheVariants.{Accepted, Refused, Shown, NoMemory}
+use Rattle.lay_doc.specs.declared.command.Reply.{Reply}
+use Rattle.lay_doc.specs.declared.command.Reply.TheVariants.{Accepted, Refused, Shown, NoMemory}
 
 abbrev pub ChangesTo : {X : Type 0} → Change → Reply → Document × Option X × ℕ → Document × Option X × ℕ → Type 0
 ChangesTo edit (Accepted version) (d, fresh, count) (d', fresh', count') =

@@ -2,9 +2,9 @@
 use Rattle.std.specs.Prelude.{ℕ, ◌≡◌, List, slice_get, Some}
 use Rattle.lay_doc.specs.declared.edit.Edit.{Edit as Change}
 use Rattle.lay_doc.specs.Document.{IsDocument}
-use Rattle.lay_commands.specs.declared.command.Reply.{Reply}
-use Rattle.lay_commands.specs.declared.command.Reply.TheVariants.{NoMemory}
-use Rattle.lay_commands.specs.declared.history.Entry.{Entry}
+use Rattle.lay_doc.specs.declared.command.Reply.{Reply}
+use Rattle.lay_doc.specs.declared.command.Reply.TheVariants.{NoMemory}
+use Rattle.lay_doc.specs.declared.history.Entry.{Entry}
 use Rattle.lay_frag.specs.Pieces.{Context}
 use Rattle.lay_history.specs.Histories.{accepted, doc_at, shown_version}
 use Rattle.lay_history.specs.Legal.{IsWhole}

@@ -1,4 +1,5 @@
-pub mod State
 pub mod Changes
-pub mod Steps
 pub mod Laws
+pub mod Rounds
+pub mod State
+pub mod Steps

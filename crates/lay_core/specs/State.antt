@@ -4,7 +4,7 @@
 use Rattle.std.specs.Prelude.{ℕ, ◌≡◌, ◌+◌, ◌*◌, ◌≤◌, List, length, Option, IfSome}
 use Rattle.std.specs.List.{All}
 use Rattle.lay_doc.specs.Document.{Document}
-use Rattle.lay_commands.specs.declared.history.Entry.{Entry}
+use Rattle.lay_doc.specs.declared.history.Entry.{Entry}
 use Rattle.lay_face.specs.FaceValue.{FaceValue}
 use Rattle.lay_frag.specs.Pieces.{Context}
 use Rattle.lay_history.specs.Calls.{calls}

@@ -8,9 +8,8 @@ ghost use Rattle.lay_core.specs.State.{IsCore};
 ghost use Rattle.lay_core.specs.Steps.{EditsTo, IsRead, LatestTo, MaySettle, RefreshesTo, SettlesTo, ShowsLast, ShowsLatest, ShowsPresent, SyncTo, called, is_due, new_core, with_published};
 
 use crate::editing::edited;
-use lay_commands::{Entry, Reply};
 use lay_context::scratch;
-use lay_doc::{Doc, Edit};
+use lay_doc::{Doc, Edit, Entry, Reply};
 use lay_face::Face;
 use lay_frag::Tree;
 use lay_history::{PublishedTree, tree_at};

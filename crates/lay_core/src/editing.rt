@@ -3,8 +3,7 @@
 ghost use Rattle.std.specs.Prelude.{◌≡◌, ◌<◌, ◌^◌, ◌-◌};
 ghost use Rattle.lay_core.specs.Changes.{ChangesTo};
 
-use lay_commands::Reply;
-use lay_doc::{Doc, Edit};
+use lay_doc::{Doc, Edit, Reply};
 use lay_frag::Tree;
 use std::alloc::Global;
 use std::sync::Arc;

@@ -6,7 +6,7 @@ use Rattle.lay_box_tree.specs.declared.box_tree.BoxNode.{BoxNode}
 use Rattle.lay_box_tree.specs.Roles.{role_at}
 use Rattle.lay_blocks.specs.Children.{flag_at}
 use Rattle.lay_flow_boxes.specs.declared.inline_containers.Level.TheVariants.{Block as block, Inline as inline}
-use Rattle.lay_context_boxes.specs.Containing.{container_of}
+use Rattle.lay_box_tree.specs.Containing.{container_of}
 use Rattle.lay_flow_boxes.specs.AloneInLines.{AreAlone}
 use Rattle.lay_flow_boxes.specs.InlineContainers.{holds, is_block_box, is_inline_container, is_of}
 use Rattle.lay_flow_boxes.proofs.InlineContainerSteps.{no_more, one_here, other_eq, other_more, positive_lt, same_eq}

@@ -5,7 +5,7 @@ use Rattle.std.proofs.lemmas.Bool.{cases_eq, cases_lt}
 use Rattle.lay_face.specs.FaceValue.{FaceValue}
 use Rattle.lay_box_tree.specs.declared.box_tree.BoxNode.{BoxNode}
 use Rattle.lay_blocks.specs.Children.{flag_at}
-use Rattle.lay_context_boxes.specs.Containing.{container_of}
+use Rattle.lay_box_tree.specs.Containing.{container_of}
 use Rattle.lay_items.specs.InlineContents.{AreContents, AreMarkedContents, KeptSegments, kept_at, kept_where}
 use Rattle.lay_items.specs.InlineSegments.{segments_in}
 use Rattle.lay_space.specs.declared.segment.Segment.{Segment}

@@ -37,13 +37,13 @@ use Rattle.lay_sizes.specs.OwnBoxes.{OwnBoxFits, OwnBoxesFit, own_box_at}
 use Rattle.lay_sizes.specs.SizeBounds.{SizeFits, IsUsedSizeOrAuto}
 use Rattle.lay_sizes.specs.SizeColumns.{HaveSizeBounds, sizes_at}
 use Rattle.lay_flow_boxes.specs.declared.inline_containers.Level.TheVariants.{Block as block_level}
-use Rattle.lay_context_boxes.specs.Containing.{container_of}
-use Rattle.lay_context_boxes.specs.ContextBoxes.{AreContextBoxes, is_inner}
+use Rattle.lay_box_tree.specs.Containing.{container_of}
+use Rattle.lay_box_tree.specs.ContextBoxes.{AreContextBoxes, is_inner}
 use Rattle.lay_flow_boxes.specs.ContextBlocks.{AreFlowBoxesOf, block_box, cleared_by, content_of_box, flow_box_of, float_box, float_side, has_lines, height_rule, holds_lines, inner_box, is_anchor, is_in_lines, kind_alone, kind_by, kind_in_lines, lines_in, own_block}
 use Rattle.lay_flow_boxes.specs.InlineContainers.{holds, is_beside_lines, is_block_box, is_inline_container, is_of, is_own_container, stands_in}
 use Rattle.lay_flow_boxes.specs.NearLefts.{AreNearLefts, IsNearLeft}
 use Rattle.lay_flow_boxes.specs.PlaceInputs.{HeightRuleFits}
-use Rattle.lay_context_boxes.proofs.ContainerSteps.{container_before, container_within, containers_are_nearest_lem}
+use Rattle.lay_box_tree.proofs.ContainerSteps.{container_before, container_within, containers_are_nearest_lem}
 
 never : (b : Bool) → b ≡ true → b ≡ false → ⊥
 never true h e = cc

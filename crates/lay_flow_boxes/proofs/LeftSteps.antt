@@ -8,10 +8,10 @@ use Rattle.lay_blocks.specs.Lengths.{length_at}
 use Rattle.lay_sizes.specs.declared.sizing.BoxSizes.{BoxSizes}
 use Rattle.lay_sizes.specs.declared.own_boxes.OwnBox.{OwnBox}
 use Rattle.lay_sizes.specs.SizeColumns.{sizes_at}
-use Rattle.lay_context_boxes.specs.Containing.{container_of}
-use Rattle.lay_context_boxes.specs.ContextBoxes.{AreContextBoxes}
+use Rattle.lay_box_tree.specs.Containing.{container_of}
+use Rattle.lay_box_tree.specs.ContextBoxes.{AreContextBoxes}
 use Rattle.lay_flow_boxes.specs.Outside.{outside}
-use Rattle.lay_context_boxes.proofs.ContainerSteps.{container_before}
+use Rattle.lay_box_tree.proofs.ContainerSteps.{container_before}
 use Rattle.lay_flow_boxes.specs.ContextBlocks.{left_of_box, HasLefts}
 use Rattle.lay_flow_boxes.specs.NearLefts.{AreNearLefts, IsNearLeft}
 

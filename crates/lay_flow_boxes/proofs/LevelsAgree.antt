@@ -14,9 +14,9 @@ use Rattle.lay_measure.specs.MeasureInValue.{MeasureInValue}
 use Rattle.lay_measure.specs.PreferredWidths.{as_child, children, own_widths}
 use Rattle.lay_measure.specs.LineParts.{contribution}
 use Rattle.lay_measure.specs.declared.preferred_widths.PreferredWidths.{PreferredWidths}
-use Rattle.lay_context_boxes.specs.Containing.{container_of}
-use Rattle.lay_context_boxes.specs.ContextBoxes.{AreContextBoxes}
-use Rattle.lay_context_boxes.proofs.ContainerSteps.{containers_are_nearest_lem}
+use Rattle.lay_box_tree.specs.Containing.{container_of}
+use Rattle.lay_box_tree.specs.ContextBoxes.{AreContextBoxes}
+use Rattle.lay_box_tree.proofs.ContainerSteps.{containers_are_nearest_lem}
 use Rattle.lay_flow_boxes.specs.declared.inline_containers.Level.TheVariants.{Block as block_level, Inline as inline_level}
 use Rattle.lay_flow_boxes.specs.InlineContainers.{holds, is_beside_lines, is_block_box, is_inline_container, is_of, is_own_container, stands_in}
 use Rattle.lay_flow_boxes.specs.LineItems.{AreHeldByOthers, IsIn, holds_nothing}

@@ -23,9 +23,9 @@ use Rattle.lay_space.specs.declared.item.Item.TheVariants as item
 use Rattle.lay_items.specs.InlineItems.{items_as, items_at, items_below, items_of}
 use Rattle.lay_items.specs.InlineStarts.{takes_room}
 use Rattle.lay_items.specs.OpenBoxes.{is_inline}
-use Rattle.lay_context_boxes.specs.Containing.{container_of}
-use Rattle.lay_context_boxes.specs.ContextBoxes.{AreContextBoxes, is_inner}
-use Rattle.lay_context_boxes.proofs.ContainerSteps.{container_before, containers_are_nearest_lem}
+use Rattle.lay_box_tree.specs.Containing.{container_of}
+use Rattle.lay_box_tree.specs.ContextBoxes.{AreContextBoxes, is_inner}
+use Rattle.lay_box_tree.proofs.ContainerSteps.{container_before, containers_are_nearest_lem}
 use Rattle.lay_flow_boxes.specs.declared.inline_containers.Level.TheVariants.{Block as block_level, Inline as inline_level}
 use Rattle.lay_flow_boxes.specs.InlineContainers.{holds, is_beside_lines, is_block_box, is_inline_container, is_of, is_own_container, stands_in}
 use Rattle.lay_flow_boxes.specs.LineItems.{AreHeldByOthers, BoxesInLinesAreItems, IsIn, IsInLinesAs, ItemsAreBoxesInLines, Sort, as_anchor, as_atomic, as_inline, as_left_float, as_right_float, as_text, end, holds_nothing, named, sorts_of, start}

@@ -4,8 +4,8 @@ use Rattle.std.proofs.lemmas.Bool.{cases_lt}
 use Rattle.lay_units.specs.declared.length.Unit.{Unit as Length}
 use Rattle.lay_doc.proofs.OneStyles.{same_list}
 use Rattle.lay_box_tree.specs.declared.box_tree.BoxNode.{BoxNode}
-use Rattle.lay_box_parts.specs.declared.inline_part.InlinePart.{InlinePart}
-use Rattle.lay_box_parts.specs.InlineParts.{AreInlineParts, no_part}
+use Rattle.lay_box_tree.specs.declared.inline_part.InlinePart.{InlinePart}
+use Rattle.lay_box_tree.specs.InlineParts.{AreInlineParts, no_part}
 use Rattle.lay_blocks.specs.declared.flow_box.FlowBox.{FlowBox}
 use Rattle.lay_blocks.specs.declared.flow_box.HeightRule.{HeightRule}
 use Rattle.lay_blocks.specs.Boxes.{no_box}
@@ -14,9 +14,9 @@ use Rattle.lay_content.specs.BoxMeasuresValue.{BoxMeasuresValue}
 use Rattle.lay_sizes.specs.declared.sizing.BoxSizes.{BoxSizes}
 use Rattle.lay_sizes.specs.declared.own_boxes.OwnBox.{OwnBox}
 use Rattle.lay_sizes.specs.SizeColumns.{sizes_at}
-use Rattle.lay_context_boxes.specs.Containing.{container_of}
-use Rattle.lay_context_boxes.specs.ContextBoxes.{AreContextBoxes}
-use Rattle.lay_context_boxes.proofs.ContainerSteps.{container_before}
+use Rattle.lay_box_tree.specs.Containing.{container_of}
+use Rattle.lay_box_tree.specs.ContextBoxes.{AreContextBoxes}
+use Rattle.lay_box_tree.proofs.ContainerSteps.{container_before}
 use Rattle.lay_flow_boxes.specs.ContextBlocks.{left_of_box, AreFlowBoxesOf, HasLefts}
 use Rattle.lay_flow_boxes.specs.FlowShapes.{measures_in}
 use Rattle.lay_flow_boxes.specs.Laws.{OneFlowShape}

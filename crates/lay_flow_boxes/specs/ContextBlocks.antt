@@ -38,8 +38,8 @@ use Rattle.lay_blocks.specs.Lengths.{length_at, no_length}
 use Rattle.lay_blocks.specs.Boxes.{box_at, empty_block}
 use Rattle.lay_sizes.specs.declared.sizing.BoxSizes.{BoxSizes}
 use Rattle.lay_sizes.specs.declared.own_boxes.OwnBox.{OwnBox}
-use Rattle.lay_context_boxes.specs.Containing.{container_of}
-use Rattle.lay_context_boxes.specs.ContextBoxes.{is_inner, is_float}
+use Rattle.lay_box_tree.specs.Containing.{container_of}
+use Rattle.lay_box_tree.specs.ContextBoxes.{is_inner, is_float}
 use Rattle.lay_flow_boxes.specs.InlineContainers.{is_inline_container}
 use Rattle.lay_sizes.specs.SizeColumns.{sizes_at}
 use Rattle.lay_sizes.specs.OwnBoxes.{own_box_at}

@@ -2,8 +2,8 @@
 -- left border edges where no float is beside them (10.3.3), and what each is to the flow (9.4.1, 9.4.2 and 9.5).
 use Rattle.std.specs.Prelude.{ℕ, ◌^◌, List}
 use Rattle.lay_units.specs.declared.length.Unit.{Unit as Length}
-use Rattle.lay_box_parts.specs.declared.inline_part.InlinePart.{InlinePart}
-use Rattle.lay_box_parts.specs.InlineParts.{AreInlineParts}
+use Rattle.lay_box_tree.specs.declared.inline_part.InlinePart.{InlinePart}
+use Rattle.lay_box_tree.specs.InlineParts.{AreInlineParts}
 use Rattle.lay_content.specs.BoxMeasuresValue.{BoxMeasuresValue}
 use Rattle.lay_blocks.specs.declared.flow_box.FlowBox.{FlowBox}
 use Rattle.lay_flow_boxes.specs.ContextBlocks.{AreFlowBoxesOf, HasLefts}

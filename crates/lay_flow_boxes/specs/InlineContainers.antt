@@ -9,8 +9,8 @@ use Rattle.lay_box_tree.specs.Containers.{counts}
 use Rattle.lay_box_tree.specs.Roles.{is_inline_level, role_at}
 use Rattle.lay_flow_boxes.specs.declared.inline_containers.Level.{Level}
 use Rattle.lay_flow_boxes.specs.declared.inline_containers.Level.TheVariants.{Block as block, Inline as inline}
-use Rattle.lay_context_boxes.specs.Containing.{container_of}
-use Rattle.lay_context_boxes.specs.ContextBoxes.{is_inner}
+use Rattle.lay_box_tree.specs.Containing.{container_of}
+use Rattle.lay_box_tree.specs.ContextBoxes.{is_inner}
 
 -- a block box, in which blocks or lines of the context stand
 abbrev pub is_block_box : Role → Bool

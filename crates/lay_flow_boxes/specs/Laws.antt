@@ -1,6 +1,6 @@
 -- The boxes of a formatting context are one thing to its block flow.
 use Rattle.std.specs.Prelude.{◌≡◌}
-use Rattle.lay_context_boxes.specs.ContextBoxes.{AreContextBoxes}
+use Rattle.lay_box_tree.specs.ContextBoxes.{AreContextBoxes}
 use Rattle.lay_flow_boxes.specs.FlowShapes.{FlowShape, IsFlowShape}
 use Rattle.lay_flow_boxes.specs.PlaceInputs.{PlaceInput}
 

@@ -2,8 +2,8 @@
 use Rattle.std.specs.Prelude.{ℕ, ◌≡◌, ◌<◌, ◌≤◌, Bool, List, length}
 use Rattle.lay_units.specs.declared.length.Unit.{Unit as Length}
 use Rattle.lay_box_tree.specs.declared.box_tree.BoxNode.{BoxNode}
-use Rattle.lay_box_parts.specs.declared.inline_part.InlinePart.{InlinePart}
-use Rattle.lay_box_parts.specs.InlineParts.{AreInlineParts}
+use Rattle.lay_box_tree.specs.declared.inline_part.InlinePart.{InlinePart}
+use Rattle.lay_box_tree.specs.InlineParts.{AreInlineParts}
 use Rattle.lay_blocks.specs.Children.{flag_at}
 use Rattle.lay_flow_boxes.specs.FlowShapes.{most_flow_boxes}
 use Rattle.lay_flow_boxes.specs.InlineContainers.{is_inline_container}

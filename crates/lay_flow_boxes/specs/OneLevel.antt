@@ -7,7 +7,7 @@ use Rattle.lay_box_tree.specs.Roles.{role_at}
 use Rattle.lay_measure.specs.Children.{holds_lines}
 use Rattle.lay_measure.specs.MeasureInValue.{MeasureInValue}
 use Rattle.lay_measure.specs.PreferredWidths.{children}
-use Rattle.lay_context_boxes.specs.ContextBoxes.{AreContextBoxes}
+use Rattle.lay_box_tree.specs.ContextBoxes.{AreContextBoxes}
 use Rattle.lay_flow_boxes.specs.declared.inline_containers.Level.TheVariants.{Block as block, Inline as inline}
 use Rattle.lay_flow_boxes.specs.InlineContainers.{holds, is_block_box, is_inline_container}
 use Rattle.lay_flow_boxes.specs.LineItems.{AreHeldByOthers}

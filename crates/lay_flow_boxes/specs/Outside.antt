@@ -7,7 +7,7 @@ use Rattle.lay_sizes.specs.declared.sizing.BoxSizes.{BoxSizes}
 use Rattle.lay_sizes.specs.OwnBoxes.{own_box, own_box_at}
 use Rattle.lay_sizes.specs.SizeColumns.{sizes_at}
 use Rattle.lay_sizes.specs.UsedLengths.{no_length}
-use Rattle.lay_context_boxes.specs.ContextBoxes.{is_inner}
+use Rattle.lay_box_tree.specs.ContextBoxes.{is_inner}
 
 -- the box at k: that of an inner context is as this says, and the height and the baseline of another aren't known yet
 abbrev pub outside : List BoxNode → List BoxSizes → List OwnBox → ℕ → OwnBox

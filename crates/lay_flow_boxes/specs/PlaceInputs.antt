@@ -13,7 +13,7 @@ use Rattle.lay_sizes.specs.declared.own_boxes.OwnBox.{OwnBox}
 use Rattle.lay_sizes.specs.SizeBounds.{IsUsedSizeOrAuto}
 use Rattle.lay_sizes.specs.SizeColumns.{HaveSizeBounds}
 use Rattle.lay_sizes.specs.OwnBoxes.{OwnBoxesFit}
-use Rattle.lay_context_boxes.specs.ContextBoxes.{AreContextBoxes}
+use Rattle.lay_box_tree.specs.ContextBoxes.{AreContextBoxes}
 use Rattle.lay_pieces.specs.InnerPieces.{AreNearInnerPieces}
 
 pub record PlaceInput : Type 0 where

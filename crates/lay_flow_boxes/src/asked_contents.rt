@@ -4,8 +4,7 @@ ghost use Rattle.std.specs.Prelude.{◌≡◌, ◌<◌, length, IfOk};
 ghost use Rattle.lay_items.specs.InlineContents.{AreContents};
 ghost use Rattle.lay_flow_boxes.specs.AskedContents.{AreAskedContents, AreHolders, is_any_asked, is_asked, is_asked_at};
 
-use lay_box_tree::{BoxKind, BoxNode};
-use lay_context_boxes::ContextBoxes;
+use lay_box_tree::{BoxKind, BoxNode, ContextBoxes};
 use lay_face::Face;
 use lay_items::InlineContents;
 use lay_units::NoMemory;

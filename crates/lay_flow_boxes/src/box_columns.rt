@@ -8,7 +8,7 @@ ghost use Rattle.lay_blocks.specs.Lengths.{length_at};
 ghost use Rattle.lay_sizes.specs.SizeColumns.{HaveSizeBounds, sizes_at};
 ghost use Rattle.lay_sizes.specs.OwnBoxes.{OwnBoxFits, OwnBoxesFit, own_box_at};
 ghost use Rattle.lay_flow_boxes.specs.Outside.{outside};
-ghost use Rattle.lay_context_boxes.specs.ContextBoxes.{is_inner};
+ghost use Rattle.lay_box_tree.specs.ContextBoxes.{is_inner};
 
 use lay_box_tree::BoxNode;
 use lay_sizes::{BoxSizes, OwnBox, own_box};

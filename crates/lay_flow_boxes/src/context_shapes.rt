@@ -2,7 +2,7 @@
 
 ghost use Rattle.std.specs.Prelude.{ℕ, ◌≡◌, ◌<◌, ◌≤◌, length, IfOk};
 ghost use Rattle.lay_sizes.specs.SizeBounds.{SizeFits};
-ghost use Rattle.lay_box_parts.specs.InlineParts.{AreInlineParts};
+ghost use Rattle.lay_box_tree.specs.InlineParts.{AreInlineParts};
 ghost use Rattle.lay_blocks.specs.Boxes.{box_at};
 ghost use Rattle.lay_sizes.specs.OwnBoxes.{own_box_at};
 ghost use Rattle.lay_flow_boxes.specs.ContextBlocks.{AreFlowBoxesOf, block_box, cleared_by, cleared_sides, float_box, float_side, flow_box_of, has_lines, height_rule, inner_box, is_anchor, kind_alone, kind_in_lines, own_block, side_of};
@@ -19,8 +19,7 @@ use crate::place_input::{PlaceInput, height_rule_of};
 use lay_blocks::{
     Across, BlockBox, FloatBox, FlowBox, FlowKind, HeightRule, LinesBox, SolidBox, Vertical,
 };
-use lay_box_parts::InlinePart;
-use lay_box_tree::Role;
+use lay_box_tree::{InlinePart, Role};
 use lay_floats::{Clear, Side};
 use lay_sizes::{BoxSizes, OwnBox};
 use lay_style::Float;

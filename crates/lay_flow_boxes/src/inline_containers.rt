@@ -5,8 +5,7 @@ ghost use Rattle.lay_blocks.specs.Children.{flag_at};
 ghost use Rattle.lay_flow_boxes.specs.AloneInLines.{AreAlone};
 ghost use Rattle.lay_flow_boxes.specs.InlineContainers.{holds, is_beside_lines, is_block_box, is_inline_container, is_of, is_own_container};
 
-use lay_box_tree::Role;
-use lay_context_boxes::ContextBoxes;
+use lay_box_tree::{ContextBoxes, Role};
 use lay_units::NoMemory;
 use std::alloc::Global;
 

@@ -10,7 +10,7 @@ ghost use Rattle.lay_flow_boxes.specs.LineBoxes.{IsShaping};
 use crate::box_columns::{length_at, sizes_at};
 use crate::context_blocks::{content_right, inside_edge};
 use crate::place_input::PlaceInput;
-use lay_box_parts::InlinePart;
+use lay_box_tree::InlinePart;
 use lay_content::{BoxMeasures, Container, has_seen_line, line_content, line_content_of_items};
 use lay_items::measured_items;
 use lay_line_content::LineContent;

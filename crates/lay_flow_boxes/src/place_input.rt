@@ -3,15 +3,14 @@
 ghost use Rattle.std.specs.Prelude.{◌≡◌, ◌<◌, IfSome, length};
 ghost use Rattle.lay_box_tree.specs.Roles.{clear_at, role_at};
 ghost use Rattle.lay_sizes.specs.SizeColumns.{sizes_at};
-ghost use Rattle.lay_context_boxes.specs.Containing.{container_of};
-ghost use Rattle.lay_context_boxes.specs.ContextBoxes.{is_float};
+ghost use Rattle.lay_box_tree.specs.Containing.{container_of};
+ghost use Rattle.lay_box_tree.specs.ContextBoxes.{is_float};
 ghost use Rattle.lay_items.specs.InlineContents.{AreContents};
 ghost use Rattle.lay_items.specs.InlineSegments.{segments_in};
 ghost use Rattle.lay_flow_boxes.specs.PlaceInputs.{HeightRuleFits, PlaceInputFits, height_rule_of};
 
 use lay_blocks::HeightRule;
-use lay_box_tree::{BoxNode, Role};
-use lay_context_boxes::ContextBoxes;
+use lay_box_tree::{BoxNode, ContextBoxes, Role};
 use lay_face::Face;
 use lay_items::InlineContents;
 use lay_pieces::{ContextSizes, InnerPieces, OwnBoxes};

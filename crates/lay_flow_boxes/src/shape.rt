@@ -8,7 +8,7 @@ use crate::context_blocks::lefts_of;
 use crate::context_shapes::flow_boxes_of;
 use crate::place_input::PlaceInput;
 use lay_blocks::{FlowBoxes, is_light};
-use lay_box_parts::{InlinePart, inline_parts};
+use lay_box_tree::{InlinePart, inline_parts};
 use lay_units::{NoMemory, Unit};
 use std::alloc::Global;
 use std::marker::Model;

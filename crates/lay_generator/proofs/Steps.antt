@@ -10,8 +10,8 @@ use Rattle.lay_doc.specs.NewNodes.{NewNodeValue}
 use Rattle.lay_doc.specs.Document.{Document}
 use Rattle.lay_doc.specs.declared.edit.EditFault.{EditFault}
 use Rattle.lay_doc.specs.Edits.{after_insert, insert_fault, last_index}
-use Rattle.lay_commands.specs.declared.command.Cmd.{Cmd}
-use Rattle.lay_commands.specs.declared.command.Cmd.TheVariants.{Edit, Latest, Sync}
+use Rattle.lay_doc.specs.declared.command.Cmd.{Cmd}
+use Rattle.lay_doc.specs.declared.command.Cmd.TheVariants.{Edit, Latest, Sync}
 use Rattle.lay_json.specs.Nodes.{without_fault}
 use Rattle.lay_face.specs.FaceValue.{FaceValue}
 use Rattle.lay_run.specs.Runs.{IsListed, Run}

@@ -8,8 +8,7 @@ ghost use Rattle.lay_generator.specs.Commands.{is_of, paddings, script, script_e
 
 use crate::draws::Draws;
 use crate::nodes::{decl, px};
-use lay_commands::{Cmd, CmdList};
-use lay_doc::{Edit, NodeId};
+use lay_doc::{Cmd, CmdList, Edit, NodeId};
 use lay_run::ScriptList;
 use lay_style::Property;
 use lay_units::NoMemory;

@@ -4,7 +4,7 @@ use Rattle.std.proofs.lemmas.List.Concat.{flat_map-append}
 use Rattle.std.proofs.lemmas.List.Sums.{fold-append}
 use Rattle.lay_doc.specs.Document.{Document}
 use Rattle.lay_doc.specs.Edits.{after}
-use Rattle.lay_commands.specs.declared.history.Entry.{Entry}
+use Rattle.lay_doc.specs.declared.history.Entry.{Entry}
 use Rattle.lay_history.specs.Histories.{accepted, doc_at, edit_in, edits, last_or, published, version_in}
 use Rattle.lay_history.specs.Legal.{IsLegal, MayFollow, doc_after}
 use Rattle.lay_history.specs.Calls.{call_in, calls}

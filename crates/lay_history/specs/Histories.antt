@@ -5,10 +5,10 @@ use Rattle.std.specs.List.{list_any}
 use Rattle.lay_doc.specs.declared.edit.Edit.{Edit as Change}
 use Rattle.lay_doc.specs.Document.{Document}
 use Rattle.lay_doc.specs.Edits.{after}
-use Rattle.lay_commands.specs.declared.command.Reply.{Reply}
-use Rattle.lay_commands.specs.declared.command.Reply.TheVariants.{Accepted, Shown}
-use Rattle.lay_commands.specs.declared.history.Entry.{Entry}
-use Rattle.lay_commands.specs.declared.history.Entry.TheVariants.{Edit, Publish, Latest, Sync}
+use Rattle.lay_doc.specs.declared.command.Reply.{Reply}
+use Rattle.lay_doc.specs.declared.command.Reply.TheVariants.{Accepted, Shown}
+use Rattle.lay_doc.specs.declared.history.Entry.{Entry}
+use Rattle.lay_doc.specs.declared.history.Entry.TheVariants.{Edit, Publish, Latest, Sync}
 
 -- the edit, where the reply to it is that it was accepted
 abbrev pub edit_if_accepted : Change → Reply → List Change

@@ -9,7 +9,7 @@ use Rattle.lay_style.specs.declared.style_lengths.LengthPercentage.TheVariants a
 use Rattle.lay_style.specs.declared.style_lengths.LengthPercentageOrAuto.{LengthPercentageOrAuto}
 use Rattle.lay_style.specs.declared.style_lengths.LengthPercentageOrAuto.TheVariants as or_auto
 use Rattle.lay_box_tree.specs.declared.box_tree.BoxNode.{BoxNode}
-use Rattle.lay_box_parts.specs.InlineParts.{is_first_part}
+use Rattle.lay_box_tree.specs.InlineParts.{is_first_part}
 
 abbrev pub is_nonzero : ℤ → Bool
 is_nonzero (pos n) = not (n == 0)

@@ -2,14 +2,13 @@
 
 ghost use Rattle.std.specs.Prelude.{ℕ, ◌≡◌, ◌<◌, ◌≤◌, [], length, drop, reverse, IfOk};
 ghost use Rattle.lay_doc.specs.Tree.{IsTree};
-ghost use Rattle.lay_box_parts.specs.InlineParts.{AreInlineParts};
+ghost use Rattle.lay_box_tree.specs.InlineParts.{AreInlineParts};
 ghost use Rattle.lay_box_tree.specs.BoxColumns.{box_parents};
 ghost use Rattle.lay_items.specs.InlineItems.{items_below, items_of};
 ghost use Rattle.lay_items.specs.OpenBoxes.{Fall, all_items};
 
 use crate::open_boxes::OpenBoxes;
-use lay_box_parts::InlinePart;
-use lay_box_tree::BoxNode;
+use lay_box_tree::{BoxNode, InlinePart};
 use lay_space::ItemList;
 use lay_units::NoMemory;
 use std::alloc::Global;

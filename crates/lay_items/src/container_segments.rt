@@ -2,15 +2,14 @@
 
 ghost use Rattle.std.specs.Prelude.{◌≡◌, ◌<◌, ◌≤◌, length, IfOk};
 ghost use Rattle.lay_doc.specs.Tree.{IsTree};
-ghost use Rattle.lay_box_parts.specs.InlineParts.{AreInlineParts};
+ghost use Rattle.lay_box_tree.specs.InlineParts.{AreInlineParts};
 ghost use Rattle.lay_box_tree.specs.BoxColumns.{box_parents};
 ghost use Rattle.lay_items.specs.InlineSegments.{items_in, segments_in};
 
 use crate::container_items::inline_items;
 use crate::measured::measured;
 use crate::one_text::one_text;
-use lay_box_parts::InlinePart;
-use lay_box_tree::BoxNode;
+use lay_box_tree::{BoxNode, InlinePart};
 use lay_face::Face;
 use lay_space::{ItemList, SegmentList, process, segments};
 use lay_units::NoMemory;

@@ -2,7 +2,7 @@
 
 ghost use Rattle.std.specs.Prelude.{List, ◌≡◌, ◌≤◌, [], length, Some, None, IfOk, IfSome};
 ghost use Rattle.lay_doc.specs.Tree.{IsTree};
-ghost use Rattle.lay_box_parts.specs.InlineParts.{AreInlineParts};
+ghost use Rattle.lay_box_tree.specs.InlineParts.{AreInlineParts};
 ghost use Rattle.lay_box_tree.specs.BoxColumns.{box_parents};
 ghost use Rattle.lay_box_tree.specs.declared.box_tree.BoxNode.{BoxNode};
 ghost use Rattle.lay_face.specs.FaceValue.{FaceValue};
@@ -10,8 +10,7 @@ ghost use Rattle.lay_items.specs.InlineContents.{AreContents, AreMarkedContents,
 ghost use Rattle.lay_items.specs.InlineSegments.{segments_in};
 
 use crate::container_segments::inline_segments;
-use lay_box_parts::{InlinePart, inline_parts};
-use lay_box_tree::BoxNode;
+use lay_box_tree::{BoxNode, InlinePart, inline_parts};
 use lay_face::Face;
 use lay_space::{Segment, SegmentList};
 use lay_units::NoMemory;

@@ -1,11 +1,10 @@
 //! Which starts of inline boxes take room (CSS 2.2, 8.3 to 8.6).
 
 ghost use Rattle.std.specs.Prelude.{◌≡◌, ◌<◌, length};
-ghost use Rattle.lay_box_parts.specs.InlineParts.{AreInlineParts, is_first_part};
+ghost use Rattle.lay_box_tree.specs.InlineParts.{AreInlineParts, is_first_part};
 ghost use Rattle.lay_items.specs.InlineStarts.{has_left_edge, is_margin, is_nonzero, is_padding, takes_room};
 
-use lay_box_parts::InlinePart;
-use lay_box_tree::BoxNode;
+use lay_box_tree::{BoxNode, InlinePart};
 use lay_style::{LengthPercentage, LengthPercentageOrAuto, Style};
 
 /// Whether the start of this inline box, which is that at `place`, takes room in its line.

@@ -2,7 +2,7 @@
 
 ghost use Rattle.std.specs.Prelude.{ℕ, ◌≡◌, ◌<◌, ◌≤◌, ◌+◌, ◌∷◌, ◌++◌, [], length, drop, reverse, Some, IfOk, OnOk};
 ghost use Rattle.lay_doc.specs.Tree.{IsTree};
-ghost use Rattle.lay_box_parts.specs.InlineParts.{AreInlineParts};
+ghost use Rattle.lay_box_tree.specs.InlineParts.{AreInlineParts};
 ghost use Rattle.lay_box_tree.specs.BoxColumns.{box_parents};
 ghost use Rattle.lay_box_tree.specs.Containers.{box_parent};
 ghost use Rattle.lay_space.specs.declared.item.Item.TheVariants as item;
@@ -12,8 +12,7 @@ ghost use Rattle.lay_items.specs.OpenBoxes.{Fall, all_items, innermost, is_inlin
 
 use crate::inline_starts::takes_room;
 use crate::leaves::put_leaf;
-use lay_box_parts::InlinePart;
-use lay_box_tree::{BoxNode, Role};
+use lay_box_tree::{BoxNode, InlinePart, Role};
 use lay_space::Item;
 use lay_units::NoMemory;
 use std::alloc::Global;

@@ -12,8 +12,8 @@ use Rattle.lay_doc.specs.declared.edit.Edit.TheVariants.{SetStyle, ClearStyle, S
 use Rattle.lay_doc.specs.declared.edit.BadDeclaration.{BadDeclaration}
 use Rattle.lay_doc.specs.declared.edit.BadDeclaration.TheVariants.{Property as no_property}
 use Rattle.lay_doc.specs.NewNodes.{NewNodeValue}
-use Rattle.lay_commands.specs.declared.command.Cmd.{Cmd}
-use Rattle.lay_commands.specs.declared.command.Cmd.TheVariants.{Edit as an_edit, Latest as a_latest, Sync as a_sync}
+use Rattle.lay_doc.specs.declared.command.Cmd.{Cmd}
+use Rattle.lay_doc.specs.declared.command.Cmd.TheVariants.{Edit as an_edit, Latest as a_latest, Sync as a_sync}
 use Rattle.lay_values.specs.Names.{property_of}
 use Rattle.lay_json.specs.declared.fault.Field.TheVariants.{Do, Node, Property as a_property, Value as a_value, Text as a_text, Index}
 use Rattle.lay_json.specs.declared.fault.Spot.{Spot}

@@ -9,7 +9,7 @@ ghost use Rattle.lay_json.specs.Editors.{is_past, next_command, with_command, sc
 use crate::command::command_of;
 use crate::fault::{Field, InputFault, Spot};
 use crate::fields::{has_at_most, list_of};
-use lay_commands::{Cmd, CmdList};
+use lay_doc::{Cmd, CmdList};
 use lay_run::{ScriptList, is_read};
 use lay_units::NoMemory;
 use serde_json::Value;
@@ -32,7 +32,7 @@ struct Script {
 
 impl Model for Script {
     ghost use Rattle.std.specs.Prelude.{List};
-    ghost use Rattle.lay_commands.specs.declared.command.Cmd.{Cmd};
+    ghost use Rattle.lay_doc.specs.declared.command.Cmd.{Cmd};
     ghost use Rattle.lay_run.specs.Scripts.{IsScript};
 
     ghost Value = { List Cmd };

@@ -9,7 +9,7 @@ use Rattle.lay_style.specs.declared.style.Style.{Style}
 use Rattle.lay_box_tree.specs.declared.box_tree.BoxKind.{BoxKind}
 use Rattle.lay_box_tree.specs.declared.box_tree.BoxKind.TheVariants as kind
 use Rattle.lay_box_tree.specs.declared.box_tree.BoxNode.{BoxNode}
-use Rattle.lay_box_parts.specs.declared.inline_part.InlinePart.{InlinePart}
+use Rattle.lay_box_tree.specs.declared.inline_part.InlinePart.{InlinePart}
 use Rattle.lay_space.specs.declared.item.Item.{Item}
 use Rattle.lay_space.specs.declared.item.Item.TheVariants as item
 use Rattle.lay_space.specs.declared.item.Mode.{Mode}

@@ -8,7 +8,7 @@ use crate::contributions::{
 };
 use crate::measure_in::MeasureIn;
 use crate::preferred_widths::PreferredWidths;
-use lay_box_parts::InlinePart;
+use lay_box_tree::InlinePart;
 use lay_space::{ClusterKind, Item, Mode, Segment, cluster_kind, next_place};
 use lay_style::Style;
 use lay_units::{ClusterWidth, NoMemory, Unit};

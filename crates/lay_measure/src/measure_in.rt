@@ -1,14 +1,13 @@
 //! What preferred widths depend on.
 
 ghost use Rattle.std.specs.Prelude.{◌≡◌, IfSome};
-ghost use Rattle.lay_box_parts.specs.InlineParts.{AreInlineParts};
+ghost use Rattle.lay_box_tree.specs.InlineParts.{AreInlineParts};
 ghost use Rattle.lay_items.specs.InlineContents.{AreContents};
 ghost use Rattle.lay_items.specs.InlineSegments.{segments_in};
 ghost use Rattle.lay_measure.specs.MeasureInValue.{inner_at, part_at};
 
 use crate::preferred_widths::{NO_WIDTHS, PreferredWidths};
-use lay_box_parts::InlinePart;
-use lay_box_tree::BoxNode;
+use lay_box_tree::{BoxNode, InlinePart};
 use lay_face::Face;
 use lay_items::InlineContents;
 use lay_space::Segment;
@@ -28,7 +27,7 @@ pub struct MeasureIn<'a> {
 
 impl<'a> Model for MeasureIn<'a> {
     ghost use Rattle.std.specs.Prelude.{IfSome};
-    ghost use Rattle.lay_box_parts.specs.InlineParts.{AreInlineParts};
+    ghost use Rattle.lay_box_tree.specs.InlineParts.{AreInlineParts};
     ghost use Rattle.lay_items.specs.InlineContents.{AreContents};
     ghost use Rattle.lay_measure.specs.MeasureInValue.{MeasureInValue};
 

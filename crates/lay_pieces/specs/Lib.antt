@@ -1,3 +1,4 @@
+pub mod ContainingBlocks
 pub mod Corners
 pub mod InnerPieces
 pub mod NearPieces

@@ -7,6 +7,7 @@
 //! (`specs/Splicing.antt`).
 #![tactic(auto)]
 
+mod containing;
 mod context_sizes;
 mod corner;
 mod inner_pieces;
@@ -16,6 +17,7 @@ mod placements;
 mod splicing;
 mod standing;
 
+pub use containing::{block_around, block_in};
 pub use context_sizes::ContextSizes;
 pub use corner::{Corner, near_corner, near_position};
 pub use inner_pieces::InnerPieces;

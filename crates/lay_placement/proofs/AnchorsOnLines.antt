@@ -22,8 +22,8 @@ use Rattle.lay_blocks.specs.BlockPositions.{is_lines}
 use Rattle.lay_blocks.specs.Boxes.{box_at}
 use Rattle.lay_blocks.specs.Lengths.{length_at}
 use Rattle.lay_blocks.specs.MarginRuns.{block_at, block_of}
-use Rattle.lay_context_boxes.specs.Containing.{container_of}
-use Rattle.lay_context_boxes.proofs.ContainerSteps.{container_within}
+use Rattle.lay_box_tree.specs.Containing.{container_of}
+use Rattle.lay_box_tree.proofs.ContainerSteps.{container_within}
 use Rattle.lay_flow_boxes.specs.ContextBlocks.{content_of_box, flow_box_of, holds_lines, is_anchor, line_container, lines_in, own_block}
 use Rattle.lay_flow_boxes.specs.InlineContainers.{is_inline_container}
 use Rattle.lay_flow_boxes.specs.LineItems.{IsInLinesAs, Sort, anchor, as_anchor, as_atomic, as_inline, as_left_float, as_right_float, as_text, sorts_of}

@@ -11,7 +11,7 @@ use Rattle.lay_inlines.specs.declared.line_piece.LinePiece.{LinePiece}
 use Rattle.lay_inlines.specs.declared.line_piece.LinePieceKind.{LinePieceKind}
 use Rattle.lay_inlines.specs.declared.line_piece.LinePieceKind.TheVariants as on_line
 use Rattle.lay_sizes.specs.OwnBoxes.{own_box_at}
-use Rattle.lay_context_boxes.specs.ContextBoxes.{is_inner}
+use Rattle.lay_box_tree.specs.ContextBoxes.{is_inner}
 use Rattle.lay_flow_boxes.specs.PlaceInputs.{PlaceInput}
 use Rattle.lay_relative.specs.declared.offset.Offset.{Offset}
 use Rattle.lay_pieces.specs.declared.corner.Corner.{Corner}

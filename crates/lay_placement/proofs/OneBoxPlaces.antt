@@ -5,7 +5,7 @@ use Rattle.lay_units.specs.declared.length.Unit.{Unit as Length}
 use Rattle.lay_frag.specs.declared.frag.Frag.{Frag}
 use Rattle.lay_box_tree.specs.declared.box_tree.BoxNode.{BoxNode}
 use Rattle.lay_box_tree.specs.BoxColumns.{box_styles}
-use Rattle.lay_box_parts.specs.InlineParts.{AreInlineParts, inline_part, no_part}
+use Rattle.lay_box_tree.specs.InlineParts.{AreInlineParts, inline_part, no_part}
 use Rattle.lay_blocks.specs.declared.flow_box.BlockBox.{BlockBox}
 use Rattle.lay_blocks.specs.Boxes.{box_at}
 use Rattle.lay_blocks.specs.Lengths.{length_at, no_length}
@@ -13,7 +13,7 @@ use Rattle.lay_sizes.specs.BoxSizes.{border_width}
 use Rattle.lay_sizes.specs.declared.own_boxes.OwnBox.{OwnBox}
 use Rattle.lay_sizes.specs.OwnBoxes.{OwnBoxFits, own_box}
 use Rattle.lay_sizes.specs.SizeColumns.{sizes_at}
-use Rattle.lay_context_boxes.specs.ContextBoxes.{is_inner}
+use Rattle.lay_box_tree.specs.ContextBoxes.{is_inner}
 use Rattle.lay_relative.specs.Moves.{HasMoves, move_at, move_of}
 use Rattle.lay_relative.specs.RelativeOffsets.{no_offset}
 use Rattle.lay_flow_boxes.specs.ContextBlocks.{AreFlowBoxesOf, HasLefts, flow_box_of, left_of_box, own_block}

@@ -2,7 +2,7 @@
 use Rattle.std.proofs.Common.{◌≡◌, sym, ap, ◌∙◌}
 use Rattle.lay_blocks.specs.FlowPlaces.{IsFlowOf}
 use Rattle.lay_blocks.proofs.OneContextFlow.{one_flow_of_lem}
-use Rattle.lay_context_boxes.specs.ContextBoxes.{AreContextBoxes}
+use Rattle.lay_box_tree.specs.ContextBoxes.{AreContextBoxes}
 use Rattle.lay_relative.proofs.OneMoves.{one_column_of_moves_lem}
 use Rattle.lay_flow_boxes.specs.FlowShapes.{measures_in}
 use Rattle.lay_flow_boxes.specs.PlaceInputs.{PlaceInput}

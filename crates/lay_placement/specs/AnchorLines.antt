@@ -8,7 +8,7 @@ use Rattle.lay_space.specs.declared.segment.Segment.{Segment}
 use Rattle.lay_box_tree.specs.declared.box_tree.BoxKind.{BoxKind}
 use Rattle.lay_box_tree.specs.declared.box_tree.BoxKind.TheVariants as kind
 use Rattle.lay_box_tree.specs.declared.box_tree.BoxNode.{BoxNode}
-use Rattle.lay_context_boxes.specs.Containing.{container_of}
+use Rattle.lay_box_tree.specs.Containing.{container_of}
 use Rattle.lay_placement.specs.StaticPositions.{holds_anchor, is_anchor_of}
 
 -- no box of another kind is an anchor

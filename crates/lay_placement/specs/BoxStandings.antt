@@ -8,7 +8,7 @@ use Rattle.lay_box_tree.specs.Roles.{role_at}
 use Rattle.lay_blocks.specs.FlowPlaces.{FlowPlacesValue, box_place_at}
 use Rattle.lay_sizes.specs.OwnBoxes.{own_box_at}
 use Rattle.lay_sizes.specs.UsedLengths.{no_length}
-use Rattle.lay_context_boxes.specs.ContextBoxes.{is_inner}
+use Rattle.lay_box_tree.specs.ContextBoxes.{is_inner}
 use Rattle.lay_relative.specs.declared.offset.Offset.{Offset}
 use Rattle.lay_relative.specs.Moves.{move_at}
 use Rattle.lay_flow_boxes.specs.ContextBlocks.{is_anchor}

@@ -10,8 +10,8 @@ use Rattle.lay_lines.specs.declared.row.Ended.{Ended}
 use Rattle.lay_inlines.specs.LinePieces.{baseline_of}
 use Rattle.lay_blocks.specs.FlowPlaces.{FlowPlacesValue}
 use Rattle.lay_sizes.specs.UsedLengths.{no_length}
-use Rattle.lay_context_boxes.specs.Containing.{container_of}
-use Rattle.lay_context_boxes.specs.ContextBoxes.{AreContextBoxes}
+use Rattle.lay_box_tree.specs.Containing.{container_of}
+use Rattle.lay_box_tree.specs.ContextBoxes.{AreContextBoxes}
 use Rattle.lay_flow_boxes.specs.ContextBlocks.{holds_lines, is_anchor}
 use Rattle.lay_flow_boxes.specs.LineItems.{AreHeldByOthers}
 use Rattle.lay_flow_boxes.specs.PlaceInputs.{PlaceInput}

@@ -11,7 +11,7 @@ use Rattle.lay_space.specs.declared.segment.Segment.{Segment}
 use Rattle.lay_items.specs.InlineSegments.{segments_in}
 use Rattle.lay_lines.specs.declared.row.Ended.{Ended}
 use Rattle.lay_blocks.specs.FlowPlaces.{box_place_at}
-use Rattle.lay_context_boxes.specs.Containing.{container_of}
+use Rattle.lay_box_tree.specs.Containing.{container_of}
 use Rattle.lay_flow_boxes.specs.ContextBlocks.{content_left}
 use Rattle.lay_flow_boxes.specs.PlaceInputs.{PlaceInput}
 use Rattle.lay_pieces.specs.declared.corner.Corner.{Corner}

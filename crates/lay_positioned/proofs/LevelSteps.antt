@@ -2,7 +2,7 @@
 use Rattle.std.proofs.Common.{◌≡◌, ℕ, zero, suc, ◌+◌, ◌<◌, ◌≤◌, List, [], ◌∷◌, ◌++◌, length, slice_index, refl, sym, ◌∙◌, arith, inl, inr, Bool, true, false, add-one}
 use Rattle.std.proofs.lemmas.Bool.{cases_lt}
 use Rattle.std.proofs.lemmas.Grind.{elements}
-use Rattle.lay_formatting.specs.FormattingContexts.{AreFormattingContexts, FormattingContext, formatting_context_at}
+use Rattle.lay_contexts.specs.FormattingContexts.{AreFormattingContexts, FormattingContext, formatting_context_at}
 use Rattle.lay_positioned.specs.Absolute.{is_absolute}
 use Rattle.lay_positioned.specs.Levels.{AreFewLevels, HasLevels, level_of, one_if}
 

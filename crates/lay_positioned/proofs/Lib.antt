@@ -1,6 +1,5 @@
 pub mod ContainingSteps
 pub mod LevelSteps
-pub mod OneAbsoluteBox
 pub mod OneHolder
 pub mod OneLevels
 pub mod OneSetting

@@ -1,7 +1,7 @@
 -- An absolutely positioned box has one holder, as in each formatting context on the way out one counts for it, or none does.
 use Rattle.std.proofs.Common.{◌≡◌, ℕ, zero, suc, Bool, List, refl, sym, ap, ◌∙◌, arith}
 use Rattle.std.specs.Prelude.{Option, Some}
-use Rattle.lay_formatting.specs.FormattingContexts.{FormattingContext, boxes_in, formatting_context_at}
+use Rattle.lay_contexts.specs.FormattingContexts.{FormattingContext, boxes_in, formatting_context_at}
 use Rattle.lay_positioned.specs.Absolute.{is_fixed}
 use Rattle.lay_positioned.specs.HoldersOutward.{Holder, IsHolderOutward, further, here, viewport}
 use Rattle.lay_positioned.specs.Laws.{OneHolder}

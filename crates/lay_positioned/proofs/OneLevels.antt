@@ -3,7 +3,7 @@
 use Rattle.std.proofs.Common.{◌≡◌, ℕ, zero, suc, ◌+◌, ◌<◌, ◌≤◌, Bool, true, List, length, slice_index, sym, ap, ◌∙◌, arith, inl, inr}
 use Rattle.std.proofs.lemmas.Bool.{cases_lt}
 use Rattle.lay_doc.proofs.OneStyles.{same_list}
-use Rattle.lay_formatting.specs.FormattingContexts.{AreFormattingContexts, FormattingContext, formatting_context_at}
+use Rattle.lay_contexts.specs.FormattingContexts.{AreFormattingContexts, FormattingContext, formatting_context_at}
 use Rattle.lay_positioned.specs.Absolute.{is_absolute, is_fixed}
 use Rattle.lay_positioned.specs.Laws.{OneLevelCount, OneLevels, WaysLeadDown, WaysLeadOut}
 use Rattle.lay_positioned.specs.Levels.{HasLevels, one_if}

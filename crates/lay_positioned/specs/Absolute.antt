@@ -6,7 +6,7 @@ use Rattle.lay_style.specs.declared.style_words.Position.TheVariants as position
 use Rattle.lay_box_tree.specs.declared.box_tree.BoxNode.{BoxNode}
 use Rattle.lay_box_tree.specs.declared.box_tree.Flow.{Flow}
 use Rattle.lay_box_tree.specs.declared.box_tree.Flow.TheVariants.{Absolute}
-use Rattle.lay_formatting.specs.FormattingContexts.{FormattingContext, boxes_in}
+use Rattle.lay_contexts.specs.FormattingContexts.{FormattingContext, boxes_in}
 
 abbrev pub is_absolute_flow : Flow → Bool
 is_absolute_flow Absolute = true

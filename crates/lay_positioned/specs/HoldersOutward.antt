@@ -2,7 +2,7 @@
 -- containing block, in the formatting context of its anchor or in one further out. Of some none is, as of each fixed one (case 3):
 -- these are positioned by the viewport.
 use Rattle.std.specs.Prelude.{ℕ, zero, suc, ◌≡◌, ◌<◌, Bool, List, Option, None, Some}
-use Rattle.lay_formatting.specs.FormattingContexts.{FormattingContext, boxes_in, formatting_context_at}
+use Rattle.lay_contexts.specs.FormattingContexts.{FormattingContext, boxes_in, formatting_context_at}
 use Rattle.lay_positioned.specs.Absolute.{is_fixed}
 use Rattle.lay_positioned.specs.Holders.{IsHolderFor}
 

@@ -8,18 +8,18 @@ use Rattle.lay_style.specs.declared.style.Style.{Style}
 use Rattle.lay_box_tree.specs.declared.box_tree.BoxNode.{BoxNode}
 use Rattle.lay_sizes.specs.declared.sizing.BoxSizes.{BoxSizes}
 use Rattle.lay_sizes.specs.declared.sizing.ContainingBlock.{ContainingBlock}
-use Rattle.lay_formatting.specs.FormattingContexts.{AreFormattingContexts, FormattingContext}
+use Rattle.lay_contexts.specs.FormattingContexts.{AreFormattingContexts, FormattingContext}
 use Rattle.lay_pieces.specs.declared.corner.Corner.{Corner}
-use Rattle.lay_positioned.specs.declared.settings.AbsoluteSetting.{AbsoluteSetting}
+use Rattle.lay_abspos.specs.declared.setting.AbsoluteSetting.{AbsoluteSetting}
 use Rattle.lay_positioned.specs.Absolute.{is_absolute}
-use Rattle.lay_positioned.specs.AbsoluteSizes.{IsAbsoluteSized, IsStretchedHeight}
-use Rattle.lay_positioned.specs.AbsoluteTables.{IsTableLeft}
+use Rattle.lay_abspos.specs.AbsoluteSizes.{IsAbsoluteSized, IsStretchedHeight}
+use Rattle.lay_abspos.specs.AbsoluteTables.{IsTableLeft}
 use Rattle.lay_positioned.specs.ContainingRects.{IsContainingRect}
 use Rattle.lay_positioned.specs.Holders.{IsNearestHolder}
 use Rattle.lay_positioned.specs.HoldersOutward.{Holder, IsHolderOf}
 use Rattle.lay_positioned.specs.Layouts.{Layout}
 use Rattle.lay_positioned.specs.Levels.{HasLevels, IsLevelCount}
-use Rattle.lay_positioned.specs.Offsets.{IsOffset}
+use Rattle.lay_abspos.specs.Offsets.{IsOffset}
 use Rattle.lay_positioned.specs.Settings.{IsSetting, absolute_setting}
 use Rattle.lay_positioned.specs.Ways.{AreAlikeAt, IsOnWay}
 
@@ -65,16 +65,3 @@ SettingsComeOfWays = (viewport : ContainingBlock) (a b : List FormattingContext)
 abbrev pub SettingsAreValues : Type 0
 SettingsAreValues = (viewport : ContainingBlock) (contexts : List FormattingContext) (laid : ℕ → Layout) (i : ℕ) → AreFormattingContexts contexts
     → i < length contexts → IsSetting viewport contexts laid i (absolute_setting viewport contexts laid i)
-
-abbrev pub OneAbsoluteSizes : Type 0
-OneAbsoluteSizes = (s : AbsoluteSetting) (own : BoxNode) (minimum preferred : Length) (x y : BoxSizes) (a b : Length)
-    → IsAbsoluteSized s own minimum preferred x a → IsAbsoluteSized s own minimum preferred y b → (x ≡ y) × (a ≡ b)
-
-abbrev pub OneStretchedHeight : Type 0
-OneStretchedHeight = (s : AbsoluteSetting) (own : BoxNode) (x y : Option Length) → IsStretchedHeight s own x → IsStretchedHeight s own y → x ≡ y
-
-abbrev pub OneTableLeft : Type 0
-OneTableLeft = (s : AbsoluteSetting) (style : Style) (width x y : Length) → IsTableLeft s style width x → IsTableLeft s style width y → x ≡ y
-
-abbrev pub OneOffset : Type 0
-OneOffset = (s : AbsoluteSetting) (own : BoxNode) (left height : Length) (x y : Corner) → IsOffset s own left height x → IsOffset s own left height y → x ≡ y

@@ -6,7 +6,7 @@
 -- it, and how that is moved itself doesn't matter.
 use Rattle.std.specs.Prelude.{ℕ, ◌+ℤ◌, List, if◌then◌else◌}
 use Rattle.lay_sizes.specs.declared.sizing.BoxSizes.{BoxSizes}
-use Rattle.lay_formatting.specs.FormattingContexts.{FormattingContext, formatting_context_at}
+use Rattle.lay_contexts.specs.FormattingContexts.{FormattingContext, formatting_context_at}
 use Rattle.lay_pieces.specs.declared.corner.Corner.{Corner}
 use Rattle.lay_pieces.specs.declared.standing.Standing.{Standing}
 use Rattle.lay_pieces.specs.Standings.{standing_at}

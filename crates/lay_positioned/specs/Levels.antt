@@ -1,7 +1,7 @@
 -- The level of a formatting context: how many absolutely positioned ones there are from it, itself included, out to the root's.
 -- What is positioned by another one (CSS 2.2, 10.1) has a higher level, so layout goes from level to level.
 use Rattle.std.specs.Prelude.{ℕ, zero, suc, ◌≡◌, ◌+◌, ◌<◌, ◌≤◌, Bool, true, false, List, length, slice_index}
-use Rattle.lay_formatting.specs.FormattingContexts.{FormattingContext, formatting_context_at}
+use Rattle.lay_contexts.specs.FormattingContexts.{FormattingContext, formatting_context_at}
 use Rattle.lay_positioned.specs.Absolute.{is_absolute}
 
 abbrev pub one_if : Bool → ℕ

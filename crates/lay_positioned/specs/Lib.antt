@@ -1,17 +1,11 @@
 pub mod Absolute
-pub mod AbsoluteAxes
-pub mod AbsoluteSizes
-pub mod AbsoluteTables
 pub mod ContainingRects
 pub mod Holders
 pub mod HoldersOutward
 pub mod Laws
 pub mod Layouts
 pub mod Levels
-pub mod OffsetBounds
-pub mod Offsets
 pub mod PaddingBoxes
 pub mod RectBounds
 pub mod Settings
-pub mod ViewportBounds
 pub mod Ways

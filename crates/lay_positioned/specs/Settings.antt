@@ -7,9 +7,9 @@ use Rattle.lay_units.specs.declared.records.Rect.{Rect}
 use Rattle.lay_units.specs.declared.records.Len.TheVariants.{Of as of}
 use Rattle.lay_sizes.specs.declared.sizing.ContainingBlock.{ContainingBlock}
 use Rattle.lay_sizes.specs.UsedLengths.{no_length}
-use Rattle.lay_formatting.specs.FormattingContexts.{FormattingContext, formatting_context_at}
+use Rattle.lay_contexts.specs.FormattingContexts.{FormattingContext, formatting_context_at}
 use Rattle.lay_pieces.specs.declared.corner.Corner.{Corner}
-use Rattle.lay_positioned.specs.declared.settings.AbsoluteSetting.{AbsoluteSetting}
+use Rattle.lay_abspos.specs.declared.setting.AbsoluteSetting.{AbsoluteSetting}
 use Rattle.lay_positioned.specs.Absolute.{is_fixed}
 use Rattle.lay_positioned.specs.ContainingRects.{IsContainingRect, containing_in, viewport_rect}
 use Rattle.lay_positioned.specs.Layouts.{Layout, standing_of}
@@ -42,16 +42,3 @@ absolute_setting viewport contexts laid zero = root_setting viewport
 absolute_setting viewport contexts laid (suc i) =
     let c = formatting_context_at contexts (suc i) in
     setting_beside (containing_in (suc i) viewport (is_fixed contexts (suc i)) contexts laid c.outer c.outer_box) (standing_of contexts laid (suc i)).corner
-
--- the containing block as other rules take one; its height doesn't depend on what is in the box
-abbrev pub block_in : AbsoluteSetting → ContainingBlock
-block_in s = record { width = s.rect.w; height = of s.rect.h }
-
--- lengths that calls can take
-pub record SettingFits (s : AbsoluteSetting) : Type 0 where
-  pub x : IsPosition s.rect.x.0
-  pub y : IsPosition s.rect.y.0
-  pub w : IsPosition s.rect.w.0
-  pub h : IsPosition s.rect.h.0
-  pub static_left : IsPosition s.static_left.0
-  pub static_top : IsPosition s.static_top.0

@@ -2,7 +2,7 @@
 -- that of the anchor to the one that has the containing block, both included, or out to the root's where the viewport is it. What
 -- they answer is all that an absolutely positioned box depends on beside what is in it.
 use Rattle.std.specs.Prelude.{ℕ, ◌≡◌, ◌<◌, Bool, List, None}
-use Rattle.lay_formatting.specs.FormattingContexts.{FormattingContext, boxes_in, formatting_context_at}
+use Rattle.lay_contexts.specs.FormattingContexts.{FormattingContext, boxes_in, formatting_context_at}
 use Rattle.lay_positioned.specs.Absolute.{is_fixed}
 use Rattle.lay_positioned.specs.Holders.{IsHolderFor}
 

@@ -3,9 +3,8 @@
 ghost use Rattle.std.specs.Prelude.{◌≡◌, ◌<◌, length};
 ghost use Rattle.lay_positioned.specs.Absolute.{is_absolute, is_absolute_flow, is_fixed, is_fixed_position, is_own_absolute, is_own_fixed};
 
-use lay_box_tree::Flow;
-use lay_context_boxes::ContextBoxes;
-use lay_formatting::FormattingContexts;
+use lay_box_tree::{ContextBoxes, Flow};
+use lay_contexts::FormattingContexts;
 use lay_style::Position;
 
 /// Whether the formatting context with this number is that of an absolutely positioned element (CSS 2.2, 9.6).

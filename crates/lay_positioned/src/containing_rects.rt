@@ -3,17 +3,17 @@
 ghost use Rattle.std.specs.Prelude.{◌≡◌, ◌<◌, None, IfOk, length};
 ghost use Rattle.lay_units.specs.Units.{IsUsedSize};
 ghost use Rattle.lay_sizes.specs.UsedLengths.{or_zero};
-ghost use Rattle.lay_formatting.specs.FormattingContexts.{boxes_in, formatting_context_at};
+ghost use Rattle.lay_contexts.specs.FormattingContexts.{boxes_in, formatting_context_at};
 ghost use Rattle.lay_pieces.specs.NearPieces.{IsRectNear};
 ghost use Rattle.lay_positioned.specs.ContainingRects.{IsContainingRect, viewport_rect};
 ghost use Rattle.lay_positioned.specs.Holders.{IsHolderFor};
-ghost use Rattle.lay_positioned.specs.ViewportBounds.{ViewportFits};
+ghost use Rattle.lay_abspos.specs.ViewportBounds.{ViewportFits};
 
 use crate::holders::holder_for;
 use crate::layouts::{Layouts, step};
 use crate::padding_boxes::padding_box;
 use crate::rects::seen_from;
-use lay_formatting::FormattingContexts;
+use lay_contexts::FormattingContexts;
 use lay_sizes::ContainingBlock;
 use lay_units::{Len, NoMemory, Rect, Unit};
 

@@ -4,8 +4,7 @@ ghost use Rattle.std.specs.Prelude.{◌≡◌, ◌<◌, IfSome, length};
 ghost use Rattle.lay_box_tree.specs.Containers.{box_parent};
 ghost use Rattle.lay_positioned.specs.Holders.{IsHolderFor, IsNearestHolder, can_hold, is_holder, is_holder_at, is_positioned};
 
-use lay_box_tree::{BoxKind, BoxNode};
-use lay_context_boxes::ContextBoxes;
+use lay_box_tree::{BoxKind, BoxNode, ContextBoxes};
 use lay_style::Position;
 
 /// The one that counts for a box at k, if there is one among these boxes.

@@ -1,6 +1,6 @@
 //! The laws of the definitions. The functions do nothing.
 
-ghost use Rattle.lay_positioned.specs.Laws.{OneAbsoluteSizes, OneContainingRect, OneHolder, OneLevelCount, OneLevels, OneNearestHolder, OneOffset, OneStretchedHeight, OneTableLeft, SettingsAreValues, SettingsComeOfWays, WaysLeadDown, WaysLeadOut};
+ghost use Rattle.lay_positioned.specs.Laws.{OneContainingRect, OneHolder, OneLevelCount, OneLevels, OneNearestHolder, SettingsAreValues, SettingsComeOfWays, WaysLeadDown, WaysLeadOut};
 
 /// Formatting contexts have one column of levels.
 pub fn one_levels()
@@ -45,24 +45,4 @@ pub fn settings_come_of_ways()
 /// It is given what is found outward in so many steps as formatting contexts and boxes stand before it.
 pub fn settings_are_values()
     ensures { SettingsAreValues }
-{}
-
-/// An absolutely positioned box has one set of used sizes.
-pub fn one_absolute_sizes()
-    ensures { OneAbsoluteSizes }
-{}
-
-/// It has one height between `top` and `bottom`.
-pub fn one_stretched_height()
-    ensures { OneStretchedHeight }
-{}
-
-/// An absolutely positioned table has one place across.
-pub fn one_table_left()
-    ensures { OneTableLeft }
-{}
-
-/// An absolutely positioned box stands in one place.
-pub fn one_offset()
-    ensures { OneOffset }
 {}

@@ -7,7 +7,7 @@ ghost use Rattle.lay_pieces.specs.Standings.{AreNearStandings, IsStandingNear, s
 ghost use Rattle.lay_positioned.specs.Layouts.{Layout, content_corner, standing_of, step};
 
 use crate::absolute::is_absolute;
-use lay_formatting::FormattingContexts;
+use lay_contexts::FormattingContexts;
 use lay_pieces::{Corner, Standing, near_corner};
 use lay_sizes::BoxSizes;
 use lay_units::{NoMemory, Unit};

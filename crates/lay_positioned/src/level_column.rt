@@ -4,7 +4,7 @@ ghost use Rattle.std.specs.Prelude.{◌≡◌, ◌<◌, ◌≤◌, ◌+◌, IfOk
 ghost use Rattle.lay_positioned.specs.Levels.{AreFewLevels, HasLevels, IsLevelCount, level_of, one_if};
 
 use crate::absolute::is_absolute;
-use lay_formatting::FormattingContexts;
+use lay_contexts::FormattingContexts;
 use lay_units::NoMemory;
 use std::alloc::Global;
 

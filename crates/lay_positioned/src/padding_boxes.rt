@@ -13,9 +13,9 @@ ghost use Rattle.lay_positioned.specs.PaddingBoxes.{borders_of, inside_borders, 
 ghost use Rattle.lay_positioned.specs.RectBounds.{AreUsedSizes};
 
 use crate::layouts::{Layouts, standing_at};
-use crate::rects::{inside, moved, near_rect};
-use lay_box_tree::{BoxKind, BoxNode};
-use lay_context_boxes::ContextBoxes;
+use crate::rects::near_rect;
+use lay_abspos::{inside, moved};
+use lay_box_tree::{BoxKind, BoxNode, ContextBoxes};
 use lay_pieces::Standing;
 use lay_sizes::{BoxSizes, NO_SIZES, border_width};
 use lay_style::Style;

@@ -1,8 +1,7 @@
 //! Rectangles that are counted from one corner or another.
 
-ghost use Rattle.std.specs.Prelude.{◌≡◌, ◌+ℤ◌, ◌-ℤ◌, IfErr, IfOk};
+ghost use Rattle.std.specs.Prelude.{◌≡◌, ◌-ℤ◌, IfErr, IfOk};
 ghost use Rattle.lay_units.specs.Units.{IsPosition};
-ghost use Rattle.lay_sizes.specs.SizeBounds.{IsInset};
 ghost use Rattle.lay_pieces.specs.Corners.{IsCornerNear, IsNear};
 ghost use Rattle.lay_pieces.specs.NearPieces.{IsRectNear};
 ghost use Rattle.lay_positioned.specs.ContainingRects.{seen_from};
@@ -48,23 +47,4 @@ pub(crate) fn difference(position: Unit, from: Unit) -> Unit
     ensures fits { IsPosition result.0 }
 {
     Unit(position.0 - from.0)
-}
-
-/// What is left of a length between two others.
-pub(crate) fn inside(length: Unit, before: Unit, after: Unit) -> Unit
-    requires length { IsPosition length.0 }
-    requires before { IsInset before.0 }
-    requires after { IsInset after.0 }
-    ensures { result ≡ record { 0 = length.0 -ℤ before.0 -ℤ after.0 } }
-{
-    Unit(length.0 - before.0 - after.0)
-}
-
-/// A position so much further.
-pub(crate) fn moved(position: Unit, by: Unit) -> Unit
-    requires position { IsPosition position.0 }
-    requires by { IsPosition by.0 }
-    ensures { result ≡ record { 0 = position.0 +ℤ by.0 } }
-{
-    Unit(position.0 + by.0)
 }

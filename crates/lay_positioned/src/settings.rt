@@ -3,27 +3,19 @@
 ghost use Rattle.std.specs.Prelude.{◌≡◌, ◌<◌, ◌-ℤ◌, IfOk, length};
 ghost use Rattle.lay_pieces.specs.Corners.{IsCornerNear};
 ghost use Rattle.lay_pieces.specs.NearPieces.{IsRectNear};
-ghost use Rattle.lay_positioned.specs.Settings.{IsInnerSetting, IsSetting, SettingFits, absolute_setting, block_in, setting_beside};
-ghost use Rattle.lay_positioned.specs.ViewportBounds.{ViewportFits};
+ghost use Rattle.lay_positioned.specs.Settings.{IsInnerSetting, IsSetting, absolute_setting, setting_beside};
+ghost use Rattle.lay_abspos.specs.AbsoluteSettings.{SettingFits, block_in};
+ghost use Rattle.lay_abspos.specs.ViewportBounds.{ViewportFits};
 
 use crate::absolute::is_fixed;
 use crate::containing_rects::{Anchor, containing_rect, viewport_rect};
 use crate::layouts::{Layouts, standing_of};
 use crate::rects::difference;
-use lay_formatting::FormattingContexts;
+use lay_abspos::AbsoluteSetting;
+use lay_contexts::FormattingContexts;
 use lay_pieces::Corner;
 use lay_sizes::ContainingBlock;
-use lay_units::{Len, NoMemory, Rect, Unit};
-
-/// What an absolutely positioned box is given from outside (CSS 2.2, 10.1 and 10.3.7), in 1/64 px.
-#[derive(Clone, Copy)]
-pub struct AbsoluteSetting {
-    /// Its containing block, counted as where its anchor stands in the formatting context around it.
-    pub rect: Rect,
-    /// Where it would stand in flow, from the left and the top edge of the containing block.
-    pub static_left: Unit,
-    pub static_top: Unit,
-}
+use lay_units::{NoMemory, Rect, Unit};
 
 /// What the absolutely positioned formatting context with the number i is given, where the ones on the way to its containing
 /// block are laid out. NoMemory is the answer where one is more than 2^60 units from another, which it is in no document
@@ -104,15 +96,5 @@ fn setting_beside(rect: Rect, anchor: Corner) -> AbsoluteSetting
         rect,
         static_left: difference(anchor.x, rect.x),
         static_top: difference(anchor.y, rect.y),
-    }
-}
-
-/// The containing block as other rules take one.
-pub fn block_in(setting: &AbsoluteSetting) -> ContainingBlock
-    ensures { result ≡ block_in setting.now }
-{
-    ContainingBlock {
-        width: setting.rect.w,
-        height: Len::Of(setting.rect.h),
     }
 }

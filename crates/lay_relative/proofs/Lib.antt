@@ -1,4 +1,7 @@
-pub mod MoveSteps
 mod NoMoves
-pub mod OneMoves
 mod SomeFormers
+pub mod Ends
+pub mod MoveSteps
+pub mod Nearest
+pub mod NextParts
+pub mod OneMoves

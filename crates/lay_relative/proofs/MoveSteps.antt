@@ -6,8 +6,8 @@ use Rattle.std.proofs.lemmas.Grind.{elements}
 use Rattle.lay_box_tree.specs.declared.box_tree.BoxNode.{BoxNode}
 use Rattle.lay_box_tree.specs.Containers.{box_parent}
 use Rattle.lay_box_tree.proofs.BoxForests.{length-parents}
-use Rattle.lay_broken_inlines.specs.FormerParents.{AreFormerParents, IsFormerParent}
-use Rattle.lay_context_boxes.specs.ContextBoxes.{AreContextBoxes}
+use Rattle.lay_relative.specs.FormerParents.{AreFormerParents, IsFormerParent}
+use Rattle.lay_box_tree.specs.ContextBoxes.{AreContextBoxes}
 use Rattle.lay_sizes.specs.declared.sizing.BoxSizes.{BoxSizes}
 use Rattle.lay_relative.specs.declared.offset.Offset.{Offset}
 use Rattle.lay_relative.specs.MoveBounds.{AreNearMoves, IsMoveNear}

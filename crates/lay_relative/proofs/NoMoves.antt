@@ -3,7 +3,7 @@ use Rattle.std.proofs.Common.{◌≡◌, ◌∙◌, ℕ, zero, suc, ◌<◌, fal
 use Rattle.std.proofs.lemmas.List.{length-replicate}
 use Rattle.lay_box_tree.specs.declared.box_tree.BoxNode.{BoxNode}
 use Rattle.lay_box_tree.specs.Roles.{role_at}
-use Rattle.lay_context_boxes.specs.ContextBoxes.{AreContextBoxes}
+use Rattle.lay_box_tree.specs.ContextBoxes.{AreContextBoxes}
 use Rattle.lay_sizes.specs.declared.sizing.BoxSizes.{BoxSizes}
 use Rattle.lay_relative.specs.Moves.{HasMoves, NoneIsRelative, carrier, is_movable, move_at, move_of, own_offset}
 use Rattle.lay_relative.specs.RelativeOffsets.{no_offset}

@@ -3,9 +3,9 @@ use Rattle.std.proofs.Common.{◌≡◌, ℕ, zero, suc, ◌<◌, ◌≤◌, Lis
 use Rattle.std.proofs.lemmas.Bool.{cases_lt}
 use Rattle.lay_doc.proofs.OneStyles.{same_list}
 use Rattle.lay_box_tree.specs.declared.box_tree.BoxNode.{BoxNode}
-use Rattle.lay_broken_inlines.specs.FormerParents.{AreFormerParents}
-use Rattle.lay_broken_inlines.proofs.Nearest.{one_former_parent as one_former_parent_lem}
-use Rattle.lay_context_boxes.specs.ContextBoxes.{AreContextBoxes}
+use Rattle.lay_relative.specs.FormerParents.{AreFormerParents}
+use Rattle.lay_relative.proofs.Nearest.{one_former_parent as one_former_parent_lem}
+use Rattle.lay_box_tree.specs.ContextBoxes.{AreContextBoxes}
 use Rattle.lay_sizes.specs.declared.sizing.BoxSizes.{BoxSizes}
 use Rattle.lay_relative.specs.declared.offset.Offset.{Offset}
 use Rattle.lay_relative.specs.Laws.{OneColumnOfMoves}

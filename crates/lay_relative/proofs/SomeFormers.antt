@@ -7,9 +7,9 @@ use Rattle.lay_box_tree.specs.BoxColumns.{box_parents}
 use Rattle.lay_box_tree.specs.Containers.{box_parent}
 use Rattle.lay_box_tree.specs.declared.box_tree.BoxNode.{BoxNode}
 use Rattle.lay_box_tree.proofs.BoxForests.{length-parents}
-use Rattle.lay_box_parts.specs.InlineParts.{id_at, is_inline_at, is_part_at}
-use Rattle.lay_broken_inlines.specs.FormerParents.{AreFormerParents, IsFormerParent, WasIn}
-use Rattle.lay_broken_inlines.proofs.Ends.{each-longer, length-longer}
+use Rattle.lay_box_tree.specs.InlineParts.{id_at, is_inline_at, is_part_at}
+use Rattle.lay_relative.specs.FormerParents.{AreFormerParents, IsFormerParent, WasIn}
+use Rattle.lay_relative.proofs.Ends.{each-longer, length-longer}
 
 cases_bool : (b : Bool) → (b ≡ true) ⊎ (b ≡ false)
 cases_bool true = inl refl

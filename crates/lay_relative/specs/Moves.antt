@@ -12,9 +12,9 @@ use Rattle.lay_box_tree.specs.declared.box_tree.BoxNode.{BoxNode}
 use Rattle.lay_box_tree.specs.BoxColumns.{box_styles}
 use Rattle.lay_box_tree.specs.Containers.{box_parent}
 use Rattle.lay_box_tree.specs.Roles.{role_at}
-use Rattle.lay_broken_inlines.specs.FormerParents.{AreFormerParents}
+use Rattle.lay_relative.specs.FormerParents.{AreFormerParents}
 use Rattle.lay_sizes.specs.declared.sizing.BoxSizes.{BoxSizes}
-use Rattle.lay_context_boxes.specs.ContainingBlocks.{block_around}
+use Rattle.lay_pieces.specs.ContainingBlocks.{block_around}
 use Rattle.lay_relative.specs.declared.offset.Offset.{Offset}
 use Rattle.lay_relative.specs.RelativeOffsets.{is_relative, no_offset, relative_offset}
 

@@ -2,16 +2,16 @@
 
 ghost use Rattle.std.specs.Prelude.{ℕ, ◌≡◌, ◌<◌, ◌+ℤ◌, Option, List, IsFalse, length, IfOk};
 ghost use Rattle.lay_sizes.specs.SizeColumns.{HaveSizeBounds};
-ghost use Rattle.lay_broken_inlines.specs.FormerParents.{AreFormerParents};
+ghost use Rattle.lay_relative.specs.FormerParents.{AreFormerParents};
 ghost use Rattle.lay_relative.specs.MoveBounds.{AreNearMoves, IsMoveNear, IsNear};
 ghost use Rattle.lay_relative.specs.Moves.{HasMoves, NoneIsRelative, carrier, is_movable, move_at, move_of, own_offset, sum_of};
 ghost use Rattle.lay_relative.specs.RelativeOffsets.{IsOffsetUsed};
 
 use crate::box_moves::BoxMoves;
+use crate::former_parents;
 use crate::offset::{NO_OFFSET, Offset, is_relative, relative_offset};
-use lay_box_tree::Role;
-use lay_broken_inlines::former_parents;
-use lay_context_boxes::{ContextBoxes, block_around};
+use lay_box_tree::{ContextBoxes, Role};
+use lay_pieces::block_around;
 use lay_sizes::BoxSizes;
 use lay_units::{NoMemory, Unit};
 use std::alloc::Global;

@@ -8,10 +8,10 @@ use Rattle.std.proofs.lemmas.Str.Parse.{digit_from_value}
 use Rattle.std.proofs.lemmas.Fmt.{decimal_injective, decimal_is_IsNumeral}
 use Rattle.lay_doc.specs.declared.edit.EditFault.{EditFault}
 use Rattle.lay_doc.specs.declared.edit.EditFault.TheVariants.{NoNode, NotElement, NotText, IdTaken, BadIndex, RootFixed, TooManyNodes, TooDeep, TextTooLong, BadProperty, BadValue}
-use Rattle.lay_commands.specs.declared.command.Reply.{Reply}
-use Rattle.lay_commands.specs.declared.command.Reply.TheVariants.{Accepted, Refused, Shown, NoMemory}
-use Rattle.lay_commands.specs.declared.history.Entry.{Entry}
-use Rattle.lay_commands.specs.declared.history.Entry.TheVariants.{Edit, Publish, Latest, Sync}
+use Rattle.lay_doc.specs.declared.command.Reply.{Reply}
+use Rattle.lay_doc.specs.declared.command.Reply.TheVariants.{Accepted, Refused, Shown, NoMemory}
+use Rattle.lay_doc.specs.declared.history.Entry.{Entry}
+use Rattle.lay_doc.specs.declared.history.Entry.TheVariants.{Edit, Publish, Latest, Sync}
 use Rattle.lay_history.specs.Histories.{accepted}
 use Rattle.lay_history.specs.Laws.{OneHistory, ShowSame, ShowsSame}
 use Rattle.lay_history.proofs.Lists.{some_is}

@@ -2,11 +2,11 @@
 -- what they show of each entry, and with the commands of the editors, the history.
 use Rattle.std.specs.Prelude.{ℕ, ◌≡◌, ◌<◌, ◌^◌, ⊤, List}
 use Rattle.std.specs.List.{All}
-use Rattle.lay_commands.specs.declared.command.Cmd.{Cmd}
-use Rattle.lay_commands.specs.declared.command.Reply.{Reply}
-use Rattle.lay_commands.specs.declared.command.Reply.TheVariants.{Accepted, Refused, Shown, NoMemory}
-use Rattle.lay_commands.specs.declared.history.Entry.{Entry}
-use Rattle.lay_commands.specs.declared.history.Entry.TheVariants.{Edit, Publish, Latest, Sync}
+use Rattle.lay_doc.specs.declared.command.Cmd.{Cmd}
+use Rattle.lay_doc.specs.declared.command.Reply.{Reply}
+use Rattle.lay_doc.specs.declared.command.Reply.TheVariants.{Accepted, Refused, Shown, NoMemory}
+use Rattle.lay_doc.specs.declared.history.Entry.{Entry}
+use Rattle.lay_doc.specs.declared.history.Entry.TheVariants.{Edit, Publish, Latest, Sync}
 use Rattle.lay_history.specs.Calls.{AnswersScripts}
 use Rattle.lay_history.specs.Laws.{ShowSame}
 use Rattle.lay_history.specs.Trees.{PublishedTreeValue}

@@ -9,10 +9,10 @@ use Rattle.std.specs.List.{flat_map}
 use Rattle.std.specs.Fmt.{decimal}
 use Rattle.lay_doc.specs.declared.edit.EditFault.{EditFault}
 use Rattle.lay_doc.specs.declared.edit.EditFault.TheVariants.{NoNode, NotElement, NotText, IdTaken, BadIndex, RootFixed, TooManyNodes, TooDeep, TextTooLong, BadProperty, BadValue}
-use Rattle.lay_commands.specs.declared.history.Entry.{Entry}
-use Rattle.lay_commands.specs.declared.history.Entry.TheVariants.{Edit, Publish, Latest, Sync}
-use Rattle.lay_commands.specs.declared.command.Reply.{Reply}
-use Rattle.lay_commands.specs.declared.command.Reply.TheVariants.{Accepted, Refused, Shown, NoMemory}
+use Rattle.lay_doc.specs.declared.history.Entry.{Entry}
+use Rattle.lay_doc.specs.declared.history.Entry.TheVariants.{Edit, Publish, Latest, Sync}
+use Rattle.lay_doc.specs.declared.command.Reply.{Reply}
+use Rattle.lay_doc.specs.declared.command.Reply.TheVariants.{Accepted, Refused, Shown, NoMemory}
 use Rattle.lay_frag.specs.Pieces.{Context}
 use Rattle.lay_frag.specs.Lines.{tree_text}
 use Rattle.lay_history.specs.Histories.{accepted, shown_version}

@@ -5,8 +5,7 @@ ghost use Rattle.std.specs.Fmt.{decimal};
 ghost use Rattle.lay_report.specs.Report.{entry_line, command_line, reply_text, fault_number};
 
 use itoa::Buffer;
-use lay_commands::{Entry, Reply};
-use lay_doc::EditFault;
+use lay_doc::{EditFault, Entry, Reply};
 use lay_units::NoMemory;
 use std::alloc::Global;
 

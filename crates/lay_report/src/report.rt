@@ -11,7 +11,7 @@ use crate::buffer::hand_on;
 use crate::entry::{push_entry, push_version};
 use crate::fault::ReportFault;
 use crate::pieces::push_tree;
-use lay_commands::{Entry, Reply};
+use lay_doc::{Entry, Reply};
 use lay_frag::Tree;
 use lay_history::{PublishedTree, tree_at};
 use lay_outside::Sink;

@@ -9,7 +9,7 @@ use crate::buffer::hand_on;
 use crate::entry::push_entry;
 use crate::fault::ReportFault;
 use crate::pieces::push_tree;
-use lay_commands::Entry;
+use lay_doc::Entry;
 use lay_frag::Tree;
 use lay_outside::Sink;
 use std::alloc::Global;

@@ -1,6 +1,6 @@
 -- The pieces of one box of a table.
 use Rattle.std.proofs.Common.{◌≡◌, ℕ, true, false, List, [], ◌∷◌, refl, arith}
-use Rattle.lay_context_boxes.specs.ContextBoxes.{is_inner}
+use Rattle.lay_box_tree.specs.ContextBoxes.{is_inner}
 use Rattle.lay_sizes.specs.BoxSizes.{border_width}
 use Rattle.lay_sizes.specs.SizeColumns.{sizes_at}
 use Rattle.lay_table_parts.specs.TableBoxes.{kind_at}

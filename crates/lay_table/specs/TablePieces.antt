@@ -7,7 +7,7 @@ use Rattle.lay_box_tree.specs.declared.box_tree.BoxKind.{BoxKind}
 use Rattle.lay_box_tree.specs.declared.box_tree.BoxKind.TheVariants as kind
 use Rattle.lay_box_tree.specs.declared.box_tree.BoxNode.{BoxNode}
 use Rattle.lay_box_tree.specs.BoxColumns.{box_ids}
-use Rattle.lay_context_boxes.specs.ContextBoxes.{is_inner}
+use Rattle.lay_box_tree.specs.ContextBoxes.{is_inner}
 use Rattle.lay_frag.specs.declared.frag.Frag.{Frag}
 use Rattle.lay_frag.specs.declared.frag.FragKind.TheVariants.{Box}
 use Rattle.lay_pieces.specs.declared.standing.Standing.{Standing}

@@ -2,7 +2,7 @@
 
 ghost use Rattle.std.specs.Prelude.{◌≡◌, ◌<◌, ◌≤◌, length, slice_index, IfOk, OnOk};
 ghost use Rattle.lay_box_tree.specs.BoxColumns.{box_ids};
-ghost use Rattle.lay_context_boxes.specs.ContextBoxes.{is_inner};
+ghost use Rattle.lay_box_tree.specs.ContextBoxes.{is_inner};
 ghost use Rattle.lay_pieces.specs.NearPieces.{AreNearPieces};
 ghost use Rattle.lay_pieces.specs.PieceParts.{with_pieces};
 ghost use Rattle.lay_pieces.specs.Splicing.{border_box};

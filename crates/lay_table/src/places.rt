@@ -12,7 +12,7 @@ use crate::captions::Captions;
 use crate::wrapper_flow::wrapper_flow;
 use lay_blocks::{BoxPlace, FlowPlaces};
 use lay_pieces::Corner;
-use lay_table_grid::TableGrid;
+use lay_table_borders::TableGrid;
 use lay_table_rows::{TableInput, TableRows, Tracks, near_sum, table_rows, table_sizes};
 use lay_units::{NoMemory, Unit};
 use std::alloc::Global;

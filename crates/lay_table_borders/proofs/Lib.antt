@@ -1,4 +1,7 @@
+pub mod Assembled
 pub mod CoveringCells
+pub mod OneBorders
+pub mod OneTableGrid
+pub mod PlacesBelow
 pub mod UsedBorders
 pub mod WidestEdges
-pub mod OneBorders

@@ -1,6 +1,9 @@
 pub mod CellAreas
-pub mod MeetingBorders
-pub mod TableBorders
-pub mod UsedSides
+pub mod GridBounds
+pub mod GridLaws
 pub mod Laws
+pub mod MeetingBorders
 pub mod Pass
+pub mod TableBorders
+pub mod TableGrid
+pub mod UsedSides

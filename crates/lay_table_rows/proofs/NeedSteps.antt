@@ -20,8 +20,8 @@ use Rattle.lay_sizes.specs.declared.own_boxes.OwnBox.{OwnBox}
 use Rattle.lay_sizes.specs.declared.sizing.BoxSizes.{BoxSizes}
 use Rattle.lay_sizes.specs.OwnBoxes.{IsBaseline, IsBoxSize, OwnBoxFits}
 use Rattle.lay_sizes.specs.SizeBounds.{IsInset, IsUsedSizeOrAuto, SizeFits}
-use Rattle.lay_table_grid.specs.declared.grid.TableCell.{TableCell}
-use Rattle.lay_table_grid.specs.GridBounds.{CellFits}
+use Rattle.lay_table_borders.specs.declared.grid.TableCell.{TableCell}
+use Rattle.lay_table_borders.specs.GridBounds.{CellFits}
 use Rattle.lay_table_rows.specs.declared.cell_align.CellAlign.{CellAlign}
 use Rattle.lay_table_rows.specs.declared.cell_align.CellAlign.TheVariants.{Baseline, Top, Middle, Bottom}
 use Rattle.lay_table_rows.specs.NeedBounds.{MayBeBaseline, NeedFits, NeedsFit}

@@ -20,8 +20,8 @@ use Rattle.lay_sizes.specs.OwnBoxes.{own_box_at}
 use Rattle.lay_sizes.specs.SizeColumns.{no_edges, sizes_at}
 use Rattle.lay_sizes.specs.UsedLengths.{no_length, or_zero, used_height}
 use Rattle.lay_table_parts.specs.declared.rows.TableRow.{TableRow}
-use Rattle.lay_table_grid.specs.declared.grid.TableCell.{TableCell}
-use Rattle.lay_table_grid.specs.TableGrid.{TableGridValue}
+use Rattle.lay_table_borders.specs.declared.grid.TableCell.{TableCell}
+use Rattle.lay_table_borders.specs.TableGrid.{TableGridValue}
 use Rattle.lay_table_rows.specs.declared.cell_align.CellAlign.{CellAlign}
 use Rattle.lay_table_rows.specs.declared.cell_align.CellAlign.TheVariants.{Baseline, Top, Middle, Bottom}
 use Rattle.lay_table_rows.specs.CellAligns.{cell_align}

@@ -5,12 +5,11 @@ ghost use Rattle.lay_pieces.specs.InnerPieces.{AreNearInnerPieces, inner_pieces_
 ghost use Rattle.lay_pieces.specs.NearPieces.{AreNearPieces};
 ghost use Rattle.lay_table_rows.specs.TableInputs.{TableInputFits};
 
-use lay_box_tree::BoxNode;
-use lay_context_boxes::ContextBoxes;
+use lay_box_tree::{BoxNode, ContextBoxes};
 use lay_frag::Frag;
 use lay_pieces::{ContextSizes, InnerPieces, OwnBoxes};
 use lay_sizes::{BoxSizes, OwnBox};
-use lay_table_grid::TableGrid;
+use lay_table_borders::TableGrid;
 use lay_table_sizes::TableSizes;
 use std::marker::Model;
 

@@ -14,8 +14,8 @@ use Rattle.lay_sizes.specs.declared.sizing.BoxSizes.{BoxSizes}
 use Rattle.lay_sizes.specs.declared.sizing.ContainingBlock.{ContainingBlock}
 use Rattle.lay_grid.specs.Columns.{AreColumns}
 use Rattle.lay_grid.proofs.OneColumns.{one_columns_lem}
-use Rattle.lay_table_grid.specs.Laws.{OneTableGrid}
-use Rattle.lay_table_grid.specs.TableGrid.{TableGridValue}
+use Rattle.lay_table_borders.specs.GridLaws.{OneTableGrid}
+use Rattle.lay_table_borders.specs.TableGrid.{TableGridValue}
 use Rattle.lay_table_sizes.specs.declared.cell_size.CellSize.{CellSize}
 use Rattle.lay_table_sizes.specs.declared.table_rule.TableRule.{TableRule}
 use Rattle.lay_table_sizes.specs.declared.table_rule.TableRule.TheVariants.{Fills, ShrinksInto, ShrinksToFit}

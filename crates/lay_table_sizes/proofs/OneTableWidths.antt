@@ -6,8 +6,8 @@ use Rattle.lay_box_tree.specs.declared.box_tree.BoxNode.{BoxNode}
 use Rattle.lay_measure.specs.MeasureInValue.{no_widths}
 use Rattle.lay_measure.specs.declared.preferred_widths.PreferredWidths.{PreferredWidths}
 use Rattle.lay_grid.specs.Shares.{own_at}
-use Rattle.lay_table_grid.specs.Laws.{OneTableGrid}
-use Rattle.lay_table_grid.specs.TableGrid.{TableGridValue}
+use Rattle.lay_table_borders.specs.GridLaws.{OneTableGrid}
+use Rattle.lay_table_borders.specs.TableGrid.{TableGridValue}
 use Rattle.lay_table_sizes.specs.Laws.{OneTableWidths}
 use Rattle.lay_table_sizes.specs.PreferredWidths.{AreColumnWidths, content_widths, own_or}
 use Rattle.lay_table_sizes.proofs.ColumnSteps.{element_widths_count}

@@ -21,7 +21,7 @@ use Rattle.lay_sizes.specs.declared.sizing.BoxSizes.{BoxSizes}
 use Rattle.lay_sizes.specs.declared.sizing.ContainingBlock.{ContainingBlock}
 use Rattle.lay_grid.specs.Columns.{AreColumns}
 use Rattle.lay_grid.specs.Shares.{sum_of}
-use Rattle.lay_table_grid.specs.TableGrid.{IsTableGrid, TableGridValue}
+use Rattle.lay_table_borders.specs.TableGrid.{IsTableGrid, TableGridValue}
 use Rattle.lay_table_sizes.specs.CellSizes.{cell_size_at}
 use Rattle.lay_table_sizes.specs.ColumnWidths.{columns_in, with_spacings}
 use Rattle.lay_table_sizes.specs.TableBoxes.{table_edges, table_style, wrapper_style}

@@ -13,7 +13,7 @@ use Rattle.lay_widths.specs.BlockWidths.{IsUsedBlock}
 use Rattle.lay_widths.specs.FloatWidths.{IsUsedFloat}
 use Rattle.lay_widths.specs.declared.widths.BlockOut.{BlockOut}
 use Rattle.lay_sizes.specs.UsedLengths.{no_length}
-use Rattle.lay_table_grid.specs.TableGrid.{TableGridValue}
+use Rattle.lay_table_borders.specs.TableGrid.{TableGridValue}
 use Rattle.lay_table_sizes.specs.declared.table_rule.TableRule.{TableRule}
 use Rattle.lay_table_sizes.specs.declared.table_rule.TableRule.TheVariants.{Fills, ShrinksInto, ShrinksToFit}
 use Rattle.lay_table_sizes.specs.TableBoxes.{preferred_edges, table_block, table_style, wrapper_style}

@@ -12,7 +12,7 @@ use crate::table_box::style_of_box;
 use lay_box_tree::BoxNode;
 use lay_measure::{NO_WIDTHS, PreferredWidths, bounded_width, greater, sum};
 use lay_style::Style;
-use lay_table_grid::{TableCell, TableGrid};
+use lay_table_borders::{TableCell, TableGrid};
 use lay_units::{NoMemory, Sides, Unit};
 use std::alloc::Global;
 

@@ -2,7 +2,7 @@
 
 ghost use Rattle.lay_table_sizes.specs.Laws.{OneCellSizes, OneTableSizes, OneTableWidths};
 
-use lay_table_grid::one_table_grid;
+use lay_table_borders::one_table_grid;
 
 /// A table has one set of used sizes beside its containing block.
 pub fn one_table_sizes()

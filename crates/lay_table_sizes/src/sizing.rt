@@ -7,7 +7,7 @@ ghost use Rattle.lay_units.specs.Units.{IsPosition, IsUsedSize};
 ghost use Rattle.lay_widths.specs.declared.widths.BlockOut.{BlockOut};
 ghost use Rattle.lay_sizes.specs.SizeBounds.{SizeFits};
 ghost use Rattle.lay_sizes.specs.SizeColumns.{HaveSizeBounds, sizes_at};
-ghost use Rattle.lay_table_grid.specs.GridBounds.{PlacesAreBelow};
+ghost use Rattle.lay_table_borders.specs.GridBounds.{PlacesAreBelow};
 ghost use Rattle.lay_table_sizes.specs.Bounds.{most_columns};
 ghost use Rattle.lay_table_sizes.specs.ColumnWidths.{with_spacings};
 ghost use Rattle.lay_table_sizes.specs.TableBoxes.{table_style, wrapper_style};
@@ -28,7 +28,7 @@ use lay_sizes::{
     BoxSizes, ContainingBlock, NO_SIZES, used_height, used_max_height, used_min_height,
 };
 use lay_style::Style;
-use lay_table_grid::TableGrid;
+use lay_table_borders::TableGrid;
 use lay_units::{NoMemory, Unit, UnitList, clamp_size};
 use lay_widths::BlockOut;
 use std::alloc::Global;

@@ -10,7 +10,7 @@ ghost use Rattle.lay_table_sizes.specs.WantedWidth.{IsWantedAs, block_in_room, c
 use crate::table_box::{preferred_edges, table_block};
 use crate::table_rule::TableRule;
 use lay_style::Style;
-use lay_table_grid::TableGrid;
+use lay_table_borders::TableGrid;
 use lay_units::{BlockIn, Len, NoMemory, Unit};
 use lay_widths::{BlockOut, solve_block, solve_float};
 

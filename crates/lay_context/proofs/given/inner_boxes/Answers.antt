@@ -1,4 +1,4 @@
-use Rattle.lay_formatting.specs.FormattingContexts.{formatting_context_at}
+use Rattle.lay_contexts.specs.FormattingContexts.{formatting_context_at}
 use Rattle.lay_context.specs.DocumentLayout.{flow_number, own_box_in}
 use Rattle.lay_context.proofs.GivenFacts.{one_more_fits, one_more_of}
 use Rattle.lay_context.proofs.given.inner_boxes.Goals as goal

@@ -1,5 +1,5 @@
 use Rattle.std.proofs.Common.{◌≡◌, map, take}
-use Rattle.lay_formatting.specs.FormattingContexts.{formatting_context_at}
+use Rattle.lay_contexts.specs.FormattingContexts.{formatting_context_at}
 use Rattle.lay_context.specs.DocumentLayout.{flow_number, own_box_in}
 use Rattle.lay_sizes.specs.OwnBoxes.{OwnBoxesFit}
 use Rattle.lay_context.proofs.given.inner_boxes.Given as goal

@@ -1,5 +1,5 @@
 use Rattle.std.proofs.Common.{◌≡◌, map, take}
-use Rattle.lay_formatting.specs.FormattingContexts.{formatting_context_at}
+use Rattle.lay_contexts.specs.FormattingContexts.{formatting_context_at}
 use Rattle.lay_context.specs.DocumentLayout.{flow_number, inner_widths_in}
 use Rattle.lay_context.proofs.given.inner_widths.Given as goal
 

@@ -1,5 +1,5 @@
 use Rattle.std.proofs.Common.{rules, ◌≡◌, ◌-◌, ℕ, ap, ◌∙◌, sym, arith, true, false}
-use Rattle.lay_formatting.specs.FormattingContexts.{boxes_in, formatting_context_at}
+use Rattle.lay_contexts.specs.FormattingContexts.{boxes_in, formatting_context_at}
 use Rattle.lay_context_sizes.specs.ShrinkToFit.{shrinks_to_fit}
 use Rattle.lay_context.specs.Measured.{shrinks_within}
 use Rattle.lay_context.proofs.ShrinkSteps.{shrinks_here, shrinks_out}

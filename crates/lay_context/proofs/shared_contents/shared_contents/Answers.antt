@@ -1,6 +1,6 @@
 use Rattle.std.proofs.Common.{rules}
 use Rattle.lay_flow_boxes.specs.AskedContents.{AreAskedContents}
-use Rattle.lay_formatting.specs.FormattingContexts.{boxes_in}
+use Rattle.lay_contexts.specs.FormattingContexts.{boxes_in}
 use Rattle.lay_context.specs.SharedContents.{AreShared, asked_in}
 use Rattle.lay_context.proofs.SharedSteps.{have_shared, one_more}
 use Rattle.lay_context.proofs.shared_contents.shared_contents.Goals as goal

@@ -4,7 +4,7 @@ use Rattle.std.proofs.lemmas.List.{map-append, reverse-append, take_more}
 use Rattle.lay_box_tree.specs.declared.box_tree.BoxNode.{BoxNode}
 use Rattle.lay_style.specs.declared.style.Style.{Style}
 use Rattle.lay_doc.specs.declared.node.Node.{Node}
-use Rattle.lay_context_tree.specs.ContextTree.{boxes_of_place}
+use Rattle.lay_contexts.specs.ContextTree.{boxes_of_place}
 use Rattle.lay_contexts.specs.ListedContexts.{boxes_of_places}
 use Rattle.lay_contexts.proofs.ListedSteps.{context_within}
 use Rattle.lay_contexts.proofs.SpotOrder.{context_boxes}

@@ -1,5 +1,5 @@
 use Rattle.std.proofs.Common.{rules, ◌≡◌, ◌<◌, true, false, slice_set, length}
-use Rattle.lay_context_boxes.specs.Containing.{container_of}
+use Rattle.lay_box_tree.specs.Containing.{container_of}
 use Rattle.lay_flow_boxes.specs.AskedContents.{is_asked_at}
 use Rattle.lay_flow_boxes.proofs.AskedSteps.{none_more, one_more}
 use Rattle.lay_flow_boxes.proofs.asked_contents.asked_holders.Goals as goal

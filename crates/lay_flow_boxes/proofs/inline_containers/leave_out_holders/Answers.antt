@@ -1,5 +1,5 @@
 use Rattle.std.proofs.Common.{rules, ◌≡◌, ◌<◌, true, false, slice_set, length, arith}
-use Rattle.lay_context_boxes.specs.Containing.{container_of}
+use Rattle.lay_box_tree.specs.Containing.{container_of}
 use Rattle.lay_flow_boxes.specs.declared.inline_containers.Level.TheVariants.{Block as block}
 use Rattle.lay_flow_boxes.specs.InlineContainers.{is_of}
 use Rattle.lay_flow_boxes.proofs.AloneSteps.{alone_first, alone_less, alone_same}

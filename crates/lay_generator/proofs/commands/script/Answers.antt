@@ -1,6 +1,6 @@
 use Rattle.std.proofs.Common.{◌≡◌, ◌∙◌, ◌+◌, ◌-◌, ◌<◌, ◌≤◌, ◌++◌, ◌∷◌, [], ℕ, List, length, sym, ap, arith, append_assoc}
 use Rattle.std.specs.List.{filter, range_with_len}
-use Rattle.lay_commands.specs.declared.command.Cmd.{Cmd}
+use Rattle.lay_doc.specs.declared.command.Cmd.{Cmd}
 use Rattle.lay_generator.specs.Draws.{state_after}
 use Rattle.lay_generator.specs.Commands.{is_of, paddings}
 use Rattle.lay_generator.proofs.Steps.{commands_step, state_after_step, few_more, reads_more}

@@ -1,6 +1,6 @@
 use Rattle.std.proofs.Common.{◌≡◌, ◌<◌, ◌≤◌, ℕ, true, None, length}
 use Rattle.lay_box_tree.specs.Roles.{role_at}
-use Rattle.lay_context_boxes.specs.Containing.{container_of}
+use Rattle.lay_box_tree.specs.Containing.{container_of}
 use Rattle.lay_flow_boxes.specs.ContextBlocks.{is_anchor}
 use Rattle.lay_placement.specs.AnchorLines.{top_at}
 use Rattle.lay_placement.specs.StaticPositions.{anchor_line}

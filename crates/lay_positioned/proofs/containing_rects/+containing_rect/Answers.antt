@@ -1,6 +1,6 @@
 use Rattle.std.proofs.Common.{◌≡◌, rules, arith}
 use Rattle.std.proofs.lemmas.Result.{IfOk-weaker}
-use Rattle.lay_formatting.specs.FormattingContexts.{boxes_in, formatting_context_at}
+use Rattle.lay_contexts.specs.FormattingContexts.{boxes_in, formatting_context_at}
 use Rattle.lay_positioned.proofs.ContainingSteps.{around, at_root, held_by}
 use Rattle.lay_positioned.proofs.containing_rects.+containing_rect.Goals as goal
 

@@ -1,6 +1,6 @@
 use Rattle.std.proofs.Common.{◌≡◌, ◌∙◌, ◌++◌, codes, subst, string_bytes}
 use Rattle.std.specs.Fmt.{decimal}
-use Rattle.lay_commands.specs.declared.history.Entry.TheVariants.{Publish}
+use Rattle.lay_doc.specs.declared.history.Entry.TheVariants.{Publish}
 use Rattle.lay_frag.specs.Lines.{tree_text}
 use Rattle.lay_outside.specs.Outside.{TookFront}
 use Rattle.lay_report.specs.Report.{entry_line, final_line}

@@ -1,0 +1,8 @@
+-- Where a formatting context stands by itself is one place.
+use Rattle.std.specs.Prelude.{◌≡◌}
+use Rattle.lay_sizes.specs.declared.own_boxes.OwnBox.{OwnBox}
+use Rattle.lay_pieces.specs.declared.corner.Corner.{Corner}
+use Rattle.lay_abspos.specs.OwnOffsets.{IsOwnOffset, StandInput}
+
+abbrev pub OneOwnPlace : Type 0
+OneOwnPlace = (at : StandInput) (own : OwnBox) (x y : Corner) → IsOwnOffset at own x → IsOwnOffset at own y → x ≡ y

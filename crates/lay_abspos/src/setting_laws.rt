@@ -1,0 +1,23 @@
+//! Laws of what an absolutely positioned box is given from outside. The functions do nothing.
+
+ghost use Rattle.lay_abspos.specs.SettingLaws.{OneAbsoluteSizes, OneOffset, OneStretchedHeight, OneTableLeft};
+
+/// An absolutely positioned box has one set of used sizes.
+pub fn one_absolute_sizes()
+    ensures { OneAbsoluteSizes }
+{}
+
+/// It has one height between `top` and `bottom`.
+pub fn one_stretched_height()
+    ensures { OneStretchedHeight }
+{}
+
+/// An absolutely positioned table has one place across.
+pub fn one_table_left()
+    ensures { OneTableLeft }
+{}
+
+/// An absolutely positioned box stands in one place.
+pub fn one_offset()
+    ensures { OneOffset }
+{}

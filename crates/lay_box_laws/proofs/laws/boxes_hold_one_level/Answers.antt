@@ -1,5 +1,0 @@
-use Rattle.lay_box_laws.proofs.OneLevels.{boxes_hold_one_level_lem}
-use Rattle.lay_box_laws.proofs.laws.boxes_hold_one_level.Goals as goal
-
-pub returns : goal.returns
-returns c = boxes_hold_one_level_lem

@@ -1,5 +1,0 @@
-use Rattle.lay_box_laws.proofs.WhiteChildren.{white_space_goes_by_itself}
-use Rattle.lay_box_laws.proofs.laws.white_space_goes_by_itself.Goals as goal
-
-pub returns : goal.returns
-returns c = white_space_goes_by_itself

@@ -1,4 +1,0 @@
-pub mod NodeTreeLaws
-pub mod WhiteSpaceLaws
-pub mod FlowLaws
-pub mod LevelLaws

@@ -1,3 +1,0 @@
-pub mod PartEnds
-pub mod OneEnd
-mod PartSteps

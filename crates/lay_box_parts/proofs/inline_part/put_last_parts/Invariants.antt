@@ -1,5 +1,0 @@
-use Rattle.lay_box_parts.proofs.PartSteps.{PartsTo}
-use Rattle.lay_box_parts.proofs.inline_part.put_last_parts.Given as goal
-
-abbrev pub invariant-loop-k : goal.invariant-loop-k
-invariant-loop-k l = PartsTo l.boxes l.parts l.k

@@ -1,3 +1,0 @@
-pub mod InlineParts
-pub mod LatestParts
-pub mod Laws

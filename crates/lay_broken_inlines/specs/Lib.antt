@@ -1,3 +1,0 @@
-pub mod FormerParents
-pub mod OpenParts
-pub mod SubtreeEnds

@@ -1,3 +1,0 @@
-pub mod Containing
-pub mod ContainingBlocks
-pub mod ContextBoxes

@@ -1,3 +1,0 @@
-pub mod ContextTree
-pub mod OwnNodes
-pub mod DocumentContexts

@@ -1,6 +1,0 @@
-use Rattle.lay_formatting.specs.Listed.{AreListedTo}
-use Rattle.lay_formatting.specs.Partings.{homes_of}
-use Rattle.lay_formatting.proofs.formatting_context_list.list_context.Given as goal
-
-abbrev pub invariant-loop-r : goal.invariant-loop-r
-invariant-loop-r l = AreListedTo l.contexts (homes_of l.partings) l.items.items l.i l.r

@@ -1,5 +1,0 @@
-use Rattle.lay_formatting.proofs.NearestRoots.{HomesTo}
-use Rattle.lay_formatting.proofs.homes.homes.Given as goal
-
-abbrev pub invariant-loop-k : goal.invariant-loop-k
-invariant-loop-k l = HomesTo l.boxes l.homes.items l.k

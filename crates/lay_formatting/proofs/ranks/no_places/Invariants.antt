@@ -1,5 +1,0 @@
-use Rattle.std.proofs.Common.{◌≡◌, ℕ, [], length, slice_index_or}
-use Rattle.lay_formatting.proofs.ranks.no_places.Given as goal
-
-abbrev pub invariant-loop : goal.invariant-loop
-invariant-loop l = (length l.lists.items ≡ l.counter) × ((k : ℕ) → slice_index_or l.lists.items k [] ≡ [])

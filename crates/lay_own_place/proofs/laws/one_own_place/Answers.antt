@@ -1,5 +1,0 @@
-use Rattle.lay_own_place.proofs.OnePlace.{one_own_place_lem}
-use Rattle.lay_own_place.proofs.laws.one_own_place.Goals as goal
-
-pub returns : goal.returns
-returns c = one_own_place_lem

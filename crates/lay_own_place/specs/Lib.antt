@@ -1,4 +1,0 @@
-pub mod Laws
-pub mod OneProof
-pub mod OwnOffsets
-pub mod StandInputs

@@ -1,0 +1,13 @@
+//! Laws of the definition. The functions do nothing.
+
+ghost use Rattle.lay_table_borders.specs.GridLaws.{GridsAreOfBoxes, OneTableGrid};
+
+/// A list of boxes has one structure as a table.
+pub fn one_table_grid()
+    ensures { OneTableGrid }
+{}
+
+/// The places in the structure of a table are places of its boxes.
+pub fn grids_are_of_boxes()
+    ensures { GridsAreOfBoxes }
+{}

@@ -1,3 +1,0 @@
-pub mod TableGrid
-pub mod GridBounds
-pub mod Laws
