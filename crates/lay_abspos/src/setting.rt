@@ -7,7 +7,7 @@ use lay_sizes::ContainingBlock;
 use lay_units::{Len, Rect, Unit};
 
 /// What an absolutely positioned box is given from outside (CSS 2.2, 10.1 and 10.3.7), in 1/64 px.
-#[derive(Clone, Copy)]
+#[derive(Clone, Copy, PartialEq, Eq)]
 pub struct AbsoluteSetting {
     /// Its containing block, counted as where its anchor stands in the formatting context around it.
     pub rect: Rect,

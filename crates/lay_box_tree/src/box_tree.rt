@@ -35,7 +35,7 @@ pub enum BoxKind {
 }
 
 /// Whether a box is in flow (CSS 2.2, 9.3).
-#[derive(Clone, Copy)]
+#[derive(Clone, Copy, PartialEq, Eq)]
 pub enum Flow {
     InFlow,
     Floating,

@@ -9,7 +9,7 @@ use lay_units::{NoMemory, Unit};
 const FAR: i64 = 1152921504606846976;
 
 /// The top left corner of a border box, in 1/64 px.
-#[derive(Clone, Copy)]
+#[derive(Clone, Copy, PartialEq, Eq)]
 pub struct Corner {
     pub x: Unit,
     pub y: Unit,

@@ -4,7 +4,7 @@ use crate::Corner;
 use lay_units::Unit;
 
 /// Where a box stands, counted from the corner of the border box of its formatting context, in 1/64 px.
-#[derive(Clone, Copy)]
+#[derive(Clone, Copy, PartialEq, Eq)]
 pub struct Standing {
     /// The top left corner of its border box.
     pub corner: Corner,

@@ -15,7 +15,7 @@ use lay_units::{Unit, clamp_size};
 use lay_widths::{ReplacedIn, ReplacedSize, replaced_size};
 
 /// The natural size of a replaced element, in 1/64 px. A length below 1 counts as 1.
-#[derive(Clone, Copy)]
+#[derive(Clone, Copy, PartialEq, Eq)]
 pub struct NaturalSize {
     pub width: Unit,
     pub height: Unit,

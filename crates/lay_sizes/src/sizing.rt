@@ -18,7 +18,7 @@ use lay_units::{BlockIn, Len, Sides, Unit, clamp};
 use lay_widths::{BlockOut, solve_block, solve_float};
 
 /// A containing block (CSS 2.2, 10.1), in 1/64 px. Its height is auto where it depends on what is in it.
-#[derive(Clone, Copy)]
+#[derive(Clone, Copy, PartialEq, Eq)]
 pub struct ContainingBlock {
     pub width: Unit,
     pub height: Len,

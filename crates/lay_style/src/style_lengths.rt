@@ -11,14 +11,14 @@ pub enum LengthPercentageOrAuto {
 }
 
 /// A length, or a percentage of the containing block.
-#[derive(Clone, Copy, Debug)]
+#[derive(Clone, Copy, Debug, PartialEq, Eq)]
 pub enum LengthPercentage {
     Length(Unit),
     Percent(Percent),
 }
 
 /// A greatest size: `none`, a length, or a percentage of the containing block.
-#[derive(Clone, Copy, Debug)]
+#[derive(Clone, Copy, Debug, PartialEq, Eq)]
 pub enum LengthPercentageOrNone {
     None,
     Length(Unit),
@@ -26,7 +26,7 @@ pub enum LengthPercentageOrNone {
 }
 
 /// `line-height` (CSS 2.2, 10.8.1). A number, in thousandths, is inherited as that number.
-#[derive(Clone, Copy, Debug)]
+#[derive(Clone, Copy, Debug, PartialEq, Eq)]
 pub enum LineHeight {
     Normal,
     Number(i64),
@@ -34,7 +34,7 @@ pub enum LineHeight {
 }
 
 /// `vertical-align` (10.8.1). A percentage is one of the box's own line height.
-#[derive(Clone, Copy, Debug)]
+#[derive(Clone, Copy, Debug, PartialEq, Eq)]
 pub enum VerticalAlign {
     Baseline,
     Sub,
@@ -49,14 +49,14 @@ pub enum VerticalAlign {
 }
 
 /// `z-index` (9.9.1), a whole number in thousandths.
-#[derive(Clone, Copy, Debug)]
+#[derive(Clone, Copy, Debug, PartialEq, Eq)]
 pub enum ZIndex {
     Auto,
     Number(i64),
 }
 
 /// `border-spacing` (17.6.1), from 0.
-#[derive(Clone, Copy, Debug)]
+#[derive(Clone, Copy, Debug, PartialEq, Eq)]
 pub struct BorderSpacing {
     pub horizontal: Unit,
     pub vertical: Unit,

@@ -1,7 +1,7 @@
 //! Keywords as computed values, an enum for each property that has keywords alone.
 
 /// `display` (CSS 2.2, 9.2.4).
-#[derive(Clone, Copy, Debug)]
+#[derive(Clone, Copy, Debug, PartialEq, Eq)]
 pub enum Display {
     Inline,
     Block,
@@ -21,7 +21,7 @@ pub enum Display {
 }
 
 /// `position` (9.3.1).
-#[derive(Clone, Copy, Debug)]
+#[derive(Clone, Copy, Debug, PartialEq, Eq)]
 pub enum Position {
     Static,
     Relative,
@@ -30,7 +30,7 @@ pub enum Position {
 }
 
 /// `float` (9.5.1).
-#[derive(Clone, Copy, Debug)]
+#[derive(Clone, Copy, Debug, PartialEq, Eq)]
 pub enum Float {
     None,
     Left,
@@ -38,7 +38,7 @@ pub enum Float {
 }
 
 /// `clear` (9.5.2).
-#[derive(Clone, Copy, Debug)]
+#[derive(Clone, Copy, Debug, PartialEq, Eq)]
 pub enum Clear {
     None,
     Left,
@@ -47,7 +47,7 @@ pub enum Clear {
 }
 
 /// The style of a border (8.5.3).
-#[derive(Clone, Copy, Debug)]
+#[derive(Clone, Copy, Debug, PartialEq, Eq)]
 pub enum BorderStyle {
     None,
     Hidden,
@@ -62,7 +62,7 @@ pub enum BorderStyle {
 }
 
 /// `overflow` (11.1.1).
-#[derive(Clone, Copy, Debug)]
+#[derive(Clone, Copy, Debug, PartialEq, Eq)]
 pub enum Overflow {
     Visible,
     Hidden,
@@ -71,7 +71,7 @@ pub enum Overflow {
 }
 
 /// `visibility` (11.2), which has no effect on layout.
-#[derive(Clone, Copy, Debug)]
+#[derive(Clone, Copy, Debug, PartialEq, Eq)]
 pub enum Visibility {
     Visible,
     Hidden,
@@ -79,7 +79,7 @@ pub enum Visibility {
 }
 
 /// `text-align` (16.2).
-#[derive(Clone, Copy, Debug)]
+#[derive(Clone, Copy, Debug, PartialEq, Eq)]
 pub enum TextAlign {
     Left,
     Right,
@@ -88,7 +88,7 @@ pub enum TextAlign {
 }
 
 /// `white-space` (16.6).
-#[derive(Clone, Copy, Debug)]
+#[derive(Clone, Copy, Debug, PartialEq, Eq)]
 pub enum WhiteSpace {
     Normal,
     Pre,
@@ -98,28 +98,28 @@ pub enum WhiteSpace {
 }
 
 /// `table-layout` (17.5.2).
-#[derive(Clone, Copy, Debug)]
+#[derive(Clone, Copy, Debug, PartialEq, Eq)]
 pub enum TableLayout {
     Auto,
     Fixed,
 }
 
 /// `border-collapse` (17.6).
-#[derive(Clone, Copy, Debug)]
+#[derive(Clone, Copy, Debug, PartialEq, Eq)]
 pub enum BorderCollapse {
     Separate,
     Collapse,
 }
 
 /// `caption-side` (17.4.1).
-#[derive(Clone, Copy, Debug)]
+#[derive(Clone, Copy, Debug, PartialEq, Eq)]
 pub enum CaptionSide {
     Top,
     Bottom,
 }
 
 /// `empty-cells` (17.6.1.1), which has no effect on layout.
-#[derive(Clone, Copy, Debug)]
+#[derive(Clone, Copy, Debug, PartialEq, Eq)]
 pub enum EmptyCells {
     Show,
     Hide,
