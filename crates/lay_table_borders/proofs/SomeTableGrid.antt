@@ -277,7 +277,7 @@ collapsed_exists : (p : TableParts) → ArePartsOf p.boxes p → All (CoversRows
     → (grid : TableGridValue) × IsTableGrid p.boxes grid
 collapsed_exists p parts cover collapse =
     let cells = some_cells (IsCollapsed p) (length p.rows) p.cells cover
-        (λ cell at. some_cell_borders p (area_of (cell_of cell no_edges)) (let r = at.some_rows in omega (arith, r)) (let c = at.some_columns in omega (arith, c))) in
+    (λ cell at. some_cell_borders p (area_of (cell_of cell no_edges)) (let r = at.some_rows in omega (arith, r)) (let c = at.some_columns in omega (arith, c))) in
     let borders = some_table_borders p in
     let spacing = spacing_in (slice_get p.boxes p.table) in
     (grid_of p cells.0 spacing true borders.0, collapsed_is_grid p cells.0 spacing borders.0 parts collapse cells.1 refl cells.2 borders.1)
@@ -287,8 +287,7 @@ separate_exists : (p : TableParts) → ArePartsOf p.boxes p → All (CoversRows 
 separate_exists p parts cover separate =
     let cells = some_cells (IsSeparate p.boxes) (length p.rows) p.cells cover (λ cell at. (own_borders (slice_get p.boxes cell.place), refl)) in
     let spacing = spacing_in (slice_get p.boxes p.table) in
-    let borders = own_borders (slice_get p.boxes p.table) in
-    (
+    let borders = own_borders (slice_get p.boxes p.table) in (
       grid_of p cells.0 spacing false borders,
       record {
         table = parts.table;

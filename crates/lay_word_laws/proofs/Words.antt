@@ -97,7 +97,7 @@ gathered_goes {P = P} step text wide by_width p before (w ∷ ws) stand held =
         let whole = joined text v.place w.place to low high within stand.0 o.1 plain in
         ih p (Some (with_cluster (Some v) w)) (omega (arith, low, high), whole)
         ∙ ap (λ (q : P). go step text q ws)
-            (sym (by_width.plain (wide p v.width.0) w to plain ∙ by_width.adds p v.width.0 w.width.0))
+        (sym (by_width.plain (wide p v.width.0) w to plain ∙ by_width.adds p v.width.0 w.width.0))
     by None o false false e f ih = absurd (cc (f))
     by (Some v) o false false e f ih =
         let plain = plain_alone text w.place to e in
