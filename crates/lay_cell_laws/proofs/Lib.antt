@@ -1,0 +1,9 @@
+pub mod EndToEnd
+pub mod Masks
+pub mod RootsOfContexts
+pub mod MaskedColumns
+pub mod RootForms
+pub mod InputForms
+pub mod WholeInputs
+pub mod CleanCells
+pub mod OneCell

@@ -1,0 +1,101 @@
+-- Contexts of two documents that are the same for the task of a cell. What a cell is given comes of its context itself and of what the cells
+-- keep that it depends on: for preferred widths of the contexts inside (CSS 2.2, 10.3.5), for sizes of the one around (10.1), and for
+-- places of the contexts inside again. Contexts are known by numbers in each document, and an edit moves these: so none is in what is said
+-- here to be the same.
+use Rattle.std.specs.Prelude.{ℕ, ◌≡◌, ◌<◌, ◌↔◌, true, false, List, length, slice_index}
+use Rattle.lay_style.specs.declared.style.Style.{Style}
+use Rattle.lay_doc.specs.Document.{Document, IsDocument}
+use Rattle.lay_anonymous_boxes.specs.Forms.{is_absolute}
+use Rattle.lay_contexts.specs.Contexts.{Context, boxes_in, context_at}
+use Rattle.lay_contexts.specs.ContextList.{AreContextsOf}
+use Rattle.lay_contexts.specs.FlowLaws.{flow_at, is_anchor_at}
+use Rattle.lay_contexts.specs.FormattingContexts.{FormattingContext}
+use Rattle.lay_contexts.specs.FormattingContextList.{AreFormattingContextsOf, first_number}
+use Rattle.lay_context.specs.declared.task.Phase.{Phase}
+use Rattle.lay_context.specs.declared.task.Phase.TheVariants as phase
+use Rattle.lay_context.specs.Measured.{is_measured}
+use Rattle.lay_context.specs.Medium.{Medium}
+use Rattle.lay_context.specs.Workings.{Workings}
+use Rattle.lay_cell_work.specs.CellInputs.{CellInput}
+use Rattle.lay_cell_work.specs.CellValues.{CellValue}
+use Rattle.lay_cell_work.specs.KeptValues.{workings_of}
+use Rattle.lay_cell_work.specs.PresentInputs.{present_input}
+
+-- contexts with their formatting contexts, and what the cell of each keeps for a phase
+pub record Table : Type 0 where
+  pub contexts : List Context
+  pub formatting_contexts : List FormattingContext
+  pub kept : ℕ → Phase → CellValue
+
+abbrev pub workings_in : Table → Workings
+workings_in t = workings_of t.contexts t.kept
+
+-- what a cell is given there
+abbrev pub input_in : Medium → Table → (c : ℕ) → Phase → CellInput
+input_in medium t c phase = present_input medium t.contexts t.formatting_contexts (workings_in t) c phase
+
+-- they are those of a document
+pub record IsTable (t : Table) : Type 0 where
+  pub document : Document
+  pub styles : List Style
+  pub is_document : IsDocument document
+  pub counted : length styles ≡ length document.nodes
+  pub are_contexts : AreContextsOf document.nodes styles t.contexts
+  pub are_formatting_contexts : AreFormattingContextsOf t.contexts t.formatting_contexts
+
+-- the context c of one has the boxes of the context e of another; both are their document's first one, or neither is
+pub record IsSameContext (a b : Table) (c e : ℕ) : Type 0 where
+  pub within : c < length a.contexts
+  pub there : e < length b.contexts
+  pub root : (c ≡ 0) ↔ (e ≡ 0)
+  pub boxes : boxes_in a.contexts c ≡ boxes_in b.contexts e
+
+-- the number of the context inside whose box the one at k is, and 0 where it is none's
+abbrev pub inner_at : Table → (c k : ℕ) → ℕ
+inner_at t c k = slice_index (context_at t.contexts c).inner k
+
+-- At the same boxes are contexts inside, and the cells of those in flow or floating keep the same for a phase. What an anchor stands for
+-- gives nothing.
+pub record AreSameInside (a b : Table) (c e : ℕ) (phase : Phase) : Type 0 where
+  pub some : (k : ℕ) → k < length (boxes_in a.contexts c) → (inner_at a c k ≡ 0) ↔ (inner_at b e k ≡ 0)
+  pub values : (k : ℕ) → k < length (boxes_in a.contexts c) → 0 < inner_at a c k → is_anchor_at (boxes_in a.contexts c) k ≡ false
+      → a.kept (inner_at a c k) phase ≡ b.kept (inner_at b e k) phase
+
+-- to be measured
+pub record IsSameToMeasure (a b : Table) (c e : ℕ) : Type 0 where
+  pub own : IsSameContext a b c e
+  pub measured : is_measured a.formatting_contexts (first_number a.contexts c) ≡ is_measured b.formatting_contexts (first_number b.contexts e)
+  pub inside : AreSameInside a b c e phase.Measure
+
+-- the box of a context stands at the same place in the one around it, whose boxes and kept sizes are the same
+pub record IsSameAround (a b : Table) (c e : ℕ) : Type 0 where
+  pub around : IsSameContext a b (context_at a.contexts c).outer (context_at b.contexts e).outer
+  pub box : (context_at a.contexts c).outer_box ≡ (context_at b.contexts e).outer_box
+  pub sizes : a.kept (context_at a.contexts c).outer phase.Size ≡ b.kept (context_at b.contexts e).outer phase.Size
+
+abbrev pub IsInFlow : Table → ℕ → Type 0
+IsInFlow t c = is_absolute (flow_at (boxes_in t.contexts c) 0) ≡ false
+
+-- to be sized, in flow or floating
+pub record IsSameToSize (a b : Table) (c e : ℕ) : Type 0 where
+  pub own : IsSameContext a b c e
+  pub widths : a.kept c phase.Measure ≡ b.kept e phase.Measure
+  pub in_flow : IsInFlow a c
+  pub around : 0 < c → IsSameAround a b c e
+
+-- to be placed, in flow or floating
+pub record IsSameToPlace (a b : Table) (c e : ℕ) : Type 0 where
+  pub own : IsSameContext a b c e
+  pub sizes : a.kept c phase.Size ≡ b.kept e phase.Size
+  pub in_flow : IsInFlow a c
+  pub inside : AreSameInside a b c e phase.Place
+
+-- Where a context is the same for a task, and what its cell depends on is kept, the cell is given what it was.
+abbrev pub MeasureInputsAreKept : Type 0
+MeasureInputsAreKept = (medium : Medium) (a b : Table) (c e : ℕ) → IsTable a → IsTable b → IsSameToMeasure a b c e → input_in medium a c phase.Measure ≡ input_in medium b e phase.Measure
+
+abbrev pub SizeInputsAreKept : Type 0
+SizeInputsAreKept = (medium : Medium) (a b : Table) (c e : ℕ) → IsTable a → IsTable b → IsSameToSize a b c e → input_in medium a c phase.Size ≡ input_in medium b e phase.Size
+
+abbrev pub PlaceInputsAreKept : Type 0
+PlaceInputsAreKept = (medium : Medium) (a b : Table) (c e : ℕ) → IsTable a → IsTable b → IsSameToPlace a b c e → input_in medium a c phase.Place ≡ input_in medium b e phase.Place
