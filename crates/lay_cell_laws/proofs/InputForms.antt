@@ -176,10 +176,10 @@ module _ (t : Table) (is : IsTable t) where
     ordinal : M - First ≡ roots_before B r
     ordinal = omega arith
 
-    sizes_form : sizes_in W.sizes M ≡ sizes_in (own_sizes (t.kept c phase.Size)) (roots_before B r)
+    pub sizes_form : sizes_in W.sizes M ≡ sizes_in (own_sizes (t.kept c phase.Size)) (roots_before B r)
     sizes_form = sizes_at t.contexts t.kept c M lt root_is_of ∙ ap (sizes_in (own_sizes (t.kept c phase.Size))) ordinal
 
-    own_widths_form : widths_in W.widths M ≡ widths_in (own_widths (t.kept c phase.Measure)) (roots_before B r)
+    pub own_widths_form : widths_in W.widths M ≡ widths_in (own_widths (t.kept c phase.Measure)) (roots_before B r)
     own_widths_form = widths_at t.contexts t.kept c M lt root_is_of ∙ ap (widths_in (own_widths (t.kept c phase.Measure))) ordinal
 
     as_measured : (medium : Medium) (b : Bool) → root_input_as (links_of All First M) (spot_in All First M) (measure_as b (measure_input medium All W M))

@@ -4,6 +4,8 @@ pub mod RootsOfContexts
 pub mod MaskedColumns
 pub mod RootForms
 pub mod InputForms
+pub mod SameRoots
+pub mod SameInputs
 pub mod WholeInputs
 pub mod CleanCells
 pub mod OneCell

@@ -58,10 +58,10 @@ zero_by_flow : (b : Bool) → (if b then 0 else 0) ≡ 0
 zero_by_flow true = refl
 zero_by_flow false = refl
 
-chosen : {X : Type 0} (b : Bool) (x y : X) → b ≡ true → (if b then x else y) ≡ x
+pub chosen : {X : Type 0} (b : Bool) (x y : X) → b ≡ true → (if b then x else y) ≡ x
 chosen b x y e = rw e refl
 
-other : {X : Type 0} (b : Bool) (x y : X) → b ≡ false → (if b then x else y) ≡ y
+pub other : {X : Type 0} (b : Bool) (x y : X) → b ≡ false → (if b then x else y) ≡ y
 other b x y e = rw e refl
 
 both_nothing : {X : Type 0} (b : Bool) (x : X) → (if b then x else x) ≡ x

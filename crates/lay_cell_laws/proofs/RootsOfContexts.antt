@@ -27,7 +27,7 @@ number_is_of contexts c place lt root =
     let low = roots_lt (boxes_in contexts c) place (length (boxes_in contexts c)) root lt in
     record { from = omega arith; until = omega (arith, low) }
 
-spot_inside : (contexts : List Context) (i k : ℕ) → 0 < k → spot_of contexts i k ≡ record { context = i; place = k }
+pub spot_inside : (contexts : List Context) (i k : ℕ) → 0 < k → spot_of contexts i k ≡ record { context = i; place = k }
 spot_inside contexts i zero some = absurd (omega (arith, some))
 spot_inside contexts zero (suc k) some = refl
 spot_inside contexts (suc i) (suc k) some = refl

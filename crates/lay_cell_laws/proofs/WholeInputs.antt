@@ -86,10 +86,10 @@ pieces_some : (all : List FormattingContext) (places : List PlacedContext) (j : 
 pieces_some all places zero some anonymous = absurd (omega (arith, some))
 pieces_some all places (suc j) some anonymous = ap (λ (b : Bool). painted_of b (placement_in places (suc j))) anonymous
 
-setting_by : (b : Bool) (x y : Setting) → b ≡ false → (if b then x else y) ≡ y
+pub setting_by : (b : Bool) (x y : Setting) → b ≡ false → (if b then x else y) ≡ y
 setting_by b x y e = rw e refl
 
-flow_some : (viewport : ContainingBlock) (all : List FormattingContext) (sizes : List SizedContext) (m : ℕ) → 0 < m
+pub flow_some : (viewport : ContainingBlock) (all : List FormattingContext) (sizes : List SizedContext) (m : ℕ) → 0 < m
     → flow_setting viewport all sizes m ≡ setting_in (boxes_in all (formatting_context_at all m).outer) (sizes_in sizes (formatting_context_at all m).outer) (formatting_context_at all m).outer_box
 flow_some viewport all sizes zero some = absurd (omega (arith, some))
 flow_some viewport all sizes (suc m) some = refl
