@@ -5,7 +5,9 @@ pub mod MaskedColumns
 pub mod RootForms
 pub mod InputForms
 pub mod SameRoots
+pub mod InnerContexts
 pub mod SameInputs
 pub mod WholeInputs
 pub mod CleanCells
 pub mod OneCell
+pub mod LeadingInward

@@ -37,6 +37,7 @@ use Rattle.lay_cell_work.specs.CellValues.{CellValue, own_sizes, own_widths, own
 use Rattle.lay_cell_work.specs.PresentInputs.{root_input, spot_in}
 use Rattle.lay_cell_laws.specs.SameContexts.{AreSameInside, IsInFlow, IsSameAround, IsSameContext, IsSameToMeasure, IsSameToPlace, IsSameToSize, IsTable, MeasureInputsAreKept, PlaceInputsAreKept, SizeInputsAreKept, Table, input_in, inner_at, workings_in}
 use Rattle.lay_cell_laws.proofs.InputForms.{measure_cell, measure_form, measured_root_same, own_widths_form, place_cell, place_form, placed_root_same, sized_root_same, sizes_form, table_are, table_calm, table_keeps}
+use Rattle.lay_cell_laws.proofs.InnerContexts.{none_same}
 use Rattle.lay_cell_laws.proofs.RootForms.{boxes_are, given_at, link_at, members, number_within, other, own_absolute, own_is, own_some}
 use Rattle.lay_cell_laws.proofs.RootsOfContexts.{anonymous_flows, anonymous_some}
 use Rattle.lay_cell_laws.proofs.SameRoots.{anonymous_form, boxes_same, column_same, homes_same, inside_same, links_same, measured_same, ordinals_same, root_boxes_same, root_same, roots_same, spot_form, spot_is, spots_same}
@@ -63,8 +64,8 @@ module _ (one_home : OneHome) (where_shrunk : MeasuredWhereShrunk) (medium : Med
       let BB : List BoxNode = boxes_in b.contexts e in
       let IA : List ℕ = (context_at a.contexts c).inner in
       let IB : List ℕ = (context_at b.contexts e).inner in
-      let column = column_same one_home a b is_a is_b c e same no_widths (measure_cell a) (measure_cell b) inside.some
-      (λ k lt some anchor. ap (λ (v : CellValue). widths_in (own_widths v) 0) (inside.values k lt some anchor)) r in
+      let column = column_same one_home a b is_a is_b c e same no_widths (measure_cell a) (measure_cell b) (none_same a b is_a is_b c e same)
+      (λ k lt some anchor. ap (λ (v : CellValue). widths_in (own_widths v) 0) (inside k lt some anchor)) r in
       measure_form a is_a c same.within r within root medium
       ∙ measured_root_same (is_measured a.formatting_contexts (number_of a.contexts c r)) (is_measured b.formatting_contexts (number_of b.contexts e r)) (boxes_of_root BA HA r) (boxes_of_root BB HB r)
       (no_widths ∷ map (given_at no_widths (measure_cell a) BA IA) (members BA HA r)) (no_widths ∷ map (given_at no_widths (measure_cell b) BB IB) (members BB HB r))
@@ -139,10 +140,10 @@ module _ (one_home : OneHome) (where_shrunk : MeasuredWhereShrunk) (medium : Med
     let IB : List ℕ = (context_at b.contexts e).inner in
     let within_b = inside_same one_home a b is_a is_b c e same r within in
     let root_b = root_same one_home a b is_a is_b c e same r root in
-    let boxes_column = column_same one_home a b is_a is_b c e same no_own_box (place_cell a) (place_cell b) inside.some
-    (λ k lt some anchor. ap (λ (v : CellValue). (placed_in (own_places v) 0).placement.own) (inside.values k lt some anchor)) r in
+    let boxes_column = column_same one_home a b is_a is_b c e same no_own_box (place_cell a) (place_cell b) (none_same a b is_a is_b c e same)
+    (λ k lt some anchor. ap (λ (v : CellValue). (placed_in (own_places v) 0).placement.own) (inside k lt some anchor)) r in
     let nothing : ℕ → List Frag = λ p. [] in
-    let pieces_column = column_same one_home a b is_a is_b c e same [] nothing nothing inside.some (λ k lt some anchor. refl) r in
+    let pieces_column = column_same one_home a b is_a is_b c e same [] nothing nothing (none_same a b is_a is_b c e same) (λ k lt some anchor. refl) r in
     let sized : sizes_in (own_sizes (a.kept c phase.Size)) (roots_before BA r) ≡ sizes_in (own_sizes (b.kept e phase.Size)) (roots_before BB r) =
     ap (λ (v : CellValue). sizes_in (own_sizes v) (roots_before BA r)) sizes ∙ ap (sizes_in (own_sizes (b.kept e phase.Size))) (ordinals_same one_home a b is_a is_b c e same r) in
     place_form a is_a c same.within r within root medium

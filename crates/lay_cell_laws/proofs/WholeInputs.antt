@@ -53,12 +53,12 @@ some_is : (x y : ℕ) → Some x ≡ Some y → x ≡ y
 some_is x y e = cc
 
 -- what a link is
-record IsLinked (all : List FormattingContext) (first j r : ℕ) : Type 0 where
-  some : 0 < j
-  anonymous : (formatting_context_at all j).anonymous ≡ true
-  is : r ≡ j - first
+pub record IsLinked (all : List FormattingContext) (first j r : ℕ) : Type 0 where
+  pub some : 0 < j
+  pub anonymous : (formatting_context_at all j).anonymous ≡ true
+  pub is : r ≡ j - first
 
-link_is : (all : List FormattingContext) (first j r : ℕ) → link_to all first j ≡ Some r → IsLinked all first j r
+pub link_is : (all : List FormattingContext) (first j r : ℕ) → link_to all first j ≡ Some r → IsLinked all first j r
 link_is all first zero r e = absurd cc
 link_is all first (suc j) r e = by (formatting_context_at all (suc j)).anonymous refl e
   where
@@ -71,7 +71,7 @@ flow_by : (b : Bool) (x j : ℕ) → (if b then 0 else x) ≡ j → 0 < j → x 
 flow_by true x j e some = absurd (omega (arith, e, some))
 flow_by false x j e some = e
 
-flow_is : (all : List FormattingContext) (x j : ℕ) → flow_number all x ≡ j → 0 < j → x ≡ j
+pub flow_is : (all : List FormattingContext) (x j : ℕ) → flow_number all x ≡ j → 0 < j → x ≡ j
 flow_is all x j e some = flow_by (is_absolute all x) x j e some
 
 pub widths_some : (ws : List PreferredWidths) (j : ℕ) → 0 < j → inner_widths_in ws j ≡ widths_in ws j

@@ -54,12 +54,11 @@ pub record IsSameContext (a b : Table) (c e : ℕ) : Type 0 where
 abbrev pub inner_at : Table → (c k : ℕ) → ℕ
 inner_at t c k = slice_index (context_at t.contexts c).inner k
 
--- At the same boxes are contexts inside, and the cells of those in flow or floating keep the same for a phase. What an anchor stands for
--- gives nothing.
-pub record AreSameInside (a b : Table) (c e : ℕ) (phase : Phase) : Type 0 where
-  pub some : (k : ℕ) → k < length (boxes_in a.contexts c) → (inner_at a c k ≡ 0) ↔ (inner_at b e k ≡ 0)
-  pub values : (k : ℕ) → k < length (boxes_in a.contexts c) → 0 < inner_at a c k → is_anchor_at (boxes_in a.contexts c) k ≡ false
-      → a.kept (inner_at a c k) phase ≡ b.kept (inner_at b e k) phase
+-- The cells of the contexts inside that are in flow or float keep the same for a phase, box by box. What an anchor stands for gives
+-- nothing (9.6).
+abbrev pub AreSameInside : (a b : Table) (c e : ℕ) → Phase → Type 0
+AreSameInside a b c e phase = (k : ℕ) → k < length (boxes_in a.contexts c) → 0 < inner_at a c k → is_anchor_at (boxes_in a.contexts c) k ≡ false
+    → a.kept (inner_at a c k) phase ≡ b.kept (inner_at b e k) phase
 
 -- to be measured
 pub record IsSameToMeasure (a b : Table) (c e : ℕ) : Type 0 where
