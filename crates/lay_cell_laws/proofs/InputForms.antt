@@ -179,6 +179,9 @@ module _ (t : Table) (is : IsTable t) where
     pub sizes_form : sizes_in W.sizes M ≡ sizes_in (own_sizes (t.kept c phase.Size)) (roots_before B r)
     sizes_form = sizes_at t.contexts t.kept c M lt root_is_of ∙ ap (sizes_in (own_sizes (t.kept c phase.Size))) ordinal
 
+    pub placed_form : placed_in W.places M ≡ placed_in (own_places (t.kept c phase.Place)) (roots_before B r)
+    placed_form = placed_at t.contexts t.kept c M lt root_is_of ∙ ap (placed_in (own_places (t.kept c phase.Place))) ordinal
+
     pub own_widths_form : widths_in W.widths M ≡ widths_in (own_widths (t.kept c phase.Measure)) (roots_before B r)
     own_widths_form = widths_at t.contexts t.kept c M lt root_is_of ∙ ap (widths_in (own_widths (t.kept c phase.Measure))) ordinal
 

@@ -101,8 +101,8 @@ module _ (medium : Medium) (contexts : List Context) (all : List FormattingConte
       omega (arith, behind, ordinal)
 
   later_root : (r : ℕ) → (formatting_context_at all (First + 0)).anonymous ≡ false → (formatting_context_at all (First + r)).anonymous ≡ true → 0 < r
-  later_root zero no yes = absurd (let never : false ≡ true = sym no ∙ yes in cc)
-  later_root (suc r) no yes = omega arith
+  later_root zero plain anonymous = absurd (let never : false ≡ true = sym plain ∙ anonymous in cc)
+  later_root (suc r) plain anonymous = omega arith
 
   around_before : (r : ℕ) (x : RootInput) (spot : RootSpot) → slice_get Roots r ≡ Some x → x.around ≡ Some spot → spot.root < r
   around_before r x spot e there =

@@ -7,6 +7,10 @@ pub mod InputForms
 pub mod SameRoots
 pub mod InnerContexts
 pub mod SameInputs
+pub mod CarriedRects
+pub mod HoldersAtHome
+pub mod SameWays
+pub mod KeptInputs
 pub mod WholeInputs
 pub mod CleanCells
 pub mod OneCell

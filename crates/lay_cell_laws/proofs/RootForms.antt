@@ -40,8 +40,7 @@ abbrev pub members : List BoxNode → List ℕ → ℕ → List ℕ
 members boxes homes r = at_home_before homes r (length boxes)
 
 positive : (k : ℕ) → 0 < k → nat_lt 0 k ≡ true
-positive zero some = absurd (omega (arith, some))
-positive (suc k) some = refl
+positive k some = grind (arith, some)
 
 same_absolute : (f : Flow) → is_absolute_flow f ≡ forms.is_absolute f
 same_absolute InFlow = refl
@@ -54,9 +53,9 @@ number_by_flow b j e = rw e refl
 no_number_by_flow : (b : Bool) (j : ℕ) → b ≡ true → (if b then 0 else j) ≡ 0
 no_number_by_flow b j e = rw e refl
 
-zero_by_flow : (b : Bool) → (if b then 0 else 0) ≡ 0
-zero_by_flow true = refl
-zero_by_flow false = refl
+zero_by_flow : (b : Bool) (n : ℕ) → n ≡ 0 → (if b then 0 else n) ≡ n
+zero_by_flow true n e = sym e
+zero_by_flow false n e = refl
 
 pub chosen : {X : Type 0} (b : Bool) (x y : X) → b ≡ true → (if b then x else y) ≡ x
 chosen b x y e = rw e refl
@@ -180,28 +179,28 @@ module _ (contexts : List Context) (all : List FormattingContext) (are : AreCont
 
     -- nothing is given for the number 0
     at_nothing : (k : ℕ) → is_root B k ≡ false → flow_number all (inner_number contexts c k) ≡ 0 → (if is_anchor_at B k then nothing else cell_or nothing cell (slice_index Inner k)) ≡ nothing → IsForm k
-    at_nothing k no zeroed form = record {
-      link = ap (link_to all First) zeroed ∙ sym (other (is_root B k) (Some (roots_before B k)) None no);
-      given = ap (λ (i : ℕ). Entry i) zeroed ∙ none ∙ sym form ∙ sym (other (is_root B k) nothing (if is_anchor_at B k then nothing else cell_or nothing cell (slice_index Inner k)) no);
+    at_nothing k plain zeroed form = record {
+      link = ap (link_to all First) zeroed ∙ sym (other (is_root B k) (Some (roots_before B k)) None plain);
+      given = ap (λ (i : ℕ). Entry i) zeroed ∙ none ∙ sym form ∙ sym (other (is_root B k) nothing (if is_anchor_at B k then nothing else cell_or nothing cell (slice_index Inner k)) plain);
     }
 
     at_inner : (k p : ℕ) (b : Bool) → k < length B → is_root B k ≡ false → slice_index Inner k ≡ p → 0 < p → is_anchor_at B k ≡ b → IsForm k
-    at_inner k p true inside no is some anchor =
+    at_inner k p true inside plain is some anchor =
         let a = inner_absolute c k p lt inside is some in
-        at_nothing k no
-        (ap (flow_number all) (number_other c k no ∙ ap (first_number contexts) is) ∙ no_number_by_flow (is_absolute all (first_number contexts p)) (first_number contexts p) (a.1 ∙ anchor))
+        at_nothing k plain
+        (ap (flow_number all) (number_other c k plain ∙ ap (first_number contexts) is) ∙ no_number_by_flow (is_absolute all (first_number contexts p)) (first_number contexts p) (a.1 ∙ anchor))
         (chosen (is_anchor_at B k) nothing (cell_or nothing cell (slice_index Inner k)) anchor)
-    at_inner k p false inside no is some anchor =
+    at_inner k p false inside plain is some anchor =
         let a = inner_absolute c k p lt inside is some in
         let j : ℕ = first_number contexts p in
         let number : flow_number all (inner_number contexts c k) ≡ j =
-        ap (flow_number all) (number_other c k no ∙ ap (first_number contexts) is) ∙ number_by_flow (is_absolute all j) j (a.1 ∙ anchor) in
+        ap (flow_number all) (number_other c k plain ∙ ap (first_number contexts) is) ∙ number_by_flow (is_absolute all j) j (a.1 ∙ anchor) in
         let link : link_to all First j ≡ None = link_none all First j (own_anonymous p a.0) in
         record {
-          link = ap (link_to all First) number ∙ link ∙ sym (other (is_root B k) (Some (roots_before B k)) None no);
+          link = ap (link_to all First) number ∙ link ∙ sym (other (is_root B k) (Some (roots_before B k)) None plain);
           given = ap (λ (i : ℕ). Entry i) number ∙ entry_by j None link ∙ gives p some a.0 ∙ sym (cell_some p some) ∙ ap (cell_or nothing cell) (sym is)
               ∙ sym (other (is_anchor_at B k) nothing (cell_or nothing cell (slice_index Inner k)) anchor)
-              ∙ sym (other (is_root B k) nothing (if is_anchor_at B k then nothing else cell_or nothing cell (slice_index Inner k)) no);
+              ∙ sym (other (is_root B k) nothing (if is_anchor_at B k then nothing else cell_or nothing cell (slice_index Inner k)) plain);
         }
       where
         cell_some : (p : ℕ) → 0 < p → cell_or nothing cell p ≡ cell p
@@ -209,10 +208,10 @@ module _ (contexts : List Context) (all : List FormattingContext) (are : AreCont
         cell_some (suc p) some = refl
 
     at_other : (k p : ℕ) → k < length B → is_root B k ≡ false → slice_index Inner k ≡ p → IsForm k
-    at_other k zero inside no is =
-        at_nothing k no (ap (flow_number all) (number_other c k no ∙ ap (first_number contexts) is) ∙ zero_by_flow (is_absolute all 0))
+    at_other k zero inside plain is =
+        at_nothing k plain (ap (flow_number all) (number_other c k plain ∙ ap (first_number contexts) is) ∙ zero_by_flow (is_absolute all 0) 0 refl)
         (ap (λ (p : ℕ). if is_anchor_at B k then nothing else cell_or nothing cell p) is ∙ both_nothing (is_anchor_at B k) nothing)
-    at_other k (suc p) inside no is = at_inner k (suc p) (is_anchor_at B k) inside no is (omega arith) refl
+    at_other k (suc p) inside plain is = at_inner k (suc p) (is_anchor_at B k) inside plain is (omega arith) refl
 
     form_by : (k : ℕ) (b : Bool) → 0 < k → k < length B → is_root B k ≡ b → IsForm k
     form_by k true some inside e = at_root k some inside e
@@ -237,7 +236,7 @@ module _ (contexts : List Context) (all : List FormattingContext) (are : AreCont
       -- the links of a root
       pub links_are : links_of all First M ≡ links_or_none (None ∷ map (link_at B) Members)
       links_are =
-          let first : link_to all First (flow_number all 0) ≡ None = ap (link_to all First) (zero_by_flow (is_absolute all 0)) in
+          let first : link_to all First (flow_number all 0) ≡ None = ap (link_to all First) (zero_by_flow (is_absolute all 0) 0 refl) in
           let rest : map (link_to all First) (map (flow_number all) (map (inner_number contexts c) Members)) ≡ map (link_at B) Members =
           column_is (link_to all First) (flow_number all) (inner_number contexts c) (link_at B) Members (λ a within. (form a within).link) in
           ap (λ (ns : List ℕ). links_or_none (map (link_to all First) ns)) numbers_are
@@ -247,7 +246,7 @@ module _ (contexts : List Context) (all : List FormattingContext) (are : AreCont
       -- the column of what it is given from outside
       pub masked_are : masked nothing (links_of all First M) (map value (flow_numbers all M)) ≡ nothing ∷ map (given_at nothing cell B Inner) Members
       masked_are =
-          let first : Entry (flow_number all 0) ≡ nothing = ap (λ (i : ℕ). Entry i) (zero_by_flow (is_absolute all 0)) ∙ none in
+          let first : Entry (flow_number all 0) ≡ nothing = ap (λ (i : ℕ). Entry i) (zero_by_flow (is_absolute all 0) 0 refl) ∙ none in
           let rest : map Entry (map (flow_number all) (map (inner_number contexts c) Members)) ≡ map (given_at nothing cell B Inner) Members =
           column_is (λ i. Entry i) (flow_number all) (inner_number contexts c) (given_at nothing cell B Inner) Members (λ a within. (form a within).given) in
           masked_is nothing (link_to all First) value (flow_numbers all M)

@@ -36,7 +36,7 @@ some_place : (place : ℕ) → nat_lt 0 place ≡ true → 0 < place
 some_place zero e = absurd cc
 some_place (suc k) e = omega arith
 
-flow_of : (boxes : List BoxNode) (k : ℕ) → flow_at boxes k ≡ (box_at boxes k).flow
+pub flow_of : (boxes : List BoxNode) (k : ℕ) → flow_at boxes k ≡ (box_at boxes k).flow
 flow_of [] k = refl
 flow_of (b ∷ bs) zero = refl
 flow_of (b ∷ bs) (suc k) = flow_of bs k

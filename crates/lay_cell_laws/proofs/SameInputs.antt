@@ -35,7 +35,7 @@ use Rattle.lay_cell_work.specs.CellColumns.{links_or_none}
 use Rattle.lay_cell_work.specs.CellLocal.{masked_setting}
 use Rattle.lay_cell_work.specs.CellValues.{CellValue, own_sizes, own_widths, own_places}
 use Rattle.lay_cell_work.specs.PresentInputs.{root_input, spot_in}
-use Rattle.lay_cell_laws.specs.SameContexts.{AreSameInside, IsInFlow, IsSameAround, IsSameContext, IsSameToMeasure, IsSameToPlace, IsSameToSize, IsTable, MeasureInputsAreKept, PlaceInputsAreKept, SizeInputsAreKept, Table, input_in, inner_at, workings_in}
+use Rattle.lay_cell_laws.specs.SameContexts.{AreSameInside, IsSameAround, IsSameContext, IsSameToMeasure, IsTable, MeasureInputsAreKept, Table, input_in, inner_at, is_out_of_flow, workings_in}
 use Rattle.lay_cell_laws.proofs.InputForms.{measure_cell, measure_form, measured_root_same, own_widths_form, place_cell, place_form, placed_root_same, sized_root_same, sizes_form, table_are, table_calm, table_keeps}
 use Rattle.lay_cell_laws.proofs.InnerContexts.{none_same}
 use Rattle.lay_cell_laws.proofs.RootForms.{boxes_are, given_at, link_at, members, number_within, other, own_absolute, own_is, own_some}
@@ -48,7 +48,7 @@ inner_place_of viewport zero some = absurd (omega (arith, some))
 inner_place_of viewport (suc m) some = refl
 
 -- where the box of a context stands that isn't the root's
-spot_around : (t : Table) (c : ℕ) → 0 < c → spot_of t.contexts c 0 ≡ record { context = (context_at t.contexts c).outer; place = (context_at t.contexts c).outer_box }
+pub spot_around : (t : Table) (c : ℕ) → 0 < c → spot_of t.contexts c 0 ≡ record { context = (context_at t.contexts c).outer; place = (context_at t.contexts c).outer_box }
 spot_around t zero some = absurd (omega (arith, some))
 spot_around t (suc c) some = refl
 
@@ -81,7 +81,7 @@ module _ (one_home : OneHome) (where_shrunk : MeasuredWhereShrunk) (medium : Med
     setting_by_spot (suc r) x y s t p q first = rw (p, q) refl
 
     -- sizes, where the own box is in the same setting
-    size_kept : a.kept c phase.Measure ≡ b.kept e phase.Measure
+    pub size_kept : a.kept c phase.Measure ≡ b.kept e phase.Measure
         → setting_of medium.viewport a.formatting_contexts (workings_in a) (number_of a.contexts c 0) ≡ setting_of medium.viewport b.formatting_contexts (workings_in b) (number_of b.contexts e 0)
         → input_in medium a c phase.Size ≡ input_in medium b e phase.Size
     size_kept widths setting = roots_same one_home a b is_a is_b c e same medium phase.Size (λ r within root.
@@ -126,7 +126,7 @@ module _ (one_home : OneHome) (where_shrunk : MeasuredWhereShrunk) (medium : Med
         ∙ sym (place_of_anonymous b is_b e r same.there (inside_same one_home a b is_a is_b c e same (suc r) within) (root_same one_home a b is_a is_b c e same (suc r) root))
 
     -- places, where the own box has the same place
-    place_kept : a.kept c phase.Size ≡ b.kept e phase.Size → AreSameInside a b c e phase.Place
+    pub place_kept : a.kept c phase.Size ≡ b.kept e phase.Size → AreSameInside a b c e phase.Place
         → own_place_of medium.viewport a.formatting_contexts (workings_in a) (number_of a.contexts c 0) ≡ own_place_of medium.viewport b.formatting_contexts (workings_in b) (number_of b.contexts e 0)
         → input_in medium a c phase.Place ≡ input_in medium b e phase.Place
     place_kept sizes inside position = roots_same one_home a b is_a is_b c e same medium phase.Place (λ r within root.
@@ -157,14 +157,14 @@ module _ (one_home : OneHome) (where_shrunk : MeasuredWhereShrunk) (medium : Med
     ∙ sym (place_form b is_b e same.there r within_b root_b medium)))
 
 -- one in flow or floating
-module _ (medium : Medium) (t : Table) (is : IsTable t) (c : ℕ) (lt : c < length t.contexts) (in_flow : IsInFlow t c) where
+module _ (medium : Medium) (t : Table) (is : IsTable t) (c : ℕ) (lt : c < length t.contexts) (in_flow : is_out_of_flow t c ≡ false) where
   no_absolute : is_absolute t.formatting_contexts (first_number t.contexts c) ≡ false
   no_absolute = own_absolute t.contexts t.formatting_contexts (table_are t is) is.are_formatting_contexts (table_calm t is) (table_keeps t is) c lt ∙ in_flow
 
-  first_is : number_of t.contexts c 0 ≡ first_number t.contexts c
+  pub first_is : number_of t.contexts c 0 ≡ first_number t.contexts c
   first_is = omega arith
 
-  flow_place_is : own_place_of medium.viewport t.formatting_contexts (workings_in t) (number_of t.contexts c 0) ≡ flow_place medium.viewport (first_number t.contexts c)
+  pub flow_place_is : own_place_of medium.viewport t.formatting_contexts (workings_in t) (number_of t.contexts c 0) ≡ flow_place medium.viewport (first_number t.contexts c)
   flow_place_is =
       ap (own_place_of medium.viewport t.formatting_contexts (workings_in t)) first_is
       ∙ other (is_absolute t.formatting_contexts (first_number t.contexts c)) (own_place.Absolute (absolute_setting medium.viewport t.formatting_contexts (laid (workings_in t)) (first_number t.contexts c)))
@@ -208,7 +208,7 @@ module _ (medium : Medium) (t : Table) (is : IsTable t) (c : ℕ) (lt : c < leng
       ∙ ap (λ (o : ℕ). setting_in (boxes_of_root B H h) (sizes_in (own_sizes (t.kept p phase.Size)) (roots_before B h)) o) outer_box
 
 module _ (one_home : OneHome) (medium : Medium) (a b : Table) (is_a : IsTable a) (is_b : IsTable b) where
-  flow_place_same : (c e : ℕ) → IsSameContext a b c e → flow_place medium.viewport (first_number a.contexts c) ≡ flow_place medium.viewport (first_number b.contexts e)
+  pub flow_place_same : (c e : ℕ) → IsSameContext a b c e → flow_place medium.viewport (first_number a.contexts c) ≡ flow_place medium.viewport (first_number b.contexts e)
   flow_place_same zero zero same = refl
   flow_place_same zero (suc e) same = absurd (let z = same.root.0 refl in omega (arith, z))
   flow_place_same (suc c) zero same = absurd (let z = same.root.1 refl in omega (arith, z))
@@ -229,7 +229,7 @@ module _ (one_home : OneHome) (medium : Medium) (a b : Table) (is_a : IsTable a)
       ∙ ap (λ (v : CellValue). form (boxes_in b.contexts q) (homes_in is_b.are_formatting_contexts.homes q) v k) sizes
       ∙ ap (form (boxes_in b.contexts q) (homes_in is_b.are_formatting_contexts.homes q) y) place
 
-  flow_setting_same : (c e : ℕ) → IsSameContext a b c e → IsInFlow a c → IsInFlow b e → (0 < c → IsSameAround a b c e)
+  pub flow_setting_same : (c e : ℕ) → IsSameContext a b c e → is_out_of_flow a c ≡ false → is_out_of_flow b e ≡ false → (0 < c → IsSameAround a b c e)
       → setting_of medium.viewport a.formatting_contexts (workings_in a) (number_of a.contexts c 0) ≡ setting_of medium.viewport b.formatting_contexts (workings_in b) (number_of b.contexts e 0)
   flow_setting_same zero zero same fa fb around = flow_setting_is medium a is_a zero same.within fa ∙ sym (flow_setting_is medium b is_b zero same.there fb)
   flow_setting_same zero (suc e) same fa fb around = absurd (let z = same.root.0 refl in omega (arith, z))
@@ -242,21 +242,5 @@ module _ (one_home : OneHome) (medium : Medium) (a b : Table) (is_a : IsTable a)
       ∙ around_same p q (a.kept p phase.Size) (b.kept q phase.Size) (context_at a.contexts (suc c)).outer_box (context_at b.contexts (suc e)).outer_box r.around r.sizes r.box
       ∙ sym (setting_around medium b is_b (suc e) same.there fb (omega arith))
 
-  flow_same : (c e : ℕ) → IsSameContext a b c e → IsInFlow a c → IsInFlow b e
-  flow_same c e same flow = ap (λ (boxes : List BoxNode). forms.is_absolute (flow_at boxes 0)) (sym same.boxes) ∙ flow
-
 pub measure_inputs_are_kept_lem : OneHome → MeasuredWhereShrunk → MeasureInputsAreKept
 measure_inputs_are_kept_lem one_home where_shrunk medium a b c e is_a is_b to = measure_kept one_home where_shrunk medium a b is_a is_b c e to
-
-pub size_inputs_are_kept_lem : OneHome → MeasuredWhereShrunk → SizeInputsAreKept
-size_inputs_are_kept_lem one_home where_shrunk medium a b c e is_a is_b to =
-    let same = to.own in
-    size_kept one_home where_shrunk medium a b is_a is_b c e same to.widths
-    (flow_setting_same one_home medium a b is_a is_b c e same to.in_flow (flow_same one_home medium a b is_a is_b c e same to.in_flow) to.around)
-
-pub place_inputs_are_kept_lem : OneHome → MeasuredWhereShrunk → PlaceInputsAreKept
-place_inputs_are_kept_lem one_home where_shrunk medium a b c e is_a is_b to =
-    let same = to.own in
-    place_kept one_home where_shrunk medium a b is_a is_b c e same to.sizes to.inside
-    (flow_place_is medium a is_a c same.within to.in_flow ∙ flow_place_same one_home medium a b is_a is_b c e same
-    ∙ sym (flow_place_is medium b is_b e same.there (flow_same one_home medium a b is_a is_b c e same to.in_flow)))

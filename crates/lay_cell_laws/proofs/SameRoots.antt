@@ -85,7 +85,7 @@ module _ (t : Table) (is : IsTable t) (c : ℕ) (lt : c < length t.contexts) whe
       ap (λ (f : FormattingContext). f.outer) (root_is t.contexts All (table_are t is) is.are_formatting_contexts (table_calm t is) (table_keeps t is) c (suc r) lt inside root)
       ∙ ap (number_at t.contexts is.are_formatting_contexts.homes) (spot_inside t.contexts c (suc r) (omega arith))
 
-  outer_box_form : (r : ℕ) → suc r < length B → is_root B (suc r) ≡ true → (formatting_context_at All (number_of t.contexts c (suc r))).outer_box ≡ rank H (suc r)
+  pub outer_box_form : (r : ℕ) → suc r < length B → is_root B (suc r) ≡ true → (formatting_context_at All (number_of t.contexts c (suc r))).outer_box ≡ rank H (suc r)
   outer_box_form r inside root =
       ap (λ (f : FormattingContext). f.outer_box) (root_is t.contexts All (table_are t is) is.are_formatting_contexts (table_calm t is) (table_keeps t is) c (suc r) lt inside root)
       ∙ ap (rank_at is.are_formatting_contexts.homes) (spot_inside t.contexts c (suc r) (omega arith))

@@ -2,7 +2,7 @@
 -- keep that it depends on: for preferred widths of the contexts inside (CSS 2.2, 10.3.5), for sizes of the one around (10.1), and for
 -- places of the contexts inside again. Contexts are known by numbers in each document, and an edit moves these: so none is in what is said
 -- here to be the same.
-use Rattle.std.specs.Prelude.{ℕ, ◌≡◌, ◌<◌, ◌↔◌, true, false, List, length, slice_index}
+use Rattle.std.specs.Prelude.{ℕ, ◌≡◌, ◌<◌, ◌↔◌, Bool, true, false, List, length, slice_index, Some}
 use Rattle.lay_style.specs.declared.style.Style.{Style}
 use Rattle.lay_doc.specs.Document.{Document, IsDocument}
 use Rattle.lay_anonymous_boxes.specs.Forms.{is_absolute}
@@ -11,6 +11,8 @@ use Rattle.lay_contexts.specs.ContextList.{AreContextsOf}
 use Rattle.lay_contexts.specs.FlowLaws.{flow_at, is_anchor_at}
 use Rattle.lay_contexts.specs.FormattingContexts.{FormattingContext}
 use Rattle.lay_contexts.specs.FormattingContextList.{AreFormattingContextsOf, first_number}
+use Rattle.lay_positioned.specs.Absolute.{is_own_fixed}
+use Rattle.lay_positioned.specs.Holders.{IsHolderFor}
 use Rattle.lay_context.specs.declared.task.Phase.{Phase}
 use Rattle.lay_context.specs.declared.task.Phase.TheVariants as phase
 use Rattle.lay_context.specs.Measured.{is_measured}
@@ -72,22 +74,43 @@ pub record IsSameAround (a b : Table) (c e : ℕ) : Type 0 where
   pub box : (context_at a.contexts c).outer_box ≡ (context_at b.contexts e).outer_box
   pub sizes : a.kept (context_at a.contexts c).outer phase.Size ≡ b.kept (context_at b.contexts e).outer phase.Size
 
-abbrev pub IsInFlow : Table → ℕ → Type 0
-IsInFlow t c = is_absolute (flow_at (boxes_in t.contexts c) 0) ≡ false
+-- the contexts c and e are laid out the same: their cells keep the same sizes and places
+pub record IsLaidSame (a b : Table) (c e : ℕ) : Type 0 where
+  pub own : IsSameContext a b c e
+  pub sizes : a.kept c phase.Size ≡ b.kept e phase.Size
+  pub places : a.kept c phase.Place ≡ b.kept e phase.Place
 
--- to be sized, in flow or floating
+-- and so are those on the way from the box at k in the context c out to its containing block (10.1): to the nearest box that can be one,
+-- or to the viewport
+pub data IsSameWay (is_fixed : Bool) (a b : Table) : (c e k : ℕ) → Type 0 where
+  held : (c e k holder : ℕ) → IsLaidSame a b c e → IsHolderFor is_fixed (boxes_in a.contexts c) k (Some holder) → IsSameWay is_fixed a b c e k
+  further : (c e k : ℕ) → 0 < c → IsLaidSame a b c e → (context_at a.contexts c).outer_box ≡ (context_at b.contexts e).outer_box
+      → IsSameWay is_fixed a b (context_at a.contexts c).outer (context_at b.contexts e).outer (context_at a.contexts c).outer_box
+      → IsSameWay is_fixed a b c e k
+  initial : (k : ℕ) → IsLaidSame a b 0 0 → IsSameWay is_fixed a b 0 0 k
+
+-- the anchor of an absolutely positioned context stands at the same place, with the same way out from there
+pub record IsSameOut (a b : Table) (c e : ℕ) : Type 0 where
+  pub box : (context_at a.contexts c).outer_box ≡ (context_at b.contexts e).outer_box
+  pub way : IsSameWay (is_own_fixed (boxes_in a.contexts c)) a b (context_at a.contexts c).outer (context_at b.contexts e).outer (context_at a.contexts c).outer_box
+
+-- the context is absolutely positioned (9.6)
+abbrev pub is_out_of_flow : Table → ℕ → Bool
+is_out_of_flow t c = is_absolute (flow_at (boxes_in t.contexts c) 0)
+
+-- to be sized
 pub record IsSameToSize (a b : Table) (c e : ℕ) : Type 0 where
   pub own : IsSameContext a b c e
   pub widths : a.kept c phase.Measure ≡ b.kept e phase.Measure
-  pub in_flow : IsInFlow a c
-  pub around : 0 < c → IsSameAround a b c e
+  pub around : 0 < c → is_out_of_flow a c ≡ false → IsSameAround a b c e
+  pub out : 0 < c → is_out_of_flow a c ≡ true → IsSameOut a b c e
 
--- to be placed, in flow or floating
+-- to be placed
 pub record IsSameToPlace (a b : Table) (c e : ℕ) : Type 0 where
   pub own : IsSameContext a b c e
   pub sizes : a.kept c phase.Size ≡ b.kept e phase.Size
-  pub in_flow : IsInFlow a c
   pub inside : AreSameInside a b c e phase.Place
+  pub out : 0 < c → is_out_of_flow a c ≡ true → IsSameOut a b c e
 
 -- Where a context is the same for a task, and what its cell depends on is kept, the cell is given what it was.
 abbrev pub MeasureInputsAreKept : Type 0

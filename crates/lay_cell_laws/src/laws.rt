@@ -9,6 +9,7 @@ ghost use Rattle.lay_measure.specs.declared.preferred_widths.PreferredWidths.{Pr
 
 use lay_context::{measured_where_shrunk, one_local};
 use lay_contexts::{anonymous_boxes_are_in_flow, one_home};
+use lay_positioned::{one_nearest_holder, settings_are_values, settings_come_of_ways};
 
 /// Values that are laid end to end stand at the numbers of their formatting contexts.
 pub fn values_stand_at_numbers()
@@ -44,18 +45,26 @@ pub fn measure_inputs_are_kept()
     measured_where_shrunk();
 }
 
-/// To be sized a context in flow is given what it was, where it, its preferred widths and what is around it are the same.
+/// To be sized a context is given what it was, where it, its preferred widths and what is around it are the same; of an absolutely
+/// positioned one all that is on the way out to its containing block.
 pub fn size_inputs_are_kept()
     ensures { SizeInputsAreKept }
 {
     one_home();
     measured_where_shrunk();
+    one_nearest_holder();
+    settings_come_of_ways();
+    settings_are_values();
 }
 
-/// To be placed a context in flow is given what it was, where it, its sizes and what the contexts inside it answered are the same.
+/// To be placed a context is given what it was, where it, its sizes and what the contexts inside it answered are the same, and of an
+/// absolutely positioned one all that is on the way out to its containing block.
 pub fn place_inputs_are_kept()
     ensures { PlaceInputsAreKept }
 {
     one_home();
     measured_where_shrunk();
+    one_nearest_holder();
+    settings_come_of_ways();
+    settings_are_values();
 }
