@@ -32,6 +32,7 @@ use Rattle.lay_context.specs.Settings.{flow_place, flow_setting, laid, own_place
 use Rattle.lay_cell_laws.specs.SameContexts.{IsSameAround, IsSameContext, IsSameOut, IsTable, PlaceInputsAreKept, SizeInputsAreKept, Table, is_out_of_flow, workings_in}
 use Rattle.lay_cell_laws.proofs.CarriedRects as carried
 use Rattle.lay_cell_laws.proofs.InputForms.{table_are, table_calm, table_keeps}
+use Rattle.lay_cell_laws.proofs.OuterBoxes.{outer_boxes_same}
 use Rattle.lay_cell_laws.proofs.RootForms.{boxes_are, number_within, own_absolute, own_is, own_some, chosen}
 use Rattle.lay_cell_laws.proofs.SameInputs.{first_is, flow_place_is, flow_place_same, flow_setting_same, place_kept, size_kept, spot_around}
 use Rattle.lay_cell_laws.proofs.SameRoots.{boxes_same, homes_same}
@@ -106,22 +107,23 @@ module _ (one_home : OneHome) (where_shrunk : MeasuredWhereShrunk) (one_nearest 
       let fixed : Bool = is_own_fixed (boxes_in a.contexts c) in
       let HP : List ℕ = homes_in is_a.are_formatting_contexts.homes p in
       let HQ : List ℕ = homes_in is_b.are_formatting_contexts.homes q in
-      let l = way_laid fixed a b p q k out.way in
+      let l = way_laid fixed a b p q k out in
+      let box = outer_boxes_same a b is_a is_b c e some some_b same l.own in
       let homes = homes_same one_home a b is_a is_b p q l.own in
       let inside = (table_are a is_a).outer_box c some same.within in
-      let from = way_from one_home fixed a b is_a is_b p q k out.way inside in
+      let from = way_from one_home fixed a b is_a is_b p q k out inside in
       let own_a = own_is a.contexts a.formatting_contexts (table_are a is_a) is_a.are_formatting_contexts (table_calm a is_a) (table_keeps a is_a) c same.within in
       let own_b = own_is b.contexts b.formatting_contexts (table_are b is_b) is_b.are_formatting_contexts (table_calm b is_b) (table_keeps b is_b) e same.there in
       let outer_a : (formatting_context_at a.formatting_contexts I).outer ≡ number_of a.contexts p (slice_index HP k) =
       ap (λ (f : FormattingContext). f.outer) own_a ∙ ap (number_at a.contexts is_a.are_formatting_contexts.homes) (spot_around a c some) in
       let outer_b : (formatting_context_at b.formatting_contexts J).outer ≡ number_of b.contexts q (slice_index HP k) =
       ap (λ (f : FormattingContext). f.outer) own_b ∙ ap (number_at b.contexts is_b.are_formatting_contexts.homes) (spot_around b e some_b)
-      ∙ ap (λ (m : ℕ). number_of b.contexts q (slice_index HQ m)) (sym out.box) ∙ ap (λ (hs : List ℕ). number_of b.contexts q (slice_index hs k)) (sym homes) in
+      ∙ ap (λ (m : ℕ). number_of b.contexts q (slice_index HQ m)) (sym box) ∙ ap (λ (hs : List ℕ). number_of b.contexts q (slice_index hs k)) (sym homes) in
       let box_a : (formatting_context_at a.formatting_contexts I).outer_box ≡ rank HP k =
       ap (λ (f : FormattingContext). f.outer_box) own_a ∙ ap (rank_at is_a.are_formatting_contexts.homes) (spot_around a c some) in
       let box_b : (formatting_context_at b.formatting_contexts J).outer_box ≡ rank HP k =
       ap (λ (f : FormattingContext). f.outer_box) own_b ∙ ap (rank_at is_b.are_formatting_contexts.homes) (spot_around b e some_b)
-      ∙ ap (rank HQ) (sym out.box) ∙ ap (λ (hs : List ℕ). rank hs k) (sym homes) in
+      ∙ ap (rank HQ) (sym box) ∙ ap (λ (hs : List ℕ). rank hs k) (sym homes) in
       let first_a : number_of a.contexts c 0 ≡ I = omega arith in
       let first_b : number_of b.contexts e 0 ≡ J = omega arith in
       let some_boxes = ((table_are a is_a).boxes c same.within).some in

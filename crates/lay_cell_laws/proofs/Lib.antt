@@ -6,6 +6,7 @@ pub mod RootForms
 pub mod InputForms
 pub mod SameRoots
 pub mod InnerContexts
+pub mod OuterBoxes
 pub mod SameInputs
 pub mod CarriedRects
 pub mod HoldersAtHome

@@ -38,6 +38,7 @@ use Rattle.lay_cell_work.specs.PresentInputs.{root_input, spot_in}
 use Rattle.lay_cell_laws.specs.SameContexts.{AreSameInside, IsSameAround, IsSameContext, IsSameToMeasure, IsTable, MeasureInputsAreKept, Table, input_in, inner_at, is_out_of_flow, workings_in}
 use Rattle.lay_cell_laws.proofs.InputForms.{measure_cell, measure_form, measured_root_same, own_widths_form, place_cell, place_form, placed_root_same, sized_root_same, sizes_form, table_are, table_calm, table_keeps}
 use Rattle.lay_cell_laws.proofs.InnerContexts.{none_same}
+use Rattle.lay_cell_laws.proofs.OuterBoxes.{outer_boxes_same}
 use Rattle.lay_cell_laws.proofs.RootForms.{boxes_are, given_at, link_at, members, number_within, other, own_absolute, own_is, own_some}
 use Rattle.lay_cell_laws.proofs.RootsOfContexts.{anonymous_flows, anonymous_some}
 use Rattle.lay_cell_laws.proofs.SameRoots.{anonymous_form, boxes_same, column_same, homes_same, inside_same, links_same, measured_same, ordinals_same, root_boxes_same, root_same, roots_same, spot_form, spot_is, spots_same}
@@ -239,7 +240,8 @@ module _ (one_home : OneHome) (medium : Medium) (a b : Table) (is_a : IsTable a)
       let p : ℕ = (context_at a.contexts (suc c)).outer in
       let q : ℕ = (context_at b.contexts (suc e)).outer in
       setting_around medium a is_a (suc c) same.within fa (omega arith)
-      ∙ around_same p q (a.kept p phase.Size) (b.kept q phase.Size) (context_at a.contexts (suc c)).outer_box (context_at b.contexts (suc e)).outer_box r.around r.sizes r.box
+      ∙ around_same p q (a.kept p phase.Size) (b.kept q phase.Size) (context_at a.contexts (suc c)).outer_box (context_at b.contexts (suc e)).outer_box r.around r.sizes
+      (outer_boxes_same a b is_a is_b (suc c) (suc e) (omega arith) (omega arith) same r.around)
       ∙ sym (setting_around medium b is_b (suc e) same.there fb (omega arith))
 
 pub measure_inputs_are_kept_lem : OneHome → MeasuredWhereShrunk → MeasureInputsAreKept

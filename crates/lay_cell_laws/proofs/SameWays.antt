@@ -22,6 +22,7 @@ use Rattle.lay_cell_laws.proofs.CarriedRects.{IsSameHere, at_root, ends, goes_on
 use Rattle.lay_cell_laws.proofs.CarriedRects as carried
 use Rattle.lay_cell_laws.proofs.HoldersAtHome.{further_there, held_there, home_other_is, home_root_is, parent_within}
 use Rattle.lay_cell_laws.proofs.InputForms.{placed_form, sizes_form, table_are, table_calm, table_keeps}
+use Rattle.lay_cell_laws.proofs.OuterBoxes.{outer_boxes_same}
 use Rattle.lay_cell_laws.proofs.RootForms.{boxes_are, own_some, root_is}
 use Rattle.lay_cell_laws.proofs.SameInputs.{spot_around}
 use Rattle.lay_cell_laws.proofs.SameRoots.{boxes_same, homes_same, inside_same, ordinals_same, outer_box_form, outer_form, root_same}
@@ -35,7 +36,7 @@ same_layout s t p q sizes places = rw (sizes, places) refl
 -- all on a way are laid out the same
 pub way_laid : (is_fixed : Bool) (a b : Table) (c e k : ℕ) → IsSameWay is_fixed a b c e k → IsLaidSame a b c e
 way_laid is_fixed a b c e k (held c-1 e-1 k-1 holder l is) = l
-way_laid is_fixed a b c e k (further c-1 e-1 k-1 some l box rest) = l
+way_laid is_fixed a b c e k (further c-1 e-1 k-1 some l rest) = l
 way_laid is_fixed a b c e k (initial k-1 l) = l
 
 positive_holder : (boxes : List BoxNode) (k holder : ℕ) → IsNearestHolder boxes k (Some holder) → 0 < k
@@ -221,15 +222,16 @@ module _ (one_home : OneHome) (is_fixed : Bool) (a b : Table) (is_a : IsTable a)
   held_by false unfixed c e l k holder inside is = nearest c e l unfixed k holder inside (of_for c e l unfixed (boxes_in a.contexts c) k (Some holder) is)
 
   -- out of a context
-  outside : (c e : ℕ) (l : IsLaidSame a b c e) → 0 < c → (context_at a.contexts c).outer_box ≡ (context_at b.contexts e).outer_box
+  outside : (c e : ℕ) (l : IsLaidSame a b c e) → 0 < c
       → (r : IsLaidSame a b (context_at a.contexts c).outer (context_at b.contexts e).outer) → From (context_at a.contexts c).outer (context_at b.contexts e).outer r (context_at a.contexts c).outer_box → FromRoot c e l 0
-  outside c e l some box r from x =
+  outside c e l some r from x =
       let p : ℕ = (context_at a.contexts c).outer in
       let q : ℕ = (context_at b.contexts e).outer in
       let k : ℕ = (context_at a.contexts c).outer_box in
       let HP : List ℕ = homes_in is_a.are_formatting_contexts.homes p in
       let homes = homes_same one_home a b is_a is_b p q r.own in
       let some_b : 0 < e = positive_other e (λ z. (let y = l.own.root.1 z in omega (arith, some, y))) in
+      let box = outer_boxes_same a b is_a is_b c e some some_b l.own r.own in
       let inside = ((table_are a is_a).boxes c l.own.within).some in
       let i : ℕ = number_of a.contexts c 0 in
       let j : ℕ = number_of b.contexts e 0 in
@@ -265,9 +267,9 @@ module _ (one_home : OneHome) (is_fixed : Bool) (a b : Table) (is_a : IsTable a)
 
   pub way_from : (c e k : ℕ) (way : IsSameWay is_fixed a b c e k) → k < length (boxes_in a.contexts c) → From c e (way_laid is_fixed a b c e k way) k
   way_from c e k (held c-1 e-1 k-1 holder l is) inside = held_by is_fixed refl c e l k holder inside is
-  way_from c e k (further c-1 e-1 k-1 some l box rest) inside =
+  way_from c e k (further c-1 e-1 k-1 some l rest) inside =
       let within = (table_are a is_a).outer_box c some l.own.within in
       let r = way_laid is_fixed a b (context_at a.contexts c).outer (context_at b.contexts e).outer (context_at a.contexts c).outer_box rest in
       chain c e l (suc k) k (omega arith) inside
-      (outside c e l some box r (way_from (context_at a.contexts c).outer (context_at b.contexts e).outer (context_at a.contexts c).outer_box rest within))
+      (outside c e l some r (way_from (context_at a.contexts c).outer (context_at b.contexts e).outer (context_at a.contexts c).outer_box rest within))
   way_from c e k (initial k-1 l) inside = chain 0 0 l (suc k) k (omega arith) inside (at_first l)

@@ -68,10 +68,9 @@ pub record IsSameToMeasure (a b : Table) (c e : ℕ) : Type 0 where
   pub measured : is_measured a.formatting_contexts (first_number a.contexts c) ≡ is_measured b.formatting_contexts (first_number b.contexts e)
   pub inside : AreSameInside a b c e phase.Measure
 
--- the box of a context stands at the same place in the one around it, whose boxes and kept sizes are the same
+-- the context around has the same boxes, and its cell keeps the same sizes
 pub record IsSameAround (a b : Table) (c e : ℕ) : Type 0 where
   pub around : IsSameContext a b (context_at a.contexts c).outer (context_at b.contexts e).outer
-  pub box : (context_at a.contexts c).outer_box ≡ (context_at b.contexts e).outer_box
   pub sizes : a.kept (context_at a.contexts c).outer phase.Size ≡ b.kept (context_at b.contexts e).outer phase.Size
 
 -- the contexts c and e are laid out the same: their cells keep the same sizes and places
@@ -84,15 +83,15 @@ pub record IsLaidSame (a b : Table) (c e : ℕ) : Type 0 where
 -- or to the viewport
 pub data IsSameWay (is_fixed : Bool) (a b : Table) : (c e k : ℕ) → Type 0 where
   held : (c e k holder : ℕ) → IsLaidSame a b c e → IsHolderFor is_fixed (boxes_in a.contexts c) k (Some holder) → IsSameWay is_fixed a b c e k
-  further : (c e k : ℕ) → 0 < c → IsLaidSame a b c e → (context_at a.contexts c).outer_box ≡ (context_at b.contexts e).outer_box
+  further : (c e k : ℕ) → 0 < c → IsLaidSame a b c e
       → IsSameWay is_fixed a b (context_at a.contexts c).outer (context_at b.contexts e).outer (context_at a.contexts c).outer_box
       → IsSameWay is_fixed a b c e k
   initial : (k : ℕ) → IsLaidSame a b 0 0 → IsSameWay is_fixed a b 0 0 k
 
--- the anchor of an absolutely positioned context stands at the same place, with the same way out from there
-pub record IsSameOut (a b : Table) (c e : ℕ) : Type 0 where
-  pub box : (context_at a.contexts c).outer_box ≡ (context_at b.contexts e).outer_box
-  pub way : IsSameWay (is_own_fixed (boxes_in a.contexts c)) a b (context_at a.contexts c).outer (context_at b.contexts e).outer (context_at a.contexts c).outer_box
+-- and those on the way out from the anchor of an absolutely positioned context
+abbrev pub IsSameOut : (a b : Table) (c e : ℕ) → Type 0
+IsSameOut a b c e =
+    IsSameWay (is_own_fixed (boxes_in a.contexts c)) a b (context_at a.contexts c).outer (context_at b.contexts e).outer (context_at a.contexts c).outer_box
 
 -- the context is absolutely positioned (9.6)
 abbrev pub is_out_of_flow : Table → ℕ → Bool

@@ -5,7 +5,7 @@
 --
 -- For example, a context has a paragraph and an anonymous table with one cell. Its roots are 0, the own box, 1, the table, and 2, the cell
 -- in it. Among the boxes of the root 0 the table's box is linked to 1, and among those of the root 1 the cell's box to 2.
-use Rattle.std.specs.Prelude.{ℕ, zero, suc, ◌-◌, Bool, true, false, List, [], ◌∷◌, ◌++◌, map, slice_index_or, Option, None, Some, if◌then◌else◌}
+use Rattle.std.specs.Prelude.{ℕ, zero, suc, ◌-◌, Bool, true, false, List, [], ◌∷◌, map, slice_index_or, Option, None, Some, if◌then◌else◌}
 use Rattle.std.specs.List.{list_any}
 use Rattle.lay_contexts.specs.FormattingContexts.{FormattingContext, formatting_context_at}
 use Rattle.lay_context.specs.DocumentLayout.{flow_numbers}

@@ -1,5 +1,5 @@
 -- What a cell answers: a value for each root of its context, the own box first.
-use Rattle.std.specs.Prelude.{ℕ, List, [], length, map, Option, None, Some}
+use Rattle.std.specs.Prelude.{ℕ, List, [], length, map}
 use Rattle.lay_frag.specs.declared.frag.Frag.{Frag}
 use Rattle.lay_measure.specs.declared.preferred_widths.PreferredWidths.{PreferredWidths}
 use Rattle.lay_sizes.specs.declared.own_boxes.OwnBox.{OwnBox}
