@@ -76,7 +76,7 @@ module _ (medium : Medium) (contexts : List Context) (all : List FormattingConte
       let c : ℕ = n.context in
       let first : ℕ = first_number contexts c in
       let r : ℕ = m - first in
-      let is = own_number contexts m n in
+      let is = own_number contexts all are of m n in
       let from = is.from in
       let until = is.until in
       let f : ℕ → RootInput = λ k. root_input medium all W first (first + k) p in
@@ -146,13 +146,13 @@ record IsRead (rows : List CellRow) (key : CellKey) : Type 0 where
 
 read_at : (rows : List CellRow) (key : CellKey) (place : ℕ) (r : CellRow) → slice_get rows place ≡ Some r → r.key ≡ key → IsRead rows key
 read_at [] key place r e same = absurd cc
-read_at (q ∷ rows) key place r e same = by (is_key q.key key) refl place e
+read_at (q ∷ rows) key place r e same = by (is_key q.key key) refl place e (λ k there. read_at rows key k r there same)
   where
-    by : (b : Bool) → is_key q.key key ≡ b → (place : ℕ) → slice_get (q ∷ rows) place ≡ Some r → IsRead (q ∷ rows) key
-    by true is place there = record { row = q; there = (0, refl); is = key_is q.key key is; value = rw is refl }
-    by false is zero there = absurd (let own : is_key q.key key ≡ true = (let s : q ≡ r = cc in rw (s, same) (is_same_key key)) in cc)
-    by false is (suc k) there =
-        let s = read_at rows key k r there same in
+    by : (b : Bool) → is_key q.key key ≡ b → (place : ℕ) → slice_get (q ∷ rows) place ≡ Some r → ((k : ℕ) → slice_get rows k ≡ Some r → IsRead rows key) → IsRead (q ∷ rows) key
+    by true is place there rest = record { row = q; there = (0, refl); is = key_is q.key key is; value = rw is refl }
+    by false is zero there rest = absurd (let own : is_key q.key key ≡ true = (let s : q ≡ r = cc in rw (s, same) (is_same_key key)) in let never : false ≡ true = sym is ∙ own in cc)
+    by false is (suc k) there rest =
+        let s = rest k there in
         record { row = s.row; there = (suc s.there.0, s.there.1); is = s.is; value = rw is s.value }
 
 -- what a clean cell keeps

@@ -39,7 +39,7 @@ given_at nothing cell boxes inner k =
 abbrev pub members : List BoxNode → List ℕ → ℕ → List ℕ
 members boxes homes r = at_home_before homes r (length boxes)
 
-positive : (k : ℕ) → 0 < k → nat_lt 0 k ≡ true
+pub positive : (k : ℕ) → 0 < k → nat_lt 0 k ≡ true
 positive k some = grind (arith, some)
 
 same_absolute : (f : Flow) → is_absolute_flow f ≡ forms.is_absolute f

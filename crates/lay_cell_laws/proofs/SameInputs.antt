@@ -39,7 +39,7 @@ use Rattle.lay_cell_laws.specs.SameContexts.{AreSameInside, IsSameAround, IsSame
 use Rattle.lay_cell_laws.proofs.InputForms.{measure_cell, measure_form, measured_root_same, own_widths_form, place_cell, place_form, placed_root_same, sized_root_same, sizes_form, table_are, table_calm, table_keeps}
 use Rattle.lay_cell_laws.proofs.InnerContexts.{none_same}
 use Rattle.lay_cell_laws.proofs.OuterBoxes.{outer_boxes_same}
-use Rattle.lay_cell_laws.proofs.RootForms.{boxes_are, given_at, link_at, members, number_within, other, own_absolute, own_is, own_some}
+use Rattle.lay_cell_laws.proofs.RootForms.{boxes_are, given_at, link_at, members, number_within, other, own_absolute, own_is, own_some, positive}
 use Rattle.lay_cell_laws.proofs.RootsOfContexts.{anonymous_flows, anonymous_some}
 use Rattle.lay_cell_laws.proofs.SameRoots.{anonymous_form, boxes_same, column_same, homes_same, inside_same, links_same, measured_same, ordinals_same, root_boxes_same, root_same, roots_same, spot_form, spot_is, spots_same}
 use Rattle.lay_cell_laws.proofs.WholeInputs.{flow_some, setting_by}
@@ -59,21 +59,21 @@ module _ (one_home : OneHome) (where_shrunk : MeasuredWhereShrunk) (medium : Med
       let same = to.own in
       let inside = to.inside in
       roots_same one_home a b is_a is_b c e same medium phase.Measure (λ r within root.
-      (let HA : List ℕ = homes_in is_a.are_formatting_contexts.homes c in
-      let HB : List ℕ = homes_in is_b.are_formatting_contexts.homes e in
-      let BA : List BoxNode = boxes_in a.contexts c in
-      let BB : List BoxNode = boxes_in b.contexts e in
-      let IA : List ℕ = (context_at a.contexts c).inner in
-      let IB : List ℕ = (context_at b.contexts e).inner in
-      let column = column_same one_home a b is_a is_b c e same no_widths (measure_cell a) (measure_cell b) (none_same a b is_a is_b c e same)
-      (λ k lt some anchor. ap (λ (v : CellValue). widths_in (own_widths v) 0) (inside k lt some anchor)) r in
-      measure_form a is_a c same.within r within root medium
-      ∙ measured_root_same (is_measured a.formatting_contexts (number_of a.contexts c r)) (is_measured b.formatting_contexts (number_of b.contexts e r)) (boxes_of_root BA HA r) (boxes_of_root BB HB r)
-      (no_widths ∷ map (given_at no_widths (measure_cell a) BA IA) (members BA HA r)) (no_widths ∷ map (given_at no_widths (measure_cell b) BB IB) (members BB HB r))
-      (links_or_none (None ∷ map (link_at BA) (members BA HA r))) (links_or_none (None ∷ map (link_at BB) (members BB HB r))) medium
-      (measured_same one_home where_shrunk a b is_a is_b c e same to.measured r within root) (root_boxes_same one_home a b is_a is_b c e same r)
-      (ap (λ (ws : List PreferredWidths). no_widths ∷ ws) column) (links_same one_home a b is_a is_b c e same r)
-      ∙ sym (measure_form b is_b e same.there r (inside_same one_home a b is_a is_b c e same r within) (root_same one_home a b is_a is_b c e same r root) medium)))
+          (let HA : List ℕ = homes_in is_a.are_formatting_contexts.homes c in
+          let HB : List ℕ = homes_in is_b.are_formatting_contexts.homes e in
+          let BA : List BoxNode = boxes_in a.contexts c in
+          let BB : List BoxNode = boxes_in b.contexts e in
+          let IA : List ℕ = (context_at a.contexts c).inner in
+          let IB : List ℕ = (context_at b.contexts e).inner in
+          let column = column_same one_home a b is_a is_b c e same no_widths (measure_cell a) (measure_cell b) (none_same a b is_a is_b c e same)
+          (λ k lt some anchor. ap (λ (v : CellValue). widths_in (own_widths v) 0) (inside k lt some anchor)) r in
+          measure_form a is_a c same.within r within root medium
+          ∙ measured_root_same (is_measured a.formatting_contexts (number_of a.contexts c r)) (is_measured b.formatting_contexts (number_of b.contexts e r)) (boxes_of_root BA HA r) (boxes_of_root BB HB r)
+          (no_widths ∷ map (given_at no_widths (measure_cell a) BA IA) (members BA HA r)) (no_widths ∷ map (given_at no_widths (measure_cell b) BB IB) (members BB HB r))
+          (links_or_none (None ∷ map (link_at BA) (members BA HA r))) (links_or_none (None ∷ map (link_at BB) (members BB HB r))) medium
+          (measured_same one_home where_shrunk a b is_a is_b c e same to.measured r within root) (root_boxes_same one_home a b is_a is_b c e same r)
+          (ap (λ (ws : List PreferredWidths). no_widths ∷ ws) column) (links_same one_home a b is_a is_b c e same r)
+          ∙ sym (measure_form b is_b e same.there r (inside_same one_home a b is_a is_b c e same r within) (root_same one_home a b is_a is_b c e same r root) medium)))
 
   module _ (same : IsSameContext a b c e) where
     setting_by_spot : (r : ℕ) (x y : Option RootSpot) (s t : Setting) → x ≡ spot_form (boxes_in a.contexts c) (homes_in is_a.are_formatting_contexts.homes c) r
@@ -86,25 +86,25 @@ module _ (one_home : OneHome) (where_shrunk : MeasuredWhereShrunk) (medium : Med
         → setting_of medium.viewport a.formatting_contexts (workings_in a) (number_of a.contexts c 0) ≡ setting_of medium.viewport b.formatting_contexts (workings_in b) (number_of b.contexts e 0)
         → input_in medium a c phase.Size ≡ input_in medium b e phase.Size
     size_kept widths setting = roots_same one_home a b is_a is_b c e same medium phase.Size (λ r within root.
-    (let m : ℕ = number_of a.contexts c r in
-    let n : ℕ = number_of b.contexts e r in
-    let within_b = inside_same one_home a b is_a is_b c e same r within in
-    let root_b = root_same one_home a b is_a is_b c e same r root in
-    let x = spot_is a is_a c same.within r within root in
-    let y = spot_is b is_b e same.there r within_b root_b in
-    let own : widths_in (workings_in a).widths m ≡ widths_in (workings_in b).widths n =
-    own_widths_form a is_a c same.within r within root ∙ ap (λ (v : CellValue). widths_in (own_widths v) (roots_before (boxes_in a.contexts c) r)) widths
-    ∙ ap (widths_in (own_widths (b.kept e phase.Measure))) (ordinals_same one_home a b is_a is_b c e same r) ∙ sym (own_widths_form b is_b e same.there r within_b root_b) in
-    let spots = x ∙ spots_same one_home a b is_a is_b c e same r ∙ sym y in
-    let settings = setting_by_spot r (spot_in a.formatting_contexts (first_number a.contexts c) m) (spot_in b.formatting_contexts (first_number b.contexts e) n)
-    (setting_of medium.viewport a.formatting_contexts (workings_in a) m) (setting_of medium.viewport b.formatting_contexts (workings_in b) n) x y
-    (λ zeroed. ap (λ (s : ℕ). setting_of medium.viewport a.formatting_contexts (workings_in a) (number_of a.contexts c s)) zeroed ∙ setting
-    ∙ ap (λ (s : ℕ). setting_of medium.viewport b.formatting_contexts (workings_in b) (number_of b.contexts e s)) (sym zeroed)) in
-    sized_root_same (boxes_of a.formatting_contexts m) (boxes_of b.formatting_contexts n) (widths_in (workings_in a).widths m) (widths_in (workings_in b).widths n)
-    (masked_setting (spot_in a.formatting_contexts (first_number a.contexts c) m) (setting_of medium.viewport a.formatting_contexts (workings_in a) m))
-    (masked_setting (spot_in b.formatting_contexts (first_number b.contexts e) n) (setting_of medium.viewport b.formatting_contexts (workings_in b) n))
-    (spot_in a.formatting_contexts (first_number a.contexts c) m) (spot_in b.formatting_contexts (first_number b.contexts e) n)
-    (boxes_same one_home a b is_a is_b c e same r within root) own settings spots))
+        (let m : ℕ = number_of a.contexts c r in
+        let n : ℕ = number_of b.contexts e r in
+        let within_b = inside_same one_home a b is_a is_b c e same r within in
+        let root_b = root_same one_home a b is_a is_b c e same r root in
+        let x = spot_is a is_a c same.within r within root in
+        let y = spot_is b is_b e same.there r within_b root_b in
+        let own : widths_in (workings_in a).widths m ≡ widths_in (workings_in b).widths n =
+        own_widths_form a is_a c same.within r within root ∙ ap (λ (v : CellValue). widths_in (own_widths v) (roots_before (boxes_in a.contexts c) r)) widths
+        ∙ ap (widths_in (own_widths (b.kept e phase.Measure))) (ordinals_same one_home a b is_a is_b c e same r) ∙ sym (own_widths_form b is_b e same.there r within_b root_b) in
+        let spots = x ∙ spots_same one_home a b is_a is_b c e same r ∙ sym y in
+        let settings = setting_by_spot r (spot_in a.formatting_contexts (first_number a.contexts c) m) (spot_in b.formatting_contexts (first_number b.contexts e) n)
+        (setting_of medium.viewport a.formatting_contexts (workings_in a) m) (setting_of medium.viewport b.formatting_contexts (workings_in b) n) x y
+        (λ zeroed. ap (λ (s : ℕ). setting_of medium.viewport a.formatting_contexts (workings_in a) (number_of a.contexts c s)) zeroed ∙ setting
+        ∙ ap (λ (s : ℕ). setting_of medium.viewport b.formatting_contexts (workings_in b) (number_of b.contexts e s)) (sym zeroed)) in
+        sized_root_same (boxes_of a.formatting_contexts m) (boxes_of b.formatting_contexts n) (widths_in (workings_in a).widths m) (widths_in (workings_in b).widths n)
+        (masked_setting (spot_in a.formatting_contexts (first_number a.contexts c) m) (setting_of medium.viewport a.formatting_contexts (workings_in a) m))
+        (masked_setting (spot_in b.formatting_contexts (first_number b.contexts e) n) (setting_of medium.viewport b.formatting_contexts (workings_in b) n))
+        (spot_in a.formatting_contexts (first_number a.contexts c) m) (spot_in b.formatting_contexts (first_number b.contexts e) n)
+        (boxes_same one_home a b is_a is_b c e same r within root) own settings spots))
 
     place_of_anonymous : (t : Table) (is : IsTable t) (x r : ℕ) → x < length t.contexts → suc r < length (boxes_in t.contexts x) → is_root (boxes_in t.contexts x) (suc r) ≡ true
         → own_place_of medium.viewport t.formatting_contexts (workings_in t) (number_of t.contexts x (suc r)) ≡ own_place.Inner
@@ -112,7 +112,7 @@ module _ (one_home : OneHome) (where_shrunk : MeasuredWhereShrunk) (medium : Med
         let m : ℕ = number_of t.contexts x (suc r) in
         let there = number_within t.contexts t.formatting_contexts (table_are t is) is.are_formatting_contexts (table_calm t is) (table_keeps t is) x (suc r) lt within root in
         let n : Numbered t.contexts (length t.contexts) m = record { context = x; place = suc r; before = lt; inside = within; root = root; number = refl } in
-        let anonymous = anonymous_form t is x lt (suc r) within root in
+        let anonymous = anonymous_form t is x lt (suc r) within root ∙ positive (suc r) (omega arith) in
         let flows = anonymous_flows t.contexts t.formatting_contexts (table_are t is) is.are_formatting_contexts (table_calm t is) m there n anonymous in
         let some = anonymous_some t.contexts t.formatting_contexts (table_are t is) is.are_formatting_contexts m there n anonymous in
         other (is_absolute t.formatting_contexts m) (own_place.Absolute (absolute_setting medium.viewport t.formatting_contexts (laid (workings_in t)) m)) (flow_place medium.viewport m) flows
@@ -131,31 +131,31 @@ module _ (one_home : OneHome) (where_shrunk : MeasuredWhereShrunk) (medium : Med
         → own_place_of medium.viewport a.formatting_contexts (workings_in a) (number_of a.contexts c 0) ≡ own_place_of medium.viewport b.formatting_contexts (workings_in b) (number_of b.contexts e 0)
         → input_in medium a c phase.Place ≡ input_in medium b e phase.Place
     place_kept sizes inside position = roots_same one_home a b is_a is_b c e same medium phase.Place (λ r within root.
-    (let m : ℕ = number_of a.contexts c r in
-    let n : ℕ = number_of b.contexts e r in
-    let HA : List ℕ = homes_in is_a.are_formatting_contexts.homes c in
-    let HB : List ℕ = homes_in is_b.are_formatting_contexts.homes e in
-    let BA : List BoxNode = boxes_in a.contexts c in
-    let BB : List BoxNode = boxes_in b.contexts e in
-    let IA : List ℕ = (context_at a.contexts c).inner in
-    let IB : List ℕ = (context_at b.contexts e).inner in
-    let within_b = inside_same one_home a b is_a is_b c e same r within in
-    let root_b = root_same one_home a b is_a is_b c e same r root in
-    let boxes_column = column_same one_home a b is_a is_b c e same no_own_box (place_cell a) (place_cell b) (none_same a b is_a is_b c e same)
-    (λ k lt some anchor. ap (λ (v : CellValue). (placed_in (own_places v) 0).placement.own) (inside k lt some anchor)) r in
-    let nothing : ℕ → List Frag = λ p. [] in
-    let pieces_column = column_same one_home a b is_a is_b c e same [] nothing nothing (none_same a b is_a is_b c e same) (λ k lt some anchor. refl) r in
-    let sized : sizes_in (own_sizes (a.kept c phase.Size)) (roots_before BA r) ≡ sizes_in (own_sizes (b.kept e phase.Size)) (roots_before BB r) =
-    ap (λ (v : CellValue). sizes_in (own_sizes v) (roots_before BA r)) sizes ∙ ap (sizes_in (own_sizes (b.kept e phase.Size))) (ordinals_same one_home a b is_a is_b c e same r) in
-    place_form a is_a c same.within r within root medium
-    ∙ placed_root_same (boxes_of_root BA HA r) (boxes_of_root BB HB r) (sizes_in (own_sizes (a.kept c phase.Size)) (roots_before BA r)) (sizes_in (own_sizes (b.kept e phase.Size)) (roots_before BB r))
-    (no_own_box ∷ map (given_at no_own_box (place_cell a) BA IA) (members BA HA r)) (no_own_box ∷ map (given_at no_own_box (place_cell b) BB IB) (members BB HB r))
-    ([] ∷ map (given_at [] nothing BA IA) (members BA HA r)) ([] ∷ map (given_at [] nothing BB IB) (members BB HB r))
-    (links_or_none (None ∷ map (link_at BA) (members BA HA r))) (links_or_none (None ∷ map (link_at BB) (members BB HB r)))
-    (own_place_of medium.viewport a.formatting_contexts (workings_in a) m) (own_place_of medium.viewport b.formatting_contexts (workings_in b) n) medium
-    (root_boxes_same one_home a b is_a is_b c e same r) sized (ap (λ (xs : List OwnBox). no_own_box ∷ xs) boxes_column) (ap (λ (xs : List (List Frag)). [] ∷ xs) pieces_column)
-    (links_same one_home a b is_a is_b c e same r) (position_same r within root position)
-    ∙ sym (place_form b is_b e same.there r within_b root_b medium)))
+        (let m : ℕ = number_of a.contexts c r in
+        let n : ℕ = number_of b.contexts e r in
+        let HA : List ℕ = homes_in is_a.are_formatting_contexts.homes c in
+        let HB : List ℕ = homes_in is_b.are_formatting_contexts.homes e in
+        let BA : List BoxNode = boxes_in a.contexts c in
+        let BB : List BoxNode = boxes_in b.contexts e in
+        let IA : List ℕ = (context_at a.contexts c).inner in
+        let IB : List ℕ = (context_at b.contexts e).inner in
+        let within_b = inside_same one_home a b is_a is_b c e same r within in
+        let root_b = root_same one_home a b is_a is_b c e same r root in
+        let boxes_column = column_same one_home a b is_a is_b c e same no_own_box (place_cell a) (place_cell b) (none_same a b is_a is_b c e same)
+        (λ k lt some anchor. ap (λ (v : CellValue). (placed_in (own_places v) 0).placement.own) (inside k lt some anchor)) r in
+        let nothing : ℕ → List Frag = λ p. [] in
+        let pieces_column = column_same one_home a b is_a is_b c e same [] nothing nothing (none_same a b is_a is_b c e same) (λ k lt some anchor. refl) r in
+        let sized : sizes_in (own_sizes (a.kept c phase.Size)) (roots_before BA r) ≡ sizes_in (own_sizes (b.kept e phase.Size)) (roots_before BB r) =
+        ap (λ (v : CellValue). sizes_in (own_sizes v) (roots_before BA r)) sizes ∙ ap (sizes_in (own_sizes (b.kept e phase.Size))) (ordinals_same one_home a b is_a is_b c e same r) in
+        place_form a is_a c same.within r within root medium
+        ∙ placed_root_same (boxes_of_root BA HA r) (boxes_of_root BB HB r) (sizes_in (own_sizes (a.kept c phase.Size)) (roots_before BA r)) (sizes_in (own_sizes (b.kept e phase.Size)) (roots_before BB r))
+        (no_own_box ∷ map (given_at no_own_box (place_cell a) BA IA) (members BA HA r)) (no_own_box ∷ map (given_at no_own_box (place_cell b) BB IB) (members BB HB r))
+        ([] ∷ map (given_at [] nothing BA IA) (members BA HA r)) ([] ∷ map (given_at [] nothing BB IB) (members BB HB r))
+        (links_or_none (None ∷ map (link_at BA) (members BA HA r))) (links_or_none (None ∷ map (link_at BB) (members BB HB r)))
+        (own_place_of medium.viewport a.formatting_contexts (workings_in a) m) (own_place_of medium.viewport b.formatting_contexts (workings_in b) n) medium
+        (root_boxes_same one_home a b is_a is_b c e same r) sized (ap (λ (xs : List OwnBox). no_own_box ∷ xs) boxes_column) (ap (λ (xs : List (List Frag)). [] ∷ xs) pieces_column)
+        (links_same one_home a b is_a is_b c e same r) (position_same r within root position)
+        ∙ sym (place_form b is_b e same.there r within_b root_b medium)))
 
 -- one in flow or floating
 module _ (medium : Medium) (t : Table) (is : IsTable t) (c : ℕ) (lt : c < length t.contexts) (in_flow : is_out_of_flow t c ≡ false) where

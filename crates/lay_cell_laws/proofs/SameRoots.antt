@@ -30,7 +30,7 @@ use Rattle.lay_cell_work.specs.PresentInputs.{key_of, root_count, root_input, sp
 use Rattle.lay_cell_laws.specs.SameContexts.{IsSameContext, IsTable, Table, inner_at, input_in, workings_in}
 use Rattle.lay_cell_laws.proofs.InputForms.{table_are, table_calm, table_keeps}
 use Rattle.lay_cell_laws.proofs.MaskedColumns.{columns_same}
-use Rattle.lay_cell_laws.proofs.RootForms.{boxes_are, cell_or, chosen, given_at, link_at, members, number_within, other, root_is}
+use Rattle.lay_cell_laws.proofs.RootForms.{boxes_are, cell_or, chosen, given_at, link_at, members, number_within, other, positive, root_is}
 use Rattle.lay_cell_laws.proofs.RootsOfContexts.{spot_inside}
 
 pub no_root : RootInput
@@ -105,7 +105,7 @@ module _ (t : Table) (is : IsTable t) (c : ℕ) (lt : c < length t.contexts) whe
       let outer = outer_form r inside root in
       let ordinal : (formatting_context_at All m).outer - first_number t.contexts c ≡ roots_before B h = omega (arith, outer) in
       let put : ℕ → ℕ → Option RootSpot = λ x y. Some (record { root = x; place = y }) in
-      chosen (formatting_context_at All m).anonymous (put ((formatting_context_at All m).outer - first_number t.contexts c) (formatting_context_at All m).outer_box) None (anonymous_form (suc r) inside root)
+      chosen (formatting_context_at All m).anonymous (put ((formatting_context_at All m).outer - first_number t.contexts c) (formatting_context_at All m).outer_box) None (anonymous_form (suc r) inside root ∙ positive (suc r) (omega arith))
       ∙ ap (λ (x : ℕ). put x (formatting_context_at All m).outer_box) ordinal ∙ ap (put (roots_before B h)) (outer_box_form r inside root)
 
 module _ (one_home : OneHome) (a b : Table) (is_a : IsTable a) (is_b : IsTable b) (c e : ℕ) (same : IsSameContext a b c e) where

@@ -43,7 +43,7 @@ positive_holder : (boxes : List BoxNode) (k holder : ℕ) → IsNearestHolder bo
 positive_holder boxes k holder (parent k-1 some hold) = some
 positive_holder boxes k holder (farther k-1 holder-1 some empty rest) = some
 
-positive_other : (e : ℕ) → (e ≡ 0 → ⊥) → 0 < e
+pub positive_other : (e : ℕ) → (e ≡ 0 → ⊥) → 0 < e
 positive_other zero never = absurd (never refl)
 positive_other (suc e) never = omega arith
 
@@ -57,7 +57,7 @@ module _ (one_home : OneHome) (is_fixed : Bool) (a b : Table) (is_a : IsTable a)
   abbrev Way : (i j k : ℕ) → Type 0
   Way i j k = carried.IsSameWay is_fixed a.formatting_contexts b.formatting_contexts V W i j k
 
-  moved : (i j k x y z : ℕ) → i ≡ x → j ≡ y → k ≡ z → Way x y z → Way i j k
+  pub moved : (i j k x y z : ℕ) → i ≡ x → j ≡ y → k ≡ z → Way x y z → Way i j k
   moved i j k x y z p q r way =
       subst (λ (n : ℕ). Way n j k) (sym p) (subst (λ (n : ℕ). Way x n k) (sym q) (subst (λ (n : ℕ). Way x y n) (sym r) way))
 
