@@ -123,10 +123,13 @@ module _ (t : Table) (is : IsTable t) (c k : ℕ) (lt : c < length t.contexts) (
 
   pub none_by : (b : Bool) → is_inner (boxes_in t.contexts c) k ≡ b → (inner_at t c k ≡ 0) ↔ (b ≡ false)
   none_by true marked = ((λ z. absurd (let s = some_inside marked in omega (arith, s, z))), (λ z. absurd cc))
-  none_by false marked = ((λ z. refl), (λ z. elim (cases_lt 0 (inner_at t c k)) [
-    | inl some ↦ absurd (let m : false ≡ true = sym marked ∙ marked_inside some in cc)
-    | inr high ↦ omega (arith, high)
-  ]))
+  none_by false marked = (
+    (λ z. refl),
+    (λ z. elim (cases_lt 0 (inner_at t c k)) [
+      | inl some ↦ absurd (let m : false ≡ true = sym marked ∙ marked_inside some in cc)
+      | inr high ↦ omega (arith, high)
+    ]),
+  )
 
 -- contexts with the same boxes have contexts inside at the same boxes
 pub none_same : (a b : Table) → IsTable a → IsTable b → (c e : ℕ) → IsSameContext a b c e → (k : ℕ) → k < length (boxes_in a.contexts c) → (inner_at a c k ≡ 0) ↔ (inner_at b e k ≡ 0)

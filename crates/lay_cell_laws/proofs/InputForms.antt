@@ -202,8 +202,8 @@ module _ (t : Table) (is : IsTable t) where
         → root_input_as (links_of All First M) (spot_in All First M) (place_as (flow_input medium All W M) (option_map (table_input All W M) table) (stand_input medium All W M))
         ≡ record {
           given = place_as (record (flow_input medium All W M) { inner = masked no_own_box (links_of All First M) (inner_boxes All W.places M); pieces = masked [] (links_of All First M) (inner_pieces All W.places M) })
-          (option_map (λ x. record (table_input All W M x) { inner = masked no_own_box (links_of All First M) (inner_boxes All W.places M); pieces = masked [] (links_of All First M) (inner_pieces All W.places M) }) table)
-          (stand_input medium All W M);
+              (option_map (λ x. record (table_input All W M x) { inner = masked no_own_box (links_of All First M) (inner_boxes All W.places M); pieces = masked [] (links_of All First M) (inner_pieces All W.places M) }) table)
+              (stand_input medium All W M);
           links = links_of All First M;
           around = None;
         }

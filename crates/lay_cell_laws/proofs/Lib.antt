@@ -7,6 +7,7 @@ pub mod InputForms
 pub mod SameRoots
 pub mod InnerContexts
 pub mod OuterBoxes
+pub mod Counterparts
 pub mod SameInputs
 pub mod CarriedRects
 pub mod HoldersAtHome

@@ -94,11 +94,11 @@ module _ (one : OneLocal) (i : CellInput) (leads : LeadsInward i) where
     widths_same zero r le = past ws r no_widths (let c = a.count in omega (arith, c, le)) ∙ sym (past us r no_widths (let c = b.count in omega (arith, c, le)))
     widths_same (suc d) r le = elim (cases_lt r (length i.roots)) [
       | inl lt ↦ width_value (widths_in ws r) (widths_in us r) (one_at (Widths ws) (Widths us) r a b lt (λ x there. record {
-          widths = λ given. filled_same no_widths ws us x.links given (λ k l e. widths_same d l (let more = leads.links r k l x there e in omega (arith, le, more)));
-          boxes = λ given. refl;
-          pieces = λ given. refl;
-          settings = λ given. widths_set i.roots ws us x.around given;
-        }))
+        widths = λ given. filled_same no_widths ws us x.links given (λ k l e. widths_same d l (let more = leads.links r k l x there e in omega (arith, le, more)));
+        boxes = λ given. refl;
+        pieces = λ given. refl;
+        settings = λ given. widths_set i.roots ws us x.around given;
+      }))
       | inr high ↦ past ws r no_widths (let c = a.count in omega (arith, c, high)) ∙ sym (past us r no_widths (let c = b.count in omega (arith, c, high)))
     ]
 
@@ -111,9 +111,9 @@ module _ (one : OneLocal) (i : CellInput) (leads : LeadsInward i) where
           record {
             widths = λ given. refl;
             boxes = λ given. filled_same no_own_box (own_boxes (Places ps)) (own_boxes (Places qs)) x.links given (λ k l e.
-            map_at (λ (p : PlacedContext). p.placement.own) ps l not_placed ∙ ap (λ (p : PlacedContext). p.placement.own) (linked k l e) ∙ sym (map_at (λ (p : PlacedContext). p.placement.own) qs l not_placed));
+                map_at (λ (p : PlacedContext). p.placement.own) ps l not_placed ∙ ap (λ (p : PlacedContext). p.placement.own) (linked k l e) ∙ sym (map_at (λ (p : PlacedContext). p.placement.own) qs l not_placed));
             pieces = λ given. filled_same [] (own_pieces (Places ps)) (own_pieces (Places qs)) x.links given (λ k l e.
-            map_at (λ (p : PlacedContext). p.placement.pieces) ps l not_placed ∙ ap (λ (p : PlacedContext). p.placement.pieces) (linked k l e) ∙ sym (map_at (λ (p : PlacedContext). p.placement.pieces) qs l not_placed));
+                map_at (λ (p : PlacedContext). p.placement.pieces) ps l not_placed ∙ ap (λ (p : PlacedContext). p.placement.pieces) (linked k l e) ∙ sym (map_at (λ (p : PlacedContext). p.placement.pieces) qs l not_placed));
             settings = λ given. places_set i.roots ps qs x.around given;
           })))
       | inr high ↦ past ps r not_placed (let c = a.count in omega (arith, c, high)) ∙ sym (past qs r not_placed (let c = b.count in omega (arith, c, high)))
@@ -124,11 +124,11 @@ module _ (one : OneLocal) (i : CellInput) (leads : LeadsInward i) where
     sizes_same zero r lt = absurd (omega (arith, lt))
     sizes_same (suc d) r lt = elim (cases_lt r (length i.roots)) [
       | inl there ↦ size_value (sizes_in zs r) (sizes_in ys r) (one_at (Sizes zs) (Sizes ys) r a b there (λ x is. record {
-          widths = λ given. refl;
-          boxes = λ given. refl;
-          pieces = λ given. refl;
-          settings = λ given. sizes_set i.roots zs ys x.around given (λ spot e. sizes_same d spot.root (let less = leads.around r x spot is e in omega (arith, lt, less)));
-        }))
+        widths = λ given. refl;
+        boxes = λ given. refl;
+        pieces = λ given. refl;
+        settings = λ given. sizes_set i.roots zs ys x.around given (λ spot e. sizes_same d spot.root (let less = leads.around r x spot is e in omega (arith, lt, less)));
+      }))
       | inr high ↦ past zs r not_sized (let c = a.count in omega (arith, c, high)) ∙ sym (past ys r not_sized (let c = b.count in omega (arith, c, high)))
     ]
 

@@ -116,7 +116,7 @@ module _ (t : Table) (is : IsTable t) where
     box_marked : is_inner (boxes_in t.contexts Outer) OuterBox ≡ true
     box_marked = (contexts_are_noted is.document is.styles t.contexts c is.is_document is.counted is.are_contexts some lt).inner
 
-    box_id : slice_index (box_ids (boxes_in t.contexts Outer)) OuterBox ≡ slice_index (box_ids (boxes_in t.contexts c)) 0
+    pub box_id : slice_index (box_ids (boxes_in t.contexts Outer)) OuterBox ≡ slice_index (box_ids (boxes_in t.contexts c)) 0
     box_id = ap (λ (boxes : List BoxNode). slice_index (box_ids boxes) OuterBox) (boxes_are_of Outer outer_lt) ∙ stands.node ∙ sym (id_is c lt)
 
     -- and no other one there is

@@ -59,21 +59,21 @@ module _ (one_home : OneHome) (where_shrunk : MeasuredWhereShrunk) (medium : Med
       let same = to.own in
       let inside = to.inside in
       roots_same one_home a b is_a is_b c e same medium phase.Measure (λ r within root.
-          (let HA : List ℕ = homes_in is_a.are_formatting_contexts.homes c in
-          let HB : List ℕ = homes_in is_b.are_formatting_contexts.homes e in
-          let BA : List BoxNode = boxes_in a.contexts c in
-          let BB : List BoxNode = boxes_in b.contexts e in
-          let IA : List ℕ = (context_at a.contexts c).inner in
-          let IB : List ℕ = (context_at b.contexts e).inner in
-          let column = column_same one_home a b is_a is_b c e same no_widths (measure_cell a) (measure_cell b) (none_same a b is_a is_b c e same)
-          (λ k lt some anchor. ap (λ (v : CellValue). widths_in (own_widths v) 0) (inside k lt some anchor)) r in
-          measure_form a is_a c same.within r within root medium
-          ∙ measured_root_same (is_measured a.formatting_contexts (number_of a.contexts c r)) (is_measured b.formatting_contexts (number_of b.contexts e r)) (boxes_of_root BA HA r) (boxes_of_root BB HB r)
-          (no_widths ∷ map (given_at no_widths (measure_cell a) BA IA) (members BA HA r)) (no_widths ∷ map (given_at no_widths (measure_cell b) BB IB) (members BB HB r))
-          (links_or_none (None ∷ map (link_at BA) (members BA HA r))) (links_or_none (None ∷ map (link_at BB) (members BB HB r))) medium
-          (measured_same one_home where_shrunk a b is_a is_b c e same to.measured r within root) (root_boxes_same one_home a b is_a is_b c e same r)
-          (ap (λ (ws : List PreferredWidths). no_widths ∷ ws) column) (links_same one_home a b is_a is_b c e same r)
-          ∙ sym (measure_form b is_b e same.there r (inside_same one_home a b is_a is_b c e same r within) (root_same one_home a b is_a is_b c e same r root) medium)))
+      (let HA : List ℕ = homes_in is_a.are_formatting_contexts.homes c in
+      let HB : List ℕ = homes_in is_b.are_formatting_contexts.homes e in
+      let BA : List BoxNode = boxes_in a.contexts c in
+      let BB : List BoxNode = boxes_in b.contexts e in
+      let IA : List ℕ = (context_at a.contexts c).inner in
+      let IB : List ℕ = (context_at b.contexts e).inner in
+      let column = column_same one_home a b is_a is_b c e same no_widths (measure_cell a) (measure_cell b) (none_same a b is_a is_b c e same)
+      (λ k lt some anchor. ap (λ (v : CellValue). widths_in (own_widths v) 0) (inside k lt some anchor)) r in
+      measure_form a is_a c same.within r within root medium
+      ∙ measured_root_same (is_measured a.formatting_contexts (number_of a.contexts c r)) (is_measured b.formatting_contexts (number_of b.contexts e r)) (boxes_of_root BA HA r) (boxes_of_root BB HB r)
+      (no_widths ∷ map (given_at no_widths (measure_cell a) BA IA) (members BA HA r)) (no_widths ∷ map (given_at no_widths (measure_cell b) BB IB) (members BB HB r))
+      (links_or_none (None ∷ map (link_at BA) (members BA HA r))) (links_or_none (None ∷ map (link_at BB) (members BB HB r))) medium
+      (measured_same one_home where_shrunk a b is_a is_b c e same to.measured r within root) (root_boxes_same one_home a b is_a is_b c e same r)
+      (ap (λ (ws : List PreferredWidths). no_widths ∷ ws) column) (links_same one_home a b is_a is_b c e same r)
+      ∙ sym (measure_form b is_b e same.there r (inside_same one_home a b is_a is_b c e same r within) (root_same one_home a b is_a is_b c e same r root) medium)))
 
   module _ (same : IsSameContext a b c e) where
     setting_by_spot : (r : ℕ) (x y : Option RootSpot) (s t : Setting) → x ≡ spot_form (boxes_in a.contexts c) (homes_in is_a.are_formatting_contexts.homes c) r

@@ -30,5 +30,5 @@ OneCellLocal = (i : CellInput) (v w : CellValue) → LeadsInward i → IsCellLoc
 
 -- and what cells are given among the contexts of a document goes one way
 abbrev pub PresentInputsLeadInward : Type 0
-PresentInputsLeadInward = (medium : Medium) (contexts : List Context) (all : List FormattingContext) (w : Workings) (c : ℕ) (phase : Phase) → AreContexts contexts → AreFormattingContextsOf contexts all
-    → c < length contexts → LeadsInward (present_input medium contexts all w c phase)
+PresentInputsLeadInward = (medium : Medium) (contexts : List Context) (all : List FormattingContext) (w : Workings) (c : ℕ) (phase : Phase)
+    → AreContexts contexts → AreFormattingContextsOf contexts all → c < length contexts → LeadsInward (present_input medium contexts all w c phase)

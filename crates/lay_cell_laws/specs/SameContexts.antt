@@ -1,5 +1,5 @@
--- Contexts of two documents that are the same for the task of a cell. What a cell is given comes of its context itself and of what the cells
--- keep that it depends on: for preferred widths of the contexts inside (CSS 2.2, 10.3.5), for sizes of the one around (10.1), and for
+-- Contexts of two documents that are the same for the task of a cell. What a cell is given comes of its context itself and of what the
+-- cells keep that it depends on: for preferred widths of the contexts inside (CSS 2.2, 10.3.5), for sizes of the one around (10.1), and for
 -- places of the contexts inside again. Contexts are known by numbers in each document, and an edit moves these: so none is in what is said
 -- here to be the same.
 use Rattle.std.specs.Prelude.{ℕ, ◌≡◌, ◌<◌, ◌↔◌, Bool, true, false, List, length, slice_index, Some}
@@ -21,7 +21,7 @@ use Rattle.lay_context.specs.Workings.{Workings}
 use Rattle.lay_cell_work.specs.CellInputs.{CellInput}
 use Rattle.lay_cell_work.specs.CellValues.{CellValue}
 use Rattle.lay_cell_work.specs.KeptValues.{workings_of}
-use Rattle.lay_cell_work.specs.PresentInputs.{present_input}
+use Rattle.lay_cell_work.specs.PresentInputs.{key_of, present_input}
 
 -- contexts with their formatting contexts, and what the cell of each keeps for a phase
 pub record Table : Type 0 where
@@ -59,13 +59,14 @@ inner_at t c k = slice_index (context_at t.contexts c).inner k
 -- The cells of the contexts inside that are in flow or float keep the same for a phase, box by box. What an anchor stands for gives
 -- nothing (9.6).
 abbrev pub AreSameInside : (a b : Table) (c e : ℕ) → Phase → Type 0
-AreSameInside a b c e phase = (k : ℕ) → k < length (boxes_in a.contexts c) → 0 < inner_at a c k → is_anchor_at (boxes_in a.contexts c) k ≡ false
-    → a.kept (inner_at a c k) phase ≡ b.kept (inner_at b e k) phase
+AreSameInside a b c e phase = (k : ℕ) → k < length (boxes_in a.contexts c) → 0 < inner_at a c k
+    → is_anchor_at (boxes_in a.contexts c) k ≡ false → a.kept (inner_at a c k) phase ≡ b.kept (inner_at b e k) phase
 
 -- to be measured
 pub record IsSameToMeasure (a b : Table) (c e : ℕ) : Type 0 where
   pub own : IsSameContext a b c e
-  pub measured : is_measured a.formatting_contexts (first_number a.contexts c) ≡ is_measured b.formatting_contexts (first_number b.contexts e)
+  pub measured : is_measured a.formatting_contexts (first_number a.contexts c)
+      ≡ is_measured b.formatting_contexts (first_number b.contexts e)
   pub inside : AreSameInside a b c e phase.Measure
 
 -- the context around has the same boxes, and its cell keeps the same sizes
@@ -82,7 +83,8 @@ pub record IsLaidSame (a b : Table) (c e : ℕ) : Type 0 where
 -- and so are those on the way from the box at k in the context c out to its containing block (10.1): to the nearest box that can be one,
 -- or to the viewport
 pub data IsSameWay (is_fixed : Bool) (a b : Table) : (c e k : ℕ) → Type 0 where
-  held : (c e k holder : ℕ) → IsLaidSame a b c e → IsHolderFor is_fixed (boxes_in a.contexts c) k (Some holder) → IsSameWay is_fixed a b c e k
+  held : (c e k holder : ℕ) → IsLaidSame a b c e → IsHolderFor is_fixed (boxes_in a.contexts c) k (Some holder)
+      → IsSameWay is_fixed a b c e k
   further : (c e k : ℕ) → 0 < c → IsLaidSame a b c e
       → IsSameWay is_fixed a b (context_at a.contexts c).outer (context_at b.contexts e).outer (context_at a.contexts c).outer_box
       → IsSameWay is_fixed a b c e k
@@ -91,7 +93,8 @@ pub data IsSameWay (is_fixed : Bool) (a b : Table) : (c e k : ℕ) → Type 0 wh
 -- and those on the way out from the anchor of an absolutely positioned context
 abbrev pub IsSameOut : (a b : Table) (c e : ℕ) → Type 0
 IsSameOut a b c e =
-    IsSameWay (is_own_fixed (boxes_in a.contexts c)) a b (context_at a.contexts c).outer (context_at b.contexts e).outer (context_at a.contexts c).outer_box
+    let own : Context = context_at a.contexts c in
+    IsSameWay (is_own_fixed own.boxes) a b own.outer (context_at b.contexts e).outer own.outer_box
 
 -- the context is absolutely positioned (9.6)
 abbrev pub is_out_of_flow : Table → ℕ → Bool
@@ -113,10 +116,18 @@ pub record IsSameToPlace (a b : Table) (c e : ℕ) : Type 0 where
 
 -- Where a context is the same for a task, and what its cell depends on is kept, the cell is given what it was.
 abbrev pub MeasureInputsAreKept : Type 0
-MeasureInputsAreKept = (medium : Medium) (a b : Table) (c e : ℕ) → IsTable a → IsTable b → IsSameToMeasure a b c e → input_in medium a c phase.Measure ≡ input_in medium b e phase.Measure
+MeasureInputsAreKept = (medium : Medium) (a b : Table) (c e : ℕ) → IsTable a → IsTable b → IsSameToMeasure a b c e
+    → input_in medium a c phase.Measure ≡ input_in medium b e phase.Measure
 
 abbrev pub SizeInputsAreKept : Type 0
-SizeInputsAreKept = (medium : Medium) (a b : Table) (c e : ℕ) → IsTable a → IsTable b → IsSameToSize a b c e → input_in medium a c phase.Size ≡ input_in medium b e phase.Size
+SizeInputsAreKept = (medium : Medium) (a b : Table) (c e : ℕ) → IsTable a → IsTable b → IsSameToSize a b c e
+    → input_in medium a c phase.Size ≡ input_in medium b e phase.Size
 
 abbrev pub PlaceInputsAreKept : Type 0
-PlaceInputsAreKept = (medium : Medium) (a b : Table) (c e : ℕ) → IsTable a → IsTable b → IsSameToPlace a b c e → input_in medium a c phase.Place ≡ input_in medium b e phase.Place
+PlaceInputsAreKept = (medium : Medium) (a b : Table) (c e : ℕ) → IsTable a → IsTable b → IsSameToPlace a b c e
+    → input_in medium a c phase.Place ≡ input_in medium b e phase.Place
+
+-- What stands inside at the same box is of one node, so its cells are known by the same keys.
+abbrev pub CounterpartsAreOfOneNode : Type 0
+CounterpartsAreOfOneNode = (a b : Table) (c e k : ℕ) (phase : Phase) → IsTable a → IsTable b → IsSameContext a b c e
+    → k < length (boxes_in a.contexts c) → 0 < inner_at a c k → key_of a.contexts (inner_at a c k) phase ≡ key_of b.contexts (inner_at b e k) phase

@@ -63,5 +63,6 @@ pub record IsSoundOf (d : Document) (face : FaceValue) (s : CellState) : Type 0 
 
 -- Where all cells are clean, the tree of the values that they keep is the layout of the document.
 abbrev pub CleanCellsSolve : Type 0
-CleanCellsSolve = (d : Document) (face : FaceValue) (s : CellState) (tree : List PageContext) → IsDocument d → (of : IsSoundOf d face s) → AllClean s.rows
+CleanCellsSolve = (d : Document) (face : FaceValue) (s : CellState) (tree : List PageContext) → IsDocument d → (of : IsSoundOf d face s)
+    → AllClean s.rows
     → IsAssembled of.formatting_contexts (kept_workings s.rows of.contexts) tree → Solves d face tree

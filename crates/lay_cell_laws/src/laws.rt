@@ -1,7 +1,7 @@
 //! The laws. The functions do nothing.
 
 ghost use Rattle.lay_cell_laws.specs.Laws.{OneCellLocal, PresentInputsLeadInward, ValuesStandAtNumbers};
-ghost use Rattle.lay_cell_laws.specs.SameContexts.{MeasureInputsAreKept, PlaceInputsAreKept, SizeInputsAreKept};
+ghost use Rattle.lay_cell_laws.specs.SameContexts.{CounterpartsAreOfOneNode, MeasureInputsAreKept, PlaceInputsAreKept, SizeInputsAreKept};
 ghost use Rattle.lay_cell_laws.specs.SoundCells.{CleanCellsSolve};
 ghost use Rattle.lay_context_sizes.specs.ContextSizes.{SizedContext};
 ghost use Rattle.lay_context.specs.PlacedContexts.{PlacedContext};
@@ -68,3 +68,8 @@ pub fn place_inputs_are_kept()
     settings_come_of_ways();
     settings_are_values();
 }
+
+/// At the same box of contexts with the same boxes stand contexts of one node.
+pub fn counterparts_are_of_one_node()
+    ensures { CounterpartsAreOfOneNode }
+{}
