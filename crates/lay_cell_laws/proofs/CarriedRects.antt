@@ -1,5 +1,5 @@
 -- What an absolutely positioned box is given is the same among other formatting contexts, where those on its way are the same there.
-use Rattle.std.proofs.Common.{◌≡◌, ◌<◌, ℕ, zero, suc, Bool, true, false, if◌then◌else◌, List, Option, None, Some, refl, ap, sym, ◌∙◌, subst, arith}
+use Rattle.std.proofs.Common.{◌≡◌, ◌<◌, ℕ, Bool, if◌then◌else◌, List, Option, None, Some, refl, ap, sym, ◌∙◌, subst, arith}
 use Rattle.lay_units.specs.declared.records.Rect.{Rect}
 use Rattle.lay_box_tree.specs.declared.box_tree.BoxNode.{BoxNode}
 use Rattle.lay_sizes.specs.declared.sizing.ContainingBlock.{ContainingBlock}

@@ -1,21 +1,18 @@
 -- Cells that are all clean solve their document: what each keeps is right beside what it is given now.
-use Rattle.std.proofs.Common.{◌≡◌, ◌<◌, ◌+◌, ◌-◌, ◌==◌, ◌&&◌, ℕ, zero, suc, Bool, true, false, if◌then◌else◌, List, [], ◌∷◌, length, map, slice_get, Option, None, Some, option_map, refl, ap, sym, subst, ◌∙◌, arith}
+use Rattle.std.proofs.Common.{◌≡◌, ◌<◌, ◌+◌, ◌-◌, ◌==◌, ◌&&◌, ℕ, zero, suc, Bool, true, false, List, [], ◌∷◌, length, slice_get, Option, None, Some, option_map, refl, ap, sym, subst, ◌∙◌, arith}
 use Rattle.std.proofs.lemmas.List.FromFn.{get_or-map-range_with_len, length-map-range_with_len}
 use Rattle.std.proofs.lemmas.Option.{slice_get-get_or}
-use Rattle.lay_doc.specs.Document.{Document, IsDocument}
-use Rattle.lay_doc.specs.declared.node.NodeId.{NodeId}
 use Rattle.lay_boxgen.proofs.NodeColumns.{length-parents}
 use Rattle.lay_measure.specs.MeasureInValue.{no_widths}
 use Rattle.lay_cells.specs.Shapes.{IsIn}
 use Rattle.lay_cells.specs.Reads.{AllClean}
-use Rattle.lay_cells.specs.Rows.{Row, Solved, State}
+use Rattle.lay_cells.specs.Rows.{Solved}
 use Rattle.lay_contexts.specs.Contexts.{AreContexts, Context}
 use Rattle.lay_contexts.specs.FormattingContexts.{FormattingContext}
 use Rattle.lay_contexts.specs.FormattingContextList.{AreFormattingContextsOf, first_number}
 use Rattle.lay_contexts.specs.Laws.{AnonymousBoxesAreInFlow}
 use Rattle.lay_contexts.proofs.ContextFacts.{root_of}
 use Rattle.lay_contexts.proofs.ContextNumbers.{are_contexts}
-use Rattle.lay_contexts.proofs.RootNumbers.{Numbered}
 use Rattle.lay_context_sizes.specs.ContextSizes.{not_sized}
 use Rattle.lay_context.specs.declared.input.Input.{Input}
 use Rattle.lay_context.specs.declared.task.Phase.{Phase}
@@ -36,7 +33,7 @@ use Rattle.lay_cell_work.specs.CellLocal.{IsCellLocal, whole_input}
 use Rattle.lay_cell_work.specs.CellValues.{CellValue, Places, Sizes, Widths, own_places, own_sizes, own_widths, phase_of, root_value}
 use Rattle.lay_cell_work.specs.KeptValues.{is_key, is_phase, kept_value, kept_workings, value_or_none, value_under, workings_of}
 use Rattle.lay_cell_work.specs.PresentInputs.{key_of, present_input, root_count, root_input}
-use Rattle.lay_cell_laws.specs.SoundCells.{AreCellsOf, CellRow, CellState, CleanCellsSolve, IsCellOf, input_now}
+use Rattle.lay_cell_laws.specs.SoundCells.{AreCellsOf, CellRow, CellState, CleanCellsSolve, input_now}
 use Rattle.lay_cell_laws.proofs.EndToEnd.{counted}
 use Rattle.lay_cell_laws.proofs.RootsOfContexts.{AreCalm, IsOf, own_number}
 use Rattle.lay_cell_laws.proofs.WholeInputs.{placed_at, sizes_at, whole_is, widths_at}

@@ -1,5 +1,5 @@
 -- A box that is marked as that of an inner context has one: the context of its node, which stands there and nowhere else.
-use Rattle.std.proofs.Common.{◌≡◌, ◌<◌, ◌≤◌, ◌↔◌, ℕ, zero, suc, Bool, true, false, All, List, [], ◌∷◌, length, map, slice_index, slice_index_or, refl, ap, sym, subst, ◌∙◌, arith, inl, inr}
+use Rattle.std.proofs.Common.{◌≡◌, ◌<◌, ◌↔◌, ℕ, Bool, true, false, All, List, length, slice_index, refl, ap, sym, subst, ◌∙◌, arith, inl, inr}
 use Rattle.std.proofs.lemmas.Bool.{cases_lt}
 use Rattle.std.proofs.lemmas.List.{get_or-map}
 use Rattle.lay_style.specs.declared.style.Style.{Style}
@@ -14,7 +14,6 @@ use Rattle.lay_boxgen.specs.InnerBoxes.{IsInnerContext}
 use Rattle.lay_boxgen.specs.Listing.{box_node}
 use Rattle.lay_boxgen.proofs.InnerContexts.{inner_boxes_are_contexts}
 use Rattle.lay_contexts.specs.Contexts.{IsInside as IsInsideContext, boxes_in, context_at}
-use Rattle.lay_contexts.specs.ContextList.{boxes_of_spots}
 use Rattle.lay_contexts.specs.ContextTree.{StandsIn, boxes_of_place}
 use Rattle.lay_contexts.specs.DocumentContexts.{spot_at}
 use Rattle.lay_contexts.specs.declared.context_spot.ContextSpot.{ContextSpot}

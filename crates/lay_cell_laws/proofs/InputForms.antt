@@ -1,5 +1,5 @@
 -- What the roots of a context are given in all, without numbers of formatting contexts.
-use Rattle.std.proofs.Common.{◌≡◌, ◌<◌, ◌≤◌, ◌+◌, ◌-◌, ℕ, zero, suc, Bool, true, false, List, [], ◌∷◌, length, map, slice_index, Option, None, Some, option_map, refl, ap, sym, subst, ◌∙◌, arith}
+use Rattle.std.proofs.Common.{◌≡◌, ◌<◌, ◌-◌, ℕ, zero, suc, Bool, true, false, List, [], ◌∷◌, length, map, Option, None, Some, option_map, refl, ap, ◌∙◌, arith}
 use Rattle.lay_frag.specs.declared.frag.Frag.{Frag}
 use Rattle.lay_box_tree.specs.declared.box_tree.BoxNode.{BoxNode}
 use Rattle.lay_measure.specs.MeasureInValue.{no_widths}
@@ -7,10 +7,10 @@ use Rattle.lay_measure.specs.declared.preferred_widths.PreferredWidths.{Preferre
 use Rattle.lay_sizes.specs.declared.own_boxes.OwnBox.{OwnBox}
 use Rattle.lay_sizes.specs.OwnBoxes.{no_own_box}
 use Rattle.lay_table_sizes.specs.TableSizesValue.{TableSizesValue}
-use Rattle.lay_contexts.specs.Contexts.{AreContexts, Context, boxes_in, context_at}
+use Rattle.lay_contexts.specs.Contexts.{AreContexts, boxes_in, context_at}
 use Rattle.lay_contexts.specs.FormattingBoxes.{boxes_of_root}
 use Rattle.lay_contexts.specs.FormattingContexts.{FormattingContext, boxes_in as boxes_of, formatting_context_at}
-use Rattle.lay_contexts.specs.FormattingContextList.{AreFormattingContextsOf, first_number, homes_in, number_of, roots_before}
+use Rattle.lay_contexts.specs.FormattingContextList.{first_number, homes_in, number_of, roots_before}
 use Rattle.lay_contexts.specs.Homes.{is_root}
 use Rattle.lay_contexts.specs.Laws.{KeepsFlowAround}
 use Rattle.lay_contexts.proofs.ContextNumbers.{are_contexts}
@@ -20,10 +20,9 @@ use Rattle.lay_pieces.specs.Placements.{Placement}
 use Rattle.lay_abspos.specs.declared.own_place.OwnPlace.{OwnPlace}
 use Rattle.lay_context_sizes.specs.ContextSizes.{SizedContext}
 use Rattle.lay_context_sizes.specs.declared.setting.Setting.{Setting}
-use Rattle.lay_context.specs.declared.input.Input.{Input}
 use Rattle.lay_context.specs.declared.input.Input.TheVariants as input
 use Rattle.lay_context.specs.declared.task.Phase.TheVariants as phase
-use Rattle.lay_context.specs.DocumentLayout.{flow_numbers, inner_boxes, inner_pieces, inner_widths, inner_widths_in, own_box_in, painted_of, pieces_in, widths_in}
+use Rattle.lay_context.specs.DocumentLayout.{inner_boxes, inner_pieces, inner_widths, inner_widths_in, own_box_in, painted_of, pieces_in, widths_in}
 use Rattle.lay_context.specs.Local.{flow_input, measure_as, measure_input, place_as, stand_input, table_input}
 use Rattle.lay_context.specs.Measured.{is_measured}
 use Rattle.lay_context.specs.Medium.{Medium}
@@ -35,7 +34,7 @@ use Rattle.lay_cell_work.specs.declared.root_spot.RootSpot.{RootSpot}
 use Rattle.lay_cell_work.specs.CellColumns.{links_of, links_or_none, masked}
 use Rattle.lay_cell_work.specs.CellInputs.{RootInput}
 use Rattle.lay_cell_work.specs.CellValues.{own_places, own_sizes, own_widths}
-use Rattle.lay_cell_work.specs.PresentInputs.{root_count, root_input, root_input_as, spot_in}
+use Rattle.lay_cell_work.specs.PresentInputs.{root_input, root_input_as, spot_in}
 use Rattle.lay_cell_laws.specs.SameContexts.{IsTable, Table, workings_in}
 use Rattle.lay_cell_laws.proofs.RootForms.{boxes_are, given_at, link_at, links_are, masked_are, members, own_anonymous, own_some}
 use Rattle.lay_cell_laws.proofs.RootsOfContexts.{AreCalm, IsOf, number_is_of}

@@ -1,7 +1,6 @@
 -- What the cells of contexts are given for sizes and places is kept, in flow by what is around them, and out of flow by their way out.
-use Rattle.std.proofs.Common.{◌≡◌, ◌<◌, ◌≤◌, ◌+◌, ◌↔◌, ℕ, zero, suc, Bool, true, false, if◌then◌else◌, List, [], ◌∷◌, length, slice_index, Option, None, Some, refl, ap, sym, subst, ◌∙◌, arith, inl, inr}
+use Rattle.std.proofs.Common.{◌≡◌, ◌<◌, ℕ, zero, suc, Bool, true, false, List, [], ◌∷◌, length, slice_index, None, Some, refl, ap, sym, subst, ◌∙◌, arith, inl, inr}
 use Rattle.std.proofs.lemmas.Bool.{cases_lt}
-use Rattle.lay_units.specs.declared.records.Rect.{Rect}
 use Rattle.lay_anonymous_boxes.specs.Forms as forms
 use Rattle.lay_box_tree.specs.declared.box_tree.BoxNode.{BoxNode}
 use Rattle.lay_sizes.specs.declared.sizing.ContainingBlock.{ContainingBlock}
@@ -10,22 +9,18 @@ use Rattle.lay_contexts.specs.FlowLaws.{flow_at}
 use Rattle.lay_contexts.specs.FormattingBoxes.{boxes_of_root, rank}
 use Rattle.lay_contexts.specs.FormattingContexts.{AreFormattingContexts, FormattingContext, boxes_in as boxes_of, formatting_context_at}
 use Rattle.lay_contexts.specs.FormattingContextList.{first_number, homes_in, number_at, number_of, rank_at}
-use Rattle.lay_contexts.specs.Homes.{OneHome, is_root}
+use Rattle.lay_contexts.specs.Homes.{OneHome}
 use Rattle.lay_contexts.proofs.ContextFacts.{in_order}
-use Rattle.lay_pieces.specs.declared.corner.Corner.{Corner}
 use Rattle.lay_pieces.specs.Standings.{standing_at}
-use Rattle.lay_abspos.specs.declared.own_place.OwnPlace.{OwnPlace}
 use Rattle.lay_abspos.specs.declared.own_place.OwnPlace.TheVariants as own_place
 use Rattle.lay_abspos.specs.declared.setting.AbsoluteSetting.{AbsoluteSetting}
 use Rattle.lay_positioned.specs.Absolute.{is_absolute, is_fixed, is_own_fixed}
 use Rattle.lay_positioned.specs.ContainingRects.{IsContainingRect}
-use Rattle.lay_positioned.specs.Holders.{IsHolderFor, IsNearestHolder}
+use Rattle.lay_positioned.specs.Holders.{IsHolderFor}
 use Rattle.lay_positioned.specs.Laws.{OneNearestHolder, SettingsAreValues, SettingsComeOfWays}
 use Rattle.lay_positioned.specs.Layouts.{Layout, standing_of}
 use Rattle.lay_positioned.specs.Settings.{IsInnerSetting, IsSetting, absolute_setting, setting_beside}
-use Rattle.lay_context_sizes.specs.declared.setting.Setting.{Setting}
 use Rattle.lay_context_sizes.specs.declared.setting.Setting.TheVariants.{Absolute}
-use Rattle.lay_context.specs.declared.task.Phase.TheVariants as phase
 use Rattle.lay_context.specs.Laws.{MeasuredWhereShrunk}
 use Rattle.lay_context.specs.Medium.{Medium}
 use Rattle.lay_context.specs.Settings.{flow_place, flow_setting, laid, own_place_of, setting_of}
@@ -33,8 +28,8 @@ use Rattle.lay_cell_laws.specs.SameContexts.{IsSameAround, IsSameContext, IsSame
 use Rattle.lay_cell_laws.proofs.CarriedRects as carried
 use Rattle.lay_cell_laws.proofs.InputForms.{table_are, table_calm, table_keeps}
 use Rattle.lay_cell_laws.proofs.OuterBoxes.{outer_boxes_same}
-use Rattle.lay_cell_laws.proofs.RootForms.{boxes_are, number_within, own_absolute, own_is, own_some, chosen}
-use Rattle.lay_cell_laws.proofs.SameInputs.{first_is, flow_place_is, flow_place_same, flow_setting_same, place_kept, size_kept, spot_around}
+use Rattle.lay_cell_laws.proofs.RootForms.{number_within, own_absolute, own_is, own_some, chosen}
+use Rattle.lay_cell_laws.proofs.SameInputs.{flow_place_is, flow_place_same, flow_setting_same, place_kept, size_kept, spot_around}
 use Rattle.lay_cell_laws.proofs.SameRoots.{boxes_same, homes_same}
 use Rattle.lay_cell_laws.proofs.SameWays.{moved, positive_other, way_from, way_laid}
 

@@ -1,7 +1,6 @@
 -- What the roots of a context give each other goes one way: anonymous roots stand behind the one around them.
-use Rattle.std.proofs.Common.{◌≡◌, ◌<◌, ◌≤◌, ◌+◌, ◌-◌, ℕ, zero, suc, Bool, true, false, if◌then◌else◌, List, [], ◌∷◌, length, map, slice_get, slice_index, Option, None, Some, option_map, refl, ap, sym, subst, ◌∙◌, arith}
-use Rattle.std.specs.List.{list_any, range_with_len}
-use Rattle.std.proofs.lemmas.List.{get_or-map, length-map}
+use Rattle.std.proofs.Common.{◌≡◌, ◌<◌, ◌+◌, ◌-◌, ℕ, zero, suc, Bool, true, false, if◌then◌else◌, List, [], length, map, slice_get, Option, None, Some, option_map, refl, ap, sym, ◌∙◌, arith}
+use Rattle.std.specs.List.{list_any}
 use Rattle.std.proofs.lemmas.List.FromFn.{get_or-map-range_with_len, length-map-range_with_len}
 use Rattle.std.proofs.lemmas.Option.{get_or_from_slice_get, slice_get-map, slice_get_within}
 use Rattle.lay_contexts.specs.Contexts.{AreContexts, Context}
@@ -17,10 +16,10 @@ use Rattle.lay_context.specs.Local.{input_of}
 use Rattle.lay_context.specs.Medium.{Medium}
 use Rattle.lay_context.specs.Workings.{Workings}
 use Rattle.lay_cell_work.specs.declared.root_spot.RootSpot.{RootSpot}
-use Rattle.lay_cell_work.specs.CellColumns.{is_link, link_to, links_of, links_or_none}
+use Rattle.lay_cell_work.specs.CellColumns.{is_link, link_to, links_of}
 use Rattle.lay_cell_work.specs.CellInputs.{RootInput}
 use Rattle.lay_cell_work.specs.PresentInputs.{asked_links, asked_spot, present_input, root_count, root_input, spot_in}
-use Rattle.lay_cell_laws.specs.Laws.{LeadsInward, PresentInputsLeadInward}
+use Rattle.lay_cell_laws.specs.Laws.{PresentInputsLeadInward}
 use Rattle.lay_cell_laws.proofs.RootsOfContexts.{anonymous_some}
 use Rattle.lay_cell_laws.proofs.WholeInputs.{flow_is, link_is}
 

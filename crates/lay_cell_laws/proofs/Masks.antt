@@ -1,5 +1,5 @@
 -- Filling in what was masked gives the whole again, where what is linked is the own value of its root.
-use Rattle.std.proofs.Common.{◌≡◌, ◌<◌, ℕ, zero, suc, Bool, true, false, if◌then◌else◌, List, [], ◌∷◌, length, map, slice_index, slice_index_or, Option, None, Some, refl, ap, sym, arith}
+use Rattle.std.proofs.Common.{◌≡◌, ◌<◌, ℕ, suc, Bool, true, false, if◌then◌else◌, List, [], ◌∷◌, length, map, slice_index, slice_index_or, Option, None, Some, refl, ap, sym, arith}
 use Rattle.std.specs.List.{list_any}
 use Rattle.lay_cell_work.specs.CellColumns.{filled, is_link, links_or_none, masked}
 

@@ -1,6 +1,6 @@
 -- What a root is given by what stands among its boxes, without numbers of formatting contexts: by the boxes of its context, and by what the
 -- cells of the contexts inside keep.
-use Rattle.std.proofs.Common.{◌≡◌, ◌<◌, ◌≤◌, ◌+◌, ◌-◌, ℕ, zero, suc, nat_lt, Bool, true, false, if◌then◌else◌, List, [], ◌∷◌, length, map, slice_index, Option, None, Some, refl, ap, sym, subst, ◌∙◌, arith}
+use Rattle.std.proofs.Common.{◌≡◌, ◌<◌, ◌-◌, ℕ, zero, suc, nat_lt, Bool, true, false, if◌then◌else◌, List, ◌∷◌, length, map, slice_index, Option, None, Some, refl, ap, sym, ◌∙◌, arith}
 use Rattle.lay_anonymous_boxes.specs.Forms as forms
 use Rattle.lay_box_tree.specs.BoxColumns.{box_at}
 use Rattle.lay_box_tree.specs.declared.box_tree.BoxNode.{BoxNode}
@@ -10,7 +10,7 @@ use Rattle.lay_contexts.specs.Contexts.{AreContexts, Context, IsInside as IsInsi
 use Rattle.lay_contexts.specs.FlowLaws.{flow_at, is_anchor_at}
 use Rattle.lay_contexts.specs.FormattingBoxes.{at_home_before, boxes_of_root}
 use Rattle.lay_contexts.specs.FormattingContexts.{FormattingContext, boxes_in as boxes_of, formatting_context_at}
-use Rattle.lay_contexts.specs.FormattingContextList.{AreFormattingContextsOf, first_number, formatting_context_of, homes_in, inner_number, inner_numbers, number_of, roots_before}
+use Rattle.lay_contexts.specs.FormattingContextList.{AreFormattingContextsOf, first_number, formatting_context_of, homes_in, inner_number, number_of, roots_before}
 use Rattle.lay_contexts.specs.Homes.{is_root}
 use Rattle.lay_contexts.specs.Laws.{KeepsFlowAround}
 use Rattle.lay_contexts.proofs.AtHome.{home_is, place_there}

@@ -1,6 +1,5 @@
 -- What a cell is given is kept where its context is the same and what it depends on is kept.
-use Rattle.std.proofs.Common.{◌≡◌, ◌<◌, ◌≤◌, ◌+◌, ◌-◌, ◌↔◌, ℕ, zero, suc, nat_lt, Bool, true, false, if◌then◌else◌, List, [], ◌∷◌, length, map, slice_index, Option, None, Some, refl, ap, sym, subst, ◌∙◌, arith}
-use Rattle.lay_anonymous_boxes.specs.Forms as forms
+use Rattle.std.proofs.Common.{◌≡◌, ◌<◌, ℕ, zero, suc, true, false, List, [], ◌∷◌, length, map, slice_index, Option, None, refl, ap, sym, ◌∙◌, arith}
 use Rattle.lay_box_tree.specs.declared.box_tree.BoxNode.{BoxNode}
 use Rattle.lay_frag.specs.declared.frag.Frag.{Frag}
 use Rattle.lay_measure.specs.MeasureInValue.{no_widths}
@@ -9,20 +8,18 @@ use Rattle.lay_sizes.specs.declared.own_boxes.OwnBox.{OwnBox}
 use Rattle.lay_sizes.specs.OwnBoxes.{no_own_box}
 use Rattle.lay_sizes.specs.declared.sizing.ContainingBlock.{ContainingBlock}
 use Rattle.lay_contexts.specs.Contexts.{boxes_in, context_at}
-use Rattle.lay_contexts.specs.FlowLaws.{flow_at, is_anchor_at}
 use Rattle.lay_contexts.specs.FormattingBoxes.{boxes_of_root, rank}
 use Rattle.lay_contexts.specs.FormattingContexts.{FormattingContext, boxes_in as boxes_of, formatting_context_at}
 use Rattle.lay_contexts.specs.FormattingContextList.{first_number, homes_in, number_at, number_of, rank_at, roots_before, spot_of}
 use Rattle.lay_contexts.specs.Homes.{OneHome, is_root}
 use Rattle.lay_contexts.proofs.ContextFacts.{home_root, home_there}
 use Rattle.lay_contexts.proofs.RootNumbers.{Numbered}
-use Rattle.lay_abspos.specs.declared.own_place.OwnPlace.{OwnPlace}
 use Rattle.lay_abspos.specs.declared.own_place.OwnPlace.TheVariants as own_place
 use Rattle.lay_positioned.specs.Absolute.{is_absolute}
 use Rattle.lay_positioned.specs.Settings.{absolute_setting}
 use Rattle.lay_context_sizes.specs.ContextSizes.{SizedContext}
 use Rattle.lay_context_sizes.specs.declared.setting.Setting.{Setting}
-use Rattle.lay_context_sizes.specs.declared.setting.Setting.TheVariants.{Absolute, Block}
+use Rattle.lay_context_sizes.specs.declared.setting.Setting.TheVariants.{Absolute}
 use Rattle.lay_context.specs.declared.task.Phase.TheVariants as phase
 use Rattle.lay_context.specs.DocumentLayout.{widths_in}
 use Rattle.lay_context.specs.Laws.{MeasuredWhereShrunk}
@@ -34,8 +31,8 @@ use Rattle.lay_cell_work.specs.declared.root_spot.RootSpot.{RootSpot}
 use Rattle.lay_cell_work.specs.CellColumns.{links_or_none}
 use Rattle.lay_cell_work.specs.CellLocal.{masked_setting}
 use Rattle.lay_cell_work.specs.CellValues.{CellValue, own_sizes, own_widths, own_places}
-use Rattle.lay_cell_work.specs.PresentInputs.{root_input, spot_in}
-use Rattle.lay_cell_laws.specs.SameContexts.{AreSameInside, IsSameAround, IsSameContext, IsSameToMeasure, IsTable, MeasureInputsAreKept, Table, input_in, inner_at, is_out_of_flow, workings_in}
+use Rattle.lay_cell_work.specs.PresentInputs.{spot_in}
+use Rattle.lay_cell_laws.specs.SameContexts.{AreSameInside, IsSameAround, IsSameContext, IsSameToMeasure, IsTable, MeasureInputsAreKept, Table, input_in, is_out_of_flow, workings_in}
 use Rattle.lay_cell_laws.proofs.InputForms.{measure_cell, measure_form, measured_root_same, own_widths_form, place_cell, place_form, placed_root_same, sized_root_same, sizes_form, table_are, table_calm, table_keeps}
 use Rattle.lay_cell_laws.proofs.InnerContexts.{none_same}
 use Rattle.lay_cell_laws.proofs.OuterBoxes.{outer_boxes_same}
