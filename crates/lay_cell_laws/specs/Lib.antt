@@ -1,0 +1,3 @@
+pub mod SoundCells
+pub mod Laws
+pub mod SameContexts

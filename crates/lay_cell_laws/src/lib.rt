@@ -1,0 +1,15 @@
+//! Laws of the cells of a layout. The functions do nothing.
+//!
+//! `specs/SoundCells.antt` says what it means that cells keep values of a document, and that where all of them are clean the tree that is
+//! put together of these values is the layout of the document. `specs/Laws.antt` says of one cell that it has one value, and
+//! `specs/SameContexts.antt` that what a cell is given is kept where its context and what it depends on are the same, whatever numbers
+//! contexts have.
+#![tactic(auto)]
+
+mod laws;
+
+pub use laws::{
+    clean_cells_solve, counterparts_are_of_one_node, measure_inputs_are_kept, one_cell_local,
+    place_inputs_are_kept, present_inputs_lead_inward, size_inputs_are_kept,
+    values_stand_at_numbers,
+};

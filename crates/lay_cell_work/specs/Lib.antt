@@ -1,0 +1,7 @@
+pub mod CellKeys
+pub mod CellColumns
+pub mod CellInputs
+pub mod CellValues
+pub mod CellLocal
+pub mod PresentInputs
+pub mod KeptValues
