@@ -1,0 +1,13 @@
+pub mod NamedPlaces
+pub mod SameTrees
+pub mod OwnList
+pub mod OwnImage
+pub mod KeptContexts
+pub mod ChangedNodes
+pub mod MovedNodes
+pub mod InsertedNodes
+pub mod RemovedNodes
+pub mod EditedContexts
+pub mod EachTree
+pub mod ClearTrees
+pub mod AnchoredStyles
