@@ -26,7 +26,7 @@ column-stays g f same k [] = refl
 column-stays g f same zero (x ∷ xs) = ap (λ y. y ∷ map g xs) (same x)
 column-stays g f same (suc k) (x ∷ xs) = ap (λ ys. g x ∷ ys) (column-stays g f same k xs)
 
-length-changed : (f : Node → Node) (k : ℕ) (ns : List Node) → length (changed_at k f ns) ≡ length ns
+pub length-changed : (f : Node → Node) (k : ℕ) (ns : List Node) → length (changed_at k f ns) ≡ length ns
 length-changed f k [] = refl
 length-changed f zero (x ∷ xs) = refl
 length-changed f (suc k) (x ∷ xs) = ap suc (length-changed f k xs)
@@ -40,10 +40,10 @@ module _ (d : Document) (edit : Edit) (p : ℕ) (f : Node → Node) (doc : IsDoc
   abbrev pub Stays : ℕ → ℕ → Type 0
   Stays k m = (k ≡ m) × (k < length d.nodes) × (IsUnder (parents_of d.nodes) p k → ⊥)
 
-  parents-stay : parents_of changed.nodes ≡ parents_of d.nodes
+  pub parents-stay : parents_of changed.nodes ≡ parents_of d.nodes
   parents-stay = column-stays (λ n. n.parent) f same_parent p d.nodes
 
-  ids-stay : ids_of changed.nodes ≡ ids_of d.nodes
+  pub ids-stay : ids_of changed.nodes ≡ ids_of d.nodes
   ids-stay = column-stays (λ n. n.id.0) f (λ n. ap (λ i. i.0) (same_id n)) p d.nodes
 
   node-stays : (k m : ℕ) → Stays k m → SameNode d.nodes changed.nodes k m

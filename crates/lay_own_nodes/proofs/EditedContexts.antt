@@ -23,34 +23,21 @@ use Rattle.lay_doc.proofs.NodeColumns.{length-ids, length-parents}
 use Rattle.lay_boxgen.specs.Contexts.{IsContext}
 use Rattle.lay_own_nodes.specs.Reached.{IsReached}
 use Rattle.lay_own_nodes.specs.Touched.{Edits, EditsTouchReachedContexts, HasReached, KeepsBoxes, UnreachedContextsKeepBoxes}
+use Rattle.lay_own_nodes.specs.Unreached.{IsKeptAt, UnreachedNodesStay}
 use Rattle.lay_own_nodes.proofs.ChangedNodes.{Stays, changed-keeping}
 use Rattle.lay_own_nodes.proofs.InsertedNodes.{Shifts, grown-keeping}
-use Rattle.lay_own_nodes.proofs.KeptContexts.{Keeping, reached-known, touched}
+use Rattle.lay_own_nodes.proofs.KeptContexts.{Keeping, Styled, reached-known, touched}
+use Rattle.lay_own_nodes.proofs.KeptNodes.{kept-here, kept-there}
 use Rattle.lay_own_nodes.proofs.RemovedNodes.{Closes, shrunk-keeping}
 
 there : (nodes : List Node) (id p : ℕ) → place_of id (ids_of nodes) ≡ Some p → p < length nodes
 there nodes id p e = let h = place_within id (ids_of nodes) p e in omega (arith, h, length-ids nodes)
 
-module _ (d : Document) (edit : Edit) (styles others : List Style) (edits : Edits d edit styles others) (id : ℕ) (context : IsContext d styles id ⊎ IsContext (after d edit) others id) where
-  abbrev Answer : Type 0
-  Answer = KeepsBoxes d (after d edit) styles others id ⊎ HasReached d styles edit id ⊎ HasReached (after d edit) others edit id
-
-  left : IsDocument (after d edit)
-  left = edits_leave_documents d edit edits.document edits.puts edits.accepted
-
-  -- an edit that leaves this document
-  by-keeping : (e : Document) (R : ℕ → ℕ → Type 0) → after d edit ≡ e → Keeping d e (IsReached d edit) (IsReached e edit) R → Answer
-  by-keeping e R is keep =
-      touched d (after d edit) (IsReached d edit) (IsReached (after d edit) edit) R
-      (subst (λ (x : Document). Keeping d x (IsReached d edit) (IsReached x edit) R) (sym is) keep)
-      styles others (record { document = edits.document; has = edits.before }) (record { document = left; has = edits.after })
-      (reached-known d edit edits.document) (reached-known (after d edit) edit left) id context
-
 -- a change of declarations or a text
-restyled : (d : Document) (id : ℕ) (f : Node → Node) (p : ℕ) → place_of id (ids_of d.nodes) ≡ Some p → after_change d id f ≡ record d { nodes = changed_at p f d.nodes }
+pub restyled : (d : Document) (id : ℕ) (f : Node → Node) (p : ℕ) → place_of id (ids_of d.nodes) ≡ Some p → after_change d id f ≡ record d { nodes = changed_at p f d.nodes }
 restyled d id f p e = rw e refl
 
-named-by-style : (d : Document) (id : ℕ) → style_fault d id ≡ None → (p : ℕ) × (place_of id (ids_of d.nodes) ≡ Some p)
+pub named-by-style : (d : Document) (id : ℕ) → style_fault d id ≡ None → (p : ℕ) × (place_of id (ids_of d.nodes) ≡ Some p)
 named-by-style d id none = by (place_of id (ids_of d.nodes)) refl
   where
     by : (o : Option ℕ) → place_of id (ids_of d.nodes) ≡ o → (p : ℕ) × (place_of id (ids_of d.nodes) ≡ Some p)
@@ -99,23 +86,32 @@ named-by-removal d id none = by (place_of id (ids_of d.nodes)) refl
     by (Some zero) e = absurd (let h = rw e at none in cc)
     by (Some (suc p)) e = (suc p, e, omega arith)
 
-pub edits_touch_reached_contexts : EditsTouchReachedContexts
-edits_touch_reached_contexts d (SetStyle node decl) styles others id edits context =
+-- What follows of an edit, where it follows of the nodes that it keeps.
+module _ (d : Document) (edit : Edit) (styles others : List Style) (edits : Edits d edit styles others) (Answer : Type 0) where
+  abbrev Follows : Type 1
+  Follows = (R : ℕ → ℕ → Type 0) → Keeping d (after d edit) (IsReached d edit) (IsReached (after d edit) edit) R → Answer
+
+  -- an edit that leaves this document
+  by-keeping : Follows → (e : Document) (R : ℕ → ℕ → Type 0) → after d edit ≡ e → Keeping d e (IsReached d edit) (IsReached e edit) R → Answer
+  by-keeping follows e R is keep = follows R (subst (λ (x : Document). Keeping d x (IsReached d edit) (IsReached x edit) R) (sym is) keep)
+
+over-edit : (d : Document) (edit : Edit) (styles others : List Style) (edits : Edits d edit styles others) (Answer : Type 0) → Follows d edit styles others edits Answer → Answer
+over-edit d (SetStyle node decl) styles others edits Answer follows =
     let n = named-by-style d node.0 edits.accepted in
     let edit : Edit = SetStyle node decl in
-    by-keeping d edit styles others edits id context (record d { nodes = changed_at n.0 (with_style decl) d.nodes }) (Stays d edit n.0 (with_style decl) edits.document n.1 (λ x. refl) (λ x. refl))
+    by-keeping d edit styles others edits Answer follows (record d { nodes = changed_at n.0 (with_style decl) d.nodes }) (Stays d edit n.0 (with_style decl) edits.document n.1 (λ x. refl) (λ x. refl))
     (restyled d node.0 (with_style decl) n.0 n.1) (changed-keeping d edit n.0 (with_style decl) edits.document n.1 (λ x. refl) (λ x. refl))
-edits_touch_reached_contexts d (ClearStyle node property) styles others id edits context =
+over-edit d (ClearStyle node property) styles others edits Answer follows =
     let n = named-by-style d node.0 edits.accepted in
     let edit : Edit = ClearStyle node property in
-    by-keeping d edit styles others edits id context (record d { nodes = changed_at n.0 (without_style property) d.nodes }) (Stays d edit n.0 (without_style property) edits.document n.1 (λ x. refl) (λ x. refl))
+    by-keeping d edit styles others edits Answer follows (record d { nodes = changed_at n.0 (without_style property) d.nodes }) (Stays d edit n.0 (without_style property) edits.document n.1 (λ x. refl) (λ x. refl))
     (restyled d node.0 (without_style property) n.0 n.1) (changed-keeping d edit n.0 (without_style property) edits.document n.1 (λ x. refl) (λ x. refl))
-edits_touch_reached_contexts d (SetText node text) styles others id edits context =
+over-edit d (SetText node text) styles others edits Answer follows =
     let n = named-by-text d node.0 (length text) edits.accepted in
     let edit : Edit = SetText node text in
-    by-keeping d edit styles others edits id context (record d { nodes = changed_at n.0 (with_text text) d.nodes }) (Stays d edit n.0 (with_text text) edits.document n.1 (λ x. refl) (λ x. refl))
+    by-keeping d edit styles others edits Answer follows (record d { nodes = changed_at n.0 (with_text text) d.nodes }) (Stays d edit n.0 (with_text text) edits.document n.1 (λ x. refl) (λ x. refl))
     (restyled d node.0 (with_text text) n.0 n.1) (changed-keeping d edit n.0 (with_text text) edits.document n.1 (λ x. refl) (λ x. refl))
-edits_touch_reached_contexts d (Insert parent index new) styles others id edits context =
+over-edit d (Insert parent index new) styles others edits Answer follows =
     let n = named-by-parent d parent.0 index new edits.accepted in
     let edit : Edit = Insert parent index new in
     let p : ℕ = n.0 in
@@ -127,18 +123,51 @@ edits_touch_reached_contexts d (Insert parent index new) styles others id edits 
     let within : at ≤ length d.nodes = (let w = slot.within in omega (arith, w, length-parents d.nodes)) in
     let is : after d edit ≡ inserted_below d p index new = put-in d parent.0 index new p n.1 in
     let doc = subst IsDocument is (edits_leave_documents d edit edits.document edits.puts edits.accepted) in
-    by-keeping d edit styles others edits id context (inserted_below d p index new) (Shifts d edit at node edits.document above within doc refl) is
+    by-keeping d edit styles others edits Answer follows (inserted_below d p index new) (Shifts d edit at node edits.document above within doc refl) is
     (grown-keeping d edit at node edits.document above within doc refl)
-edits_touch_reached_contexts d (Remove node) styles others id edits context =
+over-edit d (Remove node) styles others edits Answer follows =
     let n = named-by-removal d node.0 edits.accepted in
     let edit : Edit = Remove node in
     let has = there d.nodes node.0 n.0 n.1 in
-    by-keeping d edit styles others edits id context (record d { nodes = removed d.nodes n.0 }) (Closes d edit n.0 edits.document n.2 has n.1)
+    by-keeping d edit styles others edits Answer follows (record d { nodes = removed d.nodes n.0 }) (Closes d edit n.0 edits.document n.2 has n.1)
     (taken-out d node.0 n.0 n.1) (shrunk-keeping d edit n.0 edits.document n.2 has n.1)
-edits_touch_reached_contexts d (Bad bad) styles others id edits context = absurd (let h = edits.accepted in cc)
+over-edit d (Bad bad) styles others edits Answer follows = absurd (let h = edits.accepted in cc)
+
+module _ (d : Document) (edit : Edit) (styles others : List Style) (edits : Edits d edit styles others) where
+  left : IsDocument (after d edit)
+  left = edits_leave_documents d edit edits.document edits.puts edits.accepted
+
+  here : Styled d styles
+  here = record { document = edits.document; has = edits.before }
+
+  elsewhere : Styled (after d edit) others
+  elsewhere = record { document = left; has = edits.after }
+
+  by-touched : (id : ℕ) → IsContext d styles id ⊎ IsContext (after d edit) others id
+      → KeepsBoxes d (after d edit) styles others id ⊎ HasReached d styles edit id ⊎ HasReached (after d edit) others edit id
+  by-touched id context =
+      over-edit d edit styles others edits (KeepsBoxes d (after d edit) styles others id ⊎ HasReached d styles edit id ⊎ HasReached (after d edit) others edit id)
+      (λ R keep. touched d (after d edit) (IsReached d edit) (IsReached (after d edit) edit) R keep styles others here elsewhere
+      (reached-known d edit edits.document) (reached-known (after d edit) edit left) id context)
+
+  by-kept : (k : ℕ) → k < length d.nodes → (IsReached d edit k → ⊥) → (m : ℕ) × IsKeptAt d (after d edit) styles others k m
+  by-kept k lt apart =
+      over-edit d edit styles others edits ((m : ℕ) × IsKeptAt d (after d edit) styles others k m)
+      (λ R keep. kept-there d (after d edit) (IsReached d edit) (IsReached (after d edit) edit) R keep styles others here elsewhere k lt apart)
+
+  by-come : (m : ℕ) → m < length (after d edit).nodes → (IsReached (after d edit) edit m → ⊥) → (k : ℕ) × IsKeptAt d (after d edit) styles others k m
+  by-come m lt apart =
+      over-edit d edit styles others edits ((k : ℕ) × IsKeptAt d (after d edit) styles others k m)
+      (λ R keep. kept-here d (after d edit) (IsReached d edit) (IsReached (after d edit) edit) R keep styles others here elsewhere m lt apart)
+
+pub edits_touch_reached_contexts : EditsTouchReachedContexts
+edits_touch_reached_contexts d edit styles others id edits context = by-touched d edit styles others edits id context
 
 pub unreached_contexts_keep_boxes : UnreachedContextsKeepBoxes
-unreached_contexts_keep_boxes d edit styles others id edits context not_so none = elim (edits_touch_reached_contexts d edit styles others id edits context) [
+unreached_contexts_keep_boxes d edit styles others id edits context apart none = elim (edits_touch_reached_contexts d edit styles others id edits context) [
   | inl kept ↦ kept
-  | inr more ↦ elim more [ inl reached ↦ absurd (not_so reached) | inr reached ↦ absurd (none reached) ]
+  | inr more ↦ elim more [ inl reached ↦ absurd (apart reached) | inr reached ↦ absurd (none reached) ]
 ]
+
+pub unreached_nodes_stay : UnreachedNodesStay
+unreached_nodes_stay d edit styles others edits = record { kept = by-kept d edit styles others edits; all = by-come d edit styles others edits }

@@ -3,6 +3,7 @@ pub mod SameTrees
 pub mod OwnList
 pub mod OwnImage
 pub mod KeptContexts
+pub mod KeptNodes
 pub mod ChangedNodes
 pub mod MovedNodes
 pub mod InsertedNodes
@@ -11,3 +12,4 @@ pub mod EditedContexts
 pub mod EachTree
 pub mod ClearTrees
 pub mod AnchoredStyles
+pub mod RestyledAnchors

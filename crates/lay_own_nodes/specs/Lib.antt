@@ -1,2 +1,4 @@
 pub mod Reached
 pub mod Touched
+pub mod Unreached
+pub mod Anchors
