@@ -1,6 +1,6 @@
 -- The style of an absolute or fixed element counts for nothing in the boxes of the context around, where its anchor stands: an
 -- anchor has the style of its parent box.
-use Rattle.std.proofs.Common.{◌≡◌, ◌⊎◌, inl, inr, ℕ, zero, suc, ◌+◌, ◌-◌, ◌<◌, ◌≤◌, ◌==◌, Bool, true, false, List, [], ◌∷◌, ◌++◌, length, refl, ap, sym, subst, ◌∙◌, arith, if◌then◌else◌, IsTrue, Option, None, Some, option_map, slice_get, slice_index}
+use Rattle.std.proofs.Common.{◌≡◌, ◌⊎◌, inl, inr, ℕ, zero, suc, ◌+◌, ◌-◌, ◌<◌, ◌≤◌, ◌==◌, Bool, true, false, List, [], ◌∷◌, ◌++◌, length, refl, ap, sym, subst, ◌∙◌, arith, if◌then◌else◌, Option, None, Some, option_map, slice_get, slice_index}
 use Rattle.std.proofs.lemmas.Bool.{cases_eq}
 use Rattle.lay_style.specs.declared.style.Style.{Style}
 use Rattle.lay_style.specs.ComputedStyle.{style_at}
@@ -17,7 +17,7 @@ use Rattle.lay_boxgen.specs.CutTrees.{cut_own, cut_tree_at, generated_cut}
 use Rattle.lay_boxgen.specs.Listing.{all_listed, box_node, box_style, listed, listed_part, style_below, style_of}
 use Rattle.lay_boxgen.specs.NodeBoxes.{facts_with, form_of}
 use Rattle.lay_boxgen.specs.NodeTrees.{and_child, anchor_facts, as_child, as_own, box_with, tree_at}
-use Rattle.lay_boxgen.specs.Parts.{all_put, is_closed, nothing, part, put, put_list}
+use Rattle.lay_boxgen.specs.Parts.{is_closed, nothing, part, put, put_list}
 use Rattle.lay_boxgen.proofs.CutParts.{part-cut}
 use Rattle.lay_boxgen.proofs.NodeForms.{IsBoxOf, IsNodeBox, is-node_box}
 use Rattle.lay_boxgen.proofs.Putting.{put-trees_of}
@@ -174,7 +174,7 @@ module _ (nodes : List Node) (is_tree : IsTree (parents_of nodes)) (p : ℕ) whe
     clear-part : (c : ℕ) → (c ≡ p → ⊥) → c < n → Each (Clear p) (part nodes ss c)
     clear-part c other lt =
         let mine : ClearThere p (own_with (box_at nodes ss c) (below ss c)) =
-            clear-own p (box_at nodes ss c) (below ss c) (λ g e at. other (sym (place-of c (slice_get nodes c) (style_at ss c) g e) ∙ at)) (clear-below c) in
+        clear-own p (box_at nodes ss c) (below ss c) (λ g e at. other (sym (place-of c (slice_get nodes c) (style_at ss c) g e) ∙ at)) (clear-below c) in
         subst (Each (Clear p)) (part-cut (tree_at nodes ss c))
         (clear-put_list p (generated_cut (cut_tree_at nodes ss c)) (clear-cut p (cut_tree_at nodes ss c) (subst (ClearThere p) (sym (cut-is ss same c lt)) mine)))
 
@@ -218,9 +218,9 @@ module _ (nodes : List Node) (is_tree : IsTree (parents_of nodes)) (p : ℕ) whe
     same-part : (c : ℕ) → (c ≡ p → ⊥) → c < n → part nodes ss c ≡ part nodes ts c
     same-part c other lt =
         let cut : cut_tree_at nodes ss c ≡ cut_tree_at nodes ts c =
-            cut-is ss same c lt
-            ∙ (ap (λ (o : Option Facts). own_with o (below ss c)) (same-box c other)
-            ∙ (ap (own_with (box_at nodes ts c)) (same-below c) ∙ sym (cut-is ts same_there c lt))) in
+        cut-is ss same c lt
+        ∙ (ap (λ (o : Option Facts). own_with o (below ss c)) (same-box c other)
+        ∙ (ap (own_with (box_at nodes ts c)) (same-below c) ∙ sym (cut-is ts same_there c lt))) in
         sym (part-cut (tree_at nodes ss c)) ∙ (ap (λ (o : Option Tree). put_list nothing (generated_cut o)) cut ∙ part-cut (tree_at nodes ts c))
 
     -- What is listed.
@@ -277,7 +277,7 @@ module _ (nodes : List Node) (is_tree : IsTree (parents_of nodes)) (p : ℕ) whe
         by None e h = absurd cc
         by (Some x) e h =
             let mine : tree_at nodes ss c ≡ Some (tree x (trees_of (child_trees nodes ss (children_places nodes c)))) =
-                in-order nodes ss is_tree same c lt ∙ ap (λ (q : Option Facts). box_with q (child_trees nodes ss (children_places nodes c))) e in
+            in-order nodes ss is_tree same c lt ∙ ap (λ (q : Option Facts). box_with q (child_trees nodes ss (children_places nodes c))) e in
             let one = context_is_one_box nodes ss c x (trees_of (child_trees nodes ss (children_places nodes c))) mine (no-inline c (slice_get nodes c) (style_at ss c) x e h) in
             subst StartsApart (sym (ap (put_list nothing) one)) (λ at. other (sym (place-of c (slice_get nodes c) (style_at ss c) x e) ∙ at))
 

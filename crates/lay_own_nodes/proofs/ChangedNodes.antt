@@ -1,5 +1,5 @@
 -- A change of one node keeps all nodes but that one and those below it.
-use Rattle.std.proofs.Common.{◌≡◌, ℕ, zero, suc, ◌<◌, List, [], ◌∷◌, length, map, refl, ap, sym, subst, ◌∙◌, arith, Option, None, Some, slice_get, slice_index}
+use Rattle.std.proofs.Common.{◌≡◌, ℕ, zero, suc, ◌<◌, List, [], ◌∷◌, length, map, refl, ap, sym, subst, ◌∙◌, arith, Option, Some, slice_get, slice_index}
 use Rattle.lay_style.specs.ComputedStyle.{declarations_at}
 use Rattle.lay_doc.specs.declared.edit.Edit.{Edit}
 use Rattle.lay_doc.specs.declared.node.Node.{Node}
@@ -68,8 +68,7 @@ module _ (d : Document) (edit : Edit) (p : ℕ) (f : Node → Node) (doc : IsDoc
   parent-stays k m r positive =
       let lt = r.1 in
       let is = r.0 in
-      let before = doc.tree.before k positive (omega (arith, lt, length-parents d.nodes)) in
-      (
+      let before = doc.tree.before k positive (omega (arith, lt, length-parents d.nodes)) in (
         omega (arith, positive, is),
         (
           ap (λ (j : ℕ). parent_of d.nodes j) is ∙ ap (λ (xs : List ℕ). slice_index xs m) (sym parents-stay),

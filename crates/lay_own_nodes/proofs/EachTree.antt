@@ -1,14 +1,14 @@
 -- What holds of each tree of a list holds of each that the rules of box generation make of them, where it holds of the boxes
 -- that they put round some.
-use Rattle.std.proofs.Common.{◌≡◌, Bool, true, false, ◌&&◌, List, [], ◌∷◌, ◌++◌, refl, filter, if◌then◌else◌, Option, None, Some}
+use Rattle.std.proofs.Common.{Bool, true, false, ◌&&◌, List, [], ◌∷◌, ◌++◌, filter, if◌then◌else◌, Option, None, Some}
 use Rattle.std.specs.List.{list_any}
-use Rattle.lay_anonymous_boxes.specs.Boxes.{Tree, Trees, tree, no_trees, also, trees_of, facts_of}
+use Rattle.lay_anonymous_boxes.specs.Boxes.{Tree, tree, trees_of, facts_of}
 use Rattle.lay_anonymous_boxes.specs.Runs.{gathered, gathered_from, run_over, is_some, is_white_box, anonymous_box}
 use Rattle.lay_anonymous_boxes.specs.Forms.{is_row_group, is_table, is_row, is_column, is_column_group, is_inline, is_block_container}
 use Rattle.lay_anonymous_boxes.specs.Irrelevant.{is_irrelevant, kept_gap, kept_from, without_white_space, is_column_box, column_group_children, relevant}
 use Rattle.lay_anonymous_boxes.specs.MissingChildren.{is_no_proper_table_child, is_no_row, is_no_cell, cell_round, in_cells, in_rows_of_table, in_rows_of_group, row_round, child_wrapped}
 use Rattle.lay_anonymous_boxes.specs.MissingParents.{is_cell_in_flow, is_misparented, row_of_cells, table_round, cells_in_rows, parented}
-use Rattle.lay_anonymous_boxes.specs.TableWrappers.{is_caption_box, is_no_caption_box, table_box, captions_and_table, in_wrapper}
+use Rattle.lay_anonymous_boxes.specs.TableWrappers.{is_caption_box, table_box, captions_and_table, in_wrapper}
 use Rattle.lay_anonymous_boxes.specs.BrokenInlines.{is_block_box, is_no_text_box, is_unseen, part_over, parts_from, broken}
 use Rattle.lay_anonymous_boxes.specs.InlineRuns.{is_no_block, is_seen_box, block_round, run_wrapped}
 use Rattle.lay_anonymous_boxes.specs.declared.facts.Facts.{Facts}

@@ -1,22 +1,20 @@
 -- Each edit keeps the nodes that it doesn't reach, and so the boxes of the contexts that have none but these.
-use Rattle.std.proofs.Common.{◌≡◌, ◌⊎◌, inl, inr, ℕ, ◌+◌, ◌<◌, ◌≤◌, ◌==◌, ◌||◌, zero, suc, Bool, true, false, not, List, length, refl, ap, sym, subst, arith, Option, None, Some, if◌then◌else◌, nat_le, nat_lt, is_some, slice_index}
+use Rattle.std.proofs.Common.{◌≡◌, ◌⊎◌, inl, inr, ℕ, ◌+◌, ◌<◌, ◌≤◌, ◌==◌, ◌||◌, zero, suc, Bool, true, false, not, List, length, refl, sym, subst, arith, Option, None, Some, if◌then◌else◌, nat_lt, is_some, slice_index}
 use Rattle.std.proofs.lemmas.Bool.{ltb-false}
-use Rattle.lay_units.specs.Limits.{most_depth, most_nodes}
 use Rattle.lay_style.specs.declared.style.Style.{Style}
 use Rattle.lay_style.specs.Places.{place_of}
 use Rattle.lay_style.proofs.Places.{place_within}
 use Rattle.lay_doc.specs.declared.edit.Edit.{Edit}
 use Rattle.lay_doc.specs.declared.edit.Edit.TheVariants.{SetStyle, ClearStyle, SetText, Insert, Remove, Bad}
 use Rattle.lay_doc.specs.declared.edit.EditFault.{EditFault}
-use Rattle.lay_doc.specs.declared.edit.EditFault.TheVariants.{NotElement, IdTaken, BadIndex, TooManyNodes, TooDeep, TextTooLong}
+use Rattle.lay_doc.specs.declared.edit.EditFault.TheVariants.{NotElement, IdTaken, BadIndex}
 use Rattle.lay_doc.specs.declared.node.Node.{Node}
 use Rattle.lay_doc.specs.Changes.{after_change, changed_at, style_fault, text_fault, with_style, with_text, without_style}
-use Rattle.lay_doc.specs.Document.{Document, IsDocument, becomes, depths_of, ids_of, is_element_at, is_too_long, parents_of, text_size}
-use Rattle.lay_doc.specs.Edits.{after, after_insert, fault, fault_below, insert_fault, inserted_below}
-use Rattle.lay_doc.specs.Laws.{PutsNode}
+use Rattle.lay_doc.specs.Document.{Document, IsDocument, becomes, depths_of, ids_of, is_element_at, parents_of}
+use Rattle.lay_doc.specs.Edits.{after, after_insert, fault_below, insert_fault, inserted_below}
 use Rattle.lay_doc.specs.NewNodes.{NewNodeValue}
 use Rattle.lay_doc.specs.Removal.{after_remove, remove_fault, removed}
-use Rattle.lay_doc.specs.Tree.{IsSlot, child_count, slot_of}
+use Rattle.lay_doc.specs.Tree.{child_count, slot_of}
 use Rattle.lay_doc.proofs.EditedDocuments.{edits_leave_documents}
 use Rattle.lay_doc.proofs.FoundSlots.{slot_found}
 use Rattle.lay_doc.proofs.NodeColumns.{length-ids, length-parents}

@@ -1,5 +1,5 @@
 -- An insertion keeps all nodes that were there.
-use Rattle.std.proofs.Common.{◌≡◌, inl, inr, ℕ, zero, suc, ◌+◌, ◌-◌, ◌<◌, ◌≤◌, List, length, map, get_or, refl, ap, sym, subst, ◌∙◌, arith, Option, Some, option_map, slice_get, slice_index, if◌then◌else◌, nat_lt}
+use Rattle.std.proofs.Common.{◌≡◌, inl, inr, ℕ, zero, suc, ◌+◌, ◌-◌, ◌<◌, ◌≤◌, length, refl, ap, sym, subst, ◌∙◌, arith, Option, Some, option_map, slice_get, if◌then◌else◌, nat_lt}
 use Rattle.std.specs.List.{insert}
 use Rattle.std.proofs.lemmas.Bool.{cases_lt, le-ltb, lt-ltb}
 use Rattle.std.proofs.lemmas.List.Edits.{get_or-insert_at, length-insert}
@@ -13,7 +13,7 @@ use Rattle.lay_doc.proofs.PutTrees.{shifted_high, shifted_low}
 use Rattle.lay_contexts.specs.ContextTree.{parent_of}
 use Rattle.lay_own_nodes.specs.Reached.{IsReached, IsUnderThere, place_in, subject_of}
 use Rattle.lay_own_nodes.proofs.KeptContexts.{Keeping}
-use Rattle.lay_own_nodes.proofs.MovedNodes.{get-map, get-or, get-shifted, shifted-back, shifted-less, shifted-more, shifted-within}
+use Rattle.lay_own_nodes.proofs.MovedNodes.{get-map, get-or, get-shifted, shifted-back, shifted-less, shifted-more}
 use Rattle.lay_own_nodes.proofs.NamedPlaces.{place-is}
 use Rattle.lay_own_nodes.proofs.OwnList.{got}
 use Rattle.lay_own_nodes.proofs.SameTrees.{SameNode, or-map, same-declarations}
@@ -74,8 +74,8 @@ module _ (d : Document) (edit : Edit) (at : ℕ) (new : Node) (doc : IsDocument 
   named =
       let lt : at < length (insert d.nodes at new) = (let l = length-insert d.nodes at new within in omega (arith, within, l)) in
       let there : slice_get grown.nodes at ≡ Some (moved at new) =
-          get-map (moved at) (insert d.nodes at new) at
-          ∙ ap (option_map (moved at)) (get-or (insert d.nodes at new) at new lt ∙ ap Some (get_or-insert_at d.nodes at new new within)) in
+      get-map (moved at) (insert d.nodes at new) at
+      ∙ ap (option_map (moved at)) (get-or (insert d.nodes at new) at new lt ∙ ap Some (get_or-insert_at d.nodes at new new within)) in
       ap (place_in (ids_of grown.nodes)) subject
       ∙ place-is new.id.0 (ids_of grown.nodes) (λ i j less in_ids. is.ids i j less (omega (arith, in_ids, length-ids grown.nodes))) at
       (omega (arith, within, length-grown, length-ids grown.nodes)) (or-map (λ n. n.id.0) grown.nodes at (moved at new) 0 there)

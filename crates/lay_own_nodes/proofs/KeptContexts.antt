@@ -1,5 +1,5 @@
 -- Where an edit keeps all nodes that it doesn't reach, a context keeps its boxes, or has a node among its own that is reached.
-use Rattle.std.proofs.Common.{◌≡◌, ◌⊎◌, inl, inr, ℕ, zero, suc, ◌<◌, ◌≤◌, List, length, refl, ap, sym, subst, ◌∙◌, arith, Bool, true, false, Option, Some, None, slice_index, slice_index_or}
+use Rattle.std.proofs.Common.{◌≡◌, ◌⊎◌, inl, inr, ℕ, zero, suc, ◌<◌, List, length, refl, ap, sym, subst, ◌∙◌, arith, Bool, true, false, Option, Some, None, slice_index}
 use Rattle.std.proofs.lemmas.Bool.{cases_eq, cases_lt}
 use Rattle.lay_style.specs.declared.style.Style.{Style}
 use Rattle.lay_style.specs.ComputedStyle.{HasStyles, declarations_at, style_at}
@@ -128,10 +128,10 @@ module _ (d e : Document) (P Q : ℕ → Type 0) (R : ℕ → ℕ → Type 0) (k
       let is_there = place-there id a b pair is in
       let context_there = same-context d.nodes e.nodes ss ts R keep.same styled a b pair context in
       let boxes = boxes-kept d e ss ts R here.document elsewhere.document (here.has.length_is ∙ length-parents d.nodes) (elsewhere.has.length_is ∙ length-parents e.nodes)
-          keep.same styled a b pair keep.to
-          (λ k lt own. keep.forth k lt (λ p. none k lt (own, p)))
-          (λ m lt own. (keep.from m, keep.come m lt (λ q. none_there m lt (own, q))))
-          context in
+      keep.same styled a b pair keep.to
+      (λ k lt own. keep.forth k lt (λ p. none k lt (own, p)))
+      (λ m lt own. (keep.from m, keep.come m lt (λ q. none_there m lt (own, q))))
+      context in
       record {
         before = subst (IsContextThere d.nodes ss) (sym is) context;
         after = subst (IsContextThere e.nodes ts) (sym is_there) context_there;
@@ -144,7 +144,7 @@ module _ (d e : Document) (P Q : ℕ → Type 0) (R : ℕ → ℕ → Type 0) (k
       let pair = keep.forth a lt (λ p. none a lt (element, p)) in
       let b = keep.to a in
       let own_there : (m : ℕ) → m < length e.nodes → (IsOwn e.nodes ts b m × Q m) ⊎ (IsOwn e.nodes ts b m × Q m → ⊥) =
-          λ m in_nodes. both-known (IsOwn e.nodes ts b m) (Q m) (own-known e.nodes ts elsewhere.document.tree b m in_nodes) (known_there m in_nodes) in
+      λ m in_nodes. both-known (IsOwn e.nodes ts b m) (Q m) (own-known e.nodes ts elsewhere.document.tree b m in_nodes) (known_there m in_nodes) in
       elim (search-below (length e.nodes) (λ m. IsOwn e.nodes ts b m × Q m) own_there) [
         | inl found ↦ inr (inr (record {
           place = b;
@@ -161,7 +161,7 @@ module _ (d e : Document) (P Q : ℕ → Type 0) (R : ℕ → ℕ → Type 0) (k
   at-place : (id a : ℕ) → place_of id (ids_of d.nodes) ≡ Some a → IsContextAt d.nodes ss a → Answer id
   at-place id a is context =
       let own_here : (k : ℕ) → k < length d.nodes → (IsOwn d.nodes ss a k × P k) ⊎ (IsOwn d.nodes ss a k × P k → ⊥) =
-          λ k in_nodes. both-known (IsOwn d.nodes ss a k) (P k) (own-known d.nodes ss here.document.tree a k in_nodes) (known k in_nodes) in
+      λ k in_nodes. both-known (IsOwn d.nodes ss a k) (P k) (own-known d.nodes ss here.document.tree a k in_nodes) (known k in_nodes) in
       elim (search-below (length d.nodes) (λ k. IsOwn d.nodes ss a k × P k) own_here) [
         | inl found ↦ inr (inl (record { place = a; named = is; context = context; node = found.0; within = found.1; own = found.2.0; is = found.2.1 }))
         | inr none ↦ after-search id a is context none

@@ -1,5 +1,5 @@
 -- A node that an edit doesn't reach is what it was.
-use Rattle.std.proofs.Common.{◌≡◌, ◌⊎◌, inl, inr, ℕ, zero, suc, ◌<◌, ◌≤◌, ◌==◌, Bool, true, false, List, [], length, refl, ap, sym, subst, ◌∙◌, arith, if◌then◌else◌, Option, None, Some, option_map, slice_get, slice_index}
+use Rattle.std.proofs.Common.{◌≡◌, inl, inr, ℕ, ◌<◌, ◌==◌, Bool, true, false, List, [], length, ap, sym, ◌∙◌, arith, if◌then◌else◌, Some, option_map, slice_get, slice_index}
 use Rattle.std.proofs.lemmas.Bool.{cases_lt, eq-eqb, ne_eqb}
 use Rattle.lay_style.specs.declared.style.Style.{Style}
 use Rattle.lay_style.specs.ComputedStyle.{style_at}
@@ -7,8 +7,7 @@ use Rattle.lay_style.specs.Values.{Declaration}
 use Rattle.lay_doc.specs.declared.node.Kind.{Kind}
 use Rattle.lay_doc.specs.declared.node.Node.{Node}
 use Rattle.lay_doc.specs.declared.node.NodeId.{NodeId}
-use Rattle.lay_doc.specs.Document.{Document, ids_of, parents_of}
-use Rattle.lay_doc.specs.NewNodes.{NewNodeValue}
+use Rattle.lay_doc.specs.Document.{Document, ids_of}
 use Rattle.lay_doc.specs.NodeRefs.{parent_id}
 use Rattle.lay_contexts.specs.ContextTree.{parent_of}
 use Rattle.lay_contexts.proofs.OneStand.{there}

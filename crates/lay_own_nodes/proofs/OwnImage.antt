@@ -1,12 +1,12 @@
 -- Where the own nodes of a context and those of another one are the same nodes, the two have the same boxes.
-use Rattle.std.proofs.Common.{◌≡◌, ◌⊎◌, inl, inr, ℕ, zero, suc, ◌<◌, ◌≤◌, ◌==◌, Bool, List, length, map, refl, ap, sym, subst, ◌∙◌, arith, Some, slice_get, slice_index}
+use Rattle.std.proofs.Common.{◌≡◌, inl, inr, ℕ, ◌<◌, List, length, map, ap, sym, subst, ◌∙◌, arith, Some, slice_index}
 use Rattle.std.proofs.lemmas.Bool.{cases_lt}
 use Rattle.std.proofs.lemmas.List.{get_or-map}
 use Rattle.lay_style.specs.declared.style.Style.{Style}
 use Rattle.lay_style.specs.ComputedStyle.{style_at}
 use Rattle.lay_doc.specs.declared.node.Node.{Node}
 use Rattle.lay_doc.specs.Document.{Document, IsDocument}
-use Rattle.lay_boxgen.specs.Contexts.{IsContextAt, box_at, is_marked}
+use Rattle.lay_boxgen.specs.Contexts.{IsContextAt}
 use Rattle.lay_contexts.specs.ContextTree.{IsAround, boxes_of_place, parent_of}
 use Rattle.lay_contexts.specs.OwnNodes.{AreOwnNodes, IsOwnNode, OwnNode, own_at}
 use Rattle.lay_contexts.proofs.OneStand.{there}

@@ -1,10 +1,9 @@
 -- A removal keeps all nodes that it doesn't take out.
-use Rattle.std.proofs.Common.{◌≡◌, inl, inr, ℕ, zero, suc, ◌+◌, ◌-◌, ◌<◌, ◌≤◌, List, length, map, refl, ap, sym, subst, ◌∙◌, arith, Option, Some, option_map, slice_get, slice_index}
+use Rattle.std.proofs.Common.{◌≡◌, inl, inr, ℕ, ◌+◌, ◌-◌, ◌<◌, ◌≤◌, length, refl, ap, sym, subst, ◌∙◌, arith, Option, Some, option_map, slice_get}
 use Rattle.std.specs.List.{remove_range}
 use Rattle.std.proofs.lemmas.Bool.{cases_lt, le-ltb, lt-ltb}
 use Rattle.lay_style.specs.ComputedStyle.{declarations_at}
 use Rattle.lay_doc.specs.declared.edit.Edit.{Edit}
-use Rattle.lay_doc.specs.declared.node.Node.{Node}
 use Rattle.lay_doc.specs.Document.{Document, IsDocument, declarations_of, ids_of, parents_of}
 use Rattle.lay_doc.specs.Removal.{closed_up, moved_back, removed_between}
 use Rattle.lay_doc.specs.Tree.{IsSlot, child_count, end_of}

@@ -1,5 +1,5 @@
 -- An edit of declarations of an absolute or fixed element keeps the boxes of all contexts but its own and those inside it.
-use Rattle.std.proofs.Common.{set, ◌≡◌, ◌⊎◌, inl, inr, ℕ, zero, suc, ◌<◌, ◌≤◌, true, false, List, [], ◌∷◌, length, refl, ap, sym, subst, ◌∙◌, arith, IsTrue, Option, None, Some, option_map, slice_get, slice_index}
+use Rattle.std.proofs.Common.{set, ◌≡◌, ◌⊎◌, inl, inr, ℕ, zero, suc, ◌<◌, true, false, List, [], ◌∷◌, length, refl, ap, sym, subst, ◌∙◌, arith, Option, None, Some, option_map, slice_get, slice_index}
 use Rattle.std.proofs.lemmas.Bool.{cases_eq}
 use Rattle.std.proofs.lemmas.List.{get_or-set_other, get_or-set_same, length-set}
 use Rattle.lay_style.specs.declared.style.Style.{Style}
@@ -13,7 +13,7 @@ use Rattle.lay_doc.specs.declared.node.Node.{Node}
 use Rattle.lay_doc.specs.Changes.{changed_at, with_style, without_style}
 use Rattle.lay_doc.specs.Document.{Document, IsDocument, ids_of, parents_of}
 use Rattle.lay_doc.specs.Edits.{after}
-use Rattle.lay_doc.specs.Tree.{IsTree, IsUnder, child, itself}
+use Rattle.lay_doc.specs.Tree.{IsUnder, child, itself}
 use Rattle.lay_doc.proofs.EditedDocuments.{edits_leave_documents}
 use Rattle.lay_doc.proofs.NodeColumns.{length-ids, length-parents}
 use Rattle.lay_doc.proofs.Subtrees.{has_subtree_lem}
@@ -131,8 +131,7 @@ module _ (d : Document) (edit : Edit) (p : ℕ) (f : Node → Node) (doc : IsDoc
   like-parent k m r positive =
       let is = r.0 in
       let lt = r.1 in
-      let before = doc.tree.before k positive (omega (arith, lt, length-parents d.nodes)) in
-      (
+      let before = doc.tree.before k positive (omega (arith, lt, length-parents d.nodes)) in (
         omega (arith, positive, is),
         (
           ap (λ (j : ℕ). parent_of d.nodes j) is ∙ ap (λ (xs : List ℕ). slice_index xs m) (sym parents-are),
@@ -198,7 +197,7 @@ module _ (d : Document) (edit : Edit) (p : ℕ) (f : Node → Node) (doc : IsDoc
     boxes-stay : IsContextAt d.nodes ss a → boxes_of_place d.nodes ss a ≡ boxes_of_place changed.nodes ts a
     boxes-stay context =
         let marked : is_marked (box_at changed.nodes mixed a) ≡ true =
-            same-mark d.nodes changed.nodes ss mixed Like like like-styled a a a-like ∙ marked-true (is_marked (box_at d.nodes ss a)) context.establishes in
+        same-mark d.nodes changed.nodes ss mixed Like like like-styled a a a-like ∙ marked-true (is_marked (box_at d.nodes ss a)) context.establishes in
         boxes-kept d changed ss mixed Like doc elsewhere.document (here.has.length_is ∙ length-parents d.nodes) count-mixed like like-styled a a a-like (λ k. k) forth from context
         ∙ same-boxes changed.nodes elsewhere.document.tree p mixed ts count-mixed count-styles mixed-other (at_place p box) box_too mixed-box there_too absolute absolute_too a other (omega (arith, lt, count)) marked
 

@@ -1,10 +1,9 @@
 -- Nodes of two documents that are the same ones, wherever they stand, and so are their parents: they have the same styles, the same
 -- boxes by themselves, and the same contexts around them.
-use Rattle.std.proofs.Common.{◌≡◌, ◌⊎◌, inl, inr, ℕ, zero, suc, ◌+◌, ◌<◌, ◌≤◌, ◌==◌, Bool, true, false, List, [], ◌∷◌, length, map, refl, ap, sym, subst, ◌∙◌, arith, IsTrue, Option, None, Some, option_map, slice_get, slice_index, slice_index_or}
-use Rattle.std.proofs.lemmas.Bool.{cases_lt, eqb-true, ne_eqb}
+use Rattle.std.proofs.Common.{◌≡◌, inl, inr, ℕ, zero, suc, ◌+◌, ◌<◌, ◌==◌, Bool, false, List, [], ◌∷◌, length, map, refl, ap, sym, subst, ◌∙◌, arith, IsTrue, Option, None, Some, option_map, slice_get, slice_index_or}
+use Rattle.std.proofs.lemmas.Bool.{cases_lt, ne_eqb}
 use Rattle.lay_style.specs.declared.style.Style.{Style}
 use Rattle.lay_style.specs.ComputedStyle.{HasStyles, computed_style, declarations_at, parent_style, style_at}
-use Rattle.lay_style.specs.InitialStyle.{initial_style}
 use Rattle.lay_style.specs.Values.{Declaration}
 use Rattle.lay_doc.specs.declared.node.Kind.{Kind}
 use Rattle.lay_doc.specs.declared.node.Node.{Node}
