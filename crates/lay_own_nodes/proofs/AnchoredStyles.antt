@@ -28,51 +28,7 @@ use Rattle.lay_contexts.proofs.ChildTrees.{in-order}
 use Rattle.lay_contexts.proofs.RisingLists.{Has, from-has}
 use Rattle.lay_own_nodes.proofs.ClearTrees.{Clear, ClearIn, clear-generated, clear-in, clear-put_list}
 use Rattle.lay_own_nodes.proofs.EachTree.{Each}
-
--- A node's tree, as a part has it: a leaf where it is an inner context's, and else with what its children give.
-abbrev and_tree : Option Tree → List Tree → List Tree
-and_tree None ts = ts
-and_tree (Some t) ts = t ∷ ts
-
-abbrev as_part : Tree → Tree
-as_part t = put nothing (as_child t)
-
-put-and : (o : Option Tree) (ts : List Tree) → put_list nothing (and_child as_child o ts) ≡ and_tree (option_map as_part o) (put_list nothing ts)
-put-and None ts = refl
-put-and (Some t) ts = refl
-
-abbrev leaf_of : Facts → List Tree → Tree
-leaf_of f ts = if is_absolute f.flow then tree (anchor_facts f) no_trees else tree f (if is_closed f then no_trees else trees_of ts)
-
-abbrev leaf_with : Option Facts → List Tree → Option Tree
-leaf_with None ts = None
-leaf_with (Some f) ts = Some (leaf_of f ts)
-
-part-leaf : (o : Option Facts) (ts : List Tree) → option_map as_part (box_with o ts) ≡ leaf_with o (put_list nothing ts)
-part-leaf None ts = refl
-part-leaf (Some f) ts = ap Some (by (is_absolute f.flow))
-  where
-    by : (b : Bool) → put nothing (if b then tree (anchor_facts f) (also (tree (as_own f) (trees_of ts)) no_trees) else tree f (trees_of ts))
-        ≡ (if b then tree (anchor_facts f) no_trees else tree f (if is_closed f then no_trees else trees_of (put_list nothing ts)))
-    by true = refl
-    by false = ap (λ us. tree f (if is_closed f then no_trees else us)) (put-trees_of nothing ts)
-
-abbrev own_with : Option Facts → List Tree → Option Tree
-own_with None ts = None
-own_with (Some f) ts = Some (tree (as_own f) (trees_of ts))
-
-own-cut : (o : Option Facts) (ts : List Tree) → option_map cut_own (box_with o ts) ≡ own_with o (put_list nothing ts)
-own-cut None ts = refl
-own-cut (Some f) ts = ap (λ us. Some (tree (as_own f) us)) (put-trees_of nothing ts)
-
--- What the box of a node is.
-place-by : (k : ℕ) (n : Node) (s : Style) (o : Option Form) (f : Facts) → option_map (facts_with k n s) o ≡ Some f → f.place ≡ k
-place-by k n s None f e = absurd cc
-place-by k n s (Some x) f e = let h : facts_with k n s x ≡ f = cc in sym (ap (λ (g : Facts). g.place) h)
-
-place-of : (k : ℕ) (o : Option Node) (s : Style) (f : Facts) → box_of_node k o s ≡ Some f → f.place ≡ k
-place-of k None s f e = absurd cc
-place-of k (Some n) s f e = place-by k n s (form_of (k == 0) n.kind n.text s) f e
+use Rattle.lay_own_nodes.proofs.PartLeaves.{and_tree, behind, below, cut-is, leaf, leaf-is, leaf_of, leaf_with, no-inline, own_with, place-of, put-and}
 
 anchor-by : (k : ℕ) (n : Node) (s t : Style) (o q : Option Form) (f g : Facts) → option_map (facts_with k n s) o ≡ Some f → option_map (facts_with k n t) q ≡ Some g → anchor_facts f ≡ anchor_facts g
 anchor-by k n s t None q f g e h = absurd cc
@@ -85,10 +41,6 @@ anchor-by k n s t (Some x) (Some y) f g e h =
 anchor-same : (k : ℕ) (o : Option Node) (s t : Style) (f g : Facts) → box_of_node k o s ≡ Some f → box_of_node k o t ≡ Some g → anchor_facts f ≡ anchor_facts g
 anchor-same k None s t f g e h = absurd cc
 anchor-same k (Some n) s t f g e h = anchor-by k n s t (form_of (k == 0) n.kind n.text s) (form_of (k == 0) n.kind n.text t) f g e h
-
-no-inline : (k : ℕ) (o : Option Node) (s : Style) (f : Facts) → box_of_node k o s ≡ Some f → f.inner ≡ true → is_inline f.form ≡ false
-no-inline k None s f e h = absurd cc
-no-inline k (Some n) s f e h = let b : IsNodeBox k n (Some f) = subst (IsNodeBox k n) e (is-node_box k n s) in let c : IsBoxOf k n f = b in c.context h
 
 leaf-absolute : (f : Facts) (xs : List Tree) → is_absolute f.flow ≡ true → leaf_of f xs ≡ tree (anchor_facts f) no_trees
 leaf-absolute f xs e = ap (λ (b : Bool). if b then tree (anchor_facts f) no_trees else tree f (if is_closed f then no_trees else trees_of xs)) e
@@ -126,25 +78,6 @@ module _ (nodes : List Node) (is_tree : IsTree (parents_of nodes)) (p : ℕ) whe
   abbrev n : ℕ
   n = length nodes
 
-  abbrev below : List Style → ℕ → List Tree
-  below ss k = put_list nothing (child_trees nodes ss (children_places nodes k))
-
-  abbrev leaf : List Style → ℕ → Option Tree
-  leaf ss k = option_map as_part (tree_at nodes ss k)
-
-  leaf-is : (ss : List Style) → length ss ≡ length nodes → (k : ℕ) → k < n → leaf ss k ≡ leaf_with (box_at nodes ss k) (below ss k)
-  leaf-is ss same k lt = ap (option_map as_part) (in-order nodes ss is_tree same k lt) ∙ part-leaf (box_at nodes ss k) (child_trees nodes ss (children_places nodes k))
-
-  cut-is : (ss : List Style) → length ss ≡ length nodes → (k : ℕ) → k < n → cut_tree_at nodes ss k ≡ own_with (box_at nodes ss k) (below ss k)
-  cut-is ss same k lt = ap (option_map cut_own) (in-order nodes ss is_tree same k lt) ∙ own-cut (box_at nodes ss k) (child_trees nodes ss (children_places nodes k))
-
-  behind : (k c turns : ℕ) → n ≤ k + suc turns → Has (children_places nodes k) c → (n ≤ c + turns) × (c < n)
-  behind k c turns enough h =
-      let r = from-has (λ c. slice_index (parents_of nodes) c == k) c (k + 1) (n - (k + 1)) h in
-      let low = r.0 in
-      let high = r.1 in
-      (omega (arith, low, enough), omega (arith, low, high))
-
   -- at p is an absolute box, and what is at p in the part is its anchor alone
   module _ (ss : List Style) (same : length ss ≡ length nodes) (f : Facts) (there : box_at nodes ss p ≡ Some f) (absolute : is_absolute f.flow ≡ true) where
     apart : (k : ℕ) (g : Facts) → box_at nodes ss k ≡ Some g → is_absolute g.flow ≡ false → g.place ≡ p → ⊥
@@ -155,28 +88,28 @@ module _ (nodes : List Node) (is_tree : IsTree (parents_of nodes)) (p : ℕ) whe
         let z : false ≡ true = sym in_flow ∙ (ap (λ (x : Facts). is_absolute x.flow) same_box ∙ absolute) in
         cc
 
-    clear-children : (cs : List ℕ) → ((c : ℕ) → Has cs c → ClearThere p (leaf ss c)) → Each (Clear p) (put_list nothing (child_trees nodes ss cs))
+    clear-children : (cs : List ℕ) → ((c : ℕ) → Has cs c → ClearThere p (leaf nodes is_tree ss c)) → Each (Clear p) (put_list nothing (child_trees nodes ss cs))
     clear-children [] h = tt
     clear-children (c ∷ cs) h =
         subst (Each (Clear p)) (sym (put-and (tree_at nodes ss c) (child_trees nodes ss cs)))
-        (clear-and p (leaf ss c) (put_list nothing (child_trees nodes ss cs)) (h c (inl refl)) (clear-children cs (λ d m. h d (inr m))))
+        (clear-and p (leaf nodes is_tree ss c) (put_list nothing (child_trees nodes ss cs)) (h c (inl refl)) (clear-children cs (λ d m. h d (inr m))))
 
-    clear-at : (turns k : ℕ) → n ≤ k + turns → k < n → ClearThere p (leaf ss k)
+    clear-at : (turns k : ℕ) → n ≤ k + turns → k < n → ClearThere p (leaf nodes is_tree ss k)
     clear-at zero k enough lt = absurd (omega (arith, enough, lt))
     clear-at (suc turns) k enough lt =
-        subst (ClearThere p) (sym (leaf-is ss same k lt))
-        (clear-leaf p (box_at nodes ss k) (below ss k) (apart k)
-        (clear-children (children_places nodes k) (λ c m. (let b = behind k c turns enough m in clear-at turns c b.0 b.1))))
+        subst (ClearThere p) (sym (leaf-is nodes is_tree ss same k lt))
+        (clear-leaf p (box_at nodes ss k) (below nodes is_tree ss k) (apart k)
+        (clear-children (children_places nodes k) (λ c m. (let b = behind nodes is_tree k c turns enough m in clear-at turns c b.0 b.1))))
 
-    clear-below : (k : ℕ) → Each (Clear p) (below ss k)
-    clear-below k = clear-children (children_places nodes k) (λ c m. (let b = behind k c n (omega arith) m in clear-at n c b.0 b.1))
+    clear-below : (k : ℕ) → Each (Clear p) (below nodes is_tree ss k)
+    clear-below k = clear-children (children_places nodes k) (λ c m. (let b = behind nodes is_tree k c n (omega arith) m in clear-at n c b.0 b.1))
 
     clear-part : (c : ℕ) → (c ≡ p → ⊥) → c < n → Each (Clear p) (part nodes ss c)
     clear-part c other lt =
-        let mine : ClearThere p (own_with (box_at nodes ss c) (below ss c)) =
-        clear-own p (box_at nodes ss c) (below ss c) (λ g e at. other (sym (place-of c (slice_get nodes c) (style_at ss c) g e) ∙ at)) (clear-below c) in
+        let mine : ClearThere p (own_with (box_at nodes ss c) (below nodes is_tree ss c)) =
+        clear-own p (box_at nodes ss c) (below nodes is_tree ss c) (λ g e at. other (sym (place-of c (slice_get nodes c) (style_at ss c) g e) ∙ at)) (clear-below c) in
         subst (Each (Clear p)) (part-cut (tree_at nodes ss c))
-        (clear-put_list p (generated_cut (cut_tree_at nodes ss c)) (clear-cut p (cut_tree_at nodes ss c) (subst (ClearThere p) (sym (cut-is ss same c lt)) mine)))
+        (clear-put_list p (generated_cut (cut_tree_at nodes ss c)) (clear-cut p (cut_tree_at nodes ss c) (subst (ClearThere p) (sym (cut-is nodes is_tree ss same c lt)) mine)))
 
   -- two lists of styles that differ at p alone, where both have an absolute box
   module _ (ss ts : List Style) (same : length ss ≡ length nodes) (same_there : length ts ≡ length nodes) (others : (k : ℕ) → (k ≡ p → ⊥) → style_at ss k ≡ style_at ts k)
@@ -191,36 +124,36 @@ module _ (nodes : List Node) (is_tree : IsTree (parents_of nodes)) (p : ℕ) whe
         ∙ (ap (λ (x : Facts). Some (tree x no_trees)) (anchor-same p (slice_get nodes p) (style_at ss p) (style_at ts p) f g there there_too)
         ∙ (ap Some (sym (leaf-absolute g ys absolute_too)) ∙ ap (λ (o : Option Facts). leaf_with o ys) (sym there_too))))
 
-    same-children : (cs : List ℕ) → ((c : ℕ) → Has cs c → leaf ss c ≡ leaf ts c) → put_list nothing (child_trees nodes ss cs) ≡ put_list nothing (child_trees nodes ts cs)
+    same-children : (cs : List ℕ) → ((c : ℕ) → Has cs c → leaf nodes is_tree ss c ≡ leaf nodes is_tree ts c) → put_list nothing (child_trees nodes ss cs) ≡ put_list nothing (child_trees nodes ts cs)
     same-children [] h = refl
     same-children (c ∷ cs) h =
         put-and (tree_at nodes ss c) (child_trees nodes ss cs)
         ∙ (ap (λ (o : Option Tree). and_tree o (put_list nothing (child_trees nodes ss cs))) (h c (inl refl))
-        ∙ (ap (and_tree (leaf ts c)) (same-children cs (λ d m. h d (inr m)))
+        ∙ (ap (and_tree (leaf nodes is_tree ts c)) (same-children cs (λ d m. h d (inr m)))
         ∙ sym (put-and (tree_at nodes ts c) (child_trees nodes ts cs))))
 
-    same-by : (k : ℕ) → below ss k ≡ below ts k → leaf_with (box_at nodes ss k) (below ss k) ≡ leaf_with (box_at nodes ts k) (below ts k)
+    same-by : (k : ℕ) → below nodes is_tree ss k ≡ below nodes is_tree ts k → leaf_with (box_at nodes ss k) (below nodes is_tree ss k) ≡ leaf_with (box_at nodes ts k) (below nodes is_tree ts k)
     same-by k e = elim (cases_eq k p) [
-      | inl is ↦ subst (λ (j : ℕ). leaf_with (box_at nodes ss j) (below ss k) ≡ leaf_with (box_at nodes ts j) (below ts k)) (sym is) (same-anchor (below ss k) (below ts k))
-      | inr other ↦ ap (λ (o : Option Facts). leaf_with o (below ss k)) (same-box k other) ∙ ap (leaf_with (box_at nodes ts k)) e
+      | inl is ↦ subst (λ (j : ℕ). leaf_with (box_at nodes ss j) (below nodes is_tree ss k) ≡ leaf_with (box_at nodes ts j) (below nodes is_tree ts k)) (sym is) (same-anchor (below nodes is_tree ss k) (below nodes is_tree ts k))
+      | inr other ↦ ap (λ (o : Option Facts). leaf_with o (below nodes is_tree ss k)) (same-box k other) ∙ ap (leaf_with (box_at nodes ts k)) e
     ]
 
-    same-leaf : (turns k : ℕ) → n ≤ k + turns → k < n → leaf ss k ≡ leaf ts k
+    same-leaf : (turns k : ℕ) → n ≤ k + turns → k < n → leaf nodes is_tree ss k ≡ leaf nodes is_tree ts k
     same-leaf zero k enough lt = absurd (omega (arith, enough, lt))
     same-leaf (suc turns) k enough lt =
-        leaf-is ss same k lt
-        ∙ (same-by k (same-children (children_places nodes k) (λ c m. (let b = behind k c turns enough m in same-leaf turns c b.0 b.1)))
-        ∙ sym (leaf-is ts same_there k lt))
+        leaf-is nodes is_tree ss same k lt
+        ∙ (same-by k (same-children (children_places nodes k) (λ c m. (let b = behind nodes is_tree k c turns enough m in same-leaf turns c b.0 b.1)))
+        ∙ sym (leaf-is nodes is_tree ts same_there k lt))
 
-    same-below : (k : ℕ) → below ss k ≡ below ts k
-    same-below k = same-children (children_places nodes k) (λ c m. (let b = behind k c n (omega arith) m in same-leaf n c b.0 b.1))
+    same-below : (k : ℕ) → below nodes is_tree ss k ≡ below nodes is_tree ts k
+    same-below k = same-children (children_places nodes k) (λ c m. (let b = behind nodes is_tree k c n (omega arith) m in same-leaf n c b.0 b.1))
 
     same-part : (c : ℕ) → (c ≡ p → ⊥) → c < n → part nodes ss c ≡ part nodes ts c
     same-part c other lt =
         let cut : cut_tree_at nodes ss c ≡ cut_tree_at nodes ts c =
-        cut-is ss same c lt
-        ∙ (ap (λ (o : Option Facts). own_with o (below ss c)) (same-box c other)
-        ∙ (ap (own_with (box_at nodes ts c)) (same-below c) ∙ sym (cut-is ts same_there c lt))) in
+        cut-is nodes is_tree ss same c lt
+        ∙ (ap (λ (o : Option Facts). own_with o (below nodes is_tree ss c)) (same-box c other)
+        ∙ (ap (own_with (box_at nodes ts c)) (same-below c) ∙ sym (cut-is nodes is_tree ts same_there c lt))) in
         sym (part-cut (tree_at nodes ss c)) ∙ (ap (λ (o : Option Tree). put_list nothing (generated_cut o)) cut ∙ part-cut (tree_at nodes ts c))
 
     -- What is listed.

@@ -16,7 +16,7 @@ use Rattle.lay_anonymous_boxes.specs.declared.facts.Facts.{Facts}
 use Rattle.lay_anonymous_boxes.specs.declared.facts.Form.{Form}
 use Rattle.lay_anonymous_boxes.specs.declared.facts.Form.TheVariants as form
 use Rattle.lay_boxgen.specs.Parts.{all_put, is_closed, nothing, put, put_list}
-use Rattle.lay_own_nodes.proofs.EachTree.{Each, each-append, each-broken, each-child_wrapped, each-filter, each-in_wrapper, each-parented, each-relevant, each-run_wrapped}
+use Rattle.lay_own_nodes.proofs.EachTree.{Each, IsMade, each-append, each-broken, each-child_wrapped, each-filter, each-in_wrapper, each-parented, each-relevant, each-run_wrapped}
 
 -- at the place p stand anchors alone, with nothing in them
 abbrev mutual
@@ -51,10 +51,10 @@ no_table (form.ColumnGroup n) e = absurd cc
 no_table (form.Column n) e = absurd cc
 no_table (form.Cell m n) e = absurd cc
 
-abbrev none : List Tree
+abbrev pub none : List Tree
 none = []
 
-no-relevant : (f : Facts) → relevant f none ≡ none
+pub no-relevant : (f : Facts) → relevant f none ≡ none
 no-relevant f = by (is_column f.form) (is_column_group f.form) (is_irrelevant f.form None None)
   where
     by : (a b c : Bool) → (if a then none else (if b then column_group_children none else (if c then none else none))) ≡ none
@@ -63,7 +63,7 @@ no-relevant f = by (is_column f.form) (is_column_group f.form) (is_irrelevant f.
     by false false true = refl
     by false false false = refl
 
-no-child : (f : Facts) → child_wrapped f none ≡ none
+pub no-child : (f : Facts) → child_wrapped f none ≡ none
 no-child f = by (is_table f.form) (is_row_group f.form) (is_row f.form)
   where
     by : (a b c : Bool) → (if a then in_rows_of_table f none else (if b then in_rows_of_group f none else (if c then in_cells f none else none))) ≡ none
@@ -72,7 +72,7 @@ no-child f = by (is_table f.form) (is_row_group f.form) (is_row f.form)
     by false false true = refl
     by false false false = refl
 
-no-parented : (f : Facts) → parented f none ≡ none
+pub no-parented : (f : Facts) → parented f none ≡ none
 no-parented f = by (is_row f.form)
   where
     by : (a : Bool) → gathered (is_misparented f.form) (table_round f) (if a then none else gathered is_cell_in_flow (row_of_cells f) none) ≡ none
@@ -82,14 +82,14 @@ no-parented f = by (is_row f.form)
 no-wrapped : (f : Facts) → is_anchor f.form ≡ true → in_wrapper f none ≡ none
 no-wrapped f a = ap (λ (b : Bool). if b then captions_and_table f none else none) (no_table f.form a)
 
-no-broken : (f : Facts) → broken f none ≡ tree f no_trees ∷ []
+pub no-broken : (f : Facts) → broken f none ≡ tree f no_trees ∷ []
 no-broken f = by (is_inline f.form && list_any is_block_box none)
   where
     by : (a : Bool) → (if a then parts_from f false none none else (tree f no_trees ∷ [])) ≡ tree f no_trees ∷ []
     by true = refl
     by false = refl
 
-no-run : (f : Facts) → run_wrapped f none ≡ none
+pub no-run : (f : Facts) → run_wrapped f none ≡ none
 no-run f = by (is_block_container f.form && list_any is_block_box none)
   where
     by : (a : Bool) → (if a then gathered is_no_block (block_round f) none else none) ≡ none
@@ -101,8 +101,11 @@ module _ (p : ℕ) where
   AllClear ts = Each (Clear p) ts
 
   module _ (f : Facts) (apart : f.place ≡ p → ⊥) where
-    clear-box : (x : Form) (run : List Tree) → AllClear run → Clear p (anonymous_box f x run)
-    clear-box x run h = ((λ e. absurd (apart e)), clear-in p run h)
+    clear-box : (x : Form) → IsMade x → (run : List Tree) → AllClear run → Clear p (anonymous_box f x run)
+    clear-box x is run h = ((λ e. absurd (apart e)), clear-in p run h)
+
+    clear-round : (run : List Tree) → AllClear run → Clear p (anonymous_box f (if is_inline f.form then form.InlineWrapper else form.Wrapper) run)
+    clear-round run h = ((λ e. absurd (apart e)), clear-in p run h)
 
     clear-table : (run : List Tree) → AllClear run → Clear p (table_box f run)
     clear-table run h = ((λ e. absurd (apart e)), clear-in p (filter is_no_caption_box run) (each-filter (Clear p) is_no_caption_box run h))
@@ -146,7 +149,7 @@ module _ (p : ℕ) where
   clear-generated t h =
       let r1 = boxed relevant (λ f apart ts g. each-relevant (Clear p) f ts g) (λ f a. no-relevant f) in
       let r2 = boxed child_wrapped (λ f apart ts g. each-child_wrapped (Clear p) f (clear-box f apart) ts g) (λ f a. no-child f) in
-      let r3 = boxed parented (λ f apart ts g. each-parented (Clear p) f (clear-box f apart) ts g) (λ f a. no-parented f) in
+      let r3 = boxed parented (λ f apart ts g. each-parented (Clear p) f (clear-box f apart) (clear-round f apart) ts g) (λ f a. no-parented f) in
       let r4 = boxed in_wrapper (λ f apart ts g. each-in_wrapper (Clear p) f (clear-table f apart) ts g) no-wrapped in
       let r5 : Rule broken = record { along = λ f apart ts g. each-broken (Clear p) f (clear-tree f apart) ts g; bare = λ f a. no-broken f } in
       let r6 = boxed run_wrapped (λ f apart ts g. each-run_wrapped (Clear p) f (clear-box f apart) ts g) (λ f a. no-run f) in

@@ -1,10 +1,10 @@
 -- What holds of each tree of a list holds of each that the rules of box generation make of them, where it holds of the boxes
 -- that they put round some.
-use Rattle.std.proofs.Common.{Bool, true, false, ◌&&◌, List, [], ◌∷◌, ◌++◌, filter, if◌then◌else◌, Option, None, Some}
+use Rattle.std.proofs.Common.{◌≡◌, Bool, true, false, ◌&&◌, refl, List, [], ◌∷◌, ◌++◌, filter, if◌then◌else◌, Option, None, Some}
 use Rattle.std.specs.List.{list_any}
 use Rattle.lay_anonymous_boxes.specs.Boxes.{Tree, tree, trees_of, facts_of}
 use Rattle.lay_anonymous_boxes.specs.Runs.{gathered, gathered_from, run_over, is_some, is_white_box, anonymous_box}
-use Rattle.lay_anonymous_boxes.specs.Forms.{is_row_group, is_table, is_row, is_column, is_column_group, is_inline, is_block_container}
+use Rattle.lay_anonymous_boxes.specs.Forms.{is_row_group, is_table, is_row, is_column, is_column_group, is_inline, is_block_container, is_white}
 use Rattle.lay_anonymous_boxes.specs.Irrelevant.{is_irrelevant, kept_gap, kept_from, without_white_space, is_column_box, column_group_children, relevant}
 use Rattle.lay_anonymous_boxes.specs.MissingChildren.{is_no_proper_table_child, is_no_row, is_no_cell, cell_round, in_cells, in_rows_of_table, in_rows_of_group, row_round, child_wrapped}
 use Rattle.lay_anonymous_boxes.specs.MissingParents.{is_cell_in_flow, is_misparented, row_of_cells, table_round, cells_in_rows, parented}
@@ -14,6 +14,11 @@ use Rattle.lay_anonymous_boxes.specs.InlineRuns.{is_no_block, is_seen_box, block
 use Rattle.lay_anonymous_boxes.specs.declared.facts.Facts.{Facts}
 use Rattle.lay_anonymous_boxes.specs.declared.facts.Form.{Form}
 use Rattle.lay_anonymous_boxes.specs.declared.facts.Form.TheVariants.{Row, Cell, Wrapper, InlineWrapper, Block}
+use Rattle.lay_own_nodes.specs.InlineTables.{is_inline_wrapper}
+
+-- what the rules put round boxes, beside tables, is no table, no white space and no inline box
+abbrev pub IsMade : Form → Type 0
+IsMade form = (is_inline_wrapper form ≡ false) × (is_white form ≡ false) × (is_inline form ≡ false)
 
 module _ (S : Tree → Type 0) where
   abbrev pub Each : List Tree → Type 0
@@ -78,16 +83,16 @@ module _ (S : Tree → Type 0) where
       (each-if (is_column_group f.form) (column_group_children ts) (without_white_space f.form ts) (each-filter is_column_box ts h) (each-kept_from f.form ts None [] h tt))
 
   -- Boxes put round some, by the box with these facts.
-  module _ (f : Facts) (made : (form : Form) (run : List Tree) → Each run → S (anonymous_box f form run)) where
-    each-box : (form : Form) (run : List Tree) → Each run → Each (anonymous_box f form run ∷ [])
-    each-box form run h = (made form run h, tt)
+  module _ (f : Facts) (made : (form : Form) → IsMade form → (run : List Tree) → Each run → S (anonymous_box f form run)) where
+    each-box : (form : Form) → IsMade form → (run : List Tree) → Each run → Each (anonymous_box f form run ∷ [])
+    each-box form is run h = (made form is run h, tt)
 
     -- The second stage.
     each-in_cells : (ts : List Tree) → Each ts → Each (in_cells f ts)
-    each-in_cells ts h = each-gathered is_no_cell (cell_round f) (each-box (Cell 1 1)) ts h
+    each-in_cells ts h = each-gathered is_no_cell (cell_round f) (each-box (Cell 1 1) (refl, refl, refl)) ts h
 
     each-row_round : (run : List Tree) → Each run → Each (row_round f run)
-    each-row_round run h = each-box Row (in_cells f run) (each-in_cells run h)
+    each-row_round run h = each-box Row (refl, refl, refl) (in_cells f run) (each-in_cells run h)
 
     pub each-child_wrapped : (ts : List Tree) → Each ts → Each (child_wrapped f ts)
     each-child_wrapped ts h =
@@ -100,16 +105,16 @@ module _ (S : Tree → Type 0) where
     -- The third stage.
     each-cells_in_rows : (ts : List Tree) → Each ts → Each (cells_in_rows f ts)
     each-cells_in_rows ts h =
-        each-if (is_row f.form) ts (gathered is_cell_in_flow (row_of_cells f) ts) h (each-gathered is_cell_in_flow (row_of_cells f) (each-box Row) ts h)
+        each-if (is_row f.form) ts (gathered is_cell_in_flow (row_of_cells f) ts) h (each-gathered is_cell_in_flow (row_of_cells f) (each-box Row (refl, refl, refl)) ts h)
 
-    pub each-parented : (ts : List Tree) → Each ts → Each (parented f ts)
-    each-parented ts h =
-        each-gathered (is_misparented f.form) (table_round f) (each-box (if is_inline f.form then InlineWrapper else Wrapper)) (cells_in_rows f ts) (each-cells_in_rows ts h)
+    pub each-parented : ((run : List Tree) → Each run → S (anonymous_box f (if is_inline f.form then InlineWrapper else Wrapper) run)) → (ts : List Tree) → Each ts
+        → Each (parented f ts)
+    each-parented round ts h = each-gathered (is_misparented f.form) (table_round f) (λ run g. (round run g, tt)) (cells_in_rows f ts) (each-cells_in_rows ts h)
 
     -- Wrapping of inline runs.
     each-block_round : (run : List Tree) → Each run → Each (block_round f run)
     each-block_round run h =
-        each-if (list_any is_seen_box run) (anonymous_box f Block run ∷ []) (filter is_no_text_box run) (each-box Block run h) (each-filter is_no_text_box run h)
+        each-if (list_any is_seen_box run) (anonymous_box f Block run ∷ []) (filter is_no_text_box run) (each-box Block (refl, refl, refl) run h) (each-filter is_no_text_box run h)
 
     pub each-run_wrapped : (ts : List Tree) → Each ts → Each (run_wrapped f ts)
     each-run_wrapped ts h =
@@ -144,3 +149,7 @@ module _ (S : Tree → Type 0) where
     each-broken ts h =
         each-if (is_inline f.form && list_any is_block_box ts) (parts_from f false [] ts) (tree f (trees_of ts) ∷ [])
         (each-parts_from ts false [] h tt) (part ts h, tt)
+
+pub each-map : (S T : Tree → Type 0) → ((t : Tree) → S t → T t) → (ts : List Tree) → Each S ts → Each T ts
+each-map S T to [] h = tt
+each-map S T to (t ∷ ts) h = (to t h.0, each-map S T to ts h.1)

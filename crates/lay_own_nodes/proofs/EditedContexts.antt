@@ -1,5 +1,5 @@
 -- Each edit keeps the nodes that it doesn't reach, and so the boxes of the contexts that have none but these.
-use Rattle.std.proofs.Common.{◌≡◌, ◌⊎◌, inl, inr, ℕ, ◌+◌, ◌<◌, ◌≤◌, ◌==◌, ◌||◌, zero, suc, Bool, true, false, not, List, length, refl, sym, subst, arith, Option, None, Some, if◌then◌else◌, nat_lt, is_some, slice_index}
+use Rattle.std.proofs.Common.{◌≡◌, ◌⊎◌, ◌↔◌, inl, inr, ℕ, ◌+◌, ◌<◌, ◌≤◌, ◌==◌, ◌||◌, zero, suc, Bool, true, false, not, List, length, refl, sym, subst, arith, Option, None, Some, if◌then◌else◌, nat_lt, is_some, slice_index}
 use Rattle.std.proofs.lemmas.Bool.{ltb-false}
 use Rattle.lay_style.specs.declared.style.Style.{Style}
 use Rattle.lay_style.specs.Places.{place_of}
@@ -18,14 +18,18 @@ use Rattle.lay_doc.specs.Tree.{child_count, slot_of}
 use Rattle.lay_doc.proofs.EditedDocuments.{edits_leave_documents}
 use Rattle.lay_doc.proofs.FoundSlots.{slot_found}
 use Rattle.lay_doc.proofs.NodeColumns.{length-ids, length-parents}
+use Rattle.lay_box_tree.specs.declared.box_tree.BoxKind.{BoxKind}
+use Rattle.lay_box_tree.specs.declared.box_tree.Flow.{Flow}
 use Rattle.lay_boxgen.specs.Contexts.{IsContext}
 use Rattle.lay_own_nodes.specs.Reached.{IsReached}
 use Rattle.lay_own_nodes.specs.Touched.{Edits, EditsTouchReachedContexts, HasReached, KeepsBoxes, UnreachedContextsKeepBoxes}
+use Rattle.lay_own_nodes.specs.Shrinking.{IsWithin, UnreachedContextsStayWithin}
 use Rattle.lay_own_nodes.specs.Unreached.{IsKeptAt, UnreachedNodesStay}
 use Rattle.lay_own_nodes.proofs.ChangedNodes.{Stays, changed-keeping}
 use Rattle.lay_own_nodes.proofs.InsertedNodes.{Shifts, grown-keeping}
 use Rattle.lay_own_nodes.proofs.KeptContexts.{Keeping, Styled, reached-known, touched}
 use Rattle.lay_own_nodes.proofs.KeptNodes.{kept-here, kept-there}
+use Rattle.lay_own_nodes.proofs.KeptShrinking.{stays-within}
 use Rattle.lay_own_nodes.proofs.RemovedNodes.{Closes, shrunk-keeping}
 
 there : (nodes : List Node) (id p : ℕ) → place_of id (ids_of nodes) ≡ Some p → p < length nodes
@@ -158,6 +162,12 @@ module _ (d : Document) (edit : Edit) (styles others : List Style) (edits : Edit
       over-edit d edit styles others edits ((k : ℕ) × IsKeptAt d (after d edit) styles others k m)
       (λ R keep. kept-here d (after d edit) (IsReached d edit) (IsReached (after d edit) edit) R keep styles others here elsewhere m lt apart)
 
+  by-within : (S : Flow → BoxKind → Bool) (k : ℕ) → k < length d.nodes → (IsReached d edit k → ⊥)
+      → (m : ℕ) × IsKeptAt d (after d edit) styles others k m × (IsWithin S d.nodes styles k ↔ IsWithin S (after d edit).nodes others m)
+  by-within S k lt apart =
+      over-edit d edit styles others edits ((m : ℕ) × IsKeptAt d (after d edit) styles others k m × (IsWithin S d.nodes styles k ↔ IsWithin S (after d edit).nodes others m))
+      (λ R keep. stays-within d (after d edit) (IsReached d edit) (IsReached (after d edit) edit) R keep styles others here elsewhere S k lt apart)
+
 pub edits_touch_reached_contexts : EditsTouchReachedContexts
 edits_touch_reached_contexts d edit styles others id edits context = by-touched d edit styles others edits id context
 
@@ -169,3 +179,6 @@ unreached_contexts_keep_boxes d edit styles others id edits context apart none =
 
 pub unreached_nodes_stay : UnreachedNodesStay
 unreached_nodes_stay d edit styles others edits = record { kept = by-kept d edit styles others edits; all = by-come d edit styles others edits }
+
+pub unreached_contexts_stay_within : UnreachedContextsStayWithin
+unreached_contexts_stay_within d edit styles others edits S k lt apart = by-within d edit styles others edits S k lt apart

@@ -23,7 +23,7 @@ content-by n o i k d t =
     ∙ ap (λ (x : List ℕ). record { id = o.id; kind = o.kind; decls = o.decls; text = x }) t))
 
 module _ (d e : Document) (P Q : ℕ → Type 0) (R : ℕ → ℕ → Type 0) (keep : Keeping d e P Q R) (ss ts : List Style) (here : Styled d ss) (elsewhere : Styled e ts) where
-  styled : (k m : ℕ) → R k m → style_at ss k ≡ style_at ts m
+  pub styled : (k m : ℕ) → R k m → style_at ss k ≡ style_at ts m
   styled k m r = same-style d.nodes e.nodes ss ts R keep.same keep.declared here.document.tree here.has elsewhere.has k m r
 
   same-content : (k m : ℕ) → R k m → option_map content_of (slice_get d.nodes k) ≡ option_map content_of (slice_get e.nodes m)
@@ -53,7 +53,7 @@ module _ (d e : Document) (P Q : ℕ → Type 0) (R : ℕ → ℕ → Type 0) (k
         ∙ sym (ap (λ (x : Bool). record { 0 = if x then 0 else slice_index (ids_of e.nodes) (parent_of e.nodes m) }) b))
   ]
 
-  kept-at : (k m : ℕ) → R k m → IsKeptAt d e ss ts k m
+  pub kept-at : (k m : ℕ) → R k m → IsKeptAt d e ss ts k m
   kept-at k m r =
       let s = keep.same.node k m r in
       record {

@@ -4,12 +4,16 @@ pub mod OwnList
 pub mod OwnImage
 pub mod KeptContexts
 pub mod KeptNodes
+pub mod KeptShrinking
 pub mod ChangedNodes
 pub mod MovedNodes
 pub mod InsertedNodes
 pub mod RemovedNodes
 pub mod EditedContexts
+pub mod PartLeaves
 pub mod EachTree
 pub mod ClearTrees
 pub mod AnchoredStyles
 pub mod RestyledAnchors
+pub mod InlineRules
+pub mod InlineNodes

@@ -2,3 +2,5 @@ pub mod Reached
 pub mod Touched
 pub mod Unreached
 pub mod Anchors
+pub mod InlineTables
+pub mod Shrinking

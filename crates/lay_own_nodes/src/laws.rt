@@ -1,6 +1,8 @@
 //! The laws.
 
 ghost use Rattle.lay_own_nodes.specs.Anchors.{AnchorsKeepContextsAround};
+ghost use Rattle.lay_own_nodes.specs.InlineTables.{InlineTablesStandByNodes};
+ghost use Rattle.lay_own_nodes.specs.Shrinking.{UnreachedContextsStayWithin};
 ghost use Rattle.lay_own_nodes.specs.Touched.{EditsTouchReachedContexts, UnreachedContextsKeepBoxes};
 ghost use Rattle.lay_own_nodes.specs.Unreached.{UnreachedNodesStay};
 
@@ -22,4 +24,14 @@ pub fn edits_touch_reached_contexts()
 /// Where declarations of an absolute or fixed element change that stays one, it touches its context and those inside it alone.
 pub fn anchors_keep_contexts_around()
     ensures { AnchorsKeepContextsAround }
+{}
+
+/// Whether the box of an inner context stands in an anonymous inline-table is said by its element and the nodes between.
+pub fn inline_tables_stand_by_nodes()
+    ensures { InlineTablesStandByNodes }
+{}
+
+/// What is said by nodes of the boxes around a context an edit changes for contexts of elements that it reaches alone.
+pub fn unreached_contexts_stay_within()
+    ensures { UnreachedContextsStayWithin }
 {}

@@ -9,6 +9,6 @@
 mod laws;
 
 pub use laws::{
-    anchors_keep_contexts_around, edits_touch_reached_contexts, unreached_contexts_keep_boxes,
-    unreached_nodes_stay,
+    anchors_keep_contexts_around, edits_touch_reached_contexts, inline_tables_stand_by_nodes,
+    unreached_contexts_keep_boxes, unreached_contexts_stay_within, unreached_nodes_stay,
 };
