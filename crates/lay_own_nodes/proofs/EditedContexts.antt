@@ -20,7 +20,7 @@ use Rattle.lay_doc.proofs.FoundSlots.{slot_found}
 use Rattle.lay_doc.proofs.NodeColumns.{length-ids, length-parents}
 use Rattle.lay_box_tree.specs.declared.box_tree.BoxKind.{BoxKind}
 use Rattle.lay_box_tree.specs.declared.box_tree.Flow.{Flow}
-use Rattle.lay_boxgen.specs.Contexts.{IsContext}
+use Rattle.lay_boxgen.specs.Contexts.{IsContext, IsContextAt}
 use Rattle.lay_own_nodes.specs.Reached.{IsReached}
 use Rattle.lay_own_nodes.specs.Touched.{Edits, EditsTouchReachedContexts, HasReached, KeepsBoxes, UnreachedContextsKeepBoxes}
 use Rattle.lay_own_nodes.specs.Shrinking.{IsWithin, UnreachedContextsStayWithin}
@@ -29,7 +29,7 @@ use Rattle.lay_own_nodes.proofs.ChangedNodes.{Stays, changed-keeping}
 use Rattle.lay_own_nodes.proofs.InsertedNodes.{Shifts, grown-keeping}
 use Rattle.lay_own_nodes.proofs.KeptContexts.{Keeping, Styled, reached-known, touched}
 use Rattle.lay_own_nodes.proofs.KeptNodes.{kept-here, kept-there}
-use Rattle.lay_own_nodes.proofs.KeptShrinking.{stays-within}
+use Rattle.lay_own_nodes.proofs.KeptShrinking.{context-stays, stays-within}
 use Rattle.lay_own_nodes.proofs.RemovedNodes.{Closes, shrunk-keeping}
 
 there : (nodes : List Node) (id p : ℕ) → place_of id (ids_of nodes) ≡ Some p → p < length nodes
@@ -167,6 +167,13 @@ module _ (d : Document) (edit : Edit) (styles others : List Style) (edits : Edit
   by-within S k lt apart =
       over-edit d edit styles others edits ((m : ℕ) × IsKeptAt d (after d edit) styles others k m × (IsWithin S d.nodes styles k ↔ IsWithin S (after d edit).nodes others m))
       (λ R keep. stays-within d (after d edit) (IsReached d edit) (IsReached (after d edit) edit) R keep styles others here elsewhere S k lt apart)
+
+  pub by-context : (S : Flow → BoxKind → Bool) (k : ℕ) → k < length d.nodes → (IsReached d edit k → ⊥) → IsContextAt d.nodes styles k
+      → (m : ℕ) × IsKeptAt d (after d edit) styles others k m × IsContextAt (after d edit).nodes others m × (IsWithin S d.nodes styles k ↔ IsWithin S (after d edit).nodes others m)
+  by-context S k lt apart context =
+      over-edit d edit styles others edits
+      ((m : ℕ) × IsKeptAt d (after d edit) styles others k m × IsContextAt (after d edit).nodes others m × (IsWithin S d.nodes styles k ↔ IsWithin S (after d edit).nodes others m))
+      (λ R keep. context-stays d (after d edit) (IsReached d edit) (IsReached (after d edit) edit) R keep styles others here elsewhere S k lt apart context)
 
 pub edits_touch_reached_contexts : EditsTouchReachedContexts
 edits_touch_reached_contexts d edit styles others id edits context = by-touched d edit styles others edits id context

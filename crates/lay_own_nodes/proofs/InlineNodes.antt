@@ -9,7 +9,7 @@ use Rattle.lay_doc.specs.declared.node.Kind.{Kind}
 use Rattle.lay_doc.specs.declared.node.Kind.TheVariants as kind
 use Rattle.lay_doc.specs.declared.node.Node.{Node}
 use Rattle.lay_style.specs.declared.style_words.Overflow.{Overflow}
-use Rattle.lay_doc.specs.Document.{Document, IsDocument, is_element_at, parents_of}
+use Rattle.lay_doc.specs.Document.{Document, IsDocument, ids_of, is_element_at, parents_of}
 use Rattle.lay_doc.specs.NewNodes.{is_element}
 use Rattle.lay_doc.specs.Tree.{IsTree}
 use Rattle.lay_anonymous_boxes.specs.Boxes.{Tree, Trees, tree, no_trees, also, trees_of, facts_of}
@@ -203,17 +203,26 @@ module _ (nodes : List Node) (ss : List Style) (is_tree : IsTree (parents_of nod
       | inr around ↦ or-left b (is_part_in_inline p f) (says.1 around)
     ]
 
+    at-place : f.place ≡ c
+    at-place = place-of c (slice_get nodes c) (style_at ss c) f there
+
     known : P (b || is_part_in_inline p f) f
-    known = λ inner. (
-      λ e. subst (IsInLoosePart nodes ss) (sym (place-of c (slice_get nodes c) (style_at ss c) f there)) (into e),
-      λ w. back (subst (IsInLoosePart nodes ss) (place-of c (slice_get nodes c) (style_at ss c) f there) w),
-    )
+    known = λ inner. (let n = of_node nodes ss c f there in record {
+      element = n.plain;
+      place = c;
+      within = (let w = n.within in omega (arith, w, at-place));
+      node = ap (slice_index (ids_of nodes)) (sym at-place) ∙ n.node;
+      inside_is = (into, back);
+    })
 
     known-anchor : P (b || is_part_in_inline p f) (anchor_facts f)
-    known-anchor = λ inner. (
-      λ e. subst (IsInLoosePart nodes ss) (sym (place-of c (slice_get nodes c) (style_at ss c) f there)) (into e),
-      λ w. back (subst (IsInLoosePart nodes ss) (place-of c (slice_get nodes c) (style_at ss c) f there) w),
-    )
+    known-anchor = λ inner. (let n = of_node nodes ss c f there in record {
+      element = n.plain;
+      place = c;
+      within = (let w = n.within in omega (arith, w, at-place));
+      node = ap (slice_index (ids_of nodes)) (sym at-place) ∙ n.node;
+      inside_is = (into, back);
+    })
 
   abbrev Child : Facts → Bool → Tree → Type 0
   Child f b u = Before P (b || is_part_in_inline f (facts_of u)) u
@@ -345,7 +354,7 @@ module _ (nodes : List Node) (ss : List Style) (is_tree : IsTree (parents_of nod
     inside-cut None h = tt
     inside-cut (Some t) h = inside-generated P opened t h
 
-    inside-part : Each (After P false) (part nodes ss a)
+    pub inside-part : Each (After P false) (part nodes ss a)
     inside-part =
         subst (Each (After P false)) (part-cut (tree_at nodes ss a))
         (after-list P opened false (generated_cut (cut_tree_at nodes ss a))

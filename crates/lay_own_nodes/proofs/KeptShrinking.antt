@@ -7,7 +7,7 @@ use Rattle.lay_doc.specs.Document.{Document}
 use Rattle.lay_anonymous_boxes.specs.declared.facts.Facts.{Facts}
 use Rattle.lay_box_tree.specs.declared.box_tree.BoxKind.{BoxKind}
 use Rattle.lay_box_tree.specs.declared.box_tree.Flow.{Flow}
-use Rattle.lay_boxgen.specs.Contexts.{box_at}
+use Rattle.lay_boxgen.specs.Contexts.{IsContextAt, box_at}
 use Rattle.lay_boxgen.specs.Listing.{kind_of, text_at, text_of}
 use Rattle.lay_contexts.specs.ContextTree.{parent_of}
 use Rattle.lay_own_nodes.specs.InlineTables.{IsInLoosePart, between, here, is_loose_part}
@@ -15,7 +15,7 @@ use Rattle.lay_own_nodes.specs.Shrinking.{IsWithin, around, own, table}
 use Rattle.lay_own_nodes.specs.Unreached.{IsKeptAt}
 use Rattle.lay_own_nodes.proofs.KeptContexts.{Keeping, Styled}
 use Rattle.lay_own_nodes.proofs.KeptNodes.{kept-at, styled}
-use Rattle.lay_own_nodes.proofs.SameTrees.{SameTree, at_place, back, same-around, same-box, same-mark, turned}
+use Rattle.lay_own_nodes.proofs.SameTrees.{SameTree, at_place, back, same-around, same-box, same-context, same-mark, turned}
 
 loose-moved : (p m : ℕ) (a b : Option Facts) → is_loose_part (option_map (at_place p) a) (option_map (at_place m) b) ≡ is_loose_part a b
 loose-moved p m None None = refl
@@ -65,3 +65,11 @@ module _ (d e : Document) (P Q : ℕ → Type 0) (R : ℕ → ℕ → Type 0) (k
           λ w. within-kept e.nodes d.nodes ts ss (back R) (turned d.nodes e.nodes R keep.same) (λ n j q. sym (alike j n q)) S m w k r,
         ),
       )
+
+  -- with the context of a node
+  pub context-stays : (S : Flow → BoxKind → Bool) (k : ℕ) → k < length d.nodes → (P k → ⊥) → IsContextAt d.nodes ss k
+      → (m : ℕ) × IsKeptAt d e ss ts k m × IsContextAt e.nodes ts m × (IsWithin S d.nodes ss k ↔ IsWithin S e.nodes ts m)
+  unfolding stays-within
+  context-stays S k lt apart context =
+      let w = stays-within S k lt apart in
+      (w.0, w.1, same-context d.nodes e.nodes ss ts R keep.same alike k w.0 (keep.forth k lt apart) context, w.2)

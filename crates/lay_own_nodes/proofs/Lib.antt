@@ -17,3 +17,7 @@ pub mod AnchoredStyles
 pub mod RestyledAnchors
 pub mod InlineRules
 pub mod InlineNodes
+pub mod TableMarks
+pub mod TableChains
+pub mod RootChains
+pub mod StayingOutward

@@ -2,7 +2,9 @@
 
 ghost use Rattle.lay_own_nodes.specs.Anchors.{AnchorsKeepContextsAround};
 ghost use Rattle.lay_own_nodes.specs.InlineTables.{InlineTablesStandByNodes};
-ghost use Rattle.lay_own_nodes.specs.Shrinking.{UnreachedContextsStayWithin};
+ghost use Rattle.lay_own_nodes.specs.Shrinking.{
+    RootsFollowTheirContext, UnreachedContextsStayOutward, UnreachedContextsStayWithin, WithinOutwardByNodes,
+};
 ghost use Rattle.lay_own_nodes.specs.Touched.{EditsTouchReachedContexts, UnreachedContextsKeepBoxes};
 ghost use Rattle.lay_own_nodes.specs.Unreached.{UnreachedNodesStay};
 
@@ -31,7 +33,22 @@ pub fn inline_tables_stand_by_nodes()
     ensures { InlineTablesStandByNodes }
 {}
 
-/// What is said by nodes of the boxes around a context an edit changes for contexts of elements that it reaches alone.
+/// What the own box of a context, or one around it, may be is said by nodes as by the formatting contexts.
+pub fn within_outward_by_nodes()
+    ensures { WithinOutwardByNodes }
+{}
+
+/// For the anonymous tables and cells in a context it is said by its boxes and by the context.
+pub fn roots_follow_their_context()
+    ensures { RootsFollowTheirContext }
+{}
+
+/// An edit changes what the nodes say of it for elements that it reaches alone.
 pub fn unreached_contexts_stay_within()
     ensures { UnreachedContextsStayWithin }
+{}
+
+/// And so what the formatting contexts say.
+pub fn unreached_contexts_stay_outward()
+    ensures { UnreachedContextsStayOutward }
 {}
