@@ -21,3 +21,4 @@ pub mod TableMarks
 pub mod TableChains
 pub mod RootChains
 pub mod StayingOutward
+pub mod BoundedTouch

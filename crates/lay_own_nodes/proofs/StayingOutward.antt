@@ -120,7 +120,7 @@ same-content ns ms k m lt less e =
     let alike : content_of n.0 ≡ content_of o.0 = cc in
     or-map (λ x. x.id.0) ms m o.0 0 o.1 ∙ (ap (λ x. x.id.0) (sym alike) ∙ sym (or-map (λ x. x.id.0) ns k n.0 0 n.1))
 
-place-there : (d : Document) (styles : List Style) (contexts : List Context) (of : AreContextsOf d.nodes styles contexts) (i : ℕ) → i < length contexts → (context_at contexts i).place ≡ (spot_at of.spots i).place
+pub place-there : (d : Document) (styles : List Style) (contexts : List Context) (of : AreContextsOf d.nodes styles contexts) (i : ℕ) → i < length contexts → (context_at contexts i).place ≡ (spot_at of.spots i).place
 place-there d styles contexts of i lt = ap (λ (s : ContextSpot). s.place) (of.numbered.each i lt).spot
 
 pub unreached_contexts_stay_outward : UnreachedContextsStayOutward

@@ -4,3 +4,4 @@ pub mod Unreached
 pub mod Anchors
 pub mod InlineTables
 pub mod Shrinking
+pub mod Bound

@@ -1,6 +1,7 @@
 //! The laws.
 
 ghost use Rattle.lay_own_nodes.specs.Anchors.{AnchorsKeepContextsAround};
+ghost use Rattle.lay_own_nodes.specs.Bound.{EditsTouchNoOthers};
 ghost use Rattle.lay_own_nodes.specs.InlineTables.{InlineTablesStandByNodes};
 ghost use Rattle.lay_own_nodes.specs.Shrinking.{
     RootsFollowTheirContext, UnreachedContextsStayOutward, UnreachedContextsStayWithin, WithinOutwardByNodes,
@@ -51,4 +52,9 @@ pub fn unreached_contexts_stay_within()
 /// And so what the formatting contexts say.
 pub fn unreached_contexts_stay_outward()
     ensures { UnreachedContextsStayOutward }
+{}
+
+/// So a context stands in the list after an edit as in that before it, or the edit reaches one of its own nodes.
+pub fn edits_touch_no_others()
+    ensures { EditsTouchNoOthers }
 {}
