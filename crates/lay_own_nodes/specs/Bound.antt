@@ -12,6 +12,7 @@ use Rattle.lay_contexts.specs.Contexts.{Context, boxes_in, context_at}
 use Rattle.lay_contexts.specs.FormattingContextList.{number_of}
 use Rattle.lay_contexts.specs.FormattingContexts.{FormattingContext}
 use Rattle.lay_contexts.specs.Homes.{is_root}
+use Rattle.lay_own_nodes.specs.Anchors.{HasAbsoluteBox, IsRestyling, ReachesNode}
 use Rattle.lay_own_nodes.specs.Shrinking.{AreListsOf, IsWithinOutward, SparesAnonymous}
 use Rattle.lay_own_nodes.specs.Touched.{Edits, HasReached}
 
@@ -34,3 +35,11 @@ EditsTouchNoOthers = (S : Flow → BoxKind → Bool) (d : Document) (edit : Edit
     → (i : ℕ) → i < length contexts
     → ((j : ℕ) × IsUntouched S d (after d edit) contexts later all rest i j)
     ⊎ HasReached d styles edit (id_of d contexts i) ⊎ HasReached (after d edit) others edit (id_of d contexts i)
+
+-- Where declarations of an absolute or fixed element change that stays one, of contexts with reached nodes only its own and those inside
+-- it are touched: not the one around, which has it as an anchor alone (9.6).
+abbrev pub AnchorsTouchNothingAround : Type 0
+AnchorsTouchNothingAround = (S : Flow → BoxKind → Bool) (d : Document) (edit : Edit) (styles others : List Style) (contexts later : List Context) (all rest : List FormattingContext)
+    (element : ℕ) → SparesAnonymous S → Edits d edit styles others → IsRestyling edit element → HasAbsoluteBox d styles element → HasAbsoluteBox (after d edit) others element
+    → AreListsOf d styles contexts all → AreListsOf (after d edit) others later rest → (i : ℕ) → i < length contexts
+    → ((j : ℕ) × IsUntouched S d (after d edit) contexts later all rest i j) ⊎ ReachesNode d edit (id_of d contexts i)

@@ -1,7 +1,7 @@
 //! The laws.
 
 ghost use Rattle.lay_own_nodes.specs.Anchors.{AnchorsKeepContextsAround};
-ghost use Rattle.lay_own_nodes.specs.Bound.{EditsTouchNoOthers};
+ghost use Rattle.lay_own_nodes.specs.Bound.{AnchorsTouchNothingAround, EditsTouchNoOthers};
 ghost use Rattle.lay_own_nodes.specs.InlineTables.{InlineTablesStandByNodes};
 ghost use Rattle.lay_own_nodes.specs.Shrinking.{
     RootsFollowTheirContext, UnreachedContextsStayOutward, UnreachedContextsStayWithin, WithinOutwardByNodes,
@@ -57,4 +57,9 @@ pub fn unreached_contexts_stay_outward()
 /// So a context stands in the list after an edit as in that before it, or the edit reaches one of its own nodes.
 pub fn edits_touch_no_others()
     ensures { EditsTouchNoOthers }
+{}
+
+/// Of an absolute or fixed element whose declarations change, and that stays one, the context around is untouched.
+pub fn anchors_touch_nothing_around()
+    ensures { AnchorsTouchNothingAround }
 {}

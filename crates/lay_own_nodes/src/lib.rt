@@ -14,7 +14,8 @@
 mod laws;
 
 pub use laws::{
-    anchors_keep_contexts_around, edits_touch_no_others, edits_touch_reached_contexts,
-    inline_tables_stand_by_nodes, roots_follow_their_context, unreached_contexts_keep_boxes, unreached_contexts_stay_outward,
-    unreached_contexts_stay_within, unreached_nodes_stay, within_outward_by_nodes,
+    anchors_keep_contexts_around, anchors_touch_nothing_around, edits_touch_no_others,
+    edits_touch_reached_contexts, inline_tables_stand_by_nodes, roots_follow_their_context,
+    unreached_contexts_keep_boxes, unreached_contexts_stay_outward, unreached_contexts_stay_within,
+    unreached_nodes_stay, within_outward_by_nodes,
 };
