@@ -1,6 +1,6 @@
 -- The style of an absolute or fixed element counts for nothing in the boxes of the context around, where its anchor stands: an
 -- anchor has the style of its parent box.
-use Rattle.std.proofs.Common.{◌≡◌, ◌⊎◌, inl, inr, ℕ, zero, suc, ◌+◌, ◌-◌, ◌<◌, ◌≤◌, ◌==◌, Bool, true, false, List, [], ◌∷◌, ◌++◌, length, refl, ap, sym, subst, ◌∙◌, arith, if◌then◌else◌, Option, None, Some, option_map, slice_get, slice_index}
+use Rattle.std.proofs.Common.{◌≡◌, ◌⊎◌, inl, inr, ℕ, zero, suc, ◌+◌, ◌<◌, ◌≤◌, ◌==◌, Bool, true, false, List, [], ◌∷◌, ◌++◌, length, refl, ap, sym, subst, ◌∙◌, arith, if◌then◌else◌, Option, None, Some, option_map, slice_get}
 use Rattle.std.proofs.lemmas.Bool.{cases_eq}
 use Rattle.lay_style.specs.declared.style.Style.{Style}
 use Rattle.lay_style.specs.ComputedStyle.{style_at}
@@ -8,24 +8,22 @@ use Rattle.lay_doc.specs.declared.node.Node.{Node}
 use Rattle.lay_doc.specs.Document.{parents_of}
 use Rattle.lay_doc.specs.Tree.{IsTree}
 use Rattle.lay_anonymous_boxes.specs.Boxes.{Tree, Trees, tree, no_trees, also, trees_of, facts_of}
-use Rattle.lay_anonymous_boxes.specs.Forms.{is_absolute, is_anchor, is_inline}
+use Rattle.lay_anonymous_boxes.specs.Forms.{is_absolute, is_anchor}
 use Rattle.lay_anonymous_boxes.specs.declared.facts.Facts.{Facts}
 use Rattle.lay_anonymous_boxes.specs.declared.facts.Form.{Form}
 use Rattle.lay_box_tree.specs.declared.box_tree.BoxNode.{BoxNode}
 use Rattle.lay_boxgen.specs.Contexts.{box_at, box_of_node, is_marked}
-use Rattle.lay_boxgen.specs.CutTrees.{cut_own, cut_tree_at, generated_cut}
+use Rattle.lay_boxgen.specs.CutTrees.{cut_tree_at, generated_cut}
 use Rattle.lay_boxgen.specs.Listing.{all_listed, box_node, box_style, listed, listed_part, style_below, style_of}
 use Rattle.lay_boxgen.specs.NodeBoxes.{facts_with, form_of}
-use Rattle.lay_boxgen.specs.NodeTrees.{and_child, anchor_facts, as_child, as_own, box_with, tree_at}
-use Rattle.lay_boxgen.specs.Parts.{is_closed, nothing, part, put, put_list}
+use Rattle.lay_boxgen.specs.NodeTrees.{anchor_facts, box_with, tree_at}
+use Rattle.lay_boxgen.specs.Parts.{is_closed, nothing, part, put_list}
 use Rattle.lay_boxgen.proofs.CutParts.{part-cut}
-use Rattle.lay_boxgen.proofs.NodeForms.{IsBoxOf, IsNodeBox, is-node_box}
-use Rattle.lay_boxgen.proofs.Putting.{put-trees_of}
 use Rattle.lay_boxgen.proofs.WholeParts.{context_is_one_box}
 use Rattle.lay_contexts.specs.ContextTree.{boxes_of_place}
 use Rattle.lay_contexts.specs.NodeTreeLaws.{child_trees, children_places}
 use Rattle.lay_contexts.proofs.ChildTrees.{in-order}
-use Rattle.lay_contexts.proofs.RisingLists.{Has, from-has}
+use Rattle.lay_contexts.proofs.RisingLists.{Has}
 use Rattle.lay_own_nodes.proofs.ClearTrees.{Clear, ClearIn, clear-generated, clear-in, clear-put_list}
 use Rattle.lay_own_nodes.proofs.EachTree.{Each}
 use Rattle.lay_own_nodes.proofs.PartLeaves.{and_tree, behind, below, cut-is, leaf, leaf-is, leaf_of, leaf_with, no-inline, own_with, place-of, put-and}

@@ -1,9 +1,9 @@
 -- A context is untouched, or has a reached node among its own.
-use Rattle.std.proofs.Common.{◌≡◌, ◌⊎◌, inl, inr, ℕ, ◌<◌, Bool, true, List, length, refl, ap, sym, subst, ◌∙◌, arith, Option, Some, slice_index}
+use Rattle.std.proofs.Common.{◌≡◌, inl, inr, ℕ, ◌<◌, Bool, true, List, length, refl, ap, sym, subst, ◌∙◌, arith, Some}
 use Rattle.lay_style.specs.declared.style.Style.{Style}
 use Rattle.lay_style.specs.Places.{place_of}
 use Rattle.lay_doc.specs.declared.edit.Edit.{Edit}
-use Rattle.lay_doc.specs.Document.{Document, IsDocument, ids_of}
+use Rattle.lay_doc.specs.Document.{Document, ids_of}
 use Rattle.lay_doc.specs.Edits.{after}
 use Rattle.lay_doc.proofs.NodeColumns.{length-ids}
 use Rattle.lay_box_tree.specs.declared.box_tree.BoxKind.{BoxKind}
@@ -61,18 +61,20 @@ untouched S d edit styles others contexts later all rest spares edits lists late
     let o = unreached_contexts_stay_outward S d edit styles others contexts later all rest spares edits lists later_lists i lt apart in
     let j : ℕ = o.0 in
     let boxes : boxes_in contexts i ≡ boxes_in later j =
-        boxes-are d styles contexts all lists i lt
-        ∙ (kept.boxes ∙ (ap (boxes_of (after d edit) others) (sym o.1.node) ∙ sym (boxes-are (after d edit) others later rest later_lists j o.1.within))) in
-    (j, record {
-      within = o.1.within;
-      element = o.1.node;
-      boxes = boxes;
-      roots = λ r inside root. (
-        roots_follow_their_context S d (after d edit) styles others contexts later all rest lists later_lists i j lt o.1.within boxes o.1.same.0 r inside root,
-        roots_follow_their_context S (after d edit) d others styles later contexts rest all later_lists lists j i o.1.within lt (sym boxes) o.1.same.1 r
-        (subst (λ (bs : List BoxNode). r < length bs) boxes inside) (subst (λ (bs : List BoxNode). is_root bs r ≡ true) boxes root),
-      );
-    })
+    boxes-are d styles contexts all lists i lt
+    ∙ (kept.boxes ∙ (ap (boxes_of (after d edit) others) (sym o.1.node) ∙ sym (boxes-are (after d edit) others later rest later_lists j o.1.within))) in (
+      j,
+      record {
+        within = o.1.within;
+        element = o.1.node;
+        boxes = boxes;
+        roots = λ r inside root. (
+          roots_follow_their_context S d (after d edit) styles others contexts later all rest lists later_lists i j lt o.1.within boxes o.1.same.0 r inside root,
+          roots_follow_their_context S (after d edit) d others styles later contexts rest all later_lists lists j i o.1.within lt (sym boxes) o.1.same.1 r
+              (subst (λ (bs : List BoxNode). r < length bs) boxes inside) (subst (λ (bs : List BoxNode). is_root bs r ≡ true) boxes root),
+        );
+      },
+    )
 
 pub edits_touch_no_others : EditsTouchNoOthers
 edits_touch_no_others S d edit styles others contexts later all rest spares edits lists later_lists i lt =

@@ -19,7 +19,7 @@ use Rattle.lay_anonymous_boxes.specs.declared.facts.Form.{Form}
 use Rattle.lay_anonymous_boxes.specs.declared.facts.Form.TheVariants as form
 use Rattle.lay_box_tree.specs.declared.box_tree.Flow.{Flow}
 use Rattle.lay_box_tree.specs.declared.box_tree.Flow.TheVariants as flow
-use Rattle.lay_boxgen.specs.Contexts.{IsContextAt, box_at, box_of_node, is_marked}
+use Rattle.lay_boxgen.specs.Contexts.{box_at, box_of_node, is_marked}
 use Rattle.lay_boxgen.specs.CutTrees.{cut_tree_at, generated_cut}
 use Rattle.lay_boxgen.specs.Display.{element_form, used_display_of}
 use Rattle.lay_boxgen.specs.NodeBoxes.{establishes_context, facts_with, form_of, is_context_form, node_flow, replaced_form}
@@ -33,7 +33,7 @@ use Rattle.lay_contexts.proofs.OneStand.{marked-true, within}
 use Rattle.lay_contexts.proofs.RisingLists.{Has, from-has}
 use Rattle.lay_own_nodes.specs.InlineTables.{AllInside, EachInside, InlineTablesStandByNodes, IsInLoosePart, IsKnownInside, ListInside, between, here, is_inline_table, is_inline_wrapper, is_loose_part, is_part_in_inline}
 use Rattle.lay_own_nodes.proofs.EachTree.{Each}
-use Rattle.lay_own_nodes.proofs.InlineRules.{After, AfterIn, Before, BeforeIn, Blank, after-list, inside-generated}
+use Rattle.lay_own_nodes.proofs.InlineRules.{After, AfterIn, Before, BeforeIn, after-list, inside-generated}
 use Rattle.lay_own_nodes.proofs.PartLeaves.{and_tree, behind, below, cut-is, leaf, leaf-is, leaf_of, leaf_with, no-inline, own_with, place-of, put-and}
 
 -- Booleans.
@@ -124,12 +124,11 @@ white-facts k n s None f h e w positive = absurd cc
 white-facts k n s (Some x) f h e w positive =
     let g : facts_with k n s x ≡ f = cc in
     let white : is_white x ≡ true = ap (λ (y : Facts). is_white y.form) g ∙ w in
-    let text = white-text (k == 0) n.kind n.text s x h white in
-    (
+    let text = white-text (k == 0) n.kind n.text s x h white in (
       text,
       sym (ap (λ (y : Facts). y.inner) g)
-      ∙ (ap (λ (y : Kind). establishes_context (k == 0) (node_flow y s) x s.overflow) text
-      ∙ (ap (λ (r : Bool). establishes_context r flow.InFlow x s.overflow) positive ∙ white-context x s.overflow white)),
+          ∙ (ap (λ (y : Kind). establishes_context (k == 0) (node_flow y s) x s.overflow) text
+          ∙ (ap (λ (r : Bool). establishes_context r flow.InFlow x s.overflow) positive ∙ white-context x s.overflow white)),
     )
 
 element-there : (nodes : List Node) (k : ℕ) (n : Node) → slice_get nodes k ≡ Some n → is_element_at nodes k ≡ is_element n.kind
@@ -273,17 +272,16 @@ module _ (nodes : List Node) (ss : List Style) (is_tree : IsTree (parents_of nod
       anchored : is_absolute f.flow ≡ true → Child p b (tree (anchor_facts f) no_trees)
       anchored e =
           let part : is_part_in_inline p f ≡ is_part_in_inline p (anchor_facts f) =
-              off (is_inline p.form) (is_in_flow f.flow) (is_table_part f.form) (no_flow f.flow e) ∙ sym (off (is_inline p.form) false false refl) in
+          off (is_inline p.form) (is_in_flow f.flow) (is_table_part f.form) (no_flow f.flow e) ∙ sym (off (is_inline p.form) false false refl) in
           (subst (λ (x : Bool). P (b || x) (anchor_facts f)) part (known-anchor c positive b p f above there says), λ w. absurd cc, tt)
 
       opened-by : is_closed f ≡ false → Child p b (tree f (trees_of (below nodes is_tree ss c)))
       opened-by q =
-          let open_there : f.inner ≡ false = open-by f.inner (is_inline f.form) (λ e. no-inline c (slice_get nodes c) (style_at ss c) f there e) q in
-          (
+          let open_there : f.inner ≡ false = open-by f.inner (is_inline f.form) (λ e. no-inline c (slice_get nodes c) (style_at ss c) f there e) q in (
             known c positive b p f above there says,
             λ w. (let h = blank-there c positive f there w in (h.0, ap trees_of h.1)),
             subst (λ (x : Bool). BeforeIn P f x (trees_of (below nodes is_tree ss c))) (sym (or-none (b || is_part_in_inline p f) (is_inline_table f) (plain c f there)))
-            (child-in f (b || is_part_in_inline p f) (below nodes is_tree ss c) (rest open_there)),
+                (child-in f (b || is_part_in_inline p f) (below nodes is_tree ss c) (rest open_there)),
           )
 
       by : (a : Bool) → is_absolute f.flow ≡ a → (q : Bool) → is_closed f ≡ q
@@ -347,7 +345,7 @@ module _ (nodes : List Node) (ss : List Style) (is_tree : IsTree (parents_of nod
       opened false (as_own f) refl,
       λ w. absurd (no_white f e w),
       subst (λ (x : Bool). BeforeIn P (as_own f) x (trees_of (below nodes is_tree ss a))) (sym (or-none false (is_inline_table f) (plain a f e)))
-      (child-in (as_own f) false (below nodes is_tree ss a) (own-children f e)),
+          (child-in (as_own f) false (below nodes is_tree ss a) (own-children f e)),
     )
 
     inside-cut : (o : Option Tree) → OwnThere o → Each (After P false) (generated_cut o)

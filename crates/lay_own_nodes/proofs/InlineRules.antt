@@ -1,9 +1,8 @@
 -- Which boxes stand in anonymous inline-tables, rule by rule of box generation: before the third stage of 17.2.1 it is said by the parts
 -- of tables that stand in inline boxes, and from then on by the wrappers.
 use Rattle.std.proofs.Common.{◌≡◌, Bool, true, false, ◌&&◌, ◌||◌, not, List, [], ◌∷◌, ◌++◌, filter, refl, ap, sym, subst, ◌∙◌, if◌then◌else◌}
-use Rattle.std.specs.List.{list_any}
 use Rattle.lay_anonymous_boxes.specs.Boxes.{Tree, Trees, tree, no_trees, also, trees_of, facts_of, remade, all_remade, in_box}
-use Rattle.lay_anonymous_boxes.specs.BrokenInlines.{broken, is_block_box, parts_from}
+use Rattle.lay_anonymous_boxes.specs.BrokenInlines.{broken}
 use Rattle.lay_anonymous_boxes.specs.Forms.{is_caption, is_cell, is_column, is_column_group, is_in_flow, is_inline, is_row, is_row_group, is_table, is_table_part, is_white}
 use Rattle.lay_anonymous_boxes.specs.Generation.{generated}
 use Rattle.lay_anonymous_boxes.specs.InlineRuns.{run_wrapped}
@@ -17,7 +16,6 @@ use Rattle.lay_anonymous_boxes.specs.declared.facts.Form.{Form}
 use Rattle.lay_anonymous_boxes.specs.declared.facts.Form.TheVariants as form
 use Rattle.lay_box_tree.specs.declared.box_tree.Flow.TheVariants as flow
 use Rattle.lay_boxgen.specs.Parts.{all_put, is_closed, nothing, put, put_list}
-use Rattle.lay_doc.specs.declared.node.NodeId.{NodeId}
 use Rattle.lay_own_nodes.specs.InlineTables.{is_inline_table, is_inline_wrapper, is_part_in_inline}
 use Rattle.lay_own_nodes.proofs.ClearTrees.{no-child, no-parented, no-relevant, no-run, none}
 use Rattle.lay_own_nodes.proofs.EachTree.{Each, IsMade, each-append, each-broken, each-child_wrapped, each-filter, each-in_wrapper, each-map, each-parented, each-relevant, each-run_wrapped}
@@ -252,7 +250,7 @@ module _ (P : Bool → Facts → Type 0) (opened : (b : Bool) (f : Facts) → f.
     opened b (anonymous_facts f x) refl,
     λ w. absurd (let z : true ≡ false = sym w ∙ is.1 in cc),
     subst (λ (c : Bool). BeforeIn P (anonymous_facts f x) c (trees_of run)) (sym (or-false b (is_inline_wrapper x) is.0))
-    (child-in (anonymous_facts f x) b run (each-map (Before P b) (Child (anonymous_facts f x) b) (λ t k. subst (λ (c : Bool). Before P c t) (sym (no-part (anonymous_facts f x) (facts_of t) is.2 b)) k) run h)),
+        (child-in (anonymous_facts f x) b run (each-map (Before P b) (Child (anonymous_facts f x) b) (λ t k. subst (λ (c : Bool). Before P c t) (sym (no-part (anonymous_facts f x) (facts_of t) is.2 b)) k) run h)),
   )
     where
       no-part : (p g : Facts) → is_inline p.form ≡ false → (c : Bool) → (c || is_part_in_inline p g) ≡ c
@@ -270,12 +268,14 @@ module _ (P : Bool → Facts → Type 0) (opened : (b : Bool) (f : Facts) → f.
     mutual
       before-remade : (p : Facts) (b : Bool) (t : Tree) → Child p b t → Each (Child p b) (remade (in_box change) t)
       before-remade p b (tree f us) h =
-          let c : Bool = (b || is_part_in_inline p f) || is_inline_table f in
-          ((
-            h.0,
-            λ w. (let g = h.1 w in (g.0, ap (λ (vs : Trees). trees_of (change f (all_remade (in_box change) vs))) g.1 ∙ ap trees_of (rule.bare f))),
-            child-in f c (change f (all_remade (in_box change) us)) (rule.along f c (all_remade (in_box change) us) (before-all f c us h.2)),
-          ), tt)
+          let c : Bool = (b || is_part_in_inline p f) || is_inline_table f in (
+            (
+              h.0,
+              λ w. (let g = h.1 w in (g.0, ap (λ (vs : Trees). trees_of (change f (all_remade (in_box change) vs))) g.1 ∙ ap trees_of (rule.bare f))),
+              child-in f c (change f (all_remade (in_box change) us)) (rule.along f c (all_remade (in_box change) us) (before-all f c us h.2)),
+            ),
+            tt,
+          )
 
       before-all : (p : Facts) (b : Bool) (us : Trees) → BeforeIn P p b us → Each (Child p b) (all_remade (in_box change) us)
       before-all p b no_trees h = tt
@@ -316,7 +316,7 @@ module _ (P : Bool → Facts → Type 0) (opened : (b : Bool) (f : Facts) → f.
     row-after : (run : List Tree) → Each (After P true) run → NoCell (anonymous_box f form.Row run)
     row-after run h = (
       at-state true (b || is_part_in_inline f (anonymous_facts f form.Row)) (sym (or-true b (is_part_in_inline f (anonymous_facts f form.Row)) (part-is (anonymous_facts f form.Row))))
-      (anonymous_box f form.Row run) (made-after f true form.Row (refl, refl, refl) run h),
+          (anonymous_box f form.Row run) (made-after f true form.Row (refl, refl, refl) run h),
       refl,
     )
 
@@ -380,12 +380,14 @@ module _ (P : Bool → Facts → Type 0) (opened : (b : Bool) (f : Facts) → f.
   mutual
     middle-remade : (p : Facts) (b : Bool) (t : Tree) → Child p b t → Each (Middle p b) (remade (in_box parented) t)
     middle-remade p b (tree f us) h =
-        let c : Bool = (b || is_part_in_inline p f) || is_inline_table f in
-        ((
-          h.0,
-          λ w. (let g = h.1 w in (g.0, ap (λ (vs : Trees). trees_of (parented f (all_remade (in_box parented) vs))) g.1 ∙ ap trees_of (no-parented f))),
-          after-in c (parented f (all_remade (in_box parented) us)) (parented-after f c (all_remade (in_box parented) us) (middle-all f c us h.2)),
-        ), tt)
+        let c : Bool = (b || is_part_in_inline p f) || is_inline_table f in (
+          (
+            h.0,
+            λ w. (let g = h.1 w in (g.0, ap (λ (vs : Trees). trees_of (parented f (all_remade (in_box parented) vs))) g.1 ∙ ap trees_of (no-parented f))),
+            after-in c (parented f (all_remade (in_box parented) us)) (parented-after f c (all_remade (in_box parented) us) (middle-all f c us h.2)),
+          ),
+          tt,
+        )
 
     middle-all : (p : Facts) (b : Bool) (us : Trees) → BeforeIn P p b us → Each (Middle p b) (all_remade (in_box parented) us)
     middle-all p b no_trees h = tt
@@ -400,12 +402,14 @@ module _ (P : Bool → Facts → Type 0) (opened : (b : Bool) (f : Facts) → f.
     mutual
       after-remade : (b : Bool) (t : Tree) → After P b t → Each (After P b) (remade (in_box change) t)
       after-remade b (tree f us) h =
-          let c : Bool = b || is_inline_table f in
-          ((
-            h.0,
-            λ w. (let g = h.1 w in (g.0, ap (λ (vs : Trees). trees_of (change f (all_remade (in_box change) vs))) g.1 ∙ ap trees_of (rule.bare f w))),
-            after-in c (change f (all_remade (in_box change) us)) (rule.along f c (all_remade (in_box change) us) (after-all c us h.2)),
-          ), tt)
+          let c : Bool = b || is_inline_table f in (
+            (
+              h.0,
+              λ w. (let g = h.1 w in (g.0, ap (λ (vs : Trees). trees_of (change f (all_remade (in_box change) vs))) g.1 ∙ ap trees_of (rule.bare f w))),
+              after-in c (change f (all_remade (in_box change) us)) (rule.along f c (all_remade (in_box change) us) (after-all c us h.2)),
+            ),
+            tt,
+          )
 
       after-all : (b : Bool) (us : Trees) → AfterIn P b us → Each (After P b) (all_remade (in_box change) us)
       after-all b no_trees h = tt
@@ -419,7 +423,7 @@ module _ (P : Bool → Facts → Type 0) (opened : (b : Bool) (f : Facts) → f.
     opened b (table_facts f) refl,
     λ w. absurd cc,
     subst (λ (c : Bool). AfterIn P c (trees_of (filter is_no_caption_box run))) (sym (or-false b (f.anonymous && false) (and-false f.anonymous)))
-    (after-in b (filter is_no_caption_box run) (each-filter (After P b) is_no_caption_box run h)),
+        (after-in b (filter is_no_caption_box run) (each-filter (After P b) is_no_caption_box run h)),
   )
 
   -- Breaking.

@@ -1,5 +1,5 @@
 -- For nodes that are kept, the boxes around that they are said to be in are kept too.
-use Rattle.std.proofs.Common.{◌≡◌, ℕ, ◌<◌, ◌↔◌, Bool, true, false, List, length, refl, ap, sym, ◌∙◌, Option, None, Some, option_map}
+use Rattle.std.proofs.Common.{◌≡◌, ℕ, ◌<◌, ◌↔◌, Bool, List, length, refl, ap, sym, ◌∙◌, Option, None, Some, option_map}
 use Rattle.lay_style.specs.declared.style.Style.{Style}
 use Rattle.lay_style.specs.ComputedStyle.{style_at}
 use Rattle.lay_doc.specs.declared.node.Node.{Node}
@@ -56,8 +56,7 @@ module _ (d e : Document) (P Q : ℕ → Type 0) (R : ℕ → ℕ → Type 0) (k
   pub stays-within : (S : Flow → BoxKind → Bool) (k : ℕ) → k < length d.nodes → (P k → ⊥) → (m : ℕ) × IsKeptAt d e ss ts k m × (IsWithin S d.nodes ss k ↔ IsWithin S e.nodes ts m)
   stays-within S k lt apart =
       let m : ℕ = keep.to k in
-      let r = keep.forth k lt apart in
-      (
+      let r = keep.forth k lt apart in (
         m,
         kept-at d e P Q R keep ss ts here_styled elsewhere k m r,
         (

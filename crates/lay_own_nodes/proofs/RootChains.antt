@@ -1,16 +1,14 @@
 -- What the own box of a formatting context or of one around it may be is said by nodes.
-use Rattle.std.proofs.Common.{◌≡◌, ◌⊎◌, inl, inr, ◌↔◌, ℕ, zero, suc, ◌+◌, ◌<◌, ◌≤◌, Bool, true, false, ◌&&◌, ◌||◌, not, List, [], ◌∷◌, length, get_or, refl, ap, sym, subst, ◌∙◌, arith, IsTrue, Option, None, Some, slice_get, slice_index}
+use Rattle.std.proofs.Common.{◌≡◌, ◌⊎◌, inl, inr, ◌↔◌, ℕ, zero, suc, ◌<◌, ◌≤◌, Bool, true, false, ◌&&◌, ◌||◌, List, [], ◌∷◌, length, get_or, refl, ap, sym, subst, ◌∙◌, arith, Option, None, Some, slice_get, slice_index}
 use Rattle.std.proofs.lemmas.Bool.{cases_lt}
 use Rattle.std.proofs.lemmas.List.{get_or-map}
 use Rattle.lay_style.specs.declared.style.Style.{Style}
 use Rattle.lay_style.specs.ComputedStyle.{style_at}
-use Rattle.lay_doc.specs.Document.{Document, IsDocument, ids_of, parents_of}
-use Rattle.lay_doc.proofs.NodeColumns.{length-ids}
+use Rattle.lay_doc.specs.Document.{Document, IsDocument, ids_of}
 use Rattle.lay_anonymous_boxes.specs.Boxes.{Tree, Trees, tree, trees_of}
 use Rattle.lay_anonymous_boxes.specs.declared.facts.Facts.{Facts}
 use Rattle.lay_box_tree.specs.BoxColumns.{box_at as listed_at, box_ids, box_inner, no_box}
 use Rattle.lay_box_tree.specs.Containers.{box_parent}
-use Rattle.lay_box_tree.specs.Containing.{is_anonymous}
 use Rattle.lay_box_tree.specs.ContextBoxes.{AreContextBoxes}
 use Rattle.lay_box_tree.specs.declared.box_tree.BoxKind.{BoxKind}
 use Rattle.lay_box_tree.specs.declared.box_tree.BoxKind.TheVariants.{InlineWrapper}
@@ -23,14 +21,13 @@ use Rattle.lay_boxgen.specs.Listing.{box_node, kind_of, listed_part, text_at}
 use Rattle.lay_boxgen.specs.NodeTrees.{as_own, box_with, tree_at}
 use Rattle.lay_boxgen.specs.Parts.{nothing, part, put_list}
 use Rattle.lay_boxgen.proofs.WholeParts.{context_is_one_box}
-use Rattle.lay_contexts.specs.ContextList.{AreContextsOf, boxes_of_spots}
+use Rattle.lay_contexts.specs.ContextList.{AreContextsOf}
 use Rattle.lay_contexts.specs.ContextTree.{IsAround, StandsIn, boxes_of_place}
 use Rattle.lay_contexts.specs.Contexts.{AreContexts, Context, boxes_in, context_at}
 use Rattle.lay_contexts.specs.DocumentContexts.{spot_at}
-use Rattle.lay_contexts.specs.FlowLaws.{flow_at}
-use Rattle.lay_contexts.specs.FormattingContextList.{AreFormattingContextsOf, first_number, formatting_context_of, homes_in, number_of, spot_of}
+use Rattle.lay_contexts.specs.FormattingContextList.{AreFormattingContextsOf, formatting_context_of, homes_in, number_of, spot_of}
 use Rattle.lay_contexts.specs.FormattingContexts.{FormattingContext, boxes_in as boxes_of, formatting_context_at}
-use Rattle.lay_contexts.specs.Homes.{IsHome, is_anonymous_root, is_root}
+use Rattle.lay_contexts.specs.Homes.{is_anonymous_root, is_root}
 use Rattle.lay_contexts.specs.NodeTreeLaws.{child_trees, children_places}
 use Rattle.lay_contexts.specs.declared.context_spot.ContextSpot.{ContextSpot}
 use Rattle.lay_contexts.specs.declared.spot.Spot.{Spot}
@@ -48,7 +45,7 @@ use Rattle.lay_own_nodes.specs.Shrinking.{IsWithin, IsWithinOutward, SparesAnony
 use Rattle.lay_own_nodes.proofs.InlineNodes.{inline_tables_stand_by_nodes}
 use Rattle.lay_own_nodes.proofs.OwnList.{around-before}
 use Rattle.lay_own_nodes.proofs.PartLeaves.{place-of}
-use Rattle.lay_own_nodes.proofs.TableChains.{anonymous-by, chain, differ, none-at-own, or-cases, or-left, or-right, root-flag, root-kinds, table-is-root, table-kind}
+use Rattle.lay_own_nodes.proofs.TableChains.{anonymous-by, chain, differ, none-at-own, or-cases, or-left, or-right, root-flag, root-kinds, table-kind}
 use Rattle.lay_own_nodes.proofs.TableMarks.{Marked, is_table_box, is_wrapper_kind, length-parents, marked-part}
 
 abbrev pub Is : (Flow → BoxKind → Bool) → BoxNode → Bool
@@ -148,7 +145,7 @@ module _ (S : Flow → BoxKind → Bool) (spares : SparesAnonymous S) (d : Docum
   marks-of i lt =
       let some = (are.boxes i lt).some in
       let h = marked-any d styles (part d.nodes styles (place i)) (subst (λ (bs : List BoxNode). 0 < length bs) (boxes-are i lt) some)
-          (inline_tables_stand_by_nodes d styles (place i) doc same (context-is i lt)) in
+      (inline_tables_stand_by_nodes d styles (place i) doc same (context-is i lt)) in
       (h.0, subst (λ (bs : List BoxNode). Marked d.nodes styles bs h.0) (sym (boxes-are i lt)) h.1)
 
   element-is : (i : ℕ) → i < length contexts → (listed_at (B i) 0).anonymous ≡ false
@@ -297,7 +294,7 @@ module _ (S : Flow → BoxKind → Bool) (spares : SparesAnonymous S) (d : Docum
     stands =
         let st = of_d.are.stands (suc i) (omega arith) (omega (arith, lt, counted)) in
         let around_is : (spot_at of_d.spots (spot_at of_d.spots (suc i)).around).place ≡ place o =
-            ap (λ (x : ℕ). (spot_at of_d.spots x).place) (sym (outer-is (suc i) lt)) ∙ sym (place-is o o-in) in
+        ap (λ (x : ℕ). (spot_at of_d.spots x).place) (sym (outer-is (suc i) lt)) ∙ sym (place-is o o-in) in
         subst (λ (x : ℕ). StandsIn d.nodes styles x (place o) k) (sym (place-is (suc i) lt))
         (subst (λ (x : ℕ). StandsIn d.nodes styles (spot_at of_d.spots (suc i)).place x k) around_is
         (subst (λ (x : ℕ). StandsIn d.nodes styles (spot_at of_d.spots (suc i)).place (spot_at of_d.spots (spot_at of_d.spots (suc i)).around).place x) (sym (outer_box-is (suc i) lt)) st))

@@ -1,10 +1,8 @@
 -- What is said of the boxes around a context, and of the roots in it, is kept where an edit doesn't reach its element.
-use Rattle.std.proofs.Common.{◌≡◌, ◌⊎◌, inl, inr, ◌↔◌, ℕ, zero, suc, ◌<◌, Bool, true, List, length, refl, ap, sym, subst, ◌∙◌, arith, Option, None, Some, option_map, slice_get, slice_index}
-use Rattle.std.proofs.lemmas.List.{get_or-map}
+use Rattle.std.proofs.Common.{◌≡◌, ◌⊎◌, inl, inr, ℕ, zero, suc, ◌<◌, Bool, true, List, length, refl, ap, sym, subst, ◌∙◌, arith, Some, option_map, slice_get, slice_index}
 use Rattle.lay_style.specs.declared.style.Style.{Style}
-use Rattle.lay_doc.specs.declared.edit.Edit.{Edit}
 use Rattle.lay_doc.specs.declared.node.Node.{Node}
-use Rattle.lay_doc.specs.Document.{Document, IsDocument, ids_of}
+use Rattle.lay_doc.specs.Document.{Document, ids_of}
 use Rattle.lay_doc.specs.Edits.{after}
 use Rattle.lay_box_tree.specs.BoxColumns.{box_at as listed_at}
 use Rattle.lay_box_tree.specs.declared.box_tree.BoxKind.{BoxKind}
@@ -14,7 +12,7 @@ use Rattle.lay_boxgen.specs.Contexts.{IsContextAt, is_marked, box_at}
 use Rattle.lay_contexts.specs.ContextList.{AreContextsOf}
 use Rattle.lay_contexts.specs.Contexts.{AreContexts, Context, boxes_in, context_at}
 use Rattle.lay_contexts.specs.DocumentContexts.{spot_at}
-use Rattle.lay_contexts.specs.FormattingContextList.{AreFormattingContextsOf, homes_in, number_of, spot_of}
+use Rattle.lay_contexts.specs.FormattingContextList.{homes_in, number_of}
 use Rattle.lay_contexts.specs.FormattingContexts.{FormattingContext, boxes_in as boxes_of, formatting_context_at}
 use Rattle.lay_contexts.specs.Homes.{IsHome, is_root}
 use Rattle.lay_contexts.specs.declared.context_spot.ContextSpot.{ContextSpot}
@@ -24,10 +22,8 @@ use Rattle.lay_contexts.proofs.ContextNumbers.{are_contexts}
 use Rattle.lay_contexts.proofs.NearestRoots.{home_before, one_home_lem}
 use Rattle.lay_contexts.proofs.OneStand.{marked-true, within}
 use Rattle.lay_contexts.proofs.RootNumbers.{roots_lt}
-use Rattle.lay_own_nodes.specs.Reached.{IsReached}
-use Rattle.lay_own_nodes.specs.Shrinking.{AreListsOf, IsWithin, IsWithinOutward, RootsFollowTheirContext, SparesAnonymous, StaysOutward, UnreachedContextsStayOutward, first, outward}
-use Rattle.lay_own_nodes.specs.Touched.{Edits}
-use Rattle.lay_own_nodes.specs.Unreached.{IsKeptAt, content_of}
+use Rattle.lay_own_nodes.specs.Shrinking.{AreListsOf, IsWithin, IsWithinOutward, RootsFollowTheirContext, UnreachedContextsStayOutward, first, outward}
+use Rattle.lay_own_nodes.specs.Unreached.{content_of}
 use Rattle.lay_own_nodes.proofs.EditedContexts.{by-context}
 use Rattle.lay_own_nodes.proofs.OwnList.{got}
 use Rattle.lay_own_nodes.proofs.RootChains.{Is, cases-of, spot-of-root, within_outward_by_nodes}
@@ -136,8 +132,7 @@ unreached_contexts_stay_outward S d edit styles others contexts later all rest s
     let j_in : j < length later = (let l = found.1 in omega (arith, l, of_later.numbered.count)) in
     let at : (context_at later j).place ≡ c.0 = place-there (after d edit) others later of_later j j_in ∙ found.2 in
     let mine = within_outward_by_nodes S d styles contexts all spares lists i lt in
-    let theirs = within_outward_by_nodes S (after d edit) others later rest spares later_lists j j_in in
-    (
+    let theirs = within_outward_by_nodes S (after d edit) others later rest spares later_lists j j_in in (
       j,
       record {
         within = j_in;

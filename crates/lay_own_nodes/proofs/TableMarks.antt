@@ -1,11 +1,11 @@
 -- The boxes of a context as a list, each with whether it stands in an anonymous inline-table.
-use Rattle.std.proofs.Common.{◌≡◌, ◌⊎◌, inl, inr, ℕ, zero, suc, ◌+◌, ◌-◌, ◌<◌, ◌≤◌, ◌↔◌, Bool, true, false, ◌&&◌, ◌||◌, not, List, [], ◌∷◌, ◌++◌, length, map, get_or, refl, ap, sym, subst, ◌∙◌, arith, if◌then◌else◌, Option, None, Some, slice_get, slice_index}
+use Rattle.std.proofs.Common.{◌≡◌, ◌⊎◌, inl, inr, ℕ, zero, suc, ◌+◌, ◌-◌, ◌<◌, ◌↔◌, Bool, true, false, ◌&&◌, ◌||◌, List, [], ◌∷◌, ◌++◌, length, map, get_or, refl, ap, sym, subst, ◌∙◌, arith, slice_index}
 use Rattle.std.proofs.lemmas.Bool.{cases_lt}
 use Rattle.std.proofs.lemmas.List.{get_or-map, length-append}
 use Rattle.lay_style.specs.declared.style.Style.{Style}
 use Rattle.lay_doc.specs.declared.node.Node.{Node}
-use Rattle.lay_doc.specs.Document.{Document, IsDocument, ids_of}
-use Rattle.lay_anonymous_boxes.specs.Boxes.{Tree, Trees, tree, no_trees, also, trees_of, facts_of}
+use Rattle.lay_doc.specs.Document.{ids_of}
+use Rattle.lay_anonymous_boxes.specs.Boxes.{Tree, Trees, tree, no_trees, also, trees_of}
 use Rattle.lay_anonymous_boxes.specs.declared.facts.Facts.{Facts}
 use Rattle.lay_anonymous_boxes.specs.declared.facts.Form.{Form}
 use Rattle.lay_anonymous_boxes.specs.declared.facts.Form.TheVariants as form
@@ -96,8 +96,8 @@ marks-append parent at b ps qs ts us ms ns first second = record {
               omega (arith, in_first, l),
               p ∙ there.2,
               q ∙ (there.3
-              ∙ (ap (λ (x : Bool). x || get_or ts m false) (sym (at-left ms ns m false (omega (arith, in_first, first.count))))
-              ∙ ap (λ (x : Bool). get_or (ms ++ ns) m false || x) (sym (at-left ts us m false (omega (arith, in_first, first.tables)))))),
+                  ∙ (ap (λ (x : Bool). x || get_or ts m false) (sym (at-left ms ns m false (omega (arith, in_first, first.count))))
+                  ∙ ap (λ (x : Bool). get_or (ms ++ ns) m false || x) (sym (at-left ts us m false (omega (arith, in_first, first.tables)))))),
             ))
           ])
       | inr high ↦ (let l = length-append ps qs in
@@ -111,8 +111,8 @@ marks-append parent at b ps qs ts us ms ns first second = record {
               omega (arith, in_second, l),
               p ∙ (e ∙ omega arith),
               q ∙ (there.3
-              ∙ (ap (λ (x : Bool). x || get_or us m false) (sym (at-right ms ns (length ps + m) m false (omega (arith, first.count))))
-              ∙ ap (λ (x : Bool). get_or (ms ++ ns) (length ps + m) false || x) (sym (at-right ts us (length ps + m) m false (omega (arith, first.tables)))))),
+                  ∙ (ap (λ (x : Bool). x || get_or us m false) (sym (at-right ms ns (length ps + m) m false (omega (arith, first.count))))
+                  ∙ ap (λ (x : Bool). get_or (ms ++ ns) (length ps + m) false || x) (sym (at-right ts us (length ps + m) m false (omega (arith, first.tables)))))),
             ))
           ])
     ]
@@ -165,7 +165,7 @@ module _ (nodes : List Node) (styles : List Style) where
         let ys = all_listed nodes styles above parent (at + length xs) ts in
         let l : length xs ≡ length (box_parents xs) = sym (length-parents xs) in
         let rest : HasMarks parent (at + length (box_parents xs)) b (box_parents ys) (table_boxes ys) (all_marks b ts) =
-            subst (λ (n : ℕ). HasMarks parent (at + n) b (box_parents ys) (table_boxes ys) (all_marks b ts)) l (trees-marks above parent (at + length xs) b ts) in
+        subst (λ (n : ℕ). HasMarks parent (at + n) b (box_parents ys) (table_boxes ys) (all_marks b ts)) l (trees-marks above parent (at + length xs) b ts) in
         subst (λ (ps : List ℕ). HasMarks parent at b ps (table_boxes (xs ++ ys)) (marks_of b t ++ all_marks b ts)) (sym (parents-append xs ys))
         (subst (λ (us : List Bool). HasMarks parent at b (box_parents xs ++ box_parents ys) us (marks_of b t ++ all_marks b ts)) (sym (tables-append xs ys))
         (marks-append parent at b (box_parents xs) (box_parents ys) (table_boxes xs) (table_boxes ys) (marks_of b t) (all_marks b ts) (tree-marks above parent at b t) rest))

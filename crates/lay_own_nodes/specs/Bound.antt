@@ -22,7 +22,8 @@ id_of d contexts i = slice_index (ids_of d.nodes) (context_at contexts i).place
 
 -- the context with the number j after an edit is that with the number i before it, with the same boxes, and says the same of all its
 -- roots: its own box, and the anonymous tables and cells in it
-pub record IsUntouched (S : Flow → BoxKind → Bool) (d e : Document) (contexts later : List Context) (all rest : List FormattingContext) (i j : ℕ) : Type 0 where
+pub record IsUntouched (S : Flow → BoxKind → Bool) (d e : Document) (contexts later : List Context) (all rest : List FormattingContext)
+    (i j : ℕ) : Type 0 where
   pub within : j < length later
   pub element : id_of e later j ≡ id_of d contexts i
   pub boxes : boxes_in contexts i ≡ boxes_in later j
@@ -30,7 +31,8 @@ pub record IsUntouched (S : Flow → BoxKind → Bool) (d e : Document) (context
       → IsWithinOutward S all (number_of contexts i r) ↔ IsWithinOutward S rest (number_of later j r)
 
 abbrev pub EditsTouchNoOthers : Type 0
-EditsTouchNoOthers = (S : Flow → BoxKind → Bool) (d : Document) (edit : Edit) (styles others : List Style) (contexts later : List Context) (all rest : List FormattingContext)
+EditsTouchNoOthers = (S : Flow → BoxKind → Bool) (d : Document) (edit : Edit) (styles others : List Style)
+    (contexts later : List Context) (all rest : List FormattingContext)
     → SparesAnonymous S → Edits d edit styles others → AreListsOf d styles contexts all → AreListsOf (after d edit) others later rest
     → (i : ℕ) → i < length contexts
     → ((j : ℕ) × IsUntouched S d (after d edit) contexts later all rest i j)
@@ -39,7 +41,9 @@ EditsTouchNoOthers = (S : Flow → BoxKind → Bool) (d : Document) (edit : Edit
 -- Where declarations of an absolute or fixed element change that stays one, of contexts with reached nodes only its own and those inside
 -- it are touched: not the one around, which has it as an anchor alone (9.6).
 abbrev pub AnchorsTouchNothingAround : Type 0
-AnchorsTouchNothingAround = (S : Flow → BoxKind → Bool) (d : Document) (edit : Edit) (styles others : List Style) (contexts later : List Context) (all rest : List FormattingContext)
-    (element : ℕ) → SparesAnonymous S → Edits d edit styles others → IsRestyling edit element → HasAbsoluteBox d styles element → HasAbsoluteBox (after d edit) others element
+AnchorsTouchNothingAround = (S : Flow → BoxKind → Bool) (d : Document) (edit : Edit) (styles others : List Style)
+    (contexts later : List Context) (all rest : List FormattingContext)
+    (element : ℕ) → SparesAnonymous S → Edits d edit styles others
+    → IsRestyling edit element → HasAbsoluteBox d styles element → HasAbsoluteBox (after d edit) others element
     → AreListsOf d styles contexts all → AreListsOf (after d edit) others later rest → (i : ℕ) → i < length contexts
     → ((j : ℕ) × IsUntouched S d (after d edit) contexts later all rest i j) ⊎ ReachesNode d edit (id_of d contexts i)

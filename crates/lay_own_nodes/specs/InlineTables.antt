@@ -1,7 +1,7 @@
 -- Anonymous inline-tables (CSS 2.2, 17.2.1). "If C's parent is an inline box, then T must be an inline-table box; otherwise it must be a
 -- table box." Whether the box of an inner context stands in one, within the context around, is said by its element and the nodes
 -- between: one of them generates a part of a table in flow, and its parent an inline box. No sibling makes a difference.
-use Rattle.std.specs.Prelude.{ℕ, ◌≡◌, ◌<◌, ◌↔◌, Bool, true, false, ◌&&◌, ◌||◌, List, [], ◌∷◌, length, slice_index, Option, None, Some}
+use Rattle.std.specs.Prelude.{ℕ, ◌≡◌, ◌<◌, ◌↔◌, Bool, true, false, ◌&&◌, ◌||◌, List, [], ◌∷◌, length, slice_index, Option, Some}
 use Rattle.lay_style.specs.declared.style.Style.{Style}
 use Rattle.lay_doc.specs.declared.node.Node.{Node}
 use Rattle.lay_doc.specs.Document.{Document, IsDocument, ids_of}
@@ -45,8 +45,10 @@ is_loose_part _ _ = false
 
 -- the node at k, or one between it and the context around, generates a part of a table in an inline box
 pub data IsInLoosePart (nodes : List Node) (styles : List Style) : ℕ → Type 0 where
-  here : (k : ℕ) → 0 < k → is_loose_part (box_at nodes styles (parent_of nodes k)) (box_at nodes styles k) ≡ true → IsInLoosePart nodes styles k
-  between : (k : ℕ) → 0 < k → is_marked (box_at nodes styles (parent_of nodes k)) ≡ false → IsInLoosePart nodes styles (parent_of nodes k) → IsInLoosePart nodes styles k
+  here : (k : ℕ) → 0 < k → is_loose_part (box_at nodes styles (parent_of nodes k)) (box_at nodes styles k) ≡ true
+      → IsInLoosePart nodes styles k
+  between : (k : ℕ) → 0 < k → is_marked (box_at nodes styles (parent_of nodes k)) ≡ false → IsInLoosePart nodes styles (parent_of nodes k)
+      → IsInLoosePart nodes styles k
 
 -- a box with these facts is of an element, of which it is known whether its box stands in an anonymous inline-table
 pub record NamesInside (nodes : List Node) (styles : List Style) (inside : Bool) (f : Facts) : Type 0 where
@@ -61,5 +63,6 @@ abbrev pub IsKnownInside : List Node → List Style → Bool → Facts → Type 
 IsKnownInside nodes styles inside f = f.inner ≡ true → NamesInside nodes styles inside f
 
 abbrev pub InlineTablesStandByNodes : Type 0
-InlineTablesStandByNodes = (d : Document) (styles : List Style) (a : ℕ) → IsDocument d → length styles ≡ length d.nodes → IsContextAt d.nodes styles a
+InlineTablesStandByNodes = (d : Document) (styles : List Style) (a : ℕ) → IsDocument d → length styles ≡ length d.nodes
+    → IsContextAt d.nodes styles a
     → ListInside (IsKnownInside d.nodes styles) false (part d.nodes styles a)

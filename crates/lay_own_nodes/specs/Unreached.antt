@@ -34,7 +34,9 @@ pub record IsKeptAt (d e : Document) (styles others : List Style) (k m : ℕ) : 
 -- the nodes that aren't reached before the edit are those that aren't after it
 pub record KeepsUnreached (d : Document) (edit : Edit) (styles others : List Style) : Type 0 where
   pub kept : (k : ℕ) → k < length d.nodes → (IsReached d edit k → ⊥) → (m : ℕ) × IsKeptAt d (after d edit) styles others k m
-  pub all : (m : ℕ) → m < length (after d edit).nodes → (IsReached (after d edit) edit m → ⊥) → (k : ℕ) × IsKeptAt d (after d edit) styles others k m
+  pub all : (m : ℕ) → m < length (after d edit).nodes → (IsReached (after d edit) edit m → ⊥)
+      → (k : ℕ) × IsKeptAt d (after d edit) styles others k m
 
 abbrev pub UnreachedNodesStay : Type 0
-UnreachedNodesStay = (d : Document) (edit : Edit) (styles others : List Style) → Edits d edit styles others → KeepsUnreached d edit styles others
+UnreachedNodesStay = (d : Document) (edit : Edit) (styles others : List Style) → Edits d edit styles others
+    → KeepsUnreached d edit styles others

@@ -4,7 +4,10 @@ ghost use Rattle.lay_own_nodes.specs.Anchors.{AnchorsKeepContextsAround};
 ghost use Rattle.lay_own_nodes.specs.Bound.{AnchorsTouchNothingAround, EditsTouchNoOthers};
 ghost use Rattle.lay_own_nodes.specs.InlineTables.{InlineTablesStandByNodes};
 ghost use Rattle.lay_own_nodes.specs.Shrinking.{
-    RootsFollowTheirContext, UnreachedContextsStayOutward, UnreachedContextsStayWithin, WithinOutwardByNodes,
+  RootsFollowTheirContext,
+  UnreachedContextsStayOutward,
+  UnreachedContextsStayWithin,
+  WithinOutwardByNodes,
 };
 ghost use Rattle.lay_own_nodes.specs.Touched.{EditsTouchReachedContexts, UnreachedContextsKeepBoxes};
 ghost use Rattle.lay_own_nodes.specs.Unreached.{UnreachedNodesStay};
