@@ -31,7 +31,7 @@ use Rattle.lay_contexts.specs.NodeTreeLaws.{child_trees, children_places}
 use Rattle.lay_contexts.proofs.NodeFacts.{of_node}
 use Rattle.lay_contexts.proofs.OneStand.{marked-true, within}
 use Rattle.lay_contexts.proofs.RisingLists.{Has, from-has}
-use Rattle.lay_own_nodes.specs.InlineTables.{AllInside, EachInside, InlineTablesStandByNodes, IsInLoosePart, IsKnownInside, ListInside, between, here, is_inline_table, is_inline_wrapper, is_loose_part, is_part_in_inline}
+use Rattle.lay_own_nodes.specs.InlineTables.{AllInside, EachInside, InlineTablesStandByNodes, IsInStrayPart, IsKnownInside, ListInside, between, here, is_inline_table, is_inline_wrapper, is_stray_part, is_part_in_inline}
 use Rattle.lay_own_nodes.proofs.EachTree.{Each}
 use Rattle.lay_own_nodes.proofs.InlineRules.{After, AfterIn, Before, BeforeIn, after-list, inside-generated}
 use Rattle.lay_own_nodes.proofs.PartLeaves.{and_tree, behind, below, cut-is, leaf, leaf-is, leaf_of, leaf_with, no-inline, own_with, place-of, put-and}
@@ -169,10 +169,10 @@ open-by true false h e = absurd cc
 open-by false inline h e = refl
 
 -- What is said by the nodes.
-loose-cases : (nodes : List Node) (styles : List Style) (c : ℕ) → IsInLoosePart nodes styles c
-    → (is_loose_part (box_at nodes styles (parent_of nodes c)) (box_at nodes styles c) ≡ true) ⊎ ((is_marked (box_at nodes styles (parent_of nodes c)) ≡ false) × IsInLoosePart nodes styles (parent_of nodes c))
-loose-cases nodes styles _ (here k positive e) = inl e
-loose-cases nodes styles _ (between k positive e w) = inr (e, w)
+stray-cases : (nodes : List Node) (styles : List Style) (c : ℕ) → IsInStrayPart nodes styles c
+    → (is_stray_part (box_at nodes styles (parent_of nodes c)) (box_at nodes styles c) ≡ true) ⊎ ((is_marked (box_at nodes styles (parent_of nodes c)) ≡ false) × IsInStrayPart nodes styles (parent_of nodes c))
+stray-cases nodes styles _ (here k positive e) = inl e
+stray-cases nodes styles _ (between k positive e w) = inr (e, w)
 
 module _ (nodes : List Node) (ss : List Style) (is_tree : IsTree (parents_of nodes)) (same : length ss ≡ length nodes)
     (elements : (k : ℕ) → 0 < k → k < length nodes → is_element_at nodes (parent_of nodes k) ≡ true) where
@@ -184,21 +184,21 @@ module _ (nodes : List Node) (ss : List Style) (is_tree : IsTree (parents_of nod
 
   -- the state that the children of the node at k have, of which this is known
   abbrev Says : Bool → ℕ → Type 0
-  Says b k = (b ≡ true) ↔ ((is_marked (box_at nodes ss k) ≡ false) × IsInLoosePart nodes ss k)
+  Says b k = (b ≡ true) ↔ ((is_marked (box_at nodes ss k) ≡ false) × IsInStrayPart nodes ss k)
 
   module _ (c : ℕ) (positive : 0 < c) (b : Bool) (p f : Facts) (above : box_at nodes ss (parent_of nodes c) ≡ Some p) (there : box_at nodes ss c ≡ Some f) (says : Says b (parent_of nodes c)) where
-    loose-is : is_loose_part (box_at nodes ss (parent_of nodes c)) (box_at nodes ss c) ≡ is_part_in_inline p f
-    loose-is = ap (λ (o : Option Facts). is_loose_part o (box_at nodes ss c)) above ∙ ap (is_loose_part (Some p)) there
+    stray-is : is_stray_part (box_at nodes ss (parent_of nodes c)) (box_at nodes ss c) ≡ is_part_in_inline p f
+    stray-is = ap (λ (o : Option Facts). is_stray_part o (box_at nodes ss c)) above ∙ ap (is_stray_part (Some p)) there
 
-    into : (b || is_part_in_inline p f) ≡ true → IsInLoosePart nodes ss c
+    into : (b || is_part_in_inline p f) ≡ true → IsInStrayPart nodes ss c
     into e = elim (or-cases b (is_part_in_inline p f) e) [
       | inl around ↦ (let u = says.0 around in between c positive u.0 u.1)
-      | inr loose ↦ here c positive (loose-is ∙ loose)
+      | inr stray ↦ here c positive (stray-is ∙ stray)
     ]
 
-    back : IsInLoosePart nodes ss c → (b || is_part_in_inline p f) ≡ true
-    back w = elim (loose-cases nodes ss c w) [
-      | inl loose ↦ or-right b (is_part_in_inline p f) (sym loose-is ∙ loose)
+    back : IsInStrayPart nodes ss c → (b || is_part_in_inline p f) ≡ true
+    back w = elim (stray-cases nodes ss c w) [
+      | inl stray ↦ or-right b (is_part_in_inline p f) (sym stray-is ∙ stray)
       | inr around ↦ or-left b (is_part_in_inline p f) (says.1 around)
     ]
 

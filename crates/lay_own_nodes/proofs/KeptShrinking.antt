@@ -10,32 +10,32 @@ use Rattle.lay_box_tree.specs.declared.box_tree.Flow.{Flow}
 use Rattle.lay_boxgen.specs.Contexts.{IsContextAt, box_at}
 use Rattle.lay_boxgen.specs.Listing.{kind_of, text_at, text_of}
 use Rattle.lay_contexts.specs.ContextTree.{parent_of}
-use Rattle.lay_own_nodes.specs.InlineTables.{IsInLoosePart, between, here, is_loose_part}
+use Rattle.lay_own_nodes.specs.InlineTables.{IsInStrayPart, between, here, is_stray_part}
 use Rattle.lay_own_nodes.specs.Shrinking.{IsWithin, around, own, table}
 use Rattle.lay_own_nodes.specs.Unreached.{IsKeptAt}
 use Rattle.lay_own_nodes.proofs.KeptContexts.{Keeping, Styled}
 use Rattle.lay_own_nodes.proofs.KeptNodes.{kept-at, styled}
 use Rattle.lay_own_nodes.proofs.SameTrees.{SameTree, at_place, back, same-around, same-box, same-context, same-mark, turned}
 
-loose-moved : (p m : ℕ) (a b : Option Facts) → is_loose_part (option_map (at_place p) a) (option_map (at_place m) b) ≡ is_loose_part a b
-loose-moved p m None None = refl
-loose-moved p m None (Some g) = refl
-loose-moved p m (Some f) None = refl
-loose-moved p m (Some f) (Some g) = refl
+stray-moved : (p m : ℕ) (a b : Option Facts) → is_stray_part (option_map (at_place p) a) (option_map (at_place m) b) ≡ is_stray_part a b
+stray-moved p m None None = refl
+stray-moved p m None (Some g) = refl
+stray-moved p m (Some f) None = refl
+stray-moved p m (Some f) (Some g) = refl
 
 module _ (ns ms : List Node) (ss ts : List Style) (R : ℕ → ℕ → Type 0) (h : SameTree ns ms R) (alike : (k m : ℕ) → R k m → style_at ss k ≡ style_at ts m) where
-  loose-same : (k m : ℕ) → R k m → 0 < k → is_loose_part (box_at ms ts (parent_of ms m)) (box_at ms ts m) ≡ is_loose_part (box_at ns ss (parent_of ns k)) (box_at ns ss k)
-  loose-same k m r positive =
+  stray-same : (k m : ℕ) → R k m → 0 < k → is_stray_part (box_at ms ts (parent_of ms m)) (box_at ms ts m) ≡ is_stray_part (box_at ns ss (parent_of ns k)) (box_at ns ss k)
+  stray-same k m r positive =
       let up = (h.parent k m r positive).1 in
-      ap (λ (o : Option Facts). is_loose_part o (box_at ms ts m)) (same-box ns ms ss ts R h alike (parent_of ns k) (parent_of ms m) up)
-      ∙ (ap (is_loose_part (option_map (at_place (parent_of ms m)) (box_at ns ss (parent_of ns k)))) (same-box ns ms ss ts R h alike k m r)
-      ∙ loose-moved (parent_of ms m) m (box_at ns ss (parent_of ns k)) (box_at ns ss k))
+      ap (λ (o : Option Facts). is_stray_part o (box_at ms ts m)) (same-box ns ms ss ts R h alike (parent_of ns k) (parent_of ms m) up)
+      ∙ (ap (is_stray_part (option_map (at_place (parent_of ms m)) (box_at ns ss (parent_of ns k)))) (same-box ns ms ss ts R h alike k m r)
+      ∙ stray-moved (parent_of ms m) m (box_at ns ss (parent_of ns k)) (box_at ns ss k))
 
-  loose-kept : (k : ℕ) → IsInLoosePart ns ss k → (m : ℕ) → R k m → IsInLoosePart ms ts m
-  loose-kept _ (here k positive e) m r = here m (h.parent k m r positive).0 (loose-same k m r positive ∙ e)
-  loose-kept _ (between k positive e w) m r =
+  stray-kept : (k : ℕ) → IsInStrayPart ns ss k → (m : ℕ) → R k m → IsInStrayPart ms ts m
+  stray-kept _ (here k positive e) m r = here m (h.parent k m r positive).0 (stray-same k m r positive ∙ e)
+  stray-kept _ (between k positive e w) m r =
       let up = h.parent k m r positive in
-      between m up.0 (same-mark ns ms ss ts R h alike (parent_of ns k) (parent_of ms m) up.1 ∙ e) (loose-kept (parent_of ns k) w (parent_of ms m) up.1)
+      between m up.0 (same-mark ns ms ss ts R h alike (parent_of ns k) (parent_of ms m) up.1 ∙ e) (stray-kept (parent_of ns k) w (parent_of ms m) up.1)
 
   text-same : (k m : ℕ) → R k m → text_at ns k ≡ text_at ms m
   text-same k m r = let s = h.node k m r in ap text_of s.here ∙ (s.text ∙ sym (ap text_of s.there))
@@ -44,7 +44,7 @@ module _ (ns ms : List Node) (ss ts : List Style) (R : ℕ → ℕ → Type 0) (
   within-kept S _ (own k f there e) m r =
       own m (at_place m f) (same-box ns ms ss ts R h alike k m r ∙ ap (option_map (at_place m)) there)
       (ap (λ (t : List ℕ). S f.flow (kind_of t f.form)) (sym (text-same k m r)) ∙ e)
-  within-kept S _ (table k w e) m r = table m (loose-kept k w m r) e
+  within-kept S _ (table k w e) m r = table m (stray-kept k w m r) e
   within-kept S _ (around k a outside w) m r =
       let up = same-around ns ms ss ts R h alike k a outside m r in
       around m up.0 up.2 (within-kept S a w up.0 up.1)

@@ -40,7 +40,7 @@ use Rattle.lay_contexts.proofs.NodeFacts.{of_node}
 use Rattle.lay_contexts.proofs.OneStand.{contexts_stand_once, marked-true, one-around, within}
 use Rattle.lay_contexts.proofs.RootNumbers.{number_lt, roots_lt}
 use Rattle.lay_contexts.proofs.SpotOrder.{boxes_there}
-use Rattle.lay_own_nodes.specs.InlineTables.{IsInLoosePart, IsKnownInside, ListInside, between, here}
+use Rattle.lay_own_nodes.specs.InlineTables.{IsInStrayPart, IsKnownInside, ListInside, between, here}
 use Rattle.lay_own_nodes.specs.Shrinking.{IsWithin, IsWithinOutward, SparesAnonymous, WithinOutwardByNodes, around, first, outward, own, table}
 use Rattle.lay_own_nodes.proofs.InlineNodes.{inline_tables_stand_by_nodes}
 use Rattle.lay_own_nodes.proofs.OwnList.{around-before}
@@ -336,11 +336,11 @@ module _ (S : Flow → BoxKind → Bool) (spares : SparesAnonymous S) (d : Docum
         ]
 
     module _ (marks : List Bool) (known : Marked d.nodes styles (B o) marks) where
-      loose-is : (get_or marks k false ≡ true) ↔ IsInLoosePart d.nodes styles (place (suc i))
-      loose-is =
+      stray-is : (get_or marks k false ≡ true) ↔ IsInStrayPart d.nodes styles (place (suc i))
+      stray-is =
           let n = (known.known k k-in k-inner).1 in
           let x : n.0 ≡ place (suc i) = same-place n.0 n.1 (n.2 ∙ k-node) in
-          subst (λ (y : ℕ). (get_or marks k false ≡ true) ↔ IsInLoosePart d.nodes styles y) x n.3
+          subst (λ (y : ℕ). (get_or marks k false ≡ true) ↔ IsInStrayPart d.nodes styles y) x n.3
 
       h-in : home o k < length (B o)
       h-in = home_there contexts of.homes are of.homes_are o k o-in k-in
@@ -349,18 +349,18 @@ module _ (S : Flow → BoxKind → Bool) (spares : SparesAnonymous S) (d : Docum
       h-root = home_root contexts of.homes are of.homes_are o k o-in k-in
 
       -- what the formatting context around says
-      into : W (number_of contexts o (home o k)) → (IsInLoosePart d.nodes styles (place (suc i)) × (S InFlow InlineWrapper ≡ true)) ⊎ W (number_of contexts o 0)
+      into : W (number_of contexts o (home o k)) → (IsInStrayPart d.nodes styles (place (suc i)) × (S InFlow InlineWrapper ≡ true)) ⊎ W (number_of contexts o 0)
       into w = elim (said o o-in marks known (suc (home o k)) (home o k) (omega arith) h-in h-root w) [
-        | inl p ↦ inl (loose-is.0 (to-home o o-in marks known k k-some k-in ∙ p.0), p.1)
+        | inl p ↦ inl (stray-is.0 (to-home o o-in marks known k k-some k-in ∙ p.0), p.1)
         | inr v ↦ inr v
       ]
 
-      onto : (IsInLoosePart d.nodes styles (place (suc i)) × (S InFlow InlineWrapper ≡ true)) ⊎ W (number_of contexts o 0) → W (number_of contexts o (home o k))
+      onto : (IsInStrayPart d.nodes styles (place (suc i)) × (S InFlow InlineWrapper ≡ true)) ⊎ W (number_of contexts o 0) → W (number_of contexts o (home o k))
       onto q = back o o-in marks known (suc (home o k)) (home o k) (omega arith) h-in h-root (by q)
         where
-          by : (IsInLoosePart d.nodes styles (place (suc i)) × (S InFlow InlineWrapper ≡ true)) ⊎ W (number_of contexts o 0)
+          by : (IsInStrayPart d.nodes styles (place (suc i)) × (S InFlow InlineWrapper ≡ true)) ⊎ W (number_of contexts o 0)
               → (((get_or marks (home o k) false || is_table_box (listed_at (B o) (home o k))) ≡ true) × (S InFlow InlineWrapper ≡ true)) ⊎ W (number_of contexts o 0)
-          by (inl p) = inl (sym (to-home o o-in marks known k k-some k-in) ∙ loose-is.1 p.0, p.1)
+          by (inl p) = inl (sym (to-home o o-in marks known k k-some k-in) ∙ stray-is.1 p.0, p.1)
           by (inr v) = inr v
 
   first-own : (i : ℕ) → i < length contexts → Is S (listed_at (boxes_of all (number_of contexts i 0)) 0) ≡ true → IsWithin S d.nodes styles (place i)
@@ -387,7 +387,7 @@ module _ (S : Flow → BoxKind → Bool) (spares : SparesAnonymous S) (d : Docum
 
   record Cases (j : ℕ) (A : Type 0) : Type 0 where
     by_own : (f : Facts) → box_at d.nodes styles j ≡ Some f → S f.flow (kind_of (text_at d.nodes j) f.form) ≡ true → A
-    by_table : IsInLoosePart d.nodes styles j → S InFlow InlineWrapper ≡ true → A
+    by_table : IsInStrayPart d.nodes styles j → S InFlow InlineWrapper ≡ true → A
     by_around : (a : ℕ) → IsAround d.nodes styles j a → Nodes a → A
 
   node-cases : (A : Type 0) (j : ℕ) → Nodes j → Cases j A → A
@@ -395,9 +395,9 @@ module _ (S : Flow → BoxKind → Bool) (spares : SparesAnonymous S) (d : Docum
   node-cases A _ (table j w e) c = c.by_table w e
   node-cases A _ (around j a outside w) c = c.by_around a outside w
 
-  loose-some : (j : ℕ) → IsInLoosePart d.nodes styles j → 0 < j
-  loose-some _ (here j above e) = above
-  loose-some _ (between j above e w) = above
+  stray-some : (j : ℕ) → IsInStrayPart d.nodes styles j → 0 < j
+  stray-some _ (here j above e) = above
+  stray-some _ (between j above e w) = above
 
   to-nodes : (turns i : ℕ) → i < turns → i < length contexts → W (number_of contexts i 0) → Nodes (place i)
   to-nodes zero i few lt w = absurd (omega (arith, few))
@@ -416,7 +416,7 @@ module _ (S : Flow → BoxKind → Bool) (spares : SparesAnonymous S) (d : Docum
   ]
 
   -- out of the context around
-  outside-by : (i : ℕ) (lt : suc i < length contexts) → (IsInLoosePart d.nodes styles (place (suc i)) × (S InFlow InlineWrapper ≡ true)) ⊎ W (number_of contexts (o i lt) 0) → W (number_of contexts (suc i) 0)
+  outside-by : (i : ℕ) (lt : suc i < length contexts) → (IsInStrayPart d.nodes styles (place (suc i)) × (S InFlow InlineWrapper ≡ true)) ⊎ W (number_of contexts (o i lt) 0) → W (number_of contexts (suc i) 0)
   outside-by i lt q =
       let marks = marks-of (o i lt) (o-in i lt) in
       outward (number_of contexts (suc i) 0) (context-some i lt) (subst W (sym (context-outer i lt)) (onto i lt marks.0 marks.1 q))
@@ -425,7 +425,7 @@ module _ (S : Flow → BoxKind → Bool) (spares : SparesAnonymous S) (d : Docum
   from-nodes zero i few lt w = absurd (omega (arith, few))
   from-nodes (suc turns) zero few lt w = node-cases (W (number_of contexts 0 0)) (place 0) w (record {
     by_own = λ f there e. own-first 0 lt f there e;
-    by_table = λ q e. absurd (let z = loose-some (place 0) q in omega (arith, z, place-root));
+    by_table = λ q e. absurd (let z = stray-some (place 0) q in omega (arith, z, place-root));
     by_around = λ a outside v. absurd (let z = around-before d.nodes styles (place 0) doc.tree (place 0) a (within d.nodes styles (place 0) (marked-true (is_marked (box_at d.nodes styles (place 0))) (context-is 0 lt).establishes)) outside in omega (arith, z, place-root));
   })
   from-nodes (suc turns) (suc i) few lt w = node-cases (W (number_of contexts (suc i) 0)) (place (suc i)) w (record {

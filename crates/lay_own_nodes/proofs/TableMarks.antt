@@ -14,7 +14,7 @@ use Rattle.lay_box_tree.specs.declared.box_tree.BoxKind.{BoxKind}
 use Rattle.lay_box_tree.specs.declared.box_tree.BoxKind.TheVariants as kind
 use Rattle.lay_box_tree.specs.declared.box_tree.BoxNode.{BoxNode}
 use Rattle.lay_boxgen.specs.Listing.{all_listed, box_node, kind_of, listed, listed_part, text_at}
-use Rattle.lay_own_nodes.specs.InlineTables.{AllInside, EachInside, IsInLoosePart, IsKnownInside, ListInside, is_inline_table, is_inline_wrapper}
+use Rattle.lay_own_nodes.specs.InlineTables.{AllInside, EachInside, IsInStrayPart, IsKnownInside, ListInside, is_inline_table, is_inline_wrapper}
 
 -- the box is the wrapper of an anonymous inline-table
 abbrev pub is_wrapper_kind : BoxKind → Bool
@@ -213,11 +213,11 @@ pub record Marked (nodes : List Node) (styles : List Style) (boxes : List BoxNod
       → ((slice_index (box_parents boxes) k ≡ 0) × (get_or marks k false ≡ false))
       ⊎ (get_or marks k false ≡ (get_or marks (slice_index (box_parents boxes) k) false || is_table_box (box_at boxes (slice_index (box_parents boxes) k))))
   pub known : (k : ℕ) → k < length boxes → (box_at boxes k).inner ≡ true
-      → ((box_at boxes k).anonymous ≡ false) × ((x : ℕ) × (x < length nodes) × (slice_index (ids_of nodes) x ≡ (box_at boxes k).node.0) × ((get_or marks k false ≡ true) ↔ IsInLoosePart nodes styles x))
+      → ((box_at boxes k).anonymous ≡ false) × ((x : ℕ) × (x < length nodes) × (slice_index (ids_of nodes) x ≡ (box_at boxes k).node.0) × ((get_or marks k false ≡ true) ↔ IsInStrayPart nodes styles x))
 
 -- a box by itself, by what is known of its facts
 abbrev KnownBox : List Node → List Style → Bool → BoxNode → Type 0
-KnownBox nodes styles b x = x.inner ≡ true → (x.anonymous ≡ false) × ((k : ℕ) × (k < length nodes) × (slice_index (ids_of nodes) k ≡ x.node.0) × ((b ≡ true) ↔ IsInLoosePart nodes styles k))
+KnownBox nodes styles b x = x.inner ≡ true → (x.anonymous ≡ false) × ((k : ℕ) × (k < length nodes) × (slice_index (ids_of nodes) k ≡ x.node.0) × ((b ≡ true) ↔ IsInStrayPart nodes styles k))
 
 module _ (nodes : List Node) (styles : List Style) (f : Facts) (us : Trees) (ts : List Tree) (h : ListInside (IsKnownInside nodes styles) false (tree f us ∷ ts)) where
   abbrev boxes : List BoxNode

@@ -39,16 +39,16 @@ ListInside P inside (t ∷ ts) = EachInside P inside t × ListInside P inside ts
 abbrev pub is_part_in_inline : Facts → Facts → Bool
 is_part_in_inline parent f = is_inline parent.form && is_in_flow f.flow && is_table_part f.form
 
-abbrev pub is_loose_part : Option Facts → Option Facts → Bool
-is_loose_part (Some parent) (Some f) = is_part_in_inline parent f
-is_loose_part _ _ = false
+abbrev pub is_stray_part : Option Facts → Option Facts → Bool
+is_stray_part (Some parent) (Some f) = is_part_in_inline parent f
+is_stray_part _ _ = false
 
 -- the node at k, or one between it and the context around, generates a part of a table in an inline box
-pub data IsInLoosePart (nodes : List Node) (styles : List Style) : ℕ → Type 0 where
-  here : (k : ℕ) → 0 < k → is_loose_part (box_at nodes styles (parent_of nodes k)) (box_at nodes styles k) ≡ true
-      → IsInLoosePart nodes styles k
-  between : (k : ℕ) → 0 < k → is_marked (box_at nodes styles (parent_of nodes k)) ≡ false → IsInLoosePart nodes styles (parent_of nodes k)
-      → IsInLoosePart nodes styles k
+pub data IsInStrayPart (nodes : List Node) (styles : List Style) : ℕ → Type 0 where
+  here : (k : ℕ) → 0 < k → is_stray_part (box_at nodes styles (parent_of nodes k)) (box_at nodes styles k) ≡ true
+      → IsInStrayPart nodes styles k
+  between : (k : ℕ) → 0 < k → is_marked (box_at nodes styles (parent_of nodes k)) ≡ false → IsInStrayPart nodes styles (parent_of nodes k)
+      → IsInStrayPart nodes styles k
 
 -- a box with these facts is of an element, of which it is known whether its box stands in an anonymous inline-table
 pub record NamesInside (nodes : List Node) (styles : List Style) (inside : Bool) (f : Facts) : Type 0 where
@@ -56,7 +56,7 @@ pub record NamesInside (nodes : List Node) (styles : List Style) (inside : Bool)
   pub place : ℕ
   pub within : place < length nodes
   pub node : slice_index (ids_of nodes) place ≡ f.node.0
-  pub inside_is : (inside ≡ true) ↔ IsInLoosePart nodes styles place
+  pub inside_is : (inside ≡ true) ↔ IsInStrayPart nodes styles place
 
 -- the box of an inner context is
 abbrev pub IsKnownInside : List Node → List Style → Bool → Facts → Type 0

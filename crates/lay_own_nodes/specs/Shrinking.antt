@@ -21,7 +21,7 @@ use Rattle.lay_contexts.specs.ContextTree.{IsAround}
 use Rattle.lay_contexts.specs.FormattingContextList.{AreFormattingContextsOf, number_of}
 use Rattle.lay_contexts.specs.FormattingContexts.{FormattingContext, boxes_in, formatting_context_at}
 use Rattle.lay_contexts.specs.Homes.{is_root}
-use Rattle.lay_own_nodes.specs.InlineTables.{IsInLoosePart}
+use Rattle.lay_own_nodes.specs.InlineTables.{IsInStrayPart}
 use Rattle.lay_own_nodes.specs.Reached.{IsReached}
 use Rattle.lay_own_nodes.specs.Touched.{Edits}
 use Rattle.lay_own_nodes.specs.Unreached.{IsKeptAt}
@@ -31,7 +31,7 @@ use Rattle.lay_own_nodes.specs.Unreached.{IsKeptAt}
 pub data IsWithin (S : Flow → BoxKind → Bool) (nodes : List Node) (styles : List Style) : ℕ → Type 0 where
   own : (k : ℕ) (f : Facts) → box_at nodes styles k ≡ Some f → S f.flow (kind_of (text_at nodes k) f.form) ≡ true
       → IsWithin S nodes styles k
-  table : (k : ℕ) → IsInLoosePart nodes styles k → S InFlow InlineWrapper ≡ true → IsWithin S nodes styles k
+  table : (k : ℕ) → IsInStrayPart nodes styles k → S InFlow InlineWrapper ≡ true → IsWithin S nodes styles k
   around : (k a : ℕ) → IsAround nodes styles k a → IsWithin S nodes styles a → IsWithin S nodes styles k
 
 -- the own box of the formatting context with the number j is such a one, or that of one around it
