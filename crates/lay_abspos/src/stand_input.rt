@@ -52,7 +52,7 @@ impl StandInput {
     }
 
     /// The boxes, with what is known of them.
-    pub(crate) fn boxes(&self) -> &ContextBoxes
+    pub fn boxes(&self) -> &ContextBoxes
         ensures boxes { result.now ≡ self.now.boxes }
         ensures fits { StandInputFits self.now }
     {
@@ -60,21 +60,21 @@ impl StandInput {
     }
 
     /// The used sizes of the boxes.
-    pub(crate) fn sizes(&self) -> &[BoxSizes]
+    pub fn sizes(&self) -> &[BoxSizes]
         ensures { result.now ≡ self.now.sizes }
     {
         self.sizes.as_slice()
     }
 
     /// How far the left border edge is from that of the containing block.
-    pub(crate) fn left(&self) -> Unit
+    pub fn left(&self) -> Unit
         ensures { result ≡ self.now.left }
     {
         self.left
     }
 
     /// What says where it stands.
-    pub(crate) fn position(&self) -> OwnPlace
+    pub fn position(&self) -> OwnPlace
         ensures position { result ≡ self.now.position }
         ensures fits { StandInputFits self.now }
     {

@@ -3,3 +3,4 @@ pub mod Measures
 pub mod ClusterSums
 pub mod PlainTexts
 pub mod WidthBounds
+pub mod SameTables

@@ -1,13 +1,13 @@
 //! Faces.
 
-ghost use Rattle.std.specs.Prelude.{◌≡◌, ◌≤◌, ◌<◌, pos, ◌*ℤ◌, All, IfOk, length};
+ghost use Rattle.std.specs.Prelude.{◌≡◌, ◌↔◌, ◌≤◌, ◌<◌, pos, ◌*ℤ◌, All, IfOk, IsTrue, length};
 ghost use Rattle.lay_units.specs.Units.{IsPosition, IsUsed};
 ghost use Rattle.lay_face.specs.declared.pairs.AdvancePair.{AdvancePair as Pair};
 ghost use Rattle.lay_face.specs.Clusters.{WidthsFit};
 ghost use Rattle.lay_face.specs.Faces.{FitsAt, IsMeasure, MeasuresAreNear, face_of, entry_of, thousandths_of};
 
 use crate::pairs::PairList;
-use crate::table::{first_entries, table_entry, table_of};
+use crate::table::{first_entries, is_same_table, table_entry, table_of};
 use lay_units::{NoMemory, Unit};
 use std::alloc::Global;
 use std::collections::BTreeMap;
@@ -84,6 +84,18 @@ impl Face {
             x_height,
             normal_line_height,
         })
+    }
+
+    /// Whether another face has the same numbers. The measures of lines are told apart first, since a table may be long.
+    pub fn is_same(&self, other: &Face) -> bool
+        ensures { IsTrue result ↔ (self.now ≡ other.now) }
+    {
+        self.default_advance == other.default_advance
+            && self.ascent == other.ascent
+            && self.descent == other.descent
+            && self.x_height == other.x_height
+            && self.normal_line_height == other.normal_line_height
+            && is_same_table(&self.table, &other.table)
     }
 
     /// The advance of a character at this font size, rounded down. The size and the advance are below 2^62

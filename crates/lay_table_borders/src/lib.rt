@@ -28,6 +28,6 @@ pub use cell_area::CellArea;
 pub use collapsed::{cell_borders, table_borders};
 pub use edges::Edges;
 pub use grid::{Spacing, TableCell, TableGrid};
-pub use grid_laws::{grids_are_of_boxes, one_table_grid};
+pub use grid_laws::{grids_are_of_boxes, one_table_grid, some_table_grid};
 pub use laws::{one_cell_borders, one_table_borders};
 pub use separate::own_borders;

@@ -66,6 +66,13 @@ impl TableSizes {
         self.columns.as_slice()
     }
 
+    /// For each box of the formatting context the size of the cell whose box it is; None where it is no cell's.
+    pub fn cells(&self) -> &[Option<CellSize>]
+        ensures { result.now ≡ self.now.cells }
+    {
+        self.cells.as_slice()
+    }
+
     /// The size of the cell whose box stands at the place k; None where no cell's does.
     pub fn cell(&self, k: usize) -> Option<CellSize>
         ensures { result ≡ cell_at self.now k }
