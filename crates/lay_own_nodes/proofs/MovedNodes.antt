@@ -1,0 +1,67 @@
+-- What stands at a place of a list of nodes after one was put in, or some were taken out.
+use Rattle.std.proofs.Common.{◌≡◌, inl, inr, ℕ, zero, suc, ◌+◌, ◌-◌, ◌<◌, ◌≤◌, List, [], ◌∷◌, length, map, get_or, refl, ap, sym, ◌∙◌, arith, Some, option_map, slice_get}
+use Rattle.std.specs.List.{insert, remove_range}
+use Rattle.std.proofs.lemmas.Bool.{cases_lt}
+use Rattle.std.proofs.lemmas.List.Edits.{get_or-insert_above, get_or-insert_below, length-insert}
+use Rattle.lay_doc.specs.Tree.{shifted}
+use Rattle.lay_doc.proofs.Cut.{cut_read, length-cut, old_place}
+use Rattle.lay_doc.proofs.PutTrees.{shifted_high, shifted_low}
+
+pub get-map : {X Y : Type 0} (f : X → Y) (xs : List X) (k : ℕ) → slice_get (map f xs) k ≡ option_map f (slice_get xs k)
+get-map f [] k = refl
+get-map f (x ∷ xs) zero = refl
+get-map f (x ∷ xs) (suc k) = get-map f xs k
+
+pub get-or : {X : Type 0} (xs : List X) (k : ℕ) (d : X) → k < length xs → slice_get xs k ≡ Some (get_or xs k d)
+get-or [] k d lt = absurd (omega (arith, lt))
+get-or (x ∷ xs) zero d lt = refl
+get-or (x ∷ xs) (suc k) d lt = get-or xs k d (omega (arith, lt))
+
+-- Places before and after a new node.
+pub shifted-less : (at j k : ℕ) → j < k → shifted at j < shifted at k
+shifted-less at j k less = elim (cases_lt k at) [
+  | inl low ↦ (let a = shifted_low at k low in let b = shifted_low at j (omega (arith, less, low)) in omega (arith, less, a, b))
+  | inr high ↦ (let a = shifted_high at k high in elim (cases_lt j at) [
+    | inl under ↦ (let b = shifted_low at j under in omega (arith, less, a, b))
+    | inr over ↦ (let b = shifted_high at j over in omega (arith, less, a, b))
+  ])
+]
+
+pub shifted-back : (at j k : ℕ) → shifted at j < shifted at k → j < k
+shifted-back at j k less = elim (cases_lt j k) [
+  | inl low ↦ low
+  | inr high ↦ elim (cases_lt k j) [
+    | inl over ↦ absurd (let a = shifted-less at k j over in omega (arith, a, less))
+    | inr under ↦ absurd (let e : j ≡ k = omega (arith, high, under) in let a : shifted at j ≡ shifted at k = ap (shifted at) e in omega (arith, a, less))
+  ]
+]
+
+pub shifted-more : (at k : ℕ) → k ≤ shifted at k
+shifted-more at k = elim (cases_lt k at) [
+  | inl low ↦ (let a = shifted_low at k low in omega (arith, a))
+  | inr high ↦ (let a = shifted_high at k high in omega (arith, a))
+]
+
+pub shifted-within : (at k n : ℕ) → at ≤ n → k < n → shifted at k < n + 1
+shifted-within at k n le lt = elim (cases_lt k at) [
+  | inl low ↦ (let a = shifted_low at k low in omega (arith, a, lt))
+  | inr high ↦ (let a = shifted_high at k high in omega (arith, a, lt))
+]
+
+moved-read : {X : Type 0} (xs : List X) (at : ℕ) (x d : X) (k : ℕ) → at ≤ length xs → get_or (insert xs at x) (shifted at k) d ≡ get_or xs k d
+moved-read xs at x d k le = elim (cases_lt k at) [
+  | inl low ↦ ap (λ (m : ℕ). get_or (insert xs at x) m d) (shifted_low at k low) ∙ get_or-insert_below xs at x d k low le
+  | inr high ↦ ap (λ (m : ℕ). get_or (insert xs at x) m d) (shifted_high at k high) ∙ get_or-insert_above xs at x d k high le
+]
+
+pub get-shifted : {X : Type 0} (xs : List X) (at : ℕ) (x : X) (k : ℕ) → at ≤ length xs → k < length xs → slice_get (insert xs at x) (shifted at k) ≡ slice_get xs k
+get-shifted xs at x k le lt =
+    let inside : shifted at k < length (insert xs at x) = (let a = shifted-within at k (length xs) le lt in let l = length-insert xs at x le in omega (arith, a, l)) in
+    get-or (insert xs at x) (shifted at k) x inside ∙ (ap Some (moved-read xs at x x k le) ∙ sym (get-or xs k x lt))
+
+-- Places after some nodes were taken out.
+pub get-old : {X : Type 0} (xs : List X) (i j k : ℕ) → i ≤ j → j ≤ length xs → k + (j - i) < length xs → old_place i j k < length xs → slice_get (remove_range xs i j) k ≡ slice_get xs (old_place i j k)
+get-old [] i j k le within lt inside = absurd (omega (arith, lt))
+get-old (x ∷ xs) i j k le within lt inside =
+    let l = length-cut (x ∷ xs) i j le within in
+    get-or (remove_range (x ∷ xs) i j) k x (omega (arith, lt, l)) ∙ (ap Some (cut_read (x ∷ xs) i j k x le within) ∙ sym (get-or (x ∷ xs) (old_place i j k) x inside))

@@ -1,0 +1,7 @@
+pub mod Reached
+pub mod Touched
+pub mod Unreached
+pub mod Anchors
+pub mod InlineTables
+pub mod Shrinking
+pub mod Bound
