@@ -65,7 +65,7 @@ def picture(name, verdict, run, bad, rule):
 def figure(name, verdict, run, bad, rule):
     told = verdict['agree'].get(name, {})
     good = all(told.values())
-    judge = 'one of its readings' if rule['verdict'] == 'open' else 'what the standard asks for'
+    judge = 'one reading' if rule['verdict'] == 'open' else 'the judge'
     mark = judge if name == 'lay' else '%d of %d as lay' % (sum(told.values()), len(told))
     return '<figure class="%s"><figcaption>%s <small>%s</small></figcaption>%s</figure>' % (
         'ok' if good else 'no', NAMES[name], mark, picture(name, verdict, run, bad, rule))
