@@ -894,6 +894,21 @@
     return null;
   }
 
+  // What a cell is higher than the rows that it spans goes to the last of them in `lay`, and to all in browsers: such rows have
+  // their used heights.
+  function freezeRows(job, table) {
+    const spans = cellsOf(table).some(([cell]) => cell.element.rowSpan > 1);
+    if (!job.options.freeze || !spans || table.used['border-collapse'] === 'collapse') return;
+    warn(job, 'cell that spans rows (row heights frozen)', table.element);
+    const visit = group => {
+      for (const kid of group.kids) {
+        if (/^table-(row|header|footer)-group$/.test(displayOf(kid))) visit(kid);
+        else if (displayOf(kid) === 'table-row' && kid.rect) kid.rowHeight = kid.rect[3];
+      }
+    };
+    visit(table);
+  }
+
   // ---- The document -------------------------------------------------------------------------------------------------------
 
   function saveRects(job, item) {
@@ -972,11 +987,13 @@
     const named = typeof item.element.className === 'string' ? item.element.className.trim().split(/\s+/).filter(Boolean) : [];
     if (job.measured && item.tag) node.tag = [item.tag, ...named].join('.');   // `lay` reads no member `tag`
     if (!/^auto/.test(item.computed['aspect-ratio']) && item.computed['aspect-ratio']) warn(job, 'aspect-ratio', item.element);
+    if (item.rowHeight !== undefined) node.style.height = pixelText(item.rowHeight);
     job.nodes.push(node);
     job.kinds[item.id] = kindOf(item, making);
     if (!item.pseudo && !item.wrapper) saveRects(job, item);
     if (making.display === 'inline') saveFit(job, item, item);
     const widths = isTable(making.display) ? freezeTable(job, making) : null;
+    if (isTable(making.display)) freezeRows(job, item);
     for (const width of widths || []) {
       job.nodes.push({ id: job.extraId++, parent: item.id, kind: 'element', style: { display: 'table-column', width: pixelText(width) } });
     }

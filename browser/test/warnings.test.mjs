@@ -20,6 +20,8 @@ const PAGES = [
   ['display: grid (its items frozen)', '<div style="display:grid;grid-template-columns:1fr 2fr"><p>one</p><p>two</p></div>'],
   ['display: contents (children exported in its place)', '<div style="display:contents"><p>one</p></div>'],
   ['automatic table (column widths frozen)', '<table><tr><td>one<td>two three</table>'],
+  ['cell that spans rows (row heights frozen)',
+    '<table style="table-layout:fixed;width:200px"><tr><td rowspan=2>one two three four five six seven<td>one<tr><td>two</table>'],
   ['columns (contents left out)', '<div style="column-count:2"><p>one</p><p>two</p></div>'],
   ['position: sticky (frozen where it is)', '<p style="position:sticky;top:0">one</p>'],
   ['width: calc(..% - ..px) (used value taken)', '<p style="width:calc(50% - 10px)">one</p>'],

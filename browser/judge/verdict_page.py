@@ -1,0 +1,130 @@
+"""One page of a verdict: the question, the verdict, three pictures, what differs, the document, and what decides."""
+import html
+import pathlib
+
+FOLDER = pathlib.Path(__file__).resolve().parent
+NAMES = {'lay': 'CSS 2.2, by lay', 'chromium': 'Chromium', 'firefox': 'Firefox'}
+MARGIN = 24
+FLATTEST = 0.3
+
+
+def px(units):
+    return '%g' % (units / 64)
+
+
+def differing(verdict):
+    return {key for told in verdict['agree'].values() for key, same in told.items() if not same}
+
+
+def frame_of(verdict, keys):
+    """The part of the page round these pieces, in px, and not flatter than FLATTEST."""
+    rects = [r for side in verdict['sides'].values() for key, rs in side.items() if key in keys for r in rs]
+    low = [min(r[axis] for r in rects) / 64 - MARGIN for axis in (0, 1)]
+    high = [max(r[axis] + r[axis + 2] for r in rects) / 64 + MARGIN for axis in (0, 1)]
+    width, height = high[0] - low[0], high[1] - low[1]
+    more = max(0, width * FLATTEST - height)
+    return low[0], low[1] - more / 2, width, height + more
+
+
+def glyphs(node, rect):
+    """The characters of a text, in its rectangle."""
+    x, y, width, height = (units / 64 for units in rect)
+    text = html.escape(' '.join(node['text'].split())[:60])
+    if not text or not width:
+        return ''
+    return '<text x="%g" y="%g" font-size="%g" textLength="%g" lengthAdjust="spacingAndGlyphs">%s</text>' % (
+        x, y + height * 0.78, height * 0.8, width, text)
+
+
+def piece(key, rect, css, node, unit):
+    x, y, width, height = (units / 64 for units in rect)
+    title = '%s %d: x %g, y %g, %g × %g px' % (*key, x, y, width, height)
+    parts = ['<g class="%s" data-n="%s%d"><title>%s</title>' % (css, key[0], key[1], title),
+             '<rect x="%g" y="%g" width="%g" height="%g"/>' % (x, y, max(width, unit / 4), max(height, unit / 4))]
+    if key[0] == 'text':
+        parts.append(glyphs(node, rect))
+    elif 'bad' in css or 'named' in css:
+        parts.append('<text class="n" x="%g" y="%g" font-size="%g">%d</text>' % (x + unit / 2, y + unit * 2.4, unit * 2.4, key[1]))
+    return ''.join(parts) + '</g>'
+
+
+def picture(name, verdict, run, bad, rule):
+    """The pieces of a side. What differs is marked, and boxes that differ or that the rule names have their numbers."""
+    x, y, width, height = rule.get('frame') or frame_of(verdict, bad)
+    nodes = {node['id']: node for node in run['nodes']}
+    unit = width / 64
+    parts = ['<svg viewBox="%g %g %g %g" role="img" aria-label="%s">' % (x, y, width, height, NAMES[name])]
+    pieces = [(key, rect) for key, rects in verdict['sides'][name].items() for rect in rects if key[1] in nodes]
+    for key, rect in sorted(pieces, key=lambda piece: piece[0] in bad):
+        css = ('text' if key[0] == 'text' else verdict['kinds'].get(key[1], ''))
+        css += ' bad' if key in bad else ' named' if key[1] in rule['show'] else ''
+        parts.append(piece(key, rect, css, nodes[key[1]], unit))
+    return ''.join(parts) + '</svg>'
+
+
+def figure(name, verdict, run, bad, rule):
+    told = verdict['agree'].get(name, {})
+    good = all(told.values())
+    judge = 'one reading' if rule['verdict'] == 'open' else 'the judge'
+    mark = judge if name == 'lay' else '%d of %d as lay' % (sum(told.values()), len(told))
+    return '<figure class="%s"><figcaption>%s <small>%s</small></figcaption>%s</figure>' % (
+        'ok' if good else 'no', NAMES[name], mark, picture(name, verdict, run, bad, rule))
+
+
+def cell(rects):
+    return '<br>'.join('%s, %s &nbsp; %s × %s' % tuple(map(px, rect)) for rect in rects) or '–'
+
+
+def row(key, verdict):
+    cells = ['<td>%s</td>' % cell(verdict['sides']['lay'].get(key, []))]
+    for name in ('chromium', 'firefox'):
+        same = verdict['agree'][name].get(key, True)
+        cells.append('<td class="%s">%s</td>' % ('ok' if same else 'no', cell(verdict['sides'][name].get(key, []))))
+    return '<tr data-n="%s%d"><th>%s %d</th>%s</tr>' % (key[0], key[1], *key, ''.join(cells))
+
+
+def described(node):
+    if node['kind'] == 'text':
+        return '“%s”' % html.escape(' '.join(node['text'].split()))
+    style = '; '.join('%s: %s' % item for item in node.get('style', {}).items())
+    return html.escape(('replaced %d × %d ' % tuple(node['natural']) if 'natural' in node else '') + '{ ' + style + ' }')
+
+
+def tree(run, bad, parent=0, depth=0):
+    """The document, with the pieces that differ marked."""
+    lines = []
+    for node in run['nodes']:
+        if node['parent'] != parent or node['kind'] == 'text' and not node['text'].strip():
+            continue
+        kind = 'text' if node['kind'] == 'text' else 'box'
+        css = ' class="bad"' if (kind, node['id']) in bad else ''
+        lines.append('<div style="padding-left:%dch"%s data-n="%s%d"><b>%d</b> %s</div>' % (
+            2 * depth, css, kind, node['id'], node['id'], described(node)))
+        lines.append(tree(run, bad, node['id'], depth + 1))
+    return ''.join(lines)
+
+
+def reasons(rule):
+    """What decides: the sentence of the standard, the steps, the definitions, and whether a choice takes part."""
+    definitions = ', '.join('<code>%s</code>' % html.escape(name) for name in rule['definitions'])
+    parts = ['<p>CSS 2.2, %s:</p><blockquote>%s</blockquote>' % (rule['section'], html.escape(rule['sentence']))]
+    parts += ['<p>%s</p>' % html.escape(text) for text in rule['reason']]
+    parts.append('<p>Defined in %s.</p>' % definitions)
+    if rule['choice']:
+        choice = 'The standard leaves this open; the choice of lay stands in docs/DECISIONS.md: “%s”' % rule['choice'].rstrip(',')
+    else:
+        choice = 'No choice of this project takes part: the text of the standard decides.'
+    return ''.join(parts) + '<p>%s</p>' % html.escape(choice)
+
+
+def page(rule, name, run, verdict):
+    """The page of a document under a rule."""
+    bad = differing(verdict)
+    fields = {
+        'title': html.escape(rule['question']), 'name': html.escape(name), 'width': run['viewport'][0], 'height': run['viewport'][1],
+        'kind': rule['verdict'], 'verdict': html.escape(rule['answer']), 'reasons': reasons(rule), 'tree': tree(run, bad),
+        'figures': ''.join(figure(side, verdict, run, bad, rule) for side in ('lay', 'chromium', 'firefox')),
+        'rows': ''.join(row(key, verdict) for key in sorted(bad, key=lambda key: (key[1], key[0]))),
+        'file': html.escape(name.split('/')[-1]), 'style': (FOLDER / 'page.css').read_text(),
+    }
+    return (FOLDER / 'page.html').read_text().format(**fields)
