@@ -3,7 +3,7 @@ use Rattle.std.proofs.Common.{◌≡◌, inr, ⊎_elim, ℕ, List, map, slice_ge
 use Rattle.std.specs.BTreeMap.{BTreeMap}
 use Rattle.std.specs.declared.cmp.Ordering.{Ordering}
 use Rattle.lay_cells.specs.Shapes.{IsShape}
-use Rattle.lay_cells.specs.Rows.{Row, State, Solved, entry_of, row_of}
+use Rattle.lay_cells.specs.Rows.{Held, Row, State, Solved, entry_of, row_of}
 use Rattle.lay_cells.specs.Looks.{AreClean, IsAt, Looks}
 use Rattle.lay_cells.specs.Steps.{Claims, ClaimsIn, Finishes, FinishesIn, GivesBack, GivesBackIn, draws_after}
 use Rattle.lay_cells.specs.Sound.{IsSound}
@@ -31,7 +31,7 @@ module _ {K I V : Type 0} where
       subst (λ (z : Row K I V). (z.dirty ≡ true) × AreClean rows z.needs) (sym one.1) (h.3, h.4)
 
   -- after a change that fits, what the cells keep
-  pub kept_after : (relates : I → V → Type 0) (cmp : K → K → Ordering) (cells new : List (Cell K I (Solved K I V))) (index : BTreeMap K ℕ) (n m d d' : ℕ)
+  pub kept_after : (relates : I → V → Type 0) (cmp : K → K → Ordering) (cells new : List (Cell K (Held K I V))) (index : BTreeMap K ℕ) (n m d d' : ℕ)
       → IsKept relates cmp cells index n d → d ≤ d' → (place : ℕ) (P : Row K I V → Row K I V → Type 0) → ChangesAt cells new place P
       → ((r q : Row K I V) → slice_get (map row_of cells) place ≡ Some r → P r q → Fits relates (map row_of cells) d' r q)
       → IsLowest (map row_of new) m → IsKept relates cmp new index m d'
@@ -44,7 +44,7 @@ module _ {K I V : Type 0} where
       }
 
   -- and the cells before the first dirty one are still clean
-  pub before_after : (relates : I → V → Type 0) (cells new : List (Cell K I (Solved K I V))) (n d : ℕ) → IsLowest (map row_of cells) n → (place : ℕ) (P : Row K I V → Row K I V → Type 0) → ChangesAt cells new place P
+  pub before_after : (relates : I → V → Type 0) (cells new : List (Cell K (Held K I V))) (n d : ℕ) → IsLowest (map row_of cells) n → (place : ℕ) (P : Row K I V → Row K I V → Type 0) → ChangesAt cells new place P
       → ((r q : Row K I V) → slice_get (map row_of cells) place ≡ Some r → P r q → Fits relates (map row_of cells) d r q)
       → (j : ℕ) → j < n → (z : Row K I V) → slice_get (map row_of new) j ≡ Some z → z.dirty ≡ false
   before_after relates cells new n d low place P step fits j lt z at =
@@ -72,7 +72,7 @@ module _ {K I V : Type 0} where
   back_bit r q n (released.Superseded m) f = ap (λ (x : Row K I V). x.dirty) f.3
   back_bit r q n released.Released f = ap (λ (x : Row K I V). x.dirty) f.2
 
-  pub back_lowest : (cells new : List (Cell K I (Solved K I V))) (n : ℕ) → IsLowest (map row_of cells) n → (place number : ℕ) (a : Released)
+  pub back_lowest : (cells new : List (Cell K (Held K I V))) (n : ℕ) → IsLowest (map row_of cells) n → (place number : ℕ) (a : Released)
       → ChangesAt cells new place (λ r q. GivesBack r number a q) → IsLowest (map row_of new) n
   back_lowest cells new n low place number a step =
       subst (λ rs. IsLowest rs n) (sym step.4) (lowest_same (map row_of cells) n place step.0 step.1 low step.2 (back_bit step.0 step.1 number a step.3))
@@ -98,21 +98,21 @@ module _ {K I V : Type 0} where
   back_fits relates rows d s place number a r q at f = give_back_row relates rows d r (s.each r (place, at)) q number a f
 
   -- the answers, as the cells see them
-  pub claims_in : (s : State K I V) (cells new : List (Cell K I (Solved K I V))) (d e : ℕ) → record { rows = map row_of cells; draws = d } ≡ s
+  pub claims_in : (s : State K I V) (cells new : List (Cell K (Held K I V))) (d e : ℕ) → record { rows = map row_of cells; draws = d } ≡ s
       → (key : K) (place : ℕ) (z : Row K I V) → IsAt (map row_of cells) key place z → (input : I) (a : Claimed) → e ≡ draws_after a d
       → ChangesAt cells new place (λ r q. Claims r (d + 1) input a q) → ClaimsIn s key input a record { rows = map row_of new; draws = e }
   claims_in s cells new d e is key place z found input a e_is step =
       subst (λ (t : State K I V). ClaimsIn t key input a record { rows = map row_of new; draws = e }) is
       (place, step.0, step.1, (step.2, key_at (map row_of cells) key place z step.0 found step.2), step.3, λ i. record { rows = step.4 i; draws = e_is i })
 
-  pub finishes_in : (s : State K I V) (cells new : List (Cell K I (Solved K I V))) (d : ℕ) → record { rows = map row_of cells; draws = d } ≡ s
+  pub finishes_in : (s : State K I V) (cells new : List (Cell K (Held K I V))) (d : ℕ) → record { rows = map row_of cells; draws = d } ≡ s
       → (p : Solved K I V) (place : ℕ) (z : Row K I V) → IsAt (map row_of cells) p.key place z → (a : Finished)
       → ChangesAt cells new place (λ r q. Finishes r p a q) → FinishesIn s p a record { rows = map row_of new; draws = d }
   finishes_in s cells new d is p place z found a step =
       subst (λ (t : State K I V). FinishesIn t p a record { rows = map row_of new; draws = d }) is
       (inr (place, step.0, step.1, (step.2, key_at (map row_of cells) p.key place z step.0 found step.2), step.3, λ i. record { rows = step.4 i; draws = d }))
 
-  pub gives_back_in : (s : State K I V) (cells new : List (Cell K I (Solved K I V))) (d : ℕ) → record { rows = map row_of cells; draws = d } ≡ s
+  pub gives_back_in : (s : State K I V) (cells new : List (Cell K (Held K I V))) (d : ℕ) → record { rows = map row_of cells; draws = d } ≡ s
       → (key : K) (number place : ℕ) (z : Row K I V) → IsAt (map row_of cells) key place z → (a : Released)
       → ChangesAt cells new place (λ r q. GivesBack r number a q) → GivesBackIn s key number a record { rows = map row_of new; draws = d }
   gives_back_in s cells new d is key number place z found a step =

@@ -133,6 +133,7 @@ module _ {K I V : Type 0} where
             back = ok.counted.back;
             open_back = λ _. ok.counted.open_back has.0;
             open_given = λ _. ok.counted.open_given has.0;
+            kept_paid = ok.counted.kept_paid;
           };
         }
 
@@ -159,6 +160,7 @@ module _ {K I V : Type 0} where
             back = ok.counted.back;
             open_back = λ some. absurd (false≢true some);
             open_given = λ some. absurd (false≢true some);
+            kept_paid = ok.counted.kept_paid;
           };
         }
 
@@ -185,6 +187,7 @@ module _ {K I V : Type 0} where
             back = omega (arith, ok.counted.back);
             open_back = λ _. omega (arith, ok.counted.back);
             open_given = λ _. refl;
+            kept_paid = λ _. omega arith;
           };
         }
 
@@ -224,6 +227,7 @@ module _ {K I V : Type 0} where
             back = ok.counted.back;
             open_back = λ some. absurd (false≢true some);
             open_given = λ some. absurd (false≢true some);
+            kept_paid = λ _. (let paid = ok.counted.open_back (some_of (λ (o : Open). o.number) r.claim p.number is.0) in omega (arith, paid));
           };
         }
 
@@ -248,6 +252,7 @@ module _ {K I V : Type 0} where
             back = ok.counted.back;
             open_back = λ some. absurd (false≢true some);
             open_given = λ some. absurd (false≢true some);
+            kept_paid = λ _. (let paid = ok.counted.open_back (some_of (λ (o : Open). o.number) r.claim p.number is.0) in omega (arith, paid));
           };
         }
 
@@ -283,6 +288,7 @@ module _ {K I V : Type 0} where
             back = omega (arith, back);
             open_back = λ s. absurd (false≢true s);
             open_given = λ s. absurd (false≢true s);
+            kept_paid = ok.counted.kept_paid;
           };
         }
 

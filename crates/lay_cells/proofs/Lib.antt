@@ -1,6 +1,9 @@
+pub mod Alike
 pub mod Answered
 pub mod TakenOver
+pub mod Unchanged
 pub mod Unnumbered
+pub mod ByPlace
 pub mod Changes
 pub mod Contained
 pub mod Empty

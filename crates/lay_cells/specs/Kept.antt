@@ -4,7 +4,7 @@ use Rattle.std.specs.Prelude.{◌≡◌, ◌<◌, ℕ, Bool, true, false, List, 
 use Rattle.std.specs.BTreeMap.{BTreeMap, get}
 use Rattle.std.specs.declared.cmp.Ordering.{Ordering}
 use Rattle.lay_cells.specs.Shapes.{IsIn}
-use Rattle.lay_cells.specs.Rows.{Row, Solved, row_of}
+use Rattle.lay_cells.specs.Rows.{Row, Held, row_of}
 use Rattle.lay_cells.specs.Sound.{IsSound}
 use Rattle.lay_cells.specs.declared.cell.Cell.{Cell}
 
@@ -14,7 +14,7 @@ pub record Wire (K : Type 0) : Type 0 where
   pub needs : List K
   pub places : List ℕ
 
-abbrev pub wire_of : {K I D : Type 0} → Cell K I D → Wire K
+abbrev pub wire_of : {K H : Type 0} → Cell K H → Wire K
 wire_of c = record { key = c.key; needs = c.needs.items; places = c.places.items }
 
 -- the index has just the places of the keys, and the places of dependencies are the index's
@@ -36,13 +36,13 @@ module _ {K I V : Type 0} where
     pub before : (j : ℕ) → j < place → (r : Row K I V) → slice_get rows j ≡ Some r → r.dirty ≡ false
     pub at : (r : Row K I V) → slice_get rows place ≡ Some r → r.dirty ≡ true
 
-  pub record IsKept (relates : I → V → Type 0) (cmp : K → K → Ordering) (cells : List (Cell K I (Solved K I V))) (index : BTreeMap K ℕ) (lowest draws : ℕ) : Type 0 where
+  pub record IsKept (relates : I → V → Type 0) (cmp : K → K → Ordering) (cells : List (Cell K (Held K I V))) (index : BTreeMap K ℕ) (lowest draws : ℕ) : Type 0 where
     pub sound : IsSound relates record { rows = map row_of cells; draws = draws }
     pub wired : IsWired cmp index (map wire_of cells)
     pub first_dirty : IsLowest (map row_of cells) lowest
 
   -- the row at a place became another, as P says, and what stands beside the rows is as it was
-  abbrev pub ChangesAt : List (Cell K I (Solved K I V)) → List (Cell K I (Solved K I V)) → ℕ → (Row K I V → Row K I V → Type 0) → Type 0
+  abbrev pub ChangesAt : List (Cell K (Held K I V)) → List (Cell K (Held K I V)) → ℕ → (Row K I V → Row K I V → Type 0) → Type 0
   ChangesAt old new place P =
       (r q : Row K I V) × (slice_get (map row_of old) place ≡ Some r) × P r q
       × (map row_of new ≡ slice_set (map row_of old) place q) × (map wire_of new ≡ map wire_of old)

@@ -1,12 +1,14 @@
 -- Each call has one answer, and leaves one state: where two answers, with what is there afterwards, meet a
 -- definition for the same cells before, they are equal. Cells stand in a shape, so no two have one key.
-use Rattle.std.specs.Prelude.{◌≡◌, ℕ, List, map, Option, IfSome, IfNone}
+use Rattle.std.specs.Prelude.{◌≡◌, ℕ, List, [], map, Option, IfSome, IfNone}
 use Rattle.lay_cells.specs.Shapes.{Entry, IsShape}
 use Rattle.lay_cells.specs.Rows.{Row, Solved, State, entry_of}
 use Rattle.lay_cells.specs.Looks.{IsGone, Looks}
 use Rattle.lay_cells.specs.Marks.{Marks}
+use Rattle.lay_cells.specs.Places.{AreCleanFrom, HasNoNeedAt, IsFirstDirtyFrom, IsNeedAt}
 use Rattle.lay_cells.specs.Reads.{AllClean, IsFirstDirtyKey, IsLaid, KeepsNone, KeepsValue}
 use Rattle.lay_cells.specs.Reshapes.{Reshapes}
+use Rattle.lay_cells.specs.Sound.{IsSound}
 use Rattle.lay_cells.specs.Steps.{ClaimsIn, FinishesIn, GivesBackIn}
 use Rattle.lay_cells.specs.declared.answers.Look.{Look}
 use Rattle.lay_cells.specs.declared.answers.Claimed.{Claimed}
@@ -47,3 +49,15 @@ module _ (K I V : Type 0) where
 
   abbrev pub OneFirstDirty : Type 0
   OneFirstDirty = (rows : List (Row K I V)) (a b : Option K) → IsAnswer (IsFirstDirtyKey rows) (AllClean rows) a → IsAnswer (IsFirstDirtyKey rows) (AllClean rows) b → a ≡ b
+
+  abbrev pub OneDirtyFrom : Type 0
+  OneDirtyFrom = (rows : List (Row K I V)) (place : ℕ) (a b : Option ℕ)
+      → IsAnswer (IsFirstDirtyFrom rows place) (AreCleanFrom rows place) a → IsAnswer (IsFirstDirtyFrom rows place) (AreCleanFrom rows place) b → a ≡ b
+
+  abbrev pub OneNeed : Type 0
+  OneNeed = (rows : List (Row K I V)) (place number : ℕ) (a b : Option ℕ) → IsShape (map entry_of rows)
+      → IsAnswer (IsNeedAt rows place number) (HasNoNeedAt rows place number) a → IsAnswer (IsNeedAt rows place number) (HasNoNeedAt rows place number) b → a ≡ b
+
+  -- cells in order are reshaped to themselves by the shape that they have
+  abbrev pub PresentShapeKeeps : (I → V → Type 0) → Type 0
+  PresentShapeKeeps relates = (s : State K I V) → IsSound relates s → Reshapes s (map entry_of s.rows) [] s

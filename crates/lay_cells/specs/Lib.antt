@@ -1,7 +1,9 @@
+pub mod Holdings
 pub mod Kept
 pub mod Laws
 pub mod Looks
 pub mod Marks
+pub mod Places
 pub mod Plans
 pub mod Reads
 pub mod Reshapes

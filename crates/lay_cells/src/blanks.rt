@@ -7,6 +7,7 @@ ghost use Rattle.lay_cells.specs.Rows.{row_of};
 ghost use Rattle.lay_cells.specs.Shapes.{IsIn};
 
 use crate::cell::{Cell, CellOf};
+use crate::holding::Holding;
 use crate::index::places_of;
 use crate::shape::Planned;
 use crate::work::Work;
@@ -30,9 +31,8 @@ fn blank_cell<W: Work>(
         needs: plan.needs,
         places,
         dirty: true,
-        kept: None,
+        held: Holding::nothing(),
         claim: None,
-        given: None,
         first: 0,
         last: 0,
         laid: 0,

@@ -1,24 +1,28 @@
 //! The cells.
 
-ghost use Rattle.std.specs.Prelude.{◌≡◌, ◌≤◌, ◌-◌, ◌^◌, [], IfSome, IfNone, OnOk, OnErr};
+ghost use Rattle.std.specs.Prelude.{◌≡◌, ◌↔◌, ◌<◌, ◌≤◌, ◌-◌, ◌^◌, [], IfNone, IfSome, IsOk, IsTrue, OnErr, OnOk, false, length, map, option_map};
 ghost use Rattle.std.specs.Arc.{arc_value};
-ghost use Rattle.lay_cells.specs.Looks.{IsGone, Looks};
+ghost use Rattle.lay_cells.specs.Looks.{IsAt, IsGone, Looks};
 ghost use Rattle.lay_cells.specs.Marks.{Marks};
+ghost use Rattle.lay_cells.specs.Places.{AreCleanFrom, AtPlace, HasNoNeedAt, IsClaimed, IsFirstDirtyFrom, IsNeedAt};
 ghost use Rattle.lay_cells.specs.Reads.{AllClean, IsFirstDirtyKey, IsLaid, IsPaid, KeepsNone, KeepsValue};
 ghost use Rattle.lay_cells.specs.Reshapes.{Reshapes};
+ghost use Rattle.lay_cells.specs.Rows.{Row, entry_of};
 ghost use Rattle.lay_cells.specs.Sound.{IsSound};
-ghost use Rattle.lay_cells.specs.Steps.{ClaimsIn, FinishesIn, GivesBackIn};
+ghost use Rattle.lay_cells.specs.Steps.{ClaimsIn, FinishesIn, GivesBackIn, IsStale};
 
 use crate::answers::{Claimed, Finished, Look, Released};
 use crate::blanks::blank_cells;
 use crate::cell::CellOf;
 use crate::change::{claim_at, drawn, finish_at, give_back_at};
 use crate::done::Done;
+use crate::entries::same_entries;
 use crate::fresh::key_set;
 use crate::index::{find, index_of};
 use crate::marking::{mark_dependents, mark_listed};
 use crate::needs::{first_dirty_key, next_dirty};
-use crate::reading::{laid_in, look_in, value_in};
+use crate::places::{claimed_in, dirty_from, kept_in, key_in, need_in};
+use crate::reading::{laid_in, look_at, look_in, value_in};
 use crate::reshaping::settle_all;
 use crate::shape::Shape;
 use crate::work::Work;
@@ -67,12 +71,17 @@ impl<W: Work> Cells<W> {
     /// Afterwards the cells are those of the shape, in its order. A cell that was there, and whose key is
     /// not in `fresh`, keeps its pair, its claim and its counts; it is marked where its dependencies are
     /// others than before, and where one of them is dirty. Each other cell is made anew, with the next
-    /// number: it has nothing, and is dirty. On an error all is as before.
+    /// number: it has nothing, and is dirty. The shape that the cells have changes nothing, where no key is
+    /// fresh, and takes no memory. On an error all is as before.
     pub fn reshape(&mut self, shape: Shape<W::Key>, fresh: &[W::Key]) -> Result<(), NoMemory>
         requires draws { self.old.draws ≤ 2 ^ 64 - 2 ^ 20 }
         ensures ok { OnOk result (Reshapes self.old shape fresh.now self.new) }
+        ensures present { map entry_of self.old.rows ≡ shape → fresh.now ≡ [] → IsOk result × (self.new ≡ self.old) }
         ensures err { OnErr result (self.new ≡ self.old) }
     {
+        if self.is_present(&shape, fresh) {
+            return Ok(());
+        }
         let alloc = *self.cells.allocator();
         let fresh = key_set::<W>(alloc, fresh)?;
         let index = index_of::<W>(alloc, shape.keys())?;
@@ -82,6 +91,23 @@ impl<W: Work> Cells<W> {
         self.cells = cells;
         self.index = index;
         Ok(())
+    }
+
+    /// Whether a shape is the one that the cells have, and no key is fresh.
+    fn is_present(&self, shape: &Shape<W::Key>, fresh: &[W::Key]) -> bool
+        ensures { IsTrue result ↔ ((map entry_of self.now.rows ≡ shape.now) × (fresh.now ≡ [])) }
+    {
+        if !fresh.is_empty() {
+            return false;
+        }
+        self.entries_equal(shape)
+    }
+
+    /// Whether a shape is the one that the cells have.
+    pub fn entries_equal(&self, shape: &Shape<W::Key>) -> bool
+        ensures { IsTrue result ↔ (map entry_of self.now.rows ≡ shape.now) }
+    {
+        same_entries::<W>(self.cells.as_slice(), shape.plans())
     }
 
     /// Marks the cells of these keys that are there, and each cell that depends on one of them in any
@@ -113,10 +139,7 @@ impl<W: Work> Cells<W> {
         let Some(place) = find::<W>(self.cells.as_slice(), &self.index, key) else {
             unreachable!()
         };
-        let answer = claim_at::<W>(&mut self.cells, place, input, self.draws + 1);
-        self.draws = drawn(answer, self.draws);
-        self.lowest = next_dirty::<W>(self.cells.as_slice(), self.lowest);
-        answer
+        self.claim_at_place(place, input)
     }
 
     /// Finished work. Gone where no cell has its key, or the cell was made after its number. Else
@@ -170,6 +193,85 @@ impl<W: Work> Cells<W> {
         ensures none { IfNone result (AllClean self.now.rows) }
     {
         first_dirty_key::<W>(self.cells.as_slice(), self.lowest)
+    }
+
+    /// How many cells there are.
+    pub fn len(&self) -> usize
+        ensures { result ≡ length self.now.rows }
+    {
+        self.cells.len()
+    }
+
+    /// The place of the cell of a key, at which it stands until the next shape.
+    pub fn place_of(&self, key: W::Key) -> Option<usize>
+        ensures some { IfSome result (λ i. (r : Row W.Key W.Input W.Value) × IsAt self.now.rows key i r) }
+        ensures none { IfNone result (IsGone self.now.rows key) }
+    {
+        find::<W>(self.cells.as_slice(), &self.index, key)
+    }
+
+    /// The key of the cell at a place.
+    pub fn key_at(&self, place: usize) -> W::Key
+        requires { place < length self.now.rows }
+        ensures { AtPlace self.now.rows place (λ r. result ≡ r.key) }
+    {
+        key_in::<W>(self.cells.as_slice(), place)
+    }
+
+    /// The place of the dependency of this number of the cell at a place. None where the cell has no more.
+    pub fn need_at(&self, place: usize, number: usize) -> Option<usize>
+        requires { place < length self.now.rows }
+        ensures some { IfSome result (IsNeedAt self.now.rows place number) }
+        ensures none { IfNone result (HasNoNeedAt self.now.rows place number) }
+    {
+        need_in::<W>(self.cells.as_slice(), place, number)
+    }
+
+    /// What a look at the cell at a place shows.
+    pub fn look_at(&self, place: usize) -> Look<W::Key>
+        requires { place < length self.now.rows }
+        ensures { AtPlace self.now.rows place (λ r. Looks self.now.rows r.key result) }
+    {
+        look_at::<W>(self.cells.as_slice(), place)
+    }
+
+    /// A claim of the cell at a place, as `claim` of its key.
+    pub fn claim_at_place(&mut self, place: usize, input: Arc<W::Input>) -> Claimed
+        requires draws { self.old.draws ≤ 2 ^ 64 - 2 ^ 20 }
+        requires ready { AtPlace self.old.rows place (λ r. Looks self.old.rows r.key Look.Ready) }
+        ensures { AtPlace self.old.rows place (λ r. ClaimsIn self.old r.key (arc_value input) result self.new) }
+    {
+        let answer = claim_at::<W>(&mut self.cells, place, input, self.draws + 1);
+        self.draws = drawn(answer, self.draws);
+        self.lowest = next_dirty::<W>(self.cells.as_slice(), self.lowest);
+        answer
+    }
+
+    /// The pair that is kept of the cell at a place.
+    pub fn kept_at(&self, place: usize) -> Option<&Done<W>>
+        requires { place < length self.now.rows }
+        ensures { AtPlace self.now.rows place (λ r. option_map (λ d. d.now) result ≡ r.kept) }
+    {
+        kept_in::<W>(self.cells.as_slice(), place)
+    }
+
+    /// The number of the open claim of the cell at a place, where it isn't stale. Such a cell is ready if it is
+    /// dirty, and a claim of the input that was last handed in is Taken.
+    pub fn claimed_at(&self, place: usize) -> Option<u64>
+        requires { place < length self.now.rows }
+        ensures some { IfSome result (λ n. AtPlace self.now.rows place (λ r. IsClaimed r n)) }
+        ensures none { IfNone result (AtPlace self.now.rows place (λ r. IsStale r false → ⊥)) }
+    {
+        claimed_in::<W>(self.cells.as_slice(), place)
+    }
+
+    /// The place of the first dirty cell at or behind a place. None where each of these is clean. So all dirty
+    /// cells are passed in one walk, and the cells before the first dirty one of all are not.
+    pub fn dirty_from(&self, place: usize) -> Option<usize>
+        ensures some { IfSome result (IsFirstDirtyFrom self.now.rows place) }
+        ensures none { IfNone result (AreCleanFrom self.now.rows place) }
+    {
+        dirty_from::<W>(self.cells.as_slice(), self.lowest, place)
     }
 
     /// The greatest number that was drawn.

@@ -1,6 +1,6 @@
 //! What a claim, a finished piece of work and a claim that is given back change in one cell.
 
-ghost use Rattle.std.specs.Prelude.{◌≡◌, ◌↔◌, ◌-◌, ◌<◌, ◌^◌, IsTrue, Some, length, map, option_map, slice_get};
+ghost use Rattle.std.specs.Prelude.{◌≡◌, ◌-◌, ◌<◌, ◌^◌, Some, length, map, slice_get};
 ghost use Rattle.std.specs.Arc.{arc_value};
 ghost use Rattle.lay_cells.specs.Kept.{ChangesAt, wire_of};
 ghost use Rattle.lay_cells.specs.Rows.{Row, row_of};
@@ -12,26 +12,6 @@ use crate::done::Done;
 use crate::work::Work;
 use std::sync::Arc;
 
-/// Whether this is the input that was handed in last.
-fn given_is<W: Work>(given: &Option<Arc<W::Input>>, input: &Arc<W::Input>) -> bool
-    ensures { IsTrue result ↔ (option_map arc_value given.now ≡ Some (arc_value input.now)) }
-{
-    match given {
-        Some(last) => W::same(last, input),
-        None => false,
-    }
-}
-
-/// Whether the kept pair is of this input.
-fn kept_is<W: Work>(kept: &Option<Done<W>>, input: &Arc<W::Input>) -> bool
-    ensures { IsTrue result ↔ (option_map (λ d. d.input) kept.now ≡ Some (arc_value input.now)) }
-{
-    match kept {
-        Some(done) => W::same(done.input(), input),
-        None => false,
-    }
-}
-
 /// A claim of a cell that is ready. A new claim takes this number.
 pub fn claim_cell<W: Work>(cell: &mut CellOf<W>, input: Arc<W::Input>, number: u64) -> Claimed
     requires laid { cell.old.laid < 2 ^ 64 - 1 }
@@ -39,22 +19,23 @@ pub fn claim_cell<W: Work>(cell: &mut CellOf<W>, input: Arc<W::Input>, number: u
     ensures claims { Claims (row_of cell.old) number (arc_value input) result (row_of cell.new) }
     ensures wire { wire_of cell.new ≡ wire_of cell.old }
 {
-    let kept = kept_is::<W>(&cell.kept, &input);
-    if given_is::<W>(&cell.given, &input) {
+    let met = cell.held.met(&input);
+    if met.given {
         if let Some(claim) = &mut cell.claim {
             claim.stale = false;
             return Claimed::Taken(claim.number);
         }
-    } else if cell.given.is_some() {
+    } else if cell.held.is_given() {
         cell.turns += 1;
     }
-    cell.given = Some(input);
     cell.last = number;
-    if kept {
+    if met.kept {
+        cell.held.hand_in_kept();
         cell.claim = None;
         cell.dirty = false;
         return Claimed::Reused;
     }
+    cell.held.hand_in(input);
     cell.claim = Some(Open {
         number,
         stale: false,
@@ -72,15 +53,17 @@ pub fn finish_cell<W: Work>(cell: &mut CellOf<W>, done: Done<W>) -> Finished
     if number < cell.first {
         return Finished::Gone;
     }
-    let same = given_is::<W>(&cell.given, done.input());
     let Some(claim) = cell.claim else {
         return Finished::Superseded(cell.last);
     };
-    if claim.number != number || !same {
+    if claim.number != number {
+        return Finished::Superseded(cell.last);
+    }
+    if !cell.held.has_given(done.input()) {
         return Finished::Superseded(cell.last);
     }
     cell.claim = None;
-    cell.kept = Some(done);
+    cell.held.keep(done);
     if claim.stale {
         return Finished::Stored;
     }

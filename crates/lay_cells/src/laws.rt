@@ -1,6 +1,6 @@
 //! The laws of the definitions: each call has one answer, and leaves one state.
 
-ghost use Rattle.lay_cells.specs.Laws.{OneClaim, OneFinish, OneFirstDirty, OneLaid, OneLook, OneMarking, OneReshape, OneGiveBack, OneValue};
+ghost use Rattle.lay_cells.specs.Laws.{OneClaim, OneDirtyFrom, OneFinish, OneFirstDirty, OneGiveBack, OneLaid, OneLook, OneMarking, OneNeed, OneReshape, OneValue, PresentShapeKeeps};
 
 use crate::work::Work;
 
@@ -47,4 +47,19 @@ pub fn one_laid<W: Work>()
 /// One key is read as that of the first dirty cell, or none.
 pub fn one_first_dirty<W: Work>()
     ensures { OneFirstDirty W.Key W.Input W.Value }
+{}
+
+/// One place is that of the first dirty cell at or behind a place, or none.
+pub fn one_dirty_from<W: Work>()
+    ensures { OneDirtyFrom W.Key W.Input W.Value }
+{}
+
+/// One place is that of a dependency, or none.
+pub fn one_need<W: Work>()
+    ensures { OneNeed W.Key W.Input W.Value }
+{}
+
+/// Cells are reshaped to themselves by the shape that they have.
+pub fn present_shape_keeps<W: Work>()
+    ensures { PresentShapeKeeps W.Key W.Input W.Value W.relates }
 {}

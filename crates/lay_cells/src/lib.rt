@@ -11,11 +11,14 @@ mod cell;
 mod cells;
 mod change;
 mod done;
+mod entries;
 mod fresh;
+mod holding;
 mod index;
 mod laws;
 mod marking;
 mod needs;
+mod places;
 mod reading;
 mod reshaping;
 mod shape;
@@ -25,8 +28,8 @@ pub use answers::{Claimed, Finished, Look, Released};
 pub use cells::Cells;
 pub use done::Done;
 pub use laws::{
-    one_claim, one_finish, one_first_dirty, one_give_back, one_laid, one_look, one_marking,
-    one_reshape, one_value,
+    one_claim, one_dirty_from, one_finish, one_first_dirty, one_give_back, one_laid, one_look,
+    one_marking, one_need, one_reshape, one_value, present_shape_keeps,
 };
 pub use shape::Shape;
 pub use work::Work;

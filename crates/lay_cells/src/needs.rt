@@ -10,7 +10,7 @@ use crate::cell::CellOf;
 use crate::index::cell_at;
 use crate::work::Work;
 
-fn is_dirty<W: Work>(cells: &[CellOf<W>], place: usize) -> bool
+pub fn is_dirty<W: Work>(cells: &[CellOf<W>], place: usize) -> bool
     requires { place < length cells.now }
     ensures { HasBit (map row_of cells.now) place result }
 {

@@ -16,7 +16,7 @@ use std::collections::BTreeMap;
 use std::sync::Arc;
 
 /// What a look at the cell at a place shows.
-fn look_at<W: Work>(cells: &[CellOf<W>], place: usize) -> Look<W::Key>
+pub fn look_at<W: Work>(cells: &[CellOf<W>], place: usize) -> Look<W::Key>
     requires wired { HasIndex W.Key.cmp (map wire_of cells.now) }
     requires within { place < length cells.now }
     ensures { (r : Row W.Key W.Input W.Value) → slice_get (map row_of cells.now) place ≡ Some r → Looks (map row_of cells.now) r.key result }
@@ -50,7 +50,7 @@ fn value_of<W: Work>(cell: &CellOf<W>) -> Option<&Arc<W::Value>>
     ensures some { IfSome result (λ v. (d : Solved W.Key W.Input W.Value) × ((row_of cell.now).kept ≡ Some d) × (arc_value v.now ≡ d.value) × W.relates d.input d.value) }
     ensures none { IfNone result ((row_of cell.now).kept ≡ None) }
 {
-    match &cell.kept {
+    match cell.held.kept() {
         Some(done) => Some(done.value()),
         None => None,
     }

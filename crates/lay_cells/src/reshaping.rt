@@ -41,9 +41,8 @@ fn carry_cell<W: Work>(cell: &mut CellOf<W>, old: &mut CellOf<W>)
     ensures old_wire { wire_of old.new ≡ wire_of old.old }
 {
     cell.dirty = old.dirty;
-    cell.kept = old.kept.take();
+    cell.held = old.held.take();
     cell.claim = old.claim;
-    cell.given = old.given.take();
     cell.first = old.first;
     cell.last = old.last;
     cell.laid = old.laid;
@@ -68,7 +67,7 @@ fn carry_at<W: Work>(
 }
 
 /// Whether these are the same keys in the same order.
-fn same_keys<W: Work>(a: &[W::Key], b: &[W::Key]) -> bool
+pub fn same_keys<W: Work>(a: &[W::Key], b: &[W::Key]) -> bool
     ensures { IsTrue result ↔ (a.now ≡ b.now) }
 {
     a == b

@@ -1,10 +1,13 @@
 use Rattle.std.proofs.Common.{◌≡◌, ◌∙◌, List, ap, map, subst, sym, true}
+use Rattle.std.proofs.lemmas.Bool.{false≢true}
 use Rattle.std.specs.BTreeSet.{contains}
 use Rattle.lay_cells.specs.Shapes.{Entry, IsEachOnce, IsIn, IsShape}
 use Rattle.lay_cells.specs.Rows.{entry_of, row_of}
 use Rattle.lay_cells.specs.Kept.{IsLowest, IsWired}
+use Rattle.lay_cells.specs.Sound.{IsSound}
 use Rattle.lay_cells.specs.Plans.{IsIndexOf, blank_row}
 use Rattle.lay_cells.specs.Reshapes.{RebuildsAll}
+use Rattle.lay_cells.proofs.Unchanged.{reshapes_present}
 use Rattle.lay_cells.proofs.Rebuilt.{blank_entries, blank_is, blank_wired, keys_once, needs_named, rebuilt_sound, reshaped}
 use Rattle.lay_cells.proofs.Marked.{shaped_wires}
 use Rattle.lay_cells.proofs.Settled.{rebuilds_more}
@@ -62,3 +65,12 @@ returns-clause-ok g c =
     reshaped c.args.self.now c.self.inside.cells.items new c.self.inside.draws c.settle_all-self-inside.result c.self.view_is c.args.shape c.args.fresh.now
     (subst (λ (es : List (Entry _)). RebuildsAll old (IsIn c.args.fresh.now) (map row_of new) c.self.inside.draws es (map row_of new) c.settle_all-self-inside.result)
     (blank_entries cells c.args.shape rows) listed)
+
+pub returns-clause-present : goal.returns-clause-present
+returns-clause-present g c same none = absurd (false≢true (sym c.if-is_present.false ∙ c.is_present.ensures.1 (same, none)))
+
+pub returns-then-is_present-clause-ok : goal.returns-then-is_present-clause-ok
+returns-then-is_present-clause-ok g c =
+    let same = c.is_present.ensures.0 c.if-is_present.true in
+    let sound = subst (IsSound g.W.Work.relates) c.self.view_is c.self.invariant.sound in
+    reshapes_present g.W.Work.relates c.args.self.now sound c.args.shape c.args.fresh.now same.0 same.1
