@@ -1,0 +1,6 @@
+//! Which cells a document has, three for each context: its preferred widths, its sizes and its placement.
+#![tactic(auto)]
+
+mod cell_key;
+
+pub use cell_key::CellKey;
