@@ -1,0 +1,5 @@
+pub mod Dependencies
+pub mod Keys
+pub mod Levels
+pub mod Shapes
+pub mod Ways

@@ -2,5 +2,6 @@
 #![tactic(auto)]
 
 mod cell_key;
+mod context_phase;
 
 pub use cell_key::CellKey;
