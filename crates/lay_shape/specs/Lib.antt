@@ -1,3 +1,4 @@
+pub mod Building
 pub mod Dependencies
 pub mod Keys
 pub mod Levels

@@ -26,16 +26,19 @@ pub record IsOnWay (contexts : List Context) (i j : ℕ) : Type 0 where
   pub absolute : is_absolute contexts i ≡ true
   pub from : IsOnWayFrom (is_fixed contexts i) contexts j (context_at contexts i).outer (context_at contexts i).outer_box
 
+-- what is further out counts where no holder was found
+abbrev pub beyond : Option ℕ → List ℕ → List ℕ
+beyond (Some holder) outside = []
+beyond None outside = outside
+
 -- The same as a list, from the inside out, in so many turns: no more contexts are around one than stand before it. Just these are on
 -- the way, by the law `ways_are_lists`.
 abbrev pub way_from : (turns : ℕ) → (is_fixed : Bool) → List Context → (i k : ℕ) → List ℕ
 way_from zero is_fixed contexts i k = i ∷ []
 way_from (suc turns) is_fixed contexts zero k = zero ∷ []
-way_from (suc turns) is_fixed contexts (suc i) k = suc i ∷ beyond (holder_for is_fixed (boxes_in contexts (suc i)) k)
-  where
-    beyond : Option ℕ → List ℕ
-    beyond (Some holder) = []
-    beyond None = way_from turns is_fixed contexts (context_at contexts (suc i)).outer (context_at contexts (suc i)).outer_box
+way_from (suc turns) is_fixed contexts (suc i) k =
+    let c = context_at contexts (suc i) in
+    suc i ∷ beyond (holder_for is_fixed c.boxes k) (way_from turns is_fixed contexts c.outer c.outer_box)
 
 -- the way of the context with the number i, and nothing where it isn't absolutely positioned
 abbrev pub way_of : List Context → ℕ → List ℕ

@@ -1,7 +1,18 @@
-//! Which cells a document has, three for each context: its preferred widths, its sizes and its placement.
+//! Which cells a document has, three for each of its contexts (CSS 2.2, 9.4.1): its preferred widths, the used sizes of its boxes, and
+//! where these stand.
+//!
+//! `shape_of` of `specs/Shapes.antt` is the list of them with what each depends on: the table of `specs/Dependencies.antt`, in which an
+//! absolutely positioned context depends on what is on the way out to its containing block (`specs/Ways.antt`).
 #![tactic(auto)]
 
 mod cell_key;
+mod cell_shape;
 mod context_phase;
+mod levels;
+mod needs;
+mod numbers;
+mod order;
+mod ways;
 
 pub use cell_key::CellKey;
+pub use cell_shape::shape;

@@ -1,0 +1,9 @@
+pub mod BuildSteps
+pub mod CellOrder
+pub mod LevelSteps
+pub mod Members
+pub mod NeedSteps
+pub mod Once
+pub mod Rising
+pub mod Turns
+pub mod WaySteps
