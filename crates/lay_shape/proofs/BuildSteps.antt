@@ -32,7 +32,7 @@ module _ {X : Type 0} where
   take_in (suc k) (y ∷ xs) zero x lt e = e
   take_in (suc k) (y ∷ xs) (suc j) x lt e = take_in k xs j x (omega (arith, lt)) e
 
-  from_take : (k : ℕ) (xs : List X) (j : ℕ) (x : X) → slice_get (take k xs) j ≡ Some x → (j < k) × (slice_get xs j ≡ Some x)
+  pub from_take : (k : ℕ) (xs : List X) (j : ℕ) (x : X) → slice_get (take k xs) j ≡ Some x → (j < k) × (slice_get xs j ≡ Some x)
   from_take zero xs j x e = absurd (none-some x e)
   from_take (suc k) [] j x e = absurd (none-some x e)
   from_take (suc k) (y ∷ xs) zero x e = (omega arith, e)

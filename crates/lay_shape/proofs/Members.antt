@@ -1,7 +1,8 @@
 -- The elements of lists that are put together of others.
 use Rattle.std.proofs.Common.{◌≡◌, ◌⊎◌, inl, inr, ⊎_elim, ℕ, zero, suc, ◌+◌, ◌<◌, ◌≤◌, Bool, true, false, cond, List, [], ◌∷◌, ◌++◌, map, filter, flat_map, reverse, slice_get, Some, refl, rules, arith, ap, sym, subst, ◌∙◌}
 use Rattle.std.proofs.lemmas.List.{reverse-append}
-use Rattle.std.proofs.lemmas.Option.{same_Some, none-some}
+use Rattle.std.proofs.lemmas.Option.{same_Some, slice_get-map, none-some}
+use Rattle.std.specs.Option.{option_map}
 use Rattle.std.specs.List.{range_with_len}
 use Rattle.lay_cells.specs.Shapes.{IsIn, IsEachOnce}
 
@@ -84,6 +85,14 @@ module _ {X Y : Type 0} where
   in_map f [] x has = absurd (in_none x has)
   in_map f (y ∷ xs) x has =
       ⊎_elim (λ e. subst (λ z. IsIn (f y ∷ map f xs) (f z)) (sym e) (in_here (f y) (map f xs))) (λ rest. in_there (f y) (f x) (map f xs) (in_map f xs x rest)) (in_cases y x xs has)
+
+  pub mapped_at : (f : X → Y) (xs : List X) (i : ℕ) (x : X) → slice_get xs i ≡ Some x → slice_get (map f xs) i ≡ Some (f x)
+  mapped_at f xs i x e = slice_get-map f xs i ∙ ap (option_map f) e
+
+  pub map_at : (f : X → Y) (xs : List X) (i : ℕ) (y : Y) → slice_get (map f xs) i ≡ Some y → (x : X) × (slice_get xs i ≡ Some x) × (y ≡ f x)
+  map_at f [] i y e = absurd (none-some y e)
+  map_at f (x ∷ xs) zero y e = (x, refl, sym (same_Some (f x) y e))
+  map_at f (x ∷ xs) (suc i) y e = map_at f xs i y e
 
   -- an element of a map is of an element
   pub record IsOfIn (f : X → Y) (xs : List X) (y : Y) : Type 0 where

@@ -8,6 +8,7 @@
 mod cell_key;
 mod cell_shape;
 mod context_phase;
+mod laws;
 mod levels;
 mod needs;
 mod numbers;
@@ -16,3 +17,10 @@ mod ways;
 
 pub use cell_key::CellKey;
 pub use cell_shape::shape;
+pub use context_phase::ContextPhase;
+pub use laws::{
+    cells_are_of_contexts, cells_have_a_shape, cells_stand_once, contexts_are_of_own_nodes,
+    needs_stand_before, ways_are_lists,
+};
+pub use needs::needs_of;
+pub use order::cells_of;

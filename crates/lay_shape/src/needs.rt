@@ -34,7 +34,7 @@ pub(crate) fn key_of(contexts: &Contexts, cell: ContextPhase) -> CellKey
 }
 
 /// The keys of the cells that a cell depends on, in order.
-pub(crate) fn needs_of(
+pub fn needs_of(
     alloc: Global,
     contexts: &Contexts,
     cell: ContextPhase,

@@ -13,7 +13,7 @@ use lay_units::NoMemory;
 use std::alloc::Global;
 
 /// The cells of these contexts, in order.
-pub(crate) fn cells_of(alloc: Global, contexts: &Contexts) -> Result<Vec<ContextPhase>, NoMemory>
+pub fn cells_of(alloc: Global, contexts: &Contexts) -> Result<Vec<ContextPhase>, NoMemory>
     ensures { IfOk result (λ v. v.items ≡ cells_of contexts.now) }
 {
     let lists = by_level(alloc, contexts)?;
