@@ -1,5 +1,5 @@
 -- What is found of changed contexts, one after the other.
-use Rattle.std.proofs.Common.{◌≡◌, ◌⊎◌, inl, inr, ⊎_elim, ℕ, zero, suc, ◌+◌, ◌<◌, ◌≤◌, ◌==◌, Bool, true, false, List, [], ◌∷◌, ◌++◌, length, flat_map, Some, None, Option, refl, ap, sym, subst, ◌∙◌, arith, if◌then◌else◌}
+use Rattle.std.proofs.Common.{◌≡◌, ◌⊎◌, inl, inr, ⊎_elim, ℕ, zero, suc, ◌+◌, ◌<◌, ◌≤◌, ◌==◌, Bool, true, false, List, [], ◌∷◌, ◌++◌, length, flat_map, Some, None, Option, IfSome, IfNone, refl, ap, sym, subst, ◌∙◌, arith, if◌then◌else◌}
 use Rattle.std.specs.BTreeMap.{BTreeMap, get}
 use Rattle.std.specs.Ordering.{nat_cmp}
 use Rattle.std.proofs.lemmas.Bool.{cases_lt, eq-eqb, eqb-true}
@@ -22,6 +22,20 @@ pub same_node : (a b : NodeId) → a.0 ≡ b.0 → a ≡ b
 same_node a b e = ap as_node e
 
 module _ (contexts : List Context) where
+  -- what the index says of a node
+  module _ (index : BTreeMap ℕ ℕ) (is : IsIndexTo contexts index (length contexts)) (node : NodeId) where
+    pub found_one : (r : Option ℕ) → r ≡ get nat_cmp index node.0 → IfSome r (λ i. (i < length contexts) × (node_of contexts i ≡ node))
+    found_one None e = tt
+    found_one (Some i) e = let h = is.found node.0 i (sym e) in (h.0, same_node (node_of contexts i) node h.1)
+
+    pub gone_one : (r : Option ℕ) → r ≡ get nat_cmp index node.0 → IfNone r (IsOneOf contexts node → ⊥)
+    gone_one (Some i) e = tt
+    gone_one None e = λ o.
+        let there = is.there o.number o.within in
+        let id : (node_of contexts o.number).0 ≡ node.0 = ap (λ (n : NodeId). n.0) o.of in
+        let never : None ≡ Some o.number = e ∙ ap (get nat_cmp index) (sym id) ∙ there in
+        cc
+
   -- the index of one more
   module _ (apart : AreOfOwnNodes contexts) (n : ℕ) (within : n < length contexts) (old new : ℕ → Option ℕ) (is : (x : ℕ) → new x ≡ (if x == (node_of contexts n).0 then Some n else old x)) where
     own : ℕ

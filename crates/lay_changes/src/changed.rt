@@ -1,9 +1,9 @@
 //! The keys of the cells of changed contexts.
 
-ghost use Rattle.std.specs.Prelude.{◌≡◌, ◌⊎◌, ◌↔◌, ◌<◌, ◌++◌, ◌∷◌, [], IfOk, IsTrue, OnOk, ℕ, length, map};
+ghost use Rattle.std.specs.Prelude.{◌≡◌, ◌↔◌, ◌<◌, ◌+◌, ◌++◌, ◌∷◌, [], IfOk, IsTrue, OnOk, length};
 ghost use Rattle.std.specs.List.{flat_map};
 ghost use Rattle.lay_cells.specs.Shapes.{IsIn};
-ghost use Rattle.lay_changes.specs.Changes.{IsChanged, IsOneOf, IsSame};
+ghost use Rattle.lay_changes.specs.Changes.{IsChanged, IsOneOf, IsSame, measured_at};
 ghost use Rattle.lay_changes.specs.Index.{AreJust, IsAmong, IsIndexTo, IsNew, keys_of_node};
 ghost use Rattle.lay_contexts.specs.Contexts.{boxes_in};
 ghost use Rattle.lay_shape.specs.Keys.{AreOfOwnNodes, node_of};
@@ -56,11 +56,29 @@ fn new_nodes(
     let index = index_of(alloc, old.contexts)?;
     let mut nodes = Vec::new(alloc);
     for j in 0..new.contexts.len() {
-        if is_new(old, &index, new, j) {
-            nodes.push(node_of(new.contexts, j))?;
-        }
+        note_new(&mut nodes, old, &index, new, j)?;
     }
     Ok(nodes)
+}
+
+/// Adds the node of the new context with the number j, where that wasn't there as it is.
+fn note_new(
+    nodes: &mut Vec<NodeId>,
+    old: &MeasuredContexts<'_>,
+    index: &BTreeMap<u32, usize>,
+    new: &MeasuredContexts<'_>,
+    j: usize,
+) -> Result<(), NoMemory>
+    requires index { IsIndexTo old.now.contexts.now index.now (length old.now.contexts.now) }
+    requires within { j < length new.now.contexts.now }
+    requires before { AreJust (IsAmong new.now.contexts.now (IsNew old.now.contexts.now old.now.measured.now new.now.contexts.now new.now.measured.now) j) nodes.old.items }
+    ensures { OnOk result (AreJust (IsAmong new.now.contexts.now (IsNew old.now.contexts.now old.now.measured.now new.now.contexts.now new.now.measured.now) (j + 1)) nodes.new.items) }
+{
+    if is_new(old, index, new, j) {
+        nodes.push(node_of(new.contexts, j))?;
+        return Ok(());
+    }
+    Ok(())
 }
 
 /// Whether the new context with the number j wasn't there as it is.
@@ -115,12 +133,38 @@ fn gone_nodes(
     let index = index_of(alloc, new.contexts)?;
     let mut nodes = Vec::new(alloc);
     for i in 0..old.contexts.len() {
-        let node = node_of(old.contexts, i);
-        if number_of(new.contexts, &index, node).is_none() {
-            nodes.push(node)?;
-        }
+        note_gone(&mut nodes, old.contexts, &index, new.contexts, i)?;
     }
     Ok(nodes)
+}
+
+/// Adds the node of the old context with the number i, where none of the new ones is of it.
+fn note_gone(
+    nodes: &mut Vec<NodeId>,
+    old: &Contexts,
+    index: &BTreeMap<u32, usize>,
+    new: &Contexts,
+    i: usize,
+) -> Result<(), NoMemory>
+    requires index { IsIndexTo new.now index.now (length new.now) }
+    requires within { i < length old.now }
+    requires before { AreJust (IsAmong old.now (λ i. IsOneOf new.now (node_of old.now i) → ⊥) i) nodes.old.items }
+    ensures { OnOk result (AreJust (IsAmong old.now (λ i. IsOneOf new.now (node_of old.now i) → ⊥) (i + 1)) nodes.new.items) }
+{
+    let node = node_of(old, i);
+    if is_gone(new, index, node) {
+        nodes.push(node)?;
+        return Ok(());
+    }
+    Ok(())
+}
+
+/// Whether none of these contexts is of the node.
+fn is_gone(contexts: &Contexts, index: &BTreeMap<u32, usize>, node: NodeId) -> bool
+    requires { IsIndexTo contexts.now index.now (length contexts.now) }
+    ensures { IsTrue result ↔ (IsOneOf contexts.now node → ⊥) }
+{
+    number_of(contexts, index, node).is_none()
 }
 
 /// Adds the keys of the cells of contexts of these nodes.

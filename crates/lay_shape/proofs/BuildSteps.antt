@@ -1,7 +1,8 @@
 -- What is put together from the front on has one more.
-use Rattle.std.proofs.Common.{◌≡◌, ◌≢◌, ℕ, zero, suc, ◌+◌, ◌-◌, ◌<◌, ◌≤◌, ◌==◌, ◌^◌, Bool, true, false, cond, List, [], ◌∷◌, ◌++◌, length, map, filter, flat_map, reverse, take, slice_get, slice_index, slice_index_or, get_or, All, Some, refl, ap, sym, subst, ◌∙◌, arith, append-nil, append_assoc, length-append}
-use Rattle.std.proofs.lemmas.List.{flat_map_more, get_or-map, get_or_at, get_or-reverse, length-map, length-take-le, map_more, map_push, take_all, take_more}
-use Rattle.std.proofs.lemmas.List.Elements.{filter_more}
+use Rattle.std.proofs.Common.{◌≡◌, ◌≢◌, ℕ, zero, suc, ◌+◌, ◌-◌, ◌<◌, ◌≤◌, ◌==◌, ◌^◌, Bool, true, false, cond, List, [], ◌∷◌, ◌++◌, length, map, filter, flat_map, reverse, take, slice_get, slice_index, slice_index_or, get_or, All, Some, refl, ap, sym, subst, ◌∙◌, arith, append-nil, append_assoc, length-set, slice_set}
+use Rattle.std.proofs.lemmas.Bool.{eq-eqb, eqb-true}
+use Rattle.std.proofs.lemmas.List.{flat_map_more, get_or-set_other, get_or-set_same, get_or-map, get_or_at, get_or-reverse, length-map, length-take-le, map-id, map_more, map_push, take_all, take_more}
+use Rattle.std.proofs.lemmas.List.Elements.{filter-append, filter_more}
 use Rattle.std.proofs.lemmas.List.FromFn.{filter_of_map_range_with_len_more, get_or-map-range_with_len, get_or-range_with_len, length-map-range_with_len, length-range_with_len, map-range_with_len_more}
 use Rattle.std.proofs.lemmas.Option.{get_or_from_slice_get, none-some, slice_get-get_or, slice_get_within}
 use Rattle.lay_units.specs.Limits.{most_nodes}
@@ -11,11 +12,13 @@ use Rattle.lay_contexts.specs.Contexts.{AreContexts, Context, IsInside, context_
 use Rattle.lay_positioned.specs.Levels.{one_if}
 use Rattle.lay_shape.specs.declared.cell_key.CellKey.{CellKey}
 use Rattle.lay_shape.specs.declared.context_phase.ContextPhase.{ContextPhase}
-use Rattle.lay_shape.specs.Building.{AreByLevel, entries_to}
-use Rattle.lay_shape.specs.Dependencies.{needs_in, needs_of}
+use Rattle.lay_shape.specs.Building.{AreByLevel, entries_to, levels_of}
+use Rattle.lay_context.specs.declared.task.Phase.{Phase}
+use Rattle.lay_context.specs.declared.task.Phase.TheVariants.{Size, Place}
+use Rattle.lay_shape.specs.Dependencies.{in_phase, needs_in, needs_of}
 use Rattle.lay_shape.specs.Keys.{AreOfOwnNodes, key_of, node_of}
 use Rattle.lay_shape.specs.Levels.{level_of}
-use Rattle.lay_shape.specs.Shapes.{cells_of, entry_of}
+use Rattle.lay_shape.specs.Shapes.{at_level, cells_of, entry_of, round_of}
 use Rattle.lay_shape.specs.Ways.{is_absolute, way_of}
 use Rattle.lay_shape.proofs.CellOrder.{cell_in, cell_once, cell_within, cells_few, need_before}
 use Rattle.lay_shape.proofs.LevelSteps.{level_few, level_step}
@@ -105,12 +108,27 @@ module _ (contexts : List Context) (are : AreContexts contexts) where
           ap (λ l. slice_index l (context_at contexts i).outer) is ∙ get_or-map-range_with_len (level_of contexts) 0 i (context_at contexts i).outer (context_at contexts i).outer 0 out (omega arith) in
       e ∙ ap (λ l. l + one_if (is_absolute contexts i)) read ∙ sym (level_step contexts are i some within)
 
+  pub level_small : (i level : ℕ) (levels : List ℕ) → levels ≡ levels_of contexts → i < n → level ≡ slice_index levels i → (level ≡ level_of contexts i) × (level < n + 1)
+  level_small i level levels is within e =
+      let read : level ≡ level_of contexts i = e ∙ ap (λ l. slice_index l i) is ∙ get_or-map-range_with_len (level_of contexts) 0 n i i 0 within (omega arith) in
+      let few = level_few contexts are i within in
+      (read, omega (arith, read, few, within))
+
+  pub level_sum : (i level own : ℕ) (levels : List ℕ) → n ≤ most_nodes → 0 < i → i < n → levels ≡ map (level_of contexts) (range_with_len 0 i)
+      → level ≡ slice_index levels (context_at contexts i).outer → own ≤ 1 → level + own ≤ i + 1
+  level_sum i level own levels small some within is e few =
+      let o = (context_at contexts i).outer in
+      let out = are.outer i some within in
+      let read : level ≡ level_of contexts o = e ∙ ap (λ l. slice_index l o) is ∙ get_or-map-range_with_len (level_of contexts) 0 i o o 0 out (omega arith) in
+      let low = level_few contexts are o (omega (arith, out, within)) in
+      omega (arith, read, low, out, few)
+
   -- no two cells have one key
   pub key_apart : AreOfOwnNodes contexts → (c d : ContextPhase) → c.context < n → d.context < n → key_of contexts c ≡ key_of contexts d → c ≡ d
   key_apart apart c d lc ld e =
       let same : c.context ≡ d.context = apart c.context d.context lc ld (ap (λ (k : CellKey). k.node) e) in
       let phase : c.phase ≡ d.phase = ap (λ (k : CellKey). k.phase) e in
-      grind (same, phase)
+      ap (λ (i : ℕ). in_phase c.phase i) same ∙ ap (λ (p : Phase). in_phase p d.context) phase
 
   -- what the shape asks of its next entry
   pub record IsNextEntry (k : ℕ) (c : ContextPhase) : Type 0 where
@@ -166,3 +184,51 @@ module _ (contexts : List Context) (are : AreContexts contexts) where
 
   pub entries_all : (k : ℕ) → length (cells_of contexts) ≤ k → entries_to contexts k ≡ map (entry_of contexts) (cells_of contexts)
   entries_all k le = ap (map (entry_of contexts)) (take_all k (cells_of contexts) le)
+
+counting_more : (n : ℕ) → range_with_len 0 (n + 1) ≡ range_with_len 0 n ++ n ∷ []
+counting_more n =
+    let more = map-range_with_len_more (λ (x : ℕ). x) 0 n n (omega arith) in
+    sym (map-id (range_with_len 0 (n + 1))) ∙ more ∙ ap (λ (ks : List ℕ). ks ++ n ∷ []) (map-id (range_with_len 0 n))
+
+pub numbers_more : (n : ℕ) (old new : List ℕ) → old ≡ range_with_len 0 n → new ≡ old ++ n ∷ [] → new ≡ range_with_len 0 (n + 1)
+numbers_more n old new is more = more ∙ ap (λ l. l ++ n ∷ []) is ∙ sym (counting_more n)
+
+filter_next : (p : ℕ → Bool) (n : ℕ) → filter p (range_with_len 0 (n + 1)) ≡ filter p (range_with_len 0 n) ++ cond (p n) (n ∷ []) []
+filter_next p n = ap (filter p) (counting_more n) ∙ filter-append p (range_with_len 0 n) (n ∷ [])
+
+-- each context goes to the list of its level
+pub level_listed : (contexts : List Context) (lists new : List (List ℕ)) (i level : ℕ) (list : List ℕ) → AreByLevel contexts lists i → level ≡ level_of contexts i → level < length contexts + 1
+    → list ≡ slice_index_or lists level [] ++ i ∷ [] → new ≡ slice_set lists level list → AreByLevel contexts new (i + 1)
+level_listed contexts lists new i level list so_far is within added set =
+    record {
+      count = ap length set ∙ length-set lists level list ∙ so_far.count;
+      each = λ l lt. by l lt (level_of contexts i == l) refl;
+    }
+  where
+    at : (l : ℕ) → slice_index_or new l [] ≡ slice_index_or (slice_set lists level list) l []
+    at l = ap (λ (ls : List (List ℕ)). slice_index_or ls l []) set
+    by : (l : ℕ) → l < length contexts + 1 → (b : Bool) → (level_of contexts i == l) ≡ b → slice_index_or new l [] ≡ filter (λ j. level_of contexts j == l) (range_with_len 0 (i + 1))
+    by l lt true e =
+        let same : level ≡ l = is ∙ eqb-true (level_of contexts i) l e in
+        let here : slice_index_or (slice_set lists level list) level [] ≡ list = get_or-set_same lists level list [] (omega (arith, within, so_far.count)) in
+        at l ∙ ap (λ (k : ℕ). slice_index_or (slice_set lists level list) k []) (sym same) ∙ here ∙ added ∙ ap (λ (k : ℕ). slice_index_or lists k [] ++ i ∷ []) same
+        ∙ ap (λ (xs : List ℕ). xs ++ i ∷ []) (so_far.each l lt)
+        ∙ sym (filter_next (λ j. level_of contexts j == l) i ∙ ap (λ (b : Bool). filter (λ j. level_of contexts j == l) (range_with_len 0 i) ++ cond b (i ∷ []) []) e)
+    by l lt false e =
+        let other : l ≡ level → ⊥ = λ same. (let yes = eq-eqb (level_of contexts i) l (sym is ∙ sym same) in let never : true ≡ false = sym yes ∙ e in cc) in
+        at l ∙ get_or-set_other lists level l list [] other ∙ so_far.each l lt
+        ∙ sym (filter_next (λ j. level_of contexts j == l) i ∙ ap (λ (b : Bool). filter (λ j. level_of contexts j == l) (range_with_len 0 i) ++ cond b (i ∷ []) []) e ∙ append-nil (filter (λ j. level_of contexts j == l) (range_with_len 0 i)))
+
+pub none_by_level : (contexts : List Context) (lists : List (List ℕ)) → length lists ≡ length contexts + 1 → ((k : ℕ) → slice_index_or lists k [] ≡ []) → AreByLevel contexts lists 0
+none_by_level contexts lists count none = record { count = count; each = λ l lt. none l }
+
+-- a level more
+pub round_more : (contexts : List Context) (l : ℕ) (front old sized new : List ContextPhase) (list : List ℕ) → list ≡ at_level contexts l → old ≡ front ++ flat_map (round_of contexts) (range_with_len 0 l)
+    → sized ≡ old ++ map (in_phase Size) list → new ≡ sized ++ map (in_phase Place) (reverse list) → new ≡ front ++ flat_map (round_of contexts) (range_with_len 0 (l + 1))
+round_more contexts l front old sized new list is so_far up down =
+    let so : List ContextPhase = flat_map (round_of contexts) (range_with_len 0 l) in
+    let sizes : List ContextPhase = map (in_phase Size) (at_level contexts l) in
+    let places : List ContextPhase = map (in_phase Place) (reverse (at_level contexts l)) in
+    let both : new ≡ (old ++ sizes) ++ places = down ∙ ap (λ xs. xs ++ map (in_phase Place) (reverse list)) up ∙ ap (λ xs. (old ++ map (in_phase Size) xs) ++ map (in_phase Place) (reverse xs)) is in
+    let next : flat_map (round_of contexts) (range_with_len 0 (l + 1)) ≡ so ++ (sizes ++ places) = ap (flat_map (round_of contexts)) (counting_more l) ∙ sym (flat_map_more (round_of contexts) [] (range_with_len 0 l) l) in
+    both ∙ append_assoc old sizes places ∙ ap (λ xs. xs ++ (sizes ++ places)) so_far ∙ append_assoc front so (sizes ++ places) ∙ ap (λ xs. front ++ xs) (sym next)

@@ -1,7 +1,7 @@
 -- The cells in order: each stands there, where its turn is, and there are three times as many as contexts at most.
 use Rattle.std.proofs.Common.{◌≡◌, ◌⊎◌, inl, inr, ⊎_elim, ℕ, zero, suc, ◌+◌, ◌-◌, ◌*◌, ◌<◌, ◌≤◌, ◌==◌, nat_le, Bool, true, false, cond, List, [], ◌∷◌, ◌++◌, length, map, filter, flat_map, reverse, slice_get, Some, refl, ap, sym, subst, ◌∙◌, arith, length-append}
 use Rattle.std.proofs.lemmas.Bool.{eqb-true, eq-eqb, le-leb, leb-true}
-use Rattle.std.proofs.lemmas.List.{length-map, length-reverse}
+use Rattle.std.proofs.lemmas.List.{length-map, length-reverse, reverse-reverse}
 use Rattle.std.proofs.lemmas.List.FromFn.{length-range_with_len}
 use Rattle.std.specs.List.{range_with_len}
 use Rattle.lay_cells.specs.Shapes.{IsIn}
@@ -13,7 +13,7 @@ use Rattle.lay_shape.specs.Dependencies.{in_phase, needs_in}
 use Rattle.lay_shape.specs.Levels.{level_of}
 use Rattle.lay_shape.specs.Shapes.{at_level, cells_of, numbers_of, round_of}
 use Rattle.lay_shape.proofs.LevelSteps.{level_few}
-use Rattle.lay_shape.proofs.Members.{from_filter, from_flat_map, from_map, from_range, in_either, in_filter, in_flat_map, in_left, in_map, in_range, in_reverse, in_right, reverse_first}
+use Rattle.lay_shape.proofs.Members.{from_filter, from_flat_map, from_map, from_range, in_either, in_filter, in_flat_map, in_left, in_map, in_range, in_reverse, in_right}
 use Rattle.lay_shape.proofs.Rising.{Rises, falling, in_order, joined, one_place, rising, rounds}
 use Rattle.lay_shape.proofs.Turns.{IsBefore, before, round_start, turn}
 
@@ -22,10 +22,7 @@ all_pass [] = refl
 all_pass (x ∷ xs) = ap (λ l. x ∷ l) (all_pass xs)
 
 from_reverse : {X : Type 0} (xs : List X) (x : X) → IsIn (reverse xs) x → IsIn xs x
-from_reverse xs x has = subst (λ l. IsIn l x) (reverse_twice xs) (in_reverse (reverse xs) x has)
-  where
-    reverse_twice : (ys : List _) → reverse (reverse ys) ≡ ys
-    reverse_twice ys = search rules
+from_reverse xs x has = subst (λ l. IsIn l x) (reverse-reverse xs) (in_reverse (reverse xs) x has)
 
 -- those of one number, and those of higher ones, are of that one or higher
 module _ (f : ℕ → ℕ) where
@@ -105,8 +102,10 @@ module _ (contexts : List Context) (are : AreContexts contexts) where
   measures_rise =
       let r = falling turn_of (in_phase Measure) (λ i. true) count 0 count (omega arith) (λ i yes lt. omega (arith, lt)) in
       let low : count - (0 + count) ≡ 0 = omega arith in
+      let high : count - 0 ≡ count = omega arith in
       subst (λ k. Rises turn_of k (map (in_phase Measure) (reverse (numbers_of contexts))) count) low
-      (subst (λ l. Rises turn_of (count - (0 + count)) (map (in_phase Measure) (reverse l)) count) (all_pass (numbers_of contexts)) r)
+      (subst (λ k. Rises turn_of (count - (0 + count)) (map (in_phase Measure) (reverse (numbers_of contexts))) k) high
+      (subst (λ l. Rises turn_of (count - (0 + count)) (map (in_phase Measure) (reverse l)) (count - 0)) (all_pass (numbers_of contexts)) r))
 
   round_rises : (l : ℕ) → Rises turn_of (round_start count l) (round_of contexts l) (round_start count (l + 1))
   round_rises l =

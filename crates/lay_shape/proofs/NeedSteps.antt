@@ -67,7 +67,7 @@ module _ (contexts : List Context) (are : AreContexts contexts) where
       let parts = flow_parts j (nat_lt 0 j) (is_absolute contexts j) refl r.1 in
       (r.0, parts.0, parts.1)
 
-  pub inside_at : (i j place : ℕ) → slice_get (inner i) place ≡ Some j → 0 < j → IsInside contexts i j
+  abbrev pub inside_at : (i j place : ℕ) → slice_get (inner i) place ≡ Some j → 0 < j → IsInside contexts i j
   inside_at i j place at some = record {
     box = place;
     within = slice_get_within (inner i) place j at;

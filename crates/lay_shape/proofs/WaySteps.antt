@@ -75,20 +75,20 @@ module _ (contexts : List Context) (are : AreContexts contexts) where
         in_there (suc i) j (beyond (holder (suc i) k) (way t (outer (suc i)) (outer_box (suc i))))
         (subst (λ o. IsIn (beyond o (way t (outer (suc i)) (outer_box (suc i)))) j) (sym none) (subst (λ l. IsIn l j) less has))
 
-    pub in_way : (t i k j : ℕ) → i ≤ t → i < length contexts → k < length (boxes_in contexts i) → IsOnWayFrom fixed contexts j i k → IsIn (way t i k) j
-    in_way t i k j a within box (here k-2) = way_begins t i k
-    in_way t i k j a within box (further i-2 k-2 some none rest) =
+    pub in_way : (t j i k : ℕ) → i ≤ t → i < length contexts → k < length (boxes_in contexts i) → IsOnWayFrom fixed contexts j i k → IsIn (way t i k) j
+    in_way t j i k a within box (here k-2) = way_begins t i k
+    in_way t j i k a within box (further i-2 k-2 some none rest) =
         let out = are.outer i some within in
         way_goes_on t i k j some (one_holder_for fixed (boxes_in contexts i) k (holder i k) None (held i k within box) none) a
-        (in_way t (outer i) (outer_box i) j (omega (arith, a, out)) (omega (arith, out, within)) (are.outer_box i some within) rest) out within
+        (in_way t j (outer i) (outer_box i) (omega (arith, a, out)) (omega (arith, out, within)) (are.outer_box i some within) rest) out within
 
     -- it leads out, to no higher level
-    pub way_out : (i k j : ℕ) → i < length contexts → IsOnWayFrom fixed contexts j i k → (j ≤ i) × (level_of contexts j ≤ level_of contexts i)
-    way_out i k j within (here k-2) = (omega arith, omega arith)
-    way_out i k j within (further i-2 k-2 some none rest) =
+    pub way_out : (j i k : ℕ) → i < length contexts → IsOnWayFrom fixed contexts j i k → (j ≤ i) × (level_of contexts j ≤ level_of contexts i)
+    way_out j i k within (here k-2) = (omega arith, omega arith)
+    way_out j i k within (further i-2 k-2 some none rest) =
         let out = are.outer i some within in
         let level = level_step contexts are i some within in
-        let less = way_out (outer i) (outer_box i) j (omega (arith, out, within)) rest in
+        let less = way_out j (outer i) (outer_box i) (omega (arith, out, within)) rest in
         let a = less.0 in
         let b = less.1 in
         (omega (arith, a, out), omega (arith, b, level))
@@ -105,7 +105,7 @@ module _ (contexts : List Context) (are : AreContexts contexts) where
         let out = are.outer (suc i) (omega arith) within in
         let place = are.outer_box (suc i) (omega arith) within in
         none_twice (holder (suc i) k) (suc i) (way t (outer (suc i)) (outer_box (suc i)))
-        (λ has. let less = way_out (outer (suc i)) (outer_box (suc i)) (suc i) (omega (arith, out, within))
+        (λ has. let less = way_out (suc i) (outer (suc i)) (outer_box (suc i)) (omega (arith, out, within))
             (way_is t (outer (suc i)) (outer_box (suc i)) (suc i) (omega (arith, a, out)) (omega (arith, out, within)) place has) in
         let b = less.0 in absurd (omega (arith, b, out)))
         (way_once t (outer (suc i)) (outer_box (suc i)) (omega (arith, a, out)) (omega (arith, out, within)) place)
@@ -116,7 +116,7 @@ module _ (contexts : List Context) (are : AreContexts contexts) where
   on_way_in (suc i) j within on =
       let out = are.outer (suc i) (omega arith) within in
       subst (λ b. IsIn (if b then way_from (suc i) (is_fixed contexts (suc i)) contexts (outer (suc i)) (outer_box (suc i)) else []) j) (sym on.absolute)
-      (in_way (is_fixed contexts (suc i)) (suc i) (outer (suc i)) (outer_box (suc i)) j (omega (arith, out)) (omega (arith, out, within)) (are.outer_box (suc i) (omega arith) within) on.from)
+      (in_way (is_fixed contexts (suc i)) (suc i) j (outer (suc i)) (outer_box (suc i)) (omega (arith, out)) (omega (arith, out, within)) (are.outer_box (suc i) (omega arith) within) on.from)
 
   by_position : (i j : ℕ) (b : Bool) → is_absolute contexts (suc i) ≡ b → suc i < length contexts
       → IsIn (if b then way_from (suc i) (is_fixed contexts (suc i)) contexts (outer (suc i)) (outer_box (suc i)) else []) j → IsOnWay contexts (suc i) j
@@ -138,7 +138,7 @@ module _ (contexts : List Context) (are : AreContexts contexts) where
       let out = are.outer i on.some within in
       let level = level_step contexts are i on.some within in
       let one : one_if (is_absolute contexts i) ≡ 1 = ap one_if on.absolute in
-      let less = way_out (is_fixed contexts i) (outer i) (outer_box i) j (omega (arith, out, within)) on.from in
+      let less = way_out (is_fixed contexts i) j (outer i) (outer_box i) (omega (arith, out, within)) on.from in
       let a = less.0 in
       let b = less.1 in
       (omega (arith, a, out), omega (arith, b, level, one))
@@ -152,3 +152,46 @@ module _ (contexts : List Context) (are : AreContexts contexts) where
   pub ways_once : (i : ℕ) → i < length contexts → IsEachOnce (way_of contexts i)
   ways_once zero within = once_none
   ways_once (suc i) within = once_by i (is_absolute contexts (suc i)) within
+
+module _ (contexts : List Context) (are : AreContexts contexts) (fixed : Bool) where
+  pub way_at_root : (i k : ℕ) → i ≡ 0 → way_from i fixed contexts i k ≡ i ∷ []
+  way_at_root zero k z = refl
+  way_at_root (suc i) k z = absurd (omega (arith, z))
+
+  -- a way that ends where it begins
+  pub way_ends : (i k h : ℕ) → i < length contexts → k < length (boxes_in contexts i) → IsHolderFor fixed (boxes_in contexts i) k (Some h) → way_from i fixed contexts i k ≡ i ∷ []
+  way_ends zero k h within box held = refl
+  way_ends (suc i) k h within box held =
+      let is : holder_for fixed (boxes_in contexts (suc i)) k ≡ Some h =
+          one_holder_for fixed (boxes_in contexts (suc i)) k (holder_for fixed (boxes_in contexts (suc i)) k) (Some h)
+          (holder_is (boxes_in contexts (suc i)) (are.boxes (suc i) within).tree fixed k box) held in
+      ap (λ o. suc i ∷ beyond o (way_from i fixed contexts (context_at contexts (suc i)).outer (context_at contexts (suc i)).outer_box)) is
+
+  -- and one that goes on
+  pub way_goes : (i k : ℕ) → 0 < i → i < length contexts → k < length (boxes_in contexts i) → IsHolderFor fixed (boxes_in contexts i) k None
+      → way_from i fixed contexts i k ≡ i ∷ way_from (context_at contexts i).outer fixed contexts (context_at contexts i).outer (context_at contexts i).outer_box
+  way_goes zero k some within box none = absurd (omega (arith, some))
+  way_goes (suc i) k some within box none =
+      let o = (context_at contexts (suc i)).outer in
+      let out = are.outer (suc i) some within in
+      let is : holder_for fixed (boxes_in contexts (suc i)) k ≡ None =
+          one_holder_for fixed (boxes_in contexts (suc i)) k (holder_for fixed (boxes_in contexts (suc i)) k) None
+          (holder_is (boxes_in contexts (suc i)) (are.boxes (suc i) within).tree fixed k box) none in
+      ap (λ p. suc i ∷ beyond p (way_from i fixed contexts o (context_at contexts (suc i)).outer_box)) is
+      ∙ ap (λ l. suc i ∷ l) (way_same contexts are fixed i o o (context_at contexts (suc i)).outer_box (omega (arith, out)) (omega arith) (omega (arith, out, within)))
+
+  -- the way of an absolutely positioned context
+  pub way_begun : (i : ℕ) → 0 < i → i < length contexts → is_absolute contexts i ≡ true → is_fixed contexts i ≡ fixed
+      → way_of contexts i ≡ way_from (context_at contexts i).outer fixed contexts (context_at contexts i).outer (context_at contexts i).outer_box
+  way_begun zero some within absolute e = absurd (omega (arith, some))
+  way_begun (suc i) some within absolute e =
+      let o = (context_at contexts (suc i)).outer in
+      let b = (context_at contexts (suc i)).outer_box in
+      let out = are.outer (suc i) some within in
+      ap (λ (c : Bool). if c then way_from (suc i) (is_fixed contexts (suc i)) contexts o b else []) absolute
+      ∙ ap (λ (f : Bool). way_from (suc i) f contexts o b) e
+      ∙ way_same contexts are fixed (suc i) o o b (omega (arith, out)) (omega arith) (omega (arith, out, within))
+
+  pub no_way : (i : ℕ) → is_absolute contexts i ≡ false → way_of contexts i ≡ []
+  no_way zero e = refl
+  no_way (suc i) e = ap (λ (c : Bool). if c then way_from (suc i) (is_fixed contexts (suc i)) contexts (context_at contexts (suc i)).outer (context_at contexts (suc i)).outer_box else []) e

@@ -41,6 +41,7 @@ fn push_cell(
     requires before { shape.old ≡ entries_to contexts.now k }
     ensures { OnOk result (shape.new ≡ entries_to contexts.now (k + 1)) }
 {
+    let _ = contexts.len();
     let cell = cell_at(contexts, cells, k);
     let needs = needs_of(alloc, contexts, cell)?;
     shape.push(key_of(contexts, cell), needs.as_slice())

@@ -1,6 +1,6 @@
 //! The levels of contexts.
 
-ghost use Rattle.std.specs.Prelude.{◌≡◌, ◌<◌, ◌≤◌, [], IfOk, ℕ, length, map, slice_index, slice_index_or};
+ghost use Rattle.std.specs.Prelude.{◌≡◌, ◌<◌, ◌≤◌, ◌++◌, ◌∷◌, [], IfOk, OnOk, ℕ, length, map, slice_index, slice_index_or, slice_set};
 ghost use Rattle.std.specs.List.{range_with_len};
 ghost use Rattle.lay_positioned.specs.Levels.{one_if};
 ghost use Rattle.lay_shape.specs.Building.{AreByLevel, levels_of};
@@ -31,6 +31,7 @@ fn level_of(contexts: &Contexts, levels: &[usize], i: usize) -> usize
     requires before { levels.now ≡ map (level_of contexts.now) (range_with_len 0 i) }
     ensures { result ≡ level_of contexts.now i }
 {
+    let _ = contexts.len();
     let own = one_if(is_absolute(contexts, i));
     if i == 0 {
         return own;
@@ -63,9 +64,18 @@ pub(crate) fn by_level(alloc: Global, contexts: &Contexts) -> Result<Vec<Numbers
     let mut lists = no_numbers(alloc, contexts.len() + 1)?;
     for i in 0..contexts.len() {
         let level = level_at(&levels, i);
-        lists[level].push(i)?;
+        note(&mut lists, level, i)?;
     }
     Ok(lists)
+}
+
+/// Adds a number to the list of its level.
+fn note(lists: &mut Vec<Numbers>, level: usize, i: usize) -> Result<(), NoMemory>
+    requires { level < length lists.old.items }
+    ensures { OnOk result (lists.new.items ≡ slice_set lists.old.items level (slice_index_or lists.old.items level [] ++ i ∷ [])) }
+{
+    lists[level].push(i)?;
+    Ok(())
 }
 
 /// So many lists without numbers.

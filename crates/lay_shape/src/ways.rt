@@ -1,6 +1,7 @@
 //! The way out to the containing block of an absolutely positioned context.
 
 ghost use Rattle.std.specs.Prelude.{◌≡◌, ◌<◌, ◌++◌, IfOk, OnOk, length};
+ghost use Rattle.std.specs.List.{All};
 ghost use Rattle.lay_contexts.specs.Contexts.{boxes_in};
 ghost use Rattle.lay_shape.specs.Ways.{is_absolute, way_from, way_of};
 
@@ -20,10 +21,14 @@ pub(crate) fn is_absolute(contexts: &Contexts, i: usize) -> bool
 /// The contexts on the way of the one with this number, from the inside out: none where it isn't absolutely positioned.
 pub(crate) fn way_of(alloc: Global, contexts: &Contexts, i: usize) -> Result<Vec<usize>, NoMemory>
     requires { i < length contexts.now }
-    ensures { IfOk result (λ v. v.items ≡ way_of contexts.now i) }
+    ensures way { IfOk result (λ v. v.items ≡ way_of contexts.now i) }
+    ensures within { IfOk result (λ v. All (λ j. j < length contexts.now) v.items) }
 {
     let mut way = Vec::new(alloc);
-    if i == 0 || !is_absolute(contexts, i) {
+    if i == 0 {
+        return Ok(way);
+    }
+    if !is_absolute(contexts, i) {
         return Ok(way);
     }
     let context = contexts.at(i);
@@ -45,9 +50,12 @@ fn push_way(
     ensures { OnOk result (way.new.items ≡ way.old.items ++ way_from i is_fixed contexts.now i k) }
 {
     way.push(i)?;
-    if i == 0 || holder_for(is_fixed, contexts.at(i).boxes(), k).is_some() {
+    if i == 0 {
         return Ok(());
     }
     let context = contexts.at(i);
-    push_way(way, is_fixed, contexts, context.outer(), context.outer_box())
+    match holder_for(is_fixed, context.boxes(), k) {
+        Some(_) => Ok(()),
+        None => push_way(way, is_fixed, contexts, context.outer(), context.outer_box()),
+    }
 }
