@@ -15,7 +15,7 @@ use Rattle.lay_shape.specs.declared.cell_key.CellKey.{CellKey}
 use Rattle.lay_shape.specs.Keys.{AreOfOwnNodes, node_of}
 use Rattle.lay_shape.proofs.Members.{from_flat_map, in_cases, in_either, in_flat_map, in_here, in_left, in_none, in_right, in_there}
 
-as_node : ℕ → NodeId
+abbrev as_node : ℕ → NodeId
 as_node id = record { 0 = id }
 
 pub same_node : (a b : NodeId) → a.0 ≡ b.0 → a ≡ b
@@ -38,7 +38,7 @@ module _ (contexts : List Context) where
 
   -- the index of one more
   module _ (apart : AreOfOwnNodes contexts) (n : ℕ) (within : n < length contexts) (old new : ℕ → Option ℕ) (is : (x : ℕ) → new x ≡ (if x == (node_of contexts n).0 then Some n else old x)) where
-    own : ℕ
+    abbrev own : ℕ
     own = (node_of contexts n).0
 
     pub found_more : ((id number : ℕ) → old id ≡ Some number → (number < n) × ((node_of contexts number).0 ≡ id)) → (id number : ℕ) → new id ≡ Some number
@@ -133,7 +133,7 @@ module _ (old new : List Context) (old_measured new_measured : List Bool) where
   abbrev Gone : ℕ → Type 0
   Gone i = IsOneOf new (node_of old i) → ⊥
 
-  moved : (contexts : List Context) (a b : NodeId) → a ≡ b → IsOneOf contexts a → IsOneOf contexts b
+  abbrev moved : (contexts : List Context) (a b : NodeId) → a ≡ b → IsOneOf contexts a → IsOneOf contexts b
   moved contexts a b e o = record { number = o.number; within = o.within; of = o.of ∙ e }
 
   new_by : (node : NodeId) (j : ℕ) → j < length new → node_of new j ≡ node → New j → Changed node

@@ -71,7 +71,7 @@ module _ (d : Document) (styles : List Style) (doc : IsDocument d) (same : lengt
       first g us = refl
 
   by_box : (k : ℕ) (o : Option Facts) → IsContextAt d.nodes styles k → box_at d.nodes styles k ≡ o → own_id k ≡ slice_index (ids_of d.nodes) k
-  by_box k None context e = let never : IsTrue (is_marked None) = subst (λ (o : Option Facts). IsTrue (is_marked o)) e context.establishes in absurd never
+  by_box k None context e = absurd (let never : false ≡ true = subst (λ (o : Option Facts). IsTrue (is_marked o)) e context.establishes in cc)
   by_box k (Some f) context e = node_by k f context e
 
   own_node : (k : ℕ) → IsContextAt d.nodes styles k → own_id k ≡ slice_index (ids_of d.nodes) k

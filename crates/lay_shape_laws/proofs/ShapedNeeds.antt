@@ -1,5 +1,6 @@
 -- What a task needs is of a cell that its cell depends on, or of that cell.
 use Rattle.std.proofs.Common.{◌≡◌, ◌⊎◌, inl, inr, ℕ, zero, suc, ◌<◌, ◌&&◌, not, nat_lt, Bool, true, false, List, [], ◌∷◌, ◌++◌, length, map, slice_get, slice_index, slice_index_or, refl, ap, sym, subst, ◌∙◌, arith, if◌then◌else◌, Some}
+use Rattle.std.proofs.lemmas.Bool.{and_from, lt-ltb}
 use Rattle.std.proofs.lemmas.Option.{slice_get-get_or}
 use Rattle.lay_style.specs.declared.style.Style.{Style}
 use Rattle.lay_doc.specs.Document.{Document, IsDocument}
@@ -100,7 +101,7 @@ module _ (contexts : List Context) (all : List FormattingContext) (are : AreCont
       let number : slice_index (context_at contexts o).inner k ≡ suc c = (noted (suc c) (omega arith) lt).number in
       let there : IsIn (context_at contexts o).inner (suc c) = (k, slice_get-get_or (context_at contexts o).inner k 0 (omega (arith, count, place)) ∙ ap Some number) in
       subst (λ (m : ℕ). IsIn (inner_flows contexts m) (suc c)) e
-      (in_filter (is_inner_flow contexts) (context_at contexts o).inner (suc c) there (ap (λ (b : Bool). nat_lt 0 (suc c) && not b) flow))
+      (in_filter (is_inner_flow contexts) (context_at contexts o).inner (suc c) there (and_from (nat_lt 0 (suc c)) (not (is_absolute contexts (suc c))) (lt-ltb 0 (suc c) (omega arith)) (ap not flow)))
 
   -- the formatting contexts inside one, in flow or floating
   by_place : (i k m c s : ℕ) → c < n → s < length (boxes_in contexts c) → is_root (boxes_in contexts c) s ≡ true → number_of contexts c s ≡ m → 0 < m → is_absolute_among all m ≡ false

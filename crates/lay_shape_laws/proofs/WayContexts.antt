@@ -49,9 +49,9 @@ module _ (boxes : List BoxNode) (homes : List ℕ) (are : AreContextBoxes boxes)
       let step = no_holder own (rank homes (suc k)) None inner refl (rank_some homes (suc k) (omega arith)) in
       let place = parent_is (suc k) (omega arith) within home in
       let low = parent_low boxes are.tree (suc k) (omega arith) within in
-      let no : is_holder_at own (place_inside boxes homes q) ≡ false = subst (λ (p : ℕ). is_holder_at own p ≡ false) place step.0 in
+      let empty : is_holder_at own (place_inside boxes homes q) ≡ false = subst (λ (p : ℕ). is_holder_at own p ≡ false) place step.0 in
       let up : IsNearestHolder own (place_inside boxes homes q) None = subst (λ (p : ℕ). IsNearestHolder own p None) place step.1 in
-      by (is_root boxes q) refl low no up
+      by (is_root boxes q) refl low empty up
       (λ home_q up_q. outward fuel q (omega (arith, le, low)) (omega (arith, low, within)) home_q up_q outer)
     where
       by : (b : Bool) → is_root boxes (box_parent boxes (suc k)) ≡ b → box_parent boxes (suc k) < suc k
@@ -59,18 +59,18 @@ module _ (boxes : List BoxNode) (homes : List ℕ) (are : AreContextBoxes boxes)
           → IsNearestHolder own (place_inside boxes homes (box_parent boxes (suc k))) None
           → (slice_index homes (box_parent boxes (suc k)) ≡ h → IsNearestHolder own (rank homes (box_parent boxes (suc k))) None → IsNearestHolder boxes (box_parent boxes (suc k)) None)
           → IsNearestHolder boxes (suc k) None
-      by true e low no up go =
+      by true e low empty up go =
           let q = box_parent boxes (suc k) in
           let same : h ≡ q = root_home boxes (suc k) h (omega arith) e (subst (IsHome boxes (suc k)) home (found.each (suc k) within)) in
-          let first : is_holder_at own 0 ≡ false = subst (λ (p : ℕ). is_holder_at own p ≡ false) (place_root boxes homes q e) no in
+          let first : is_holder_at own 0 ≡ false = subst (λ (p : ℕ). is_holder_at own p ≡ false) (place_root boxes homes q e) empty in
           let there : is_holder_at boxes q ≡ false = holder_of boxes q ∙ ap (λ (g : ℕ). is_holder (box_at boxes g)) (sym same) ∙ first in
           further (suc k) None (omega arith) there (subst (λ (g : ℕ). IsNearestHolder boxes g None) same outer)
-      by false e low no up go =
+      by false e low empty up go =
           let q = box_parent boxes (suc k) in
           let inside : q < length boxes = omega (arith, low, within) in
           let same : h ≡ slice_index homes q = same_home boxes (suc k) h (slice_index homes q) (omega arith) e (subst (IsHome boxes (suc k)) home (found.each (suc k) within)) (found.each q inside) in
           let place = place_other boxes homes q e in
-          let first : is_holder_at own (rank homes q) ≡ false = subst (λ (p : ℕ). is_holder_at own p ≡ false) place no in
+          let first : is_holder_at own (rank homes q) ≡ false = subst (λ (p : ℕ). is_holder_at own p ≡ false) place empty in
           let member : box_at own (rank homes q) ≡ as_member boxes homes q = at_rank boxes homes h q inside (is_home homes h q (not_own boxes q e) (sym same)) in
           let there : is_holder_at boxes q ≡ false = holder_of boxes q ∙ sym (holder_of own (rank homes q) ∙ ap is_holder member) ∙ first in
           further (suc k) None (omega arith) there (go (sym same) (subst (λ (p : ℕ). IsNearestHolder own p None) place up))
@@ -148,7 +148,7 @@ module _ (contexts : List Context) (all : List FormattingContext) (are : AreCont
     number = ex;
     on = on_here k;
   }
-  way_contexts m x y c k (further_among x-2 y-2 some none rest) lt inside ex ey =
+  way_contexts m x y c k (further_among x-2 y-2 some free rest) lt inside ex ey =
       let h = home c k in
       let there = home_there contexts of.homes are of.homes_are c k lt inside in
       let root = home_root contexts of.homes are of.homes_are c k lt inside in
@@ -158,5 +158,5 @@ module _ (contexts : List Context) (all : List FormattingContext) (are : AreCont
       let outer : (formatting_context_at all x).outer ≡ number_at contexts of.homes s = ap (λ (f : FormattingContext). f.outer) is in
       let outer_box : (formatting_context_at all x).outer_box ≡ rank_at of.homes s = ap (λ (f : FormattingContext). f.outer_box) is in
       let w = way_contexts m (formatting_context_at all x).outer (formatting_context_at all x).outer_box s.context s.place rest t.context t.place outer outer_box in
-      let inner = subst (λ (a : ℕ). IsHolderFor fixed (boxes_of all a) (rank (homes_in of.homes c) k) None) ex (subst (λ (b : ℕ). IsHolderFor fixed (boxes_of all x) b None) ey none) in
+      let inner = subst (λ (a : ℕ). IsHolderFor fixed (boxes_of all a) (rank (homes_in of.homes c) k) None) ex (subst (λ (b : ℕ). IsHolderFor fixed (boxes_of all x) b None) ey free) in
       out_of m c k h refl lt inside (omega (arith, some, ex)) inner w
