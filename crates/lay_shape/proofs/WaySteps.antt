@@ -1,16 +1,27 @@
 -- The contexts on a way, as a list.
-use Rattle.std.proofs.Common.{◌≡◌, ◌⊎◌, inl, inr, ⊎_elim, ℕ, zero, suc, ◌+◌, ◌<◌, ◌≤◌, Bool, true, false, List, [], ◌∷◌, length, refl, ap, sym, subst, ◌∙◌, arith, Option, Some, None, if◌then◌else◌}
+use Rattle.std.proofs.Common.{◌≡◌, ◌⊎◌, inl, inr, ⊎_elim, ℕ, zero, suc, ◌+◌, ◌<◌, ◌≤◌, ◌&&◌, nat_lt, Bool, true, false, List, [], ◌∷◌, length, refl, ap, sym, subst, ◌∙◌, arith, Option, Some, None, if◌then◌else◌}
+use Rattle.std.specs.Prelude.{is_none}
+use Rattle.std.proofs.lemmas.Bool.{and_from, and_parts, lt-ltb}
 use Rattle.lay_cells.specs.Shapes.{IsEachOnce, IsIn}
 use Rattle.lay_contexts.specs.Contexts.{AreContexts, Context, boxes_in, context_at}
 use Rattle.lay_positioned.specs.Holders.{IsHolderFor, holder_for}
 use Rattle.lay_positioned.specs.Levels.{one_if}
 use Rattle.lay_positioned.proofs.OneSetting.{one_holder_for}
 use Rattle.lay_positioned.proofs.SettingValues.{holder_is}
+use Rattle.lay_shape.specs.Building.{is_inner_absolute, leads_on}
 use Rattle.lay_shape.specs.Levels.{level_of}
 use Rattle.lay_shape.specs.Ways.{IsOnWay, IsOnWayFrom, beyond, further, here, is_absolute, is_fixed, way_from, way_of}
 use Rattle.lay_shape.proofs.LevelSteps.{level_step}
 use Rattle.lay_shape.proofs.Members.{in_cases, in_here, in_none, in_there}
 use Rattle.lay_shape.proofs.Once.{once_more, once_none}
+
+none_is : (o : Option ℕ) → is_none o ≡ true → o ≡ None
+none_is None e = refl
+none_is (Some x) e = absurd cc
+
+some_ends : (i : ℕ) (o : Option ℕ) (outside : List ℕ) → (is_none o ≡ true → ⊥) → i ∷ beyond o outside ≡ i ∷ []
+some_ends i None outside not_none = absurd (not_none refl)
+some_ends i (Some x) outside not_none = refl
 
 module _ (contexts : List Context) (are : AreContexts contexts) where
   abbrev outer : ℕ → ℕ
@@ -154,44 +165,42 @@ module _ (contexts : List Context) (are : AreContexts contexts) where
   ways_once (suc i) within = once_by i (is_absolute contexts (suc i)) within
 
 module _ (contexts : List Context) (are : AreContexts contexts) (fixed : Bool) where
-  pub way_at_root : (i k : ℕ) → i ≡ 0 → way_from i fixed contexts i k ≡ i ∷ []
-  way_at_root zero k z = refl
-  way_at_root (suc i) k z = absurd (omega (arith, z))
-
-  -- a way that ends where it begins
-  pub way_ends : (i k h : ℕ) → i < length contexts → k < length (boxes_in contexts i) → IsHolderFor fixed (boxes_in contexts i) k (Some h) → way_from i fixed contexts i k ≡ i ∷ []
-  way_ends zero k h within box held = refl
-  way_ends (suc i) k h within box held =
-      let is : holder_for fixed (boxes_in contexts (suc i)) k ≡ Some h =
-          one_holder_for fixed (boxes_in contexts (suc i)) k (holder_for fixed (boxes_in contexts (suc i)) k) (Some h)
-          (holder_is (boxes_in contexts (suc i)) (are.boxes (suc i) within).tree fixed k box) held in
-      ap (λ o. suc i ∷ beyond o (way_from i fixed contexts (context_at contexts (suc i)).outer (context_at contexts (suc i)).outer_box)) is
-
-  -- and one that goes on
-  pub way_goes : (i k : ℕ) → 0 < i → i < length contexts → k < length (boxes_in contexts i) → IsHolderFor fixed (boxes_in contexts i) k None
+  -- a way that goes on
+  pub way_goes : (i k : ℕ) → i < length contexts → leads_on fixed contexts i k ≡ true
       → way_from i fixed contexts i k ≡ i ∷ way_from (context_at contexts i).outer fixed contexts (context_at contexts i).outer (context_at contexts i).outer_box
-  way_goes zero k some within box none = absurd (omega (arith, some))
-  way_goes (suc i) k some within box none =
+  way_goes zero k within on = absurd cc
+  way_goes (suc i) k within on =
       let o = (context_at contexts (suc i)).outer in
-      let out = are.outer (suc i) some within in
-      let is : holder_for fixed (boxes_in contexts (suc i)) k ≡ None =
-          one_holder_for fixed (boxes_in contexts (suc i)) k (holder_for fixed (boxes_in contexts (suc i)) k) None
-          (holder_is (boxes_in contexts (suc i)) (are.boxes (suc i) within).tree fixed k box) none in
+      let out = are.outer (suc i) (omega arith) within in
+      let is = none_is (holder_for fixed (boxes_in contexts (suc i)) k) (and_parts (nat_lt 0 (suc i)) (is_none (holder_for fixed (boxes_in contexts (suc i)) k)) on).1 in
       ap (λ p. suc i ∷ beyond p (way_from i fixed contexts o (context_at contexts (suc i)).outer_box)) is
       ∙ ap (λ l. suc i ∷ l) (way_same contexts are fixed i o o (context_at contexts (suc i)).outer_box (omega (arith, out)) (omega arith) (omega (arith, out, within)))
 
-  -- the way of an absolutely positioned context
-  pub way_begun : (i : ℕ) → 0 < i → i < length contexts → is_absolute contexts i ≡ true → is_fixed contexts i ≡ fixed
+  -- and one that ends where it begins
+  pub way_ends : (i k : ℕ) → leads_on fixed contexts i k ≡ false → way_from i fixed contexts i k ≡ i ∷ []
+  way_ends zero k off = refl
+  way_ends (suc i) k off =
+      some_ends (suc i) (holder_for fixed (boxes_in contexts (suc i)) k) (way_from i fixed contexts (context_at contexts (suc i)).outer (context_at contexts (suc i)).outer_box)
+      (λ e. let p = lt-ltb 0 (suc i) (omega arith) in let never : true ≡ false = sym (and_from (nat_lt 0 (suc i)) (is_none (holder_for fixed (boxes_in contexts (suc i)) k)) p e) ∙ off in cc)
+
+  -- the way of an absolutely positioned context, and of others
+  pub way_begun : (i : ℕ) → i < length contexts → is_inner_absolute contexts i ≡ true → is_fixed contexts i ≡ fixed
       → way_of contexts i ≡ way_from (context_at contexts i).outer fixed contexts (context_at contexts i).outer (context_at contexts i).outer_box
-  way_begun zero some within absolute e = absurd (omega (arith, some))
-  way_begun (suc i) some within absolute e =
+  way_begun zero within out_of e = absurd cc
+  way_begun (suc i) within out_of e =
       let o = (context_at contexts (suc i)).outer in
       let b = (context_at contexts (suc i)).outer_box in
-      let out = are.outer (suc i) some within in
+      let out = are.outer (suc i) (omega arith) within in
+      let absolute = (and_parts (nat_lt 0 (suc i)) (is_absolute contexts (suc i)) out_of).1 in
       ap (λ (c : Bool). if c then way_from (suc i) (is_fixed contexts (suc i)) contexts o b else []) absolute
       ∙ ap (λ (f : Bool). way_from (suc i) f contexts o b) e
       ∙ way_same contexts are fixed (suc i) o o b (omega (arith, out)) (omega arith) (omega (arith, out, within))
 
-  pub no_way : (i : ℕ) → is_absolute contexts i ≡ false → way_of contexts i ≡ []
+  pub no_way : (i : ℕ) → is_inner_absolute contexts i ≡ false → way_of contexts i ≡ []
   no_way zero e = refl
-  no_way (suc i) e = ap (λ (c : Bool). if c then way_from (suc i) (is_fixed contexts (suc i)) contexts (context_at contexts (suc i)).outer (context_at contexts (suc i)).outer_box else []) e
+  no_way (suc i) e = by (is_absolute contexts (suc i)) refl
+    where
+      by : (c : Bool) → is_absolute contexts (suc i) ≡ c
+          → (if c then way_from (suc i) (is_fixed contexts (suc i)) contexts (context_at contexts (suc i)).outer (context_at contexts (suc i)).outer_box else []) ≡ []
+      by true h = absurd (let p = lt-ltb 0 (suc i) (omega arith) in let never : true ≡ false = sym (and_from (nat_lt 0 (suc i)) (is_absolute contexts (suc i)) p h) ∙ e in cc)
+      by false h = refl

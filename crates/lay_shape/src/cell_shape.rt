@@ -44,7 +44,8 @@ fn push_cell(
     let _ = contexts.len();
     let cell = cell_at(contexts, cells, k);
     let needs = needs_of(alloc, contexts, cell)?;
-    shape.push(key_of(contexts, cell), needs.as_slice())
+    shape.push(key_of(contexts, cell), needs.as_slice())?;
+    Ok(())
 }
 
 /// The cell at k, which is of one of these contexts.

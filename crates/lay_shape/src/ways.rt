@@ -3,6 +3,8 @@
 ghost use Rattle.std.specs.Prelude.{◌≡◌, ◌<◌, ◌++◌, IfOk, OnOk, length};
 ghost use Rattle.std.specs.List.{All};
 ghost use Rattle.lay_contexts.specs.Contexts.{boxes_in};
+ghost use Rattle.lay_positioned.specs.Holders.{holder_for};
+ghost use Rattle.lay_shape.specs.Building.{is_inner_absolute, leads_on};
 ghost use Rattle.lay_shape.specs.Ways.{is_absolute, way_from, way_of};
 
 use lay_contexts::Contexts;
@@ -24,17 +26,23 @@ pub(crate) fn way_of(alloc: Global, contexts: &Contexts, i: usize) -> Result<Vec
     ensures way { IfOk result (λ v. v.items ≡ way_of contexts.now i) }
     ensures within { IfOk result (λ v. All (λ j. j < length contexts.now) v.items) }
 {
+    let _ = contexts.len();
     let mut way = Vec::new(alloc);
-    if i == 0 {
+    if is_out_of_flow(contexts, i) {
+        let context = contexts.at(i);
+        let is_fixed = is_own_fixed(context.boxes());
+        push_way(&mut way, is_fixed, contexts, context.outer(), context.outer_box())?;
         return Ok(way);
     }
-    if !is_absolute(contexts, i) {
-        return Ok(way);
-    }
-    let context = contexts.at(i);
-    let is_fixed = is_own_fixed(context.boxes());
-    push_way(&mut way, is_fixed, contexts, context.outer(), context.outer_box())?;
     Ok(way)
+}
+
+/// Whether it is absolutely positioned and not the root's.
+fn is_out_of_flow(contexts: &Contexts, i: usize) -> bool
+    requires { i < length contexts.now }
+    ensures { result ≡ is_inner_absolute contexts.now i }
+{
+    i > 0 && is_absolute(contexts, i)
 }
 
 /// Adds those on the way from the box at k of the context with the number i.
@@ -49,13 +57,30 @@ fn push_way(
     requires place { k < length (boxes_in contexts.now i) }
     ensures { OnOk result (way.new.items ≡ way.old.items ++ way_from i is_fixed contexts.now i k) }
 {
+    let _ = contexts.len();
     way.push(i)?;
-    if i == 0 {
+    if leads_on(is_fixed, contexts, i, k) {
+        let context = contexts.at(i);
+        push_way(way, is_fixed, contexts, context.outer(), context.outer_box())?;
         return Ok(());
     }
-    let context = contexts.at(i);
-    match holder_for(is_fixed, context.boxes(), k) {
-        Some(_) => Ok(()),
-        None => push_way(way, is_fixed, contexts, context.outer(), context.outer_box()),
-    }
+    Ok(())
+}
+
+/// Whether a context is around that with the number i, and no holder among its boxes is around the box at k.
+fn leads_on(is_fixed: bool, contexts: &Contexts, i: usize, k: usize) -> bool
+    requires within { i < length contexts.now }
+    requires place { k < length (boxes_in contexts.now i) }
+    ensures { result ≡ leads_on is_fixed contexts.now i k }
+{
+    i > 0 && holder_at(is_fixed, contexts, i, k).is_none()
+}
+
+/// The holder there, if there is one.
+fn holder_at(is_fixed: bool, contexts: &Contexts, i: usize, k: usize) -> Option<usize>
+    requires within { i < length contexts.now }
+    requires place { k < length (boxes_in contexts.now i) }
+    ensures { result ≡ holder_for is_fixed (boxes_in contexts.now i) k }
+{
+    holder_for(is_fixed, contexts.at(i).boxes(), k)
 }

@@ -1,5 +1,6 @@
-use Rattle.std.proofs.Common.{rules, ◌≡◌, ◌+◌, ◌<◌, ap, arith, length, slice_index, ◌∙◌}
+use Rattle.std.proofs.Common.{rules, ◌≡◌, ◌+◌, ◌<◌, ◌≤◌, ap, arith, length, slice_index, ◌∙◌}
 use Rattle.std.proofs.lemmas.List.FromFn.{length-map-range_with_len}
+use Rattle.lay_units.specs.Limits.{most_nodes}
 use Rattle.lay_contexts.specs.Contexts.{context_at}
 use Rattle.lay_positioned.specs.Levels.{one_if}
 use Rattle.lay_shape.specs.Levels.{level_of}
@@ -17,10 +18,10 @@ level_at-requires c =
 pub overflow_add-result : goal.overflow_add-result
 overflow_add-result c =
     let read : c.level_at.result ≡ slice_index c.args.levels.now (context_at c.args.contexts.now c.args.i).outer = search rules in
-    let sum = level_sum c.args.contexts.now c.len.ensures.are c.args.i c.level_at.result c.one_if-own.result c.args.levels.now c.len.ensures.few
+    let small : length c.args.contexts.now ≤ most_nodes = omega (arith, c.len.ensures.few, c.len.ensures.count) in
+    let sum = level_sum c.args.contexts.now c.len.ensures.are c.args.i c.level_at.result c.one_if-own.result c.args.levels.now small
         (omega (arith, c.if-i-eq0.false)) c.requires.within c.requires.before read c.one_if-own.ensures.few in
     let within = c.requires.within in
-    let small = c.len.ensures.few in
     omega (arith, sum, within, small)
 
 pub returns : goal.returns

@@ -1,4 +1,4 @@
-use Rattle.std.proofs.Common.{rules, ◌≡◌, ◌<◌, ◌++◌, [], List, ℕ, ap, arith, length, map, reverse, slice_index_or, ◌∙◌}
+use Rattle.std.proofs.Common.{rules, ◌≡◌, ◌+◌, ◌<◌, ◌++◌, [], List, ℕ, ap, arith, length, map, reverse, slice_index_or, ◌∙◌}
 use Rattle.std.proofs.lemmas.List.{get_or_read}
 use Rattle.lay_context.specs.declared.task.Phase.TheVariants.{Measure, Size, Place}
 use Rattle.lay_shape.specs.Dependencies.{in_phase}
@@ -12,7 +12,7 @@ loop-level-preserved c =
     let lists = c.in_ok-lists.lists.items in
     let level = c.loop-level.level in
     let by = c.in_ok-lists.ensures {u = tt} in
-    let within : level < length lists = c.loop-level-test.true in
+    let within : level < length lists = omega (arith, c.loop-level-test.true, c.len-level-end.ensures, c.in_ok-lists.lists.ok) in
     let there : level < length contexts + 1 = omega (arith, within, by.count) in
     let first : c.as_slice.result.now ≡ slice_index_or lists level [] = search rules in
     let second : c.as_slice-in-loop-level.result.now ≡ c.as_slice.result.now = search rules in
