@@ -48,9 +48,9 @@ module _ {X Y Z : Type 0} (k : Y → Z) (f : X → Y) where
   filtered_more p xs i d x front old new lt at passes is more =
       let before : List X = filter p (take i xs) in
       let step : filter p (take (i + 1) xs) ≡ before ++ x ∷ [] =
-          filter_more p xs i d lt ∙ ap (λ y. before ++ cond (p y) (y ∷ []) []) (sym at) ∙ ap (λ b. before ++ cond b (x ∷ []) []) passes in
+      filter_more p xs i d lt ∙ ap (λ y. before ++ cond (p y) (y ∷ []) []) (sym at) ∙ ap (λ b. before ++ cond b (x ∷ []) []) passes in
       let maps : map k (map f (filter p (take (i + 1) xs))) ≡ map k (map f before) ++ k (f x) ∷ [] =
-          ap (λ l. map k (map f l)) step ∙ ap (map k) (map_push f before x) ∙ map_push k (map f before) (f x) in
+      ap (λ l. map k (map f l)) step ∙ ap (map k) (map_push f before x) ∙ map_push k (map f before) (f x) in
       more ∙ ap (λ l. l ++ k (f x) ∷ []) is ∙ append_assoc front (map k (map f before)) (k (f x) ∷ []) ∙ ap (λ l. front ++ l) (sym maps)
 
   pub filtered_same : (p : X → Bool) (xs : List X) (i : ℕ) (d x : X) (front old : List Z) → i < length xs → x ≡ get_or xs i d → p x ≡ false
@@ -58,7 +58,7 @@ module _ {X Y Z : Type 0} (k : Y → Z) (f : X → Y) where
   filtered_same p xs i d x front old lt at fails is =
       let before : List X = filter p (take i xs) in
       let step : filter p (take (i + 1) xs) ≡ before =
-          filter_more p xs i d lt ∙ ap (λ y. before ++ cond (p y) (y ∷ []) []) (sym at) ∙ ap (λ b. before ++ cond b (x ∷ []) []) fails ∙ append-nil before in
+      filter_more p xs i d lt ∙ ap (λ y. before ++ cond (p y) (y ∷ []) []) (sym at) ∙ ap (λ b. before ++ cond b (x ∷ []) []) fails ∙ append-nil before in
       is ∙ ap (λ l. front ++ map k (map f l)) (sym step)
 
 module _ {X Y Z : Type 0} (k : Y → Z) (f : X → List Y) where
@@ -105,7 +105,7 @@ module _ (contexts : List Context) (are : AreContexts contexts) where
   level_read i level levels some within is e =
       let out = are.outer i some within in
       let read : slice_index levels (context_at contexts i).outer ≡ level_of contexts (context_at contexts i).outer =
-          ap (λ l. slice_index l (context_at contexts i).outer) is ∙ get_or-map-range_with_len (level_of contexts) 0 i (context_at contexts i).outer (context_at contexts i).outer 0 out (omega arith) in
+      ap (λ l. slice_index l (context_at contexts i).outer) is ∙ get_or-map-range_with_len (level_of contexts) 0 i (context_at contexts i).outer (context_at contexts i).outer 0 out (omega arith) in
       e ∙ ap (λ l. l + one_if (is_absolute contexts i)) read ∙ sym (level_step contexts are i some within)
 
   pub level_small : (i level : ℕ) (levels : List ℕ) → levels ≡ levels_of contexts → i < n → level ≡ slice_index levels i → (level ≡ level_of contexts i) × (level < n + 1)
@@ -207,6 +207,7 @@ level_listed contexts lists new i level list so_far is within added set =
   where
     at : (l : ℕ) → slice_index_or new l [] ≡ slice_index_or (slice_set lists level list) l []
     at l = ap (λ (ls : List (List ℕ)). slice_index_or ls l []) set
+
     by : (l : ℕ) → l < length contexts + 1 → (b : Bool) → (level_of contexts i == l) ≡ b → slice_index_or new l [] ≡ filter (λ j. level_of contexts j == l) (range_with_len 0 (i + 1))
     by l lt true e =
         let same : level ≡ l = is ∙ eqb-true (level_of contexts i) l e in

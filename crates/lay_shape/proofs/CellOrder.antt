@@ -112,9 +112,9 @@ module _ (contexts : List Context) (are : AreContexts contexts) where
       let base = round_start count l in
       let top = base + (count + count) in
       let up = rising turn_of (in_phase Size) (λ i. level_of contexts i == l) base 0 count
-          (λ i yes lt. let e = ap (round_start count) (at_is l i yes) in omega (arith, e)) in
+      (λ i yes lt. let e = ap (round_start count) (at_is l i yes) in omega (arith, e)) in
       let down = falling turn_of (in_phase Place) (λ i. level_of contexts i == l) top 0 count (omega arith)
-          (λ i yes lt. let e = ap (round_start count) (at_is l i yes) in omega (arith, e, lt)) in
+      (λ i yes lt. let e = ap (round_start count) (at_is l i yes) in omega (arith, e, lt)) in
       let mid : top - (0 + count) ≡ base + (0 + count) = omega arith in
       let first : base + 0 ≡ base = omega arith in
       let last : top - 0 ≡ round_start count (l + 1) = omega arith in

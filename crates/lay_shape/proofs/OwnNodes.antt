@@ -96,7 +96,7 @@ module _ (d : Document) (styles : List Style) (doc : IsDocument d) (same : lengt
         let lt : i < length spots = omega (arith, within, of.numbered.count) in
         let numbered = of.numbered.each i within in
         let boxes : boxes_in contexts i ≡ boxes_of_place d.nodes styles (place i) =
-            numbered.boxes_are ∙ get_or-map (λ (s : ContextSpot). boxes_of_place d.nodes styles s.place) spots i root_spot [] lt in
+        numbered.boxes_are ∙ get_or-map (λ (s : ContextSpot). boxes_of_place d.nodes styles s.place) spots i root_spot [] lt in
         ap (λ (bs : List BoxNode). (own_at bs 0).node.0) boxes ∙ own_node (place i) (of.are.are i lt)
 
     apart_places : (i j : ℕ) → i < length spots → j < length spots → place i ≡ place j → i ≡ j

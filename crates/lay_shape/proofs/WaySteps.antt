@@ -82,7 +82,7 @@ module _ (contexts : List Context) (are : AreContexts contexts) where
     way_goes_on zero (suc i) k j some none a has out within = absurd (omega (arith, a))
     way_goes_on (suc t) (suc i) k j some none a has out within =
         let less : way (suc t) (outer (suc i)) (outer_box (suc i)) ≡ way t (outer (suc i)) (outer_box (suc i)) =
-            way_same (suc t) t (outer (suc i)) (outer_box (suc i)) (omega (arith, a, out)) (omega (arith, a, out)) (omega (arith, out, within)) in
+        way_same (suc t) t (outer (suc i)) (outer_box (suc i)) (omega (arith, a, out)) (omega (arith, a, out)) (omega (arith, out, within)) in
         in_there (suc i) j (beyond (holder (suc i) k) (way t (outer (suc i)) (outer_box (suc i))))
         (subst (λ o. IsIn (beyond o (way t (outer (suc i)) (outer_box (suc i)))) j) (sym none) (subst (λ l. IsIn l j) less has))
 
@@ -117,7 +117,7 @@ module _ (contexts : List Context) (are : AreContexts contexts) where
         let place = are.outer_box (suc i) (omega arith) within in
         none_twice (holder (suc i) k) (suc i) (way t (outer (suc i)) (outer_box (suc i)))
         (λ has. let less = way_out (suc i) (outer (suc i)) (outer_box (suc i)) (omega (arith, out, within))
-            (way_is t (outer (suc i)) (outer_box (suc i)) (suc i) (omega (arith, a, out)) (omega (arith, out, within)) place has) in
+        (way_is t (outer (suc i)) (outer_box (suc i)) (suc i) (omega (arith, a, out)) (omega (arith, out, within)) place has) in
         let b = less.0 in absurd (omega (arith, b, out)))
         (way_once t (outer (suc i)) (outer_box (suc i)) (omega (arith, a, out)) (omega (arith, out, within)) place)
 

@@ -31,7 +31,13 @@ pub(crate) fn way_of(alloc: Global, contexts: &Contexts, i: usize) -> Result<Vec
     if is_out_of_flow(contexts, i) {
         let context = contexts.at(i);
         let is_fixed = is_own_fixed(context.boxes());
-        push_way(&mut way, is_fixed, contexts, context.outer(), context.outer_box())?;
+        push_way(
+            &mut way,
+            is_fixed,
+            contexts,
+            context.outer(),
+            context.outer_box(),
+        )?;
         return Ok(way);
     }
     Ok(way)
@@ -61,7 +67,13 @@ fn push_way(
     way.push(i)?;
     if leads_on(is_fixed, contexts, i, k) {
         let context = contexts.at(i);
-        push_way(way, is_fixed, contexts, context.outer(), context.outer_box())?;
+        push_way(
+            way,
+            is_fixed,
+            contexts,
+            context.outer(),
+            context.outer_box(),
+        )?;
         return Ok(());
     }
     Ok(())

@@ -163,7 +163,7 @@ module _ (contexts : List Context) (all : List FormattingContext) (are : AreCont
       let t = spot_there contexts are (suc i) zero lt inside in
       let flow : is_absolute contexts (suc i) ≡ false = sym (context_absolute (suc i) lt) ∙ around.in_flow in
       let need : IsIn (outer_needs contexts (suc i)) (in_phase Size o) =
-          subst (λ (b : Bool). IsIn (if b then way_needs contexts (suc i) else in_phase Size o ∷ []) (in_phase Size o)) (sym flow) (in_here (in_phase Size o) []) in
+      subst (λ (b : Bool). IsIn (if b then way_needs contexts (suc i) else in_phase Size o ∷ []) (in_phase Size o)) (sym flow) (in_here (in_phase Size o) []) in
       record {
         context = o;
         root = slice_index (homes_in of.homes o) k;
@@ -204,7 +204,7 @@ module _ (contexts : List Context) (all : List FormattingContext) (are : AreCont
       let absolute : is_absolute contexts (suc i) ≡ true = sym (context_absolute (suc i) lt) ∙ way.absolute in
       let f = formatting_context_at all (number_of contexts (suc i) 0) in
       let w = way_contexts contexts all are of (is_fixed_among all (number_of contexts (suc i) 0)) m f.outer f.outer_box o k way.way.from t.context t.place
-          (ap (λ (x : FormattingContext). x.outer) is) (ap (λ (x : FormattingContext). x.outer_box) is) in
+      (ap (λ (x : FormattingContext). x.outer) is) (ap (λ (x : FormattingContext). x.outer_box) is) in
       let on : IsOnWay contexts (suc i) w.context = record { some = omega arith; absolute = absolute; from = rw (← context_fixed (suc i) lt) w.on } in
       record {
         context = w.context;

@@ -20,7 +20,7 @@ overflow_add-result c =
     let read : c.level_at.result ≡ slice_index c.args.levels.now (context_at c.args.contexts.now c.args.i).outer = search rules in
     let small : length c.args.contexts.now ≤ most_nodes = omega (arith, c.len.ensures.few, c.len.ensures.count) in
     let sum = level_sum c.args.contexts.now c.len.ensures.are c.args.i c.level_at.result c.one_if-own.result c.args.levels.now small
-        (omega (arith, c.if-i-eq0.false)) c.requires.within c.requires.before read c.one_if-own.ensures.few in
+    (omega (arith, c.if-i-eq0.false)) c.requires.within c.requires.before read c.one_if-own.ensures.few in
     let within = c.requires.within in
     omega (arith, sum, within, small)
 

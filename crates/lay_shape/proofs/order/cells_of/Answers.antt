@@ -1,4 +1,4 @@
-use Rattle.std.proofs.Common.{rules, ◌≡◌, ◌+◌, ◌<◌, ◌++◌, [], List, ℕ, ap, arith, length, map, reverse, slice_index_or, ◌∙◌}
+use Rattle.std.proofs.Common.{◌≡◌, ◌+◌, ◌<◌, ◌++◌, [], List, ℕ, ap, arith, length, map, reverse, slice_index_or, sym, ◌∙◌}
 use Rattle.std.proofs.lemmas.List.{get_or_read}
 use Rattle.lay_context.specs.declared.task.Phase.TheVariants.{Measure, Size, Place}
 use Rattle.lay_shape.specs.Dependencies.{in_phase}
@@ -14,8 +14,10 @@ loop-level-preserved c =
     let by = c.in_ok-lists.ensures {u = tt} in
     let within : level < length lists = omega (arith, c.loop-level-test.true, c.len-level-end.ensures, c.in_ok-lists.lists.ok) in
     let there : level < length contexts + 1 = omega (arith, within, by.count) in
-    let first : c.as_slice.result.now ≡ slice_index_or lists level [] = search rules in
-    let second : c.as_slice-in-loop-level.result.now ≡ c.as_slice.result.now = search rules in
+    let first : c.as_slice.result.now ≡ slice_index_or lists level [] = c.as_slice.ensures ∙ get_or_read lists level c.index.result.now within c.index.ensures [] in
+    let last : c.as_slice-in-loop-level.result.now ≡ slice_index_or lists level [] =
+    c.as_slice-in-loop-level.ensures ∙ get_or_read lists level c.index-in-loop-level.result.now within c.index-in-loop-level.ensures [] in
+    let second : c.as_slice-in-loop-level.result.now ≡ c.as_slice.result.now = last ∙ sym first in
     let is : c.as_slice.result.now ≡ at_level contexts level = first ∙ by.each level there in
     let up = c.in_ok-push_rising.ensures {u = tt} in
     let down = c.in_ok-push_falling-2.ensures {u = tt} ∙ ap (λ (l : List ℕ). c.push_rising.new.cells.items ++ map (in_phase Place) (reverse l)) second in

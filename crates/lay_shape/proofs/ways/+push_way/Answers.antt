@@ -16,7 +16,7 @@ returns-then-leads_on t c =
     let outer_box : c.outer_box.result ≡ (context_at contexts i).outer_box = search rules in
     let rest : List ℕ = way_from (context_at contexts i).outer fixed contexts (context_at contexts i).outer (context_at contexts i).outer_box in
     let same : way_from c.outer.result fixed contexts c.outer.result c.outer_box.result ≡ rest =
-        ap (λ (o : ℕ). way_from o fixed contexts o c.outer_box.result) outer ∙ ap (λ (b : ℕ). way_from (context_at contexts i).outer fixed contexts (context_at contexts i).outer b) outer_box in
+    ap (λ (o : ℕ). way_from o fixed contexts o c.outer_box.result) outer ∙ ap (λ (b : ℕ). way_from (context_at contexts i).outer fixed contexts (context_at contexts i).outer b) outer_box in
     c.in_ok-push_way.ensures {u = tt} ∙ ap (λ (l : List ℕ). l ++ way_from c.outer.result fixed contexts c.outer.result c.outer_box.result) items
     ∙ ap (λ (l : List ℕ). (c.args.way.now.items ++ i ∷ []) ++ l) same ∙ append_assoc c.args.way.now.items (i ∷ []) rest
     ∙ ap (λ (l : List ℕ). c.args.way.now.items ++ l) (sym (way_goes contexts c.len.ensures.are fixed i c.args.k c.requires.within on))

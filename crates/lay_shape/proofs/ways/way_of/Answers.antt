@@ -30,10 +30,10 @@ returns-then-is_out_of_flow-clause-within c =
     let outer_box : c.outer_box.result ≡ (context_at contexts i).outer_box = search rules in
     let none : c.new-way.result.items ≡ [] = search rules in
     let is : c.push_way.new.way.items ≡ way_of contexts i =
-        c.in_ok-push_way.ensures {u = tt} ∙ ap (λ (l : List ℕ). l ++ way_from c.outer.result c.is_own_fixed-is_fixed.result contexts c.outer.result c.outer_box.result) none
-        ∙ ap (λ (o : ℕ). way_from o c.is_own_fixed-is_fixed.result contexts o c.outer_box.result) outer
-        ∙ ap (λ (b : ℕ). way_from (context_at contexts i).outer c.is_own_fixed-is_fixed.result contexts (context_at contexts i).outer b) outer_box
-        ∙ sym (way_begun contexts c.len.ensures.are c.is_own_fixed-is_fixed.result i c.requires out_of (sym fixed)) in
+    c.in_ok-push_way.ensures {u = tt} ∙ ap (λ (l : List ℕ). l ++ way_from c.outer.result c.is_own_fixed-is_fixed.result contexts c.outer.result c.outer_box.result) none
+    ∙ ap (λ (o : ℕ). way_from o c.is_own_fixed-is_fixed.result contexts o c.outer_box.result) outer
+    ∙ ap (λ (b : ℕ). way_from (context_at contexts i).outer c.is_own_fixed-is_fixed.result contexts (context_at contexts i).outer b) outer_box
+    ∙ sym (way_begun contexts c.len.ensures.are c.is_own_fixed-is_fixed.result i c.requires out_of (sym fixed)) in
     subst (λ (l : List ℕ). All (λ j. j < length contexts) l) (sym is) (way_small contexts c.len.ensures.are i c.requires)
 
 pub returns-clause-way : goal.returns-clause-way
