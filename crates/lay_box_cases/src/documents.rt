@@ -4,7 +4,7 @@
 //! group, `h` header group, `f` footer group, `r` row, `c` cell, `p` caption, `G` column group, `C`
 //! column, `x` with `display: none`. Texts are `.` a word, `_` a space, `^` a linefeed, `|` a
 //! carriage return, `;` no character. A sign says more of the element behind it: `<` a float, `@`
-//! absolute, `?` fixed, `&` relative, `!` hidden overflow, `=` pre, `-` pre-line, `+` a font size of 32 px, `~` a
+//! absolute, `?` fixed, `!` hidden overflow, `=` pre, `-` pre-line, `+` a font size of 32 px, `~` a
 //! left margin of 10 px, `%` replaced. A number behind the signs says how many such nodes stand
 //! there.
 
@@ -62,7 +62,6 @@ impl Page {
             ('<', _) => self.declare(alloc, "float", "left")?,
             ('@', _) => self.declare(alloc, "position", "absolute")?,
             ('?', _) => self.declare(alloc, "position", "fixed")?,
-            ('&', _) => self.declare(alloc, "position", "relative")?,
             ('!', _) => self.declare(alloc, "overflow", "hidden")?,
             ('=', _) => self.declare(alloc, "white-space", "pre")?,
             ('-', _) => self.declare(alloc, "white-space", "pre-line")?,

@@ -17,7 +17,6 @@ mod grids;
 mod heights;
 mod margins;
 mod parts;
-mod shapes;
 mod trees;
 mod widths;
 
@@ -96,7 +95,6 @@ fn answer(alloc: Global, call: &str, text: &str) -> Result<String> {
         "box-styles" => boxes::with_styles(alloc, text),
         "box-counts" => boxes::count(alloc, text),
         "formatting-contexts" => formatting::of_document(alloc, text),
-        "cells" => shapes::of_document(alloc, text),
         "inline-parts" => parts::of_inlines(alloc, text),
         "former-parents" => parts::former(alloc, text),
         "block-widths" => widths::of_block(alloc, text),
