@@ -35,3 +35,4 @@ pub use laws::{
     one_page_corners, one_solution,
 };
 pub use layout::scratch;
+pub use task::{Phase, Task};

@@ -23,13 +23,15 @@ pub fn is_fixed(contexts: &FormattingContexts, i: usize) -> bool
     is_own_fixed(contexts.at(i).boxes())
 }
 
-fn is_own_absolute(boxes: &ContextBoxes) -> bool
+/// Whether the context with these boxes is.
+pub fn is_own_absolute(boxes: &ContextBoxes) -> bool
     ensures { result ≡ is_own_absolute boxes.now }
 {
     is_absolute_flow(boxes.as_slice()[0].flow)
 }
 
-fn is_own_fixed(boxes: &ContextBoxes) -> bool
+/// Whether the context with these boxes is fixed.
+pub fn is_own_fixed(boxes: &ContextBoxes) -> bool
     ensures { result ≡ is_own_fixed boxes.now }
 {
     is_fixed_position(boxes.as_slice()[0].style.position)

@@ -8,7 +8,7 @@ use lay_box_tree::{BoxKind, BoxNode, ContextBoxes};
 use lay_style::Position;
 
 /// The one that counts for a box at k, if there is one among these boxes.
-pub(crate) fn holder_for(is_fixed: bool, boxes: &ContextBoxes, k: usize) -> Option<usize>
+pub fn holder_for(is_fixed: bool, boxes: &ContextBoxes, k: usize) -> Option<usize>
     requires { k < length boxes.now }
     ensures holder { IsHolderFor is_fixed boxes.now k result }
     ensures within { IfSome result (λ h. h < length boxes.now) }

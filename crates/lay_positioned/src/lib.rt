@@ -16,7 +16,8 @@ mod padding_boxes;
 mod rects;
 mod settings;
 
-pub use absolute::{is_absolute, is_fixed};
+pub use absolute::{is_absolute, is_fixed, is_own_absolute, is_own_fixed};
+pub use holders::holder_for;
 pub use laws::{
     one_containing_rect, one_holder, one_level_count, one_levels, one_nearest_holder,
     settings_are_values, settings_come_of_ways, ways_lead_down, ways_lead_out,

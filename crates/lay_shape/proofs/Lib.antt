@@ -1,0 +1,11 @@
+pub mod BuildSteps
+pub mod CellLaws
+pub mod CellOrder
+pub mod LevelSteps
+pub mod Members
+pub mod NeedSteps
+pub mod Once
+pub mod OwnNodes
+pub mod Rising
+pub mod Turns
+pub mod WaySteps

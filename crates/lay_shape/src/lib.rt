@@ -1,0 +1,26 @@
+//! Which cells a document has, three for each of its contexts (CSS 2.2, 9.4.1): its preferred widths, the used sizes of its boxes, and
+//! where these stand.
+//!
+//! `shape_of` of `specs/Shapes.antt` is the list of them with what each depends on: the table of `specs/Dependencies.antt`, in which an
+//! absolutely positioned context depends on what is on the way out to its containing block (`specs/Ways.antt`).
+#![tactic(auto)]
+
+mod cell_key;
+mod cell_shape;
+mod context_phase;
+mod laws;
+mod levels;
+mod needs;
+mod numbers;
+mod order;
+mod ways;
+
+pub use cell_key::CellKey;
+pub use cell_shape::shape;
+pub use context_phase::ContextPhase;
+pub use laws::{
+    cells_are_of_contexts, cells_have_a_shape, cells_stand_once, contexts_are_of_own_nodes,
+    needs_stand_before, ways_are_lists,
+};
+pub use needs::needs_of;
+pub use order::cells_of;

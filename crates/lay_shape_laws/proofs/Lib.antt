@@ -1,0 +1,2 @@
+pub mod ShapedNeeds
+pub mod WayContexts
