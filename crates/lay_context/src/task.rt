@@ -1,7 +1,7 @@
 //! The tasks of a layout.
 
 /// What a formatting context is to be given.
-#[derive(Clone, Copy)]
+#[derive(Clone, Copy, PartialEq, Eq, PartialOrd, Ord)]
 pub enum Phase {
     /// Its preferred widths.
     Measure,
