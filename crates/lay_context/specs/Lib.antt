@@ -2,9 +2,11 @@ pub mod AbsoluteOnPage
 pub mod Alike
 pub mod AllMeasured
 pub mod DocumentLayout
+pub mod GivenContents
 pub mod Laws
 pub mod Local
 pub mod Measured
+pub mod MeasuredFlags
 pub mod Medium
 pub mod Needs
 pub mod OneProof

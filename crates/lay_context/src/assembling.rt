@@ -9,6 +9,7 @@ use crate::known_context::KnownContext;
 use crate::laid_contexts::{ContextsOnPage, LaidContexts};
 use crate::page_corners::{corner_at, page_corners, standing_of};
 use crate::settings::cell_of;
+use crate::values::Values;
 use lay_frag::{Placed, Tree};
 use lay_pieces::near_position;
 use lay_sizes::OwnBox;
@@ -20,12 +21,16 @@ use std::alloc::Global;
 const TOO_MANY_PIECES: usize = 4294967296;
 
 /// The tree of these formatting contexts.
-pub(crate) fn assemble(alloc: Global, laid: &LaidContexts<'_>) -> Result<Tree, NoMemory>
-    ensures { IfOk result (IsAssembled laid.now.contexts.now laid.now.known.now) }
+pub fn assemble<V: Values>(alloc: Global, laid: &LaidContexts<'_, V>) -> Result<Tree, NoMemory>
+    ensures { IfOk result (IsAssembled laid.now.contexts.now (V.workings laid.now.known.now)) }
 {
     let corners = page_corners(alloc, laid)?;
+    let laid = LaidContexts {
+        contexts: laid.contexts,
+        known: laid.known,
+    };
     let on_page = ContextsOnPage {
-        laid: *laid,
+        laid,
         corners: &corners,
     };
     tree_of(alloc, &on_page)
@@ -33,8 +38,8 @@ pub(crate) fn assemble(alloc: Global, laid: &LaidContexts<'_>) -> Result<Tree, N
 
 /// The tree of these formatting contexts, which stand there on the page. NoMemory is also the answer for 2^32 pieces or
 /// more.
-fn tree_of(alloc: Global, on_page: &ContextsOnPage<'_>) -> Result<Tree, NoMemory>
-    ensures { IfOk result (λ t. t ≡ page_contexts on_page.now.laid.contexts.now on_page.now.laid.known.now on_page.now.corners.now (length on_page.now.laid.contexts.now)) }
+fn tree_of<V: Values>(alloc: Global, on_page: &ContextsOnPage<'_, '_, V>) -> Result<Tree, NoMemory>
+    ensures { IfOk result (λ t. t ≡ page_contexts on_page.now.laid.contexts.now (V.workings on_page.now.laid.known.now) on_page.now.corners.now (length on_page.now.laid.contexts.now)) }
 {
     let contexts = on_page.laid.contexts;
     let count = contexts.len();
@@ -65,9 +70,12 @@ fn with_few(before: usize, context: &Placed) -> Result<usize, NoMemory>
 }
 
 /// The formatting context with this number on the page.
-fn page_context(on_page: &ContextsOnPage<'_>, i: usize) -> Result<Placed, NoMemory>
+fn page_context<V: Values>(
+    on_page: &ContextsOnPage<'_, '_, V>,
+    i: usize,
+) -> Result<Placed, NoMemory>
     requires { i < length on_page.now.laid.contexts.now }
-    ensures value { IfOk result (λ c. c ≡ page_context on_page.now.laid.contexts.now on_page.now.laid.known.now on_page.now.corners.now i) }
+    ensures value { IfOk result (λ c. c ≡ page_context on_page.now.laid.contexts.now (V.workings on_page.now.laid.known.now) on_page.now.corners.now i) }
     ensures range { IfOk result IsContextInRange }
     ensures few { IfOk result (λ c. length c.pieces ≤ 2147483648) }
 {
@@ -81,9 +89,9 @@ fn page_context(on_page: &ContextsOnPage<'_>, i: usize) -> Result<Placed, NoMemo
 
 /// The border box of the formatting context with this number on the page. NoMemory is the answer where it is wider than 2^60
 /// units, which it is in no document within the limits.
-fn page_rect(on_page: &ContextsOnPage<'_>, i: usize) -> Result<Rect, NoMemory>
+fn page_rect<V: Values>(on_page: &ContextsOnPage<'_, '_, V>, i: usize) -> Result<Rect, NoMemory>
     requires { i < length on_page.now.laid.contexts.now }
-    ensures rect { IfOk result (λ r. r ≡ page_rect on_page.now.laid.contexts.now on_page.now.laid.known.now on_page.now.corners.now i) }
+    ensures rect { IfOk result (λ r. r ≡ page_rect on_page.now.laid.contexts.now (V.workings on_page.now.laid.known.now) on_page.now.corners.now i) }
     ensures near { IfOk result IsRectNear }
 {
     let laid = &on_page.laid;

@@ -1,18 +1,19 @@
 //! What a task of a layout is given.
 
+use crate::flow_parts::FlowParts;
+use crate::measure_parts::MeasureParts;
+use crate::table_parts::TableParts;
 use lay_abspos::StandInput;
-use lay_context_sizes::{MeasureInput, SizeInput};
-use lay_flow_boxes::PlaceInput;
-use lay_table_rows::TableInput;
+use lay_context_sizes::SizeInput;
 
 /// What a task is given.
 #[derive(Drop)]
 pub enum Input {
     /// What is measured.
-    Measure(MeasureInput),
+    Measure(MeasureParts),
     /// Nothing, of a formatting context whose preferred widths don't count.
     Unmeasured,
     Size(SizeInput),
-    Place(PlaceInput, StandInput),
-    PlaceTable(TableInput, StandInput),
+    Place(FlowParts, StandInput),
+    PlaceTable(TableParts, StandInput),
 }

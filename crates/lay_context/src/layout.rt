@@ -4,37 +4,30 @@ ghost use Rattle.std.specs.Prelude.{◌≡◌, ◌+◌, IfOk, OnOk, length};
 ghost use Rattle.lay_abspos.specs.ViewportBounds.{ViewportFits};
 ghost use Rattle.lay_style.specs.ComputedStyle.{HasStyles};
 ghost use Rattle.lay_doc.specs.Document.{parents_of, declarations_of};
-ghost use Rattle.lay_context.specs.Local.{HasCounts, IsLocal, input_of};
+ghost use Rattle.lay_context.specs.Local.{HasCounts, input_of};
 ghost use Rattle.lay_context.specs.Needs.{round_start};
-ghost use Rattle.lay_abspos.specs.OwnOffsets.{IsOwnOffset};
 ghost use Rattle.lay_context.specs.Settling.{AreDone, BeforeTurn, IsReady, IsSettled};
 ghost use Rattle.lay_context.specs.Solves.{Solves, SolvesContexts, viewport_of};
 
 use crate::assembling::assemble;
-use crate::given::input;
-use crate::input::Input;
+use crate::computing::compute_with;
+use crate::formatted_document::FormattedDocument;
+use crate::given::input_of;
 use crate::known::Known;
 use crate::laid_contexts::LaidContexts;
+use crate::measured::measured_flags;
 use crate::medium::Medium;
-use crate::placed_context::PlacedContext;
 use crate::plan::Plan;
 use crate::shared_contents::shared_contents;
 use crate::task::{Phase, Task};
-use crate::value::Value;
-use lay_abspos::{StandInput, own_offset};
-use lay_context_sizes::{context_sizes, context_widths};
 use lay_contexts::{FormattingContexts, contexts_of, formatting_contexts};
 use lay_doc::Doc;
 use lay_face::Face;
 use lay_frag::Tree;
 use lay_inherit::computed;
-use lay_measure::NO_WIDTHS;
-use lay_pieces::Placement;
-use lay_placement::placement;
 use lay_positioned::{level_count, levels};
 use lay_sizes::ContainingBlock;
 use lay_style::Computed;
-use lay_table::table_placement;
 use lay_table_borders::grids_are_of_boxes;
 use lay_units::{Len, NoMemory, Unit};
 use std::alloc::Global;
@@ -86,12 +79,14 @@ fn lay_contexts(
 {
     grids_are_of_boxes();
     let levels = levels(alloc, contexts)?;
+    let measured = measured_flags(alloc, contexts)?;
     let contents = shared_contents(alloc, medium, contexts)?;
     let plan = Plan {
         medium,
         contexts,
         levels: &levels,
         contents: &contents,
+        measured: &measured,
     };
     let mut known = Known::new(alloc, contexts.len())?;
     measure_all(alloc, &plan, &mut known)?;
@@ -186,38 +181,13 @@ fn settle(alloc: Global, plan: &Plan<'_>, known: &mut Known, task: Task) -> Resu
     requires ready { IsReady plan.now.contexts.now known.old task }
     ensures { OnOk result (IsSettled (input_of plan.now.medium.now plan.now.contexts.now known.old task) known.old task.context known.new) }
 {
-    let input = input(alloc, plan, known, task)?;
-    let value = compute(alloc, &input)?;
+    let document = FormattedDocument {
+        medium: plan.medium,
+        contexts: plan.contexts,
+        measured: plan.measured,
+    };
+    let input = input_of(alloc, &document, known, task)?;
+    let value = compute_with(alloc, input, plan.contents_of(task.context))?;
     known.set(task.context, value);
     Ok(())
-}
-
-/// The value of a task that is given this.
-fn compute(alloc: Global, input: &Input) -> Result<Value, NoMemory>
-    ensures { IfOk result (IsLocal input.now) }
-{
-    match input {
-        Input::Measure(input) => Ok(Value::Measure(context_widths(alloc, input)?)),
-        Input::Unmeasured => Ok(Value::Measure(NO_WIDTHS)),
-        Input::Size(input) => {
-            let _ = input.boxes();
-            Ok(Value::Size(context_sizes(alloc, input)?))
-        }
-        Input::Place(input, stand) => {
-            let _ = input.boxes();
-            Ok(Value::Place(placed(placement(alloc, input)?, stand)?))
-        }
-        Input::PlaceTable(input, stand) => {
-            Ok(Value::Place(placed(table_placement(alloc, input)?, stand)?))
-        }
-    }
-}
-
-/// A placement, with where its formatting context stands itself.
-fn placed(placement: Placement, stand: &StandInput) -> Result<PlacedContext, NoMemory>
-    ensures placement { IfOk result (λ p. p.placement ≡ placement) }
-    ensures offset { IfOk result (λ p. IsOwnOffset stand.now placement.own p.offset) }
-{
-    let offset = own_offset(stand, &placement)?;
-    Ok(PlacedContext::new(placement, offset))
 }

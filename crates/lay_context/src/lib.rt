@@ -11,6 +11,9 @@
 #![tactic(auto)]
 
 mod assembling;
+mod computing;
+mod flow_parts;
+mod formatted_document;
 mod given;
 mod input;
 mod known;
@@ -18,21 +21,43 @@ mod known_context;
 mod laid_contexts;
 mod laws;
 mod layout;
+mod measure_parts;
 mod measured;
 mod medium;
+mod nothing_known;
 mod own_heights;
 mod page_corners;
 mod placed_context;
 mod plan;
 mod settings;
 mod shared_contents;
+mod shared_pieces;
+mod table_parts;
 mod task;
 mod value;
+mod values;
 
+pub use assembling::assemble;
+pub use computing::{compute, value_of_flow, value_of_measure, value_of_size, value_of_table};
+pub use flow_parts::FlowParts;
+pub use formatted_document::FormattedDocument;
+pub use given::input_of;
+pub use input::Input;
+pub use laid_contexts::LaidContexts;
 pub use laws::{
     absolute_boxes_stand_in_containing_blocks, inputs_come_of_needs, measured_goes_inward,
     measured_where_shrunk, measuring_all_changes_no_tree, needs_come_first, one_local,
     one_page_corners, one_solution,
 };
 pub use layout::scratch;
+pub use measure_parts::MeasureParts;
+pub use measured::{is_measured, measured_flags};
+pub use medium::Medium;
+pub use nothing_known::{no_pieces, not_placed, not_sized};
+pub use placed_context::PlacedContext;
+pub use settings::setting_in;
+pub use shared_pieces::SharedPieces;
+pub use table_parts::TableParts;
 pub use task::{Phase, Task};
+pub use value::Value;
+pub use values::Values;

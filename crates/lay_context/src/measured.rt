@@ -1,14 +1,29 @@
 //! Which formatting contexts are measured.
 
-ghost use Rattle.std.specs.Prelude.{◌≡◌, ◌<◌, length};
+ghost use Rattle.std.specs.Prelude.{◌≡◌, ◌<◌, length, IfOk};
 ghost use Rattle.lay_context.specs.Measured.{is_measured, shrinks_within};
+ghost use Rattle.lay_context.specs.MeasuredFlags.{AreMeasured};
 
 use lay_context_sizes::shrinks_to_fit;
 use lay_contexts::FormattingContexts;
+use lay_units::NoMemory;
+use std::alloc::Global;
+
+/// For each formatting context whether it is measured.
+pub fn measured_flags(alloc: Global, contexts: &FormattingContexts) -> Result<Vec<bool>, NoMemory>
+    ensures { IfOk result (λ v. AreMeasured contexts.now v.items) }
+{
+    let count = contexts.len();
+    let mut flags = Vec::with_capacity(alloc, count)?;
+    for i in 0..count {
+        flags.push(is_measured(contexts, i))?;
+    }
+    Ok(flags)
+}
 
 /// Whether the own box of the formatting context with this number may shrink to fit, or that of one around it, so that its
 /// preferred widths count.
-pub(crate) fn is_measured(contexts: &FormattingContexts, i: usize) -> bool
+pub fn is_measured(contexts: &FormattingContexts, i: usize) -> bool
     requires { i < length contexts.now }
     ensures { result ≡ is_measured contexts.now i }
 {

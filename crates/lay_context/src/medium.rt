@@ -12,7 +12,7 @@ use std::sync::Arc;
 /// What all contexts of a document share: the viewport, which is the containing block of the root, and the face of
 /// texts.
 #[derive(Drop)]
-pub(crate) struct Medium {
+pub struct Medium {
     viewport: ContainingBlock,
     face: Arc<Face>,
 }
@@ -29,7 +29,7 @@ impl Model for Medium {
 }
 
 impl Medium {
-    pub(crate) fn new(viewport: ContainingBlock, face: Arc<Face>) -> Medium
+    pub fn new(viewport: ContainingBlock, face: Arc<Face>) -> Medium
         requires { ViewportFits viewport }
         ensures { result ≡ record { viewport = viewport; face = face.value } }
     {
@@ -37,7 +37,7 @@ impl Medium {
     }
 
     /// The viewport.
-    pub(crate) fn viewport(&self) -> ContainingBlock
+    pub fn viewport(&self) -> ContainingBlock
         ensures viewport { result ≡ self.now.viewport }
         ensures fits { ViewportFits result }
     {
@@ -45,7 +45,7 @@ impl Medium {
     }
 
     /// The face, shared.
-    pub(crate) fn face(&self) -> Result<Arc<Face>, NoMemory>
+    pub fn face(&self) -> Result<Arc<Face>, NoMemory>
         ensures { IfOk result (λ f. f.value ≡ self.now.face) }
     {
         Ok(self.face.clone()?)

@@ -44,7 +44,8 @@ const AS_HIGH_AS_CONTENT: HeightRule = HeightRule {
     max: None,
 };
 
-fn height_rule_of(sizes: BoxSizes) -> HeightRule
+/// What is given of the height of a box of these used sizes.
+pub(crate) fn height_rule_of(sizes: BoxSizes) -> HeightRule
     ensures { result ≡ height_rule_of sizes }
 {
     HeightRule {

@@ -8,14 +8,18 @@ ghost use Rattle.lay_context.specs.PlacedContexts.{placed_in};
 
 use crate::laid_contexts::LaidContexts;
 use crate::placed_context::PlacedContext;
+use crate::values::Values;
 use lay_pieces::{Corner, Standing, near_position};
 use lay_positioned::is_absolute;
 use lay_units::{NoMemory, Unit};
 use std::alloc::Global;
 
 /// The corners of the border boxes of formatting contexts on the page, in their order.
-pub(crate) fn page_corners(alloc: Global, laid: &LaidContexts<'_>) -> Result<Vec<Corner>, NoMemory>
-    ensures corners { IfOk result (λ v. HasPageCorners laid.now.contexts.now laid.now.known.now.places v.items) }
+pub(crate) fn page_corners<V: Values>(
+    alloc: Global,
+    laid: &LaidContexts<'_, V>,
+) -> Result<Vec<Corner>, NoMemory>
+    ensures corners { IfOk result (λ v. HasPageCorners laid.now.contexts.now (V.workings laid.now.known.now).places v.items) }
     ensures near { IfOk result (λ v. AreNearCorners v.items) }
 {
     let count = laid.contexts.len();
@@ -28,11 +32,15 @@ pub(crate) fn page_corners(alloc: Global, laid: &LaidContexts<'_>) -> Result<Vec
 }
 
 /// The corner of the formatting context with this number on the page, where those of the ones before it are known.
-fn page_corner(laid: &LaidContexts<'_>, corners: &[Corner], i: usize) -> Result<Corner, NoMemory>
+fn page_corner<V: Values>(
+    laid: &LaidContexts<'_, V>,
+    corners: &[Corner],
+    i: usize,
+) -> Result<Corner, NoMemory>
     requires within { i < length laid.now.contexts.now }
     requires before { i ≤ length corners.now }
-    ensures first { IfOk result (λ c. i ≡ 0 → c ≡ (placed_in laid.now.known.now.places 0).offset) }
-    ensures inner { IfOk result (λ c. 0 < i → c ≡ inner_corner laid.now.contexts.now laid.now.known.now.places corners.now i) }
+    ensures first { IfOk result (λ c. i ≡ 0 → c ≡ (placed_in (V.workings laid.now.known.now).places 0).offset) }
+    ensures inner { IfOk result (λ c. 0 < i → c ≡ inner_corner laid.now.contexts.now (V.workings laid.now.known.now).places corners.now i) }
     ensures near { IfOk result IsCornerNear }
 {
     if i == 0 {
@@ -43,11 +51,15 @@ fn page_corner(laid: &LaidContexts<'_>, corners: &[Corner], i: usize) -> Result<
 
 /// The corner of the formatting context with this number on the page, which isn't the root's, where those of the ones
 /// before it are known.
-fn inner_corner(laid: &LaidContexts<'_>, corners: &[Corner], i: usize) -> Result<Corner, NoMemory>
+fn inner_corner<V: Values>(
+    laid: &LaidContexts<'_, V>,
+    corners: &[Corner],
+    i: usize,
+) -> Result<Corner, NoMemory>
     requires inner { 0 < i }
     requires within { i < length laid.now.contexts.now }
     requires before { i ≤ length corners.now }
-    ensures corner { IfOk result (λ c. c ≡ inner_corner laid.now.contexts.now laid.now.known.now.places corners.now i) }
+    ensures corner { IfOk result (λ c. c ≡ inner_corner laid.now.contexts.now (V.workings laid.now.known.now).places corners.now i) }
     ensures near { IfOk result IsCornerNear }
 {
     let outer = laid.contexts.at(i).outer();
@@ -57,9 +69,9 @@ fn inner_corner(laid: &LaidContexts<'_>, corners: &[Corner], i: usize) -> Result
 }
 
 /// How the formatting context with this number stands.
-pub(crate) fn standing_of(laid: &LaidContexts<'_>, i: usize) -> Standing
+pub(crate) fn standing_of<V: Values>(laid: &LaidContexts<'_, V>, i: usize) -> Standing
     requires { i < length laid.now.contexts.now }
-    ensures standing { result ≡ standing_of laid.now.contexts.now laid.now.known.now.places i }
+    ensures standing { result ≡ standing_of laid.now.contexts.now (V.workings laid.now.known.now).places i }
     ensures fits { IsStandingNear result }
 {
     if is_absolute(laid.contexts, i) {
@@ -69,9 +81,9 @@ pub(crate) fn standing_of(laid: &LaidContexts<'_>, i: usize) -> Standing
 }
 
 /// How it stands in flow or floating.
-fn flow_standing(laid: &LaidContexts<'_>, i: usize) -> Standing
+fn flow_standing<V: Values>(laid: &LaidContexts<'_, V>, i: usize) -> Standing
     requires { i < length laid.now.contexts.now }
-    ensures standing { result ≡ flow_standing laid.now.contexts.now laid.now.known.now.places i }
+    ensures standing { result ≡ flow_standing laid.now.contexts.now (V.workings laid.now.known.now).places i }
     ensures fits { IsStandingNear result }
 {
     if i == 0 {

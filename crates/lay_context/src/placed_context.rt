@@ -34,14 +34,14 @@ impl PlacedContext {
     }
 
     /// Its placement.
-    pub(crate) fn placement(&self) -> &Placement
+    pub fn placement(&self) -> &Placement
         ensures { result.now ≡ self.now.placement }
     {
         &self.placement
     }
 
     /// Where it stands itself.
-    pub(crate) fn offset(&self) -> Corner
+    pub fn offset(&self) -> Corner
         ensures offset { result ≡ self.now.offset }
         ensures near { IsCornerNear result }
     {

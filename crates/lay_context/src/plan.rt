@@ -5,6 +5,7 @@ ghost use Rattle.lay_items.specs.InlineContents.{AreContents};
 ghost use Rattle.lay_table_borders.specs.GridLaws.{GridsAreOfBoxes};
 ghost use Rattle.lay_contexts.specs.FormattingContexts.{boxes_in};
 ghost use Rattle.lay_positioned.specs.Levels.{HasLevels};
+ghost use Rattle.lay_context.specs.MeasuredFlags.{AreMeasured};
 ghost use Rattle.lay_context.specs.OneProof.{HaveContents-prop};
 ghost use Rattle.lay_context.specs.SharedContents.{HaveContents, TextsAreKept, contents_in};
 
@@ -12,17 +13,19 @@ use crate::medium::Medium;
 use lay_contexts::FormattingContexts;
 use lay_items::InlineContents;
 
-/// What the tasks of a layout share: the medium, the formatting contexts, the levels of these, and the content of their lines
-/// that more than one task asks for.
+/// What the tasks of a layout share: the medium, the formatting contexts, their levels, the content of their lines that more
+/// than one task asks for, and whether each is measured.
 #[derive(Clone, Copy)]
 pub(crate) struct Plan<'a> {
     pub medium: &'a Medium,
     pub contexts: &'a FormattingContexts,
     pub levels: &'a [usize],
     pub contents: &'a [InlineContents],
+    pub measured: &'a [bool],
     ghost has_levels: { HasLevels contexts.now levels.now },
     ghost grids: { GridsAreOfBoxes },
     ghost have_contents: { HaveContents medium.now.face contexts.now contents.now } by { HaveContents-prop medium.now.face contexts.now contents.now },
+    ghost are_measured: { AreMeasured contexts.now measured.now },
 }
 
 impl<'a> Plan<'a> {

@@ -8,13 +8,14 @@ ghost use Rattle.lay_positioned.specs.Settings.{absolute_setting};
 ghost use Rattle.lay_abspos.specs.AbsoluteSettings.{SettingFits};
 ghost use Rattle.lay_context_sizes.specs.Inputs.{OwnSettingFits};
 ghost use Rattle.lay_abspos.specs.StandInputs.{OwnPlaceFits};
-ghost use Rattle.lay_context.specs.Settings.{caption_block, cell_given, cell_of, flow_setting, laid, own_place_of, setting_as, setting_in_table, setting_of};
+ghost use Rattle.lay_context.specs.Settings.{caption_block, cell_given, cell_of, flow_setting, laid, own_place_of, setting_as, setting_in, setting_in_table, setting_of};
 
 use crate::known_context::{KnownContext, ReadyToSize};
 use crate::medium::Medium;
+use crate::values::Values;
 use lay_abspos::{AbsoluteSetting, OwnPlace};
 use lay_box_tree::ContextBoxes;
-use lay_context_sizes::Setting;
+use lay_context_sizes::{Setting, SizedContext};
 use lay_pieces::{ContextSizes, block_around};
 use lay_positioned::{is_absolute, setting};
 use lay_sizes::{BoxSizes, ContainingBlock, NO_SIZES, content_block};
@@ -23,8 +24,11 @@ use lay_units::{Len, NoMemory};
 
 /// The setting of the own box of a formatting context. NoMemory is the answer where formatting contexts on the way to its
 /// containing block are more than 2^60 units from another, which they are in no document within the limits.
-pub(crate) fn setting_of(medium: &Medium, ready: &ReadyToSize<'_>) -> Result<Setting, NoMemory>
-    ensures setting { IfOk result (λ s. s ≡ setting_of medium.now.viewport ready.now.at.contexts.now ready.now.at.known.now ready.now.at.number) }
+pub(crate) fn setting_of<V: Values>(
+    medium: &Medium,
+    ready: &ReadyToSize<'_, V>,
+) -> Result<Setting, NoMemory>
+    ensures setting { IfOk result (λ s. s ≡ setting_of medium.now.viewport ready.now.at.contexts.now (V.workings ready.now.at.known.now) ready.now.at.number) }
     ensures fits { IfOk result OwnSettingFits }
 {
     if is_absolute(ready.at.contexts, ready.at.number) {
@@ -34,8 +38,11 @@ pub(crate) fn setting_of(medium: &Medium, ready: &ReadyToSize<'_>) -> Result<Set
 }
 
 /// What says where a formatting context stands. NoMemory is the answer as for its setting.
-pub(crate) fn own_place_of(medium: &Medium, at: &KnownContext<'_>) -> Result<OwnPlace, NoMemory>
-    ensures position { IfOk result (λ p. p ≡ own_place_of medium.now.viewport at.now.contexts.now at.now.known.now at.now.number) }
+pub(crate) fn own_place_of<V: Values>(
+    medium: &Medium,
+    at: &KnownContext<'_, V>,
+) -> Result<OwnPlace, NoMemory>
+    ensures position { IfOk result (λ p. p ≡ own_place_of medium.now.viewport at.now.contexts.now (V.workings at.now.known.now) at.now.number) }
     ensures fits { IfOk result OwnPlaceFits }
 {
     if is_absolute(at.contexts, at.number) {
@@ -48,17 +55,20 @@ pub(crate) fn own_place_of(medium: &Medium, at: &KnownContext<'_>) -> Result<Own
 }
 
 /// What an absolutely positioned one is given.
-fn absolute_setting(medium: &Medium, at: &KnownContext<'_>) -> Result<AbsoluteSetting, NoMemory>
-    ensures setting { IfOk result (λ s. s ≡ absolute_setting medium.now.viewport at.now.contexts.now (laid at.now.known.now) at.now.number) }
+fn absolute_setting<V: Values>(
+    medium: &Medium,
+    at: &KnownContext<'_, V>,
+) -> Result<AbsoluteSetting, NoMemory>
+    ensures setting { IfOk result (λ s. s ≡ absolute_setting medium.now.viewport at.now.contexts.now (laid (V.workings at.now.known.now)) at.now.number) }
     ensures fits { IfOk result SettingFits }
 {
-    setting(medium.viewport(), at.contexts, at.known, at.number)
+    setting(medium.viewport(), at.contexts, at, at.number)
 }
 
 /// The setting of the own box of a formatting context in flow or floating.
-fn flow_setting(medium: &Medium, ready: &ReadyToSize<'_>) -> Setting
+fn flow_setting<V: Values>(medium: &Medium, ready: &ReadyToSize<'_, V>) -> Setting
     requires flow { is_absolute ready.now.at.contexts.now ready.now.at.number ≡ false }
-    ensures setting { result ≡ flow_setting medium.now.viewport ready.now.at.contexts.now ready.now.at.known.now.sizes ready.now.at.number }
+    ensures setting { result ≡ flow_setting medium.now.viewport ready.now.at.contexts.now (V.workings ready.now.at.known.now).sizes ready.now.at.number }
     ensures fits { OwnSettingFits result }
 {
     let at = &ready.at;
@@ -68,12 +78,12 @@ fn flow_setting(medium: &Medium, ready: &ReadyToSize<'_>) -> Setting
     let context = at.formatting_context();
     let boxes = at.contexts.at(context.outer()).boxes();
     let sized = at.known.sizes(context.outer());
-    setting_as(boxes, sized.boxes(), sized.table(), context.outer_box())
+    setting_in(boxes, sized, context.outer_box())
 }
 
 /// What a formatting context is given as a cell.
-pub(crate) fn cell_of(at: &KnownContext<'_>) -> Option<CellSize>
-    ensures { result ≡ cell_of at.now.contexts.now at.now.known.now.sizes at.now.number }
+pub(crate) fn cell_of<V: Values>(at: &KnownContext<'_, V>) -> Option<CellSize>
+    ensures { result ≡ cell_of at.now.contexts.now (V.workings at.now.known.now).sizes at.now.number }
 {
     let context = at.formatting_context();
     if at.number > 0 {
@@ -93,6 +103,15 @@ fn cell_given(table: &Option<TableSizes>, k: usize) -> Option<CellSize>
 }
 
 /// The setting of the box at k among these, which have these sizes.
+pub fn setting_in(boxes: &ContextBoxes, sized: &SizedContext, k: usize) -> Setting
+    requires place { k < length boxes.now }
+    requires known { length sized.now.boxes ≡ length boxes.now }
+    ensures setting { result ≡ setting_in boxes.now sized.now k }
+    ensures fits { OwnSettingFits result }
+{
+    setting_as(boxes, sized.boxes(), sized.table(), k)
+}
+
 fn setting_as(
     boxes: &ContextBoxes,
     sizes: &ContextSizes,

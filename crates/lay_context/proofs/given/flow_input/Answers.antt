@@ -3,7 +3,7 @@ use Rattle.lay_context.proofs.PlaceInputs.{flow_input_fits}
 use Rattle.lay_context.proofs.given.flow_input.Goals as goal
 
 pub new-flow-requires : goal.new-flow-requires
-new-flow-requires c =
+new-flow-requires g c =
     let at = c.args.ready.now.at in
     let boxes = c.in_ok-boxes.ensures {u = tt} in
     let sizes = c.in_ok-sizes.ensures {u = tt} in
@@ -14,4 +14,4 @@ new-flow-requires c =
     let fit = rw inner.boxes at inner.fit in
     let near = rw pieces.pieces at pieces.near in
     rw (boxes, c.boxes.ensures, c.formatting_context.ensures.context, sizes, c.boxes-2.ensures, c.sizes-sized.ensures, inner.boxes, pieces.pieces, face)
-    (flow_input_fits at.contexts.now at.known.now at.number c.formatting_context.ensures.are at.within (c.args.ready.now.ready.sized at.number (inl refl)) bounds fit c.args.medium.now near)
+    (flow_input_fits at.contexts.now (g.V.Values.workings at.known.now) at.number c.formatting_context.ensures.are at.within (c.args.ready.now.ready.sized at.number (inl refl)) bounds fit c.args.medium.now near)

@@ -4,9 +4,9 @@ use Rattle.lay_context.proofs.GivenFacts.{one_more_of}
 use Rattle.lay_context.proofs.given.inner_widths.Goals as goal
 
 pub loop-k-preserved : goal.loop-k-preserved
-loop-k-preserved c =
+loop-k-preserved g c =
     let at = c.args.at.now in
     let pushed = (c.in_ok-push.ensures {u = tt}).items in
     let within = rw (c.inner-count.ensures, c.formatting_context.ensures.context) at c.loop-k-test.true in
     let is = rw (c.inner_at.ensures.known, c.inner_at.ensures.number) at c.inner_widths_in.ensures in
-    rw pushed (one_more_of (inner_widths_in at.known.now.widths) (flow_number at.contexts.now) (formatting_context_at at.contexts.now at.number).inner c.loop-k.k c.loop-k.widths.items c.inner_widths_in.result within c.loop-k.invariant is)
+    rw pushed (one_more_of (inner_widths_in (g.V.Values.workings at.known.now).widths) (flow_number at.contexts.now) (formatting_context_at at.contexts.now at.number).inner c.loop-k.k c.loop-k.widths.items c.inner_widths_in.result within c.loop-k.invariant is)

@@ -3,7 +3,7 @@ use Rattle.lay_context.proofs.PlaceInputs.{table_input_fits}
 use Rattle.lay_context.proofs.given.table_input.Goals as goal
 
 pub new-requires : goal.new-requires
-new-requires c =
+new-requires g c =
     let at = c.args.ready.now.at in
     let boxes = c.in_ok-boxes.ensures {u = tt} in
     let sizes = c.in_ok-sizes.ensures {u = tt} in
@@ -12,4 +12,4 @@ new-requires c =
     let bounds = rw (sizes, c.boxes-2.ensures, c.sizes.ensures) at c.as_slice.ensures.bounds in
     let fit = rw inner.boxes at inner.fit in
     rw (boxes, c.boxes.ensures, c.formatting_context.ensures.context, sizes, c.boxes-2.ensures, c.sizes.ensures, inner.boxes, pieces.pieces)
-    (table_input_fits at.contexts.now at.known.now at.number c.formatting_context.ensures.are at.within (c.args.ready.now.ready.sized at.number (inl refl)) bounds fit c.args.table c.requires.table)
+    (table_input_fits at.contexts.now (g.V.Values.workings at.known.now) at.number c.formatting_context.ensures.are at.within (c.args.ready.now.ready.sized at.number (inl refl)) bounds fit c.args.table c.requires.table)

@@ -8,7 +8,7 @@ use Rattle.lay_context.proofs.layout.lay_contexts.Goals as goal
 pub invariant_of-laid : goal.invariant_of-laid
 invariant_of-laid c =
     let has : HasLevels c.args.contexts.now c.deref.result.now = rw c.deref.ensures.value ((c.in_ok-levels.ensures {u = tt}).levels) in
-    let same = c.deref-3.ensures.value ∙ sym c.deref.ensures.value in
+    let same = c.deref-4.ensures.value ∙ sym c.deref.ensures.value in
     let counted = rw same at c.level_count-level-end.ensures.count in
     let all : c.loop-level.level ≡ c.level_count-level-end.result = omega arith in
     let done = rw all at c.loop-level.invariant in
@@ -19,7 +19,7 @@ invariant_of-laid c =
 pub returns : goal.returns
 returns c =
     let has : HasLevels c.args.contexts.now c.deref.result.now = rw c.deref.ensures.value ((c.in_ok-levels.ensures {u = tt}).levels) in
-    let same = c.deref-3.ensures.value ∙ sym c.deref.ensures.value in
+    let same = c.deref-4.ensures.value ∙ sym c.deref.ensures.value in
     let counted = rw same at c.level_count-level-end.ensures.count in
     let all : c.loop-level.level ≡ c.level_count-level-end.result = omega arith in
     let done = rw all at c.loop-level.invariant in
