@@ -10,6 +10,7 @@ use crate::fields::object_of;
 use crate::new_node::new_node;
 use crate::node_form::node_form;
 use lay_doc::{BadDeclaration, Doc, EditFault, NewFault, NewNode, NodeId};
+use lay_gather::Gathered;
 use serde_json::Value;
 use std::alloc::Global;
 
@@ -41,7 +42,7 @@ fn root_of(
     viewport: (u32, u32),
     parent: NodeId,
     root: NewNode,
-) -> Result<Doc, InputFault>
+) -> Result<Gathered, InputFault>
     requires low { (1 ≤ viewport.0) × (1 ≤ viewport.1) }
     requires high { (viewport.0 ≤ 1000000) × (viewport.1 ≤ 1000000) }
     ensures { Gives result (root_of viewport (parent, root)) }
@@ -52,7 +53,7 @@ fn root_of(
             fault: EditFault::NoNode,
         });
     }
-    match Doc::new(alloc, viewport.0, viewport.1, root) {
+    match Gathered::new(alloc, viewport.0, viewport.1, root) {
         Ok(doc) => Ok(doc),
         Err(NewFault::Bad(fault)) => Err(InputFault::BadNode { node: 0, fault }),
         Err(NewFault::NoMemory) => Err(InputFault::NoMemory),
@@ -60,14 +61,14 @@ fn root_of(
 }
 
 /// How many nodes a document has: the number of the next one.
-fn next_number(doc: &Doc) -> u32
+fn next_number(doc: &Gathered) -> u32
     ensures { result ≡ length doc.now.nodes }
 {
-    doc.nodes().len() as u32
+    doc.len() as u32
 }
 
 /// Puts a node into the document as the last child of its parent.
-fn put_last(doc: &mut Doc, parent: NodeId, new: NewNode) -> Result<(), InputFault>
+fn put_last(doc: &mut Gathered, parent: NodeId, new: NewNode) -> Result<(), InputFault>
     ensures { Changes result doc.new (put_last doc.old (parent, new)) }
 {
     if let Some(fault) = doc.check_last(parent, &new) {
@@ -79,14 +80,14 @@ fn put_last(doc: &mut Doc, parent: NodeId, new: NewNode) -> Result<(), InputFaul
 }
 
 /// Reads the next node and puts it into the document.
-fn put_node(alloc: Global, doc: &mut Doc, value: &Value) -> Result<(), InputFault>
+fn put_node(alloc: Global, doc: &mut Gathered, value: &Value) -> Result<(), InputFault>
     ensures { Changes result doc.new (put_node doc.old (view value.now)) }
 {
     let (parent, new) = node_at(alloc, next_number(doc), value)?;
     put_last(doc, parent, new)
 }
 
-fn put_nodes(alloc: Global, doc: &mut Doc, values: &[Value]) -> Result<(), InputFault>
+fn put_nodes(alloc: Global, doc: &mut Gathered, values: &[Value]) -> Result<(), InputFault>
     ensures { Changes result doc.new (put_nodes doc.old (items_view values.now)) }
 {
     for value in values {
@@ -109,5 +110,5 @@ pub(crate) fn document_of(
     let (parent, root) = node_at(alloc, 0, first)?;
     let mut doc = root_of(alloc, viewport, parent, root)?;
     put_nodes(alloc, &mut doc, rest)?;
-    Ok(doc)
+    Ok(doc.into_doc(alloc)?)
 }
