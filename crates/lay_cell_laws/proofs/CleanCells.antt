@@ -28,7 +28,7 @@ use Rattle.lay_context.specs.Settings.{sizes_in}
 use Rattle.lay_context.specs.Solves.{medium_of}
 use Rattle.lay_context.specs.Workings.{Workings}
 use Rattle.lay_cell_work.specs.CellInputs.{CellInput, RootInput}
-use Rattle.lay_cell_work.specs.CellKeys.{CellKey}
+use Rattle.lay_shape.specs.declared.cell_key.CellKey.{CellKey}
 use Rattle.lay_cell_work.specs.CellLocal.{IsCellLocal, whole_input}
 use Rattle.lay_cell_work.specs.CellValues.{CellValue, Places, Sizes, Widths, own_places, own_sizes, own_widths, phase_of, root_value}
 use Rattle.lay_cell_work.specs.KeptValues.{is_key, is_phase, kept_value, kept_workings, value_or_none, value_under, workings_of}

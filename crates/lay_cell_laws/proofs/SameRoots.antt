@@ -25,7 +25,7 @@ use Rattle.lay_context.specs.Medium.{Medium}
 use Rattle.lay_cell_work.specs.declared.root_spot.RootSpot.{RootSpot}
 use Rattle.lay_cell_work.specs.CellColumns.{links_or_none}
 use Rattle.lay_cell_work.specs.CellInputs.{CellInput, RootInput}
-use Rattle.lay_cell_work.specs.CellKeys.{CellKey}
+use Rattle.lay_shape.specs.declared.cell_key.CellKey.{CellKey}
 use Rattle.lay_cell_work.specs.PresentInputs.{key_of, root_count, root_input, spot_in}
 use Rattle.lay_cell_laws.specs.SameContexts.{IsSameContext, IsTable, Table, inner_at, input_in, workings_in}
 use Rattle.lay_cell_laws.proofs.InputForms.{table_are, table_calm, table_keeps}

@@ -20,7 +20,7 @@ use Rattle.lay_context.specs.declared.task.Phase.{Phase}
 use Rattle.lay_context.specs.Medium.{Medium}
 use Rattle.lay_context.specs.Solves.{IsAssembled, Solves, medium_of}
 use Rattle.lay_cell_work.specs.CellInputs.{CellInput}
-use Rattle.lay_cell_work.specs.CellKeys.{CellKey}
+use Rattle.lay_shape.specs.declared.cell_key.CellKey.{CellKey}
 use Rattle.lay_cell_work.specs.CellLocal.{IsCellLocal}
 use Rattle.lay_cell_work.specs.CellValues.{CellValue}
 use Rattle.lay_cell_work.specs.KeptValues.{kept_workings}

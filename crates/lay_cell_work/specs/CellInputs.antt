@@ -2,7 +2,7 @@
 use Rattle.std.specs.Prelude.{ℕ, List, Option}
 use Rattle.lay_context.specs.declared.input.Input.{Input}
 use Rattle.lay_cell_work.specs.declared.root_spot.RootSpot.{RootSpot}
-use Rattle.lay_cell_work.specs.CellKeys.{CellKey}
+use Rattle.lay_shape.specs.declared.cell_key.CellKey.{CellKey}
 
 pub record RootInput : Type 0 where
   pub given : Input

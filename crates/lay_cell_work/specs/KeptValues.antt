@@ -10,7 +10,7 @@ use Rattle.lay_context.specs.declared.task.Phase.TheVariants as phase
 use Rattle.lay_context.specs.PlacedContexts.{not_placed}
 use Rattle.lay_context.specs.Workings.{Workings}
 use Rattle.lay_cell_work.specs.CellInputs.{CellInput}
-use Rattle.lay_cell_work.specs.CellKeys.{CellKey}
+use Rattle.lay_shape.specs.declared.cell_key.CellKey.{CellKey}
 use Rattle.lay_cell_work.specs.CellValues.{CellValue, no_value, own_places, own_sizes, own_widths}
 use Rattle.lay_cell_work.specs.PresentInputs.{key_of, root_count}
 

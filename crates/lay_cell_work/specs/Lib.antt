@@ -1,4 +1,3 @@
-pub mod CellKeys
 pub mod CellColumns
 pub mod CellInputs
 pub mod CellValues

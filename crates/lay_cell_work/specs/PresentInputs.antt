@@ -3,7 +3,6 @@
 -- boxes of inner contexts and not their placements.
 use Rattle.std.specs.Prelude.{ℕ, ◌+◌, ◌-◌, List, [], length, map, Option, None, Some, if◌then◌else◌}
 use Rattle.std.specs.List.{range_with_len}
-use Rattle.lay_box_tree.specs.BoxColumns.{box_at}
 use Rattle.lay_contexts.specs.Contexts.{Context, boxes_in}
 use Rattle.lay_contexts.specs.FormattingContexts.{FormattingContext, formatting_context_at}
 use Rattle.lay_contexts.specs.FormattingContextList.{first_number, roots_before}
@@ -13,10 +12,11 @@ use Rattle.lay_context.specs.declared.task.Phase.{Phase}
 use Rattle.lay_context.specs.Local.{input_of}
 use Rattle.lay_context.specs.Medium.{Medium}
 use Rattle.lay_context.specs.Workings.{Workings}
+use Rattle.lay_shape.specs.declared.cell_key.CellKey.{CellKey}
+use Rattle.lay_shape.specs.Keys.{key_of as key_of_cell}
 use Rattle.lay_cell_work.specs.declared.root_spot.RootSpot.{RootSpot}
 use Rattle.lay_cell_work.specs.CellColumns.{links_of}
 use Rattle.lay_cell_work.specs.CellInputs.{CellInput, RootInput}
-use Rattle.lay_cell_work.specs.CellKeys.{CellKey}
 use Rattle.lay_cell_work.specs.CellLocal.{masked_input}
 
 -- how many roots the context c has: its formatting contexts have the numbers from `first_number contexts c` on
@@ -24,7 +24,7 @@ abbrev pub root_count : List Context → ℕ → ℕ
 root_count contexts c = roots_before (boxes_in contexts c) (length (boxes_in contexts c))
 
 abbrev pub key_of : List Context → ℕ → Phase → CellKey
-key_of contexts c phase = record { node = (box_at (boxes_in contexts c) 0).node; phase = phase }
+key_of contexts c phase = key_of_cell contexts (record { context = c; phase = phase })
 
 -- where the box of the formatting context with the number i stands, if it is an anonymous one
 abbrev pub spot_in : List FormattingContext → (first i : ℕ) → Option RootSpot
