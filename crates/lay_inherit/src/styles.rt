@@ -25,8 +25,9 @@ pub fn computed(alloc: Global, doc: &Doc) -> Result<Computed, NoMemory>
     Ok(Computed::new(styles))
 }
 
-/// Adds the style of the node at k to those of the nodes before it.
-fn push_style(nodes: &[Node], styles: &mut Vec<Style>, k: usize) -> Result<(), NoMemory>
+/// Adds the style of the node at k to those of the nodes before it, which are known. So whoever knows the styles before a node
+/// can go on from there.
+pub fn push_style(nodes: &[Node], styles: &mut Vec<Style>, k: usize) -> Result<(), NoMemory>
     requires tree { IsTree (parents_of nodes.now) }
     requires place { k < length nodes.now }
     requires known { StylesTo (parents_of nodes.now) (declarations_of nodes.now) styles.old.items k }
