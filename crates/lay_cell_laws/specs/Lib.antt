@@ -1,3 +1,4 @@
 pub mod SoundCells
+pub mod DocumentCells
 pub mod Laws
 pub mod SameContexts
