@@ -1,0 +1,7 @@
+pub mod State
+pub mod Steps
+pub mod Settling
+pub mod Edits
+pub mod Claims
+pub mod Kept
+pub mod Laws
