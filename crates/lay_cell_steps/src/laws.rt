@@ -3,21 +3,17 @@
 ghost use Rattle.lay_cell_steps.specs.CellSteps.{ClaimsKeepCells, FinishesKeepCells, GiveBacksKeepCells, NewCellsAreSound};
 
 use lay_kept_inputs::inputs_are_kept;
-use lay_shape::{cells_are_of_contexts, cells_stand_once, contexts_are_of_own_nodes};
 
 /// Cells that are all made anew are those of the document whose shape they have.
 pub fn new_cells_are_sound()
     ensures { NewCellsAreSound }
-{
-    cells_stand_once();
-}
+{}
 
 /// A claim for what a cell would be given now keeps the cells those of the document.
 pub fn claims_keep_cells()
     ensures { ClaimsKeepCells }
 {
     inputs_are_kept();
-    contexts_are_of_own_nodes();
 }
 
 /// Work that comes back keeps the cells those of the document.
@@ -25,8 +21,6 @@ pub fn finishes_keep_cells()
     ensures { FinishesKeepCells }
 {
     inputs_are_kept();
-    cells_are_of_contexts();
-    contexts_are_of_own_nodes();
 }
 
 /// A claim that is given back keeps the cells those of the document.
@@ -34,5 +28,4 @@ pub fn give_backs_keep_cells()
     ensures { GiveBacksKeepCells }
 {
     inputs_are_kept();
-    contexts_are_of_own_nodes();
 }

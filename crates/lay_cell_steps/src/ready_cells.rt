@@ -3,7 +3,7 @@
 ghost use Rattle.lay_cell_steps.specs.ReadyCells.{AssembledTreesSolve, CleanCellsAreKnown, KeptValuesAreCounted, ReadyToInput};
 
 use lay_cell_laws::clean_cells_solve;
-use lay_shape::{cells_are_of_contexts, contexts_are_of_own_nodes};
+use lay_contexts::anonymous_boxes_are_in_flow;
 use lay_shape_laws::needs_are_shaped;
 use lay_table_borders::grids_are_of_boxes;
 
@@ -17,8 +17,6 @@ pub fn ready_to_input()
     ensures { ReadyToInput }
 {
     needs_are_shaped();
-    cells_are_of_contexts();
-    contexts_are_of_own_nodes();
     grids_are_of_boxes();
 }
 
@@ -26,6 +24,7 @@ pub fn ready_to_input()
 pub fn clean_cells_are_known()
     ensures { CleanCellsAreKnown }
 {
+    anonymous_boxes_are_in_flow();
     grids_are_of_boxes();
 }
 
