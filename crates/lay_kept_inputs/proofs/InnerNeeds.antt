@@ -53,7 +53,7 @@ module _ (t : Table) (is : IsTable t) (c k : ℕ) (lt : c < length t.contexts) (
   within : k < length (context_at t.contexts c).inner
   within = (let n = (table_are t is).count c lt in omega (arith, n, inside))
 
-  has_inside : 0 < inner_at t c k → IsInside t.contexts c (inner_at t c k)
+  abbrev has_inside : 0 < inner_at t c k → IsInside t.contexts c (inner_at t c k)
   has_inside some = record { box = k; within = within; number = refl; some = some }
 
   pub inner_within : 0 < inner_at t c k → inner_at t c k < length t.contexts

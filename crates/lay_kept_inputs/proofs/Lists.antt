@@ -5,7 +5,7 @@ module _ {X : Type 0} where
   pub heads : (x y : X) (xs ys : List X) → x ∷ xs ≡ y ∷ ys → x ≡ y
   heads x y xs ys e = ap (λ (l : List X). slice_index_or l 0 x) e
 
-  behind : List X → List X
+  abbrev behind : List X → List X
   behind [] = []
   behind (x ∷ xs) = xs
 
