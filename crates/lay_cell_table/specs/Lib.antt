@@ -1,0 +1,3 @@
+pub mod CellPlaces
+pub mod CellTables
+pub mod RootColumns
