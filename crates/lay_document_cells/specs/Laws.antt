@@ -1,28 +1,21 @@
 -- What work on the cells of a document keeps, and that an edit leaves one state.
-use Rattle.std.specs.Prelude.{ℕ, ◌≡◌, ◌+◌, ◌*◌, ◌≤◌, false, List, length, map, None, slice_get, Some}
+use Rattle.std.specs.Prelude.{◌≡◌, ◌+◌, ◌*◌, ◌≤◌, length}
 use Rattle.lay_doc.specs.declared.edit.Edit.{Edit}
 use Rattle.lay_doc.specs.Document.{IsDocument}
 use Rattle.lay_doc.specs.Edits.{after}
 use Rattle.lay_cells.specs.Reads.{AllClean}
-use Rattle.lay_cells.specs.Rows.{entry_of}
-use Rattle.lay_cell_laws.specs.SoundCells.{CellRow}
+use Rattle.lay_cell_progress.specs.Grants.{laid_of_all}
+use Rattle.lay_cell_progress.specs.Progress.{GivesNoneBack, KeepsRows}
 use Rattle.lay_document_cells.specs.Edits.{EditsTo}
 use Rattle.lay_document_cells.specs.Settling.{Settles, SettlesTo, StopsAt}
-use Rattle.lay_document_cells.specs.State.{IsOfDocument, State, laid_of_all}
+use Rattle.lay_document_cells.specs.State.{IsOfDocument, State}
 use Rattle.lay_document_cells.specs.Steps.{Works}
-
--- each of these cells that is clean is clean among those
-abbrev pub StayClean : (rows later : List CellRow) → Type 0
-StayClean rows later = (i : ℕ) (r q : CellRow) → slice_get rows i ≡ Some r → slice_get later i ≡ Some q → r.dirty ≡ false → q.dirty ≡ false
 
 -- no cell is made anew, dropped or dirtied, and each grant is counted once
 pub record KeepsCells (s t : State) : Type 0 where
   pub document : t.document ≡ s.document
   pub face : t.face ≡ s.face
-  pub entries : map entry_of t.cells.rows ≡ map entry_of s.cells.rows
-  pub not_made : map (λ (r : CellRow). r.first) t.cells.rows ≡ map (λ (r : CellRow). r.first) s.cells.rows
-  pub clean : StayClean s.cells.rows t.cells.rows
-  pub draws : s.cells.draws ≤ t.cells.draws
+  pub cells : KeepsRows s.cells t.cells
   pub laid : s.laid ≤ t.laid
   pub granted : s.laid + laid_of_all t.cells.rows ≡ t.laid + laid_of_all s.cells.rows
 
@@ -38,8 +31,7 @@ StoppingWorks = (s t : State) → StopsAt s t → Works s t
 
 -- it gives no claim back, unless it stops
 abbrev pub SettlingGivesNothingBack : Type 0
-SettlingGivesNothingBack = (s t : State) → Settles s t
-    → map (λ (r : CellRow). r.backs) t.cells.rows ≡ map (λ (r : CellRow). r.backs) s.cells.rows
+SettlingGivesNothingBack = (s t : State) → Settles s t → GivesNoneBack s.cells t.cells
 
 -- an edit leaves one state
 abbrev pub OneEdit : Type 0

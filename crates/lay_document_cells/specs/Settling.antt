@@ -6,11 +6,12 @@ use Rattle.lay_cells.specs.declared.answers.Claimed.{Claimed}
 use Rattle.lay_cells.specs.declared.answers.Claimed.TheVariants.{Granted, Reused, Taken}
 use Rattle.lay_cells.specs.declared.answers.Finished.TheVariants.{Cleaned}
 use Rattle.lay_cells.specs.declared.answers.Released.TheVariants.{Released}
+use Rattle.lay_cell_progress.specs.Settled.{claim_number}
 use Rattle.lay_shape.specs.declared.cell_key.CellKey.{CellKey}
 use Rattle.lay_cell_work.specs.CellInputs.{CellInput}
 use Rattle.lay_cell_work.specs.CellValues.{CellValue}
 use Rattle.lay_document_cells.specs.State.{State}
-use Rattle.lay_document_cells.specs.Steps.{ClaimsTo, FinishesTo, GivesBackTo, claim_number}
+use Rattle.lay_document_cells.specs.Steps.{ClaimsTo, FinishesTo, GivesBackTo}
 
 -- a claim of the first dirty cell
 pub record ClaimsFirst (s : State) (key : CellKey) (input : CellInput) (answer : Claimed) (t : State) : Type 0 where

@@ -1,16 +1,16 @@
 -- A document with its cells: three for each of its contexts (CSS 2.2, 9.4.1), in which preferred widths, sizes and places are kept.
 use Rattle.std.specs.Prelude.{ℕ, ◌≡◌, ◌≤◌, List, []}
-use Rattle.std.specs.List.{sum_by}
 use Rattle.lay_style.specs.declared.style.Style.{Style}
 use Rattle.lay_style.specs.ComputedStyle.{HasStyles}
 use Rattle.lay_doc.specs.Document.{Document, declarations_of, parents_of}
 use Rattle.lay_face.specs.FaceValue.{FaceValue}
 use Rattle.lay_cells.specs.Reshapes.{Reshapes}
+use Rattle.lay_cell_progress.specs.Grants.{laid_of_all}
 use Rattle.lay_contexts.specs.ContextList.{AreContextsOf}
 use Rattle.lay_contexts.specs.FormattingContextList.{AreFormattingContextsOf}
 use Rattle.lay_shape.specs.Shapes.{shape_of}
 use Rattle.lay_cell_laws.specs.DocumentCells.{AreDocumentCells}
-use Rattle.lay_cell_laws.specs.SoundCells.{CellRow, CellState}
+use Rattle.lay_cell_laws.specs.SoundCells.{CellState}
 use Rattle.lay_cell_steps.specs.CellSteps.{no_cells}
 use Rattle.lay_changes.specs.TouchedContexts.{ContextLists}
 
@@ -20,10 +20,6 @@ pub record State : Type 0 where
   pub cells : CellState
   -- how many claims were granted so far
   pub laid : ℕ
-
--- how many of these were claims of cells that are there
-abbrev pub laid_of_all : List CellRow → ℕ
-laid_of_all rows = sum_by (λ r. r.laid) rows
 
 -- the contexts and formatting contexts of a document, with its computed styles
 pub record AreStyledLists (d : Document) (styles : List Style) (lists : ContextLists) : Type 0 where

@@ -1,11 +1,11 @@
 -- Steps of work on the cells of a document. A claim is for what the cell would be given now, and each grant is counted. No step makes a
 -- cell, drops one or dirties one.
-use Rattle.std.specs.Prelude.{ℕ, ◌≡◌, ◌+◌, ◌<◌, length, Option, None, Some}
+use Rattle.std.specs.Prelude.{ℕ, ◌≡◌, ◌+◌, ◌<◌, length}
 use Rattle.lay_cells.specs.Looks.{Looks}
 use Rattle.lay_cells.specs.Rows.{Solved}
 use Rattle.lay_cells.specs.Steps.{ClaimsIn, FinishesIn, GivesBackIn}
+use Rattle.lay_cell_progress.specs.Grants.{grants}
 use Rattle.lay_cells.specs.declared.answers.Claimed.{Claimed}
-use Rattle.lay_cells.specs.declared.answers.Claimed.TheVariants.{Granted, Reused, Taken}
 use Rattle.lay_cells.specs.declared.answers.Finished.{Finished}
 use Rattle.lay_cells.specs.declared.answers.Look.TheVariants.{Ready}
 use Rattle.lay_cells.specs.declared.answers.Released.{Released}
@@ -32,18 +32,6 @@ pub record IsGivenNow (s : State) (key : CellKey) (input : CellInput) : Type 0 w
   pub within : context < length lists.contexts
   pub key_is : key ≡ key_of lists.contexts context phase
   pub input_is : input ≡ input_now (medium_of s.document s.face) lists.contexts lists.formatting_contexts s.cells.rows context phase
-
--- how many grants an answer is
-abbrev pub grants : Claimed → ℕ
-grants (Granted number) = 1
-grants Reused = 0
-grants (Taken number) = 0
-
--- the number under which the value is to be finished, if it isn't kept
-abbrev pub claim_number : Claimed → Option ℕ
-claim_number (Granted number) = Some number
-claim_number Reused = None
-claim_number (Taken number) = Some number
 
 -- a claim of the key, whose cell is ready, for this input, which it is given now
 pub record ClaimsTo (s : State) (key : CellKey) (input : CellInput) (answer : Claimed) (t : State) : Type 0 where
