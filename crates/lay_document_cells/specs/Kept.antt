@@ -3,6 +3,7 @@ use Rattle.std.specs.Prelude.{◌≡◌, ◌≤◌, List}
 use Rattle.lay_style.specs.declared.style.Style.{Style}
 use Rattle.lay_cell_progress.specs.Grants.{laid_of_all}
 use Rattle.lay_cell_laws.specs.DocumentCells.{AreDocumentCells}
+use Rattle.lay_cell_table.specs.CellTables.{CellTable}
 use Rattle.lay_changes.specs.TouchedContexts.{ContextLists}
 use Rattle.lay_context.specs.Medium.{Medium}
 use Rattle.lay_context.specs.Solves.{medium_of}
@@ -12,6 +13,10 @@ use Rattle.lay_document_cells.specs.State.{AreStyledLists, State}
 pub record TableValue : Type 0 where
   pub styles : List Style
   pub lists : ContextLists
+
+-- the contexts of a table, as those of an edit are compared
+abbrev pub lists_in : CellTable → ContextLists
+lists_in t = record { contexts = t.contexts; formatting_contexts = t.formatting_contexts }
 
 pub record IsKept (s : State) (medium : Medium) (table : TableValue) : Type 0 where
   pub medium_is : medium ≡ medium_of s.document s.face

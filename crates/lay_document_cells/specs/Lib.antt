@@ -4,4 +4,5 @@ pub mod Settling
 pub mod Edits
 pub mod Claims
 pub mod Kept
+pub mod TreeLengths
 pub mod Laws

@@ -11,10 +11,11 @@ mod document_cells;
 mod document_table;
 mod following;
 mod laws;
+mod medium;
 
 pub use answers::{Answer, Next};
 pub use document_cells::DocumentCells;
 pub use laws::{
     clean_cells_are_counted, one_edit, settling_gives_nothing_back, settling_works, stopping_works,
-    work_keeps_cells,
+    trees_list_contexts, work_keeps_cells,
 };
