@@ -1,17 +1,14 @@
 -- What cells are given among the contexts of a document is of their phase, and where anonymous roots stand is said by places among boxes.
-use Rattle.std.proofs.Common.{◌≡◌, ◌<◌, ◌+◌, ◌-◌, ℕ, zero, suc, Bool, true, false, List, length, slice_get, slice_index_or, Option, None, Some, option_map, refl, ap, sym, subst, ◌∙◌, arith, inl, inr}
+use Rattle.std.proofs.Common.{◌≡◌, ◌<◌, ◌+◌, ◌-◌, ℕ, suc, Bool, true, false, List, [], length, slice_get, Option, None, Some, option_map, refl, ap, sym, subst, ◌∙◌, arith, inl, inr}
 use Rattle.std.proofs.lemmas.Bool.{cases_lt}
 use Rattle.std.proofs.lemmas.List.{get_or-map}
 use Rattle.std.proofs.lemmas.List.FromFn.{get_or-map-range_with_len, length-map-range_with_len}
-use Rattle.lay_box_tree.specs.declared.box_tree.BoxNode.{BoxNode}
 use Rattle.lay_contexts.specs.Contexts.{AreContexts, Context, boxes_in as boxes_of_context}
 use Rattle.lay_contexts.specs.FormattingContexts.{FormattingContext, boxes_in, formatting_context_at}
 use Rattle.lay_contexts.specs.FormattingContextList.{AreFormattingContextsOf, first_number}
 use Rattle.lay_contexts.proofs.ContextFacts.{in_order, root_of}
 use Rattle.lay_contexts.proofs.RootNumbers.{first_le, roots_lt}
-use Rattle.lay_table_rows.specs.TableInputs.{TableInput}
-use Rattle.lay_flow_boxes.specs.PlaceInputs.{PlaceInput}
-use Rattle.lay_abspos.specs.OwnOffsets.{StandInput}
+use Rattle.lay_table_sizes.specs.TableSizesValue.{TableSizesValue}
 use Rattle.lay_context_sizes.specs.Inputs.{MeasureInput}
 use Rattle.lay_context.specs.declared.input.Input.{Input}
 use Rattle.lay_context.specs.declared.input.Input.TheVariants as input
@@ -27,10 +24,9 @@ use Rattle.lay_cell_work.specs.CellColumns.{links_of}
 use Rattle.lay_cell_work.specs.CellInputFits.{phase_given}
 use Rattle.lay_cell_work.specs.CellInputs.{RootInput}
 use Rattle.lay_cell_work.specs.CellLocal.{boxes_given, masked_input, sized_boxes}
-use Rattle.lay_cell_work.specs.PresentInputs.{asked_spot, present_input, root_count, root_input, spot_in}
-use Rattle.lay_cell_work.proofs.SameFilled.{map_at}
+use Rattle.lay_cell_work.specs.PresentInputs.{asked_spot, root_count, root_input, spot_in}
 use Rattle.lay_cell_laws.specs.Laws.{PresentInputsFit}
-use Rattle.lay_cell_laws.proofs.LeadingInward.{First, Root, Roots, is_root_input, number_below, present_inputs_lead_inward_lem, spot_asked, spot_of_some, within}
+use Rattle.lay_cell_laws.proofs.LeadingInward.{Root, Roots, is_root_input, number_below, present_inputs_lead_inward_lem, spot_asked, spot_of_some, within}
 use Rattle.lay_cell_laws.proofs.RootsOfContexts.{IsOf, anonymous_some, outer_is_of, own_number}
 
 -- a mask changes no phase
@@ -45,16 +41,16 @@ measure_phase : (b : Bool) (i : MeasureInput) → phase_given (measure_as b i) �
 measure_phase true i = refl
 measure_phase false i = refl
 
-place_phase : (flow : PlaceInput) (table : Option TableInput) (at : StandInput) → phase_given (place_as flow table at) ≡ phase.Place
-place_phase flow None at = refl
-place_phase flow (Some table) at = refl
+place_phase : (medium : Medium) (all : List FormattingContext) (w : Workings) (m : ℕ) (table : Option TableSizesValue)
+    → phase_given (place_as (flow_input medium all w m) (option_map (table_input all w m) table) (stand_input medium all w m)) ≡ phase.Place
+place_phase medium all w m None = refl
+place_phase medium all w m (Some table) = refl
 
 -- a task is given what is of its phase
 given_phase : (medium : Medium) (all : List FormattingContext) (w : Workings) (m : ℕ) (p : Phase) → phase_given (input_of medium all w (record { context = m; phase = p })) ≡ p
 given_phase medium all w m phase.Measure = measure_phase (is_measured all m) (measure_input medium all w m)
 given_phase medium all w m phase.Size = refl
-given_phase medium all w m phase.Place =
-    place_phase (flow_input medium all w m) (option_map (table_input all w m) (sizes_in w.sizes m).table) (stand_input medium all w m)
+given_phase medium all w m phase.Place = place_phase medium all w m (sizes_in w.sizes m).table
 
 -- only what is sized is asked where it stands
 unasked : (given : Input) (around : Option RootSpot) (spot : RootSpot) → asked_spot given around ≡ Some spot → phase_given given ≡ phase.Size
@@ -106,7 +102,7 @@ module _ (medium : Medium) (contexts : List Context) (all : List FormattingConte
 
   stands : (r : ℕ) → r < root_count contexts c → (formatting_context_at all (first_number contexts c + r)).anonymous ≡ true
       → (formatting_context_at all (first_number contexts c + r)).outer_box
-        < length (boxes_given (Roots medium contexts all w c phase.Size are of lt) ((formatting_context_at all (first_number contexts c + r)).outer - first_number contexts c))
+      < length (boxes_given (Roots medium contexts all w c phase.Size are of lt) ((formatting_context_at all (first_number contexts c + r)).outer - first_number contexts c))
   stands r low anonymous =
       let m : ℕ = first_number contexts c + r in
       let below = number_below medium contexts all w c phase.Size are of lt r low in
