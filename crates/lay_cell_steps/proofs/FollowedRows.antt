@@ -51,7 +51,7 @@ IsActive z = (z.dirty ≡ false) ⊎ IsStale z false
 
 not_idle : (z : CellRow) → IsActive z → IsIdle z → ⊥
 not_idle z (inl clean) idle = false≢true (sym clean ∙ idle.dirty)
-not_idle z (inr open) idle = idle.fresh open
+not_idle z (inr opened) idle = idle.fresh open
 
 -- of cells that take a shape
 taken_entries : (later : List Context) (s t : CellState) → TakesShape later s t → map entry_of t.rows ≡ shape_of later
@@ -140,11 +140,11 @@ module _ (kept : InputsAreKept) (d e : Document) (face : FaceValue) (contexts la
         ∙ ap Some (input_same u.0 j p z lt u.1 old cell.there cell.key ((sound.each z cell.there).clean clean) ∙ moved j p)
 
     open_now : (j : ℕ) (p : Phase) (z : CellRow) → j < length later → IsCellOf t.rows later j p z → IsStale z false → z.given ≡ Some (input_now (medium_of e face) later rest t.rows j p)
-    open_now j p z lt cell open =
-        let u = untouched j p z lt cell.there cell.key (inr open) in
-        let old = (carried z cell.there (inr open)).0 in
+    open_now j p z lt cell opened =
+        let u = untouched j p z lt cell.there cell.key (inr opened) in
+        let old = (carried z cell.there (inr opened)).0 in
         cells.cells.open_present u.0 p z u.1.within (record { there = old; key = cell.key ∙ sym (same_key u.0 j p u.1) }) open
-        ∙ ap Some (input_same u.0 j p z lt u.1 old cell.there cell.key ((sound.each z cell.there).fresh open) ∙ moved j p)
+        ∙ ap Some (input_same u.0 j p z lt u.1 old cell.there cell.key ((sound.each z cell.there).fresh opened) ∙ moved j p)
 
     pub followed : AreDocumentCells e face later rest t
     followed = record {

@@ -30,6 +30,6 @@ new_cells_are_sound_lem d face styles contexts all draws fresh t is has are of r
         sound = sound;
         has_cells = λ c p lt. cell_there contexts are_in_order t.rows shaped c p lt;
         present = λ c p z lt cell clean. absurd (false≢true (sym clean ∙ (idle z cell.there).dirty));
-        open_present = λ c p z lt cell open. absurd ((idle z cell.there).fresh open);
+        open_present = λ c p z lt cell opened. absurd ((idle z cell.there).fresh opened);
       };
     }

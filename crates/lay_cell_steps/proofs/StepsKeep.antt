@@ -1,5 +1,5 @@
 -- Claims, work that comes back, and claims that are given back keep the cells of a document.
-use Rattle.std.proofs.Common.{◌≡◌, ◌⊎◌, ⊎_elim, inl, inr, ◌<◌, ◌+◌, ℕ, Bool, true, false, List, length, slice_get, Option, None, Some, IsNone, option_map, refl, ap, sym, subst, ◌∙◌}
+use Rattle.std.proofs.Common.{◌≡◌, ◌⊎◌, ⊎_elim, inl, inr, ◌<◌, ◌+◌, ℕ, Bool, true, false, List, length, slice_get, slice_set, Option, None, Some, IsNone, option_map, refl, ap, sym, subst, ◌∙◌}
 use Rattle.std.proofs.lemmas.Bool.{false≢true}
 use Rattle.lay_doc.specs.Document.{Document}
 use Rattle.lay_face.specs.FaceValue.{FaceValue}
