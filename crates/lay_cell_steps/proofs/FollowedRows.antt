@@ -51,7 +51,7 @@ IsActive z = (z.dirty ≡ false) ⊎ IsStale z false
 
 not_idle : (z : CellRow) → IsActive z → IsIdle z → ⊥
 not_idle z (inl clean) idle = false≢true (sym clean ∙ idle.dirty)
-not_idle z (inr opened) idle = idle.fresh open
+not_idle z (inr opened) idle = idle.fresh opened
 
 -- of cells that take a shape
 taken_entries : (later : List Context) (s t : CellState) → TakesShape later s t → map entry_of t.rows ≡ shape_of later
@@ -143,7 +143,7 @@ module _ (kept : InputsAreKept) (d e : Document) (face : FaceValue) (contexts la
     open_now j p z lt cell opened =
         let u = untouched j p z lt cell.there cell.key (inr opened) in
         let old = (carried z cell.there (inr opened)).0 in
-        cells.cells.open_present u.0 p z u.1.within (record { there = old; key = cell.key ∙ sym (same_key u.0 j p u.1) }) open
+        cells.cells.open_present u.0 p z u.1.within (record { there = old; key = cell.key ∙ sym (same_key u.0 j p u.1) }) opened
         ∙ ap Some (input_same u.0 j p z lt u.1 old cell.there cell.key ((sound.each z cell.there).fresh opened) ∙ moved j p)
 
     pub followed : AreDocumentCells e face later rest t
