@@ -1,7 +1,7 @@
 -- An edit changes neither the viewport nor the root, so cells that follow the contexts of a document through it are those of the document
 -- after it.
-use Rattle.std.proofs.Common.{◌≡◌, ℕ, Option, None, Some, List, refl, ap, ◌∙◌}
-use Rattle.lay_units.specs.declared.records.Len.TheVariants.{Of as of}
+use Rattle.std.proofs.Common.{◌≡◌, ℕ, Option, None, Some, refl, ap, ◌∙◌}
+use Rattle.lay_units.specs.declared.records.Len.TheVariants.{Of}
 use Rattle.lay_style.specs.LengthValues.{px}
 use Rattle.lay_style.specs.Places.{place_of}
 use Rattle.lay_doc.specs.declared.edit.Edit.{Edit}
@@ -14,12 +14,10 @@ use Rattle.lay_doc.specs.Laws.{EditsLeaveDocuments}
 use Rattle.lay_doc.specs.NewNodes.{NewNodeValue}
 use Rattle.lay_doc.specs.Removal.{after_remove}
 use Rattle.lay_face.specs.FaceValue.{FaceValue}
-use Rattle.lay_context.specs.Medium.{Medium}
 use Rattle.lay_context.specs.Solves.{medium_of}
 use Rattle.lay_kept_inputs.specs.KeptInputs.{InputsAreKept}
 use Rattle.lay_own_nodes.specs.Touched.{Edits}
 use Rattle.lay_table_keys.specs.RootKeys.{RootStaysFirst}
-use Rattle.lay_cell_laws.specs.DocumentCells.{AreDocumentCells}
 use Rattle.lay_cell_steps.specs.EditedCells.{EditsKeepCells}
 use Rattle.lay_cell_steps.proofs.FollowedRows.{followed}
 
@@ -59,8 +57,8 @@ one_viewport d (Insert parent index new) = inserted_viewport d parent.0 index ne
 
 one_medium : (d e : Document) (face : FaceValue) → IsOneViewport d e → medium_of d face ≡ medium_of e face
 one_medium d e face same =
-    ap (λ (n : ℕ). record { viewport = record { width = px n; height = of (px d.height) }; face = face }) same.width
-    ∙ ap (λ (n : ℕ). record { viewport = record { width = px e.width; height = of (px n) }; face = face }) same.height
+    ap (λ (n : ℕ). record { viewport = record { width = px n; height = Of (px d.height) }; face = face }) same.width
+    ∙ ap (λ (n : ℕ). record { viewport = record { width = px e.width; height = Of (px n) }; face = face }) same.height
 
 pub edits_keep_cells_lem : EditsLeaveDocuments → InputsAreKept → RootStaysFirst → EditsKeepCells
 edits_keep_cells_lem leave kept root d edit face styles others contexts later all rest s t edits cells are of follows sound =

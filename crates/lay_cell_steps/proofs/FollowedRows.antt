@@ -1,6 +1,6 @@
 -- Cells that follow contexts from one document to another: those that are clean after that, or have a claim that isn't stale, were carried
 -- over from untouched contexts, and so were those that they depend on, which keep the same values.
-use Rattle.std.proofs.Common.{◌≡◌, ◌⊎◌, ⊎_elim, inl, inr, ◌<◌, ℕ, false, List, [], length, map, slice_get, Some, refl, ap, sym, subst, ◌∙◌}
+use Rattle.std.proofs.Common.{◌≡◌, ◌⊎◌, ⊎_elim, inl, inr, ◌<◌, ℕ, false, List, [], length, map, slice_get, Some, ap, sym, subst, ◌∙◌}
 use Rattle.std.specs.Prelude.{◌↔◌}
 use Rattle.std.proofs.lemmas.Bool.{false≢true}
 use Rattle.lay_style.specs.declared.style.Style.{Style}
@@ -12,7 +12,7 @@ use Rattle.lay_face.specs.FaceValue.{FaceValue}
 use Rattle.lay_cells.specs.Looks.{AreClean, IsClean}
 use Rattle.lay_cells.specs.Marks.{Reached, listed}
 use Rattle.lay_cells.specs.Rows.{entry_of}
-use Rattle.lay_cells.specs.Shapes.{IsIn, IsShape}
+use Rattle.lay_cells.specs.Shapes.{IsIn}
 use Rattle.lay_cells.specs.Sound.{IsSound}
 use Rattle.lay_cells.specs.Steps.{HasKept, IsStale}
 use Rattle.lay_contexts.specs.Contexts.{AreContexts, Context}
@@ -24,7 +24,7 @@ use Rattle.lay_context.specs.declared.task.Phase.{Phase}
 use Rattle.lay_context.specs.Medium.{Medium}
 use Rattle.lay_context.specs.Solves.{medium_of}
 use Rattle.lay_shape.specs.declared.cell_key.CellKey.{CellKey}
-use Rattle.lay_shape.specs.Dependencies.{in_phase, needs_in, needs_of}
+use Rattle.lay_shape.specs.Dependencies.{in_phase, needs_in}
 use Rattle.lay_shape.specs.Keys.{AreOfOwnNodes, key_of as key_of_cell, node_of}
 use Rattle.lay_shape.specs.Shapes.{shape_of}
 use Rattle.lay_shape.proofs.Members.{in_map}
@@ -51,7 +51,7 @@ IsActive z = (z.dirty ≡ false) ⊎ IsStale z false
 
 not_idle : (z : CellRow) → IsActive z → IsIdle z → ⊥
 not_idle z (inl clean) idle = false≢true (sym clean ∙ idle.dirty)
-not_idle z (inr open) idle = idle.fresh open
+not_idle z (inr opened) idle = idle.fresh opened
 
 -- of cells that take a shape
 taken_entries : (later : List Context) (s t : CellState) → TakesShape later s t → map entry_of t.rows ≡ shape_of later
@@ -140,11 +140,11 @@ module _ (kept : InputsAreKept) (d e : Document) (face : FaceValue) (contexts la
         ∙ ap Some (input_same u.0 j p z lt u.1 old cell.there cell.key ((sound.each z cell.there).clean clean) ∙ moved j p)
 
     open_now : (j : ℕ) (p : Phase) (z : CellRow) → j < length later → IsCellOf t.rows later j p z → IsStale z false → z.given ≡ Some (input_now (medium_of e face) later rest t.rows j p)
-    open_now j p z lt cell open =
-        let u = untouched j p z lt cell.there cell.key (inr open) in
-        let old = (carried z cell.there (inr open)).0 in
-        cells.cells.open_present u.0 p z u.1.within (record { there = old; key = cell.key ∙ sym (same_key u.0 j p u.1) }) open
-        ∙ ap Some (input_same u.0 j p z lt u.1 old cell.there cell.key ((sound.each z cell.there).fresh open) ∙ moved j p)
+    open_now j p z lt cell opened =
+        let u = untouched j p z lt cell.there cell.key (inr opened) in
+        let old = (carried z cell.there (inr opened)).0 in
+        cells.cells.open_present u.0 p z u.1.within (record { there = old; key = cell.key ∙ sym (same_key u.0 j p u.1) }) opened
+        ∙ ap Some (input_same u.0 j p z lt u.1 old cell.there cell.key ((sound.each z cell.there).fresh opened) ∙ moved j p)
 
     pub followed : AreDocumentCells e face later rest t
     followed = record {

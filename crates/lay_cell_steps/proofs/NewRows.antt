@@ -1,5 +1,5 @@
 -- Cells that are made anew are none of them clean, and have no claims.
-use Rattle.std.proofs.Common.{◌≡◌, ⊎_elim, ℕ, false, List, [], map, Some, ap, sym, subst, ◌∙◌}
+use Rattle.std.proofs.Common.{⊎_elim, [], sym, ◌∙◌}
 use Rattle.std.proofs.lemmas.Bool.{false≢true}
 use Rattle.lay_boxgen.proofs.NodeColumns.{length-parents}
 use Rattle.lay_cells.specs.Shapes.{IsIn}
@@ -30,6 +30,6 @@ new_cells_are_sound_lem d face styles contexts all draws fresh t is has are of r
         sound = sound;
         has_cells = λ c p lt. cell_there contexts are_in_order t.rows shaped c p lt;
         present = λ c p z lt cell clean. absurd (false≢true (sym clean ∙ (idle z cell.there).dirty));
-        open_present = λ c p z lt cell open. absurd ((idle z cell.there).fresh open);
+        open_present = λ c p z lt cell opened. absurd ((idle z cell.there).fresh opened);
       };
     }

@@ -12,7 +12,7 @@ use Rattle.lay_contexts.specs.Contexts.{Context}
 use Rattle.lay_contexts.specs.FormattingContexts.{FormattingContext}
 use Rattle.lay_contexts.specs.FormattingContextList.{AreFormattingContextsOf, first_number}
 use Rattle.lay_context.specs.declared.task.Phase.{Phase}
-use Rattle.lay_context.specs.declared.task.Phase.TheVariants as phase
+use Rattle.lay_context.specs.declared.task.Phase.TheVariants.{Size}
 use Rattle.lay_context.specs.Local.{HasCounts}
 use Rattle.lay_context.specs.Settling.{AreKnown, IsReady}
 use Rattle.lay_context.specs.Solves.{IsAssembled, Solves}
@@ -31,7 +31,7 @@ KeptValuesAreCounted = (contexts : List Context) (all : List FormattingContext) 
 abbrev pub ReadyToInput : Type 0
 ReadyToInput = (d : Document) (face : FaceValue) (contexts : List Context) (all : List FormattingContext) (s : CellState)
     (c r : ℕ) (phase : Phase) → AreDocumentCells d face contexts all s → c < length contexts → r < root_count contexts c
-    → (phase ≡ phase.Size → r ≡ 0)
+    → (phase ≡ Size → r ≡ 0)
     → Looks s.rows (key_of contexts c phase) look.Ready
     → IsReady all (kept_workings s.rows contexts) (record { context = first_number contexts c + r; phase = phase })
 

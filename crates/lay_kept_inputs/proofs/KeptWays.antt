@@ -1,7 +1,6 @@
 -- Two ways out whose cells have the same keys are the same, step by step: contexts of the same keys are the same ones, so their boxes lead
 -- to the same holder, or on to the same place in the contexts around.
 use Rattle.std.proofs.Common.{◌≡◌, ◌<◌, ◌≤◌, ℕ, zero, suc, Bool, List, [], ◌∷◌, length, map, flat_map, slice_index_or, Option, None, Some, refl, ap, sym, subst, ◌∙◌, arith}
-use Rattle.lay_doc.specs.declared.node.NodeId.{NodeId}
 use Rattle.lay_box_tree.specs.declared.box_tree.BoxNode.{BoxNode}
 use Rattle.lay_cells.specs.Shapes.{IsIn}
 use Rattle.lay_contexts.specs.Contexts.{Context, boxes_in, context_at}
@@ -9,7 +8,6 @@ use Rattle.lay_positioned.specs.Holders.{IsHolderFor, holder_for}
 use Rattle.lay_positioned.proofs.SettingValues.{holder_is}
 use Rattle.lay_context.specs.declared.task.Phase.TheVariants.{Size, Place}
 use Rattle.lay_shape.specs.declared.cell_key.CellKey.{CellKey}
-use Rattle.lay_shape.specs.declared.context_phase.ContextPhase.{ContextPhase}
 use Rattle.lay_shape.specs.Dependencies.{in_phase, on_way}
 use Rattle.lay_shape.specs.Keys.{key_of as key_of_cell, node_of}
 use Rattle.lay_shape.specs.Ways.{beyond, way_from}
@@ -18,7 +16,7 @@ use Rattle.lay_cell_laws.specs.SameContexts.{IsLaidSame, IsSameContext, IsSameWa
 use Rattle.lay_cell_laws.proofs.InputForms.{table_are}
 use Rattle.lay_cell_laws.proofs.OuterBoxes.{outer_boxes_same}
 use Rattle.lay_cell_laws.proofs.SameWays.{positive_other}
-use Rattle.lay_kept_inputs.proofs.Lists.{heads, tails}
+use Rattle.lay_kept_inputs.proofs.Lists.{tails}
 
 -- the keys of the cells of contexts on a way
 abbrev pub way_keys : List Context → List ℕ → List CellKey

@@ -1,5 +1,5 @@
 -- What the sizes of a context come of outside it, by its flow, and the way of an absolutely positioned one as a list.
-use Rattle.std.proofs.Common.{◌≡◌, ◌<◌, ℕ, zero, suc, true, false, Bool, List, [], ◌∷◌, refl, arith, if◌then◌else◌}
+use Rattle.std.proofs.Common.{◌≡◌, ◌<◌, ℕ, zero, suc, true, false, List, [], ◌∷◌, arith}
 use Rattle.lay_context.specs.declared.task.Phase.TheVariants.{Size}
 use Rattle.lay_contexts.specs.Contexts.{Context, context_at}
 use Rattle.lay_shape.specs.Dependencies.{in_phase, outer_needs, way_needs}

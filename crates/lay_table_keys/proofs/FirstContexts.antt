@@ -27,7 +27,6 @@ use Rattle.lay_contexts.proofs.ChildTrees.{children_stand_in_order}
 use Rattle.lay_contexts.proofs.NodeFacts.{box_within, of_node}
 use Rattle.lay_shape.specs.Keys.{node_of}
 use Rattle.lay_shape.proofs.OwnNodes.{box_node, contexts_are_of_own_nodes_lem}
-use Rattle.lay_own_nodes.specs.Touched.{Edits}
 use Rattle.lay_table_keys.specs.RootKeys.{RootStaysFirst}
 use Rattle.lay_table_keys.proofs.FirstNodes.{first_id_stays}
 
@@ -82,8 +81,7 @@ root_stays_first_lem d edit styles others contexts later i j edits of of_later l
     let some_later : 0 < length later = omega (arith, lt_j) in
     let first : node_of contexts 0 ≡ node_of later 0 =
     same_node (node_of contexts 0) (node_of later 0)
-    (first_node d styles doc counted contexts of some ∙ sym (first_id_stays d edit doc.some edits.accepted) ∙ sym (first_node (after d edit) others left counted_later later of_later some_later)) in
-    (
+    (first_node d styles doc counted contexts of some ∙ sym (first_id_stays d edit doc.some edits.accepted) ∙ sym (first_node (after d edit) others left counted_later later of_later some_later)) in (
       (λ z. contexts_are_of_own_nodes_lem (after d edit) others later left counted_later of_later j 0 lt_j some_later (sym node ∙ ap (node_of contexts) z ∙ first)),
       (λ z. contexts_are_of_own_nodes_lem d styles contexts doc counted of i 0 lt_i some (node ∙ ap (node_of later) z ∙ sym first)),
     )
