@@ -1,5 +1,5 @@
 -- The keys of touched contexts, one context after another.
-use Rattle.std.proofs.Common.{◌≡◌, ◌⊎◌, inl, inr, ⊎_elim, ℕ, zero, suc, ◌+◌, ◌<◌, ◌≤◌, List, [], ◌∷◌, ◌++◌, length, refl, arith, ap, sym, subst, ◌∙◌}
+use Rattle.std.proofs.Common.{◌≡◌, ◌⊎◌, inl, inr, ⊎_elim, ℕ, ◌+◌, List, [], ◌∷◌, ◌++◌, refl, arith, ap, sym, subst, ◌∙◌}
 use Rattle.std.specs.List.{flat_map}
 use Rattle.std.proofs.lemmas.Bool.{cases_lt}
 use Rattle.std.proofs.lemmas.Grind.{flat_map-append}
@@ -67,5 +67,5 @@ module _ (contexts later : List Context) (all rest : List FormattingContext) whe
     are = more_touched known.numbers n known.are touched;
     keys_are = ap (λ (ks : List CellKey). ks ++ keys_of later n) known.keys_are
         ∙ (ap (λ (ks : List CellKey). flat_map (keys_of later) known.numbers ++ ks) (sym (append-nil (keys_of later n)))
-          ∙ sym (flat_map-append (keys_of later) known.numbers (n ∷ [])));
+        ∙ sym (flat_map-append (keys_of later) known.numbers (n ∷ [])));
   }

@@ -1,7 +1,6 @@
-use Rattle.std.proofs.Common.{rules, ◌≡◌, ◌++◌, List, ◌+◌, sym, subst, ◌∙◌, ap, refl}
+use Rattle.std.proofs.Common.{◌≡◌, ◌++◌, List, ◌+◌, sym, subst, ◌∙◌, ap, refl}
 use Rattle.lay_contexts.specs.Contexts.{Context}
 use Rattle.lay_shape.specs.declared.cell_key.CellKey.{CellKey}
-use Rattle.lay_changes.specs.TouchedContexts.{IsUntouched}
 use Rattle.lay_changes.specs.TouchedKeys.{AreTouchedKeysTo, keys_of}
 use Rattle.lay_changes.proofs.TouchedSteps.{next_touched, next_untouched}
 use Rattle.lay_changes.proofs.touched_keys.push_if_touched.Goals as goal
@@ -18,4 +17,4 @@ returns c =
     subst (λ (l : List CellKey). AreTouchedKeysTo c.args.before.now.contexts c.args.after.now.contexts c.args.before.now.formatting_contexts c.args.after.now.formatting_contexts l (c.args.j + 1))
     (sym pushed)
     (next_touched c.args.before.now.contexts c.args.after.now.contexts c.args.before.now.formatting_contexts c.args.after.now.formatting_contexts
-      c.args.keys.now.items c.args.j c.requires.known (λ u. (let no = c.if-is_untouched.ensures.1 u in cc)))
+    c.args.keys.now.items c.args.j c.requires.known (λ u. (let no = c.if-is_untouched.ensures.1 u in cc)))
