@@ -24,6 +24,9 @@ noted_here places i p lt = grind (arith, elements)
 noted_else : (places : List CellPlaces) (i j : ℕ) (p : CellPlaces) → j ≢ i → places_at (slice_set places i p) j ≡ places_at places j
 noted_else places i j p other = grind (arith, elements)
 
+pub noted_count : (places : List CellPlaces) (i : ℕ) (p : CellPlaces) → length (slice_set places i p) ≡ length places
+noted_count places i p = grind (arith, elements)
+
 -- what holds of the place for a phase, where that for another one is noted
 by_phase : (P : ℕ → Type 0) (p : CellPlaces) (noted asked : Phase) (k : ℕ) → P (place_in p asked) → (noted ≡ asked → P k) → P (place_in (with_place p noted k) asked)
 by_phase P p phase.Measure phase.Measure k old new = new refl

@@ -77,6 +77,14 @@ module _ (contexts : List Context) (are : AreContexts contexts) where
   none_before zero lt e = refl
   none_before (suc c) lt e = absurd (let some = root_some 0 (omega (arith, lt)) in let a = first_le contexts 1 (suc c) (omega arith) in omega (arith, some, a, e))
 
+-- the first one of a context is there
+pub first_there : (contexts : List Context) (all : List FormattingContext) → AreContexts contexts → AreFormattingContextsOf contexts all → (c : ℕ) → c < length contexts → first_number contexts c < length all
+first_there contexts all are of c lt =
+    let some = root_some contexts are c lt in
+    let a = first_le contexts (suc c) (length contexts) lt in
+    let count = of.count in
+    omega (arith, some, a, count)
+
 -- the next formatting context is of the last context that has begun, which is c
 pub record IsNext (contexts : List Context) (firsts : List ℕ) (i c : ℕ) : Type 0 where
   pub context : c < length contexts

@@ -110,7 +110,8 @@ impl CellTable {
         requires { c < length self.now.contexts }
         ensures { result ≡ is_measured self.now.formatting_contexts (first_number self.now.contexts c) }
     {
-        self.measured[number_in(&self.roots.firsts, c)]
+        let number = self.first_number(c);
+        self.measured[number]
     }
 
     /// The number of the first formatting context of a context, that of its own box.

@@ -9,6 +9,7 @@
 mod cell_places;
 mod cell_table;
 mod context_root;
+mod links;
 mod root_columns;
 
 pub use cell_table::CellTable;
