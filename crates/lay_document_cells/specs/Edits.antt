@@ -9,7 +9,7 @@ use Rattle.lay_cells.specs.Reshapes.{Reshapes}
 use Rattle.lay_shape.specs.declared.cell_key.CellKey.{CellKey}
 use Rattle.lay_shape.specs.Shapes.{shape_of}
 use Rattle.lay_cell_laws.specs.SoundCells.{CellState}
-use Rattle.lay_changes.specs.TouchedContexts.{ContextLists}
+use Rattle.lay_changes.specs.ContextFlags.{ContextLists}
 use Rattle.lay_changes.specs.TouchedKeys.{AreTouchedKeys}
 use Rattle.lay_document_cells.specs.State.{AreListsOf, State}
 
@@ -18,7 +18,7 @@ pub record FollowsLists (before later : ContextLists) (s t : CellState) : Type 0
   pub shaped : CellState
   pub reshapes : Reshapes s (shape_of later.contexts) [] shaped
   pub keys : List CellKey
-  pub touched : AreTouchedKeys before later keys
+  pub touched : AreTouchedKeys before.contexts later.contexts before.formatting_contexts later.formatting_contexts keys
   pub marks : Marks shaped.rows keys t.rows
   pub draws : t.draws ≡ shaped.draws
 

@@ -4,7 +4,7 @@ use Rattle.lay_style.specs.declared.style.Style.{Style}
 use Rattle.lay_cell_progress.specs.Grants.{laid_of_all}
 use Rattle.lay_cell_laws.specs.DocumentCells.{AreDocumentCells}
 use Rattle.lay_cell_table.specs.CellTables.{CellTable}
-use Rattle.lay_changes.specs.TouchedContexts.{ContextLists}
+use Rattle.lay_changes.specs.ContextFlags.{ContextLists}
 use Rattle.lay_context.specs.Medium.{Medium}
 use Rattle.lay_context.specs.Solves.{medium_of}
 use Rattle.lay_document_cells.specs.State.{AreStyledLists, State}

@@ -12,7 +12,7 @@ use Rattle.lay_shape.specs.Shapes.{shape_of}
 use Rattle.lay_cell_laws.specs.DocumentCells.{AreDocumentCells}
 use Rattle.lay_cell_laws.specs.SoundCells.{CellState}
 use Rattle.lay_cell_steps.specs.CellSteps.{no_cells}
-use Rattle.lay_changes.specs.TouchedContexts.{ContextLists}
+use Rattle.lay_changes.specs.ContextFlags.{ContextLists}
 
 pub record State : Type 0 where
   pub document : Document

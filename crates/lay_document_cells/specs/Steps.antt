@@ -17,7 +17,7 @@ use Rattle.lay_cell_work.specs.CellLocal.{IsCellLocal}
 use Rattle.lay_cell_work.specs.CellValues.{CellValue}
 use Rattle.lay_cell_work.specs.PresentInputs.{key_of}
 use Rattle.lay_cell_laws.specs.SoundCells.{CellState, input_now}
-use Rattle.lay_changes.specs.TouchedContexts.{ContextLists}
+use Rattle.lay_changes.specs.ContextFlags.{ContextLists}
 use Rattle.lay_document_cells.specs.State.{AreListsOf, State}
 
 abbrev pub CellDone : Type 0

@@ -142,14 +142,13 @@ impl DocumentCells {
         requires ready { AtPlace self.now.cells.rows place (λ r. Looks self.now.cells.rows r.key look.Ready) }
         ensures { IfOk result (λ i. AtPlace self.now.cells.rows place (λ r. IsGivenNow self.now r.key (arc_value i))) }
     {
-        let input = input_at(
+        input_at(
             self.alloc,
             &self.medium,
             self.table.cells(),
             &self.cells,
             place,
-        )?;
-        Ok(Arc::new(self.alloc, input)?)
+        )
     }
 
     /// Claims the cell at a place for what it is given now.

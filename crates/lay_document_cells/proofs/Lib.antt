@@ -1,0 +1,5 @@
+mod CountedCells
+mod ListedContexts
+mod OneEdits
+mod Pigeonhole
+mod Working
