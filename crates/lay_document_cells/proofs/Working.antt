@@ -62,9 +62,9 @@ module _ (claims : ClaimsKeepRows CellKey CellInput CellValue) (finishes : Finis
       }
 
   stepped : (s t : State) → Step s t → KeepsCells s t
-  stepped s t (claim key input a t c) = claimed s t key input a c
-  stepped s t (finish d a t f) = finished s t d a f
-  stepped s t (give_back key number a t g) = given_back s t key number a g
+  stepped s t (claim key input a _ c) = claimed s t key input a c
+  stepped s t (finish d a _ f) = finished s t d a f
+  stepped s t (give_back key number a _ g) = given_back s t key number a g
 
   after_both : (s t u : State) → KeepsCells s t → KeepsCells t u → KeepsCells s u
   after_both s t u a b = record {
@@ -76,8 +76,8 @@ module _ (claims : ClaimsKeepRows CellKey CellInput CellValue) (finishes : Finis
   }
 
   pub work_keeps_cells_lem : WorkKeepsCells
-  work_keeps_cells_lem s s none = record { document = refl; face = refl; cells = nothing_changes s.cells; laid = omega arith; granted = refl }
-  work_keeps_cells_lem s t (step mid t before last) = after_both s mid t (work_keeps_cells_lem s mid before) (stepped mid t last)
+  work_keeps_cells_lem s _ none = record { document = refl; face = refl; cells = nothing_changes s.cells; laid = omega arith; granted = refl }
+  work_keeps_cells_lem s t (step mid _ before last) = after_both s mid t (work_keeps_cells_lem s mid before) (stepped mid t last)
 
 module _ (claims : ClaimsKeepRows CellKey CellInput CellValue) (finishes : FinishesKeepRows CellKey CellInput CellValue) where
   claimed_backs : (s t : State) (key : CellKey) (input : CellInput) (a : Claimed) → ClaimsTo s key input a t → GivesNoneBack s.cells t.cells
@@ -85,29 +85,29 @@ module _ (claims : ClaimsKeepRows CellKey CellInput CellValue) (finishes : Finis
       ap (λ (x : State). map (λ (r : CellRow). r.backs) x.cells.rows) c.state ∙ (claims s.cells c.cells key input a c.claims).2
 
   first_backs : (s t : State) → SettlesFirst s t → GivesNoneBack s.cells t.cells
-  first_backs s t (reused key input t c) = claimed_backs s t key input _ c.claims
-  first_backs s t (computed key input value answer number mid t c is f) =
+  first_backs s t (reused key input _ c) = claimed_backs s t key input _ c.claims
+  first_backs s t (computed key input value answer number mid _ c is f) =
       ap (λ (x : State). map (λ (r : CellRow). r.backs) x.cells.rows) f.state
       ∙ (finishes mid.cells f.cells _ _ f.finishes).2
       ∙ claimed_backs s mid key input answer c.claims
 
   pub settling_gives_nothing_back_lem : SettlingGivesNothingBack
-  settling_gives_nothing_back_lem s s no_cell = refl
-  settling_gives_nothing_back_lem s t (next mid t before last) = first_backs mid t last ∙ settling_gives_nothing_back_lem s mid before
+  settling_gives_nothing_back_lem s _ no_cell = refl
+  settling_gives_nothing_back_lem s t (next mid _ before last) = first_backs mid t last ∙ settling_gives_nothing_back_lem s mid before
 
 one_more : (s mid t : State) → Works s mid → SettlesFirst mid t → Works s t
-one_more s mid t before (reused key input t c) = step mid t before (claim key input _ t c.claims)
-one_more s mid t before (computed key input value answer number claimed t c is f) =
+one_more s mid t before (reused key input _ c) = step mid t before (claim key input _ t c.claims)
+one_more s mid t before (computed key input value answer number claimed _ c is f) =
     step claimed t (step mid claimed before (claim key input answer claimed c.claims)) (finish _ _ t f)
 
 pub settling_works_lem : SettlingWorks
-settling_works_lem s s no_cell = none
-settling_works_lem s t (next mid t before last) = one_more s mid t (settling_works_lem s mid before) last
+settling_works_lem s _ no_cell = none
+settling_works_lem s t (next mid _ before last) = one_more s mid t (settling_works_lem s mid before) last
 
 stops : (s mid t : State) → Works s mid → GivesUp mid t → Works s t
-stops s mid mid before unclaimed = before
-stops s mid t before (taken key input number t c) = step mid t before (claim key input _ t c.claims)
-stops s mid t before (granted key input number claimed t c g) =
+stops s mid _ before unclaimed = before
+stops s mid t before (taken key input number _ c) = step mid t before (claim key input _ t c.claims)
+stops s mid t before (granted key input number claimed _ c g) =
     step claimed t (step mid claimed before (claim key input _ claimed c.claims)) (give_back key number _ t g)
 
 pub stopping_works_lem : StoppingWorks

@@ -12,6 +12,8 @@ ghost use Rattle.lay_shape.specs.Shapes.{shape_of};
 ghost use Rattle.lay_cell_steps.specs.CellSteps.{no_cells};
 ghost use Rattle.lay_context.specs.Solves.{Solves, medium_of};
 ghost use Rattle.lay_doc.specs.Edits.{after, fault};
+ghost use Rattle.lay_doc.specs.Laws.{PutsNode};
+ghost use Rattle.lay_cell_progress.specs.Grants.{laid_of_all};
 ghost use Rattle.lay_document_cells.specs.Edits.{EditsTo};
 ghost use Rattle.lay_document_cells.specs.Settling.{AreCleanBefore, FinishesWork, GivesBackWork, GivesUpAt, SettlesAt, SettlesTo, StopsAt};
 ghost use Rattle.lay_document_cells.specs.State.{AreStyledLists, IsNew, IsOfDocument};
@@ -24,7 +26,7 @@ use crate::medium::medium_of;
 use lay_cell_progress::{
     claims_count, claims_keep_rows, finished_cells_are_clean, finishes_count, finishes_keep_rows,
     first_shapes_draw, give_backs_count, give_backs_keep_rows, granted_claims_are_released,
-    marks_count, reshapes_count, reshapes_draw, reused_cells_are_clean,
+    reshapes_count, reshapes_draw, reused_cells_are_clean,
 };
 use lay_cell_steps::{
     assembled_trees_solve, claims_keep_cells, edits_keep_cells, finishes_keep_cells,
@@ -33,11 +35,13 @@ use lay_cell_steps::{
 use lay_cell_table::{input_at, tree_of};
 use lay_cell_work::{CellInput, Claim, Layout, value_of_cell};
 use lay_cells::{Cells, Claimed, Done, Finished, Look, Released};
+use lay_changes::touched_contexts_are_listed;
 use lay_context::Medium;
-use lay_doc::{Doc, Edit, edits_leave_documents};
+use lay_contexts::{one_context_list, one_formatting_context_list};
+use lay_doc::{Doc, Edit, one_style_column};
 use lay_face::Face;
 use lay_frag::Tree;
-use lay_shape::{CellKey, cells_have_a_shape, contexts_are_of_own_nodes};
+use lay_shape::{CellKey, contexts_are_of_own_nodes};
 use lay_units::NoMemory;
 use std::alloc::Global;
 use std::marker::Model;
@@ -76,9 +80,11 @@ impl DocumentCells {
     {
         new_cells_are_sound();
         contexts_are_of_own_nodes();
+        let _ = doc.nodes();
         let table = DocumentTable::of(alloc, &doc)?;
         let medium = medium_of(&doc, face.clone()?);
         let cells = new_cells(alloc, &table)?;
+        cells.sound();
         Ok(DocumentCells {
             alloc,
             doc,
@@ -100,15 +106,17 @@ impl DocumentCells {
         ensures err { OnErr result (self.new ≡ self.old) }
     {
         edits_keep_cells();
-        edits_leave_documents();
         contexts_are_of_own_nodes();
-        marks_count::<Layout>();
-        reshapes_count::<Layout>();
+        touched_contexts_are_listed();
+        puts_node(edit);
+        let _ = self.doc.nodes();
         let mut doc = self.doc.copy(self.alloc)?;
         doc.apply(self.alloc, edit)?;
         let table = self.table.edited(self.alloc, &self.doc, edit, &doc)?;
         let medium = medium_of(&doc, self.face.clone()?);
+        let _ = doc.nodes();
         follow_lists(self.alloc, &mut self.cells, &self.table, &table)?;
+        self.cells.sound();
         self.doc = doc;
         self.table = table;
         self.medium = medium;
@@ -121,6 +129,8 @@ impl DocumentCells {
     {
         finishes_keep_cells();
         finishes_count::<Layout>();
+        finishes_keep_rows::<Layout>();
+        let _value = done.value();
         let answer = self.cells.finish(done);
         self.cells.sound();
         answer
@@ -132,6 +142,7 @@ impl DocumentCells {
     {
         give_backs_keep_cells();
         give_backs_count::<Layout>();
+        give_backs_keep_rows::<Layout>();
         let answer = self.cells.give_back(key, number);
         self.cells.sound();
         answer
@@ -160,6 +171,9 @@ impl DocumentCells {
     {
         claims_keep_cells();
         claims_count::<Layout>();
+        one_style_column();
+        one_context_list();
+        one_formatting_context_list();
         let answer = self.cells.claim_at_place(place, input);
         self.cells.sound();
         if let Claimed::Granted(_) = answer {
@@ -332,13 +346,24 @@ impl DocumentCells {
     }
 }
 
+/// The type of an edit says of the node that it puts in that it is what one of its kind may be.
+fn puts_node(edit: &Edit)
+    ensures { PutsNode edit.now }
+{
+    if let Edit::Insert { new, .. } = edit {
+        let _kind = new.kind();
+    }
+}
+
 /// The cells of a table, all made anew.
 fn new_cells(alloc: Global, table: &DocumentTable) -> Result<Cells<Layout>, NoMemory>
     requires { AreOfOwnNodes table.now.lists.contexts }
     ensures made { IfOk result (Reshapes (no_cells 0) (shape_of table.now.lists.contexts) []) }
     ensures draws { IfOk result (λ c. c.draws ≡ length c.rows) }
     ensures few { IfOk result (λ c. c.draws ≤ 2 ^ 18) }
+    ensures none { IfOk result (λ c. laid_of_all c.rows ≤ 0) }
 {
+    reshapes_count::<Layout>();
     first_shapes_draw::<Layout>();
     reshapes_draw::<Layout>();
     let shape = table.cells().shape(alloc)?;

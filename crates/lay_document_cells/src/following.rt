@@ -1,11 +1,12 @@
 //! What an edit does to cells.
 
 ghost use Rattle.std.specs.Prelude.{◌≡◌, ◌≤◌, ◌+◌, ◌^◌, OnErr, OnOk, length};
+ghost use Rattle.lay_cell_progress.specs.Grants.{laid_of_all};
 ghost use Rattle.lay_shape.specs.Keys.{AreOfOwnNodes};
 ghost use Rattle.lay_document_cells.specs.Edits.{FollowsLists};
 
 use crate::document_table::DocumentTable;
-use lay_cell_progress::reshapes_draw;
+use lay_cell_progress::{marks_count, reshapes_count, reshapes_draw};
 use lay_cell_work::Layout;
 use lay_cells::Cells;
 use lay_changes::changed_keys;
@@ -24,8 +25,12 @@ pub(crate) fn follow_lists(
     requires draws { cells.old.draws ≤ 2 ^ 63 + 2 ^ 51 }
     ensures ok { OnOk result (FollowsLists before.now.lists later.now.lists cells.old cells.new) }
     ensures few { cells.new.draws ≤ cells.old.draws + 2 ^ 18 }
+    ensures counted { laid_of_all cells.new.rows ≤ laid_of_all cells.old.rows }
+    ensures drawn { cells.old.draws ≤ cells.new.draws }
     ensures err { OnErr result (cells.new ≡ cells.old) }
 {
+    marks_count::<Layout>();
+    reshapes_count::<Layout>();
     reshapes_draw::<Layout>();
     let keys = changed_keys(alloc, &before.contexts(), &later.contexts())?;
     let shape = later.cells().shape(alloc)?;
