@@ -22,6 +22,7 @@ use Rattle.lay_cell_progress.specs.Progress.{FinishesKeepRows, GiveBacksKeepRows
 use Rattle.lay_cell_work.specs.CellInputs.{CellInput}
 use Rattle.lay_cell_work.specs.CellLocal.{IsCellLocal}
 use Rattle.lay_cell_work.specs.CellValues.{CellValue}
+use Rattle.lay_cell_work.specs.PresentInputs.{key_of}
 use Rattle.lay_cell_laws.specs.SoundCells.{CellRow, CellState}
 use Rattle.lay_cell_laws.specs.DocumentCells.{AreDocumentCells}
 use Rattle.lay_cell_steps.specs.CellSteps.{ClaimsKeepCells, FinishesKeepCells, GiveBacksKeepCells}
@@ -58,7 +59,7 @@ module _ (d : Document) (face : FaceValue) (cells : CellState) (laid : ℕ) wher
       let row : here.0 ≡ claims.0 = one_at cells.rows place here.0 claims.0 here.1 claims.1 in
       let lists : g.lists ≡ table.lists = one_lists columns contexts all d g.lists table.lists kept.cells.is_document g.lists_are (table.styles, kept.lists_are) in
       let in_key = subst (λ k. ClaimsIn cells k input a t) (sym (ap (λ (r : CellRow). r.key) row) ∙ g.key_is) claims.2 in
-      let in_input = subst (λ i. ClaimsIn cells _ i a t) g.input_is in_key in
+      let in_input = subst (λ i. ClaimsIn cells (key_of g.lists.contexts g.context g.phase) i a t) g.input_is in_key in
       let after = law d face g.lists.contexts g.lists.formatting_contexts cells t g.context g.phase a
           (subst (λ (l : ContextLists). AreDocumentCells d face l.contexts l.formatting_contexts cells) (sym lists) kept.cells) g.within in_input sound in
       let count = counts cells t claims.0.key input a claims.2 in

@@ -1,9 +1,9 @@
 -- The first dirty cell becomes clean, or memory runs out.
-use Rattle.std.proofs.Common.{◌≡◌, ◌⊎◌, inl, inr, ⊎_elim, ℕ, ◌+◌, ◌≤◌, ◌<◌, List, map, length, slice_get, Some, Bool, true, false, refl, arith, ap, sym, subst, ◌∙◌}
+use Rattle.std.proofs.Common.{◌≡◌, ◌⊎◌, inl, inr, ⊎_elim, ℕ, ◌+◌, ◌≤◌, ◌<◌, ◌^◌, [], ◌∷◌, suc, List, map, length, slice_get, Some, Bool, true, false, refl, arith, ap, sym, subst, ◌∙◌}
 use Rattle.std.proofs.lemmas.Bool.{cases_lt, false≢true}
 use Rattle.std.proofs.lemmas.Option.{slice_get_within}
 use Rattle.lay_cells.specs.Looks.{IsDirty, Looks}
-use Rattle.lay_cells.specs.Places.{AreCleanFrom, AtPlace}
+use Rattle.lay_cells.specs.Places.{AreCleanFrom, AtPlace, IsFirstDirtyFrom}
 use Rattle.lay_cells.specs.Reads.{AllClean, IsFirstDirtyKey}
 use Rattle.lay_cells.specs.Rows.{entry_of}
 use Rattle.lay_cells.specs.Shapes.{IsIn, IsShape}
@@ -24,7 +24,7 @@ use Rattle.lay_cell_work.specs.CellValues.{CellValue}
 use Rattle.lay_cell_laws.specs.SoundCells.{CellRow, CellState}
 use Rattle.lay_document_cells.specs.Settling.{AreCleanBefore, FinishesWork, GivesBackWork, GivesUpAt, Settles, SettlesAt, SettlesFirst, SettlesTo, StopsAt, computed, granted, next, none, reused, taken, unclaimed}
 use Rattle.lay_document_cells.specs.State.{State}
-use Rattle.lay_document_cells.specs.Steps.{ClaimsTo, FinishesTo, GivesBackTo}
+use Rattle.lay_document_cells.specs.Steps.{CellDone, ClaimsTo, FinishesTo, GivesBackTo}
 
 bool_cases : (b : Bool) → (b ≡ true) ⊎ (b ≡ false)
 bool_cases true = inl refl
@@ -108,7 +108,7 @@ module _ (s : State) (sound : IsSound IsCellLocal s.cells) (place : ℕ) (r : Ce
         → (mid t : State) (input : CellInput) (a : Claimed) (number : ℕ) → ClaimsTo s r.key input a mid → claim_number a ≡ Some number
         → FinishesWork mid r.key number input t → SettlesAt s place t
     computed_at law finishes mid t input a number c is f =
-        let done = record { key = r.key; number = number; input = input; value = f.value } in
+        let done : CellDone = record { key = r.key; number = number; input = input; value = f.value } in
         let cells : mid.cells ≡ c.cells = ap (λ (x : State). x.cells) c.state in
         let h = law s.cells c.cells f.finishes.cells place r input f.value number a f.answer sound at c.claims is
             (subst (λ (x : CellState). FinishesIn x done f.answer f.finishes.cells) cells f.finishes.finishes) in
@@ -170,3 +170,16 @@ settled_all s t n settles clean le = record {
 -- memory ran out at a cell
 pub stopped_at : (s mid t : State) → Settles s mid → GivesUpAt mid t → StopsAt s t
 stopped_at s mid t settles h = record { before = mid; settles = settles; gives_up = h.gives_up }
+
+pub clean_to_first : (rows : List CellRow) (first : ℕ) → IsFirstDirtyFrom rows 0 first → AreCleanBefore rows first
+clean_to_first rows first h j r lt at = h.2 j (omega arith) lt r at
+
+pub first_within : (rows : List CellRow) (first : ℕ) → IsFirstDirtyFrom rows 0 first → first < length rows
+first_within rows first h = slice_get_within rows first h.0.0 h.0.1
+
+length_mapped : (rows : List CellRow) → length (map entry_of rows) ≡ length rows
+length_mapped [] = refl
+length_mapped (r ∷ rows) = ap suc (length_mapped rows)
+
+pub few_rows : (rows : List CellRow) → IsShape (map entry_of rows) → length rows ≤ 2 ^ 18
+few_rows rows shape = let few = shape.few in let same = length_mapped rows in omega (arith, few, same)
