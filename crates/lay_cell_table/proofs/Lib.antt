@@ -1,2 +1,3 @@
+pub mod KeptReads
 pub mod PlaceSteps
 pub mod RootSteps

@@ -1,3 +1,4 @@
 pub mod CellPlaces
 pub mod CellTables
+pub mod KeptCells
 pub mod RootColumns

@@ -8,9 +8,11 @@
 
 mod cell_places;
 mod cell_table;
+mod cell_values;
 mod context_root;
 mod links;
 mod root_columns;
 
 pub use cell_table::CellTable;
+pub use cell_values::CellValues;
 pub use context_root::ContextRoot;
