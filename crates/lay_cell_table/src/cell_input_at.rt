@@ -1,0 +1,42 @@
+//! What the cell at a place is given.
+
+ghost use Rattle.std.specs.Prelude.{◌≡◌, Some, IfOk};
+ghost use Rattle.std.specs.Arc.{arc_value};
+ghost use Rattle.lay_cells.specs.Looks.{Looks};
+ghost use Rattle.lay_cells.specs.Places.{AtPlace};
+ghost use Rattle.lay_cells.specs.declared.answers.Look.TheVariants as look;
+ghost use Rattle.lay_cell_table.specs.TableCells.{AreCellsOn, input_at};
+
+use crate::cell_table::{CellTable, key_of};
+use crate::cell_values::CellValues;
+use crate::root_inputs::root_inputs;
+use lay_cell_laws::present_inputs_fit;
+use lay_cell_steps::ready_to_input;
+use lay_cell_work::{CellInput, Layout};
+use lay_cells::Cells;
+use lay_context::Medium;
+use lay_units::NoMemory;
+use std::alloc::Global;
+use std::sync::Arc;
+
+/// What the cell at a place is given now, where a look shows that it is ready.
+pub fn input_at(
+    alloc: Global,
+    medium: &Medium,
+    table: &CellTable,
+    cells: &Cells<Layout>,
+    place: usize,
+) -> Result<Arc<CellInput>, NoMemory>
+    requires cells { AreCellsOn medium.now table.now cells.now }
+    requires ready { AtPlace cells.now.rows place (λ r. Looks cells.now.rows r.key look.Ready) }
+    ensures { IfOk result (λ i. input_at medium.now table.now cells.now.rows place ≡ Some (arc_value i)) }
+{
+    ready_to_input();
+    present_inputs_fit();
+    let _ = table.contexts().len();
+    let cell = table.cell_at(place);
+    let values = CellValues { table, cells };
+    let roots = root_inputs(alloc, medium, &values, cell)?;
+    let input = CellInput::new(key_of(table.contexts(), cell), roots);
+    Ok(Arc::new(alloc, input)?)
+}
