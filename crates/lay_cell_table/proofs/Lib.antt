@@ -1,3 +1,6 @@
+pub mod GivenNow
 pub mod KeptReads
+pub mod LinkedInputs
 pub mod PlaceSteps
+pub mod RootFlags
 pub mod RootSteps

@@ -5,7 +5,7 @@ ghost use Rattle.std.specs.Arc.{arc_value};
 ghost use Rattle.lay_cells.specs.Looks.{Looks};
 ghost use Rattle.lay_cells.specs.Places.{AtPlace};
 ghost use Rattle.lay_cells.specs.declared.answers.Look.TheVariants as look;
-ghost use Rattle.lay_cell_table.specs.TableCells.{AreCellsOn, input_at};
+ghost use Rattle.lay_cell_table.specs.TableCells.{AreCellsOn, IsGivenNow, input_at};
 
 use crate::cell_table::{CellTable, key_of};
 use crate::cell_values::CellValues;
@@ -29,7 +29,8 @@ pub fn input_at(
 ) -> Result<Arc<CellInput>, NoMemory>
     requires cells { AreCellsOn medium.now table.now cells.now }
     requires ready { AtPlace cells.now.rows place (λ r. Looks cells.now.rows r.key look.Ready) }
-    ensures { IfOk result (λ i. input_at medium.now table.now cells.now.rows place ≡ Some (arc_value i)) }
+    ensures value { IfOk result (λ i. input_at medium.now table.now cells.now.rows place ≡ Some (arc_value i)) }
+    ensures of { IfOk result (λ i. AtPlace cells.now.rows place (λ r. IsGivenNow medium.now table.now cells.now.rows r.key (arc_value i))) }
 {
     ready_to_input();
     present_inputs_fit();
