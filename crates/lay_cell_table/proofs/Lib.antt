@@ -3,4 +3,5 @@ pub mod KeptReads
 pub mod LinkedInputs
 pub mod PlaceSteps
 pub mod RootFlags
+pub mod RootParts
 pub mod RootSteps

@@ -35,15 +35,15 @@ no_flow_link all first j own = by (is_absolute all j) refl
     by false e = rw e (no_link all first j own)
 
 not_true : (b : Bool) → (b ≡ true → ⊥) → b ≡ false
-not_true true no = absurd (no refl)
-not_true false no = refl
+not_true true never = absurd (never refl)
+not_true false never = refl
 
 module _ (contexts : List Context) (all : List FormattingContext) (are : AreContexts contexts) (of : AreFormattingContextsOf contexts all) (c : ℕ) (lt : c < length contexts) where
   abbrev First : ℕ
   First = first_number contexts c
 
   -- its own box as the first root
-  own_root : Numbered contexts (length contexts) First
+  abbrev own_root : Numbered contexts (length contexts) First
   own_root = record { context = c; place = 0; before = lt; inside = some_box contexts are c lt; root = refl; number = omega arith }
 
   pub own_flag : (formatting_context_at all First).anonymous ≡ false

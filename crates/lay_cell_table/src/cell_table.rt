@@ -170,6 +170,14 @@ impl CellTable {
         key_of(&self.contexts, self.cell_at(place))
     }
 
+    /// The key of a cell.
+    pub fn key_of(&self, cell: ContextPhase) -> CellKey
+        requires { cell.context < length self.now.contexts }
+        ensures { result ≡ key_of self.now.contexts cell }
+    {
+        key_of(&self.contexts, cell)
+    }
+
     /// The shape of the cells.
     pub fn shape(&self, alloc: Global) -> Result<Shape<CellKey>, NoMemory>
         requires { AreOfOwnNodes self.now.contexts }
@@ -194,7 +202,7 @@ impl CellTable {
 }
 
 /// The key of a cell.
-pub(crate) fn key_of(contexts: &Contexts, cell: ContextPhase) -> CellKey
+fn key_of(contexts: &Contexts, cell: ContextPhase) -> CellKey
     requires { cell.context < length contexts.now }
     ensures { result ≡ key_of contexts.now cell }
 {

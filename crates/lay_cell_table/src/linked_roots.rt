@@ -1,6 +1,6 @@
 //! What the roots of a context with anonymous tables and cells are given from outside their cell.
 
-ghost use Rattle.std.specs.Prelude.{◌≡◌, ◌<◌, true, false, IfOk, length};
+ghost use Rattle.std.specs.Prelude.{◌≡◌, ◌<◌, true, false, None, [], IfOk, length};
 ghost use Rattle.lay_contexts.specs.FormattingContexts.{formatting_context_at};
 ghost use Rattle.lay_context.specs.declared.input.Input.TheVariants.{Size};
 ghost use Rattle.lay_context.specs.Local.{size_input};
@@ -34,11 +34,18 @@ pub(crate) fn linked_input(
     ensures { IfOk result (λ x. x ≡ root_input_as (links_of all.now first i) (spot_in all.now first i) given) }
 {
     if !asks_links(&given) {
-        return Ok(RootInput::new(given, Vec::new(alloc), None));
+        return Ok(unlinked_root(alloc, given));
     }
     let links = links_of(alloc, all, first, i)?;
     let given = masked_input(alloc, &links, given)?;
     Ok(RootInput::new(given, links, None))
+}
+
+/// A root that is given this alone.
+pub(crate) fn unlinked_root(alloc: Global, given: Input) -> RootInput
+    ensures { result ≡ record { given = given; links = []; around = None } }
+{
+    RootInput::new(given, Vec::new(alloc), None)
 }
 
 /// Whether other roots give something to a task that is given this.

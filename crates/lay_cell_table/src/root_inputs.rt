@@ -1,15 +1,16 @@
 //! What each root of a context is given.
 
-ghost use Rattle.std.specs.Prelude.{◌≡◌, ◌+◌, ◌<◌, IfOk, length};
+ghost use Rattle.std.specs.Prelude.{◌≡◌, ◌↔◌, ◌+◌, ◌<◌, IfOk, IsTrue, length};
 ghost use Rattle.lay_contexts.specs.FormattingContextList.{first_number};
 ghost use Rattle.lay_context.specs.Local.{input_of};
 ghost use Rattle.lay_context.specs.Settling.{IsReady};
+ghost use Rattle.lay_context.specs.declared.task.Phase.TheVariants.{Size};
 ghost use Rattle.lay_cell_laws.specs.SoundCells.{input_now};
 ghost use Rattle.lay_cell_work.specs.PresentInputs.{root_count, root_input};
 ghost use Rattle.lay_cell_table.specs.TableCells.{HaveNeeds, workings_in};
 
 use crate::cell_values::CellValues;
-use crate::linked_roots::{inner_size_input, linked_input};
+use crate::linked_roots::{inner_size_input, linked_input, unlinked_root};
 use lay_cell_work::RootInput;
 use lay_context::{FormattedDocument, Input, Medium, Phase, Task, input_of};
 use lay_shape::ContextPhase;
@@ -47,13 +48,15 @@ fn only_root(
 {
     let _ = values.table.contexts().len();
     let _ = values.table.formatting_contexts();
+    let first = values.table.first_number(cell.context);
     let task = Task {
-        context: values.table.first_number(cell.context),
+        context: first,
         phase: cell.phase,
     };
     let given = task_input(alloc, medium, values, task)?;
+    let root = unlinked_root(alloc, given);
     let mut roots = Vec::with_capacity(alloc, 1)?;
-    roots.push(RootInput::new(given, Vec::new(alloc), None))?;
+    roots.push(root)?;
     Ok(roots)
 }
 
@@ -91,16 +94,26 @@ fn root_input(
 {
     let _ = values.table.contexts().len();
     let all = values.table.formatting_contexts();
+    let _ = all.len();
     let first = values.table.first_number(cell.context);
     let task = Task {
         context: first + r,
         phase: cell.phase,
     };
-    if r > 0 && cell.phase == Phase::Size {
-        return inner_size_input(alloc, values, first, task.context);
+    if is_inner_size(r, cell.phase) {
+        let sized = inner_size_input(alloc, values, first, task.context)?;
+        return Ok(sized);
     }
     let given = task_input(alloc, medium, values, task)?;
-    linked_input(alloc, all, first, task.context, given)
+    let linked = linked_input(alloc, all, first, task.context, given)?;
+    Ok(linked)
+}
+
+/// Whether a root is an anonymous one that is to be sized.
+fn is_inner_size(r: usize, phase: Phase) -> bool
+    ensures { IsTrue result ↔ ((phase ≡ Size) × (0 < r)) }
+{
+    phase == Phase::Size && r > 0
 }
 
 /// What a task is given.
