@@ -47,8 +47,8 @@ asks_where_sized medium all w i phase.Place e = absurd (let n : false ≡ true =
 
 -- where a root isn't an anonymous one to be sized
 pub own_where_sized : (p : Phase) (r : ℕ) (b : Bool) → IsTrue b ↔ ((p ≡ phase.Size) × (0 < r)) → b ≡ false → p ≡ phase.Size → r ≡ 0
-own_where_sized p r b is no size = elim (cases_lt 0 r) [
-  | inl some ↦ absurd (let yes : b ≡ true = is.1 (size, some) in let n : false ≡ true = sym no ∙ yes in cc)
+own_where_sized p r b is not_so size = elim (cases_lt 0 r) [
+  | inl some ↦ absurd (let yes : b ≡ true = is.1 (size, some) in let n : false ≡ true = sym not_so ∙ yes in cc)
   | inr none ↦ omega (arith, none)
 ]
 

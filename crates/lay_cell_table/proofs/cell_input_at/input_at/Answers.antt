@@ -6,8 +6,8 @@ use Rattle.lay_cell_laws.specs.SoundCells.{CellRow}
 use Rattle.lay_cell_table.proofs.GivenNow.{given_at, given_of, has_needs, place_there}
 use Rattle.lay_cell_table.proofs.cell_input_at.input_at.Goals as goal
 
-pub cell_at-requires : goal.cell_at-requires
-cell_at-requires c =
+pub cell_at-cell-requires : goal.cell_at-cell-requires
+cell_at-cell-requires c =
     place_there c.args.medium.now c.args.table.now c.args.cells.now c.requires.cells c.args.place (λ (r : CellRow). Looks c.args.cells.now.rows r.key look.Ready) c.requires.ready
 
 pub cell_input-requires-clause-needs : goal.cell_input-requires-clause-needs
