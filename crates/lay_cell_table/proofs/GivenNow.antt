@@ -1,5 +1,5 @@
 -- What the cell at a place is given now.
-use Rattle.std.proofs.Common.{◌≡◌, ◌<◌, ℕ, List, length, slice_get, Some, option_map, refl, ap, sym, subst, ◌∙◌, arith}
+use Rattle.std.proofs.Common.{◌≡◌, ◌<◌, ℕ, List, length, slice_get, Some, option_map, ap, sym, subst, ◌∙◌, arith}
 use Rattle.lay_cells.specs.Looks.{Looks}
 use Rattle.lay_cells.specs.Places.{AtPlace}
 use Rattle.lay_cells.specs.declared.answers.Look.TheVariants as look
@@ -8,7 +8,6 @@ use Rattle.lay_shape.specs.declared.cell_key.CellKey.{CellKey}
 use Rattle.lay_shape.specs.declared.context_phase.ContextPhase.{ContextPhase}
 use Rattle.lay_shape.specs.Keys.{key_of}
 use Rattle.lay_shape.specs.Shapes.{cells_of}
-use Rattle.lay_cell_work.specs.CellInputFits.{CellInputFits}
 use Rattle.lay_cell_work.specs.CellInputs.{CellInput, RootInput}
 use Rattle.lay_cell_laws.specs.SoundCells.{CellRow, CellState, input_now}
 use Rattle.lay_cell_steps.specs.ReadyCells.{ReadyToInput}

@@ -1,18 +1,18 @@
 -- Which roots of a context are anonymous, and that a context without such ones links none of its boxes.
-use Rattle.std.proofs.Common.{◌≡◌, ℕ, zero, suc, nat_lt, ◌+◌, ◌<◌, ◌≤◌, Bool, true, false, List, [], ◌∷◌, length, map, slice_index, Option, None, Some, refl, ap, sym, ◌∙◌, arith, inl, inr}
+use Rattle.std.proofs.Common.{◌≡◌, ℕ, zero, suc, nat_lt, ◌+◌, ◌<◌, Bool, true, false, List, [], ◌∷◌, length, map, slice_index, Option, None, refl, ap, ◌∙◌, arith, inl, inr}
 use Rattle.std.specs.List.{list_any}
 use Rattle.std.proofs.lemmas.Bool.{cases_lt}
-use Rattle.lay_contexts.specs.Contexts.{AreContexts, Context, boxes_in}
+use Rattle.lay_contexts.specs.Contexts.{AreContexts, Context}
 use Rattle.lay_contexts.specs.FormattingContexts.{FormattingContext, IsInside, formatting_context_at}
 use Rattle.lay_contexts.specs.FormattingContextList.{AreFormattingContextsOf, first_number}
 use Rattle.lay_contexts.proofs.ContextFacts.{in_order, root_of, some_box, value_of}
 use Rattle.lay_contexts.proofs.RootNumbers.{Numbered, first_le}
 use Rattle.lay_context.specs.DocumentLayout.{flow_number, flow_numbers}
 use Rattle.lay_positioned.specs.Absolute.{is_absolute}
-use Rattle.lay_cell_work.specs.CellColumns.{is_link, link_to, links_of, links_or_none}
+use Rattle.lay_cell_work.specs.CellColumns.{is_link, link_to, links_of}
 use Rattle.lay_cell_work.specs.PresentInputs.{root_count}
 use Rattle.lay_cell_laws.proofs.RootsOfContexts.{inner_is_of, own_number}
-use Rattle.lay_cell_table.proofs.RootSteps.{first_there, one_context, root_some}
+use Rattle.lay_cell_table.proofs.RootSteps.{first_there, one_context}
 
 flag_some : (place : ℕ) → 0 < place → nat_lt 0 place ≡ true
 flag_some place some = grind (arith, some)

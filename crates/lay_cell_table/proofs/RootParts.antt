@@ -1,5 +1,5 @@
 -- What the roots of a context are given, one by one.
-use Rattle.std.proofs.Common.{◌≡◌, ℕ, zero, suc, ◌+◌, ◌<◌, ◌≤◌, ◌↔◌, Bool, true, false, List, [], ◌∷◌, ◌++◌, IsTrue, length, map, Option, None, Some, option_map, refl, ap, sym, subst, ◌∙◌, arith, inl, inr}
+use Rattle.std.proofs.Common.{◌≡◌, ℕ, ◌+◌, ◌<◌, ◌↔◌, Bool, true, false, List, [], ◌∷◌, ◌++◌, IsTrue, length, map, Option, None, Some, option_map, refl, ap, sym, subst, ◌∙◌, arith, inl, inr}
 use Rattle.std.specs.List.{range_with_len}
 use Rattle.std.proofs.lemmas.Bool.{cases_lt}
 use Rattle.std.proofs.lemmas.List.FromFn.{map-range_with_len_more}
@@ -9,7 +9,6 @@ use Rattle.lay_contexts.specs.FormattingContextList.{AreFormattingContextsOf, fi
 use Rattle.lay_table_sizes.specs.TableSizesValue.{TableSizesValue}
 use Rattle.lay_context_sizes.specs.Inputs.{MeasureInput}
 use Rattle.lay_context.specs.declared.input.Input.{Input}
-use Rattle.lay_context.specs.declared.input.Input.TheVariants as input
 use Rattle.lay_context.specs.declared.task.Phase.{Phase}
 use Rattle.lay_context.specs.declared.task.Phase.TheVariants as phase
 use Rattle.lay_context.specs.Local.{flow_input, input_of, measure_as, measure_input, place_as, stand_input, table_input}
@@ -22,13 +21,13 @@ use Rattle.lay_shape.specs.declared.context_phase.ContextPhase.{ContextPhase}
 use Rattle.lay_cell_work.specs.declared.root_spot.RootSpot.{RootSpot}
 use Rattle.lay_cell_work.specs.CellInputs.{RootInput}
 use Rattle.lay_cell_work.specs.CellColumns.{links_of}
-use Rattle.lay_cell_work.specs.PresentInputs.{present_input, root_count, root_input, root_input_as, spot_in}
+use Rattle.lay_cell_work.specs.PresentInputs.{present_input, root_count, root_input, root_input_as}
 use Rattle.lay_cell_laws.specs.SoundCells.{CellRow}
 use Rattle.lay_cell_table.specs.CellTables.{CellTable}
 use Rattle.lay_cell_table.specs.LinkedRoots.{asks_spot}
 use Rattle.lay_cell_table.specs.TableCells.{HaveNeeds, workings_in}
 use Rattle.lay_cell_table.proofs.LinkedInputs.{no_spot, only_input, parts}
-use Rattle.lay_cell_table.proofs.RootFlags.{inner_flag, no_links, own_flag, root_within}
+use Rattle.lay_cell_table.proofs.RootFlags.{no_links, own_flag}
 
 -- a spot is asked for by sizes alone
 measured_asks : (b : Bool) (i : MeasureInput) → asks_spot (measure_as b i) ≡ false

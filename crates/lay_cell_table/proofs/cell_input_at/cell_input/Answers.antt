@@ -1,4 +1,4 @@
-use Rattle.std.proofs.Common.{◌≡◌, ◌∙◌, sym, subst}
+use Rattle.std.proofs.Common.{◌∙◌, sym, subst}
 use Rattle.lay_contexts.specs.Contexts.{AreContexts}
 use Rattle.lay_cell_work.specs.CellInputFits.{CellInputFits}
 use Rattle.lay_cell_table.specs.TableCells.{workings_in}

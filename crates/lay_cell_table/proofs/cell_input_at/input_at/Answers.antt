@@ -1,4 +1,4 @@
-use Rattle.std.proofs.Common.{rules, ◌≡◌, ◌∙◌, ap, Some, sym, subst}
+use Rattle.std.proofs.Common.{rules, ◌≡◌, ◌∙◌}
 use Rattle.std.specs.Arc.{arc_value}
 use Rattle.lay_cells.specs.Looks.{Looks}
 use Rattle.lay_cells.specs.declared.answers.Look.TheVariants as look

@@ -1,4 +1,4 @@
-use Rattle.std.proofs.Common.{◌≡◌, ◌<◌, ◌∙◌, ℕ, ap, sym, subst, arith}
+use Rattle.std.proofs.Common.{◌<◌, ◌∙◌, ℕ, ap, sym, subst, arith}
 use Rattle.lay_contexts.specs.Contexts.{AreContexts}
 use Rattle.lay_context.specs.Local.{input_of}
 use Rattle.lay_context.specs.Settling.{IsReady}
