@@ -32,7 +32,8 @@ workings_in t rows = kept_workings rows t.contexts
 
 -- what the cell at a place would be given now
 abbrev pub input_at : Medium → CellTable → List CellRow → ℕ → Option CellInput
-input_at medium t rows place = option_map (λ c. input_now medium t.contexts t.formatting_contexts rows c.context c.phase) (slice_get (cells_of t.contexts) place)
+input_at medium t rows place =
+    option_map (λ c. input_now medium t.contexts t.formatting_contexts rows c.context c.phase) (slice_get (cells_of t.contexts) place)
 
 -- this is what the cell with this key is given now, which is that of a context and a phase
 pub record IsGivenNow (medium : Medium) (t : CellTable) (rows : List CellRow) (key : CellKey) (input : CellInput) : Type 0 where
