@@ -1,6 +1,6 @@
 -- Rows after a new shape and after marks: each has its entry, and one that is clean, or has a claim that isn't stale, was there before.
-use Rattle.std.proofs.Common.{◌≡◌, ◌⊎◌, ⊎_elim, inl, inr, ◌+◌, ℕ, zero, suc, true, false, List, [], ◌∷◌, length, map, slice_get, Option, None, Some, option_map, refl, ap, sym, subst, ◌∙◌, arith}
-use Rattle.lay_cells.specs.Marks.{MarksWhere, Marks, Reached, marked, staled}
+use Rattle.std.proofs.Common.{◌≡◌, ◌⊎◌, inl, inr, ◌+◌, ℕ, zero, suc, true, false, List, [], ◌∷◌, map, slice_get, Option, None, Some, option_map, refl, ap, sym, subst, ◌∙◌, arith}
+use Rattle.lay_cells.specs.Marks.{MarksWhere, Marks, Reached, marked}
 use Rattle.lay_cells.specs.Reshapes.{Carries, Rebuilds, RebuildsAll, made_row}
 use Rattle.lay_cells.specs.Rows.{Row, entry_of}
 use Rattle.lay_cells.specs.Shapes.{Entry, IsIn}

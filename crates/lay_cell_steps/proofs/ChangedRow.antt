@@ -1,6 +1,6 @@
 -- The cells of a document after a change of one row. Where its value changes the cell was dirty, so cells that are clean, or have a claim
 -- that isn't stale, don't depend on it.
-use Rattle.std.proofs.Common.{◌≡◌, ◌⊎◌, ⊎_elim, inl, inr, ◌<◌, ℕ, Bool, true, false, List, length, map, slice_get, slice_set, Some, refl, ap, sym, subst, ◌∙◌}
+use Rattle.std.proofs.Common.{◌≡◌, ◌⊎◌, ⊎_elim, inl, inr, ◌<◌, ℕ, true, false, List, length, map, slice_get, slice_set, Some, refl, ap, sym, subst, ◌∙◌}
 use Rattle.std.proofs.lemmas.Bool.{false≢true}
 use Rattle.lay_doc.specs.Document.{Document}
 use Rattle.lay_boxgen.proofs.NodeColumns.{length-parents}

@@ -1,6 +1,6 @@
 -- An edit changes neither the viewport nor the root, so cells that follow the contexts of a document through it are those of the document
 -- after it.
-use Rattle.std.proofs.Common.{◌≡◌, ℕ, Option, None, Some, List, refl, ap, ◌∙◌}
+use Rattle.std.proofs.Common.{◌≡◌, ℕ, Option, None, Some, refl, ap, ◌∙◌}
 use Rattle.lay_units.specs.declared.records.Len.TheVariants.{Of}
 use Rattle.lay_style.specs.LengthValues.{px}
 use Rattle.lay_style.specs.Places.{place_of}
@@ -14,12 +14,10 @@ use Rattle.lay_doc.specs.Laws.{EditsLeaveDocuments}
 use Rattle.lay_doc.specs.NewNodes.{NewNodeValue}
 use Rattle.lay_doc.specs.Removal.{after_remove}
 use Rattle.lay_face.specs.FaceValue.{FaceValue}
-use Rattle.lay_context.specs.Medium.{Medium}
 use Rattle.lay_context.specs.Solves.{medium_of}
 use Rattle.lay_kept_inputs.specs.KeptInputs.{InputsAreKept}
 use Rattle.lay_own_nodes.specs.Touched.{Edits}
 use Rattle.lay_table_keys.specs.RootKeys.{RootStaysFirst}
-use Rattle.lay_cell_laws.specs.DocumentCells.{AreDocumentCells}
 use Rattle.lay_cell_steps.specs.EditedCells.{EditsKeepCells}
 use Rattle.lay_cell_steps.proofs.FollowedRows.{followed}
 

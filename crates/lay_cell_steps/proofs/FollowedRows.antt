@@ -1,6 +1,6 @@
 -- Cells that follow contexts from one document to another: those that are clean after that, or have a claim that isn't stale, were carried
 -- over from untouched contexts, and so were those that they depend on, which keep the same values.
-use Rattle.std.proofs.Common.{◌≡◌, ◌⊎◌, ⊎_elim, inl, inr, ◌<◌, ℕ, false, List, [], length, map, slice_get, Some, refl, ap, sym, subst, ◌∙◌}
+use Rattle.std.proofs.Common.{◌≡◌, ◌⊎◌, ⊎_elim, inl, inr, ◌<◌, ℕ, false, List, [], length, map, slice_get, Some, ap, sym, subst, ◌∙◌}
 use Rattle.std.specs.Prelude.{◌↔◌}
 use Rattle.std.proofs.lemmas.Bool.{false≢true}
 use Rattle.lay_style.specs.declared.style.Style.{Style}
@@ -12,7 +12,7 @@ use Rattle.lay_face.specs.FaceValue.{FaceValue}
 use Rattle.lay_cells.specs.Looks.{AreClean, IsClean}
 use Rattle.lay_cells.specs.Marks.{Reached, listed}
 use Rattle.lay_cells.specs.Rows.{entry_of}
-use Rattle.lay_cells.specs.Shapes.{IsIn, IsShape}
+use Rattle.lay_cells.specs.Shapes.{IsIn}
 use Rattle.lay_cells.specs.Sound.{IsSound}
 use Rattle.lay_cells.specs.Steps.{HasKept, IsStale}
 use Rattle.lay_contexts.specs.Contexts.{AreContexts, Context}
@@ -24,7 +24,7 @@ use Rattle.lay_context.specs.declared.task.Phase.{Phase}
 use Rattle.lay_context.specs.Medium.{Medium}
 use Rattle.lay_context.specs.Solves.{medium_of}
 use Rattle.lay_shape.specs.declared.cell_key.CellKey.{CellKey}
-use Rattle.lay_shape.specs.Dependencies.{in_phase, needs_in, needs_of}
+use Rattle.lay_shape.specs.Dependencies.{in_phase, needs_in}
 use Rattle.lay_shape.specs.Keys.{AreOfOwnNodes, key_of as key_of_cell, node_of}
 use Rattle.lay_shape.specs.Shapes.{shape_of}
 use Rattle.lay_shape.proofs.Members.{in_map}

@@ -7,3 +7,4 @@ pub mod CarriedRows
 pub mod NewRows
 pub mod FollowedRows
 pub mod EditedRows
+pub mod ReachedContexts

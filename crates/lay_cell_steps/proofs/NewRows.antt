@@ -1,5 +1,5 @@
 -- Cells that are made anew are none of them clean, and have no claims.
-use Rattle.std.proofs.Common.{◌≡◌, ⊎_elim, ℕ, false, List, [], map, Some, ap, sym, subst, ◌∙◌}
+use Rattle.std.proofs.Common.{⊎_elim, [], sym, ◌∙◌}
 use Rattle.std.proofs.lemmas.Bool.{false≢true}
 use Rattle.lay_boxgen.proofs.NodeColumns.{length-parents}
 use Rattle.lay_cells.specs.Shapes.{IsIn}

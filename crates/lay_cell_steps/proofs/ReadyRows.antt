@@ -1,6 +1,6 @@
 -- What a clean cell keeps is right beside what it would be given now, so its sizes are of the boxes of its context; and all that a cell
 -- that is ready depends on is clean.
-use Rattle.std.proofs.Common.{◌≡◌, ◌⊎◌, ⊎_elim, inl, inr, ◌<◌, ◌≤◌, ◌+◌, ◌-◌, ℕ, suc, Bool, false, List, length, map, slice_get, slice_index_or, Option, None, Some, option_map, refl, ap, sym, subst, ◌∙◌, arith}
+use Rattle.std.proofs.Common.{◌≡◌, ⊎_elim, inl, inr, ◌<◌, ◌≤◌, ◌+◌, ◌-◌, ℕ, suc, List, length, slice_get, Option, None, Some, option_map, refl, ap, sym, subst, ◌∙◌, arith}
 use Rattle.std.proofs.lemmas.Bool.{cases_lt}
 use Rattle.std.proofs.lemmas.List.FromFn.{get_or-map-range_with_len, length-map-range_with_len}
 use Rattle.std.proofs.lemmas.Option.{slice_get-get_or}
@@ -8,27 +8,24 @@ use Rattle.lay_doc.specs.Document.{Document}
 use Rattle.lay_face.specs.FaceValue.{FaceValue}
 use Rattle.lay_measure.specs.MeasureInValue.{no_widths}
 use Rattle.lay_table_borders.specs.GridLaws.{GridsAreOfBoxes}
-use Rattle.lay_cells.specs.Looks.{AreClean, IsClean, Looks}
+use Rattle.lay_cells.specs.Looks.{IsClean, Looks}
 use Rattle.lay_cells.specs.Reads.{AllClean}
 use Rattle.lay_cells.specs.Rows.{Solved}
 use Rattle.lay_cells.specs.Shapes.{IsIn}
-use Rattle.lay_cells.specs.Steps.{HasKept}
 use Rattle.lay_cells.specs.declared.answers.Look.TheVariants as look
-use Rattle.lay_contexts.specs.Contexts.{AreContexts, Context}
+use Rattle.lay_contexts.specs.Contexts.{Context}
 use Rattle.lay_contexts.specs.FormattingContexts.{AreFormattingContexts, FormattingContext, boxes_in}
-use Rattle.lay_contexts.specs.FormattingContextList.{AreFormattingContextsOf, first_number, number_of}
+use Rattle.lay_contexts.specs.FormattingContextList.{first_number}
 use Rattle.lay_contexts.specs.Laws.{AnonymousBoxesAreInFlow}
 use Rattle.lay_contexts.proofs.ContextFacts.{in_order as contexts_in_order, root_of}
-use Rattle.lay_contexts.proofs.RootNumbers.{Numbered, first_le}
+use Rattle.lay_contexts.proofs.RootNumbers.{first_le}
 use Rattle.lay_positioned.proofs.OneLevels.{leads_out}
 use Rattle.lay_context_sizes.specs.ContextSizes.{SizedContext, not_sized}
-use Rattle.lay_context.specs.declared.input.Input.TheVariants as input
 use Rattle.lay_context.specs.declared.task.Phase.{Phase}
 use Rattle.lay_context.specs.declared.task.Phase.TheVariants as phase
-use Rattle.lay_context.specs.declared.task.Task.{Task}
 use Rattle.lay_context.specs.declared.value.Value.{Value}
 use Rattle.lay_context.specs.declared.value.Value.TheVariants as value
-use Rattle.lay_context.specs.Local.{HasCounts, IsLocal, flow_input, input_of, size_input, stand_input, table_input}
+use Rattle.lay_context.specs.Local.{IsLocal, flow_input, size_input, stand_input, table_input}
 use Rattle.lay_context.specs.Medium.{Medium}
 use Rattle.lay_context.specs.Needs.{Needs}
 use Rattle.lay_context.specs.PlacedContexts.{not_placed, placed_in}
@@ -39,7 +36,6 @@ use Rattle.lay_context.specs.Workings.{Workings}
 use Rattle.lay_context.proofs.PlaceFacts.{stands}
 use Rattle.lay_context.proofs.SizedFacts.{sizes_are_of_boxes}
 use Rattle.lay_shape.specs.declared.cell_key.CellKey.{CellKey}
-use Rattle.lay_shape.specs.declared.context_phase.ContextPhase.{ContextPhase}
 use Rattle.lay_shape.specs.Dependencies.{in_phase, needs_in}
 use Rattle.lay_shape.specs.Keys.{key_of as key_of_cell}
 use Rattle.lay_shape.proofs.Members.{in_map}
@@ -51,7 +47,7 @@ use Rattle.lay_cell_work.specs.KeptValues.{kept_value, kept_workings, value_or_n
 use Rattle.lay_cell_work.specs.PresentInputs.{key_of, present_input, root_count, root_input}
 use Rattle.lay_cell_laws.specs.DocumentCells.{AreDocumentCells}
 use Rattle.lay_cell_laws.specs.SoundCells.{CellRow, CellState, CleanCellsSolve, input_now}
-use Rattle.lay_cell_laws.proofs.CleanCells.{all_done, has_counts, kept_right}
+use Rattle.lay_cell_laws.proofs.CleanCells.{all_done, kept_right}
 use Rattle.lay_cell_laws.proofs.EndToEnd.{counted as values_counted}
 use Rattle.lay_cell_laws.proofs.RootsOfContexts.{AreCalm, IsOf, number_is_of, own_number}
 use Rattle.lay_cell_laws.proofs.WholeInputs.{sizes_at}
@@ -191,10 +187,10 @@ module _ (d : Document) (face : FaceValue) (contexts : List Context) (all : List
         sized_at below of.context j of.within is (needs_clean c p lt ready of.context phase.Size has))
         (λ (same : (of.context ≡ c) × (phase.Size ≡ p)).
         absurd (
-          let first = own (sym same.1) in
-          let before = size_needs_lower all (contexts_in_order contexts all (in_order d face contexts all s cells) cells.are_formatting_contexts) p M j within (sym same.1) needs in
-          let at = (subst (λ (n : ℕ). IsOf contexts n j) same.0 is).from in
-          omega (arith, first, before, at)
+        let first = own (sym same.1) in
+        let before = size_needs_lower all (contexts_in_order contexts all (in_order d face contexts all s cells) cells.are_formatting_contexts) p M j within (sym same.1) needs in
+        let at = (subst (λ (n : ℕ). IsOf contexts n j) same.0 is).from in
+        omega (arith, first, before, at)
         ))
         of.shaped
 

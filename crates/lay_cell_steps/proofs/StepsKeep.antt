@@ -3,11 +3,9 @@ use Rattle.std.proofs.Common.{◌≡◌, ◌⊎◌, ⊎_elim, inl, inr, ◌<◌,
 use Rattle.std.proofs.lemmas.Bool.{false≢true}
 use Rattle.lay_doc.specs.Document.{Document}
 use Rattle.lay_face.specs.FaceValue.{FaceValue}
-use Rattle.lay_cells.specs.Looks.{IsAt}
-use Rattle.lay_cells.specs.Rows.{Solved, State, entry_of}
-use Rattle.lay_cells.specs.Shapes.{IsIn}
+use Rattle.lay_cells.specs.Rows.{Solved, entry_of}
 use Rattle.lay_cells.specs.Sound.{IsSound}
-use Rattle.lay_cells.specs.Steps.{Claims, Finishes, GivesBack, HasKept, IsStale, draws_after}
+use Rattle.lay_cells.specs.Steps.{Claims, Finishes, GivesBack, IsStale, draws_after}
 use Rattle.lay_cells.specs.declared.answers.Claimed.{Claimed}
 use Rattle.lay_cells.specs.declared.answers.Claimed.TheVariants.{Granted, Reused, Taken}
 use Rattle.lay_cells.specs.declared.answers.Finished.{Finished}
@@ -28,8 +26,8 @@ use Rattle.lay_cell_laws.specs.DocumentCells.{AreDocumentCells}
 use Rattle.lay_cell_laws.specs.SoundCells.{CellRow, CellState, IsCellOf, input_now}
 use Rattle.lay_kept_inputs.specs.KeptInputs.{InputsAreKept}
 use Rattle.lay_cell_steps.specs.CellSteps.{ClaimsKeepCells, FinishesKeepCells, GiveBacksKeepCells}
-use Rattle.lay_cell_steps.proofs.ChangedRow.{IsCalm, IsPresent, apart, changed}
-use Rattle.lay_cell_steps.proofs.RowsOfContexts.{IsRowOf, same_context, same_phase}
+use Rattle.lay_cell_steps.proofs.ChangedRow.{IsPresent, apart, changed}
+use Rattle.lay_cell_steps.proofs.RowsOfContexts.{same_context, same_phase}
 
 -- no claim is open, so none is fresh
 none_fresh : (o : Option Open) (b : Bool) → o ≡ None → option_map (λ (c : Open). c.stale) o ≡ Some b → ⊥
@@ -74,29 +72,35 @@ module _ (kept : InputsAreKept) (d : Document) (face : FaceValue) (contexts : Li
     claimed : (c : ℕ) (p : Phase) → c < length contexts → r.key ≡ key_of contexts c p → (number : ℕ) (answer : Claimed) → Claims r number (Now c p) answer q
         → (same : entry_of q ≡ entry_of r) × Present same
     claimed c p lt key number (Taken n) h =
-        let e = h.2 in
-        (ap entry_of e, record {
-          calm = inl (ap (λ (z : CellRow). z.kept) e);
-          clean = λ x y in_x of clean.
-              ap (λ (z : CellRow). option_map (λ (v : Solved CellKey CellInput CellValue). v.input) z.kept) e ∙ cells.cells.present x y r in_x of (sym (ap (λ (z : CellRow). z.dirty) e) ∙ clean);
-          opened = λ x y in_x of fresh. ap (λ (z : CellRow). z.given) e ∙ h.0.1 ∙ ap Some (moved c x p y r lt in_x key of);
-        })
+        let e = h.2 in (
+          ap entry_of e,
+          record {
+            calm = inl (ap (λ (z : CellRow). z.kept) e);
+            clean = λ x y in_x of clean.
+                ap (λ (z : CellRow). option_map (λ (v : Solved CellKey CellInput CellValue). v.input) z.kept) e ∙ cells.cells.present x y r in_x of (sym (ap (λ (z : CellRow). z.dirty) e) ∙ clean);
+            opened = λ x y in_x of fresh. ap (λ (z : CellRow). z.given) e ∙ h.0.1 ∙ ap Some (moved c x p y r lt in_x key of);
+          },
+        )
     claimed c p lt key number Reused h =
-        let e = h.3 in
-        (ap entry_of e, record {
-          calm = inl (ap (λ (z : CellRow). z.kept) e);
-          clean = λ x y in_x of clean.
-              ap (λ (z : CellRow). option_map (λ (v : Solved CellKey CellInput CellValue). v.input) z.kept) e ∙ h.1 ∙ ap Some (moved c x p y r lt in_x key of);
-          opened = λ x y in_x of fresh. absurd (none_fresh q.claim false (ap (λ (z : CellRow). z.claim) e) fresh);
-        })
+        let e = h.3 in (
+          ap entry_of e,
+          record {
+            calm = inl (ap (λ (z : CellRow). z.kept) e);
+            clean = λ x y in_x of clean.
+                ap (λ (z : CellRow). option_map (λ (v : Solved CellKey CellInput CellValue). v.input) z.kept) e ∙ h.1 ∙ ap Some (moved c x p y r lt in_x key of);
+            opened = λ x y in_x of fresh. absurd (none_fresh q.claim false (ap (λ (z : CellRow). z.claim) e) fresh);
+          },
+        )
     claimed c p lt key number (Granted n) h =
-        let e = h.4 in
-        (ap entry_of e, record {
-          calm = inl (ap (λ (z : CellRow). z.kept) e);
-          clean = λ x y in_x of clean.
-              ap (λ (z : CellRow). option_map (λ (v : Solved CellKey CellInput CellValue). v.input) z.kept) e ∙ cells.cells.present x y r in_x of (sym (ap (λ (z : CellRow). z.dirty) e) ∙ clean);
-          opened = λ x y in_x of fresh. ap (λ (z : CellRow). z.given) e ∙ ap Some (moved c x p y r lt in_x key of);
-        })
+        let e = h.4 in (
+          ap entry_of e,
+          record {
+            calm = inl (ap (λ (z : CellRow). z.kept) e);
+            clean = λ x y in_x of clean.
+                ap (λ (z : CellRow). option_map (λ (v : Solved CellKey CellInput CellValue). v.input) z.kept) e ∙ cells.cells.present x y r in_x of (sym (ap (λ (z : CellRow). z.dirty) e) ∙ clean);
+            opened = λ x y in_x of fresh. ap (λ (z : CellRow). z.given) e ∙ ap Some (moved c x p y r lt in_x key of);
+          },
+        )
 
     -- a cell with an open claim is dirty
     open_dirty : (b : Bool) → IsStale r b → r.dirty ≡ true
@@ -110,29 +114,35 @@ module _ (kept : InputsAreKept) (d : Document) (face : FaceValue) (contexts : Li
         let e = h.3 in
         let dirty = open_dirty true h.2 in
         let still : q.dirty ≡ true = ap (λ (z : CellRow). z.dirty) e ∙ dirty in
-        let closed : q.claim ≡ None = ap (λ (z : CellRow). z.claim) e in
-        (ap entry_of e, record {
-          calm = inr (dirty, λ clean. absurd (false≢true (sym clean ∙ still)), λ fresh. absurd (none_fresh q.claim false closed fresh));
-          clean = λ x y in_x of clean. absurd (false≢true (sym clean ∙ still));
-          opened = λ x y in_x of fresh. absurd (none_fresh q.claim false closed fresh);
-        })
+        let closed : q.claim ≡ None = ap (λ (z : CellRow). z.claim) e in (
+          ap entry_of e,
+          record {
+            calm = inr (dirty, λ clean. absurd (false≢true (sym clean ∙ still)), λ fresh. absurd (none_fresh q.claim false closed fresh));
+            clean = λ x y in_x of clean. absurd (false≢true (sym clean ∙ still));
+            opened = λ x y in_x of fresh. absurd (none_fresh q.claim false closed fresh);
+          },
+        )
     finished_row done finished.Cleaned h =
         let e = h.3 in
-        let closed : q.claim ≡ None = ap (λ (z : CellRow). z.claim) e in
-        (ap entry_of e, record {
-          calm = inr (open_dirty false h.2, λ clean. (cells.cells.sound.each r (i, at)).fresh h.2, λ fresh. absurd (none_fresh q.claim false closed fresh));
-          clean = λ x y in_x of clean.
-              ap (λ (z : CellRow). option_map (λ (v : Solved CellKey CellInput CellValue). v.input) z.kept) e ∙ sym h.1.1 ∙ cells.cells.open_present x y r in_x of h.2;
-          opened = λ x y in_x of fresh. absurd (none_fresh q.claim false closed fresh);
-        })
+        let closed : q.claim ≡ None = ap (λ (z : CellRow). z.claim) e in (
+          ap entry_of e,
+          record {
+            calm = inr (open_dirty false h.2, λ clean. (cells.cells.sound.each r (i, at)).fresh h.2, λ fresh. absurd (none_fresh q.claim false closed fresh));
+            clean = λ x y in_x of clean.
+                ap (λ (z : CellRow). option_map (λ (v : Solved CellKey CellInput CellValue). v.input) z.kept) e ∙ sym h.1.1 ∙ cells.cells.open_present x y r in_x of h.2;
+            opened = λ x y in_x of fresh. absurd (none_fresh q.claim false closed fresh);
+          },
+        )
 
     given_back : (number : ℕ) (answer : Released) → GivesBack r number answer q → (same : entry_of q ≡ entry_of r) × Present same
     given_back number released.Gone h = (ap entry_of h.1, unchanged h.1)
     given_back number (released.Superseded n) h = (ap entry_of h.3, unchanged h.3)
     given_back number released.Released h =
-        let e = h.2 in
-        (ap entry_of e, same_row (ap entry_of e) (ap (λ (z : CellRow). z.kept) e) (ap (λ (z : CellRow). z.dirty) e)
-          (λ fresh. absurd (none_fresh q.claim false (ap (λ (z : CellRow). z.claim) e) fresh)))
+        let e = h.2 in (
+          ap entry_of e,
+          same_row (ap entry_of e) (ap (λ (z : CellRow). z.kept) e) (ap (λ (z : CellRow). z.dirty) e)
+              (λ fresh. absurd (none_fresh q.claim false (ap (λ (z : CellRow). z.claim) e) fresh)),
+        )
 
   -- the cells after such a change
   after_change : (t : CellState) (i : ℕ) (r q : CellRow) (draws : ℕ) (at : slice_get s.rows i ≡ Some r) → t ≡ record { rows = slice_set s.rows i q; draws = draws } → IsSound IsCellLocal t
