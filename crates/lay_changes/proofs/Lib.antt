@@ -1,0 +1,4 @@
+mod NodeNumbers
+mod RisingNumbers
+mod TouchedSteps
+mod TouchedLaws
