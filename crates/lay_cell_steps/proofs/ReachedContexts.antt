@@ -152,10 +152,10 @@ touched_contexts_are_reached_lem shrunk reach others_stay d edit styles others c
       | inl kept ↦ (let n = numbered d styles contexts all lists id kept.before in
           elim (others_stay shrinks d edit styles others contexts later all rest shrinks_spares edits lists later_lists n.number n.before) [
             | inl u ↦ inl (
-                n.number,
-                untouched shrunk d (after d edit) styles others contexts later all rest lists later_lists n.number u.0 j n.before
-                (one_id (after d edit) others later rest later_lists u.0 j u.1.within lt (u.1.element ∙ n.is)) u.1,
-              )
+              n.number,
+              untouched shrunk d (after d edit) styles others contexts later all rest lists later_lists n.number u.0 j n.before
+                  (one_id (after d edit) others later rest later_lists u.0 j u.1.within lt (u.1.element ∙ n.is)) u.1,
+            )
             | inr reached ↦ inr (subst (λ (x : ℕ). HasReached d styles edit x ⊎ HasReached (after d edit) others edit x) n.is reached)
           ])
       | inr more ↦ inr more

@@ -48,8 +48,10 @@ rises_more xs n up below i j less lt = elim (cases_lt j (length xs)) [
   where
     read_left : (xs : List ℕ) (n k : ℕ) → k < length xs → slice_index (xs ++ n ∷ []) k ≡ slice_index xs k
     read_left xs n k lt = grind (arith, elements)
+
     read_last : (xs : List ℕ) (n k : ℕ) → k ≡ length xs → slice_index (xs ++ n ∷ []) k ≡ n
     read_last xs n k e = grind (arith, elements)
+
     length_more : (xs : List ℕ) (n : ℕ) → length (xs ++ n ∷ []) ≡ length xs + 1
     length_more xs n = grind (arith, elements)
 
@@ -60,8 +62,8 @@ one_rising [] (y ∷ ys) a b forth back = absurd (in_none y (back y (in_here y y
 one_rising (x ∷ xs) [] a b forth back = absurd (in_none x (forth x (in_here x xs)))
 one_rising (x ∷ xs) (y ∷ ys) a b forth back =
     let head : x ≡ y = ⊎_elim (λ e. e) (λ rest. ⊎_elim (λ f. sym f)
-        (λ more. (let p = first_least y ys b x rest in let q = first_least x xs a y more in absurd (omega (arith, p, q)))) (in_cases x y xs (back y (in_here y ys))))
-        (in_cases y x ys (forth x (in_here x xs))) in
+    (λ more. (let p = first_least y ys b x rest in let q = first_least x xs a y more in absurd (omega (arith, p, q)))) (in_cases x y xs (back y (in_here y ys))))
+    (in_cases y x ys (forth x (in_here x xs))) in
     let tail : xs ≡ ys = one_rising xs ys (rises_rest x xs a) (rises_rest y ys b)
     (λ z has. ⊎_elim (λ e. (let p = first_least x xs a z has in absurd (omega (arith, p, e, head)))) (λ rest. rest) (in_cases y z ys (forth z (in_there x z xs has))))
     (λ z has. ⊎_elim (λ e. (let p = first_least y ys b z has in absurd (omega (arith, p, e, head)))) (λ rest. rest) (in_cases x z xs (back z (in_there y z ys has)))) in

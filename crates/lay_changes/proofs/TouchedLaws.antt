@@ -38,7 +38,7 @@ pub touched_contexts_are_listed_lem : TouchedContextsAreListed
 touched_contexts_are_listed_lem contexts later all rest keys are j lt =
     ⊎_elim
     (λ has. inr (λ phase. subst (λ (ks : List CellKey). IsIn ks (key_of later (in_phase phase j))) (sym are.keys_are)
-        (in_flat_map (keys_of later) are.numbers j (key_of later (in_phase phase j)) has (key_listed later j phase))))
+    (in_flat_map (keys_of later) are.numbers j (key_of later (in_phase phase j)) has (key_listed later j phase))))
     (λ u. inl u)
     (are.are.others j lt)
 
@@ -47,9 +47,9 @@ own_key : (later : List Context) (j : ℕ) (key : CellKey) → IsIn (keys_of lat
 own_key later j key has =
     ⊎_elim (λ e. is Measure e)
     (λ more. ⊎_elim (λ e. is Size e)
-      (λ last. ⊎_elim (λ e. is Place e) (λ none. absurd (in_none key none))
-        (in_cases (key_of later (in_phase Place j)) key [] last))
-      (in_cases (key_of later (in_phase Size j)) key (key_of later (in_phase Place j) ∷ []) more))
+    (λ last. ⊎_elim (λ e. is Place e) (λ none. absurd (in_none key none))
+    (in_cases (key_of later (in_phase Place j)) key [] last))
+    (in_cases (key_of later (in_phase Size j)) key (key_of later (in_phase Place j) ∷ []) more))
     (in_cases (key_of later (in_phase Measure j)) key (key_of later (in_phase Size j) ∷ key_of later (in_phase Place j) ∷ []) has)
   where
     is : (phase : Phase) → key ≡ key_of later (in_phase phase j) → key ≡ key_of later (in_phase key.phase j)
@@ -57,25 +57,27 @@ own_key later j key has =
 
 pub listed_keys_are_of_touched_contexts_lem : ListedKeysAreOfTouchedContexts
 listed_keys_are_of_touched_contexts_lem contexts later all rest keys key are has =
-    let part = from_flat_map (keys_of later) are.numbers key (subst (λ (ks : List CellKey). IsIn ks key) are.keys_are has) in
-    (part.x, record {
-      within = are.are.within part.x part.there;
-      touched = are.are.touched part.x part.there;
-      is = own_key later part.x key part.inside;
-    })
+    let part = from_flat_map (keys_of later) are.numbers key (subst (λ (ks : List CellKey). IsIn ks key) are.keys_are has) in (
+      part.x,
+      record {
+        within = are.are.within part.x part.there;
+        touched = are.are.touched part.x part.there;
+        is = own_key later part.x key part.inside;
+      },
+    )
 
 -- no phase has two keys
 phases_once : (later : List Context) (j : ℕ) → IsEachOnce (keys_of later j)
 phases_once later j =
     once_more (key_of later (in_phase Measure j)) (key_of later (in_phase Size j) ∷ key_of later (in_phase Place j) ∷ [])
     (λ has. ⊎_elim (λ e. absurd (let p = ap (λ (k : CellKey). k.phase) e in cc))
-      (λ last. ⊎_elim (λ e. absurd (let p = ap (λ (k : CellKey). k.phase) e in cc)) (λ none. in_none (key_of later (in_phase Measure j)) none)
-        (in_cases (key_of later (in_phase Place j)) (key_of later (in_phase Measure j)) [] last))
-      (in_cases (key_of later (in_phase Size j)) (key_of later (in_phase Measure j)) (key_of later (in_phase Place j) ∷ []) has))
+    (λ last. ⊎_elim (λ e. absurd (let p = ap (λ (k : CellKey). k.phase) e in cc)) (λ none. in_none (key_of later (in_phase Measure j)) none)
+    (in_cases (key_of later (in_phase Place j)) (key_of later (in_phase Measure j)) [] last))
+    (in_cases (key_of later (in_phase Size j)) (key_of later (in_phase Measure j)) (key_of later (in_phase Place j) ∷ []) has))
     (once_more (key_of later (in_phase Size j)) (key_of later (in_phase Place j) ∷ [])
-      (λ has. ⊎_elim (λ e. absurd (let p = ap (λ (k : CellKey). k.phase) e in cc)) (λ none. in_none (key_of later (in_phase Size j)) none)
-        (in_cases (key_of later (in_phase Place j)) (key_of later (in_phase Size j)) [] has))
-      (once_more (key_of later (in_phase Place j)) [] (λ none. in_none (key_of later (in_phase Place j)) none) once_none))
+    (λ has. ⊎_elim (λ e. absurd (let p = ap (λ (k : CellKey). k.phase) e in cc)) (λ none. in_none (key_of later (in_phase Size j)) none)
+    (in_cases (key_of later (in_phase Place j)) (key_of later (in_phase Size j)) [] has))
+    (once_more (key_of later (in_phase Place j)) [] (λ none. in_none (key_of later (in_phase Place j)) none) once_none))
 
 all_once : (later : List Context) (numbers : List ℕ) → AreOfOwnNodes later → IsEachOnce numbers → ((j : ℕ) → IsIn numbers j → j < length later)
     → IsEachOnce (flat_map (keys_of later) numbers)
@@ -84,10 +86,10 @@ all_once later (n ∷ numbers) apart once within =
     once_append (keys_of later n) (flat_map (keys_of later) numbers) (phases_once later n)
     (all_once later numbers apart (once_rest n numbers once) (λ j has. within j (in_there n j numbers has)))
     (λ key here more.
-      (let part = from_flat_map (keys_of later) numbers key more in
-        let same : node_of later n ≡ node_of later part.x = ap (λ (k : CellKey). k.node) (sym (own_key later n key here) ∙ own_key later part.x key part.inside) in
-        let e : n ≡ part.x = apart n part.x (within n (in_here n numbers)) (within part.x (in_there n part.x numbers part.there)) same in
-        once_first n numbers once (subst (IsIn numbers) (sym e) part.there)))
+    (let part = from_flat_map (keys_of later) numbers key more in
+    let same : node_of later n ≡ node_of later part.x = ap (λ (k : CellKey). k.node) (sym (own_key later n key here) ∙ own_key later part.x key part.inside) in
+    let e : n ≡ part.x = apart n part.x (within n (in_here n numbers)) (within part.x (in_there n part.x numbers part.there)) same in
+    once_first n numbers once (subst (IsIn numbers) (sym e) part.there)))
 
 pub touched_keys_stand_once_lem : TouchedKeysStandOnce
 touched_keys_stand_once_lem contexts later all rest keys apart are =

@@ -67,5 +67,5 @@ module _ (contexts later : List Context) (all rest : List FormattingContext) whe
     are = more_touched known.numbers n known.are touched;
     keys_are = ap (λ (ks : List CellKey). ks ++ keys_of later n) known.keys_are
         ∙ (ap (λ (ks : List CellKey). flat_map (keys_of later) known.numbers ++ ks) (sym (append-nil (keys_of later n)))
-          ∙ sym (flat_map-append (keys_of later) known.numbers (n ∷ [])));
+        ∙ sym (flat_map-append (keys_of later) known.numbers (n ∷ [])));
   }

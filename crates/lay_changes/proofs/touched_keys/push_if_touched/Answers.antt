@@ -18,4 +18,4 @@ returns c =
     subst (λ (l : List CellKey). AreTouchedKeysTo c.args.before.now.contexts c.args.after.now.contexts c.args.before.now.formatting_contexts c.args.after.now.formatting_contexts l (c.args.j + 1))
     (sym pushed)
     (next_touched c.args.before.now.contexts c.args.after.now.contexts c.args.before.now.formatting_contexts c.args.after.now.formatting_contexts
-      c.args.keys.now.items c.args.j c.requires.known (λ u. (let no = c.if-is_untouched.ensures.1 u in cc)))
+    c.args.keys.now.items c.args.j c.requires.known (λ u. (let no = c.if-is_untouched.ensures.1 u in cc)))
