@@ -1,15 +1,13 @@
 -- A context after an edit is untouched, or has a reached node among its own.
-use Rattle.std.proofs.Common.{◌≡◌, ◌⊎◌, ⊎_elim, inl, inr, ◌<◌, ◌+◌, ℕ, suc, Bool, true, false, List, [], ◌∷◌, length, slice_index, Option, None, Some, refl, ap, sym, subst, ◌∙◌, arith}
+use Rattle.std.proofs.Common.{◌≡◌, ◌⊎◌, ⊎_elim, inl, inr, ◌<◌, ℕ, suc, Bool, true, false, List, [], ◌∷◌, length, slice_index, Option, None, Some, refl, ap, sym, subst, ◌∙◌, arith}
 use Rattle.std.specs.Prelude.{◌↔◌}
 use Rattle.std.proofs.lemmas.Bool.{cases_lt}
 use Rattle.lay_style.specs.declared.style.Style.{Style}
 use Rattle.lay_style.specs.Places.{place_of}
-use Rattle.lay_doc.specs.declared.edit.Edit.{Edit}
 use Rattle.lay_doc.specs.Document.{Document, ids_of}
 use Rattle.lay_doc.specs.Edits.{after}
 use Rattle.lay_doc.proofs.NodeColumns.{length-ids}
 use Rattle.lay_box_tree.specs.BoxColumns.{box_at}
-use Rattle.lay_box_tree.specs.declared.box_tree.BoxKind.{BoxKind}
 use Rattle.lay_box_tree.specs.declared.box_tree.BoxNode.{BoxNode}
 use Rattle.lay_boxgen.specs.Contexts.{IsContext, IsContextAt, IsContextThere, box_at as node_box_at, is_marked}
 use Rattle.lay_cells.proofs.Lists.{some_inj}
@@ -25,7 +23,7 @@ use Rattle.lay_context.specs.Laws.{MeasuredWhereShrunk}
 use Rattle.lay_context.specs.Measured.{ShrinksOutward, around, is_measured, own}
 use Rattle.lay_own_nodes.specs.Bound.{EditsTouchNoOthers, IsUntouched, id_of}
 use Rattle.lay_own_nodes.specs.Shrinking.{AreListsOf, IsWithinOutward, SparesAnonymous, first, outward}
-use Rattle.lay_own_nodes.specs.Touched.{Edits, EditsTouchReachedContexts, HasReached}
+use Rattle.lay_own_nodes.specs.Touched.{EditsTouchReachedContexts, HasReached}
 use Rattle.lay_own_nodes.proofs.NamedPlaces.{place-is, place-reads}
 use Rattle.lay_own_nodes.proofs.StayingOutward.{place-there}
 use Rattle.lay_cell_laws.proofs.RootsOfContexts.{number_is_of}
