@@ -2,3 +2,4 @@ mod NodeNumbers
 mod RisingNumbers
 mod TouchedSteps
 mod TouchedLaws
+mod OwnFlags

@@ -1,20 +1,17 @@
 -- The laws of touched keys.
-use Rattle.std.proofs.Common.{◌≡◌, ◌⊎◌, inl, inr, ⊎_elim, ℕ, zero, suc, ◌<◌, List, [], ◌∷◌, length, slice_get, Some, refl, arith, ap, sym, subst, ◌∙◌}
+use Rattle.std.proofs.Common.{◌≡◌, inl, inr, ⊎_elim, ℕ, ◌<◌, List, [], ◌∷◌, length, refl, ap, sym, subst, ◌∙◌}
 use Rattle.std.specs.List.{flat_map}
-use Rattle.std.proofs.lemmas.Option.{none-some, same_Some}
 use Rattle.lay_cells.specs.Shapes.{IsEachOnce, IsIn}
 use Rattle.lay_contexts.specs.Contexts.{Context}
 use Rattle.lay_contexts.specs.FormattingContexts.{FormattingContext}
 use Rattle.lay_context.specs.declared.task.Phase.{Phase}
 use Rattle.lay_context.specs.declared.task.Phase.TheVariants.{Measure, Size, Place}
-use Rattle.lay_doc.specs.declared.node.NodeId.{NodeId}
 use Rattle.lay_shape.specs.declared.cell_key.CellKey.{CellKey}
 use Rattle.lay_shape.specs.Dependencies.{in_phase}
 use Rattle.lay_shape.specs.Keys.{AreOfOwnNodes, key_of, node_of}
 use Rattle.lay_shape.proofs.Members.{from_flat_map, in_flat_map, in_cases, in_here, in_none, in_there}
 use Rattle.lay_shape.proofs.Once.{once_append, once_first, once_more, once_none, once_rest}
-use Rattle.lay_changes.specs.Laws.{IsTouchedKey, ListedKeysAreOfTouchedContexts, OneListOfTouchedKeys, TouchedContextsAreListed, TouchedKeysStandOnce, UnlistedContextsAreUntouched}
-use Rattle.lay_changes.specs.TouchedContexts.{IsTouched, IsUntouched}
+use Rattle.lay_changes.specs.Laws.{ListedKeysAreOfTouchedContexts, OneListOfTouchedKeys, TouchedContextsAreListed, TouchedKeysStandOnce, UnlistedContextsAreUntouched}
 use Rattle.lay_changes.specs.TouchedKeys.{AreTouchedTo, keys_of}
 use Rattle.lay_changes.proofs.RisingNumbers.{one_rising, rising_once}
 

@@ -1,8 +1,7 @@
-use Rattle.std.proofs.Common.{◌≡◌, ℕ, Option, Some, ◌+◌, ap, subst, sym, rules}
+use Rattle.std.proofs.Common.{◌+◌, ap, subst, sym}
 use Rattle.std.specs.BTreeMap.{get}
 use Rattle.std.specs.Ordering.{nat_cmp}
 use Rattle.lay_doc.specs.declared.node.NodeId.{NodeId}
-use Rattle.lay_shape.specs.Keys.{node_of}
 use Rattle.lay_changes.specs.NumbersByNode.{IsNumberOf}
 use Rattle.lay_changes.proofs.NodeNumbers.{number_more}
 use Rattle.lay_changes.proofs.numbers_by_node.numbers_by_node.Goals as goal

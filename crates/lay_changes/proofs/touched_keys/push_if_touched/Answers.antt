@@ -1,7 +1,6 @@
-use Rattle.std.proofs.Common.{rules, ◌≡◌, ◌++◌, List, ◌+◌, sym, subst, ◌∙◌, ap, refl}
+use Rattle.std.proofs.Common.{◌≡◌, ◌++◌, List, ◌+◌, sym, subst, ◌∙◌, ap, refl}
 use Rattle.lay_contexts.specs.Contexts.{Context}
 use Rattle.lay_shape.specs.declared.cell_key.CellKey.{CellKey}
-use Rattle.lay_changes.specs.TouchedContexts.{IsUntouched}
 use Rattle.lay_changes.specs.TouchedKeys.{AreTouchedKeysTo, keys_of}
 use Rattle.lay_changes.proofs.TouchedSteps.{next_touched, next_untouched}
 use Rattle.lay_changes.proofs.touched_keys.push_if_touched.Goals as goal
