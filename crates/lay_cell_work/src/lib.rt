@@ -6,6 +6,17 @@
 //! values that its cells keep (`specs/KeptValues.antt`).
 #![tactic(auto)]
 
+mod cell_input;
+mod cell_value;
+mod layout;
+mod root_input;
 mod root_spot;
+mod root_values;
+mod same;
 
+pub use cell_input::CellInput;
+pub use cell_value::CellValue;
+pub use layout::{Layout, work_crosses_threads};
+pub use root_input::RootInput;
 pub use root_spot::RootSpot;
+pub use same::same_cell_input;
