@@ -1,7 +1,7 @@
 -- What an edit does to the cells of a document. They take the shape of the contexts after it (CSS 2.2, 9.4.1), and those of each context
 -- that it touches are marked, with all that depend on them. A context is untouched that was there before with the same boxes, where its
--- preferred widths count for as much (10.3.5): so touched contexts are found by comparison. Cells that are clean after that keep what they
--- would be given now, as they and all that they depend on are of untouched contexts and keep the same values.
+-- preferred widths count for as much (10.3.5): so touched contexts are found by comparison. What cells that are clean after that keep is of
+-- what they would be given now, as they and all that they depend on are of untouched contexts and keep the same values.
 use Rattle.std.specs.Prelude.{◌≡◌, ◌⊎◌, List, [], map}
 use Rattle.lay_style.specs.declared.style.Style.{Style}
 use Rattle.lay_doc.specs.declared.edit.Edit.{Edit}
@@ -28,7 +28,8 @@ use Rattle.lay_cell_laws.specs.SoundCells.{CellState}
 abbrev pub TakesShape : List Context → (s t : CellState) → Type 0
 TakesShape later s t = Reshapes s (shape_of later) [] t ⊎ ((map entry_of s.rows ≡ shape_of later) × (t ≡ s))
 
--- the cells s were those of some contexts, and t is what becomes of them among later ones
+-- The cells s were those of some contexts, and t is what becomes of them among later ones: they take the shape of these, and then those
+-- that are listed are marked.
 pub record FollowsContexts (contexts later : List Context) (all rest : List FormattingContext) (s t : CellState) : Type 0 where
   pub shaped : CellState
   pub takes : TakesShape later s shaped
