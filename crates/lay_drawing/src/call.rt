@@ -91,12 +91,7 @@ pub fn usage<K: Sink>(sink: &mut K) -> Ending
 }
 
 /// Reads the source and writes the answer to its bytes.
-fn drawn<S: Source, K: Sink>(
-    alloc: Global,
-    wish: Wish,
-    source: &mut S,
-    sink: &mut K,
-) -> Ending
+fn drawn<S: Source, K: Sink>(alloc: Global, wish: Wish, source: &mut S, sink: &mut K) -> Ending
     ensures drawn { result ≡ Ending.Drawn → IsDrained (S.left source.old) (S.left source.new)
         × IfSome (S.left source.old) (λ bytes. (text : List ℕ) × IsPicture bytes wish text × Took (K.taken sink.old) (K.taken sink.new) text) }
     ensures refused { result ≡ Ending.Refused → IfSome (S.left source.old) (λ bytes. (line : List ℕ) × IsRefusal bytes wish line × Took (K.taken sink.old) (K.taken sink.new) line) }

@@ -23,15 +23,24 @@ fn push_light(text: &mut String) -> Result<(), NoMemory>
 {
     push(text, ".lay { background: #fff; color: #1d4ed8 }\n")?;
     push(text, ".lay rect { fill: none; stroke: currentColor }\n")?;
-    push(text, ".lay .line { color: #b45309; stroke-dasharray: 4 2 }\n")?;
-    push(text, ".lay .text { color: #15803d; fill: currentColor; fill-opacity: 0.4; stroke-width: 0.5 }\n")?;
+    push(
+        text,
+        ".lay .line { color: #b45309; stroke-dasharray: 4 2 }\n",
+    )?;
+    push(
+        text,
+        ".lay .text { color: #15803d; fill: currentColor; fill-opacity: 0.4; stroke-width: 0.5 }\n",
+    )?;
     push(text, ".lay .label { fill: currentColor }\n")?;
     push(text, ".lay .same { color: #6b7280 }\n")?;
     push(text, ".lay .moved { color: #b45309 }\n")?;
     push(text, ".lay .resized { color: #7e22ce }\n")?;
     push(text, ".lay .new { color: #15803d }\n")?;
     push(text, ".lay .gone { color: #b91c1c }\n")?;
-    push(text, ".lay .former { color: #b45309; fill-opacity: 0.1; stroke-dasharray: 1 2 }\n")?;
+    push(
+        text,
+        ".lay .former { color: #b45309; fill-opacity: 0.1; stroke-dasharray: 1 2 }\n",
+    )?;
     Ok(())
 }
 
