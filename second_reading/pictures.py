@@ -97,6 +97,10 @@ def shape(piece, said):
         px(left), px(top), px(right - left), px(bottom - top), kind, said, kind, node, part, said)
 
 
+def overlap(a, b):
+    return a[0] < b[2] and b[0] < a[2] and a[1] < b[3] and b[1] < a[3]
+
+
 def labels(pieces):
     """The labels as (x of the corner, node, what is said of it, left, top, right, bottom)"""
     found = []
@@ -104,12 +108,14 @@ def labels(pieces):
         if piece[0] != 'box':
             continue
         x, top, right, bottom = corner(piece)
-        beside = [label for label in found if (label[0], label[4]) == (x, top)]
-        left = max([x] + [label[5] for label in beside])
-        place = (left, top, left + 64 * (6 * len(str(piece[1])) + 6), top + 64 * 13)
-        if place[2] > right or place[3] > bottom or piece[1] in [label[1] for label in beside]:
+        width, left = 64 * (6 * len(str(piece[1])) + 6), x
+        for label in found:
+            if overlap((left, top, left + width, top + 64 * 13), label[3:]):
+                left = label[5]
+        place = (left, top, left + width, top + 64 * 13)
+        if place[2] > right or place[3] > bottom or (x, top, piece[1]) in [(label[0], label[4], label[1]) for label in found]:
             continue
-        if all(place[2] <= label[3] or label[5] <= place[0] or place[3] <= label[4] or label[6] <= place[1] for label in found):
+        if not any(overlap(place, label[3:]) for label in found):
             found.append((x, piece[1], said, *place))
     return found
 

@@ -1,12 +1,11 @@
 -- The labels of a picture: the numbers of the nodes of boxes, each at the upper left corner of its box. A label is 6 px wide a
 -- digit and 6 px more, and 13 px high, which holds digits of 10 px in a monospaced font.
--- Boxes are labelled in the order of the pieces. Where boxes have one corner, their labels stand side by side. A box has no label
--- where it has no room for it behind those of its corner, where its number stands at that corner already, or where it would
--- overlap a label of another corner. So no two labels overlap.
+-- Boxes are labelled in the order of the pieces. Where a label is in the way of the next one, that stands behind it, so those of boxes
+-- with one corner stand side by side. A box has no label where it has no room for it there, where its number stands at that
+-- corner already, or where a label is still in the way. So no two labels overlap.
 use Rattle.std.specs.Prelude.{ℕ, ◌+◌, ◌*◌, ◌&&◌, ◌≡◌, ◌==◌, Bool, not, ℤ, pos, ◌+ℤ◌, ◌-ℤ◌, ◌≤ℤ◌, ◌<ℤ◌, List, [], ◌∷◌, ◌++◌, length, fold, Option, Some, None, int_le, int_lt, if◌then◌else◌}
 use Rattle.std.specs.List.{AllPairs, list_any}
 use Rattle.std.specs.Ordering.{int_eq}
-use Rattle.std.specs.Int.{int_max}
 use Rattle.std.specs.Fmt.{decimal}
 use Rattle.lay_drawing.specs.declared.frame.Frame.{Frame}
 use Rattle.lay_drawing.specs.declared.frame.Span.{Span}
@@ -26,12 +25,20 @@ label_height = pos 832
 abbrev pub is_at : ℤ → ℤ → Label → Bool
 is_at left top label = int_eq label.corner left && int_eq label.frame.down.low top
 
--- where the labels of a corner end
-abbrev pub end_with : ℤ → ℤ → ℤ → Label → ℤ
-end_with left top end label = if is_at left top label then int_max end label.frame.across.high else end
+-- a size from an edge reaches into a span
+abbrev pub meets : ℤ → ℤ → Span → Bool
+meets from size span = int_lt from span.high && not (int_le size (span.low -ℤ from))
 
-abbrev pub end_at : ℤ → ℤ → List Label → ℤ
-end_at left top labels = fold (end_with left top) left labels
+-- a label is in the way of one that begins there
+abbrev pub is_in_way : ℤ → ℤ → ℤ → Label → Bool
+is_in_way left top width label = meets left width label.frame.across && meets top label_height label.frame.down
+
+abbrev pub behind : ℤ → ℤ → ℤ → Label → ℤ
+behind top width left label = if is_in_way left top width label then label.frame.across.high else left
+
+-- where a label begins: at the corner, or behind those that are in its way from there on
+abbrev pub begin_at : ℤ → ℤ → ℤ → List Label → ℤ
+begin_at left top width labels = fold (behind top width) left labels
 
 -- the number stands at this corner
 abbrev pub is_told : ℤ → ℤ → ℕ → List Label → Bool
@@ -51,10 +58,10 @@ is_free labels frame = not (list_any (overlaps frame) labels)
 abbrev pub span_up_to : ℤ → ℤ → ℤ → Option Span
 span_up_to from size most = if int_le size (most -ℤ from) then Some (record { low = from; high = from +ℤ size }) else None
 
--- the place of a number at the corner of a box, behind the labels of that corner, if the box has room for it
+-- the place of a number at the corner of a box, behind the labels in its way, if the box has room for it
 abbrev pub place_in : List Label → ℕ → Frame → Option Frame
 place_in labels node box = do
-  across ← span_up_to (end_at box.across.low box.down.low labels) (label_width node) box.across.high
+  across ← span_up_to (begin_at box.across.low box.down.low (label_width node) labels) (label_width node) box.across.high
   down ← span_up_to box.down.low label_height box.down.high
   Some (record { across = across; down = down })
 

@@ -4,7 +4,7 @@ ghost use Rattle.std.specs.Prelude.{◌≡◌, ◌≤ℤ◌, ◌-ℤ◌, pos, If
 ghost use Rattle.std.specs.List.{All};
 ghost use Rattle.std.specs.Fmt.{decimal};
 ghost use Rattle.lay_drawing.specs.Marks.{IsMarked};
-ghost use Rattle.lay_drawing.specs.Labels.{label_width, is_at, end_at, is_told, crosses, overlaps, is_free, span_up_to, place_in, label_at, label_in, label_for, with_label, labels_of, LabelsAreApart};
+ghost use Rattle.lay_drawing.specs.Labels.{label_width, is_at, meets, is_in_way, behind, begin_at, is_told, crosses, overlaps, is_free, span_up_to, place_in, label_at, label_in, label_for, with_label, labels_of, LabelsAreApart};
 
 use crate::changes::is_box;
 use crate::frame::{Frame, Span, edges};
@@ -83,12 +83,13 @@ fn label_at(labels: &[Label], piece: &Marked, corner: i64, frame: Frame) -> Opti
     })
 }
 
-/// The place of a number at the corner of a box, behind the labels of that corner, if the box has room for it.
+/// The place of a number at the corner of a box, behind the labels in its way, if the box has room for it.
 fn place_in(labels: &[Label], node: u32, edges: Frame) -> Option<Frame>
     ensures { result ≡ place_in labels.now node edges }
 {
-    let left = end_at(labels, edges.across.low, edges.down.low);
-    let across = span_up_to(left, label_width(node), edges.across.high)?;
+    let width = label_width(node);
+    let left = begin_at(labels, edges.across.low, edges.down.low, width);
+    let across = span_up_to(left, width, edges.across.high)?;
     let down = span_up_to(edges.down.low, 832, edges.down.high)?;
     Some(Frame { across, down })
 }
@@ -133,17 +134,38 @@ fn digits(node: u32) -> u32
     count
 }
 
-/// Where the labels end that stand at a corner.
-fn end_at(labels: &[Label], left: i64, top: i64) -> i64
-    ensures { result ≡ end_at left top labels.now }
+/// Where a label begins: at the corner, or behind those that are in its way from there on.
+fn begin_at(labels: &[Label], left: i64, top: i64, width: i64) -> i64
+    ensures { result ≡ begin_at left top width labels.now }
 {
-    let mut end = left;
+    let mut begin = left;
     for label in labels {
-        if is_at(label, left, top) {
-            end = end.max(label.frame.across.high);
-        }
+        begin = behind(label, begin, top, width);
     }
-    end
+    begin
+}
+
+fn behind(label: &Label, left: i64, top: i64, width: i64) -> i64
+    ensures { result ≡ behind top width left label.now }
+{
+    if is_in_way(label, left, top, width) {
+        label.frame.across.high
+    } else {
+        left
+    }
+}
+
+fn is_in_way(label: &Label, left: i64, top: i64, width: i64) -> bool
+    ensures { result ≡ is_in_way left top width label.now }
+{
+    meets(left, width, label.frame.across) && meets(top, 832, label.frame.down)
+}
+
+/// Whether a size from an edge reaches into a span.
+fn meets(from: i64, size: i64, span: Span) -> bool
+    ensures { result ≡ meets from size span }
+{
+    from < span.high && !fits(from, size, span.low)
 }
 
 fn is_at(label: &Label, left: i64, top: i64) -> bool
