@@ -1,10 +1,8 @@
 -- Answers to what was read.
-use Rattle.std.proofs.Common.{◌≡◌, ◌⊎◌, inl, inr, ℕ, List, codes, Bool, true, false, refl, sym, ap, ◌∙◌, subst, Option, Some, None, IfSome, Ok, Err, Result, IfOk}
-use Rattle.lay_frag.specs.declared.frag.Frag.{Frag}
+use Rattle.std.proofs.Common.{◌≡◌, inl, inr, ℕ, List, codes, Bool, true, false, refl, sym, ap, ◌∙◌, subst, Option, Some, None, IfSome, Ok, Err, Result, IfOk}
 use Rattle.lay_drawing.specs.declared.answer.Answer.{Answer}
 use Rattle.lay_drawing.specs.declared.answer.Answer.TheVariants.{Picture, Refusal}
 use Rattle.lay_drawing.specs.declared.answer.Lack.{Lack}
-use Rattle.lay_drawing.specs.declared.input.Both.{Both}
 use Rattle.lay_drawing.specs.declared.state.Reading.{Reading}
 use Rattle.lay_drawing.specs.declared.words.Wish.{Wish}
 use Rattle.lay_drawing.specs.declared.words.Wish.TheVariants.{Tree, Between}

@@ -1,6 +1,6 @@
 -- No two labels overlap.
-use Rattle.std.proofs.Common.{◌≡◌, ℕ, ℤ, ◌<◌, ◌<ℤ◌, ◌≤ℤ◌, ◌&&◌, Bool, true, false, not, List, [], ◌∷◌, ◌++◌, length, fold, get_or, Option, Some, None, option_and_then, refl, sym, ◌∙◌, ap, int_lt, arith}
-use Rattle.std.specs.List.{AllPairs, list_any}
+use Rattle.std.proofs.Common.{◌≡◌, ℤ, ◌<ℤ◌, ◌≤ℤ◌, true, false, not, List, [], ◌∷◌, ◌++◌, fold, get_or, Option, Some, None, option_and_then, refl, sym, ◌∙◌, ap, int_lt, arith}
+use Rattle.std.specs.List.{AllPairs}
 use Rattle.std.proofs.lemmas.Int.{ints}
 use Rattle.std.proofs.lemmas.Bool.{false≢true}
 use Rattle.std.proofs.lemmas.List.Folds.{list_any_at}

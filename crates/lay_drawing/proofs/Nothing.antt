@@ -1,5 +1,5 @@
 -- Between a tree and itself nothing differs.
-use Rattle.std.proofs.Common.{◌≡◌, ℕ, ℤ, ◌==◌, ◌&&◌, ◌||◌, Bool, true, false, List, [], ◌∷◌, ◌++◌, map, refl, sym, ◌∙◌, ap, append_assoc, append-nil}
+use Rattle.std.proofs.Common.{◌≡◌, ℤ, ◌||◌, Bool, true, false, List, [], ◌∷◌, ◌++◌, map, refl, sym, ◌∙◌, append_assoc, append-nil}
 use Rattle.std.specs.List.{flat_map, list_any}
 use Rattle.std.specs.Ordering.{int_eq}
 use Rattle.std.proofs.lemmas.Bool.Decides.{Decides-int_eq}
@@ -8,9 +8,8 @@ use Rattle.lay_frag.specs.declared.frag.Frag.{Frag}
 use Rattle.lay_frag.specs.declared.frag.FragKind.{FragKind}
 use Rattle.lay_frag.specs.declared.frag.FragKind.TheVariants.{Box, Line, Text}
 use Rattle.lay_drawing.specs.declared.mark.Mark.TheVariants.{Same}
-use Rattle.lay_drawing.specs.declared.mark.Marked.{Marked}
 use Rattle.lay_drawing.specs.Marks.{marked}
-use Rattle.lay_drawing.specs.Changes.{is_kind, is_same, mark_after, left_of, differences, NothingDiffers}
+use Rattle.lay_drawing.specs.Changes.{is_kind, is_same, mark_after, left_of, NothingDiffers}
 
 int_same : (z : ℤ) → int_eq z z ≡ true
 int_same z = (Decides-int_eq z z).1 refl

@@ -1,19 +1,10 @@
 -- What is read of the matches of the words.
-use Rattle.std.proofs.Common.{◌≡◌, ◌==◌, ℕ, true, false, List, [], ◌∷◌, length, Option, Some, None, refl, ap, ◌∙◌, map, option_map, unwrap_or, codes, arith}
-use Rattle.std.specs.Option.{option_map_or}
-use Rattle.std.specs.List.{find}
-use Rattle.std.specs.Str.{bytes_eq}
+use Rattle.std.proofs.Common.{◌≡◌, ◌==◌, ℕ, true, false, List, [], ◌∷◌, length, None, refl, codes, arith}
 use Rattle.std.proofs.lemmas.Bool.{ne_eqb}
-use Rattle.clap.specs.Facts.{Entry}
-use Rattle.clap.specs.Matches.{matched_of, raw_values}
 use Rattle.clap.specs.Kinds.{Kinds}
-use Rattle.clap.specs.declared.parser.matches.Found.{Found}
-use Rattle.clap.specs.declared.parser.matches.MatchedArg.{MatchedArg}
-use Rattle.clap.specs.Walk.{row_of, rows_of}
 use Rattle.clap.specs.Words.{fault_of, matches_of, is_simple, is_simple_and_free}
 use Rattle.lay_words.specs.Agree.{values_at}
 use Rattle.lay_drawing.specs.Words.{our_app, wish_with, wish_of}
-use Rattle.lay_drawing.proofs.Numerals.{by_bool}
 
 pub is_ours_simple : is_simple_and_free our_app ≡ true
 is_ours_simple = refl

@@ -4,7 +4,7 @@
 -- A piece of the earlier tree that the later one hasn't with its rectangle is gone where that one has none with its name, and
 -- else it is the former place of one that was moved or resized.
 use Rattle.std.specs.Prelude.{◌&&◌, ◌==◌, ◌≡◌, Bool, true, false, List, [], ◌∷◌, ◌++◌, map, if◌then◌else◌}
-use Rattle.std.specs.List.{All, flat_map, list_any}
+use Rattle.std.specs.List.{flat_map, list_any}
 use Rattle.std.specs.Ordering.{int_eq}
 use Rattle.lay_frag.specs.declared.frag.Frag.{Frag}
 use Rattle.lay_frag.specs.declared.frag.FragKind.{FragKind}

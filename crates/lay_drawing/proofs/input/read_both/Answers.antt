@@ -1,5 +1,5 @@
 use Rattle.std.proofs.Common.{arith, ◌∙◌, inl, inr}
-use Rattle.lay_drawing.proofs.Sources.{first_more, bad_piece, has_report, is_drained, bad_end}
+use Rattle.lay_drawing.proofs.Sources.{first_more, bad_piece}
 use Rattle.lay_drawing.proofs.input.read_both.Goals as goal
 
 pub loop-preserved : goal.loop-preserved
