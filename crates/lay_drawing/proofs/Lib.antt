@@ -7,6 +7,7 @@ pub mod WordLemmas
 pub mod Digits
 pub mod Frames
 pub mod Apart
+pub mod InBoxes
 pub mod Nothing
 pub mod MarkedPieces
 pub mod Sources

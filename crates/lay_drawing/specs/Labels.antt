@@ -3,8 +3,8 @@
 -- Boxes are labelled in the order of the pieces. Where a label is in the way of the next one, that stands behind it, so those of boxes
 -- with one corner stand side by side. A box has no label where it has no room for it there, where its number stands at that
 -- corner already, or where a label is still in the way. So no two labels overlap.
-use Rattle.std.specs.Prelude.{ℕ, ◌+◌, ◌*◌, ◌&&◌, ◌==◌, Bool, not, ℤ, pos, ◌+ℤ◌, ◌-ℤ◌, ◌≤ℤ◌, ◌<ℤ◌, List, [], ◌∷◌, ◌++◌, length, fold, Option, Some, None, int_le, int_lt, if◌then◌else◌}
-use Rattle.std.specs.List.{AllPairs, list_any}
+use Rattle.std.specs.Prelude.{ℕ, ◌≡◌, ◌+◌, ◌*◌, ◌&&◌, ◌==◌, Bool, not, ℤ, pos, ◌+ℤ◌, ◌-ℤ◌, ◌≤ℤ◌, ◌<ℤ◌, List, [], ◌∷◌, ◌++◌, length, fold, Option, Some, None, int_le, int_lt, if◌then◌else◌, true}
+use Rattle.std.specs.List.{All, AllPairs, Any, list_any}
 use Rattle.std.specs.Ordering.{int_eq}
 use Rattle.std.specs.Fmt.{decimal}
 use Rattle.lay_drawing.specs.declared.frame.Frame.{Frame}
@@ -12,7 +12,7 @@ use Rattle.lay_drawing.specs.declared.frame.Span.{Span}
 use Rattle.lay_drawing.specs.declared.label.Label.{Label}
 use Rattle.lay_drawing.specs.declared.mark.Marked.{Marked}
 use Rattle.lay_drawing.specs.Changes.{is_box}
-use Rattle.lay_drawing.specs.Frames.{edges}
+use Rattle.lay_drawing.specs.Frames.{edges, IsWithin}
 use Rattle.lay_drawing.specs.Reading.{◌>>=◌}
 
 abbrev pub label_width : ℕ → ℤ
@@ -97,3 +97,13 @@ AreApart a b = (x y : ℤ) → HasPoint a.frame x y → HasPoint b.frame x y →
 -- no point of the page is in two labels
 abbrev pub LabelsAreApart : Type 0
 LabelsAreApart = (pieces : List Marked) → AllPairs AreApart (labels_of pieces)
+
+-- the label is one of this box: it has the number of its node, says the same of it, and stands in it
+abbrev pub IsOf : Label → Marked → Type 0
+IsOf label m =
+    (is_box m.piece.kind ≡ true) × (label.node ≡ m.piece.node.0) × (label.mark ≡ m.mark)
+    × IsWithin label.frame.across (edges m.piece).across × IsWithin label.frame.down (edges m.piece).down
+
+-- each label is one of a box
+abbrev pub LabelsAreInBoxes : Type 0
+LabelsAreInBoxes = (pieces : List Marked) → All (λ label. Any (IsOf label) pieces) (labels_of pieces)

@@ -28,6 +28,6 @@ mod words;
 pub use call::{Ending, draw, usage};
 pub use changes::nothing_differs;
 pub use frame::frames_hold;
-pub use label::labels_are_apart;
+pub use label::{labels_are_apart, labels_are_in_boxes};
 pub use laws::scratch_reports_show;
 pub use pixels::fractions_are_exact;
