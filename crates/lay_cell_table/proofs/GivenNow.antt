@@ -39,10 +39,14 @@ module _ (medium : Medium) (t : CellTable) (s : CellState) (on : AreCellsOn medi
 
     pub given_of : (P : CellRow → Type 0) → AtPlace s.rows place P → (input : CellInput) → input ≡ input_now medium t.contexts t.formatting_contexts s.rows cell.context cell.phase
         → AtPlace s.rows place (λ r. IsGivenNow medium t s.rows r.key input)
-    given_of P at input e = (at.0, at.1, record {
-      context = cell.context;
-      phase = cell.phase;
-      within = within;
-      key_is = key_there s.rows t.contexts on.cells.shaped cell place at.0 is at.1;
-      input_is = e;
-    })
+    given_of P at input e = (
+      at.0,
+      at.1,
+      record {
+        context = cell.context;
+        phase = cell.phase;
+        within = within;
+        key_is = key_there s.rows t.contexts on.cells.shaped cell place at.0 is at.1;
+        input_is = e;
+      },
+    )

@@ -80,8 +80,8 @@ module _ (contexts : List Context) (all : List FormattingContext) (are : AreCont
       let behind = (in_order contexts all are of).behind First j there inside in
       not_true (formatting_context_at all j).anonymous
       (λ yes. (let is = inner_is_of contexts all are of First k j there own_root within refl some yes in
-          let until = is.until in
-          omega (arith, behind, until, only)))
+      let until = is.until in
+      omega (arith, behind, until, only)))
 
   pub no_links : root_count contexts c ≡ 1 → links_of all First First ≡ []
   no_links only =

@@ -47,13 +47,13 @@ impl Model for CellTable {
     ghost view = { λ t. record { contexts = t.contexts; formatting_contexts = t.formatting_contexts } };
 
     ghost invariant = { λ t. AreTableColumns (record { contexts = t.contexts; formatting_contexts = t.formatting_contexts }) (record {
-        measured = t.measured.items;
-        roots = t.roots.roots.items;
-        firsts = t.roots.firsts.items;
-        cells = t.cells.items;
-        places = t.places.items;
-        no_sizes = t.no_sizes;
-        no_place = t.no_place;
+      measured = t.measured.items;
+      roots = t.roots.roots.items;
+      firsts = t.roots.firsts.items;
+      cells = t.cells.items;
+      places = t.places.items;
+      no_sizes = t.no_sizes;
+      no_place = t.no_place;
     }) };
 }
 

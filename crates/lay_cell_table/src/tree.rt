@@ -18,11 +18,7 @@ use std::alloc::Global;
 
 /// The tree of the values that cells keep which are all clean. NoMemory is also the answer where one is too large to be told, which is so
 /// of no document within the limits.
-pub fn tree_of(
-    alloc: Global,
-    table: &CellTable,
-    cells: &Cells<Layout>,
-) -> Result<Tree, NoMemory>
+pub fn tree_of(alloc: Global, table: &CellTable, cells: &Cells<Layout>) -> Result<Tree, NoMemory>
     requires cells { (medium : Medium) × AreCellsOn medium table.now cells.now }
     requires clean { AllClean cells.now.rows }
     ensures { IfOk result (IsAssembled table.now.formatting_contexts (workings_in table.now cells.now.rows)) }
