@@ -27,7 +27,7 @@ use Rattle.lay_own_nodes.specs.Touched.{EditsTouchReachedContexts, HasReached}
 use Rattle.lay_own_nodes.proofs.NamedPlaces.{place-is, place-reads}
 use Rattle.lay_own_nodes.proofs.StayingOutward.{place-there}
 use Rattle.lay_cell_laws.proofs.RootsOfContexts.{number_is_of}
-use Rattle.lay_cell_steps.specs.EditedCells.{IsUntouchedFrom}
+use Rattle.lay_changes.specs.TouchedContexts.{IsUntouchedFrom}
 use Rattle.lay_cell_steps.specs.TouchedContexts.{TouchedContextsAreReached}
 
 -- contexts of a list, by the ids of their elements

@@ -10,7 +10,7 @@ use Rattle.lay_contexts.specs.FormattingContexts.{FormattingContext}
 use Rattle.lay_own_nodes.specs.Bound.{id_of}
 use Rattle.lay_own_nodes.specs.Shrinking.{AreListsOf}
 use Rattle.lay_own_nodes.specs.Touched.{Edits, HasReached}
-use Rattle.lay_cell_steps.specs.EditedCells.{IsUntouched}
+use Rattle.lay_changes.specs.TouchedContexts.{IsUntouched}
 
 abbrev pub TouchedContextsAreReached : Type 0
 TouchedContextsAreReached = (d : Document) (edit : Edit) (styles others : List Style)

@@ -1,5 +1,5 @@
 -- Where cells stand, with one more.
-use Rattle.std.proofs.Common.{◌≡◌, ◌≢◌, ℕ, zero, suc, ◌+◌, ◌<◌, ◌≤◌, List, [], ◌∷◌, length, slice_get, slice_set, Some, refl, ap, sym, subst, ◌∙◌, arith, inl, inr}
+use Rattle.std.proofs.Common.{◌≡◌, ◌≢◌, ℕ, zero, suc, ◌+◌, ◌<◌, List, [], ◌∷◌, length, slice_get, slice_set, Some, refl, ap, sym, subst, ◌∙◌, arith, inl, inr}
 use Rattle.std.proofs.lemmas.Bool.{cases_lt}
 use Rattle.std.proofs.lemmas.Grind.{elements}
 use Rattle.std.proofs.lemmas.Option.{same_Some, none-some}
@@ -49,7 +49,7 @@ module _ (cells : List ContextPhase) (places : List CellPlaces) (cell : ContextP
   same_cell : (c : ContextPhase) → c.context ≡ cell.context → cell.phase ≡ c.phase → cell ≡ c
   same_cell c context phase = ap (λ (n : ℕ). record { context = n; phase = cell.phase }) (sym context) ∙ ap (λ (p : Phase). record { context = c.context; phase = p }) phase
 
-  stands_same : (c : ContextPhase) → c.context ≡ cell.context → (c.context ≡ cell.context → StandsThere cells places c ) → StandsThere cells Noted c
+  stands_same : (c : ContextPhase) → c.context ≡ cell.context → (c.context ≡ cell.context → StandsThere cells places c) → StandsThere cells Noted c
   stands_same c here old =
       let noted : places_at Noted c.context ≡ with_place (places_at places c.context) cell.phase k =
       ap (places_at Noted) here ∙ noted_here places cell.context (with_place (places_at places cell.context) cell.phase k) within

@@ -47,13 +47,13 @@ impl Model for CellTable {
     ghost view = { λ t. record { contexts = t.contexts; formatting_contexts = t.formatting_contexts } };
 
     ghost invariant = { λ t. AreTableColumns (record { contexts = t.contexts; formatting_contexts = t.formatting_contexts }) (record {
-        measured = t.measured.items;
-        roots = t.roots.roots.items;
-        firsts = t.roots.firsts.items;
-        cells = t.cells.items;
-        places = t.places.items;
-        no_sizes = t.no_sizes;
-        no_place = t.no_place;
+      measured = t.measured.items;
+      roots = t.roots.roots.items;
+      firsts = t.roots.firsts.items;
+      cells = t.cells.items;
+      places = t.places.items;
+      no_sizes = t.no_sizes;
+      no_place = t.no_place;
     }) };
 }
 
@@ -170,6 +170,14 @@ impl CellTable {
         key_of(&self.contexts, self.cell_at(place))
     }
 
+    /// The key of a cell.
+    pub fn key_of(&self, cell: ContextPhase) -> CellKey
+        requires { cell.context < length self.now.contexts }
+        ensures { result ≡ key_of self.now.contexts cell }
+    {
+        key_of(&self.contexts, cell)
+    }
+
     /// The shape of the cells.
     pub fn shape(&self, alloc: Global) -> Result<Shape<CellKey>, NoMemory>
         requires { AreOfOwnNodes self.now.contexts }
@@ -194,7 +202,7 @@ impl CellTable {
 }
 
 /// The key of a cell.
-pub(crate) fn key_of(contexts: &Contexts, cell: ContextPhase) -> CellKey
+fn key_of(contexts: &Contexts, cell: ContextPhase) -> CellKey
     requires { cell.context < length contexts.now }
     ensures { result ≡ key_of contexts.now cell }
 {

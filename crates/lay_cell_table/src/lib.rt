@@ -6,11 +6,19 @@
 //! `specs/KeptValues.antt` of lay_cell_work lays the values that cells keep end to end.
 #![tactic(auto)]
 
+mod cell_input_at;
 mod cell_places;
 mod cell_table;
+mod cell_values;
 mod context_root;
+mod linked_roots;
 mod links;
 mod root_columns;
+mod root_inputs;
+mod tree;
 
+pub use cell_input_at::input_at;
 pub use cell_table::CellTable;
+pub use cell_values::CellValues;
 pub use context_root::ContextRoot;
+pub use tree::tree_of;

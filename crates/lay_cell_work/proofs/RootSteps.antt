@@ -40,9 +40,15 @@ read_before xs x d k lt = grind (arith, elements, lt)
 read_last : {X : Type 0} (xs : List X) (x d : X) (k : ℕ) → k ≡ length xs → slice_index_or (xs ++ x ∷ []) k d ≡ x
 read_last xs x d k e = grind (arith, elements, e)
 
+pub set_count : {X : Type 0} (xs : List X) (k : ℕ) (x : X) → length (slice_set xs k x) ≡ length xs
+set_count xs k x = grind (arith, elements)
+
 -- a root is read as itself
 pub root_is : (roots : List RootInput) (r : ℕ) (x y : RootInput) → x ≡ slice_index_or roots r x → slice_get roots r ≡ Some y → x ≡ y
 root_is roots r x y is there = is ∙ get_or_from_slice_get roots r y x there
+
+pub root_there : (roots : List RootInput) (r : ℕ) (x : RootInput) → x ≡ slice_index_or roots r x → r < length roots → slice_get roots r ≡ Some x
+root_there roots r x is lt = slice_get-get_or roots r x lt ∙ ap Some (sym is)
 
 abbrev no_root : RootInput
 no_root = record { given = input.Unmeasured; links = []; around = None }

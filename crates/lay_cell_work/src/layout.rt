@@ -2,6 +2,7 @@
 
 use crate::cell_input::CellInput;
 use crate::cell_value::CellValue;
+use crate::claim::Claim;
 use crate::same::same_cell_input;
 use lay_cells::{Done, Work};
 use lay_shape::CellKey;
@@ -32,6 +33,7 @@ impl Work for Layout {
 pub fn work_crosses_threads() {
     crosses::<CellInput>();
     crosses::<CellValue>();
+    crosses::<Claim>();
     crosses::<Done<Layout>>();
 }
 

@@ -1,6 +1,4 @@
-use Rattle.std.proofs.Common.{rules, ◌≡◌, ◌-◌, length, slice_index, refl, arith}
-use Rattle.lay_contexts.specs.FormattingContexts.{formatting_context_at}
-use Rattle.lay_cell_table.specs.RootColumns.{with_first}
+use Rattle.std.proofs.Common.{rules, ◌≡◌, ◌-◌, slice_index, refl, arith}
 use Rattle.lay_cell_table.proofs.RootSteps.{made_count, made_low, made_noted}
 use Rattle.lay_cell_table.proofs.root_columns.push_root.Goals as goal
 
