@@ -1,5 +1,5 @@
 -- What an edit leaves of a document with its cells.
-use Rattle.std.proofs.Common.{◌≡◌, ◌⊎◌, inl, inr, ⊎_elim, ℕ, ◌≤◌, List, [], refl, arith, ap, sym, subst, ◌∙◌, None}
+use Rattle.std.proofs.Common.{◌≡◌, inl, ℕ, ◌≤◌, refl, arith, ap, sym, subst, ◌∙◌, None}
 use Rattle.lay_doc.specs.Document.{Document, IsDocument}
 use Rattle.lay_doc.specs.declared.edit.Edit.{Edit}
 use Rattle.lay_doc.specs.Edits.{after, fault}
@@ -13,25 +13,12 @@ use Rattle.lay_cell_progress.specs.Grants.{laid_of_all}
 use Rattle.lay_cell_work.specs.CellLocal.{IsCellLocal}
 use Rattle.lay_cell_laws.specs.DocumentCells.{AreDocumentCells}
 use Rattle.lay_cell_laws.specs.SoundCells.{CellState}
-use Rattle.lay_cell_steps.specs.EditedCells.{EditsKeepCells, FollowsContexts, IsUntouched as IsKeptThere, ListsTouched as ListsThere}
-use Rattle.lay_changes.specs.ContextFlags.{ContextLists}
+use Rattle.lay_cell_steps.specs.EditedCells.{EditsKeepCells, FollowsContexts}
 use Rattle.lay_changes.specs.Laws.{TouchedContextsAreListed}
-use Rattle.lay_changes.specs.TouchedContexts.{IsUntouched, ListsTouched}
 use Rattle.lay_document_cells.specs.Edits.{EditsTo, FollowsLists}
 use Rattle.lay_document_cells.specs.Kept.{IsKept, TableValue}
 use Rattle.lay_document_cells.specs.State.{AreStyledLists, State}
 use Rattle.lay_document_cells.proofs.KeptSteps.{state_of}
-
--- the same words of two libraries
-listed_there : (before later : ContextLists) (keys : List CellKey)
-    → ListsTouched before.contexts later.contexts before.formatting_contexts later.formatting_contexts keys
-    → ListsThere before.contexts later.contexts before.formatting_contexts later.formatting_contexts keys
-listed_there before later keys h j lt =
-    ⊎_elim
-    (λ (u : IsUntouched before.contexts later.contexts before.formatting_contexts later.formatting_contexts j).
-        inl (u.0, record { within = u.1.within; node = u.1.node; boxes = u.1.boxes; measured = u.1.measured }))
-    (λ keys. inr keys)
-    (h j lt)
 
 -- an edit of a copy
 pub applied : (d copy e : Document) (edit : Edit) → copy ≡ d → e ≡ after copy edit → e ≡ after d edit
@@ -63,7 +50,7 @@ module _ (d : Document) (face : FaceValue) (cells : CellState) (laid : ℕ) (med
                   shaped = follows.shaped;
                   takes = inl follows.reshapes;
                   keys = follows.keys;
-                  touched = listed_there table.lists later.lists follows.keys (listed _ _ _ _ _ follows.touched);
+                  touched = listed _ _ _ _ _ follows.touched;
                   marks = follows.marks;
                 }
                 sound);
