@@ -38,22 +38,22 @@ module _ (d : Document) (face : FaceValue) (cells : CellState) (laid : ℕ) (med
         lists_are = lists;
         cells = subst (λ x. AreDocumentCells x face later.lists.contexts later.lists.formatting_contexts t) (sym is)
             (law d edit face table.styles later.styles table.lists.contexts later.lists.contexts table.lists.formatting_contexts later.lists.formatting_contexts cells t
-                record {
-                  document = kept.cells.is_document;
-                  puts = puts;
-                  accepted = accepted;
-                  before = kept.lists_are.has_styles;
-                  after = lists_after.has_styles;
-                }
-                kept.cells lists_after.are_contexts lists_after.are_formatting_contexts
-                record {
-                  shaped = follows.shaped;
-                  takes = inl follows.reshapes;
-                  keys = follows.keys;
-                  touched = listed _ _ _ _ _ follows.touched;
-                  marks = follows.marks;
-                }
-                sound);
+            record {
+              document = kept.cells.is_document;
+              puts = puts;
+              accepted = accepted;
+              before = kept.lists_are.has_styles;
+              after = lists_after.has_styles;
+            }
+            kept.cells lists_after.are_contexts lists_after.are_formatting_contexts
+            record {
+              shaped = follows.shaped;
+              takes = inl follows.reshapes;
+              keys = follows.keys;
+              touched = listed _ _ _ _ _ follows.touched;
+              marks = follows.marks;
+            }
+            sound);
         counted = omega (arith, count, kept.counted);
         drawn = omega (arith, draws, kept.drawn);
       }

@@ -34,5 +34,5 @@ one_flag_more contexts all flags new b n known is more = record {
         ∙ ⊎_elim
         (λ low. flag_before flags b i (let e = known.count in omega (arith, e, low)) ∙ known.each i low)
         (λ high. (let at : i ≡ n = omega (arith, lt, high) in
-            flag_last flags b i (at ∙ sym known.count) ∙ is ∙ ap (λ m. is_measured all (first_number contexts m)) (sym at)))
+        flag_last flags b i (at ∙ sym known.count) ∙ is ∙ ap (λ m. is_measured all (first_number contexts m)) (sym at)))
         (cases_lt i n)

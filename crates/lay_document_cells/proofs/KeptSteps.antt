@@ -54,14 +54,14 @@ module _ (d : Document) (face : FaceValue) (cells : CellState) (laid : ℕ) wher
       → IsSound IsCellLocal t → m ≡ laid + grants a → IsKept (state_of d face t m) medium table
   claim_kept law counts columns contexts all s is medium table kept place input a t m given claims sound counted =
       let here : AtPlace cells.rows place (λ r. IsGivenNow (state_of d face cells laid) r.key input) =
-          subst (λ (x : State). AtPlace x.cells.rows place (λ r. IsGivenNow x r.key input)) (sym is) given in
+      subst (λ (x : State). AtPlace x.cells.rows place (λ r. IsGivenNow x r.key input)) (sym is) given in
       let g = here.2 in
       let row : here.0 ≡ claims.0 = one_at cells.rows place here.0 claims.0 here.1 claims.1 in
       let lists : g.lists ≡ table.lists = one_lists columns contexts all d g.lists table.lists kept.cells.is_document g.lists_are (table.styles, kept.lists_are) in
       let in_key = subst (λ k. ClaimsIn cells k input a t) (sym (ap (λ (r : CellRow). r.key) row) ∙ g.key_is) claims.2 in
       let in_input = subst (λ i. ClaimsIn cells (key_of g.lists.contexts g.context g.phase) i a t) g.input_is in_key in
       let after = law d face g.lists.contexts g.lists.formatting_contexts cells t g.context g.phase a
-          (subst (λ (l : ContextLists). AreDocumentCells d face l.contexts l.formatting_contexts cells) (sym lists) kept.cells) g.within in_input sound in
+      (subst (λ (l : ContextLists). AreDocumentCells d face l.contexts l.formatting_contexts cells) (sym lists) kept.cells) g.within in_input sound in
       let count = counts cells t claims.0.key input a claims.2 in
       let draws : t.draws ≡ draws_after a cells.draws = ap (λ (x : CellState). x.draws) claims.2.5 in
       let enough = draws_enough a cells.draws in
@@ -79,20 +79,23 @@ module _ (d : Document) (face : FaceValue) (cells : CellState) (laid : ℕ) wher
       → AtPlace s.cells.rows place (λ r. ClaimsTo s r.key input a (state_of d face t m))
   claimed_to s is place input a t m ready given claims counted =
       subst (λ (x : State). AtPlace x.cells.rows place (λ r. Looks x.cells.rows r.key look.Ready) → AtPlace x.cells.rows place (λ r. IsGivenNow x r.key input)
-          → AtPlace x.cells.rows place (λ r. ClaimsTo x r.key input a (state_of d face t m))) is here ready given
+      → AtPlace x.cells.rows place (λ r. ClaimsTo x r.key input a (state_of d face t m))) is here ready given
     where
       here : AtPlace cells.rows place (λ r. Looks cells.rows r.key look.Ready) → AtPlace cells.rows place (λ r. IsGivenNow (state_of d face cells laid) r.key input)
           → AtPlace cells.rows place (λ r. ClaimsTo (state_of d face cells laid) r.key input a (state_of d face t m))
       here looks now =
           let first : looks.0 ≡ claims.0 = one_at cells.rows place looks.0 claims.0 looks.1 claims.1 in
-          let second : now.0 ≡ claims.0 = one_at cells.rows place now.0 claims.0 now.1 claims.1 in
-          (claims.0, claims.1, record {
-            ready = subst (λ (r : CellRow). Looks cells.rows r.key look.Ready) first looks.2;
-            given = subst (λ (r : CellRow). IsGivenNow (state_of d face cells laid) r.key input) second now.2;
-            cells = t;
-            claims = claims.2;
-            state = ap (λ n. state_of d face t n) counted;
-          })
+          let second : now.0 ≡ claims.0 = one_at cells.rows place now.0 claims.0 now.1 claims.1 in (
+            claims.0,
+            claims.1,
+            record {
+              ready = subst (λ (r : CellRow). Looks cells.rows r.key look.Ready) first looks.2;
+              given = subst (λ (r : CellRow). IsGivenNow (state_of d face cells laid) r.key input) second now.2;
+              cells = t;
+              claims = claims.2;
+              state = ap (λ n. state_of d face t n) counted;
+            },
+          )
 
   module _ (medium : Medium) (table : TableValue) (kept : IsKept (state_of d face cells laid) medium table) where
     pub finish_kept : FinishesKeepCells → FinishesCount CellKey CellInput CellValue → FinishesKeepRows CellKey CellInput CellValue

@@ -35,9 +35,9 @@ module _ (contexts : List Context) (all : List FormattingContext) (are : AreForm
       → length (page_contexts all w corners (n + 1)) ≡ length (page_contexts all w corners n) + length (listed b (page_context all w corners n))
   one_more n b is =
       subst (λ (m : ℕ). length (page_contexts all w corners m) ≡ length (page_contexts all w corners n) + length (listed b (page_context all w corners n)))
-          (next n)
-          (length-append (page_contexts all w corners n) (listed (formatting_context_at all n).anonymous (page_context all w corners n))
-           ∙ ap (λ (x : Bool). length (page_contexts all w corners n) + length (listed x (page_context all w corners n))) is)
+      (next n)
+      (length-append (page_contexts all w corners n) (listed (formatting_context_at all n).anonymous (page_context all w corners n))
+      ∙ ap (λ (x : Bool). length (page_contexts all w corners n) + length (listed x (page_context all w corners n))) is)
     where
       next : (m : ℕ) → suc m ≡ m + 1
       next m = omega arith
@@ -70,13 +70,13 @@ module _ (contexts : List Context) (all : List FormattingContext) (are : AreForm
             → length (page_contexts all w corners (number_of contexts i (suc k))) ≡ length (page_contexts all w corners (first_number contexts i)) + 1
         by same (inl root) =
             let number : number_of contexts i (suc k) ≡ number_of contexts i k + 1 =
-                ap (λ (b : Bool). first_number contexts i + cond b (roots_before (boxes_in contexts i) k + 1) (roots_before (boxes_in contexts i) k)) root
-                ∙ (omega arith) in
+            ap (λ (b : Bool). first_number contexts i + cond b (roots_before (boxes_in contexts i) k + 1) (roots_before (boxes_in contexts i) k)) root
+            ∙ (omega arith) in
             let e = ap (λ n. length (page_contexts all w corners n)) number in
             omega (arith, e, adds k le root, same, sum_one k)
         by same (inr other) =
             let number : number_of contexts i (suc k) ≡ number_of contexts i k =
-                ap (λ (b : Bool). first_number contexts i + cond b (roots_before (boxes_in contexts i) k + 1) (roots_before (boxes_in contexts i) k)) other in
+            ap (λ (b : Bool). first_number contexts i + cond b (roots_before (boxes_in contexts i) k + 1) (roots_before (boxes_in contexts i) k)) other in
             let e = ap (λ n. length (page_contexts all w corners n)) number in
             omega (arith, e, same, inner_one k other)
 

@@ -31,11 +31,11 @@ module _ (one_style_column : OneStyleColumn) (one_context_list : OneContextList)
       let styles : a.0 ≡ b.0 = one_style_column (parents_of d.nodes) (declarations_of d.nodes) a.0 b.0 is.tree a.1.has_styles b.1.has_styles in
       let counted = a.1.has_styles.length_is ∙ length-parents d.nodes in
       let contexts : x.contexts ≡ y.contexts =
-          one_context_list d a.0 x.contexts y.contexts is counted a.1.are_contexts (rw styles b.1.are_contexts) in
+      one_context_list d a.0 x.contexts y.contexts is counted a.1.are_contexts (rw styles b.1.are_contexts) in
       let are = are_contexts d a.0 x.contexts is counted a.1.are_contexts in
       let all : x.formatting_contexts ≡ y.formatting_contexts =
-          one_formatting_context_list x.contexts x.formatting_contexts y.formatting_contexts are a.1.are_formatting_contexts
-              (rw contexts b.1.are_formatting_contexts) in
+      one_formatting_context_list x.contexts x.formatting_contexts y.formatting_contexts are a.1.are_formatting_contexts
+      (rw contexts b.1.are_formatting_contexts) in
       (λ i. record { contexts = contexts i; formatting_contexts = all i })
 
 module _ (have_a_shape : CellsHaveAShape) (own : ContextsAreOfOwnNodes) where
@@ -44,8 +44,8 @@ module _ (have_a_shape : CellsHaveAShape) (own : ContextsAreOfOwnNodes) where
       let counted = a.1.has_styles.length_is ∙ length-parents d.nodes in
       let few = few_contexts d.nodes a.0 a.1.are_contexts.spots a.1.are_contexts.are in
       have_a_shape x.contexts (are_contexts d a.0 x.contexts is counted a.1.are_contexts)
-          (omega (arith, few, a.1.are_contexts.numbered.count, is.few))
-          (own d a.0 x.contexts is counted a.1.are_contexts)
+      (omega (arith, few, a.1.are_contexts.numbered.count, is.few))
+      (own d a.0 x.contexts is counted a.1.are_contexts)
 
 module _ (one_keys : OneListOfTouchedKeys) (one_reshape : OneReshape CellKey CellInput CellValue) (one_marking : OneMarking CellKey CellInput CellValue) where
   one_following : (before later : ContextLists) (s t u : CellState) → IsShape (map entry_of s.rows) → IsShape (shape_of later.contexts)
@@ -59,13 +59,16 @@ module _ (one_keys : OneListOfTouchedKeys) (one_reshape : OneReshape CellKey Cel
 
   pub one_edit_lem : OneStyleColumn → OneContextList → OneFormattingContextList → CellsHaveAShape → ContextsAreOfOwnNodes → OneEdit
   one_edit_lem columns one_contexts one_all have own s t u edit of is a b =
-      let was : AreListsOf s.document of.lists = (of.cells.styles, record {
-        has_styles = of.cells.has_styles;
-        are_contexts = of.cells.are_contexts;
-        are_formatting_contexts = of.cells.are_formatting_contexts;
-      }) in
+      let was : AreListsOf s.document of.lists = (
+        of.cells.styles,
+        record {
+          has_styles = of.cells.has_styles;
+          are_contexts = of.cells.are_contexts;
+          are_formatting_contexts = of.cells.are_formatting_contexts;
+        },
+      ) in
       let before : a.before ≡ b.before = one_lists columns one_contexts one_all s.document a.before b.before of.cells.is_document a.before_are b.before_are in
       let later : a.later ≡ b.later = one_lists columns one_contexts one_all (after s.document edit) a.later b.later is a.later_are b.later_are in
       let cells : a.cells ≡ b.cells = one_following a.before a.later s.cells a.cells b.cells of.cells.cells.sound.shaped
-          (lists_shape have own (after s.document edit) a.later is a.later_are) a.follows (rw (before, later) b.follows) in
+      (lists_shape have own (after s.document edit) a.later is a.later_are) a.follows (rw (before, later) b.follows) in
       a.state ∙ ap (λ (c : CellState). record s { document = after s.document edit; cells = c }) cells ∙ sym b.state

@@ -43,7 +43,7 @@ clean_already s place r at before clean = record { settles = inl refl; clean = n
         ⊎_elim
         (λ low. before j q low at_q)
         (λ high. (let e : j ≡ place = omega (arith, lt, high) in
-            ap (λ (z : CellRow). z.dirty) (one_at s.cells.rows place q r (ap (slice_get s.cells.rows) (sym e) ∙ at_q) at) ∙ clean))
+        ap (λ (z : CellRow). z.dirty) (one_at s.cells.rows place q r (ap (slice_get s.cells.rows) (sym e) ∙ at_q) at) ∙ clean))
         (cases_lt j place)
 
 -- a cell behind clean ones is clean or ready
@@ -111,7 +111,7 @@ module _ (s : State) (sound : IsSound IsCellLocal s.cells) (place : ℕ) (r : Ce
         let done : CellDone = record { key = r.key; number = number; input = input; value = f.value } in
         let cells : mid.cells ≡ c.cells = ap (λ (x : State). x.cells) c.state in
         let h = law s.cells c.cells f.finishes.cells place r input f.value number a f.answer sound at c.claims is
-            (subst (λ (x : CellState). FinishesIn x done f.answer f.finishes.cells) cells f.finishes.finishes) in
+        (subst (λ (x : CellState). FinishesIn x done f.answer f.finishes.cells) cells f.finishes.finishes) in
         let e : t.cells.rows ≡ f.finishes.cells.rows = ap (λ (x : State). x.cells.rows) f.finishes.state in
         let d : t.cells.draws ≡ f.finishes.cells.draws = ap (λ (x : State). x.cells.draws) f.finishes.state in
         let same = (finishes mid.cells f.finishes.cells done f.answer f.finishes.finishes).1 in
@@ -135,7 +135,7 @@ module _ (s : State) (sound : IsSound IsCellLocal s.cells) (place : ℕ) (r : Ce
     granted_up law backs mid t input number c g =
         let cells : mid.cells ≡ c.cells = ap (λ (x : State). x.cells) c.state in
         let is = law s.cells c.cells g.gives_back.cells r.key input number g.answer sound c.claims
-            (subst (λ (x : CellState). GivesBackIn x r.key number g.answer g.gives_back.cells) cells g.gives_back.gives_back) in
+        (subst (λ (x : CellState). GivesBackIn x r.key number g.answer g.gives_back.cells) cells g.gives_back.gives_back) in
         let d : t.cells.draws ≡ g.gives_back.cells.draws = ap (λ (x : State). x.cells.draws) g.gives_back.state in
         let same = (backs mid.cells g.gives_back.cells r.key number g.answer g.gives_back.gives_back).1 in
         let few = claimed_draws mid input (Granted number) c in

@@ -18,25 +18,25 @@ pub invariant_of-self : goal.invariant_of-self
 invariant_of-self c =
     let one = ap grants c.in-Granted.is in
     claim_kept c.self.inside.doc c.self.inside.face.value c.self.inside.cells c.self.inside.laid c.claims_keep_cells.ensures c.claims_count.ensures
-        c.one_style_column.ensures c.one_context_list.ensures c.one_formatting_context_list.ensures c.args.self.now c.self.view_is c.self.inside.medium c.self.inside.table
-        c.self.invariant c.args.place (arc_value c.args.input) c.claim_at_place-answer.result c.claim_at_place-answer.new.self (c.self.inside.laid + 1)
-        c.requires.given c.claim_at_place-answer.ensures c.sound.ensures (omega (arith, one))
+    c.one_style_column.ensures c.one_context_list.ensures c.one_formatting_context_list.ensures c.args.self.now c.self.view_is c.self.inside.medium c.self.inside.table
+    c.self.invariant c.args.place (arc_value c.args.input) c.claim_at_place-answer.result c.claim_at_place-answer.new.self (c.self.inside.laid + 1)
+    c.requires.given c.claim_at_place-answer.ensures c.sound.ensures (omega (arith, one))
 
 pub invariant_of-self-in_default : goal.invariant_of-self-in_default
 invariant_of-self-in_default c =
     claim_kept c.self.inside.doc c.self.inside.face.value c.self.inside.cells c.self.inside.laid c.claims_keep_cells.ensures c.claims_count.ensures
-        c.one_style_column.ensures c.one_context_list.ensures c.one_formatting_context_list.ensures c.args.self.now c.self.view_is c.self.inside.medium c.self.inside.table
-        c.self.invariant c.args.place (arc_value c.args.input) c.claim_at_place-answer.result c.claim_at_place-answer.new.self c.self.inside.laid
-        c.requires.given c.claim_at_place-answer.ensures c.sound.ensures (no_grant c.self.inside.laid c.claim_at_place-answer.result c.in_default.not-Granted)
+    c.one_style_column.ensures c.one_context_list.ensures c.one_formatting_context_list.ensures c.args.self.now c.self.view_is c.self.inside.medium c.self.inside.table
+    c.self.invariant c.args.place (arc_value c.args.input) c.claim_at_place-answer.result c.claim_at_place-answer.new.self c.self.inside.laid
+    c.requires.given c.claim_at_place-answer.ensures c.sound.ensures (no_grant c.self.inside.laid c.claim_at_place-answer.result c.in_default.not-Granted)
 
 pub returns-in-Granted : goal.returns-in-Granted
 returns-in-Granted c =
     let one = ap grants c.in-Granted.is in
     claimed_to c.self.inside.doc c.self.inside.face.value c.self.inside.cells c.self.inside.laid c.args.self.now c.self.view_is c.args.place (arc_value c.args.input)
-        c.claim_at_place-answer.result c.claim_at_place-answer.new.self (c.self.inside.laid + 1) c.requires.ready c.requires.given c.claim_at_place-answer.ensures (omega (arith, one))
+    c.claim_at_place-answer.result c.claim_at_place-answer.new.self (c.self.inside.laid + 1) c.requires.ready c.requires.given c.claim_at_place-answer.ensures (omega (arith, one))
 
 pub returns-in_default : goal.returns-in_default
 returns-in_default c =
     claimed_to c.self.inside.doc c.self.inside.face.value c.self.inside.cells c.self.inside.laid c.args.self.now c.self.view_is c.args.place (arc_value c.args.input)
-        c.claim_at_place-answer.result c.claim_at_place-answer.new.self c.self.inside.laid c.requires.ready c.requires.given c.claim_at_place-answer.ensures
-        (no_grant c.self.inside.laid c.claim_at_place-answer.result c.in_default.not-Granted)
+    c.claim_at_place-answer.result c.claim_at_place-answer.new.self c.self.inside.laid c.requires.ready c.requires.given c.claim_at_place-answer.ensures
+    (no_grant c.self.inside.laid c.claim_at_place-answer.result c.in_default.not-Granted)

@@ -7,6 +7,6 @@ use Rattle.lay_document_cells.proofs.document_cells.DocumentCells.is_settled.Goa
 pub returns : goal.returns
 returns c =
     settled_iff c.first_dirty.result c.is_none.result c.args.self.now.cells.rows
-        (subst (λ (s : State). IfSome c.first_dirty.result (IsFirstDirtyKey s.cells.rows)) c.self.view_is c.first_dirty.ensures.some)
-        (subst (λ (s : State). IfNone c.first_dirty.result (AllClean s.cells.rows)) c.self.view_is c.first_dirty.ensures.none)
-        c.is_none.ensures
+    (subst (λ (s : State). IfSome c.first_dirty.result (IsFirstDirtyKey s.cells.rows)) c.self.view_is c.first_dirty.ensures.some)
+    (subst (λ (s : State). IfNone c.first_dirty.result (AllClean s.cells.rows)) c.self.view_is c.first_dirty.ensures.none)
+    c.is_none.ensures

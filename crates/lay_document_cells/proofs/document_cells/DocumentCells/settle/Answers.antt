@@ -34,7 +34,7 @@ returns-clause-ok c =
     let rows = ap (λ (s : State). length s.cells.rows) c.self.view_is in
     let count = was.count in
     settled_all c.args.self.now c.loop-place.self c.loop-place.place was.settles was.clean
-        (omega (arith, c.loop-place-test.false, c.len-place-end.ensures, rows, count))
+    (omega (arith, c.loop-place-test.false, c.len-place-end.ensures, rows, count))
 
 pub returns-clause-few : goal.returns-clause-few
 returns-clause-few c =

@@ -16,12 +16,12 @@ pub returns-clause-solves : goal.returns-clause-solves
 returns-clause-solves c =
     ok_then c.tree_of.result _ _ c.tree_of.ensures
     (λ tree assembled. solved c.self.inside.doc c.self.inside.face.value c.self.inside.cells c.self.inside.laid c.self.inside.medium c.self.inside.table c.self.invariant c.args.self.now c.self.view_is c.requires
-        c.cells-2.result.now c.cells-2.ensures.contexts c.cells-2.ensures.formatting tree assembled c.assembled_trees_solve.ensures)
+    c.cells-2.result.now c.cells-2.ensures.contexts c.cells-2.ensures.formatting tree assembled c.assembled_trees_solve.ensures)
 
 pub returns-clause-counted : goal.returns-clause-counted
 returns-clause-counted c =
     ok_then c.tree_of.result _ _ c.tree_of.ensures
     (λ tree assembled. counted c.self.inside.doc c.self.inside.face.value c.self.inside.cells c.self.inside.laid c.self.inside.medium c.self.inside.table c.self.invariant c.args.self.now c.self.view_is c.requires
-        c.cells-2.result.now c.cells-2.ensures.contexts c.cells-2.ensures.formatting tree assembled c.trees_list_contexts.ensures
-        c.clean_cells_are_counted.ensures
-        (subst AreContexts (c.contexts.ensures ∙ c.cells.ensures.contexts ∙ sym c.cells-2.ensures.contexts) c.len.ensures.are))
+    c.cells-2.result.now c.cells-2.ensures.contexts c.cells-2.ensures.formatting tree assembled c.trees_list_contexts.ensures
+    c.clean_cells_are_counted.ensures
+    (subst AreContexts (c.contexts.ensures ∙ c.cells.ensures.contexts ∙ sym c.cells-2.ensures.contexts) c.len.ensures.are))
