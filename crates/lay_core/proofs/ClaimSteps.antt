@@ -1,6 +1,6 @@
 -- Claims of cells, and what becomes of them.
 use Rattle.std.proofs.Common.{◌≡◌, ◌<◌, ◌≤◌, ◌*◌, ◌+◌, ◌^◌, ◌⊎◌, ℕ, refl, sym, ap, ◌∙◌, subst, arith, inl, inr}
-use Rattle.lay_cells.specs.Rows.{Row}
+use Rattle.lay_cells.specs.Reads.{AllClean}
 use Rattle.lay_cells.specs.Steps.{ClaimsIn, draws_after}
 use Rattle.lay_cells.specs.declared.answers.Claimed.{Claimed}
 use Rattle.lay_cells.specs.declared.answers.Claimed.TheVariants.{Granted, Reused, Taken}
@@ -9,13 +9,16 @@ use Rattle.lay_cells.specs.declared.answers.Released.{Released}
 use Rattle.lay_shape.specs.declared.cell_key.CellKey.{CellKey}
 use Rattle.lay_cell_work.specs.CellInputs.{CellInput}
 use Rattle.lay_cell_laws.specs.SoundCells.{CellState}
-use Rattle.lay_document_cells.specs.Claims.{AnswersClaim, AnswersNext}
+use Rattle.lay_document_cells.specs.Claims.{AnswersClaim, AnswersNext, none}
 use Rattle.lay_document_cells.specs.State.{IsOfDocument, State as DocumentCells}
 use Rattle.lay_document_cells.specs.Steps.{CellDone, ClaimsTo, FinishesTo, GivesBackTo}
 use Rattle.lay_document_cells.specs.declared.answers.Answer.{Answer}
 use Rattle.lay_document_cells.specs.declared.answers.Answer.TheVariants as answer
+use Rattle.lay_document_cells.specs.declared.answers.Next.{Next}
+use Rattle.lay_document_cells.specs.declared.answers.Next.TheVariants as next
+use Rattle.lay_core.specs.Claims.{AnswersNext as AnswersNextTo}
 use Rattle.lay_core.specs.State.{HasNumbers, IsKept, State, document_cells, with_cells}
-use Rattle.lay_core.proofs.CellWork.{answer_work, back_work, finish_work}
+use Rattle.lay_core.proofs.CellWork.{answer_work, back_work, finish_work, next_work}
 use Rattle.lay_core.proofs.Kept.{work_keeps}
 
 one_draw : (a : Claimed) (draws : ℕ) → draws_after a draws ≤ draws + 1
@@ -90,3 +93,15 @@ back_leaves s n room is has key number a d does sound = (
   work_keeps s d n room is (back_work (document_cells s) key number a d does) sound,
   numbers_left s n room d is has (back_draws (document_cells s) key number a d does),
 )
+
+pub next_leaves : (s : State) (n room : ℕ) → IsKept s n room → HasNumbers s → (a : Next) (d : DocumentCells)
+    → AnswersNext (document_cells s) a d → s.cells.draws < 2 ^ 63 → d.cells.draws ≤ s.cells.draws + 2 ^ 18 → IsOfDocument d
+    → IsKept (with_cells s d) n room × HasNumbers (with_cells s d)
+next_leaves s n room is has a d does few more sound = (
+  work_keeps s d n room is (next_work (document_cells s) a d does) sound,
+  numbers_left s n room d is has (inr (few, more)),
+)
+
+-- where too many numbers are drawn
+pub spent_settled : (s now : State) → s ≡ now → AllClean s.cells.rows → AnswersNextTo now next.Settled now
+spent_settled s now same clean = subst (λ x. AnswersNextTo x next.Settled x) same record { does = (none, clean); state = refl }

@@ -44,10 +44,9 @@ impl Core {
         requires { 2 ^ 63 ≤ self.now.cells.draws }
         ensures { AnswersNext self.now result self.now }
     {
-        if self.cells.is_settled() {
-            Next::Settled
-        } else {
-            Next::Spent
+        match self.cells.first_dirty() {
+            Some(_) => Next::Spent,
+            None => Next::Settled,
         }
     }
 
