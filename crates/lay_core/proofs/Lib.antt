@@ -1,3 +1,4 @@
+pub mod CellSteps
 pub mod CellWork
 pub mod CleanCells
 pub mod Fronts

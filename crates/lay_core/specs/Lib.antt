@@ -3,6 +3,7 @@ pub mod Work
 pub mod Publishing
 pub mod Steps
 pub mod Claims
+pub mod CellLaws
 pub mod Laws
 pub mod Rounds
 pub mod Changes

@@ -1,5 +1,7 @@
-//! The laws of the core: what editors see after a call is decided by what they saw before, but for want of memory.
+//! The laws of the core: what editors see after a call is decided by what they saw before, but for want of memory; and no call but an
+//! edit makes a cell, drops one or dirties one.
 
+ghost use Rattle.lay_core.specs.CellLaws.{ClaimsAreWork, FinishesAreWork, GiveBacksAreWork, LatestIsWork, NextClaimsAreWork, PublishingIsWork, RefreshingIsWork, SettlingIsWork, StoppingIsWork, SyncIsWork};
 ghost use Rattle.lay_core.specs.Laws.{LastTree, OneEdit, OneLatest, OnePublishing, OneRefreshing, OneSeenEdit, OneSettling, OneSync, ShownTrees};
 
 use lay_cell_work::Layout;
@@ -61,4 +63,18 @@ pub fn last_tree()
 /// A core has the tree of each version that an entry of its history shows, which solves the document of the version.
 pub fn shown_trees()
     ensures { ShownTrees }
+{}
+
+/// What becomes of cells in a call that is no edit is work on them.
+pub fn calls_work()
+    ensures settling { SettlingIsWork }
+    ensures stopping { StoppingIsWork }
+    ensures publishing { PublishingIsWork }
+    ensures refreshing { RefreshingIsWork }
+    ensures latest { LatestIsWork }
+    ensures sync { SyncIsWork }
+    ensures claims { ClaimsAreWork }
+    ensures next_claims { NextClaimsAreWork }
+    ensures finishes { FinishesAreWork }
+    ensures give_backs { GiveBacksAreWork }
 {}
