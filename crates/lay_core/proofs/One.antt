@@ -165,7 +165,7 @@ due_same s z same clean =
 pub one_latest : OneRefreshing → OneLatest
 one_latest one s z t u editor index x y valid same clean q r a b =
     let shows = latest_by one (is_due s) s z a.before b.before x y valid same q r a.shows
-        (subst (λ due. ShowsLatest due z y b.before) (sym (due_same s z same clean)) b.shows) in (
+    (subst (λ due. ShowsLatest due z y b.before) (sym (due_same s z same clean)) b.shows) in (
       shows.0,
       ap seen a.state ∙ (ap (λ m. called m (Latest editor index x)) shows.1
           ∙ (ap (λ k. called (seen b.before) (Latest editor index k)) shows.0 ∙ sym (ap seen b.state))),

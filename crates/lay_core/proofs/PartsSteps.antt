@@ -107,9 +107,11 @@ publishes_by : {X E : Type 0} (r : Result X E) (s : State) (n room : ℕ) → Is
 publishes_by (Ok x) s n room is clean h ts p ok other same_history same_trees published lack =
     subst (λ q. PublishesTo s q (parts s (document_cells s) h ts)) (sym published) (clean, is.count_is, ok s)
 publishes_by (Err e) s n room is clean h ts p ok other same_history same_trees published lack =
-    subst (λ q. PublishesTo s q (parts s (document_cells s) h ts)) (sym lack)
-    (clean, other_version (last_published s.history) (accepted s.history) (not_last s n room is other),
-      ap (λ x. parts s (document_cells s) x ts) same_history ∙ ap (λ x. parts s (document_cells s) s.history x) same_trees)
+    subst (λ q. PublishesTo s q (parts s (document_cells s) h ts)) (sym lack) (
+      clean,
+      other_version (last_published s.history) (accepted s.history) (not_last s n room is other),
+      ap (λ x. parts s (document_cells s) x ts) same_history ∙ ap (λ x. parts s (document_cells s) s.history x) same_trees,
+    )
 
 pub publishes_of : {X E : Type 0} (r : Result X E) (s now : State) (n room : ℕ) → s ≡ now → IsKept s n room → AllClean s.cells.rows
     → (h : List Entry) (ts : List PublishedTreeValue) (p : Publish)

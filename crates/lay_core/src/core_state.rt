@@ -47,17 +47,17 @@ impl Model for Core {
     } };
 
     ghost invariant = { λ c.
-      let s : State = record {
-        init = c.init;
-        face = c.cells.face;
-        history = c.history.items;
-        document = c.cells.document;
-        cells = c.cells.cells;
-        trees = c.trees.items;
-        calls_left = c.calls_left;
-        laid = c.cells.laid;
-      } in
-      IsKept s c.accepted (vec_capacity c.history) × HasNumbers s };
+        let s : State = record {
+          init = c.init;
+          face = c.cells.face;
+          history = c.history.items;
+          document = c.cells.document;
+          cells = c.cells.cells;
+          trees = c.trees.items;
+          calls_left = c.calls_left;
+          laid = c.cells.laid;
+        } in
+        IsKept s c.accepted (vec_capacity c.history) × HasNumbers s };
 }
 
 impl Core {

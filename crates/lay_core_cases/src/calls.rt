@@ -91,7 +91,10 @@ impl OneCore {
     fn publish(&mut self, alloc: Global) -> Result<String, NoMemory> {
         match self.core.publish() {
             Publish::Published(version) => Ok(format!(in alloc; "published {version}")?),
-            Publish::Unsettled(key) => Ok(format!(in alloc; "unsettled {}", shown_key(alloc, key)?)?),
+            Publish::Unsettled(key) => Ok(format!(in alloc;
+                "unsettled {}",
+                shown_key(alloc, key)?
+            )?),
             Publish::NoMemory => Err(NoMemory),
         }
     }
