@@ -1,22 +1,20 @@
 -- Calls but edits are steps of work on cells.
-use Rattle.std.proofs.Common.{◌≡◌, ◌⊎◌, ℕ, Bool, true, false, sym, ap, ◌∙◌, subst, inl, inr}
+use Rattle.std.proofs.Common.{◌≡◌, Bool, true, false, sym, ap, subst, inl, inr}
 use Rattle.lay_doc.specs.declared.command.Reply.{Reply}
 use Rattle.lay_doc.specs.declared.command.Reply.TheVariants.{Accepted, Refused, Shown, NoMemory}
 use Rattle.lay_cells.specs.declared.answers.Claimed.{Claimed}
-use Rattle.lay_cells.specs.declared.answers.Finished.{Finished}
-use Rattle.lay_cells.specs.declared.answers.Released.{Released}
 use Rattle.lay_shape.specs.declared.cell_key.CellKey.{CellKey}
 use Rattle.lay_cell_work.specs.CellInputs.{CellInput}
 use Rattle.lay_document_cells.specs.Claims.{AnswersClaim, AnswersNext, ClaimsFor, Passes, none as none_passed, reused as passed_reused, taken as passed_taken}
-use Rattle.lay_document_cells.specs.Settling.{GivesUp, Settles, SettlesFirst, SettlesTo as CellsSettleTo, StopsAt as CellsStopAt, computed, granted, next as next_settled, none as none_settled, reused, taken, unclaimed}
+use Rattle.lay_document_cells.specs.Settling.{GivesUp, Settles, SettlesFirst, StopsAt as CellsStopAt, computed, granted, next as next_settled, none as none_settled, reused, taken, unclaimed}
 use Rattle.lay_document_cells.specs.State.{State as DocumentCells}
-use Rattle.lay_document_cells.specs.Steps.{CellDone, ClaimsTo, FinishesTo, GivesBackTo, Step, Works, claim, finish, give_back, none, step}
+use Rattle.lay_document_cells.specs.Steps.{ClaimsTo, Step, Works, claim, finish, give_back, none, step}
 use Rattle.lay_document_cells.specs.declared.answers.Answer.{Answer}
 use Rattle.lay_document_cells.specs.declared.answers.Answer.TheVariants as answer
 use Rattle.lay_document_cells.specs.declared.answers.Next.{Next}
 use Rattle.lay_document_cells.specs.declared.answers.Next.TheVariants as next
-use Rattle.lay_core.specs.CellLaws.{ClaimsAreWork, FinishesAreWork, GiveBacksAreWork, IsWork, LatestIsWork, NextClaimsAreWork, PublishingIsWork, RefreshingIsWork, SettlingIsWork, StoppingIsWork, SyncIsWork}
-use Rattle.lay_core.specs.Publishing.{Publishes, RefreshesTo}
+use Rattle.lay_core.specs.CellLaws.{ClaimsAreWork, FinishesAreWork, GiveBacksAreWork, LatestIsWork, NextClaimsAreWork, PublishingIsWork, RefreshingIsWork, SettlingIsWork, StoppingIsWork, SyncIsWork}
+use Rattle.lay_core.specs.Publishing.{Publishes}
 use Rattle.lay_core.specs.State.{State, document_cells}
 use Rattle.lay_core.specs.Steps.{ShowsLatest, ShowsPresent, is_due}
 use Rattle.lay_core.specs.Work.{MaySettle}

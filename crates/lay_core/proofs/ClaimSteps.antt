@@ -1,14 +1,13 @@
 -- Claims of cells, and what becomes of them.
-use Rattle.std.proofs.Common.{◌≡◌, ◌<◌, ◌≤◌, ◌*◌, ◌+◌, ◌^◌, ◌⊎◌, ℕ, refl, sym, ap, ◌∙◌, subst, arith, inl, inr}
+use Rattle.std.proofs.Common.{◌≡◌, ◌<◌, ◌≤◌, ◌+◌, ◌^◌, ◌⊎◌, ℕ, refl, ap, ◌∙◌, subst, arith, inl, inr}
 use Rattle.lay_cells.specs.Reads.{AllClean}
-use Rattle.lay_cells.specs.Steps.{ClaimsIn, draws_after}
+use Rattle.lay_cells.specs.Steps.{draws_after}
 use Rattle.lay_cells.specs.declared.answers.Claimed.{Claimed}
 use Rattle.lay_cells.specs.declared.answers.Claimed.TheVariants.{Granted, Reused, Taken}
 use Rattle.lay_cells.specs.declared.answers.Finished.{Finished}
 use Rattle.lay_cells.specs.declared.answers.Released.{Released}
 use Rattle.lay_shape.specs.declared.cell_key.CellKey.{CellKey}
 use Rattle.lay_cell_work.specs.CellInputs.{CellInput}
-use Rattle.lay_cell_laws.specs.SoundCells.{CellState}
 use Rattle.lay_document_cells.specs.Claims.{AnswersClaim, AnswersNext, none}
 use Rattle.lay_document_cells.specs.State.{IsOfDocument, State as DocumentCells}
 use Rattle.lay_document_cells.specs.Steps.{CellDone, ClaimsTo, FinishesTo, GivesBackTo}

@@ -1,7 +1,6 @@
 -- Whether cells are clean.
-use Rattle.std.proofs.Common.{◌≡◌, ◌&&◌, ◌↔◌, ℕ, zero, suc, not, Bool, true, false, List, [], ◌∷◌, Some, IsTrue, slice_get, refl, sym, ap, ◌∙◌, subst, rules}
+use Rattle.std.proofs.Common.{◌≡◌, ◌&&◌, ◌↔◌, zero, suc, not, Bool, true, false, List, [], ◌∷◌, refl, sym, ap, subst, rules}
 use Rattle.lay_cells.specs.Reads.{AllClean}
-use Rattle.lay_cells.specs.Shapes.{IsIn}
 use Rattle.lay_cell_laws.specs.SoundCells.{CellRow}
 use Rattle.lay_history.proofs.Lists.{not_none, some_is}
 use Rattle.lay_core.specs.State.{are_clean}

@@ -8,7 +8,6 @@ use Rattle.lay_doc.specs.declared.command.Reply.{Reply}
 use Rattle.lay_doc.specs.declared.command.Reply.TheVariants.{Accepted, Refused, Shown, NoMemory}
 use Rattle.lay_doc.specs.declared.history.Entry.{Entry}
 use Rattle.lay_doc.specs.declared.history.Entry.TheVariants.{Edit, Publish, Latest, Sync}
-use Rattle.lay_face.specs.FaceValue.{FaceValue}
 use Rattle.lay_frag.specs.Pieces.{Context}
 use Rattle.lay_history.specs.Histories.{accepted, doc_at, edit_in, edits, last_or, last_published, published, version_in}
 use Rattle.lay_history.specs.Legal.{MayFollow}

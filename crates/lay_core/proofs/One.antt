@@ -1,5 +1,5 @@
 -- What editors see of a core after a call is decided by what they saw before, but for want of memory.
-use Rattle.std.proofs.Common.{◌≡◌, ◌+◌, ℕ, Bool, true, false, List, Option, Some, None, refl, sym, ap, ◌∙◌, subst, rules}
+use Rattle.std.proofs.Common.{◌≡◌, ◌+◌, ℕ, Bool, true, false, List, Option, Some, refl, sym, ap, ◌∙◌, subst, rules}
 use Rattle.lay_doc.specs.Document.{IsDocument}
 use Rattle.lay_doc.specs.Edits.{after, fault}
 use Rattle.lay_doc.specs.declared.edit.Edit.{Edit as Change}
@@ -22,7 +22,6 @@ use Rattle.lay_core.specs.State.{IsCore, State, document_cells, is_clean}
 use Rattle.lay_core.specs.Publishing.{Publishes, PublishesUnless, is_last, with_tree}
 use Rattle.lay_core.specs.Steps.{EditsDocument, ShowsLatest, ShowsPresent, ShowsVersion, called, due_of, is_due}
 use Rattle.lay_core.specs.Laws.{OneEdit, OneLatest, OnePublishing, OneRefreshing, OneSeenEdit, OneSettling, OneSync, seen}
-use Rattle.lay_core.specs.declared.answers.Publish.{Publish}
 use Rattle.lay_core.specs.declared.answers.Publish.TheVariants.{Published, Unsettled, NoMemory as no_publishing}
 
 pub one_settling : OneSettling

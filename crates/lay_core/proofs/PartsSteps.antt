@@ -1,5 +1,5 @@
 -- Steps of a core that is seen by its parts.
-use Rattle.std.proofs.Common.{◌≡◌, ◌≢◌, ◌<◌, ◌≤◌, ◌*◌, ◌+◌, ◌^◌, ℕ, List, length, Bool, true, false, Option, Some, None, Result, Ok, Err, OnErr, OnOk, refl, sym, ap, ◌∙◌, subst, arith, inl, inr, ne_eqb}
+use Rattle.std.proofs.Common.{◌≡◌, ◌≢◌, ◌<◌, ◌≤◌, ◌*◌, ◌+◌, ◌^◌, ℕ, List, length, false, Option, Some, None, Result, Ok, Err, OnErr, OnOk, refl, sym, ap, ◌∙◌, subst, arith, inl, inr, ne_eqb}
 use Rattle.lay_doc.specs.declared.command.Reply.{Reply}
 use Rattle.lay_doc.specs.declared.history.Entry.{Entry}
 use Rattle.lay_doc.specs.declared.history.Entry.TheVariants.{Latest, Sync}
@@ -9,7 +9,7 @@ use Rattle.lay_history.specs.Trees.{PublishedTreeValue, versions_of}
 use Rattle.lay_document_cells.specs.Settling.{SettlesTo as CellsSettleTo, StopsAt as CellsStopAt}
 use Rattle.lay_document_cells.specs.State.{IsOfDocument, State as DocumentCells}
 use Rattle.lay_core.specs.Parts.{parts}
-use Rattle.lay_core.specs.Publishing.{Publishes, PublishesTo, RefreshesTo, is_last, is_version}
+use Rattle.lay_core.specs.Publishing.{Publishes, PublishesTo, RefreshesTo, is_version}
 use Rattle.lay_core.specs.State.{HasNumbers, IsKept, State, document_cells, with_cells}
 use Rattle.lay_core.specs.Steps.{LatestTo, ShowsLatest, ShowsPresent, SyncTo, called, is_due}
 use Rattle.lay_core.specs.Work.{ChangesCells, MaySettle}

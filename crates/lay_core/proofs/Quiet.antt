@@ -9,7 +9,7 @@ use Rattle.lay_history.specs.Calls.{calls}
 use Rattle.lay_history.proofs.OneMore.{calls_more}
 use Rattle.lay_document_cells.specs.State.{State as DocumentCells}
 use Rattle.lay_core.specs.State.{State}
-use Rattle.lay_core.specs.Publishing.{Publishes, PublishesUnless, RefreshesTo, is_last, with_tree}
+use Rattle.lay_core.specs.Publishing.{PublishesUnless, RefreshesTo, is_last, with_tree}
 use Rattle.lay_core.specs.Steps.{ShowsLatest, ShowsPresent}
 use Rattle.lay_core.specs.Work.{ChangesCells, MaySettle}
 use Rattle.lay_core.specs.Rounds.{IsQuiet}

@@ -8,7 +8,7 @@ use Rattle.lay_history.specs.Histories.{accepted, last_or, last_published, publi
 use Rattle.lay_history.specs.Legal.{AnswersLatest, AnswersSync, IsWhole}
 use Rattle.lay_history.proofs.OneMore.{accepted_more, last_of_more, published_more}
 use Rattle.lay_core.specs.State.{State}
-use Rattle.lay_core.specs.Publishing.{Publishes, PublishesUnless, RefreshesTo, is_last, is_version, with_tree}
+use Rattle.lay_core.specs.Publishing.{PublishesUnless, RefreshesTo, is_last, is_version}
 use Rattle.lay_core.specs.Steps.{ShowsLatest, ShowsPresent, ShowsVersion, is_due}
 
 -- the present version of s was published last

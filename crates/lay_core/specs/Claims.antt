@@ -1,6 +1,5 @@
 -- What calls on the cells of a core come to. Nothing else of it changes.
 use Rattle.std.specs.Prelude.{ℕ}
-use Rattle.lay_cells.specs.Rows.{Solved}
 use Rattle.lay_cells.specs.declared.answers.Finished.{Finished}
 use Rattle.lay_cells.specs.declared.answers.Released.{Released}
 use Rattle.lay_shape.specs.declared.cell_key.CellKey.{CellKey}

@@ -1,5 +1,5 @@
 -- What the calls of editors on a core leave.
-use Rattle.std.specs.Prelude.{ℕ, ⊤, ◌≡◌, ◌+◌, ◌-◌, ◌&&◌, not, List, [], ◌∷◌, ◌++◌, Bool, true, false, Option, Some, None, is_some, if◌then◌else◌}
+use Rattle.std.specs.Prelude.{ℕ, ⊤, ◌≡◌, ◌+◌, ◌-◌, ◌&&◌, not, [], ◌∷◌, ◌++◌, Bool, true, false, Option, Some, None, is_some, if◌then◌else◌}
 use Rattle.lay_doc.specs.declared.edit.Edit.{Edit as Change}
 use Rattle.lay_doc.specs.Document.{Document}
 use Rattle.lay_doc.specs.Edits.{after, fault}
