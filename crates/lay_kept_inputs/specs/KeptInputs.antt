@@ -5,7 +5,7 @@ use Rattle.std.specs.Prelude.{ℕ, ◌≡◌, ◌<◌, length}
 use Rattle.lay_cells.specs.Shapes.{IsIn}
 use Rattle.lay_contexts.specs.FormattingContextList.{first_number}
 use Rattle.lay_context.specs.declared.task.Phase.{Phase}
-use Rattle.lay_context.specs.declared.task.Phase.TheVariants as phase
+use Rattle.lay_context.specs.declared.task.Phase.TheVariants.{Measure}
 use Rattle.lay_context.specs.Measured.{is_measured}
 use Rattle.lay_context.specs.Medium.{Medium}
 use Rattle.lay_shape.specs.Dependencies.{in_phase, needs_in, needs_of}
@@ -16,7 +16,7 @@ use Rattle.lay_cell_laws.specs.SameContexts.{IsSameContext, IsTable, Table, inpu
 -- for as much (CSS 2.2, 10.3.5)
 pub record IsSameTo (phase : Phase) (a b : Table) (c e : ℕ) : Type 0 where
   pub own : IsSameContext a b c e
-  pub measured : phase ≡ phase.Measure
+  pub measured : phase ≡ Measure
       → is_measured a.formatting_contexts (first_number a.contexts c) ≡ is_measured b.formatting_contexts (first_number b.contexts e)
 
 -- the cell of this phase of the context x of one is that of the context y of the other, of the same context, and keeps the same

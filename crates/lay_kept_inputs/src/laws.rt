@@ -6,7 +6,6 @@ use lay_cell_laws::{
     counterparts_are_of_one_node, measure_inputs_are_kept, place_inputs_are_kept,
     size_inputs_are_kept,
 };
-use lay_shape::ways_are_lists;
 
 /// A cell is given what it was, where its context is the same and each cell that it depends on keeps the same.
 pub fn inputs_are_kept()
@@ -16,5 +15,4 @@ pub fn inputs_are_kept()
     measure_inputs_are_kept();
     size_inputs_are_kept();
     place_inputs_are_kept();
-    ways_are_lists();
 }

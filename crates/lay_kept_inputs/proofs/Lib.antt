@@ -1,0 +1,5 @@
+pub mod Lists
+pub mod InnerNeeds
+pub mod OuterNeeds
+pub mod KeptWays
+pub mod KeptNeeds
