@@ -1,20 +1,21 @@
 -- Steps of a core that is seen by its parts.
-use Rattle.std.proofs.Common.{◌≡◌, ◌≢◌, ◌<◌, ◌≤◌, ◌*◌, ◌+◌, ◌^◌, ℕ, List, length, false, Option, Some, None, Result, Ok, Err, OnErr, OnOk, refl, sym, ap, ◌∙◌, subst, arith, inl, inr, ne_eqb}
+use Rattle.std.proofs.Common.{◌≡◌, ◌≢◌, ◌<◌, ◌≤◌, ◌*◌, ◌+◌, ◌^◌, ℕ, List, length, true, false, Option, Some, None, Result, Ok, Err, OnErr, OnOk, refl, sym, ap, ◌∙◌, subst, arith, inl, inr, ne_eqb}
 use Rattle.lay_doc.specs.declared.command.Reply.{Reply}
 use Rattle.lay_doc.specs.declared.history.Entry.{Entry}
 use Rattle.lay_doc.specs.declared.history.Entry.TheVariants.{Latest, Sync}
 use Rattle.lay_cells.specs.Reads.{AllClean}
 use Rattle.lay_history.specs.Histories.{accepted, last_or, last_published}
 use Rattle.lay_history.specs.Trees.{PublishedTreeValue, versions_of}
-use Rattle.lay_document_cells.specs.Settling.{SettlesTo as CellsSettleTo, StopsAt as CellsStopAt}
+use Rattle.lay_document_cells.specs.Settling.{SettlesTo as CellsSettleTo, StopsAt as CellsStopAt, none}
 use Rattle.lay_document_cells.specs.State.{IsOfDocument, State as DocumentCells}
 use Rattle.lay_core.specs.Parts.{parts}
 use Rattle.lay_core.specs.Publishing.{Publishes, PublishesTo, RefreshesTo, is_version}
-use Rattle.lay_core.specs.State.{HasNumbers, IsKept, State, document_cells, with_cells}
+use Rattle.lay_core.specs.State.{HasNumbers, IsKept, State, are_clean, document_cells, with_cells}
 use Rattle.lay_core.specs.Steps.{LatestTo, ShowsLatest, ShowsPresent, SyncTo, called, is_due}
-use Rattle.lay_core.specs.Work.{ChangesCells, MaySettle}
+use Rattle.lay_core.specs.Work.{ChangesCells, MaySettle, SettlesTo}
 use Rattle.lay_core.specs.declared.answers.Publish.{Publish}
 use Rattle.lay_core.specs.declared.answers.Publish.TheVariants.{Published, NoMemory}
+use Rattle.lay_core.proofs.CleanCells.{told_clean}
 use Rattle.lay_core.proofs.CellWork.{IsWork, settle_work, stop_work}
 use Rattle.lay_core.proofs.Kept.{not_last}
 use Rattle.lay_core.proofs.ShownKept.{changes, latest_room, may_settle_keeps, publish_keeps, refresh_keeps, shown_keeps, sync_keeps, sync_room}
@@ -45,6 +46,11 @@ changes_of Does s now d same works does =
 pub settling_work : {X E : Type 0} (r : Result X E) (a b : DocumentCells) → OnOk r (CellsSettleTo a b) → OnErr r (CellsStopAt a b) → IsWork a b
 settling_work (Ok x) a b settles stops = settle_work a b settles
 settling_work (Err e) a b settles stops = stop_work a b stops
+
+-- where no cell is dirty, nothing is to be done
+pub settled_already : (s now : State) → s ≡ now → are_clean s.cells.rows ≡ true → SettlesTo now now
+settled_already s now same clean =
+    subst (λ x. SettlesTo x x) same record { does = record { settles = none; clean = told_clean s.cells.rows clean }; state = refl }
 
 pub settled_numbers : (s : State) (n room draws : ℕ) → IsKept s n room → s.cells.draws ≤ 2 ^ 63 + 2 ^ 50 → draws ≤ s.cells.draws + 2 ^ 18
     → draws + 2 ^ 20 * s.calls_left ≤ 2 ^ 63 + 2 ^ 51

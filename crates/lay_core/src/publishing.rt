@@ -11,6 +11,7 @@ ghost use Rattle.lay_core.specs.Work.{MaySettle, SettlesTo, StopsAt};
 
 use crate::answers::Publish;
 use crate::core_state::Core;
+use crate::showing::are_clean;
 use lay_doc::Entry;
 use lay_document_cells::DocumentCells;
 use lay_history::PublishedTree;
@@ -19,13 +20,18 @@ use std::alloc::Global;
 use std::sync::Arc;
 
 impl Core {
-    /// Lays out each dirty cell in order, unless its value serves again. On an error those that are clean by then stay so.
+    /// Lays out each dirty cell in order, unless its value serves again. On an error, which comes only where some cell is dirty,
+    /// those that are clean by then stay so.
     pub fn settle(&mut self) -> Result<(), NoMemory>
         requires draws { self.old.cells.draws ≤ 2 ^ 63 + 2 ^ 50 }
         ensures ok { OnOk result (SettlesTo self.old self.new) }
         ensures err { OnErr result (StopsAt self.old self.new) }
+        ensures dirty { OnErr result (is_clean self.old ≡ false) }
         ensures draws { self.new.cells.draws ≤ self.old.cells.draws + 2 ^ 18 }
     {
+        if are_clean(&self.cells) {
+            return Ok(());
+        }
         let settled = self.cells.settle();
         self.cells.sound();
         settled

@@ -71,7 +71,7 @@ fn is_due(cells: &DocumentCells, version: u64, trees: &[PublishedTree]) -> bool
 }
 
 /// Whether no cell is dirty.
-fn are_clean(cells: &DocumentCells) -> bool
+pub(crate) fn are_clean(cells: &DocumentCells) -> bool
     ensures { result ≡ are_clean cells.now.cells.rows }
 {
     cells.is_settled()

@@ -1,7 +1,11 @@
+use Rattle.std.proofs.Common.{◌∙◌, sym}
 use Rattle.lay_core.proofs.CellWork.{settle_work, stop_work}
 use Rattle.lay_core.proofs.Kept.{work_keeps}
-use Rattle.lay_core.proofs.PartsSteps.{changes_of, on_err, on_ok, settled_numbers, settling_work}
+use Rattle.lay_core.proofs.PartsSteps.{changes_of, on_err, on_ok, settled_already, settled_numbers, settling_work}
 use Rattle.lay_core.proofs.core_state.Core.settle.Goals as goal
+
+pub returns-then-are_clean-clause-ok : goal.returns-then-are_clean-clause-ok
+returns-then-are_clean-clause-ok c = settled_already _ _ c.self.view_is (sym c.are_clean.ensures ∙ c.if-are_clean.true)
 
 pub invariant_of-self : goal.invariant_of-self
 invariant_of-self c =
