@@ -1,0 +1,3 @@
+mod CountedGrants
+mod ChangedRows
+mod CleanedCells

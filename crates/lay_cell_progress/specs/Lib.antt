@@ -1,0 +1,3 @@
+pub mod Grants
+pub mod Progress
+pub mod Settled

@@ -1,0 +1,84 @@
+-- What an edit leaves of a document with its cells.
+use Rattle.std.proofs.Common.{◌≡◌, ◌⊎◌, inl, inr, ⊎_elim, ℕ, ◌≤◌, List, [], refl, arith, ap, sym, subst, ◌∙◌, None}
+use Rattle.lay_doc.specs.Document.{Document, IsDocument}
+use Rattle.lay_doc.specs.declared.edit.Edit.{Edit}
+use Rattle.lay_doc.specs.Edits.{after, fault}
+use Rattle.lay_doc.specs.Laws.{PutsNode}
+use Rattle.lay_face.specs.FaceValue.{FaceValue}
+use Rattle.lay_context.specs.Medium.{Medium}
+use Rattle.lay_context.specs.Solves.{medium_of}
+use Rattle.lay_cells.specs.Sound.{IsSound}
+use Rattle.lay_shape.specs.declared.cell_key.CellKey.{CellKey}
+use Rattle.lay_cell_progress.specs.Grants.{laid_of_all}
+use Rattle.lay_cell_work.specs.CellLocal.{IsCellLocal}
+use Rattle.lay_cell_laws.specs.DocumentCells.{AreDocumentCells}
+use Rattle.lay_cell_laws.specs.SoundCells.{CellState}
+use Rattle.lay_cell_steps.specs.EditedCells.{EditsKeepCells, FollowsContexts, IsUntouched as IsKeptThere, ListsTouched as ListsThere}
+use Rattle.lay_changes.specs.ContextFlags.{ContextLists}
+use Rattle.lay_changes.specs.Laws.{TouchedContextsAreListed}
+use Rattle.lay_changes.specs.TouchedContexts.{IsUntouched, ListsTouched}
+use Rattle.lay_document_cells.specs.Edits.{EditsTo, FollowsLists}
+use Rattle.lay_document_cells.specs.Kept.{IsKept, TableValue}
+use Rattle.lay_document_cells.specs.State.{AreStyledLists, State}
+use Rattle.lay_document_cells.proofs.KeptSteps.{state_of}
+
+-- the same words of two libraries
+listed_there : (before later : ContextLists) (keys : List CellKey)
+    → ListsTouched before.contexts later.contexts before.formatting_contexts later.formatting_contexts keys
+    → ListsThere before.contexts later.contexts before.formatting_contexts later.formatting_contexts keys
+listed_there before later keys h j lt =
+    ⊎_elim
+    (λ (u : IsUntouched before.contexts later.contexts before.formatting_contexts later.formatting_contexts j).
+        inl (u.0, record { within = u.1.within; node = u.1.node; boxes = u.1.boxes; measured = u.1.measured }))
+    (λ keys. inr keys)
+    (h j lt)
+
+-- an edit of a copy
+pub applied : (d copy e : Document) (edit : Edit) → copy ≡ d → e ≡ after copy edit → e ≡ after d edit
+applied d copy e edit same is = is ∙ ap (λ x. after x edit) same
+
+module _ (d : Document) (face : FaceValue) (cells : CellState) (laid : ℕ) (medium : Medium) (table : TableValue)
+    (kept : IsKept (state_of d face cells laid) medium table) (edit : Edit) (e : Document) (is : e ≡ after d edit)
+    (later : TableValue) (lists : AreStyledLists e later.styles later.lists) (t : CellState) (follows : FollowsLists table.lists later.lists cells t) where
+  lists_after : AreStyledLists (after d edit) later.styles later.lists
+  lists_after = subst (λ x. AreStyledLists x later.styles later.lists) is lists
+
+  pub edit_kept : EditsKeepCells → TouchedContextsAreListed → PutsNode edit → fault d edit ≡ None → IsSound IsCellLocal t → (m : Medium) → m ≡ medium_of e face
+      → laid_of_all t.rows ≤ laid_of_all cells.rows → cells.draws ≤ t.draws → IsKept (state_of e face t laid) m later
+  edit_kept law listed puts accepted sound m same count draws =
+      record {
+        medium_is = same;
+        lists_are = lists;
+        cells = subst (λ x. AreDocumentCells x face later.lists.contexts later.lists.formatting_contexts t) (sym is)
+            (law d edit face table.styles later.styles table.lists.contexts later.lists.contexts table.lists.formatting_contexts later.lists.formatting_contexts cells t
+                record {
+                  document = kept.cells.is_document;
+                  puts = puts;
+                  accepted = accepted;
+                  before = kept.lists_are.has_styles;
+                  after = lists_after.has_styles;
+                }
+                kept.cells lists_after.are_contexts lists_after.are_formatting_contexts
+                record {
+                  shaped = follows.shaped;
+                  takes = inl follows.reshapes;
+                  keys = follows.keys;
+                  touched = listed_there table.lists later.lists follows.keys (listed _ _ _ _ _ follows.touched);
+                  marks = follows.marks;
+                }
+                sound);
+        counted = omega (arith, count, kept.counted);
+        drawn = omega (arith, draws, kept.drawn);
+      }
+
+  pub edited_to : (s : State) → state_of d face cells laid ≡ s → EditsTo s edit (state_of e face t laid)
+  edited_to s same =
+      subst (λ (x : State). EditsTo x edit (state_of e face t laid)) same record {
+        before = table.lists;
+        before_are = (table.styles, kept.lists_are);
+        later = later.lists;
+        later_are = (later.styles, lists_after);
+        cells = t;
+        follows = follows;
+        state = ap (λ x. state_of x face t laid) is;
+      }

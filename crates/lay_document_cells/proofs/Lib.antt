@@ -1,0 +1,10 @@
+mod Answered
+mod CountedCells
+mod EditSteps
+mod FlagSteps
+mod KeptSteps
+mod ListedContexts
+mod OneEdits
+mod Pigeonhole
+mod SettledPlaces
+mod Working

@@ -1,0 +1,32 @@
+use Rattle.std.proofs.Common.{◌≡◌, ◌∙◌, None, ap, subst, sym}
+use Rattle.lay_context.specs.Solves.{medium_of}
+use Rattle.lay_doc.specs.Edits.{fault}
+use Rattle.lay_document_cells.specs.State.{State}
+use Rattle.lay_document_cells.proofs.Answered.{own_nodes}
+use Rattle.lay_document_cells.proofs.EditSteps.{applied, edit_kept, edited_to}
+use Rattle.lay_document_cells.proofs.document_cells.DocumentCells.edit.Goals as goal
+
+pub follow_lists-requires-clause-apart : goal.follow_lists-requires-clause-apart
+follow_lists-requires-clause-apart c =
+    own_nodes c.contexts_are_of_own_nodes.ensures c.self.inside.doc c.self.inside.table c.nodes.ensures.valid c.self.invariant.lists_are
+
+pub follow_lists-requires-clause-later_apart : goal.follow_lists-requires-clause-later_apart
+follow_lists-requires-clause-later_apart c =
+    own_nodes c.contexts_are_of_own_nodes.ensures c.apply.new.self c.in_ok-table.table c.nodes-2.ensures.valid c.in_ok-table.ensures
+
+pub invariant_of-self-2 : goal.invariant_of-self-2
+invariant_of-self-2 c =
+    edit_kept c.self.inside.doc c.self.inside.face.value c.self.inside.cells c.self.inside.laid c.self.inside.medium c.self.inside.table c.self.invariant
+        c.args.edit.now c.apply.new.self (applied c.self.inside.doc c.in_ok-doc.doc c.apply.new.self c.args.edit.now c.in_ok-doc.ensures c.in_ok-apply.ensures.ok)
+        c.in_ok-table.table c.in_ok-table.ensures c.follow_lists.new.cells c.in_ok-follow_lists.ensures.ok
+        c.edits_keep_cells.ensures c.touched_contexts_are_listed.ensures c.puts_node.ensures
+        (subst (λ (x : State). fault x.document c.args.edit.now ≡ None) (sym c.self.view_is) c.requires.no_fault) c.sound.ensures
+        c.medium_of-medium.result (c.medium_of-medium.ensures ∙ ap (medium_of c.apply.new.self) c.in_ok-clone.ensures.cases)
+        c.in_ok-follow_lists.ensures.counted c.in_ok-follow_lists.ensures.drawn
+
+pub returns-clause-ok : goal.returns-clause-ok
+returns-clause-ok c =
+    edited_to c.self.inside.doc c.self.inside.face.value c.self.inside.cells c.self.inside.laid c.self.inside.medium c.self.inside.table c.self.invariant
+        c.args.edit.now c.apply.new.self (applied c.self.inside.doc c.in_ok-doc.doc c.apply.new.self c.args.edit.now c.in_ok-doc.ensures c.in_ok-apply.ensures.ok)
+        c.in_ok-table.table c.in_ok-table.ensures c.follow_lists.new.cells c.in_ok-follow_lists.ensures.ok
+        c.args.self.now c.self.view_is

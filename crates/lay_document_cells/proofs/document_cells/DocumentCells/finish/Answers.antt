@@ -1,0 +1,13 @@
+use Rattle.lay_document_cells.proofs.KeptSteps.{finish_kept, finished_to}
+use Rattle.lay_document_cells.proofs.document_cells.DocumentCells.finish.Goals as goal
+
+pub invariant_of-self : goal.invariant_of-self
+invariant_of-self c =
+    finish_kept c.self.inside.doc c.self.inside.face.value c.self.inside.cells c.self.inside.laid c.self.inside.medium c.self.inside.table c.self.invariant
+        c.finishes_keep_cells.ensures c.finishes_count.ensures c.finishes_keep_rows.ensures c.args.done c.finish-answer.result c.finish-answer.new.self
+        c.finish-answer.ensures c.sound.ensures
+
+pub returns : goal.returns
+returns c =
+    finished_to c.self.inside.doc c.self.inside.face.value c.self.inside.cells c.self.inside.laid c.args.self.now c.self.view_is c.args.done c.finish-answer.result
+        c.finish-answer.new.self c.finish-answer.ensures c.value-value.ensures.meets

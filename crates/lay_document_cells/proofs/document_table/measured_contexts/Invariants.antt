@@ -1,0 +1,5 @@
+use Rattle.lay_changes.specs.ContextFlags.{AreContextFlagsTo}
+use Rattle.lay_document_cells.proofs.document_table.measured_contexts.Given as goal
+
+abbrev pub invariant-loop-c : goal.invariant-loop-c
+invariant-loop-c l = AreContextFlagsTo l.cells.contexts l.cells.formatting_contexts l.flags.items l.c

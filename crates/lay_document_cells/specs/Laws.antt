@@ -1,0 +1,42 @@
+-- What work on the cells of a document keeps, and that an edit leaves one state.
+use Rattle.std.specs.Prelude.{◌≡◌, ◌+◌, ◌*◌, ◌≤◌, length}
+use Rattle.lay_doc.specs.declared.edit.Edit.{Edit}
+use Rattle.lay_doc.specs.Document.{IsDocument}
+use Rattle.lay_doc.specs.Edits.{after}
+use Rattle.lay_cells.specs.Reads.{AllClean}
+use Rattle.lay_cell_progress.specs.Grants.{laid_of_all}
+use Rattle.lay_cell_progress.specs.Progress.{GivesNoneBack, KeepsRows}
+use Rattle.lay_document_cells.specs.Edits.{EditsTo}
+use Rattle.lay_document_cells.specs.Settling.{Settles, SettlesTo, StopsAt}
+use Rattle.lay_document_cells.specs.State.{IsOfDocument, State}
+use Rattle.lay_document_cells.specs.Steps.{Works}
+
+-- no cell is made anew, dropped or dirtied, and each grant is counted once
+pub record KeepsCells (s t : State) : Type 0 where
+  pub document : t.document ≡ s.document
+  pub face : t.face ≡ s.face
+  pub cells : KeepsRows s.cells t.cells
+  pub laid : s.laid ≤ t.laid
+  pub granted : s.laid + laid_of_all t.cells.rows ≡ t.laid + laid_of_all s.cells.rows
+
+abbrev pub WorkKeepsCells : Type 0
+WorkKeepsCells = (s t : State) → Works s t → KeepsCells s t
+
+-- settling is work, as far as it comes
+abbrev pub SettlingWorks : Type 0
+SettlingWorks = (s t : State) → Settles s t → Works s t
+
+abbrev pub StoppingWorks : Type 0
+StoppingWorks = (s t : State) → StopsAt s t → Works s t
+
+-- it gives no claim back, unless it stops
+abbrev pub SettlingGivesNothingBack : Type 0
+SettlingGivesNothingBack = (s t : State) → Settles s t → GivesNoneBack s.cells t.cells
+
+-- an edit leaves one state
+abbrev pub OneEdit : Type 0
+OneEdit = (s t u : State) (edit : Edit) → IsOfDocument s → IsDocument (after s.document edit) → EditsTo s edit t → EditsTo s edit u → t ≡ u
+
+-- where all cells are clean, three grants were counted for each context
+abbrev pub CleanCellsAreCounted : Type 0
+CleanCellsAreCounted = (s : State) (of : IsOfDocument s) → AllClean s.cells.rows → 3 * length of.lists.contexts ≤ s.laid

@@ -1,0 +1,111 @@
+//! The contexts of a document, with its styles.
+
+ghost use Rattle.std.specs.Prelude.{◌≡◌, ◌+◌, IfOk, None, OnOk, length};
+ghost use Rattle.lay_style.specs.ComputedStyle.{HasStyles};
+ghost use Rattle.lay_doc.specs.Document.{declarations_of, parents_of};
+ghost use Rattle.lay_doc.specs.Edits.{after, fault};
+ghost use Rattle.lay_changes.specs.ContextFlags.{AreContextFlags};
+ghost use Rattle.lay_document_cells.specs.State.{AreStyledLists};
+
+use lay_cell_table::CellTable;
+use lay_changes::MeasuredContexts;
+use lay_contexts::contexts_of;
+use lay_doc::{Doc, Edit};
+use lay_inherit::computed;
+use lay_restyled::restyled;
+use lay_style::Computed;
+use lay_units::NoMemory;
+use std::alloc::Global;
+use std::marker::Model;
+
+/// The computed styles of a document, its contexts with the places of their cells, and of each context whether its preferred widths count.
+#[derive(Drop)]
+pub(crate) struct DocumentTable {
+    styles: Computed,
+    cells: CellTable,
+    measured: Vec<bool>,
+}
+
+impl Model for DocumentTable {
+    ghost use Rattle.lay_changes.specs.ContextFlags.{AreContextFlags};
+    ghost use Rattle.lay_document_cells.specs.Kept.{TableValue, lists_in};
+
+    ghost Value = { TableValue };
+
+    ghost view = { λ t. record { styles = t.styles; lists = lists_in t.cells } };
+
+    ghost invariant = { λ t. AreContextFlags t.cells.contexts t.cells.formatting_contexts t.measured.items };
+}
+
+impl DocumentTable {
+    /// That of a document.
+    pub(crate) fn of(alloc: Global, doc: &Doc) -> Result<DocumentTable, NoMemory>
+        ensures { IfOk result (λ t. AreStyledLists doc.now t.styles t.lists) }
+    {
+        let styles = computed(alloc, doc)?;
+        DocumentTable::of_styles(alloc, doc, styles)
+    }
+
+    /// That of a document after an edit, where this is the one before it.
+    pub(crate) fn edited(
+        &self,
+        alloc: Global,
+        doc: &Doc,
+        edit: &Edit,
+        later: &Doc,
+    ) -> Result<DocumentTable, NoMemory>
+        requires are { AreStyledLists doc.now self.now.styles self.now.lists }
+        requires accepted { fault doc.now edit.now ≡ None }
+        requires later { later.now ≡ after doc.now edit.now }
+        ensures { IfOk result (λ t. AreStyledLists later.now t.styles t.lists) }
+    {
+        let styles = restyled(alloc, doc, &self.styles, edit, later)?;
+        DocumentTable::of_styles(alloc, later, styles)
+    }
+
+    /// That of a document with these computed styles.
+    fn of_styles(alloc: Global, doc: &Doc, styles: Computed) -> Result<DocumentTable, NoMemory>
+        requires { HasStyles (parents_of doc.now.nodes) (declarations_of doc.now.nodes) styles }
+        ensures { IfOk result (λ t. AreStyledLists doc.now t.styles t.lists) }
+    {
+        let contexts = contexts_of(alloc, doc, &styles)?;
+        let cells = CellTable::new(alloc, contexts)?;
+        let measured = measured_contexts(alloc, &cells)?;
+        Ok(DocumentTable {
+            styles,
+            cells,
+            measured,
+        })
+    }
+
+    /// The contexts, with the places of their cells.
+    pub(crate) fn cells(&self) -> &CellTable
+        ensures contexts { result.now.contexts ≡ self.now.lists.contexts }
+        ensures formatting { result.now.formatting_contexts ≡ self.now.lists.formatting_contexts }
+    {
+        &self.cells
+    }
+
+    /// The contexts, to be compared.
+    pub(crate) fn contexts(&self) -> MeasuredContexts<'_>
+        ensures { result ≡ self.now.lists }
+    {
+        MeasuredContexts::new(
+            self.cells.contexts(),
+            self.cells.formatting_contexts(),
+            &self.measured,
+        )
+    }
+}
+
+/// For each context whether its preferred widths count.
+fn measured_contexts(alloc: Global, cells: &CellTable) -> Result<Vec<bool>, NoMemory>
+    ensures { IfOk result (λ v. AreContextFlags cells.now.contexts cells.now.formatting_contexts v.items) }
+{
+    let count = cells.contexts().len();
+    let mut flags = Vec::with_capacity(alloc, count)?;
+    for c in 0..count {
+        flags.push(cells.is_measured(c))?;
+    }
+    Ok(flags)
+}
