@@ -8,9 +8,6 @@
 //!     remove NODE
 //!     latest, sync                      the replies to them and to edits are written as in a report
 //!     settle, publish
-//!     claim PHASE NODE, next            claims that are granted are kept under their numbers (`work.rt`)
-//!     finish NUMBER                     with the value of what the claim of this number was given
-//!     give-back NUMBER
 //!     laid, draws, accepted, entries
 //!     laid-of PHASE NODE
 //!     contexts VERSION                  of how many contexts the tree of a version is, or `none`
@@ -20,7 +17,6 @@
 use crate::edits::edit;
 use crate::keys::{counts, key, shown_key};
 use crate::trees::{contexts, is_as_scratch};
-use crate::work::Claims;
 use lay_core::{Core, Publish};
 use lay_doc::Reply;
 use lay_units::NoMemory;
@@ -29,21 +25,16 @@ use std::alloc::Global;
 /// More numbers than a case draws.
 const MANY: u64 = 1000000;
 
-/// The core of a case, with the claims that were granted.
+/// The core of a case.
 #[derive(Drop)]
 pub(crate) struct OneCore {
     core: Core,
-    claims: Claims,
     calls: u32,
 }
 
 impl OneCore {
-    pub(crate) fn new(alloc: Global, core: Core) -> OneCore {
-        OneCore {
-            core,
-            claims: Claims::new(alloc),
-            calls: 0,
-        }
+    pub(crate) fn new(core: Core) -> OneCore {
+        OneCore { core, calls: 0 }
     }
 
     /// The answer to a call; None where the line is none.
@@ -55,9 +46,6 @@ impl OneCore {
         match call {
             "settle" => self.settle(alloc),
             "publish" => Ok(Some(self.publish(alloc)?)),
-            "claim" | "next" | "finish" | "give-back" => {
-                self.claims.answer(alloc, &mut self.core, call, rest)
-            }
             _ => self.read(alloc, call, rest),
         }
     }

@@ -11,7 +11,6 @@ mod case;
 mod edits;
 mod keys;
 mod trees;
-mod work;
 
 use crate::calls::OneCore;
 use crate::case::first_difference;
@@ -59,7 +58,7 @@ fn go_through(rt: &(impl Files + Print + AllocGlobal), folder: &str, name: &str)
     let text = fs::read_to_string(rt, path.as_str()).context("reading a file of calls")?;
     for case in text.as_str().split("\ncase ").skip(1) {
         let (case, lines) = case.split_once('\n').unwrap_or((case, ""));
-        let mut subject = OneCore::new(rt.alloc(), core(rt, folder, name)?);
+        let mut subject = OneCore::new(core(rt, folder, name)?);
         match first_difference(rt.alloc(), &mut subject, lines)? {
             None => println!(rt; "{name}: {case}: ok")?,
             Some(found) => println!(rt; "{name}: {case}: NOT SO, but {found}")?,
