@@ -93,24 +93,28 @@ module _ (d : Document) (face : FaceValue) (cells : CellState) (laid : ℕ) (med
       → t.formatting_contexts ≡ table.lists.formatting_contexts → (place : ℕ) (input : CellInput)
       → AtPlace cells.rows place (λ r. IsGivenThere medium t cells.rows r.key input) → AtPlace s.cells.rows place (λ r. IsGivenNow s r.key input)
   given_here s is t e f place input g =
-      subst (λ (x : State). AtPlace x.cells.rows place (λ r. IsGivenNow x r.key input)) is (g.0, g.1, record {
-        lists = table.lists;
-        lists_are = (table.styles, kept.lists_are);
-        context = g.2.context;
-        phase = g.2.phase;
-        within = subst (λ (cs : List Context). g.2.context < length cs) e g.2.within;
-        key_is = g.2.key_is ∙ ap (λ (cs : List Context). key_of cs g.2.context g.2.phase) e;
-        input_is = g.2.input_is
-            ∙ ap (λ (m : Medium). input_now m t.contexts t.formatting_contexts cells.rows g.2.context g.2.phase) kept.medium_is
-            ∙ ap (λ (cs : List Context). input_now (medium_of d face) cs t.formatting_contexts cells.rows g.2.context g.2.phase) e
-            ∙ ap (λ (fs : List FormattingContext). input_now (medium_of d face) table.lists.contexts fs cells.rows g.2.context g.2.phase) f;
-      })
+      subst (λ (x : State). AtPlace x.cells.rows place (λ r. IsGivenNow x r.key input)) is (
+        g.0,
+        g.1,
+        record {
+          lists = table.lists;
+          lists_are = (table.styles, kept.lists_are);
+          context = g.2.context;
+          phase = g.2.phase;
+          within = subst (λ (cs : List Context). g.2.context < length cs) e g.2.within;
+          key_is = g.2.key_is ∙ ap (λ (cs : List Context). key_of cs g.2.context g.2.phase) e;
+          input_is = g.2.input_is
+              ∙ ap (λ (m : Medium). input_now m t.contexts t.formatting_contexts cells.rows g.2.context g.2.phase) kept.medium_is
+              ∙ ap (λ (cs : List Context). input_now (medium_of d face) cs t.formatting_contexts cells.rows g.2.context g.2.phase) e
+              ∙ ap (λ (fs : List FormattingContext). input_now (medium_of d face) table.lists.contexts fs cells.rows g.2.context g.2.phase) f;
+        },
+      )
 
   document_cells_in : (t : CellTable) → t.contexts ≡ table.lists.contexts → t.formatting_contexts ≡ table.lists.formatting_contexts
       → AreDocumentCells d face t.contexts t.formatting_contexts cells
   document_cells_in t e f =
       subst (λ (cs : List Context). AreDocumentCells d face cs t.formatting_contexts cells) (sym e)
-          (subst (λ (fs : List FormattingContext). AreDocumentCells d face table.lists.contexts fs cells) (sym f) kept.cells)
+      (subst (λ (fs : List FormattingContext). AreDocumentCells d face table.lists.contexts fs cells) (sym f) kept.cells)
 
   pub cells_on : (t : CellTable) → t.contexts ≡ table.lists.contexts → t.formatting_contexts ≡ table.lists.formatting_contexts → AreCellsOn medium t cells
   cells_on t e f = record { document = d; face = face; medium_is = kept.medium_is; cells = document_cells_in t e f }
@@ -124,13 +128,13 @@ module _ (d : Document) (face : FaceValue) (cells : CellState) (laid : ℕ) (med
     pub solved : AssembledTreesSolve → Solves s.document s.face tree
     solved law =
         subst (λ (x : State). Solves x.document x.face tree) is
-            (law d face t.contexts t.formatting_contexts cells tree (document_cells_in t e f) clean_here assembled)
+        (law d face t.contexts t.formatting_contexts cells tree (document_cells_in t e f) clean_here assembled)
 
     pub counted : TreesListContexts → CleanCellsAreCounted → AreContexts t.contexts → 3 * length tree ≤ s.laid
     counted lists counts are =
         let long = lists t.contexts t.formatting_contexts _ tree are (document_cells_in t e f).are_formatting_contexts assembled in
         let of : IsOfDocument (state_of d face cells laid) =
-            record { lists = table.lists; cells = kept.cells; counted = kept.counted; drawn = kept.drawn } in
+        record { lists = table.lists; cells = kept.cells; counted = kept.counted; drawn = kept.drawn } in
         let paid = counts (state_of d face cells laid) of clean_here in
         let same = ap (λ (cs : List Context). length cs) e in
         subst (λ (x : State). 3 * length tree ≤ x.laid) is (omega (arith, long, paid, same))

@@ -18,19 +18,19 @@ follow_lists-requires-clause-later_apart c =
 pub invariant_of-self-2 : goal.invariant_of-self-2
 invariant_of-self-2 c =
     edit_kept c.self.inside.doc c.self.inside.face.value c.self.inside.cells c.self.inside.laid c.self.inside.medium c.self.inside.table c.self.invariant
-        c.args.edit.now c.apply.new.self (applied c.self.inside.doc c.in_ok-doc.doc c.apply.new.self c.args.edit.now c.in_ok-doc.ensures c.in_ok-apply.ensures.ok)
-        c.in_ok-table.table c.in_ok-table.ensures c.follow_lists.new.cells c.in_ok-follow_lists.ensures.ok
-        c.edits_keep_cells.ensures c.touched_contexts_are_listed.ensures c.puts_node.ensures
-        (subst (λ (x : State). fault x.document c.args.edit.now ≡ None) (sym c.self.view_is) c.requires.no_fault) c.sound.ensures
-        c.medium_of-medium.result (c.medium_of-medium.ensures ∙ ap (medium_of c.apply.new.self) c.in_ok-clone.ensures.cases)
-        c.in_ok-follow_lists.ensures.counted c.in_ok-follow_lists.ensures.drawn
+    c.args.edit.now c.apply.new.self (applied c.self.inside.doc c.in_ok-doc.doc c.apply.new.self c.args.edit.now c.in_ok-doc.ensures c.in_ok-apply.ensures.ok)
+    c.in_ok-table.table c.in_ok-table.ensures c.follow_lists.new.cells c.in_ok-follow_lists.ensures.ok
+    c.edits_keep_cells.ensures c.touched_contexts_are_listed.ensures c.puts_node.ensures
+    (subst (λ (x : State). fault x.document c.args.edit.now ≡ None) (sym c.self.view_is) c.requires.no_fault) c.sound.ensures
+    c.medium_of-medium.result (c.medium_of-medium.ensures ∙ ap (medium_of c.apply.new.self) c.in_ok-clone.ensures.cases)
+    c.in_ok-follow_lists.ensures.counted c.in_ok-follow_lists.ensures.drawn
 
 pub returns-clause-ok : goal.returns-clause-ok
 returns-clause-ok c =
     edited_to c.self.inside.doc c.self.inside.face.value c.self.inside.cells c.self.inside.laid c.self.inside.medium c.self.inside.table c.self.invariant
-        c.args.edit.now c.apply.new.self (applied c.self.inside.doc c.in_ok-doc.doc c.apply.new.self c.args.edit.now c.in_ok-doc.ensures c.in_ok-apply.ensures.ok)
-        c.in_ok-table.table c.in_ok-table.ensures c.follow_lists.new.cells c.in_ok-follow_lists.ensures.ok
-        c.args.self.now c.self.view_is
+    c.args.edit.now c.apply.new.self (applied c.self.inside.doc c.in_ok-doc.doc c.apply.new.self c.args.edit.now c.in_ok-doc.ensures c.in_ok-apply.ensures.ok)
+    c.in_ok-table.table c.in_ok-table.ensures c.follow_lists.new.cells c.in_ok-follow_lists.ensures.ok
+    c.args.self.now c.self.view_is
 
 pub returns-in_err-follow_lists-clause-ok : goal.returns-in_err-follow_lists-clause-ok
 returns-in_err-follow_lists-clause-ok c = ok_none c.from_residual-in_err-follow_lists.result _ c.from_residual-in_err-follow_lists.ensures.0
@@ -38,4 +38,4 @@ returns-in_err-follow_lists-clause-ok c = ok_none c.from_residual-in_err-follow_
 pub returns-in_err-follow_lists-clause-err : goal.returns-in_err-follow_lists-clause-err
 returns-in_err-follow_lists-clause-err c =
     err_any c.from_residual-in_err-follow_lists.result _
-        (ap (λ cells. state_of c.self.inside.doc c.self.inside.face.value cells c.self.inside.laid) c.in_err-follow_lists.ensures.err ∙ c.self.view_is)
+    (ap (λ cells. state_of c.self.inside.doc c.self.inside.face.value cells c.self.inside.laid) c.in_err-follow_lists.ensures.err ∙ c.self.view_is)
