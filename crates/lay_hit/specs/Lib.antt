@@ -1,0 +1,9 @@
+pub mod PaintKinds
+pub mod Groups
+pub mod Sorting
+pub mod Pages
+pub mod Painting
+pub mod Hits
+pub mod Ranks
+pub mod Questions
+pub mod Fronts
