@@ -18,7 +18,8 @@ use Rattle.lay_hit.specs.PaintKinds.{is_inline, kind_at}
 use Rattle.lay_hit.specs.Hits.{holds, last_holding}
 use Rattle.lay_hit.specs.Sorting.{in_order}
 use Rattle.lay_hit.specs.Pages.{is_box, is_box_or_text, is_box_of, is_box_or_text_of, id_of}
-use Rattle.lay_hit.specs.Questions.{AreNoted, is_painted, node_of_piece, own_pieces, page_with}
+use Rattle.lay_hit.specs.Questions.{AreNoted, is_painted, node_of_piece, page_with}
+use Rattle.lay_hit.specs.Wholes.{own_pieces}
 use Rattle.lay_hit.specs.Fronts.{later_of, later_piece, if_counts, greatest}
 use Rattle.lay_hit.proofs.Orders.{lastly, last-lastly}
 use Rattle.lay_hit.proofs.Rising.{IsOrder, lastly-in_order, greatest-push}

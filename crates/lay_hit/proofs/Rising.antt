@@ -32,7 +32,7 @@ module _ {X : Type 0} (le : X → X → Bool) where
   all-more P Q more [] all = tt
   all-more P Q more (x ∷ xs) all = (more x all.0, all-more P Q more xs all.1)
 
-  all-lastly : (P : X → Type 0) (p : X → Bool) (xs : List X) (m : X) → AllByRecursion P xs → lastly p xs ≡ Some m → P m
+  pub all-lastly : (P : X → Type 0) (p : X → Bool) (xs : List X) (m : X) → AllByRecursion P xs → lastly p xs ≡ Some m → P m
   all-lastly P p [] m all is = absurd cc
   all-lastly P p (x ∷ xs) m all is = later (all-lastly P p xs m all.1) (lastly p xs) refl is
     where

@@ -6,7 +6,8 @@ use Rattle.lay_frag.specs.declared.frag.Frag.{Frag}
 use Rattle.lay_hit.specs.declared.question.Question.{Question}
 use Rattle.lay_hit.specs.Pages.{Page}
 use Rattle.lay_hit.specs.Questions.{page, seen_in}
-use Rattle.lay_hit.specs.Ranks.{is_under, painter_at, rank_at}
+use Rattle.lay_hit.specs.Ranks.{painter_at}
+use Rattle.lay_hit.specs.Wholes.{is_painted_under}
 
 -- the later of two, where the second stands behind the first and so comes later among equals
 abbrev pub later_of : {X : Type 0} → (X → X → Bool) → Option X → Option X → Option X
@@ -26,9 +27,6 @@ greatest le counts (x ∷ xs) = later_of le (if_counts counts x) (greatest le co
 abbrev pub later_piece : Option Frag → Frag → Frag
 later_piece None f = f
 later_piece (Some g) f = if nat_le g.part f.part then f else g
-
-abbrev pub is_painted_under : Page → ℕ → ℕ → Bool
-is_painted_under p j k = is_under (rank_at p j) (rank_at p k)
 
 -- among the nodes from n on, the frontmost of those that g paints in which a piece is seen, and 0 where there is none
 abbrev pub front_from : Question → ℕ → ℕ → ℕ

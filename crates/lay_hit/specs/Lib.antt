@@ -5,5 +5,7 @@ pub mod Pages
 pub mod Painting
 pub mod Hits
 pub mod Ranks
+pub mod Wholes
+pub mod OrderedPages
 pub mod Questions
 pub mod Fronts

@@ -14,8 +14,7 @@ use Rattle.lay_hit.specs.PaintKinds.{forms_group, is_inline, is_stacking, kind_a
 use Rattle.lay_hit.specs.Groups.{nearest_at}
 use Rattle.lay_hit.specs.Hits.{last_holding}
 use Rattle.lay_hit.specs.Pages.{Page, page_of}
-use Rattle.lay_hit.specs.Painting.{paint}
-use Rattle.lay_hit.specs.Ranks.{is_under, painter_at, rank_at}
+use Rattle.lay_hit.specs.Wholes.{own_pieces, whole}
 
 -- the page with these pieces
 abbrev pub page_with : Question → List Frag → Page
@@ -24,10 +23,6 @@ page_with q fs = page_of q.doc.now.nodes q.styles.now fs
 -- the page of the question
 abbrev pub page : Question → Page
 page q = page_with q (frags_of q.tree.now)
-
--- the pieces that are painted of a node itself
-abbrev pub own_pieces : Page → ℕ → List Frag
-own_pieces p k = if is_inline (p.kind k) then p.boxes_and_texts k else p.boxes k
 
 -- the place of the node with which a piece is painted, if it is painted
 abbrev pub is_painted : FragKind → PaintKind → Bool
@@ -60,4 +55,4 @@ pub record AreAround (q : Question) (around : List Around) (n : ℕ) : Type 0 wh
 
 -- the piece that is seen of what a node paints as a whole
 abbrev pub seen_in : Question → ℕ → Option Frag
-seen_in q k = last_holding q.at.x.0 q.at.y.0 (paint (page q) (length q.doc.now.nodes) k)
+seen_in q k = last_holding q.at.x.0 q.at.y.0 (whole (page q) (length q.doc.now.nodes) k)

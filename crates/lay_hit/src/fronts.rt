@@ -1,9 +1,9 @@
 //! Of each node the frontmost of the nodes that it paints in which a piece holds the point.
 
-ghost use Rattle.std.specs.Prelude.{ℕ, ◌≡◌, ◌<◌, length, slice_index, slice_set, IfOk};
+ghost use Rattle.std.specs.Prelude.{◌≡◌, ◌<◌, ◌+◌, ◌==◌, ◌||◌, not, true, None, is_some, length, slice_index, slice_index_or, IfOk};
+ghost use Rattle.lay_doc.specs.Document.{IsDocument};
 ghost use Rattle.lay_frag.specs.Pieces.{frags_of};
-ghost use Rattle.lay_hit.specs.Questions.{AreAround, AreNoted, page};
-ghost use Rattle.lay_hit.specs.Ranks.{painter_at};
+ghost use Rattle.lay_hit.specs.Questions.{AreAround, AreNoted, page, seen_in};
 ghost use Rattle.lay_hit.specs.Fronts.{AreFrontsFrom, front_of};
 
 use crate::around::Around;
@@ -19,13 +19,14 @@ pub(crate) fn fronts(alloc: Global, q: &Question<'_>, around: &[Around], noted: 
     requires styles { length q.now.styles.now ≡ length q.now.doc.now.nodes }
     requires around { AreAround q.now around.now (length q.now.doc.now.nodes) }
     requires noted { AreNoted q.now (frags_of q.now.tree.now) noted.now }
-    ensures { IfOk result (λ v. AreFrontsFrom q.now v.items 1) }
+    ensures fronts { IfOk result (λ v. AreFrontsFrom q.now v.items 1) }
+    ensures valid { IsDocument q.now.doc.now }
 {
-    let mut fronts = vec![in alloc; 0; q.doc.len()]?;
-    let mut k = q.doc.len();
+    let mut k = q.doc.nodes().len();
+    let mut fronts = vec![in alloc; 0; k]?;
     while k > 1 {
         k -= 1;
-        if fronts[k] != 0 || noted[k].is_some() {
+        if is_seen(&fronts, noted, k) {
             bring(q, around, &mut fronts, k);
         }
     }
@@ -36,14 +37,45 @@ pub(crate) fn fronts(alloc: Global, q: &Question<'_>, around: &[Around], noted: 
 fn bring(q: &Question<'_>, around: &[Around], fronts: &mut Vec<usize>, k: usize)
     requires styles { length q.now.styles.now ≡ length q.now.doc.now.nodes }
     requires around { AreAround q.now around.now (length q.now.doc.now.nodes) }
+    requires valid { IsDocument q.now.doc.now }
+    requires inner { 0 < k }
     requires place { k < length q.now.doc.now.nodes }
-    requires others { (j : ℕ) → slice_index fronts.old.items j < length q.now.doc.now.nodes }
-    requires count { length fronts.old.items ≡ length q.now.doc.now.nodes }
-    ensures { fronts.new.items ≡ slice_set fronts.old.items (painter_at (page q.now) k) (front_of (page q.now) k (slice_index fronts.old.items (painter_at (page q.now) k))) }
+    requires before { AreFrontsFrom q.now fronts.old.items (k + 1) }
+    requires seen { is_some (seen_in q.now k) ≡ true }
+    ensures { AreFrontsFrom q.now fronts.new.items k }
 {
     let painter = painter_at(q, around, k);
-    let other = fronts[painter];
+    let other = place_at(fronts, painter);
+    fronts[painter] = front_of(q, k, other);
+}
+
+/// Which of two is in front, the node at k or another that stands behind it; 0 is none.
+fn front_of(q: &Question<'_>, k: usize, other: usize) -> usize
+    requires styles { length q.now.styles.now ≡ length q.now.doc.now.nodes }
+    requires place { k < length q.now.doc.now.nodes }
+    requires other { other < length q.now.doc.now.nodes }
+    ensures { result ≡ front_of (page q.now) k other }
+{
     if other == 0 || !is_painted_under(q, k, other) {
-        fronts[painter] = k;
+        k
+    } else {
+        other
     }
+}
+
+/// Whether a piece is seen in the node at k, its own or one of a node that it paints.
+fn is_seen(fronts: &[usize], noted: &[Option<Frag>], k: usize) -> bool
+    requires fronts { k < length fronts.now }
+    requires noted { k < length noted.now }
+    ensures { result ≡ (not (slice_index fronts.now k == 0) || is_some (slice_index_or noted.now k None)) }
+{
+    fronts[k] != 0 || noted[k].is_some()
+}
+
+/// What is kept at a place.
+fn place_at(fronts: &[usize], place: usize) -> usize
+    requires { place < length fronts.now }
+    ensures { result ≡ slice_index fronts.now place }
+{
+    fronts[place]
 }

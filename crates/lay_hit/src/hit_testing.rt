@@ -1,6 +1,7 @@
 //! The piece that is seen at a point.
 
 ghost use Rattle.std.specs.Prelude.{◌≡◌, length, IfOk};
+ghost use Rattle.lay_doc.specs.Document.{IsDocument};
 ghost use Rattle.lay_frag.specs.Pieces.{frags_of};
 ghost use Rattle.lay_hit.specs.Fronts.{AreFrontsFrom};
 ghost use Rattle.lay_hit.specs.Hits.{hit_of};
@@ -37,6 +38,7 @@ pub fn hit(alloc: Global, doc: &Doc, style: &Computed, tree: &Tree, x: Unit, y: 
 
 /// From the root on, the frontmost node that has a piece at the point.
 fn frontmost(q: &Question<'_>, noted: &[Option<Frag>], fronts: &[usize]) -> Option<Frag>
+    requires valid { IsDocument q.now.doc.now }
     requires noted { AreNoted q.now (frags_of q.now.tree.now) noted.now }
     requires fronts { AreFrontsFrom q.now fronts.now 1 }
     ensures { result ≡ hit_of q.now.doc.now q.now.styles.now q.now.tree.now q.now.at.x.0 q.now.at.y.0 }
