@@ -5,7 +5,7 @@ use Rattle.std.proofs.lemmas.List.{get_or-replicate, get_or-set_same, get_or-set
 use Rattle.std.specs.Prelude.{◌==◌, is_some, unwrap_or, option_and_then}
 use Rattle.std.specs.Option.{option_or}
 use Rattle.std.specs.List.{filter, flat_map, range_with_len, last_or, AllByRecursion}
-use Rattle.lay_doc.specs.Document.{IsDocument, parents_of}
+use Rattle.lay_doc.specs.Document.{IsDocument}
 use Rattle.lay_frag.specs.declared.frag.Frag.{Frag}
 use Rattle.lay_frag.specs.Pieces.{frags_of}
 use Rattle.lay_hit.specs.declared.question.Question.{Question}
@@ -14,15 +14,15 @@ use Rattle.lay_style.specs.ComputedStyle.{style_at}
 use Rattle.lay_hit.specs.declared.kinds.PaintKind.{PaintKind}
 use Rattle.lay_hit.specs.declared.kinds.PaintKind.TheVariants.{Stacking, Layered, Float, Atomic, Block, Inline}
 use Rattle.lay_hit.specs.PaintKinds.{is_stacking, forms_group, kind_at, level_of}
-use Rattle.lay_hit.specs.Hits.{holds, last_holding, hit_of, painted}
+use Rattle.lay_hit.specs.Hits.{holds, hit_of}
 use Rattle.lay_hit.specs.Sorting.{in_order}
 use Rattle.lay_hit.specs.Pages.{Page}
-use Rattle.lay_hit.specs.Painting.{others, painting}
-use Rattle.lay_hit.specs.Ranks.{painter_at, rank_at, is_under}
+use Rattle.lay_hit.specs.Painting.{painting}
+use Rattle.lay_hit.specs.Ranks.{painter_at}
 use Rattle.lay_hit.specs.Wholes.{own_pieces, is_painted_under, painted_by, whole}
 use Rattle.lay_hit.specs.OrderedPages.{IsOrdered}
 use Rattle.lay_hit.specs.Questions.{AreNoted, page, seen_in}
-use Rattle.lay_hit.specs.Fronts.{AreFrontsFrom, front_from, front_of, later_of, if_counts, greatest}
+use Rattle.lay_hit.specs.Fronts.{AreFrontsFrom, front_from, front_of, later_of, greatest}
 use Rattle.lay_hit.proofs.Orders.{lastly, last-lastly, lastly-append, lastly-counts, lastly-flat_map}
 use Rattle.lay_hit.proofs.Rising.{all-in_order, all-lastly, lastly-in_order}
 use Rattle.lay_hit.proofs.RankOrder.{rank_order}
@@ -84,7 +84,7 @@ module _ (p : Page) (o : IsOrdered p) (h : Frag → Bool) where
   split_found g within =
       ap (lastly h) (whole_is p o g within) ∙ lastly-append h (own_pieces p g) (flat_map (whole p p.count) (painted_by p g))
       ∙ ap (λ (r : Option Frag). option_or r (lastly h (own_pieces p g))) (lastly-flat_map h (whole p p.count) (painted_by p g)
-        ∙ ap (option_and_then (λ k. lastly h (whole p p.count k))) (lastly-in_order (is_painted_under p) (rank_order p) (λ k. is_some (lastly h (whole p p.count k))) (mine_from 1 g)))
+      ∙ ap (option_and_then (λ k. lastly h (whole p p.count k))) (lastly-in_order (is_painted_under p) (rank_order p) (λ k. is_some (lastly h (whole p p.count k))) (mine_from 1 g)))
 
   same_found : ◌≡◌ {A = ℕ → Option Frag} (λ k. lastly h (whole p p.count k)) (λ k. last_or None (filter h (whole p p.count k)))
   same_found = λ i k. sym (last-lastly h (whole p p.count k)) i

@@ -1,5 +1,5 @@
 -- The nearest node at or around one that counts. Parents stand before their children, and the root counts.
-use Rattle.std.proofs.Common.{◌≡◌, ℕ, zero, suc, ◌+◌, ◌<◌, ◌≤◌, Bool, true, false, cond, refl, sym, ap, ◌∙◌, arith}
+use Rattle.std.proofs.Common.{◌≡◌, ℕ, zero, suc, ◌<◌, ◌≤◌, Bool, true, false, cond, refl, sym, ap, ◌∙◌, arith}
 use Rattle.lay_hit.specs.Groups.{nearest, nearest_at, nearest_around}
 
 module _ (counts : ℕ → Bool) (parent : ℕ → ℕ) (root : counts 0 ≡ true) (before : (k : ℕ) → 0 < k → parent k < k) where

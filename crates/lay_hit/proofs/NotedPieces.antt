@@ -1,9 +1,9 @@
 -- What is noted of each node after one piece more.
-use Rattle.std.proofs.Common.{◌≡◌, ℕ, zero, suc, ◌+◌, ◌<◌, ◌≤◌, Bool, true, false, cond, not, ◌&&◌, List, [], ◌∷◌, ◌++◌, length, slice_index, slice_index_or, set, refl, sym, ap, ◌∙◌, subst, arith, inl, inr, Option, Some, None, IfSome, slice_get, take, option_map, leb, append_assoc, if◌then◌else◌}
+use Rattle.std.proofs.Common.{◌≡◌, ℕ, zero, suc, ◌+◌, ◌<◌, Bool, true, false, cond, ◌&&◌, List, [], ◌∷◌, ◌++◌, length, slice_index, slice_index_or, set, refl, sym, ap, ◌∙◌, subst, arith, inl, inr, Option, Some, None, IfSome, slice_get, take, option_map, append_assoc, if◌then◌else◌}
 use Rattle.std.proofs.lemmas.Bool.{cases_eq, cases_order, ne_eqb, eq-eqb, eqb-true}
 use Rattle.std.proofs.lemmas.Bool.Decides.{nat_tests}
 use Rattle.std.proofs.lemmas.List.{get_or-set_same, get_or-set_other, length-set, length-map, append-nil}
-use Rattle.std.specs.List.{filter, last_or}
+use Rattle.std.specs.List.{filter}
 use Rattle.std.specs.Prelude.{nat_le, ◌==◌, option_and_then}
 use Rattle.lay_style.specs.Places.{place_of}
 use Rattle.lay_doc.specs.Document.{IsDocument, ids_of}
@@ -20,7 +20,7 @@ use Rattle.lay_hit.specs.Sorting.{in_order}
 use Rattle.lay_hit.specs.Pages.{is_box, is_box_or_text, is_box_of, is_box_or_text_of, id_of}
 use Rattle.lay_hit.specs.Questions.{AreNoted, is_painted, node_of_piece, page_with}
 use Rattle.lay_hit.specs.Wholes.{own_pieces}
-use Rattle.lay_hit.specs.Fronts.{later_of, later_piece, if_counts, greatest}
+use Rattle.lay_hit.specs.Fronts.{later_of, later_piece, greatest}
 use Rattle.lay_hit.proofs.Orders.{lastly, last-lastly}
 use Rattle.lay_hit.proofs.Rising.{IsOrder, lastly-in_order, greatest-push}
 
@@ -189,7 +189,7 @@ module _ (q : Question) (is : IsDocument q.doc.now) (f : Frag) where
   -- where the walk finds none, the piece is no node's own
   nobody : (k : ℕ) → k < length q.doc.now.nodes → place_of f.node.0 (ids_of q.doc.now.nodes) ≡ None → is_own q k f ≡ false
   nobody k low none = own_is_painted q k f ∙ by_test (is_painted f.kind (kind_at q.doc.now.nodes q.styles.now k)) (f.node.0 == id_of q.doc.now.nodes k)
-        (ne_eqb f.node.0 (id_of q.doc.now.nodes k) (λ same. not_there f.node.0 (ids_of q.doc.now.nodes) none k (let e = ids_long in omega (arith, e, low)) (sym same)))
+      (ne_eqb f.node.0 (id_of q.doc.now.nodes k) (λ same. not_there f.node.0 (ids_of q.doc.now.nodes) none k (let e = ids_long in omega (arith, e, low)) (sym same)))
     where
       by_test : (a b : Bool) → b ≡ false → (a && b) ≡ false
       by_test true b e = e

@@ -1,10 +1,8 @@
 -- The last of a list in order of those that count, found element by element.
-use Rattle.std.proofs.Common.{◌≡◌, ℕ, zero, suc, ◌+◌, ◌<◌, ◌≤◌, ◌⊎◌, inl, inr, Bool, true, false, cond, not, List, [], ◌∷◌, ◌++◌, length, refl, sym, ap, ◌∙◌, subst, arith, Option, Some, None, append_assoc}
-use Rattle.std.proofs.lemmas.List.{append-nil}
+use Rattle.std.proofs.Common.{◌≡◌, Bool, true, false, cond, List, [], ◌∷◌, ◌++◌, refl, sym, ap, ◌∙◌, subst, Option, Some, None}
 use Rattle.std.specs.List.{filter, flat_map, last_or}
 use Rattle.std.specs.Option.{is_some, option_or, option_and_then}
-use Rattle.lay_hit.specs.Sorting.{put_in_order, in_order}
-use Rattle.lay_hit.specs.Fronts.{later_of, if_counts, greatest}
+use Rattle.lay_hit.specs.Fronts.{if_counts}
 
 -- the last that counts
 abbrev pub lastly : {X : Type 0} → (X → Bool) → List X → Option X

@@ -1,8 +1,7 @@
 -- What a node paints, step by step.
-use Rattle.std.proofs.Common.{◌≡◌, ℕ, zero, suc, ◌+◌, ◌-◌, ◌<◌, ◌≤◌, Bool, true, false, cond, ◌&&◌, ◌||◌, List, [], ◌∷◌, ◌++◌, ℤ, pos, refl, sym, ap, ◌∙◌, subst, arith, if◌then◌else◌}
+use Rattle.std.proofs.Common.{◌≡◌, ℕ, zero, suc, ◌+◌, ◌<◌, ◌≤◌, Bool, true, false, cond, ◌&&◌, ◌||◌, List, [], ◌∷◌, ℤ, pos, refl, ap, ◌∙◌, arith, if◌then◌else◌}
 use Rattle.std.specs.Prelude.{int_le, ◌==◌}
 use Rattle.std.specs.List.{filter, range_with_len, AllByRecursion}
-use Rattle.std.proofs.lemmas.Bool.{le-leb, eqb-true, ne_eqb}
 use Rattle.lay_hit.specs.declared.kinds.PaintKind.{PaintKind}
 use Rattle.lay_hit.specs.declared.kinds.PaintKind.TheVariants.{Stacking, Layered, Float, Atomic, Block, Inline}
 use Rattle.lay_hit.specs.PaintKinds.{is_stacking, is_layered, is_float, is_atomic, is_block, is_inline, forms_group}
@@ -13,7 +12,7 @@ use Rattle.lay_hit.specs.Ranks.{is_of_owner, step_of, painter_at}
 use Rattle.lay_hit.specs.Wholes.{painted_by}
 use Rattle.lay_hit.specs.OrderedPages.{IsOrdered}
 use Rattle.lay_hit.proofs.Nearest.{around-counts, around-before}
-use Rattle.lay_hit.proofs.Buckets.{all-filter, all-more, in_step, steps_from, in_order-steps}
+use Rattle.lay_hit.proofs.Buckets.{all-filter, in_step, steps_from, in_order-steps}
 use Rattle.lay_hit.proofs.PaintTests.{both, stacking_forms, step_low, negative_test, positive_test, zero_test, block_test, float_test, inline_test, level_zero}
 
 pub filter-both : {X : Type 0} (a b : X → Bool) (xs : List X) → filter a (filter b xs) ≡ filter (λ x. b x && a x) xs

@@ -1,10 +1,9 @@
 -- The order of ranks.
-use Rattle.std.proofs.Common.{◌≡◌, ℕ, zero, suc, ◌<◌, ◌≤◌, Bool, true, false, ◌&&◌, ◌||◌, ℤ, pos, negsuc, refl, sym, ap, ◌∙◌, arith}
-use Rattle.std.specs.Prelude.{int_le, nat_lt, nat_le, ◌==◌}
+use Rattle.std.proofs.Common.{◌≡◌, ℕ, Bool, true, false, ◌&&◌, ◌||◌, ℤ, pos, negsuc, refl, arith}
+use Rattle.std.specs.Prelude.{int_le, nat_lt, ◌==◌}
 use Rattle.std.proofs.lemmas.Bool.Decides.{nat_tests}
-use Rattle.std.proofs.lemmas.Int.{ints}
 use Rattle.lay_hit.specs.Pages.{Page}
-use Rattle.lay_hit.specs.Ranks.{rank_at, is_under}
+use Rattle.lay_hit.specs.Ranks.{rank_at}
 use Rattle.lay_hit.specs.Wholes.{is_painted_under}
 use Rattle.lay_hit.proofs.Rising.{IsOrder}
 

@@ -1,10 +1,10 @@
 -- The last that counts of a list in order is the greatest that counts, and how one element more changes it.
-use Rattle.std.proofs.Common.{◌≡◌, ℕ, ◌<◌, ◌≤◌, Bool, true, false, cond, List, [], ◌∷◌, ◌++◌, refl, sym, ap, ◌∙◌, subst, arith, Option, Some, None}
+use Rattle.std.proofs.Common.{◌≡◌, Bool, true, false, cond, List, [], ◌∷◌, ◌++◌, refl, sym, ap, ◌∙◌, subst, Option, Some, None}
 use Rattle.std.specs.List.{AllByRecursion}
 use Rattle.std.specs.Option.{option_or}
 use Rattle.lay_hit.specs.Sorting.{put_in_order, in_order}
 use Rattle.lay_hit.specs.Fronts.{later_of, if_counts, greatest}
-use Rattle.lay_hit.proofs.Orders.{lastly, lastly-counts}
+use Rattle.lay_hit.proofs.Orders.{lastly}
 
 -- of two one stands before the other, and so do those between
 pub record IsOrder {X : Type 0} (le : X → X → Bool) : Type 0 where

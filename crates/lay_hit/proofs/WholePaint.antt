@@ -1,24 +1,24 @@
 -- The seven steps of painting are one walk: of each node its own pieces, and then what it paints.
-use Rattle.std.proofs.Common.{◌≡◌, ℕ, zero, suc, ◌+◌, ◌-◌, ◌<◌, ◌≤◌, Bool, true, false, cond, ◌&&◌, ◌||◌, List, [], ◌∷◌, ◌++◌, pos, refl, sym, ap, ◌∙◌, subst, arith, append_assoc, if◌then◌else◌}
+use Rattle.std.proofs.Common.{◌≡◌, ℕ, zero, suc, ◌+◌, ◌-◌, ◌<◌, ◌≤◌, Bool, true, false, ◌&&◌, ◌||◌, List, [], ◌∷◌, ◌++◌, pos, refl, sym, ap, ◌∙◌, subst, arith, if◌then◌else◌}
 use Rattle.std.proofs.lemmas.List.{append-nil}
 use Rattle.std.proofs.lemmas.Bool.{eqb-true, ne_eqb}
 use Rattle.std.proofs.lemmas.Grind.{flat_map-append}
 use Rattle.std.specs.Prelude.{int_lt, int_le, ◌==◌}
-use Rattle.std.specs.List.{filter, flat_map, range_with_len, AllByRecursion}
+use Rattle.std.specs.List.{filter, flat_map, AllByRecursion}
 use Rattle.lay_frag.specs.declared.frag.Frag.{Frag}
 use Rattle.lay_hit.specs.declared.kinds.PaintKind.{PaintKind}
 use Rattle.lay_hit.specs.declared.kinds.PaintKind.TheVariants.{Stacking, Layered, Float, Atomic, Block, Inline}
 use Rattle.lay_hit.specs.PaintKinds.{is_stacking, is_layered, is_float, is_atomic, is_block, is_inline, forms_group}
 use Rattle.lay_hit.specs.Sorting.{in_order}
 use Rattle.lay_hit.specs.Pages.{Page}
-use Rattle.lay_hit.specs.Painting.{group, owner, others, by_level, is_negative_of, is_block_of, is_float_of, is_inline_of, is_level_zero, is_zero_of, is_positive_of, own_boxes, negative_layers, block_boxes, floats, inline_content, zero_layers, positive_layers, paint}
+use Rattle.lay_hit.specs.Painting.{group, owner, others, by_level, is_negative_of, is_block_of, is_float_of, is_inline_of, is_level_zero, is_zero_of, is_positive_of, negative_layers, block_boxes, floats, inline_content, zero_layers, positive_layers, paint}
 use Rattle.lay_hit.specs.Ranks.{painter_at}
 use Rattle.lay_hit.specs.Wholes.{own_pieces, is_painted_under, painted_by, whole}
 use Rattle.lay_hit.specs.OrderedPages.{IsOrdered}
-use Rattle.lay_hit.proofs.Buckets.{all-more, in_step, steps_from}
+use Rattle.lay_hit.proofs.Buckets.{in_step}
 use Rattle.lay_hit.proofs.Rising.{all-in_order}
 use Rattle.lay_hit.proofs.PaintTests.{both, and_none, stacking_forms}
-use Rattle.lay_hit.proofs.PaintedBy.{filter-none, all-range, all-each, all-passing, step, levels, mine, group-forms, owner-stacks, group-before, owner-before, painter-forms, painter-before, painted-steps, negatives, positives, blocks, floating, inlines, zeros}
+use Rattle.lay_hit.proofs.PaintedBy.{filter-none, all-range, all-each, all-passing, step, levels, mine, owner-stacks, group-before, owner-before, painter-forms, painter-before, painted-steps, negatives, positives, blocks, floating, inlines, zeros}
 
 pub flat_map-same : {X Y : Type 0} (f g : X → List Y) (xs : List X) → AllByRecursion (λ x. f x ≡ g x) xs → flat_map f xs ≡ flat_map g xs
 flat_map-same f g [] all = refl
@@ -129,9 +129,9 @@ module _ (p : Page) (o : IsOrdered p) where
         guarded (by_level p (filter (is_negative_of p g) (others p)))
         (λ plain. ap (by_level p) (owns_none (is_negative_of p g) (λ k e. ap (λ (b : Bool). is_stacking (p.kind k) && (int_lt (p.level k) (pos 0) && b)) e ∙ ap (λ (b : Bool). is_stacking (p.kind k) && b) (and_none (int_lt (p.level k) (pos 0))) ∙ and_none (is_stacking (p.kind k))) plain))
         ∙ same_nodes (by_level p (filter (is_negative_of p g) (others p)))
-          (all-in_order (λ j k. int_le (p.level j) (p.level k)) (λ k. paint p turns k ≡ whole p turns k) (filter (is_negative_of p g) (others p))
-            (all-of (λ k. paint p turns k ≡ whole p turns k) (is_negative_of p g)
-              (λ k other e. let a = both (is_stacking (p.kind k)) (int_lt (p.level k) (pos 0) && (owner p k == g)) e in of_owner k other (both (int_lt (p.level k) (pos 0)) (owner p k == g) a.1).1 (stacking_forms (p.kind k) a.0))))
+        (all-in_order (λ j k. int_le (p.level j) (p.level k)) (λ k. paint p turns k ≡ whole p turns k) (filter (is_negative_of p g) (others p))
+        (all-of (λ k. paint p turns k ≡ whole p turns k) (is_negative_of p g)
+        (λ k other e. let a = both (is_stacking (p.kind k)) (int_lt (p.level k) (pos 0) && (owner p k == g)) e in of_owner k other (both (int_lt (p.level k) (pos 0)) (owner p k == g) a.1).1 (stacking_forms (p.kind k) a.0))))
         ∙ ap (flat_map (whole p turns)) (sym (negatives p o g))
 
     positive_part : positive_layers p (paint p turns) g ≡ flat_map (whole p turns) (in_order (levels p o) (filter (in_step (step p o) (levels p o) 7) (mine p o g)))
@@ -139,9 +139,9 @@ module _ (p : Page) (o : IsOrdered p) where
         guarded (by_level p (filter (is_positive_of p g) (others p)))
         (λ plain. ap (by_level p) (owns_none (is_positive_of p g) (λ k e. ap (λ (b : Bool). is_stacking (p.kind k) && (int_lt (pos 0) (p.level k) && b)) e ∙ ap (λ (b : Bool). is_stacking (p.kind k) && b) (and_none (int_lt (pos 0) (p.level k))) ∙ and_none (is_stacking (p.kind k))) plain))
         ∙ same_nodes (by_level p (filter (is_positive_of p g) (others p)))
-          (all-in_order (λ j k. int_le (p.level j) (p.level k)) (λ k. paint p turns k ≡ whole p turns k) (filter (is_positive_of p g) (others p))
-            (all-of (λ k. paint p turns k ≡ whole p turns k) (is_positive_of p g)
-              (λ k other e. let a = both (is_stacking (p.kind k)) (int_lt (pos 0) (p.level k) && (owner p k == g)) e in of_owner k other (both (int_lt (pos 0) (p.level k)) (owner p k == g) a.1).1 (stacking_forms (p.kind k) a.0))))
+        (all-in_order (λ j k. int_le (p.level j) (p.level k)) (λ k. paint p turns k ≡ whole p turns k) (filter (is_positive_of p g) (others p))
+        (all-of (λ k. paint p turns k ≡ whole p turns k) (is_positive_of p g)
+        (λ k other e. let a = both (is_stacking (p.kind k)) (int_lt (pos 0) (p.level k) && (owner p k == g)) e in of_owner k other (both (int_lt (pos 0) (p.level k)) (owner p k == g) a.1).1 (stacking_forms (p.kind k) a.0))))
         ∙ ap (flat_map (whole p turns)) (sym (positives p o g))
 
     zero_part : zero_layers p (paint p turns) g ≡ flat_map (whole p turns) (in_order (levels p o) (filter (in_step (step p o) (levels p o) 6) (mine p o g)))
@@ -149,29 +149,29 @@ module _ (p : Page) (o : IsOrdered p) where
         guarded (filter (is_zero_of p g) (others p))
         (λ plain. owns_none (is_zero_of p g) (λ k e. ap (λ (b : Bool). is_level_zero p k && b) e ∙ and_none (is_level_zero p k)) plain)
         ∙ same_nodes (filter (is_zero_of p g) (others p))
-          (all-of (λ k. paint p turns k ≡ whole p turns k) (is_zero_of p g)
-            (λ k other e. let a = both (is_level_zero p k) (owner p k == g) e in of_owner k other a.1 (zero_forms k (p.kind k) a.0)))
+        (all-of (λ k. paint p turns k ≡ whole p turns k) (is_zero_of p g)
+        (λ k other e. let a = both (is_level_zero p k) (owner p k == g) e in of_owner k other a.1 (zero_forms k (p.kind k) a.0)))
         ∙ ap (flat_map (whole p turns)) (sym (zeros p o g))
 
     float_part : floats p (paint p turns) g ≡ flat_map (whole p turns) (in_order (levels p o) (filter (in_step (step p o) (levels p o) 4) (mine p o g)))
     float_part =
         same_nodes (filter (is_float_of p g) (others p))
-          (all-of (λ k. paint p turns k ≡ whole p turns k) (is_float_of p g)
-            (λ k other e. let a = both (is_float (p.kind k)) (group p k == g) e in of_group k other a.1 (float_forms (p.kind k) a.0)))
+        (all-of (λ k. paint p turns k ≡ whole p turns k) (is_float_of p g)
+        (λ k other e. let a = both (is_float (p.kind k)) (group p k == g) e in of_group k other a.1 (float_forms (p.kind k) a.0)))
         ∙ ap (flat_map (whole p turns)) (sym (floating p o g))
 
     block_part : block_boxes p g ≡ flat_map (whole p turns) (in_order (levels p o) (filter (in_step (step p o) (levels p o) 3) (mine p o g)))
     block_part =
         flat_map-same p.boxes (whole p turns) (filter (is_block_of p g) (others p))
-          (all-of (λ k. p.boxes k ≡ whole p turns k) (is_block_of p g)
-            (λ k other e. let a = both (is_block (p.kind k)) (group p k == g) e in let b = block_plain (p.kind k) a.0 in sym (leaf turns k (turns_left k other a.1) b.0 ∙ boxes_of k b.1)))
+        (all-of (λ k. p.boxes k ≡ whole p turns k) (is_block_of p g)
+        (λ k other e. let a = both (is_block (p.kind k)) (group p k == g) e in let b = block_plain (p.kind k) a.0 in sym (leaf turns k (turns_left k other a.1) b.0 ∙ boxes_of k b.1)))
         ∙ ap (flat_map (whole p turns)) (sym (blocks p o g))
 
     inline_part : inline_content p (paint p turns) g ≡ flat_map (whole p turns) (in_order (levels p o) (filter (in_step (step p o) (levels p o) 5) (mine p o g)))
     inline_part =
         flat_map-same (λ k. if is_atomic (p.kind k) then paint p turns k else p.boxes_and_texts k) (whole p turns) (filter (is_inline_of p g) (others p))
-          (all-of (λ k. (if is_atomic (p.kind k) then paint p turns k else p.boxes_and_texts k) ≡ whole p turns k) (is_inline_of p g)
-            (λ k other e. let a = both (is_inline (p.kind k) || is_atomic (p.kind k)) (group p k == g) e in by_test k other a.0 a.1 (is_atomic (p.kind k)) refl))
+        (all-of (λ k. (if is_atomic (p.kind k) then paint p turns k else p.boxes_and_texts k) ≡ whole p turns k) (is_inline_of p g)
+        (λ k other e. let a = both (is_inline (p.kind k) || is_atomic (p.kind k)) (group p k == g) e in by_test k other a.0 a.1 (is_atomic (p.kind k)) refl))
         ∙ ap (flat_map (whole p turns)) (sym (inlines p o g))
       where
         by_test : (k : ℕ) → IsOther k → (is_inline (p.kind k) || is_atomic (p.kind k)) ≡ true → (group p k == g) ≡ true → (b : Bool) → is_atomic (p.kind k) ≡ b → (if b then paint p turns k else p.boxes_and_texts k) ≡ whole p turns k

@@ -1,7 +1,7 @@
 -- What painting reads of a document and its tree: of each node the place of its parent, how it is painted, its level, its
 -- boxes and its texts. An anonymous box is painted with its element, and a node's pieces stand by rising part. Lines aren't
 -- painted.
-use Rattle.std.specs.Prelude.{ℕ, ℤ, Bool, true, false, ◌&&◌, ◌||◌, ◌==◌, List, length, filter, slice_index, nat_le}
+use Rattle.std.specs.Prelude.{ℕ, ℤ, Bool, true, false, ◌&&◌, ◌==◌, List, length, filter, slice_index, nat_le}
 use Rattle.lay_style.specs.declared.style.Style.{Style}
 use Rattle.lay_doc.specs.declared.node.Node.{Node}
 use Rattle.lay_doc.specs.Document.{parents_of, ids_of}

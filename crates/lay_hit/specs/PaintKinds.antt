@@ -3,7 +3,7 @@
 -- positioned descendants and descendants which actually create a new stacking context" are of the context around it. Floats
 -- and inline blocks and inline tables are painted "as if [they] generated a new stacking context" with the same exception;
 -- so is a replaced element that is inline. The others are blocks, with the parts of tables, and inline boxes and texts.
-use Rattle.std.specs.Prelude.{ℕ, ℤ, pos, Bool, true, false, ◌==◌, not, List, map, slice_index, slice_index_or, Option, Some, None, unwrap_or, is_some, if◌then◌else◌}
+use Rattle.std.specs.Prelude.{ℕ, ℤ, pos, Bool, true, false, ◌==◌, not, List, map, slice_index_or, Option, Some, None, unwrap_or, is_some, if◌then◌else◌}
 use Rattle.lay_style.specs.declared.style.Style.{Style}
 use Rattle.lay_style.specs.declared.style_words.Position.{Position}
 use Rattle.lay_style.specs.declared.style_words.Position.TheVariants as position
@@ -16,7 +16,6 @@ use Rattle.lay_doc.specs.declared.node.Node.{Node}
 use Rattle.lay_doc.specs.declared.node.Kind.{Kind}
 use Rattle.lay_doc.specs.declared.node.Kind.TheVariants as kind
 use Rattle.lay_doc.specs.NewNodes.{is_text}
-use Rattle.lay_box_tree.specs.declared.box_tree.Flow.{Flow}
 use Rattle.lay_anonymous_boxes.specs.Forms.{is_in_flow}
 use Rattle.lay_boxgen.specs.Display.{is_floated, flow_of, used_display_of}
 use Rattle.lay_hit.specs.declared.kinds.PaintKind.{PaintKind}

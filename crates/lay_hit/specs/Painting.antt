@@ -2,7 +2,7 @@
 -- whole, in seven steps. The steps are numbered 1 to 7; the standard's own numbers stand beside them. Inline content is
 -- painted in document order rather than line by line, a replaced element that is a block with the blocks, and no box clips
 -- another.
-use Rattle.std.specs.Prelude.{ℕ, zero, suc, ◌-◌, ℤ, pos, int_lt, int_le, Bool, ◌&&◌, ◌||◌, ◌==◌, List, [], ◌++◌, filter, flat_map, if◌then◌else◌}
+use Rattle.std.specs.Prelude.{ℕ, zero, suc, ◌-◌, pos, int_lt, int_le, Bool, ◌&&◌, ◌||◌, ◌==◌, List, [], ◌++◌, filter, flat_map, if◌then◌else◌}
 use Rattle.std.specs.List.{range_with_len}
 use Rattle.lay_frag.specs.declared.frag.Frag.{Frag}
 use Rattle.lay_hit.specs.PaintKinds.{is_stacking, is_layered, is_float, is_atomic, is_block, is_inline, forms_group}

@@ -1,6 +1,5 @@
 -- What is asked: which piece of a document's tree is seen at a point; and what a walk over the pieces and the nodes has found.
-use Rattle.std.specs.Prelude.{ℕ, ◌≡◌, ◌+◌, ◌-◌, ◌<◌, ◌==◌, Bool, true, false, List, [], length, filter, slice_index, slice_index_or, Option, Some, None, option_and_then, unwrap_or, is_some, if◌then◌else◌}
-use Rattle.std.specs.List.{range_with_len}
+use Rattle.std.specs.Prelude.{ℕ, ◌≡◌, ◌<◌, Bool, true, false, List, length, slice_index, slice_index_or, Option, Some, None, option_and_then, if◌then◌else◌}
 use Rattle.lay_style.specs.Places.{place_of}
 use Rattle.lay_doc.specs.Document.{parents_of, ids_of}
 use Rattle.lay_frag.specs.declared.frag.Frag.{Frag}

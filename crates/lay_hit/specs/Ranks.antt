@@ -1,6 +1,6 @@
 -- The node that paints a node, and where among its nodes: the step of painting, and in it the level. Nodes of equal rank are
 -- painted in document order.
-use Rattle.std.specs.Prelude.{ℕ, ℤ, pos, int_lt, int_le, Bool, ◌&&◌, ◌||◌, ◌==◌, nat_lt, List, if◌then◌else◌}
+use Rattle.std.specs.Prelude.{ℕ, ℤ, pos, int_lt, int_le, Bool, ◌&&◌, ◌||◌, ◌==◌, nat_lt, if◌then◌else◌}
 use Rattle.lay_hit.specs.declared.kinds.PaintKind.{PaintKind}
 use Rattle.lay_hit.specs.declared.kinds.PaintKind.TheVariants.{Stacking, Layered, Float, Atomic, Block, Inline}
 use Rattle.lay_hit.specs.declared.rank.Rank.{Rank}

@@ -15,7 +15,12 @@ use std::alloc::Global;
 
 /// The place of that node for each node, and 0 where there is none. A node stands behind the one that paints it, so the last
 /// nodes come first.
-pub(crate) fn fronts(alloc: Global, q: &Question<'_>, around: &[Around], noted: &[Option<Frag>]) -> Result<Vec<usize>, NoMemory>
+pub(crate) fn fronts(
+    alloc: Global,
+    q: &Question<'_>,
+    around: &[Around],
+    noted: &[Option<Frag>],
+) -> Result<Vec<usize>, NoMemory>
     requires styles { length q.now.styles.now ≡ length q.now.doc.now.nodes }
     requires around { AreAround q.now around.now (length q.now.doc.now.nodes) }
     requires noted { AreNoted q.now (frags_of q.now.tree.now) noted.now }

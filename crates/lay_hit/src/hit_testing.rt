@@ -20,7 +20,14 @@ use std::alloc::Global;
 
 /// The last piece that is painted of those that hold the point, in page coordinates; None exactly where none of the painted
 /// pieces holds it. `style` has the computed styles of the document's nodes.
-pub fn hit(alloc: Global, doc: &Doc, style: &Computed, tree: &Tree, x: Unit, y: Unit) -> Result<Option<Frag>, NoMemory>
+pub fn hit(
+    alloc: Global,
+    doc: &Doc,
+    style: &Computed,
+    tree: &Tree,
+    x: Unit,
+    y: Unit,
+) -> Result<Option<Frag>, NoMemory>
     requires { length style.now ≡ length doc.now.nodes }
     ensures { IfOk result (λ f. f ≡ hit_of doc.now style.now tree.now x.0 y.0) }
 {

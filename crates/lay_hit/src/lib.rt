@@ -8,8 +8,8 @@
 mod around;
 mod fronts;
 mod hit_testing;
-mod noted;
 mod kinds;
+mod noted;
 mod point;
 mod question;
 mod rank;

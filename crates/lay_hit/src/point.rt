@@ -52,7 +52,11 @@ fn page_rect(placed: &Placed, k: usize) -> Rect
     if k == 0 {
         return rect;
     }
-    moved(piece_at(placed.pieces(), k).rect, rect.x, further(rect.y, placed.shift()))
+    moved(
+        piece_at(placed.pieces(), k).rect,
+        rect.x,
+        further(rect.y, placed.shift()),
+    )
 }
 
 fn piece_at(pieces: &[Frag], k: usize) -> &Frag

@@ -1,6 +1,5 @@
 use Rattle.std.proofs.Common.{arith, length, ◌≡◌, subst, ℕ}
 use Rattle.lay_hit.specs.Questions.{AreAround}
-use Rattle.lay_hit.proofs.Asked.{more_around}
 use Rattle.lay_hit.proofs.around.nearest_nodes.Goals as goal
 
 pub returns : goal.returns

@@ -1,4 +1,4 @@
-use Rattle.std.proofs.Common.{◌≡◌, ◌<◌, ◌∙◌, ap, arith, length, slice_index, slice_set, ℕ, List}
+use Rattle.std.proofs.Common.{◌≡◌, ◌∙◌, ap, arith, length, slice_index, slice_set, ℕ, List}
 use Rattle.lay_hit.specs.Questions.{page}
 use Rattle.lay_hit.specs.Ranks.{painter_at}
 use Rattle.lay_hit.specs.Fronts.{front_of}
@@ -19,7 +19,7 @@ front_of-requires-clause-other c =
     let items = c.args.fronts.now.items in
     let within = painter_within q c.requires.valid items c.args.k c.requires.inner c.requires.place c.requires.before in
     let read : c.place_at-other.result ≡ slice_index items (painter_at (page q) c.args.k) =
-        c.place_at-other.ensures ∙ ap (λ (xs : List ℕ). slice_index xs c.painter_at-painter.result) c.deref.ensures.value ∙ ap (slice_index items) c.painter_at-painter.ensures in
+    c.place_at-other.ensures ∙ ap (λ (xs : List ℕ). slice_index xs c.painter_at-painter.result) c.deref.ensures.value ∙ ap (slice_index items) c.painter_at-painter.ensures in
     let low = other_within q c.requires.valid items c.args.k c.requires.inner c.requires.place c.requires.before (painter_at (page q) c.args.k) within in
     omega (arith, read, low)
 
@@ -37,6 +37,6 @@ returns c =
     let q = c.args.q.now in
     let items = c.args.fronts.now.items in
     let read : c.place_at-other.result ≡ slice_index items (painter_at (page q) c.args.k) =
-        c.place_at-other.ensures ∙ ap (λ (xs : List ℕ). slice_index xs c.painter_at-painter.result) c.deref.ensures.value ∙ ap (slice_index items) c.painter_at-painter.ensures in
+    c.place_at-other.ensures ∙ ap (λ (xs : List ℕ). slice_index xs c.painter_at-painter.result) c.deref.ensures.value ∙ ap (slice_index items) c.painter_at-painter.ensures in
     brought q c.requires.valid items c.args.k c.requires.inner c.requires.place c.requires.before c.requires.seen (slice_set items c.painter_at-painter.result c.front_of.result)
     (ap (λ (n : ℕ). slice_set items n c.front_of.result) c.painter_at-painter.ensures ∙ ap (slice_set items (painter_at (page q) c.args.k)) (c.front_of.ensures ∙ ap (front_of (page q) c.args.k) read))

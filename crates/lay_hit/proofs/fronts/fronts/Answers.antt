@@ -1,4 +1,4 @@
-use Rattle.std.proofs.Common.{◌≡◌, ◌<◌, ◌≤◌, ◌+◌, ◌-◌, ◌||◌, ℕ, List, Bool, Option, None, ap, arith, length, slice_index, slice_index_or, subst, sym, ◌∙◌, not, true, false}
+use Rattle.std.proofs.Common.{◌≡◌, ◌<◌, ◌+◌, ◌-◌, ◌||◌, ℕ, List, None, ap, arith, length, slice_index, slice_index_or, subst, sym, ◌∙◌, not, true, false}
 use Rattle.std.specs.Prelude.{◌==◌, is_some}
 use Rattle.lay_hit.specs.Fronts.{AreFrontsFrom}
 use Rattle.lay_hit.proofs.FrontSteps.{nothing_seen, seen_there}
@@ -14,7 +14,7 @@ bring-requires-clause-seen c =
     let within : c.loop-k.k - 1 < length q.doc.now.nodes = omega arith in
     let before = subst (λ (n : ℕ). AreFrontsFrom q items n) back c.loop-k.invariant.fronts in
     let test : (not (slice_index items (c.loop-k.k - 1) == 0) || is_some (slice_index_or c.args.noted.now (c.loop-k.k - 1) None)) ≡ true =
-        ap (λ (xs : List ℕ). not (slice_index xs (c.loop-k.k - 1) == 0) || is_some (slice_index_or c.args.noted.now (c.loop-k.k - 1) None)) (sym c.deref.ensures.value) ∙ sym c.is_seen.ensures ∙ c.if-is_seen.true in
+    ap (λ (xs : List ℕ). not (slice_index xs (c.loop-k.k - 1) == 0) || is_some (slice_index_or c.args.noted.now (c.loop-k.k - 1) None)) (sym c.deref.ensures.value) ∙ sym c.is_seen.ensures ∙ c.if-is_seen.true in
     seen_there q c.nodes-k.ensures.valid items (c.loop-k.k - 1) some within before c.args.noted.now c.requires.noted test
 
 pub loop-k-preserved : goal.loop-k-preserved
@@ -26,7 +26,7 @@ loop-k-preserved c =
     let within : c.loop-k.k - 1 < length q.doc.now.nodes = omega arith in
     let before = subst (λ (n : ℕ). AreFrontsFrom q items n) back c.loop-k.invariant.fronts in
     let test : (not (slice_index items (c.loop-k.k - 1) == 0) || is_some (slice_index_or c.args.noted.now (c.loop-k.k - 1) None)) ≡ false =
-        ap (λ (xs : List ℕ). not (slice_index xs (c.loop-k.k - 1) == 0) || is_some (slice_index_or c.args.noted.now (c.loop-k.k - 1) None)) (sym c.deref.ensures.value) ∙ sym c.is_seen.ensures ∙ c.if-is_seen.false in
+    ap (λ (xs : List ℕ). not (slice_index xs (c.loop-k.k - 1) == 0) || is_some (slice_index_or c.args.noted.now (c.loop-k.k - 1) None)) (sym c.deref.ensures.value) ∙ sym c.is_seen.ensures ∙ c.if-is_seen.false in
     record {
       low = omega arith;
       high = omega arith;

@@ -1,4 +1,4 @@
-use Rattle.std.proofs.Common.{◌≡◌, ℕ, ◌<◌, length, arith, refl, sym, ◌∙◌, slice_index}
+use Rattle.std.proofs.Common.{arith, refl, sym, ◌∙◌}
 use Rattle.lay_hit.proofs.FrontSteps.{ends, goes_on, root_seen}
 use Rattle.lay_hit.proofs.hit_testing.frontmost.Goals as goal
 

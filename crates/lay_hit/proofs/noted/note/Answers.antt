@@ -1,4 +1,4 @@
-use Rattle.std.proofs.Common.{◌≡◌, ◌<◌, ◌∙◌, length, sym, rules}
+use Rattle.std.proofs.Common.{◌<◌, ◌∙◌, length, sym}
 use Rattle.lay_hit.proofs.NotedPieces.{noted_at, noted_nowhere}
 use Rattle.lay_hit.proofs.noted.note.Goals as goal
 

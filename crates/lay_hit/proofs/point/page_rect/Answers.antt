@@ -1,7 +1,4 @@
-use Rattle.std.proofs.Common.{◌≡◌, ℕ, ◌<◌, arith, ap, ◌∙◌, sym, subst, refl, Some, IfSome, slice_get, length, Option}
-use Rattle.lay_units.specs.declared.records.Rect.{Rect}
-use Rattle.lay_frag.specs.declared.frag.Frag.{Frag}
-use Rattle.lay_frag.specs.Pieces.{Context, IsRectInRange, page_pieces, moved}
+use Rattle.std.proofs.Common.{arith, refl}
 use Rattle.lay_frag.proofs.PieceLemmas.{inner_piece, page_in_range}
 use Rattle.lay_hit.proofs.point.page_rect.Goals as goal
 
