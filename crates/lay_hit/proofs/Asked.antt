@@ -2,7 +2,7 @@
 use Rattle.std.proofs.Common.{◌≡◌, ℕ, zero, suc, ◌+◌, ◌<◌, List, [], ◌∷◌, ◌++◌, length, slice_index, refl, sym, ap, ◌∙◌, arith, inl, inr, if◌then◌else◌}
 use Rattle.std.proofs.lemmas.Bool.{cases_lt}
 use Rattle.std.proofs.lemmas.List.{length-map, get_or_past, get_or_push, get_or_append_left}
-use Rattle.lay_doc.specs.Document.{IsDocument, parents_of}
+use Rattle.lay_doc.specs.Document.{Document, IsDocument, parents_of}
 use Rattle.lay_doc.specs.declared.node.Node.{Node}
 use Rattle.lay_hit.specs.declared.around.Around.{Around}
 use Rattle.lay_hit.specs.declared.question.Question.{Question}
@@ -10,11 +10,14 @@ use Rattle.lay_hit.specs.PaintKinds.{forms_group, is_stacking, kind_at}
 use Rattle.lay_hit.specs.Questions.{AreAround, around_of, nothing_around}
 use Rattle.lay_hit.proofs.Nearest.{nearest-parent}
 
-pub parent_before : (q : Question) → IsDocument q.doc.now → (k : ℕ) → 0 < k → slice_index (parents_of q.doc.now.nodes) k < k
-parent_before q is k some = elim (cases_lt k (length (parents_of q.doc.now.nodes))) [
+pub parent_before_in : (d : Document) → IsDocument d → (k : ℕ) → 0 < k → slice_index (parents_of d.nodes) k < k
+parent_before_in d is k some = elim (cases_lt k (length (parents_of d.nodes))) [
   | inl low ↦ is.tree.before k some low
-  | inr high ↦ (let e = get_or_past (parents_of q.doc.now.nodes) k 0 high in omega (arith, e))
+  | inr high ↦ (let e = get_or_past (parents_of d.nodes) k 0 high in omega (arith, e))
 ]
+
+pub parent_before : (q : Question) → IsDocument q.doc.now → (k : ℕ) → 0 < k → slice_index (parents_of q.doc.now.nodes) k < k
+parent_before q is k some = parent_before_in q.doc.now is k some
 
 pub parent_within : (q : Question) → IsDocument q.doc.now → (k : ℕ) → k < length q.doc.now.nodes → slice_index (parents_of q.doc.now.nodes) k < length q.doc.now.nodes
 parent_within q is zero within = let r = is.tree.root in let some = is.some in omega (arith, r, some)

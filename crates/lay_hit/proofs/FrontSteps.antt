@@ -5,7 +5,7 @@ use Rattle.std.proofs.lemmas.List.{get_or-replicate, get_or-set_same, get_or-set
 use Rattle.std.specs.Prelude.{◌==◌, is_some, unwrap_or, option_and_then}
 use Rattle.std.specs.Option.{option_or}
 use Rattle.std.specs.List.{filter, flat_map, range_with_len, last_or, AllByRecursion}
-use Rattle.lay_doc.specs.Document.{IsDocument}
+use Rattle.lay_doc.specs.Document.{Document, IsDocument}
 use Rattle.lay_frag.specs.declared.frag.Frag.{Frag}
 use Rattle.lay_frag.specs.Pieces.{frags_of}
 use Rattle.lay_hit.specs.declared.question.Question.{Question}
@@ -16,7 +16,7 @@ use Rattle.lay_hit.specs.declared.kinds.PaintKind.TheVariants.{Stacking, Layered
 use Rattle.lay_hit.specs.PaintKinds.{is_stacking, forms_group, kind_at, level_of}
 use Rattle.lay_hit.specs.Hits.{holds, hit_of}
 use Rattle.lay_hit.specs.Sorting.{in_order}
-use Rattle.lay_hit.specs.Pages.{Page}
+use Rattle.lay_hit.specs.Pages.{Page, page_of}
 use Rattle.lay_hit.specs.Painting.{painting}
 use Rattle.lay_hit.specs.Ranks.{painter_at}
 use Rattle.lay_hit.specs.Wholes.{own_pieces, is_painted_under, painted_by, whole}
@@ -26,7 +26,7 @@ use Rattle.lay_hit.specs.Fronts.{AreFrontsFrom, front_from, front_of, later_of, 
 use Rattle.lay_hit.proofs.Orders.{lastly, last-lastly, lastly-append, lastly-counts, lastly-flat_map}
 use Rattle.lay_hit.proofs.Rising.{all-in_order, all-lastly, lastly-in_order}
 use Rattle.lay_hit.proofs.RankOrder.{rank_order}
-use Rattle.lay_hit.proofs.Asked.{parent_before}
+use Rattle.lay_hit.proofs.Asked.{parent_before_in}
 use Rattle.lay_hit.proofs.PaintedBy.{filter-none, all-passing, all-range, painter-before}
 use Rattle.lay_hit.proofs.WholePaint.{paint-whole, whole_is}
 
@@ -38,13 +38,16 @@ level_flat Atomic s e = refl
 level_flat Block s e = refl
 level_flat Inline s e = refl
 
-pub page_ordered : (q : Question) → IsDocument q.doc.now → IsOrdered (page q)
-page_ordered q is = record {
+pub ordered : (d : Document) (styles : List Style) (fs : List Frag) → IsDocument d → IsOrdered (page_of d.nodes styles fs)
+ordered d styles fs is = record {
   some = is.some;
   root = refl;
-  before = parent_before q is;
-  level = λ k plain. level_flat (kind_at q.doc.now.nodes q.styles.now k) (style_at q.styles.now k) plain;
+  before = parent_before_in d is;
+  level = λ k plain. level_flat (kind_at d.nodes styles k) (style_at styles k) plain;
 }
+
+pub page_ordered : (q : Question) → IsDocument q.doc.now → IsOrdered (page q)
+page_ordered q is = ordered q.doc.now q.styles.now (frags_of q.tree.now) is
 
 filter-append : {X : Type 0} (a : X → Bool) (xs ys : List X) → filter a (xs ++ ys) ≡ filter a xs ++ filter a ys
 filter-append a [] ys = refl

@@ -9,3 +9,7 @@ pub mod FrontSteps
 pub mod Nearest
 pub mod Asked
 pub mod NotedPieces
+pub mod Counts
+pub mod Walks
+pub mod PaintedOnce
+pub mod LastHolding

@@ -94,7 +94,7 @@ replaced q k fs f own on =
         by_test false = refl
 
 -- a piece is a node's own just where it is painted with it
-painted_of : (kind : FragKind) (k : PaintKind) (same : Bool) → (if is_inline k then is_box_or_text kind && same else is_box kind && same) ≡ is_painted kind k && same
+pub painted_of : (kind : FragKind) (k : PaintKind) (same : Bool) → (if is_inline k then is_box_or_text kind && same else is_box kind && same) ≡ is_painted kind k && same
 painted_of frag_kind.Box k same = by_test (is_inline k)
   where
     by_test : (b : Bool) → (if b then same else same) ≡ same

@@ -9,3 +9,4 @@ pub mod Wholes
 pub mod OrderedPages
 pub mod Questions
 pub mod Fronts
+pub mod Laws

@@ -9,6 +9,7 @@ mod around;
 mod fronts;
 mod hit_testing;
 mod kinds;
+mod laws;
 mod noted;
 mod point;
 mod question;
@@ -16,3 +17,4 @@ mod rank;
 
 pub use hit_testing::hit;
 pub use kinds::{PaintKind, paint_kind};
+pub use laws::{one_last_holding, paints_each_once};
