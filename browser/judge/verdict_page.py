@@ -43,9 +43,21 @@ def piece(key, rect, css, node, unit):
              '<rect x="%g" y="%g" width="%g" height="%g"/>' % (x, y, max(width, unit / 4), max(height, unit / 4))]
     if key[0] == 'text':
         parts.append(glyphs(node, rect))
-    elif 'bad' in css or 'named' in css:
-        parts.append('<text class="n" x="%g" y="%g" font-size="%g">%d</text>' % (x + unit / 2, y + unit * 2.4, unit * 2.4, key[1]))
     return ''.join(parts) + '</g>'
+
+
+def numbers(boxes, unit):
+    """The numbers of boxes, given as (css, number, rectangle): at the corner of each, or behind those that are in the way there."""
+    parts, taken = [], []
+    for css, number, rect in boxes:
+        left, top, width, height = rect[0] / 64, rect[1] / 64, unit * (0.8 + 1.5 * len(str(number))), unit * 2.8
+        for other in sorted(taken):
+            if left < other[2] and other[0] < left + width and top < other[3] and other[1] < top + height:
+                left = other[2]
+        taken.append((left, top, left + width, top + height))
+        parts.append('<g class="%s"><text class="n" x="%g" y="%g" font-size="%g">%d</text></g>' % (
+            css, left + unit / 2, top + unit * 2.4, unit * 2.4, number))
+    return ''.join(parts)
 
 
 def picture(name, verdict, run, bad, rule):
@@ -55,11 +67,13 @@ def picture(name, verdict, run, bad, rule):
     unit = width / 64
     parts = ['<svg viewBox="%g %g %g %g" role="img" aria-label="%s">' % (x, y, width, height, NAMES[name])]
     pieces = [(key, rect) for key, rects in verdict['sides'][name].items() for rect in rects if key[1] in nodes]
+    numbered = {}
     for key, rect in sorted(pieces, key=lambda piece: piece[0] in bad):
-        css = ('text' if key[0] == 'text' else verdict['kinds'].get(key[1], ''))
-        css += ' bad' if key in bad else ' named' if key[1] in rule['show'] else ''
-        parts.append(piece(key, rect, css, nodes[key[1]], unit))
-    return ''.join(parts) + '</svg>'
+        said = ' bad' if key in bad else ' named' if key[1] in rule['show'] else ''
+        parts.append(piece(key, rect, ('text' if key[0] == 'text' else verdict['kinds'].get(key[1], '')) + said, nodes[key[1]], unit))
+        if said and key[0] != 'text':
+            numbered.setdefault((key[1], rect[0], rect[1]), (said.strip(), key[1], rect))
+    return ''.join(parts) + numbers(numbered.values(), unit) + '</svg>'
 
 
 def figure(name, verdict, run, bad, rule):

@@ -31,7 +31,7 @@ asked_there (input.Size i) links k l e = absurd cc
 asked_there (input.Place i at) links k l e = e
 asked_there (input.PlaceTable i at) links k l e = e
 
-spot_asked : (given : Input) (around : Option RootSpot) (spot : RootSpot) → asked_spot given around ≡ Some spot → around ≡ Some spot
+pub spot_asked : (given : Input) (around : Option RootSpot) (spot : RootSpot) → asked_spot given around ≡ Some spot → around ≡ Some spot
 spot_asked (input.Measure i) around spot e = absurd cc
 spot_asked input.Unmeasured around spot e = absurd cc
 spot_asked (input.Size i) around spot e = e
@@ -46,7 +46,7 @@ mapped : {X Y : Type 0} (f : X → Y) (o : Option X) (y : Y) → option_map f o 
 mapped f None y e = absurd cc
 mapped f (Some x) y e = (x, refl, cc)
 
-spot_of_some : (b : Bool) (x spot : RootSpot) → (if b then Some x else None) ≡ Some spot → (b ≡ true) × (spot ≡ x)
+pub spot_of_some : (b : Bool) (x spot : RootSpot) → (if b then Some x else None) ≡ Some spot → (b ≡ true) × (spot ≡ x)
 spot_of_some true x spot e = (refl, cc)
 spot_of_some false x spot e = absurd cc
 
@@ -56,22 +56,22 @@ own_anonymous_is : (contexts : List Context) (all : List FormattingContext) → 
 own_anonymous_is contexts all are of c lt = ap (λ (f : FormattingContext). f.anonymous) (of.each c 0 lt (are.boxes c lt).some refl)
 
 module _ (medium : Medium) (contexts : List Context) (all : List FormattingContext) (w : Workings) (c : ℕ) (phase : Phase) (are : AreContexts contexts) (of : AreFormattingContextsOf contexts all) (lt : c < length contexts) where
-  abbrev First : ℕ
+  abbrev pub First : ℕ
   First = first_number contexts c
 
-  abbrev Roots : List RootInput
+  abbrev pub Roots : List RootInput
   Roots = (present_input medium contexts all w c phase).roots
 
-  abbrev Root : ℕ → RootInput
+  abbrev pub Root : ℕ → RootInput
   Root r = root_input medium all w First (First + r) phase
 
-  within : (r : ℕ) (x : RootInput) → slice_get Roots r ≡ Some x → r < root_count contexts c
+  pub within : (r : ℕ) (x : RootInput) → slice_get Roots r ≡ Some x → r < root_count contexts c
   within r x e = (let n = length-map-range_with_len (λ s. Root s) 0 (root_count contexts c) in let l = slice_get_within Roots r x e in omega (arith, n, l))
 
-  is_root_input : (r : ℕ) (x : RootInput) → slice_get Roots r ≡ Some x → x ≡ Root r
+  pub is_root_input : (r : ℕ) (x : RootInput) → slice_get Roots r ≡ Some x → x ≡ Root r
   is_root_input r x e = sym (get_or_from_slice_get Roots r x (Root 0) e) ∙ get_or-map-range_with_len (λ s. Root s) 0 (root_count contexts c) r r (Root 0) (within r x e) (omega arith)
 
-  number_below : (r : ℕ) → r < root_count contexts c → First + r < length all
+  pub number_below : (r : ℕ) → r < root_count contexts c → First + r < length all
   number_below r low =
       let up = first_le contexts (suc c) (length contexts) (omega (arith, lt)) in
       let next : first_number contexts (suc c) ≡ First + root_count contexts c = refl in

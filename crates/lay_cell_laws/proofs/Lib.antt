@@ -17,3 +17,4 @@ pub mod WholeInputs
 pub mod CleanCells
 pub mod OneCell
 pub mod LeadingInward
+pub mod FittingInputs

@@ -1,6 +1,6 @@
 //! The laws. The functions do nothing.
 
-ghost use Rattle.lay_cell_laws.specs.Laws.{OneCellLocal, PresentInputsLeadInward, ValuesStandAtNumbers};
+ghost use Rattle.lay_cell_laws.specs.Laws.{OneCellLocal, PresentInputsFit, PresentInputsLeadInward, ValuesStandAtNumbers};
 ghost use Rattle.lay_cell_laws.specs.SameContexts.{CounterpartsAreOfOneNode, MeasureInputsAreKept, PlaceInputsAreKept, SizeInputsAreKept};
 ghost use Rattle.lay_cell_laws.specs.SoundCells.{CleanCellsSolve};
 ghost use Rattle.lay_context_sizes.specs.ContextSizes.{SizedContext};
@@ -28,6 +28,11 @@ pub fn one_cell_local()
 /// What cells are given among the contexts of a document goes one way.
 pub fn present_inputs_lead_inward()
     ensures { PresentInputsLeadInward }
+{}
+
+/// What cells are given among the contexts of a document is what the type of their inputs asks for.
+pub fn present_inputs_fit()
+    ensures { PresentInputsFit }
 {}
 
 /// Where all cells are clean, the tree of the values that they keep is the layout of the document.

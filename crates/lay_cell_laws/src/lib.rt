@@ -10,6 +10,6 @@ mod laws;
 
 pub use laws::{
     clean_cells_solve, counterparts_are_of_one_node, measure_inputs_are_kept, one_cell_local,
-    place_inputs_are_kept, present_inputs_lead_inward, size_inputs_are_kept,
+    place_inputs_are_kept, present_inputs_fit, present_inputs_lead_inward, size_inputs_are_kept,
     values_stand_at_numbers,
 };

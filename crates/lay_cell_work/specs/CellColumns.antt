@@ -41,3 +41,9 @@ filled nothing own [] given = given
 filled nothing own (l ∷ links) [] = []
 filled nothing own (None ∷ links) (x ∷ given) = x ∷ filled nothing own links given
 filled nothing own (Some r ∷ links) (x ∷ given) = slice_index_or own r nothing ∷ filled nothing own links given
+
+-- what is filled in at one box, where this is given there
+abbrev pub filled_at : {X : Type 0} → X → (own : List X) → Option (Option ℕ) → X → X
+filled_at nothing own None x = x
+filled_at nothing own (Some None) x = x
+filled_at nothing own (Some (Some r)) x = slice_index_or own r nothing

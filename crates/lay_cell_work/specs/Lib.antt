@@ -2,5 +2,9 @@ pub mod CellColumns
 pub mod CellInputs
 pub mod CellValues
 pub mod CellLocal
+pub mod CellInputFits
+pub mod SizedSpots
+pub mod ValueParts
+pub mod Claims
 pub mod PresentInputs
 pub mod KeptValues

@@ -4,8 +4,33 @@
 //! `specs/CellInputs.antt` says what a cell is given, and `specs/CellLocal.antt` which values are right beside that: those whose parts
 //! `IsLocal` of lay_context knows as right. `specs/PresentInputs.antt` has what a cell is given among the contexts of a document and the
 //! values that its cells keep (`specs/KeptValues.antt`).
+//!
+//! Whoever holds a `Claim` can work its cell out without the document: `value_of_cell` fills in what the roots of a context give each
+//! other, root by root, in the order that `specs/CellInputFits.antt` says there is.
 #![tactic(auto)]
 
+mod cell_input;
+mod cell_value;
+mod claim;
+mod columns;
+mod computing;
+mod filled_parts;
+mod layout;
+mod masked;
+mod measuring;
+mod placing;
+mod root_input;
 mod root_spot;
+mod root_values;
+mod same;
+mod sizing;
 
+pub use cell_input::CellInput;
+pub use cell_value::CellValue;
+pub use claim::Claim;
+pub use computing::value_of_cell;
+pub use layout::{Layout, work_crosses_threads};
+pub use masked::{masked_input, no_setting};
+pub use root_input::RootInput;
 pub use root_spot::RootSpot;
+pub use same::same_cell_input;

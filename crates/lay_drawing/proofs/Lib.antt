@@ -6,6 +6,10 @@ pub mod ByteSteps
 pub mod WordLemmas
 pub mod Digits
 pub mod Frames
+pub mod Apart
+pub mod InBoxes
+pub mod Nothing
+pub mod MarkedPieces
 pub mod Sources
 pub mod Answering
 pub mod Scratches

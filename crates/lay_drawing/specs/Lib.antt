@@ -3,6 +3,10 @@ pub mod Reading
 pub mod Reports
 pub mod States
 pub mod Pixels
+pub mod Marks
+pub mod Changes
+pub mod Frames
+pub mod Labels
 pub mod Picture
 pub mod Words
 pub mod Input

@@ -1,46 +1,19 @@
--- The picture of pieces: an SVG document with a shape for each piece, in their order.
--- A box is an outlined rectangle, a line a dashed one, and a text a filled bar, each kind with a colour of its own and
--- each with its kind, node and part as its title. A box that has room for it shows the number of its node.
-use Rattle.std.specs.Prelude.{ℕ, ◌+◌, ◌*◌, ◌&&◌, Bool, true, false, ℤ, pos, ◌+ℤ◌, ◌-ℤ◌, ◌≤ℤ◌, List, [], ◌∷◌, ◌++◌, length, codes, fold, nat_le, unsigned_abs, if◌then◌else◌}
-use Rattle.std.specs.List.{flat_map, All}
-use Rattle.std.specs.Int.{int_min, int_max}
+-- The picture of pieces: an SVG document with a rectangle for each piece, in their order, and then the labels of boxes.
+-- A box is outlined, a line dashed and a text a filled bar. The classes of a rectangle are the kind of its piece and what is said
+-- of it, and its title has these too, with the node and the part. A style element gives each class its colours, on a light
+-- page and, where the reader's screen is dark, on a dark one; it holds for this picture alone.
+use Rattle.std.specs.Prelude.{ℕ, ℤ, pos, ◌+ℤ◌, ◌-ℤ◌, List, ◌++◌, codes}
+use Rattle.std.specs.List.{flat_map}
 use Rattle.std.specs.Fmt.{decimal}
-use Rattle.lay_frag.specs.declared.frag.Frag.{Frag}
-use Rattle.lay_frag.specs.declared.frag.FragKind.{FragKind}
-use Rattle.lay_frag.specs.declared.frag.FragKind.TheVariants.{Box, Line, Text}
 use Rattle.lay_frag.specs.Lines.{kind_word}
 use Rattle.lay_drawing.specs.declared.frame.Frame.{Frame}
 use Rattle.lay_drawing.specs.declared.frame.Span.{Span}
+use Rattle.lay_drawing.specs.declared.label.Label.{Label}
+use Rattle.lay_drawing.specs.declared.mark.Marked.{Marked}
 use Rattle.lay_drawing.specs.Pixels.{px_text}
-
--- the edges of a size; one that is negative reaches to the left or upward
-unfoldable pub reach : ℤ → ℤ → Span
-reach from size = record { low = int_min from (from +ℤ size); high = int_max from (from +ℤ size) }
-
-abbrev pub edges : Frag → Frame
-edges f = record { across = reach f.rect.x.0 f.rect.w.0; down = reach f.rect.y.0 f.rect.h.0 }
-
--- the least that holds two
-abbrev pub wider : Span → Span → Span
-wider a b = record { low = int_min a.low b.low; high = int_max a.high b.high }
-
-abbrev pub joined : Frame → Frame → Frame
-joined a b = record { across = wider a.across b.across; down = wider a.down b.down }
-
--- the least frame that holds all pieces; where there are none, one of no size
-abbrev pub frame_of : List Frag → Frame
-frame_of [] = record { across = record { low = pos 0; high = pos 0 }; down = record { low = pos 0; high = pos 0 } }
-frame_of (f ∷ fs) = fold (λ frame piece. joined frame (edges piece)) (edges f) fs
-
-abbrev pub IsWithin : Span → Span → Type 0
-IsWithin inner outer = (outer.low ≤ℤ inner.low) × (inner.high ≤ℤ outer.high)
-
--- a frame holds a piece
-abbrev pub Holds : Frame → Frag → Type 0
-Holds frame f = IsWithin (edges f).across frame.across × IsWithin (edges f).down frame.down
-
-abbrev pub FramesHold : Type 0
-FramesHold = (pieces : List Frag) → All (Holds (frame_of pieces)) pieces
+use Rattle.lay_drawing.specs.Marks.{mark_word}
+use Rattle.lay_drawing.specs.Frames.{edges, frame_of}
+use Rattle.lay_drawing.specs.Labels.{labels_of}
 
 -- an attribute with a length
 unfoldable pub length_text : List ℕ → ℤ → List ℕ
@@ -64,17 +37,49 @@ full_sizes frame = length_text (codes "width") (full_size frame.across) ++ lengt
 
 unfoldable pub opening : Frame → List ℕ
 opening frame =
-    codes "<svg xmlns=\"http://www.w3.org/2000/svg\"" ++ full_sizes frame ++ codes " viewBox=\"" ++ view_text frame
+    codes "<svg xmlns=\"http://www.w3.org/2000/svg\" class=\"lay\"" ++ full_sizes frame ++ codes " viewBox=\"" ++ view_text frame
     ++ codes "\" font-family=\"monospace\" font-size=\"10\" pointer-events=\"all\">\n"
 
--- how a kind is painted: outlined, dashed, or filled, with a colour of its own
-unfoldable pub paint : FragKind → List ℕ
-paint Box = codes " fill=\"none\" stroke=\"#1d4ed8\""
-paint Line = codes " fill=\"none\" stroke=\"#b45309\" stroke-dasharray=\"4 2\""
-paint Text = codes " fill=\"#15803d\" fill-opacity=\"0.4\""
+-- how kinds are painted, and what is said of them
+unfoldable pub light : List ℕ
+light =
+    codes ".lay { background: #fff; color: #1d4ed8 }\n"
+    ++ codes ".lay rect { fill: none; stroke: currentColor }\n"
+    ++ codes ".lay .line { color: #b45309; stroke-dasharray: 4 2 }\n"
+    ++ codes ".lay .text { color: #15803d; fill: currentColor; fill-opacity: 0.4; stroke-width: 0.5 }\n"
+    ++ codes ".lay .label { fill: currentColor }\n"
+    ++ codes ".lay .same { color: #6b7280 }\n"
+    ++ codes ".lay .moved { color: #b45309 }\n"
+    ++ codes ".lay .resized { color: #7e22ce }\n"
+    ++ codes ".lay .new { color: #15803d }\n"
+    ++ codes ".lay .gone { color: #b91c1c }\n"
+    ++ codes ".lay .former { color: #b45309; fill-opacity: 0.1; stroke-dasharray: 1 2 }\n"
 
-unfoldable pub title_text : Frag → List ℕ
-title_text f = codes "<title>" ++ kind_word f.kind ++ codes " " ++ decimal f.node.0 ++ codes " " ++ decimal f.part ++ codes "</title>"
+-- the same where the screen is dark
+unfoldable pub dark : List ℕ
+dark =
+    codes "@media (prefers-color-scheme: dark) {\n"
+    ++ codes ".lay { background: #0d1117; color: #79b8ff }\n"
+    ++ codes ".lay .line { color: #f0883e }\n"
+    ++ codes ".lay .text { color: #3fb950 }\n"
+    ++ codes ".lay .same { color: #8b949e }\n"
+    ++ codes ".lay .moved, .lay .former { color: #f0883e }\n"
+    ++ codes ".lay .resized { color: #c084fc }\n"
+    ++ codes ".lay .new { color: #3fb950 }\n"
+    ++ codes ".lay .gone { color: #ff7b72 }\n"
+    ++ codes "}\n"
+
+unfoldable pub style : List ℕ
+style = codes "<style>\n" ++ light ++ dark ++ codes "</style>\n"
+
+-- the classes of a piece
+unfoldable pub class_text : Marked → List ℕ
+class_text m = codes " class=\"" ++ kind_word m.piece.kind ++ mark_word m.mark ++ codes "\""
+
+unfoldable pub title_text : Marked → List ℕ
+title_text m =
+    codes "<title>" ++ kind_word m.piece.kind ++ codes " " ++ decimal m.piece.node.0 ++ codes " " ++ decimal m.piece.part
+    ++ mark_word m.mark ++ codes "</title>"
 
 unfoldable pub place_text : ℤ → ℤ → List ℕ
 place_text left top = length_text (codes "x") left ++ length_text (codes "y") top
@@ -85,37 +90,28 @@ size s = s.high -ℤ s.low
 unfoldable pub sizes : Frame → List ℕ
 sizes frame = length_text (codes "width") (size frame.across) ++ length_text (codes "height") (size frame.down)
 
-unfoldable pub rect_text : Frag → List ℕ
-rect_text f =
-    codes "<rect" ++ place_text (edges f).across.low (edges f).down.low ++ sizes (edges f) ++ paint f.kind
-    ++ codes ">" ++ title_text f ++ codes "</rect>\n"
+unfoldable pub shape : Marked → List ℕ
+shape m =
+    codes "<rect" ++ place_text (edges m.piece).across.low (edges m.piece).down.low ++ sizes (edges m.piece) ++ class_text m
+    ++ codes ">" ++ title_text m ++ codes "</rect>\n"
 
-abbrev pub is_box : FragKind → Bool
-is_box Box = true
-is_box Line = false
-is_box Text = false
+abbrev pub shapes : List Marked → List ℕ
+shapes pieces = flat_map shape pieces
 
--- a box has room for the number of its node where that is 6 px wide a digit, 12 px high, and has 3 px on each side
-abbrev pub has_room : Frag → Bool
-has_room f = is_box f.kind && nat_le (384 * length (decimal f.node.0) + 384) (unsigned_abs f.rect.w.0) && nat_le 768 (unsigned_abs f.rect.h.0)
-
--- where the number begins, from the left, and its baseline, from the top
+-- where the number of a label begins, 3 px from the left, and its baseline, 10 px from the top
 abbrev pub number_left : Span → ℤ
 number_left s = s.low +ℤ pos 192
 
 abbrev pub number_base : Span → ℤ
 number_base s = s.low +ℤ pos 640
 
-unfoldable pub number_text : Frag → List ℕ
-number_text f =
-    codes "<text" ++ place_text (number_left (edges f).across) (number_base (edges f).down)
-    ++ codes " fill=\"#1d4ed8\">" ++ decimal f.node.0 ++ codes "</text>\n"
+unfoldable pub label_text : Label → List ℕ
+label_text label =
+    codes "<text" ++ place_text (number_left label.frame.across) (number_base label.frame.down)
+    ++ codes " class=\"label" ++ mark_word label.mark ++ codes "\">" ++ decimal label.node ++ codes "</text>\n"
 
-abbrev pub shape : Frag → List ℕ
-shape f = rect_text f ++ (if has_room f then number_text f else [])
+abbrev pub label_texts : List Label → List ℕ
+label_texts labels = flat_map label_text labels
 
-abbrev pub shapes : List Frag → List ℕ
-shapes pieces = flat_map shape pieces
-
-abbrev pub picture : List Frag → List ℕ
-picture pieces = opening (frame_of pieces) ++ shapes pieces ++ codes "</svg>\n"
+abbrev pub picture : List Marked → List ℕ
+picture pieces = opening (frame_of pieces) ++ style ++ shapes pieces ++ label_texts (labels_of pieces) ++ codes "</svg>\n"

@@ -1,39 +1,59 @@
--- What the words of the command line ask for, as `clap` reads them: the option `--version`, given once at most, with a
--- number that is written as a report writes it. Without it the last tree is asked for.
-use Rattle.std.specs.Prelude.{ℕ, ◌≡◌, ◌==◌, true, List, [], ◌∷◌, length, codes, map, string_bytes, String, Option, Some, None, if◌then◌else◌}
+-- What the words of the command line ask for, as `clap` reads them: the option `--version` with the number of a version, or
+-- the option `--between` with those of two, given once at most; without both the last tree is asked for. Numbers are
+-- written as a report writes them.
+use Rattle.std.specs.Prelude.{ℕ, ◌≡◌, ◌==◌, true, List, [], ◌∷◌, length, codes, map, string_bytes, String, Option, Some, None, option_and_then, if◌then◌else◌}
 use Rattle.std.specs.declared.alloc.Global.{Global}
 use Rattle.clap.specs.Words.{App, Rule, new_app, new_rule, with_rule, fault_of, matches_of}
 use Rattle.clap.specs.declared.builder.action.ArgAction.TheVariants.{Append}
 use Rattle.lay_words.specs.Agree.{values_at}
 use Rattle.lay_drawing.specs.declared.words.Wish.{Wish}
-use Rattle.lay_drawing.specs.declared.words.Wish.TheVariants.{Tree, Nothing}
+use Rattle.lay_drawing.specs.declared.words.Wish.TheVariants.{Tree, Between}
 use Rattle.lay_drawing.specs.Reading.{number_of}
 
 abbrev pub version_rule : Rule
 version_rule = record (new_rule (codes "version")) { long = Some (codes "version"); action = Some Append }
 
+-- an option with two values
+abbrev pub between_rule : Rule
+between_rule = record (new_rule (codes "between")) { long = Some (codes "between"); action = Some Append; range = Some (record { start_inclusive = 2; end_inclusive = 2 }) }
+
 abbrev pub bare_app : App
 bare_app = let a = new_app (codes "lay_picture") in record a { top = record a.top { no_binary_name = true; disable_help_flag = true; disable_version_flag = true } }
 
--- the command with its one option
+-- the command with its two options
 abbrev pub our_app : App
-our_app = with_rule bare_app version_rule
+our_app = with_rule (with_rule bare_app version_rule) between_rule
 
-abbrev pub wish_at : Option ℕ → Wish
-wish_at None = Nothing
-wish_at (Some version) = Tree (Some version)
+abbrev pub tree_at : List ℕ → Option Wish
+tree_at value = option_and_then (λ version. Some (Tree (Some version))) (number_of value)
 
-abbrev pub wish_with : List (List ℕ) → Wish
-wish_with [] = Tree None
-wish_with (value ∷ more) = if length more == 0 then wish_at (number_of value) else Nothing
+abbrev pub between_at : List ℕ → List ℕ → Option Wish
+between_at a b = option_and_then (λ before. option_and_then (λ after. Some (Between before after)) (number_of b)) (number_of a)
+
+-- the wish of these values of `--version`, where there are none of `--between`
+abbrev pub wish_with_one : List (List ℕ) → Option Wish
+wish_with_one [] = Some (Tree None)
+wish_with_one (value ∷ more) = if length more == 0 then tree_at value else None
+
+-- the wish of these values of `--between`, of which there are some
+abbrev pub wish_with_two : List ℕ → List (List ℕ) → Option Wish
+wish_with_two a [] = None
+wish_with_two a (b ∷ more) = if length more == 0 then between_at a b else None
+
+abbrev pub wish_with : List (List ℕ) → List (List ℕ) → Option Wish
+wish_with versions [] = wish_with_one versions
+wish_with versions (a ∷ more) = if length versions == 0 then wish_with_two a more else None
 
 -- words with a fault ask for nothing
-abbrev pub wish_of : List (List ℕ) → Wish
-wish_of words = if length (fault_of our_app words) == 0 then wish_with (values_at (codes "version") (matches_of our_app words)) else Nothing
+abbrev pub wish_of : List (List ℕ) → Option Wish
+wish_of words =
+    if length (fault_of our_app words) == 0
+    then wish_with (values_at (codes "version") (matches_of our_app words)) (values_at (codes "between") (matches_of our_app words))
+    else None
 
--- the words ask for the tree of a version, or for the last one
-abbrev pub AskFor : List (String Global) → Option ℕ → Type 0
-AskFor words wanted = wish_of (map string_bytes words) ≡ Tree wanted
+-- what the words ask for
+abbrev pub AskFor : List (String Global) → Wish → Type 0
+AskFor words wish = wish_of (map string_bytes words) ≡ Some wish
 
 abbrev pub AreWrong : List (String Global) → Type 0
-AreWrong words = wish_of (map string_bytes words) ≡ Nothing
+AreWrong words = wish_of (map string_bytes words) ≡ None

@@ -2,14 +2,20 @@
 
 ghost use Rattle.std.specs.Prelude.{◌≡◌, ◌++◌, codes, IfOk, IfErr, IfSome, OnOk};
 ghost use Rattle.std.specs.List.{All};
+ghost use Rattle.std.specs.Option.{IsSome};
 ghost use Rattle.lay_drawing.specs.Lines.{IsPiece};
+ghost use Rattle.lay_drawing.specs.Marks.{IsMarked, plain_pieces};
+ghost use Rattle.lay_drawing.specs.Changes.{differences};
 ghost use Rattle.lay_drawing.specs.Picture.{picture};
 ghost use Rattle.lay_drawing.specs.Input.{IsDrained};
-ghost use Rattle.lay_drawing.specs.Answers.{refusal, AnswersBytes, AnswersReading, IsLack, DrainsFor};
+ghost use Rattle.lay_drawing.specs.Answers.{refusal, AnswersBytes, AnswersReading, AnswersBoth, IsLack, DrainsFor};
 
-use crate::input::{InputFault, read_report};
+use crate::changes::differences;
+use crate::input::{Both, InputFault, read_both, read_report};
+use crate::mark::{Marked, plain_pieces};
 use crate::picture::picture;
 use crate::state::Reading;
+use crate::words::Wish;
 use lay_frag::Frag;
 use lay_outside::Source;
 use lay_units::{NoMemory, Text};
@@ -37,15 +43,49 @@ pub enum Lack {
 /// The answer to the report that the source has left.
 pub(crate) fn answer_to<S: Source>(
     alloc: Global,
+    wish: Wish,
+    source: &mut S,
+) -> Result<Answer, Lack>
+    ensures answers { IfOk result (λ a. IfSome (S.left source.old) (λ bytes. AnswersBytes bytes wish a)) }
+    ensures drained { IfOk result (DrainsFor (S.left source.old) (S.left source.new)) }
+    ensures lacks { IfErr result (IsLack (S.faults source.old) (S.faults source.new)) }
+{
+    match wish {
+        Wish::Tree(wanted) => tree_answer(alloc, wanted, source),
+        Wish::Between(before, after) => between_answer(alloc, (before, after), source),
+    }
+}
+
+/// The answer where one tree is asked for.
+fn tree_answer<S: Source>(
+    alloc: Global,
     wanted: Option<u64>,
     source: &mut S,
 ) -> Result<Answer, Lack>
-    ensures answers { IfOk result (λ a. IfSome (S.left source.old) (λ bytes. AnswersBytes bytes wanted a)) }
+    ensures answers { IfOk result (λ a. IfSome (S.left source.old) (λ bytes. AnswersBytes bytes (Wish.Tree wanted) a)) }
     ensures drained { IfOk result (DrainsFor (S.left source.old) (S.left source.new)) }
     ensures lacks { IfErr result (IsLack (S.faults source.old) (S.faults source.new)) }
 {
     match read_report(alloc, wanted, source) {
         Ok(reading) => shown(alloc, &reading),
+        Err(InputFault::BadLine(number)) => refused(alloc, "refused line ", number),
+        Err(InputFault::Failed) => Err(Lack::Failed),
+        Err(InputFault::NoMemory) => Err(Lack::NoMemory),
+    }
+}
+
+/// The answer where the differences of two trees are asked for.
+fn between_answer<S: Source>(
+    alloc: Global,
+    versions: (u64, u64),
+    source: &mut S,
+) -> Result<Answer, Lack>
+    ensures answers { IfOk result (λ a. IfSome (S.left source.old) (λ bytes. AnswersBytes bytes (Wish.Between versions.0 versions.1) a)) }
+    ensures drained { IfOk result (DrainsFor (S.left source.old) (S.left source.new)) }
+    ensures lacks { IfErr result (IsLack (S.faults source.old) (S.faults source.new)) }
+{
+    match read_both(alloc, versions, source) {
+        Ok(both) => both_shown(alloc, &both),
         Err(InputFault::BadLine(number)) => refused(alloc, "refused line ", number),
         Err(InputFault::Failed) => Err(Lack::Failed),
         Err(InputFault::NoMemory) => Err(Lack::NoMemory),
@@ -58,10 +98,10 @@ fn shown(alloc: Global, reading: &Reading) -> Result<Answer, Lack>
     ensures err { IfErr result (λ l. l ≡ Lack.NoMemory) }
 {
     match reading.wanted {
-        None => drawn(alloc, &reading.pieces),
+        None => tree_drawn(alloc, &reading.pieces),
         Some(version) => {
             if reading.is_shown {
-                drawn(alloc, &reading.pieces)
+                tree_drawn(alloc, &reading.pieces)
             } else {
                 refused(alloc, "refused version ", version)
             }
@@ -69,8 +109,49 @@ fn shown(alloc: Global, reading: &Reading) -> Result<Answer, Lack>
     }
 }
 
-fn drawn(alloc: Global, pieces: &[Frag]) -> Result<Answer, Lack>
+/// The picture of what two trees differ in, or the line that says which isn't shown.
+fn both_shown(alloc: Global, both: &Both) -> Result<Answer, Lack>
+    requires before { IsSome both.now.before.wanted }
+    requires after { IsSome both.now.after.wanted }
+    ensures ok { IfOk result (AnswersBoth both.now.before both.now.after) }
+    ensures err { IfErr result (λ l. l ≡ Lack.NoMemory) }
+{
+    let before = both.before.wanted.unwrap_or(0);
+    let after = both.after.wanted.unwrap_or(0);
+    if !both.before.is_shown {
+        return refused(alloc, "refused version ", before);
+    }
+    if !both.after.is_shown {
+        return refused(alloc, "refused version ", after);
+    }
+    differences_drawn(alloc, &both.before.pieces, &both.after.pieces)
+}
+
+fn tree_drawn(alloc: Global, pieces: &[Frag]) -> Result<Answer, Lack>
     requires { All IsPiece pieces.now }
+    ensures ok { IfOk result (λ a. a ≡ Answer.Picture (picture (plain_pieces pieces.now))) }
+    ensures err { IfErr result (λ l. l ≡ Lack.NoMemory) }
+{
+    match plain_pieces(alloc, pieces) {
+        Ok(marked) => drawn(alloc, &marked),
+        Err(_) => Err(Lack::NoMemory),
+    }
+}
+
+fn differences_drawn(alloc: Global, before: &[Frag], after: &[Frag]) -> Result<Answer, Lack>
+    requires before { All IsPiece before.now }
+    requires after { All IsPiece after.now }
+    ensures ok { IfOk result (λ a. a ≡ Answer.Picture (picture (differences before.now after.now))) }
+    ensures err { IfErr result (λ l. l ≡ Lack.NoMemory) }
+{
+    match differences(alloc, before, after) {
+        Ok(marked) => drawn(alloc, &marked),
+        Err(_) => Err(Lack::NoMemory),
+    }
+}
+
+fn drawn(alloc: Global, pieces: &[Marked]) -> Result<Answer, Lack>
+    requires { All IsMarked pieces.now }
     ensures ok { IfOk result (λ a. a ≡ Answer.Picture (picture pieces.now)) }
     ensures err { IfErr result (λ l. l ≡ Lack.NoMemory) }
 {

@@ -47,27 +47,27 @@ impl Ending {
     }
 }
 
-/// Reads the report that the source has left and writes a picture of the tree that the words ask for into the sink; or
-/// writes the line that names the first line which is none of a report, or the version that isn't shown.
+/// Reads the report that the source has left and writes a picture of the tree that the words ask for, or of what two trees
+/// differ in, into the sink; or writes the line that names the first line which is none of a report, or the version that isn't shown.
 pub fn draw<S: Source, K: Sink>(
     alloc: Global,
     words: &[String],
     source: &mut S,
     sink: &mut K,
 ) -> Ending
-    // The picture is that of the pieces which the report's lines spell, and nothing is left.
-    ensures drawn { result ≡ Ending.Drawn → (wanted : Option ℕ) × AskFor words.now wanted × IsDrained (S.left source.old) (S.left source.new)
-        × IfSome (S.left source.old) (λ bytes. (text : List ℕ) × IsPicture bytes wanted text × Took (K.taken sink.old) (K.taken sink.new) text) }
-    ensures refused { result ≡ Ending.Refused → (wanted : Option ℕ) × AskFor words.now wanted
-        × IfSome (S.left source.old) (λ bytes. (line : List ℕ) × IsRefusal bytes wanted line × Took (K.taken sink.old) (K.taken sink.new) line) }
+    // The picture is that of the pieces which the report's lines spell, or of the differences of two such trees, and nothing is left.
+    ensures drawn { result ≡ Ending.Drawn → (wish : Wish) × AskFor words.now wish × IsDrained (S.left source.old) (S.left source.new)
+        × IfSome (S.left source.old) (λ bytes. (text : List ℕ) × IsPicture bytes wish text × Took (K.taken sink.old) (K.taken sink.new) text) }
+    ensures refused { result ≡ Ending.Refused → (wish : Wish) × AskFor words.now wish
+        × IfSome (S.left source.old) (λ bytes. (line : List ℕ) × IsRefusal bytes wish line × Took (K.taken sink.old) (K.taken sink.new) line) }
     ensures usage { result ≡ Ending.Usage → AreWrong words.now × Took (K.taken sink.old) (K.taken sink.new) (codes "usage\n") }
     ensures read_fault { result ≡ Ending.ReadFault → Rose (S.faults source.old) (S.faults source.new) × (K.taken sink.new ≡ K.taken sink.old) }
     ensures write_fault { result ≡ Ending.WriteFault → Rose (K.faults sink.old) (K.faults sink.new) }
     ensures no_memory { result ≡ Ending.NoMemory → K.taken sink.new ≡ K.taken sink.old }
 
     // After a fault of the sink it has a front of an answer.
-    ensures front { result ≡ Ending.WriteFault → (wanted : Option ℕ) → AskFor words.now wanted
-        → IfSome (S.left source.old) (λ bytes. (text : List ℕ) × IsAnswer bytes wanted text × TookFront (K.taken sink.old) (K.taken sink.new) text) }
+    ensures front { result ≡ Ending.WriteFault → (wish : Wish) → AskFor words.now wish
+        → IfSome (S.left source.old) (λ bytes. (text : List ℕ) × IsAnswer bytes wish text × TookFront (K.taken sink.old) (K.taken sink.new) text) }
     ensures usage_front { result ≡ Ending.WriteFault → AreWrong words.now → TookFront (K.taken sink.old) (K.taken sink.new) (codes "usage\n") }
 
     // Wrong words read nothing.
@@ -75,8 +75,8 @@ pub fn draw<S: Source, K: Sink>(
     ensures wrong_words { AreWrong words.now → (result ≡ Ending.Usage) ⊎ (result ≡ Ending.WriteFault) ⊎ (result ≡ Ending.NoMemory) }
 {
     match read_words(alloc, words) {
-        Ok(Wish::Tree(wanted)) => drawn(alloc, wanted, source, sink),
-        Ok(Wish::Nothing) => usage(sink),
+        Ok(Some(wish)) => drawn(alloc, wish, source, sink),
+        Ok(None) => usage(sink),
         Err(_) => Ending::NoMemory,
     }
 }
@@ -91,23 +91,18 @@ pub fn usage<K: Sink>(sink: &mut K) -> Ending
 }
 
 /// Reads the source and writes the answer to its bytes.
-fn drawn<S: Source, K: Sink>(
-    alloc: Global,
-    wanted: Option<u64>,
-    source: &mut S,
-    sink: &mut K,
-) -> Ending
+fn drawn<S: Source, K: Sink>(alloc: Global, wish: Wish, source: &mut S, sink: &mut K) -> Ending
     ensures drawn { result ≡ Ending.Drawn → IsDrained (S.left source.old) (S.left source.new)
-        × IfSome (S.left source.old) (λ bytes. (text : List ℕ) × IsPicture bytes wanted text × Took (K.taken sink.old) (K.taken sink.new) text) }
-    ensures refused { result ≡ Ending.Refused → IfSome (S.left source.old) (λ bytes. (line : List ℕ) × IsRefusal bytes wanted line × Took (K.taken sink.old) (K.taken sink.new) line) }
+        × IfSome (S.left source.old) (λ bytes. (text : List ℕ) × IsPicture bytes wish text × Took (K.taken sink.old) (K.taken sink.new) text) }
+    ensures refused { result ≡ Ending.Refused → IfSome (S.left source.old) (λ bytes. (line : List ℕ) × IsRefusal bytes wish line × Took (K.taken sink.old) (K.taken sink.new) line) }
     ensures never_usage { result ≢ Ending.Usage }
     ensures read_fault { result ≡ Ending.ReadFault → Rose (S.faults source.old) (S.faults source.new) × (K.taken sink.new ≡ K.taken sink.old) }
     ensures write_fault { result ≡ Ending.WriteFault → Rose (K.faults sink.old) (K.faults sink.new) }
     ensures no_memory { result ≡ Ending.NoMemory → K.taken sink.new ≡ K.taken sink.old }
     ensures front { result ≡ Ending.WriteFault
-        → IfSome (S.left source.old) (λ bytes. (text : List ℕ) × IsAnswer bytes wanted text × TookFront (K.taken sink.old) (K.taken sink.new) text) }
+        → IfSome (S.left source.old) (λ bytes. (text : List ℕ) × IsAnswer bytes wish text × TookFront (K.taken sink.old) (K.taken sink.new) text) }
 {
-    match answer_to(alloc, wanted, source) {
+    match answer_to(alloc, wish, source) {
         Ok(Answer::Picture(text)) => told(sink, text.as_str(), Ending::Drawn),
         Ok(Answer::Refusal(line)) => told(sink, line.as_str(), Ending::Refused),
         Err(Lack::Failed) => Ending::ReadFault,

@@ -4,8 +4,10 @@ ghost use Rattle.std.specs.Prelude.{◌≡◌, ◌+ℤ◌, fold};
 ghost use Rattle.std.specs.List.{All};
 ghost use Rattle.lay_units.specs.Units.{IsPosition};
 ghost use Rattle.lay_drawing.specs.Lines.{IsPiece};
-ghost use Rattle.lay_drawing.specs.Picture.{reach, edges, wider, joined, frame_of, FramesHold};
+ghost use Rattle.lay_drawing.specs.Marks.{IsMarked};
+ghost use Rattle.lay_drawing.specs.Frames.{reach, edges, wider, joined, frame_of, FramesHold};
 
+use crate::mark::Marked;
 use lay_frag::Frag;
 use lay_units::Unit;
 
@@ -24,8 +26,8 @@ pub struct Frame {
 }
 
 /// The least frame that holds all pieces; where there are none, one of no size.
-pub(crate) fn frame_of(pieces: &[Frag]) -> Frame
-    requires { All IsPiece pieces.now }
+pub(crate) fn frame_of(pieces: &[Marked]) -> Frame
+    requires { All IsMarked pieces.now }
     ensures { result ≡ frame_of pieces.now }
 {
     match pieces.split_first() {
@@ -33,17 +35,17 @@ pub(crate) fn frame_of(pieces: &[Frag]) -> Frame
             across: Span { low: 0, high: 0 },
             down: Span { low: 0, high: 0 },
         },
-        Some((first, rest)) => frame_from(edges(first), rest),
+        Some((first, rest)) => frame_from(edges(&first.piece), rest),
     }
 }
 
-fn frame_from(first: Frame, pieces: &[Frag]) -> Frame
-    requires { All IsPiece pieces.now }
-    ensures { result ≡ fold (λ frame piece. joined frame (edges piece)) first pieces.now }
+fn frame_from(first: Frame, pieces: &[Marked]) -> Frame
+    requires { All IsMarked pieces.now }
+    ensures { result ≡ fold (λ frame other. joined frame (edges other.piece)) first pieces.now }
 {
     let mut frame = first;
     for piece in pieces {
-        frame = joined(frame, edges(piece));
+        frame = joined(frame, edges(&piece.piece));
     }
     frame
 }

@@ -1,27 +1,33 @@
 //! The picture of pieces.
 
-ghost use Rattle.std.specs.Prelude.{◌≡◌, ◌++◌, ◌+ℤ◌, ◌-ℤ◌, pos, IfOk, OnOk, codes, length, nat_le, string_bytes};
+ghost use Rattle.std.specs.Prelude.{◌≡◌, ◌++◌, ◌+ℤ◌, ◌-ℤ◌, pos, IfOk, OnOk, codes, string_bytes};
 ghost use Rattle.std.specs.List.{All};
 ghost use Rattle.std.specs.Fmt.{decimal};
 ghost use Rattle.lay_frag.specs.Lines.{kind_word};
-ghost use Rattle.lay_drawing.specs.Lines.{IsPiece};
-ghost use Rattle.lay_drawing.specs.Picture.{length_text, outside, full_size, full_sizes, view_text, opening, paint, title_text, place_text, size, sizes, rect_text, is_box, has_room, number_left, number_base, number_text, shape, shapes, picture};
+ghost use Rattle.lay_drawing.specs.Marks.{IsMarked};
+ghost use Rattle.lay_drawing.specs.Picture.{length_text, outside, full_size, full_sizes, view_text, opening, class_text, title_text, place_text, size, sizes, number_left, number_base, label_text, label_texts, shape, shapes, picture};
 
 use crate::frame::{Frame, Span, edges, frame_of};
+use crate::label::{Label, labels_of};
+use crate::mark::Marked;
 use crate::pixels::push_px;
-use lay_frag::{Frag, FragKind};
+use crate::style::push_style;
+use lay_frag::FragKind;
 use lay_units::{NoMemory, Text};
 use std::alloc::Global;
 use std::fmt::Write;
 
 /// The picture of these pieces.
-pub(crate) fn picture(alloc: Global, pieces: &[Frag]) -> Result<Text, NoMemory>
-    requires { All IsPiece pieces.now }
+pub(crate) fn picture(alloc: Global, pieces: &[Marked]) -> Result<Text, NoMemory>
+    requires { All IsMarked pieces.now }
     ensures { IfOk result (λ t. t ≡ picture pieces.now) }
 {
     let mut text = String::new(alloc);
     push_opening(&mut text, frame_of(pieces))?;
-    push_shapes(alloc, &mut text, pieces)?;
+    push_style(&mut text)?;
+    push_shapes(&mut text, pieces)?;
+    let labels = labels_of(alloc, pieces)?;
+    push_labels(&mut text, &labels)?;
     push(&mut text, "</svg>\n")?;
     Ok(Text::new(text))
 }
@@ -29,7 +35,10 @@ pub(crate) fn picture(alloc: Global, pieces: &[Frag]) -> Result<Text, NoMemory>
 fn push_opening(text: &mut String, frame: Frame) -> Result<(), NoMemory>
     ensures { OnOk result (string_bytes text.new ≡ string_bytes text.old ++ opening frame) }
 {
-    push(text, "<svg xmlns=\"http://www.w3.org/2000/svg\"")?;
+    push(
+        text,
+        "<svg xmlns=\"http://www.w3.org/2000/svg\" class=\"lay\"",
+    )?;
     push_full_sizes(text, frame)?;
     push(text, " viewBox=\"")?;
     push_view(text, frame)?;
@@ -87,7 +96,7 @@ fn low(span: Span) -> i128
     i128::from(span.low)
 }
 
-/// Where the number of a box begins, from the left.
+/// Where the number of a label begins, from the left.
 fn number_left(span: Span) -> i128
     ensures { result ≡ number_left span }
 {
@@ -102,7 +111,7 @@ fn number_base(span: Span) -> i128
 }
 
 /// Adds a text.
-fn push(text: &mut String, more: &str) -> Result<(), NoMemory>
+pub(crate) fn push(text: &mut String, more: &str) -> Result<(), NoMemory>
     ensures { OnOk result (string_bytes text.new ≡ string_bytes text.old ++ more.now) }
 {
     text.push_str(more)?;
@@ -121,38 +130,25 @@ fn push_length(text: &mut String, name: &str, units: i128) -> Result<(), NoMemor
     Ok(())
 }
 
-fn push_shapes(alloc: Global, text: &mut String, pieces: &[Frag]) -> Result<(), NoMemory>
-    requires { All IsPiece pieces.now }
+fn push_shapes(text: &mut String, pieces: &[Marked]) -> Result<(), NoMemory>
+    requires { All IsMarked pieces.now }
     ensures { OnOk result (string_bytes text.new ≡ string_bytes text.old ++ shapes pieces.now) }
 {
     for piece in pieces {
-        push_shape(alloc, text, piece)?;
+        push_shape(text, piece)?;
     }
     Ok(())
 }
 
-fn push_shape(alloc: Global, text: &mut String, piece: &Frag) -> Result<(), NoMemory>
-    requires { IsPiece piece.now }
+fn push_shape(text: &mut String, piece: &Marked) -> Result<(), NoMemory>
+    requires { IsMarked piece.now }
     ensures { OnOk result (string_bytes text.new ≡ string_bytes text.old ++ shape piece.now) }
 {
-    push_rect(text, piece)?;
-    let node = piece.node.0;
-    let number = format!(in alloc; "{node}")?;
-    if has_room(piece, number.len()) {
-        push_number(text, piece, number.as_str())?;
-    }
-    Ok(())
-}
-
-fn push_rect(text: &mut String, piece: &Frag) -> Result<(), NoMemory>
-    requires { IsPiece piece.now }
-    ensures { OnOk result (string_bytes text.new ≡ string_bytes text.old ++ rect_text piece.now) }
-{
-    let frame = edges(piece);
+    let frame = edges(&piece.piece);
     push(text, "<rect")?;
     push_place(text, low(frame.across), low(frame.down))?;
     push_sizes(text, frame)?;
-    push(text, paint(piece.kind))?;
+    push_class(text, piece)?;
     push(text, ">")?;
     push_title(text, piece)?;
     push(text, "</rect>\n")?;
@@ -175,24 +171,27 @@ fn push_sizes(text: &mut String, frame: Frame) -> Result<(), NoMemory>
     Ok(())
 }
 
-/// How a kind is painted: outlined, dashed, or filled.
-fn paint(kind: FragKind) -> &'static str
-    ensures { result.now ≡ paint kind }
+/// Adds the classes of a piece: its kind, and what is said of it.
+fn push_class(text: &mut String, piece: &Marked) -> Result<(), NoMemory>
+    ensures { OnOk result (string_bytes text.new ≡ string_bytes text.old ++ class_text piece.now) }
 {
-    match kind {
-        FragKind::Box => " fill=\"none\" stroke=\"#1d4ed8\"",
-        FragKind::Line => " fill=\"none\" stroke=\"#b45309\" stroke-dasharray=\"4 2\"",
-        FragKind::Text => " fill=\"#15803d\" fill-opacity=\"0.4\"",
-    }
+    push(text, " class=\"")?;
+    push(text, word(piece.piece.kind))?;
+    push(text, piece.mark.word())?;
+    push(text, "\"")?;
+    Ok(())
 }
 
-fn push_title(text: &mut String, piece: &Frag) -> Result<(), NoMemory>
+fn push_title(text: &mut String, piece: &Marked) -> Result<(), NoMemory>
     ensures { OnOk result (string_bytes text.new ≡ string_bytes text.old ++ title_text piece.now) }
 {
     push(text, "<title>")?;
-    push(text, word(piece.kind))?;
-    push_count(text, piece.node.0)?;
-    push_count(text, piece.part)?;
+    push(text, word(piece.piece.kind))?;
+    push(text, " ")?;
+    push_number(text, piece.piece.node.0)?;
+    push(text, " ")?;
+    push_number(text, piece.piece.part)?;
+    push(text, piece.mark.word())?;
     push(text, "</title>")?;
     Ok(())
 }
@@ -207,41 +206,35 @@ fn word(kind: FragKind) -> &'static str
     }
 }
 
-fn push_count(text: &mut String, n: u32) -> Result<(), NoMemory>
-    ensures { OnOk result (string_bytes text.new ≡ string_bytes text.old ++ codes " " ++ decimal n) }
+fn push_number(text: &mut String, n: u32) -> Result<(), NoMemory>
+    ensures { OnOk result (string_bytes text.new ≡ string_bytes text.old ++ decimal n) }
 {
-    write!(text, " {n}")?;
+    write!(text, "{n}")?;
     Ok(())
 }
 
-/// Whether a box has room for a number of so many digits.
-fn has_room(piece: &Frag, digits: usize) -> bool
-    requires { digits ≡ length (decimal piece.now.node.0) }
-    ensures { result ≡ has_room piece.now }
+fn push_labels(text: &mut String, labels: &[Label]) -> Result<(), NoMemory>
+    ensures { OnOk result (string_bytes text.new ≡ string_bytes text.old ++ label_texts labels.now) }
 {
-    let _node = piece.node.0;
-    is_box(piece.kind)
-        && 384 * digits as u64 + 384 <= piece.rect.w.0.unsigned_abs()
-        && 768 <= piece.rect.h.0.unsigned_abs()
+    for label in labels {
+        push_label(text, label)?;
+    }
+    Ok(())
 }
 
-fn is_box(kind: FragKind) -> bool
-    ensures { result ≡ is_box kind }
+fn push_label(text: &mut String, label: &Label) -> Result<(), NoMemory>
+    ensures { OnOk result (string_bytes text.new ≡ string_bytes text.old ++ label_text label.now) }
 {
-    matches!(kind, FragKind::Box)
-}
-
-/// Adds the number of a box.
-fn push_number(text: &mut String, piece: &Frag, number: &str) -> Result<(), NoMemory>
-    requires piece { IsPiece piece.now }
-    requires number { number.now ≡ decimal piece.now.node.0 }
-    ensures { OnOk result (string_bytes text.new ≡ string_bytes text.old ++ number_text piece.now) }
-{
-    let frame = edges(piece);
     push(text, "<text")?;
-    push_place(text, number_left(frame.across), number_base(frame.down))?;
-    push(text, " fill=\"#1d4ed8\">")?;
-    push(text, number)?;
+    push_place(
+        text,
+        number_left(label.frame.across),
+        number_base(label.frame.down),
+    )?;
+    push(text, " class=\"label")?;
+    push(text, label.mark.word())?;
+    push(text, "\">")?;
+    push_number(text, label.node)?;
     push(text, "</text>\n")?;
     Ok(())
 }

@@ -1,10 +1,10 @@
 //! The words of the command line.
 
-ghost use Rattle.std.specs.Prelude.{◌≡◌, IfOk, map, string_bytes, codes};
-ghost use Rattle.clap.specs.Words.{app_of, found_of, rows_of};
+ghost use Rattle.std.specs.Prelude.{◌≡◌, IfOk, [], map, string_bytes, codes, false, option_map, unwrap_or};
+ghost use Rattle.clap.specs.Words.{app_of, found_of, rows_of, rule_of};
 ghost use Rattle.lay_drawing.specs.Reading.{number_of};
 ghost use Rattle.lay_words.specs.Agree.{values_at};
-ghost use Rattle.lay_drawing.specs.Words.{our_app, wish_at, wish_with, wish_of};
+ghost use Rattle.lay_drawing.specs.Words.{our_app, version_rule, between_rule, tree_at, between_at, wish_with_one, wish_with_two, wish_with, wish_of};
 
 use crate::numbers::number;
 use clap::error::ErrorKind;
@@ -17,12 +17,12 @@ use std::alloc::{AllocError, Global};
 pub enum Wish {
     /// The picture of the last tree, or of that of a version.
     Tree(Option<u64>),
-    /// The words are wrong.
-    Nothing,
+    /// What the trees of two versions differ in.
+    Between(u64, u64),
 }
 
-/// What these words ask for.
-pub(crate) fn read_words(alloc: Global, words: &[String]) -> Result<Wish, NoMemory>
+/// What these words ask for; None where they are wrong.
+pub(crate) fn read_words(alloc: Global, words: &[String]) -> Result<Option<Wish>, NoMemory>
     ensures { IfOk result (λ w. w ≡ wish_of (map string_bytes words.now)) }
 {
     let command = command(alloc)?;
@@ -32,7 +32,7 @@ pub(crate) fn read_words(alloc: Global, words: &[String]) -> Result<Wish, NoMemo
             if error.kind() == ErrorKind::OutOfMemory {
                 Err(NoMemory)
             } else {
-                Ok(Wish::Nothing)
+                Ok(None)
             }
         }
     }
@@ -42,46 +42,108 @@ pub(crate) fn read_words(alloc: Global, words: &[String]) -> Result<Wish, NoMemo
 fn command<'a>(alloc: Global) -> Result<Command<'a>, AllocError>
     ensures { IfOk result (λ c. app_of c ≡ our_app) }
 {
-    let version = Arg::new(alloc, "version")
-        .long("version")
-        .action(ArgAction::Append);
+    let version = version(alloc);
+    let between = between(alloc);
     Command::new(alloc, "lay_picture")
         .no_binary_name(true)
         .disable_help_flag(true)
         .disable_version_flag(true)
-        .arg(version)
+        .arg(version)?
+        .arg(between)
+}
+
+fn version<'a>(alloc: Global) -> Arg<'a>
+    ensures rule { rule_of result ≡ version_rule }
+    ensures local { result.global ≡ false }
+{
+    Arg::new(alloc, "version")
+        .long("version")
+        .action(ArgAction::Append)
+}
+
+/// An option with two values.
+fn between<'a>(alloc: Global) -> Arg<'a>
+    ensures rule { rule_of result ≡ between_rule }
+    ensures local { result.global ≡ false }
+{
+    Arg::new(alloc, "between")
+        .long("between")
+        .action(ArgAction::Append)
+        .num_args(2usize)
 }
 
 /// What is asked for in what `clap` found.
-fn wish_found(matches: &ArgMatches<'_>) -> Wish
-    ensures { result ≡ wish_with (values_at (codes "version") (rows_of (found_of matches.now))) }
+fn wish_found(matches: &ArgMatches<'_>) -> Option<Wish>
+    ensures { result ≡ wish_with (values_at (codes "version") (rows_of (found_of matches.now))) (values_at (codes "between") (rows_of (found_of matches.now))) }
 {
-    match matches.get_raw("version") {
-        Some(values) => wish_with(values),
-        None => Wish::Tree(None),
-    }
+    let versions = given(matches.get_raw("version"));
+    let between = given(matches.get_raw("between"));
+    wish_with(versions, between)
 }
 
-fn wish_with(values: &[&str]) -> Wish
-    ensures { result ≡ wish_with (map (λ v. v.now) values.now) }
+/// The values of an option, of which there may be none.
+fn given<'a>(values: Option<&'a [&'a str]>) -> &'a [&'a str]
+    ensures { map (λ v. v.now) result.now ≡ unwrap_or (option_map (λ s. map (λ v. v.now) s.now) values.entry) [] }
 {
-    match values.split_first() {
-        None => Wish::Tree(None),
-        Some((value, more)) => {
-            if more.is_empty() {
-                wish_at(number(value.as_bytes()))
+    values.unwrap_or(&[])
+}
+
+fn wish_with(versions: &[&str], between: &[&str]) -> Option<Wish>
+    ensures { result ≡ wish_with (map (λ v. v.now) versions.now) (map (λ v. v.now) between.now) }
+{
+    match between.split_first() {
+        None => wish_with_one(versions),
+        Some((before, more)) => {
+            if versions.is_empty() {
+                wish_with_two(before, more)
             } else {
-                Wish::Nothing
+                None
             }
         }
     }
 }
 
-fn wish_at(version: Option<u64>) -> Wish
-    ensures { result ≡ wish_at version }
+fn wish_with_one(versions: &[&str]) -> Option<Wish>
+    ensures { result ≡ wish_with_one (map (λ v. v.now) versions.now) }
 {
-    match version {
-        Some(version) => Wish::Tree(Some(version)),
-        None => Wish::Nothing,
+    match versions.split_first() {
+        None => Some(Wish::Tree(None)),
+        Some((value, more)) => {
+            if more.is_empty() {
+                tree_at(value)
+            } else {
+                None
+            }
+        }
     }
+}
+
+fn wish_with_two(before: &str, values: &[&str]) -> Option<Wish>
+    ensures { result ≡ wish_with_two before.now (map (λ v. v.now) values.now) }
+{
+    match values.split_first() {
+        None => None,
+        Some((after, more)) => {
+            if more.is_empty() {
+                between_at(before, after)
+            } else {
+                None
+            }
+        }
+    }
+}
+
+fn tree_at(value: &str) -> Option<Wish>
+    ensures { result ≡ tree_at value.now }
+{
+    let version = number(value.as_bytes())?;
+    Some(Wish::Tree(Some(version)))
+}
+
+fn between_at(before: &str, after: &str) -> Option<Wish>
+    ensures { result ≡ between_at before.now after.now }
+{
+    let before = number(before.as_bytes())?;
+    let after = number(after.as_bytes())?;
+    Some(Wish::Between(before, after))
 }

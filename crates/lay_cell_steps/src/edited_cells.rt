@@ -1,0 +1,16 @@
+//! The law of what an edit does to cells.
+
+ghost use Rattle.lay_cell_steps.specs.EditedCells.{EditsKeepCells};
+
+use lay_doc::edits_leave_documents;
+use lay_kept_inputs::inputs_are_kept;
+use lay_table_keys::root_stays_first;
+
+/// Cells that follow the contexts of a document through an edit are those of the document after it.
+pub fn edits_keep_cells()
+    ensures { EditsKeepCells }
+{
+    edits_leave_documents();
+    inputs_are_kept();
+    root_stays_first();
+}

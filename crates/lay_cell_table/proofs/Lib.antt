@@ -1,0 +1,7 @@
+pub mod GivenNow
+pub mod KeptReads
+pub mod LinkedInputs
+pub mod PlaceSteps
+pub mod RootFlags
+pub mod RootParts
+pub mod RootSteps

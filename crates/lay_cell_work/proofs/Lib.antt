@@ -1,0 +1,4 @@
+pub mod FilledColumns
+pub mod FilledParts
+pub mod SameFilled
+pub mod RootSteps

@@ -1,0 +1,14 @@
+use Rattle.std.proofs.Common.{arith, refl}
+use Rattle.lay_same.proofs.Lists.{same_lists, one_more}
+use Rattle.lay_cell_work.proofs.same.same_roots.Goals as goal
+
+pub loop-k-init : goal.loop-k-init
+loop-k-init c = λ m lt. absurd (omega (arith, lt))
+
+pub loop-k-preserved : goal.loop-k-preserved
+loop-k-preserved c =
+    one_more c.args.a.now c.args.b.now c.loop-k.k c.index-a-k.result c.index-b-k.result c.loop-k.invariant c.loop-k-test.true
+    (omega (arith, c.loop-k-test.true, c.if-a-b.false)) c.index-a-k.is c.index-b-k.is (c.same_root.ensures.0 c.if-not-same_root.false)
+
+pub returns : goal.returns
+returns c = (λ t. same_lists c.args.a.now c.args.b.now c.if-a-b.false (λ k lt. c.loop-k.invariant k (omega (arith, lt, c.loop-k-test.false))), λ e. refl)

@@ -1,0 +1,5 @@
+mod NodeNumbers
+mod RisingNumbers
+mod TouchedSteps
+mod TouchedLaws
+mod OwnFlags
