@@ -23,7 +23,7 @@ use Rattle.lay_hit.specs.Hits.{painted}
 use Rattle.lay_hit.specs.Wholes.{own_pieces}
 use Rattle.lay_hit.specs.Questions.{is_painted}
 use Rattle.lay_hit.specs.OrderedPages.{IsOrdered}
-use Rattle.lay_hit.specs.Laws.{IsPieceOf, PaintsEachOnce, is_text_piece}
+use Rattle.lay_hit.specs.Laws.{IsPieceOf, PaintingIsWalk, PaintsEachOnce, is_text_piece}
 use Rattle.lay_hit.proofs.Counts.{in_order-same, one_if, range-times, same_times, times}
 use Rattle.lay_hit.proofs.FrontSteps.{ordered}
 use Rattle.lay_hit.proofs.NotedPieces.{painted_of, part_le}
@@ -181,3 +181,6 @@ paints_each_once_lem d styles tree is pieces =
     (IsPermutation-trans (flat_map (kept (own_test d styles is) fs) (range_with_len 0 (length d.nodes))) (flat_map (own_pieces (page_of d.nodes styles fs)) (range_with_len 0 (length d.nodes))) (painted d styles tree)
     (perm_each (kept (own_test d styles is) fs) (own_pieces (page_of d.nodes styles fs)) (range_with_len 0 (length d.nodes)) (own_same d styles is fs))
     (painting_same d styles is fs))
+
+pub painting_is_walk_lem : PaintingIsWalk
+painting_is_walk_lem d styles tree is = paint-whole (page_of d.nodes styles (frags_of tree)) (ordered d styles (frags_of tree) is) (length d.nodes) 0 (omega arith) is.some refl

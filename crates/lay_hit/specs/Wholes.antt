@@ -1,5 +1,5 @@
 -- Painting as one walk: of each node its own pieces, and then what it paints, by rank and in document order. A node that is
--- not painted as a whole paints no other. That this is the order of painting is a law (`Laws.antt`).
+-- not painted as a whole paints no other. That this is the order of painting is a law (`PaintingIsWalk` of `Laws.antt`).
 use Rattle.std.specs.Prelude.{ℕ, zero, suc, Bool, ◌==◌, List, [], ◌++◌, filter, flat_map, if◌then◌else◌}
 use Rattle.lay_frag.specs.declared.frag.Frag.{Frag}
 use Rattle.lay_hit.specs.PaintKinds.{is_inline}

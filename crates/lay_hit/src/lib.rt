@@ -17,4 +17,4 @@ mod rank;
 
 pub use hit_testing::hit;
 pub use kinds::{PaintKind, paint_kind};
-pub use laws::{one_last_holding, paints_each_once};
+pub use laws::{one_last_holding, painting_is_walk, paints_each_once};
