@@ -1,0 +1,15 @@
+pub mod Orders
+pub mod Rising
+pub mod Buckets
+pub mod RankOrder
+pub mod PaintTests
+pub mod PaintedBy
+pub mod WholePaint
+pub mod FrontSteps
+pub mod Nearest
+pub mod Asked
+pub mod NotedPieces
+pub mod Counts
+pub mod Walks
+pub mod PaintedOnce
+pub mod LastHolding

@@ -1,0 +1,12 @@
+pub mod PaintKinds
+pub mod Groups
+pub mod Sorting
+pub mod Pages
+pub mod Painting
+pub mod Hits
+pub mod Ranks
+pub mod Wholes
+pub mod OrderedPages
+pub mod Questions
+pub mod Fronts
+pub mod Laws

@@ -1,0 +1,58 @@
+//! The piece that is seen at a point.
+
+ghost use Rattle.std.specs.Prelude.{◌≡◌, length, IfOk};
+ghost use Rattle.lay_doc.specs.Document.{IsDocument};
+ghost use Rattle.lay_frag.specs.Pieces.{frags_of};
+ghost use Rattle.lay_hit.specs.Fronts.{AreFrontsFrom};
+ghost use Rattle.lay_hit.specs.Hits.{hit_of};
+ghost use Rattle.lay_hit.specs.Questions.{AreNoted};
+
+use crate::around::nearest_nodes;
+use crate::fronts::fronts;
+use crate::noted::noted;
+use crate::point::Point;
+use crate::question::Question;
+use lay_doc::Doc;
+use lay_frag::{Frag, Tree};
+use lay_style::Computed;
+use lay_units::{NoMemory, Unit};
+use std::alloc::Global;
+
+/// The last piece that is painted of those that hold the point, in page coordinates; None exactly where none of the painted
+/// pieces holds it. `style` has the computed styles of the document's nodes.
+pub fn hit(
+    alloc: Global,
+    doc: &Doc,
+    style: &Computed,
+    tree: &Tree,
+    x: Unit,
+    y: Unit,
+) -> Result<Option<Frag>, NoMemory>
+    requires { length style.now ≡ length doc.now.nodes }
+    ensures { IfOk result (λ f. f ≡ hit_of doc.now style.now tree.now x.0 y.0) }
+{
+    let q = Question {
+        doc,
+        styles: style.as_slice(),
+        tree,
+        at: Point { x, y },
+    };
+    let noted = noted(alloc, &q)?;
+    let around = nearest_nodes(alloc, &q)?;
+    let fronts = fronts(alloc, &q, &around, &noted)?;
+    Ok(frontmost(&q, &noted, &fronts))
+}
+
+/// From the root on, the frontmost node that has a piece at the point.
+fn frontmost(q: &Question<'_>, noted: &[Option<Frag>], fronts: &[usize]) -> Option<Frag>
+    requires valid { IsDocument q.now.doc.now }
+    requires noted { AreNoted q.now (frags_of q.now.tree.now) noted.now }
+    requires fronts { AreFrontsFrom q.now fronts.now 1 }
+    ensures { result ≡ hit_of q.now.doc.now q.now.styles.now q.now.tree.now q.now.at.x.0 q.now.at.y.0 }
+{
+    let mut at = 0;
+    while fronts[at] != 0 {
+        at = fronts[at];
+    }
+    noted[at]
+}

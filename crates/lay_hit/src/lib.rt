@@ -1,0 +1,20 @@
+//! Hit testing: which piece of a tree is seen at a point, by the order of painting (CSS 2.2, Appendix E and 9.9).
+//!
+//! Each node is of one kind of painting (`specs/PaintKinds.antt`) and belongs to the nearest node around it that is painted
+//! as a whole (`specs/Groups.antt`). `specs/Painting.antt` lists the boxes and texts of a whole tree from back to front,
+//! step by step, and `hit` answers the last of them that holds the point (`specs/Hits.antt`).
+#![tactic(auto)]
+
+mod around;
+mod fronts;
+mod hit_testing;
+mod kinds;
+mod laws;
+mod noted;
+mod point;
+mod question;
+mod rank;
+
+pub use hit_testing::hit;
+pub use kinds::{PaintKind, paint_kind};
+pub use laws::{one_last_holding, painting_is_walk, paints_each_once};

@@ -1,0 +1,86 @@
+//! Points, and which pieces hold them.
+
+ghost use Rattle.std.specs.Prelude.{◌≡◌, ◌<◌, ◌+ℤ◌, Some, length, slice_get, IfSome};
+ghost use Rattle.lay_units.specs.Units.{IsPosition, IsSum};
+ghost use Rattle.lay_frag.specs.Pieces.{page_pieces, IsContextInRange, IsRectInRange};
+ghost use Rattle.lay_hit.specs.Hits.{holds, is_from, is_in};
+
+use lay_frag::{Frag, Placed};
+use lay_units::{Rect, Unit};
+
+/// A point of the page.
+#[derive(Clone, Copy)]
+pub(crate) struct Point {
+    pub x: Unit,
+    pub y: Unit,
+}
+
+/// Whether the piece with this number holds the point, where it stands on the page.
+pub(crate) fn holds_at(placed: &Placed, k: usize, at: Point) -> bool
+    requires range { IsContextInRange placed.now }
+    requires place { k < length placed.now.pieces }
+    ensures { IfSome (slice_get (page_pieces placed.now) k) (λ f. result ≡ holds at.x.0 at.y.0 f) }
+{
+    is_in(at, page_rect(placed, k))
+}
+
+/// Whether a rectangle holds the point.
+fn is_in(at: Point, rect: Rect) -> bool
+    requires { IsRectInRange rect }
+    ensures { result ≡ is_in at.x.0 at.y.0 rect }
+{
+    is_from(rect.x, rect.w, at.x) && is_from(rect.y, rect.h, at.y)
+}
+
+/// Whether v lies from an edge up to the one so far behind it.
+fn is_from(edge: Unit, length: Unit, v: Unit) -> bool
+    requires edge { IsPosition edge.0 }
+    requires length { IsPosition length.0 }
+    ensures { result ≡ is_from edge.0 length.0 v.0 }
+{
+    edge.0 <= v.0 && v.0 < edge.0 + length.0
+}
+
+/// The rectangle of the piece with this number, on the page.
+fn page_rect(placed: &Placed, k: usize) -> Rect
+    requires range { IsContextInRange placed.now }
+    requires place { k < length placed.now.pieces }
+    ensures rect { IfSome (slice_get (page_pieces placed.now) k) (λ f. result ≡ f.rect) }
+    ensures range { IsRectInRange result }
+{
+    let rect = placed.rect();
+    if k == 0 {
+        return rect;
+    }
+    moved(
+        piece_at(placed.pieces(), k).rect,
+        rect.x,
+        further(rect.y, placed.shift()),
+    )
+}
+
+fn piece_at(pieces: &[Frag], k: usize) -> &Frag
+    requires { k < length pieces.now }
+    ensures { slice_get pieces.now k ≡ Some result.now }
+{
+    &pieces[k]
+}
+
+fn moved(rect: Rect, right: Unit, down: Unit) -> Rect
+    requires right { IsPosition (right.0 +ℤ rect.x.0) }
+    requires down { IsPosition (down.0 +ℤ rect.y.0) }
+    ensures { result ≡ record { x = record { 0 = right.0 +ℤ rect.x.0 }; y = record { 0 = down.0 +ℤ rect.y.0 }; w = rect.w; h = rect.h } }
+{
+    Rect {
+        x: further(right, rect.x),
+        y: further(down, rect.y),
+        ..rect
+    }
+}
+
+fn further(from: Unit, by: Unit) -> Unit
+    requires { IsSum (from.0 +ℤ by.0) }
+    ensures { result ≡ record { 0 = from.0 +ℤ by.0 } }
+{
+    Unit(from.0 + by.0)
+}
