@@ -1,8 +1,8 @@
 //! Tables whose columns are laid out.
 
-ghost use Rattle.std.specs.Prelude.{◌≡◌, ◌≤◌, true, length, All, IfOk};
+ghost use Rattle.std.specs.Prelude.{◌≡◌, ◌≤◌, length, All, IfOk};
 ghost use Rattle.lay_auto_columns.specs.AutoColumns.{sum_min};
-ghost use Rattle.lay_auto_columns.specs.Fit.{BoundFits, CellFits, SpaceFits, SpanFits};
+ghost use Rattle.lay_auto_columns.specs.Fit.{BoundFits, CellFits, SpanFits};
 ghost use Rattle.lay_auto_columns.specs.Sizes.{IsSize};
 
 use crate::numbers::{ample, size, sizes_or_none, spanned};
@@ -88,36 +88,43 @@ fn out(alloc: Global, bounds: &BoundList, space: Unit) -> Result<String>
         write!(out, "{min}/{max} ")?;
     }
     out.push('|')?;
-    if !have_widths(bounds.as_slice(), space) {
+    let bounds = fitting(alloc, bounds.as_slice())?;
+    if minimums(bounds.as_slice()) > i128::from(space.0) {
         out.push_str(" none")?;
         return Ok(out);
     }
-    for width in ample(columns_auto(alloc, bounds, space))?.as_slice() {
+    for width in ample(columns_auto(alloc, &BoundList::new(bounds), space))?.as_slice() {
         let units = width.0;
         write!(out, " {units}")?;
     }
     Ok(out)
 }
 
-/// Whether the space is no less than the minimums.
-fn have_widths(bounds: &[Bound], space: Unit) -> bool
-    requires { IsSize space.0 }
-    ensures { result ≡ true → SpaceFits bounds.now space.0 }
+/// The same bounds, which a space can be shared by.
+fn fitting(alloc: Global, bounds: &[Bound]) -> Result<Vec<Bound>>
+    ensures few { IfOk result (λ v. length v.items ≤ 255) }
+    ensures fit { IfOk result (λ v. All BoundFits v.items) }
 {
-    bounds.len() <= 255 && all_fit(bounds) && minimums(bounds) <= i128::from(space.0)
-}
-
-fn all_fit(bounds: &[Bound]) -> bool
-    ensures { result ≡ true → All BoundFits bounds.now }
-{
+    let mut fitting = Vec::new(alloc);
     for bound in bounds {
-        if bound.min.0 < 0 || bound.max.0 < bound.min.0 || bound.max.0 > 65535 {
-            return false;
+        if fitting.len() == 255 {
+            bail!("too many columns");
         }
+        fitting.push(in_order(*bound)?)?;
     }
-    true
+    Ok(fitting)
 }
 
+fn in_order(bound: Bound) -> Result<Bound>
+    ensures { IfOk result BoundFits }
+{
+    if bound.min.0 < 0 || bound.max.0 < bound.min.0 || bound.max.0 > 65535 {
+        bail!("bounds that aren't in order");
+    }
+    Ok(bound)
+}
+
+/// The minimums together.
 fn minimums(bounds: &[Bound]) -> i128
     requires few { length bounds.now ≤ 255 }
     requires fit { All BoundFits bounds.now }
