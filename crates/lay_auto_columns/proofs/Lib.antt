@@ -1,0 +1,12 @@
+pub mod OwnSteps
+pub mod SpreadSteps
+pub mod ShareSteps
+pub mod Fits
+pub mod Sums
+pub mod OneBounds
+pub mod OneColumns
+pub mod WithinBounds
+pub mod Parts
+pub mod Fills
+pub mod Room
+pub mod Exists

@@ -1,0 +1,89 @@
+-- The bounds of columns and their widths are single values, and there are such. What they come to:
+-- each cell finds room in the columns that it spans, and the columns fill the table's width, each
+-- within its bounds as far as that goes.
+use Rattle.std.specs.Prelude.{ℕ, ◌≡◌, ◌<◌, ℤ, pos, ◌≤ℤ◌, ◌<ℤ◌, List, [], ◌∷◌, length, All, Option}
+use Rattle.lay_units.specs.declared.length.Unit.{Unit}
+use Rattle.lay_auto_columns.specs.declared.bounds.Bound.{Bound}
+use Rattle.lay_auto_columns.specs.declared.bounds.BoundsIn.{BoundsIn}
+use Rattle.lay_auto_columns.specs.declared.bounds.GroupSpan.{GroupSpan}
+use Rattle.lay_auto_columns.specs.declared.bounds.SpanCell.{SpanCell}
+use Rattle.lay_grid.specs.Shares.{own_at, own_width, sum_of, width_at}
+use Rattle.lay_grid.specs.Within.{IsUpTo}
+use Rattle.lay_auto_columns.specs.Bounds.{AreBounds, max_at, maximum_spans, min_at, minimum_spans}
+use Rattle.lay_auto_columns.specs.Spread.{found_in}
+use Rattle.lay_auto_columns.specs.AutoColumns.{AreAutoColumns, sum_max, sum_min}
+use Rattle.lay_auto_columns.specs.Fit.{BoundFits, BoundsFit}
+
+abbrev pub OneListOfBounds : Type 0
+OneListOfBounds = (i : BoundsIn) (v w : List Bound) → AreBounds i v → AreBounds i w → v ≡ w
+
+abbrev pub OneListOfColumns : Type 0
+OneListOfColumns = (bounds : List Bound) (space : ℤ) (v w : List Unit)
+    → AreAutoColumns bounds space v → AreAutoColumns bounds space w → v ≡ w
+
+-- and there is one
+abbrev pub ColumnsHaveBounds : Type 0
+ColumnsHaveBounds = (i : BoundsIn) → (bounds : List Bound) × AreBounds i bounds
+
+abbrev pub ColumnsHaveWidths : Type 0
+ColumnsHaveWidths = (bounds : List Bound) (space : ℤ) → All BoundFits bounds
+    → sum_min bounds ≤ℤ space → (widths : List Unit) × AreAutoColumns bounds space widths
+
+-- each of these is no wider than the columns that it spans with the spacings between them
+abbrev pub HaveRoom : ℤ → List GroupSpan → List Unit → Type 0
+HaveRoom spacing cells widths =
+    All (λ (cell : GroupSpan). cell.width.0 ≤ℤ found_in spacing cell widths) cells
+
+abbrev pub minimums_of : List Bound → List Unit
+minimums_of [] = []
+minimums_of (bound ∷ bounds) = bound.min ∷ minimums_of bounds
+
+abbrev pub maximums_of : List Bound → List Unit
+maximums_of [] = []
+maximums_of (bound ∷ bounds) = bound.max ∷ maximums_of bounds
+
+-- columns with room for all that is given
+pub record HaveRoomFor (i : BoundsIn) (bounds : List Bound) : Type 0 where
+  pub given : (k : ℕ) → k < length i.given → own_width (own_at i.given k) ≤ℤ min_at bounds k
+  pub order : (k : ℕ) → k < length i.given → min_at bounds k ≤ℤ max_at bounds k
+  pub minimums : HaveRoom i.spacing.0 (minimum_spans i.cells) (minimums_of bounds)
+  pub maximums : HaveRoom i.spacing.0 (maximum_spans i.cells) (maximums_of bounds)
+  pub groups : HaveRoom i.spacing.0 i.groups (minimums_of bounds)
+
+abbrev pub BoundsHaveRoom : Type 0
+BoundsHaveRoom = (i : BoundsIn) (bounds : List Bound)
+    → BoundsFit i → AreBounds i bounds → HaveRoomFor i bounds
+
+-- columns of which nothing asks for more than so much
+pub record AskUpTo (i : BoundsIn) (most : ℕ) : Type 0 where
+  pub given : All (λ (own : Option Unit). IsUpTo most (own_width own)) i.given
+  pub minimums : All (λ (cell : SpanCell). cell.min.0 ≤ℤ pos most) i.cells
+  pub maximums : All (λ (cell : SpanCell). cell.max.0 ≤ℤ pos most) i.cells
+  pub groups : All (λ (group : GroupSpan). group.width.0 ≤ℤ pos most) i.groups
+
+-- bounds in order, from 0 to so much
+pub record IsBoundUpTo (most : ℕ) (bound : Bound) : Type 0 where
+  pub min : pos 0 ≤ℤ bound.min.0
+  pub order : bound.min.0 ≤ℤ bound.max.0
+  pub max : bound.max.0 ≤ℤ pos most
+
+-- then none is wider
+abbrev pub BoundsAreWithin : Type 0
+BoundsAreWithin = (i : BoundsIn) (most : ℕ) (bounds : List Bound)
+    → BoundsFit i → AskUpTo i most → AreBounds i bounds → All (IsBoundUpTo most) bounds
+
+-- the columns of a table together are as wide as it says
+abbrev pub ColumnsFillTheSpace : Type 0
+ColumnsFillTheSpace = (bounds : List Bound) (space : ℤ) (widths : List Unit)
+    → 0 < length bounds → AreAutoColumns bounds space widths → sum_of widths ≡ space
+
+-- what a column gets
+pub record IsWithin (bounds : List Bound) (space : ℤ) (widths : List Unit) (i : ℕ) : Type 0 where
+  pub least : min_at bounds i ≤ℤ width_at widths i
+  pub most : space ≤ℤ sum_max bounds → width_at widths i ≤ℤ max_at bounds i
+  pub beyond : sum_max bounds <ℤ space → max_at bounds i ≤ℤ width_at widths i
+
+abbrev pub ColumnsAreWithin : Type 0
+ColumnsAreWithin = (bounds : List Bound) (space : ℤ) (widths : List Unit) (i : ℕ)
+    → All BoundFits bounds → sum_min bounds ≤ℤ space → AreAutoColumns bounds space widths
+    → i < length bounds → IsWithin bounds space widths i

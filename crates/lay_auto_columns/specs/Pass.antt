@@ -1,0 +1,2 @@
+-- What is known while loops run.
+pub mod Steps
