@@ -1,0 +1,15 @@
+//! Batches of claims on threads that steal.
+//!
+//! `run_batch` computes the claims of a list on as many threads as it is told, and answers what came of each, in the order of the list:
+//! `AreOutcomesOf` of lay_claims, whichever thread was at a claim and when. Each thread has a deque of the places that were dealt to it
+//! and takes places of the others once it has none left. What a thread finds is known by the contract of what it runs
+//! (`specs/Finds.antt`), and what none has found is computed at the end by the caller; so nothing has to be known of the deques.
+#![tactic(auto)]
+
+mod batch;
+mod deques;
+mod draining;
+mod member;
+mod notes;
+
+pub use batch::run_batch;
