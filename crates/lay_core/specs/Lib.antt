@@ -1,10 +1,5 @@
-pub mod State
-pub mod Work
-pub mod Publishing
-pub mod Steps
-pub mod Claims
-pub mod CellLaws
+pub mod Changes
 pub mod Laws
 pub mod Rounds
-pub mod Changes
-pub mod Parts
+pub mod State
+pub mod Steps

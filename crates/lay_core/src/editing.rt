@@ -1,24 +1,32 @@
-//! An edit of a document with its cells.
+//! An edit of a document that may be dirty.
 
-ghost use Rattle.std.specs.Prelude.{◌≡◌, ◌<◌, ◌≤◌, ◌^◌, ◌-◌, ◌+◌};
+ghost use Rattle.std.specs.Prelude.{◌≡◌, ◌<◌, ◌^◌, ◌-◌};
 ghost use Rattle.lay_core.specs.Changes.{ChangesTo};
 
-use lay_doc::{Edit, Reply};
-use lay_document_cells::DocumentCells;
+use lay_doc::{Doc, Edit, Reply};
+use lay_frag::Tree;
+use std::alloc::Global;
+use std::sync::Arc;
 
-/// The reply to an edit, which is applied where it has no fault and memory is there: one edit more is accepted then.
-pub(crate) fn edited(cells: &mut DocumentCells, accepted: &mut u64, edit: &Edit) -> Reply
-    requires few { accepted.old < 2 ^ 64 - 1 }
-    requires draws { cells.old.cells.draws ≤ 2 ^ 63 + 2 ^ 51 }
-    ensures change { ChangesTo edit.now result (cells.old, accepted.old) (cells.new, accepted.new) }
-    ensures draws { cells.new.cells.draws ≤ cells.old.cells.draws + 2 ^ 18 }
+/// The reply to an edit, which is applied where it has no fault and memory is there: the document is dirty then, and one
+/// edit more is accepted.
+pub(crate) fn edited(
+    alloc: Global,
+    doc: &mut Doc,
+    fresh: &mut Option<Arc<Tree>>,
+    accepted: &mut u64,
+    edit: &Edit,
+) -> Reply
+    requires { accepted.old < 2 ^ 64 - 1 }
+    ensures { ChangesTo edit.now result (doc.old, fresh.old, accepted.old) (doc.new, fresh.new, accepted.new) }
 {
-    if let Err(fault) = cells.doc().check(edit) {
+    if let Err(fault) = doc.check(edit) {
         return Reply::Refused(fault);
     }
-    if cells.edit(edit).is_err() {
+    if doc.apply(alloc, edit).is_err() {
         return Reply::NoMemory;
     }
+    *fresh = None;
     *accepted += 1;
     Reply::Accepted(*accepted)
 }

@@ -1,0 +1,5 @@
+use Rattle.lay_cell_core.proofs.One.{one_edit as holds}
+use Rattle.lay_cell_core.proofs.laws.one_edit.Goals as goal
+
+pub returns : goal.returns
+returns c = holds c.one_edit.ensures

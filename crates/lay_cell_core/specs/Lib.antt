@@ -1,0 +1,10 @@
+pub mod State
+pub mod Work
+pub mod Publishing
+pub mod Steps
+pub mod Claims
+pub mod CellLaws
+pub mod Laws
+pub mod Rounds
+pub mod Changes
+pub mod Parts
