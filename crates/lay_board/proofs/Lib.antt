@@ -1,0 +1,5 @@
+pub mod Lists
+pub mod Additions
+pub mod Steps
+pub mod Turns
+pub mod Makings

@@ -1,0 +1,87 @@
+//! The engine, and the calls of editors on it.
+
+ghost use Rattle.std.specs.Prelude.{◌≡◌, ◌<◌, ◌≤◌, length};
+ghost use Rattle.lay_board.specs.Passes.{Calls};
+ghost use Rattle.lay_doc.specs.declared.history.Entry.TheVariants as entry;
+
+use crate::pass::Pass;
+use crate::table::{Looks, Shelf};
+use crate::turn::{begun, ended};
+use lay_doc::{Edit, Reply};
+use std::marker::Model;
+use std::sync::{Mutex, Wait};
+
+/// One lock for all turns, and the table in whose slot the core lies.
+#[derive(Drop)]
+pub struct Engine {
+    pub(crate) gate: Mutex<()>,
+    pub(crate) table: Shelf,
+}
+
+impl Model for Engine {
+    ghost use Rattle.std.specs.Prelude.{◌≡◌};
+    ghost use Rattle.lay_board.specs.Passes.{EngineOf};
+
+    ghost Value = { EngineOf };
+
+    ghost view = { λ e. record { table = e.table.shared.table_id } };
+
+    ghost invariant = { λ e. (e.table.shared.table_id.words ≡ 2) × (e.table.shared.table_id.slots ≡ 1) };
+}
+
+impl Engine {
+    /// A call of the pass's editor that edits the document, in one turn of the lock. The reply is Accepted with the new version, Refused
+    /// with the first fault of the edit, or NoMemory.
+    pub fn edit<R: Wait>(&self, rt: &R, pass: Pass, edit: Edit) -> (Reply, Pass)
+        requires of { pass.table ≡ self.now.table }
+        requires left { 0 < pass.knows.left }
+        ensures of { result.1.table ≡ pass.table }
+        ensures call { Calls pass.knows result.1.knows (entry.Edit pass.knows.number (length pass.knows.own) edit result.0) }
+    {
+        let _turn = self.gate.lock(rt);
+        let (mut core, turn) = begun(rt, &self.table, pass);
+        let reply = core.edit(turn.editor, turn.index, edit);
+        let pass = ended(&self.table, turn, core);
+        (reply, pass)
+    }
+
+    /// A call that asks for the version that was published last, in one turn of the lock. The reply is Shown with it, or NoMemory.
+    pub fn latest<R: Wait>(&self, rt: &R, pass: Pass) -> (Reply, Pass)
+        requires of { pass.table ≡ self.now.table }
+        requires left { 0 < pass.knows.left }
+        ensures of { result.1.table ≡ pass.table }
+        ensures call { Calls pass.knows result.1.knows (entry.Latest pass.knows.number (length pass.knows.own) result.0) }
+    {
+        let _turn = self.gate.lock(rt);
+        let (mut core, turn) = begun(rt, &self.table, pass);
+        let reply = core.latest(turn.editor, turn.index);
+        let pass = ended(&self.table, turn, core);
+        (reply, pass)
+    }
+
+    /// A call that asks for the version with all edits that were accepted so far, in one turn of the lock. The reply is Shown with it, or
+    /// NoMemory.
+    pub fn sync<R: Wait>(&self, rt: &R, pass: Pass) -> (Reply, Pass)
+        requires of { pass.table ≡ self.now.table }
+        requires left { 0 < pass.knows.left }
+        ensures of { result.1.table ≡ pass.table }
+        ensures call { Calls pass.knows result.1.knows (entry.Sync pass.knows.number (length pass.knows.own) result.0) }
+    {
+        let _turn = self.gate.lock(rt);
+        let (mut core, turn) = begun(rt, &self.table, pass);
+        let reply = core.sync(turn.editor, turn.index);
+        let pass = ended(&self.table, turn, core);
+        (reply, pass)
+    }
+
+    /// The length of the history at one moment: one load, and no lock.
+    pub fn front(&self, pass: &mut Pass) -> u64
+        requires of { pass.old.table ≡ self.now.table }
+        ensures seen { pass.old.knows.seen ≤ result }
+        ensures pass { pass.new ≡ record pass.old { knows = record pass.old.knows { seen = result } } }
+    {
+        let found = self.table.shared.load::<Looks>(&mut pass.seat, 0);
+        pass.seen = found;
+        found
+    }
+}
