@@ -6,10 +6,10 @@ use Rattle.lay_doc.specs.declared.command.Reply.TheVariants.{Accepted, Refused, 
 use Rattle.lay_doc.specs.declared.history.Entry.{Entry}
 use Rattle.lay_doc.specs.declared.history.Entry.TheVariants.{Edit, Publish, Latest, Sync}
 use Rattle.lay_history.specs.Histories.{accepted}
-use Rattle.lay_cell_core.specs.State.{State}
-use Rattle.lay_cell_core.specs.Steps.{EditsTo, LatestTo, ShowsLatest, ShowsPresent, SyncTo, called, is_due}
-use Rattle.lay_cell_core.specs.Publishing.{PublishesUnless, is_last}
-use Rattle.lay_cell_core.specs.Work.{SettlesTo, StopsAt}
+use Rattle.lay_core.specs.State.{State}
+use Rattle.lay_core.specs.Steps.{EditsTo, LatestTo, ShowsLatest, ShowsPresent, SyncTo, called, is_due}
+use Rattle.lay_core.specs.Publishing.{PublishesUnless, is_last}
+use Rattle.lay_core.specs.Work.{SettlesTo, StopsAt}
 use Rattle.lay_board.specs.Cores.{Adds, origin_of}
 use Rattle.lay_board.specs.Entries.{by_editor, own_if}
 use Rattle.lay_board.proofs.Lists.{by_editor_append}

@@ -13,7 +13,7 @@ use Rattle.lay_board.specs.declared.views.PassView.{PassView}
 use Rattle.lay_board.specs.declared.views.MakerView.{MakerView}
 use Rattle.lay_board.specs.declared.views.View.{View}
 use Rattle.lay_board.specs.Entries.{by_editor, Begins}
-use Rattle.lay_cell_core.specs.State.{State}
+use Rattle.lay_core.specs.State.{State}
 use Rattle.lay_board.specs.Cores.{Adds, IsQuiet, most_draws, origin_of}
 use Rattle.lay_board.specs.declared.views.Origin.{Origin}
 use Rattle.lay_board.specs.Rules.{At, pass_of, hold_of, maker_of, met_of, calls_of, all_calls, Fits, IsCoreOf, IsKept, IsNoEditor, MeetsPass, MeetsMaker, TakesIt, TellsIt, GivesIt, LooksIt, ComesIt, LearnsIt, meeting, SeatView, guest, held_by, maker_view, pass_view, maker_after, next_pass, grown, left_of_pass}

@@ -2,7 +2,7 @@
 use Rattle.std.proofs.Common.{◌≡◌, ℕ, ◌+◌, ◌-◌, ◌<◌, ◌≤◌, List, [], ◌∷◌, ◌++◌, length, Some, None, IfSome, refl, sym, ap, ◌∙◌, subst, arith, length-append, append_assoc}
 use Rattle.lay_doc.specs.declared.history.Entry.{Entry}
 use Rattle.lay_history.specs.Legal.{IsLegal}
-use Rattle.lay_cell_core.specs.State.{State}
+use Rattle.lay_core.specs.State.{State}
 use Rattle.lay_board.specs.Cores.{Adds}
 use Rattle.lay_board.specs.Entries.{Begins, by_editor}
 use Rattle.lay_board.specs.Passes.{Calls, IsCloser, IsPass, IsTurn, known_of, maker_in}

@@ -3,7 +3,7 @@ use Rattle.std.specs.Prelude.{◌≡◌, ◌≢◌, ◌⊎◌, ℕ, ◌+◌, ◌
 use Rattle.lay_doc.specs.Document.{Document}
 use Rattle.lay_face.specs.FaceValue.{FaceValue}
 use Rattle.lay_doc.specs.declared.history.Entry.{Entry}
-use Rattle.lay_cell_core.specs.State.{State}
+use Rattle.lay_core.specs.State.{State}
 use Rattle.lay_board.specs.Entries.{by_editor}
 use Rattle.lay_board.specs.declared.views.Origin.{Origin}
 

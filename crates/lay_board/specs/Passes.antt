@@ -3,7 +3,7 @@ use Rattle.std.specs.Prelude.{◌≡◌, ℕ, ◌+◌, ◌<◌, ◌≤◌, List,
 use Rattle.atomic_table.specs.Seated.{TableId}
 use Rattle.lay_doc.specs.declared.history.Entry.{Entry}
 use Rattle.lay_history.specs.Legal.{IsLegal}
-use Rattle.lay_cell_core.specs.State.{State}
+use Rattle.lay_core.specs.State.{State}
 use Rattle.lay_board.specs.Cores.{origin_with}
 use Rattle.lay_board.specs.Entries.{Begins, by_editor}
 use Rattle.lay_board.specs.Rules.{MeetsPass, SeatView, held_by, maker_view, pass_view}

@@ -7,7 +7,7 @@ use Rattle.lay_doc.specs.declared.history.Entry.{Entry}
 use Rattle.lay_board.specs.declared.views.PassView.{PassView}
 use Rattle.lay_board.specs.declared.views.MakerView.{MakerView}
 use Rattle.lay_board.specs.declared.views.View.{View}
-use Rattle.lay_cell_core.specs.State.{State}
+use Rattle.lay_core.specs.State.{State}
 use Rattle.lay_board.specs.Cores.{most_draws, origin_of}
 use Rattle.lay_board.specs.declared.views.Origin.{Origin}
 use Rattle.lay_board.specs.Entries.{by_editor, Begins}

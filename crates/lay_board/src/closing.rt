@@ -13,7 +13,7 @@ use crate::pass::Pass;
 use crate::starting::{Closer, Passes};
 use crate::table::{CoreSeat, Learns, Meets, Shelf};
 use crate::turn::take_core;
-use lay_cell_core::Core;
+use lay_core::Core;
 use std::sync::Wait;
 
 impl Engine {

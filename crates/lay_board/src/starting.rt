@@ -9,7 +9,7 @@ ghost use Rattle.lay_board.specs.declared.views.Origin.{Origin as AnOrigin};
 use crate::engine::Engine;
 use crate::pass::Pass;
 use crate::table::{CoreSeat, Makes, Shelf, Terms};
-use lay_cell_core::Core;
+use lay_core::Core;
 use lay_doc::Doc;
 use lay_face::Face;
 use lay_units::NoMemory;

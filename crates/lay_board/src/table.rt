@@ -2,7 +2,7 @@
 
 use crate::views::View;
 use atomic_table::{Join, Play, Seat, Split, Table, TableRule};
-use lay_cell_core::Core;
+use lay_core::Core;
 use lay_doc::Doc;
 use lay_face::Face;
 use std::alloc::Global;

@@ -6,12 +6,12 @@ ghost use Rattle.lay_board.specs.Passes.{Calls, IsTurn, known_of};
 ghost use Rattle.lay_board.specs.Rules.{MeetsMaker, MeetsPass, grown, guest, held_by, pass_view};
 ghost use Rattle.lay_board.specs.declared.views.PassView.{PassView as APass};
 ghost use Rattle.lay_board.specs.declared.views.View.{View as AView};
-ghost use Rattle.lay_cell_core.specs.State.{State};
+ghost use Rattle.lay_core.specs.State.{State};
 ghost use Rattle.lay_doc.specs.declared.history.Entry.{Entry};
 
 use crate::pass::Pass;
 use crate::table::{Comes, CoreSeat, Gives, Shelf, Takes, Tells};
-use lay_cell_core::Core;
+use lay_core::Core;
 use std::sync::Wait;
 use std::thread;
 

@@ -1,6 +1,6 @@
 //! What those who have a seat at the table know. No value of these types is made.
 
-use lay_cell_core::Core;
+use lay_core::Core;
 use lay_doc::{Doc, Entry};
 use lay_face::Face;
 use std::collections::LinkedList;

@@ -1,12 +1,17 @@
--- To lay out and to publish answers no call.
-use Rattle.std.proofs.Common.{◌≡◌, List, Bool, true, false, if◌then◌else◌, Option, Some, None, refl, sym, ap, ◌∙◌, subst, append-nil}
+-- To settle and to publish answers no call.
+use Rattle.std.proofs.Common.{◌≡◌, List, Bool, true, false, refl, ap, ◌∙◌, subst, sym, append-nil, inl, inr}
+use Rattle.lay_doc.specs.declared.command.Reply.{Reply}
+use Rattle.lay_doc.specs.declared.command.Reply.TheVariants.{Accepted, Refused, Shown, NoMemory}
 use Rattle.lay_doc.specs.declared.history.Entry.TheVariants.{Publish}
 use Rattle.lay_frag.specs.Pieces.{Context}
 use Rattle.lay_history.specs.Histories.{accepted}
 use Rattle.lay_history.specs.Calls.{calls}
 use Rattle.lay_history.proofs.OneMore.{calls_more}
+use Rattle.lay_document_cells.specs.State.{State as DocumentCells}
 use Rattle.lay_core.specs.State.{State}
-use Rattle.lay_core.specs.Steps.{RefreshesTo, SettlesFrom, is_last, published_from, with_tree}
+use Rattle.lay_core.specs.Publishing.{PublishesUnless, RefreshesTo, is_last, with_tree}
+use Rattle.lay_core.specs.Steps.{ShowsLatest, ShowsPresent}
+use Rattle.lay_core.specs.Work.{ChangesCells, MaySettle}
 use Rattle.lay_core.specs.Rounds.{IsQuiet}
 
 same_quiet : (s t : State) → t ≡ s → IsQuiet s t
@@ -17,9 +22,8 @@ same_quiet s t e = record {
   call = ap (λ x. calls x.history) e;
 }
 
-settles_quiet : (o : Option (List Context)) (s t : State) → SettlesFrom o s t → IsQuiet s t
-settles_quiet (Some tree) s t does = same_quiet s t does
-settles_quiet None s t does = record {
+pub change_quiet : (Does : DocumentCells → DocumentCells → Type 0) (s t : State) → ChangesCells Does s t → IsQuiet s t
+change_quiet Does s t does = record {
   init = ap (λ x. x.init) does.state;
   face = ap (λ x. x.face) does.state;
   left = ap (λ x. x.calls_left) does.state;
@@ -34,18 +38,26 @@ tree_quiet s tree = record {
   call = calls_more s.history (Publish (accepted s.history)) ∙ append-nil (calls s.history);
 }
 
-unless_quiet : (s : State) (tree : List Context) (b : Bool) → IsQuiet s (if b then s else with_tree s tree)
-unless_quiet s tree true = same_quiet s s refl
-unless_quiet s tree false = tree_quiet s tree
-
-published_quiet : (o : Option (List Context)) (s : State) → IsQuiet s (published_from o s)
-published_quiet (Some tree) s = unless_quiet s tree (is_last s)
-published_quiet None s = same_quiet s s refl
+unless_quiet : (b : Bool) (s t : State) → PublishesUnless b s t → IsQuiet s t
+unless_quiet true s t does = same_quiet s t does
+unless_quiet false s t does = subst (λ x. IsQuiet s x) (sym does.state) (tree_quiet s does.tree)
 
 then_quiet : (s m t : State) → IsQuiet s m → IsQuiet m t → IsQuiet s t
 then_quiet s m t a b = record { init = b.init ∙ a.init; face = b.face ∙ a.face; left = b.left ∙ a.left; call = b.call ∙ a.call }
 
 pub refresh_quiet : (s t : State) → RefreshesTo s t → IsQuiet s t
 refresh_quiet s t does =
-    then_quiet s does.settled t (settles_quiet s.fresh s does.settled does.settles)
-    (subst (λ x. IsQuiet does.settled x) (sym does.state) (published_quiet does.settled.fresh does.settled))
+    then_quiet s does.settled t (change_quiet _ s does.settled does.settles) (unless_quiet (is_last does.settled) does.settled t does.publishes)
+
+may_settle_quiet : (s t : State) → MaySettle s t → IsQuiet s t
+may_settle_quiet s t does = elim does [ inl all ↦ change_quiet _ s t all | inr some ↦ change_quiet _ s t some ]
+
+pub present_quiet : (s t : State) (r : Reply) → ShowsPresent s r t → IsQuiet s t
+present_quiet s t (Accepted v) shows = absurd shows
+present_quiet s t (Refused f) shows = absurd shows
+present_quiet s t (Shown v) shows = refresh_quiet s t shows.1
+present_quiet s t NoMemory shows = may_settle_quiet s t shows
+
+pub latest_quiet : (due : Bool) (s t : State) (r : Reply) → ShowsLatest due s r t → IsQuiet s t
+latest_quiet true s t r shows = present_quiet s t r shows
+latest_quiet false s t r shows = same_quiet s t shows.1

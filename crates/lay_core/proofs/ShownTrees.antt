@@ -7,7 +7,6 @@ use Rattle.lay_doc.specs.declared.history.Entry.{Entry}
 use Rattle.lay_history.specs.Histories.{doc_at, published, version_in}
 use Rattle.lay_history.proofs.ShownVersions.{shown_last}
 use Rattle.lay_context.specs.Solves.{Solves}
-use Rattle.lay_core.specs.State.{State}
 use Rattle.lay_core.specs.Laws.{ShownTrees}
 use Rattle.lay_core.proofs.LastTree.{IsFound, found, listed}
 

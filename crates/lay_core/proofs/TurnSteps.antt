@@ -1,5 +1,5 @@
 -- The turns of editors, one by one.
-use Rattle.std.proofs.Common.{◌≡◌, ◌<◌, ◌≤◌, ℕ, ◌+◌, zero, suc, List, [], ◌∷◌, ◌++◌, length, take, drop, slice_index_or, slice_set, refl, sym, ap, ◌∙◌, subst, arith, inl, inr, if◌then◌else◌, All}
+use Rattle.std.proofs.Common.{◌≡◌, ◌<◌, ◌≤◌, ℕ, ◌+◌, ◌*◌, ◌^◌, zero, suc, List, [], ◌∷◌, ◌++◌, length, take, drop, slice_index_or, slice_set, refl, sym, ap, ◌∙◌, subst, arith, inl, inr, if◌then◌else◌, All}
 use Rattle.std.proofs.lemmas.Bool.{cases_eq, cases_lt}
 use Rattle.std.proofs.lemmas.Bool.Decides.{leb_tells}
 use Rattle.std.proofs.lemmas.List.{get_or-set_other, get_or-set_same, take_all}
@@ -12,7 +12,7 @@ use Rattle.lay_history.specs.Calls.{AnswersScripts, Call, IsEarlier, TakesTurns,
 use Rattle.lay_history.proofs.Lists.{not_none, take_front}
 use Rattle.lay_history.proofs.Turns.{AreInTurn, turn_more}
 use Rattle.lay_core.specs.State.{State}
-use Rattle.lay_core.specs.Steps.{new_core}
+use Rattle.lay_core.specs.Steps.{IsNewCore}
 use Rattle.lay_core.specs.Rounds.{HadTurns, IsAnswered, IsAtTurn, IsQuiet, TakesTurn, turns_of}
 use Rattle.lay_core.proofs.Fronts.{GoesOn, IsOver, front_calls, next_of, other_more, over_of, own_more}
 
@@ -174,10 +174,11 @@ pub record SoFar (index k : ℕ) (left : List (List Cmd)) (s : State) (rest : Li
   pub face : t.face ≡ s.face
   pub editors : length rest ≡ length left
   pub few : command_count rest ≤ t.calls_left
+  pub draws : t.cells.draws + 2 ^ 18 * t.calls_left ≤ s.cells.draws + 2 ^ 18 * s.calls_left
   pub turns : (scripts : List (List Cmd)) → IsAtTurn scripts index 0 left s → IsAtTurn scripts index k rest t
 
 pub none_so_far : (index : ℕ) (left : List (List Cmd)) (s : State) → command_count left ≤ s.calls_left → SoFar index 0 left s left s
-none_so_far index left s few = record { init = refl; face = refl; editors = refl; few = few; turns = λ scripts at. at }
+none_so_far index left s few = record { init = refl; face = refl; editors = refl; few = few; draws = omega arith; turns = λ scripts at. at }
 
 -- what an editor's commands are of all that are left
 pub few_own : (left : List (List Cmd)) (k : ℕ) (d : List Cmd) (calls : ℕ) → k < length left → command_count left ≤ calls → length (slice_index_or left k d) ≤ calls
@@ -204,6 +205,13 @@ length_set [] k x = refl
 length_set (y ∷ xs) zero x = refl
 length_set (y ∷ xs) (suc k) x = ap suc (length_set xs k x)
 
+-- a call that is answered draws few numbers
+draws_after : (editor index : ℕ) (s t : State) (o rest : List Cmd) → TakesTurn s editor index o t rest
+    → t.cells.draws + 2 ^ 18 * t.calls_left ≤ s.cells.draws + 2 ^ 18 * s.calls_left
+draws_after editor index s t [] rest takes =
+    let a = ap (λ x. x.calls_left) takes.0 in let b = ap (λ x. x.cells.draws) takes.0 in omega (arith, a, b)
+draws_after editor index s t (x ∷ xs) rest takes = let a = takes.0.left in let b = takes.0.draws in omega (arith, a, b)
+
 pub one_more : (index k : ℕ) (left : List (List Cmd)) (s : State) (now : List (List Cmd)) (t u : State) (d rest : List Cmd) → k < length now
     → SoFar index k left s now t → TakesTurn t (k + 1) index (slice_index_or now k d) u rest → SoFar index (k + 1) left s (slice_set now k rest) u
 one_more index k left s now t u d rest lt so takes = record {
@@ -211,6 +219,7 @@ one_more index k left s now t u d rest lt so takes = record {
   face = (init_after index k t u (own_script now k) rest own).1 ∙ so.face;
   editors = length_set now k rest ∙ so.editors;
   few = few_after index k now t u (own_script now k) rest lt (own_now now k [] lt) own so.few;
+  draws = let a = so.draws in let b = draws_after (k + 1) index t u (own_script now k) rest own in omega (arith, a, b);
   turns = λ scripts at. turn_by scripts index k now t u (own_script now k) rest lt refl own (so.turns scripts at);
 }
   where
@@ -223,6 +232,7 @@ all_had index k left s rest t k_is so = record {
   face = so.face;
   editors = so.editors;
   few = so.few;
+  draws = so.draws;
   turns = λ scripts at. round_over scripts index rest t (subst (λ n. IsAtTurn scripts index n rest t) k_is (so.turns scripts at));
 }
 
@@ -274,16 +284,18 @@ pub record AfterRounds (run : Run) (index : ℕ) (left : List (List Cmd)) (s : S
   pub face : s.face ≡ run.face
   pub editors : length left ≤ 16
   pub few : command_count left ≤ s.calls_left
+  pub draws : s.cells.draws + 2 ^ 18 * s.calls_left ≤ 2 ^ 32
   pub at : IsAtTurn run.scripts index 0 left s
 
 pub before_rounds : (run : Run) (calls : ℕ) (left : List (List Cmd)) (s : State) → left ≡ run.scripts → IsWithinLimits run.scripts → calls ≡ command_count run.scripts
-    → s ≡ new_core run.doc run.face calls → AfterRounds run 0 left s
-before_rounds run calls left s left_is within calls_are s_is = subst (λ ls. AfterRounds run 0 ls s) (sym left_is) record {
-  init = ap (λ x. x.init) s_is;
-  face = ap (λ x. x.face) s_is;
+    → s.cells.draws ≤ 2 ^ 18 → IsNewCore run.doc run.face calls s → AfterRounds run 0 left s
+before_rounds run calls left s left_is within calls_are few new = subst (λ ls. AfterRounds run 0 ls s) (sym left_is) record {
+  init = ap (λ x. x.init) new.state;
+  face = ap (λ x. x.face) new.state;
   editors = within.lists;
-  few = let c = ap (λ x. x.calls_left) s_is in omega (arith, c, calls_are);
-  at = at_start run.scripts s (ap (λ x. x.history) s_is);
+  few = let c = ap (λ x. x.calls_left) new.state in omega (arith, c, calls_are);
+  draws = let c = ap (λ x. x.calls_left) new.state in let w = within.commands in omega (arith, c, calls_are, w, few);
+  at = at_start run.scripts s (ap (λ x. x.history) new.state);
 }
 
 pub next_round : (run : Run) (index : ℕ) (left : List (List Cmd)) (s : State) (rest : List (List Cmd)) (t : State)
@@ -293,6 +305,7 @@ next_round run index left s rest t is turns = record {
   face = turns.face ∙ is.face;
   editors = let a = turns.editors in let b = is.editors in omega (arith, a, b);
   few = turns.few;
+  draws = let a = is.draws in let b = turns.draws in omega (arith, a, b);
   at = turns.turns run.scripts is.at;
 }
 

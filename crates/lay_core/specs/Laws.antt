@@ -1,5 +1,6 @@
--- The state that a call leaves is the only one, but for want of memory; and which trees a core has.
-use Rattle.std.specs.Prelude.{ℕ, ◌≡◌, List, slice_get, Some}
+-- What editors see of a core after a call is decided by what they saw before, but for want of memory; and which trees a core has.
+-- Beside what they see there are the cells, whose numbers tell how the work on them went.
+use Rattle.std.specs.Prelude.{ℕ, ◌≡◌, List, [], slice_get, Some}
 use Rattle.lay_doc.specs.declared.edit.Edit.{Edit as Change}
 use Rattle.lay_doc.specs.Document.{IsDocument}
 use Rattle.lay_doc.specs.declared.command.Reply.{Reply}
@@ -10,29 +11,52 @@ use Rattle.lay_history.specs.Histories.{accepted, doc_at, shown_version}
 use Rattle.lay_history.specs.Legal.{IsWhole}
 use Rattle.lay_history.specs.Trees.{tree_at}
 use Rattle.lay_context.specs.Solves.{Solves}
-use Rattle.lay_core.specs.State.{IsCore, IsCounted, State}
-use Rattle.lay_core.specs.Steps.{EditsTo, LatestTo, RefreshesTo, SettlesTo, SyncTo}
+use Rattle.lay_core.specs.Publishing.{PublishesTo, RefreshesTo}
+use Rattle.lay_core.specs.State.{IsCore, IsCounted, State, is_clean}
+use Rattle.lay_core.specs.Steps.{EditsTo, LatestTo, SyncTo}
+use Rattle.lay_core.specs.Work.{SettlesTo}
+use Rattle.lay_core.specs.declared.answers.Publish.{Publish}
+use Rattle.lay_core.specs.declared.answers.Publish.TheVariants.{NoMemory as no_publishing}
 
--- a layout of the document
+-- without the cells and the number of grants
+abbrev pub seen : State → State
+seen s = record s { cells = record { rows = []; draws = 0 }; laid = 0 }
+
+-- document, history and trees are the same, and what else editors see
+abbrev pub AreSeenAlike : State → State → Type 0
+AreSeenAlike s z = seen s ≡ seen z
+
+-- where cells are settled, nothing is seen of it
 abbrev pub OneSettling : Type 0
-OneSettling = (s t u : State) → IsDocument s.document → SettlesTo s t → SettlesTo s u → t ≡ u
+OneSettling = (s z t u : State) → AreSeenAlike s z → SettlesTo s t → SettlesTo z u → AreSeenAlike t u
 
+-- the present version is published in one way
 abbrev pub OneRefreshing : Type 0
-OneRefreshing = (s t u : State) → IsDocument s.document → RefreshesTo s t → RefreshesTo s u → t ≡ u
+OneRefreshing = (s z t u : State) → IsDocument s.document → AreSeenAlike s z → RefreshesTo s t → RefreshesTo z u → AreSeenAlike t u
 
--- an edit has one reply and leaves one state
+abbrev pub OnePublishing : Type 0
+OnePublishing = (s t u : State) (p q : Publish) → IsDocument s.document → (p ≡ no_publishing → ⊥) → (q ≡ no_publishing → ⊥)
+    → PublishesTo s p t → PublishesTo s q u → (p ≡ q) × (t ≡ u)
+
+-- an edit has one reply and leaves one state, also of cells
 abbrev pub OneEdit : Type 0
-OneEdit = (s t u : State) (editor index : ℕ) (edit : Change) (q r : Reply) → (q ≡ NoMemory → ⊥) → (r ≡ NoMemory → ⊥)
+OneEdit = (s t u : State) (editor index : ℕ) (edit : Change) (q r : Reply) → IsCore s → IsCore t → (q ≡ NoMemory → ⊥) → (r ≡ NoMemory → ⊥)
     → EditsTo s editor index edit q t → EditsTo s editor index edit r u → (q ≡ r) × (t ≡ u)
 
--- so do `Latest` and `Sync`
+-- and what is seen of it comes of what was seen, whatever the cells were
+abbrev pub OneSeenEdit : Type 0
+OneSeenEdit = (s z t u : State) (editor index : ℕ) (edit : Change) (q r : Reply) → AreSeenAlike s z → (q ≡ NoMemory → ⊥) → (r ≡ NoMemory → ⊥)
+    → EditsTo s editor index edit q t → EditsTo z editor index edit r u → (q ≡ r) × AreSeenAlike t u
+
+-- so it is with `Latest`, where some cell was dirty in both or in neither, and with `Sync`
 abbrev pub OneLatest : Type 0
-OneLatest = (s t u : State) (editor index : ℕ) (q r : Reply) → IsDocument s.document → (q ≡ NoMemory → ⊥) → (r ≡ NoMemory → ⊥)
-    → LatestTo s editor index q t → LatestTo s editor index r u → (q ≡ r) × (t ≡ u)
+OneLatest = (s z t u : State) (editor index : ℕ) (q r : Reply) → IsDocument s.document → AreSeenAlike s z → is_clean s ≡ is_clean z
+    → (q ≡ NoMemory → ⊥) → (r ≡ NoMemory → ⊥)
+    → LatestTo s editor index q t → LatestTo z editor index r u → (q ≡ r) × AreSeenAlike t u
 
 abbrev pub OneSync : Type 0
-OneSync = (s t u : State) (editor index : ℕ) (q r : Reply) → IsDocument s.document → (q ≡ NoMemory → ⊥) → (r ≡ NoMemory → ⊥)
-    → SyncTo s editor index q t → SyncTo s editor index r u → (q ≡ r) × (t ≡ u)
+OneSync = (s z t u : State) (editor index : ℕ) (q r : Reply) → IsDocument s.document → AreSeenAlike s z → (q ≡ NoMemory → ⊥) → (r ≡ NoMemory → ⊥)
+    → SyncTo s editor index q t → SyncTo z editor index r u → (q ≡ r) × AreSeenAlike t u
 
 -- the last version has a tree, which is the layout of the document, and each of whose contexts was counted
 pub record HasLastTree (s : State) : Type 0 where

@@ -1,16 +1,17 @@
 -- How far the scripts of editors are answered, while the editors take turns.
-use Rattle.std.specs.Prelude.{ℕ, ◌≡◌, ◌+◌, ◌≤◌, List, [], ◌∷◌, ◌++◌, length, take, drop, nat_le, if◌then◌else◌}
+use Rattle.std.specs.Prelude.{ℕ, ◌≡◌, ◌+◌, ◌*◌, ◌≤◌, ◌^◌, List, [], ◌∷◌, ◌++◌, length, take, drop, nat_le, if◌then◌else◌}
 use Rattle.std.specs.List.{All}
 use Rattle.lay_doc.specs.declared.command.Cmd.{Cmd}
 use Rattle.lay_run.specs.Scripts.{command_count}
 use Rattle.lay_history.specs.Calls.{IsEarlier, TakesTurns, calls, calls_of, script_calls, script_of}
 use Rattle.lay_core.specs.State.{State}
 
--- one call more is answered, and nothing is changed beside its document, trees and history
+-- one call more is answered, and nothing is changed beside its document, cells, trees and history
 pub record IsAnswered (s : State) (editor index : ℕ) (command : Cmd) (t : State) : Type 0 where
   pub init : t.init ≡ s.init
   pub face : t.face ≡ s.face
   pub left : t.calls_left + 1 ≡ s.calls_left
+  pub draws : t.cells.draws ≤ s.cells.draws + 2 ^ 18
   pub call : calls t.history ≡ calls s.history ++ record { editor = editor; index = index; command = command } ∷ []
 
 -- no call is answered
@@ -43,4 +44,5 @@ pub record HadTurns (index : ℕ) (left : List (List Cmd)) (s : State) (rest : L
   pub face : t.face ≡ s.face
   pub editors : length rest ≡ length left
   pub few : command_count rest ≤ t.calls_left
+  pub draws : t.cells.draws + 2 ^ 18 * t.calls_left ≤ s.cells.draws + 2 ^ 18 * s.calls_left
   pub turns : (scripts : List (List Cmd)) → IsAtTurn scripts index 0 left s → IsAtTurn scripts (index + 1) 0 rest t

@@ -1,32 +1,24 @@
-//! An edit of a document that may be dirty.
+//! An edit of a document with its cells.
 
-ghost use Rattle.std.specs.Prelude.{◌≡◌, ◌<◌, ◌^◌, ◌-◌};
+ghost use Rattle.std.specs.Prelude.{◌≡◌, ◌<◌, ◌≤◌, ◌^◌, ◌-◌, ◌+◌};
 ghost use Rattle.lay_core.specs.Changes.{ChangesTo};
 
-use lay_doc::{Doc, Edit, Reply};
-use lay_frag::Tree;
-use std::alloc::Global;
-use std::sync::Arc;
+use lay_doc::{Edit, Reply};
+use lay_document_cells::DocumentCells;
 
-/// The reply to an edit, which is applied where it has no fault and memory is there: the document is dirty then, and one
-/// edit more is accepted.
-pub(crate) fn edited(
-    alloc: Global,
-    doc: &mut Doc,
-    fresh: &mut Option<Arc<Tree>>,
-    accepted: &mut u64,
-    edit: &Edit,
-) -> Reply
-    requires { accepted.old < 2 ^ 64 - 1 }
-    ensures { ChangesTo edit.now result (doc.old, fresh.old, accepted.old) (doc.new, fresh.new, accepted.new) }
+/// The reply to an edit, which is applied where it has no fault and memory is there: one edit more is accepted then.
+pub(crate) fn edited(cells: &mut DocumentCells, accepted: &mut u64, edit: &Edit) -> Reply
+    requires few { accepted.old < 2 ^ 64 - 1 }
+    requires draws { cells.old.cells.draws ≤ 2 ^ 63 + 2 ^ 51 }
+    ensures change { ChangesTo edit.now result (cells.old, accepted.old) (cells.new, accepted.new) }
+    ensures draws { cells.new.cells.draws ≤ cells.old.cells.draws + 2 ^ 18 }
 {
-    if let Err(fault) = doc.check(edit) {
+    if let Err(fault) = cells.doc().check(edit) {
         return Reply::Refused(fault);
     }
-    if doc.apply(alloc, edit).is_err() {
+    if cells.edit(edit).is_err() {
         return Reply::NoMemory;
     }
-    *fresh = None;
     *accepted += 1;
     Reply::Accepted(*accepted)
 }

@@ -1,36 +1,54 @@
-//! The laws of the core: what a call leaves is the only state that it may leave, but for want of memory.
+//! The laws of the core: what editors see after a call is decided by what they saw before, but for want of memory; and no call but an
+//! edit makes a cell, drops one or dirties one.
 
-ghost use Rattle.lay_core.specs.Laws.{LastTree, OneEdit, OneLatest, OneRefreshing, OneSettling, OneSync, ShownTrees};
+ghost use Rattle.lay_core.specs.CellLaws.{ClaimsAreWork, FinishesAreWork, GiveBacksAreWork, LatestIsWork, NextClaimsAreWork, PublishingIsWork, RefreshingIsWork, SettlingIsWork, StoppingIsWork, SyncIsWork};
+ghost use Rattle.lay_core.specs.Laws.{LastTree, OneEdit, OneLatest, OnePublishing, OneRefreshing, OneSeenEdit, OneSettling, OneSync, ShownTrees};
 
+use lay_cell_work::Layout;
+use lay_cells::one_first_dirty;
 use lay_context::one_solution;
+use lay_document_cells::one_edit as one_cells_edit;
 
-/// A core that is dirty is laid out in one way.
+/// Nothing is seen of it where cells are settled.
 pub fn one_settling()
     ensures { OneSettling }
-{
-    one_solution();
-}
+{}
 
 /// The present version is published in one way.
 pub fn one_refreshing()
     ensures { OneRefreshing }
 {
-    one_settling();
+    one_solution();
+}
+
+/// To publish has one answer, and leaves one state.
+pub fn one_publishing()
+    ensures { OnePublishing }
+{
+    one_solution();
+    one_first_dirty::<Layout>();
 }
 
 /// An edit has one reply, and leaves one state.
 pub fn one_edit()
     ensures { OneEdit }
+{
+    one_cells_edit();
+}
+
+/// What is seen of it comes of what was seen before.
+pub fn one_seen_edit()
+    ensures { OneSeenEdit }
 {}
 
-/// So has `Latest`.
+/// So it is with `Latest`.
 pub fn one_latest()
     ensures { OneLatest }
 {
     one_refreshing();
 }
 
-/// So has `Sync`.
+/// So it is with `Sync`.
 pub fn one_sync()
     ensures { OneSync }
 {
@@ -45,4 +63,18 @@ pub fn last_tree()
 /// A core has the tree of each version that an entry of its history shows, which solves the document of the version.
 pub fn shown_trees()
     ensures { ShownTrees }
+{}
+
+/// What becomes of cells in a call that is no edit is work on them.
+pub fn calls_work()
+    ensures settling { SettlingIsWork }
+    ensures stopping { StoppingIsWork }
+    ensures publishing { PublishingIsWork }
+    ensures refreshing { RefreshingIsWork }
+    ensures latest { LatestIsWork }
+    ensures sync { SyncIsWork }
+    ensures claims { ClaimsAreWork }
+    ensures next_claims { NextClaimsAreWork }
+    ensures finishes { FinishesAreWork }
+    ensures give_backs { GiveBacksAreWork }
 {}

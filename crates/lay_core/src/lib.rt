@@ -1,24 +1,33 @@
-//! The core of an editing session: a document, the history of what its editors did to it, and the trees of the versions
+//! The core of an editing session: a document with its cells, the history of what its editors did to it, and the trees of the versions
 //! that were published.
 //!
 //! `specs/State.antt` says what a core keeps, whatever calls came before: its history is legal, its document is that of
-//! the history, and each version that the history publishes has its tree, which solves the version's document.
-//! `specs/Steps.antt` says what each call leaves, and `specs/Laws.antt` that it is the only such state, but for want of
-//! memory. Histories are those of lay_history, and trees those of lay_context.
+//! the history, what clean cells keep is of that document (lay_document_cells), and each version that the history publishes has its tree,
+//! which solves the version's document. `specs/Steps.antt` says what each call of an editor leaves, `specs/Publishing.antt` how a version
+//! is published, and `specs/Work.antt` and `Claims.antt` what work on the cells comes to. `specs/Laws.antt` says that what editors see is
+//! decided by what they saw before, but for want of memory, and `specs/CellLaws.antt` that no call but an edit makes a cell, drops one or
+//! dirties one. Histories are those of lay_history, and trees those of lay_context.
 //!
 //! `drive` has the editors of a run take turns: the first command of each, in rising order of editors, then the second ones,
 //! and so on; then it publishes the last version. Its contract is in the words of lay_history (`AnswersScripts`, `TakesTurns`,
 //! `IsWhole`); how far the scripts are answered meanwhile is said in `specs/Rounds.antt`.
 #![tactic(auto)]
 
+mod answers;
+mod cell_calls;
 mod core_state;
 mod editing;
+mod editor_calls;
 mod laws;
+mod publishing;
 mod queue;
+mod showing;
 mod turns;
 
+pub use answers::Publish;
 pub use core_state::Core;
 pub use laws::{
-    last_tree, one_edit, one_latest, one_refreshing, one_settling, one_sync, shown_trees,
+    calls_work, last_tree, one_edit, one_latest, one_publishing, one_refreshing, one_seen_edit,
+    one_settling, one_sync, shown_trees,
 };
 pub use turns::drive;

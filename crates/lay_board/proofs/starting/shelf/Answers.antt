@@ -1,6 +1,6 @@
 use Rattle.std.proofs.Common.{sym, ap, ◌∙◌, subst, List, [], ◌∷◌, ◌++◌, Some, Option}
 use Rattle.atomic_table.specs.Table.{opening}
-use Rattle.lay_cell_core.specs.State.{State}
+use Rattle.lay_core.specs.State.{State}
 use Rattle.lay_board.specs.Cores.{origin_with}
 use Rattle.lay_board.specs.Rules.{IsKept, maker_view}
 use Rattle.lay_board.proofs.Steps.{begins}

@@ -2,4 +2,4 @@ use Rattle.lay_core.proofs.One.{one_refreshing as holds}
 use Rattle.lay_core.proofs.laws.one_refreshing.Goals as goal
 
 pub returns : goal.returns
-returns c = holds c.one_settling.ensures
+returns c = holds c.one_solution.ensures

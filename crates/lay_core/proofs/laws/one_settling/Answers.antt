@@ -2,4 +2,4 @@ use Rattle.lay_core.proofs.One.{one_settling as holds}
 use Rattle.lay_core.proofs.laws.one_settling.Goals as goal
 
 pub returns : goal.returns
-returns c = holds c.one_solution.ensures
+returns c = holds

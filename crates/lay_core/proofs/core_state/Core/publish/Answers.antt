@@ -1,11 +1,27 @@
-use Rattle.std.proofs.Common.{rules}
-use Rattle.lay_core.proofs.Kept.{publish_keeps, publish_room}
+use Rattle.std.proofs.Common.{refl, subst}
+use Rattle.lay_cells.specs.Reads.{IsFirstDirtyKey}
+use Rattle.lay_core.specs.State.{State}
+use Rattle.lay_core.proofs.Kept.{publish_room}
+use Rattle.lay_core.proofs.PartsSteps.{publish_leaves, publishes_of}
 use Rattle.lay_core.proofs.core_state.Core.publish.Goals as goal
 
-pub push_reserved-requires : goal.push_reserved-requires
-push_reserved-requires c = publish_room _ _ _ c.self.invariant (search rules) _ (search rules)
+pub returns-in-Some : goal.returns-in-Some
+returns-in-Some c = (subst (λ (x : State). IsFirstDirtyKey x.cells.rows c.in-Some.key) c.self.view_is (c.in-Some.ensures {u = tt}).some, refl)
 
-pub invariant_of-self-2 : goal.invariant_of-self-2
-invariant_of-self-2 c =
-    rw (c.push_reserved.ensures.items, c.push_reserved.ensures.capacity)
-    (publish_keeps _ c.in-Some.tree.value c.push.new.self.items c.self.inside.accepted _ c.self.invariant (search rules) (search rules) (search rules))
+pub published-published-requires-clause-room : goal.published-published-requires-clause-room
+published-published-requires-clause-room c = λ other. publish_room _ _ _ c.self.invariant.0 other _ refl
+
+pub invariant_of-self : goal.invariant_of-self
+invariant_of-self c =
+    rw (c.published-published.ensures.capacity) (
+      publish_leaves c.published-published.result _ _ _ c.self.invariant.0 c.published-published.new.history.items c.published-published.new.trees.items
+          c.published-published.ensures.ok c.published-published.ensures.same_history c.published-published.ensures.same_trees,
+      c.self.invariant.1,
+    )
+
+pub returns : goal.returns
+returns c =
+    publishes_of c.published-published.result _ _ _ _ c.self.view_is c.self.invariant.0 (c.in_default.ensures {u = tt}).none
+    c.published-published.new.history.items c.published-published.new.trees.items c.answer_of.result
+    c.published-published.ensures.ok c.published-published.ensures.other c.published-published.ensures.same_history c.published-published.ensures.same_trees
+    c.answer_of.ensures.ok c.answer_of.ensures.err

@@ -1,5 +1,0 @@
-use Rattle.lay_cell_core.proofs.One.{one_publishing as holds}
-use Rattle.lay_cell_core.proofs.laws.one_publishing.Goals as goal
-
-pub returns : goal.returns
-returns c = holds c.one_solution.ensures c.one_first_dirty.ensures

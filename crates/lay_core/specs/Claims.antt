@@ -1,0 +1,27 @@
+-- What calls on the cells of a core come to. Nothing else of it changes.
+use Rattle.std.specs.Prelude.{ℕ}
+use Rattle.lay_cells.specs.declared.answers.Finished.{Finished}
+use Rattle.lay_cells.specs.declared.answers.Released.{Released}
+use Rattle.lay_shape.specs.declared.cell_key.CellKey.{CellKey}
+use Rattle.lay_document_cells.specs.Claims.{AnswersClaim as CellsAnswerClaim, AnswersNext as CellsAnswerNext}
+use Rattle.lay_document_cells.specs.Steps.{CellDone, FinishesTo as CellsFinishTo, GivesBackTo as CellsGiveBackTo}
+use Rattle.lay_document_cells.specs.declared.answers.Answer.{Answer}
+use Rattle.lay_document_cells.specs.declared.answers.Next.{Next}
+use Rattle.lay_core.specs.State.{State}
+use Rattle.lay_core.specs.Work.{ChangesCells}
+
+-- a claim of a key
+abbrev pub AnswersClaim : State → CellKey → Answer → State → Type 0
+AnswersClaim s key answer t = ChangesCells (λ d e. CellsAnswerClaim d key answer e) s t
+
+-- a claim of the next cell
+abbrev pub AnswersNext : State → Next → State → Type 0
+AnswersNext s next t = ChangesCells (λ d e. CellsAnswerNext d next e) s t
+
+-- finished work
+abbrev pub FinishesTo : State → CellDone → Finished → State → Type 0
+FinishesTo s done answer t = ChangesCells (λ d e. CellsFinishTo d done answer e) s t
+
+-- a claim that comes back without a value
+abbrev pub GivesBackTo : State → CellKey → (number : ℕ) → Released → State → Type 0
+GivesBackTo s key number answer t = ChangesCells (λ d e. CellsGiveBackTo d key number answer e) s t

@@ -1,0 +1,126 @@
+//! The calls on a core:
+//!
+//!     set NODE PROPERTY: VALUE          the edits of an editor (`edits.rt`)
+//!     clear NODE PROPERTY
+//!     text NODE WORDS
+//!     insert PARENT INDEX ID            an element
+//!     insert-text PARENT INDEX ID WORDS
+//!     remove NODE
+//!     latest, sync                      the replies to them and to edits are written as in a report
+//!     settle, publish
+//!     laid, draws, accepted, entries
+//!     laid-of PHASE NODE
+//!     contexts VERSION                  of how many contexts the tree of a version is, or `none`
+//!     as-scratch                        whether the tree of the present version is that of a layout from nothing
+//!     cells ID ..                       for each the grants of its three cells
+
+use crate::edits::edit;
+use crate::keys::{counts, key, shown_key};
+use crate::trees::{contexts, is_as_scratch};
+use lay_core::{Core, Publish};
+use lay_doc::Reply;
+use lay_units::NoMemory;
+use std::alloc::Global;
+
+/// More numbers than a case draws.
+const MANY: u64 = 1000000;
+
+/// The core of a case.
+#[derive(Drop)]
+pub(crate) struct OneCore {
+    core: Core,
+    calls: u32,
+}
+
+impl OneCore {
+    pub(crate) fn new(core: Core) -> OneCore {
+        OneCore { core, calls: 0 }
+    }
+
+    /// The answer to a call; None where the line is none.
+    pub(crate) fn answer(&mut self, alloc: Global, line: &str) -> Result<Option<String>, NoMemory> {
+        let (call, rest) = line.split_once(' ').unwrap_or((line, ""));
+        if let Some(reply) = self.reply(alloc, call, rest)? {
+            return Ok(Some(shown_reply(alloc, reply)?));
+        }
+        match call {
+            "settle" => self.settle(alloc),
+            "publish" => Ok(Some(self.publish(alloc)?)),
+            _ => self.read(alloc, call, rest),
+        }
+    }
+
+    /// The reply to a call of an editor; None where it is another call.
+    fn reply(&mut self, alloc: Global, call: &str, rest: &str) -> Result<Option<Reply>, NoMemory> {
+        if self.core.calls_left() == 0 {
+            return Ok(None);
+        }
+        let index = self.calls;
+        let reply = match call {
+            "latest" => self.core.latest(1, index),
+            "sync" => self.core.sync(1, index),
+            _ => match edit(alloc, call, rest)? {
+                Some(edit) => self.core.edit(1, index, edit),
+                None => return Ok(None),
+            },
+        };
+        self.calls = index.wrapping_add(1);
+        Ok(Some(reply))
+    }
+
+    fn settle(&mut self, alloc: Global) -> Result<Option<String>, NoMemory> {
+        if self.core.draws() > MANY {
+            return Ok(None);
+        }
+        self.core.settle()?;
+        Ok(Some(String::from_str(alloc, "done")?))
+    }
+
+    fn publish(&mut self, alloc: Global) -> Result<String, NoMemory> {
+        match self.core.publish() {
+            Publish::Published(version) => Ok(format!(in alloc; "published {version}")?),
+            Publish::Unsettled(key) => Ok(format!(in alloc;
+                "unsettled {}",
+                shown_key(alloc, key)?
+            )?),
+            Publish::NoMemory => Err(NoMemory),
+        }
+    }
+
+    fn read(&self, alloc: Global, call: &str, rest: &str) -> Result<Option<String>, NoMemory> {
+        match call {
+            "laid" => shown(alloc, self.core.laid()),
+            "draws" => shown(alloc, self.core.draws()),
+            "accepted" => shown(alloc, self.core.accepted()),
+            "entries" => shown(alloc, self.core.history().len() as u64),
+            "laid-of" => self.laid_of(alloc, rest),
+            "contexts" => contexts(alloc, &self.core, rest),
+            "as-scratch" => is_as_scratch(alloc, &self.core),
+            "cells" => counts(alloc, &self.core, rest),
+            _ => Ok(None),
+        }
+    }
+
+    fn laid_of(&self, alloc: Global, rest: &str) -> Result<Option<String>, NoMemory> {
+        match key(rest) {
+            Some(key) => match self.core.laid_of(key) {
+                Some(count) => shown(alloc, count),
+                None => Ok(Some(String::from_str(alloc, "none")?)),
+            },
+            None => Ok(None),
+        }
+    }
+}
+
+fn shown(alloc: Global, number: u64) -> Result<Option<String>, NoMemory> {
+    Ok(Some(format!(in alloc; "{number}")?))
+}
+
+fn shown_reply(alloc: Global, reply: Reply) -> Result<String, NoMemory> {
+    match reply {
+        Reply::Accepted(version) => Ok(format!(in alloc; "accepted {version}")?),
+        Reply::Refused(fault) => Ok(format!(in alloc; "refused {fault:?}")?),
+        Reply::Shown(version) => Ok(format!(in alloc; "shown {version}")?),
+        Reply::NoMemory => Err(NoMemory),
+    }
+}
