@@ -26,7 +26,7 @@ INITIAL_VALUES = {
     **{'padding-%s' % side: '0' for side in SIDES},
     **{'border-%s-style' % side: 'none' for side in SIDES},
     **{'border-%s-width' % side: 'medium' for side in SIDES},
-    **{side: 'auto' for side in SIDES},
+    **{side: 'auto' for side in SIDES}, 'z-index': 'auto',
     'vertical-align': 'baseline', 'line-height': 'normal', 'text-indent': '0', 'text-align': 'left',
     'white-space': 'normal', 'letter-spacing': 'normal', 'word-spacing': 'normal',
     'border-collapse': 'separate', 'border-spacing': '0', 'caption-side': 'top',
@@ -117,6 +117,11 @@ def read_border_spacing(text, font_size):
     return Value('lengths', (lengths[0], lengths[-1]))
 
 
+def read_z_index(text):
+    """The computed `z-index` (9.9.1)."""
+    return Value('word', text) if text == 'auto' else Value('number', int(text))
+
+
 def used_line_height(style, face):
     """The line height in units (10.8.1)."""
     kind, amount = style['line-height']
@@ -140,6 +145,8 @@ def computed_style(declarations, parents_style):
             text = initial                               # 6.2.1: on the root it is the initial value
         if name.startswith('border') and text in BORDER_WIDTHS:
             style[name] = Value('length', BORDER_WIDTHS[text] * UNITS_PER_PX)
+        elif name == 'z-index':
+            style[name] = read_z_index(text)
         elif name == 'line-height':
             style[name] = read_line_height(text, style['font-size'])
         elif name == 'border-spacing':

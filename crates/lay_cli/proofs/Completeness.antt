@@ -20,6 +20,7 @@ never_refused : (asked : Form) (bytes line : List ℕ) → IsAskedWell asked byt
 never_refused form.Scratch bytes line well refusal = not_both bytes line well.0 well.1 refusal
 never_refused (form.Run workers) bytes line well refusal = not_both bytes line well.0 well.1 refusal
 never_refused (form.Gen size seed workers) bytes line well refusal = refusal
+never_refused (form.Hit x y) bytes line well refusal = not_both bytes line well.0 well.1 refusal
 
 -- bytes that are refused have no report
 of_run : (bytes line : List ℕ) (P : Run → Type 0) → OfRun bytes P → IsRefusal bytes line → ⊥
@@ -30,6 +31,7 @@ never_reported form.Scratch bytes line text kept report refusal = of_run bytes l
 never_reported (form.Run workers) bytes line text None report refusal = report
 never_reported (form.Run workers) bytes line text (Some s) report refusal = of_run bytes line _ report.driven refusal
 never_reported (form.Gen size seed workers) bytes line text kept report refusal = refusal
+never_reported (form.Hit x y) bytes line text kept report refusal = of_run bytes line _ report.1.seen refusal
 
 -- a run is reported
 pub reported : (asked : Form) (left : Option (List ℕ)) (status : Status) (s t : SinkValue) (kept : Option State) → Ends (Reports asked left) (Refuses asked left) status s t kept

@@ -1,8 +1,9 @@
 -- Which text answers which words and which bytes.
--- `scratch` and `run` read a run document, or else the bytes are refused with one line, for the first fault that they have.
+-- `scratch`, `run` and `hit` read a run document, or else the bytes are refused with one line, for the first fault that they have.
 -- The report of `scratch` is that of a tree which solves the document, its editors taken as none. The report of `run` is
 -- that of one legal history which answers each editor's commands once and in order, with trees that solve the documents
--- of their versions. `gen` reads nothing and writes the summary of such a history of the run that the generator makes.
+-- of their versions. `hit` names the piece that is seen at a point, of a tree as `scratch` reports it. `gen` reads nothing
+-- and writes the summary of such a history of the run that the generator makes.
 use Rattle.std.specs.Prelude.{ℕ, ◌≡◌, ◌≢◌, ◌⊎◌, List, length, map, string_bytes, String, Option, Some, None, IfSome, Ok, Err}
 use Rattle.std.specs.declared.alloc.Global.{Global}
 use Rattle.lay_frag.specs.Pieces.{Context}
@@ -22,6 +23,10 @@ use Rattle.lay_generator.specs.Summary.{summary}
 use Rattle.lay_words.specs.declared.form.Form.{Form}
 use Rattle.lay_words.specs.declared.form.Form.TheVariants as form
 use Rattle.lay_words.specs.Grammar.{form_of}
+use Rattle.lay_frag.specs.declared.frag.Frag.{Frag}
+use Rattle.lay_hit.specs.declared.point.Point.{Point}
+use Rattle.lay_hit.specs.HitLines.{hit_line}
+use Rattle.lay_cli.specs.Hits.{IsSeen, point_at}
 use Rattle.lay_cli.specs.Input.{IsDrained}
 use Rattle.lay_cli.specs.Refusals.{fault_line}
 use Rattle.lay_cli.specs.declared.run_input.Input.{Input}
@@ -102,23 +107,33 @@ pub record IsCoreReport (left : Option (List ℕ)) (s : State) (text : List ℕ)
   pub whole : IsWhole s.history
   pub driven : IfSome left (λ bytes. OfRun bytes (λ run. IsDriven run s))
 
+-- the text is the line of the piece, or of none, that is seen at the point in the document that the bytes spell, where they
+-- are told
+pub record IsPieceReport (left : Option (List ℕ)) (at : Point) (text : List ℕ) : Type 0 where
+  pub piece : Option Frag
+  pub text_is : text ≡ hit_line piece
+  pub seen : IfSome left (λ bytes. OfRun bytes (λ run. IsSeen run at piece))
+
 -- the text reports what these words ask of the bytes, and this core is kept
 abbrev pub Reports : Form → Option (List ℕ) → Option State → List ℕ → Type 0
 Reports form.Scratch left kept text = (kept ≡ None) × IsTreeReport left text
 Reports (form.Run workers) left kept text = OfKept kept (λ s. IsCoreReport left s text)
 Reports (form.Gen size seed workers) left kept text = OfKept kept (λ s. IsSummary size seed s text)
+Reports (form.Hit x y) left kept text = (kept ≡ None) × IsPieceReport left (point_at x y) text
 
 -- the line says why the bytes are refused; `gen` reads none
 abbrev pub Refuses : Form → Option (List ℕ) → List ℕ → Type 0
 Refuses form.Scratch left line = IfSome left (λ bytes. IsRefusal bytes line)
 Refuses (form.Run workers) left line = IfSome left (λ bytes. IsRefusal bytes line)
 Refuses (form.Gen size seed workers) left line = ⊥
+Refuses (form.Hit x y) left line = IfSome left (λ bytes. IsRefusal bytes line)
 
 -- the bytes spell a run; `gen` needs none
 abbrev pub IsAskedWell : Form → List ℕ → Type 0
 IsAskedWell form.Scratch bytes = (run : Run) × Spells bytes run
 IsAskedWell (form.Run workers) bytes = (run : Run) × Spells bytes run
 IsAskedWell (form.Gen size seed workers) bytes = Unit {0}
+IsAskedWell (form.Hit x y) bytes = (run : Run) × Spells bytes run
 
 -- what was read of the bytes: the run that they spell, or why they are refused
 abbrev pub IsInput : List ℕ → Input → Type 0
@@ -135,6 +150,7 @@ abbrev pub AreRead : Form → Option (List ℕ) → Option (List ℕ) → Type 0
 AreRead form.Scratch left now = IsDrained left now
 AreRead (form.Run workers) left now = IsDrained left now
 AreRead (form.Gen size seed workers) left now = now ≡ left
+AreRead (form.Hit x y) left now = IsDrained left now
 
 abbrev pub IsRun : Input → Type 0
 IsRun (a_run run) = Unit {0}
@@ -145,9 +161,11 @@ abbrev pub IsRefused : Form → List ℕ → List ℕ → Type 0
 IsRefused form.Scratch bytes line = IsRefusal bytes line
 IsRefused (form.Run workers) bytes line = IsRefusal bytes line
 IsRefused (form.Gen size seed workers) bytes line = ⊥
+IsRefused (form.Hit x y) bytes line = IsRefusal bytes line
 
 -- words of this form read the source
 abbrev pub IsReader : Form → Type 0
 IsReader form.Scratch = Unit {0}
 IsReader (form.Run workers) = Unit {0}
 IsReader (form.Gen size seed workers) = ⊥
+IsReader (form.Hit x y) = Unit {0}

@@ -1,5 +1,6 @@
 pub mod Statuses
 pub mod Refusals
 pub mod Input
+pub mod Hits
 pub mod Answers
 pub mod Endings

@@ -10,6 +10,7 @@ ghost use Rattle.lay_cli.specs.Endings.{Ends, TookFrontOf, TookWhole};
 ghost use Rattle.lay_cli.specs.Input.{IsReadOut};
 
 use crate::drive::{generate, run};
+use crate::hit::hit;
 use crate::scratch::scratch;
 use crate::status::Status;
 use crate::telling::told;
@@ -72,9 +73,9 @@ pub fn top<R: Threads + Wait + Sync, S: Source, K: Sink, G: Gate + Sync>(
 }
 
 /// Answers the words. `scratch` lays out the run document that the source has left, its editors taken as none; `run` drives
-/// its editors; `gen` drives those of the run that the generator makes, and reads nothing. The report goes into the sink, or
-/// else the line of the bytes' first fault. After `run` and `gen` with the status Ok the core that the report is of is
-/// kept.
+/// its editors; `gen` drives those of the run that the generator makes, and reads nothing; `hit` lays out as `scratch` does,
+/// and names the piece that is seen at a point. The answer goes into the sink, or else the line of the bytes' first fault.
+/// After `run` and `gen` with the status Ok the core that the report is of is kept.
 pub fn answer<S: Source, K: Sink>(
     alloc: Global,
     words: &[String],
@@ -153,5 +154,6 @@ fn asked<S: Source, K: Sink>(
             seed,
             workers: _,
         } => generate(alloc, size, seed, sink, kept),
+        Form::Hit { x, y } => hit(alloc, x, y, source, sink),
     }
 }

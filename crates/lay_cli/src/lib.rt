@@ -1,13 +1,14 @@
 //! The top call: from words and the bytes of a run document to a report, or to the line of a refusal.
 //!
 //! `answer` reads the words (lay_words) and the source, takes the bytes for a run document (lay_json), lays it out from scratch
-//! (lay_context) or drives its editors (lay_core), and writes the report (lay_report) into the sink. Its contract is in
-//! the words of `specs/Answers.antt`: which text answers which words and bytes; `specs/Endings.antt` says what a status says
-//! of the sink. It returns. `top` is the same call beside a runtime and a gate.
+//! (lay_context) or drives its editors (lay_core), and writes the report (lay_report) into the sink, or which piece is seen
+//! at a point (lay_hit). Its contract is in the words of `specs/Answers.antt`: which text answers which words and bytes;
+//! `specs/Endings.antt` says what a status says of the sink. It returns. `top` is the same call beside a runtime and a gate.
 #![tactic(auto)]
 
 mod call;
 mod drive;
+mod hit;
 mod input;
 mod refusal;
 mod run_input;

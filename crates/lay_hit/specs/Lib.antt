@@ -4,6 +4,7 @@ pub mod Sorting
 pub mod Pages
 pub mod Painting
 pub mod Hits
+pub mod HitLines
 pub mod Ranks
 pub mod Wholes
 pub mod OrderedPages

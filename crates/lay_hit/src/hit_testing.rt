@@ -15,7 +15,7 @@ use crate::question::Question;
 use lay_doc::Doc;
 use lay_frag::{Frag, Tree};
 use lay_style::Computed;
-use lay_units::{NoMemory, Unit};
+use lay_units::NoMemory;
 use std::alloc::Global;
 
 /// The last piece that is painted of those that hold the point, in page coordinates; None exactly where none of the painted
@@ -25,17 +25,16 @@ pub fn hit(
     doc: &Doc,
     style: &Computed,
     tree: &Tree,
-    x: Unit,
-    y: Unit,
+    at: Point,
 ) -> Result<Option<Frag>, NoMemory>
     requires { length style.now ≡ length doc.now.nodes }
-    ensures { IfOk result (λ f. f ≡ hit_of doc.now style.now tree.now x.0 y.0) }
+    ensures { IfOk result (λ f. f ≡ hit_of doc.now style.now tree.now at.x.0 at.y.0) }
 {
     let q = Question {
         doc,
         styles: style.as_slice(),
         tree,
-        at: Point { x, y },
+        at,
     };
     let noted = noted(alloc, &q)?;
     let around = nearest_nodes(alloc, &q)?;

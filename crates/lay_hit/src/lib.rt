@@ -2,7 +2,8 @@
 //!
 //! Each node is of one kind of painting (`specs/PaintKinds.antt`) and belongs to the nearest node around it that is painted
 //! as a whole (`specs/Groups.antt`). `specs/Painting.antt` lists the boxes and texts of a whole tree from back to front,
-//! step by step, and `hit` answers the last of them that holds the point (`specs/Hits.antt`).
+//! step by step, and `hit` answers the last of them that holds the point (`specs/Hits.antt`). `hit_line` is the line that
+//! says so.
 #![tactic(auto)]
 
 mod around;
@@ -10,6 +11,7 @@ mod fronts;
 mod hit_testing;
 mod kinds;
 mod laws;
+mod line;
 mod noted;
 mod point;
 mod question;
@@ -18,3 +20,5 @@ mod rank;
 pub use hit_testing::hit;
 pub use kinds::{PaintKind, paint_kind};
 pub use laws::{one_last_holding, painting_is_walk, paints_each_once};
+pub use line::hit_line;
+pub use point::Point;

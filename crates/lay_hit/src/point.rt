@@ -8,9 +8,9 @@ ghost use Rattle.lay_hit.specs.Hits.{holds, is_from, is_in};
 use lay_frag::{Frag, Placed};
 use lay_units::{Rect, Unit};
 
-/// A point of the page.
-#[derive(Clone, Copy)]
-pub(crate) struct Point {
+/// A point of the page, in 64ths of a px from its left and its top.
+#[derive(Clone, Copy, Debug, PartialEq, Eq)]
+pub struct Point {
     pub x: Unit,
     pub y: Unit,
 }

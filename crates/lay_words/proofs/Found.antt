@@ -13,7 +13,7 @@ use Rattle.clap.specs.Walk.{Row, Text, row_of, rows_of}
 use Rattle.clap.specs.Words.{fault_of, is_simple_and_free, subcommand_of}
 use Rattle.lay_words.specs.declared.form.Form.{Form}
 use Rattle.lay_words.specs.Agree.{Gives, Reads, form_in, values_at}
-use Rattle.lay_words.specs.Grammar.{Pairs, form_named, form_of, form_with, gen_with, given, is_odd, number_of, parsed, run_with}
+use Rattle.lay_words.specs.Grammar.{Pairs, form_named, form_of, form_with, gen_with, given, hit_with, is_odd, number_of, parsed, run_with}
 use Rattle.lay_words.specs.Command.{our_app}
 use Rattle.lay_words.proofs.WordKinds.{by_bool}
 use Rattle.lay_words.proofs.Whole.{reads}
@@ -35,6 +35,9 @@ values_are r f id e = ap (λ o. unwrap_or o []) e ∙ (or_of (matched_of f id) �
 abbrev gen_by : List Text → List Text → List Text → Option Form
 gen_by sizes seeds workers = gen_with (number_of None 1 1000 sizes) (number_of None 0 2147483647 seeds) (number_of (Some 4) 1 16 workers)
 
+abbrev hit_by : List Text → List Text → Option Form
+hit_by xs ys = hit_with (number_of None 0 1000000 xs) (number_of None 0 1000000 ys)
+
 -- the form of a name depends on the values of the options alone
 form_same : (n : Text) (rows : List Row) (got : Pairs) → Gives rows got → form_named n (λ id. values_at id rows) ≡ form_named n (λ id. given id got)
 form_same n rows got g = by_bool (bytes_eq n (codes "run"))
@@ -43,7 +46,10 @@ form_same n rows got g = by_bool (bytes_eq n (codes "run"))
     (λ e. rw (r, e) (ap (λ vs. gen_by vs (values_at (codes "seed") rows) (values_at (codes "workers") rows)) (g (codes "size"))
     ∙ (ap (λ vs. gen_by (given (codes "size") got) vs (values_at (codes "workers") rows)) (g (codes "seed"))
     ∙ ap (λ vs. gen_by (given (codes "size") got) (given (codes "seed") got) vs) (g (codes "workers")))))
-    (λ e. rw (r, e) refl))
+    (λ e. by_bool (bytes_eq n (codes "hit"))
+    (λ h. rw (r, e, h) (ap (λ vs. hit_by vs (values_at (codes "y") rows)) (g (codes "x"))
+    ∙ ap (λ vs. hit_by (given (codes "x") got) vs) (g (codes "y"))))
+    (λ h. rw (r, e, h) refl)))
 
 taken : (o : Option (Text × Pairs)) (f : Kinds) (sub : Option (Text × List Row)) → Reads o f sub → f ≡ [] → form_in sub ≡ form_with o
 taken None f sub r e = absurd (r e)

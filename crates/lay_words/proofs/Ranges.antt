@@ -3,7 +3,7 @@ use Rattle.std.proofs.Common.{◌≡◌, ◌≤◌, ◌&&◌, ℕ, List, [], ◌
 use Rattle.std.specs.List.{list_any}
 use Rattle.std.specs.Str.{bytes_eq}
 use Rattle.lay_words.specs.declared.form.Form.{Form}
-use Rattle.lay_words.specs.Grammar.{IsInRange, Pairs, Text, all_digits, form_named, form_of, form_with, gen_with, given, is_odd, number_in, number_of, parsed, run_with, value_from}
+use Rattle.lay_words.specs.Grammar.{IsInRange, Pairs, Text, all_digits, form_named, form_of, form_with, gen_with, given, hit_with, is_odd, number_in, number_of, parsed, run_with, value_from}
 use Rattle.lay_words.proofs.WordKinds.{by_bool}
 
 abbrev Within : ℕ → ℕ → ℕ → Type 0
@@ -29,6 +29,11 @@ gen_within (Some size) (Some seed) None a b c = tt
 gen_within (Some size) None workers a b c = tt
 gen_within None seed workers a b c = tt
 
+hit_within : (x y : Option ℕ) → IfSome x (Within 0 1000000) → IfSome y (Within 0 1000000) → IfSome (hit_with x y) IsInRange
+hit_within (Some x) (Some y) a b = (a.1, b.1)
+hit_within (Some x) None a b = tt
+hit_within None y a b = tt
+
 workers_within : (vs : List Text) → IfSome (number_of (Some 4) 1 16 vs) (Within 1 16)
 workers_within vs = of_within (Some 4) 1 16 vs (omega arith, omega arith)
 
@@ -37,7 +42,9 @@ named_within n values = by_bool (bytes_eq n (codes "run"))
     (λ r. rw r (run_within _ (workers_within (values (codes "workers")))))
     (λ r. by_bool (bytes_eq n (codes "gen"))
     (λ g. rw (r, g) (gen_within _ _ _ (of_within None 1 1000 (values (codes "size")) tt) (of_within None 0 2147483647 (values (codes "seed")) tt) (workers_within (values (codes "workers")))))
-    (λ g. rw (r, g) tt))
+    (λ g. by_bool (bytes_eq n (codes "hit"))
+    (λ h. rw (r, g, h) (hit_within _ _ (of_within None 0 1000000 (values (codes "x")) tt) (of_within None 0 1000000 (values (codes "y")) tt)))
+    (λ h. rw (r, g, h) tt)))
 
 with_within : (o : Option (Text × Pairs)) → IfSome (form_with o) IsInRange
 with_within None = tt

@@ -7,7 +7,7 @@ use Rattle.std.specs.Str.{bytes_eq}
 use Rattle.clap.specs.Words.{Row, fault_of, subcommand_of}
 use Rattle.clap.specs.Kinds.{Kinds}
 use Rattle.lay_words.specs.declared.form.Form.{Form}
-use Rattle.lay_words.specs.Grammar.{Pairs, Text, form_named, gen_with, given, is_odd, number_of, parsed, run_with}
+use Rattle.lay_words.specs.Grammar.{Pairs, Text, form_named, gen_with, given, hit_with, is_odd, number_of, parsed, run_with}
 use Rattle.lay_words.specs.Command.{our_app}
 
 -- the values that clap found for an option
@@ -33,6 +33,9 @@ run_found rows = run_with (number_found (codes "workers") (Some 4) 1 16 rows)
 
 abbrev pub gen_found : List Row → Option Form
 gen_found rows = gen_with (number_found (codes "size") None 1 1000 rows) (number_found (codes "seed") None 0 2147483647 rows) (number_found (codes "workers") (Some 4) 1 16 rows)
+
+abbrev pub hit_found : List Row → Option Form
+hit_found rows = hit_with (number_found (codes "x") None 0 1000000 rows) (number_found (codes "y") None 0 1000000 rows)
 
 -- the form in what clap found
 abbrev pub form_in : Option (Text × List Row) → Option Form

@@ -24,8 +24,15 @@ run_app = with_rule (plain (codes "run")) (option_given (codes "workers"))
 abbrev pub gen_app : App
 gen_app = with_rule (with_rule (with_rule (plain (codes "gen")) (option_given (codes "size"))) (option_given (codes "seed"))) (option_given (codes "workers"))
 
+abbrev pub hit_app : App
+hit_app = with_rule (with_rule (plain (codes "hit")) (option_given (codes "x"))) (option_given (codes "y"))
+
+-- the command with the subcommands that have options
+abbrev pub with_options : App
+with_options = with_subcommand (with_subcommand (with_subcommand strict run_app.top) gen_app.top) hit_app.top
+
 abbrev pub our_app : App
-our_app = with_subcommand (with_subcommand (with_subcommand strict run_app.top) gen_app.top) (plain (codes "scratch")).top
+our_app = with_subcommand with_options (plain (codes "scratch")).top
 
 -- an option, once the command is built
 abbrev pub option_rule : List ℕ → Rule

@@ -2,6 +2,7 @@
 --     scratch
 --     run [--workers N]                          N from 1 to 16, or else 4
 --     gen --size N --seed K [--workers W]        N from 1 to 1,000, K from 0 to 2,147,483,647, W as above
+--     hit --x X --y Y                            X and Y from 0 to 1,000,000
 -- Options come in any order, each at most once, as two words or as one with `=`. A value is 1 to 10 decimal digits.
 -- A word that is empty, that is `-` or `--`, or that begins with a single hyphen is in none of them.
 use Rattle.std.specs.Prelude.{ℕ, ◌+◌, ◌*◌, ◌-◌, ◌==◌, ◌≡◌, ◌≤◌, ◌&&◌, Bool, true, not, List, [], ◌∷◌, ◌++◌, length, codes, Option, Some, None, if◌then◌else◌, nat_le, nat_lt, flat_map}
@@ -9,7 +10,7 @@ use Rattle.std.specs.List.{list_all, list_any}
 use Rattle.std.specs.Str.{bytes_eq}
 use Rattle.std.specs.Char.{is_ascii_digit}
 use Rattle.lay_words.specs.declared.form.Form.{Form}
-use Rattle.lay_words.specs.declared.form.Form.TheVariants.{Scratch, Run, Gen}
+use Rattle.lay_words.specs.declared.form.Form.TheVariants.{Scratch, Run, Gen, Hit}
 use Rattle.clap.specs.Lexer.{long_of}
 
 abbrev pub Text : Type 0
@@ -92,12 +93,20 @@ gen_with (Some size) (Some seed) None = None
 gen_with (Some size) None workers = None
 gen_with None seed workers = None
 
+abbrev pub hit_with : Option ℕ → Option ℕ → Option Form
+hit_with (Some x) (Some y) = Some (Hit x y)
+hit_with (Some x) None = None
+hit_with None y = None
+
 -- the names of the options
 abbrev pub run_options : List Text
 run_options = codes "workers" ∷ []
 
 abbrev pub gen_options : List Text
 gen_options = codes "size" ∷ codes "seed" ∷ codes "workers" ∷ []
+
+abbrev pub hit_options : List Text
+hit_options = codes "x" ∷ codes "y" ∷ []
 
 -- the first word and the options behind it
 abbrev pub named : Text → Option Pairs → Option (Text × Pairs)
@@ -109,14 +118,16 @@ parsed [] = None
 parsed (w ∷ ws) =
     if bytes_eq (codes "run") w then named (codes "run") (options run_options None [] ws)
     else (if bytes_eq (codes "gen") w then named (codes "gen") (options gen_options None [] ws)
-    else (if bytes_eq (codes "scratch") w then named (codes "scratch") (options [] None [] ws) else None))
+    else (if bytes_eq (codes "hit") w then named (codes "hit") (options hit_options None [] ws)
+    else (if bytes_eq (codes "scratch") w then named (codes "scratch") (options [] None [] ws) else None)))
 
 -- the form of a name, by the values of its options
 abbrev pub form_named : Text → (Text → List Text) → Option Form
 form_named n values =
     if bytes_eq n (codes "run") then run_with (number_of (Some 4) 1 16 (values (codes "workers")))
     else (if bytes_eq n (codes "gen") then gen_with (number_of None 1 1000 (values (codes "size"))) (number_of None 0 2147483647 (values (codes "seed"))) (number_of (Some 4) 1 16 (values (codes "workers")))
-    else Some Scratch)
+    else (if bytes_eq n (codes "hit") then hit_with (number_of None 0 1000000 (values (codes "x"))) (number_of None 0 1000000 (values (codes "y")))
+    else Some Scratch))
 
 abbrev pub form_with : Option (Text × Pairs) → Option Form
 form_with None = None
@@ -131,6 +142,7 @@ abbrev pub IsInRange : Form → Type 0
 IsInRange Scratch = Unit {0}
 IsInRange (Run workers) = (1 ≤ workers) × (workers ≤ 16)
 IsInRange (Gen size seed workers) = (1 ≤ size) × (size ≤ 1000) × (seed ≤ 2147483647) × (1 ≤ workers) × (workers ≤ 16)
+IsInRange (Hit x y) = (x ≤ 1000000) × (y ≤ 1000000)
 
 abbrev pub NumbersAreInRange : Type 0
 NumbersAreInRange = (words : List Text) (form : Form) → form_of words ≡ Some form → IsInRange form

@@ -3,18 +3,19 @@
 ghost use Rattle.std.specs.Prelude.{◌≡◌, IfOk, codes, false};
 ghost use Rattle.clap.specs.Words.{app_of, rule_of};
 ghost use Rattle.clap.specs.declared.builder.command.Command.TheViews.{out-Command as fields_of};
-ghost use Rattle.lay_words.specs.Command.{our_app, gen_app, run_app, option_given, plain};
+ghost use Rattle.lay_words.specs.Command.{our_app, gen_app, hit_app, run_app, option_given, plain};
 
 use clap::{Arg, ArgAction, Command};
 use std::alloc::{AllocError, Global};
 
-/// The command with its three subcommands. Its words are those behind the program's name, and it answers no
+/// The command with its four subcommands. Its words are those behind the program's name, and it answers no
 /// `--help`, no `--version` and no `help`.
 pub(crate) fn command<'a>(alloc: Global) -> Result<Command<'a>, AllocError>
     ensures { IfOk result (λ c. app_of c ≡ our_app) }
 {
     let run = run(alloc)?;
     let generate = generate(alloc)?;
+    let hit = hit(alloc)?;
     Command::new(alloc, "lay")
         .no_binary_name(true)
         .disable_help_flag(true)
@@ -22,6 +23,7 @@ pub(crate) fn command<'a>(alloc: Global) -> Result<Command<'a>, AllocError>
         .subcommand_required(true)
         .subcommand(run)?
         .subcommand(generate)?
+        .subcommand(hit)?
         .subcommand(plain(alloc, "scratch"))
 }
 
@@ -40,6 +42,15 @@ fn generate<'a>(alloc: Global) -> Result<Command<'a>, AllocError>
         .arg(option(alloc, "size"))?
         .arg(option(alloc, "seed"))?
         .arg(option(alloc, "workers"))
+}
+
+fn hit<'a>(alloc: Global) -> Result<Command<'a>, AllocError>
+    ensures app { IfOk result (λ c. app_of c ≡ hit_app) }
+    ensures local { IfOk result (λ c. (fields_of c).has_globals ≡ false) }
+{
+    plain(alloc, "hit")
+        .arg(option(alloc, "x"))?
+        .arg(option(alloc, "y"))
 }
 
 /// A subcommand without options.

@@ -10,4 +10,6 @@ pub enum Form {
     /// To run the run document that the generator makes of a size, 1 to 1,000, and a seed, 0 to 2,147,483,647,
     /// beside so many workers, 1 to 16.
     Gen { size: u32, seed: u32, workers: u32 },
+    /// To say which piece of a document is seen at a point of the page, in px, 0 to 1,000,000.
+    Hit { x: u32, y: u32 },
 }

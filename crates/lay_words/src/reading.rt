@@ -2,8 +2,8 @@
 
 ghost use Rattle.std.specs.Prelude.{◌≡◌, IfOk, codes, map, string_bytes, Some, None};
 ghost use Rattle.clap.specs.Words.{found_of, rows_of, subcommand_rows_of};
-ghost use Rattle.lay_words.specs.Grammar.{form_of, gen_with, run_with, number_of};
-ghost use Rattle.lay_words.specs.Agree.{form_in, gen_found, number_found, run_found, values_at};
+ghost use Rattle.lay_words.specs.Grammar.{form_of, gen_with, hit_with, run_with, number_of};
+ghost use Rattle.lay_words.specs.Agree.{form_in, gen_found, hit_found, number_found, run_found, values_at};
 
 use crate::command::command;
 use crate::form::Form;
@@ -52,6 +52,8 @@ fn named_form(name: &str, matches: &ArgMatches<'_>) -> Option<Form>
         run_found(matches)
     } else if name == "gen" {
         gen_found(matches)
+    } else if name == "hit" {
+        hit_found(matches)
     } else {
         Some(Form::Scratch)
     }
@@ -71,6 +73,13 @@ fn gen_found(matches: &ArgMatches<'_>) -> Option<Form>
     gen_with(size, seed, number_found(matches, "workers", Some(4), 1, 16))
 }
 
+fn hit_found(matches: &ArgMatches<'_>) -> Option<Form>
+    ensures { result ≡ hit_found (rows_of (found_of matches.now)) }
+{
+    let x = number_found(matches, "x", None, 0, 1000000);
+    hit_with(x, number_found(matches, "y", None, 0, 1000000))
+}
+
 fn run_with(workers: Option<u32>) -> Option<Form>
     ensures { result ≡ run_with workers }
 {
@@ -87,6 +96,15 @@ fn gen_with(size: Option<u32>, seed: Option<u32>, workers: Option<u32>) -> Optio
             seed,
             workers,
         }),
+        _ => None,
+    }
+}
+
+fn hit_with(x: Option<u32>, y: Option<u32>) -> Option<Form>
+    ensures { result ≡ hit_with x y }
+{
+    match (x, y) {
+        (Some(x), Some(y)) => Some(Form::Hit { x, y }),
         _ => None,
     }
 }

@@ -1,7 +1,7 @@
 use Rattle.std.proofs.Common.{rules, ap, ap₂, ◌≡◌, ◌∙◌}
 use Rattle.std.proofs.lemmas.Result.{IfOk-weaker}
 use Rattle.clap.specs.Words.{App, app_of, with_subcommand}
-use Rattle.lay_words.specs.Command.{gen_app, run_app, strict}
+use Rattle.lay_words.specs.Command.{gen_app, hit_app, run_app, strict, with_options}
 use Rattle.lay_words.proofs.command.command.Goals as goal
 
 pub returns : goal.returns
@@ -11,4 +11,6 @@ returns c =
     c.in_ok-subcommand.ensures.shape c.in_ok-run.ensures.local ∙ ap₂ with_subcommand top_is (ap (λ (a : App). a.top) c.in_ok-run.ensures.app) in
     let gen_is : app_of c.in_ok-subcommand-2.field-0 ≡ with_subcommand (with_subcommand strict run_app.top) gen_app.top =
     c.in_ok-subcommand-2.ensures.shape c.in_ok-generate.ensures.local ∙ ap₂ with_subcommand run_is (ap (λ (a : App). a.top) c.in_ok-generate.ensures.app) in
-    IfOk-weaker c.subcommand-3.result _ _ (λ x h. h.shape c.plain.ensures.local ∙ ap₂ with_subcommand gen_is (ap (λ (a : App). a.top) c.plain.ensures.app)) c.subcommand-3.ensures
+    let hit_is : app_of c.in_ok-subcommand-3.field-0 ≡ with_options =
+    c.in_ok-subcommand-3.ensures.shape c.in_ok-hit.ensures.local ∙ ap₂ with_subcommand gen_is (ap (λ (a : App). a.top) c.in_ok-hit.ensures.app) in
+    IfOk-weaker c.subcommand-4.result _ _ (λ x h. h.shape c.plain.ensures.local ∙ ap₂ with_subcommand hit_is (ap (λ (a : App). a.top) c.plain.ensures.app)) c.subcommand-4.ensures
