@@ -16,7 +16,7 @@ def cases(file):
     for text in file.read_text().split('\ncase ')[1:]:
         call, answer = text.split('\nanswer Ok\n')
         name, words, document = call.split('\n', 2)
-        _, _, _, across, _, down = words.split()
+        across, down = words.split()[-3], words.split()[-1]
         yield name, (int(across), int(down)), json.loads(document), answer.strip() + '\n'
 
 
