@@ -19,7 +19,8 @@ before_exclamation text = if slice_index text (length text - 1) == 33 then Some 
 -- what stands before `!important`
 abbrev pub before_important : List ℕ → Option (List ℕ)
 before_important text =
-    if str_eq_ignore_ascii_case (codes "important") (drop (length text - 9) text) then before_exclamation (without_end (take (length text - 9) text)) else None
+    if str_eq_ignore_ascii_case (codes "important") (drop (length text - 9) text)
+    then before_exclamation (without_end (take (length text - 9) text)) else None
 
 -- a text that is UTF-8. What isn't, as where a backslash parted a character, is no name and no value
 abbrev pub text_of : List ℕ → Option (List ℕ)
@@ -49,4 +50,5 @@ declaration_of part = declared (trimmed (leading (is_other 58) part)) (behind (i
 -- the declarations of a block, in its order
 pub data AreDeclarations : List ℕ → List SheetDecl → Type 0 where
   no_part : AreDeclarations [] []
-  one_part : (b : ℕ) (bs : List ℕ) (decls : List SheetDecl) → AreDeclarations (behind_part 0 (b ∷ bs)) decls → AreDeclarations (b ∷ bs) (with_found (declaration_of (part_to 0 (b ∷ bs))) decls)
+  one_part : (b : ℕ) (bs : List ℕ) (decls : List SheetDecl) → AreDeclarations (behind_part 0 (b ∷ bs)) decls →
+    AreDeclarations (b ∷ bs) (with_found (declaration_of (part_to 0 (b ∷ bs))) decls)

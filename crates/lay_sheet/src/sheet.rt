@@ -39,7 +39,8 @@ impl Sheet {
 /// What the first byte of a text begins: its rule set, if it is one that is kept, and what stands behind.
 fn statement(alloc: Global, text: &[u8]) -> Result<(Option<Rule>, &[u8]), NoMemory>
     requires { 0 < length text.now }
-    ensures grammar { IfOk result (λ r. (rules : List RuleValue) → AreStatements r.1.now rules → AreStatements text.now (with_found r.0 rules)) }
+    ensures grammar { IfOk result (λ r. (rules : List RuleValue) → AreStatements r.1.now rules
+        → AreStatements text.now (with_found r.0 rules)) }
     ensures shorter { IfOk result (λ r. length r.1.now < length text.now) }
 {
     if text[0].is_ascii_whitespace() {
@@ -56,7 +57,8 @@ fn rule_set(alloc: Global, text: &[u8]) -> Result<(Option<Rule>, &[u8]), NoMemor
     requires some { 0 < length text.now }
     requires no_space { is_ascii_whitespace (slice_index text.now 0) ≡ false }
     requires no_at_rule { (slice_index text.now 0 == 64) ≡ false }
-    ensures grammar { IfOk result (λ r. (rules : List RuleValue) → AreStatements r.1.now rules → AreStatements text.now (with_found r.0 rules)) }
+    ensures grammar { IfOk result (λ r. (rules : List RuleValue) → AreStatements r.1.now rules
+        → AreStatements text.now (with_found r.0 rules)) }
     ensures shorter { IfOk result (λ r. length r.1.now < length text.now) }
 {
     let (prelude, rest) = split_before(b'{', text);
