@@ -44,9 +44,11 @@ module _ (nodes : List Node) where
     where
       at_end : (k : ℕ) → k < n + 1 → n ≤ k → k ≡ n
       at_end k h g = omega (arith, h, g)
+
       some_at : (k m : ℕ) → k < n + 1 → (k < n) ⊎ (n ≤ k) → at (adjacent ++ entry ∷ []) k ≡ Some m → IsAdjacent nodes m k
       some_at k m h (inl l) e = let b : k < length adjacent = rw are.count l in are.some k m l (sym (get_or_append_left adjacent (entry ∷ []) None k b) ∙ e)
       some_at k m h (inr g) e = let q = at_end k h g in subst (λ z. IsAdjacent nodes m z) (sym q) (some m (sym (get_or_push adjacent entry None k (are.count ∙ sym q)) ∙ e))
+
       none_at : (k m : ℕ) → k < n + 1 → (k < n) ⊎ (n ≤ k) → at (adjacent ++ entry ∷ []) k ≡ None → IsAdjacent nodes m k → ⊥
       none_at k m h (inl l) e a = let b : k < length adjacent = rw are.count l in are.none k m l (sym (get_or_append_left adjacent (entry ∷ []) None k b) ∙ e) a
       none_at k m h (inr g) e a = let q = at_end k h g in none m (sym (get_or_push adjacent entry None k (are.count ∙ sym q)) ∙ e) (subst (λ z. IsAdjacent nodes m z) q a)
@@ -61,11 +63,14 @@ module _ (nodes : List Node) where
     where
       at_end : (j : ℕ) → j < n + 1 → n ≤ j → n ≡ j
       at_end j h g = omega (arith, h, g)
+
       further : (j : ℕ) → 0 < j → j < n + 1 → n ≤ j → is_text_at nodes j ≡ true
       further j some b g = let q = at_end j b g in subst (λ z. is_text_at nodes z ≡ true) q (text (rw q some))
+
       near : (p m j : ℕ) → IsLastChild nodes n p m → m < j → j < n + 1 → parent j ≡ p → (j < n) ⊎ (n ≤ j) → is_text_at nodes j ≡ true
       near p m j l a b q (inl i) = l.nearest j a i q
       near p m j l a b q (inr g) = further j (omega (arith, a)) b g
+
       kept : (p m : ℕ) → IsLastChild nodes n p m → IsLastChild nodes (n + 1) p m
       kept p m l = record {
         below_root = l.below_root;
@@ -74,6 +79,7 @@ module _ (nodes : List Node) where
         no_text = l.no_text;
         nearest = λ j a b q. near p m j l a b q (cases_lt j n);
       }
+
       none_at : (p j : ℕ) → p < length nodes → at last p ≡ None → 0 < j → (j < n) ⊎ (n ≤ j) → j < n + 1 → parent j ≡ p → is_text_at nodes j ≡ true
       none_at p j h e some (inl i) b q = are.none p j h e some i q
       none_at p j h e some (inr g) b q = further j some b g
@@ -87,14 +93,17 @@ module _ (nodes : List Node) where
     where
       here : at (set last (parent n) (Some n)) (parent n) ≡ Some n
       here = let l : parent n < length last = rw are.count within in get_or-set_same last (parent n) (Some n) None l
+
       there : (p : ℕ) → p ≢ parent n → at (set last (parent n) (Some n)) p ≡ at last p
       there p ne = get_or-set_other last (parent n) p (Some n) None ne
+
       before_it : (p j : ℕ) → p ≢ parent n → j < n + 1 → parent j ≡ p → j < n
       before_it p j ne b q = settle (cases_lt j n)
         where
           settle : (j < n) ⊎ (n ≤ j) → j < n
           settle (inl i) = i
           settle (inr g) = let e : j ≡ n = omega (arith, b, g) in absurd (ne (sym q ∙ ap parent e))
+
       own : (m : ℕ) → Some n ≡ Some m → IsLastChild nodes (n + 1) (parent n) m
       own m e = let q : n ≡ m = cc in subst (λ z. IsLastChild nodes (n + 1) (parent n) z) q (record {
         below_root = root;
@@ -103,6 +112,7 @@ module _ (nodes : List Node) where
         no_text = no_text;
         nearest = λ j a b e. absurd (omega (arith, a, b));
       })
+
       kept : (p m : ℕ) → p ≢ parent n → IsLastChild nodes n p m → IsLastChild nodes (n + 1) p m
       kept p m ne l = record {
         below_root = l.below_root;
@@ -111,9 +121,11 @@ module _ (nodes : List Node) where
         no_text = l.no_text;
         nearest = λ j a b q. l.nearest j a (before_it p j ne b q) q;
       }
+
       some_at : (p m : ℕ) → p < length nodes → (p ≡ parent n) ⊎ (p ≢ parent n) → at (set last (parent n) (Some n)) p ≡ Some m → IsLastChild nodes (n + 1) p m
       some_at p m h (inl e) is = subst (λ z. IsLastChild nodes (n + 1) z m) (sym e) (own m (sym here ∙ subst (λ z. at (set last (parent n) (Some n)) z ≡ Some m) e is))
       some_at p m h (inr ne) is = kept p m ne (are.some p m h (sym (there p ne) ∙ is))
+
       none_at : (p j : ℕ) → p < length nodes → (p ≡ parent n) ⊎ (p ≢ parent n) → at (set last (parent n) (Some n)) p ≡ None → 0 < j → j < n + 1 → parent j ≡ p → is_text_at nodes j ≡ true
       none_at p j h (inl e) is some b q = absurd (none-some n (sym (subst (λ z. at (set last (parent n) (Some n)) z ≡ None) e is) ∙ here))
       none_at p j h (inr ne) is some b q = are.none p j h (sym (there p ne) ∙ is) some (before_it p j ne b q) q

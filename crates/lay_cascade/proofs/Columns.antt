@@ -22,9 +22,11 @@ tells_more n holds column b t ay nay = record {
   where
     at_end : (k : ℕ) → k < n + 1 → n ≤ k → k ≡ n
     at_end k h g = omega (arith, h, g)
+
     yes_at : (k : ℕ) → k < n + 1 → (k < n) ⊎ (n ≤ k) → slice_index_or (column ++ b ∷ []) k false ≡ true → holds k
     yes_at k h (inl l) e = let m : k < length column = rw t.count l in t.yes k l (sym (get_or_append_left column (b ∷ []) false k m) ∙ e)
     yes_at k h (inr g) e = let q = at_end k h g in subst holds (sym q) (ay (sym (get_or_push column b false k (t.count ∙ sym q)) ∙ e))
+
     no_at : (k : ℕ) → k < n + 1 → (k < n) ⊎ (n ≤ k) → holds k → slice_index_or (column ++ b ∷ []) k false ≡ true
     no_at k h (inl l) e = let m : k < length column = rw t.count l in get_or_append_left column (b ∷ []) false k m ∙ t.no k l e
     no_at k h (inr g) e = let q = at_end k h g in get_or_push column b false k (t.count ∙ sym q) ∙ nay (subst holds q e)

@@ -15,7 +15,7 @@ use Rattle.lay_cascade.specs.declared.names.Names.{Names}
 use Rattle.lay_cascade.specs.NodeNames.{fits, fits_at}
 use Rattle.lay_cascade.specs.Siblings.{IsAdjacent, AreAdjacent}
 use Rattle.lay_cascade.proofs.Columns.{tells_more}
-use Rattle.lay_cascade.specs.Matching.{Matches, Tells, StandsToOne, Stands, told_at, first, next}
+use Rattle.lay_cascade.specs.Matching.{Matches, Tells, StandsToOne, told_at, first, next}
 
 abbrev parent : List Node → ℕ → ℕ
 parent nodes k = slice_index (parents_of nodes) k
@@ -117,13 +117,14 @@ module _ (nodes : List Node) (names : List Names) where
     where
       inside : (k : ℕ) → k < length nodes → k < length names
       inside k h = subst (λ z. k < z) (sym named) h
+
       alone : (step : Step) (k : ℕ) → Matches nodes names (step ∷ []) k → fits_at names k step.simple ≡ true
       alone step k (first s-1 k-1 e) = e
       alone step k (next s-1 before m k-1 w stands e) = e
 
   pub next_tells : (step : Step) (before : List Step) (column standing fitting : List Bool) → length names ≡ length nodes → 0 < length before → Tells (length nodes) (Matches nodes names before) column →
-    Tells (length nodes) (StandsToOne nodes column step.joint) standing → length fitting ≡ length names →
-    ((k : ℕ) → k < length names → at fitting k ≡ (at standing k && fits_at names k step.simple)) → Tells (length nodes) (Matches nodes names (step ∷ before)) fitting
+      Tells (length nodes) (StandsToOne nodes column step.joint) standing → length fitting ≡ length names →
+      ((k : ℕ) → k < length names → at fitting k ≡ (at standing k && fits_at names k step.simple)) → Tells (length nodes) (Matches nodes names (step ∷ before)) fitting
   next_tells step before column standing fitting named some was stand count each = record {
     count = count ∙ named;
     yes = λ k h e. comes k (and_both (at standing k) (fits_at names k step.simple) (sym (each k (inside k h)) ∙ e)) h;
@@ -132,10 +133,13 @@ module _ (nodes : List Node) (names : List Names) where
     where
       inside : (k : ℕ) → k < length nodes → k < length names
       inside k h = subst (λ z. k < z) (sym named) h
+
       below : (b : List Step) (m : ℕ) → Matches nodes names b m → m < length nodes
       below b m w = subst (λ z. m < z) named (within b m w)
+
       comes : (k : ℕ) → (at standing k ≡ true) × (fits_at names k step.simple ≡ true) → k < length nodes → Matches nodes names (step ∷ before) k
       comes k e h = let w = stand.yes k h e.0 in next step before w.0 k (was.yes w.0 w.1 w.2) w.3 e.1
+
       told : (before : List Step) → 0 < length before → Tells (length nodes) (Matches nodes names before) column → (k : ℕ) → k < length nodes → Matches nodes names (step ∷ before) k → (at standing k && fits_at names k step.simple) ≡ true
       told before some was k h (first s-1 k-1 e) = absurd (omega (arith, some))
       told before some was k h (next s-1 b-1 m k-1 w stands e) = and_of (at standing k) (fits_at names k step.simple) (stand.no k h (m, below b-1 m w, was.no m (below b-1 m w) w, stands)) e
@@ -150,8 +154,10 @@ module _ (nodes : List Node) (column : List Bool) (k : ℕ) (so_far all : List B
     where
       found : 0 < k → at column (parent nodes k) ≡ true → StandsToOne nodes column Child k
       found some e = let h = tree.before k some (subst (λ z. k < z) (sym (length_parents nodes)) here) in is_child nodes column k (parent nodes k) some refl (omega (arith, h, here)) e
+
       ay : b ≡ true → StandsToOne nodes column Child k
       ay e = let w = and_both (nat_lt 0 k) (at column (parent nodes k)) (sym is ∙ e) in found (positive k w.0) w.1
+
       nay : StandsToOne nodes column Child k → b ≡ true
       nay s = let w = child_is nodes column k (parent nodes k) refl s in is ∙ and_of (nat_lt 0 k) (at column (parent nodes k)) (positive_lt k w.0) w.1
 
@@ -160,16 +166,20 @@ module _ (nodes : List Node) (column : List Bool) (k : ℕ) (so_far all : List B
     where
       before : 0 < k → parent nodes k < k
       before some = tree.before k some (subst (λ z. k < z) (sym (length_parents nodes)) here)
+
       found : 0 < k → (at column (parent nodes k) ≡ true) ⊎ (at so_far (parent nodes k) ≡ true) → StandsToOne nodes column Descendant k
       found some (inl e) = let h = before some in is_descendant_of_parent nodes column k (parent nodes k) some refl (omega (arith, h, here)) e
       found some (inr e) = is_descendant_further nodes column k (parent nodes k) some refl (t.yes (parent nodes k) (before some) e)
+
       ay : b ≡ true → StandsToOne nodes column Descendant k
       ay e =
           let w = and_both (nat_lt 0 k) (at column (parent nodes k) || at so_far (parent nodes k)) (sym is ∙ e) in
           found (positive k w.0) (either (at column (parent nodes k)) (at so_far (parent nodes k)) w.1)
+
       one : 0 < k → (at column (parent nodes k) ≡ true) ⊎ StandsToOne nodes column Descendant (parent nodes k) → (at column (parent nodes k) || at so_far (parent nodes k)) ≡ true
       one some (inl e) = or_left (at column (parent nodes k)) (at so_far (parent nodes k)) e
       one some (inr s) = or_right (at column (parent nodes k)) (at so_far (parent nodes k)) (t.no (parent nodes k) (before some) s)
+
       nay : StandsToOne nodes column Descendant k → b ≡ true
       nay s =
           let w = descendant_is nodes column k (parent nodes k) refl s in
@@ -181,8 +191,10 @@ module _ (nodes : List Node) (column : List Bool) (k : ℕ) (so_far all : List B
     where
       stands : IsAdjacent nodes m k
       stands = are.some k m here e
+
       ay : b ≡ true → StandsToOne nodes column Adjacent k
       ay q = let h = stands.before in is_follower nodes column adjacent k m are here e (omega (arith, h, here)) (sym is ∙ q)
+
       nay : StandsToOne nodes column Adjacent k → b ≡ true
       nay s = is ∙ subst (λ z. at column z ≡ true) (one_adjacent nodes s.0 m k s.3 stands) s.2
 

@@ -23,7 +23,7 @@ Stands nodes Adjacent m k = IsAdjacent nodes m k
 pub data Matches (nodes : List Node) (names : List Names) : List Step → ℕ → Type 0 where
   first : (step : Step) (k : ℕ) → fits_at names k step.simple ≡ true → Matches nodes names (step ∷ []) k
   next : (step : Step) (before : List Step) (m k : ℕ) → Matches nodes names before m → Stands nodes step.joint m k →
-    fits_at names k step.simple ≡ true → Matches nodes names (step ∷ before) k
+      fits_at names k step.simple ≡ true → Matches nodes names (step ∷ before) k
 
 -- the selector matches the node at k
 abbrev pub IsMatched : List Node → List Names → List Step → ℕ → Type 0

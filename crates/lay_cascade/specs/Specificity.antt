@@ -1,6 +1,6 @@
 -- Specificity (CSS 2.2, 6.4.3): how many labels, classes and tags a selector names. More labels count before more
 -- classes, and these before more tags.
-use Rattle.std.specs.Prelude.{ℕ, ◌+◌, ◌==◌, List, [], ◌∷◌, Bool, nat_lt, if◌then◌else◌}
+use Rattle.std.specs.Prelude.{◌+◌, ◌==◌, List, [], ◌∷◌, Bool, nat_lt, if◌then◌else◌}
 use Rattle.lay_sheet.specs.declared.selector.Simple.{Simple}
 use Rattle.lay_sheet.specs.declared.selector.Simple.TheVariants.{Universal, Tag, Class, Label}
 use Rattle.lay_sheet.specs.declared.selector.Step.{Step}

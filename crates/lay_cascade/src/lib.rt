@@ -12,4 +12,3 @@ mod siblings;
 pub use counts::{Specificity, specificity_of};
 pub use matching::matches;
 pub use names::{Names, TextList};
-

@@ -110,7 +110,12 @@ fn adjacent_to(adjacent: &[Option<usize>], place: usize) -> Option<usize>
 }
 
 /// The nodes that stand as a joint says to one that a column tells of.
-fn standing(alloc: Global, named: Named<'_>, joint: Joint, column: Vec<bool>) -> Result<Vec<bool>, NoMemory>
+fn standing(
+    alloc: Global,
+    named: Named<'_>,
+    joint: Joint,
+    column: Vec<bool>,
+) -> Result<Vec<bool>, NoMemory>
     requires tree { IsTree (parents_of named.nodes.now) }
     requires adjacent { AreAdjacent named.nodes.now named.adjacent.now }
     requires count { length column.items ≡ length named.nodes.now }
@@ -125,7 +130,12 @@ fn standing(alloc: Global, named: Named<'_>, joint: Joint, column: Vec<bool>) ->
 }
 
 /// Of the nodes that a column tells of those that fit a simple selector.
-fn fitting(alloc: Global, names: &[Names], column: &[bool], simple: &Simple) -> Result<Vec<bool>, NoMemory>
+fn fitting(
+    alloc: Global,
+    names: &[Names],
+    column: &[bool],
+    simple: &Simple,
+) -> Result<Vec<bool>, NoMemory>
     requires { length column.now ≡ length names.now }
     ensures count { IfOk result (λ v. length v.items ≡ length names.now) }
     ensures each { IfOk result (λ v. (k : ℕ) → k < length names.now
@@ -161,7 +171,12 @@ fn first_matched(alloc: Global, named: Named<'_>, step: &Step) -> Result<Vec<boo
 }
 
 /// The nodes that steps match with one more behind them.
-fn next_matched(alloc: Global, named: Named<'_>, column: Vec<bool>, step: &Step) -> Result<Vec<bool>, NoMemory>
+fn next_matched(
+    alloc: Global,
+    named: Named<'_>,
+    column: Vec<bool>,
+    step: &Step,
+) -> Result<Vec<bool>, NoMemory>
     requires tree { IsTree (parents_of named.nodes.now) }
     requires adjacent { AreAdjacent named.nodes.now named.adjacent.now }
     requires names { length named.names.now ≡ length named.nodes.now }
@@ -213,7 +228,12 @@ fn matched(alloc: Global, named: Named<'_>, steps: &[Step]) -> Result<Vec<bool>,
 }
 
 /// For each node of a document whether a selector matches it. There is one record of names a node.
-pub fn matches(alloc: Global, doc: &Doc, names: &[Names], selector: &Selector) -> Result<Vec<bool>, NoMemory>
+pub fn matches(
+    alloc: Global,
+    doc: &Doc,
+    names: &[Names],
+    selector: &Selector,
+) -> Result<Vec<bool>, NoMemory>
     requires { length names.now ≡ length doc.now.nodes }
     ensures { IfOk result (λ v. Tells (length doc.now.nodes) (IsMatched doc.now.nodes names.now selector.now) v.items) }
 {

@@ -1,5 +1,5 @@
-use Rattle.std.proofs.Common.{◌≡◌, ◌∙◌, ◌+◌, ◌<◌, ◌≤◌, ◌++◌, ◌∷◌, [], ℕ, Bool, true, false, List, Option, Some, None, length, take, drop, refl, sym, ap, subst, rules, arith, inl, inr, IfOk}
-use Rattle.std.specs.Prelude.{slice_index, slice_index_or, reverse, replicate}
+use Rattle.std.proofs.Common.{◌≡◌, ◌<◌, ℕ, false, length, rules, arith}
+use Rattle.std.specs.Prelude.{slice_index_or}
 use Rattle.std.proofs.lemmas.Grind.{common_steps}
 use Rattle.std.specs.Prelude.{◌&&◌}
 use Rattle.lay_cascade.specs.NodeNames.{fits_at}

@@ -1,5 +1,4 @@
-use Rattle.std.proofs.Common.{◌≡◌, ◌∙◌, ◌+◌, ◌<◌, ◌≤◌, ◌++◌, ◌∷◌, [], ℕ, Bool, true, false, List, Option, Some, None, length, take, drop, refl, sym, ap, subst, rules, arith, inl, inr, IfOk}
-use Rattle.std.specs.Prelude.{slice_index, slice_index_or, reverse, replicate}
+use Rattle.std.proofs.Common.{◌≡◌, ◌+◌, ◌++◌, ◌∷◌, [], length, sym, subst, rules, arith}
 use Rattle.std.proofs.lemmas.Grind.{common_steps}
 use Rattle.lay_cascade.specs.Siblings.{AdjacentTo}
 use Rattle.lay_cascade.proofs.Adjacent.{adjacent_more}

@@ -1,7 +1,6 @@
-use Rattle.std.proofs.Common.{◌≡◌, ◌∙◌, ◌+◌, ◌<◌, ◌≤◌, ◌++◌, ◌∷◌, [], ℕ, Bool, true, false, List, Option, Some, None, length, take, drop, refl, sym, ap, subst, rules, arith, inl, inr, IfOk}
-use Rattle.std.specs.Prelude.{slice_index, slice_index_or, reverse, replicate}
+use Rattle.std.proofs.Common.{◌≡◌, ◌∙◌, None, length, ap, rules, arith}
+use Rattle.std.specs.Prelude.{replicate}
 use Rattle.std.proofs.lemmas.Grind.{common_steps}
-use Rattle.std.proofs.lemmas.List.{replicate_more}
 use Rattle.lay_cascade.proofs.Adjacent.{none_last_yet}
 use Rattle.lay_cascade.proofs.siblings.none_last.Goals as goal
 

@@ -1,8 +1,6 @@
-use Rattle.std.proofs.Common.{◌≡◌, ◌∙◌, ◌+◌, ◌<◌, ◌≤◌, ◌++◌, ◌∷◌, [], ℕ, Bool, true, false, List, Option, Some, None, length, take, drop, refl, sym, ap, subst, rules, arith, inl, inr, IfOk}
-use Rattle.std.specs.Prelude.{slice_index, slice_index_or, reverse, replicate}
+use Rattle.std.proofs.Common.{◌≡◌, ◌<◌, true, false, rules, arith, inl, inr}
 use Rattle.std.proofs.lemmas.Grind.{common_steps}
 use Rattle.lay_doc.specs.Document.{is_text_at}
-use Rattle.lay_cascade.specs.LastChildren.{AreLast}
 use Rattle.lay_cascade.proofs.Adjacent.{root_or_text, last_set, parent_within}
 use Rattle.lay_cascade.proofs.siblings.note.Goals as goal
 use Rattle.lay_cascade.proofs.siblings.note.Goals.{then-place-eq0-via-then-place-eq0, then-place-eq0-via-else-place-eq0+then-is_text_at}
@@ -10,8 +8,8 @@ use Rattle.lay_cascade.proofs.siblings.note.Goals.{then-place-eq0-via-then-place
 pub returns-then-place-eq0 : goal.returns-then-place-eq0
 returns-then-place-eq0 c =
     elim c.then-place-eq0.branch [
-      then-place-eq0-via-then-place-eq0 w ↦ (let root : c.args.place ≡ 0 = first_of (search rules, grind (arith, common_steps)) in root_or_text c.args.nodes.now c.args.place c.args.last.now.items c.requires.last (inl root))
-    | then-place-eq0-via-else-place-eq0+then-is_text_at w ↦ (let text : is_text_at c.args.nodes.now c.args.place ≡ true = first_of (search rules, grind (arith, common_steps)) in root_or_text c.args.nodes.now c.args.place c.args.last.now.items c.requires.last (inr text))
+      | then-place-eq0-via-then-place-eq0 w ↦ (let root : c.args.place ≡ 0 = first_of (search rules, grind (arith, common_steps)) in root_or_text c.args.nodes.now c.args.place c.args.last.now.items c.requires.last (inl root))
+      | then-place-eq0-via-else-place-eq0+then-is_text_at w ↦ (let text : is_text_at c.args.nodes.now c.args.place ≡ true = first_of (search rules, grind (arith, common_steps)) in root_or_text c.args.nodes.now c.args.place c.args.last.now.items c.requires.last (inr text))
     ]
 
 pub returns : goal.returns
