@@ -1,0 +1,5 @@
+pub mod NodeNames
+pub mod Siblings
+pub mod LastChildren
+pub mod Matching
+pub mod Specificity

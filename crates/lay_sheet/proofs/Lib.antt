@@ -1,0 +1,5 @@
+pub mod Fronts
+pub mod Grammar
+pub mod Utf8Texts
+pub mod Texts
+pub mod OneSheet

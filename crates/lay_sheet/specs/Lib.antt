@@ -1,0 +1,7 @@
+pub mod Lists
+pub mod PlainText
+pub mod Pieces
+pub mod SelectorTexts
+pub mod Declarations
+pub mod Sheets
+pub mod Laws

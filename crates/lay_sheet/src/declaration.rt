@@ -1,0 +1,143 @@
+//! The declarations of a rule set's block.
+
+ghost use Rattle.std.specs.Prelude.{◌≡◌, [], ◌++◌, IfOk, OnOk, map, option_map};
+ghost use Rattle.std.specs.Char.{to_ascii_lowercase};
+ghost use Rattle.std.specs.Result.{result_ok};
+ghost use Rattle.lay_values.specs.Reading.{without_end, read_declaration};
+ghost use Rattle.lay_sheet.specs.Lists.{with_found};
+ghost use Rattle.lay_sheet.specs.Declarations.{before_exclamation, before_important, text_of, named_by, named, weighed, declared, declaration_of, AreDeclarations};
+
+use crate::pieces::{behind_first, split_before, split_part, trimmed};
+use lay_style::Decl;
+use lay_units::NoMemory;
+use lay_values::read;
+use std::alloc::Global;
+use std::str::from_utf8;
+
+/// A declaration of a sheet.
+#[derive(Clone, Copy)]
+pub struct SheetDecl {
+    pub decl: Decl,
+    /// Whether it ends in `!important`.
+    pub important: bool,
+}
+
+fn without_end(text: &[u8]) -> &[u8]
+    ensures { result.now ≡ without_end text.now }
+{
+    text.trim_ascii_end()
+}
+
+/// A text without the `!` at its end.
+fn before_exclamation(text: &[u8]) -> Option<&[u8]>
+    ensures { option_map (λ t. t.now) result ≡ before_exclamation text.now }
+{
+    let last = text.len().checked_sub(1)?;
+    if text[last] == b'!' {
+        Some(&text[..last])
+    } else {
+        None
+    }
+}
+
+/// What stands before `!important`.
+fn before_important(text: &[u8]) -> Option<&[u8]>
+    ensures { option_map (λ t. t.now) result ≡ before_important text.now }
+{
+    let (front, word) = text.split_at(text.len().saturating_sub(9));
+    if b"important".eq_ignore_ascii_case(word) {
+        before_exclamation(without_end(front))
+    } else {
+        None
+    }
+}
+
+/// The declaration that a property's name in any case and a value give.
+fn decl_of(alloc: Global, name: &str, value: &str) -> Result<Option<Decl>, NoMemory>
+    ensures { IfOk result (λ d. d ≡ result_ok (read_declaration (map to_ascii_lowercase name.now) value.now)) }
+{
+    let name = name.to_ascii_lowercase(alloc)?;
+    Ok(read(alloc, name.as_str(), value).ok())
+}
+
+#[tactic(auto, using(crate::proofs::Utf8Texts::text_is, crate::proofs::Utf8Texts::text_is_none))]
+fn text_of(bytes: &[u8]) -> Option<&str>
+    ensures { option_map (λ t. t.now) result ≡ text_of bytes.now }
+{
+    match from_utf8(bytes) {
+        Ok(text) => Some(text),
+        Err(_) => None,
+    }
+}
+
+/// The declaration of a name and a value.
+fn named(
+    alloc: Global,
+    important: bool,
+    name: &[u8],
+    value: &[u8],
+) -> Result<Option<SheetDecl>, NoMemory>
+    ensures { IfOk result (λ d. d ≡ named important name.now value.now) }
+{
+    let Some(name) = text_of(name) else {
+        return Ok(None);
+    };
+    let Some(value) = text_of(value) else {
+        return Ok(None);
+    };
+    match decl_of(alloc, name, value)? {
+        Some(decl) => Ok(Some(SheetDecl { decl, important })),
+        None => Ok(None),
+    }
+}
+
+fn weighed(alloc: Global, name: &[u8], value: &[u8]) -> Result<Option<SheetDecl>, NoMemory>
+    ensures { IfOk result (λ d. d ≡ weighed name.now value.now (before_important value.now)) }
+{
+    match before_important(value) {
+        Some(front) => named(alloc, true, name, front),
+        None => named(alloc, false, name, value),
+    }
+}
+
+/// The declaration of a name and of what stands from its colon on.
+fn declared(alloc: Global, name: &[u8], rest: &[u8]) -> Result<Option<SheetDecl>, NoMemory>
+    ensures { IfOk result (λ d. d ≡ declared name.now rest.now) }
+{
+    if rest.is_empty() {
+        return Ok(None);
+    }
+    weighed(alloc, name, trimmed(behind_first(rest)))
+}
+
+/// The declaration that a part of a block is.
+fn declaration_of(alloc: Global, part: &[u8]) -> Result<Option<SheetDecl>, NoMemory>
+    ensures { IfOk result (λ d. d ≡ declaration_of part.now) }
+{
+    let (name, rest) = split_before(b':', part);
+    declared(alloc, trimmed(name), rest)
+}
+
+fn push_found(decls: &mut Vec<SheetDecl>, found: Option<SheetDecl>) -> Result<(), NoMemory>
+    ensures { OnOk result (decls.new.items ≡ decls.old.items ++ with_found found []) }
+{
+    if let Some(decl) = found {
+        decls.push(decl)?;
+    }
+    Ok(())
+}
+
+/// The declarations of a block, in its order.
+pub(crate) fn declarations_of(alloc: Global, block: &[u8]) -> Result<Vec<SheetDecl>, NoMemory>
+    ensures { IfOk result (λ v. AreDeclarations block.now v.items) }
+{
+    let mut decls = Vec::new(alloc);
+    let mut rest = block;
+    while !rest.is_empty() {
+        let (part, behind) = split_part(rest);
+        let found = declaration_of(alloc, part)?;
+        push_found(&mut decls, found)?;
+        rest = behind;
+    }
+    Ok(decls)
+}
