@@ -51,4 +51,4 @@ declaration_of part = declared (trimmed (leading (is_other 58) part)) (behind (i
 pub data AreDeclarations : List ℕ → List SheetDecl → Type 0 where
   no_part : AreDeclarations [] []
   one_part : (b : ℕ) (bs : List ℕ) (decls : List SheetDecl) → AreDeclarations (behind_part 0 (b ∷ bs)) decls →
-    AreDeclarations (b ∷ bs) (with_found (declaration_of (part_to 0 (b ∷ bs))) decls)
+      AreDeclarations (b ∷ bs) (with_found (declaration_of (part_to 0 (b ∷ bs))) decls)

@@ -78,11 +78,11 @@ behind_joint text = behind_sign (without_front text)
 pub data AreSteps : Joint → List ℕ → Option (List Step) → Type 0 where
   no_step : (joint : Joint) (text : List ℕ) → simple_of joint text ≡ None → AreSteps joint text None
   last_step : (joint : Joint) (text : List ℕ) (simple : Simple) → simple_of joint text ≡ Some simple → length (behind_simple text) ≡ 0 →
-    AreSteps joint text (Some (record { joint = joint; simple = simple } ∷ []))
+      AreSteps joint text (Some (record { joint = joint; simple = simple } ∷ []))
   more_steps : (joint : Joint) (text : List ℕ) (simple : Simple) (found : Option (List Step)) → simple_of joint text ≡ Some simple →
-    0 < length (behind_simple text) →
+      0 < length (behind_simple text) →
       AreSteps (joint_of (behind_simple text)) (behind_joint (behind_simple text)) found →
-        AreSteps joint text (preceded (record { joint = joint; simple = simple }) found)
+      AreSteps joint text (preceded (record { joint = joint; simple = simple }) found)
 
 -- the selector that a text spells, or None
 abbrev pub IsSelectorText : List ℕ → Option (List Step) → Type 0
@@ -92,7 +92,7 @@ IsSelectorText text found = AreSteps Descendant (trimmed text) found
 pub data AreSelectors : List ℕ → Option (List (List Step)) → Type 0 where
   no_selector : (text : List ℕ) → IsSelectorText (leading (is_other 44) text) None → AreSelectors text None
   last_selector : (text : List ℕ) (selector : List Step) → IsSelectorText (leading (is_other 44) text) (Some selector) →
-    length (behind (is_other 44) text) ≡ 0 → AreSelectors text (Some (selector ∷ []))
+      length (behind (is_other 44) text) ≡ 0 → AreSelectors text (Some (selector ∷ []))
   more_selectors : (text : List ℕ) (selector : List Step) (found : Option (List (List Step))) →
-    IsSelectorText (leading (is_other 44) text) (Some selector) → 0 < length (behind (is_other 44) text) →
+      IsSelectorText (leading (is_other 44) text) (Some selector) → 0 < length (behind (is_other 44) text) →
       AreSelectors (drop 1 (behind (is_other 44) text)) found → AreSelectors text (preceded selector found)

@@ -20,20 +20,20 @@ pub record RuleValue : Type 0 where
 -- the rule set that a prelude and a block are, or None
 pub data IsRuleSet : List ℕ → List ℕ → Option RuleValue → Type 0 where
   kept : (prelude block : List ℕ) (selectors : List (List Step)) (decls : List SheetDecl) → AreSelectors prelude (Some selectors) →
-    AreDeclarations block decls → IsRuleSet prelude block (Some (record { selectors = selectors; decls = decls }))
+      AreDeclarations block decls → IsRuleSet prelude block (Some (record { selectors = selectors; decls = decls }))
   ignored : (prelude block : List ℕ) → AreSelectors prelude None → IsRuleSet prelude block None
 
 -- the rule sets of the statements that a text is
 pub data AreStatements : List ℕ → List RuleValue → Type 0 where
   end : AreStatements [] []
   space : (b : ℕ) (bs : List ℕ) (rules : List RuleValue) → is_ascii_whitespace b ≡ true → AreStatements bs rules →
-    AreStatements (b ∷ bs) rules
+      AreStatements (b ∷ bs) rules
   at_rule : (b : ℕ) (bs : List ℕ) (rules : List RuleValue) → is_ascii_whitespace b ≡ false → (b == 64) ≡ true →
-    AreStatements (behind_at_rule bs) rules → AreStatements (b ∷ bs) rules
+      AreStatements (behind_at_rule bs) rules → AreStatements (b ∷ bs) rules
   unopened : (b : ℕ) (bs : List ℕ) → is_ascii_whitespace b ≡ false → (b == 64) ≡ false → length (behind (is_other 123) (b ∷ bs)) ≡ 0 →
-    AreStatements (b ∷ bs) []
+      AreStatements (b ∷ bs) []
   rule_set : (b : ℕ) (bs : List ℕ) (rule : Option RuleValue) (rules : List RuleValue) → is_ascii_whitespace b ≡ false →
-    (b == 64) ≡ false → 0 < length (behind (is_other 123) (b ∷ bs)) →
+      (b == 64) ≡ false → 0 < length (behind (is_other 123) (b ∷ bs)) →
       IsRuleSet (leading (is_other 123) (b ∷ bs)) (block_to 0 (drop 1 (behind (is_other 123) (b ∷ bs)))) rule →
       AreStatements (behind_block 0 (drop 1 (behind (is_other 123) (b ∷ bs)))) rules → AreStatements (b ∷ bs) (with_found rule rules)
 
