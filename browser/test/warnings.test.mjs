@@ -1,4 +1,4 @@
-// Thirty pages with one unknown thing each: each gives its warning and no other, is the same afterwards, and is laid out.
+// Pages with one unknown thing each: in both browsers each gives its warning and no other, is the same afterwards, and is laid out.
 import { after, before, describe, test } from 'node:test';
 import assert from 'node:assert/strict';
 import { mkdtempSync, rmSync, writeFileSync } from 'node:fs';
