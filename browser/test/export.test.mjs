@@ -51,10 +51,13 @@ test('the bookmarklet is one address', () => {
 test('Firefox: nearly all of the article is within 1 px', { skip: !installed(firefox) }, async () => {
   const browser = await Firefox.start();
   try {
-    await browser.resize(816, 700);
-    await browser.open(article);
-    const { sum, first } = await exported(browser);
-    const all = sum.blocks.all + sum.texts.all, near = sum.blocks.near + sum.texts.near;
-    assert.ok(near >= 0.95 * all, `${near} of ${all} ${JSON.stringify(first.slice(0, 3))}`);
+    for (const width of [500, 800, 1280]) {                                     // it makes no window of 420 px
+      await browser.resize(width, 700);
+      await browser.open(article);
+      const { answer, sum, first } = await exported(browser);
+      const all = sum.blocks.all + sum.texts.all, near = sum.blocks.near + sum.texts.near;
+      assert.equal(answer.run.viewport[0], width);
+      assert.ok(near >= 0.95 * all, `${near} of ${all} ${JSON.stringify(first.slice(0, 3))}`);
+    }
   } finally { await browser.close(); }
 });

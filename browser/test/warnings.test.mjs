@@ -1,11 +1,13 @@
-// Thirty pages with one unknown thing each: each gives its warning and no other, is the same afterwards, and is laid out.
-import { after, before, test } from 'node:test';
+// Pages with one unknown thing each: in both browsers each gives its warning and no other, is the same afterwards, and is laid out.
+import { after, before, describe, test } from 'node:test';
 import assert from 'node:assert/strict';
 import { mkdtempSync, rmSync, writeFileSync } from 'node:fs';
 import { tmpdir } from 'node:os';
 import { join } from 'node:path';
 import { pathToFileURL } from 'node:url';
+import { spawnSync } from 'node:child_process';
 import { Chromium } from './chromium.mjs';
+import { Firefox } from './firefox.mjs';
 import { exporting, layOut } from './lay.mjs';
 
 const standards = '<!doctype html><meta charset=utf-8><title>page</title>';
@@ -62,18 +64,25 @@ const PAGES = [
   ['shadow tree (flattened)', '<div><template shadowrootmode=open><p>one</p></template></div>'],
 ];
 
-let browser, folder;
-before(async () => { folder = mkdtempSync(join(tmpdir(), 'lay-warnings-')); browser = await Chromium.start(); });
-after(async () => { await browser.close(); rmSync(folder, { recursive: true, force: true }); });
+const installed = name => spawnSync(name, ['--version'], { timeout: 20000 }).status === 0;
+const BROWSERS = [['Chromium', process.env.CHROMIUM || 'chromium', Chromium], ['Firefox', process.env.FIREFOX || 'firefox-esr', Firefox]];
 
-for (const [what, body, head = standards] of PAGES) test(what || 'nothing', async () => {
-  const file = join(folder, 'page.html'), page = await browser.page();
-  try {
+for (const [name, program, Browser] of BROWSERS) describe(name, { skip: !installed(program) }, () => {
+  let browser, page, folder;
+  before(async () => {
+    folder = mkdtempSync(join(tmpdir(), 'lay-warnings-'));
+    browser = await Browser.start();
+    page = browser.page ? await browser.page() : browser;
+  });
+  after(async () => { await browser.close(); rmSync(folder, { recursive: true, force: true }); });
+
+  for (const [what, body, head = standards] of PAGES) test(what || 'nothing', async () => {
+    const file = join(folder, 'page.html');
     writeFileSync(file, head + body);
     await page.open(pathToFileURL(file).href);
     const was = await page.evaluate('document.documentElement.outerHTML'), answer = await page.evaluate(exporting({}));
     assert.deepEqual(answer.warnings.map(warning => warning.what), what ? [what] : []);
     assert.equal(await page.evaluate('document.documentElement.outerHTML'), was);
     assert.match(layOut(answer.run), /^publish 0\n/);
-  } finally { await page.close(); }
+  });
 });
