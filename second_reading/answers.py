@@ -10,7 +10,8 @@ from refusals import first_fault
 DIGITS = re.compile('[0-9]{1,10}')
 NATURAL = '(?:0|[1-9][0-9]*)'
 WHOLE = '(?:0|-?[1-9][0-9]*)'
-PIECE = re.compile('(?:box|line|text) [1-9][0-9]* %s %s %s %s %s' % (NATURAL, WHOLE, WHOLE, NATURAL, NATURAL))
+# a text is narrower than nothing where its letters stand closer than they are wide, and so is what holds it alone
+PIECE = re.compile('(?:box|line|text) [1-9][0-9]* %s %s %s %s %s' % (NATURAL, WHOLE, WHOLE, WHOLE, NATURAL))
 ENTRY = re.compile('edit ([1-9][0-9]*) (%s) (?:accepted [1-9][0-9]*|refused E(?:[1-9]|10|11))'
                    '|(?:latest|sync) ([1-9][0-9]*) (%s) %s' % (NATURAL, NATURAL, NATURAL))
 PUBLISH = re.compile('publish (%s)' % NATURAL)

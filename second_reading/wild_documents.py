@@ -21,11 +21,12 @@ NUMBERS = ['0', '1', '3', '7.5', '10', '64', '100', '-1', '-50', '1000000', '335
 COMMON = ['0', '1', '3', '10', '10', '20', '50', '100', '7.5', '-1', '-5', '-10', '0.5']
 UNITS = ['px', 'px', 'px', 'px', 'em', 'em', 'in', 'cm', 'mm', 'pt', 'pc', 'PX']
 WHOLE = ['0', '1', '-1', '7', '+3', '999999999', '-999999999']
-WORDS = ['a', 'word', 'w' * 40, ' ', '  ', '\n', '\t', 'a b', 'a\nb', 'a\tb\t', '\u00a0', '\u200b', 'e\u0301', '\u65e5\u672c', '\U0001f468\u200d\U0001f469', '-', 'x-y', '\r\n',
+WORDS = ['a', 'word', 'w' * 40, ' ', '  ', '\n', '\t', 'a b', 'a\nb', 'a\tb\t', '\u00a0', '\u200b', 'e\u0301', '\u65e5\u672c',
+         '\U0001f468\u200d\U0001f469', '-', 'x-y', '\r\n',
          '\u0000', '\u2028', '\ufeff', '\u1100\u1161', '\U0010ffff', '\u00ad', '']
 SHAPES = ['flat', 'deep', 'tree', 'tree', 'tree', 'wide']
-ODD_VALUES = [None, True, False, 0, 1, -1, 1.5, 2 ** 32, 2 ** 63, 2 ** 64, 10 ** 30, -2 ** 63, '', 'a', '\u0000', [], [[]], {}, {'id': 1}, [0, 0], [1, 1],
-              [1, 2, 3], 'inherit', '1px', 4294967295, 4294967296, 16384, 65, 1000001]
+ODD_VALUES = [None, True, False, 0, 1, -1, 1.5, 2 ** 32, 2 ** 63, 2 ** 64, 10 ** 30, -2 ** 63, '', 'a', '\u0000', [], [[]], {},
+              {'id': 1}, [0, 0], [1, 1], [1, 2, 3], 'inherit', '1px', 4294967295, 4294967296, 16384, 65, 1000001]
 MOST_LEVELS = 140
 
 
@@ -108,7 +109,8 @@ class Wild:
             names = ['default', 'ascent', 'descent', 'xheight', 'normal']
             run['face'] = {name: self.choice([0, 1, 500, 1000, 10000]) for name in self.rng.sample(names, 3)}
         if self.rng.random() < 0.6:
-            run['editors'] = [[self.command(len(nodes)) for _ in range(self.choice([0, 1, 3, 8]))] for _ in range(self.choice([1, 2, 4, 16]))]
+            counts = [self.choice([0, 1, 3, 8]) for _ in range(self.choice([1, 2, 4, 16]))]
+            run['editors'] = [[self.command(len(nodes)) for _ in range(count)] for count in counts]
         return run
 
 
@@ -155,11 +157,12 @@ def damage_values(rng, run):
             del container[key]
         elif act == 1:
             other, place = rng.choice(places)
-            container[key] = json.loads(json.dumps(other.get(place) if isinstance(other, dict) else other[place] if place < len(other) else 0))
+            container[key] = json.loads(json.dumps(other[place]))
         elif act == 2:
             container[key] = nested(rng, container[key])
         elif act == 3 and isinstance(container, dict):
-            container[rng.choice(['id', 'kind', 'style', 'text', 'node', 'Width', 'do', 'colspan', '\u00e9'])] = container.pop(key)
+            name = rng.choice(['id', 'kind', 'style', 'text', 'node', 'Width', 'do', 'colspan', '\u00e9'])
+            container[name] = container.pop(key)
         elif act == 4 and isinstance(container, list):
             container.insert(key, json.loads(json.dumps(container[key])))
         else:
@@ -167,8 +170,10 @@ def damage_values(rng, run):
     return run
 
 
-TOKENS = [b'{', b'}', b'[', b']', b',', b':', b'"', b'\\', b'0', b'-', b'1e999', b'1E400', b'e', b'.', b'null', b'true', b'\\ud800', b'\\u0000', b'\xff', b'\xef\xbb\xbf',
-          b'\xc0\x80', b'\xed\xa0\x80', b'\x00', b'\n', b' ', b'//', b'NaN', b'Infinity', b'-0', b'00', b'18446744073709551616', b"'", b'\xf4\x90\x80\x80', b'\x0c', b'\x7f']
+TOKENS = [
+    b'{', b'}', b'[', b']', b',', b':', b'"', b'\\', b'0', b'-', b'1e999', b'1E400', b'e', b'.', b'null', b'true', b'\\ud800', b'\\u0000', b'\xff',
+    b'\xef\xbb\xbf', b'\xc0\x80', b'\xed\xa0\x80', b'\x00', b'\n', b' ', b'//', b'NaN', b'Infinity', b'-0', b'00', b'18446744073709551616',
+    b"'", b'\xf4\x90\x80\x80', b'\x0c', b'\x7f']
 
 
 def damage_bytes(rng, data):
