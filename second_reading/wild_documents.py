@@ -171,8 +171,9 @@ def damage_values(rng, run):
 
 
 TOKENS = [
-    b'{', b'}', b'[', b']', b',', b':', b'"', b'\\', b'0', b'-', b'1e999', b'1E400', b'e', b'.', b'null', b'true', b'\\ud800', b'\\u0000', b'\xff',
-    b'\xef\xbb\xbf', b'\xc0\x80', b'\xed\xa0\x80', b'\x00', b'\n', b' ', b'//', b'NaN', b'Infinity', b'-0', b'00', b'18446744073709551616',
+    b'{', b'}', b'[', b']', b',', b':', b'"', b'\\', b'0', b'-', b'1e999', b'1E400', b'e', b'.', b'null', b'true', b'\\ud800', b'\\u0000',
+    b'\xff', b'\xef\xbb\xbf', b'\xc0\x80', b'\xed\xa0\x80', b'\x00', b'\n', b' ', b'//', b'NaN', b'Infinity', b'-0',
+    b'00', b'18446744073709551616',
     b"'", b'\xf4\x90\x80\x80', b'\x0c', b'\x7f']
 
 
