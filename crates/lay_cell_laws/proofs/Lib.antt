@@ -18,3 +18,8 @@ pub mod CleanCells
 pub mod OneCell
 pub mod LeadingInward
 pub mod FittingInputs
+pub mod NeedLists
+pub mod InnerNeeds
+pub mod OuterNeeds
+pub mod KeptWays
+pub mod KeptNeeds

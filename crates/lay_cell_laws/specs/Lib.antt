@@ -2,3 +2,4 @@ pub mod SoundCells
 pub mod DocumentCells
 pub mod Laws
 pub mod SameContexts
+pub mod KeptInputs

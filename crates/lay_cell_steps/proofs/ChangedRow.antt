@@ -27,7 +27,7 @@ use Rattle.lay_cell_work.specs.KeptValues.{kept_value, value_or_none}
 use Rattle.lay_cell_work.specs.PresentInputs.{key_of}
 use Rattle.lay_cell_laws.specs.DocumentCells.{AreDocumentCells}
 use Rattle.lay_cell_laws.specs.SoundCells.{CellRow, CellState, IsCellOf, input_now}
-use Rattle.lay_kept_inputs.specs.KeptInputs.{InputsAreKept}
+use Rattle.lay_cell_laws.specs.KeptInputs.{InputsAreKept}
 use Rattle.lay_cell_steps.proofs.InputsBeside.{inputs_same}
 use Rattle.lay_cell_steps.proofs.RowsOfContexts.{needs_are, value_is}
 

@@ -15,9 +15,9 @@ use Rattle.lay_doc.specs.NewNodes.{NewNodeValue}
 use Rattle.lay_doc.specs.Removal.{after_remove}
 use Rattle.lay_face.specs.FaceValue.{FaceValue}
 use Rattle.lay_context.specs.Solves.{medium_of}
-use Rattle.lay_kept_inputs.specs.KeptInputs.{InputsAreKept}
+use Rattle.lay_cell_laws.specs.KeptInputs.{InputsAreKept}
 use Rattle.lay_own_nodes.specs.Touched.{Edits}
-use Rattle.lay_table_keys.specs.RootKeys.{RootStaysFirst}
+use Rattle.lay_shape_laws.specs.RootKeys.{RootStaysFirst}
 use Rattle.lay_cell_steps.specs.EditedCells.{EditsKeepCells}
 use Rattle.lay_cell_steps.proofs.FollowedRows.{followed}
 

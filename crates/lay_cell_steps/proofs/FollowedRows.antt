@@ -34,7 +34,7 @@ use Rattle.lay_cell_work.specs.PresentInputs.{key_of}
 use Rattle.lay_cell_laws.specs.DocumentCells.{AreDocumentCells}
 use Rattle.lay_cell_laws.specs.SameContexts.{IsSameContext}
 use Rattle.lay_cell_laws.specs.SoundCells.{CellRow, CellState, IsCellOf, input_now}
-use Rattle.lay_kept_inputs.specs.KeptInputs.{InputsAreKept, IsSameCell}
+use Rattle.lay_cell_laws.specs.KeptInputs.{InputsAreKept, IsSameCell}
 use Rattle.lay_changes.specs.TouchedContexts.{IsUntouched, IsUntouchedFrom}
 use Rattle.lay_cell_steps.specs.EditedCells.{FollowsContexts, TakesShape}
 use Rattle.lay_cell_steps.proofs.CarriedRows.{IsIdle, marks_entries, marks_rows, rebuilt_entries, rebuilt_rows}

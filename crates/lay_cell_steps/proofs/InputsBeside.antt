@@ -15,7 +15,7 @@ use Rattle.lay_shape.specs.Keys.{AreOfOwnNodes}
 use Rattle.lay_cell_work.specs.KeptValues.{kept_value}
 use Rattle.lay_cell_laws.specs.SameContexts.{IsSameContext, IsTable, Table}
 use Rattle.lay_cell_laws.specs.SoundCells.{CellRow, input_now}
-use Rattle.lay_kept_inputs.specs.KeptInputs.{InputsAreKept, IsSameCell}
+use Rattle.lay_cell_laws.specs.KeptInputs.{InputsAreKept, IsSameCell}
 
 -- contexts with what these rows keep
 abbrev pub table : List Context → List FormattingContext → List CellRow → Table

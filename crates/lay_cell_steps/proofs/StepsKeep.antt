@@ -24,7 +24,7 @@ use Rattle.lay_cell_work.specs.CellValues.{CellValue}
 use Rattle.lay_cell_work.specs.PresentInputs.{key_of}
 use Rattle.lay_cell_laws.specs.DocumentCells.{AreDocumentCells}
 use Rattle.lay_cell_laws.specs.SoundCells.{CellRow, CellState, IsCellOf, input_now}
-use Rattle.lay_kept_inputs.specs.KeptInputs.{InputsAreKept}
+use Rattle.lay_cell_laws.specs.KeptInputs.{InputsAreKept}
 use Rattle.lay_cell_steps.specs.CellSteps.{ClaimsKeepCells, FinishesKeepCells, GiveBacksKeepCells}
 use Rattle.lay_cell_steps.proofs.ChangedRow.{IsPresent, apart, changed}
 use Rattle.lay_cell_steps.proofs.RowsOfContexts.{same_context, same_phase}

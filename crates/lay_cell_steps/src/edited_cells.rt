@@ -2,9 +2,9 @@
 
 ghost use Rattle.lay_cell_steps.specs.EditedCells.{EditsKeepCells};
 
+use lay_cell_laws::inputs_are_kept;
 use lay_doc::edits_leave_documents;
-use lay_kept_inputs::inputs_are_kept;
-use lay_table_keys::root_stays_first;
+use lay_shape_laws::root_stays_first;
 
 /// Cells that follow the contexts of a document through an edit are those of the document after it.
 pub fn edits_keep_cells()

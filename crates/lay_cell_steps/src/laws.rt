@@ -2,7 +2,7 @@
 
 ghost use Rattle.lay_cell_steps.specs.CellSteps.{ClaimsKeepCells, FinishesKeepCells, GiveBacksKeepCells, NewCellsAreSound};
 
-use lay_kept_inputs::inputs_are_kept;
+use lay_cell_laws::inputs_are_kept;
 
 /// Cells that are all made anew are those of the document whose shape they have.
 pub fn new_cells_are_sound()

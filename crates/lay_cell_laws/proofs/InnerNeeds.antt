@@ -19,8 +19,8 @@ use Rattle.lay_shape.proofs.Members.{in_filter}
 use Rattle.lay_cell_laws.specs.SameContexts.{AreSameInside, CounterpartsAreOfOneNode, IsSameContext, IsTable, Table, inner_at, is_out_of_flow}
 use Rattle.lay_cell_laws.proofs.InnerContexts.{none_same}
 use Rattle.lay_cell_laws.proofs.InputForms.{table_are, table_keeps}
-use Rattle.lay_kept_inputs.specs.KeptInputs.{AreNeedsKept}
-use Rattle.lay_kept_inputs.proofs.Lists.{filtered_alike}
+use Rattle.lay_cell_laws.specs.KeptInputs.{AreNeedsKept}
+use Rattle.lay_cell_laws.proofs.NeedLists.{filtered_alike}
 
 same_absolute : (f : Flow) → is_absolute_flow f ≡ forms.is_absolute f
 same_absolute InFlow = refl

@@ -1,8 +1,8 @@
-//! The law.
+//! What a cell is given, where the cells that it depends on keep their values. The function does nothing.
 
-ghost use Rattle.lay_kept_inputs.specs.KeptInputs.{InputsAreKept};
+ghost use Rattle.lay_cell_laws.specs.KeptInputs.{InputsAreKept};
 
-use lay_cell_laws::{
+use crate::laws::{
     counterparts_are_of_one_node, measure_inputs_are_kept, place_inputs_are_kept,
     size_inputs_are_kept,
 };

@@ -15,11 +15,11 @@ use Rattle.lay_shape.proofs.Members.{in_flat_map, in_here, in_left, in_map, in_r
 use Rattle.lay_cell_laws.specs.SameContexts.{CounterpartsAreOfOneNode, IsSameAround, IsSameContext, IsSameOut, IsSameToMeasure, IsSameToPlace, IsSameToSize, IsTable, MeasureInputsAreKept, PlaceInputsAreKept, SizeInputsAreKept, Table}
 use Rattle.lay_cell_laws.proofs.InputForms.{table_are}
 use Rattle.lay_cell_laws.proofs.SameWays.{positive_other}
-use Rattle.lay_kept_inputs.specs.KeptInputs.{AreNeedsKept, InputsAreKept, IsSameTo}
-use Rattle.lay_kept_inputs.proofs.InnerNeeds.{inner_keys, inside_kept, out_of_flow}
-use Rattle.lay_kept_inputs.proofs.KeptWays.{AreLaidSame, same_out, way_keys}
-use Rattle.lay_kept_inputs.proofs.Lists.{heads, same_rest, tails}
-use Rattle.lay_kept_inputs.proofs.OuterNeeds.{absolute_needs, flow_needs, way_is}
+use Rattle.lay_cell_laws.specs.KeptInputs.{AreNeedsKept, InputsAreKept, IsSameTo}
+use Rattle.lay_cell_laws.proofs.InnerNeeds.{inner_keys, inside_kept, out_of_flow}
+use Rattle.lay_cell_laws.proofs.KeptWays.{AreLaidSame, same_out, way_keys}
+use Rattle.lay_cell_laws.proofs.NeedLists.{heads, same_rest, tails}
+use Rattle.lay_cell_laws.proofs.OuterNeeds.{absolute_needs, flow_needs, way_is}
 
 module _ (counterparts : CounterpartsAreOfOneNode) (a b : Table) (is_a : IsTable a) (is_b : IsTable b) (c e : ℕ) (same : IsSameContext a b c e) where
   some_there : 0 < c → 0 < e

@@ -16,7 +16,7 @@ use Rattle.lay_cell_laws.specs.SameContexts.{IsLaidSame, IsSameContext, IsSameWa
 use Rattle.lay_cell_laws.proofs.InputForms.{table_are}
 use Rattle.lay_cell_laws.proofs.OuterBoxes.{outer_boxes_same}
 use Rattle.lay_cell_laws.proofs.SameWays.{positive_other}
-use Rattle.lay_kept_inputs.proofs.Lists.{tails}
+use Rattle.lay_cell_laws.proofs.NeedLists.{tails}
 
 -- the keys of the cells of contexts on a way
 abbrev pub way_keys : List Context → List ℕ → List CellKey

@@ -27,8 +27,8 @@ use Rattle.lay_contexts.proofs.ChildTrees.{children_stand_in_order}
 use Rattle.lay_contexts.proofs.NodeFacts.{box_within, of_node}
 use Rattle.lay_shape.specs.Keys.{node_of}
 use Rattle.lay_shape.proofs.OwnNodes.{box_node, contexts_are_of_own_nodes_lem}
-use Rattle.lay_table_keys.specs.RootKeys.{RootStaysFirst}
-use Rattle.lay_table_keys.proofs.FirstNodes.{first_id_stays}
+use Rattle.lay_shape_laws.specs.RootKeys.{RootStaysFirst}
+use Rattle.lay_shape_laws.proofs.FirstNodes.{first_id_stays}
 
 is_true : (b : Bool) → IsTrue b → b ≡ true
 is_true true h = refl

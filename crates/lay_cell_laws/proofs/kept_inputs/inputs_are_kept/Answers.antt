@@ -1,5 +1,5 @@
-use Rattle.lay_kept_inputs.proofs.KeptNeeds.{inputs_are_kept_lem}
-use Rattle.lay_kept_inputs.proofs.laws.inputs_are_kept.Goals as goal
+use Rattle.lay_cell_laws.proofs.KeptNeeds.{inputs_are_kept_lem}
+use Rattle.lay_cell_laws.proofs.kept_inputs.inputs_are_kept.Goals as goal
 
 pub returns : goal.returns
 returns c =

@@ -1,2 +1,0 @@
-pub mod FirstNodes
-pub mod FirstContexts
