@@ -7,6 +7,7 @@
 #![tactic(auto)]
 
 mod gate;
+mod meet_gate;
 mod memory_sink;
 mod memory_source;
 mod sink;
@@ -15,6 +16,7 @@ mod streams;
 mod writing;
 
 pub use gate::{Gate, OpenGate, Point};
+pub use meet_gate::MeetGate;
 pub use memory_sink::{FixedSink, MemSink};
 pub use memory_source::{MemSource, SafeSource};
 pub use sink::Sink;
