@@ -9,6 +9,7 @@ use crate::computing::value_of_cell;
 use crate::layout::Layout;
 use lay_cells::Done;
 use lay_shape::CellKey;
+use lay_units::NoMemory;
 use std::alloc::Global;
 use std::marker::Model;
 use std::sync::Arc;
@@ -64,18 +65,26 @@ impl Claim {
         &self.input
     }
 
+    /// Works the value out, and keeps the claim.
+    pub fn solve(&self, alloc: Global) -> Result<Done<Layout>, NoMemory>
+        ensures of { IfOk result (λ d. (d.key ≡ self.now.key) × (d.number ≡ self.now.number) × (d.input ≡ self.now.input)) }
+        ensures local { IfOk result (λ d. IsCellLocal d.input d.value) }
+    {
+        let input = self.input.clone()?;
+        let value = value_of_cell(alloc, &input)?;
+        let value = Arc::new(alloc, value)?;
+        Ok(Done::new(self.key, self.number, input, value))
+    }
+
     /// Works the value out. For want of memory the claim comes back as it was.
     pub fn compute(self, alloc: Global) -> Result<Done<Layout>, Claim>
         ensures of { IfOk result (λ d. (d.key ≡ self.key) × (d.number ≡ self.number) × (d.input ≡ self.input)) }
         ensures local { IfOk result (λ d. IsCellLocal d.input d.value) }
         ensures back { IfErr result (λ c. c ≡ self) }
     {
-        let Ok(value) = value_of_cell(alloc, &self.input) else {
-            return Err(self);
-        };
-        let Ok(value) = Arc::new(alloc, value) else {
-            return Err(self);
-        };
-        Ok(Done::new(self.key, self.number, self.input, value))
+        match self.solve(alloc) {
+            Ok(done) => Ok(done),
+            Err(_) => Err(self),
+        }
     }
 }

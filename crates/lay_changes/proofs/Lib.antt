@@ -2,4 +2,3 @@ mod NodeNumbers
 mod RisingNumbers
 mod TouchedSteps
 mod TouchedLaws
-mod OwnFlags

@@ -1,5 +1,5 @@
 -- Whether each of a document's contexts is measured, as who compares contexts is given it.
-use Rattle.std.specs.Prelude.{ℕ, ◌≡◌, ◌<◌, Bool, true, false, List, [], ◌∷◌, ◌++◌, length}
+use Rattle.std.specs.Prelude.{ℕ, ◌≡◌, ◌<◌, Bool, List, length}
 use Rattle.lay_blocks.specs.Children.{flag_at}
 use Rattle.lay_contexts.specs.Contexts.{Context}
 use Rattle.lay_contexts.specs.FormattingContexts.{FormattingContext}
@@ -13,11 +13,6 @@ pub record AreContextFlagsTo (contexts : List Context) (all : List FormattingCon
 
 abbrev pub AreContextFlags : List Context → List FormattingContext → List Bool → Type 0
 AreContextFlags contexts all flags = AreContextFlagsTo contexts all flags (length contexts)
-
--- where a formatting context is no anonymous one, its flag is that of the next context
-abbrev pub with_own : (is_anonymous flag : Bool) → List Bool → List Bool
-with_own true flag flags = flags
-with_own false flag flags = flags ++ flag ∷ []
 
 -- the contexts of a document with their formatting contexts
 pub record ContextLists : Type 0 where

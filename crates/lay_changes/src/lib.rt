@@ -5,13 +5,11 @@
 //! of their keys.
 #![tactic(auto)]
 
-mod flags;
 mod laws;
 mod measured_contexts;
 mod numbers_by_node;
 mod touched_keys;
 
-pub use flags::context_flags;
 pub use laws::{
     listed_keys_are_of_touched_contexts, one_list_of_touched_keys, touched_contexts_are_listed,
     touched_keys_stand_once, unlisted_contexts_are_untouched,

@@ -7,9 +7,7 @@
 mod claim_list;
 mod outcome;
 mod outcomes;
-mod solving;
 
 pub use claim_list::ClaimList;
 pub use outcome::Outcome;
 pub use outcomes::Outcomes;
-pub use solving::solve;

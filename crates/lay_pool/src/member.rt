@@ -8,7 +8,6 @@ ghost use Rattle.lay_pool.specs.Finds.{AreFoundOf, IsFoundOf};
 use crate::deques::Deque;
 use lay_cell_work::{Claim, Layout};
 use lay_cells::Done;
-use lay_claims::solve;
 use lay_outside::{Gate, Point};
 use lay_units::NoMemory;
 use std::alloc::Global;
@@ -103,7 +102,7 @@ pub(crate) fn computed<G: Gate>(alloc: Global, claim: &Claim, gate: &G) -> Optio
     ensures { IfSome result (IsWorkOf claim.now) }
 {
     gate.at(Point::LayStart(claim.number()));
-    let done = solve(alloc, claim).ok();
+    let done = claim.solve(alloc).ok();
     gate.at(Point::LayEnd(claim.number()));
     done
 }
