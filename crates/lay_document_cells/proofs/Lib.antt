@@ -10,5 +10,5 @@ mod OneEdits
 mod Passing
 mod Pigeonhole
 mod SettledPlaces
-mod Walking
+mod WalkSteps
 mod Working
