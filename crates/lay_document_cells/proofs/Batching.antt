@@ -1,13 +1,13 @@
 -- Claims by the batch, and outcomes that are handed in.
 use Rattle.std.proofs.Common.{◌≡◌, inl, inr, Bool, ℕ, ◌+◌, ◌≤◌, ◌<◌, List, [], ◌∷◌, ◌++◌, length, Option, None, Some, Result, Ok, Err, cond, count_by, refl, arith, ap, sym, subst, ◌∙◌, length-append}
 use Rattle.std.proofs.lemmas.List.Sums.{sum_by_push}
-use Rattle.lay_units.specs.declared.memory.NoMemory.{NoMemory as Want}
+use Rattle.lay_units.specs.declared.memory.NoMemory.{NoMemory}
 use Rattle.lay_cells.specs.declared.answers.Finished.{Finished}
 use Rattle.lay_cells.specs.declared.answers.Released.{Released}
 use Rattle.lay_shape.specs.declared.cell_key.CellKey.{CellKey}
 use Rattle.lay_cell_work.specs.Claims.{Claim}
 use Rattle.lay_claims.specs.declared.outcome.Outcome.{Outcome}
-use Rattle.lay_document_cells.specs.Batches.{ClaimsSome, Grants, GrantsNone, IsNoGrant, batch_answer, fewer, full, more, none, start}
+use Rattle.lay_document_cells.specs.Batches.{ClaimsSome, Grants, GrantsNone, IsBatchAnswer, IsNoGrant, fewer, full, more, none, start}
 use Rattle.lay_document_cells.specs.Claims.{AnswersNext}
 use Rattle.lay_document_cells.specs.Outcomes.{FinishesAll, HandsIn, HandsInEach, Reply, Tally, counted, is_back, is_cleaned, is_gone, is_stored, is_superseded, no_answers, tally_of, tally_sum}
 use Rattle.lay_document_cells.specs.Outcomes.{more as one_more, start as no_outcomes}
@@ -36,12 +36,11 @@ no_steps : (s : State) (claims : List Claim) (m : State) → length claims ≡ 0
 no_steps s claims m e start = (refl, refl)
 no_steps s claims m e (more before c mid m-1 g a) = absurd (let l = push_length before c (length before) refl in omega (arith, l, e))
 
-pub claims_end : (s m t : State) (limit : ℕ) (claims : List Claim) (a : Next) (r : Result (Option IdleKind) Want) → length claims < limit
-    → Grants s claims m → GrantsNone m a t → (length claims ≡ 0 → r ≡ batch_answer a) → (0 < length claims → r ≡ Ok None)
+pub claims_end : (s m t : State) (limit : ℕ) (claims : List Claim) (a : Next) (r : Result (Option IdleKind) NoMemory) → length claims < limit
+    → Grants s claims m → GrantsNone m a t → (length claims ≡ 0 → IsBatchAnswer a r) → (0 < length claims → r ≡ Ok None)
     → ClaimsSome s limit claims r t
 claims_end s m t limit [] a r lt g end none_is some_is =
-    subst (λ x. ClaimsSome s limit [] x t) (sym (none_is refl))
-    (none a t (subst (λ x. GrantsNone x a t) (no_steps s [] m refl g).1 end))
+    none a r t (subst (λ x. GrantsNone x a t) (no_steps s [] m refl g).1 end) (none_is refl)
 claims_end s m t limit (c ∷ claims) a r lt g end none_is some_is =
     subst (λ x. ClaimsSome s limit (c ∷ claims) x t) (sym (some_is (omega arith)))
     (fewer (c ∷ claims) a m t g (omega arith) lt end)

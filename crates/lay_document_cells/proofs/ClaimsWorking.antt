@@ -1,5 +1,10 @@
 -- Claims are steps of work, and so is what comes of them.
-use Rattle.std.proofs.Common.{◌≡◌, ⊎_elim, List, sym, subst}
+use Rattle.std.proofs.Common.{◌≡◌, ◌+◌, ◌≤◌, ℕ, inl, inr, ⊎_elim, List, arith, ap, sym, subst, ◌∙◌}
+use Rattle.lay_cells.specs.Looks.{IsAt}
+use Rattle.lay_cells.specs.Places.{AtPlace}
+use Rattle.lay_cells.specs.Steps.{draws_after}
+use Rattle.lay_cells.proofs.Lists.{one_at}
+use Rattle.lay_cells.specs.declared.answers.Claimed.TheVariants.{Granted, Reused, Taken}
 use Rattle.lay_cells.specs.declared.answers.Claimed.{Claimed}
 use Rattle.lay_shape.specs.declared.cell_key.CellKey.{CellKey}
 use Rattle.lay_cell_work.specs.CellInputs.{CellInput}
@@ -7,10 +12,11 @@ use Rattle.lay_cell_work.specs.Claims.{Claim}
 use Rattle.lay_claims.specs.declared.outcome.Outcome.{Outcome}
 use Rattle.lay_claims.specs.declared.outcome.Outcome.TheVariants as outcome
 use Rattle.lay_document_cells.specs.Batches.{ClaimsSome, Grants, fewer, full, more, none as no_grants, start}
-use Rattle.lay_document_cells.specs.Claims.{AnswersClaim, AnswersNext, ClaimsFor, GrantsFirst, Passes, none as none_passed, reused, taken}
+use Rattle.lay_document_cells.specs.Claims.{AnswersClaim, AnswersNext, ClaimsFor, DrawsFew, IsOpenToClaims, Passes, none as none_passed, reused, taken}
 use Rattle.lay_document_cells.specs.Laws.{BatchesWork, ClaimsWork, NextClaimsWork, OutcomesWork}
 use Rattle.lay_document_cells.specs.Outcomes.{HandsIn, HandsInEach, Reply, finished, more as one_more, released, start as no_outcomes}
 use Rattle.lay_document_cells.specs.State.{State}
+use Rattle.lay_cell_laws.specs.SoundCells.{CellRow, CellState}
 use Rattle.lay_document_cells.specs.Steps.{ClaimsTo, Step, Works, claim, finish, give_back, none, step}
 use Rattle.lay_document_cells.specs.declared.answers.Answer.{Answer}
 use Rattle.lay_document_cells.specs.declared.answers.Answer.TheVariants as answer
@@ -63,7 +69,7 @@ grants_work s t claims (more before c mid t-1 g last) = then_works s mid t (gran
 pub batch_works : BatchesWork
 batch_works s t limit claims a (full claims-1 t-1 g long) = grants_work s t claims g
 batch_works s t limit claims a (fewer claims-1 last mid t-1 g some short end) = then_works s mid t (grants_work s mid claims g) (next_works mid t last end.answers)
-batch_works s t limit claims a (no_grants first t-1 end) = next_works s t first end.answers
+batch_works s t limit claims a (no_grants first result t-1 end is) = next_works s t first end.answers
 
 hands_in_works : (s t : State) (o : Outcome) (reply : Reply) → HandsIn s o reply t → Works s t
 hands_in_works s t (outcome.Done d) (finished a) does = one_works s t (finish d a t does)
@@ -77,3 +83,35 @@ each_works s t outcomes replies (one_more os rs o reply mid t-1 before last) = t
 
 pub outcomes_work : OutcomesWork
 outcomes_work s t outcomes tally does = each_works s t outcomes does.replies does.each
+
+-- a claim draws at most one number
+one_draw : (a : Claimed) (draws : ℕ) → draws_after a draws ≤ draws + 1
+one_draw (Taken n) draws = omega arith
+one_draw Reused draws = omega arith
+one_draw (Granted n) draws = omega arith
+
+same_draws : (s t : State) → t ≡ s → DrawsFew s t
+same_draws s t same = inl (ap (λ (x : State). x.cells.draws) same)
+
+claimed_draws : (s : State) (key : CellKey) (input : CellInput) (a : Claimed) (t : State) → IsOpenToClaims s → ClaimsTo s key input a t → DrawsFew s t
+claimed_draws s key input a t open does =
+    let cells = ap (λ (x : State). x.cells.draws) does.state in
+    let drawn = ap (λ (x : CellState). x.draws) does.claims.5 in
+    let one = one_draw a s.cells.draws in
+    inr (open, omega (arith, cells, drawn, one))
+
+pub answer_draws : (s t : State) (key : CellKey) (a : Answer) → AnswersClaim s key a t → DrawsFew s t
+answer_draws s t key answer.Gone does = same_draws s t does.1
+answer_draws s t key answer.Clean does = same_draws s t does.1
+answer_draws s t key (answer.Waiting need) does = same_draws s t does.1
+answer_draws s t key answer.Spent does = same_draws s t does.2
+answer_draws s t key answer.NoMemory does = same_draws s t does.2
+answer_draws s t key (answer.Taken number) does = claimed_draws s key _ _ t does.0 does.1.claims
+answer_draws s t key answer.Reused does = claimed_draws s key _ _ t does.0 does.1.claims
+answer_draws s t key (answer.Granted c) does = claimed_draws s key _ _ t does.0 does.1.claims
+
+-- the answer at a place is that of the key there
+pub answer_of : (s t : State) (place : ℕ) (key : CellKey) (a : Answer) (r : CellRow) → IsAt s.cells.rows key place r
+    → AtPlace s.cells.rows place (λ q. AnswersClaim s q.key a t) → AnswersClaim s key a t
+answer_of s t place key a r at h =
+    subst (λ k. AnswersClaim s k a t) (ap (λ (z : CellRow). z.key) (one_at s.cells.rows place h.0 r h.1 at.0) ∙ at.1) h.2

@@ -31,6 +31,9 @@ passes_on s m t a none = a
 passes_on s m t a (reused key mid t-1 b c) = reused key mid t (passes_on s m mid a b) c
 passes_on s m t a (taken key number mid t-1 b c) = taken key number mid t (passes_on s m mid a b) c
 
+pub count_of : (rows new : List CellRow) → map entry_of new ≡ map entry_of rows → length new ≡ length rows
+count_of rows new e = sym (length_mapped new) ∙ ap length e ∙ length_mapped rows
+
 -- where cells before a place are clean, none of them is ready
 pub walked_clean : (rows : List CellRow) (place : ℕ) → place ≤ length rows → AreCleanBefore rows place → IsWalked rows place None
 walked_clean rows place within clean = record {
@@ -46,7 +49,7 @@ module _ (s t : State) (shape : IsShape (map entry_of s.cells.rows)) (place : �
   before j lt = c.others j (λ e. omega (arith, e, lt))
 
   pub same_count : length t.cells.rows ≡ length s.cells.rows
-  same_count = sym (length_mapped t.cells.rows) ∙ ap length c.entries ∙ length_mapped s.cells.rows
+  same_count = count_of s.cells.rows t.cells.rows c.entries
 
   back : (j : ℕ) (r : CellRow) → j < place → slice_get t.cells.rows j ≡ Some r → IsReady t.cells.rows r → IsReady s.cells.rows r
   back j r lt at ready = (
@@ -90,8 +93,8 @@ module _ (s t : State) (shape : IsShape (map entry_of s.cells.rows)) (place : �
         number = h.number;
         claimed = h.claimed;
         from = lesser.value;
-        least = lesser.is;
-        le = let a = lesser.least h.from h.least in let b = h.le in omega (arith, a, b);
+        from_is = lesser.is;
+        le = let a = lesser.below h.from h.from_is in let b = h.le in omega (arith, a, b);
       }
 
       at_here : (r : CellRow) → slice_get t.cells.rows place ≡ Some r → HasClaimFrom r m
@@ -99,7 +102,7 @@ module _ (s t : State) (shape : IsShape (map entry_of s.cells.rows)) (place : �
         number = number;
         claimed = subst (λ (z : CellRow). IsClaimed z number) (one_at t.cells.rows place here.row r here.there at) here.claimed;
         from = lesser.value;
-        least = lesser.is;
+        from_is = lesser.is;
         le = lesser.le;
       }
 
@@ -151,7 +154,7 @@ module _ (rows : List CellRow) (shape : IsShape (map entry_of rows)) (place : �
         not_dirty : j ≡ n → (r.dirty ≡ true) ⊎ (r.dirty ≡ false) → r.dirty ≡ false
         not_dirty e (inl dirty) =
             let h = w.each j r (omega (arith, lt, le)) at (dirty, needs e) in
-            absurd (none_some h.from h.least)
+            absurd (none_some h.from h.from_is)
         not_dirty e (inr clean) = clean
 
     pub walked_all : AllClean rows
@@ -164,7 +167,7 @@ module _ (rows : List CellRow) (shape : IsShape (map entry_of rows)) (place : �
     least = λ r n there ready claimed.
         let h = claim_of r there ready in
         let same : h.number ≡ n = some_inj h.number n (sym h.claimed.0 ∙ claimed.0) in
-        let from : number ≡ h.from = some_inj number h.from h.least in
+        let from : number ≡ h.from = some_inj number h.from h.from_is in
         let le = h.le in
         omega (arith, same, from, le);
   }

@@ -1,6 +1,6 @@
 -- Claims by the batch: the next cell is claimed again and again, until there are as many claims as are asked for or one isn't granted.
-use Rattle.std.specs.Prelude.{ℕ, ⊤, ⊥, ◌≡◌, ◌<◌, List, [], ◌∷◌, ◌++◌, length, Option, None, Some, Result, Ok, Err}
-use Rattle.lay_units.specs.declared.memory.NoMemory.{NoMemory as Want}
+use Rattle.std.specs.Prelude.{ℕ, ⊤, ◌≡◌, ◌<◌, List, [], ◌∷◌, ◌++◌, length, Option, None, Some, Result, Ok, IsErr}
+use Rattle.lay_units.specs.declared.memory.NoMemory.{NoMemory}
 use Rattle.lay_cell_work.specs.Claims.{Claim}
 use Rattle.lay_document_cells.specs.Claims.{AnswersNext}
 use Rattle.lay_document_cells.specs.State.{State}
@@ -29,16 +29,17 @@ pub record GrantsNone (s : State) (answer : Next) (t : State) : Type 0 where
   pub none : IsNoGrant answer
 
 -- how a batch is answered where the first answer is this
-abbrev pub batch_answer : Next → Result (Option IdleKind) Want
-batch_answer (next.Granted claim) = Ok None
-batch_answer next.Settled = Ok (Some idle.Settled)
-batch_answer (next.Busy number) = Ok (Some (idle.Busy number))
-batch_answer next.Spent = Ok (Some idle.Spent)
-batch_answer next.NoMemory = Err Want.NoMemory
+abbrev pub IsBatchAnswer : Next → Result (Option IdleKind) NoMemory → Type 0
+IsBatchAnswer (next.Granted claim) result = result ≡ Ok None
+IsBatchAnswer next.Settled result = result ≡ Ok (Some idle.Settled)
+IsBatchAnswer (next.Busy number) result = result ≡ Ok (Some (idle.Busy number))
+IsBatchAnswer next.Spent result = result ≡ Ok (Some idle.Spent)
+IsBatchAnswer next.NoMemory result = IsErr result
 
 -- a batch of at most so many claims
-pub data ClaimsSome (s : State) (limit : ℕ) : List Claim → Result (Option IdleKind) Want → State → Type 0 where
+pub data ClaimsSome (s : State) (limit : ℕ) : List Claim → Result (Option IdleKind) NoMemory → State → Type 0 where
   full : (claims : List Claim) (t : State) → Grants s claims t → length claims ≡ limit → ClaimsSome s limit claims (Ok None) t
   fewer : (claims : List Claim) (answer : Next) (mid t : State) → Grants s claims mid → 0 < length claims → length claims < limit
       → GrantsNone mid answer t → ClaimsSome s limit claims (Ok None) t
-  none : (answer : Next) (t : State) → GrantsNone s answer t → ClaimsSome s limit [] (batch_answer answer) t
+  none : (answer : Next) (result : Result (Option IdleKind) NoMemory) (t : State) → GrantsNone s answer t → IsBatchAnswer answer result
+      → ClaimsSome s limit [] result t

@@ -1,5 +1,5 @@
 -- Outcomes of claims that are handed in: each is answered as finished work or as a claim that comes back, and each answer is counted.
-use Rattle.std.specs.Prelude.{ℕ, ◌≡◌, ◌+◌, ⊥, Bool, true, false, List, [], ◌∷◌, ◌++◌, cond, count_by}
+use Rattle.std.specs.Prelude.{ℕ, ◌≡◌, ◌+◌, Bool, true, false, List, [], ◌∷◌, ◌++◌, cond, count_by}
 use Rattle.lay_cells.specs.declared.answers.Finished.{Finished}
 use Rattle.lay_cells.specs.declared.answers.Finished.TheVariants as finish
 use Rattle.lay_cells.specs.declared.answers.Released.{Released}

@@ -1,6 +1,6 @@
 -- One walk over the cells in which the next one to claim is looked for. The cells before it are passed: each of them that is ready is
 -- claimed, for what it is given now. No claim changes a cell before its own, so none of these need be seen again.
-use Rattle.std.specs.Prelude.{ℕ, ◌≡◌, ◌≢◌, ◌⊎◌, ◌+◌, ◌≤◌, ◌<◌, ◌^◌, ⊥, List, length, map, slice_get, Option, Some}
+use Rattle.std.specs.Prelude.{ℕ, ◌≡◌, ◌≢◌, ◌⊎◌, ◌+◌, ◌≤◌, ◌<◌, ◌^◌, List, length, map, slice_get, Option, Some}
 use Rattle.lay_cells.specs.Looks.{IsAt}
 use Rattle.lay_cells.specs.Places.{IsClaimed}
 use Rattle.lay_cells.specs.Rows.{entry_of}
@@ -16,7 +16,7 @@ pub record HasClaimFrom (r : CellRow) (least : Option ℕ) : Type 0 where
   pub number : ℕ
   pub claimed : IsClaimed r number
   pub from : ℕ
-  pub least : least ≡ Some from
+  pub from_is : least ≡ Some from
   pub le : from ≤ number
 
 -- a cell before the place that is ready has the claim of this number
@@ -39,7 +39,7 @@ pub record IsLesser (least : Option ℕ) (number : ℕ) (lesser : Option ℕ) : 
   pub value : ℕ
   pub is : lesser ≡ Some value
   pub le : value ≤ number
-  pub least : (n : ℕ) → least ≡ Some n → value ≤ n
+  pub below : (n : ℕ) → least ≡ Some n → value ≤ n
   pub one : (value ≡ number) ⊎ (least ≡ Some value)
 
 -- no cell but that at the place is changed

@@ -1,7 +1,7 @@
 //! Claims by the batch, and what comes of them.
 
 ghost use Rattle.std.specs.Prelude.{◌≡◌, ◌≤◌, ◌<◌, [], length, Ok, None};
-ghost use Rattle.lay_document_cells.specs.Batches.{ClaimsSome, batch_answer};
+ghost use Rattle.lay_document_cells.specs.Batches.{ClaimsSome, IsBatchAnswer};
 ghost use Rattle.lay_document_cells.specs.Claims.{DrawsFew};
 ghost use Rattle.lay_document_cells.specs.Outcomes.{FinishesAll, tally_sum};
 
@@ -14,7 +14,7 @@ use lay_units::NoMemory;
 
 /// How a batch is answered where this is the first answer to a claim.
 fn batch_answer(first: Next) -> Result<Option<Idle>, NoMemory>
-    ensures { result ≡ batch_answer first }
+    ensures { IsBatchAnswer first result }
 {
     match first {
         Next::Granted(_) => Ok(None),
@@ -27,7 +27,7 @@ fn batch_answer(first: Next) -> Result<Option<Idle>, NoMemory>
 
 /// How a batch is answered where so many claims were granted before this answer.
 fn batch_end(granted: u32, answer: Next) -> Result<Option<Idle>, NoMemory>
-    ensures none { granted ≡ 0 → result ≡ batch_answer answer }
+    ensures none { granted ≡ 0 → IsBatchAnswer answer result }
     ensures some { 0 < granted → result ≡ Ok None }
 {
     if granted == 0 {

@@ -1,6 +1,6 @@
 //! How often outcomes of claims were answered each way.
 
-ghost use Rattle.std.specs.Prelude.{◌≡◌, ◌+◌, ◌<◌, ◌^◌};
+ghost use Rattle.std.specs.Prelude.{◌≡◌, ◌+◌, ◌-◌, ◌<◌, ◌^◌};
 ghost use Rattle.lay_document_cells.specs.Outcomes.{counted, finished, no_answers, released, tally_sum};
 
 use lay_cells::{Finished, Released};

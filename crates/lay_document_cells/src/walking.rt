@@ -114,13 +114,16 @@ impl DocumentCells {
         for place in walk.place..self.cells.len() {
             match self.pass(place) {
                 Ok(Passed::Granted(claim)) => {
+                    let number = claim.number();
+                    let lowest = lesser(walk.least, number);
                     walk.place = place + 1;
-                    walk.least = lesser(walk.least, claim.number());
+                    walk.least = lowest;
                     return Next::Granted(claim);
                 }
                 Ok(Passed::Claimed(number)) => {
+                    let lower = lesser(walk.least, number);
                     walk.place = place + 1;
-                    walk.least = lesser(walk.least, number);
+                    walk.least = lower;
                 }
                 Ok(Passed::Nothing) => walk.place = place + 1,
                 Err(NoMemory) => return Next::NoMemory,
