@@ -1,5 +1,5 @@
 -- Claims by the batch, and outcomes that are handed in.
-use Rattle.std.proofs.Common.{◌≡◌, inl, inr, Bool, ℕ, ◌+◌, ◌≤◌, ◌<◌, List, [], ◌∷◌, ◌++◌, length, Option, None, Some, Result, Ok, Err, cond, count_by, refl, arith, ap, sym, subst, ◌∙◌, length-append}
+use Rattle.std.proofs.Common.{◌≡◌, inl, inr, Bool, ℕ, ◌+◌, ◌≤◌, ◌<◌, List, [], ◌∷◌, ◌++◌, length, Option, None, Some, Result, Ok, Err, cond, count_by, refl, arith, ap, sym, subst, ◌∙◌, append-nil, length-append}
 use Rattle.std.proofs.lemmas.List.Sums.{sum_by_push}
 use Rattle.lay_units.specs.declared.memory.NoMemory.{NoMemory}
 use Rattle.lay_cells.specs.declared.answers.Finished.{Finished}
@@ -47,6 +47,10 @@ claims_end s m t limit (c ∷ claims) a r lt g end none_is some_is =
 
 pub claims_full : (s t : State) (limit n : ℕ) (claims : List Claim) → Grants s claims t → length claims ≡ n → n ≡ limit → ClaimsSome s limit claims (Ok None) t
 claims_full s t limit n claims g count is = full claims t g (count ∙ is)
+
+pub all_yielded : {X : Type 0} (xs rest all : List X) → xs ++ rest ≡ all → length rest ≡ 0 → xs ≡ all
+all_yielded xs [] all e n = sym (append-nil xs) ∙ e
+all_yielded xs (x ∷ rest) all e n = absurd (omega (arith, n))
 
 -- the counts with one more reply
 pub same_tally : (t u : Tally) → t.cleaned ≡ u.cleaned → t.stored ≡ u.stored → t.superseded ≡ u.superseded → t.gone ≡ u.gone → t.back ≡ u.back → t ≡ u

@@ -94,11 +94,11 @@ same_draws : (s t : State) → t ≡ s → DrawsFew s t
 same_draws s t same = inl (ap (λ (x : State). x.cells.draws) same)
 
 claimed_draws : (s : State) (key : CellKey) (input : CellInput) (a : Claimed) (t : State) → IsOpenToClaims s → ClaimsTo s key input a t → DrawsFew s t
-claimed_draws s key input a t open does =
+claimed_draws s key input a t few does =
     let cells = ap (λ (x : State). x.cells.draws) does.state in
     let drawn = ap (λ (x : CellState). x.draws) does.claims.5 in
     let one = one_draw a s.cells.draws in
-    inr (open, omega (arith, cells, drawn, one))
+    inr (few, omega (arith, cells, drawn, one))
 
 pub answer_draws : (s t : State) (key : CellKey) (a : Answer) → AnswersClaim s key a t → DrawsFew s t
 answer_draws s t key answer.Gone does = same_draws s t does.1

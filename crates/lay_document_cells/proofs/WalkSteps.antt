@@ -14,7 +14,9 @@ use Rattle.lay_cell_laws.specs.SoundCells.{CellRow}
 use Rattle.lay_document_cells.specs.Claims.{AnswersNext, ArePassed, DrawsFew, HasDirtyCell, IsBusy, IsOpenToClaims, IsReady, Passes, none, reused, taken}
 use Rattle.lay_document_cells.specs.Settling.{AreCleanBefore}
 use Rattle.lay_document_cells.specs.State.{State}
-use Rattle.lay_document_cells.specs.Walks.{ChangesAt, DrawsFrom, GrantsAt, HasClaimBefore, HasClaimFrom, IsClaimedAt, IsLesser, IsNotReadyAt, IsWalked}
+use Rattle.lay_document_cells.specs.Walks.{ChangesAt, DrawsFrom, GrantsAt, HasClaimBefore, HasClaimFrom, IsClaimedAt, IsLeastAfter, IsLesser, IsNotReadyAt, IsWalked, PassesAt}
+use Rattle.lay_document_cells.specs.declared.walking.Passed.{Passed}
+use Rattle.lay_document_cells.specs.declared.walking.Passed.TheVariants as passed
 use Rattle.lay_document_cells.specs.declared.answers.Next.TheVariants as next
 use Rattle.lay_document_cells.proofs.Passing.{clean_still}
 use Rattle.lay_document_cells.proofs.SettledPlaces.{length_mapped}
@@ -133,6 +135,22 @@ module _ (s t : State) (shape : IsShape (map entry_of s.cells.rows)) (place : �
             lesser.one);
       }
 
+    -- whatever became of the cell
+    pub walked_on : (p : Passed) (m : Option ℕ) → PassesAt s place p t → IsLeastAfter least p m → IsWalked t.cells.rows (place + 1) m
+    walked_on passed.Nothing m h e = subst (IsWalked t.cells.rows (place + 1)) (sym e) (walked_past h.1)
+    walked_on (passed.Claimed number) m h lesser = walked_claimed number m h.1 lesser
+    walked_on (passed.Granted claim) m h lesser = walked_claimed claim.number m h.1 lesser
+
+pub changes_of : (s : State) (place : ℕ) (p : Passed) (t : State) → PassesAt s place p t → ChangesAt s place t
+changes_of s place passed.Nothing t h = h.0.changes
+changes_of s place (passed.Claimed number) t h = h.0.changes
+changes_of s place (passed.Granted claim) t h = h.0.changes
+
+pub passes_by : (s : State) (place : ℕ) (p : Passed) (t : State) → ((c : Claim) → p ≡ passed.Granted c → ⊥) → PassesAt s place p t → Passes s t
+passes_by s place passed.Nothing t other h = h.0.passes
+passes_by s place (passed.Claimed number) t other h = h.0.passes
+passes_by s place (passed.Granted claim) t other h = absurd (other claim refl)
+
 -- all cells are passed
 module _ (rows : List CellRow) (shape : IsShape (map entry_of rows)) (place : ℕ) (all : length rows ≤ place) where
   module _ (w : IsWalked rows place None) where
@@ -176,11 +194,11 @@ module _ (rows : List CellRow) (shape : IsShape (map entry_of rows)) (place : �
       claim_of r there ready = w.each there.0 r (let lt = slice_get_within rows there.0 r there.1 in omega (arith, lt, all)) there.1 ready
 
 -- the answers
-module _ (s m : State) (open : IsOpenToClaims s) (passes : Passes s m) where
+module _ (s m : State) (few : IsOpenToClaims s) (passes : Passes s m) where
   pub answers_granted : (place : ℕ) (least : Option ℕ) → IsWalked m.cells.rows place least → (claim : Claim) (t : State) → GrantsAt m place claim t
       → AnswersNext s (next.Granted claim) t
   answers_granted place least w claim t g = (
-    open,
+    few,
     record {
       before = m;
       passes = passes;
@@ -195,14 +213,14 @@ module _ (s m : State) (open : IsOpenToClaims s) (passes : Passes s m) where
   pub answers_none : (n : ℕ) (least : Option ℕ) → IsShape (map entry_of m.cells.rows) → length m.cells.rows ≤ n → IsWalked m.cells.rows n least
       → least ≡ None → AnswersNext s next.Settled m
   answers_none n least shape all w e = (
-    inr (open, passes),
+    inr (few, passes),
     walked_all m.cells.rows shape n all (subst (IsWalked m.cells.rows n) e w),
   )
 
   pub answers_busy : (n : ℕ) (least : Option ℕ) → IsShape (map entry_of m.cells.rows) → length m.cells.rows ≤ n → IsWalked m.cells.rows n least
       → (number : ℕ) → least ≡ Some number → AnswersNext s (next.Busy number) m
   answers_busy n least shape all w number e = (
-    open,
+    few,
     passes,
     walked_busy m.cells.rows shape n all number (subst (IsWalked m.cells.rows n) e w),
   )

@@ -76,6 +76,12 @@ PassesAt s place passed.Nothing t = PassesBy s place t × IsNotReadyAt t.cells.r
 PassesAt s place (passed.Claimed number) t = PassesBy s place t × IsClaimedAt t.cells.rows place number
 PassesAt s place (passed.Granted claim) t = GrantsAt s place claim t × IsClaimedAt t.cells.rows place claim.number
 
+-- the least number of claims, where this became of the last cell that was passed
+abbrev pub IsLeastAfter : Option ℕ → Passed → Option ℕ → Type 0
+IsLeastAfter least passed.Nothing after = after ≡ least
+IsLeastAfter least (passed.Claimed number) after = IsLesser least number after
+IsLeastAfter least (passed.Granted claim) after = IsLesser least claim.number after
+
 -- a walk from the place draws at most a number for each cell that it passes
 abbrev pub DrawsFrom : State → (from to : ℕ) → State → Type 0
 DrawsFrom s from to t = (t.cells.draws ≡ s.cells.draws) ⊎ ((s.cells.draws < 2 ^ 63) × (t.cells.draws + from ≤ s.cells.draws + to))

@@ -7,7 +7,7 @@ ghost use Rattle.lay_cells.specs.Places.{AtPlace};
 ghost use Rattle.lay_cells.specs.declared.answers.Look.TheVariants as look;
 ghost use Rattle.lay_document_cells.specs.Claims.{AnswersNext, DrawsFew, HasDirtyCell, IsOpenToClaims};
 ghost use Rattle.lay_document_cells.specs.Steps.{ClaimsTo};
-ghost use Rattle.lay_document_cells.specs.Walks.{DrawsFrom, IsLesser, IsWalked, PassesAt};
+ghost use Rattle.lay_document_cells.specs.Walks.{DrawsFrom, IsLeastAfter, IsLesser, IsWalked, PassesAt};
 
 use crate::answers::Next;
 use crate::document_cells::DocumentCells;
@@ -45,6 +45,17 @@ fn lesser(least: Option<u64>, number: u64) -> Option<u64>
     match least {
         Some(other) if other < number => Some(other),
         _ => Some(number),
+    }
+}
+
+/// The least number of the claims of cells that a walk passed, where this became of the last of them.
+fn least_after(least: Option<u64>, passed: &Passed) -> Option<u64>
+    ensures { IsLeastAfter least passed.now result }
+{
+    match passed {
+        Passed::Granted(claim) => lesser(least, claim.number()),
+        Passed::Claimed(number) => lesser(least, *number),
+        Passed::Nothing => least,
     }
 }
 
@@ -108,25 +119,22 @@ impl DocumentCells {
         ensures answers { AnswersNext self.old result self.new }
         ensures walked { IsWalked self.new.cells.rows walk.new.place walk.new.least }
         ensures draws { self.new.cells.draws + walk.old.place ≤ self.old.cells.draws + walk.new.place }
+        ensures further { walk.old.place ≤ walk.new.place }
         ensures count { length self.new.cells.rows ≡ length self.old.cells.rows }
     {
         self.cells.sound();
         for place in walk.place..self.cells.len() {
-            match self.pass(place) {
-                Ok(Passed::Granted(claim)) => {
-                    let number = claim.number();
-                    let lowest = lesser(walk.least, number);
-                    walk.place = place + 1;
-                    walk.least = lowest;
-                    return Next::Granted(claim);
-                }
-                Ok(Passed::Claimed(number)) => {
-                    let lower = lesser(walk.least, number);
-                    walk.place = place + 1;
-                    walk.least = lower;
-                }
-                Ok(Passed::Nothing) => walk.place = place + 1,
+            let passed = match self.pass(place) {
+                Ok(passed) => passed,
                 Err(NoMemory) => return Next::NoMemory,
+            };
+            let least = least_after(walk.least, &passed);
+            *walk = Walk {
+                place: place + 1,
+                least,
+            };
+            if let Passed::Granted(claim) = passed {
+                return Next::Granted(claim);
             }
         }
         match walk.least {

@@ -6,9 +6,11 @@ use Rattle.lay_document_cells.specs.State.{State}
 use Rattle.lay_document_cells.proofs.document_cells.DocumentCells.claim_at.Goals as goal
 
 pub claim_ready-requires : goal.claim_ready-requires
-claim_ready-requires c = subst (λ (s : State). AtPlace s.cells.rows c.args.place (λ r. Looks s.cells.rows r.key look.Ready)) c.self.view_is c.in-Ready.ensures
+claim_ready-requires c = record {
+  ready = subst (λ (s : State). AtPlace s.cells.rows c.args.place (λ r. Looks s.cells.rows r.key look.Ready)) c.self.view_is c.in-Ready.ensures;
+}
 
 pub returns-in-Gone : goal.returns-in-Gone
 returns-in-Gone c =
     let h = subst (λ (s : State). AtPlace s.cells.rows c.args.place (λ r. Looks s.cells.rows r.key look.Gone)) c.self.view_is c.in-Gone.ensures in
-    (h.0, h.1, h.2, refl)
+    record { answers = (h.0, h.1, h.2, refl) }

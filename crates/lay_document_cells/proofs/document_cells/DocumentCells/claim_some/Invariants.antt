@@ -1,4 +1,4 @@
-use Rattle.std.proofs.Common.{◌≡◌, length}
+use Rattle.std.proofs.Common.{◌≡◌, ◌≤◌, length}
 use Rattle.lay_document_cells.specs.Batches.{Grants}
 use Rattle.lay_document_cells.specs.Walks.{DrawsFrom, IsWalked}
 use Rattle.lay_document_cells.proofs.document_cells.DocumentCells.claim_some.Given as goal
@@ -11,4 +11,5 @@ invariant-loop-turn l = record {
   walked : IsWalked l.self.cells.rows l.walk.place l.walk.least;
   draws : DrawsFrom l.fn.self 0 l.walk.place l.self;
   rows : length l.self.cells.rows ≡ length l.fn.self.cells.rows;
+  end : l.turn ≤ l.fn.limit;
 }

@@ -1,24 +1,33 @@
-use Rattle.std.proofs.Common.{arith, refl, subst, sym}
+use Rattle.std.proofs.Common.{◌≡◌, ◌<◌, ap, arith, length, map, refl, subst, sym, ◌∙◌}
+use Rattle.lay_cells.specs.Rows.{entry_of}
+use Rattle.lay_cells.specs.Shapes.{IsShape}
 use Rattle.lay_cells.specs.Sound.{IsSound}
 use Rattle.lay_cell_work.specs.CellLocal.{IsCellLocal}
 use Rattle.lay_document_cells.specs.Claims.{none}
 use Rattle.lay_document_cells.specs.State.{State}
+use Rattle.lay_document_cells.specs.Walks.{IsWalked, PassesAt}
+use Rattle.lay_document_cells.proofs.WalkSteps.{answers_busy, answers_granted, answers_none, changes_of, count_of, passes_by, passes_on, walked_on}
 use Rattle.lay_document_cells.proofs.document_cells.DocumentCells.walk_on.Goals as goal
 
 pub loop-place-init : goal.loop-place-init
 loop-place-init c = record { place = refl; passes = none; walked = c.requires.walked; entries = refl; draws = omega arith }
 
-pub returns-in-Ok-Granted-clause-answers : goal.returns-in-Ok-Granted-clause-answers
-returns-in-Ok-Granted-clause-answers c = ?
-
-pub returns-in-Ok-Granted-clause-walked : goal.returns-in-Ok-Granted-clause-walked
-returns-in-Ok-Granted-clause-walked c = ?
-
-pub loop-place-preserved : goal.loop-place-preserved
-loop-place-preserved c = ?
-
 pub returns-in-Some-clause-answers : goal.returns-in-Some-clause-answers
-returns-in-Some-clause-answers c = ?
+returns-in-Some-clause-answers c =
+    let was = c.loop-place.invariant in
+    let sound = subst (λ (x : State). IsSound IsCellLocal x.cells) c.self.view_is c.sound.ensures in
+    let rows = ap (λ (x : State). length x.cells.rows) c.self.view_is in
+    let count = count_of c.args.self.now.cells.rows c.loop-place.self.cells.rows was.entries in
+    answers_busy c.args.self.now c.loop-place.self c.requires.open was.passes c.loop-place.walk.place c.loop-place.walk.least
+    (subst IsShape (sym was.entries) sound.shaped) (let e = was.place in omega (arith, c.loop-place-test.false, c.len-place-end.ensures, rows, count, e)) was.walked
+    c.in-Some.number c.in-Some.is
 
 pub returns-in-None-clause-answers : goal.returns-in-None-clause-answers
-returns-in-None-clause-answers c = ?
+returns-in-None-clause-answers c =
+    let was = c.loop-place.invariant in
+    let sound = subst (λ (x : State). IsSound IsCellLocal x.cells) c.self.view_is c.sound.ensures in
+    let rows = ap (λ (x : State). length x.cells.rows) c.self.view_is in
+    let count = count_of c.args.self.now.cells.rows c.loop-place.self.cells.rows was.entries in
+    answers_none c.args.self.now c.loop-place.self c.requires.open was.passes c.loop-place.walk.place c.loop-place.walk.least
+    (subst IsShape (sym was.entries) sound.shaped) (let e = was.place in omega (arith, c.loop-place-test.false, c.len-place-end.ensures, rows, count, e)) was.walked
+    c.in-None.is
