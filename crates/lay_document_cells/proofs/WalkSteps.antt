@@ -154,26 +154,26 @@ passes_by s place (passed.Granted claim) t other h = absurd (other claim refl)
 -- all cells are passed
 module _ (rows : List CellRow) (shape : IsShape (map entry_of rows)) (place : ℕ) (all : length rows ≤ place) where
   module _ (w : IsWalked rows place None) where
+    needs_clean : (n : ℕ) → AreCleanBefore rows n → (j : ℕ) (r : CellRow) → j ≡ n → slice_get rows j ≡ Some r → AreClean rows r.needs
+    needs_clean n before j r e at key need =
+        let b = shape.earlier j (entry_of r) (map_at entry_of rows j r at) key need in
+        let q = map_got entry_of rows b.0 b.1 b.3 in
+        (q.0, (b.0, q.1), sym (ap (λ x. x.key) q.2) ∙ b.4, before b.0 q.0 (let l = b.2 in omega (arith, l, e)) q.1)
+
+    clean_here : (n : ℕ) → n < place → AreCleanBefore rows n → (j : ℕ) (r : CellRow) → j ≡ n → slice_get rows j ≡ Some r
+        → (r.dirty ≡ true) ⊎ (r.dirty ≡ false) → r.dirty ≡ false
+    clean_here n lt before j r e at (inl dirty) =
+        let h = w.each j r (omega (arith, lt, e)) at (dirty, needs_clean n before j r e at) in
+        absurd (none_some h.from h.from_is)
+    clean_here n lt before j r e at (inr clean) = clean
+
     clean_up : (n : ℕ) → n ≤ place → AreCleanBefore rows n
     clean_up zero le j r lt at = absurd (omega (arith, lt))
     clean_up (suc n) le j r lt at =
-        ⊎_elim (λ low. clean_up n (omega (arith, le)) j r low at) (λ high. not_dirty (omega (arith, lt, high)) (dirty_or_clean r.dirty)) (cases_lt j n)
-      where
-        needs : j ≡ n → AreClean rows r.needs
-        needs e key need =
-            let b = shape.earlier j (entry_of r) (map_at entry_of rows j r at) key need in
-            let q = map_got entry_of rows b.0 b.1 b.3 in (
-              q.0,
-              (b.0, q.1),
-              sym (ap (λ x. x.key) q.2) ∙ b.4,
-              clean_up n (omega (arith, le)) b.0 q.0 (let l = b.2 in omega (arith, l, e)) q.1,
-            )
-
-        not_dirty : j ≡ n → (r.dirty ≡ true) ⊎ (r.dirty ≡ false) → r.dirty ≡ false
-        not_dirty e (inl dirty) =
-            let h = w.each j r (omega (arith, lt, le)) at (dirty, needs e) in
-            absurd (none_some h.from h.from_is)
-        not_dirty e (inr clean) = clean
+        ⊎_elim
+        (λ low. clean_up n (omega (arith, le)) j r low at)
+        (λ high. clean_here n (omega (arith, le)) (clean_up n (omega (arith, le))) j r (omega (arith, lt, high)) at (dirty_or_clean r.dirty))
+        (cases_lt j n)
 
     pub walked_all : AllClean rows
     walked_all r there = clean_up place (omega arith) there.0 r (let lt = slice_get_within rows there.0 r there.1 in omega (arith, lt, all)) there.1

@@ -13,4 +13,4 @@ claim_ready-requires c = record {
 pub returns-in-Gone : goal.returns-in-Gone
 returns-in-Gone c =
     let h = subst (λ (s : State). AtPlace s.cells.rows c.args.place (λ r. Looks s.cells.rows r.key look.Gone)) c.self.view_is c.in-Gone.ensures in
-    record { answers = (h.0, h.1, h.2, refl) }
+    record { answers = (h.0, h.1, (h.2, refl)) }

@@ -12,6 +12,43 @@ use Rattle.lay_document_cells.proofs.document_cells.DocumentCells.walk_on.Goals 
 pub loop-place-init : goal.loop-place-init
 loop-place-init c = record { place = refl; passes = none; walked = c.requires.walked; entries = refl; draws = omega arith }
 
+pub returns-in-Granted-clause-answers : goal.returns-in-Granted-clause-answers
+returns-in-Granted-clause-answers c =
+    let was = c.loop-place.invariant in
+    let g = subst (λ p. PassesAt c.loop-place.self c.loop-place.place p c.pass.new.self) c.in-Granted.is c.in-Ok.ensures.ok in
+    answers_granted c.args.self.now c.loop-place.self c.requires.open was.passes c.loop-place.place c.loop-place.walk.least
+    (subst (λ p. IsWalked c.loop-place.self.cells.rows p c.loop-place.walk.least) was.place was.walked) c.in-Granted.claim c.pass.new.self g.0
+
+pub returns-in-Granted-clause-walked : goal.returns-in-Granted-clause-walked
+returns-in-Granted-clause-walked c =
+    let was = c.loop-place.invariant in
+    let sound = subst (λ (x : State). IsSound IsCellLocal x.cells) c.self.view_is c.sound.ensures in
+    let rows = ap (λ (x : State). length x.cells.rows) c.self.view_is in
+    let count = count_of c.args.self.now.cells.rows c.loop-place.self.cells.rows was.entries in
+    walked_on c.loop-place.self c.pass.new.self (subst IsShape (sym was.entries) sound.shaped) c.loop-place.place c.loop-place.walk.least
+    (subst (λ p. IsWalked c.loop-place.self.cells.rows p c.loop-place.walk.least) was.place was.walked)
+    (changes_of c.loop-place.self c.loop-place.place c.in-Ok.passed c.pass.new.self c.in-Ok.ensures.ok)
+    (omega (arith, c.loop-place-test.true, c.len-place-end.ensures, rows, count)) c.in-Ok.passed c.least_after-least.result c.in-Ok.ensures.ok c.least_after-least.ensures
+
+pub loop-place-preserved : goal.loop-place-preserved
+loop-place-preserved c =
+    let was = c.loop-place.invariant in
+    let sound = subst (λ (x : State). IsSound IsCellLocal x.cells) c.self.view_is c.sound.ensures in
+    let rows = ap (λ (x : State). length x.cells.rows) c.self.view_is in
+    let count = count_of c.args.self.now.cells.rows c.loop-place.self.cells.rows was.entries in
+    let changes = changes_of c.loop-place.self c.loop-place.place c.in-Ok.passed c.pass.new.self c.in-Ok.ensures.ok in
+    record {
+      place = refl;
+      passes = passes_on c.args.self.now c.loop-place.self c.pass.new.self was.passes
+          (passes_by c.loop-place.self c.loop-place.place c.in-Ok.passed c.pass.new.self c.in_default.not-Granted c.in-Ok.ensures.ok);
+      walked = walked_on c.loop-place.self c.pass.new.self (subst IsShape (sym was.entries) sound.shaped) c.loop-place.place c.loop-place.walk.least
+          (subst (λ p. IsWalked c.loop-place.self.cells.rows p c.loop-place.walk.least) was.place was.walked) changes
+          (omega (arith, c.loop-place-test.true, c.len-place-end.ensures, rows, count)) c.in-Ok.passed c.least_after-least.result c.in-Ok.ensures.ok
+          c.least_after-least.ensures;
+      entries = changes.entries ∙ was.entries;
+      draws = let a = was.draws in let b = changes.draws in let e = was.place in omega (arith, a, b, e);
+    }
+
 pub returns-in-Some-clause-answers : goal.returns-in-Some-clause-answers
 returns-in-Some-clause-answers c =
     let was = c.loop-place.invariant in
