@@ -5,7 +5,12 @@ use Rattle.lay_document_cells.proofs.Batching.{all_yielded, back_draws, finish_d
 use Rattle.lay_document_cells.proofs.document_cells.DocumentCells.finish_all.Goals as goal
 
 pub loop-outcome-init : goal.loop-outcome-init
-loop-outcome-init c = (refl, c.into_iter-outcome-iterator.ensures.into_iter_gives.1, handed_none c.args.self.now c.new-tally.result c.new-tally.ensures)
+loop-outcome-init c =
+    let given = c.into_iter-outcome-iterator.ensures.into_iter_gives in (
+      refl,
+      (let count = given.1 in let same = ap length given.0 in let ok = c.into_vec-outcome-items.result.ok in omega (arith, count, same, ok)),
+      handed_none c.args.self.now c.new-tally.result c.new-tally.ensures,
+    )
 
 pub loop-outcome-preserved : goal.loop-outcome-preserved
 loop-outcome-preserved c =
