@@ -56,7 +56,8 @@ abbrev pub GiveBacksAreWork : Type 0
 GiveBacksAreWork = (key : CellKey) (number : ℕ) (answer : Released) → IsWork (λ s t. GivesBackTo s key number answer t)
 
 abbrev pub BatchesAreWork : Type 0
-BatchesAreWork = (limit : ℕ) (claims : List Claim) (answer : Result (Option IdleKind) NoMemory) → IsWork (λ s t. ClaimsSome s limit claims answer t)
+BatchesAreWork =
+    (limit : ℕ) (claims : List Claim) (answer : Result (Option IdleKind) NoMemory) → IsWork (λ s t. ClaimsSome s limit claims answer t)
 
 abbrev pub OutcomesAreWork : Type 0
 OutcomesAreWork = (outcomes : List Outcome) (tally : Tally) → IsWork (λ s t. FinishesAll s outcomes tally t)

@@ -129,7 +129,12 @@ impl Claims {
     }
 
     /// What the claim of this number comes to, under this one or another.
-    fn done(&self, alloc: Global, number: u64, under: u64) -> Result<Option<Done<Layout>>, NoMemory> {
+    fn done(
+        &self,
+        alloc: Global,
+        number: u64,
+        under: u64,
+    ) -> Result<Option<Done<Layout>>, NoMemory> {
         let Some(claim) = self.again(number, under)? else {
             return Ok(None);
         };

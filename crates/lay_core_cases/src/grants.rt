@@ -77,9 +77,11 @@ fn counts(alloc: Global, core: &Core) -> Result<Vec<Count>, NoMemory> {
         if let Some(node) = core.doc().node(place) {
             let node = node.id();
             let of = |phase| core.laid_of(CellKey { node, phase });
-            if let (Some(measure), Some(size), Some(place)) =
-                (of(Phase::Measure), of(Phase::Size), of(Phase::Place))
-            {
+            if let (Some(measure), Some(size), Some(place)) = (
+                of(Phase::Measure),
+                of(Phase::Size),
+                of(Phase::Place),
+            ) {
                 counts.push(Count {
                     node: node.0,
                     laid: [measure, size, place],

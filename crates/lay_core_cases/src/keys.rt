@@ -1,7 +1,7 @@
 //! Keys of cells: `PHASE NODE`, where the phase is `Measure`, `Size` or `Place`.
 
-use lay_core::Core;
 use lay_context::Phase;
+use lay_core::Core;
 use lay_doc::NodeId;
 use lay_shape::CellKey;
 use lay_units::NoMemory;

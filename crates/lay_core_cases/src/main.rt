@@ -69,7 +69,10 @@ fn go_through(
         let (case, lines) = case.split_once('\n').unwrap_or((case, ""));
         let mut subject = OneCore::new(rt.alloc(), core(rt, folder, name)?);
         if shows {
-            println!(rt; "case {case}\n{}", answers(rt.alloc(), &mut subject, lines)?)?;
+            println!(rt;
+                "case {case}\n{}",
+                answers(rt.alloc(), &mut subject, lines)?
+            )?;
             continue;
         }
         match first_difference(rt.alloc(), &mut subject, lines)? {

@@ -1,7 +1,7 @@
 //! Trees of versions.
 
-use lay_core::Core;
 use lay_context::scratch;
+use lay_core::Core;
 use lay_frag::text_of;
 use lay_units::NoMemory;
 use std::alloc::Global;
