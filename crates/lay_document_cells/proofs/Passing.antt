@@ -102,7 +102,7 @@ module _ (keep : ClaimsKeepRows CellKey CellInput CellValue) (s : State) (shape 
       ready = (
         dirty ∙ ap (λ (z : CellRow). z.dirty) old_row ∙ ready.0,
         subst (AreClean t.cells.rows) (sym (needs ∙ ap (λ (z : CellRow). z.needs) old_row))
-        (clean_still s.cells.rows t.cells.rows shape place (λ j lt. others j (λ e. omega (arith, e, lt))) place r (omega arith) at ready.1),
+            (clean_still s.cells.rows t.cells.rows shape place (λ j lt. others j (λ e. omega (arith, e, lt))) place r (omega arith) at ready.1),
       );
       claimed = claimed;
     }
@@ -140,8 +140,8 @@ module _ (keep : ClaimsKeepRows CellKey CellInput CellValue) (s : State) (shape 
       passes = reused r.key s t none record { input = input; claims = c };
     },
     λ z at_z ready.
-    false≢true (sym (ap (λ (x : CellRow). x.dirty) c.claims.4.3) ∙ ap (λ (x : CellRow). x.dirty) (one_at t.cells.rows place c.claims.2 z (new_row Reused c) at_z)
-    ∙ ready.0),
+        false≢true (sym (ap (λ (x : CellRow). x.dirty) c.claims.4.3) ∙ ap (λ (x : CellRow). x.dirty) (one_at t.cells.rows place c.claims.2 z (new_row Reused c) at_z)
+        ∙ ready.0),
   )
 
 module _ (s : State) (shape : IsShape (map entry_of s.cells.rows)) (place : ℕ) (r : CellRow) (at : slice_get s.cells.rows place ≡ Some r) where
@@ -161,7 +161,7 @@ module _ (s : State) (shape : IsShape (map entry_of s.cells.rows)) (place : ℕ)
   nothing_passes l other h = (
     record { changes = unchanged s place; passes = none },
     λ z at_z ready.
-    unready_row s.cells.rows shape place r at l other h (subst (IsReady s.cells.rows) (one_at s.cells.rows place z r at_z at) ready),
+        unready_row s.cells.rows shape place r at l other h (subst (IsReady s.cells.rows) (one_at s.cells.rows place z r at_z at) ready),
   )
 
   pub ready_is_dirty : Looks s.cells.rows r.key look.Ready → HasDirtyCell s.cells.rows

@@ -19,7 +19,7 @@ use Rattle.lay_document_cells.specs.declared.walking.Passed.{Passed}
 use Rattle.lay_document_cells.specs.declared.walking.Passed.TheVariants as passed
 use Rattle.lay_document_cells.specs.declared.answers.Next.TheVariants as next
 use Rattle.lay_document_cells.proofs.Passing.{clean_still}
-use Rattle.lay_document_cells.proofs.SettledPlaces.{length_mapped}
+use Rattle.lay_document_cells.proofs.SettledPlaces.{clean_to_first, first_within, length_mapped}
 
 dirty_or_clean : (b : Bool) → (b ≡ true) ⊎ (b ≡ false)
 dirty_or_clean true = inl refl
@@ -43,6 +43,11 @@ walked_clean rows place within clean = record {
   each = λ j r lt at ready. absurd (false≢true (sym (clean j r lt at) ∙ ready.0));
   one = λ number e. absurd (none_some number e);
 }
+
+-- so a walk begins at the first dirty cell
+pub walked_first : (rows : List CellRow) (first : ℕ) → IsFirstDirtyFrom rows 0 first → IsWalked rows first None
+walked_first rows first h =
+    walked_clean rows first (let lt = first_within rows first h in omega (arith, lt)) (clean_to_first rows first h)
 
 -- the cell at the place is passed
 module _ (s t : State) (shape : IsShape (map entry_of s.cells.rows)) (place : ℕ) (least : Option ℕ) (w : IsWalked s.cells.rows place least)

@@ -39,11 +39,7 @@ fn batch_end(granted: u32, answer: Next) -> Result<Option<Idle>, NoMemory>
 impl DocumentCells {
     /// Claims the next cell again and again, until the list has so many claims or one isn't granted, in one walk over the cells. None is
     /// answered where a claim was got; else why there is none, or that memory ran out.
-    pub fn claim_some(
-        &mut self,
-        limit: u32,
-        list: &mut ClaimList,
-    ) -> Result<Option<Idle>, NoMemory>
+    pub fn claim_some(&mut self, limit: u32, list: &mut ClaimList) -> Result<Option<Idle>, NoMemory>
         requires limit { 0 < limit }
         requires room { limit ≤ list.old.room }
         requires empty { list.old.claims ≡ [] }

@@ -14,3 +14,8 @@ pub returns-in-Gone : goal.returns-in-Gone
 returns-in-Gone c =
     let h = subst (λ (s : State). AtPlace s.cells.rows c.args.place (λ r. Looks s.cells.rows r.key look.Gone)) c.self.view_is c.in-Gone.ensures in
     record { answers = (h.0, h.1, (h.2, refl)) }
+
+pub returns-in-Waiting : goal.returns-in-Waiting
+returns-in-Waiting c =
+    let h = subst (λ (s : State). AtPlace s.cells.rows c.args.place (λ r. Looks s.cells.rows r.key (look.Waiting c.in-Waiting.need))) c.self.view_is c.in-Waiting.ensures in
+    record { answers = (h.0, h.1, (h.2, refl)) }

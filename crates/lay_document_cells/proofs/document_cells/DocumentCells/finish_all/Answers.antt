@@ -42,7 +42,7 @@ pub returns : goal.returns
 returns c =
     let was = c.loop-outcome.invariant in
     let all = all_yielded c.loop-outcome.yielded (into_iter_items c.loop-outcome.outcome-iterator) _ was.0 (sym was.1 ∙ c.in-None.ensures.steps.0)
-        ∙ c.into_iter-outcome-iterator.ensures.into_iter_gives.0 ∙ c.into_vec-outcome-items.ensures.outcomes in
+    ∙ c.into_iter-outcome-iterator.ensures.into_iter_gives.0 ∙ c.into_vec-outcome-items.ensures.outcomes in
     record {
       answers = subst (λ os. FinishesAll c.args.self.now os c.loop-outcome.tally c.loop-outcome.self) all was.2.finishes;
       all = was.2.sum ∙ ap length all;
