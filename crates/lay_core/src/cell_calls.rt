@@ -39,11 +39,7 @@ impl Core {
 
     /// Claims of the next cell, until the empty list has so many or one isn't granted. None is answered where a claim was got; else why
     /// there is none, or that memory ran out.
-    pub fn claim_some(
-        &mut self,
-        limit: u32,
-        list: &mut ClaimList,
-    ) -> Result<Option<Idle>, NoMemory>
+    pub fn claim_some(&mut self, limit: u32, list: &mut ClaimList) -> Result<Option<Idle>, NoMemory>
         requires limit { 0 < limit }
         requires room { limit ≤ list.old.room }
         requires empty { list.old.claims ≡ [] }
