@@ -5,15 +5,11 @@ use Rattle.lay_doc.specs.declared.command.Reply.TheVariants.{Accepted, Refused, 
 use Rattle.lay_cells.specs.declared.answers.Claimed.{Claimed}
 use Rattle.lay_shape.specs.declared.cell_key.CellKey.{CellKey}
 use Rattle.lay_cell_work.specs.CellInputs.{CellInput}
-use Rattle.lay_document_cells.specs.Claims.{AnswersClaim, AnswersNext, ClaimsFor, Passes, none as none_passed, reused as passed_reused, taken as passed_taken}
+use Rattle.lay_document_cells.specs.Laws.{BatchesWork, ClaimsWork, NextClaimsWork, OutcomesWork}
 use Rattle.lay_document_cells.specs.Settling.{GivesUp, Settles, SettlesFirst, StopsAt as CellsStopAt, computed, granted, next as next_settled, none as none_settled, reused, taken, unclaimed}
 use Rattle.lay_document_cells.specs.State.{State as DocumentCells}
 use Rattle.lay_document_cells.specs.Steps.{ClaimsTo, Step, Works, claim, finish, give_back, none, step}
-use Rattle.lay_document_cells.specs.declared.answers.Answer.{Answer}
-use Rattle.lay_document_cells.specs.declared.answers.Answer.TheVariants as answer
-use Rattle.lay_document_cells.specs.declared.answers.Next.{Next}
-use Rattle.lay_document_cells.specs.declared.answers.Next.TheVariants as next
-use Rattle.lay_core.specs.CellLaws.{ClaimsAreWork, FinishesAreWork, GiveBacksAreWork, LatestIsWork, NextClaimsAreWork, PublishingIsWork, RefreshingIsWork, SettlingIsWork, StoppingIsWork, SyncIsWork}
+use Rattle.lay_core.specs.CellLaws.{BatchesAreWork, ClaimsAreWork, FinishesAreWork, GiveBacksAreWork, LatestIsWork, NextClaimsAreWork, OutcomesAreWork, PublishingIsWork, RefreshingIsWork, SettlingIsWork, StoppingIsWork, SyncIsWork}
 use Rattle.lay_core.specs.Publishing.{Publishes}
 use Rattle.lay_core.specs.State.{State, document_cells}
 use Rattle.lay_core.specs.Steps.{ShowsLatest, ShowsPresent, is_due}
@@ -95,37 +91,17 @@ sync editor index r s t does =
     subst (λ d. Works (document_cells s) d) (sym (ap document_cells does.state)) (present s does.before r does.shows)
 
 -- claims
-for_works : (s : DocumentCells) (key : CellKey) (a : Claimed) (t : DocumentCells) → ClaimsFor s key a t → Works s t
-for_works s key a t does = claim_works s key does.input a t does.claims
+pub claims : ClaimsWork → ClaimsAreWork
+claims law key a s t does = law (document_cells s) (document_cells t) key a does.does
 
-passes_works : (s t : DocumentCells) → Passes s t → Works s t
-passes_works s t none_passed = none
-passes_works s t (passed_reused key mid t-1 before does) = then_works s mid t (passes_works s mid before) (for_works mid key _ t does)
-passes_works s t (passed_taken key number mid t-1 before does) = then_works s mid t (passes_works s mid before) (for_works mid key _ t does)
+pub next_claims : NextClaimsWork → NextClaimsAreWork
+next_claims law n s t does = law (document_cells s) (document_cells t) n does.does
 
-claim_by : (key : CellKey) (a : Answer) (s t : DocumentCells) → AnswersClaim s key a t → Works s t
-claim_by key answer.Gone s t does = same_works s t does.1
-claim_by key answer.Clean s t does = same_works s t does.1
-claim_by key (answer.Waiting need) s t does = same_works s t does.1
-claim_by key answer.Spent s t does = same_works s t does.2
-claim_by key answer.NoMemory s t does = same_works s t does.2
-claim_by key (answer.Taken number) s t does = for_works s key _ t does.1
-claim_by key answer.Reused s t does = for_works s key _ t does.1
-claim_by key (answer.Granted c) s t does = claim_works s key _ _ t does.1.claims
+pub batches : BatchesWork → BatchesAreWork
+batches law limit claims a s t does = law (document_cells s) (document_cells t) limit claims a does.does
 
-pub claims : ClaimsAreWork
-claims key a s t does = claim_by key a (document_cells s) (document_cells t) does.does
-
-next_by : (n : Next) (s t : DocumentCells) → AnswersNext s n t → Works s t
-next_by next.Settled s t does = passes_works s t does.0
-next_by next.Spent s t does = same_works s t does.2
-next_by (next.Busy number) s t does = passes_works s t does.1
-next_by (next.Granted c) s t does =
-    then_works s does.1.before t (passes_works s does.1.before does.1.passes) (claim_works does.1.before _ _ _ t does.1.grants.claims)
-next_by next.NoMemory s t does = passes_works s t does.1
-
-pub next_claims : NextClaimsAreWork
-next_claims n s t does = next_by n (document_cells s) (document_cells t) does.does
+pub outcomes : OutcomesWork → OutcomesAreWork
+outcomes law os tally s t does = law (document_cells s) (document_cells t) os tally does.does
 
 pub finishes : FinishesAreWork
 finishes done a s t does = one_works (document_cells s) (document_cells t) (finish done a (document_cells t) does.does)

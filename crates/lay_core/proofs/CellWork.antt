@@ -5,15 +5,9 @@ use Rattle.lay_cells.specs.declared.answers.Finished.{Finished}
 use Rattle.lay_cells.specs.declared.answers.Released.{Released}
 use Rattle.lay_shape.specs.declared.cell_key.CellKey.{CellKey}
 use Rattle.lay_cell_work.specs.CellInputs.{CellInput}
-use Rattle.lay_document_cells.specs.Claims.{AnswersClaim, AnswersNext, ClaimsFor, Passes}
-use Rattle.lay_document_cells.specs.Claims.{none as none_passed, reused as passed_reused, taken as passed_taken}
 use Rattle.lay_document_cells.specs.Settling.{GivesUp, Settles, SettlesFirst, SettlesTo, StopsAt, computed, granted, next, none, reused, taken, unclaimed}
 use Rattle.lay_document_cells.specs.State.{State as DocumentCells}
-use Rattle.lay_document_cells.specs.Steps.{CellDone, ClaimsTo, FinishesTo, GivesBackTo}
-use Rattle.lay_document_cells.specs.declared.answers.Answer.{Answer}
-use Rattle.lay_document_cells.specs.declared.answers.Answer.TheVariants as answer
-use Rattle.lay_document_cells.specs.declared.answers.Next.{Next}
-use Rattle.lay_document_cells.specs.declared.answers.Next.TheVariants as next_claim
+use Rattle.lay_document_cells.specs.Steps.{CellDone, ClaimsTo, FinishesTo, GivesBackTo, Step, Works, claim, finish, give_back, none as no_step, step}
 
 pub record IsWork (s t : DocumentCells) : Type 0 where
   pub document : t.document ≡ s.document
@@ -77,29 +71,12 @@ gives_up_work s t (granted key input number mid t-1 does back) =
 pub stop_work : (s t : DocumentCells) → StopsAt s t → IsWork s t
 stop_work s t does = then_work s does.before t (settles_work s does.before does.settles) (gives_up_work does.before t does.gives_up)
 
--- claims
-for_work : (s : DocumentCells) (key : CellKey) (a : Claimed) (t : DocumentCells) → ClaimsFor s key a t → IsWork s t
-for_work s key a t does = claim_work s key does.input a t does.claims
+-- any work
+step_work : (s t : DocumentCells) → Step s t → IsWork s t
+step_work s t (claim key input a t-1 does) = claim_work s key input a t does
+step_work s t (finish d a t-1 does) = finish_work s d a t does
+step_work s t (give_back key number a t-1 does) = back_work s key number a t does
 
-passes_work : (s t : DocumentCells) → Passes s t → IsWork s t
-passes_work s t none_passed = no_work s s refl
-passes_work s t (passed_reused key mid t-1 before does) = then_work s mid t (passes_work s mid before) (for_work mid key _ t does)
-passes_work s t (passed_taken key number mid t-1 before does) = then_work s mid t (passes_work s mid before) (for_work mid key _ t does)
-
-pub answer_work : (s : DocumentCells) (key : CellKey) (a : Answer) (t : DocumentCells) → AnswersClaim s key a t → IsWork s t
-answer_work s key answer.Gone t does = no_work s t does.1
-answer_work s key answer.Clean t does = no_work s t does.1
-answer_work s key (answer.Waiting need) t does = no_work s t does.1
-answer_work s key answer.Spent t does = no_work s t does.2
-answer_work s key answer.NoMemory t does = no_work s t does.2
-answer_work s key (answer.Taken number) t does = for_work s key _ t does.1
-answer_work s key answer.Reused t does = for_work s key _ t does.1
-answer_work s key (answer.Granted claim) t does = claim_work s key _ _ t does.1.claims
-
-pub next_work : (s : DocumentCells) (n : Next) (t : DocumentCells) → AnswersNext s n t → IsWork s t
-next_work s next_claim.Settled t does = passes_work s t does.0
-next_work s next_claim.Spent t does = no_work s t does.2
-next_work s (next_claim.Busy number) t does = passes_work s t does.1
-next_work s (next_claim.Granted claim) t does =
-    then_work s does.1.before t (passes_work s does.1.before does.1.passes) (claim_work does.1.before _ _ _ t does.1.grants.claims)
-next_work s next_claim.NoMemory t does = passes_work s t does.1
+pub works_work : (s t : DocumentCells) → Works s t → IsWork s t
+works_work s t no_step = no_work s s refl
+works_work s t (step mid t-1 before last) = then_work s mid t (works_work s mid before) (step_work mid t last)

@@ -1,18 +1,24 @@
 -- What becomes of the cells of a core. No call but an edit makes a cell, drops one or dirties one: what such a call does to them is steps
 -- of work, by `Works` of lay_document_cells. So a clean cell stays clean, and each grant is one of the number of grants.
-use Rattle.std.specs.Prelude.{ℕ}
+use Rattle.std.specs.Prelude.{ℕ, ◌≡◌, List, Option, Result}
+use Rattle.lay_units.specs.declared.memory.NoMemory.{NoMemory}
 use Rattle.lay_doc.specs.declared.command.Reply.{Reply}
 use Rattle.lay_cells.specs.declared.answers.Finished.{Finished}
 use Rattle.lay_cells.specs.declared.answers.Released.{Released}
 use Rattle.lay_shape.specs.declared.cell_key.CellKey.{CellKey}
+use Rattle.lay_cell_work.specs.Claims.{Claim}
+use Rattle.lay_claims.specs.declared.outcome.Outcome.{Outcome}
+use Rattle.lay_document_cells.specs.Outcomes.{Tally}
+use Rattle.lay_document_cells.specs.State.{State as DocumentCells}
 use Rattle.lay_document_cells.specs.Steps.{CellDone, Works}
 use Rattle.lay_document_cells.specs.declared.answers.Answer.{Answer}
 use Rattle.lay_document_cells.specs.declared.answers.Next.{Next}
-use Rattle.lay_core.specs.Claims.{AnswersClaim, AnswersNext, FinishesTo, GivesBackTo}
+use Rattle.lay_document_cells.specs.declared.idle.IdleKind.{IdleKind}
+use Rattle.lay_core.specs.Claims.{AnswersClaim, AnswersNext, ClaimsSome, FinishesAll, FinishesTo, GivesBackTo}
 use Rattle.lay_core.specs.Publishing.{PublishesTo, RefreshesTo}
 use Rattle.lay_core.specs.State.{State, document_cells}
 use Rattle.lay_core.specs.Steps.{LatestTo, SyncTo}
-use Rattle.lay_core.specs.Work.{SettlesTo, StopsAt}
+use Rattle.lay_core.specs.Work.{ChangesCells, SettlesTo, StopsAt}
 use Rattle.lay_core.specs.declared.answers.Publish.{Publish}
 
 -- what is done so to a core is work on its cells
@@ -48,3 +54,23 @@ FinishesAreWork = (done : CellDone) (answer : Finished) → IsWork (λ s t. Fini
 
 abbrev pub GiveBacksAreWork : Type 0
 GiveBacksAreWork = (key : CellKey) (number : ℕ) (answer : Released) → IsWork (λ s t. GivesBackTo s key number answer t)
+
+abbrev pub BatchesAreWork : Type 0
+BatchesAreWork =
+    (limit : ℕ) (claims : List Claim) (answer : Result (Option IdleKind) NoMemory) → IsWork (λ s t. ClaimsSome s limit claims answer t)
+
+abbrev pub OutcomesAreWork : Type 0
+OutcomesAreWork = (outcomes : List Outcome) (tally : Tally) → IsWork (λ s t. FinishesAll s outcomes tally t)
+
+-- nothing is changed that an editor sees, and no call is used up
+pub record KeepsHistory (s t : State) : Type 0 where
+  pub init : t.init ≡ s.init
+  pub face : t.face ≡ s.face
+  pub history : t.history ≡ s.history
+  pub document : t.document ≡ s.document
+  pub trees : t.trees ≡ s.trees
+  pub calls_left : t.calls_left ≡ s.calls_left
+
+-- so it is with each call that changes cells alone
+abbrev pub CellCallsKeepHistory : Type 0
+CellCallsKeepHistory = (Does : DocumentCells → DocumentCells → Type 0) (s t : State) → ChangesCells Does s t → KeepsHistory s t

@@ -108,6 +108,13 @@ impl Core {
         &self.history
     }
 
+    /// The document before any edit.
+    pub fn init(&self) -> &Doc
+        ensures { result.now ≡ self.now.init }
+    {
+        &self.init
+    }
+
     /// The document, with all accepted edits.
     pub fn doc(&self) -> &Doc
         ensures { result.now ≡ self.now.document }

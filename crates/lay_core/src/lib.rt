@@ -27,7 +27,8 @@ mod turns;
 pub use answers::Publish;
 pub use core_state::Core;
 pub use laws::{
-    calls_work, last_tree, one_edit, one_latest, one_publishing, one_refreshing, one_seen_edit,
-    one_settling, one_sync, shown_trees,
+    calls_work, cell_calls_keep_history, last_tree, one_edit, one_latest, one_publishing,
+    one_refreshing, one_seen_edit, one_settling, one_sync, shown_trees,
 };
+pub use lay_document_cells::{Answer, Idle, IdleKind, Next, Tally};
 pub use turns::drive;

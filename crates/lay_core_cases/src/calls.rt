@@ -13,8 +13,12 @@
 //!     contexts VERSION                  of how many contexts the tree of a version is, or `none`
 //!     as-scratch                        whether the tree of the present version is that of a layout from nothing
 //!     cells ID ..                       for each the grants of its three cells
+//!     granted                           the cells that were granted since the last such call (`grants.rt`)
+//!     claim, finish and so on           claims by hand (`claims.rt`)
 
+use crate::claims::Claims;
 use crate::edits::edit;
+use crate::grants::Grants;
 use crate::keys::{counts, key, shown_key};
 use crate::trees::{contexts, is_as_scratch};
 use lay_core::{Core, Publish};
@@ -30,11 +34,18 @@ const MANY: u64 = 1000000;
 pub(crate) struct OneCore {
     core: Core,
     calls: u32,
+    claims: Claims,
+    grants: Grants,
 }
 
 impl OneCore {
-    pub(crate) fn new(core: Core) -> OneCore {
-        OneCore { core, calls: 0 }
+    pub(crate) fn new(alloc: Global, core: Core) -> OneCore {
+        OneCore {
+            core,
+            calls: 0,
+            claims: Claims::new(alloc),
+            grants: Grants::new(alloc),
+        }
     }
 
     /// The answer to a call; None where the line is none.
@@ -43,8 +54,12 @@ impl OneCore {
         if let Some(reply) = self.reply(alloc, call, rest)? {
             return Ok(Some(shown_reply(alloc, reply)?));
         }
+        if let Some(answer) = self.claims.answer(alloc, &mut self.core, call, rest)? {
+            return Ok(Some(answer));
+        }
         match call {
             "settle" => self.settle(alloc),
+            "granted" => Ok(Some(self.grants.since(alloc, &self.core)?)),
             "publish" => Ok(Some(self.publish(alloc)?)),
             _ => self.read(alloc, call, rest),
         }

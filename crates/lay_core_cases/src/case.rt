@@ -19,15 +19,46 @@ pub(crate) fn first_difference(
     Ok(None)
 }
 
+/// A case with the answers that come.
+pub(crate) fn answers(alloc: Global, core: &mut OneCore, lines: &str) -> Result<String> {
+    let mut text = String::new(alloc);
+    for line in lines.lines() {
+        let (call, _) = line.split_once(" -> ").unwrap_or((line, ""));
+        if !is_call(line) {
+            writeln!(text, "{line}")?;
+            continue;
+        }
+        let answer = answer(alloc, core, call)?;
+        if answer.as_str() == "done" {
+            writeln!(text, "{call}")?;
+        } else {
+            writeln!(text, "{call} -> {answer}")?;
+        }
+    }
+    Ok(text)
+}
+
+fn is_call(line: &str) -> bool {
+    !line.is_empty() && !line.starts_with('#')
+}
+
 /// Makes the call of a line, if it has one, and answers what is other than it says.
 fn difference(alloc: Global, core: &mut OneCore, line: &str) -> Result<Option<String>> {
-    if line.is_empty() || line.starts_with('#') {
+    if !is_call(line) {
         return Ok(None);
     }
     let (call, wanted) = line.split_once(" -> ").unwrap_or((line, "done"));
+    let answer = answer(alloc, core, call)?;
+    if answer.as_str() == wanted {
+        return Ok(None);
+    }
+    Ok(Some(format!(in alloc; "{call} -> {answer}")?))
+}
+
+/// The answer to a call.
+fn answer(alloc: Global, core: &mut OneCore, call: &str) -> Result<String> {
     match core.answer(alloc, call) {
-        Ok(Some(answer)) if answer.as_str() == wanted => Ok(None),
-        Ok(Some(answer)) => Ok(Some(format!(in alloc; "{call} -> {answer}")?)),
+        Ok(Some(answer)) => Ok(answer),
         Ok(None) => bail!("no call: {call}"),
         Err(NoMemory) => bail!("out of memory"),
     }

@@ -1,5 +1,6 @@
 //! Makes the calls on cores that files describe, and prints for each case whether its answers were those that its file has:
-//! `lay_core_cases FOLDER` goes through the folder's files, by their names.
+//! `lay_core_cases FOLDER` goes through the folder's files, by their names. `lay_core_cases FOLDER answers` prints the cases with the
+//! answers that come.
 //!
 //! `NAME.json` is a run document, whose editors are taken as none. `NAME.calls` beside it has cases, each over a core of that document:
 //! a line `case NAME`, and calls that are made in turn, each a line `CALL -> ANSWER`, or `CALL` where the answer is `done`. Lines that
@@ -8,12 +9,14 @@
 
 mod calls;
 mod case;
+mod claims;
 mod edits;
+mod grants;
 mod keys;
 mod trees;
 
 use crate::calls::OneCore;
-use crate::case::first_difference;
+use crate::case::{answers, first_difference};
 use anyhow::{Context, Result, bail};
 use lay_core::Core;
 use lay_json::read_run;
@@ -24,21 +27,22 @@ use std::{env, fs};
 const CALLS: u32 = 1000;
 
 fn main(rt: HostRuntime) -> Result<()> {
-    let folder = folder(&rt)?;
+    let folder = word(&rt, 1)?;
+    let Some(folder) = folder else {
+        bail!("usage: lay_core_cases FOLDER [answers]");
+    };
+    let shows = word(&rt, 2)?.is_some();
     for file in files(&rt, folder.as_str())? {
         if let Some(name) = file.as_str().strip_suffix(".calls") {
-            go_through(&rt, folder.as_str(), name)?;
+            go_through(&rt, folder.as_str(), name, shows)?;
         }
     }
     Ok(())
 }
 
-/// The first word of the command line.
-fn folder(rt: &(impl Env + AllocGlobal)) -> Result<String> {
-    match env::args(rt)?.nth(1) {
-        Some(folder) => Ok(folder),
-        None => bail!("usage: lay_core_cases FOLDER"),
-    }
+/// The word of the command line at a place.
+fn word(rt: &(impl Env + AllocGlobal), place: usize) -> Result<Option<String>> {
+    Ok(env::args(rt)?.nth(place))
 }
 
 /// The names of a folder's files, in order.
@@ -52,13 +56,25 @@ fn files<R: Files + AllocGlobal + Clone + Drop>(rt: &R, folder: &str) -> Result<
     Ok(names)
 }
 
-/// Goes through the cases of a file, and prints a line for each.
-fn go_through(rt: &(impl Files + Print + AllocGlobal), folder: &str, name: &str) -> Result<()> {
+/// Goes through the cases of a file, and prints a line for each, or the answers that come.
+fn go_through(
+    rt: &(impl Files + Print + AllocGlobal),
+    folder: &str,
+    name: &str,
+    shows: bool,
+) -> Result<()> {
     let path = format!(in rt.alloc(); "{folder}/{name}.calls")?;
     let text = fs::read_to_string(rt, path.as_str()).context("reading a file of calls")?;
     for case in text.as_str().split("\ncase ").skip(1) {
         let (case, lines) = case.split_once('\n').unwrap_or((case, ""));
-        let mut subject = OneCore::new(core(rt, folder, name)?);
+        let mut subject = OneCore::new(rt.alloc(), core(rt, folder, name)?);
+        if shows {
+            println!(rt;
+                "case {case}\n{}",
+                answers(rt.alloc(), &mut subject, lines)?
+            )?;
+            continue;
+        }
         match first_difference(rt.alloc(), &mut subject, lines)? {
             None => println!(rt; "{name}: {case}: ok")?,
             Some(found) => println!(rt; "{name}: {case}: NOT SO, but {found}")?,

@@ -1,10 +1,14 @@
 mod Answered
+mod Batching
+mod ClaimsWorking
 mod CountedCells
 mod EditSteps
 mod FlagSteps
 mod KeptSteps
 mod ListedContexts
 mod OneEdits
+mod Passing
 mod Pigeonhole
 mod SettledPlaces
+mod WalkSteps
 mod Working

@@ -177,7 +177,7 @@ clean_to_first rows first h j r lt at = h.2 j (omega arith) lt r at
 pub first_within : (rows : List CellRow) (first : ℕ) → IsFirstDirtyFrom rows 0 first → first < length rows
 first_within rows first h = slice_get_within rows first h.0.0 h.0.1
 
-length_mapped : (rows : List CellRow) → length (map entry_of rows) ≡ length rows
+pub length_mapped : (rows : List CellRow) → length (map entry_of rows) ≡ length rows
 length_mapped [] = refl
 length_mapped (r ∷ rows) = ap suc (length_mapped rows)
 

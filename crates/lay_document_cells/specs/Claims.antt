@@ -1,5 +1,5 @@
 -- What claims of the cells of a document come to.
-use Rattle.std.specs.Prelude.{ℕ, ◌≡◌, ◌≤◌, ◌<◌, ◌^◌, true, List, slice_get, Some}
+use Rattle.std.specs.Prelude.{ℕ, ◌≡◌, ◌⊎◌, ◌+◌, ◌≤◌, ◌<◌, ◌^◌, true, List, slice_get, Some}
 use Rattle.lay_cells.specs.Looks.{AreClean, IsAt, IsClean, IsGone, Looks}
 use Rattle.lay_cells.specs.Places.{IsClaimed}
 use Rattle.lay_cells.specs.Reads.{AllClean}
@@ -81,8 +81,12 @@ pub record GrantsFirst (s : State) (claim : Claim) (t : State) : Type 0 where
 
 -- a claim of the next cell that there is to claim: the cells are gone through in order
 abbrev pub AnswersNext : State → Next → State → Type 0
-AnswersNext s next.Settled t = Passes s t × AllClean t.cells.rows
+AnswersNext s next.Settled t = ((t ≡ s) ⊎ (IsOpenToClaims s × Passes s t)) × AllClean t.cells.rows
 AnswersNext s next.Spent t = HasDirtyCell s.cells.rows × IsSpent s × (t ≡ s)
 AnswersNext s (next.Busy number) t = IsOpenToClaims s × Passes s t × IsBusy t.cells.rows number
 AnswersNext s (next.Granted claim) t = IsOpenToClaims s × GrantsFirst s claim t
 AnswersNext s next.NoMemory t = IsOpenToClaims s × Passes s t × HasDirtyCell t.cells.rows
+
+-- numbers are drawn where few enough are, and not more of them than there may be cells
+abbrev pub DrawsFew : State → State → Type 0
+DrawsFew s t = (t.cells.draws ≡ s.cells.draws) ⊎ ((s.cells.draws < 2 ^ 63) × (t.cells.draws ≤ s.cells.draws + 2 ^ 18))

@@ -1,15 +1,25 @@
 -- What work on the cells of a document keeps, and that an edit leaves one state.
-use Rattle.std.specs.Prelude.{◌≡◌, ◌+◌, ◌*◌, ◌≤◌, length}
+use Rattle.std.specs.Prelude.{ℕ, ◌≡◌, ◌+◌, ◌*◌, ◌≤◌, List, length, Option, Result}
+use Rattle.lay_units.specs.declared.memory.NoMemory.{NoMemory}
 use Rattle.lay_doc.specs.declared.edit.Edit.{Edit}
 use Rattle.lay_doc.specs.Document.{IsDocument}
 use Rattle.lay_doc.specs.Edits.{after}
 use Rattle.lay_cells.specs.Reads.{AllClean}
 use Rattle.lay_cell_progress.specs.Grants.{laid_of_all}
 use Rattle.lay_cell_progress.specs.Progress.{GivesNoneBack, KeepsRows}
+use Rattle.lay_shape.specs.declared.cell_key.CellKey.{CellKey}
+use Rattle.lay_cell_work.specs.Claims.{Claim}
+use Rattle.lay_claims.specs.declared.outcome.Outcome.{Outcome}
+use Rattle.lay_document_cells.specs.Batches.{ClaimsSome}
+use Rattle.lay_document_cells.specs.Claims.{AnswersClaim, AnswersNext}
 use Rattle.lay_document_cells.specs.Edits.{EditsTo}
+use Rattle.lay_document_cells.specs.Outcomes.{FinishesAll, Tally}
 use Rattle.lay_document_cells.specs.Settling.{Settles, SettlesTo, StopsAt}
 use Rattle.lay_document_cells.specs.State.{IsOfDocument, State}
 use Rattle.lay_document_cells.specs.Steps.{Works}
+use Rattle.lay_document_cells.specs.declared.answers.Answer.{Answer}
+use Rattle.lay_document_cells.specs.declared.answers.Next.{Next}
+use Rattle.lay_document_cells.specs.declared.idle.IdleKind.{IdleKind}
 
 -- no cell is made anew, dropped or dirtied, and each grant is counted once
 pub record KeepsCells (s t : State) : Type 0 where
@@ -28,6 +38,19 @@ SettlingWorks = (s t : State) → Settles s t → Works s t
 
 abbrev pub StoppingWorks : Type 0
 StoppingWorks = (s t : State) → StopsAt s t → Works s t
+
+-- so are claims, one by one and by the batch, and what comes of them
+abbrev pub ClaimsWork : Type 0
+ClaimsWork = (s t : State) (key : CellKey) (answer : Answer) → AnswersClaim s key answer t → Works s t
+
+abbrev pub NextClaimsWork : Type 0
+NextClaimsWork = (s t : State) (answer : Next) → AnswersNext s answer t → Works s t
+
+abbrev pub BatchesWork : Type 0
+BatchesWork = (s t : State) (limit : ℕ) (claims : List Claim) (answer : Result (Option IdleKind) NoMemory) → ClaimsSome s limit claims answer t → Works s t
+
+abbrev pub OutcomesWork : Type 0
+OutcomesWork = (s t : State) (outcomes : List Outcome) (tally : Tally) → FinishesAll s outcomes tally t → Works s t
 
 -- it gives no claim back, unless it stops
 abbrev pub SettlingGivesNothingBack : Type 0

@@ -3,6 +3,9 @@ pub mod Steps
 pub mod Settling
 pub mod Edits
 pub mod Claims
+pub mod Walks
+pub mod Batches
+pub mod Outcomes
 pub mod Kept
 pub mod TreeLengths
 pub mod Laws

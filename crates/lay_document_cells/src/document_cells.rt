@@ -1,44 +1,31 @@
 //! A document with its cells.
 
-ghost use Rattle.std.specs.Prelude.{◌≡◌, ◌↔◌, ◌+◌, ◌*◌, ◌≤◌, ◌<◌, ◌^◌, ◌-◌, [], IfNone, IfOk, IfSome, IsTrue, None, OnErr, OnOk, false, length, slice_get};
-ghost use Rattle.std.specs.Arc.{arc_value};
-ghost use Rattle.lay_cells.specs.Looks.{IsGone, Looks};
-ghost use Rattle.lay_cells.specs.Places.{AtPlace};
+ghost use Rattle.std.specs.Prelude.{◌≡◌, ◌↔◌, ◌+◌, ◌*◌, ◌≤◌, ◌^◌, [], IfNone, IfOk, IfSome, IsTrue, None, OnErr, OnOk, length};
+ghost use Rattle.lay_cells.specs.Looks.{IsGone};
 ghost use Rattle.lay_cells.specs.Reads.{AllClean, IsFirstDirtyKey, IsLaid, IsPaid};
-ghost use Rattle.lay_cells.specs.declared.answers.Look.TheVariants as look;
 ghost use Rattle.lay_cells.specs.Reshapes.{Reshapes};
 ghost use Rattle.lay_shape.specs.Keys.{AreOfOwnNodes};
 ghost use Rattle.lay_shape.specs.Shapes.{shape_of};
 ghost use Rattle.lay_cell_steps.specs.CellSteps.{no_cells};
-ghost use Rattle.lay_context.specs.Solves.{Solves, medium_of};
-ghost use Rattle.lay_doc.specs.Edits.{after, fault};
+ghost use Rattle.lay_context.specs.Solves.{Solves};
+ghost use Rattle.lay_doc.specs.Edits.{fault};
 ghost use Rattle.lay_doc.specs.Laws.{PutsNode};
 ghost use Rattle.lay_cell_progress.specs.Grants.{laid_of_all};
 ghost use Rattle.lay_document_cells.specs.Edits.{EditsTo};
-ghost use Rattle.lay_document_cells.specs.Settling.{AreCleanBefore, FinishesWork, GivesBackWork, GivesUpAt, SettlesAt, SettlesTo, StopsAt};
-ghost use Rattle.lay_document_cells.specs.State.{AreStyledLists, IsNew, IsOfDocument};
-ghost use Rattle.lay_document_cells.specs.Steps.{ClaimsTo, FinishesTo, GivesBackTo, IsGivenNow};
+ghost use Rattle.lay_document_cells.specs.State.{IsNew, IsOfDocument};
 
 use crate::document_table::DocumentTable;
 use crate::following::follow_lists;
 use crate::laws::{clean_cells_are_counted, trees_list_contexts};
 use crate::medium::medium_of;
-use lay_cell_progress::{
-    claims_count, claims_keep_rows, finished_cells_are_clean, finishes_count, finishes_keep_rows,
-    first_shapes_draw, give_backs_count, give_backs_keep_rows, granted_claims_are_released,
-    reshapes_count, reshapes_draw, reused_cells_are_clean,
-};
-use lay_cell_steps::{
-    assembled_trees_solve, claims_keep_cells, edits_keep_cells, finishes_keep_cells,
-    give_backs_keep_cells, new_cells_are_sound,
-};
-use lay_cell_table::{input_at, tree_of};
-use lay_cell_work::{CellInput, Claim, Layout, value_of_cell};
-use lay_cells::{Cells, Claimed, Done, Finished, Look, Released};
+use lay_cell_progress::{first_shapes_draw, reshapes_count, reshapes_draw};
+use lay_cell_steps::{assembled_trees_solve, edits_keep_cells, new_cells_are_sound};
+use lay_cell_table::tree_of;
+use lay_cell_work::Layout;
+use lay_cells::Cells;
 use lay_changes::touched_contexts_are_listed;
 use lay_context::Medium;
-use lay_contexts::{one_context_list, one_formatting_context_list};
-use lay_doc::{Doc, Edit, one_style_column};
+use lay_doc::{Doc, Edit};
 use lay_face::Face;
 use lay_frag::Tree;
 use lay_shape::{CellKey, contexts_are_of_own_nodes};
@@ -51,13 +38,13 @@ use std::sync::Arc;
 /// and how many claims were granted so far.
 #[derive(Drop)]
 pub struct DocumentCells {
-    alloc: Global,
+    pub(crate) alloc: Global,
     doc: Doc,
     face: Arc<Face>,
-    medium: Medium,
-    table: DocumentTable,
-    cells: Cells<Layout>,
-    laid: u64,
+    pub(crate) medium: Medium,
+    pub(crate) table: DocumentTable,
+    pub(crate) cells: Cells<Layout>,
+    pub(crate) laid: u64,
 }
 
 impl Model for DocumentCells {
@@ -120,156 +107,6 @@ impl DocumentCells {
         self.doc = doc;
         self.table = table;
         self.medium = medium;
-        Ok(())
-    }
-
-    /// Takes finished work, as `Cells::finish`. No claim is granted.
-    pub fn finish(&mut self, done: Done<Layout>) -> Finished
-        ensures { FinishesTo self.old done result self.new }
-    {
-        finishes_keep_cells();
-        finishes_count::<Layout>();
-        finishes_keep_rows::<Layout>();
-        let _value = done.value();
-        let answer = self.cells.finish(done);
-        self.cells.sound();
-        answer
-    }
-
-    /// Takes back a claim of a key, as `Cells::give_back`.
-    fn give_back_claim(&mut self, key: CellKey, number: u64) -> Released
-        ensures { GivesBackTo self.old key number result self.new }
-    {
-        give_backs_keep_cells();
-        give_backs_count::<Layout>();
-        give_backs_keep_rows::<Layout>();
-        let answer = self.cells.give_back(key, number);
-        self.cells.sound();
-        answer
-    }
-
-    /// What the cell at a place is given now, which is ready.
-    fn input_at(&self, place: usize) -> Result<Arc<CellInput>, NoMemory>
-        requires ready { AtPlace self.now.cells.rows place (λ r. Looks self.now.cells.rows r.key look.Ready) }
-        ensures { IfOk result (λ i. AtPlace self.now.cells.rows place (λ r. IsGivenNow self.now r.key (arc_value i))) }
-    {
-        input_at(
-            self.alloc,
-            &self.medium,
-            self.table.cells(),
-            &self.cells,
-            place,
-        )
-    }
-
-    /// Claims the cell at a place for what it is given now.
-    fn claim_input(&mut self, place: usize, input: Arc<CellInput>) -> Claimed
-        requires draws { self.old.cells.draws ≤ 2 ^ 64 - 2 ^ 20 }
-        requires ready { AtPlace self.old.cells.rows place (λ r. Looks self.old.cells.rows r.key look.Ready) }
-        requires given { AtPlace self.old.cells.rows place (λ r. IsGivenNow self.old r.key (arc_value input)) }
-        ensures { AtPlace self.old.cells.rows place (λ r. ClaimsTo self.old r.key (arc_value input) result self.new) }
-    {
-        claims_keep_cells();
-        claims_count::<Layout>();
-        one_style_column();
-        one_context_list();
-        one_formatting_context_list();
-        let answer = self.cells.claim_at_place(place, input);
-        self.cells.sound();
-        if let Claimed::Granted(_) = answer {
-            self.laid += 1;
-        }
-        answer
-    }
-
-    /// Computes the value of this input, and finishes it under the number of a claim of the key. On an error all is as before.
-    fn finish_claimed(
-        &mut self,
-        key: CellKey,
-        number: u64,
-        input: Arc<CellInput>,
-    ) -> Result<(), NoMemory>
-        ensures ok { OnOk result (FinishesWork self.old key number (arc_value input) self.new) }
-        ensures err { OnErr result (self.new ≡ self.old) }
-    {
-        let value = value_of_cell(self.alloc, &input)?;
-        let value = Arc::new(self.alloc, value)?;
-        self.finish(Done::new(key, number, input, value));
-        Ok(())
-    }
-
-    /// Computes the value of this input for a claim of the key that was granted. On an error the claim is given back.
-    fn finish_granted(
-        &mut self,
-        key: CellKey,
-        number: u64,
-        input: Arc<CellInput>,
-    ) -> Result<(), NoMemory>
-        ensures ok { OnOk result (FinishesWork self.old key number (arc_value input) self.new) }
-        ensures err { OnErr result (GivesBackWork self.old key number self.new) }
-    {
-        if self.finish_claimed(key, number, input).is_err() {
-            self.give_back_claim(key, number);
-            return Err(NoMemory);
-        }
-        Ok(())
-    }
-
-    /// Makes the cell at a place clean, which is the first dirty one.
-    fn settle_ready(&mut self, place: usize) -> Result<(), NoMemory>
-        requires ready { AtPlace self.old.cells.rows place (λ r. Looks self.old.cells.rows r.key look.Ready) }
-        requires clean { AreCleanBefore self.old.cells.rows place }
-        requires draws { self.old.cells.draws ≤ 2 ^ 64 - 2 ^ 20 }
-        ensures ok { OnOk result (SettlesAt self.old place self.new) }
-        ensures err { OnErr result (GivesUpAt self.old self.new) }
-    {
-        claims_keep_rows::<Layout>();
-        finishes_keep_rows::<Layout>();
-        give_backs_keep_rows::<Layout>();
-        reused_cells_are_clean::<Layout>();
-        finished_cells_are_clean::<Layout>();
-        granted_claims_are_released::<Layout>();
-        self.cells.sound();
-        let key = self.cells.key_at(place);
-        let input = self.input_at(place)?;
-        let shared = input.clone()?;
-        match self.claim_input(place, shared) {
-            Claimed::Reused => Ok(()),
-            Claimed::Granted(number) => self.finish_granted(key, number, input),
-            Claimed::Taken(number) => self.finish_claimed(key, number, input),
-        }
-    }
-
-    /// Makes the cell at a place clean, where those before it are.
-    fn settle_at(&mut self, place: usize) -> Result<(), NoMemory>
-        requires within { place < length self.old.cells.rows }
-        requires clean { AreCleanBefore self.old.cells.rows place }
-        requires draws { self.old.cells.draws ≤ 2 ^ 64 - 2 ^ 20 }
-        ensures ok { OnOk result (SettlesAt self.old place self.new) }
-        ensures err { OnErr result (GivesUpAt self.old self.new) }
-    {
-        self.cells.sound();
-        match self.cells.look_at(place) {
-            Look::Ready => self.settle_ready(place),
-            _ => Ok(()),
-        }
-    }
-
-    /// Claims and computes each dirty cell in order. On an error the cells that were finished stay clean, and a claim that was granted
-    /// here is given back.
-    pub fn settle(&mut self) -> Result<(), NoMemory>
-        requires draws { self.old.cells.draws ≤ 2 ^ 63 + 2 ^ 51 }
-        ensures ok { OnOk result (SettlesTo self.old self.new) }
-        ensures err { OnErr result (StopsAt self.old self.new) }
-        ensures few { self.new.cells.draws ≤ self.old.cells.draws + 2 ^ 18 }
-    {
-        let first = match self.cells.dirty_from(0) {
-            Some(first) => first,
-            None => return Ok(()),
-        };
-        for place in first..self.cells.len() {
-            self.settle_at(place)?;
-        }
         Ok(())
     }
 

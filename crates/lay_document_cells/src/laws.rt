@@ -1,7 +1,7 @@
 //! The laws of the definitions. The functions do nothing.
 
 ghost use Rattle.lay_document_cells.specs.TreeLengths.{TreesListContexts};
-ghost use Rattle.lay_document_cells.specs.Laws.{CleanCellsAreCounted, OneEdit, SettlingGivesNothingBack, SettlingWorks, StoppingWorks, WorkKeepsCells};
+ghost use Rattle.lay_document_cells.specs.Laws.{BatchesWork, ClaimsWork, CleanCellsAreCounted, NextClaimsWork, OneEdit, OutcomesWork, SettlingGivesNothingBack, SettlingWorks, StoppingWorks, WorkKeepsCells};
 
 use lay_cell_progress::{
     claims_count, claims_keep_rows, clean_cells_count, finishes_count, finishes_keep_rows,
@@ -35,6 +35,14 @@ pub fn settling_works()
 /// It is too where memory runs out.
 pub fn stopping_works()
     ensures { StoppingWorks }
+{}
+
+/// Claims are work, and so is what comes of them.
+pub fn claims_work()
+    ensures claims { ClaimsWork }
+    ensures next_claims { NextClaimsWork }
+    ensures batches { BatchesWork }
+    ensures outcomes { OutcomesWork }
 {}
 
 /// No claim is given back where cells are settled.

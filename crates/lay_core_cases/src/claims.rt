@@ -1,0 +1,247 @@
+//! Claims that a case holds, and what it makes of them:
+//!
+//!     claim PHASE NODE        the answer: `granted PHASE NODE NUMBER`, `taken NUMBER`, `waiting PHASE NODE` and so on
+//!     claim-next
+//!     claim-some LIMIT        the claims of a batch, or why there are none
+//!     finish NUMBER           a value is worked out for the claim of this number, and finished under it
+//!     finish NUMBER as OTHER  or under another number
+//!     finish-all NUMBER ..    the same of several at once; that of `-NUMBER` comes back without a value
+//!     give-back NUMBER
+//!
+//! A claim that was granted is held to the end, so it can be finished late, or twice.
+
+use crate::keys::{key, shown_key};
+use lay_cell_work::{Claim, Layout};
+use lay_cells::{Done, Finished, Released};
+use lay_claims::{ClaimList, Outcome, Outcomes};
+use lay_core::{Answer, Core, IdleKind, Next, Tally};
+use lay_units::NoMemory;
+use std::alloc::Global;
+
+/// The most claims that are handed out or taken at once.
+const BATCH: u32 = 64;
+
+/// The claims that were granted, in order.
+#[derive(Drop)]
+pub(crate) struct Claims {
+    held: Vec<Claim>,
+}
+
+impl Claims {
+    pub(crate) fn new(alloc: Global) -> Claims {
+        Claims {
+            held: Vec::new(alloc),
+        }
+    }
+
+    /// The answer to a call; None where it is another call.
+    pub(crate) fn answer(
+        &mut self,
+        alloc: Global,
+        core: &mut Core,
+        call: &str,
+        rest: &str,
+    ) -> Result<Option<String>, NoMemory> {
+        match call {
+            "claim" => self.claim(alloc, core, rest),
+            "claim-next" => Ok(Some(self.claim_next(alloc, core)?)),
+            "claim-some" => self.claim_some(alloc, core, rest),
+            "finish" => self.finish(alloc, core, rest),
+            "finish-all" => self.finish_all(alloc, core, rest),
+            "give-back" => self.give_back(alloc, core, rest),
+            _ => Ok(None),
+        }
+    }
+
+    /// Holds a claim, and shows it.
+    fn granted(&mut self, alloc: Global, claim: Claim) -> Result<String, NoMemory> {
+        let key = shown_key(alloc, claim.key())?;
+        let text = format!(in alloc; "granted {key} {}", claim.number())?;
+        self.held.push(claim)?;
+        Ok(text)
+    }
+
+    fn claim(
+        &mut self,
+        alloc: Global,
+        core: &mut Core,
+        rest: &str,
+    ) -> Result<Option<String>, NoMemory> {
+        let Some(key) = key(rest) else {
+            return Ok(None);
+        };
+        let text = match core.claim(key) {
+            Answer::Granted(claim) => self.granted(alloc, claim)?,
+            Answer::Reused => String::from_str(alloc, "reused")?,
+            Answer::Clean => String::from_str(alloc, "clean")?,
+            Answer::Waiting(need) => format!(in alloc; "waiting {}", shown_key(alloc, need)?)?,
+            Answer::Taken(number) => format!(in alloc; "taken {number}")?,
+            Answer::Gone => String::from_str(alloc, "gone")?,
+            Answer::Spent => String::from_str(alloc, "spent")?,
+            Answer::NoMemory => return Err(NoMemory),
+        };
+        Ok(Some(text))
+    }
+
+    fn claim_next(&mut self, alloc: Global, core: &mut Core) -> Result<String, NoMemory> {
+        match core.claim_next() {
+            Next::Granted(claim) => self.granted(alloc, claim),
+            Next::Settled => shown_idle(alloc, IdleKind::Settled),
+            Next::Busy(number) => shown_idle(alloc, IdleKind::Busy(number)),
+            Next::Spent => shown_idle(alloc, IdleKind::Spent),
+            Next::NoMemory => Err(NoMemory),
+        }
+    }
+
+    fn claim_some(
+        &mut self,
+        alloc: Global,
+        core: &mut Core,
+        rest: &str,
+    ) -> Result<Option<String>, NoMemory> {
+        let Ok(limit) = rest.parse::<u32>() else {
+            return Ok(None);
+        };
+        if limit == 0 || limit > BATCH {
+            return Ok(None);
+        }
+        let mut list = ClaimList::with_room(alloc, limit)?;
+        if let Some(idle) = core.claim_some(limit, &mut list)? {
+            return Ok(Some(shown_idle(alloc, idle.kind())?));
+        }
+        let mut text = String::new(alloc);
+        for claim in list.into_vec() {
+            let comma = if text.is_empty() { "" } else { ", " };
+            write!(text, "{comma}{}", self.granted(alloc, claim)?)?;
+        }
+        Ok(Some(text))
+    }
+
+    /// The claim of this number once more, or under another number.
+    fn again(&self, number: u64, under: u64) -> Result<Option<Claim>, NoMemory> {
+        for claim in self.held.iter() {
+            if claim.number() == number {
+                let input = claim.input().clone()?;
+                return Ok(Some(Claim::new(claim.key(), under, input)));
+            }
+        }
+        Ok(None)
+    }
+
+    /// What the claim of this number comes to, under this one or another.
+    fn done(
+        &self,
+        alloc: Global,
+        number: u64,
+        under: u64,
+    ) -> Result<Option<Done<Layout>>, NoMemory> {
+        let Some(claim) = self.again(number, under)? else {
+            return Ok(None);
+        };
+        match claim.compute(alloc) {
+            Ok(done) => Ok(Some(done)),
+            Err(_) => Err(NoMemory),
+        }
+    }
+
+    fn finish(
+        &mut self,
+        alloc: Global,
+        core: &mut Core,
+        rest: &str,
+    ) -> Result<Option<String>, NoMemory> {
+        let (number, under) = rest.split_once(" as ").unwrap_or((rest, rest));
+        let (Ok(number), Ok(under)) = (number.parse::<u64>(), under.parse::<u64>()) else {
+            return Ok(None);
+        };
+        let Some(done) = self.done(alloc, number, under)? else {
+            return Ok(None);
+        };
+        let text = match core.finish(done) {
+            Finished::Cleaned => String::from_str(alloc, "cleaned")?,
+            Finished::Stored => String::from_str(alloc, "stored")?,
+            Finished::Superseded(last) => format!(in alloc; "superseded {last}")?,
+            Finished::Gone => String::from_str(alloc, "gone")?,
+        };
+        Ok(Some(text))
+    }
+
+    /// The outcome that a word names.
+    fn outcome(&self, alloc: Global, word: &str) -> Result<Option<Outcome>, NoMemory> {
+        if let Some(word) = word.strip_prefix('-') {
+            let Ok(number) = word.parse::<u64>() else {
+                return Ok(None);
+            };
+            return Ok(match self.again(number, number)? {
+                Some(claim) => Some(Outcome::NoMemory(claim)),
+                None => None,
+            });
+        }
+        let Ok(number) = word.parse::<u64>() else {
+            return Ok(None);
+        };
+        Ok(match self.done(alloc, number, number)? {
+            Some(done) => Some(Outcome::Done(done)),
+            None => None,
+        })
+    }
+
+    fn finish_all(
+        &mut self,
+        alloc: Global,
+        core: &mut Core,
+        rest: &str,
+    ) -> Result<Option<String>, NoMemory> {
+        let mut outcomes = Vec::new(alloc);
+        for word in rest.split(' ') {
+            match self.outcome(alloc, word)? {
+                Some(outcome) => outcomes.push(outcome)?,
+                None => return Ok(None),
+            }
+        }
+        if outcomes.len() > BATCH as usize {
+            return Ok(None);
+        }
+        let tally = core.finish_all(Outcomes::new(outcomes));
+        Ok(Some(shown_tally(alloc, &tally)?))
+    }
+
+    fn give_back(
+        &mut self,
+        alloc: Global,
+        core: &mut Core,
+        rest: &str,
+    ) -> Result<Option<String>, NoMemory> {
+        let Ok(number) = rest.parse::<u64>() else {
+            return Ok(None);
+        };
+        let Some(claim) = self.again(number, number)? else {
+            return Ok(None);
+        };
+        let text = match core.give_back(claim) {
+            Released::Released => String::from_str(alloc, "released")?,
+            Released::Superseded(last) => format!(in alloc; "superseded {last}")?,
+            Released::Gone => String::from_str(alloc, "gone")?,
+        };
+        Ok(Some(text))
+    }
+}
+
+fn shown_idle(alloc: Global, kind: IdleKind) -> Result<String, NoMemory> {
+    match kind {
+        IdleKind::Settled => Ok(String::from_str(alloc, "settled")?),
+        IdleKind::Busy(number) => Ok(format!(in alloc; "busy {number}")?),
+        IdleKind::Spent => Ok(String::from_str(alloc, "spent")?),
+    }
+}
+
+fn shown_tally(alloc: Global, tally: &Tally) -> Result<String, NoMemory> {
+    Ok(format!(in alloc;
+        "cleaned {} stored {} superseded {} gone {} back {}",
+        tally.cleaned(),
+        tally.stored(),
+        tally.superseded(),
+        tally.gone(),
+        tally.back()
+    )?)
+}

@@ -1,0 +1,93 @@
+//! Which cells were granted since the last time.
+
+use lay_context::Phase;
+use lay_core::Core;
+use lay_doc::NodeId;
+use lay_shape::CellKey;
+use lay_units::NoMemory;
+use std::alloc::Global;
+
+/// How many claims of the cells of a node were granted.
+#[derive(Clone, Copy)]
+struct Count {
+    node: u32,
+    laid: [u64; 3],
+}
+
+/// What was counted the last time.
+#[derive(Drop)]
+pub(crate) struct Grants {
+    counts: Vec<Count>,
+    laid: u64,
+}
+
+impl Grants {
+    pub(crate) fn new(alloc: Global) -> Grants {
+        Grants {
+            counts: Vec::new(alloc),
+            laid: 0,
+        }
+    }
+
+    /// How many claims were granted since the last time, and the cells whose counts differ, in the order of the document: `4: 1:P 14:MSP`.
+    pub(crate) fn since(&mut self, alloc: Global, core: &Core) -> Result<String, NoMemory> {
+        let counts = counts(alloc, core)?;
+        let laid = core.laid();
+        let mut text = format!(in alloc; "{}", laid.saturating_sub(self.laid))?;
+        let mut mark = ":";
+        for count in counts.iter() {
+            let word = self.difference(alloc, count)?;
+            if !word.is_empty() {
+                write!(text, "{mark} {}:{word}", count.node)?;
+                mark = "";
+            }
+        }
+        self.counts = counts;
+        self.laid = laid;
+        Ok(text)
+    }
+
+    /// The letters of the phases whose count is another than the last time.
+    fn difference(&self, alloc: Global, now: &Count) -> Result<String, NoMemory> {
+        let was = self.was(now.node);
+        let mut text = String::new(alloc);
+        for (phase, letter) in ["M", "S", "P"].iter().enumerate() {
+            if phase < 3 && was[phase] != now.laid[phase] {
+                text.push_str(letter)?;
+            }
+        }
+        Ok(text)
+    }
+
+    /// What was counted of a node.
+    fn was(&self, node: u32) -> [u64; 3] {
+        for count in self.counts.iter() {
+            if count.node == node {
+                return count.laid;
+            }
+        }
+        [0, 0, 0]
+    }
+}
+
+/// What is counted now, of each node that has cells.
+fn counts(alloc: Global, core: &Core) -> Result<Vec<Count>, NoMemory> {
+    let mut counts = Vec::new(alloc);
+    for place in 0..core.doc().len() {
+        if let Some(node) = core.doc().node(place) {
+            let node = node.id();
+            let of = |phase| core.laid_of(CellKey { node, phase });
+            if let (Some(measure), Some(size), Some(place)) = (
+                of(Phase::Measure),
+                of(Phase::Size),
+                of(Phase::Place),
+            ) {
+                counts.push(Count {
+                    node: node.0,
+                    laid: [measure, size, place],
+                })?;
+            }
+        }
+    }
+    Ok(counts)
+}
