@@ -1,7 +1,7 @@
 //! How an engine is started, with a pass for each editor.
 
 ghost use Rattle.std.specs.Prelude.{◌≡◌, ℕ, ◌+◌, ◌^◌, ◌≤◌, List, [], ◌∷◌, length, sum, vec_capacity, IfOk};
-ghost use Rattle.lay_board.specs.Cores.{origin_of, origin_with};
+ghost use Rattle.lay_board.specs.Cores.{origin_of, origin_told, origin_with};
 ghost use Rattle.lay_board.specs.Passes.{AreNew, new_pass};
 ghost use Rattle.lay_board.specs.Rules.{maker_view};
 ghost use Rattle.lay_board.specs.declared.views.Origin.{Origin as AnOrigin};
@@ -55,6 +55,7 @@ impl Engine {
         requires all { all ≡ sum calls.items }
         requires editors { length calls.items ≤ 16 }
         requires few { sum calls.items ≤ 8192 }
+        ensures engine { IfOk result (λ r. r.0.origin ≡ origin_with doc face.value) }
         ensures closer { IfOk result (λ r. r.1.closer ≡ record { table = r.0.table; origin = origin_with doc face.value; made = length calls.items }) }
         ensures passes { IfOk result (λ r. AreNew r.0.table (origin_with doc face.value) calls.items r.1.items.items) }
     {
@@ -91,13 +92,14 @@ fn terms(doc: &Doc, face: &Face, calls: &Vec<u32>) -> Terms
 
 /// A table with a new core, and the seat that makes passes.
 fn shelf(alloc: Global, core: Core, terms: &Terms) -> Result<(Shelf, CoreSeat), NoMemory>
-    requires origin { origin_of core ≡ origin_with terms.now.document.value terms.now.face.value }
+    requires origin { origin_of core ≡ origin_told terms.now }
     requires new { core.history ≡ [] }
     requires calls { sum terms.now.calls.value.items ≤ core.calls_left }
     requires few { core.calls_left ≤ 8192 }
     requires draws { core.cells.draws ≤ 2 ^ 63 }
+    ensures told { IfOk result (λ r. r.0.shared.key ≡ terms.now) }
     ensures counts { IfOk result (λ r. (r.0.shared.table_id.words ≡ 2) × (r.0.shared.table_id.slots ≡ 1) × (r.1.table_id ≡ r.0.shared.table_id)) }
-    ensures maker { IfOk result (λ r. r.1.me ≡ (maker_view (origin_with terms.now.document.value terms.now.face.value) 0 terms.now.calls.value.items, [])) }
+    ensures maker { IfOk result (λ r. r.1.me ≡ (maker_view (origin_told terms.now) 0 terms.now.calls.value.items, [])) }
 {
     let mut slots = Vec::with_capacity(alloc, 1)?;
     slots.push_reserved(Some(core));

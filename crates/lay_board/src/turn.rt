@@ -1,9 +1,10 @@
 //! One turn with the core.
 
-ghost use Rattle.std.specs.Prelude.{◌≡◌, ◌<◌, ◌≤◌, List, [], ◌∷◌, length, Some, None, IfSome};
-ghost use Rattle.lay_board.specs.Cores.{Adds, IsQuiet};
+ghost use Rattle.std.specs.Prelude.{◌≡◌, ◌<◌, ◌≤◌, List, [], ◌∷◌, length, Some, None};
+ghost use Rattle.lay_board.specs.Batches.{IsCoreFrom};
+ghost use Rattle.lay_board.specs.Cores.{Adds, IsQuiet, origin_told};
 ghost use Rattle.lay_board.specs.Passes.{Calls, IsTurn, known_of};
-ghost use Rattle.lay_board.specs.Rules.{MeetsMaker, MeetsPass, grown, guest, held_by, pass_view};
+ghost use Rattle.lay_board.specs.Rules.{MeetsSeat, grown, guest_view, held_by, pass_view};
 ghost use Rattle.lay_board.specs.declared.views.PassView.{PassView as APass};
 ghost use Rattle.lay_board.specs.declared.views.View.{View as AView};
 ghost use Rattle.lay_core.specs.State.{State};
@@ -83,8 +84,7 @@ pub(crate) fn take_core<R: Wait>(rt: &R, table: &Shelf, mut seat: CoreSeat) -> (
     requires empty { seat.me ≡ (seat.me.0, []) }
     ensures table { result.1.table_id ≡ seat.table_id }
     ensures held { result.1.me ≡ (record (seat.me.0) { hold = Some result.0 }, (0, None) ∷ []) }
-    ensures pass { IfSome seat.me.0.pass (MeetsPass result.0) }
-    ensures maker { IfSome seat.me.0.maker (MeetsMaker result.0) }
+    ensures met { MeetsSeat result.0 seat.me.0 }
 {
     for _ in rt.forever() {
         let found = table.shared.compare_exchange::<Takes>(&mut seat, 1, 0, 1);
@@ -125,14 +125,17 @@ fn tell_core(table: &Shelf, mut seat: CoreSeat, before: u64, core: Core) -> Core
     seat
 }
 
-/// A guest takes the core.
+/// A guest takes the core, which was started with what the table was told.
 pub(crate) fn visit<R: Wait>(rt: &R, table: &Shelf) -> (Core, CoreSeat)
     requires table { (table.now.shared.table_id.words ≡ 2) × (table.now.shared.table_id.slots ≡ 1) }
     ensures table { result.1.table_id ≡ table.now.shared.table_id }
-    ensures held { result.1.me ≡ (held_by guest result.0, (0, None) ∷ []) }
+    ensures held { result.1.me ≡ (held_by (guest_view (origin_told table.now.shared.key)) result.0, (0, None) ∷ []) }
+    ensures core { IsCoreFrom (origin_told table.now.shared.key) result.0 }
 {
     let (_, seat) = table.shared.load_new_seat::<Comes>(0);
-    take_core(rt, table, seat)
+    let (core, seat) = take_core(rt, table, seat);
+    let _ = core.history();
+    (core, seat)
 }
 
 /// The core goes home, with the same history.
