@@ -326,10 +326,6 @@ comes_it origin slots made calls s k homes _ =
       refl,
     )
 
--- what is told of it, at a seat of the first view that is known by an equation
-pub came : (st : Step (Option State)) (origin : Origin) (made : ℕ) (calls : List ℕ) (found : ℕ) (new : SeatView) → ComesIt st (maker_view origin made calls, []) found new → new ≡ (guest_view origin, [])
-came st origin made calls found new t = t
-
 -- the same at seats that are known by an equation
 pub takes_as : (origin : Origin) (slots id : ℕ) (me : SeatView) (v : View) → me ≡ (v, []) → Allows (IsKept origin) slots id me 1 (λ n. either (n == 0) 1 n) (TakesIt (step slots 1 0 1 opt.none) me)
 takes_as origin slots id me v is = subst (λ (m : SeatView). Allows (IsKept origin) slots id m 1 (λ n. either (n == 0) 1 n) (TakesIt (step slots 1 0 1 opt.none) m)) (sym is) (takes_it origin slots id v)

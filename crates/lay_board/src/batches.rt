@@ -1,6 +1,7 @@
 //! Claims of cells by the batch, for those who lay them out.
 
-ghost use Rattle.std.specs.Prelude.{◌≡◌, ◌+◌, ◌<◌, ◌≤◌, length, IfOk};
+ghost use Rattle.std.specs.Prelude.{◌≡◌, ◌<◌, ◌≤◌, length, IfOk};
+ghost use Rattle.lay_document_cells.specs.Outcomes.{tally_sum};
 ghost use Rattle.lay_board.specs.Batches.{FinishesBatch, GivesBatch};
 
 use crate::engine::Engine;
@@ -44,7 +45,7 @@ impl Engine {
     /// What came of claims, each handed in to the core in one turn of the lock; how often each answer came. It takes no memory.
     pub fn finish_all<R: Wait>(&self, rt: &R, outcomes: Outcomes) -> Tally
         ensures finishes { FinishesBatch self.now.origin outcomes result }
-        ensures all { result.cleaned + result.stored + result.superseded + result.gone + result.back ≡ length outcomes }
+        ensures all { tally_sum result ≡ length outcomes }
     {
         let _turn = self.gate.lock(rt);
         let (mut core, seat) = visit(rt, &self.table);
