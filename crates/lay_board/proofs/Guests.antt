@@ -1,5 +1,6 @@
 -- What the work of guests comes to.
-use Rattle.std.proofs.Common.{◌≡◌, ◌⊎◌, inl, ⊤, ⊥, ℕ, ◌+◌, ◌≤◌, ◌^◌, List, [], Option, Some, None, Result, Ok, Err, refl, ap, arith, subst}
+use Rattle.std.proofs.Common.{◌≡◌, ◌⊎◌, inl, ℕ, ◌+◌, ◌≤◌, ◌^◌, List, [], Option, Some, None, Result, Ok, Err, refl, ap, arith, subst}
+use Rattle.std.specs.Prelude.{⊤}
 use Rattle.lay_units.specs.declared.memory.NoMemory.{NoMemory as Want}
 use Rattle.lay_cell_work.specs.Claims.{Claim}
 use Rattle.lay_document_cells.specs.Batches.{ClaimsSome as CellsClaimSome, fewer, full, none}
@@ -28,9 +29,9 @@ IsNoClaim (Ok (Some kind)) = ⊤
 IsNoClaim (Err want) = ⊤
 
 no_claim : (d e : DocumentCells) (limit : ℕ) (claims : List Claim) (answer : Result (Option IdleKind) Want) → CellsClaimSome d limit claims answer e → IsNoClaim answer → claims ≡ []
-no_claim d e limit claims answer (full claims-1 e-1 count) is = absurd is
-no_claim d e limit claims answer (fewer claims-1 a mid e-1 some few) is = absurd is
-no_claim d e limit claims answer (none a e-1) is = refl
+no_claim d e limit claims answer (full claims-1 e-1 grants count) is = absurd is
+no_claim d e limit claims answer (fewer claims-1 a mid e-1 grants some few ended) is = absurd is
+no_claim d e limit claims answer (none a e-1 ended) is = refl
 
 -- where a reason is answered, no claim is handed out
 pub idle_grants : (s t : State) (limit : ℕ) (claims : List Claim) (kind : IdleKind) → ClaimsSome s limit claims (Ok (Some kind)) t → ClaimsSome s limit [] (Ok (Some kind)) t

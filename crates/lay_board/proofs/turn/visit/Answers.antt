@@ -5,7 +5,7 @@ use Rattle.lay_board.proofs.Turns.{guest_meets}
 use Rattle.lay_board.proofs.turn.visit.Goals as goal
 
 pub load_new_seat-seat-requires : goal.load_new_seat-seat-requires
-load_new_seat-seat-requires g c = let t = c.requires.table in (omega (arith, t.0), comes_it _ _ 0 _)
+load_new_seat-seat-requires g c = let t = c.requires.table in (omega (arith, t.0), comes_it _ _ 0 c.args.table.now.shared.key.calls.value.items)
 
 pub returns-clause-held : goal.returns-clause-held
 returns-clause-held g c =
