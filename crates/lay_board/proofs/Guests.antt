@@ -1,5 +1,5 @@
 -- What the work of guests comes to.
-use Rattle.std.proofs.Common.{◌≡◌, ◌⊎◌, inl, ℕ, ◌+◌, ◌≤◌, ◌^◌, List, [], Option, Some, None, Result, Ok, Err, refl, ap, arith, subst}
+use Rattle.std.proofs.Common.{◌≡◌, inl, ℕ, List, [], Option, Some, None, Result, Ok, Err, refl, ap, arith, subst}
 use Rattle.std.specs.Prelude.{⊤}
 use Rattle.lay_units.specs.declared.memory.NoMemory.{NoMemory as Want}
 use Rattle.lay_cell_work.specs.Claims.{Claim}

@@ -99,7 +99,13 @@ abbrev pub guest_view : Origin → View
 guest_view origin = record { maker = None; pass = None; guest = Some origin; hold = None; met = None }
 
 abbrev pub maker_view : Origin → ℕ → List ℕ → View
-maker_view origin made calls = record { maker = Some record { origin = origin; made = made; calls = calls }; pass = None; guest = None; hold = None; met = None }
+maker_view origin made calls = record {
+  maker = Some record { origin = origin; made = made; calls = calls };
+  pass = None;
+  guest = None;
+  hold = None;
+  met = None;
+}
 
 abbrev pub pass_view : PassView → View
 pass_view p = record { maker = None; pass = Some p; guest = None; hold = None; met = None }
@@ -202,4 +208,6 @@ abbrev pub meeting : View → View → View
 meeting v w = record v { met = w.pass }
 
 abbrev pub LearnsIt : Step (Option State) → SeatView → ℕ → SeatView → Type 0
-LearnsIt s me found new = (new ≡ (record (me.0) { met = None }, me.1)) × IfSome me.0.hold (λ h. IfSome me.0.met (λ p. Begins p.known h.history × (p.own ≡ by_editor p.number h.history)))
+LearnsIt s me found new =
+    (new ≡ (record (me.0) { met = None }, me.1))
+    × IfSome me.0.hold (λ h. IfSome me.0.met (λ p. Begins p.known h.history × (p.own ≡ by_editor p.number h.history)))

@@ -22,12 +22,7 @@ pub enum Batch {
 impl Engine {
     /// At most so many claims, at least one, which the core grants one after another in one turn of the lock; or why it grants none. Room
     /// for them is taken before the turn. NoMemory is answered where no claim is granted.
-    pub fn claim_batch<R: Wait>(
-        &self,
-        rt: &R,
-        alloc: Global,
-        limit: u32,
-    ) -> Result<Batch, NoMemory>
+    pub fn claim_batch<R: Wait>(&self, rt: &R, alloc: Global, limit: u32) -> Result<Batch, NoMemory>
         requires limit { (0 < limit) × (limit ≤ 64) }
         ensures claims { IfOk result (GivesBatch self.now.origin limit) }
     {

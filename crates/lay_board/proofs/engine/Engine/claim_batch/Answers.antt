@@ -1,4 +1,4 @@
-use Rattle.std.proofs.Common.{refl, subst, Ok, None, [], ◌∷◌}
+use Rattle.std.proofs.Common.{refl, subst, Ok}
 use Rattle.lay_core.specs.Claims.{ClaimsSome}
 use Rattle.lay_board.specs.Batches.{IsCoreFrom}
 use Rattle.lay_board.specs.Passes.{EngineOf}

@@ -1,4 +1,4 @@
-use Rattle.std.proofs.Common.{arith, inl, refl, subst, None, [], ◌∷◌}
+use Rattle.std.proofs.Common.{arith, inl, refl, subst}
 use Rattle.lay_board.specs.Batches.{IsCoreFrom}
 use Rattle.lay_board.specs.Passes.{EngineOf}
 use Rattle.lay_board.proofs.Guests.{quiet}

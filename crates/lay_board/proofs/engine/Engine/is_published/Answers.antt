@@ -1,4 +1,4 @@
-use Rattle.std.proofs.Common.{refl, None, [], ◌∷◌}
+use Rattle.std.proofs.Common.{refl}
 use Rattle.lay_board.proofs.Guests.{unchanged}
 use Rattle.lay_board.proofs.engine.Engine.is_published.Goals as goal
 
