@@ -31,7 +31,7 @@ IsNoClaim (Err want) = ⊤
 no_claim : (d e : DocumentCells) (limit : ℕ) (claims : List Claim) (answer : Result (Option IdleKind) Want) → CellsClaimSome d limit claims answer e → IsNoClaim answer → claims ≡ []
 no_claim d e limit claims answer (full claims-1 e-1 grants count) is = absurd is
 no_claim d e limit claims answer (fewer claims-1 a mid e-1 grants some few ended) is = absurd is
-no_claim d e limit claims answer (none a e-1 ended) is = refl
+no_claim d e limit claims answer (none a answer-1 e-1 ended named) is = refl
 
 -- where a reason is answered, no claim is handed out
 pub idle_grants : (s t : State) (limit : ℕ) (claims : List Claim) (kind : IdleKind) → ClaimsSome s limit claims (Ok (Some kind)) t → ClaimsSome s limit [] (Ok (Some kind)) t
