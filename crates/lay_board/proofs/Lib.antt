@@ -3,3 +3,4 @@ pub mod Additions
 pub mod Steps
 pub mod Turns
 pub mod Makings
+pub mod Guests

@@ -16,7 +16,7 @@ use Rattle.lay_board.specs.Entries.{by_editor, Begins}
 use Rattle.lay_core.specs.State.{State}
 use Rattle.lay_board.specs.Cores.{Adds, IsQuiet, most_draws, origin_of}
 use Rattle.lay_board.specs.declared.views.Origin.{Origin}
-use Rattle.lay_board.specs.Rules.{At, pass_of, hold_of, maker_of, met_of, calls_of, all_calls, Fits, IsCoreOf, IsKept, IsNoEditor, MeetsPass, MeetsMaker, TakesIt, TellsIt, GivesIt, LooksIt, ComesIt, LearnsIt, meeting, SeatView, guest, held_by, maker_view, pass_view, maker_after, next_pass, grown, left_of_pass}
+use Rattle.lay_board.specs.Rules.{At, pass_of, hold_of, maker_of, guest_of, met_of, calls_of, all_calls, Fits, IsCoreOf, IsKept, IsNoEditor, MeetsPass, MeetsMaker, MeetsGuest, MeetsSeat, TakesIt, TellsIt, GivesIt, LooksIt, ComesIt, LearnsIt, meeting, SeatView, blank, guest_view, held_by, maker_view, pass_view, maker_after, next_pass, grown, left_of_pass}
 use Rattle.lay_board.proofs.Lists.{none_some, some_one, if_some, at_read, same_read, lost_read, here, more_read, calls_set, calls_at, calls_more, kept_read, some_within, begins_all, begins_none, begins_more, by_editor_append}
 
 quiet_draws : (h c : State) (room : ℕ) → IsQuiet h c → h.cells.draws ≤ most_draws room → room ≤ 8192 → c.cells.draws ≤ most_draws room
@@ -54,6 +54,7 @@ took origin id v s k at unlocked core is =
     λ j g t. ⊎_elim (λ u. (u.0, some_one core g u.1)) (λ u. absurd (k.free unlocked j g u.1)) (at_read hold_of s.views id j w g t) in
     let before = same_read pass_of s.views id v w at refl in
     let makers = same_read maker_of s.views id v w at refl in
+    let guests = same_read guest_of s.views id v w at refl in
     record {
       log = k.log;
       lock = 1;
@@ -68,6 +69,7 @@ took origin id v s k at unlocked core is =
       apart = λ i j q r t u same. k.apart i j q r (before i q t) (before j r u) same;
       maker = λ j m t. k.maker j m (makers j m t);
       lone = λ i j m n t u. k.lone i j m n (makers i m t) (makers j n u);
+      guests = λ j o t. k.guests j o (guests j o t);
       met = λ j p t. let m = k.met j p (same_read met_of s.views id v w at refl j p t) in absurd (k.free unlocked j m.1.0 m.1.1);
       unmade = k.unmade;
       some = k.some;
@@ -98,7 +100,7 @@ takes_it origin slots id v s k homes at _ = by_lock (slice_index s.words 1 == 0)
         → (w : View) × (a : Act (Option State)) × Valid s.homes [] a
         × IsKept origin (stepped s 1 (either b 1 (slice_index s.words 1)) id [] w a)
         × MatchBool b
-        ((core : State) × (◌≡◌ {A = SeatView} (w, carried_after [] a) (held_by v core, (0, Some core) ∷ [])) × IfSome v.pass (MeetsPass core) × IfSome v.maker (MeetsMaker core))
+        ((core : State) × (◌≡◌ {A = SeatView} (w, carried_after [] a) (held_by v core, (0, Some core) ∷ [])) × MeetsSeat core v)
         (◌≡◌ {A = SeatView} (w, carried_after [] a) (v, []))
     by_lock true is =
         let unlocked : k.lock ≡ 0 = sym (second_is s.words (length k.log) k.lock k.words) ∙ eqb-true (slice_index s.words 1) 0 is in
@@ -110,8 +112,11 @@ takes_it origin slots id v s k homes at _ = by_lock (slice_index s.words 1 == 0)
           (
             c.0,
             refl,
-            if_some (MeetsPass c.0) v.pass (λ p e. pass_met origin k.made k.room k.log c.0 s.views id v p at e k.few c.2 (k.passes id p (v, at, e))),
-            if_some (MeetsMaker c.0) v.maker (λ m e. maker_met origin k.made k.room k.log c.0 m c.2 (k.maker id m (v, at, e)) k.unmade k.some),
+            record {
+              pass = if_some (MeetsPass c.0) v.pass (λ p e. pass_met origin k.made k.room k.log c.0 s.views id v p at e k.few c.2 (k.passes id p (v, at, e)));
+              maker = if_some (MeetsMaker c.0) v.maker (λ m e. maker_met origin k.made k.room k.log c.0 m c.2 (k.maker id m (v, at, e)) k.unmade k.some);
+              guest = if_some (MeetsGuest c.0) v.guest (λ o e. c.2.origin_is ∙ sym (k.guests id o (v, at, e)));
+            },
           ),
         )
     by_lock false is = (
@@ -132,7 +137,8 @@ gives_it origin id v h c is none quiet s k homes at _ =
     let no_holder : (j : ℕ) (q : State) → At hold_of (set s.views id w) j q → ⊥ =
     λ j q t. let u = lost_read hold_of s.views id w refl j q t in u.0 (k.one j id q h u.1 mine) in
     let before = same_read pass_of s.views id v w at refl in
-    let makers = same_read maker_of s.views id v w at refl in (
+    let makers = same_read maker_of s.views id v w at refl in
+    let guests = same_read guest_of s.views id v w at refl in (
       w,
       gives,
       tt,
@@ -150,6 +156,7 @@ gives_it origin id v h c is none quiet s k homes at _ =
         apart = λ i j q r t u same. k.apart i j q r (before i q t) (before j r u) same;
         maker = λ j m t. k.maker j m (makers j m t);
         lone = λ i j m n t u. k.lone i j m n (makers i m t) (makers j n u);
+        guests = λ j o t. k.guests j o (guests j o t);
         met = λ j p t.
             let u = same_read met_of s.views id v w at refl j p t in
             let m = k.met j p u in
@@ -190,6 +197,7 @@ tells_it origin slots id p h c e some_left adds s k homes at _ =
     let before : (j : ℕ) (q : PassView) → At pass_of (set s.views id w) j q → (r : PassView) × At pass_of s.views j r × (r.number ≡ q.number) =
     λ j q t. ⊎_elim (λ u. (p, subst (λ i. At pass_of s.views i p) (sym u.0) my_pass, ap (λ (z : PassView). z.number) u.1)) (λ u. (q, u.1, refl)) (pass_case j q t) in
     let makers = same_read maker_of s.views id v w at refl in
+    let guests = same_read guest_of s.views id v w at refl in
     let same_own : (n : ℕ) → n ≢ p.number → by_editor n c.history ≡ by_editor n k.log =
     λ n other. ap (by_editor n) log' ∙ by_editor_append n k.log more ∙ ap (λ (l : List Entry). by_editor n k.log ++ l) (adds.others n other) ∙ append-nil (by_editor n k.log) in (
       w,
@@ -224,6 +232,7 @@ tells_it origin slots id p h c e some_left adds s k homes at _ =
         apart = λ i j q r t u z. let a = before i q t in let b = before j r u in k.apart i j a.0 b.0 a.1 b.1 (a.2 ∙ z ∙ sym b.2);
         maker = λ j m t. k.maker j m (makers j m t);
         lone = λ i j m n t u. k.lone i j m n (makers i m t) (makers j n u);
+        guests = λ j o t. k.guests j o (guests j o t);
         met = λ j q t.
             let u = same_read met_of s.views id v w at refl j q t in
             let m = k.met j q u in
@@ -250,6 +259,7 @@ looks_it origin slots id p s k homes at _ =
     λ j q t. ⊎_elim (λ u. (p, (v, ap (get_elem? s.views) u.0 ∙ at, refl), ap (λ (z : PassView). z.number) u.1)) (λ u. (q, u.1, refl)) (pass_case j q t) in
     let holders = same_read hold_of s.views id v w at refl in
     let makers = same_read maker_of s.views id v w at refl in
+    let guests = same_read guest_of s.views id v w at refl in
     let others : (j : ℕ) (q : State) → At hold_of s.views j q → At hold_of (set s.views id w) j q =
     λ j q t. kept_read hold_of s.views id v w at refl j q t in (
       w,
@@ -273,6 +283,7 @@ looks_it origin slots id p s k homes at _ =
         apart = λ i j q r t u e. let a = before i q t in let b = before j r u in k.apart i j a.0 b.0 a.1 b.1 (a.2 ∙ e ∙ sym b.2);
         maker = λ j q t. k.maker j q (makers j q t);
         lone = λ i j a b t u. k.lone i j a b (makers i a t) (makers j b u);
+        guests = λ j o t. k.guests j o (guests j o t);
         met = λ j q t. let m = k.met j q (same_read met_of s.views id v w at refl j q t) in (m.0, (m.1.0, others j m.1.0 m.1.1));
         unmade = k.unmade;
         some = k.some;
@@ -281,16 +292,17 @@ looks_it origin slots id p s k homes at _ =
       ((let a = mine.seen in omega (arith, a, is)), refl),
     )
 
-guest_read : {A : Type 0} (read : View → Option A) (views : List View) → read guest ≡ None → (j : ℕ) (a : A) → At read (views ++ guest ∷ []) j a → At read views j a
-guest_read read views none j a t = ⊎_elim (λ u. u) (λ u. absurd (none_some a (sym none ∙ u.1))) (more_read read views guest j a t)
+others_read : {A : Type 0} (read : View → Option A) (views : List View) (w : View) → read w ≡ None → (j : ℕ) (a : A) → At read (views ++ w ∷ []) j a → At read views j a
+others_read read views w none j a t = ⊎_elim (λ u. u) (λ u. absurd (none_some a (sym none ∙ u.1))) (more_read read views w j a t)
 
 -- a guest comes
-pub comes_it : (origin : Origin) (slots : ℕ) (first : View) → Enters (IsKept origin) slots 0 (λ n w. ComesIt (step slots 0 0 0 opt.none) (first, []) n (w, []))
-comes_it origin slots first s k homes _ =
-    let holders = guest_read hold_of s.views refl in
-    let passers = guest_read pass_of s.views refl in
-    let makers = guest_read maker_of s.views refl in (
-      guest,
+pub comes_it : (origin : Origin) (slots made : ℕ) (calls : List ℕ) → Enters (IsKept origin) slots 0 (λ n w. ComesIt (step slots 0 0 0 opt.none) (maker_view origin made calls, []) n (w, []))
+comes_it origin slots made calls s k homes _ =
+    let w = guest_view origin in
+    let holders = others_read hold_of s.views w refl in
+    let passers = others_read pass_of s.views w refl in
+    let makers = others_read maker_of s.views w refl in (
+      w,
       record {
         log = k.log;
         lock = k.lock;
@@ -305,10 +317,11 @@ comes_it origin slots first s k homes _ =
         apart = λ i j q r t u e. k.apart i j q r (passers i q t) (passers j r u) e;
         maker = λ j q t. k.maker j q (makers j q t);
         lone = λ i j a b t u. k.lone i j a b (makers i a t) (makers j b u);
-        met = λ j q t. let m = k.met j q (guest_read met_of s.views refl j q t) in (m.0, (m.1.0, (m.1.1.0, Rattle.atomic_table.proofs.Lists.at_longer s.views (guest ∷ []) j m.1.1.0 m.1.1.1, m.1.1.2)));
+        guests = λ j o t. ⊎_elim (λ u. k.guests j o u) (λ u. sym (some_one origin o u.1)) (more_read guest_of s.views w j o t);
+        met = λ j q t. let m = k.met j q (others_read met_of s.views w refl j q t) in (m.0, (m.1.0, (m.1.1.0, Rattle.atomic_table.proofs.Lists.at_longer s.views (w ∷ []) j m.1.1.0 m.1.1.1, m.1.1.2)));
         unmade = k.unmade;
         some = k.some;
-        few = let e = calls_more s.views guest in let f = k.few in omega (arith, e, f);
+        few = let e = calls_more s.views w in let f = k.few in omega (arith, e, f);
       },
       refl,
     )
@@ -337,13 +350,13 @@ pub looks_as : (origin : Origin) (slots id : ℕ) (me : SeatView) (p : PassView)
 looks_as origin slots id me p is = subst (λ (m : SeatView). Allows (IsKept origin) slots id m 0 (λ n. n) (LooksIt (step slots 0 0 0 opt.none) m)) (sym is) (looks_it origin slots id p)
 
 pub took_me : (st : Step (Option State)) (me new : SeatView) (v : View) (found : ℕ) → me ≡ (v, []) → TakesIt st me found new
-    → (found ≡ 0 → (core : State) × (new ≡ (held_by v core, (0, Some core) ∷ [])) × IfSome v.pass (MeetsPass core) × IfSome v.maker (MeetsMaker core)) × ((found ≡ 0 → ⊥) → new ≡ (v, []))
+    → (found ≡ 0 → (core : State) × (new ≡ (held_by v core, (0, Some core) ∷ [])) × MeetsSeat core v) × ((found ≡ 0 → ⊥) → new ≡ (v, []))
 took_me st me new v found is t = by (found == 0) refl (subst (λ (m : SeatView). TakesIt st m found new) is t)
   where
     by : (b : Bool) → (found == 0) ≡ b → MatchBool b
-        ((core : State) × (new ≡ (held_by v core, (0, Some core) ∷ [])) × IfSome v.pass (MeetsPass core) × IfSome v.maker (MeetsMaker core))
+        ((core : State) × (new ≡ (held_by v core, (0, Some core) ∷ [])) × MeetsSeat core v)
         (new ≡ (v, []))
-        → (found ≡ 0 → (core : State) × (new ≡ (held_by v core, (0, Some core) ∷ [])) × IfSome v.pass (MeetsPass core) × IfSome v.maker (MeetsMaker core)) × ((found ≡ 0 → ⊥) → new ≡ (v, []))
+        → (found ≡ 0 → (core : State) × (new ≡ (held_by v core, (0, Some core) ∷ [])) × MeetsSeat core v) × ((found ≡ 0 → ⊥) → new ≡ (v, []))
     by true e h = (λ _. h, λ no. absurd (no (eqb-true found 0 e)))
     by false e h = (λ z. absurd (false≢true (sym e ∙ eq-eqb found 0 z)), λ _. h)
 
@@ -383,6 +396,8 @@ makes_it origin id i made n ns s k at =
     λ j q t. ⊎_elim (λ u. inl (same_read pass_of s.views id v v' at refl j q u)) (λ u. inr (u.0, some_one x q u.1)) (more_read pass_of vs (pass_view x) j q t) in
     let maker_case : (j : ℕ) (q : MakerView) → At maker_of (vs ++ pass_view x ∷ []) j q → (j ≡ id) × (m' ≡ q) =
     λ j q t. ⊎_elim (λ u. ⊎_elim (λ h. (h.0, some_one m' q h.1)) (λ (h : (j ≢ id) × At maker_of s.views j q). absurd (h.0 (k.lone j id q m h.1 my_maker))) (at_read maker_of s.views id j v' q u)) (λ u. absurd (none_some q u.1)) (more_read maker_of vs (pass_view x) j q t) in
+    let guests : (j : ℕ) (q : Origin) → At guest_of (vs ++ pass_view x ∷ []) j q → At guest_of s.views j q =
+    λ j q t. ⊎_elim (λ u. same_read guest_of s.views id v v' at refl j q u) (λ u. absurd (none_some q u.1)) (more_read guest_of vs (pass_view x) j q t) in
     let new : (j : ℕ) (q : PassView) → At pass_of s.views j q → q.number ≢ x.number = λ j q t z. let f = (k.passes j q t).number in let e = mine.0 in omega (arith, f, e, z) in
     record {
       log = k.log;
@@ -407,6 +422,7 @@ makes_it origin id i made n ns s k at =
           (pass_case a q t);
       maker = λ j q t. let e = (maker_case j q t).1 in (ap (λ (z : MakerView). z.made) (sym e) ∙ ap (λ z. z + 1) mine.0, ap (λ (z : MakerView). z.origin) (sym e) ∙ mine.1);
       lone = λ a b q r t u. (maker_case a q t).0 ∙ sym (maker_case b r u).0;
+      guests = λ j o t. k.guests j o (guests j o t);
       met = λ j q t.
           ⊎_elim
           (λ u.
@@ -454,6 +470,7 @@ begins origin calls core same empty enough at_most drawn =
       apart = λ i j q r t u _. absurd (none_some q (only pass_of v i q t).1);
       maker = λ j q t. let e = some_one m q (only maker_of v j q t).1 in (ap (λ (z : MakerView). z.made) (sym e), ap (λ (z : MakerView). z.origin) (sym e));
       lone = λ i j a b t u. (only maker_of v i a t).0 ∙ sym (only maker_of v j b u).0;
+      guests = λ j o t. absurd (none_some o (only guest_of v j o t).1);
       met = λ j q t. absurd (none_some q (only met_of v j q t).1);
       unmade = λ n _. refl;
       some = at_most;
@@ -461,19 +478,21 @@ begins origin calls core same empty enough at_most drawn =
     }
 
 -- who has the core meets a pass
-pub meets_it : (origin : Origin) (id : ℕ) (v : View) (h : State) (other : ℕ) (p : PassView) → v.hold ≡ Some h → Joins (IsKept origin) id v other (pass_view p) (meeting v (pass_view p)) guest
+pub meets_it : (origin : Origin) (id : ℕ) (v : View) (h : State) (other : ℕ) (p : PassView) → v.hold ≡ Some h → Joins (IsKept origin) id v other (pass_view p) (meeting v (pass_view p)) blank
 meets_it origin id v h other p is s k at apart there =
     let w = meeting v (pass_view p) in
     let vs : List View = set s.views id w in
     let old : get_elem? s.views other ≡ opt.some (pass_view p) =
     ⊎_elim (λ (t : (other ≡ id) × (w ≡ pass_view p)). absurd (apart t.0)) (λ (t : (other ≢ id) × (get_elem? s.views other ≡ opt.some (pass_view p))). t.1) (at_set s.views id other w (pass_view p) there) in
     let mine : At hold_of s.views id h = (v, at, is) in
-    let holders : (j : ℕ) (q : State) → At hold_of (set vs other guest) j q → At hold_of s.views j q =
-    λ j q t. same_read hold_of s.views id v w at refl j q (lost_read hold_of vs other guest refl j q t).1 in
-    let passers : (j : ℕ) (q : PassView) → At pass_of (set vs other guest) j q → At pass_of s.views j q =
-    λ j q t. same_read pass_of s.views id v w at refl j q (lost_read pass_of vs other guest refl j q t).1 in
-    let makers : (j : ℕ) (q : MakerView) → At maker_of (set vs other guest) j q → At maker_of s.views j q =
-    λ j q t. same_read maker_of s.views id v w at refl j q (lost_read maker_of vs other guest refl j q t).1 in
+    let holders : (j : ℕ) (q : State) → At hold_of (set vs other blank) j q → At hold_of s.views j q =
+    λ j q t. same_read hold_of s.views id v w at refl j q (lost_read hold_of vs other blank refl j q t).1 in
+    let passers : (j : ℕ) (q : PassView) → At pass_of (set vs other blank) j q → At pass_of s.views j q =
+    λ j q t. same_read pass_of s.views id v w at refl j q (lost_read pass_of vs other blank refl j q t).1 in
+    let makers : (j : ℕ) (q : MakerView) → At maker_of (set vs other blank) j q → At maker_of s.views j q =
+    λ j q t. same_read maker_of s.views id v w at refl j q (lost_read maker_of vs other blank refl j q t).1 in
+    let guests : (j : ℕ) (q : Origin) → At guest_of (set vs other blank) j q → At guest_of s.views j q =
+    λ j q t. same_read guest_of s.views id v w at refl j q (lost_read guest_of vs other blank refl j q t).1 in
     record {
       log = k.log;
       lock = k.lock;
@@ -488,21 +507,22 @@ meets_it origin id v h other p is s k at apart there =
       apart = λ i j q r t u same. k.apart i j q r (passers i q t) (passers j r u) same;
       maker = λ j q t. k.maker j q (makers j q t);
       lone = λ i j a b t u. k.lone i j a b (makers i a t) (makers j b u);
+      guests = λ j o t. k.guests j o (guests j o t);
       met = λ j q t.
           ⊎_elim
           (λ u. (subst (Fits origin k.made k.log) (some_one p q u.1) (k.passes other p (pass_view p, old, refl)), (h, stays j u.0)))
           (λ (u : (j ≢ id) × At met_of s.views j q). let g = k.met j q u.1 in absurd (u.0 (k.one j id g.1.0 h g.1.1 mine)))
-          (at_read met_of s.views id j w q (lost_read met_of vs other guest refl j q t).1);
+          (at_read met_of s.views id j w q (lost_read met_of vs other blank refl j q t).1);
       unmade = k.unmade;
       some = k.some;
-      few = let a = calls_set s.views id v w at in let b = calls_set vs other (pass_view p) guest there in let f = k.few in omega (arith, a, b, f);
+      few = let a = calls_set s.views id v w at in let b = calls_set vs other (pass_view p) blank there in let f = k.few in omega (arith, a, b, f);
     }
   where
-    stays : (j : ℕ) → j ≡ id → At hold_of (set (set s.views id (meeting v (pass_view p))) other guest) j h
+    stays : (j : ℕ) → j ≡ id → At hold_of (set (set s.views id (meeting v (pass_view p))) other blank) j h
     stays j same = (
       meeting v (pass_view p),
-      ap (get_elem? (set (set s.views id (meeting v (pass_view p))) other guest)) same
-          ∙ set_else (set s.views id (meeting v (pass_view p))) other id guest (λ z. apart (sym z))
+      ap (get_elem? (set (set s.views id (meeting v (pass_view p))) other blank)) same
+          ∙ set_else (set s.views id (meeting v (pass_view p))) other id blank (λ z. apart (sym z))
           ∙ set_here s.views id (meeting v (pass_view p)) (some_within s.views id v at),
       is,
     )
@@ -514,7 +534,8 @@ learns_it origin slots id v c h is s k homes at _ =
     let mine : At hold_of s.views id h = (v, at, is) in
     let holders = same_read hold_of s.views id v w at refl in
     let passers = same_read pass_of s.views id v w at refl in
-    let makers = same_read maker_of s.views id v w at refl in (
+    let makers = same_read maker_of s.views id v w at refl in
+    let guests = same_read guest_of s.views id v w at refl in (
       w,
       keeps,
       tt,
@@ -532,6 +553,7 @@ learns_it origin slots id v c h is s k homes at _ =
         apart = λ i j q r t u e. k.apart i j q r (passers i q t) (passers j r u) e;
         maker = λ j q t. k.maker j q (makers j q t);
         lone = λ i j a b t u. k.lone i j a b (makers i a t) (makers j b u);
+        guests = λ j o t. k.guests j o (guests j o t);
         met = λ j q t. let u = lost_read met_of s.views id w refl j q t in let g = k.met j q u.1 in absurd (u.0 (k.one j id g.1.0 h g.1.1 mine));
         unmade = k.unmade;
         some = k.some;
@@ -551,8 +573,8 @@ learns_it origin slots id v c h is s k homes at _ =
 pub makes_as : (origin : Origin) (id : ℕ) (i : Origin) (made n : ℕ) (ns : List ℕ) (v : View) → v ≡ maker_view i made (n ∷ ns) → Splits (IsKept origin) id v (maker_after v) (next_pass v)
 makes_as origin id i made n ns v is = subst (λ (x : View). Splits (IsKept origin) id x (maker_after x) (next_pass x)) (sym is) (makes_it origin id i made n ns)
 
-pub meets_as : (origin : Origin) (id other : ℕ) (v w : View) (h : State) (p : PassView) → v.hold ≡ Some h → w ≡ pass_view p → Joins (IsKept origin) id v other w (meeting v w) guest
-meets_as origin id other v w h p is w_is = subst (λ (y : View). Joins (IsKept origin) id v other y (meeting v y) guest) (sym w_is) (meets_it origin id v h other p is)
+pub meets_as : (origin : Origin) (id other : ℕ) (v w : View) (h : State) (p : PassView) → v.hold ≡ Some h → w ≡ pass_view p → Joins (IsKept origin) id v other w (meeting v w) blank
+meets_as origin id other v w h p is w_is = subst (λ (y : View). Joins (IsKept origin) id v other y (meeting v y) blank) (sym w_is) (meets_it origin id v h other p is)
 
 pub learns_as : (origin : Origin) (slots id : ℕ) (me : SeatView) (v : View) (c : List (ℕ × Option State)) (h : State) → me ≡ (v, c) → v.hold ≡ Some h → Allows (IsKept origin) slots id me 0 (λ n. n) (LearnsIt (step slots 0 0 0 opt.none) me)
 learns_as origin slots id me v c h is hold = subst (λ (m : SeatView). Allows (IsKept origin) slots id m 0 (λ n. n) (LearnsIt (step slots 0 0 0 opt.none) m)) (sym is) (learns_it origin slots id v c h hold)

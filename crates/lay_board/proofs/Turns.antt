@@ -3,10 +3,10 @@ use Rattle.std.proofs.Common.{◌≡◌, ℕ, ◌+◌, ◌-◌, ◌<◌, ◌≤�
 use Rattle.lay_doc.specs.declared.history.Entry.{Entry}
 use Rattle.lay_history.specs.Legal.{IsLegal}
 use Rattle.lay_core.specs.State.{State}
-use Rattle.lay_board.specs.Cores.{Adds}
+use Rattle.lay_board.specs.Cores.{Adds, origin_of}
 use Rattle.lay_board.specs.Entries.{Begins, by_editor}
 use Rattle.lay_board.specs.Passes.{Calls, IsCloser, IsPass, IsTurn, known_of, maker_in}
-use Rattle.lay_board.specs.Rules.{MeetsMaker, MeetsPass, SeatView, grown, held_by, pass_view}
+use Rattle.lay_board.specs.Rules.{MeetsGuest, MeetsMaker, MeetsPass, MeetsSeat, SeatView, grown, guest_view, held_by, pass_view}
 use Rattle.lay_board.specs.declared.views.Origin.{Origin}
 use Rattle.lay_board.specs.declared.views.PassView.{PassView}
 use Rattle.lay_board.proofs.Lists.{begins_more, by_editor_append}
@@ -89,3 +89,7 @@ calls_are_left p h me editor index left before turn = let a = turn.meets.left in
 -- what the core says of the maker of passes
 pub maker_meets : (core : State) (me : SeatView) (made : ℕ) → IsCloser me made → IfSome me.0.maker (MeetsMaker core) → MeetsMaker core (maker_in me)
 maker_meets core me made is met = subst (λ o. IfSome o (MeetsMaker core)) (ap (λ (m : SeatView). m.0.maker) is.me_is) met
+
+-- and of a guest
+pub guest_meets : (core : State) (me : SeatView) (origin : Origin) → me ≡ (guest_view origin, []) → MeetsSeat core me.0 → origin_of core ≡ origin
+guest_meets core me origin is met = subst (λ (m : SeatView). IfSome m.0.guest (MeetsGuest core)) is met.guest

@@ -5,10 +5,15 @@ use Rattle.lay_face.specs.FaceValue.{FaceValue}
 use Rattle.lay_doc.specs.declared.history.Entry.{Entry}
 use Rattle.lay_core.specs.State.{State}
 use Rattle.lay_board.specs.Entries.{by_editor}
+use Rattle.lay_board.specs.declared.table.Terms.{Terms}
 use Rattle.lay_board.specs.declared.views.Origin.{Origin}
 
 abbrev pub origin_with : Document → FaceValue → Origin
 origin_with document face = record { document = document; face = face }
+
+-- that of a table that was told these terms
+abbrev pub origin_told : Terms → Origin
+origin_told k = origin_with k.document.value k.face.value
 
 abbrev pub origin_of : State → Origin
 origin_of s = record { document = s.init; face = s.face }

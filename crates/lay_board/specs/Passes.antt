@@ -68,9 +68,10 @@ pub record IsTurn (p : PassView) (core : State) (me : SeatView) (editor index le
   pub few : index + left ≤ 8192
   pub before_is : before ≡ length core.history
 
--- what contracts see of an engine
+-- what contracts see of an engine: its table, and what it was started with
 pub record EngineOf : Type 0 where
   pub table : TableId
+  pub origin : Origin
 
 -- and of who closes it: what it was started with, and how many passes were made
 pub record CloserOf : Type 0 where

@@ -19,6 +19,9 @@ At read views j a = (v : View) × (get_elem? views j ≡ opt.some v) × (read v 
 abbrev pub pass_of : View → Option PassView
 pass_of v = v.pass
 
+abbrev pub guest_of : View → Option Origin
+guest_of v = v.guest
+
 abbrev pub hold_of : View → Option State
 hold_of v = v.hold
 
@@ -79,6 +82,7 @@ pub record IsKept (origin : Origin) (s : Table (Option State) View) : Type 0 whe
   pub apart : (j k : ℕ) (p q : PassView) → At pass_of s.views j p → At pass_of s.views k q → p.number ≡ q.number → j ≡ k
   pub maker : (j : ℕ) (m : MakerView) → At maker_of s.views j m → (m.made ≡ made) × (m.origin ≡ origin)
   pub lone : (j k : ℕ) (m n : MakerView) → At maker_of s.views j m → At maker_of s.views k n → j ≡ k
+  pub guests : (j : ℕ) (o : Origin) → At guest_of s.views j o → o ≡ origin
   pub met : (j : ℕ) (p : PassView) → At met_of s.views j p → Fits origin made log p × ((h : State) × At hold_of s.views j h)
   pub unmade : (n : ℕ) → IsNoEditor made n → by_editor n log ≡ []
   pub few : all_calls s.views ≤ room
@@ -87,14 +91,24 @@ pub record IsKept (origin : Origin) (s : Table (Option State) View) : Type 0 whe
 abbrev pub SeatView : Type 0
 SeatView = Me (Option State) View
 
-abbrev pub guest : View
-guest = record { maker = None; pass = None; hold = None; met = None }
+-- that of a seat that knows nothing
+abbrev pub blank : View
+blank = record { maker = None; pass = None; guest = None; hold = None; met = None }
+
+abbrev pub guest_view : Origin → View
+guest_view origin = record { maker = None; pass = None; guest = Some origin; hold = None; met = None }
 
 abbrev pub maker_view : Origin → ℕ → List ℕ → View
-maker_view origin made calls = record { maker = Some record { origin = origin; made = made; calls = calls }; pass = None; hold = None; met = None }
+maker_view origin made calls = record {
+  maker = Some record { origin = origin; made = made; calls = calls };
+  pass = None;
+  guest = None;
+  hold = None;
+  met = None;
+}
 
 abbrev pub pass_view : PassView → View
-pass_view p = record { maker = None; pass = Some p; hold = None; met = None }
+pass_view p = record { maker = None; pass = Some p; guest = None; hold = None; met = None }
 
 abbrev pub held_by : View → State → View
 held_by v core = record v { hold = Some core }
@@ -113,11 +127,21 @@ pub record MeetsMaker (core : State) (m : MakerView) : Type 0 where
   pub draws : core.cells.draws ≤ 2 ^ 63 + 2 ^ 50
   pub unmade : (n : ℕ) → IsNoEditor m.made n → by_editor n core.history ≡ []
 
+-- what it says of a guest
+abbrev pub MeetsGuest : State → Origin → Type 0
+MeetsGuest core origin = origin_of core ≡ origin
+
+-- what it says of who takes it
+pub record MeetsSeat (core : State) (v : View) : Type 0 where
+  pub pass : IfSome v.pass (MeetsPass core)
+  pub maker : IfSome v.maker (MeetsMaker core)
+  pub guest : IfSome v.guest (MeetsGuest core)
+
 -- a seat that has no core takes it, or the core is out
 abbrev pub TakesIt : Step (Option State) → SeatView → ℕ → SeatView → Type 0
 TakesIt s me found new =
     MatchBool (found == 0)
-    ((core : State) × (new ≡ (record (me.0) { hold = Some core }, (0, Some core) ∷ [])) × IfSome me.0.pass (MeetsPass core) × IfSome me.0.maker (MeetsMaker core))
+    ((core : State) × (new ≡ (record (me.0) { hold = Some core }, (0, Some core) ∷ [])) × MeetsSeat core me.0)
     (new ≡ me)
 
 -- the core that is out with the seat, or else what it knew of it
@@ -153,8 +177,9 @@ looked found (Some p) = Some (record p { seen = found })
 abbrev pub LooksIt : Step (Option State) → SeatView → ℕ → SeatView → Type 0
 LooksIt s me found new = IfSome me.0.pass (λ p. p.seen ≤ found) × (new ≡ (record (me.0) { pass = looked found me.0.pass }, me.1))
 
+-- A guest comes. It is told what the maker of passes was told at first.
 abbrev pub ComesIt : Step (Option State) → SeatView → ℕ → SeatView → Type 0
-ComesIt s me found new = new ≡ (guest, [])
+ComesIt s me found new = IfSome me.0.maker (λ m. new ≡ (guest_view m.origin, []))
 
 abbrev pub after_make : Option MakerView → Option MakerView
 after_make None = None
@@ -176,11 +201,13 @@ abbrev pub maker_after : View → View
 maker_after v = record v { maker = after_make v.maker }
 
 abbrev pub next_pass : View → View
-next_pass v = record { maker = None; pass = made_pass v.maker; hold = None; met = None }
+next_pass v = record { maker = None; pass = made_pass v.maker; guest = None; hold = None; met = None }
 
 -- who has the core meets a pass
 abbrev pub meeting : View → View → View
 meeting v w = record v { met = w.pass }
 
 abbrev pub LearnsIt : Step (Option State) → SeatView → ℕ → SeatView → Type 0
-LearnsIt s me found new = (new ≡ (record (me.0) { met = None }, me.1)) × IfSome me.0.hold (λ h. IfSome me.0.met (λ p. Begins p.known h.history × (p.own ≡ by_editor p.number h.history)))
+LearnsIt s me found new =
+    (new ≡ (record (me.0) { met = None }, me.1))
+    × IfSome me.0.hold (λ h. IfSome me.0.met (λ p. Begins p.known h.history × (p.own ≡ by_editor p.number h.history)))

@@ -26,7 +26,8 @@ impl Engine {
         ensures known { IfOk result (λ c. All (IsKnownIn c.history) passes.items.items) }
         ensures others { IfOk result (λ c. (n : ℕ) → IsNoEditor passes.closer.made n → by_editor n c.history ≡ []) }
         ensures draws { IfOk result (λ c. c.cells.draws ≤ 2 ^ 63 + 2 ^ 50) }
-        ensures err { IfErr result (λ r. (length passes.items.items < passes.closer.made) × (r.0 ≡ self) × (r.1.closer ≡ passes.closer) × (r.1.items.items ≡ passes.items.items)) }
+        ensures err { IfErr result (λ r. (length passes.items.items < passes.closer.made)
+            × (r.0 ≡ self) × (r.1.closer ≡ passes.closer) × (r.1.items.items ≡ passes.items.items)) }
         ensures ok { OnOk result (passes.closer.made ≤ length passes.items.items) }
     {
         if passes.items.len() < passes.closer.made as usize {

@@ -8,6 +8,8 @@ use crate::pass::Pass;
 use crate::table::{Looks, Shelf};
 use crate::turn::{begun, ended};
 use lay_doc::{Edit, Reply};
+use lay_outside::Gate;
+use std::alloc::Global;
 use std::marker::Model;
 use std::sync::{Mutex, Wait};
 
@@ -20,11 +22,12 @@ pub struct Engine {
 
 impl Model for Engine {
     ghost use Rattle.std.specs.Prelude.{◌≡◌};
+    ghost use Rattle.lay_board.specs.Cores.{origin_told};
     ghost use Rattle.lay_board.specs.Passes.{EngineOf};
 
     ghost Value = { EngineOf };
 
-    ghost view = { λ e. record { table = e.table.shared.table_id } };
+    ghost view = { λ e. record { table = e.table.shared.table_id; origin = origin_told e.table.shared.key } };
 
     ghost invariant = { λ e. (e.table.shared.table_id.words ≡ 2) × (e.table.shared.table_id.slots ≡ 1) };
 }
@@ -46,12 +49,20 @@ impl Engine {
     }
 
     /// A call that asks for the version that was published last, in one turn of the lock. The reply is Shown with it, or NoMemory.
-    pub fn latest<R: Wait>(&self, rt: &R, pass: Pass) -> (Reply, Pass)
+    /// Where nothing is published yet it helps before its turn, as `sync` does.
+    pub fn latest<R: Wait, G: Gate>(
+        &self,
+        rt: &R,
+        alloc: Global,
+        pass: Pass,
+        gate: &G,
+    ) -> (Reply, Pass)
         requires of { pass.table ≡ self.now.table }
         requires left { 0 < pass.knows.left }
         ensures of { result.1.table ≡ pass.table }
         ensures call { Calls pass.knows result.1.knows (entry.Latest pass.knows.number (length pass.knows.own) result.0) }
     {
+        self.help_at_first(rt, alloc, gate);
         let _turn = self.gate.lock(rt);
         let (mut core, turn) = begun(rt, &self.table, pass);
         let reply = core.latest(turn.editor, turn.index);
@@ -60,13 +71,21 @@ impl Engine {
     }
 
     /// A call that asks for the version with all edits that were accepted so far, in one turn of the lock. The reply is Shown with it, or
-    /// NoMemory.
-    pub fn sync<R: Wait>(&self, rt: &R, pass: Pass) -> (Reply, Pass)
+    /// NoMemory. Before its turn it helps: it lays out cells in batches, outside the lock, and tells the gate of the start and the end of
+    /// each.
+    pub fn sync<R: Wait, G: Gate>(
+        &self,
+        rt: &R,
+        alloc: Global,
+        pass: Pass,
+        gate: &G,
+    ) -> (Reply, Pass)
         requires of { pass.table ≡ self.now.table }
         requires left { 0 < pass.knows.left }
         ensures of { result.1.table ≡ pass.table }
         ensures call { Calls pass.knows result.1.knows (entry.Sync pass.knows.number (length pass.knows.own) result.0) }
     {
+        self.help(rt, alloc, gate);
         let _turn = self.gate.lock(rt);
         let (mut core, turn) = begun(rt, &self.table, pass);
         let reply = core.sync(turn.editor, turn.index);

@@ -1,6 +1,6 @@
 //! Passes of editors.
 
-ghost use Rattle.std.specs.Prelude.{◌≡◌};
+ghost use Rattle.std.specs.Prelude.{◌≡◌, length};
 
 use crate::table::CoreSeat;
 use std::marker::Model;
@@ -32,6 +32,13 @@ impl Pass {
         ensures { result ≡ self.now.knows.number }
     {
         self.editor
+    }
+
+    /// The index of its next call, from 0.
+    pub fn index(&self) -> u32
+        ensures { result ≡ length self.now.knows.own }
+    {
+        self.index
     }
 
     /// How many calls are left to it.

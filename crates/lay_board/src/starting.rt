@@ -1,7 +1,7 @@
 //! How an engine is started, with a pass for each editor.
 
 ghost use Rattle.std.specs.Prelude.{◌≡◌, ℕ, ◌+◌, ◌^◌, ◌≤◌, List, [], ◌∷◌, length, sum, vec_capacity, IfOk};
-ghost use Rattle.lay_board.specs.Cores.{origin_of, origin_with};
+ghost use Rattle.lay_board.specs.Cores.{origin_of, origin_told, origin_with};
 ghost use Rattle.lay_board.specs.Passes.{AreNew, new_pass};
 ghost use Rattle.lay_board.specs.Rules.{maker_view};
 ghost use Rattle.lay_board.specs.declared.views.Origin.{Origin as AnOrigin};
@@ -55,7 +55,9 @@ impl Engine {
         requires all { all ≡ sum calls.items }
         requires editors { length calls.items ≤ 16 }
         requires few { sum calls.items ≤ 8192 }
-        ensures closer { IfOk result (λ r. r.1.closer ≡ record { table = r.0.table; origin = origin_with doc face.value; made = length calls.items }) }
+        ensures engine { IfOk result (λ r. r.0.origin ≡ origin_with doc face.value) }
+        ensures closer { IfOk result (λ r. r.1.closer
+            ≡ record { table = r.0.table; origin = origin_with doc face.value; made = length calls.items }) }
         ensures passes { IfOk result (λ r. AreNew r.0.table (origin_with doc face.value) calls.items r.1.items.items) }
     {
         let made = calls.len();
@@ -91,13 +93,15 @@ fn terms(doc: &Doc, face: &Face, calls: &Vec<u32>) -> Terms
 
 /// A table with a new core, and the seat that makes passes.
 fn shelf(alloc: Global, core: Core, terms: &Terms) -> Result<(Shelf, CoreSeat), NoMemory>
-    requires origin { origin_of core ≡ origin_with terms.now.document.value terms.now.face.value }
+    requires origin { origin_of core ≡ origin_told terms.now }
     requires new { core.history ≡ [] }
     requires calls { sum terms.now.calls.value.items ≤ core.calls_left }
     requires few { core.calls_left ≤ 8192 }
     requires draws { core.cells.draws ≤ 2 ^ 63 }
-    ensures counts { IfOk result (λ r. (r.0.shared.table_id.words ≡ 2) × (r.0.shared.table_id.slots ≡ 1) × (r.1.table_id ≡ r.0.shared.table_id)) }
-    ensures maker { IfOk result (λ r. r.1.me ≡ (maker_view (origin_with terms.now.document.value terms.now.face.value) 0 terms.now.calls.value.items, [])) }
+    ensures told { IfOk result (λ r. r.0.shared.key ≡ terms.now) }
+    ensures counts { IfOk result (λ r. (r.0.shared.table_id.words ≡ 2) × (r.0.shared.table_id.slots ≡ 1)
+        × (r.1.table_id ≡ r.0.shared.table_id)) }
+    ensures maker { IfOk result (λ r. r.1.me ≡ (maker_view (origin_told terms.now) 0 terms.now.calls.value.items, [])) }
 {
     let mut slots = Vec::with_capacity(alloc, 1)?;
     slots.push_reserved(Some(core));
@@ -120,8 +124,10 @@ fn make_all(
     requires few { sum calls.items ≤ 8192 }
     requires room { (passes.items ≡ []) × (length calls.items ≤ vec_capacity passes) }
     ensures table { result.0.table_id ≡ maker.table_id }
-    ensures maker { (i : AnOrigin) → maker.me ≡ (maker_view i 0 calls.items, []) → result.0.me ≡ (maker_view i (length calls.items) [], []) }
-    ensures passes { (i : AnOrigin) → maker.me ≡ (maker_view i 0 calls.items, []) → AreNew table.now.shared.table_id i calls.items result.1.items }
+    ensures maker { (i : AnOrigin) → maker.me ≡ (maker_view i 0 calls.items, [])
+        → result.0.me ≡ (maker_view i (length calls.items) [], []) }
+    ensures passes { (i : AnOrigin) → maker.me ≡ (maker_view i 0 calls.items, [])
+        → AreNew table.now.shared.table_id i calls.items result.1.items }
 {
     for left in calls {
         let number = passes.len() as u32 + 1;
@@ -133,11 +139,14 @@ fn make_all(
 /// The next pass.
 fn next_pass(table: &Shelf, maker: &mut CoreSeat, number: u32, left: u32) -> Pass
     requires table { (maker.old.table_id ≡ table.now.shared.table_id) × (table.now.shared.table_id.words ≡ 2) }
-    requires maker { (i : AnOrigin) × (made : ℕ) × (rest : List ℕ) × (maker.old.me ≡ (maker_view i made (left ∷ rest), [])) × (number ≡ made + 1) }
+    requires maker { (i : AnOrigin) × (made : ℕ) × (rest : List ℕ)
+        × (maker.old.me ≡ (maker_view i made (left ∷ rest), [])) × (number ≡ made + 1) }
     requires few { left ≤ 8192 }
     ensures table { maker.new.table_id ≡ maker.old.table_id }
-    ensures maker { (i : AnOrigin) (made : ℕ) (rest : List ℕ) → maker.old.me ≡ (maker_view i made (left ∷ rest), []) → maker.new.me ≡ (maker_view i (made + 1) rest, []) }
-    ensures pass { (i : AnOrigin) (made : ℕ) (rest : List ℕ) → maker.old.me ≡ (maker_view i made (left ∷ rest), []) → result ≡ record { table = table.now.shared.table_id; knows = new_pass i (made + 1) left } }
+    ensures maker { (i : AnOrigin) (made : ℕ) (rest : List ℕ) → maker.old.me ≡ (maker_view i made (left ∷ rest), [])
+        → maker.new.me ≡ (maker_view i (made + 1) rest, []) }
+    ensures pass { (i : AnOrigin) (made : ℕ) (rest : List ℕ) → maker.old.me ≡ (maker_view i made (left ∷ rest), [])
+        → result ≡ record { table = table.now.shared.table_id; knows = new_pass i (made + 1) left } }
 {
     let seat = table.shared.split_seat::<Makes>(maker);
     Pass {

@@ -20,12 +20,12 @@ pub struct Terms {
 pub struct InOneOrder;
 
 impl TableRule<Option<Core>, View, Terms> for InOneOrder {
-    ghost use Rattle.lay_board.specs.Cores.{origin_with};
+    ghost use Rattle.lay_board.specs.Cores.{origin_told};
     ghost use Rattle.lay_board.specs.Rules.{IsKept, maker_view};
 
-    ghost holds = { λ k s. IsKept (origin_with k.document.value k.face.value) s };
+    ghost holds = { λ k s. IsKept (origin_told k) s };
 
-    ghost first = { λ k. maker_view (origin_with k.document.value k.face.value) 0 k.calls.value.items };
+    ghost first = { λ k. maker_view (origin_told k) 0 k.calls.value.items };
 }
 
 pub type Shelf = Table<Option<Core>, View, Terms, InOneOrder, Global>;
@@ -92,11 +92,11 @@ impl Split<View> for Makes {
 pub struct Meets;
 
 impl Join<View> for Meets {
-    ghost use Rattle.lay_board.specs.Rules.{guest, meeting};
+    ghost use Rattle.lay_board.specs.Rules.{blank, meeting};
 
     ghost both = { meeting };
 
-    ghost spent = { guest };
+    ghost spent = { blank };
 }
 
 /// Who has the core is told of the pass that it met.

@@ -1,9 +1,10 @@
 //! One turn with the core.
 
-ghost use Rattle.std.specs.Prelude.{◌≡◌, ◌<◌, ◌≤◌, List, [], ◌∷◌, length, Some, None, IfSome};
-ghost use Rattle.lay_board.specs.Cores.{Adds, IsQuiet};
+ghost use Rattle.std.specs.Prelude.{◌≡◌, ◌<◌, ◌≤◌, List, [], ◌∷◌, length, Some, None};
+ghost use Rattle.lay_board.specs.Batches.{IsCoreFrom};
+ghost use Rattle.lay_board.specs.Cores.{Adds, IsQuiet, origin_told};
 ghost use Rattle.lay_board.specs.Passes.{Calls, IsTurn, known_of};
-ghost use Rattle.lay_board.specs.Rules.{MeetsMaker, MeetsPass, grown, guest, held_by, pass_view};
+ghost use Rattle.lay_board.specs.Rules.{MeetsSeat, grown, guest_view, held_by, pass_view};
 ghost use Rattle.lay_board.specs.declared.views.PassView.{PassView as APass};
 ghost use Rattle.lay_board.specs.declared.views.View.{View as AView};
 ghost use Rattle.lay_core.specs.State.{State};
@@ -53,10 +54,13 @@ pub(crate) fn begun<R: Wait>(rt: &R, table: &Shelf, pass: Pass) -> (Core, Turn)
 
 /// The pass after its call, which added entries to the history of the core. The core goes home.
 pub(crate) fn ended(table: &Shelf, turn: Turn, core: Core) -> Pass
-    requires table { (turn.seat.table_id ≡ table.now.shared.table_id) × (table.now.shared.table_id.words ≡ 2) × (table.now.shared.table_id.slots ≡ 1) }
-    requires call { (p : APass) × (h : State) × (e : Entry) × IsTurn p h turn.seat.me turn.editor turn.index turn.left turn.before × Adds p.number h e core }
+    requires table { (turn.seat.table_id ≡ table.now.shared.table_id) × (table.now.shared.table_id.words ≡ 2)
+        × (table.now.shared.table_id.slots ≡ 1) }
+    requires call { (p : APass) × (h : State) × (e : Entry)
+        × IsTurn p h turn.seat.me turn.editor turn.index turn.left turn.before × Adds p.number h e core }
     ensures table { result.table ≡ turn.seat.table_id }
-    ensures call { (p : APass) (h : State) (e : Entry) → IsTurn p h turn.seat.me turn.editor turn.index turn.left turn.before → Adds p.number h e core
+    ensures call { (p : APass) (h : State) (e : Entry)
+        → IsTurn p h turn.seat.me turn.editor turn.index turn.left turn.before → Adds p.number h e core
         → Calls p result.knows e }
 {
     let Turn {
@@ -83,8 +87,7 @@ pub(crate) fn take_core<R: Wait>(rt: &R, table: &Shelf, mut seat: CoreSeat) -> (
     requires empty { seat.me ≡ (seat.me.0, []) }
     ensures table { result.1.table_id ≡ seat.table_id }
     ensures held { result.1.me ≡ (record (seat.me.0) { hold = Some result.0 }, (0, None) ∷ []) }
-    ensures pass { IfSome seat.me.0.pass (MeetsPass result.0) }
-    ensures maker { IfSome seat.me.0.maker (MeetsMaker result.0) }
+    ensures met { MeetsSeat result.0 seat.me.0 }
 {
     for _ in rt.forever() {
         let found = table.shared.compare_exchange::<Takes>(&mut seat, 1, 0, 1);
@@ -101,7 +104,8 @@ fn carry(table: &Shelf, mut seat: CoreSeat) -> (Core, CoreSeat)
     requires table { seat.table_id ≡ table.now.shared.table_id }
     requires out { (v : AView) × (core : State) × (seat.me ≡ (v, (0, Some core) ∷ [])) }
     ensures table { result.1.table_id ≡ seat.table_id }
-    ensures held { (v : AView) (core : State) → seat.me ≡ (v, (0, Some core) ∷ []) → (result.0 ≡ core) × (result.1.me ≡ (v, (0, None) ∷ [])) }
+    ensures held { (v : AView) (core : State) → seat.me ≡ (v, (0, Some core) ∷ [])
+        → (result.0 ≡ core) × (result.1.me ≡ (v, (0, None) ∷ [])) }
 {
     let Some(core) = table.shared.exchange(&mut seat, 0, None) else {
         unreachable!()
@@ -111,8 +115,10 @@ fn carry(table: &Shelf, mut seat: CoreSeat) -> (Core, CoreSeat)
 
 /// All are told of the history, in which the pass has made a call, and the core goes home.
 fn tell_core(table: &Shelf, mut seat: CoreSeat, before: u64, core: Core) -> CoreSeat
-    requires table { (seat.table_id ≡ table.now.shared.table_id) × (table.now.shared.table_id.words ≡ 2) × (table.now.shared.table_id.slots ≡ 1) }
-    requires out { (p : APass) × (h : State) × (e : Entry) × (seat.me ≡ (held_by (pass_view p) h, (0, None) ∷ [])) × (0 < p.left) × Adds p.number h e core × (before ≡ length h.history) }
+    requires table { (seat.table_id ≡ table.now.shared.table_id) × (table.now.shared.table_id.words ≡ 2)
+        × (table.now.shared.table_id.slots ≡ 1) }
+    requires out { (p : APass) × (h : State) × (e : Entry) × (seat.me ≡ (held_by (pass_view p) h, (0, None) ∷ []))
+        × (0 < p.left) × Adds p.number h e core × (before ≡ length h.history) }
     ensures table { result.table_id ≡ seat.table_id }
     ensures pass { result.me ≡ (pass_view (grown core (known_of seat.me)), []) }
 {
@@ -125,19 +131,23 @@ fn tell_core(table: &Shelf, mut seat: CoreSeat, before: u64, core: Core) -> Core
     seat
 }
 
-/// A guest takes the core.
+/// A guest takes the core, which was started with what the table was told.
 pub(crate) fn visit<R: Wait>(rt: &R, table: &Shelf) -> (Core, CoreSeat)
     requires table { (table.now.shared.table_id.words ≡ 2) × (table.now.shared.table_id.slots ≡ 1) }
     ensures table { result.1.table_id ≡ table.now.shared.table_id }
-    ensures held { result.1.me ≡ (held_by guest result.0, (0, None) ∷ []) }
+    ensures held { result.1.me ≡ (held_by (guest_view (origin_told table.now.shared.key)) result.0, (0, None) ∷ []) }
+    ensures core { IsCoreFrom (origin_told table.now.shared.key) result.0 }
 {
     let (_, seat) = table.shared.load_new_seat::<Comes>(0);
-    take_core(rt, table, seat)
+    let (core, seat) = take_core(rt, table, seat);
+    let _ = core.history();
+    (core, seat)
 }
 
 /// The core goes home, with the same history.
 pub(crate) fn give_core(table: &Shelf, mut seat: CoreSeat, core: Core) -> CoreSeat
-    requires table { (seat.table_id ≡ table.now.shared.table_id) × (table.now.shared.table_id.words ≡ 2) × (table.now.shared.table_id.slots ≡ 1) }
+    requires table { (seat.table_id ≡ table.now.shared.table_id) × (table.now.shared.table_id.words ≡ 2)
+        × (table.now.shared.table_id.slots ≡ 1) }
     requires out { (v : AView) × (h : State) × (seat.me ≡ (v, (0, None) ∷ [])) × (v.hold ≡ Some h) × (v.met ≡ None) × IsQuiet h core }
     ensures table { result.table_id ≡ seat.table_id }
     ensures empty { result.me ≡ (record (seat.me.0) { hold = None }, []) }

@@ -29,11 +29,12 @@ pub struct MakerView {
     pub calls: LinkedList<u32>,
 }
 
-/// What a seat knows: as a maker, as a pass, of the core that it has, as it was when all were told of it, and of a pass that it
-/// met. A seat that knows nothing is a guest's.
+/// What a seat knows: as a maker, as a pass, as a guest, who is told what the engine was started with, of the core that it has, as it was
+/// when all were told of it, and of a pass that it met.
 pub struct View {
     pub maker: Option<MakerView>,
     pub pass: Option<PassView>,
+    pub guest: Option<Origin>,
     pub hold: Option<Core>,
     pub met: Option<PassView>,
 }

@@ -1,5 +1,5 @@
 use Rattle.std.proofs.Common.{◌≡◌, ap, arith, ◌∙◌, [], length}
-use Rattle.lay_board.specs.Cores.{origin_with}
+use Rattle.lay_board.specs.Cores.{origin_told, origin_with}
 use Rattle.lay_board.specs.Rules.{SeatView, maker_view}
 use Rattle.lay_board.specs.Passes.{maker_in}
 use Rattle.lay_board.proofs.Makings.{is_maker}
@@ -29,3 +29,8 @@ returns-clause-closer c =
     let origin = ap (λ (z : SeatView). (maker_in z).origin) last in
     let made : c.len-made.result ≡ length c.args.calls.items = let l = c.len-made.ensures in let ok = c.args.calls.ok in omega (arith, l, ok) in
     λ i. record { table = table i; origin = origin i; made = made i }
+
+pub returns-clause-engine : goal.returns-clause-engine
+returns-clause-engine c =
+    let s = c.terms-told.ensures in
+    ap origin_told c.in_ok-table.ensures.told ∙ (λ i. origin_with (s.document i) ((s.face ∙ c.deref.ensures) i))
