@@ -2,14 +2,14 @@ use Rattle.lay_core.proofs.Shown.{whole_of}
 use Rattle.lay_drive.proofs.JobsRun.{calls_left, ended_answers, ended_tables, made_is, refreshed_answers, started, tables_of}
 use Rattle.lay_drive.proofs.run.drive.Goals as goal
 
-pub edit_all-requires-clause-of : goal.edit_all-requires-clause-of
-edit_all-requires-clause-of g c κs within =
+pub run_all-requires-clause-of : goal.run_all-requires-clause-of
+run_all-requires-clause-of g c κs within =
     tables_of _ _ c.args.run.scripts _
     (started _ _ c.args.run.scripts _ _ _ _ _ c.into_parts-doc.ensures.scripts c.as_slice.ensures.value (c.in_ok-counts.ensures {u = tt}) c.in_ok-engine.ensures.passes
     c.in_ok-jobs.ensures.passes c.in_ok-jobs.ensures.scripts)
 
-pub edit_all-requires-clause-left : goal.edit_all-requires-clause-left
-edit_all-requires-clause-left g c κs within =
+pub run_all-requires-clause-left : goal.run_all-requires-clause-left
+run_all-requires-clause-left g c κs within =
     calls_left _ _ c.args.run.scripts _
     (started _ _ c.args.run.scripts _ _ _ _ _ c.into_parts-doc.ensures.scripts c.as_slice.ensures.value (c.in_ok-counts.ensures {u = tt}) c.in_ok-engine.ensures.passes
     c.in_ok-jobs.ensures.passes c.in_ok-jobs.ensures.scripts)
