@@ -1,0 +1,144 @@
+//! The calls on a core:
+//!
+//!     hold POINT until POINT, ..     the gate of what is computed then: it holds whoever is at a point until others were reached
+//!     met                            whether that gate let a thread go since they were
+//!     claim LIMIT                    the claims that are handed out, or why there is none (`shown.rt`)
+//!     compute WORKERS                what comes of these claims, in order
+//!     finish                         how many of these outcomes were answered which way
+//!     lay LIMIT WORKERS              these three in turn, until no claim is handed out, and why that is
+//!     laid, draws
+//!     as-scratch                     whether the tree that is published now is that of a layout from nothing
+
+use crate::batches::{Batch, computed, lay, number};
+use crate::gates::{CaseGate, gate};
+use crate::shown;
+use lay_claims::ClaimList;
+use lay_context::scratch;
+use lay_core::{Core, Publish};
+use lay_frag::text_of;
+use lay_units::NoMemory;
+use std::alloc::Global;
+use std::mem::replace;
+use std::thread::Threads;
+
+/// The core of a case.
+#[derive(Drop)]
+pub(crate) struct OneCore {
+    core: Core,
+    gate: CaseGate,
+    batch: Batch,
+}
+
+impl OneCore {
+    pub(crate) fn new(core: Core) -> OneCore {
+        OneCore {
+            core,
+            gate: CaseGate::Open,
+            batch: Batch::None,
+        }
+    }
+
+    /// The answer to a call; None where the line is none.
+    pub(crate) fn answer<R: Threads + Sync>(
+        &mut self,
+        rt: &R,
+        alloc: Global,
+        line: &str,
+    ) -> Result<Option<String>, NoMemory> {
+        let (call, rest) = line.split_once(' ').unwrap_or((line, ""));
+        match call {
+            "hold" => self.hold(alloc, rest),
+            "met" => self.met(alloc),
+            "claim" => self.claim(alloc, rest),
+            "compute" => self.compute(rt, alloc, rest),
+            "finish" => self.finish(alloc),
+            "lay" => lay(rt, alloc, &mut self.core, rest),
+            "laid" => Ok(Some(format!(in alloc; "{}", self.core.laid())?)),
+            "draws" => Ok(Some(format!(in alloc; "{}", self.core.draws())?)),
+            "as-scratch" => self.as_scratch(alloc),
+            _ => Ok(None),
+        }
+    }
+
+    fn hold(&mut self, alloc: Global, rest: &str) -> Result<Option<String>, NoMemory> {
+        match gate(alloc, rest)? {
+            Some(gate) => {
+                self.gate = gate;
+                Ok(Some(String::from_str(alloc, "done")?))
+            }
+            None => Ok(None),
+        }
+    }
+
+    fn met(&self, alloc: Global) -> Result<Option<String>, NoMemory> {
+        match &self.gate {
+            CaseGate::Open => Ok(None),
+            CaseGate::Meet(gate) => Ok(Some(format!(in alloc; "{}", gate.met())?)),
+        }
+    }
+
+    fn claim(&mut self, alloc: Global, rest: &str) -> Result<Option<String>, NoMemory> {
+        let Some(limit) = number(rest, 64) else {
+            return Ok(None);
+        };
+        let mut list = ClaimList::with_room(alloc, limit)?;
+        if let Some(idle) = self.core.claim_some(limit, &mut list)? {
+            return Ok(Some(shown::idle(alloc, &idle)?));
+        }
+        let answer = shown::claims(alloc, list.as_slice())?;
+        self.batch = Batch::Claims(list);
+        Ok(Some(answer))
+    }
+
+    fn compute<R: Threads + Sync>(
+        &mut self,
+        rt: &R,
+        alloc: Global,
+        rest: &str,
+    ) -> Result<Option<String>, NoMemory> {
+        let Some(workers) = number(rest, 16) else {
+            return Ok(None);
+        };
+        match replace(&mut self.batch, Batch::None) {
+            Batch::Claims(claims) => {
+                let outcomes = computed(rt, alloc, claims, workers, &self.gate)?;
+                let answer = shown::outcomes(alloc, outcomes.as_slice())?;
+                self.batch = Batch::Outcomes(outcomes);
+                Ok(Some(answer))
+            }
+            _ => Ok(None),
+        }
+    }
+
+    fn finish(&mut self, alloc: Global) -> Result<Option<String>, NoMemory> {
+        match replace(&mut self.batch, Batch::None) {
+            Batch::Outcomes(outcomes) => {
+                let tally = self.core.finish_all(outcomes);
+                Ok(Some(shown::tally(alloc, &tally)?))
+            }
+            _ => Ok(None),
+        }
+    }
+
+    fn as_scratch(&mut self, alloc: Global) -> Result<Option<String>, NoMemory> {
+        match self.core.publish() {
+            Publish::Published(version) => is_as_scratch(alloc, &self.core, version),
+            Publish::Unsettled(_) => Ok(Some(String::from_str(alloc, "unsettled")?)),
+            Publish::NoMemory => Err(NoMemory),
+        }
+    }
+}
+
+fn is_as_scratch(alloc: Global, core: &Core, version: u64) -> Result<Option<String>, NoMemory> {
+    let Some(tree) = core.tree(version) else {
+        return Ok(None);
+    };
+    let kept = text_of(alloc, tree)?;
+    let anew = text_of(alloc, &scratch(alloc, core.doc(), core.face())?)?;
+    let answer = if kept.as_str() == anew.as_str() {
+        "same"
+    } else {
+        "other"
+    };
+    Ok(Some(String::from_str(alloc, answer)?))
+}

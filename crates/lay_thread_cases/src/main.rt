@@ -1,0 +1,87 @@
+//! Lays documents out by batches of claims on several threads, and prints for each case whether its answers were those that its file has:
+//! `lay_thread_cases FOLDER` goes through the folder's files, by their names.
+//!
+//! `NAME.json` is a run document, whose editors are taken as none. `NAME.batches` beside it has cases, each over a core of that document:
+//! a line `case NAME`, and calls that are made in turn, each a line `CALL -> ANSWER`, or `CALL` where the answer is `done`. Lines that
+//! begin with `#` are remarks. Which calls there are is said in `calls.rt`.
+#![tactic(auto)]
+
+mod batches;
+mod calls;
+mod case;
+mod gates;
+mod shown;
+
+use crate::calls::OneCore;
+use crate::case::first_difference;
+use anyhow::{Context, Result, bail};
+use lay_core::Core;
+use lay_json::read_run;
+use std::rt::{Env, Files};
+use std::thread::Threads;
+use std::{env, fs};
+
+/// No editor calls.
+const CALLS: u32 = 0;
+
+fn main(rt: HostRuntime) -> Result<()> {
+    let folder = folder(&rt)?;
+    for file in files(&rt, folder.as_str())? {
+        if let Some(name) = file.as_str().strip_suffix(".batches") {
+            go_through(&rt, folder.as_str(), name)?;
+        }
+    }
+    Ok(())
+}
+
+/// The first word of the command line.
+fn folder(rt: &(impl Env + AllocGlobal)) -> Result<String> {
+    match env::args(rt)?.nth(1) {
+        Some(folder) => Ok(folder),
+        None => bail!("usage: lay_thread_cases FOLDER"),
+    }
+}
+
+/// The names of a folder's files, in order.
+fn files<R: Files + AllocGlobal + Clone + Drop>(rt: &R, folder: &str) -> Result<Vec<String>> {
+    let mut names = Vec::new(rt.alloc());
+    for entry in fs::read_dir(rt, folder)? {
+        let entry = entry?;
+        names.push(String::from_str(rt.alloc(), entry.file_name())?)?;
+    }
+    names.sort()?;
+    Ok(names)
+}
+
+/// Goes through the cases of a file, and prints a line for each.
+fn go_through<R: Files + Print + AllocGlobal + Threads + Sync>(
+    rt: &R,
+    folder: &str,
+    name: &str,
+) -> Result<()> {
+    let path = format!(in rt.alloc(); "{folder}/{name}.batches")?;
+    let text = fs::read_to_string(rt, path.as_str()).context("reading a file of batches")?;
+    for case in text.as_str().split("\ncase ").skip(1) {
+        let (case, lines) = case.split_once('\n').unwrap_or((case, ""));
+        let mut subject = OneCore::new(core(rt, folder, name)?);
+        match first_difference(rt, rt.alloc(), &mut subject, lines)? {
+            None => println!(rt; "{name}: {case}: ok")?,
+            Some(found) => println!(rt; "{name}: {case}: NOT SO, but {found}")?,
+        }
+    }
+    Ok(())
+}
+
+/// A core of the document in `NAME.json`.
+fn core(rt: &(impl Files + AllocGlobal), folder: &str, name: &str) -> Result<Core> {
+    let path = format!(in rt.alloc(); "{folder}/{name}.json")?;
+    let bytes = fs::read(rt, path.as_str()).context("reading a run document")?;
+    let Ok(run) = read_run(rt.alloc(), &bytes) else {
+        bail!("{name}.json has a fault");
+    };
+    let (doc, face, _scripts, _listed) = run.into_parts();
+    match Core::new(rt.alloc(), doc, face, CALLS) {
+        Ok(core) => Ok(core),
+        Err(_) => bail!("out of memory"),
+    }
+}
