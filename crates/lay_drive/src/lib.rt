@@ -1,0 +1,18 @@
+//! A run: its editors on threads of their own beside workers, over one engine.
+//!
+//! `drive` starts an engine with a pass for each script, has each editor make its calls on a thread of its own, and meanwhile claims cells
+//! by the batch, which workers compute. Once all editors have ended it closes the engine and publishes the last version. Its contract is in
+//! the words of lay_history: whatever comes first, the history answers each editor's commands once and in order (`AnswersScripts`), and its
+//! last version is published (`IsWhole`). What the passes know at the end shows the first (law `passes_answer_scripts`).
+#![tactic(auto)]
+
+mod editors;
+mod jobs;
+mod laws;
+mod progress;
+mod run;
+mod session;
+mod workers;
+
+pub use laws::passes_answer_scripts;
+pub use run::drive;
