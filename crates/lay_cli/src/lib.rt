@@ -3,7 +3,7 @@
 //! `answer` reads the words (lay_words) and the source, takes the bytes for a run document (lay_json), lays it out from scratch
 //! (lay_context) or drives its editors (lay_core), and writes the report (lay_report) into the sink. Its contract is in
 //! the words of `specs/Answers.antt`: which text answers which words and bytes; `specs/Endings.antt` says what a status says
-//! of the sink. It returns. `top` is the same call beside a runtime and a gate.
+//! of the sink.
 #![tactic(auto)]
 
 mod call;
@@ -15,5 +15,5 @@ mod scratch;
 mod status;
 mod telling;
 
-pub use call::{answer, top};
+pub use call::top;
 pub use status::Status;

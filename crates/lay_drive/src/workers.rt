@@ -4,8 +4,9 @@ ghost use Rattle.std.specs.Prelude.{◌<◌, ◌≤◌};
 
 use crate::progress::Ended;
 use crate::session::Session;
-use lay_board::{Batch, IdleKind};
+use lay_board::Batch;
 use lay_claims::ClaimList;
+use lay_core::IdleKind;
 use lay_outside::Gate;
 use lay_pool::run_batch;
 use std::sync::Wait;
