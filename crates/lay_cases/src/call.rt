@@ -2,15 +2,16 @@
 
 use crate::answer::Answer;
 use crate::terms::{Steps, Terms};
+use crate::turn_gate::TurnGate;
 use anyhow::{Result, bail};
 use lay_cli::{Status, top};
 use lay_core::Core;
-use lay_outside::{MemSink, MemSource, OpenGate};
+use lay_outside::{MemSink, MemSource};
 use std::alloc::{AllocError, Global};
 use std::sync::Wait;
 use std::thread::Threads;
 
-/// Makes the top call on these terms, over the bytes of a document.
+/// Makes the top call on these terms, over the bytes of a document. The editors of a run take turns.
 pub(crate) fn call<R: Threads + Wait + Sync>(
     rt: &R,
     alloc: Global,
@@ -18,6 +19,7 @@ pub(crate) fn call<R: Threads + Wait + Sync>(
     document: Vec<u8>,
 ) -> Result<Answer> {
     let words = words(alloc, terms.words())?;
+    let gate = TurnGate::new(alloc, &document)?;
     let mut source = source(alloc, document, terms.reading())?;
     let mut sink = sink(alloc, terms.room(), terms.writing())?;
     let mut kept = None;
@@ -27,7 +29,7 @@ pub(crate) fn call<R: Threads + Wait + Sync>(
         &words,
         &mut source,
         &mut sink,
-        &OpenGate,
+        &gate,
         &mut kept,
     );
     let status = if terms.shows_kept() {

@@ -14,6 +14,7 @@ mod copies;
 mod folder;
 mod reading;
 mod terms;
+mod turn_gate;
 
 use crate::answer::Wanted;
 use crate::call::call;

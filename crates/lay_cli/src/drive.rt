@@ -23,6 +23,7 @@ use std::sync::Wait;
 use std::thread::Threads;
 
 /// What editors are driven with: a runtime whose threads may come to wait, memory, and a gate.
+#[derive(Drop)]
 pub(crate) struct Means<'a, R: Threads + Wait + Sync, G: Gate + Sync> {
     pub(crate) rt: &'a R,
     pub(crate) alloc: Global,

@@ -1,9 +1,9 @@
 //! The top call: from words and the bytes of a run document to a report, or to the line of a refusal.
 //!
-//! `answer` reads the words (lay_words) and the source, takes the bytes for a run document (lay_json), lays it out from scratch
-//! (lay_context) or drives its editors (lay_core), and writes the report (lay_report) into the sink. Its contract is in
-//! the words of `specs/Answers.antt`: which text answers which words and bytes; `specs/Endings.antt` says what a status says
-//! of the sink.
+//! `top` reads the words (lay_words) and the source, takes the bytes for a run document (lay_json), lays it out from scratch
+//! (lay_context) or drives its editors on threads of their own beside workers (lay_drive), and writes the report (lay_report) into the
+//! sink. Its contract is in the words of `specs/Answers.antt`: which text answers which words and bytes; `specs/Endings.antt` says what a
+//! status says of the sink. `scratch` starts no thread and waits for none.
 #![tactic(auto)]
 
 mod call;
