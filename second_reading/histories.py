@@ -17,6 +17,7 @@ from edits import Document
 from report import context_count, report
 
 EDIT = re.compile(r'edit ([0-9]+) ([0-9]+) (accepted|refused) (E?[0-9]+)')
+COMMAND = re.compile(r'^(?:edit|latest|sync) ([0-9]+) ([0-9]+) ', re.M)
 READ = re.compile(r'(latest|sync) ([0-9]+) ([0-9]+) ([0-9]+)')
 PUBLISH = re.compile(r'publish ([0-9]+)')
 FINAL = re.compile(r'final ([0-9]+)')
@@ -157,6 +158,12 @@ def first_fault(run, text, tree=reading_tree):
     except Illegal as illegal:
         return checker.place + 1, str(illegal)
     return None
+
+
+def are_in_turns(text):
+    """Whether the first command of each editor comes first, in the order of the editors, then the second ones, and so on."""
+    commands = [(int(index), int(editor)) for editor, index in COMMAND.findall(text)]
+    return commands == sorted(commands)
 
 
 def main():

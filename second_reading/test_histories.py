@@ -5,7 +5,7 @@ import unittest
 from declarations import declaration_fault
 from edits import Document
 from generator import summary
-from histories import first_fault
+from histories import are_in_turns, first_fault
 from run_documents import possible_report, run_document
 
 DOCUMENTS = 60
@@ -54,6 +54,11 @@ class Reports(unittest.TestCase):
 
     def test_fewer_cells_than_the_contexts_have(self):
         self.assertEqual(5, self.fault_of([], ['publish 0', 'final 0', *TREE, 'laid 2']))
+
+    def test_turns(self):
+        self.assertTrue(are_in_turns('publish 0\nedit 2 0 accepted 1\nlatest 10 0 0\nsync 2 1 1\nfinal 1\n'))
+        self.assertFalse(are_in_turns('edit 10 0 accepted 1\nedit 2 0 accepted 2\n'))
+        self.assertFalse(are_in_turns('edit 1 1 accepted 1\nlatest 2 0 1\n'))
 
     def test_reports_that_may_be_are_legal(self):
         for number in range(DOCUMENTS):

@@ -7,7 +7,7 @@ use Rattle.lay_report.specs.declared.fault.ReportFault.{ReportFault}
 use Rattle.lay_report.specs.declared.fault.ReportFault.TheVariants.{WriteFault as write_failed, NoMemory as ran_out}
 use Rattle.lay_words.specs.declared.form.Form.TheVariants as form
 use Rattle.lay_cli.specs.declared.status.Status.{Status}
-use Rattle.lay_cli.specs.declared.status.Status.TheVariants.{Ok, Refused, ReadFault, WriteFault, NoMemory}
+use Rattle.lay_cli.specs.declared.status.Status.TheVariants.{Ok, Refused, Usage, ReadFault, WriteFault, NoMemory}
 use Rattle.lay_cli.specs.Statuses.{status_of}
 use Rattle.lay_context.specs.Solves.{Solves}
 use Rattle.lay_cli.specs.Answers.{IsDriven, IsRunReport, IsScratchReport, OfKept, OfRun, Reports, Spells}
@@ -67,6 +67,15 @@ ends_broken R F s t core text ran_out is front rose = record {
   write_fault = λ r. absurd cc;
   no_memory = λ r. inr (record { text = text; answers = inl (core, is); front = front });
 }
+
+-- a report that broke off ends neither as wrong words nor as a source that failed
+pub broken_not_usage : (fault : ReportFault) → status_of fault ≢ Usage
+broken_not_usage write_failed = λ is. absurd cc
+broken_not_usage ran_out = λ is. absurd cc
+
+pub broken_not_read : (fault : ReportFault) → status_of fault ≢ ReadFault
+broken_not_read write_failed = λ is. absurd cc
+broken_not_read ran_out = λ is. absurd cc
 
 -- a front of a summary was written, and the sink failed
 pub ends_failed : (R : Option State → List ℕ → Type 0) (F : List ℕ → Type 0) (s t : SinkValue) (core : Option State) (text : List ℕ) → R core text → TookFront s.taken t.taken text → Rose s.faults t.faults
