@@ -1,14 +1,12 @@
 -- The calls of an editor in a history are those of its entries.
 use Rattle.std.proofs.Common.{◌≡◌, ℕ, zero, suc, ◌+◌, ◌<◌, ◌≤◌, Bool, true, false, if◌then◌else◌, ◌==◌, List, [], ◌∷◌, ◌++◌, length, slice_get, slice_index_or, Option, Some, None, refl, sym, ap, ◌∙◌, subst, arith, rules, inl, inr}
-use Rattle.std.specs.List.{All}
-use Rattle.lay_doc.specs.declared.command.Cmd.{Cmd}
 use Rattle.lay_doc.specs.declared.command.Cmd.TheVariants as command
 use Rattle.lay_doc.specs.declared.history.Entry.{Entry}
 use Rattle.lay_doc.specs.declared.history.Entry.TheVariants.{Edit, Publish, Latest, Sync}
 use Rattle.lay_history.specs.Calls.{Call, calls, calls_of, script_calls}
 use Rattle.lay_board.specs.Entries.{by_editor}
 use Rattle.lay_board.specs.Passes.{IsKnownIn, PassOf}
-use Rattle.lay_drive.specs.Laws.{HasRun, PassesAnswerScripts}
+use Rattle.lay_drive.specs.Laws.{PassesAnswerScripts}
 
 -- the same choice of an entry and of its call
 choice : (b : Bool) (n : ℕ) (c : Call) (e : Entry) (xs : List Entry) → calls (e ∷ []) ≡ c ∷ [] → calls_of n (calls xs) ≡ calls (by_editor n xs)

@@ -1,5 +1,5 @@
 -- The calls of a pass, one by one.
-use Rattle.std.proofs.Common.{◌≡◌, ℕ, zero, suc, ◌+◌, ◌<◌, ◌≤◌, List, [], ◌∷◌, ◌++◌, length, refl, sym, ap, ◌∙◌, subst, arith, append_assoc, append-nil, length-append}
+use Rattle.std.proofs.Common.{◌≡◌, ℕ, suc, ◌+◌, ◌<◌, ◌≤◌, List, [], ◌∷◌, ◌++◌, length, refl, sym, ap, ◌∙◌, arith, append_assoc, append-nil, length-append}
 use Rattle.lay_doc.specs.declared.command.Cmd.{Cmd}
 use Rattle.lay_doc.specs.declared.history.Entry.{Entry}
 use Rattle.lay_history.specs.Calls.{Call, call_in, calls, script_calls}
@@ -36,7 +36,7 @@ one_more p q r cs c so is = record {
   number = is.number ∙ so.number;
   left = let a = is.left in let b = so.left in let n = length-append cs (c ∷ []) in omega (arith, a, b, n);
   length_is =
-    let a = ap length is.own in let m = length-append q.knows.own (is.entry ∷ []) in let b = so.length_is in let n = length-append cs (c ∷ []) in omega (arith, a, m, b, n);
+      let a = ap length is.own in let m = length-append q.knows.own (is.entry ∷ []) in let b = so.length_is in let n = length-append cs (c ∷ []) in omega (arith, a, m, b, n);
   own = ap calls is.own ∙ calls_more q.knows.own is.entry ∙ ap (λ l. calls q.knows.own ++ l) is.answers
       ∙ ap (λ l. l ++ one_call q.knows.number (length q.knows.own) c ∷ []) so.own
       ∙ append_assoc (calls p.knows.own) (script_calls p.knows.number (length p.knows.own) cs) (one_call q.knows.number (length q.knows.own) c ∷ [])

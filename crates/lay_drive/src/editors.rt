@@ -50,13 +50,7 @@ fn edit<R: Wait, G: Gate>(rt: &R, session: &Session, job: Job, gate: &G) -> Pass
 }
 
 /// One call of an editor. The gate is told before and after it, and the workers' loop that it has ended.
-fn call<R: Wait, G: Gate>(
-    rt: &R,
-    session: &Session,
-    pass: Pass,
-    command: Cmd,
-    gate: &G,
-) -> Pass
+fn call<R: Wait, G: Gate>(rt: &R, session: &Session, pass: Pass, command: Cmd, gate: &G) -> Pass
     requires of { pass.table ≡ session.now.engine.table }
     requires left { 0 < pass.knows.left }
     ensures { IsCalled pass command result }
@@ -70,13 +64,7 @@ fn call<R: Wait, G: Gate>(
 }
 
 /// The engine answers a command of an editor.
-fn answer<R: Wait, G: Gate>(
-    rt: &R,
-    session: &Session,
-    pass: Pass,
-    command: Cmd,
-    gate: &G,
-) -> Pass
+fn answer<R: Wait, G: Gate>(rt: &R, session: &Session, pass: Pass, command: Cmd, gate: &G) -> Pass
     requires of { pass.table ≡ session.now.engine.table }
     requires left { 0 < pass.knows.left }
     ensures { IsCalled pass command result }

@@ -73,7 +73,8 @@ fn run_all<R: Threads + Wait + Sync, G: Gate + Sync>(
     let (passes, ()) = thread::join(
         rt,
         move || -> Result<Vec<Pass>, AllocError>
-            requires { All (λ j. j.pass.table ≡ session.now.engine.table) jobs.items × All (λ j. length j.script ≤ j.pass.knows.left) jobs.items }
+            requires { All (λ j. j.pass.table ≡ session.now.engine.table) jobs.items
+                × All (λ j. length j.script ≤ j.pass.knows.left) jobs.items }
             ensures { IfOk result (λ v. AreRun jobs.items v.items) }
         { edit_all(rt, session, jobs, gate) },
         || -> ()

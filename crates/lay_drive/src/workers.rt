@@ -42,6 +42,9 @@ pub(crate) fn work<R: Threads + Wait + Sync, G: Gate + Sync>(
     let mut counted = 0;
     let mut kept = None;
     for _ in rt.forever() {
+        if counted >= COUNTED_TURNS {
+            return;
+        }
         match take_turn(rt, session, kept, workers, gate) {
             Turn::Counted(back) => {
                 counted += 1;
@@ -49,9 +52,6 @@ pub(crate) fn work<R: Threads + Wait + Sync, G: Gate + Sync>(
             }
             Turn::Quiet => kept = None,
             Turn::Over => return,
-        }
-        if counted >= COUNTED_TURNS {
-            return;
         }
     }
 }
