@@ -6,7 +6,11 @@ use crate::turn_gate::TurnGate;
 use anyhow::{Result, bail};
 use lay_cli::{Status, top};
 use lay_core::Core;
+use lay_generator::generated_run;
+use lay_json::read_run;
 use lay_outside::{MemSink, MemSource};
+use lay_run::RunDoc;
+use lay_words::{Form, read_words};
 use std::alloc::{AllocError, Global};
 use std::sync::Wait;
 use std::thread::Threads;
@@ -19,25 +23,28 @@ pub(crate) fn call<R: Threads + Wait + Sync>(
     document: Vec<u8>,
 ) -> Result<Answer> {
     let words = words(alloc, terms.words())?;
-    let gate = TurnGate::new(alloc, &document)?;
+    let gate = TurnGate::new(alloc, run_of(alloc, &words, &document))?;
     let mut source = source(alloc, document, terms.reading())?;
     let mut sink = sink(alloc, terms.room(), terms.writing())?;
     let mut kept = None;
-    let status = top(
-        rt,
-        alloc,
-        &words,
-        &mut source,
-        &mut sink,
-        &gate,
-        &mut kept,
-    );
+    let status = top(rt, alloc, &words, &mut source, &mut sink, &gate, &mut kept);
     let status = if terms.shows_kept() {
         status_and_kept(alloc, status, &kept)?
     } else {
         format!(in alloc; "{status:?}")?
     };
     Ok(Answer::new(status, sink.bytes().to_vec(alloc)?))
+}
+
+/// The run whose editors these words drive, if they drive any.
+fn run_of(alloc: Global, words: &[String], document: &[u8]) -> Option<RunDoc> {
+    match read_words(alloc, words) {
+        Ok(Some(Form::Run { .. })) => read_run(alloc, document).ok(),
+        Ok(Some(Form::Gen { size, seed, .. })) if size <= 1000 && seed < 1 << 31 => {
+            generated_run(alloc, size, seed).ok()
+        }
+        _ => None,
+    }
 }
 
 /// A status and the core that is kept, by the number of its history's entries and how much it laid out.

@@ -1,7 +1,7 @@
 //! A gate under which a run has one report.
 
-use lay_json::read_run;
 use lay_outside::{Gate, Point};
+use lay_run::RunDoc;
 use std::alloc::{AllocError, Global};
 use std::sync::atomic::{AtomicBool, AtomicU64, Ordering};
 use std::thread;
@@ -26,10 +26,10 @@ pub(crate) struct TurnGate {
 }
 
 impl TurnGate {
-    /// For the run that these bytes spell. Where they spell none, calls wait for the first claim alone.
-    pub(crate) fn new(alloc: Global, document: &[u8]) -> Result<TurnGate, AllocError> {
+    /// For this run, if there is one.
+    pub(crate) fn new(alloc: Global, run: Option<RunDoc>) -> Result<TurnGate, AllocError> {
         let mut commands = Vec::new(alloc);
-        if let Ok(run) = read_run(alloc, document) {
+        if let Some(run) = run {
             for script in run.scripts().as_slice() {
                 commands.push(script.len())?;
             }
