@@ -39,21 +39,14 @@ pub(crate) fn call<R: Threads + Wait + Sync>(
 }
 
 /// The gate of a call on these terms: where none is to be held, the editors of a run take turns.
-fn gate(
-    alloc: Global,
-    terms: &Terms<'_>,
-    words: &[String],
-    document: &[u8],
-) -> Result<CaseGate, AllocError> {
-    match terms.meeting() {
-        Some((hold, until)) => {
-            let until = vec![in alloc; until]?;
-            Ok(CaseGate::Meet(MeetGate::new(hold, until)))
-        }
-        None => {
-            let run = run_of(alloc, words, document);
-            Ok(CaseGate::Turns(TurnGate::new(alloc, run)?))
-        }
+fn gate(alloc: Global, terms: &Terms<'_>, words: &[String], document: &[u8]) -> Result<CaseGate> {
+    if let Some((hold, until)) = terms.meeting() {
+        let until = vec![in alloc; until]?;
+        return Ok(CaseGate::Meet(MeetGate::new(hold, until)));
+    }
+    match TurnGate::new(alloc, run_of(alloc, words, document)) {
+        Ok(gate) => Ok(CaseGate::Turns(gate)),
+        Err(_) => bail!("out of memory"),
     }
 }
 

@@ -1,8 +1,10 @@
 //! A gate under which a run has one report.
 
+use lay_core::{Core, Publish};
 use lay_outside::{Gate, Point};
 use lay_run::RunDoc;
-use std::alloc::{AllocError, Global};
+use lay_units::NoMemory;
+use std::alloc::Global;
 use std::sync::atomic::{AtomicBool, AtomicU64, Ordering};
 use std::thread;
 
@@ -14,30 +16,33 @@ const TURNS_AT_ONCE: u32 = 131_072;
 
 /// Has the editors of a run take turns: the first command of each, in rising order of editors, then the second ones, and so on. The first
 /// claim of all is begun before the first call, and its layout is held until the last call has ended. So nothing is cleaned beside the
-/// editors but what they lay out themselves, and whatever runs first, the report is the same.
+/// editors but what they lay out themselves, and whatever runs first, the report is the same. Where nothing is to be laid out before the
+/// first edit no claim is waited for, and none is held.
 #[derive(Drop)]
 pub(crate) struct TurnGate {
     /// How many commands each editor has.
     commands: Vec<usize>,
-    /// Whether the layout of a claim was begun.
+    /// Whether the layout of a claim was begun, or there is none to wait for.
     begun: AtomicBool,
-    /// How many calls have ended, and one more where the layout of a claim was begun.
+    /// How many calls have ended, and one more where the layout of a claim was begun or there is none to wait for.
     moved: AtomicU64,
 }
 
 impl TurnGate {
     /// For this run, if there is one.
-    pub(crate) fn new(alloc: Global, run: Option<RunDoc>) -> Result<TurnGate, AllocError> {
+    pub(crate) fn new(alloc: Global, run: Option<RunDoc>) -> Result<TurnGate, NoMemory> {
         let mut commands = Vec::new(alloc);
+        let mut begun = false;
         if let Some(run) = run {
             for script in run.scripts().as_slice() {
                 commands.push(script.len())?;
             }
+            begun = has_none_dirty(alloc, run)?;
         }
         Ok(TurnGate {
             commands,
-            begun: AtomicBool::new(false),
-            moved: AtomicU64::new(0),
+            begun: AtomicBool::new(begun),
+            moved: AtomicU64::new(u64::from(begun)),
         })
     }
 
@@ -64,6 +69,13 @@ impl TurnGate {
             }
         }
     }
+}
+
+/// Whether nothing is to be laid out before the first edit of a run.
+fn has_none_dirty(alloc: Global, run: RunDoc) -> Result<bool, NoMemory> {
+    let (doc, face, _scripts, _listed) = run.into_parts();
+    let mut core = Core::new(alloc, doc, face, 0)?;
+    Ok(!matches!(core.publish(), Publish::Unsettled(_)))
 }
 
 impl Gate for TurnGate {
