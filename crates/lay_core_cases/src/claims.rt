@@ -12,11 +12,11 @@
 
 use crate::keys::{key, shown_key};
 use crate::words::{all, first, number, small_number};
-use lay_cell_work::{Claim, Layout};
-use lay_cells::{Done, Finished, Released};
-use lay_claims::{ClaimList, Outcome, Outcomes};
+use lay_core::cell_work::{Claim, Layout};
+use lay_core::claim_lists::{ClaimList, Outcome, Outcomes};
 use lay_core::{Answer, Core, IdleKind, Next, Tally};
-use lay_units::NoMemory;
+use lay_layout::cells::{Done, Finished, Released};
+use lay_layout::units::NoMemory;
 use std::alloc::Global;
 
 /// The most claims that are handed out or taken at once.

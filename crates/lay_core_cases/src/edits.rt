@@ -1,9 +1,9 @@
 //! The edits of an editor.
 
 use crate::words::{first, node, small_number};
-use lay_doc::{Edit, NewNode, NodeId};
-use lay_style::Decls;
-use lay_units::{NoMemory, Text};
+use lay_layout::doc::{Edit, NewNode, NodeId};
+use lay_layout::style::Decls;
+use lay_layout::units::{NoMemory, Text};
 use lay_values::{property_of, read};
 use std::alloc::Global;
 

@@ -2,7 +2,7 @@
 
 use crate::keys::laid_of_node;
 use lay_core::Core;
-use lay_units::NoMemory;
+use lay_layout::units::NoMemory;
 use std::alloc::Global;
 
 /// How many claims of the cells of a node were granted.

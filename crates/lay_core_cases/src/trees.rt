@@ -1,10 +1,10 @@
 //! Trees of versions.
 
 use crate::words::number;
-use lay_context::scratch;
 use lay_core::Core;
-use lay_frag::text_of;
-use lay_units::NoMemory;
+use lay_layout::context::scratch;
+use lay_layout::frag::text_of;
+use lay_layout::units::NoMemory;
 use std::alloc::Global;
 
 /// Of how many contexts the tree of a version is.

@@ -1,7 +1,7 @@
 //! The words of a call.
 
-use lay_doc::NodeId;
-use lay_units::NoMemory;
+use lay_layout::doc::NodeId;
+use lay_layout::units::NoMemory;
 use std::alloc::Global;
 
 /// The first word of a text, and what stands behind it.
