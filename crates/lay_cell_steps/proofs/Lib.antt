@@ -8,3 +8,6 @@ pub mod NewRows
 pub mod FollowedRows
 pub mod EditedRows
 pub mod ReachedContexts
+pub use Rattle.lay_cell_laws.proofs as cell_laws
+pub use Rattle.lay_cell_laws.proofs.cell_work as cell_work
+pub use Rattle.lay_shape_laws.proofs.shape as shape

@@ -5,3 +5,6 @@ pub mod PlaceSteps
 pub mod RootFlags
 pub mod RootParts
 pub mod RootSteps
+pub use Rattle.lay_cell_steps.proofs.cell_laws as cell_laws
+pub use Rattle.lay_cell_steps.proofs.cell_work as cell_work
+pub use Rattle.lay_cell_steps.proofs.shape as shape

@@ -1,9 +1,9 @@
 -- Bytes don't both spell a run and have a fault, so without faults of the streams each has the answer of its kind.
 use Rattle.std.proofs.Common.{◌≡◌, ◌⊎◌, ℕ, List, refl, inl, inr, Option, Some, None, IfSome, Ok, Err}
-use Rattle.lay_run.specs.Runs.{Run}
+use Rattle.lay_layout.specs.run.Runs.{Run}
 use Rattle.lay_json.specs.Reading.{IsReading}
 use Rattle.lay_json.proofs.OneReading.{one_reading_lem}
-use Rattle.lay_core.specs.State.{State}
+use Rattle.lay_drive.specs.editing_core.State.{State}
 use Rattle.lay_words.specs.declared.form.Form.{Form}
 use Rattle.lay_words.specs.declared.form.Form.TheVariants as form
 use Rattle.lay_cli.specs.Answers.{IsAskedWell, IsRefusal, IsRefused, OfRun, Refuses, Reports}

@@ -14,7 +14,7 @@ use crate::hit::hit;
 use crate::scratch::scratch;
 use crate::status::Status;
 use crate::telling::told;
-use lay_core::Core;
+use lay_drive::editing_core::Core;
 use lay_outside::{Gate, Sink, Source};
 use lay_words::{Form, read_words};
 use std::alloc::Global;

@@ -19,5 +19,6 @@ mod telling;
 
 pub use call::top;
 pub use hit::hit;
+pub use lay_drive::editing_core as editing_core;
 pub use scratch::scratch;
 pub use status::Status;

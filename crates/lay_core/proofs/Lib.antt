@@ -13,3 +13,5 @@ pub mod ShownKept
 pub mod ShownTrees
 pub mod Trees
 pub mod TurnSteps
+pub use Rattle.lay_document_cells.proofs.cell_work as cell_work
+pub use Rattle.lay_document_cells.proofs.shape as shape

@@ -1,10 +1,8 @@
 //! Which cells were granted since the last time.
 
-use lay_context::Phase;
+use crate::keys::laid_of_node;
 use lay_core::Core;
-use lay_doc::NodeId;
-use lay_shape::CellKey;
-use lay_units::NoMemory;
+use lay_layout::units::NoMemory;
 use std::alloc::Global;
 
 /// How many claims of the cells of a node were granted.
@@ -76,16 +74,8 @@ fn counts(alloc: Global, core: &Core) -> Result<Vec<Count>, NoMemory> {
     for place in 0..core.doc().len() {
         if let Some(node) = core.doc().node(place) {
             let node = node.id();
-            let of = |phase| core.laid_of(CellKey { node, phase });
-            if let (Some(measure), Some(size), Some(place)) = (
-                of(Phase::Measure),
-                of(Phase::Size),
-                of(Phase::Place),
-            ) {
-                counts.push(Count {
-                    node: node.0,
-                    laid: [measure, size, place],
-                })?;
+            if let Some(laid) = laid_of_node(core, node) {
+                counts.push(Count { node: node.0, laid })?;
             }
         }
     }

@@ -1,9 +1,10 @@
 //! Trees of versions.
 
-use lay_context::scratch;
+use crate::words::number;
 use lay_core::Core;
-use lay_frag::text_of;
-use lay_units::NoMemory;
+use lay_layout::context::scratch;
+use lay_layout::frag::text_of;
+use lay_layout::units::NoMemory;
 use std::alloc::Global;
 
 /// Of how many contexts the tree of a version is.
@@ -12,7 +13,7 @@ pub(crate) fn contexts(
     core: &Core,
     version: &str,
 ) -> Result<Option<String>, NoMemory> {
-    let Ok(version) = version.parse::<u64>() else {
+    let Some(version) = number(version) else {
         return Ok(None);
     };
     match core.tree(version) {

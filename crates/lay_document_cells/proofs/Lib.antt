@@ -12,3 +12,6 @@ mod Pigeonhole
 mod SettledPlaces
 mod WalkSteps
 mod Working
+pub use Rattle.lay_cell_table.proofs.cell_laws as cell_laws
+pub use Rattle.lay_cell_table.proofs.cell_work as cell_work
+pub use Rattle.lay_cell_table.proofs.shape as shape

@@ -1,0 +1,9 @@
+pub use Rattle.lay_boxgen.proofs as boxgen
+pub use Rattle.lay_cells.proofs as cells
+pub use Rattle.lay_context.proofs as context
+pub use Rattle.lay_contexts.proofs as contexts
+pub use Rattle.lay_doc.proofs as doc
+pub use Rattle.lay_history.proofs as history
+pub use Rattle.lay_own_nodes.proofs as own_nodes
+pub use Rattle.lay_positioned.proofs as positioned
+pub use Rattle.lay_same.proofs as same
