@@ -104,6 +104,29 @@ def run_document(seed, number):
     return RunDocument(random.Random('runs %d/%d' % (seed, number))).draw()
 
 
+def crowded_run(seed, number):
+    """Sixteen editors with as many commands as a run may have: 512 each, 16 of which read. They change two nodes."""
+    rng = random.Random('crowds %d/%d' % (seed, number))
+    lengths = ['%dpx' % width for width in (0, 1, 20, 70, 300, 900)]
+
+    def edit():
+        kind = rng.choice(['set', 'set', 'clear', 'text'])
+        if kind == 'text':
+            return {'do': kind, 'node': 3, 'text': rng.choice(['a', 'a b', 'some words'])}
+        declared = {'node': 2, 'property': rng.choice(['width', 'margin-left', 'height'])}
+        return {'do': kind, **declared, **({'value': rng.choice(lengths)} if kind == 'set' else {})}
+
+    def script():
+        commands = [edit() for _ in range(496)] + [{'do': rng.choice(['latest', 'sync'])} for _ in range(16)]
+        rng.shuffle(commands)
+        return commands
+
+    nodes = [{'id': 1, 'parent': 0, 'kind': 'element', 'style': {'display': 'block'}},
+             {'id': 2, 'parent': 1, 'kind': 'element', 'style': {'display': 'block', 'overflow': 'hidden'}},
+             {'id': 3, 'parent': 2, 'kind': 'text', 'text': 'some words'}]
+    return {'viewport': [800, 600], 'nodes': nodes, 'editors': [script() for _ in range(16)]}
+
+
 # -- a report that may be
 
 def tree_of(current):

@@ -12,8 +12,10 @@ mod call;
 mod case;
 mod copies;
 mod folder;
+mod gates;
 mod reading;
 mod terms;
+mod turn_gate;
 
 use crate::answer::Wanted;
 use crate::call::call;

@@ -8,7 +8,7 @@ use Rattle.lay_layout.specs.run.Runs.{Run}
 use Rattle.lay_cli.specs.Answers.{IsDriven}
 
 pub driven_by : (run asked : Run) (s : State) → run ≡ asked → s.init ≡ run.doc → s.face ≡ run.face → IsCore s → AnswersScripts s.history run.scripts
-    → TakesTurns s.history → IsWhole s.history → IsDriven asked s
-driven_by run asked s same init face core scripts turns whole =
-    let driven : IsDriven run s = record { init = init; face = face; core = core; scripts = scripts; turns = turns; whole = whole } in
+    → IsWhole s.history → IsDriven asked s
+driven_by run asked s same init face core scripts whole =
+    let driven : IsDriven run s = record { init = init; face = face; core = core; scripts = scripts; whole = whole } in
     subst (λ r. IsDriven r s) same driven
