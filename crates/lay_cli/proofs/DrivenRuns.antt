@@ -3,7 +3,7 @@ use Rattle.std.specs.Prelude.{◌≡◌}
 use Rattle.std.proofs.Common.{subst}
 use Rattle.lay_layout.specs.history.Calls.{AnswersScripts, TakesTurns}
 use Rattle.lay_layout.specs.history.Legal.{IsWhole}
-use Rattle.lay_core.specs.State.{IsCore, State}
+use Rattle.lay_drive.specs.editing_core.State.{IsCore, State}
 use Rattle.lay_layout.specs.run.Runs.{Run}
 use Rattle.lay_cli.specs.Answers.{IsDriven}
 

@@ -12,7 +12,7 @@ use Rattle.lay_layout.specs.history.Histories.{accepted}
 use Rattle.lay_layout.specs.history.Calls.{AnswersScripts, TakesTurns}
 use Rattle.lay_layout.specs.history.Legal.{IsWhole}
 use Rattle.lay_layout.specs.history.Trees.{tree_at}
-use Rattle.lay_core.specs.State.{IsCore, State}
+use Rattle.lay_drive.specs.editing_core.State.{IsCore, State}
 use Rattle.lay_report.specs.Report.{run_report, scratch_report}
 use Rattle.lay_layout.specs.run.Runs.{Run}
 use Rattle.lay_json.specs.declared.fault.InputFault.{InputFault}

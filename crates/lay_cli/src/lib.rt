@@ -18,5 +18,5 @@ mod status;
 mod telling;
 
 pub use call::{answer, top};
-pub use lay_core as editing_core;
+pub use lay_drive::editing_core as editing_core;
 pub use status::Status;
