@@ -12,6 +12,15 @@ pub(crate) struct Terms<'a> {
     room: usize,
     front: Option<usize>,
     shows_kept: bool,
+    sweep: Option<Sweep>,
+}
+
+/// Which calls a case makes in a row (`sweep.rt`).
+#[derive(Clone, Copy)]
+pub(crate) enum Sweep {
+    Reads,
+    Writes,
+    Fronts,
 }
 
 /// How many bytes a stream takes at most in a call, and the number of the call that fails, from 1; 0 where none does.
@@ -35,7 +44,19 @@ pub const PLAIN: Terms<'static> = Terms {
     room: 65536,
     front: None,
     shows_kept: false,
+    sweep: None,
 };
+
+impl Sweep {
+    fn read(word: &str) -> Option<Sweep> {
+        match word {
+            "reads" => Some(Sweep::Reads),
+            "writes" => Some(Sweep::Writes),
+            "fronts" => Some(Sweep::Fronts),
+            _ => None,
+        }
+    }
+}
 
 impl<'a> Terms<'a> {
     /// The terms of a line, `KEY VALUE, KEY VALUE ..`, and else the plain ones; None where a key is none.
@@ -54,6 +75,7 @@ impl<'a> Terms<'a> {
         match key {
             "words" => self.words = value,
             "document" => self.document = Some(value),
+            "sweep" => self.sweep = Some(Sweep::read(value)?),
             _ => return self.set_number(key, value.parse::<usize>().ok()?),
         }
         Some(())
@@ -104,5 +126,21 @@ impl<'a> Terms<'a> {
     /// How many bytes of the answer are wanted, where it isn't all of them.
     pub(crate) fn front(&self) -> Option<usize> {
         self.front
+    }
+
+    /// Which calls are made in a row; None where there is one call.
+    pub(crate) fn sweep(&self) -> Option<Sweep> {
+        self.sweep
+    }
+
+    /// The same terms, but that the call of this number of one stream fails.
+    pub(crate) fn failing(&self, sweep: Sweep, number: u64) -> Terms<'a> {
+        let mut terms = *self;
+        match sweep {
+            Sweep::Reads => terms.reading.failing = number,
+            Sweep::Writes => terms.writing.failing = number,
+            Sweep::Fronts => {}
+        }
+        terms
     }
 }
