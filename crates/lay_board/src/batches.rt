@@ -1,14 +1,14 @@
 //! Claims of cells by the batch, for those who lay them out.
 
 ghost use Rattle.std.specs.Prelude.{◌≡◌, ◌<◌, ◌≤◌, length, IfOk};
-ghost use Rattle.lay_document_cells.specs.Outcomes.{tally_sum};
+ghost use Rattle.lay_core.specs.document_cells.Outcomes.{tally_sum};
 ghost use Rattle.lay_board.specs.Batches.{FinishesBatch, GivesBatch};
 
 use crate::engine::Engine;
 use crate::turn::{give_core, visit};
-use lay_claims::{ClaimList, Outcomes};
-use lay_document_cells::{Idle, Tally};
-use lay_units::NoMemory;
+use lay_core::claim_lists::{ClaimList, Outcomes};
+use lay_core::document_cells::{Idle, Tally};
+use lay_layout::units::NoMemory;
 use std::alloc::Global;
 use std::sync::Wait;
 

@@ -19,5 +19,6 @@ mod views;
 
 pub use batches::Batch;
 pub use engine::Engine;
+pub use lay_core as editing_core;
 pub use pass::Pass;
 pub use starting::{Closer, Passes};

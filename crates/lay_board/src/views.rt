@@ -1,8 +1,8 @@
 //! What those who have a seat at the table know. No value of these types is made.
 
 use lay_core::Core;
-use lay_doc::{Doc, Entry};
-use lay_face::Face;
+use lay_layout::doc::{Doc, Entry};
+use lay_layout::face::Face;
 use std::collections::LinkedList;
 
 /// What an engine was started with, beside the calls: the document before any edit, and the face that texts are measured in.

@@ -3,8 +3,8 @@
 use crate::answer::Answer;
 use crate::terms::{Steps, Terms};
 use anyhow::{Result, bail};
+use lay_cli::editing_core::Core;
 use lay_cli::{Status, top};
-use lay_core::Core;
 use lay_outside::{MemSink, MemSource, OpenGate};
 use std::alloc::{AllocError, Global};
 use std::sync::Wait;

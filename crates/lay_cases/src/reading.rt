@@ -2,12 +2,12 @@
 
 use crate::answer::Answer;
 use anyhow::Result;
-use lay_doc::{BadDeclaration, Cmd, Edit, Kind, NewNode, Node, NodeId};
-use lay_face::Face;
 use lay_json::read_run;
-use lay_run::RunDoc;
-use lay_style::Decls;
-use lay_units::Unit;
+use lay_layout::doc::{BadDeclaration, Cmd, Edit, Kind, NewNode, Node, NodeId};
+use lay_layout::face::Face;
+use lay_layout::run::RunDoc;
+use lay_layout::style::Decls;
+use lay_layout::units::Unit;
 use std::alloc::{AllocError, Global};
 use std::fmt::Write;
 

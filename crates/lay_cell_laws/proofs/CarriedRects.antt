@@ -1,17 +1,17 @@
 -- What an absolutely positioned box is given is the same among other formatting contexts, where those on its way are the same there.
 use Rattle.std.proofs.Common.{◌≡◌, ◌<◌, ℕ, Bool, if◌then◌else◌, List, Option, None, Some, refl, ap, sym, ◌∙◌, subst, arith}
-use Rattle.lay_units.specs.declared.records.Rect.{Rect}
-use Rattle.lay_box_tree.specs.declared.box_tree.BoxNode.{BoxNode}
-use Rattle.lay_sizes.specs.declared.sizing.ContainingBlock.{ContainingBlock}
-use Rattle.lay_contexts.specs.FormattingContexts.{FormattingContext, boxes_in, formatting_context_at}
-use Rattle.lay_pieces.specs.declared.corner.Corner.{Corner}
-use Rattle.lay_pieces.specs.declared.standing.Standing.{Standing}
-use Rattle.lay_pieces.specs.Standings.{standing_at}
-use Rattle.lay_positioned.specs.Absolute.{is_absolute, is_own_absolute}
-use Rattle.lay_positioned.specs.ContainingRects.{IsContainingRect, held, further, initial, seen_from, viewport_rect}
-use Rattle.lay_positioned.specs.Holders.{IsHolderFor}
-use Rattle.lay_positioned.specs.Layouts.{Layout, content_corner, standing_of, step}
-use Rattle.lay_positioned.specs.PaddingBoxes.{padding_box}
+use Rattle.lay_layout.specs.units.declared.records.Rect.{Rect}
+use Rattle.lay_layout.specs.box_tree.declared.box_tree.BoxNode.{BoxNode}
+use Rattle.lay_layout.specs.sizes.declared.sizing.ContainingBlock.{ContainingBlock}
+use Rattle.lay_layout.specs.contexts.FormattingContexts.{FormattingContext, boxes_in, formatting_context_at}
+use Rattle.lay_layout.specs.pieces.declared.corner.Corner.{Corner}
+use Rattle.lay_layout.specs.pieces.declared.standing.Standing.{Standing}
+use Rattle.lay_layout.specs.pieces.Standings.{standing_at}
+use Rattle.lay_layout.specs.positioned.Absolute.{is_absolute, is_own_absolute}
+use Rattle.lay_layout.specs.positioned.ContainingRects.{IsContainingRect, held, further, initial, seen_from, viewport_rect}
+use Rattle.lay_layout.specs.positioned.Holders.{IsHolderFor}
+use Rattle.lay_layout.specs.positioned.Layouts.{Layout, content_corner, standing_of, step}
+use Rattle.lay_layout.specs.positioned.PaddingBoxes.{padding_box}
 
 -- the one with the number i among some is laid out as that with the number j among others
 pub record IsSameHere (contexts others : List FormattingContext) (v w : ℕ → Layout) (i j : ℕ) : Type 0 where

@@ -2,33 +2,33 @@
 use Rattle.std.proofs.Common.{◌≡◌, ◌<◌, ◌+◌, ◌-◌, ◌==◌, ◌&&◌, ℕ, zero, suc, Bool, true, false, List, [], ◌∷◌, length, slice_get, Option, None, Some, option_map, refl, ap, sym, subst, ◌∙◌, arith}
 use Rattle.std.proofs.lemmas.List.FromFn.{get_or-map-range_with_len, length-map-range_with_len}
 use Rattle.std.proofs.lemmas.Option.{slice_get-get_or}
-use Rattle.lay_boxgen.proofs.NodeColumns.{length-parents}
-use Rattle.lay_measure.specs.MeasureInValue.{no_widths}
-use Rattle.lay_cells.specs.Shapes.{IsIn}
-use Rattle.lay_cells.specs.Reads.{AllClean}
-use Rattle.lay_cells.specs.Rows.{Solved}
-use Rattle.lay_contexts.specs.Contexts.{AreContexts, Context}
-use Rattle.lay_contexts.specs.FormattingContexts.{FormattingContext}
-use Rattle.lay_contexts.specs.FormattingContextList.{AreFormattingContextsOf, first_number}
-use Rattle.lay_contexts.specs.Laws.{AnonymousBoxesAreInFlow}
-use Rattle.lay_contexts.proofs.ContextFacts.{root_of}
-use Rattle.lay_contexts.proofs.ContextNumbers.{are_contexts}
-use Rattle.lay_context_sizes.specs.ContextSizes.{not_sized}
-use Rattle.lay_context.specs.declared.input.Input.{Input}
-use Rattle.lay_context.specs.declared.task.Phase.{Phase}
-use Rattle.lay_context.specs.declared.task.Phase.TheVariants as phase
-use Rattle.lay_context.specs.declared.task.Task.{Task}
-use Rattle.lay_context.specs.declared.value.Value.{Value}
-use Rattle.lay_context.specs.declared.value.Value.TheVariants as value
-use Rattle.lay_context.specs.DocumentLayout.{widths_in}
-use Rattle.lay_context.specs.Local.{HasCounts, IsLocal, IsTaskDone, input_of, value_by}
-use Rattle.lay_context.specs.Medium.{Medium}
-use Rattle.lay_context.specs.PlacedContexts.{not_placed, placed_in}
-use Rattle.lay_context.specs.Settings.{sizes_in}
-use Rattle.lay_context.specs.Solves.{medium_of}
-use Rattle.lay_context.specs.Workings.{Workings}
+use Rattle.lay_layout.proofs.lay_boxgen.NodeColumns.{length-parents}
+use Rattle.lay_layout.specs.measure.MeasureInValue.{no_widths}
+use Rattle.lay_layout.specs.cells.Shapes.{IsIn}
+use Rattle.lay_layout.specs.cells.Reads.{AllClean}
+use Rattle.lay_layout.specs.cells.Rows.{Solved}
+use Rattle.lay_layout.specs.contexts.Contexts.{AreContexts, Context}
+use Rattle.lay_layout.specs.contexts.FormattingContexts.{FormattingContext}
+use Rattle.lay_layout.specs.contexts.FormattingContextList.{AreFormattingContextsOf, first_number}
+use Rattle.lay_layout.specs.contexts.Laws.{AnonymousBoxesAreInFlow}
+use Rattle.lay_layout.proofs.lay_contexts.ContextFacts.{root_of}
+use Rattle.lay_layout.proofs.lay_contexts.ContextNumbers.{are_contexts}
+use Rattle.lay_layout.specs.context_sizes.ContextSizes.{not_sized}
+use Rattle.lay_layout.specs.context.declared.input.Input.{Input}
+use Rattle.lay_layout.specs.context.declared.task.Phase.{Phase}
+use Rattle.lay_layout.specs.context.declared.task.Phase.TheVariants as phase
+use Rattle.lay_layout.specs.context.declared.task.Task.{Task}
+use Rattle.lay_layout.specs.context.declared.value.Value.{Value}
+use Rattle.lay_layout.specs.context.declared.value.Value.TheVariants as value
+use Rattle.lay_layout.specs.context.DocumentLayout.{widths_in}
+use Rattle.lay_layout.specs.context.Local.{HasCounts, IsLocal, IsTaskDone, input_of, value_by}
+use Rattle.lay_layout.specs.context.Medium.{Medium}
+use Rattle.lay_layout.specs.context.PlacedContexts.{not_placed, placed_in}
+use Rattle.lay_layout.specs.context.Settings.{sizes_in}
+use Rattle.lay_layout.specs.context.Solves.{medium_of}
+use Rattle.lay_layout.specs.context.Workings.{Workings}
 use Rattle.lay_cell_work.specs.CellInputs.{CellInput, RootInput}
-use Rattle.lay_shape.specs.declared.cell_key.CellKey.{CellKey}
+use Rattle.lay_cell_work.specs.shape.declared.cell_key.CellKey.{CellKey}
 use Rattle.lay_cell_work.specs.CellLocal.{IsCellLocal, whole_input}
 use Rattle.lay_cell_work.specs.CellValues.{CellValue, Places, Sizes, Widths, own_places, own_sizes, own_widths, phase_of, root_value}
 use Rattle.lay_cell_work.specs.KeptValues.{is_key, is_phase, kept_value, kept_workings, value_or_none, value_under, workings_of}

@@ -1,11 +1,11 @@
 -- At the same box of contexts with the same boxes stand contexts of one node.
 use Rattle.std.proofs.Common.{◌≡◌, ◌<◌, ℕ, List, [], ◌∷◌, length, slice_index, refl, ap, sym, ◌∙◌, arith, inl, inr}
 use Rattle.std.proofs.lemmas.Bool.{cases_lt}
-use Rattle.lay_doc.specs.declared.node.NodeId.{NodeId}
-use Rattle.lay_box_tree.specs.BoxColumns.{box_at, box_ids}
-use Rattle.lay_box_tree.specs.declared.box_tree.BoxNode.{BoxNode}
-use Rattle.lay_contexts.specs.Contexts.{AreContexts, IsInside as IsInsideContext, boxes_in, context_at}
-use Rattle.lay_shape.specs.declared.cell_key.CellKey.{CellKey}
+use Rattle.lay_layout.specs.doc.declared.node.NodeId.{NodeId}
+use Rattle.lay_layout.specs.box_tree.BoxColumns.{box_at, box_ids}
+use Rattle.lay_layout.specs.box_tree.declared.box_tree.BoxNode.{BoxNode}
+use Rattle.lay_layout.specs.contexts.Contexts.{AreContexts, IsInside as IsInsideContext, boxes_in, context_at}
+use Rattle.lay_cell_work.specs.shape.declared.cell_key.CellKey.{CellKey}
 use Rattle.lay_cell_laws.specs.SameContexts.{CounterpartsAreOfOneNode, IsTable, Table, inner_at}
 use Rattle.lay_cell_laws.proofs.InnerContexts.{none_same}
 use Rattle.lay_cell_laws.proofs.InputForms.{table_are}

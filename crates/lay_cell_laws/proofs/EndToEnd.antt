@@ -1,7 +1,7 @@
 -- Values that are laid end to end.
 use Rattle.std.proofs.Common.{◌≡◌, ◌<◌, ◌≤◌, ◌+◌, ◌⊎◌, inl, inr, ℕ, zero, suc, List, [], ◌∷◌, ◌++◌, length, slice_index_or, refl, ap, sym, ◌∙◌, arith}
-use Rattle.lay_contexts.specs.Contexts.{Context}
-use Rattle.lay_contexts.specs.FormattingContextList.{first_number}
+use Rattle.lay_layout.specs.contexts.Contexts.{Context}
+use Rattle.lay_layout.specs.contexts.FormattingContextList.{first_number}
 use Rattle.lay_cell_work.specs.KeptValues.{end_to_end, padded}
 use Rattle.lay_cell_work.specs.PresentInputs.{root_count}
 use Rattle.lay_cell_laws.specs.Laws.{ValuesStandAtNumbers}

@@ -3,22 +3,22 @@ use Rattle.std.proofs.Common.{◌≡◌, ◌<◌, ◌+◌, ◌-◌, ℕ, suc, Bo
 use Rattle.std.proofs.lemmas.Bool.{cases_lt}
 use Rattle.std.proofs.lemmas.List.{get_or-map}
 use Rattle.std.proofs.lemmas.List.FromFn.{get_or-map-range_with_len, length-map-range_with_len}
-use Rattle.lay_contexts.specs.Contexts.{AreContexts, Context, boxes_in as boxes_of_context}
-use Rattle.lay_contexts.specs.FormattingContexts.{FormattingContext, boxes_in, formatting_context_at}
-use Rattle.lay_contexts.specs.FormattingContextList.{AreFormattingContextsOf, first_number}
-use Rattle.lay_contexts.proofs.ContextFacts.{in_order, root_of}
-use Rattle.lay_contexts.proofs.RootNumbers.{first_le, roots_lt}
-use Rattle.lay_table_sizes.specs.TableSizesValue.{TableSizesValue}
-use Rattle.lay_context_sizes.specs.Inputs.{MeasureInput}
-use Rattle.lay_context.specs.declared.input.Input.{Input}
-use Rattle.lay_context.specs.declared.input.Input.TheVariants as input
-use Rattle.lay_context.specs.declared.task.Phase.{Phase}
-use Rattle.lay_context.specs.declared.task.Phase.TheVariants as phase
-use Rattle.lay_context.specs.Local.{flow_input, input_of, measure_as, measure_input, place_as, stand_input, table_input}
-use Rattle.lay_context.specs.Measured.{is_measured}
-use Rattle.lay_context.specs.Medium.{Medium}
-use Rattle.lay_context.specs.Settings.{sizes_in}
-use Rattle.lay_context.specs.Workings.{Workings}
+use Rattle.lay_layout.specs.contexts.Contexts.{AreContexts, Context, boxes_in as boxes_of_context}
+use Rattle.lay_layout.specs.contexts.FormattingContexts.{FormattingContext, boxes_in, formatting_context_at}
+use Rattle.lay_layout.specs.contexts.FormattingContextList.{AreFormattingContextsOf, first_number}
+use Rattle.lay_layout.proofs.lay_contexts.ContextFacts.{in_order, root_of}
+use Rattle.lay_layout.proofs.lay_contexts.RootNumbers.{first_le, roots_lt}
+use Rattle.lay_layout.specs.table_sizes.TableSizesValue.{TableSizesValue}
+use Rattle.lay_layout.specs.context_sizes.Inputs.{MeasureInput}
+use Rattle.lay_layout.specs.context.declared.input.Input.{Input}
+use Rattle.lay_layout.specs.context.declared.input.Input.TheVariants as input
+use Rattle.lay_layout.specs.context.declared.task.Phase.{Phase}
+use Rattle.lay_layout.specs.context.declared.task.Phase.TheVariants as phase
+use Rattle.lay_layout.specs.context.Local.{flow_input, input_of, measure_as, measure_input, place_as, stand_input, table_input}
+use Rattle.lay_layout.specs.context.Measured.{is_measured}
+use Rattle.lay_layout.specs.context.Medium.{Medium}
+use Rattle.lay_layout.specs.context.Settings.{sizes_in}
+use Rattle.lay_layout.specs.context.Workings.{Workings}
 use Rattle.lay_cell_work.specs.declared.root_spot.RootSpot.{RootSpot}
 use Rattle.lay_cell_work.specs.CellColumns.{links_of}
 use Rattle.lay_cell_work.specs.CellInputFits.{phase_given}

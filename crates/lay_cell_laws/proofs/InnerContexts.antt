@@ -2,27 +2,27 @@
 use Rattle.std.proofs.Common.{◌≡◌, ◌<◌, ◌↔◌, ℕ, Bool, true, false, All, List, length, slice_index, refl, ap, sym, subst, ◌∙◌, arith, inl, inr}
 use Rattle.std.proofs.lemmas.Bool.{cases_lt}
 use Rattle.std.proofs.lemmas.List.{get_or-map}
-use Rattle.lay_style.specs.declared.style.Style.{Style}
-use Rattle.lay_doc.specs.declared.node.Node.{Node}
-use Rattle.lay_doc.specs.Document.{ids_of}
-use Rattle.lay_anonymous_boxes.specs.declared.facts.Facts.{Facts}
-use Rattle.lay_box_tree.specs.BoxColumns.{box_at, box_ids, no_box}
-use Rattle.lay_box_tree.specs.ContextBoxes.{is_inner}
-use Rattle.lay_box_tree.specs.declared.box_tree.BoxNode.{BoxNode}
-use Rattle.lay_boxgen.specs.Contexts.{IsContextAt}
-use Rattle.lay_boxgen.specs.InnerBoxes.{IsInnerContext}
-use Rattle.lay_boxgen.specs.Listing.{box_node}
-use Rattle.lay_boxgen.proofs.InnerContexts.{inner_boxes_are_contexts}
-use Rattle.lay_contexts.specs.Contexts.{IsInside as IsInsideContext, boxes_in, context_at}
-use Rattle.lay_contexts.specs.ContextTree.{StandsIn, boxes_of_place}
-use Rattle.lay_contexts.specs.DocumentContexts.{spot_at}
-use Rattle.lay_contexts.specs.declared.context_spot.ContextSpot.{ContextSpot}
-use Rattle.lay_contexts.proofs.ContextNumbers.{are_contexts}
-use Rattle.lay_contexts.proofs.ListedFacts.{all_boxes}
-use Rattle.lay_contexts.proofs.NotedAround.{contexts_are_noted}
-use Rattle.lay_contexts.proofs.OneStand.{contexts_stand_once}
-use Rattle.lay_contexts.proofs.RootBoxes.{inner_of}
-use Rattle.lay_contexts.proofs.SpotOrder.{boxes_there}
+use Rattle.lay_layout.specs.style.declared.style.Style.{Style}
+use Rattle.lay_layout.specs.doc.declared.node.Node.{Node}
+use Rattle.lay_layout.specs.doc.Document.{ids_of}
+use Rattle.lay_layout.specs.anonymous_boxes.declared.facts.Facts.{Facts}
+use Rattle.lay_layout.specs.box_tree.BoxColumns.{box_at, box_ids, no_box}
+use Rattle.lay_layout.specs.box_tree.ContextBoxes.{is_inner}
+use Rattle.lay_layout.specs.box_tree.declared.box_tree.BoxNode.{BoxNode}
+use Rattle.lay_layout.specs.boxgen.Contexts.{IsContextAt}
+use Rattle.lay_layout.specs.boxgen.InnerBoxes.{IsInnerContext}
+use Rattle.lay_layout.specs.boxgen.Listing.{box_node}
+use Rattle.lay_layout.proofs.lay_boxgen.InnerContexts.{inner_boxes_are_contexts}
+use Rattle.lay_layout.specs.contexts.Contexts.{IsInside as IsInsideContext, boxes_in, context_at}
+use Rattle.lay_layout.specs.contexts.ContextTree.{StandsIn, boxes_of_place}
+use Rattle.lay_layout.specs.contexts.DocumentContexts.{spot_at}
+use Rattle.lay_layout.specs.contexts.declared.context_spot.ContextSpot.{ContextSpot}
+use Rattle.lay_layout.proofs.lay_contexts.ContextNumbers.{are_contexts}
+use Rattle.lay_layout.proofs.lay_contexts.ListedFacts.{all_boxes}
+use Rattle.lay_layout.proofs.lay_contexts.NotedAround.{contexts_are_noted}
+use Rattle.lay_layout.proofs.lay_contexts.OneStand.{contexts_stand_once}
+use Rattle.lay_layout.proofs.lay_contexts.RootBoxes.{inner_of}
+use Rattle.lay_layout.proofs.lay_contexts.SpotOrder.{boxes_there}
 use Rattle.lay_cell_laws.specs.SameContexts.{IsSameContext, IsTable, Table, inner_at}
 
 -- a box that is marked names a context behind the one at k

@@ -3,19 +3,19 @@
 use Rattle.std.proofs.Common.{◌≡◌, ◌<◌, ◌↔◌, ◌&&◌, ℕ, zero, suc, not, nat_lt, Bool, true, false, List, [], ◌∷◌, length, map, refl, ap, sym, ◌∙◌, arith}
 use Rattle.std.proofs.lemmas.Bool.{and_from, and_parts, lt-ltb}
 use Rattle.std.proofs.lemmas.Option.{slice_get-get_or}
-use Rattle.lay_anonymous_boxes.specs.Forms as forms
-use Rattle.lay_box_tree.specs.declared.box_tree.BoxNode.{BoxNode}
-use Rattle.lay_box_tree.specs.declared.box_tree.Flow.{Flow}
-use Rattle.lay_box_tree.specs.declared.box_tree.Flow.TheVariants.{InFlow, Floating, Absolute}
-use Rattle.lay_cells.specs.Shapes.{IsIn}
-use Rattle.lay_contexts.specs.Contexts.{IsInside, boxes_in, context_at}
-use Rattle.lay_contexts.specs.FlowLaws.{flow_at, is_anchor_at}
-use Rattle.lay_positioned.specs.Absolute.{is_absolute_flow, is_own_absolute}
-use Rattle.lay_context.specs.declared.task.Phase.{Phase}
-use Rattle.lay_shape.specs.Dependencies.{in_phase, inner_flows, is_inner_flow, needs_in}
-use Rattle.lay_shape.specs.Keys.{key_of as key_of_cell}
-use Rattle.lay_shape.specs.Ways.{is_absolute}
-use Rattle.lay_shape.proofs.Members.{in_filter}
+use Rattle.lay_layout.specs.anonymous_boxes.Forms as forms
+use Rattle.lay_layout.specs.box_tree.declared.box_tree.BoxNode.{BoxNode}
+use Rattle.lay_layout.specs.box_tree.declared.box_tree.Flow.{Flow}
+use Rattle.lay_layout.specs.box_tree.declared.box_tree.Flow.TheVariants.{InFlow, Floating, Absolute}
+use Rattle.lay_layout.specs.cells.Shapes.{IsIn}
+use Rattle.lay_layout.specs.contexts.Contexts.{IsInside, boxes_in, context_at}
+use Rattle.lay_layout.specs.contexts.FlowLaws.{flow_at, is_anchor_at}
+use Rattle.lay_layout.specs.positioned.Absolute.{is_absolute_flow, is_own_absolute}
+use Rattle.lay_layout.specs.context.declared.task.Phase.{Phase}
+use Rattle.lay_cell_work.specs.shape.Dependencies.{in_phase, inner_flows, is_inner_flow, needs_in}
+use Rattle.lay_cell_work.specs.shape.Keys.{key_of as key_of_cell}
+use Rattle.lay_cell_work.specs.shape.Ways.{is_absolute}
+use Rattle.lay_cell_work.proofs.lay_shape.Members.{in_filter}
 use Rattle.lay_cell_laws.specs.SameContexts.{AreSameInside, CounterpartsAreOfOneNode, IsSameContext, IsTable, Table, inner_at, is_out_of_flow}
 use Rattle.lay_cell_laws.proofs.InnerContexts.{none_same}
 use Rattle.lay_cell_laws.proofs.InputForms.{table_are, table_keeps}

@@ -1,35 +1,35 @@
 -- What the roots of a context are given in all, without numbers of formatting contexts.
 use Rattle.std.proofs.Common.{◌≡◌, ◌<◌, ◌-◌, ℕ, zero, suc, Bool, true, false, List, [], ◌∷◌, length, map, Option, None, Some, option_map, refl, ap, ◌∙◌, arith}
-use Rattle.lay_frag.specs.declared.frag.Frag.{Frag}
-use Rattle.lay_box_tree.specs.declared.box_tree.BoxNode.{BoxNode}
-use Rattle.lay_measure.specs.MeasureInValue.{no_widths}
-use Rattle.lay_measure.specs.declared.preferred_widths.PreferredWidths.{PreferredWidths}
-use Rattle.lay_sizes.specs.declared.own_boxes.OwnBox.{OwnBox}
-use Rattle.lay_sizes.specs.OwnBoxes.{no_own_box}
-use Rattle.lay_table_sizes.specs.TableSizesValue.{TableSizesValue}
-use Rattle.lay_contexts.specs.Contexts.{AreContexts, boxes_in, context_at}
-use Rattle.lay_contexts.specs.FormattingBoxes.{boxes_of_root}
-use Rattle.lay_contexts.specs.FormattingContexts.{FormattingContext, boxes_in as boxes_of, formatting_context_at}
-use Rattle.lay_contexts.specs.FormattingContextList.{first_number, homes_in, number_of, roots_before}
-use Rattle.lay_contexts.specs.Homes.{is_root}
-use Rattle.lay_contexts.specs.Laws.{KeepsFlowAround}
-use Rattle.lay_contexts.proofs.ContextNumbers.{are_contexts}
-use Rattle.lay_contexts.proofs.FlowAround.{anonymous_in_flow, contexts_keep_flow}
-use Rattle.lay_contexts.proofs.RootNumbers.{roots_lt}
-use Rattle.lay_pieces.specs.Placements.{Placement}
-use Rattle.lay_abspos.specs.declared.own_place.OwnPlace.{OwnPlace}
-use Rattle.lay_context_sizes.specs.ContextSizes.{SizedContext}
-use Rattle.lay_context_sizes.specs.declared.setting.Setting.{Setting}
-use Rattle.lay_context.specs.declared.input.Input.TheVariants as input
-use Rattle.lay_context.specs.declared.task.Phase.TheVariants as phase
-use Rattle.lay_context.specs.DocumentLayout.{inner_boxes, inner_pieces, inner_widths, inner_widths_in, own_box_in, painted_of, pieces_in, widths_in}
-use Rattle.lay_context.specs.Local.{flow_input, measure_as, measure_input, place_as, stand_input, table_input}
-use Rattle.lay_context.specs.Measured.{is_measured}
-use Rattle.lay_context.specs.Medium.{Medium}
-use Rattle.lay_context.specs.OwnHeights.{own_height_rule}
-use Rattle.lay_context.specs.PlacedContexts.{PlacedContext, placed_in, placement_in}
-use Rattle.lay_context.specs.Settings.{own_place_of, sizes_in}
-use Rattle.lay_context.specs.Workings.{Workings}
+use Rattle.lay_layout.specs.frag.declared.frag.Frag.{Frag}
+use Rattle.lay_layout.specs.box_tree.declared.box_tree.BoxNode.{BoxNode}
+use Rattle.lay_layout.specs.measure.MeasureInValue.{no_widths}
+use Rattle.lay_layout.specs.measure.declared.preferred_widths.PreferredWidths.{PreferredWidths}
+use Rattle.lay_layout.specs.sizes.declared.own_boxes.OwnBox.{OwnBox}
+use Rattle.lay_layout.specs.sizes.OwnBoxes.{no_own_box}
+use Rattle.lay_layout.specs.table_sizes.TableSizesValue.{TableSizesValue}
+use Rattle.lay_layout.specs.contexts.Contexts.{AreContexts, boxes_in, context_at}
+use Rattle.lay_layout.specs.contexts.FormattingBoxes.{boxes_of_root}
+use Rattle.lay_layout.specs.contexts.FormattingContexts.{FormattingContext, boxes_in as boxes_of, formatting_context_at}
+use Rattle.lay_layout.specs.contexts.FormattingContextList.{first_number, homes_in, number_of, roots_before}
+use Rattle.lay_layout.specs.contexts.Homes.{is_root}
+use Rattle.lay_layout.specs.contexts.Laws.{KeepsFlowAround}
+use Rattle.lay_layout.proofs.lay_contexts.ContextNumbers.{are_contexts}
+use Rattle.lay_layout.proofs.lay_contexts.FlowAround.{anonymous_in_flow, contexts_keep_flow}
+use Rattle.lay_layout.proofs.lay_contexts.RootNumbers.{roots_lt}
+use Rattle.lay_layout.specs.pieces.Placements.{Placement}
+use Rattle.lay_layout.specs.abspos.declared.own_place.OwnPlace.{OwnPlace}
+use Rattle.lay_layout.specs.context_sizes.ContextSizes.{SizedContext}
+use Rattle.lay_layout.specs.context_sizes.declared.setting.Setting.{Setting}
+use Rattle.lay_layout.specs.context.declared.input.Input.TheVariants as input
+use Rattle.lay_layout.specs.context.declared.task.Phase.TheVariants as phase
+use Rattle.lay_layout.specs.context.DocumentLayout.{inner_boxes, inner_pieces, inner_widths, inner_widths_in, own_box_in, painted_of, pieces_in, widths_in}
+use Rattle.lay_layout.specs.context.Local.{flow_input, measure_as, measure_input, place_as, stand_input, table_input}
+use Rattle.lay_layout.specs.context.Measured.{is_measured}
+use Rattle.lay_layout.specs.context.Medium.{Medium}
+use Rattle.lay_layout.specs.context.OwnHeights.{own_height_rule}
+use Rattle.lay_layout.specs.context.PlacedContexts.{PlacedContext, placed_in, placement_in}
+use Rattle.lay_layout.specs.context.Settings.{own_place_of, sizes_in}
+use Rattle.lay_layout.specs.context.Workings.{Workings}
 use Rattle.lay_cell_work.specs.declared.root_spot.RootSpot.{RootSpot}
 use Rattle.lay_cell_work.specs.CellColumns.{links_of, links_or_none, masked}
 use Rattle.lay_cell_work.specs.CellInputs.{RootInput}

@@ -1,29 +1,29 @@
 -- What the cells of contexts are given for sizes and places is kept, in flow by what is around them, and out of flow by their way out.
 use Rattle.std.proofs.Common.{◌≡◌, ◌<◌, ℕ, zero, suc, Bool, true, false, List, [], ◌∷◌, length, slice_index, None, Some, refl, ap, sym, subst, ◌∙◌, arith, inl, inr}
 use Rattle.std.proofs.lemmas.Bool.{cases_lt}
-use Rattle.lay_anonymous_boxes.specs.Forms as forms
-use Rattle.lay_box_tree.specs.declared.box_tree.BoxNode.{BoxNode}
-use Rattle.lay_sizes.specs.declared.sizing.ContainingBlock.{ContainingBlock}
-use Rattle.lay_contexts.specs.Contexts.{boxes_in, context_at}
-use Rattle.lay_contexts.specs.FlowLaws.{flow_at}
-use Rattle.lay_contexts.specs.FormattingBoxes.{boxes_of_root, rank}
-use Rattle.lay_contexts.specs.FormattingContexts.{AreFormattingContexts, FormattingContext, boxes_in as boxes_of, formatting_context_at}
-use Rattle.lay_contexts.specs.FormattingContextList.{first_number, homes_in, number_at, number_of, rank_at}
-use Rattle.lay_contexts.specs.Homes.{OneHome}
-use Rattle.lay_contexts.proofs.ContextFacts.{in_order}
-use Rattle.lay_pieces.specs.Standings.{standing_at}
-use Rattle.lay_abspos.specs.declared.own_place.OwnPlace.TheVariants as own_place
-use Rattle.lay_abspos.specs.declared.setting.AbsoluteSetting.{AbsoluteSetting}
-use Rattle.lay_positioned.specs.Absolute.{is_absolute, is_fixed, is_own_fixed}
-use Rattle.lay_positioned.specs.ContainingRects.{IsContainingRect}
-use Rattle.lay_positioned.specs.Holders.{IsHolderFor}
-use Rattle.lay_positioned.specs.Laws.{OneNearestHolder, SettingsAreValues, SettingsComeOfWays}
-use Rattle.lay_positioned.specs.Layouts.{Layout, standing_of}
-use Rattle.lay_positioned.specs.Settings.{IsInnerSetting, IsSetting, absolute_setting, setting_beside}
-use Rattle.lay_context_sizes.specs.declared.setting.Setting.TheVariants.{Absolute}
-use Rattle.lay_context.specs.Laws.{MeasuredWhereShrunk}
-use Rattle.lay_context.specs.Medium.{Medium}
-use Rattle.lay_context.specs.Settings.{flow_place, flow_setting, laid, own_place_of, setting_of}
+use Rattle.lay_layout.specs.anonymous_boxes.Forms as forms
+use Rattle.lay_layout.specs.box_tree.declared.box_tree.BoxNode.{BoxNode}
+use Rattle.lay_layout.specs.sizes.declared.sizing.ContainingBlock.{ContainingBlock}
+use Rattle.lay_layout.specs.contexts.Contexts.{boxes_in, context_at}
+use Rattle.lay_layout.specs.contexts.FlowLaws.{flow_at}
+use Rattle.lay_layout.specs.contexts.FormattingBoxes.{boxes_of_root, rank}
+use Rattle.lay_layout.specs.contexts.FormattingContexts.{AreFormattingContexts, FormattingContext, boxes_in as boxes_of, formatting_context_at}
+use Rattle.lay_layout.specs.contexts.FormattingContextList.{first_number, homes_in, number_at, number_of, rank_at}
+use Rattle.lay_layout.specs.contexts.Homes.{OneHome}
+use Rattle.lay_layout.proofs.lay_contexts.ContextFacts.{in_order}
+use Rattle.lay_layout.specs.pieces.Standings.{standing_at}
+use Rattle.lay_layout.specs.abspos.declared.own_place.OwnPlace.TheVariants as own_place
+use Rattle.lay_layout.specs.abspos.declared.setting.AbsoluteSetting.{AbsoluteSetting}
+use Rattle.lay_layout.specs.positioned.Absolute.{is_absolute, is_fixed, is_own_fixed}
+use Rattle.lay_layout.specs.positioned.ContainingRects.{IsContainingRect}
+use Rattle.lay_layout.specs.positioned.Holders.{IsHolderFor}
+use Rattle.lay_layout.specs.positioned.Laws.{OneNearestHolder, SettingsAreValues, SettingsComeOfWays}
+use Rattle.lay_layout.specs.positioned.Layouts.{Layout, standing_of}
+use Rattle.lay_layout.specs.positioned.Settings.{IsInnerSetting, IsSetting, absolute_setting, setting_beside}
+use Rattle.lay_layout.specs.context_sizes.declared.setting.Setting.TheVariants.{Absolute}
+use Rattle.lay_layout.specs.context.Laws.{MeasuredWhereShrunk}
+use Rattle.lay_layout.specs.context.Medium.{Medium}
+use Rattle.lay_layout.specs.context.Settings.{flow_place, flow_setting, laid, own_place_of, setting_of}
 use Rattle.lay_cell_laws.specs.SameContexts.{IsSameAround, IsSameContext, IsSameOut, IsTable, PlaceInputsAreKept, SizeInputsAreKept, Table, is_out_of_flow, workings_in}
 use Rattle.lay_cell_laws.proofs.CarriedRects as carried
 use Rattle.lay_cell_laws.proofs.InputForms.{table_are, table_calm, table_keeps}

@@ -1,17 +1,17 @@
 -- What a cell is given is kept where what it depends on is: for each phase that is what the laws of the phases ask for.
 use Rattle.std.proofs.Common.{◌≡◌, ◌<◌, ℕ, Bool, true, false, List, [], ◌∷◌, ◌++◌, map, refl, ap, sym, subst, ◌∙◌, arith}
-use Rattle.lay_doc.specs.declared.node.NodeId.{NodeId}
-use Rattle.lay_cells.specs.Shapes.{IsIn}
-use Rattle.lay_contexts.specs.Contexts.{context_at}
-use Rattle.lay_positioned.specs.Absolute.{is_own_absolute, is_own_fixed}
-use Rattle.lay_context.specs.declared.task.Phase.{Phase}
-use Rattle.lay_context.specs.declared.task.Phase.TheVariants.{Measure, Size, Place}
-use Rattle.lay_shape.specs.declared.cell_key.CellKey.{CellKey}
-use Rattle.lay_shape.specs.declared.context_phase.ContextPhase.{ContextPhase}
-use Rattle.lay_shape.specs.Dependencies.{in_phase, inner_flows, needs_in, needs_of, on_way, outer_needs, way_needs}
-use Rattle.lay_shape.specs.Keys.{key_of as key_of_cell}
-use Rattle.lay_shape.specs.Ways.{is_absolute, is_fixed, way_from, way_of}
-use Rattle.lay_shape.proofs.Members.{in_flat_map, in_here, in_left, in_map, in_right, in_there}
+use Rattle.lay_layout.specs.doc.declared.node.NodeId.{NodeId}
+use Rattle.lay_layout.specs.cells.Shapes.{IsIn}
+use Rattle.lay_layout.specs.contexts.Contexts.{context_at}
+use Rattle.lay_layout.specs.positioned.Absolute.{is_own_absolute, is_own_fixed}
+use Rattle.lay_layout.specs.context.declared.task.Phase.{Phase}
+use Rattle.lay_layout.specs.context.declared.task.Phase.TheVariants.{Measure, Size, Place}
+use Rattle.lay_cell_work.specs.shape.declared.cell_key.CellKey.{CellKey}
+use Rattle.lay_cell_work.specs.shape.declared.context_phase.ContextPhase.{ContextPhase}
+use Rattle.lay_cell_work.specs.shape.Dependencies.{in_phase, inner_flows, needs_in, needs_of, on_way, outer_needs, way_needs}
+use Rattle.lay_cell_work.specs.shape.Keys.{key_of as key_of_cell}
+use Rattle.lay_cell_work.specs.shape.Ways.{is_absolute, is_fixed, way_from, way_of}
+use Rattle.lay_cell_work.proofs.lay_shape.Members.{in_flat_map, in_here, in_left, in_map, in_right, in_there}
 use Rattle.lay_cell_laws.specs.SameContexts.{CounterpartsAreOfOneNode, IsSameAround, IsSameContext, IsSameOut, IsSameToMeasure, IsSameToPlace, IsSameToSize, IsTable, MeasureInputsAreKept, PlaceInputsAreKept, SizeInputsAreKept, Table}
 use Rattle.lay_cell_laws.proofs.InputForms.{table_are}
 use Rattle.lay_cell_laws.proofs.SameWays.{positive_other}

@@ -1,17 +1,17 @@
 -- Two ways out whose cells have the same keys are the same, step by step: contexts of the same keys are the same ones, so their boxes lead
 -- to the same holder, or on to the same place in the contexts around.
 use Rattle.std.proofs.Common.{◌≡◌, ◌<◌, ◌≤◌, ℕ, zero, suc, Bool, List, [], ◌∷◌, length, map, flat_map, slice_index_or, Option, None, Some, refl, ap, sym, subst, ◌∙◌, arith}
-use Rattle.lay_box_tree.specs.declared.box_tree.BoxNode.{BoxNode}
-use Rattle.lay_cells.specs.Shapes.{IsIn}
-use Rattle.lay_contexts.specs.Contexts.{Context, boxes_in, context_at}
-use Rattle.lay_positioned.specs.Holders.{IsHolderFor, holder_for}
-use Rattle.lay_positioned.proofs.SettingValues.{holder_is}
-use Rattle.lay_context.specs.declared.task.Phase.TheVariants.{Size, Place}
-use Rattle.lay_shape.specs.declared.cell_key.CellKey.{CellKey}
-use Rattle.lay_shape.specs.Dependencies.{in_phase, on_way}
-use Rattle.lay_shape.specs.Keys.{key_of as key_of_cell, node_of}
-use Rattle.lay_shape.specs.Ways.{beyond, way_from}
-use Rattle.lay_shape.proofs.Members.{in_here, in_there}
+use Rattle.lay_layout.specs.box_tree.declared.box_tree.BoxNode.{BoxNode}
+use Rattle.lay_layout.specs.cells.Shapes.{IsIn}
+use Rattle.lay_layout.specs.contexts.Contexts.{Context, boxes_in, context_at}
+use Rattle.lay_layout.specs.positioned.Holders.{IsHolderFor, holder_for}
+use Rattle.lay_layout.proofs.lay_positioned.SettingValues.{holder_is}
+use Rattle.lay_layout.specs.context.declared.task.Phase.TheVariants.{Size, Place}
+use Rattle.lay_cell_work.specs.shape.declared.cell_key.CellKey.{CellKey}
+use Rattle.lay_cell_work.specs.shape.Dependencies.{in_phase, on_way}
+use Rattle.lay_cell_work.specs.shape.Keys.{key_of as key_of_cell, node_of}
+use Rattle.lay_cell_work.specs.shape.Ways.{beyond, way_from}
+use Rattle.lay_cell_work.proofs.lay_shape.Members.{in_here, in_there}
 use Rattle.lay_cell_laws.specs.SameContexts.{IsLaidSame, IsSameContext, IsSameWay, IsTable, Table, further, held, initial}
 use Rattle.lay_cell_laws.proofs.InputForms.{table_are}
 use Rattle.lay_cell_laws.proofs.OuterBoxes.{outer_boxes_same}

@@ -3,18 +3,18 @@ use Rattle.std.proofs.Common.{◌≡◌, ◌<◌, ◌+◌, ◌-◌, ℕ, zero, s
 use Rattle.std.specs.List.{list_any}
 use Rattle.std.proofs.lemmas.List.FromFn.{get_or-map-range_with_len, length-map-range_with_len}
 use Rattle.std.proofs.lemmas.Option.{get_or_from_slice_get, slice_get-map, slice_get_within}
-use Rattle.lay_contexts.specs.Contexts.{AreContexts, Context}
-use Rattle.lay_contexts.specs.FormattingContexts.{FormattingContext, IsInside, formatting_context_at}
-use Rattle.lay_contexts.specs.FormattingContextList.{AreFormattingContextsOf, first_number}
-use Rattle.lay_contexts.proofs.ContextFacts.{in_order, root_of}
-use Rattle.lay_contexts.proofs.RootNumbers.{first_le}
-use Rattle.lay_context.specs.declared.input.Input.{Input}
-use Rattle.lay_context.specs.declared.input.Input.TheVariants as input
-use Rattle.lay_context.specs.declared.task.Phase.{Phase}
-use Rattle.lay_context.specs.DocumentLayout.{flow_number, flow_numbers}
-use Rattle.lay_context.specs.Local.{input_of}
-use Rattle.lay_context.specs.Medium.{Medium}
-use Rattle.lay_context.specs.Workings.{Workings}
+use Rattle.lay_layout.specs.contexts.Contexts.{AreContexts, Context}
+use Rattle.lay_layout.specs.contexts.FormattingContexts.{FormattingContext, IsInside, formatting_context_at}
+use Rattle.lay_layout.specs.contexts.FormattingContextList.{AreFormattingContextsOf, first_number}
+use Rattle.lay_layout.proofs.lay_contexts.ContextFacts.{in_order, root_of}
+use Rattle.lay_layout.proofs.lay_contexts.RootNumbers.{first_le}
+use Rattle.lay_layout.specs.context.declared.input.Input.{Input}
+use Rattle.lay_layout.specs.context.declared.input.Input.TheVariants as input
+use Rattle.lay_layout.specs.context.declared.task.Phase.{Phase}
+use Rattle.lay_layout.specs.context.DocumentLayout.{flow_number, flow_numbers}
+use Rattle.lay_layout.specs.context.Local.{input_of}
+use Rattle.lay_layout.specs.context.Medium.{Medium}
+use Rattle.lay_layout.specs.context.Workings.{Workings}
 use Rattle.lay_cell_work.specs.declared.root_spot.RootSpot.{RootSpot}
 use Rattle.lay_cell_work.specs.CellColumns.{is_link, link_to, links_of}
 use Rattle.lay_cell_work.specs.CellInputs.{RootInput}

@@ -23,3 +23,4 @@ pub mod InnerNeeds
 pub mod OuterNeeds
 pub mod KeptWays
 pub mod KeptNeeds
+pub use Rattle.lay_cell_work.proofs as lay_cell_work

@@ -3,18 +3,18 @@
 use Rattle.std.proofs.Common.{◌≡◌, ◌<◌, ◌≤◌, ◌+◌, ℕ, zero, suc, List, [], ◌∷◌, length, slice_get, slice_index_or, None, Some, refl, ap, sym, subst, ◌∙◌, arith, inl, inr}
 use Rattle.std.proofs.lemmas.Bool.{cases_lt}
 use Rattle.std.proofs.lemmas.Option.{slice_get-get_or}
-use Rattle.lay_doc.proofs.OneStyles.{same_list}
-use Rattle.lay_measure.specs.MeasureInValue.{no_widths}
-use Rattle.lay_measure.specs.declared.preferred_widths.PreferredWidths.{PreferredWidths}
-use Rattle.lay_context_sizes.specs.ContextSizes.{SizedContext, not_sized}
-use Rattle.lay_context.specs.declared.input.Input.{Input}
-use Rattle.lay_context.specs.declared.input.Input.TheVariants as input
-use Rattle.lay_context.specs.DocumentLayout.{widths_in}
-use Rattle.lay_context.specs.Laws.{OneLocal}
-use Rattle.lay_context.specs.Local.{IsLocal}
-use Rattle.lay_context.specs.PlacedContexts.{PlacedContext, not_placed, placed_in}
-use Rattle.lay_context.specs.Settings.{sizes_in}
-use Rattle.lay_context.proofs.TaskInputs.{place_value, size_value, width_value}
+use Rattle.lay_layout.proofs.lay_doc.OneStyles.{same_list}
+use Rattle.lay_layout.specs.measure.MeasureInValue.{no_widths}
+use Rattle.lay_layout.specs.measure.declared.preferred_widths.PreferredWidths.{PreferredWidths}
+use Rattle.lay_layout.specs.context_sizes.ContextSizes.{SizedContext, not_sized}
+use Rattle.lay_layout.specs.context.declared.input.Input.{Input}
+use Rattle.lay_layout.specs.context.declared.input.Input.TheVariants as input
+use Rattle.lay_layout.specs.context.DocumentLayout.{widths_in}
+use Rattle.lay_layout.specs.context.Laws.{OneLocal}
+use Rattle.lay_layout.specs.context.Local.{IsLocal}
+use Rattle.lay_layout.specs.context.PlacedContexts.{PlacedContext, not_placed, placed_in}
+use Rattle.lay_layout.specs.context.Settings.{sizes_in}
+use Rattle.lay_layout.proofs.lay_context.TaskInputs.{place_value, size_value, width_value}
 use Rattle.lay_cell_work.specs.CellInputFits.{LeadsInward}
 use Rattle.lay_cell_work.specs.CellInputs.{CellInput, RootInput}
 use Rattle.lay_cell_work.specs.CellLocal.{IsCellLocal, whole_input}

@@ -2,35 +2,35 @@
 -- contexts have the same boxes.
 use Rattle.std.proofs.Common.{◌≡◌, ◌<◌, ℕ, Bool, true, false, IsTrue, List, [], ◌∷◌, length, slice_get, slice_index, Option, None, Some, option_map, refl, ap, sym, subst, ◌∙◌, arith}
 use Rattle.std.proofs.lemmas.Option.{get_or_from_slice_get, slice_get-map}
-use Rattle.lay_style.specs.declared.style.Style.{Style}
-use Rattle.lay_style.specs.ComputedStyle.{style_at}
-use Rattle.lay_doc.specs.declared.node.Node.{Node}
-use Rattle.lay_doc.specs.declared.node.NodeId.{NodeId}
-use Rattle.lay_doc.specs.Document.{Document, IsDocument, ids_of}
-use Rattle.lay_anonymous_boxes.specs.Boxes.{Tree, Trees, tree, trees_of}
-use Rattle.lay_anonymous_boxes.specs.declared.facts.Facts.{Facts}
-use Rattle.lay_box_tree.specs.BoxColumns.{box_ids}
-use Rattle.lay_box_tree.specs.ContextBoxes.{is_inner}
-use Rattle.lay_box_tree.specs.declared.box_tree.BoxNode.{BoxNode}
-use Rattle.lay_boxgen.specs.Contexts.{IsContextAt, box_at, box_of_node, is_marked}
-use Rattle.lay_boxgen.specs.Laws.{inner_boxes}
-use Rattle.lay_boxgen.specs.Listing.{listed_part}
-use Rattle.lay_boxgen.specs.NodeBoxes.{node_box}
-use Rattle.lay_boxgen.specs.NodeTrees.{as_own, box_with, tree_at}
-use Rattle.lay_boxgen.specs.Parts.{nothing, put_list}
-use Rattle.lay_boxgen.proofs.NodeForms.{IsNodeBox, is-node_box}
-use Rattle.lay_boxgen.proofs.WholeParts.{context_is_one_box}
-use Rattle.lay_contexts.specs.Contexts.{boxes_in, context_at}
-use Rattle.lay_contexts.specs.ContextTree.{StandsIn, boxes_of_place}
-use Rattle.lay_contexts.specs.DocumentContexts.{spot_at}
-use Rattle.lay_contexts.specs.NodeTreeLaws.{child_trees, children_places}
-use Rattle.lay_contexts.specs.declared.context_spot.ContextSpot.{ContextSpot}
-use Rattle.lay_contexts.proofs.ChildTrees.{children_stand_in_order}
-use Rattle.lay_contexts.proofs.ContextNumbers.{are_contexts}
-use Rattle.lay_contexts.proofs.NodeFacts.{box_within, of_node}
-use Rattle.lay_contexts.proofs.NotedAround.{contexts_are_noted}
-use Rattle.lay_contexts.proofs.OneStand.{contexts_stand_once}
-use Rattle.lay_contexts.proofs.SpotOrder.{boxes_there}
+use Rattle.lay_layout.specs.style.declared.style.Style.{Style}
+use Rattle.lay_layout.specs.style.ComputedStyle.{style_at}
+use Rattle.lay_layout.specs.doc.declared.node.Node.{Node}
+use Rattle.lay_layout.specs.doc.declared.node.NodeId.{NodeId}
+use Rattle.lay_layout.specs.doc.Document.{Document, IsDocument, ids_of}
+use Rattle.lay_layout.specs.anonymous_boxes.Boxes.{Tree, Trees, tree, trees_of}
+use Rattle.lay_layout.specs.anonymous_boxes.declared.facts.Facts.{Facts}
+use Rattle.lay_layout.specs.box_tree.BoxColumns.{box_ids}
+use Rattle.lay_layout.specs.box_tree.ContextBoxes.{is_inner}
+use Rattle.lay_layout.specs.box_tree.declared.box_tree.BoxNode.{BoxNode}
+use Rattle.lay_layout.specs.boxgen.Contexts.{IsContextAt, box_at, box_of_node, is_marked}
+use Rattle.lay_layout.specs.boxgen.Laws.{inner_boxes}
+use Rattle.lay_layout.specs.boxgen.Listing.{listed_part}
+use Rattle.lay_layout.specs.boxgen.NodeBoxes.{node_box}
+use Rattle.lay_layout.specs.boxgen.NodeTrees.{as_own, box_with, tree_at}
+use Rattle.lay_layout.specs.boxgen.Parts.{nothing, put_list}
+use Rattle.lay_layout.proofs.lay_boxgen.NodeForms.{IsNodeBox, is-node_box}
+use Rattle.lay_layout.proofs.lay_boxgen.WholeParts.{context_is_one_box}
+use Rattle.lay_layout.specs.contexts.Contexts.{boxes_in, context_at}
+use Rattle.lay_layout.specs.contexts.ContextTree.{StandsIn, boxes_of_place}
+use Rattle.lay_layout.specs.contexts.DocumentContexts.{spot_at}
+use Rattle.lay_layout.specs.contexts.NodeTreeLaws.{child_trees, children_places}
+use Rattle.lay_layout.specs.contexts.declared.context_spot.ContextSpot.{ContextSpot}
+use Rattle.lay_layout.proofs.lay_contexts.ChildTrees.{children_stand_in_order}
+use Rattle.lay_layout.proofs.lay_contexts.ContextNumbers.{are_contexts}
+use Rattle.lay_layout.proofs.lay_contexts.NodeFacts.{box_within, of_node}
+use Rattle.lay_layout.proofs.lay_contexts.NotedAround.{contexts_are_noted}
+use Rattle.lay_layout.proofs.lay_contexts.OneStand.{contexts_stand_once}
+use Rattle.lay_layout.proofs.lay_contexts.SpotOrder.{boxes_there}
 use Rattle.lay_cell_laws.specs.SameContexts.{IsSameContext, IsTable, Table}
 
 is_true : (b : Bool) → IsTrue b → b ≡ true

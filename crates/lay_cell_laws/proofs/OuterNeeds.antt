@@ -1,9 +1,9 @@
 -- What the sizes of a context come of outside it, by its flow, and the way of an absolutely positioned one as a list.
 use Rattle.std.proofs.Common.{◌≡◌, ◌<◌, ℕ, zero, suc, true, false, List, [], ◌∷◌, arith}
-use Rattle.lay_context.specs.declared.task.Phase.TheVariants.{Size}
-use Rattle.lay_contexts.specs.Contexts.{Context, context_at}
-use Rattle.lay_shape.specs.Dependencies.{in_phase, outer_needs, way_needs}
-use Rattle.lay_shape.specs.Ways.{is_absolute, is_fixed, way_from, way_of}
+use Rattle.lay_layout.specs.context.declared.task.Phase.TheVariants.{Size}
+use Rattle.lay_layout.specs.contexts.Contexts.{Context, context_at}
+use Rattle.lay_cell_work.specs.shape.Dependencies.{in_phase, outer_needs, way_needs}
+use Rattle.lay_cell_work.specs.shape.Ways.{is_absolute, is_fixed, way_from, way_of}
 use Rattle.lay_cell_laws.proofs.RootForms.{chosen, other}
 
 module _ (contexts : List Context) where

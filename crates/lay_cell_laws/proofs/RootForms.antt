@@ -1,22 +1,22 @@
 -- What a root is given by what stands among its boxes, without numbers of formatting contexts: by the boxes of its context, and by what the
 -- cells of the contexts inside keep.
 use Rattle.std.proofs.Common.{◌≡◌, ◌<◌, ◌-◌, ℕ, zero, suc, nat_lt, Bool, true, false, if◌then◌else◌, List, ◌∷◌, length, map, slice_index, Option, None, Some, refl, ap, sym, ◌∙◌, arith}
-use Rattle.lay_anonymous_boxes.specs.Forms as forms
-use Rattle.lay_box_tree.specs.BoxColumns.{box_at}
-use Rattle.lay_box_tree.specs.declared.box_tree.BoxNode.{BoxNode}
-use Rattle.lay_box_tree.specs.declared.box_tree.Flow.{Flow}
-use Rattle.lay_box_tree.specs.declared.box_tree.Flow.TheVariants.{InFlow, Floating, Absolute}
-use Rattle.lay_contexts.specs.Contexts.{AreContexts, Context, IsInside as IsInsideContext, boxes_in, context_at}
-use Rattle.lay_contexts.specs.FlowLaws.{flow_at, is_anchor_at}
-use Rattle.lay_contexts.specs.FormattingBoxes.{at_home_before, boxes_of_root}
-use Rattle.lay_contexts.specs.FormattingContexts.{FormattingContext, boxes_in as boxes_of, formatting_context_at}
-use Rattle.lay_contexts.specs.FormattingContextList.{AreFormattingContextsOf, first_number, formatting_context_of, homes_in, inner_number, number_of, roots_before}
-use Rattle.lay_contexts.specs.Homes.{is_root}
-use Rattle.lay_contexts.specs.Laws.{KeepsFlowAround}
-use Rattle.lay_contexts.proofs.AtHome.{home_is, place_there}
-use Rattle.lay_contexts.proofs.RootNumbers.{Numbered, number_lt, roots_lt}
-use Rattle.lay_positioned.specs.Absolute.{is_absolute, is_absolute_flow, is_own_absolute}
-use Rattle.lay_context.specs.DocumentLayout.{flow_number, flow_numbers}
+use Rattle.lay_layout.specs.anonymous_boxes.Forms as forms
+use Rattle.lay_layout.specs.box_tree.BoxColumns.{box_at}
+use Rattle.lay_layout.specs.box_tree.declared.box_tree.BoxNode.{BoxNode}
+use Rattle.lay_layout.specs.box_tree.declared.box_tree.Flow.{Flow}
+use Rattle.lay_layout.specs.box_tree.declared.box_tree.Flow.TheVariants.{InFlow, Floating, Absolute}
+use Rattle.lay_layout.specs.contexts.Contexts.{AreContexts, Context, IsInside as IsInsideContext, boxes_in, context_at}
+use Rattle.lay_layout.specs.contexts.FlowLaws.{flow_at, is_anchor_at}
+use Rattle.lay_layout.specs.contexts.FormattingBoxes.{at_home_before, boxes_of_root}
+use Rattle.lay_layout.specs.contexts.FormattingContexts.{FormattingContext, boxes_in as boxes_of, formatting_context_at}
+use Rattle.lay_layout.specs.contexts.FormattingContextList.{AreFormattingContextsOf, first_number, formatting_context_of, homes_in, inner_number, number_of, roots_before}
+use Rattle.lay_layout.specs.contexts.Homes.{is_root}
+use Rattle.lay_layout.specs.contexts.Laws.{KeepsFlowAround}
+use Rattle.lay_layout.proofs.lay_contexts.AtHome.{home_is, place_there}
+use Rattle.lay_layout.proofs.lay_contexts.RootNumbers.{Numbered, number_lt, roots_lt}
+use Rattle.lay_layout.specs.positioned.Absolute.{is_absolute, is_absolute_flow, is_own_absolute}
+use Rattle.lay_layout.specs.context.DocumentLayout.{flow_number, flow_numbers}
 use Rattle.lay_cell_work.specs.CellColumns.{link_to, links_of, links_or_none, masked}
 use Rattle.lay_cell_laws.proofs.MaskedColumns.{column_is, entry, masked_is, masked_value}
 use Rattle.lay_cell_laws.proofs.RootsOfContexts.{AreCalm, anonymous_flows, flow_of}

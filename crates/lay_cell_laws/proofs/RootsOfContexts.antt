@@ -1,19 +1,19 @@
 -- The roots of a context have the numbers from its first one on. An anonymous formatting context inside another one is of the same context,
 -- and so is the one around it; and it is in flow.
 use Rattle.std.proofs.Common.{◌≡◌, ℕ, zero, suc, nat_lt, ◌+◌, ◌<◌, ◌≤◌, ◌&&◌, Bool, true, false, not, List, [], ◌∷◌, length, slice_index, slice_index_or, refl, ap, sym, subst, ◌∙◌, arith}
-use Rattle.lay_box_tree.specs.BoxColumns.{box_at}
-use Rattle.lay_box_tree.specs.Containing.{is_anonymous}
-use Rattle.lay_box_tree.specs.declared.box_tree.BoxNode.{BoxNode}
-use Rattle.lay_box_tree.specs.declared.box_tree.Flow.TheVariants.{InFlow}
-use Rattle.lay_contexts.specs.Contexts.{AreContexts, Context, boxes_in}
-use Rattle.lay_contexts.specs.FlowLaws.{flow_at}
-use Rattle.lay_contexts.specs.FormattingContexts.{FormattingContext, formatting_context_at}
-use Rattle.lay_contexts.specs.FormattingContextList.{AreFormattingContextsOf, first_number, homes_in, number_at, number_of, spot_of}
-use Rattle.lay_contexts.specs.Homes.{box_roots, is_root, is_wrapper_or_cell}
-use Rattle.lay_contexts.specs.declared.spot.Spot.{Spot}
-use Rattle.lay_contexts.proofs.ContextFacts.{home_root, home_there, is_behind, value_of}
-use Rattle.lay_contexts.proofs.RootNumbers.{Numbered, roots_lt}
-use Rattle.lay_positioned.specs.Absolute.{is_absolute, is_absolute_flow, is_own_absolute}
+use Rattle.lay_layout.specs.box_tree.BoxColumns.{box_at}
+use Rattle.lay_layout.specs.box_tree.Containing.{is_anonymous}
+use Rattle.lay_layout.specs.box_tree.declared.box_tree.BoxNode.{BoxNode}
+use Rattle.lay_layout.specs.box_tree.declared.box_tree.Flow.TheVariants.{InFlow}
+use Rattle.lay_layout.specs.contexts.Contexts.{AreContexts, Context, boxes_in}
+use Rattle.lay_layout.specs.contexts.FlowLaws.{flow_at}
+use Rattle.lay_layout.specs.contexts.FormattingContexts.{FormattingContext, formatting_context_at}
+use Rattle.lay_layout.specs.contexts.FormattingContextList.{AreFormattingContextsOf, first_number, homes_in, number_at, number_of, spot_of}
+use Rattle.lay_layout.specs.contexts.Homes.{box_roots, is_root, is_wrapper_or_cell}
+use Rattle.lay_layout.specs.contexts.declared.spot.Spot.{Spot}
+use Rattle.lay_layout.proofs.lay_contexts.ContextFacts.{home_root, home_there, is_behind, value_of}
+use Rattle.lay_layout.proofs.lay_contexts.RootNumbers.{Numbered, roots_lt}
+use Rattle.lay_layout.specs.positioned.Absolute.{is_absolute, is_absolute_flow, is_own_absolute}
 use Rattle.lay_cell_work.specs.PresentInputs.{root_count}
 
 -- j is the number of a root of the context c

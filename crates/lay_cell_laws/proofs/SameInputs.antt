@@ -1,32 +1,32 @@
 -- What a cell is given is kept where its context is the same and what it depends on is kept.
 use Rattle.std.proofs.Common.{◌≡◌, ◌<◌, ℕ, zero, suc, true, false, List, [], ◌∷◌, length, map, slice_index, Option, None, refl, ap, sym, ◌∙◌, arith}
-use Rattle.lay_box_tree.specs.declared.box_tree.BoxNode.{BoxNode}
-use Rattle.lay_frag.specs.declared.frag.Frag.{Frag}
-use Rattle.lay_measure.specs.MeasureInValue.{no_widths}
-use Rattle.lay_measure.specs.declared.preferred_widths.PreferredWidths.{PreferredWidths}
-use Rattle.lay_sizes.specs.declared.own_boxes.OwnBox.{OwnBox}
-use Rattle.lay_sizes.specs.OwnBoxes.{no_own_box}
-use Rattle.lay_sizes.specs.declared.sizing.ContainingBlock.{ContainingBlock}
-use Rattle.lay_contexts.specs.Contexts.{boxes_in, context_at}
-use Rattle.lay_contexts.specs.FormattingBoxes.{boxes_of_root, rank}
-use Rattle.lay_contexts.specs.FormattingContexts.{FormattingContext, boxes_in as boxes_of, formatting_context_at}
-use Rattle.lay_contexts.specs.FormattingContextList.{first_number, homes_in, number_at, number_of, rank_at, roots_before, spot_of}
-use Rattle.lay_contexts.specs.Homes.{OneHome, is_root}
-use Rattle.lay_contexts.proofs.ContextFacts.{home_root, home_there}
-use Rattle.lay_contexts.proofs.RootNumbers.{Numbered}
-use Rattle.lay_abspos.specs.declared.own_place.OwnPlace.TheVariants as own_place
-use Rattle.lay_positioned.specs.Absolute.{is_absolute}
-use Rattle.lay_positioned.specs.Settings.{absolute_setting}
-use Rattle.lay_context_sizes.specs.ContextSizes.{SizedContext}
-use Rattle.lay_context_sizes.specs.declared.setting.Setting.{Setting}
-use Rattle.lay_context_sizes.specs.declared.setting.Setting.TheVariants.{Absolute}
-use Rattle.lay_context.specs.declared.task.Phase.TheVariants as phase
-use Rattle.lay_context.specs.DocumentLayout.{widths_in}
-use Rattle.lay_context.specs.Laws.{MeasuredWhereShrunk}
-use Rattle.lay_context.specs.Measured.{is_measured}
-use Rattle.lay_context.specs.Medium.{Medium}
-use Rattle.lay_context.specs.PlacedContexts.{placed_in}
-use Rattle.lay_context.specs.Settings.{flow_place, flow_setting, laid, own_place_of, setting_in, setting_of, sizes_in}
+use Rattle.lay_layout.specs.box_tree.declared.box_tree.BoxNode.{BoxNode}
+use Rattle.lay_layout.specs.frag.declared.frag.Frag.{Frag}
+use Rattle.lay_layout.specs.measure.MeasureInValue.{no_widths}
+use Rattle.lay_layout.specs.measure.declared.preferred_widths.PreferredWidths.{PreferredWidths}
+use Rattle.lay_layout.specs.sizes.declared.own_boxes.OwnBox.{OwnBox}
+use Rattle.lay_layout.specs.sizes.OwnBoxes.{no_own_box}
+use Rattle.lay_layout.specs.sizes.declared.sizing.ContainingBlock.{ContainingBlock}
+use Rattle.lay_layout.specs.contexts.Contexts.{boxes_in, context_at}
+use Rattle.lay_layout.specs.contexts.FormattingBoxes.{boxes_of_root, rank}
+use Rattle.lay_layout.specs.contexts.FormattingContexts.{FormattingContext, boxes_in as boxes_of, formatting_context_at}
+use Rattle.lay_layout.specs.contexts.FormattingContextList.{first_number, homes_in, number_at, number_of, rank_at, roots_before, spot_of}
+use Rattle.lay_layout.specs.contexts.Homes.{OneHome, is_root}
+use Rattle.lay_layout.proofs.lay_contexts.ContextFacts.{home_root, home_there}
+use Rattle.lay_layout.proofs.lay_contexts.RootNumbers.{Numbered}
+use Rattle.lay_layout.specs.abspos.declared.own_place.OwnPlace.TheVariants as own_place
+use Rattle.lay_layout.specs.positioned.Absolute.{is_absolute}
+use Rattle.lay_layout.specs.positioned.Settings.{absolute_setting}
+use Rattle.lay_layout.specs.context_sizes.ContextSizes.{SizedContext}
+use Rattle.lay_layout.specs.context_sizes.declared.setting.Setting.{Setting}
+use Rattle.lay_layout.specs.context_sizes.declared.setting.Setting.TheVariants.{Absolute}
+use Rattle.lay_layout.specs.context.declared.task.Phase.TheVariants as phase
+use Rattle.lay_layout.specs.context.DocumentLayout.{widths_in}
+use Rattle.lay_layout.specs.context.Laws.{MeasuredWhereShrunk}
+use Rattle.lay_layout.specs.context.Measured.{is_measured}
+use Rattle.lay_layout.specs.context.Medium.{Medium}
+use Rattle.lay_layout.specs.context.PlacedContexts.{placed_in}
+use Rattle.lay_layout.specs.context.Settings.{flow_place, flow_setting, laid, own_place_of, setting_in, setting_of, sizes_in}
 use Rattle.lay_cell_work.specs.declared.root_spot.RootSpot.{RootSpot}
 use Rattle.lay_cell_work.specs.CellColumns.{links_or_none}
 use Rattle.lay_cell_work.specs.CellLocal.{masked_setting}

@@ -4,28 +4,28 @@ use Rattle.std.proofs.Common.{◌≡◌, ◌<◌, ◌≤◌, ◌+◌, ◌-◌, �
 use Rattle.std.specs.List.{range_with_len}
 use Rattle.std.proofs.lemmas.Bool.{cases_lt}
 use Rattle.std.proofs.lemmas.List.FromFn.{get_or-map-range_with_len, length-map-range_with_len}
-use Rattle.lay_doc.proofs.OneStyles.{same_list}
-use Rattle.lay_box_tree.specs.BoxColumns.{box_at}
-use Rattle.lay_box_tree.specs.declared.box_tree.BoxNode.{BoxNode}
-use Rattle.lay_contexts.specs.Contexts.{boxes_in, context_at}
-use Rattle.lay_contexts.specs.FlowLaws.{is_anchor_at}
-use Rattle.lay_contexts.specs.FormattingBoxes.{boxes_of_root, rank}
-use Rattle.lay_contexts.specs.FormattingContexts.{AreFormattingContexts, FormattingContext, boxes_in as boxes_of, formatting_context_at}
-use Rattle.lay_contexts.specs.FormattingContextList.{first_number, homes_in, number_at, number_of, rank_at, roots_before}
-use Rattle.lay_contexts.specs.Homes.{IsHome, OneHome, is_root}
-use Rattle.lay_contexts.proofs.AtHome.{place_there}
-use Rattle.lay_contexts.proofs.ContextFacts.{home_root, home_there, in_order}
-use Rattle.lay_contexts.proofs.RootNumbers.{roots_lt, roots_no, roots_yes}
-use Rattle.lay_context_sizes.specs.ShrinkToFit.{shrinks_to_fit}
-use Rattle.lay_context.specs.declared.input.Input.TheVariants as input
-use Rattle.lay_context.specs.declared.task.Phase.{Phase}
-use Rattle.lay_context.specs.Laws.{MeasuredWhereShrunk}
-use Rattle.lay_context.specs.Measured.{ShrinksOutward, around, is_measured, own}
-use Rattle.lay_context.specs.Medium.{Medium}
+use Rattle.lay_layout.proofs.lay_doc.OneStyles.{same_list}
+use Rattle.lay_layout.specs.box_tree.BoxColumns.{box_at}
+use Rattle.lay_layout.specs.box_tree.declared.box_tree.BoxNode.{BoxNode}
+use Rattle.lay_layout.specs.contexts.Contexts.{boxes_in, context_at}
+use Rattle.lay_layout.specs.contexts.FlowLaws.{is_anchor_at}
+use Rattle.lay_layout.specs.contexts.FormattingBoxes.{boxes_of_root, rank}
+use Rattle.lay_layout.specs.contexts.FormattingContexts.{AreFormattingContexts, FormattingContext, boxes_in as boxes_of, formatting_context_at}
+use Rattle.lay_layout.specs.contexts.FormattingContextList.{first_number, homes_in, number_at, number_of, rank_at, roots_before}
+use Rattle.lay_layout.specs.contexts.Homes.{IsHome, OneHome, is_root}
+use Rattle.lay_layout.proofs.lay_contexts.AtHome.{place_there}
+use Rattle.lay_layout.proofs.lay_contexts.ContextFacts.{home_root, home_there, in_order}
+use Rattle.lay_layout.proofs.lay_contexts.RootNumbers.{roots_lt, roots_no, roots_yes}
+use Rattle.lay_layout.specs.context_sizes.ShrinkToFit.{shrinks_to_fit}
+use Rattle.lay_layout.specs.context.declared.input.Input.TheVariants as input
+use Rattle.lay_layout.specs.context.declared.task.Phase.{Phase}
+use Rattle.lay_layout.specs.context.Laws.{MeasuredWhereShrunk}
+use Rattle.lay_layout.specs.context.Measured.{ShrinksOutward, around, is_measured, own}
+use Rattle.lay_layout.specs.context.Medium.{Medium}
 use Rattle.lay_cell_work.specs.declared.root_spot.RootSpot.{RootSpot}
 use Rattle.lay_cell_work.specs.CellColumns.{links_or_none}
 use Rattle.lay_cell_work.specs.CellInputs.{CellInput, RootInput}
-use Rattle.lay_shape.specs.declared.cell_key.CellKey.{CellKey}
+use Rattle.lay_cell_work.specs.shape.declared.cell_key.CellKey.{CellKey}
 use Rattle.lay_cell_work.specs.PresentInputs.{key_of, root_count, root_input, spot_in}
 use Rattle.lay_cell_laws.specs.SameContexts.{IsSameContext, IsTable, Table, inner_at, input_in, workings_in}
 use Rattle.lay_cell_laws.proofs.InputForms.{table_are, table_calm, table_keeps}

@@ -1,21 +1,21 @@
 -- A way out by contexts is one by formatting contexts: through the anonymous roots in each context.
 use Rattle.std.proofs.Common.{◌≡◌, ◌<◌, ℕ, zero, suc, Bool, true, false, List, length, slice_index, Option, None, Some, refl, ap, sym, subst, ◌∙◌, arith}
-use Rattle.lay_box_tree.specs.Containers.{box_parent}
-use Rattle.lay_box_tree.specs.declared.box_tree.BoxNode.{BoxNode}
-use Rattle.lay_contexts.specs.Contexts.{boxes_in, context_at}
-use Rattle.lay_contexts.specs.FormattingBoxes.{boxes_of_root, rank}
-use Rattle.lay_contexts.specs.FormattingContexts.{FormattingContext, boxes_in as boxes_of, formatting_context_at}
-use Rattle.lay_contexts.specs.FormattingContextList.{homes_in, number_at, number_of, rank_at, roots_before}
-use Rattle.lay_box_tree.specs.ContextBoxes.{AreContextBoxes}
-use Rattle.lay_contexts.specs.Homes.{AreHomes, OneHome, is_root, own}
-use Rattle.lay_contexts.proofs.ContextFacts.{home_low, home_root, home_there}
-use Rattle.lay_contexts.proofs.RootNumbers.{roots_lt}
-use Rattle.lay_positioned.specs.Holders.{IsHolderFor, IsNearestHolder, further as farther, is_holder_at, parent}
-use Rattle.lay_positioned.specs.Layouts.{Layout}
-use Rattle.lay_context_sizes.specs.ContextSizes.{SizedContext}
-use Rattle.lay_context.specs.declared.task.Phase.TheVariants as phase
-use Rattle.lay_context.specs.PlacedContexts.{PlacedContext, placed_in}
-use Rattle.lay_context.specs.Settings.{laid, sizes_in}
+use Rattle.lay_layout.specs.box_tree.Containers.{box_parent}
+use Rattle.lay_layout.specs.box_tree.declared.box_tree.BoxNode.{BoxNode}
+use Rattle.lay_layout.specs.contexts.Contexts.{boxes_in, context_at}
+use Rattle.lay_layout.specs.contexts.FormattingBoxes.{boxes_of_root, rank}
+use Rattle.lay_layout.specs.contexts.FormattingContexts.{FormattingContext, boxes_in as boxes_of, formatting_context_at}
+use Rattle.lay_layout.specs.contexts.FormattingContextList.{homes_in, number_at, number_of, rank_at, roots_before}
+use Rattle.lay_layout.specs.box_tree.ContextBoxes.{AreContextBoxes}
+use Rattle.lay_layout.specs.contexts.Homes.{AreHomes, OneHome, is_root, own}
+use Rattle.lay_layout.proofs.lay_contexts.ContextFacts.{home_low, home_root, home_there}
+use Rattle.lay_layout.proofs.lay_contexts.RootNumbers.{roots_lt}
+use Rattle.lay_layout.specs.positioned.Holders.{IsHolderFor, IsNearestHolder, further as farther, is_holder_at, parent}
+use Rattle.lay_layout.specs.positioned.Layouts.{Layout}
+use Rattle.lay_layout.specs.context_sizes.ContextSizes.{SizedContext}
+use Rattle.lay_layout.specs.context.declared.task.Phase.TheVariants as phase
+use Rattle.lay_layout.specs.context.PlacedContexts.{PlacedContext, placed_in}
+use Rattle.lay_layout.specs.context.Settings.{laid, sizes_in}
 use Rattle.lay_cell_work.specs.CellValues.{CellValue, own_places, own_sizes}
 use Rattle.lay_cell_laws.specs.SameContexts.{IsLaidSame, IsSameWay, IsTable, Table, further, held, initial, workings_in}
 use Rattle.lay_cell_laws.proofs.CarriedRects.{IsSameHere, at_root, ends, goes_on}

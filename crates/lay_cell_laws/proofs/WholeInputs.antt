@@ -2,34 +2,34 @@
 use Rattle.std.proofs.Common.{◌≡◌, ◌<◌, ◌+◌, ◌-◌, ℕ, zero, suc, Bool, true, false, if◌then◌else◌, List, [], ◌∷◌, length, map, slice_index, slice_index_or, Option, None, Some, option_map, refl, ap, sym, ◌∙◌, arith}
 use Rattle.std.proofs.lemmas.List.{get_or-map, length-map}
 use Rattle.std.proofs.lemmas.List.FromFn.{get_or-map-range_with_len, length-map-range_with_len}
-use Rattle.lay_frag.specs.declared.frag.Frag.{Frag}
-use Rattle.lay_box_tree.specs.declared.box_tree.BoxNode.{BoxNode}
-use Rattle.lay_measure.specs.MeasureInValue.{no_widths}
-use Rattle.lay_measure.specs.declared.preferred_widths.PreferredWidths.{PreferredWidths}
-use Rattle.lay_sizes.specs.declared.own_boxes.OwnBox.{OwnBox}
-use Rattle.lay_sizes.specs.OwnBoxes.{no_own_box}
-use Rattle.lay_sizes.specs.declared.sizing.ContainingBlock.{ContainingBlock}
-use Rattle.lay_table_sizes.specs.TableSizesValue.{TableSizesValue}
-use Rattle.lay_contexts.specs.Contexts.{AreContexts, Context}
-use Rattle.lay_contexts.specs.FormattingContexts.{FormattingContext, boxes_in, formatting_context_at}
-use Rattle.lay_contexts.specs.FormattingContextList.{AreFormattingContextsOf, first_number}
-use Rattle.lay_contexts.proofs.RootNumbers.{Numbered}
-use Rattle.lay_positioned.specs.Absolute.{is_absolute}
-use Rattle.lay_positioned.specs.Settings.{absolute_setting}
-use Rattle.lay_context_sizes.specs.ContextSizes.{SizedContext, not_sized}
-use Rattle.lay_context_sizes.specs.declared.setting.Setting.{Setting}
-use Rattle.lay_context_sizes.specs.declared.setting.Setting.TheVariants.{Absolute}
-use Rattle.lay_context.specs.declared.input.Input.{Input}
-use Rattle.lay_context.specs.declared.input.Input.TheVariants as input
-use Rattle.lay_context.specs.declared.task.Phase.{Phase}
-use Rattle.lay_context.specs.declared.task.Phase.TheVariants as phase
-use Rattle.lay_context.specs.DocumentLayout.{flow_number, flow_numbers, inner_boxes, inner_pieces, inner_widths_in, own_box_in, painted_of, pieces_in, widths_in}
-use Rattle.lay_context.specs.Local.{flow_input, input_of, measure_as, measure_input, place_as, size_input, stand_input, table_input}
-use Rattle.lay_context.specs.Measured.{is_measured}
-use Rattle.lay_context.specs.Medium.{Medium}
-use Rattle.lay_context.specs.PlacedContexts.{PlacedContext, not_placed, placed_in, placement_in}
-use Rattle.lay_context.specs.Settings.{flow_setting, laid, setting_in, setting_of, sizes_in}
-use Rattle.lay_context.specs.Workings.{Workings}
+use Rattle.lay_layout.specs.frag.declared.frag.Frag.{Frag}
+use Rattle.lay_layout.specs.box_tree.declared.box_tree.BoxNode.{BoxNode}
+use Rattle.lay_layout.specs.measure.MeasureInValue.{no_widths}
+use Rattle.lay_layout.specs.measure.declared.preferred_widths.PreferredWidths.{PreferredWidths}
+use Rattle.lay_layout.specs.sizes.declared.own_boxes.OwnBox.{OwnBox}
+use Rattle.lay_layout.specs.sizes.OwnBoxes.{no_own_box}
+use Rattle.lay_layout.specs.sizes.declared.sizing.ContainingBlock.{ContainingBlock}
+use Rattle.lay_layout.specs.table_sizes.TableSizesValue.{TableSizesValue}
+use Rattle.lay_layout.specs.contexts.Contexts.{AreContexts, Context}
+use Rattle.lay_layout.specs.contexts.FormattingContexts.{FormattingContext, boxes_in, formatting_context_at}
+use Rattle.lay_layout.specs.contexts.FormattingContextList.{AreFormattingContextsOf, first_number}
+use Rattle.lay_layout.proofs.lay_contexts.RootNumbers.{Numbered}
+use Rattle.lay_layout.specs.positioned.Absolute.{is_absolute}
+use Rattle.lay_layout.specs.positioned.Settings.{absolute_setting}
+use Rattle.lay_layout.specs.context_sizes.ContextSizes.{SizedContext, not_sized}
+use Rattle.lay_layout.specs.context_sizes.declared.setting.Setting.{Setting}
+use Rattle.lay_layout.specs.context_sizes.declared.setting.Setting.TheVariants.{Absolute}
+use Rattle.lay_layout.specs.context.declared.input.Input.{Input}
+use Rattle.lay_layout.specs.context.declared.input.Input.TheVariants as input
+use Rattle.lay_layout.specs.context.declared.task.Phase.{Phase}
+use Rattle.lay_layout.specs.context.declared.task.Phase.TheVariants as phase
+use Rattle.lay_layout.specs.context.DocumentLayout.{flow_number, flow_numbers, inner_boxes, inner_pieces, inner_widths_in, own_box_in, painted_of, pieces_in, widths_in}
+use Rattle.lay_layout.specs.context.Local.{flow_input, input_of, measure_as, measure_input, place_as, size_input, stand_input, table_input}
+use Rattle.lay_layout.specs.context.Measured.{is_measured}
+use Rattle.lay_layout.specs.context.Medium.{Medium}
+use Rattle.lay_layout.specs.context.PlacedContexts.{PlacedContext, not_placed, placed_in, placement_in}
+use Rattle.lay_layout.specs.context.Settings.{flow_setting, laid, setting_in, setting_of, sizes_in}
+use Rattle.lay_layout.specs.context.Workings.{Workings}
 use Rattle.lay_cell_work.specs.declared.root_spot.RootSpot.{RootSpot}
 use Rattle.lay_cell_work.specs.CellColumns.{filled, link_to, links_of, masked}
 use Rattle.lay_cell_work.specs.CellInputs.{RootInput}

@@ -1,17 +1,17 @@
 -- The cells of a document: there is a cell for each of its contexts (CSS 2.2, 9.4.1) and phase, in the order of their shape, and what a
 -- clean cell keeps is of the input that it would be given now.
 use Rattle.std.specs.Prelude.{◌≡◌, List, map}
-use Rattle.lay_style.specs.declared.style.Style.{Style}
-use Rattle.lay_style.specs.ComputedStyle.{HasStyles}
-use Rattle.lay_doc.specs.Document.{Document, IsDocument, declarations_of, parents_of}
-use Rattle.lay_face.specs.FaceValue.{FaceValue}
-use Rattle.lay_cells.specs.Rows.{entry_of}
-use Rattle.lay_contexts.specs.Contexts.{Context}
-use Rattle.lay_contexts.specs.ContextList.{AreContextsOf}
-use Rattle.lay_contexts.specs.FormattingContexts.{FormattingContext}
-use Rattle.lay_contexts.specs.FormattingContextList.{AreFormattingContextsOf}
-use Rattle.lay_context.specs.Solves.{medium_of}
-use Rattle.lay_shape.specs.Shapes.{shape_of}
+use Rattle.lay_layout.specs.style.declared.style.Style.{Style}
+use Rattle.lay_layout.specs.style.ComputedStyle.{HasStyles}
+use Rattle.lay_layout.specs.doc.Document.{Document, IsDocument, declarations_of, parents_of}
+use Rattle.lay_layout.specs.face.FaceValue.{FaceValue}
+use Rattle.lay_layout.specs.cells.Rows.{entry_of}
+use Rattle.lay_layout.specs.contexts.Contexts.{Context}
+use Rattle.lay_layout.specs.contexts.ContextList.{AreContextsOf}
+use Rattle.lay_layout.specs.contexts.FormattingContexts.{FormattingContext}
+use Rattle.lay_layout.specs.contexts.FormattingContextList.{AreFormattingContextsOf}
+use Rattle.lay_layout.specs.context.Solves.{medium_of}
+use Rattle.lay_cell_work.specs.shape.Shapes.{shape_of}
 use Rattle.lay_cell_laws.specs.SoundCells.{AreCellsOf, CellState}
 
 -- these are the contexts and the formatting contexts of the document, and the cells are those of its shape and keep values of it

@@ -2,13 +2,13 @@
 -- depends on keep the same values. Which cells these are is said by `needs_in` of lay_shape, and cells of two tables are the same one
 -- where they have the same key: numbers of contexts may differ.
 use Rattle.std.specs.Prelude.{ℕ, ◌≡◌, ◌<◌, length}
-use Rattle.lay_cells.specs.Shapes.{IsIn}
-use Rattle.lay_contexts.specs.FormattingContextList.{first_number}
-use Rattle.lay_context.specs.declared.task.Phase.{Phase}
-use Rattle.lay_context.specs.declared.task.Phase.TheVariants.{Measure}
-use Rattle.lay_context.specs.Measured.{is_measured}
-use Rattle.lay_context.specs.Medium.{Medium}
-use Rattle.lay_shape.specs.Dependencies.{in_phase, needs_in, needs_of}
+use Rattle.lay_layout.specs.cells.Shapes.{IsIn}
+use Rattle.lay_layout.specs.contexts.FormattingContextList.{first_number}
+use Rattle.lay_layout.specs.context.declared.task.Phase.{Phase}
+use Rattle.lay_layout.specs.context.declared.task.Phase.TheVariants.{Measure}
+use Rattle.lay_layout.specs.context.Measured.{is_measured}
+use Rattle.lay_layout.specs.context.Medium.{Medium}
+use Rattle.lay_cell_work.specs.shape.Dependencies.{in_phase, needs_in, needs_of}
 use Rattle.lay_cell_work.specs.PresentInputs.{key_of}
 use Rattle.lay_cell_laws.specs.SameContexts.{IsSameContext, IsTable, Table, input_in}
 

@@ -1,12 +1,12 @@
 -- Values that are laid end to end stand at the numbers of their formatting contexts; and beside what it is given a cell has one value,
 -- as what its roots give each other goes one way.
 use Rattle.std.specs.Prelude.{ℕ, ◌≡◌, ◌+◌, ◌<◌, List, length, slice_index_or}
-use Rattle.lay_contexts.specs.Contexts.{AreContexts, Context}
-use Rattle.lay_contexts.specs.FormattingContexts.{FormattingContext}
-use Rattle.lay_contexts.specs.FormattingContextList.{AreFormattingContextsOf, first_number}
-use Rattle.lay_context.specs.declared.task.Phase.{Phase}
-use Rattle.lay_context.specs.Medium.{Medium}
-use Rattle.lay_context.specs.Workings.{Workings}
+use Rattle.lay_layout.specs.contexts.Contexts.{AreContexts, Context}
+use Rattle.lay_layout.specs.contexts.FormattingContexts.{FormattingContext}
+use Rattle.lay_layout.specs.contexts.FormattingContextList.{AreFormattingContextsOf, first_number}
+use Rattle.lay_layout.specs.context.declared.task.Phase.{Phase}
+use Rattle.lay_layout.specs.context.Medium.{Medium}
+use Rattle.lay_layout.specs.context.Workings.{Workings}
 use Rattle.lay_cell_work.specs.CellInputFits.{CellInputFits, LeadsInward}
 use Rattle.lay_cell_work.specs.CellInputs.{CellInput}
 use Rattle.lay_cell_work.specs.CellLocal.{IsCellLocal}

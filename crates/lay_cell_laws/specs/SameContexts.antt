@@ -3,21 +3,21 @@
 -- places of the contexts inside again. Contexts are known by numbers in each document, and an edit moves these: so none is in what is said
 -- here to be the same.
 use Rattle.std.specs.Prelude.{ℕ, ◌≡◌, ◌<◌, ◌↔◌, Bool, true, false, List, length, slice_index, Some}
-use Rattle.lay_style.specs.declared.style.Style.{Style}
-use Rattle.lay_doc.specs.Document.{Document, IsDocument}
-use Rattle.lay_anonymous_boxes.specs.Forms.{is_absolute}
-use Rattle.lay_contexts.specs.Contexts.{Context, boxes_in, context_at}
-use Rattle.lay_contexts.specs.ContextList.{AreContextsOf}
-use Rattle.lay_contexts.specs.FlowLaws.{flow_at, is_anchor_at}
-use Rattle.lay_contexts.specs.FormattingContexts.{FormattingContext}
-use Rattle.lay_contexts.specs.FormattingContextList.{AreFormattingContextsOf, first_number}
-use Rattle.lay_positioned.specs.Absolute.{is_own_fixed}
-use Rattle.lay_positioned.specs.Holders.{IsHolderFor}
-use Rattle.lay_context.specs.declared.task.Phase.{Phase}
-use Rattle.lay_context.specs.declared.task.Phase.TheVariants as phase
-use Rattle.lay_context.specs.Measured.{is_measured}
-use Rattle.lay_context.specs.Medium.{Medium}
-use Rattle.lay_context.specs.Workings.{Workings}
+use Rattle.lay_layout.specs.style.declared.style.Style.{Style}
+use Rattle.lay_layout.specs.doc.Document.{Document, IsDocument}
+use Rattle.lay_layout.specs.anonymous_boxes.Forms.{is_absolute}
+use Rattle.lay_layout.specs.contexts.Contexts.{Context, boxes_in, context_at}
+use Rattle.lay_layout.specs.contexts.ContextList.{AreContextsOf}
+use Rattle.lay_layout.specs.contexts.FlowLaws.{flow_at, is_anchor_at}
+use Rattle.lay_layout.specs.contexts.FormattingContexts.{FormattingContext}
+use Rattle.lay_layout.specs.contexts.FormattingContextList.{AreFormattingContextsOf, first_number}
+use Rattle.lay_layout.specs.positioned.Absolute.{is_own_fixed}
+use Rattle.lay_layout.specs.positioned.Holders.{IsHolderFor}
+use Rattle.lay_layout.specs.context.declared.task.Phase.{Phase}
+use Rattle.lay_layout.specs.context.declared.task.Phase.TheVariants as phase
+use Rattle.lay_layout.specs.context.Measured.{is_measured}
+use Rattle.lay_layout.specs.context.Medium.{Medium}
+use Rattle.lay_layout.specs.context.Workings.{Workings}
 use Rattle.lay_cell_work.specs.CellInputs.{CellInput}
 use Rattle.lay_cell_work.specs.CellValues.{CellValue}
 use Rattle.lay_cell_work.specs.KeptValues.{workings_of}

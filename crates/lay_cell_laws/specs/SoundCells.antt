@@ -2,25 +2,25 @@
 -- clean cell keeps is of the input that it would be given now. Then the values of cells that are all clean meet the equations of all
 -- formatting contexts: no order of tasks is needed for that, as each value is right beside the others as they are.
 use Rattle.std.specs.Prelude.{ℕ, ◌≡◌, ◌<◌, false, List, length, Some}
-use Rattle.lay_style.specs.declared.style.Style.{Style}
-use Rattle.lay_style.specs.ComputedStyle.{HasStyles}
-use Rattle.lay_doc.specs.Document.{Document, IsDocument, declarations_of, parents_of}
-use Rattle.lay_face.specs.FaceValue.{FaceValue}
-use Rattle.lay_frag.specs.Pieces.{Context as PageContext}
-use Rattle.lay_cells.specs.Shapes.{IsIn}
-use Rattle.lay_cells.specs.Reads.{AllClean}
-use Rattle.lay_cells.specs.Rows.{Row, State}
-use Rattle.lay_cells.specs.Sound.{IsSound}
-use Rattle.lay_cells.specs.Steps.{HasKept, IsStale}
-use Rattle.lay_contexts.specs.Contexts.{Context}
-use Rattle.lay_contexts.specs.ContextList.{AreContextsOf}
-use Rattle.lay_contexts.specs.FormattingContexts.{FormattingContext}
-use Rattle.lay_contexts.specs.FormattingContextList.{AreFormattingContextsOf}
-use Rattle.lay_context.specs.declared.task.Phase.{Phase}
-use Rattle.lay_context.specs.Medium.{Medium}
-use Rattle.lay_context.specs.Solves.{IsAssembled, Solves, medium_of}
+use Rattle.lay_layout.specs.style.declared.style.Style.{Style}
+use Rattle.lay_layout.specs.style.ComputedStyle.{HasStyles}
+use Rattle.lay_layout.specs.doc.Document.{Document, IsDocument, declarations_of, parents_of}
+use Rattle.lay_layout.specs.face.FaceValue.{FaceValue}
+use Rattle.lay_layout.specs.frag.Pieces.{Context as PageContext}
+use Rattle.lay_layout.specs.cells.Shapes.{IsIn}
+use Rattle.lay_layout.specs.cells.Reads.{AllClean}
+use Rattle.lay_layout.specs.cells.Rows.{Row, State}
+use Rattle.lay_layout.specs.cells.Sound.{IsSound}
+use Rattle.lay_layout.specs.cells.Steps.{HasKept, IsStale}
+use Rattle.lay_layout.specs.contexts.Contexts.{Context}
+use Rattle.lay_layout.specs.contexts.ContextList.{AreContextsOf}
+use Rattle.lay_layout.specs.contexts.FormattingContexts.{FormattingContext}
+use Rattle.lay_layout.specs.contexts.FormattingContextList.{AreFormattingContextsOf}
+use Rattle.lay_layout.specs.context.declared.task.Phase.{Phase}
+use Rattle.lay_layout.specs.context.Medium.{Medium}
+use Rattle.lay_layout.specs.context.Solves.{IsAssembled, Solves, medium_of}
 use Rattle.lay_cell_work.specs.CellInputs.{CellInput}
-use Rattle.lay_shape.specs.declared.cell_key.CellKey.{CellKey}
+use Rattle.lay_cell_work.specs.shape.declared.cell_key.CellKey.{CellKey}
 use Rattle.lay_cell_work.specs.CellLocal.{IsCellLocal}
 use Rattle.lay_cell_work.specs.CellValues.{CellValue}
 use Rattle.lay_cell_work.specs.KeptValues.{kept_workings}

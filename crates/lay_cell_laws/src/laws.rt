@@ -3,13 +3,13 @@
 ghost use Rattle.lay_cell_laws.specs.Laws.{OneCellLocal, PresentInputsFit, PresentInputsLeadInward, ValuesStandAtNumbers};
 ghost use Rattle.lay_cell_laws.specs.SameContexts.{CounterpartsAreOfOneNode, MeasureInputsAreKept, PlaceInputsAreKept, SizeInputsAreKept};
 ghost use Rattle.lay_cell_laws.specs.SoundCells.{CleanCellsSolve};
-ghost use Rattle.lay_context_sizes.specs.ContextSizes.{SizedContext};
-ghost use Rattle.lay_context.specs.PlacedContexts.{PlacedContext};
-ghost use Rattle.lay_measure.specs.declared.preferred_widths.PreferredWidths.{PreferredWidths};
+ghost use Rattle.lay_layout.specs.context_sizes.ContextSizes.{SizedContext};
+ghost use Rattle.lay_layout.specs.context.PlacedContexts.{PlacedContext};
+ghost use Rattle.lay_layout.specs.measure.declared.preferred_widths.PreferredWidths.{PreferredWidths};
 
-use lay_context::{measured_where_shrunk, one_local};
-use lay_contexts::{anonymous_boxes_are_in_flow, one_home};
-use lay_positioned::{one_nearest_holder, settings_are_values, settings_come_of_ways};
+use lay_layout::context::{measured_where_shrunk, one_local};
+use lay_layout::contexts::{anonymous_boxes_are_in_flow, one_home};
+use lay_layout::positioned::{one_nearest_holder, settings_are_values, settings_come_of_ways};
 
 /// Values that are laid end to end stand at the numbers of their formatting contexts.
 pub fn values_stand_at_numbers()

@@ -15,3 +15,4 @@ pub use laws::{
     place_inputs_are_kept, present_inputs_fit, present_inputs_lead_inward, size_inputs_are_kept,
     values_stand_at_numbers,
 };
+pub use lay_cell_work as cell_work;

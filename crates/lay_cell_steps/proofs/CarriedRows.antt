@@ -1,14 +1,14 @@
 -- Rows after a new shape and after marks: each has its entry, and one that is clean, or has a claim that isn't stale, was there before.
 use Rattle.std.proofs.Common.{◌≡◌, ◌⊎◌, inl, inr, ◌+◌, ℕ, zero, suc, true, false, List, [], ◌∷◌, map, slice_get, Option, None, Some, option_map, refl, ap, sym, subst, ◌∙◌, arith}
-use Rattle.lay_cells.specs.Marks.{MarksWhere, Marks, Reached, marked}
-use Rattle.lay_cells.specs.Reshapes.{Carries, Rebuilds, RebuildsAll, made_row}
-use Rattle.lay_cells.specs.Rows.{Row, entry_of}
-use Rattle.lay_cells.specs.Shapes.{Entry, IsIn}
-use Rattle.lay_cells.specs.Steps.{IsStale}
-use Rattle.lay_cells.specs.declared.cell.Open.{Open}
-use Rattle.lay_cells.proofs.Lists.{some_inj}
-use Rattle.lay_cells.proofs.Marked.{beside, marked_entry}
-use Rattle.lay_cells.proofs.Reaching.{not_fresh_row}
+use Rattle.lay_layout.specs.cells.Marks.{MarksWhere, Marks, Reached, marked}
+use Rattle.lay_layout.specs.cells.Reshapes.{Carries, Rebuilds, RebuildsAll, made_row}
+use Rattle.lay_layout.specs.cells.Rows.{Row, entry_of}
+use Rattle.lay_layout.specs.cells.Shapes.{Entry, IsIn}
+use Rattle.lay_layout.specs.cells.Steps.{IsStale}
+use Rattle.lay_layout.specs.cells.declared.cell.Open.{Open}
+use Rattle.lay_layout.proofs.lay_cells.Lists.{some_inj}
+use Rattle.lay_layout.proofs.lay_cells.Marked.{beside, marked_entry}
+use Rattle.lay_layout.proofs.lay_cells.Reaching.{not_fresh_row}
 
 no_claim : (o : Option Open) → o ≡ None → option_map (λ (c : Open). c.stale) o ≡ Some false → ⊥
 no_claim None e f = absurd cc

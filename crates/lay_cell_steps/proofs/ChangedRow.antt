@@ -2,29 +2,29 @@
 -- that isn't stale, don't depend on it.
 use Rattle.std.proofs.Common.{◌≡◌, ◌⊎◌, ⊎_elim, inl, inr, ◌<◌, ℕ, true, false, List, length, map, slice_get, slice_set, Some, refl, ap, sym, subst, ◌∙◌}
 use Rattle.std.proofs.lemmas.Bool.{false≢true}
-use Rattle.lay_doc.specs.Document.{Document}
-use Rattle.lay_boxgen.proofs.NodeColumns.{length-parents}
-use Rattle.lay_face.specs.FaceValue.{FaceValue}
-use Rattle.lay_cells.specs.Looks.{AreClean}
-use Rattle.lay_cells.specs.Rows.{entry_of}
-use Rattle.lay_cells.specs.Shapes.{Entry, IsIn, IsShape}
-use Rattle.lay_cells.specs.Sound.{IsSound}
-use Rattle.lay_cells.specs.Steps.{HasKept, IsStale}
-use Rattle.lay_cells.proofs.Lists.{map_set_kept, set_cases, set_keeps_at, set_same}
-use Rattle.lay_contexts.specs.Contexts.{AreContexts, Context}
-use Rattle.lay_contexts.specs.FormattingContexts.{FormattingContext}
-use Rattle.lay_contexts.proofs.ContextNumbers.{are_contexts}
-use Rattle.lay_context.specs.declared.task.Phase.{Phase}
-use Rattle.lay_context.specs.Solves.{medium_of}
-use Rattle.lay_shape.specs.declared.cell_key.CellKey.{CellKey}
-use Rattle.lay_shape.specs.Dependencies.{in_phase, needs_in}
-use Rattle.lay_shape.specs.Keys.{AreOfOwnNodes, key_of as key_of_cell}
-use Rattle.lay_shape.specs.Shapes.{shape_of}
-use Rattle.lay_shape.proofs.Members.{in_map}
-use Rattle.lay_shape.proofs.OwnNodes.{contexts_are_of_own_nodes_lem}
-use Rattle.lay_cell_work.specs.CellLocal.{IsCellLocal}
-use Rattle.lay_cell_work.specs.KeptValues.{kept_value, value_or_none}
-use Rattle.lay_cell_work.specs.PresentInputs.{key_of}
+use Rattle.lay_layout.specs.doc.Document.{Document}
+use Rattle.lay_layout.proofs.lay_boxgen.NodeColumns.{length-parents}
+use Rattle.lay_layout.specs.face.FaceValue.{FaceValue}
+use Rattle.lay_layout.specs.cells.Looks.{AreClean}
+use Rattle.lay_layout.specs.cells.Rows.{entry_of}
+use Rattle.lay_layout.specs.cells.Shapes.{Entry, IsIn, IsShape}
+use Rattle.lay_layout.specs.cells.Sound.{IsSound}
+use Rattle.lay_layout.specs.cells.Steps.{HasKept, IsStale}
+use Rattle.lay_layout.proofs.lay_cells.Lists.{map_set_kept, set_cases, set_keeps_at, set_same}
+use Rattle.lay_layout.specs.contexts.Contexts.{AreContexts, Context}
+use Rattle.lay_layout.specs.contexts.FormattingContexts.{FormattingContext}
+use Rattle.lay_layout.proofs.lay_contexts.ContextNumbers.{are_contexts}
+use Rattle.lay_layout.specs.context.declared.task.Phase.{Phase}
+use Rattle.lay_layout.specs.context.Solves.{medium_of}
+use Rattle.lay_shape_laws.specs.shape.declared.cell_key.CellKey.{CellKey}
+use Rattle.lay_shape_laws.specs.shape.Dependencies.{in_phase, needs_in}
+use Rattle.lay_shape_laws.specs.shape.Keys.{AreOfOwnNodes, key_of as key_of_cell}
+use Rattle.lay_shape_laws.specs.shape.Shapes.{shape_of}
+use Rattle.lay_shape_laws.proofs.lay_shape.Members.{in_map}
+use Rattle.lay_shape_laws.proofs.lay_shape.OwnNodes.{contexts_are_of_own_nodes_lem}
+use Rattle.lay_cell_laws.specs.cell_work.CellLocal.{IsCellLocal}
+use Rattle.lay_cell_laws.specs.cell_work.KeptValues.{kept_value, value_or_none}
+use Rattle.lay_cell_laws.specs.cell_work.PresentInputs.{key_of}
 use Rattle.lay_cell_laws.specs.DocumentCells.{AreDocumentCells}
 use Rattle.lay_cell_laws.specs.SoundCells.{CellRow, CellState, IsCellOf, input_now}
 use Rattle.lay_cell_laws.specs.KeptInputs.{InputsAreKept}

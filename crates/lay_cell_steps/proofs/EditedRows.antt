@@ -1,22 +1,22 @@
 -- An edit changes neither the viewport nor the root, so cells that follow the contexts of a document through it are those of the document
 -- after it.
 use Rattle.std.proofs.Common.{◌≡◌, ℕ, Option, None, Some, refl, ap, ◌∙◌}
-use Rattle.lay_units.specs.declared.records.Len.TheVariants.{Of}
-use Rattle.lay_style.specs.LengthValues.{px}
-use Rattle.lay_style.specs.Places.{place_of}
-use Rattle.lay_doc.specs.declared.edit.Edit.{Edit}
-use Rattle.lay_doc.specs.declared.edit.Edit.TheVariants.{SetStyle, ClearStyle, SetText, Insert, Remove, Bad}
-use Rattle.lay_doc.specs.declared.node.Node.{Node}
-use Rattle.lay_doc.specs.Changes.{after_change, with_style, with_text, without_style}
-use Rattle.lay_doc.specs.Document.{Document, ids_of}
-use Rattle.lay_doc.specs.Edits.{after, after_insert}
-use Rattle.lay_doc.specs.Laws.{EditsLeaveDocuments}
-use Rattle.lay_doc.specs.NewNodes.{NewNodeValue}
-use Rattle.lay_doc.specs.Removal.{after_remove}
-use Rattle.lay_face.specs.FaceValue.{FaceValue}
-use Rattle.lay_context.specs.Solves.{medium_of}
+use Rattle.lay_layout.specs.units.declared.records.Len.TheVariants.{Of}
+use Rattle.lay_layout.specs.style.LengthValues.{px}
+use Rattle.lay_layout.specs.style.Places.{place_of}
+use Rattle.lay_layout.specs.doc.declared.edit.Edit.{Edit}
+use Rattle.lay_layout.specs.doc.declared.edit.Edit.TheVariants.{SetStyle, ClearStyle, SetText, Insert, Remove, Bad}
+use Rattle.lay_layout.specs.doc.declared.node.Node.{Node}
+use Rattle.lay_layout.specs.doc.Changes.{after_change, with_style, with_text, without_style}
+use Rattle.lay_layout.specs.doc.Document.{Document, ids_of}
+use Rattle.lay_layout.specs.doc.Edits.{after, after_insert}
+use Rattle.lay_layout.specs.doc.Laws.{EditsLeaveDocuments}
+use Rattle.lay_layout.specs.doc.NewNodes.{NewNodeValue}
+use Rattle.lay_layout.specs.doc.Removal.{after_remove}
+use Rattle.lay_layout.specs.face.FaceValue.{FaceValue}
+use Rattle.lay_layout.specs.context.Solves.{medium_of}
 use Rattle.lay_cell_laws.specs.KeptInputs.{InputsAreKept}
-use Rattle.lay_own_nodes.specs.Touched.{Edits}
+use Rattle.lay_layout.specs.own_nodes.Touched.{Edits}
 use Rattle.lay_shape_laws.specs.RootKeys.{RootStaysFirst}
 use Rattle.lay_cell_steps.specs.EditedCells.{EditsKeepCells}
 use Rattle.lay_cell_steps.proofs.FollowedRows.{followed}

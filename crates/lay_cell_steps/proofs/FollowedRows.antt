@@ -3,34 +3,34 @@
 use Rattle.std.proofs.Common.{◌≡◌, ◌⊎◌, ⊎_elim, inl, inr, ◌<◌, ℕ, false, List, [], length, map, slice_get, Some, ap, sym, subst, ◌∙◌}
 use Rattle.std.specs.Prelude.{◌↔◌}
 use Rattle.std.proofs.lemmas.Bool.{false≢true}
-use Rattle.lay_style.specs.declared.style.Style.{Style}
-use Rattle.lay_style.specs.ComputedStyle.{HasStyles}
-use Rattle.lay_doc.specs.declared.node.NodeId.{NodeId}
-use Rattle.lay_doc.specs.Document.{Document, IsDocument, declarations_of, parents_of}
-use Rattle.lay_boxgen.proofs.NodeColumns.{length-parents}
-use Rattle.lay_face.specs.FaceValue.{FaceValue}
-use Rattle.lay_cells.specs.Looks.{AreClean, IsClean}
-use Rattle.lay_cells.specs.Marks.{Reached, listed}
-use Rattle.lay_cells.specs.Rows.{entry_of}
-use Rattle.lay_cells.specs.Shapes.{IsIn}
-use Rattle.lay_cells.specs.Sound.{IsSound}
-use Rattle.lay_cells.specs.Steps.{HasKept, IsStale}
-use Rattle.lay_contexts.specs.Contexts.{AreContexts, Context}
-use Rattle.lay_contexts.specs.ContextList.{AreContextsOf}
-use Rattle.lay_contexts.specs.FormattingContexts.{FormattingContext}
-use Rattle.lay_contexts.specs.FormattingContextList.{AreFormattingContextsOf}
-use Rattle.lay_contexts.proofs.ContextNumbers.{are_contexts}
-use Rattle.lay_context.specs.declared.task.Phase.{Phase}
-use Rattle.lay_context.specs.Medium.{Medium}
-use Rattle.lay_context.specs.Solves.{medium_of}
-use Rattle.lay_shape.specs.declared.cell_key.CellKey.{CellKey}
-use Rattle.lay_shape.specs.Dependencies.{in_phase, needs_in}
-use Rattle.lay_shape.specs.Keys.{AreOfOwnNodes, key_of as key_of_cell, node_of}
-use Rattle.lay_shape.specs.Shapes.{shape_of}
-use Rattle.lay_shape.proofs.Members.{in_map}
-use Rattle.lay_shape.proofs.OwnNodes.{contexts_are_of_own_nodes_lem}
-use Rattle.lay_cell_work.specs.CellLocal.{IsCellLocal}
-use Rattle.lay_cell_work.specs.PresentInputs.{key_of}
+use Rattle.lay_layout.specs.style.declared.style.Style.{Style}
+use Rattle.lay_layout.specs.style.ComputedStyle.{HasStyles}
+use Rattle.lay_layout.specs.doc.declared.node.NodeId.{NodeId}
+use Rattle.lay_layout.specs.doc.Document.{Document, IsDocument, declarations_of, parents_of}
+use Rattle.lay_layout.proofs.lay_boxgen.NodeColumns.{length-parents}
+use Rattle.lay_layout.specs.face.FaceValue.{FaceValue}
+use Rattle.lay_layout.specs.cells.Looks.{AreClean, IsClean}
+use Rattle.lay_layout.specs.cells.Marks.{Reached, listed}
+use Rattle.lay_layout.specs.cells.Rows.{entry_of}
+use Rattle.lay_layout.specs.cells.Shapes.{IsIn}
+use Rattle.lay_layout.specs.cells.Sound.{IsSound}
+use Rattle.lay_layout.specs.cells.Steps.{HasKept, IsStale}
+use Rattle.lay_layout.specs.contexts.Contexts.{AreContexts, Context}
+use Rattle.lay_layout.specs.contexts.ContextList.{AreContextsOf}
+use Rattle.lay_layout.specs.contexts.FormattingContexts.{FormattingContext}
+use Rattle.lay_layout.specs.contexts.FormattingContextList.{AreFormattingContextsOf}
+use Rattle.lay_layout.proofs.lay_contexts.ContextNumbers.{are_contexts}
+use Rattle.lay_layout.specs.context.declared.task.Phase.{Phase}
+use Rattle.lay_layout.specs.context.Medium.{Medium}
+use Rattle.lay_layout.specs.context.Solves.{medium_of}
+use Rattle.lay_shape_laws.specs.shape.declared.cell_key.CellKey.{CellKey}
+use Rattle.lay_shape_laws.specs.shape.Dependencies.{in_phase, needs_in}
+use Rattle.lay_shape_laws.specs.shape.Keys.{AreOfOwnNodes, key_of as key_of_cell, node_of}
+use Rattle.lay_shape_laws.specs.shape.Shapes.{shape_of}
+use Rattle.lay_shape_laws.proofs.lay_shape.Members.{in_map}
+use Rattle.lay_shape_laws.proofs.lay_shape.OwnNodes.{contexts_are_of_own_nodes_lem}
+use Rattle.lay_cell_laws.specs.cell_work.CellLocal.{IsCellLocal}
+use Rattle.lay_cell_laws.specs.cell_work.PresentInputs.{key_of}
 use Rattle.lay_cell_laws.specs.DocumentCells.{AreDocumentCells}
 use Rattle.lay_cell_laws.specs.SameContexts.{IsSameContext}
 use Rattle.lay_cell_laws.specs.SoundCells.{CellRow, CellState, IsCellOf, input_now}

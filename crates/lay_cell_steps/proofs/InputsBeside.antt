@@ -1,18 +1,18 @@
 -- Among the same contexts a cell is given what it was, where the cells that it depends on keep the same.
 use Rattle.std.proofs.Common.{◌≡◌, ◌<◌, ℕ, List, length, refl, ap, subst}
-use Rattle.lay_style.specs.declared.style.Style.{Style}
-use Rattle.lay_doc.specs.Document.{Document, IsDocument}
-use Rattle.lay_cells.specs.Shapes.{IsIn}
-use Rattle.lay_contexts.specs.Contexts.{Context}
-use Rattle.lay_contexts.specs.ContextList.{AreContextsOf}
-use Rattle.lay_contexts.specs.FormattingContexts.{FormattingContext}
-use Rattle.lay_contexts.specs.FormattingContextList.{AreFormattingContextsOf}
-use Rattle.lay_context.specs.declared.task.Phase.{Phase}
-use Rattle.lay_context.specs.Medium.{Medium}
-use Rattle.lay_shape.specs.declared.cell_key.CellKey.{CellKey}
-use Rattle.lay_shape.specs.Dependencies.{in_phase, needs_in}
-use Rattle.lay_shape.specs.Keys.{AreOfOwnNodes}
-use Rattle.lay_cell_work.specs.KeptValues.{kept_value}
+use Rattle.lay_layout.specs.style.declared.style.Style.{Style}
+use Rattle.lay_layout.specs.doc.Document.{Document, IsDocument}
+use Rattle.lay_layout.specs.cells.Shapes.{IsIn}
+use Rattle.lay_layout.specs.contexts.Contexts.{Context}
+use Rattle.lay_layout.specs.contexts.ContextList.{AreContextsOf}
+use Rattle.lay_layout.specs.contexts.FormattingContexts.{FormattingContext}
+use Rattle.lay_layout.specs.contexts.FormattingContextList.{AreFormattingContextsOf}
+use Rattle.lay_layout.specs.context.declared.task.Phase.{Phase}
+use Rattle.lay_layout.specs.context.Medium.{Medium}
+use Rattle.lay_shape_laws.specs.shape.declared.cell_key.CellKey.{CellKey}
+use Rattle.lay_shape_laws.specs.shape.Dependencies.{in_phase, needs_in}
+use Rattle.lay_shape_laws.specs.shape.Keys.{AreOfOwnNodes}
+use Rattle.lay_cell_laws.specs.cell_work.KeptValues.{kept_value}
 use Rattle.lay_cell_laws.specs.SameContexts.{IsSameContext, IsTable, Table}
 use Rattle.lay_cell_laws.specs.SoundCells.{CellRow, input_now}
 use Rattle.lay_cell_laws.specs.KeptInputs.{InputsAreKept, IsSameCell}

@@ -1,10 +1,10 @@
 -- Cells that are made anew are none of them clean, and have no claims.
 use Rattle.std.proofs.Common.{⊎_elim, [], sym, ◌∙◌}
 use Rattle.std.proofs.lemmas.Bool.{false≢true}
-use Rattle.lay_boxgen.proofs.NodeColumns.{length-parents}
-use Rattle.lay_cells.specs.Shapes.{IsIn}
-use Rattle.lay_contexts.proofs.ContextNumbers.{are_contexts}
-use Rattle.lay_shape.specs.Shapes.{shape_of}
+use Rattle.lay_layout.proofs.lay_boxgen.NodeColumns.{length-parents}
+use Rattle.lay_layout.specs.cells.Shapes.{IsIn}
+use Rattle.lay_layout.proofs.lay_contexts.ContextNumbers.{are_contexts}
+use Rattle.lay_shape_laws.specs.shape.Shapes.{shape_of}
 use Rattle.lay_cell_laws.specs.SoundCells.{CellRow}
 use Rattle.lay_cell_steps.specs.CellSteps.{NewCellsAreSound}
 use Rattle.lay_cell_steps.proofs.CarriedRows.{IsIdle, rebuilt_entries, rebuilt_rows}

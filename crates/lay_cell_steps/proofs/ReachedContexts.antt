@@ -2,30 +2,30 @@
 use Rattle.std.proofs.Common.{◌≡◌, ◌⊎◌, ⊎_elim, inl, inr, ◌<◌, ℕ, suc, Bool, true, false, List, [], ◌∷◌, length, slice_index, Option, None, Some, refl, ap, sym, subst, ◌∙◌, arith}
 use Rattle.std.specs.Prelude.{◌↔◌}
 use Rattle.std.proofs.lemmas.Bool.{cases_lt}
-use Rattle.lay_style.specs.declared.style.Style.{Style}
-use Rattle.lay_style.specs.Places.{place_of}
-use Rattle.lay_doc.specs.Document.{Document, ids_of}
-use Rattle.lay_doc.specs.Edits.{after}
-use Rattle.lay_doc.proofs.NodeColumns.{length-ids}
-use Rattle.lay_box_tree.specs.BoxColumns.{box_at}
-use Rattle.lay_box_tree.specs.declared.box_tree.BoxNode.{BoxNode}
-use Rattle.lay_boxgen.specs.Contexts.{IsContext, IsContextAt, IsContextThere, box_at as node_box_at, is_marked}
-use Rattle.lay_cells.proofs.Lists.{some_inj}
-use Rattle.lay_contexts.specs.Contexts.{AreContexts, Context, boxes_in, context_at}
-use Rattle.lay_contexts.specs.FormattingContexts.{AreFormattingContexts, FormattingContext, boxes_in as boxes_of, formatting_context_at}
-use Rattle.lay_contexts.specs.FormattingContextList.{first_number, number_of}
-use Rattle.lay_contexts.proofs.ContextFacts.{in_order}
-use Rattle.lay_contexts.proofs.ContextNumbers.{are_contexts}
-use Rattle.lay_contexts.proofs.OneStand.{marked-true, within}
-use Rattle.lay_contexts.proofs.RootNumbers.{first_le}
-use Rattle.lay_context_sizes.specs.ShrinkToFit.{shrinks, shrinks_to_fit}
-use Rattle.lay_context.specs.Laws.{MeasuredWhereShrunk}
-use Rattle.lay_context.specs.Measured.{ShrinksOutward, around, is_measured, own}
-use Rattle.lay_own_nodes.specs.Bound.{EditsTouchNoOthers, IsUntouched, id_of}
-use Rattle.lay_own_nodes.specs.Shrinking.{AreListsOf, IsWithinOutward, SparesAnonymous, first, outward}
-use Rattle.lay_own_nodes.specs.Touched.{EditsTouchReachedContexts, HasReached}
-use Rattle.lay_own_nodes.proofs.NamedPlaces.{place-is, place-reads}
-use Rattle.lay_own_nodes.proofs.StayingOutward.{place-there}
+use Rattle.lay_layout.specs.style.declared.style.Style.{Style}
+use Rattle.lay_layout.specs.style.Places.{place_of}
+use Rattle.lay_layout.specs.doc.Document.{Document, ids_of}
+use Rattle.lay_layout.specs.doc.Edits.{after}
+use Rattle.lay_layout.proofs.lay_doc.NodeColumns.{length-ids}
+use Rattle.lay_layout.specs.box_tree.BoxColumns.{box_at}
+use Rattle.lay_layout.specs.box_tree.declared.box_tree.BoxNode.{BoxNode}
+use Rattle.lay_layout.specs.boxgen.Contexts.{IsContext, IsContextAt, IsContextThere, box_at as node_box_at, is_marked}
+use Rattle.lay_layout.proofs.lay_cells.Lists.{some_inj}
+use Rattle.lay_layout.specs.contexts.Contexts.{AreContexts, Context, boxes_in, context_at}
+use Rattle.lay_layout.specs.contexts.FormattingContexts.{AreFormattingContexts, FormattingContext, boxes_in as boxes_of, formatting_context_at}
+use Rattle.lay_layout.specs.contexts.FormattingContextList.{first_number, number_of}
+use Rattle.lay_layout.proofs.lay_contexts.ContextFacts.{in_order}
+use Rattle.lay_layout.proofs.lay_contexts.ContextNumbers.{are_contexts}
+use Rattle.lay_layout.proofs.lay_contexts.OneStand.{marked-true, within}
+use Rattle.lay_layout.proofs.lay_contexts.RootNumbers.{first_le}
+use Rattle.lay_layout.specs.context_sizes.ShrinkToFit.{shrinks, shrinks_to_fit}
+use Rattle.lay_layout.specs.context.Laws.{MeasuredWhereShrunk}
+use Rattle.lay_layout.specs.context.Measured.{ShrinksOutward, around, is_measured, own}
+use Rattle.lay_layout.specs.own_nodes.Bound.{EditsTouchNoOthers, IsUntouched, id_of}
+use Rattle.lay_layout.specs.own_nodes.Shrinking.{AreListsOf, IsWithinOutward, SparesAnonymous, first, outward}
+use Rattle.lay_layout.specs.own_nodes.Touched.{EditsTouchReachedContexts, HasReached}
+use Rattle.lay_layout.proofs.lay_own_nodes.NamedPlaces.{place-is, place-reads}
+use Rattle.lay_layout.proofs.lay_own_nodes.StayingOutward.{place-there}
 use Rattle.lay_cell_laws.proofs.RootsOfContexts.{number_is_of}
 use Rattle.lay_changes.specs.TouchedContexts.{IsUntouchedFrom}
 use Rattle.lay_cell_steps.specs.TouchedContexts.{TouchedContextsAreReached}

@@ -4,47 +4,47 @@ use Rattle.std.proofs.Common.{◌≡◌, ⊎_elim, inl, inr, ◌<◌, ◌≤◌,
 use Rattle.std.proofs.lemmas.Bool.{cases_lt}
 use Rattle.std.proofs.lemmas.List.FromFn.{get_or-map-range_with_len, length-map-range_with_len}
 use Rattle.std.proofs.lemmas.Option.{slice_get-get_or}
-use Rattle.lay_doc.specs.Document.{Document}
-use Rattle.lay_face.specs.FaceValue.{FaceValue}
-use Rattle.lay_measure.specs.MeasureInValue.{no_widths}
-use Rattle.lay_table_borders.specs.GridLaws.{GridsAreOfBoxes}
-use Rattle.lay_cells.specs.Looks.{IsClean, Looks}
-use Rattle.lay_cells.specs.Reads.{AllClean}
-use Rattle.lay_cells.specs.Rows.{Solved}
-use Rattle.lay_cells.specs.Shapes.{IsIn}
-use Rattle.lay_cells.specs.declared.answers.Look.TheVariants as look
-use Rattle.lay_contexts.specs.Contexts.{Context}
-use Rattle.lay_contexts.specs.FormattingContexts.{AreFormattingContexts, FormattingContext, boxes_in}
-use Rattle.lay_contexts.specs.FormattingContextList.{first_number}
-use Rattle.lay_contexts.specs.Laws.{AnonymousBoxesAreInFlow}
-use Rattle.lay_contexts.proofs.ContextFacts.{in_order as contexts_in_order, root_of}
-use Rattle.lay_contexts.proofs.RootNumbers.{first_le}
-use Rattle.lay_positioned.proofs.OneLevels.{leads_out}
-use Rattle.lay_context_sizes.specs.ContextSizes.{SizedContext, not_sized}
-use Rattle.lay_context.specs.declared.task.Phase.{Phase}
-use Rattle.lay_context.specs.declared.task.Phase.TheVariants as phase
-use Rattle.lay_context.specs.declared.value.Value.{Value}
-use Rattle.lay_context.specs.declared.value.Value.TheVariants as value
-use Rattle.lay_context.specs.Local.{IsLocal, flow_input, size_input, stand_input, table_input}
-use Rattle.lay_context.specs.Medium.{Medium}
-use Rattle.lay_context.specs.Needs.{Needs}
-use Rattle.lay_context.specs.PlacedContexts.{not_placed, placed_in}
-use Rattle.lay_context.specs.Settings.{sizes_in}
-use Rattle.lay_context.specs.Settling.{AreKnown, AreOfBoxes, IsReady}
-use Rattle.lay_context.specs.Solves.{medium_of}
-use Rattle.lay_context.specs.Workings.{Workings}
-use Rattle.lay_context.proofs.PlaceFacts.{stands}
-use Rattle.lay_context.proofs.SizedFacts.{sizes_are_of_boxes}
-use Rattle.lay_shape.specs.declared.cell_key.CellKey.{CellKey}
-use Rattle.lay_shape.specs.Dependencies.{in_phase, needs_in}
-use Rattle.lay_shape.specs.Keys.{key_of as key_of_cell}
-use Rattle.lay_shape.proofs.Members.{in_map}
+use Rattle.lay_layout.specs.doc.Document.{Document}
+use Rattle.lay_layout.specs.face.FaceValue.{FaceValue}
+use Rattle.lay_layout.specs.measure.MeasureInValue.{no_widths}
+use Rattle.lay_layout.specs.table_borders.GridLaws.{GridsAreOfBoxes}
+use Rattle.lay_layout.specs.cells.Looks.{IsClean, Looks}
+use Rattle.lay_layout.specs.cells.Reads.{AllClean}
+use Rattle.lay_layout.specs.cells.Rows.{Solved}
+use Rattle.lay_layout.specs.cells.Shapes.{IsIn}
+use Rattle.lay_layout.specs.cells.declared.answers.Look.TheVariants as look
+use Rattle.lay_layout.specs.contexts.Contexts.{Context}
+use Rattle.lay_layout.specs.contexts.FormattingContexts.{AreFormattingContexts, FormattingContext, boxes_in}
+use Rattle.lay_layout.specs.contexts.FormattingContextList.{first_number}
+use Rattle.lay_layout.specs.contexts.Laws.{AnonymousBoxesAreInFlow}
+use Rattle.lay_layout.proofs.lay_contexts.ContextFacts.{in_order as contexts_in_order, root_of}
+use Rattle.lay_layout.proofs.lay_contexts.RootNumbers.{first_le}
+use Rattle.lay_layout.proofs.lay_positioned.OneLevels.{leads_out}
+use Rattle.lay_layout.specs.context_sizes.ContextSizes.{SizedContext, not_sized}
+use Rattle.lay_layout.specs.context.declared.task.Phase.{Phase}
+use Rattle.lay_layout.specs.context.declared.task.Phase.TheVariants as phase
+use Rattle.lay_layout.specs.context.declared.value.Value.{Value}
+use Rattle.lay_layout.specs.context.declared.value.Value.TheVariants as value
+use Rattle.lay_layout.specs.context.Local.{IsLocal, flow_input, size_input, stand_input, table_input}
+use Rattle.lay_layout.specs.context.Medium.{Medium}
+use Rattle.lay_layout.specs.context.Needs.{Needs}
+use Rattle.lay_layout.specs.context.PlacedContexts.{not_placed, placed_in}
+use Rattle.lay_layout.specs.context.Settings.{sizes_in}
+use Rattle.lay_layout.specs.context.Settling.{AreKnown, AreOfBoxes, IsReady}
+use Rattle.lay_layout.specs.context.Solves.{medium_of}
+use Rattle.lay_layout.specs.context.Workings.{Workings}
+use Rattle.lay_layout.proofs.lay_context.PlaceFacts.{stands}
+use Rattle.lay_layout.proofs.lay_context.SizedFacts.{sizes_are_of_boxes}
+use Rattle.lay_shape_laws.specs.shape.declared.cell_key.CellKey.{CellKey}
+use Rattle.lay_shape_laws.specs.shape.Dependencies.{in_phase, needs_in}
+use Rattle.lay_shape_laws.specs.shape.Keys.{key_of as key_of_cell}
+use Rattle.lay_shape_laws.proofs.lay_shape.Members.{in_map}
 use Rattle.lay_shape_laws.specs.NeedLaws.{IsShapedNeed, NeedsAreShaped}
-use Rattle.lay_cell_work.specs.CellInputs.{CellInput, RootInput}
-use Rattle.lay_cell_work.specs.CellLocal.{IsCellLocal, whole_input}
-use Rattle.lay_cell_work.specs.CellValues.{CellValue, Places, Sizes, Widths, own_places, own_sizes, own_widths, phase_of, root_value}
-use Rattle.lay_cell_work.specs.KeptValues.{kept_value, kept_workings, value_or_none}
-use Rattle.lay_cell_work.specs.PresentInputs.{key_of, present_input, root_count, root_input}
+use Rattle.lay_cell_laws.specs.cell_work.CellInputs.{CellInput, RootInput}
+use Rattle.lay_cell_laws.specs.cell_work.CellLocal.{IsCellLocal, whole_input}
+use Rattle.lay_cell_laws.specs.cell_work.CellValues.{CellValue, Places, Sizes, Widths, own_places, own_sizes, own_widths, phase_of, root_value}
+use Rattle.lay_cell_laws.specs.cell_work.KeptValues.{kept_value, kept_workings, value_or_none}
+use Rattle.lay_cell_laws.specs.cell_work.PresentInputs.{key_of, present_input, root_count, root_input}
 use Rattle.lay_cell_laws.specs.DocumentCells.{AreDocumentCells}
 use Rattle.lay_cell_laws.specs.SoundCells.{CellRow, CellState, CleanCellsSolve, input_now}
 use Rattle.lay_cell_laws.proofs.CleanCells.{all_done, kept_right}

@@ -1,21 +1,21 @@
 -- The rows of cells that have the shape of contexts: each is of a context and phase, has the dependencies of that, and its value is read
 -- under its key.
 use Rattle.std.proofs.Common.{◌≡◌, ◌<◌, ℕ, zero, suc, Bool, true, false, List, [], ◌∷◌, length, map, slice_get, Some, refl, ap, sym, ◌∙◌}
-use Rattle.lay_cells.specs.Shapes.{Entry, IsIn, IsShape}
-use Rattle.lay_cells.specs.Rows.{entry_of}
-use Rattle.lay_cells.proofs.Answered.{one_by_key}
-use Rattle.lay_cells.proofs.Lists.{map_at, map_got}
-use Rattle.lay_contexts.specs.Contexts.{AreContexts, Context}
-use Rattle.lay_context.specs.declared.task.Phase.{Phase}
-use Rattle.lay_shape.specs.declared.cell_key.CellKey.{CellKey}
-use Rattle.lay_shape.specs.declared.context_phase.ContextPhase.{ContextPhase}
-use Rattle.lay_shape.specs.Dependencies.{in_phase, needs_of}
-use Rattle.lay_shape.specs.Keys.{AreOfOwnNodes, key_of as key_of_cell}
-use Rattle.lay_shape.specs.Shapes.{cells_of, entry_of as entry_of_cell, shape_of}
-use Rattle.lay_shape.proofs.BuildSteps.{key_apart}
-use Rattle.lay_shape.proofs.CellOrder.{cell_in, cell_within}
-use Rattle.lay_cell_work.specs.KeptValues.{is_key, value_or_none, value_under}
-use Rattle.lay_cell_work.specs.PresentInputs.{key_of}
+use Rattle.lay_layout.specs.cells.Shapes.{Entry, IsIn, IsShape}
+use Rattle.lay_layout.specs.cells.Rows.{entry_of}
+use Rattle.lay_layout.proofs.lay_cells.Answered.{one_by_key}
+use Rattle.lay_layout.proofs.lay_cells.Lists.{map_at, map_got}
+use Rattle.lay_layout.specs.contexts.Contexts.{AreContexts, Context}
+use Rattle.lay_layout.specs.context.declared.task.Phase.{Phase}
+use Rattle.lay_shape_laws.specs.shape.declared.cell_key.CellKey.{CellKey}
+use Rattle.lay_shape_laws.specs.shape.declared.context_phase.ContextPhase.{ContextPhase}
+use Rattle.lay_shape_laws.specs.shape.Dependencies.{in_phase, needs_of}
+use Rattle.lay_shape_laws.specs.shape.Keys.{AreOfOwnNodes, key_of as key_of_cell}
+use Rattle.lay_shape_laws.specs.shape.Shapes.{cells_of, entry_of as entry_of_cell, shape_of}
+use Rattle.lay_shape_laws.proofs.lay_shape.BuildSteps.{key_apart}
+use Rattle.lay_shape_laws.proofs.lay_shape.CellOrder.{cell_in, cell_within}
+use Rattle.lay_cell_laws.specs.cell_work.KeptValues.{is_key, value_or_none, value_under}
+use Rattle.lay_cell_laws.specs.cell_work.PresentInputs.{key_of}
 use Rattle.lay_cell_laws.specs.SoundCells.{CellRow, IsCellOf}
 use Rattle.lay_cell_laws.proofs.CleanCells.{is_same_key, key_is}
 

@@ -1,27 +1,27 @@
 -- Claims, work that comes back, and claims that are given back keep the cells of a document.
 use Rattle.std.proofs.Common.{◌≡◌, ◌⊎◌, ⊎_elim, inl, inr, ◌<◌, ◌+◌, ℕ, Bool, true, false, List, length, slice_get, slice_set, Option, None, Some, IsNone, option_map, refl, ap, sym, subst, ◌∙◌}
 use Rattle.std.proofs.lemmas.Bool.{false≢true}
-use Rattle.lay_doc.specs.Document.{Document}
-use Rattle.lay_face.specs.FaceValue.{FaceValue}
-use Rattle.lay_cells.specs.Rows.{Solved, entry_of}
-use Rattle.lay_cells.specs.Sound.{IsSound}
-use Rattle.lay_cells.specs.Steps.{Claims, Finishes, GivesBack, IsStale, draws_after}
-use Rattle.lay_cells.specs.declared.answers.Claimed.{Claimed}
-use Rattle.lay_cells.specs.declared.answers.Claimed.TheVariants.{Granted, Reused, Taken}
-use Rattle.lay_cells.specs.declared.answers.Finished.{Finished}
-use Rattle.lay_cells.specs.declared.answers.Finished.TheVariants as finished
-use Rattle.lay_cells.specs.declared.answers.Released.{Released}
-use Rattle.lay_cells.specs.declared.answers.Released.TheVariants as released
-use Rattle.lay_cells.specs.declared.cell.Open.{Open}
-use Rattle.lay_contexts.specs.Contexts.{Context}
-use Rattle.lay_contexts.specs.FormattingContexts.{FormattingContext}
-use Rattle.lay_context.specs.declared.task.Phase.{Phase}
-use Rattle.lay_context.specs.Solves.{medium_of}
-use Rattle.lay_shape.specs.declared.cell_key.CellKey.{CellKey}
-use Rattle.lay_cell_work.specs.CellInputs.{CellInput}
-use Rattle.lay_cell_work.specs.CellLocal.{IsCellLocal}
-use Rattle.lay_cell_work.specs.CellValues.{CellValue}
-use Rattle.lay_cell_work.specs.PresentInputs.{key_of}
+use Rattle.lay_layout.specs.doc.Document.{Document}
+use Rattle.lay_layout.specs.face.FaceValue.{FaceValue}
+use Rattle.lay_layout.specs.cells.Rows.{Solved, entry_of}
+use Rattle.lay_layout.specs.cells.Sound.{IsSound}
+use Rattle.lay_layout.specs.cells.Steps.{Claims, Finishes, GivesBack, IsStale, draws_after}
+use Rattle.lay_layout.specs.cells.declared.answers.Claimed.{Claimed}
+use Rattle.lay_layout.specs.cells.declared.answers.Claimed.TheVariants.{Granted, Reused, Taken}
+use Rattle.lay_layout.specs.cells.declared.answers.Finished.{Finished}
+use Rattle.lay_layout.specs.cells.declared.answers.Finished.TheVariants as finished
+use Rattle.lay_layout.specs.cells.declared.answers.Released.{Released}
+use Rattle.lay_layout.specs.cells.declared.answers.Released.TheVariants as released
+use Rattle.lay_layout.specs.cells.declared.cell.Open.{Open}
+use Rattle.lay_layout.specs.contexts.Contexts.{Context}
+use Rattle.lay_layout.specs.contexts.FormattingContexts.{FormattingContext}
+use Rattle.lay_layout.specs.context.declared.task.Phase.{Phase}
+use Rattle.lay_layout.specs.context.Solves.{medium_of}
+use Rattle.lay_shape_laws.specs.shape.declared.cell_key.CellKey.{CellKey}
+use Rattle.lay_cell_laws.specs.cell_work.CellInputs.{CellInput}
+use Rattle.lay_cell_laws.specs.cell_work.CellLocal.{IsCellLocal}
+use Rattle.lay_cell_laws.specs.cell_work.CellValues.{CellValue}
+use Rattle.lay_cell_laws.specs.cell_work.PresentInputs.{key_of}
 use Rattle.lay_cell_laws.specs.DocumentCells.{AreDocumentCells}
 use Rattle.lay_cell_laws.specs.SoundCells.{CellRow, CellState, IsCellOf, input_now}
 use Rattle.lay_cell_laws.specs.KeptInputs.{InputsAreKept}

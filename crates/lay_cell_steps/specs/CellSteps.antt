@@ -4,29 +4,29 @@
 -- dirty too, and their claims are stale. What cells keep whatever they are of is `IsSound` of lay_cells, and is known of the state after
 -- each call.
 use Rattle.std.specs.Prelude.{ℕ, ◌<◌, List, [], length}
-use Rattle.lay_style.specs.declared.style.Style.{Style}
-use Rattle.lay_style.specs.ComputedStyle.{HasStyles}
-use Rattle.lay_doc.specs.Document.{Document, IsDocument, declarations_of, parents_of}
-use Rattle.lay_face.specs.FaceValue.{FaceValue}
-use Rattle.lay_cells.specs.Reshapes.{Reshapes}
-use Rattle.lay_cells.specs.Rows.{Solved}
-use Rattle.lay_cells.specs.Sound.{IsSound}
-use Rattle.lay_cells.specs.Steps.{ClaimsIn, FinishesIn, GivesBackIn}
-use Rattle.lay_cells.specs.declared.answers.Claimed.{Claimed}
-use Rattle.lay_cells.specs.declared.answers.Finished.{Finished}
-use Rattle.lay_cells.specs.declared.answers.Released.{Released}
-use Rattle.lay_contexts.specs.Contexts.{Context}
-use Rattle.lay_contexts.specs.ContextList.{AreContextsOf}
-use Rattle.lay_contexts.specs.FormattingContexts.{FormattingContext}
-use Rattle.lay_contexts.specs.FormattingContextList.{AreFormattingContextsOf}
-use Rattle.lay_context.specs.declared.task.Phase.{Phase}
-use Rattle.lay_context.specs.Solves.{medium_of}
-use Rattle.lay_shape.specs.declared.cell_key.CellKey.{CellKey}
-use Rattle.lay_shape.specs.Shapes.{shape_of}
-use Rattle.lay_cell_work.specs.CellInputs.{CellInput}
-use Rattle.lay_cell_work.specs.CellLocal.{IsCellLocal}
-use Rattle.lay_cell_work.specs.CellValues.{CellValue}
-use Rattle.lay_cell_work.specs.PresentInputs.{key_of}
+use Rattle.lay_layout.specs.style.declared.style.Style.{Style}
+use Rattle.lay_layout.specs.style.ComputedStyle.{HasStyles}
+use Rattle.lay_layout.specs.doc.Document.{Document, IsDocument, declarations_of, parents_of}
+use Rattle.lay_layout.specs.face.FaceValue.{FaceValue}
+use Rattle.lay_layout.specs.cells.Reshapes.{Reshapes}
+use Rattle.lay_layout.specs.cells.Rows.{Solved}
+use Rattle.lay_layout.specs.cells.Sound.{IsSound}
+use Rattle.lay_layout.specs.cells.Steps.{ClaimsIn, FinishesIn, GivesBackIn}
+use Rattle.lay_layout.specs.cells.declared.answers.Claimed.{Claimed}
+use Rattle.lay_layout.specs.cells.declared.answers.Finished.{Finished}
+use Rattle.lay_layout.specs.cells.declared.answers.Released.{Released}
+use Rattle.lay_layout.specs.contexts.Contexts.{Context}
+use Rattle.lay_layout.specs.contexts.ContextList.{AreContextsOf}
+use Rattle.lay_layout.specs.contexts.FormattingContexts.{FormattingContext}
+use Rattle.lay_layout.specs.contexts.FormattingContextList.{AreFormattingContextsOf}
+use Rattle.lay_layout.specs.context.declared.task.Phase.{Phase}
+use Rattle.lay_layout.specs.context.Solves.{medium_of}
+use Rattle.lay_shape_laws.specs.shape.declared.cell_key.CellKey.{CellKey}
+use Rattle.lay_shape_laws.specs.shape.Shapes.{shape_of}
+use Rattle.lay_cell_laws.specs.cell_work.CellInputs.{CellInput}
+use Rattle.lay_cell_laws.specs.cell_work.CellLocal.{IsCellLocal}
+use Rattle.lay_cell_laws.specs.cell_work.CellValues.{CellValue}
+use Rattle.lay_cell_laws.specs.cell_work.PresentInputs.{key_of}
 use Rattle.lay_cell_laws.specs.DocumentCells.{AreDocumentCells}
 use Rattle.lay_cell_laws.specs.SoundCells.{CellState, input_now}
 

@@ -3,24 +3,24 @@
 -- preferred widths count for as much (10.3.5): so touched contexts are found by comparison. What cells that are clean after that keep is of
 -- what they would be given now, as they and all that they depend on are of untouched contexts and keep the same values.
 use Rattle.std.specs.Prelude.{◌≡◌, ◌⊎◌, List, [], map}
-use Rattle.lay_style.specs.declared.style.Style.{Style}
-use Rattle.lay_doc.specs.declared.edit.Edit.{Edit}
-use Rattle.lay_doc.specs.Document.{Document}
-use Rattle.lay_doc.specs.Edits.{after}
-use Rattle.lay_face.specs.FaceValue.{FaceValue}
-use Rattle.lay_cells.specs.Marks.{Marks}
-use Rattle.lay_cells.specs.Reshapes.{Reshapes}
-use Rattle.lay_cells.specs.Rows.{entry_of}
-use Rattle.lay_cells.specs.Sound.{IsSound}
-use Rattle.lay_contexts.specs.Contexts.{Context}
-use Rattle.lay_contexts.specs.ContextList.{AreContextsOf}
-use Rattle.lay_contexts.specs.FormattingContexts.{FormattingContext}
-use Rattle.lay_contexts.specs.FormattingContextList.{AreFormattingContextsOf}
-use Rattle.lay_own_nodes.specs.Touched.{Edits}
-use Rattle.lay_shape.specs.declared.cell_key.CellKey.{CellKey}
-use Rattle.lay_shape.specs.Shapes.{shape_of}
+use Rattle.lay_layout.specs.style.declared.style.Style.{Style}
+use Rattle.lay_layout.specs.doc.declared.edit.Edit.{Edit}
+use Rattle.lay_layout.specs.doc.Document.{Document}
+use Rattle.lay_layout.specs.doc.Edits.{after}
+use Rattle.lay_layout.specs.face.FaceValue.{FaceValue}
+use Rattle.lay_layout.specs.cells.Marks.{Marks}
+use Rattle.lay_layout.specs.cells.Reshapes.{Reshapes}
+use Rattle.lay_layout.specs.cells.Rows.{entry_of}
+use Rattle.lay_layout.specs.cells.Sound.{IsSound}
+use Rattle.lay_layout.specs.contexts.Contexts.{Context}
+use Rattle.lay_layout.specs.contexts.ContextList.{AreContextsOf}
+use Rattle.lay_layout.specs.contexts.FormattingContexts.{FormattingContext}
+use Rattle.lay_layout.specs.contexts.FormattingContextList.{AreFormattingContextsOf}
+use Rattle.lay_layout.specs.own_nodes.Touched.{Edits}
+use Rattle.lay_shape_laws.specs.shape.declared.cell_key.CellKey.{CellKey}
+use Rattle.lay_shape_laws.specs.shape.Shapes.{shape_of}
 use Rattle.lay_changes.specs.TouchedContexts.{ListsTouched}
-use Rattle.lay_cell_work.specs.CellLocal.{IsCellLocal}
+use Rattle.lay_cell_laws.specs.cell_work.CellLocal.{IsCellLocal}
 use Rattle.lay_cell_laws.specs.DocumentCells.{AreDocumentCells}
 use Rattle.lay_cell_laws.specs.SoundCells.{CellState}
 

@@ -2,22 +2,22 @@
 -- end; a clean cell's are of the boxes of its context; so a cell that is ready, as all that it depends on is clean, can be given what its
 -- tasks ask for, and where all cells are clean the tree can be put together, which is the layout of the document.
 use Rattle.std.specs.Prelude.{ℕ, ◌≡◌, ◌+◌, ◌<◌, List, length}
-use Rattle.lay_doc.specs.Document.{Document}
-use Rattle.lay_face.specs.FaceValue.{FaceValue}
-use Rattle.lay_frag.specs.Pieces.{Context as PageContext}
-use Rattle.lay_cells.specs.Looks.{Looks}
-use Rattle.lay_cells.specs.Reads.{AllClean}
-use Rattle.lay_cells.specs.declared.answers.Look.TheVariants as look
-use Rattle.lay_contexts.specs.Contexts.{Context}
-use Rattle.lay_contexts.specs.FormattingContexts.{FormattingContext}
-use Rattle.lay_contexts.specs.FormattingContextList.{AreFormattingContextsOf, first_number}
-use Rattle.lay_context.specs.declared.task.Phase.{Phase}
-use Rattle.lay_context.specs.declared.task.Phase.TheVariants.{Size}
-use Rattle.lay_context.specs.Local.{HasCounts}
-use Rattle.lay_context.specs.Settling.{AreKnown, IsReady}
-use Rattle.lay_context.specs.Solves.{IsAssembled, Solves}
-use Rattle.lay_cell_work.specs.KeptValues.{kept_workings}
-use Rattle.lay_cell_work.specs.PresentInputs.{key_of, root_count}
+use Rattle.lay_layout.specs.doc.Document.{Document}
+use Rattle.lay_layout.specs.face.FaceValue.{FaceValue}
+use Rattle.lay_layout.specs.frag.Pieces.{Context as PageContext}
+use Rattle.lay_layout.specs.cells.Looks.{Looks}
+use Rattle.lay_layout.specs.cells.Reads.{AllClean}
+use Rattle.lay_layout.specs.cells.declared.answers.Look.TheVariants as look
+use Rattle.lay_layout.specs.contexts.Contexts.{Context}
+use Rattle.lay_layout.specs.contexts.FormattingContexts.{FormattingContext}
+use Rattle.lay_layout.specs.contexts.FormattingContextList.{AreFormattingContextsOf, first_number}
+use Rattle.lay_layout.specs.context.declared.task.Phase.{Phase}
+use Rattle.lay_layout.specs.context.declared.task.Phase.TheVariants.{Size}
+use Rattle.lay_layout.specs.context.Local.{HasCounts}
+use Rattle.lay_layout.specs.context.Settling.{AreKnown, IsReady}
+use Rattle.lay_layout.specs.context.Solves.{IsAssembled, Solves}
+use Rattle.lay_cell_laws.specs.cell_work.KeptValues.{kept_workings}
+use Rattle.lay_cell_laws.specs.cell_work.PresentInputs.{key_of, root_count}
 use Rattle.lay_cell_laws.specs.DocumentCells.{AreDocumentCells}
 use Rattle.lay_cell_laws.specs.SoundCells.{CellRow, CellState}
 

@@ -1,15 +1,15 @@
 -- Which contexts an edit may touch, as found by comparison (CSS 2.2, 9.4.1 and 10.3.5): those that have a node among their own which the
 -- edit reaches, before it or after it. All others were there with the same boxes, measured where they were.
 use Rattle.std.specs.Prelude.{ℕ, ◌<◌, ◌⊎◌, List, length}
-use Rattle.lay_style.specs.declared.style.Style.{Style}
-use Rattle.lay_doc.specs.declared.edit.Edit.{Edit}
-use Rattle.lay_doc.specs.Document.{Document}
-use Rattle.lay_doc.specs.Edits.{after}
-use Rattle.lay_contexts.specs.Contexts.{Context}
-use Rattle.lay_contexts.specs.FormattingContexts.{FormattingContext}
-use Rattle.lay_own_nodes.specs.Bound.{id_of}
-use Rattle.lay_own_nodes.specs.Shrinking.{AreListsOf}
-use Rattle.lay_own_nodes.specs.Touched.{Edits, HasReached}
+use Rattle.lay_layout.specs.style.declared.style.Style.{Style}
+use Rattle.lay_layout.specs.doc.declared.edit.Edit.{Edit}
+use Rattle.lay_layout.specs.doc.Document.{Document}
+use Rattle.lay_layout.specs.doc.Edits.{after}
+use Rattle.lay_layout.specs.contexts.Contexts.{Context}
+use Rattle.lay_layout.specs.contexts.FormattingContexts.{FormattingContext}
+use Rattle.lay_layout.specs.own_nodes.Bound.{id_of}
+use Rattle.lay_layout.specs.own_nodes.Shrinking.{AreListsOf}
+use Rattle.lay_layout.specs.own_nodes.Touched.{Edits, HasReached}
 use Rattle.lay_changes.specs.TouchedContexts.{IsUntouched}
 
 abbrev pub TouchedContextsAreReached : Type 0

@@ -3,7 +3,7 @@
 ghost use Rattle.lay_cell_steps.specs.EditedCells.{EditsKeepCells};
 
 use lay_cell_laws::inputs_are_kept;
-use lay_doc::edits_leave_documents;
+use lay_layout::doc::edits_leave_documents;
 use lay_shape_laws::root_stays_first;
 
 /// Cells that follow the contexts of a document through an edit are those of the document after it.

@@ -3,9 +3,9 @@
 ghost use Rattle.lay_cell_steps.specs.ReadyCells.{AssembledTreesSolve, CleanCellsAreKnown, KeptValuesAreCounted, ReadyToInput};
 
 use lay_cell_laws::clean_cells_solve;
-use lay_contexts::anonymous_boxes_are_in_flow;
+use lay_layout::contexts::anonymous_boxes_are_in_flow;
+use lay_layout::table_borders::grids_are_of_boxes;
 use lay_shape_laws::needs_are_shaped;
-use lay_table_borders::grids_are_of_boxes;
 
 /// There is a value for each formatting context, whatever cells there are.
 pub fn kept_values_are_counted()

@@ -2,8 +2,8 @@
 
 ghost use Rattle.lay_cell_steps.specs.TouchedContexts.{TouchedContextsAreReached};
 
-use lay_context::measured_where_shrunk;
-use lay_own_nodes::{edits_touch_no_others, edits_touch_reached_contexts};
+use lay_layout::context::measured_where_shrunk;
+use lay_layout::own_nodes::{edits_touch_no_others, edits_touch_reached_contexts};
 
 /// Contexts that comparison finds touched have a node among their own that the edit reaches.
 pub fn touched_contexts_are_reached()

@@ -1,15 +1,15 @@
 -- What the cell at a place is given now.
 use Rattle.std.proofs.Common.{◌≡◌, ◌<◌, ℕ, List, length, slice_get, Some, option_map, ap, sym, subst, ◌∙◌, arith}
-use Rattle.lay_cells.specs.Looks.{Looks}
-use Rattle.lay_cells.specs.Places.{AtPlace}
-use Rattle.lay_cells.specs.declared.answers.Look.TheVariants as look
-use Rattle.lay_context.specs.Medium.{Medium}
-use Rattle.lay_shape.specs.declared.cell_key.CellKey.{CellKey}
-use Rattle.lay_shape.specs.declared.context_phase.ContextPhase.{ContextPhase}
-use Rattle.lay_shape.specs.Keys.{key_of}
-use Rattle.lay_shape.specs.Shapes.{cells_of}
-use Rattle.lay_cell_work.specs.CellInputs.{CellInput, RootInput}
-use Rattle.lay_cell_laws.specs.SoundCells.{CellRow, CellState, input_now}
+use Rattle.lay_layout.specs.cells.Looks.{Looks}
+use Rattle.lay_layout.specs.cells.Places.{AtPlace}
+use Rattle.lay_layout.specs.cells.declared.answers.Look.TheVariants as look
+use Rattle.lay_layout.specs.context.Medium.{Medium}
+use Rattle.lay_cell_steps.specs.shape.declared.cell_key.CellKey.{CellKey}
+use Rattle.lay_cell_steps.specs.shape.declared.context_phase.ContextPhase.{ContextPhase}
+use Rattle.lay_cell_steps.specs.shape.Keys.{key_of}
+use Rattle.lay_cell_steps.specs.shape.Shapes.{cells_of}
+use Rattle.lay_cell_steps.specs.cell_work.CellInputs.{CellInput, RootInput}
+use Rattle.lay_cell_steps.specs.cell_laws.SoundCells.{CellRow, CellState, input_now}
 use Rattle.lay_cell_steps.specs.ReadyCells.{ReadyToInput}
 use Rattle.lay_cell_table.specs.CellTables.{CellTable}
 use Rattle.lay_cell_table.specs.TableCells.{AreCellsOn, HaveNeeds, IsGivenNow, input_at}

@@ -2,18 +2,18 @@
 use Rattle.std.proofs.Common.{◌≡◌, ◌<◌, ℕ, zero, suc, Bool, true, false, List, [], ◌∷◌, length, map, slice_get, slice_index_or, None, Some, option_map, refl, ap, sym, ◌∙◌, arith}
 use Rattle.std.proofs.lemmas.List.{length-map}
 use Rattle.std.proofs.lemmas.Option.{same_Some, slice_get-map}
-use Rattle.lay_cells.specs.Rows.{entry_of}
-use Rattle.lay_cells.specs.Shapes.{Entry, IsShape}
-use Rattle.lay_context.specs.declared.task.Phase.{Phase}
-use Rattle.lay_contexts.specs.Contexts.{Context}
-use Rattle.lay_shape.specs.declared.cell_key.CellKey.{CellKey}
-use Rattle.lay_shape.specs.declared.context_phase.ContextPhase.{ContextPhase}
-use Rattle.lay_shape.specs.Dependencies.{in_phase}
-use Rattle.lay_shape.specs.Keys.{key_of}
-use Rattle.lay_shape.specs.Shapes.{cells_of, entry_of as entry_of_cell, shape_of}
-use Rattle.lay_cell_work.specs.KeptValues.{is_key, kept_value, value_or_none, value_under}
-use Rattle.lay_cell_laws.specs.SoundCells.{CellRow}
-use Rattle.lay_cell_laws.proofs.CleanCells.{is_same_key, key_is}
+use Rattle.lay_layout.specs.cells.Rows.{entry_of}
+use Rattle.lay_layout.specs.cells.Shapes.{Entry, IsShape}
+use Rattle.lay_layout.specs.context.declared.task.Phase.{Phase}
+use Rattle.lay_layout.specs.contexts.Contexts.{Context}
+use Rattle.lay_cell_steps.specs.shape.declared.cell_key.CellKey.{CellKey}
+use Rattle.lay_cell_steps.specs.shape.declared.context_phase.ContextPhase.{ContextPhase}
+use Rattle.lay_cell_steps.specs.shape.Dependencies.{in_phase}
+use Rattle.lay_cell_steps.specs.shape.Keys.{key_of}
+use Rattle.lay_cell_steps.specs.shape.Shapes.{cells_of, entry_of as entry_of_cell, shape_of}
+use Rattle.lay_cell_steps.specs.cell_work.KeptValues.{is_key, kept_value, value_or_none, value_under}
+use Rattle.lay_cell_steps.specs.cell_laws.SoundCells.{CellRow}
+use Rattle.lay_cell_steps.proofs.lay_cell_laws.CleanCells.{is_same_key, key_is}
 use Rattle.lay_cell_table.proofs.PlaceSteps.{is_before}
 
 -- no two cells have one key

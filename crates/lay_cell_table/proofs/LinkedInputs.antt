@@ -1,12 +1,12 @@
 -- What a root is given from outside its cell, by what its task is given.
 use Rattle.std.proofs.Common.{◌≡◌, ℕ, true, false, List, [], Option, None, refl}
-use Rattle.lay_contexts.specs.FormattingContexts.{FormattingContext, formatting_context_at}
-use Rattle.lay_context.specs.declared.input.Input.{Input}
-use Rattle.lay_context.specs.declared.input.Input.TheVariants as input
-use Rattle.lay_cell_work.specs.declared.root_spot.RootSpot.{RootSpot}
-use Rattle.lay_cell_work.specs.CellInputs.{RootInput}
-use Rattle.lay_cell_work.specs.CellLocal.{masked_input}
-use Rattle.lay_cell_work.specs.PresentInputs.{root_input_as, spot_in}
+use Rattle.lay_layout.specs.contexts.FormattingContexts.{FormattingContext, formatting_context_at}
+use Rattle.lay_layout.specs.context.declared.input.Input.{Input}
+use Rattle.lay_layout.specs.context.declared.input.Input.TheVariants as input
+use Rattle.lay_cell_steps.specs.cell_work.declared.root_spot.RootSpot.{RootSpot}
+use Rattle.lay_cell_steps.specs.cell_work.CellInputs.{RootInput}
+use Rattle.lay_cell_steps.specs.cell_work.CellLocal.{masked_input}
+use Rattle.lay_cell_steps.specs.cell_work.PresentInputs.{root_input_as, spot_in}
 use Rattle.lay_cell_table.specs.LinkedRoots.{asks_links, asks_spot}
 
 abbrev pub parts : Input → List (Option ℕ) → Option RootSpot → RootInput

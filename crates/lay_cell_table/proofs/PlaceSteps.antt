@@ -3,13 +3,13 @@ use Rattle.std.proofs.Common.{◌≡◌, ◌≢◌, ℕ, zero, suc, ◌+◌, ◌
 use Rattle.std.proofs.lemmas.Bool.{cases_lt}
 use Rattle.std.proofs.lemmas.Grind.{elements}
 use Rattle.std.proofs.lemmas.Option.{same_Some, none-some}
-use Rattle.lay_context.specs.declared.task.Phase.{Phase}
-use Rattle.lay_context.specs.declared.task.Phase.TheVariants as phase
-use Rattle.lay_contexts.specs.Contexts.{AreContexts, Context}
-use Rattle.lay_shape.specs.declared.context_phase.ContextPhase.{ContextPhase}
-use Rattle.lay_shape.specs.Dependencies.{in_phase}
-use Rattle.lay_shape.specs.Laws.{CellsStandOnce}
-use Rattle.lay_shape.specs.Shapes.{cells_of}
+use Rattle.lay_layout.specs.context.declared.task.Phase.{Phase}
+use Rattle.lay_layout.specs.context.declared.task.Phase.TheVariants as phase
+use Rattle.lay_layout.specs.contexts.Contexts.{AreContexts, Context}
+use Rattle.lay_cell_steps.specs.shape.declared.context_phase.ContextPhase.{ContextPhase}
+use Rattle.lay_cell_steps.specs.shape.Dependencies.{in_phase}
+use Rattle.lay_cell_steps.specs.shape.Laws.{CellsStandOnce}
+use Rattle.lay_cell_steps.specs.shape.Shapes.{cells_of}
 use Rattle.lay_cell_table.specs.declared.cell_places.CellPlaces.{CellPlaces}
 use Rattle.lay_cell_table.specs.CellPlaces.{ArePlaces, ArePlacesTo, StandsThere, place_in, places_at, with_place}
 

@@ -2,16 +2,16 @@
 use Rattle.std.proofs.Common.{◌≡◌, ℕ, zero, suc, nat_lt, ◌+◌, ◌<◌, Bool, true, false, List, [], ◌∷◌, length, map, slice_index, Option, None, refl, ap, ◌∙◌, arith, inl, inr}
 use Rattle.std.specs.List.{list_any}
 use Rattle.std.proofs.lemmas.Bool.{cases_lt}
-use Rattle.lay_contexts.specs.Contexts.{AreContexts, Context}
-use Rattle.lay_contexts.specs.FormattingContexts.{FormattingContext, IsInside, formatting_context_at}
-use Rattle.lay_contexts.specs.FormattingContextList.{AreFormattingContextsOf, first_number}
-use Rattle.lay_contexts.proofs.ContextFacts.{in_order, root_of, some_box, value_of}
-use Rattle.lay_contexts.proofs.RootNumbers.{Numbered, first_le}
-use Rattle.lay_context.specs.DocumentLayout.{flow_number, flow_numbers}
-use Rattle.lay_positioned.specs.Absolute.{is_absolute}
-use Rattle.lay_cell_work.specs.CellColumns.{is_link, link_to, links_of}
-use Rattle.lay_cell_work.specs.PresentInputs.{root_count}
-use Rattle.lay_cell_laws.proofs.RootsOfContexts.{inner_is_of, own_number}
+use Rattle.lay_layout.specs.contexts.Contexts.{AreContexts, Context}
+use Rattle.lay_layout.specs.contexts.FormattingContexts.{FormattingContext, IsInside, formatting_context_at}
+use Rattle.lay_layout.specs.contexts.FormattingContextList.{AreFormattingContextsOf, first_number}
+use Rattle.lay_layout.proofs.lay_contexts.ContextFacts.{in_order, root_of, some_box, value_of}
+use Rattle.lay_layout.proofs.lay_contexts.RootNumbers.{Numbered, first_le}
+use Rattle.lay_layout.specs.context.DocumentLayout.{flow_number, flow_numbers}
+use Rattle.lay_layout.specs.positioned.Absolute.{is_absolute}
+use Rattle.lay_cell_steps.specs.cell_work.CellColumns.{is_link, link_to, links_of}
+use Rattle.lay_cell_steps.specs.cell_work.PresentInputs.{root_count}
+use Rattle.lay_cell_steps.proofs.lay_cell_laws.RootsOfContexts.{inner_is_of, own_number}
 use Rattle.lay_cell_table.proofs.RootSteps.{first_there, one_context}
 
 flag_some : (place : ℕ) → 0 < place → nat_lt 0 place ≡ true

@@ -3,26 +3,26 @@ use Rattle.std.proofs.Common.{◌≡◌, ℕ, ◌+◌, ◌<◌, ◌↔◌, Bool,
 use Rattle.std.specs.List.{range_with_len}
 use Rattle.std.proofs.lemmas.Bool.{cases_lt}
 use Rattle.std.proofs.lemmas.List.FromFn.{map-range_with_len_more}
-use Rattle.lay_contexts.specs.Contexts.{AreContexts, Context}
-use Rattle.lay_contexts.specs.FormattingContexts.{FormattingContext, formatting_context_at}
-use Rattle.lay_contexts.specs.FormattingContextList.{AreFormattingContextsOf, first_number}
-use Rattle.lay_table_sizes.specs.TableSizesValue.{TableSizesValue}
-use Rattle.lay_context_sizes.specs.Inputs.{MeasureInput}
-use Rattle.lay_context.specs.declared.input.Input.{Input}
-use Rattle.lay_context.specs.declared.task.Phase.{Phase}
-use Rattle.lay_context.specs.declared.task.Phase.TheVariants as phase
-use Rattle.lay_context.specs.Local.{flow_input, input_of, measure_as, measure_input, place_as, stand_input, table_input}
-use Rattle.lay_context.specs.Measured.{is_measured}
-use Rattle.lay_context.specs.Medium.{Medium}
-use Rattle.lay_context.specs.Settings.{sizes_in}
-use Rattle.lay_context.specs.Settling.{IsReady}
-use Rattle.lay_context.specs.Workings.{Workings}
-use Rattle.lay_shape.specs.declared.context_phase.ContextPhase.{ContextPhase}
-use Rattle.lay_cell_work.specs.declared.root_spot.RootSpot.{RootSpot}
-use Rattle.lay_cell_work.specs.CellInputs.{RootInput}
-use Rattle.lay_cell_work.specs.CellColumns.{links_of}
-use Rattle.lay_cell_work.specs.PresentInputs.{present_input, root_count, root_input, root_input_as}
-use Rattle.lay_cell_laws.specs.SoundCells.{CellRow}
+use Rattle.lay_layout.specs.contexts.Contexts.{AreContexts, Context}
+use Rattle.lay_layout.specs.contexts.FormattingContexts.{FormattingContext, formatting_context_at}
+use Rattle.lay_layout.specs.contexts.FormattingContextList.{AreFormattingContextsOf, first_number}
+use Rattle.lay_layout.specs.table_sizes.TableSizesValue.{TableSizesValue}
+use Rattle.lay_layout.specs.context_sizes.Inputs.{MeasureInput}
+use Rattle.lay_layout.specs.context.declared.input.Input.{Input}
+use Rattle.lay_layout.specs.context.declared.task.Phase.{Phase}
+use Rattle.lay_layout.specs.context.declared.task.Phase.TheVariants as phase
+use Rattle.lay_layout.specs.context.Local.{flow_input, input_of, measure_as, measure_input, place_as, stand_input, table_input}
+use Rattle.lay_layout.specs.context.Measured.{is_measured}
+use Rattle.lay_layout.specs.context.Medium.{Medium}
+use Rattle.lay_layout.specs.context.Settings.{sizes_in}
+use Rattle.lay_layout.specs.context.Settling.{IsReady}
+use Rattle.lay_layout.specs.context.Workings.{Workings}
+use Rattle.lay_cell_steps.specs.shape.declared.context_phase.ContextPhase.{ContextPhase}
+use Rattle.lay_cell_steps.specs.cell_work.declared.root_spot.RootSpot.{RootSpot}
+use Rattle.lay_cell_steps.specs.cell_work.CellInputs.{RootInput}
+use Rattle.lay_cell_steps.specs.cell_work.CellColumns.{links_of}
+use Rattle.lay_cell_steps.specs.cell_work.PresentInputs.{present_input, root_count, root_input, root_input_as}
+use Rattle.lay_cell_steps.specs.cell_laws.SoundCells.{CellRow}
 use Rattle.lay_cell_table.specs.CellTables.{CellTable}
 use Rattle.lay_cell_table.specs.LinkedRoots.{asks_spot}
 use Rattle.lay_cell_table.specs.TableCells.{HaveNeeds, workings_in}

@@ -2,12 +2,12 @@
 use Rattle.std.proofs.Common.{◌≡◌, ℕ, zero, suc, nat_lt, ◌+◌, ◌-◌, ◌<◌, ◌≤◌, Bool, true, false, List, [], ◌∷◌, ◌++◌, length, length-append, slice_index, refl, ap, sym, subst, ◌∙◌, arith, inl, inr}
 use Rattle.std.proofs.lemmas.Bool.{cases_lt}
 use Rattle.std.proofs.lemmas.Grind.{elements}
-use Rattle.lay_contexts.specs.Contexts.{AreContexts, Context, boxes_in}
-use Rattle.lay_contexts.specs.FormattingContexts.{FormattingContext, formatting_context_at}
-use Rattle.lay_contexts.specs.FormattingContextList.{AreFormattingContextsOf, first_number}
-use Rattle.lay_contexts.proofs.ContextFacts.{root_of, some_box, value_of}
-use Rattle.lay_contexts.proofs.RootNumbers.{Numbered, first_le, roots_lt}
-use Rattle.lay_cell_work.specs.PresentInputs.{root_count}
+use Rattle.lay_layout.specs.contexts.Contexts.{AreContexts, Context, boxes_in}
+use Rattle.lay_layout.specs.contexts.FormattingContexts.{FormattingContext, formatting_context_at}
+use Rattle.lay_layout.specs.contexts.FormattingContextList.{AreFormattingContextsOf, first_number}
+use Rattle.lay_layout.proofs.lay_contexts.ContextFacts.{root_of, some_box, value_of}
+use Rattle.lay_layout.proofs.lay_contexts.RootNumbers.{Numbered, first_le, roots_lt}
+use Rattle.lay_cell_steps.specs.cell_work.PresentInputs.{root_count}
 use Rattle.lay_cell_table.specs.declared.context_root.ContextRoot.{ContextRoot}
 use Rattle.lay_cell_table.specs.RootColumns.{AreFirstNumbers, AreRootColumns, AreRootColumnsTo, AreRootsTo, IsRootOf, root_at, with_first}
 

@@ -1,11 +1,11 @@
 -- Where the cells of each context stand among all cells in the order of their shape. Each phase of each context is one cell.
 use Rattle.std.specs.Prelude.{ℕ, ◌≡◌, ◌<◌, List, length, slice_get, slice_index_or, Some}
-use Rattle.lay_context.specs.declared.task.Phase.{Phase}
-use Rattle.lay_context.specs.declared.task.Phase.TheVariants as phase
-use Rattle.lay_contexts.specs.Contexts.{Context}
-use Rattle.lay_shape.specs.declared.context_phase.ContextPhase.{ContextPhase}
-use Rattle.lay_shape.specs.Dependencies.{in_phase}
-use Rattle.lay_shape.specs.Shapes.{cells_of}
+use Rattle.lay_layout.specs.context.declared.task.Phase.{Phase}
+use Rattle.lay_layout.specs.context.declared.task.Phase.TheVariants as phase
+use Rattle.lay_layout.specs.contexts.Contexts.{Context}
+use Rattle.lay_cell_steps.specs.shape.declared.context_phase.ContextPhase.{ContextPhase}
+use Rattle.lay_cell_steps.specs.shape.Dependencies.{in_phase}
+use Rattle.lay_cell_steps.specs.shape.Shapes.{cells_of}
 use Rattle.lay_cell_table.specs.declared.cell_places.CellPlaces.{CellPlaces}
 
 abbrev pub no_places : CellPlaces

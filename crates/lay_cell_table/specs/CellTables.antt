@@ -1,13 +1,13 @@
 -- The contexts of a document with their formatting contexts (CSS 2.2, 9.4.1), as who makes inputs of cells knows them.
 use Rattle.std.specs.Prelude.{ℕ, ◌≡◌, Bool, List}
-use Rattle.lay_context.specs.MeasuredFlags.{AreMeasured}
-use Rattle.lay_context.specs.PlacedContexts.{PlacedContext, not_placed}
-use Rattle.lay_context_sizes.specs.ContextSizes.{SizedContext, not_sized}
-use Rattle.lay_contexts.specs.Contexts.{AreContexts, Context}
-use Rattle.lay_contexts.specs.FormattingContexts.{FormattingContext}
-use Rattle.lay_contexts.specs.FormattingContextList.{AreFormattingContextsOf}
-use Rattle.lay_shape.specs.declared.context_phase.ContextPhase.{ContextPhase}
-use Rattle.lay_shape.specs.Shapes.{cells_of}
+use Rattle.lay_layout.specs.context.MeasuredFlags.{AreMeasured}
+use Rattle.lay_layout.specs.context.PlacedContexts.{PlacedContext, not_placed}
+use Rattle.lay_layout.specs.context_sizes.ContextSizes.{SizedContext, not_sized}
+use Rattle.lay_layout.specs.contexts.Contexts.{AreContexts, Context}
+use Rattle.lay_layout.specs.contexts.FormattingContexts.{FormattingContext}
+use Rattle.lay_layout.specs.contexts.FormattingContextList.{AreFormattingContextsOf}
+use Rattle.lay_cell_steps.specs.shape.declared.context_phase.ContextPhase.{ContextPhase}
+use Rattle.lay_cell_steps.specs.shape.Shapes.{cells_of}
 use Rattle.lay_cell_table.specs.declared.cell_places.CellPlaces.{CellPlaces}
 use Rattle.lay_cell_table.specs.declared.context_root.ContextRoot.{ContextRoot}
 use Rattle.lay_cell_table.specs.CellPlaces.{ArePlaces}

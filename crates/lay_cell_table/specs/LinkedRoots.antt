@@ -1,8 +1,8 @@
 -- What a root of a context is asked besides what its task is given: which of its boxes are those of other roots, for preferred widths and
 -- places, and where its own box stands, for sizes.
 use Rattle.std.specs.Prelude.{Bool, true, false}
-use Rattle.lay_context.specs.declared.input.Input.{Input}
-use Rattle.lay_context.specs.declared.input.Input.TheVariants as input
+use Rattle.lay_layout.specs.context.declared.input.Input.{Input}
+use Rattle.lay_layout.specs.context.declared.input.Input.TheVariants as input
 
 abbrev pub asks_links : Input → Bool
 asks_links (input.Measure i) = true

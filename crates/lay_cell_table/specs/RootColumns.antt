@@ -1,10 +1,10 @@
 -- Which root of which context each formatting context is. The formatting contexts of a context (CSS 2.2, 9.4.1) are that of its own box
 -- and those of the anonymous tables and cells in it (17.2.1), in this order, and they have the numbers from its first one on.
 use Rattle.std.specs.Prelude.{ℕ, suc, ◌≡◌, ◌+◌, ◌<◌, Bool, true, false, List, [], ◌∷◌, ◌++◌, length, slice_index, slice_index_or}
-use Rattle.lay_contexts.specs.Contexts.{Context}
-use Rattle.lay_contexts.specs.FormattingContexts.{FormattingContext}
-use Rattle.lay_contexts.specs.FormattingContextList.{first_number}
-use Rattle.lay_cell_work.specs.PresentInputs.{root_count}
+use Rattle.lay_layout.specs.contexts.Contexts.{Context}
+use Rattle.lay_layout.specs.contexts.FormattingContexts.{FormattingContext}
+use Rattle.lay_layout.specs.contexts.FormattingContextList.{first_number}
+use Rattle.lay_cell_steps.specs.cell_work.PresentInputs.{root_count}
 use Rattle.lay_cell_table.specs.declared.context_root.ContextRoot.{ContextRoot}
 
 abbrev pub no_root : ContextRoot

@@ -1,22 +1,22 @@
 -- The cells of the contexts of a table, which are those of a document, and what they are given.
 use Rattle.std.specs.Prelude.{ℕ, ◌≡◌, ◌+◌, ◌<◌, List, length, slice_get, Option, option_map}
-use Rattle.lay_doc.specs.Document.{Document}
-use Rattle.lay_face.specs.FaceValue.{FaceValue}
-use Rattle.lay_contexts.specs.FormattingContextList.{first_number}
-use Rattle.lay_context.specs.declared.task.Phase.{Phase}
-use Rattle.lay_context.specs.declared.task.Phase.TheVariants as phase
-use Rattle.lay_context.specs.Medium.{Medium}
-use Rattle.lay_context.specs.Settling.{IsReady}
-use Rattle.lay_context.specs.Solves.{medium_of}
-use Rattle.lay_context.specs.Workings.{Workings}
-use Rattle.lay_shape.specs.declared.cell_key.CellKey.{CellKey}
-use Rattle.lay_shape.specs.declared.context_phase.ContextPhase.{ContextPhase}
-use Rattle.lay_shape.specs.Shapes.{cells_of}
-use Rattle.lay_cell_work.specs.CellInputs.{CellInput}
-use Rattle.lay_cell_work.specs.KeptValues.{kept_workings}
-use Rattle.lay_cell_work.specs.PresentInputs.{key_of, root_count}
-use Rattle.lay_cell_laws.specs.DocumentCells.{AreDocumentCells}
-use Rattle.lay_cell_laws.specs.SoundCells.{CellRow, CellState, input_now}
+use Rattle.lay_layout.specs.doc.Document.{Document}
+use Rattle.lay_layout.specs.face.FaceValue.{FaceValue}
+use Rattle.lay_layout.specs.contexts.FormattingContextList.{first_number}
+use Rattle.lay_layout.specs.context.declared.task.Phase.{Phase}
+use Rattle.lay_layout.specs.context.declared.task.Phase.TheVariants as phase
+use Rattle.lay_layout.specs.context.Medium.{Medium}
+use Rattle.lay_layout.specs.context.Settling.{IsReady}
+use Rattle.lay_layout.specs.context.Solves.{medium_of}
+use Rattle.lay_layout.specs.context.Workings.{Workings}
+use Rattle.lay_cell_steps.specs.shape.declared.cell_key.CellKey.{CellKey}
+use Rattle.lay_cell_steps.specs.shape.declared.context_phase.ContextPhase.{ContextPhase}
+use Rattle.lay_cell_steps.specs.shape.Shapes.{cells_of}
+use Rattle.lay_cell_steps.specs.cell_work.CellInputs.{CellInput}
+use Rattle.lay_cell_steps.specs.cell_work.KeptValues.{kept_workings}
+use Rattle.lay_cell_steps.specs.cell_work.PresentInputs.{key_of, root_count}
+use Rattle.lay_cell_steps.specs.cell_laws.DocumentCells.{AreDocumentCells}
+use Rattle.lay_cell_steps.specs.cell_laws.SoundCells.{CellRow, CellState, input_now}
 use Rattle.lay_cell_table.specs.CellTables.{CellTable}
 
 -- the cells are those of a document with these contexts, which is laid out on this

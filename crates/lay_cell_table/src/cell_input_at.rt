@@ -2,22 +2,22 @@
 
 ghost use Rattle.std.specs.Prelude.{◌≡◌, ◌<◌, Some, IfOk, length};
 ghost use Rattle.std.specs.Arc.{arc_value};
-ghost use Rattle.lay_cells.specs.Looks.{Looks};
-ghost use Rattle.lay_cells.specs.Places.{AtPlace};
-ghost use Rattle.lay_cells.specs.declared.answers.Look.TheVariants as look;
-ghost use Rattle.lay_cell_laws.specs.SoundCells.{input_now};
+ghost use Rattle.lay_layout.specs.cells.Looks.{Looks};
+ghost use Rattle.lay_layout.specs.cells.Places.{AtPlace};
+ghost use Rattle.lay_layout.specs.cells.declared.answers.Look.TheVariants as look;
+ghost use Rattle.lay_cell_steps.specs.cell_laws.SoundCells.{input_now};
 ghost use Rattle.lay_cell_table.specs.TableCells.{AreCellsOn, HaveNeeds, IsGivenNow, input_at};
 
 use crate::cell_table::CellTable;
 use crate::cell_values::CellValues;
 use crate::root_inputs::root_inputs;
-use lay_cell_laws::present_inputs_fit;
+use lay_cell_steps::cell_laws::present_inputs_fit;
+use lay_cell_steps::cell_work::{CellInput, Layout};
 use lay_cell_steps::ready_to_input;
-use lay_cell_work::{CellInput, Layout};
-use lay_cells::Cells;
-use lay_context::Medium;
-use lay_shape::ContextPhase;
-use lay_units::NoMemory;
+use lay_cell_steps::shape::ContextPhase;
+use lay_layout::cells::Cells;
+use lay_layout::context::Medium;
+use lay_layout::units::NoMemory;
 use std::alloc::Global;
 use std::sync::Arc;
 

@@ -1,13 +1,13 @@
 //! Where the cells of each context stand.
 
 ghost use Rattle.std.specs.Prelude.{◌≡◌, ◌<◌, IfOk, Some, length, slice_get, slice_set};
-ghost use Rattle.lay_shape.specs.Shapes.{cells_of};
+ghost use Rattle.lay_cell_steps.specs.shape.Shapes.{cells_of};
 ghost use Rattle.lay_cell_table.specs.CellPlaces.{ArePlaces, place_in, places_at, with_place};
 
-use lay_context::Phase;
-use lay_contexts::Contexts;
-use lay_shape::{ContextPhase, cells_are_of_contexts, cells_stand_once};
-use lay_units::NoMemory;
+use lay_cell_steps::shape::{ContextPhase, cells_are_of_contexts, cells_stand_once};
+use lay_layout::context::Phase;
+use lay_layout::contexts::Contexts;
+use lay_layout::units::NoMemory;
 use std::alloc::Global;
 
 /// The places of the three cells of a context.

@@ -1,27 +1,27 @@
 //! The contexts of a document with the places of their cells.
 
 ghost use Rattle.std.specs.Prelude.{◌≡◌, ◌<◌, ◌+◌, IfOk, Some, length, map, slice_get};
-ghost use Rattle.lay_contexts.specs.FormattingContextList.{AreFormattingContextsOf, first_number};
-ghost use Rattle.lay_context.specs.Measured.{is_measured};
-ghost use Rattle.lay_context.specs.MeasuredFlags.{AreMeasured};
-ghost use Rattle.lay_context.specs.PlacedContexts.{not_placed};
-ghost use Rattle.lay_context_sizes.specs.ContextSizes.{not_sized};
-ghost use Rattle.lay_cell_work.specs.PresentInputs.{root_count};
-ghost use Rattle.lay_shape.specs.Dependencies.{in_phase};
-ghost use Rattle.lay_shape.specs.Keys.{AreOfOwnNodes, key_of, node_of};
-ghost use Rattle.lay_shape.specs.Shapes.{cells_of, shape_of};
+ghost use Rattle.lay_layout.specs.contexts.FormattingContextList.{AreFormattingContextsOf, first_number};
+ghost use Rattle.lay_layout.specs.context.Measured.{is_measured};
+ghost use Rattle.lay_layout.specs.context.MeasuredFlags.{AreMeasured};
+ghost use Rattle.lay_layout.specs.context.PlacedContexts.{not_placed};
+ghost use Rattle.lay_layout.specs.context_sizes.ContextSizes.{not_sized};
+ghost use Rattle.lay_cell_steps.specs.cell_work.PresentInputs.{root_count};
+ghost use Rattle.lay_cell_steps.specs.shape.Dependencies.{in_phase};
+ghost use Rattle.lay_cell_steps.specs.shape.Keys.{AreOfOwnNodes, key_of, node_of};
+ghost use Rattle.lay_cell_steps.specs.shape.Shapes.{cells_of, shape_of};
 ghost use Rattle.lay_cell_table.specs.RootColumns.{IsRootOf};
 
 use crate::cell_places::{CellPlaces, cell_in, cell_places, place_in};
 use crate::context_root::ContextRoot;
 use crate::root_columns::{RootColumns, number_in, root_columns};
-use lay_cells::Shape;
-use lay_context::{Phase, PlacedContext, measured_flags, no_pieces, not_placed, not_sized};
-use lay_context_sizes::SizedContext;
-use lay_contexts::{Contexts, FormattingContexts, formatting_contexts};
-use lay_doc::NodeId;
-use lay_shape::{CellKey, ContextPhase, cells_of, shape};
-use lay_units::NoMemory;
+use lay_cell_steps::shape::{CellKey, ContextPhase, cells_of, shape};
+use lay_layout::cells::Shape;
+use lay_layout::context::{Phase, PlacedContext, measured_flags, no_pieces, not_placed, not_sized};
+use lay_layout::context_sizes::SizedContext;
+use lay_layout::contexts::{Contexts, FormattingContexts, formatting_contexts};
+use lay_layout::doc::NodeId;
+use lay_layout::units::NoMemory;
 use std::alloc::Global;
 use std::marker::Model;
 

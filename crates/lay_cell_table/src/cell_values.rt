@@ -1,26 +1,26 @@
 //! The values that cells keep.
 
 ghost use Rattle.std.specs.Prelude.{◌≡◌, ◌<◌, length, map, option_map, slice_index_or};
-ghost use Rattle.lay_cells.specs.Rows.{entry_of};
-ghost use Rattle.lay_context.specs.DocumentLayout.{widths_in};
-ghost use Rattle.lay_context.specs.PlacedContexts.{placed_in};
-ghost use Rattle.lay_context.specs.Settings.{sizes_in};
-ghost use Rattle.lay_context.specs.declared.task.Phase.TheVariants as phase;
-ghost use Rattle.lay_shape.specs.Shapes.{shape_of};
-ghost use Rattle.lay_cell_work.specs.CellValues.{own_places, own_sizes, own_widths};
-ghost use Rattle.lay_cell_work.specs.KeptValues.{kept_value, kept_workings};
+ghost use Rattle.lay_layout.specs.cells.Rows.{entry_of};
+ghost use Rattle.lay_layout.specs.context.DocumentLayout.{widths_in};
+ghost use Rattle.lay_layout.specs.context.PlacedContexts.{placed_in};
+ghost use Rattle.lay_layout.specs.context.Settings.{sizes_in};
+ghost use Rattle.lay_layout.specs.context.declared.task.Phase.TheVariants as phase;
+ghost use Rattle.lay_cell_steps.specs.shape.Shapes.{shape_of};
+ghost use Rattle.lay_cell_steps.specs.cell_work.CellValues.{own_places, own_sizes, own_widths};
+ghost use Rattle.lay_cell_steps.specs.cell_work.KeptValues.{kept_value, kept_workings};
 ghost use Rattle.lay_cell_table.specs.KeptCells.{kept_or_none};
 ghost use Rattle.lay_cell_table.specs.RootColumns.{IsRootOf};
 
 use crate::cell_table::CellTable;
 use crate::context_root::ContextRoot;
-use lay_cell_laws::values_stand_at_numbers;
+use lay_cell_steps::cell_laws::values_stand_at_numbers;
+use lay_cell_steps::cell_work::{CellValue, Layout};
 use lay_cell_steps::kept_values_are_counted;
-use lay_cell_work::{CellValue, Layout};
-use lay_cells::{Cells, Done};
-use lay_context::{Phase, PlacedContext, Values};
-use lay_context_sizes::SizedContext;
-use lay_measure::{NO_WIDTHS, PreferredWidths};
+use lay_layout::cells::{Cells, Done};
+use lay_layout::context::{Phase, PlacedContext, Values};
+use lay_layout::context_sizes::SizedContext;
+use lay_layout::measure::{NO_WIDTHS, PreferredWidths};
 
 /// The values that the cells of these contexts keep, which are known by the numbers of the formatting contexts. Where a cell keeps
 /// nothing they are empty.
@@ -88,7 +88,7 @@ impl<'a> CellValues<'a> {
 }
 
 impl Values for CellValues<'_> {
-    ghost use Rattle.lay_cell_work.specs.KeptValues.{kept_workings};
+    ghost use Rattle.lay_cell_steps.specs.cell_work.KeptValues.{kept_workings};
 
     ghost workings = { λ v. kept_workings v.cells.now.rows v.table.now.contexts };
 

@@ -1,23 +1,23 @@
 //! What the roots of a context with anonymous tables and cells are given from outside their cell.
 
 ghost use Rattle.std.specs.Prelude.{◌≡◌, ◌<◌, true, false, None, [], IfOk, length};
-ghost use Rattle.lay_contexts.specs.FormattingContexts.{formatting_context_at};
-ghost use Rattle.lay_context.specs.declared.input.Input.TheVariants.{Size};
-ghost use Rattle.lay_context.specs.Local.{size_input};
-ghost use Rattle.lay_context.specs.Medium.{Medium};
-ghost use Rattle.lay_cell_work.specs.CellColumns.{links_of};
-ghost use Rattle.lay_cell_work.specs.PresentInputs.{root_input_as, spot_in};
+ghost use Rattle.lay_layout.specs.contexts.FormattingContexts.{formatting_context_at};
+ghost use Rattle.lay_layout.specs.context.declared.input.Input.TheVariants.{Size};
+ghost use Rattle.lay_layout.specs.context.Local.{size_input};
+ghost use Rattle.lay_layout.specs.context.Medium.{Medium};
+ghost use Rattle.lay_cell_steps.specs.cell_work.CellColumns.{links_of};
+ghost use Rattle.lay_cell_steps.specs.cell_work.PresentInputs.{root_input_as, spot_in};
 ghost use Rattle.lay_cell_table.specs.LinkedRoots.{asks_links, asks_spot};
 ghost use Rattle.lay_cell_table.specs.TableCells.{workings_in};
 
 use crate::cell_values::CellValues;
 use crate::links::links_of;
+use lay_cell_steps::cell_work::{RootInput, RootSpot, masked_input, no_setting};
 use lay_cell_steps::kept_values_are_counted;
-use lay_cell_work::{RootInput, RootSpot, masked_input, no_setting};
-use lay_context::{Input, Values};
-use lay_context_sizes::SizeInput;
-use lay_contexts::FormattingContexts;
-use lay_units::NoMemory;
+use lay_layout::context::{Input, Values};
+use lay_layout::context_sizes::SizeInput;
+use lay_layout::contexts::FormattingContexts;
+use lay_layout::units::NoMemory;
 use std::alloc::Global;
 
 /// What the formatting context with the number i is given, whose task is given this in all, and where `first` is the number of its

@@ -2,13 +2,13 @@
 
 ghost use Rattle.std.specs.Prelude.{◌≡◌, ◌<◌, IfOk, length, map, slice_index};
 ghost use Rattle.std.specs.List.{list_any};
-ghost use Rattle.lay_context.specs.DocumentLayout.{flow_number, flow_numbers};
-ghost use Rattle.lay_contexts.specs.FormattingContexts.{formatting_context_at};
-ghost use Rattle.lay_cell_work.specs.CellColumns.{is_link, link_to, links_of};
+ghost use Rattle.lay_layout.specs.context.DocumentLayout.{flow_number, flow_numbers};
+ghost use Rattle.lay_layout.specs.contexts.FormattingContexts.{formatting_context_at};
+ghost use Rattle.lay_cell_steps.specs.cell_work.CellColumns.{is_link, link_to, links_of};
 
-use lay_contexts::FormattingContexts;
-use lay_positioned::is_absolute;
-use lay_units::NoMemory;
+use lay_layout::contexts::FormattingContexts;
+use lay_layout::positioned::is_absolute;
+use lay_layout::units::NoMemory;
 use std::alloc::Global;
 
 /// For each box of the formatting context with the number i which root of the same context stands there, where `first` is the number of

@@ -1,13 +1,13 @@
 //! Which root of which context each formatting context is.
 
 ghost use Rattle.std.specs.Prelude.{◌≡◌, ◌<◌, ◌+◌, ◌++◌, ◌∷◌, [], IfOk, OnOk, length, slice_index};
-ghost use Rattle.lay_contexts.specs.FormattingContextList.{AreFormattingContextsOf};
-ghost use Rattle.lay_contexts.specs.FormattingContexts.{formatting_context_at};
+ghost use Rattle.lay_layout.specs.contexts.FormattingContextList.{AreFormattingContextsOf};
+ghost use Rattle.lay_layout.specs.contexts.FormattingContexts.{formatting_context_at};
 ghost use Rattle.lay_cell_table.specs.RootColumns.{AreRootColumns, AreRootColumnsTo, with_first};
 
 use crate::context_root::ContextRoot;
-use lay_contexts::{Contexts, FormattingContexts};
-use lay_units::NoMemory;
+use lay_layout::contexts::{Contexts, FormattingContexts};
+use lay_layout::units::NoMemory;
 use std::alloc::Global;
 
 /// For each formatting context which root it is, and for each context the number of its first one, with the number behind them all.

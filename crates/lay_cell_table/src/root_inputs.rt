@@ -1,20 +1,20 @@
 //! What each root of a context is given.
 
 ghost use Rattle.std.specs.Prelude.{◌≡◌, ◌↔◌, ◌+◌, ◌<◌, IfOk, IsTrue, length};
-ghost use Rattle.lay_contexts.specs.FormattingContextList.{first_number};
-ghost use Rattle.lay_context.specs.Local.{input_of};
-ghost use Rattle.lay_context.specs.Settling.{IsReady};
-ghost use Rattle.lay_context.specs.declared.task.Phase.TheVariants.{Size};
-ghost use Rattle.lay_cell_laws.specs.SoundCells.{input_now};
-ghost use Rattle.lay_cell_work.specs.PresentInputs.{root_count, root_input};
+ghost use Rattle.lay_layout.specs.contexts.FormattingContextList.{first_number};
+ghost use Rattle.lay_layout.specs.context.Local.{input_of};
+ghost use Rattle.lay_layout.specs.context.Settling.{IsReady};
+ghost use Rattle.lay_layout.specs.context.declared.task.Phase.TheVariants.{Size};
+ghost use Rattle.lay_cell_steps.specs.cell_laws.SoundCells.{input_now};
+ghost use Rattle.lay_cell_steps.specs.cell_work.PresentInputs.{root_count, root_input};
 ghost use Rattle.lay_cell_table.specs.TableCells.{HaveNeeds, workings_in};
 
 use crate::cell_values::CellValues;
 use crate::linked_roots::{inner_size_input, linked_input, unlinked_root};
-use lay_cell_work::RootInput;
-use lay_context::{FormattedDocument, Input, Medium, Phase, Task, input_of};
-use lay_shape::ContextPhase;
-use lay_units::NoMemory;
+use lay_cell_steps::cell_work::RootInput;
+use lay_cell_steps::shape::ContextPhase;
+use lay_layout::context::{FormattedDocument, Input, Medium, Phase, Task, input_of};
+use lay_layout::units::NoMemory;
 use std::alloc::Global;
 
 /// What each root is given of the context of a cell.

@@ -1,19 +1,19 @@
 //! The tree of cells that are all clean.
 
 ghost use Rattle.std.specs.Prelude.{IfOk};
-ghost use Rattle.lay_cells.specs.Reads.{AllClean};
-ghost use Rattle.lay_context.specs.Medium.{Medium};
-ghost use Rattle.lay_context.specs.Solves.{IsAssembled};
+ghost use Rattle.lay_layout.specs.cells.Reads.{AllClean};
+ghost use Rattle.lay_layout.specs.context.Medium.{Medium};
+ghost use Rattle.lay_layout.specs.context.Solves.{IsAssembled};
 ghost use Rattle.lay_cell_table.specs.TableCells.{AreCellsOn, workings_in};
 
 use crate::cell_table::CellTable;
 use crate::cell_values::CellValues;
+use lay_cell_steps::cell_work::Layout;
 use lay_cell_steps::clean_cells_are_known;
-use lay_cell_work::Layout;
-use lay_cells::Cells;
-use lay_context::{LaidContexts, assemble};
-use lay_frag::Tree;
-use lay_units::NoMemory;
+use lay_layout::cells::Cells;
+use lay_layout::context::{LaidContexts, assemble};
+use lay_layout::frag::Tree;
+use lay_layout::units::NoMemory;
 use std::alloc::Global;
 
 /// The tree of the values that cells keep which are all clean. NoMemory is also the answer where one is too large to be told, which is so

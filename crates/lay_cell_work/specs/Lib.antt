@@ -8,3 +8,4 @@ pub mod ValueParts
 pub mod Claims
 pub mod PresentInputs
 pub mod KeptValues
+pub use Rattle.lay_shape.specs as shape

@@ -4,9 +4,9 @@ ghost use Rattle.std.specs.Prelude.{◌≡◌, option_map, slice_get};
 ghost use Rattle.lay_cell_work.specs.CellValues.{Places, Sizes, Widths, own_places, own_sizes, own_widths, phase_of, root_count_of};
 
 use crate::root_values::{RootPlaces, RootSizes, RootValues, RootWidths};
-use lay_context::{Phase, PlacedContext};
-use lay_context_sizes::SizedContext;
-use lay_measure::PreferredWidths;
+use lay_layout::context::{Phase, PlacedContext};
+use lay_layout::context_sizes::SizedContext;
+use lay_layout::measure::PreferredWidths;
 use std::marker::Model;
 
 /// A value of one phase for each root of a context: first for its own box, then for the anonymous tables and cells in the order of their

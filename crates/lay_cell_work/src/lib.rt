@@ -29,6 +29,7 @@ pub use cell_input::CellInput;
 pub use cell_value::CellValue;
 pub use claim::Claim;
 pub use computing::value_of_cell;
+pub use lay_shape as shape;
 pub use layout::{Layout, work_crosses_threads};
 pub use masked::{masked_input, no_setting};
 pub use root_input::RootInput;

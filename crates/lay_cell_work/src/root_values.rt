@@ -2,9 +2,9 @@
 
 ghost use Rattle.std.specs.Prelude.{◌≡◌};
 
-use lay_context::PlacedContext;
-use lay_context_sizes::SizedContext;
-use lay_measure::PreferredWidths;
+use lay_layout::context::PlacedContext;
+use lay_layout::context_sizes::SizedContext;
+use lay_layout::measure::PreferredWidths;
 use std::marker::Model;
 
 /// The preferred widths of each root.
@@ -15,7 +15,7 @@ pub(crate) struct RootWidths {
 
 impl Model for RootWidths {
     ghost use Rattle.std.specs.Prelude.{List};
-    ghost use Rattle.lay_measure.specs.declared.preferred_widths.PreferredWidths.{PreferredWidths};
+    ghost use Rattle.lay_layout.specs.measure.declared.preferred_widths.PreferredWidths.{PreferredWidths};
 
     ghost Value = { List PreferredWidths };
 
@@ -44,7 +44,7 @@ pub(crate) struct RootSizes {
 
 impl Model for RootSizes {
     ghost use Rattle.std.specs.Prelude.{List};
-    ghost use Rattle.lay_context_sizes.specs.ContextSizes.{SizedContext as Sized};
+    ghost use Rattle.lay_layout.specs.context_sizes.ContextSizes.{SizedContext as Sized};
 
     ghost Value = { List Sized };
 
@@ -73,7 +73,7 @@ pub(crate) struct RootPlaces {
 
 impl Model for RootPlaces {
     ghost use Rattle.std.specs.Prelude.{List};
-    ghost use Rattle.lay_context.specs.PlacedContexts.{PlacedContext as Placed};
+    ghost use Rattle.lay_layout.specs.context.PlacedContexts.{PlacedContext as Placed};
 
     ghost Value = { List Placed };
 

@@ -5,7 +5,7 @@ ghost use Rattle.std.specs.Prelude.{◌≡◌, ◌↔◌, IsTrue};
 use crate::cell_input::CellInput;
 use crate::root_input::RootInput;
 use crate::root_spot::RootSpot;
-use lay_context::Phase;
+use lay_layout::context::Phase;
 use lay_same_input::same_input;
 use lay_shape::CellKey;
 

@@ -1,7 +1,7 @@
 -- The numbers of contexts by their nodes, one after another.
 use Rattle.std.proofs.Common.{◌≡◌, ℕ, ◌+◌, ◌==◌, List, sym, ap, ◌∙◌, arith, inl, inr, Option, None, Some, if◌then◌else◌}
 use Rattle.std.proofs.lemmas.Bool.{cases_eq, cases_lt, eq-eqb, ne_eqb}
-use Rattle.lay_contexts.specs.Contexts.{Context}
+use Rattle.lay_layout.specs.contexts.Contexts.{Context}
 use Rattle.lay_shape.specs.Keys.{node_of}
 use Rattle.lay_changes.specs.NumbersByNode.{IsNumberOf}
 

@@ -3,7 +3,7 @@ use Rattle.std.proofs.Common.{◌≡◌, inl, inr, ⊎_elim, ℕ, zero, suc, ◌
 use Rattle.std.proofs.lemmas.Bool.{cases_lt}
 use Rattle.std.proofs.lemmas.Grind.{elements}
 use Rattle.std.proofs.lemmas.Option.{none-some, same_Some}
-use Rattle.lay_cells.specs.Shapes.{IsEachOnce, IsIn}
+use Rattle.lay_layout.specs.cells.Shapes.{IsEachOnce, IsIn}
 use Rattle.lay_shape.proofs.Members.{in_cases, in_here, in_none, in_there}
 use Rattle.lay_shape.proofs.Once.{once_more, once_none}
 

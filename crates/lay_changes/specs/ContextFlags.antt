@@ -1,10 +1,10 @@
 -- Whether each of a document's contexts is measured, as who compares contexts is given it.
 use Rattle.std.specs.Prelude.{ℕ, ◌≡◌, ◌<◌, Bool, List, length}
-use Rattle.lay_blocks.specs.Children.{flag_at}
-use Rattle.lay_contexts.specs.Contexts.{Context}
-use Rattle.lay_contexts.specs.FormattingContexts.{FormattingContext}
-use Rattle.lay_contexts.specs.FormattingContextList.{first_number}
-use Rattle.lay_context.specs.Measured.{is_measured}
+use Rattle.lay_layout.specs.blocks.Children.{flag_at}
+use Rattle.lay_layout.specs.contexts.Contexts.{Context}
+use Rattle.lay_layout.specs.contexts.FormattingContexts.{FormattingContext}
+use Rattle.lay_layout.specs.contexts.FormattingContextList.{first_number}
+use Rattle.lay_layout.specs.context.Measured.{is_measured}
 
 -- these flags say of the first n contexts whether they are measured
 pub record AreContextFlagsTo (contexts : List Context) (all : List FormattingContext) (flags : List Bool) (n : ℕ) : Type 0 where

@@ -1,9 +1,9 @@
 -- The keys of touched contexts are the only ones, and say of each context whether the edit touches it.
 use Rattle.std.specs.Prelude.{ℕ, ◌≡◌, ◌<◌, List, length}
-use Rattle.lay_cells.specs.Shapes.{IsEachOnce, IsIn}
-use Rattle.lay_contexts.specs.Contexts.{Context}
-use Rattle.lay_contexts.specs.FormattingContexts.{FormattingContext}
-use Rattle.lay_context.specs.declared.task.Phase.{Phase}
+use Rattle.lay_layout.specs.cells.Shapes.{IsEachOnce, IsIn}
+use Rattle.lay_layout.specs.contexts.Contexts.{Context}
+use Rattle.lay_layout.specs.contexts.FormattingContexts.{FormattingContext}
+use Rattle.lay_layout.specs.context.declared.task.Phase.{Phase}
 use Rattle.lay_shape.specs.declared.cell_key.CellKey.{CellKey}
 use Rattle.lay_shape.specs.Dependencies.{in_phase}
 use Rattle.lay_shape.specs.Keys.{AreOfOwnNodes, key_of}

@@ -1,6 +1,6 @@
 -- The numbers of contexts by their nodes, as the search for a context keeps them.
 use Rattle.std.specs.Prelude.{ℕ, ◌≡◌, ◌<◌, List, Option, None, Some}
-use Rattle.lay_contexts.specs.Contexts.{Context}
+use Rattle.lay_layout.specs.contexts.Contexts.{Context}
 use Rattle.lay_shape.specs.Keys.{node_of}
 
 -- among the first n contexts this is the number of that of the node with this id

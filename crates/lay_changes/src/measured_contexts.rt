@@ -1,13 +1,13 @@
 //! Contexts that are to be compared.
 
 ghost use Rattle.std.specs.Prelude.{◌≡◌, ◌<◌, length};
-ghost use Rattle.lay_contexts.specs.Contexts.{boxes_in};
-ghost use Rattle.lay_contexts.specs.FormattingContextList.{first_number};
-ghost use Rattle.lay_context.specs.Measured.{is_measured};
+ghost use Rattle.lay_layout.specs.contexts.Contexts.{boxes_in};
+ghost use Rattle.lay_layout.specs.contexts.FormattingContextList.{first_number};
+ghost use Rattle.lay_layout.specs.context.Measured.{is_measured};
 ghost use Rattle.lay_changes.specs.ContextFlags.{AreContextFlags};
 
-use lay_box_tree::BoxNode;
-use lay_contexts::{Contexts, FormattingContexts};
+use lay_layout::box_tree::BoxNode;
+use lay_layout::contexts::{Contexts, FormattingContexts};
 use std::marker::Model;
 
 /// The contexts of a document, lent to who compares them, with their formatting contexts, and for each context whether it is measured.

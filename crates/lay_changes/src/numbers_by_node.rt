@@ -6,9 +6,9 @@ ghost use Rattle.std.specs.Ordering.{nat_cmp};
 ghost use Rattle.lay_shape.specs.Keys.{node_of};
 ghost use Rattle.lay_changes.specs.NumbersByNode.{IsNumberOf};
 
-use lay_contexts::Contexts;
-use lay_doc::NodeId;
-use lay_units::NoMemory;
+use lay_layout::contexts::Contexts;
+use lay_layout::doc::NodeId;
+use lay_layout::units::NoMemory;
 use std::alloc::Global;
 use std::collections::BTreeMap;
 

@@ -10,12 +10,12 @@ ghost use Rattle.lay_changes.specs.TouchedKeys.{AreTouchedKeys, AreTouchedKeysTo
 
 use crate::measured_contexts::MeasuredContexts;
 use crate::numbers_by_node::{node_of, number_of, numbers_by_node};
-use lay_context::Phase;
-use lay_contexts::Contexts;
-use lay_doc::NodeId;
-use lay_same::same_boxes;
+use lay_layout::context::Phase;
+use lay_layout::contexts::Contexts;
+use lay_layout::doc::NodeId;
+use lay_layout::same::same_boxes;
+use lay_layout::units::NoMemory;
 use lay_shape::CellKey;
-use lay_units::NoMemory;
 use std::alloc::Global;
 use std::collections::BTreeMap;
 

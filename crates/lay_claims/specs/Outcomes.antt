@@ -1,8 +1,8 @@
 -- What comes of claims. The outcome of a claim is a value under its key and its number, for the very input that it asks for and right
 -- beside that, or the same claim again where memory was wanting. A list of claims has one outcome for each, in the same order.
 use Rattle.std.specs.Prelude.{ℕ, ◌≡◌, List, length, slice_get, Some}
-use Rattle.lay_cells.specs.Rows.{Solved}
-use Rattle.lay_shape.specs.declared.cell_key.CellKey.{CellKey}
+use Rattle.lay_layout.specs.cells.Rows.{Solved}
+use Rattle.lay_cell_work.specs.shape.declared.cell_key.CellKey.{CellKey}
 use Rattle.lay_cell_work.specs.Claims.{Claim}
 use Rattle.lay_cell_work.specs.CellInputs.{CellInput}
 use Rattle.lay_cell_work.specs.CellLocal.{IsCellLocal}

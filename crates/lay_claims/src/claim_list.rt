@@ -3,7 +3,7 @@
 ghost use Rattle.std.specs.Prelude.{◌≡◌, ◌<◌, ◌≤◌, ◌++◌, ◌∷◌, [], length, option_map, slice_get, IfOk};
 
 use lay_cell_work::Claim;
-use lay_units::NoMemory;
+use lay_layout::units::NoMemory;
 use std::alloc::Global;
 use std::marker::Model;
 

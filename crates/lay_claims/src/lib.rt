@@ -9,5 +9,7 @@ mod outcome;
 mod outcomes;
 
 pub use claim_list::ClaimList;
+pub use lay_cell_work as cell_work;
+pub use lay_cell_work::shape as shape;
 pub use outcome::Outcome;
 pub use outcomes::Outcomes;

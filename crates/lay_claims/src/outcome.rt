@@ -1,7 +1,7 @@
 //! What comes of a claim.
 
 use lay_cell_work::{Claim, Layout};
-use lay_cells::Done;
+use lay_layout::cells::Done;
 
 /// What comes of a claim: a value of its cell, or the claim itself where memory was wanting.
 #[derive(Drop)]

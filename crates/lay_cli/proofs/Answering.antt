@@ -1,6 +1,6 @@
 -- What bytes that have a fault give.
 use Rattle.std.proofs.Common.{◌≡◌, ◌≢◌, ℕ, ◌<◌, List, length, codes, refl, inl, inr, Option, Some, None, IfSome, Ok, Err, Result, IfOk}
-use Rattle.lay_units.specs.declared.memory.NoMemory.{NoMemory}
+use Rattle.lay_layout.specs.units.declared.memory.NoMemory.{NoMemory}
 use Rattle.lay_json.specs.declared.fault.InputFault.{InputFault}
 use Rattle.lay_json.specs.declared.fault.InputFault.TheVariants.{TooLong, NoMemory as ran_out}
 use Rattle.lay_json.specs.Reading.{IsReading, too_long}

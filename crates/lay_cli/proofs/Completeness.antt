@@ -1,6 +1,6 @@
 -- Bytes don't both spell a run and have a fault, so without faults of the streams each has the answer of its kind.
 use Rattle.std.proofs.Common.{◌≡◌, ◌⊎◌, ℕ, List, refl, inl, inr, Option, Some, None, IfSome, Ok, Err}
-use Rattle.lay_run.specs.Runs.{Run}
+use Rattle.lay_layout.specs.run.Runs.{Run}
 use Rattle.lay_json.specs.Reading.{IsReading}
 use Rattle.lay_json.proofs.OneReading.{one_reading_lem}
 use Rattle.lay_core.specs.State.{State}

@@ -1,10 +1,10 @@
 -- A core that answered a run's editors, by the parts that are known of it one by one.
 use Rattle.std.specs.Prelude.{◌≡◌}
 use Rattle.std.proofs.Common.{subst}
-use Rattle.lay_history.specs.Calls.{AnswersScripts, TakesTurns}
-use Rattle.lay_history.specs.Legal.{IsWhole}
+use Rattle.lay_layout.specs.history.Calls.{AnswersScripts, TakesTurns}
+use Rattle.lay_layout.specs.history.Legal.{IsWhole}
 use Rattle.lay_core.specs.State.{IsCore, State}
-use Rattle.lay_run.specs.Runs.{Run}
+use Rattle.lay_layout.specs.run.Runs.{Run}
 use Rattle.lay_cli.specs.Answers.{IsDriven}
 
 pub driven_by : (run asked : Run) (s : State) → run ≡ asked → s.init ≡ run.doc → s.face ≡ run.face → IsCore s → AnswersScripts s.history run.scripts

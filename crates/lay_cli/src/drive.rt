@@ -1,7 +1,7 @@
 //! The answers to `run` and `gen`.
 
 ghost use Rattle.std.specs.Prelude.{◌≡◌, ◌≢◌, ◌<◌, ◌≤◌, ◌^◌, ℕ, IfOk, None};
-ghost use Rattle.lay_history.specs.Legal.{IsWhole};
+ghost use Rattle.lay_layout.specs.history.Legal.{IsWhole};
 ghost use Rattle.lay_outside.specs.Outside.{Rose};
 ghost use Rattle.lay_words.specs.declared.form.Form.TheVariants as form;
 ghost use Rattle.lay_cli.specs.Answers.{IsRunReport, IsSummary, IsSummaryOf, OfKept, Refuses, Reports};
@@ -13,10 +13,10 @@ use crate::status::Status;
 use crate::telling::{status_of, told};
 use lay_core::{Core, drive};
 use lay_generator::{generated_run, run_summary};
+use lay_layout::run::RunDoc;
+use lay_layout::units::{NoMemory, Text};
 use lay_outside::{Sink, Source, write_all};
 use lay_report::write_run;
-use lay_run::RunDoc;
-use lay_units::{NoMemory, Text};
 use std::alloc::Global;
 
 /// Drives the editors of the run document that the source has left, writes the report and keeps the core.

@@ -12,10 +12,10 @@ use crate::run_input::{Input, Lack, run_input};
 use crate::status::Status;
 use crate::telling::told;
 use lay_hit::{Point, hit_line};
-use lay_inherit::computed;
+use lay_layout::inherit::computed;
+use lay_layout::run::RunDoc;
+use lay_layout::units::{NoMemory, Text, Unit};
 use lay_outside::{Sink, Source};
-use lay_run::RunDoc;
-use lay_units::{NoMemory, Text, Unit};
 use std::alloc::Global;
 
 /// Lays out the run document that the source has left, its editors taken as none, and writes which piece is seen at a
@@ -59,7 +59,7 @@ fn seen<K: Sink>(alloc: Global, run: &RunDoc, at: Point, sink: &mut K) -> Status
 fn line_at(alloc: Global, run: &RunDoc, at: Point) -> Result<Text, NoMemory>
     ensures { IfOk result (IsHitReport run.now at) }
 {
-    let tree = lay_context::scratch(alloc, run.doc(), run.face())?;
+    let tree = lay_layout::context::scratch(alloc, run.doc(), run.face())?;
     let styles = computed(alloc, run.doc())?;
     let piece = lay_hit::hit(alloc, run.doc(), &styles, &tree, at)?;
     hit_line(alloc, piece)

@@ -17,4 +17,5 @@ mod status;
 mod telling;
 
 pub use call::{answer, top};
+pub use lay_core as editing_core;
 pub use status::Status;

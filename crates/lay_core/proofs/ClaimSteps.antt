@@ -1,14 +1,18 @@
 -- Claims of cells, and what becomes of them.
 use Rattle.std.proofs.Common.{◌≡◌, ◌<◌, ◌≤◌, ◌+◌, ◌^◌, ◌⊎◌, ℕ, refl, ap, ◌∙◌, subst, arith, inl, inr}
-use Rattle.lay_cells.specs.declared.answers.Finished.{Finished}
-use Rattle.lay_cells.specs.declared.answers.Released.{Released}
-use Rattle.lay_shape.specs.declared.cell_key.CellKey.{CellKey}
-use Rattle.lay_document_cells.specs.Claims.{DrawsFew as CellsDrawFew}
+use Rattle.lay_layout.specs.cells.declared.answers.Finished.{Finished}
+use Rattle.lay_layout.specs.cells.declared.answers.Released.{Released}
+use Rattle.lay_document_cells.specs.shape.declared.cell_key.CellKey.{CellKey}
+use Rattle.lay_document_cells.specs.Batches.{ClaimsSome as CellsClaimSome}
+use Rattle.lay_document_cells.specs.Claims.{AnswersClaim as CellsAnswerClaim, AnswersNext as CellsAnswerNext, DrawsFew as CellsDrawFew}
+use Rattle.lay_document_cells.specs.Outcomes.{FinishesAll as CellsFinishAll}
+use Rattle.lay_document_cells.specs.Settling.{SettlesTo as CellsSettleTo, StopsAt as CellsStopAt}
 use Rattle.lay_document_cells.specs.State.{IsOfDocument, State as DocumentCells}
-use Rattle.lay_document_cells.specs.Steps.{CellDone, FinishesTo, GivesBackTo}
-use Rattle.lay_core.specs.CellLaws.{CellCallsKeepHistory}
+use Rattle.lay_document_cells.specs.Steps.{CellDone, FinishesTo as CellsFinishTo, GivesBackTo as CellsGiveBackTo}
+use Rattle.lay_core.specs.CellLaws.{BatchesAreUnseen, ClaimsAreUnseen, FinishesAreUnseen, GiveBacksAreUnseen, KeepsHistory, NextClaimsAreUnseen, OutcomesAreUnseen, SettlingIsUnseen, StoppingIsUnseen}
 use Rattle.lay_core.specs.Claims.{DrawsFew}
 use Rattle.lay_core.specs.State.{HasNumbers, IsKept, State, document_cells, with_cells}
+use Rattle.lay_core.specs.Work.{ChangesCells}
 use Rattle.lay_core.proofs.CellWork.{IsWork, back_work, finish_work}
 use Rattle.lay_core.proofs.Kept.{work_keeps}
 
@@ -23,13 +27,13 @@ pub leaves : (s : State) (n room : ℕ) → IsKept s n room → HasNumbers s →
     → CellsDrawFew (document_cells s) d → IsOfDocument d → IsKept (with_cells s d) n room × HasNumbers (with_cells s d)
 leaves s n room is has d work draws sound = (work_keeps s d n room is work sound, numbers_left s n room d is has draws)
 
-pub finish_draws : (s : DocumentCells) (d : CellDone) (a : Finished) (t : DocumentCells) → FinishesTo s d a t → t.cells.draws ≡ s.cells.draws
+pub finish_draws : (s : DocumentCells) (d : CellDone) (a : Finished) (t : DocumentCells) → CellsFinishTo s d a t → t.cells.draws ≡ s.cells.draws
 finish_draws s d a t does = ap (λ x. x.cells.draws) does.state ∙ elim does.finishes [
   | inl gone ↦ ap (λ x. x.draws) gone.2
   | inr done ↦ ap (λ x. x.draws) done.5
 ]
 
-pub back_draws : (s : DocumentCells) (key : CellKey) (number : ℕ) (a : Released) (t : DocumentCells) → GivesBackTo s key number a t
+pub back_draws : (s : DocumentCells) (key : CellKey) (number : ℕ) (a : Released) (t : DocumentCells) → CellsGiveBackTo s key number a t
     → t.cells.draws ≡ s.cells.draws
 back_draws s key number a t does = ap (λ x. x.cells.draws) does.state ∙ elim does.gives_back [
   | inl gone ↦ ap (λ x. x.draws) gone.2
@@ -46,8 +50,9 @@ few_drawn s now d same draws = subst (λ x. DrawsFew x (with_cells s d)) same el
 pub none_drawn : (s now : State) (d : DocumentCells) → s ≡ now → d.cells.draws ≡ s.cells.draws → d.cells.draws ≡ now.cells.draws
 none_drawn s now d same e = e ∙ ap (λ (x : State). x.cells.draws) same
 
-pub histories_kept : CellCallsKeepHistory
-histories_kept Does s t does = record {
+-- where cells alone are changed, no editor sees it
+history_kept : (Does : DocumentCells → DocumentCells → Type 0) (s t : State) → ChangesCells Does s t → KeepsHistory s t
+history_kept Does s t does = record {
   init = ap (λ (x : State). x.init) does.state;
   face = ap (λ (x : State). x.face) does.state;
   history = ap (λ (x : State). x.history) does.state;
@@ -55,3 +60,27 @@ histories_kept Does s t does = record {
   trees = ap (λ (x : State). x.trees) does.state;
   calls_left = ap (λ (x : State). x.calls_left) does.state;
 }
+
+pub settling_unseen : SettlingIsUnseen
+settling_unseen s t does = history_kept CellsSettleTo s t does
+
+pub stopping_unseen : StoppingIsUnseen
+stopping_unseen s t does = history_kept CellsStopAt s t does
+
+pub claims_unseen : ClaimsAreUnseen
+claims_unseen key answer s t does = history_kept (λ d e. CellsAnswerClaim d key answer e) s t does
+
+pub next_claims_unseen : NextClaimsAreUnseen
+next_claims_unseen next s t does = history_kept (λ d e. CellsAnswerNext d next e) s t does
+
+pub finishes_unseen : FinishesAreUnseen
+finishes_unseen done answer s t does = history_kept (λ d e. CellsFinishTo d done answer e) s t does
+
+pub give_backs_unseen : GiveBacksAreUnseen
+give_backs_unseen key number answer s t does = history_kept (λ d e. CellsGiveBackTo d key number answer e) s t does
+
+pub batches_unseen : BatchesAreUnseen
+batches_unseen limit claims answer s t does = history_kept (λ d e. CellsClaimSome d limit claims answer e) s t does
+
+pub outcomes_unseen : OutcomesAreUnseen
+outcomes_unseen os tally s t does = history_kept (λ d e. CellsFinishAll d os tally e) s t does

@@ -5,12 +5,12 @@ use Rattle.std.proofs.lemmas.Bool.Decides.{leb_tells}
 use Rattle.std.proofs.lemmas.List.{get_or-set_other, get_or-set_same, take_all}
 use Rattle.std.proofs.lemmas.List.Elements.{All-push}
 use Rattle.std.proofs.lemmas.List.Sums.{sum_by-set}
-use Rattle.lay_doc.specs.declared.command.Cmd.{Cmd}
-use Rattle.lay_run.specs.Runs.{Run}
-use Rattle.lay_run.specs.Scripts.{IsWithinLimits, command_count}
-use Rattle.lay_history.specs.Calls.{AnswersScripts, Call, IsEarlier, TakesTurns, calls, calls_of, script_calls, script_of}
-use Rattle.lay_history.proofs.Lists.{not_none, take_front}
-use Rattle.lay_history.proofs.Turns.{AreInTurn, turn_more}
+use Rattle.lay_layout.specs.doc.declared.command.Cmd.{Cmd}
+use Rattle.lay_layout.specs.run.Runs.{Run}
+use Rattle.lay_layout.specs.run.Scripts.{IsWithinLimits, command_count}
+use Rattle.lay_layout.specs.history.Calls.{AnswersScripts, Call, IsEarlier, TakesTurns, calls, calls_of, script_calls, script_of}
+use Rattle.lay_layout.proofs.lay_history.Lists.{not_none, take_front}
+use Rattle.lay_layout.proofs.lay_history.Turns.{AreInTurn, turn_more}
 use Rattle.lay_core.specs.State.{State}
 use Rattle.lay_core.specs.Steps.{IsNewCore}
 use Rattle.lay_core.specs.Rounds.{HadTurns, IsAnswered, IsAtTurn, IsQuiet, TakesTurn, turns_of}

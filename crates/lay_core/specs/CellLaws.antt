@@ -1,13 +1,13 @@
 -- What becomes of the cells of a core. No call but an edit makes a cell, drops one or dirties one: what such a call does to them is steps
 -- of work, by `Works` of lay_document_cells. So a clean cell stays clean, and each grant is one of the number of grants.
 use Rattle.std.specs.Prelude.{ℕ, ◌≡◌, List, Option, Result}
-use Rattle.lay_units.specs.declared.memory.NoMemory.{NoMemory}
-use Rattle.lay_doc.specs.declared.command.Reply.{Reply}
-use Rattle.lay_cells.specs.declared.answers.Finished.{Finished}
-use Rattle.lay_cells.specs.declared.answers.Released.{Released}
-use Rattle.lay_shape.specs.declared.cell_key.CellKey.{CellKey}
-use Rattle.lay_cell_work.specs.Claims.{Claim}
-use Rattle.lay_claims.specs.declared.outcome.Outcome.{Outcome}
+use Rattle.lay_layout.specs.units.declared.memory.NoMemory.{NoMemory}
+use Rattle.lay_layout.specs.doc.declared.command.Reply.{Reply}
+use Rattle.lay_layout.specs.cells.declared.answers.Finished.{Finished}
+use Rattle.lay_layout.specs.cells.declared.answers.Released.{Released}
+use Rattle.lay_document_cells.specs.shape.declared.cell_key.CellKey.{CellKey}
+use Rattle.lay_document_cells.specs.cell_work.Claims.{Claim}
+use Rattle.lay_document_cells.specs.claim_lists.declared.outcome.Outcome.{Outcome}
 use Rattle.lay_document_cells.specs.Outcomes.{Tally}
 use Rattle.lay_document_cells.specs.State.{State as DocumentCells}
 use Rattle.lay_document_cells.specs.Steps.{CellDone, Works}
@@ -18,7 +18,7 @@ use Rattle.lay_core.specs.Claims.{AnswersClaim, AnswersNext, ClaimsSome, Finishe
 use Rattle.lay_core.specs.Publishing.{PublishesTo, RefreshesTo}
 use Rattle.lay_core.specs.State.{State, document_cells}
 use Rattle.lay_core.specs.Steps.{LatestTo, SyncTo}
-use Rattle.lay_core.specs.Work.{ChangesCells, SettlesTo, StopsAt}
+use Rattle.lay_core.specs.Work.{SettlesTo, StopsAt}
 use Rattle.lay_core.specs.declared.answers.Publish.{Publish}
 
 -- what is done so to a core is work on its cells
@@ -71,6 +71,31 @@ pub record KeepsHistory (s t : State) : Type 0 where
   pub trees : t.trees ≡ s.trees
   pub calls_left : t.calls_left ≡ s.calls_left
 
--- so it is with each call that changes cells alone
-abbrev pub CellCallsKeepHistory : Type 0
-CellCallsKeepHistory = (Does : DocumentCells → DocumentCells → Type 0) (s t : State) → ChangesCells Does s t → KeepsHistory s t
+-- what is done so to a core is seen by no editor
+abbrev pub IsUnseen : (State → State → Type 0) → Type 0
+IsUnseen Does = (s t : State) → Does s t → KeepsHistory s t
+
+abbrev pub SettlingIsUnseen : Type 0
+SettlingIsUnseen = IsUnseen SettlesTo
+
+abbrev pub StoppingIsUnseen : Type 0
+StoppingIsUnseen = IsUnseen StopsAt
+
+abbrev pub ClaimsAreUnseen : Type 0
+ClaimsAreUnseen = (key : CellKey) (answer : Answer) → IsUnseen (λ s t. AnswersClaim s key answer t)
+
+abbrev pub NextClaimsAreUnseen : Type 0
+NextClaimsAreUnseen = (next : Next) → IsUnseen (λ s t. AnswersNext s next t)
+
+abbrev pub FinishesAreUnseen : Type 0
+FinishesAreUnseen = (done : CellDone) (answer : Finished) → IsUnseen (λ s t. FinishesTo s done answer t)
+
+abbrev pub GiveBacksAreUnseen : Type 0
+GiveBacksAreUnseen = (key : CellKey) (number : ℕ) (answer : Released) → IsUnseen (λ s t. GivesBackTo s key number answer t)
+
+abbrev pub BatchesAreUnseen : Type 0
+BatchesAreUnseen =
+    (limit : ℕ) (claims : List Claim) (answer : Result (Option IdleKind) NoMemory) → IsUnseen (λ s t. ClaimsSome s limit claims answer t)
+
+abbrev pub OutcomesAreUnseen : Type 0
+OutcomesAreUnseen = (outcomes : List Outcome) (tally : Tally) → IsUnseen (λ s t. FinishesAll s outcomes tally t)

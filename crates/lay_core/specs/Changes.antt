@@ -1,9 +1,9 @@
 -- What an edit with this reply changes of a document with its cells, and of the number of accepted edits.
 use Rattle.std.specs.Prelude.{ℕ, ◌≡◌, ◌+◌, Some, None}
-use Rattle.lay_doc.specs.declared.edit.Edit.{Edit as Change}
-use Rattle.lay_doc.specs.Edits.{fault}
-use Rattle.lay_doc.specs.declared.command.Reply.{Reply}
-use Rattle.lay_doc.specs.declared.command.Reply.TheVariants.{Accepted, Refused, Shown, NoMemory}
+use Rattle.lay_layout.specs.doc.declared.edit.Edit.{Edit as Change}
+use Rattle.lay_layout.specs.doc.Edits.{fault}
+use Rattle.lay_layout.specs.doc.declared.command.Reply.{Reply}
+use Rattle.lay_layout.specs.doc.declared.command.Reply.TheVariants.{Accepted, Refused, Shown, NoMemory}
 use Rattle.lay_document_cells.specs.Edits.{EditsTo as CellsEditTo}
 use Rattle.lay_document_cells.specs.State.{State as DocumentCells}
 

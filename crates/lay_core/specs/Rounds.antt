@@ -1,9 +1,9 @@
 -- How far the scripts of editors are answered, while the editors take turns.
 use Rattle.std.specs.Prelude.{ℕ, ◌≡◌, ◌+◌, ◌*◌, ◌≤◌, ◌^◌, List, [], ◌∷◌, ◌++◌, length, take, drop, nat_le, if◌then◌else◌}
 use Rattle.std.specs.List.{All}
-use Rattle.lay_doc.specs.declared.command.Cmd.{Cmd}
-use Rattle.lay_run.specs.Scripts.{command_count}
-use Rattle.lay_history.specs.Calls.{IsEarlier, TakesTurns, calls, calls_of, script_calls, script_of}
+use Rattle.lay_layout.specs.doc.declared.command.Cmd.{Cmd}
+use Rattle.lay_layout.specs.run.Scripts.{command_count}
+use Rattle.lay_layout.specs.history.Calls.{IsEarlier, TakesTurns, calls, calls_of, script_calls, script_of}
 use Rattle.lay_core.specs.State.{State}
 
 -- one call more is answered, and nothing is changed beside its document, cells, trees and history

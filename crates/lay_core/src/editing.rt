@@ -3,8 +3,8 @@
 ghost use Rattle.std.specs.Prelude.{◌≡◌, ◌<◌, ◌≤◌, ◌^◌, ◌-◌, ◌+◌};
 ghost use Rattle.lay_core.specs.Changes.{ChangesTo};
 
-use lay_doc::{Edit, Reply};
 use lay_document_cells::DocumentCells;
+use lay_layout::doc::{Edit, Reply};
 
 /// The reply to an edit, which is applied where it has no fault and memory is there: one edit more is accepted then.
 pub(crate) fn edited(cells: &mut DocumentCells, accepted: &mut u64, edit: &Edit) -> Reply

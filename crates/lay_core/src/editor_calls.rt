@@ -6,7 +6,7 @@ ghost use Rattle.lay_core.specs.Steps.{EditsTo, LatestTo, SyncTo};
 use crate::core_state::Core;
 use crate::editing::edited;
 use crate::showing::{shown_latest, shown_present};
-use lay_doc::{Edit, Entry, Reply};
+use lay_layout::doc::{Edit, Entry, Reply};
 
 impl Core {
     /// Answers an edit of an editor: Refused with its first fault; else Accepted with the new version, and then cells are dirty

@@ -1,13 +1,13 @@
 //! The laws of the core: what editors see after a call is decided by what they saw before, but for want of memory; and no call but an
 //! edit makes a cell, drops one or dirties one.
 
-ghost use Rattle.lay_core.specs.CellLaws.{BatchesAreWork, CellCallsKeepHistory, ClaimsAreWork, FinishesAreWork, GiveBacksAreWork, LatestIsWork, NextClaimsAreWork, OutcomesAreWork, PublishingIsWork, RefreshingIsWork, SettlingIsWork, StoppingIsWork, SyncIsWork};
+ghost use Rattle.lay_core.specs.CellLaws.{BatchesAreUnseen, BatchesAreWork, ClaimsAreUnseen, ClaimsAreWork, FinishesAreUnseen, FinishesAreWork, GiveBacksAreUnseen, GiveBacksAreWork, LatestIsWork, NextClaimsAreUnseen, NextClaimsAreWork, OutcomesAreUnseen, OutcomesAreWork, PublishingIsWork, RefreshingIsWork, SettlingIsUnseen, SettlingIsWork, StoppingIsUnseen, StoppingIsWork, SyncIsWork};
 ghost use Rattle.lay_core.specs.Laws.{LastTree, OneEdit, OneLatest, OnePublishing, OneRefreshing, OneSeenEdit, OneSettling, OneSync, ShownTrees};
 
-use lay_cell_work::Layout;
-use lay_cells::one_first_dirty;
-use lay_context::one_solution;
+use lay_document_cells::cell_work::Layout;
 use lay_document_cells::{claims_work, one_edit as one_cells_edit};
+use lay_layout::cells::one_first_dirty;
+use lay_layout::context::one_solution;
 
 /// Nothing is seen of it where cells are settled.
 pub fn one_settling()
@@ -83,7 +83,14 @@ pub fn calls_work()
     claims_work();
 }
 
-/// What editors see stays as it is where cells alone are changed, as in each call of those who work on them.
+/// What editors see stays as it is in settling, and in each call of those who work on cells.
 pub fn cell_calls_keep_history()
-    ensures { CellCallsKeepHistory }
+    ensures settling { SettlingIsUnseen }
+    ensures stopping { StoppingIsUnseen }
+    ensures claims { ClaimsAreUnseen }
+    ensures next_claims { NextClaimsAreUnseen }
+    ensures finishes { FinishesAreUnseen }
+    ensures give_backs { GiveBacksAreUnseen }
+    ensures batches { BatchesAreUnseen }
+    ensures outcomes { OutcomesAreUnseen }
 {}

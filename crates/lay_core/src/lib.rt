@@ -30,5 +30,9 @@ pub use laws::{
     calls_work, cell_calls_keep_history, last_tree, one_edit, one_latest, one_publishing,
     one_refreshing, one_seen_edit, one_settling, one_sync, shown_trees,
 };
-pub use lay_document_cells::{Answer, Idle, IdleKind, Next, Tally};
+pub use lay_document_cells as document_cells;
+pub use lay_document_cells::{
+    Answer, Idle, IdleKind, Next, Tally, cell_work as cell_work, claim_lists as claim_lists,
+    shape as shape,
+};
 pub use turns::drive;

@@ -1,9 +1,9 @@
 //! How the cells are settled and a version is published.
 
 ghost use Rattle.std.specs.Prelude.{◌≡◌, ◌≢◌, ◌<◌, ◌≤◌, ◌^◌, ◌+◌, None, Some, OnErr, OnOk, false, length, vec_capacity};
-ghost use Rattle.lay_cells.specs.Reads.{AllClean};
-ghost use Rattle.lay_history.specs.Histories.{accepted, last_or};
-ghost use Rattle.lay_history.specs.Trees.{HasTrees, versions_of};
+ghost use Rattle.lay_layout.specs.cells.Reads.{AllClean};
+ghost use Rattle.lay_layout.specs.history.Histories.{accepted, last_or};
+ghost use Rattle.lay_layout.specs.history.Trees.{HasTrees, versions_of};
 ghost use Rattle.lay_core.specs.Parts.{parts};
 ghost use Rattle.lay_core.specs.Publishing.{Publishes, PublishesTo, RefreshesTo};
 ghost use Rattle.lay_core.specs.State.{State, is_clean};
@@ -12,10 +12,10 @@ ghost use Rattle.lay_core.specs.Work.{MaySettle, SettlesTo, StopsAt};
 use crate::answers::Publish;
 use crate::core_state::Core;
 use crate::showing::are_clean;
-use lay_doc::Entry;
 use lay_document_cells::DocumentCells;
-use lay_history::PublishedTree;
-use lay_units::NoMemory;
+use lay_layout::doc::Entry;
+use lay_layout::history::PublishedTree;
+use lay_layout::units::NoMemory;
 use std::alloc::Global;
 use std::sync::Arc;
 

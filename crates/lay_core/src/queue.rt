@@ -2,9 +2,9 @@
 
 ghost use Rattle.std.specs.Prelude.{◌≡◌, ◌++◌, [], IfNone, IfOk, option_to_list};
 
-use lay_doc::{Cmd, CmdList};
-use lay_run::ScriptList;
-use lay_units::NoMemory;
+use lay_layout::doc::{Cmd, CmdList};
+use lay_layout::run::ScriptList;
+use lay_layout::units::NoMemory;
 use std::alloc::Global;
 use std::collections::VecDeque;
 use std::marker::Model;
@@ -17,7 +17,7 @@ pub(crate) struct Queue {
 
 impl Model for Queue {
     ghost use Rattle.std.specs.Prelude.{List};
-    ghost use Rattle.lay_doc.specs.declared.command.Cmd.{Cmd};
+    ghost use Rattle.lay_layout.specs.doc.declared.command.Cmd.{Cmd};
 
     ghost Value = { List Cmd };
 

@@ -2,16 +2,16 @@
 
 ghost use Rattle.std.specs.Prelude.{◌≡◌, ◌≤◌, ◌<◌, length, IfOk};
 ghost use Rattle.std.specs.List.{All};
-ghost use Rattle.lay_run.specs.Scripts.{command_count};
-ghost use Rattle.lay_history.specs.Calls.{AnswersScripts, TakesTurns};
-ghost use Rattle.lay_history.specs.Legal.{IsWhole};
+ghost use Rattle.lay_layout.specs.run.Scripts.{command_count};
+ghost use Rattle.lay_layout.specs.history.Calls.{AnswersScripts, TakesTurns};
+ghost use Rattle.lay_layout.specs.history.Legal.{IsWhole};
 ghost use Rattle.lay_core.specs.Rounds.{HadTurns, IsAnswered, TakesTurn};
 
 use crate::Core;
 use crate::queue::{Queue, queues};
-use lay_doc::{Cmd, CmdList};
-use lay_run::RunDoc;
-use lay_units::NoMemory;
+use lay_layout::doc::{Cmd, CmdList};
+use lay_layout::run::RunDoc;
+use lay_layout::units::NoMemory;
 use std::alloc::Global;
 
 /// The core that answered the commands of a run's editors: the first command of each editor that has one, in rising

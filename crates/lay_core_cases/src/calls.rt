@@ -22,8 +22,8 @@ use crate::grants::Grants;
 use crate::keys::{counts, key, shown_key};
 use crate::trees::{contexts, is_as_scratch};
 use lay_core::{Core, Publish};
-use lay_doc::Reply;
-use lay_units::NoMemory;
+use lay_layout::doc::Reply;
+use lay_layout::units::NoMemory;
 use std::alloc::Global;
 
 /// More numbers than a case draws.

@@ -11,11 +11,11 @@
 //! A claim that was granted is held to the end, so it can be finished late, or twice.
 
 use crate::keys::{key, shown_key};
-use lay_cell_work::{Claim, Layout};
-use lay_cells::{Done, Finished, Released};
-use lay_claims::{ClaimList, Outcome, Outcomes};
+use lay_core::cell_work::{Claim, Layout};
+use lay_core::claim_lists::{ClaimList, Outcome, Outcomes};
 use lay_core::{Answer, Core, IdleKind, Next, Tally};
-use lay_units::NoMemory;
+use lay_layout::cells::{Done, Finished, Released};
+use lay_layout::units::NoMemory;
 use std::alloc::Global;
 
 /// The most claims that are handed out or taken at once.

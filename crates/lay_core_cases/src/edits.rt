@@ -1,8 +1,8 @@
 //! The edits of an editor.
 
-use lay_doc::{Edit, NewNode, NodeId};
-use lay_style::Decls;
-use lay_units::{NoMemory, Text};
+use lay_layout::doc::{Edit, NewNode, NodeId};
+use lay_layout::style::Decls;
+use lay_layout::units::{NoMemory, Text};
 use lay_values::{property_of, read};
 use std::alloc::Global;
 

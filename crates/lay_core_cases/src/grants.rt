@@ -1,10 +1,10 @@
 //! Which cells were granted since the last time.
 
-use lay_context::Phase;
 use lay_core::Core;
-use lay_doc::NodeId;
-use lay_shape::CellKey;
-use lay_units::NoMemory;
+use lay_core::shape::CellKey;
+use lay_layout::context::Phase;
+use lay_layout::doc::NodeId;
+use lay_layout::units::NoMemory;
 use std::alloc::Global;
 
 /// How many claims of the cells of a node were granted.

@@ -1,10 +1,10 @@
 //! Keys of cells: `PHASE NODE`, where the phase is `Measure`, `Size` or `Place`.
 
-use lay_context::Phase;
 use lay_core::Core;
-use lay_doc::NodeId;
-use lay_shape::CellKey;
-use lay_units::NoMemory;
+use lay_core::shape::CellKey;
+use lay_layout::context::Phase;
+use lay_layout::doc::NodeId;
+use lay_layout::units::NoMemory;
 use std::alloc::Global;
 
 /// The key of a text; None where it is none.

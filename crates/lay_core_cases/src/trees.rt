@@ -1,9 +1,9 @@
 //! Trees of versions.
 
-use lay_context::scratch;
 use lay_core::Core;
-use lay_frag::text_of;
-use lay_units::NoMemory;
+use lay_layout::context::scratch;
+use lay_layout::frag::text_of;
+use lay_layout::units::NoMemory;
 use std::alloc::Global;
 
 /// Of how many contexts the tree of a version is.

@@ -1,20 +1,20 @@
 -- What an edit leaves of a document with its cells.
 use Rattle.std.proofs.Common.{◌≡◌, inl, ℕ, ◌≤◌, refl, arith, ap, sym, subst, ◌∙◌, None}
-use Rattle.lay_doc.specs.Document.{Document, IsDocument}
-use Rattle.lay_doc.specs.declared.edit.Edit.{Edit}
-use Rattle.lay_doc.specs.Edits.{after, fault}
-use Rattle.lay_doc.specs.Laws.{PutsNode}
-use Rattle.lay_face.specs.FaceValue.{FaceValue}
-use Rattle.lay_context.specs.Medium.{Medium}
-use Rattle.lay_context.specs.Solves.{medium_of}
-use Rattle.lay_cells.specs.Sound.{IsSound}
-use Rattle.lay_shape.specs.declared.cell_key.CellKey.{CellKey}
-use Rattle.lay_cell_progress.specs.Grants.{laid_of_all}
-use Rattle.lay_cell_work.specs.CellLocal.{IsCellLocal}
-use Rattle.lay_cell_laws.specs.DocumentCells.{AreDocumentCells}
-use Rattle.lay_cell_laws.specs.SoundCells.{CellState}
-use Rattle.lay_cell_steps.specs.EditedCells.{EditsKeepCells, FollowsContexts}
-use Rattle.lay_changes.specs.Laws.{TouchedContextsAreListed}
+use Rattle.lay_layout.specs.doc.Document.{Document, IsDocument}
+use Rattle.lay_layout.specs.doc.declared.edit.Edit.{Edit}
+use Rattle.lay_layout.specs.doc.Edits.{after, fault}
+use Rattle.lay_layout.specs.doc.Laws.{PutsNode}
+use Rattle.lay_layout.specs.face.FaceValue.{FaceValue}
+use Rattle.lay_layout.specs.context.Medium.{Medium}
+use Rattle.lay_layout.specs.context.Solves.{medium_of}
+use Rattle.lay_layout.specs.cells.Sound.{IsSound}
+use Rattle.lay_cell_table.specs.shape.declared.cell_key.CellKey.{CellKey}
+use Rattle.lay_layout.specs.cell_progress.Grants.{laid_of_all}
+use Rattle.lay_cell_table.specs.cell_work.CellLocal.{IsCellLocal}
+use Rattle.lay_cell_table.specs.cell_laws.DocumentCells.{AreDocumentCells}
+use Rattle.lay_cell_table.specs.cell_laws.SoundCells.{CellState}
+use Rattle.lay_cell_table.specs.cell_steps.EditedCells.{EditsKeepCells, FollowsContexts}
+use Rattle.lay_cell_table.specs.changes.Laws.{TouchedContextsAreListed}
 use Rattle.lay_document_cells.specs.Edits.{EditsTo, FollowsLists}
 use Rattle.lay_document_cells.specs.Kept.{IsKept, TableValue}
 use Rattle.lay_document_cells.specs.State.{AreStyledLists, State}

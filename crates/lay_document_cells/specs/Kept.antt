@@ -1,12 +1,12 @@
 -- What a document with its cells keeps beside what contracts see: what it is laid out on, its computed styles, and its contexts.
 use Rattle.std.specs.Prelude.{◌≡◌, ◌≤◌, List}
-use Rattle.lay_style.specs.declared.style.Style.{Style}
-use Rattle.lay_cell_progress.specs.Grants.{laid_of_all}
-use Rattle.lay_cell_laws.specs.DocumentCells.{AreDocumentCells}
+use Rattle.lay_layout.specs.style.declared.style.Style.{Style}
+use Rattle.lay_layout.specs.cell_progress.Grants.{laid_of_all}
+use Rattle.lay_cell_table.specs.cell_laws.DocumentCells.{AreDocumentCells}
 use Rattle.lay_cell_table.specs.CellTables.{CellTable}
-use Rattle.lay_changes.specs.ContextFlags.{ContextLists}
-use Rattle.lay_context.specs.Medium.{Medium}
-use Rattle.lay_context.specs.Solves.{medium_of}
+use Rattle.lay_cell_table.specs.changes.ContextFlags.{ContextLists}
+use Rattle.lay_layout.specs.context.Medium.{Medium}
+use Rattle.lay_layout.specs.context.Solves.{medium_of}
 use Rattle.lay_document_cells.specs.State.{AreStyledLists, State}
 
 -- the styles of a document and its contexts

@@ -10,7 +10,7 @@ use crate::document_cells::DocumentCells;
 use crate::idle::{Idle, IdleKind};
 use crate::tally::Tally;
 use lay_claims::{ClaimList, Outcome, Outcomes};
-use lay_units::NoMemory;
+use lay_layout::units::NoMemory;
 
 /// How a batch is answered where this is the first answer to a claim.
 fn batch_answer(first: Next) -> Result<Option<Idle>, NoMemory>

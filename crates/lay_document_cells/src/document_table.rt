@@ -1,20 +1,20 @@
 //! The contexts of a document, with its styles.
 
 ghost use Rattle.std.specs.Prelude.{◌≡◌, ◌+◌, IfOk, None, OnOk, length};
-ghost use Rattle.lay_style.specs.ComputedStyle.{HasStyles};
-ghost use Rattle.lay_doc.specs.Document.{declarations_of, parents_of};
-ghost use Rattle.lay_doc.specs.Edits.{after, fault};
-ghost use Rattle.lay_changes.specs.ContextFlags.{AreContextFlags};
+ghost use Rattle.lay_layout.specs.style.ComputedStyle.{HasStyles};
+ghost use Rattle.lay_layout.specs.doc.Document.{declarations_of, parents_of};
+ghost use Rattle.lay_layout.specs.doc.Edits.{after, fault};
+ghost use Rattle.lay_cell_table.specs.changes.ContextFlags.{AreContextFlags};
 ghost use Rattle.lay_document_cells.specs.State.{AreStyledLists};
 
 use lay_cell_table::CellTable;
-use lay_changes::MeasuredContexts;
-use lay_contexts::contexts_of;
-use lay_doc::{Doc, Edit};
-use lay_inherit::computed;
-use lay_restyled::restyled;
-use lay_style::Computed;
-use lay_units::NoMemory;
+use lay_cell_table::changes::MeasuredContexts;
+use lay_layout::contexts::contexts_of;
+use lay_layout::doc::{Doc, Edit};
+use lay_layout::inherit::computed;
+use lay_layout::restyled::restyled;
+use lay_layout::style::Computed;
+use lay_layout::units::NoMemory;
 use std::alloc::Global;
 use std::marker::Model;
 
@@ -27,7 +27,7 @@ pub(crate) struct DocumentTable {
 }
 
 impl Model for DocumentTable {
-    ghost use Rattle.lay_changes.specs.ContextFlags.{AreContextFlags};
+    ghost use Rattle.lay_cell_table.specs.changes.ContextFlags.{AreContextFlags};
     ghost use Rattle.lay_document_cells.specs.Kept.{TableValue, lists_in};
 
     ghost Value = { TableValue };

@@ -1,16 +1,16 @@
 //! What an edit does to cells.
 
 ghost use Rattle.std.specs.Prelude.{◌≡◌, ◌≤◌, ◌+◌, ◌^◌, OnErr, OnOk, length};
-ghost use Rattle.lay_cell_progress.specs.Grants.{laid_of_all};
-ghost use Rattle.lay_shape.specs.Keys.{AreOfOwnNodes};
+ghost use Rattle.lay_layout.specs.cell_progress.Grants.{laid_of_all};
+ghost use Rattle.lay_cell_table.specs.shape.Keys.{AreOfOwnNodes};
 ghost use Rattle.lay_document_cells.specs.Edits.{FollowsLists};
 
 use crate::document_table::DocumentTable;
-use lay_cell_progress::{marks_count, reshapes_count, reshapes_draw};
-use lay_cell_work::Layout;
-use lay_cells::Cells;
-use lay_changes::changed_keys;
-use lay_units::NoMemory;
+use lay_cell_table::cell_work::Layout;
+use lay_cell_table::changes::changed_keys;
+use lay_layout::cell_progress::{marks_count, reshapes_count, reshapes_draw};
+use lay_layout::cells::Cells;
+use lay_layout::units::NoMemory;
 use std::alloc::Global;
 
 /// The cells of the contexts before an edit become those of the contexts after it. On an error they are as before.

@@ -2,23 +2,23 @@
 
 ghost use Rattle.std.specs.Prelude.{◌≡◌, ◌+◌, ◌≤◌, ◌^◌, ◌-◌, IfOk};
 ghost use Rattle.std.specs.Arc.{arc_value};
-ghost use Rattle.lay_cells.specs.Looks.{Looks};
-ghost use Rattle.lay_cells.specs.Places.{AtPlace};
-ghost use Rattle.lay_cells.specs.declared.answers.Look.TheVariants as look;
+ghost use Rattle.lay_layout.specs.cells.Looks.{Looks};
+ghost use Rattle.lay_layout.specs.cells.Places.{AtPlace};
+ghost use Rattle.lay_layout.specs.cells.declared.answers.Look.TheVariants as look;
 ghost use Rattle.lay_document_cells.specs.Steps.{ClaimsTo, FinishesTo, GivesBackTo, IsGivenNow};
 
 use crate::document_cells::DocumentCells;
-use lay_cell_progress::{
+use lay_cell_table::cell_steps::{claims_keep_cells, finishes_keep_cells, give_backs_keep_cells};
+use lay_cell_table::cell_work::{CellInput, Layout};
+use lay_cell_table::input_at;
+use lay_cell_table::shape::CellKey;
+use lay_layout::cell_progress::{
     claims_count, finishes_count, finishes_keep_rows, give_backs_count, give_backs_keep_rows,
 };
-use lay_cell_steps::{claims_keep_cells, finishes_keep_cells, give_backs_keep_cells};
-use lay_cell_table::input_at;
-use lay_cell_work::{CellInput, Layout};
-use lay_cells::{Claimed, Done, Finished, Released};
-use lay_contexts::{one_context_list, one_formatting_context_list};
-use lay_doc::one_style_column;
-use lay_shape::CellKey;
-use lay_units::NoMemory;
+use lay_layout::cells::{Claimed, Done, Finished, Released};
+use lay_layout::contexts::{one_context_list, one_formatting_context_list};
+use lay_layout::doc::one_style_column;
+use lay_layout::units::NoMemory;
 use std::sync::Arc;
 
 impl DocumentCells {

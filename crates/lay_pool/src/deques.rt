@@ -3,7 +3,7 @@
 ghost use Rattle.std.specs.Prelude.{◌<◌};
 
 use crossbeam_deque::{Steal, Stealer, Worker};
-use lay_units::NoMemory;
+use lay_layout::units::NoMemory;
 use std::alloc::Global;
 
 /// How often a thread looks round again where a steal could not be decided.

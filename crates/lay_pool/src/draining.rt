@@ -6,9 +6,9 @@ ghost use Rattle.lay_pool.specs.Finds.{AreNotesOf};
 
 use crate::member::computed;
 use crate::notes::take_note;
-use lay_cell_work::{Claim, Layout};
-use lay_cells::Done;
 use lay_claims::Outcome;
+use lay_claims::cell_work::{Claim, Layout};
+use lay_layout::cells::Done;
 use lay_outside::Gate;
 use std::alloc::Global;
 

@@ -13,3 +13,5 @@ mod member;
 mod notes;
 
 pub use batch::run_batch;
+pub use lay_claims as claim_lists;
+pub use lay_claims::{cell_work as cell_work, shape as shape};

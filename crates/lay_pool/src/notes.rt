@@ -6,9 +6,9 @@ ghost use Rattle.lay_claims.specs.Outcomes.{Work};
 ghost use Rattle.lay_pool.specs.Finds.{AreFoundOf, AreNotesOf, IsFoundOf};
 
 use crate::member::{Finds, Found};
-use lay_cell_work::{Claim, Layout};
-use lay_cells::Done;
-use lay_units::NoMemory;
+use lay_claims::cell_work::{Claim, Layout};
+use lay_layout::cells::Done;
+use lay_layout::units::NoMemory;
 use std::alloc::{AllocError, Global};
 
 /// Nothing yet at so many places.

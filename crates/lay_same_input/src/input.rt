@@ -4,7 +4,7 @@ ghost use Rattle.std.specs.Prelude.{◌≡◌, ◌↔◌, IsTrue};
 
 use crate::parts::{same_flow_parts, same_measure_parts, same_table_parts};
 use crate::sized::{same_size_input, same_stand_input};
-use lay_context::Input;
+use lay_layout::context::Input;
 
 /// Whether two tasks are given the same.
 pub fn same_input(a: &Input, b: &Input) -> bool

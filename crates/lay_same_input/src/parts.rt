@@ -5,8 +5,8 @@ ghost use Rattle.std.specs.Prelude.{◌≡◌, ◌↔◌, IsTrue};
 use crate::shared_pieces::same_shared_pieces;
 use crate::table_sizes::same_table_sizes;
 use crate::widths::same_widths_list;
-use lay_context::{FlowParts, MeasureParts, TableParts};
-use lay_same::{same_boxes, same_height_rule, same_own_boxes, same_sizes};
+use lay_layout::context::{FlowParts, MeasureParts, TableParts};
+use lay_layout::same::{same_boxes, same_height_rule, same_own_boxes, same_sizes};
 
 /// Whether the preferred widths of two formatting contexts are worked out of the same.
 pub fn same_measure_parts(a: &MeasureParts, b: &MeasureParts) -> bool

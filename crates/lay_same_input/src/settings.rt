@@ -3,9 +3,9 @@
 ghost use Rattle.std.specs.Prelude.{◌≡◌, ◌↔◌, IsTrue};
 
 use crate::table_sizes::same_cell_size;
-use lay_abspos::{AbsoluteSetting, OwnPlace};
-use lay_context_sizes::Setting;
-use lay_same::{same_containing_block, same_rect};
+use lay_layout::abspos::{AbsoluteSetting, OwnPlace};
+use lay_layout::context_sizes::Setting;
+use lay_layout::same::{same_containing_block, same_rect};
 
 /// Whether two absolutely positioned boxes are given the same from outside.
 fn same_absolute_setting(a: &AbsoluteSetting, b: &AbsoluteSetting) -> bool

@@ -1,11 +1,11 @@
 //! Whether the pieces of anonymous formatting contexts are the same.
 
 ghost use Rattle.std.specs.Prelude.{◌≡◌, ◌↔◌, IsTrue, map};
-ghost use Rattle.lay_pieces.specs.InnerPieces.{inner_pieces_at, pieces_or_none};
+ghost use Rattle.lay_layout.specs.pieces.InnerPieces.{inner_pieces_at, pieces_or_none};
 
-use lay_context::SharedPieces;
-use lay_frag::{Frag, Pieces};
-use lay_same::same_pieces;
+use lay_layout::context::SharedPieces;
+use lay_layout::frag::{Frag, Pieces};
+use lay_layout::same::same_pieces;
 use std::sync::Arc;
 
 /// Whether the pieces of the anonymous formatting contexts in two others are the same.

@@ -5,9 +5,9 @@ ghost use Rattle.std.specs.Prelude.{◌≡◌, ◌↔◌, IsTrue};
 use crate::settings::{same_own_place, same_setting};
 use crate::table_sizes::same_table_or_none;
 use crate::widths::same_widths;
-use lay_abspos::StandInput;
-use lay_context_sizes::{SizeInput, SizedContext};
-use lay_same::{same_boxes, same_length_or_none, same_sizes};
+use lay_layout::abspos::StandInput;
+use lay_layout::context_sizes::{SizeInput, SizedContext};
+use lay_layout::same::{same_boxes, same_length_or_none, same_sizes};
 
 /// Whether the used sizes of two formatting contexts are worked out of the same.
 pub fn same_size_input(a: &SizeInput, b: &SizeInput) -> bool

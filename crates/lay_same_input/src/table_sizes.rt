@@ -2,9 +2,9 @@
 
 ghost use Rattle.std.specs.Prelude.{◌≡◌, ◌↔◌, IsTrue};
 
-use lay_same::{same_grid, same_sides};
-use lay_table_sizes::{CellSize, TableSizes};
-use lay_units::Unit;
+use lay_layout::same::{same_grid, same_sides};
+use lay_layout::table_sizes::{CellSize, TableSizes};
+use lay_layout::units::Unit;
 
 /// Whether two tables have the same grid, columns and cells.
 pub fn same_table_sizes(a: &TableSizes, b: &TableSizes) -> bool

@@ -2,7 +2,7 @@
 
 ghost use Rattle.std.specs.Prelude.{◌≡◌, ◌↔◌, IsTrue};
 
-use lay_measure::PreferredWidths;
+use lay_layout::measure::PreferredWidths;
 
 /// Whether two boxes have the same preferred widths.
 pub fn same_widths(a: &PreferredWidths, b: &PreferredWidths) -> bool

@@ -1,6 +1,6 @@
 //! Cells by the numbers of their contexts.
 
-use lay_context::Phase;
+use lay_layout::context::Phase;
 
 /// One phase of the context with this number.
 #[derive(Clone, Copy)]

@@ -1,30 +1,30 @@
 -- The first context of a document is of its first node.
 use Rattle.std.proofs.Common.{◌≡◌, ◌<◌, ℕ, Bool, true, false, IsTrue, List, [], ◌∷◌, length, slice_index, Option, None, Some, refl, ap, sym, subst, ◌∙◌, arith}
 use Rattle.std.proofs.lemmas.List.{get_or-map}
-use Rattle.lay_style.specs.declared.style.Style.{Style}
-use Rattle.lay_doc.specs.declared.node.NodeId.{NodeId}
-use Rattle.lay_doc.specs.Document.{Document, IsDocument, ids_of}
-use Rattle.lay_doc.specs.Edits.{after}
-use Rattle.lay_doc.proofs.EditedDocuments.{edits_leave_documents}
-use Rattle.lay_doc.proofs.NodeColumns.{length-parents}
-use Rattle.lay_box_tree.specs.BoxColumns.{box_at as own_at}
-use Rattle.lay_box_tree.specs.declared.box_tree.BoxNode.{BoxNode}
-use Rattle.lay_anonymous_boxes.specs.Boxes.{Tree, Trees, tree, trees_of}
-use Rattle.lay_anonymous_boxes.specs.declared.facts.Facts.{Facts}
-use Rattle.lay_boxgen.specs.Contexts.{IsContextAt, box_at, is_marked}
-use Rattle.lay_boxgen.specs.Laws.{inner_boxes}
-use Rattle.lay_boxgen.specs.Listing.{listed_part}
-use Rattle.lay_boxgen.specs.NodeTrees.{as_own, box_with, tree_at}
-use Rattle.lay_boxgen.specs.Parts.{nothing, put_list}
-use Rattle.lay_boxgen.proofs.WholeParts.{context_is_one_box}
-use Rattle.lay_contexts.specs.ContextList.{AreContextsOf}
-use Rattle.lay_contexts.specs.ContextTree.{boxes_of_place}
-use Rattle.lay_contexts.specs.Contexts.{Context, boxes_in}
-use Rattle.lay_contexts.specs.DocumentContexts.{root_spot, spot_at}
-use Rattle.lay_contexts.specs.NodeTreeLaws.{child_trees, children_places}
-use Rattle.lay_contexts.specs.declared.context_spot.ContextSpot.{ContextSpot}
-use Rattle.lay_contexts.proofs.ChildTrees.{children_stand_in_order}
-use Rattle.lay_contexts.proofs.NodeFacts.{box_within, of_node}
+use Rattle.lay_layout.specs.style.declared.style.Style.{Style}
+use Rattle.lay_layout.specs.doc.declared.node.NodeId.{NodeId}
+use Rattle.lay_layout.specs.doc.Document.{Document, IsDocument, ids_of}
+use Rattle.lay_layout.specs.doc.Edits.{after}
+use Rattle.lay_layout.proofs.lay_doc.EditedDocuments.{edits_leave_documents}
+use Rattle.lay_layout.proofs.lay_doc.NodeColumns.{length-parents}
+use Rattle.lay_layout.specs.box_tree.BoxColumns.{box_at as own_at}
+use Rattle.lay_layout.specs.box_tree.declared.box_tree.BoxNode.{BoxNode}
+use Rattle.lay_layout.specs.anonymous_boxes.Boxes.{Tree, Trees, tree, trees_of}
+use Rattle.lay_layout.specs.anonymous_boxes.declared.facts.Facts.{Facts}
+use Rattle.lay_layout.specs.boxgen.Contexts.{IsContextAt, box_at, is_marked}
+use Rattle.lay_layout.specs.boxgen.Laws.{inner_boxes}
+use Rattle.lay_layout.specs.boxgen.Listing.{listed_part}
+use Rattle.lay_layout.specs.boxgen.NodeTrees.{as_own, box_with, tree_at}
+use Rattle.lay_layout.specs.boxgen.Parts.{nothing, put_list}
+use Rattle.lay_layout.proofs.lay_boxgen.WholeParts.{context_is_one_box}
+use Rattle.lay_layout.specs.contexts.ContextList.{AreContextsOf}
+use Rattle.lay_layout.specs.contexts.ContextTree.{boxes_of_place}
+use Rattle.lay_layout.specs.contexts.Contexts.{Context, boxes_in}
+use Rattle.lay_layout.specs.contexts.DocumentContexts.{root_spot, spot_at}
+use Rattle.lay_layout.specs.contexts.NodeTreeLaws.{child_trees, children_places}
+use Rattle.lay_layout.specs.contexts.declared.context_spot.ContextSpot.{ContextSpot}
+use Rattle.lay_layout.proofs.lay_contexts.ChildTrees.{children_stand_in_order}
+use Rattle.lay_layout.proofs.lay_contexts.NodeFacts.{box_within, of_node}
 use Rattle.lay_shape.specs.Keys.{node_of}
 use Rattle.lay_shape.proofs.OwnNodes.{box_node, contexts_are_of_own_nodes_lem}
 use Rattle.lay_shape_laws.specs.RootKeys.{RootStaysFirst}

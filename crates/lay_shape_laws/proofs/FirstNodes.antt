@@ -1,16 +1,16 @@
 -- The first node has one id before an edit and after it.
 use Rattle.std.proofs.Common.{◌≡◌, ◌<◌, ◌≤◌, ◌+◌, ◌-◌, ◌==◌, ℕ, zero, suc, nat_lt, Bool, true, false, if◌then◌else◌, List, [], ◌∷◌, length, slice_index, drop, Option, None, Some, refl, ap, ◌∙◌, arith}
-use Rattle.lay_style.specs.Places.{place_of}
-use Rattle.lay_doc.specs.declared.edit.Edit.{Edit}
-use Rattle.lay_doc.specs.declared.edit.Edit.TheVariants.{SetStyle, ClearStyle, SetText, Insert, Remove, Bad}
-use Rattle.lay_doc.specs.declared.node.Node.{Node}
-use Rattle.lay_doc.specs.declared.node.NodeId.{NodeId}
-use Rattle.lay_doc.specs.Changes.{after_change, changed_at, with_style, with_text, without_style}
-use Rattle.lay_doc.specs.Document.{Document, becomes, depths_of, ids_of, inserted, parents_of}
-use Rattle.lay_doc.specs.Edits.{after, after_insert, fault, inserted_below}
-use Rattle.lay_doc.specs.NewNodes.{NewNodeValue}
-use Rattle.lay_doc.specs.Removal.{after_remove, remove_fault, removed, removed_between}
-use Rattle.lay_doc.specs.Tree.{end_of, slot_from, slot_of}
+use Rattle.lay_layout.specs.style.Places.{place_of}
+use Rattle.lay_layout.specs.doc.declared.edit.Edit.{Edit}
+use Rattle.lay_layout.specs.doc.declared.edit.Edit.TheVariants.{SetStyle, ClearStyle, SetText, Insert, Remove, Bad}
+use Rattle.lay_layout.specs.doc.declared.node.Node.{Node}
+use Rattle.lay_layout.specs.doc.declared.node.NodeId.{NodeId}
+use Rattle.lay_layout.specs.doc.Changes.{after_change, changed_at, with_style, with_text, without_style}
+use Rattle.lay_layout.specs.doc.Document.{Document, becomes, depths_of, ids_of, inserted, parents_of}
+use Rattle.lay_layout.specs.doc.Edits.{after, after_insert, fault, inserted_below}
+use Rattle.lay_layout.specs.doc.NewNodes.{NewNodeValue}
+use Rattle.lay_layout.specs.doc.Removal.{after_remove, remove_fault, removed, removed_between}
+use Rattle.lay_layout.specs.doc.Tree.{end_of, slot_from, slot_of}
 
 abbrev first_id : List Node → ℕ
 first_id nodes = slice_index (ids_of nodes) 0

@@ -1,22 +1,22 @@
 -- The formatting contexts on a way are of the contexts on it: where none of the boxes around a box in the list of its home is a holder,
 -- and none around that home, none around the box in its context is.
 use Rattle.std.proofs.Common.{◌≡◌, ℕ, zero, suc, ◌+◌, ◌<◌, ◌≤◌, ◌&&◌, not, Bool, true, false, List, [], ◌∷◌, length, slice_index, slice_index_or, map, refl, ap, sym, subst, ◌∙◌, arith, Option, Some, None}
-use Rattle.lay_box_tree.specs.BoxColumns.{box_at}
-use Rattle.lay_box_tree.specs.Containers.{box_parent}
-use Rattle.lay_box_tree.specs.ContextBoxes.{AreContextBoxes}
-use Rattle.lay_box_tree.specs.declared.box_tree.BoxNode.{BoxNode}
-use Rattle.lay_contexts.specs.Contexts.{AreContexts, Context, boxes_in, context_at}
-use Rattle.lay_contexts.specs.FormattingBoxes.{as_member, at_home_before, boxes_of_root, place_inside, rank}
-use Rattle.lay_contexts.specs.FormattingContexts.{FormattingContext, boxes_in as boxes_of, formatting_context_at}
-use Rattle.lay_contexts.specs.FormattingContextList.{AreFormattingContextsOf, homes_in, number_at, number_of, rank_at, spot_of}
-use Rattle.lay_contexts.specs.Homes.{AreHomes, IsHome, is_root}
-use Rattle.lay_contexts.specs.declared.spot.Spot.{Spot}
-use Rattle.lay_contexts.proofs.AtHome.{is_home, stands_there}
-use Rattle.lay_contexts.proofs.ContextFacts.{boxes_around, home_root, home_there, spot_there}
-use Rattle.lay_contexts.proofs.NearestRoots.{not_own, parent_low, root_home, same_home}
-use Rattle.lay_contexts.proofs.RootBoxes.{at_rank, parent_at, place_other, place_root, rank_next, rank_some}
-use Rattle.lay_positioned.specs.Holders.{IsHolderFor, IsNearestHolder, further, is_holder, is_holder_at, none, parent}
-use Rattle.lay_positioned.specs.Ways.{IsOnWayFrom as IsOnWayAmong, here as here_among, further as further_among}
+use Rattle.lay_layout.specs.box_tree.BoxColumns.{box_at}
+use Rattle.lay_layout.specs.box_tree.Containers.{box_parent}
+use Rattle.lay_layout.specs.box_tree.ContextBoxes.{AreContextBoxes}
+use Rattle.lay_layout.specs.box_tree.declared.box_tree.BoxNode.{BoxNode}
+use Rattle.lay_layout.specs.contexts.Contexts.{AreContexts, Context, boxes_in, context_at}
+use Rattle.lay_layout.specs.contexts.FormattingBoxes.{as_member, at_home_before, boxes_of_root, place_inside, rank}
+use Rattle.lay_layout.specs.contexts.FormattingContexts.{FormattingContext, boxes_in as boxes_of, formatting_context_at}
+use Rattle.lay_layout.specs.contexts.FormattingContextList.{AreFormattingContextsOf, homes_in, number_at, number_of, rank_at, spot_of}
+use Rattle.lay_layout.specs.contexts.Homes.{AreHomes, IsHome, is_root}
+use Rattle.lay_layout.specs.contexts.declared.spot.Spot.{Spot}
+use Rattle.lay_layout.proofs.lay_contexts.AtHome.{is_home, stands_there}
+use Rattle.lay_layout.proofs.lay_contexts.ContextFacts.{boxes_around, home_root, home_there, spot_there}
+use Rattle.lay_layout.proofs.lay_contexts.NearestRoots.{not_own, parent_low, root_home, same_home}
+use Rattle.lay_layout.proofs.lay_contexts.RootBoxes.{at_rank, parent_at, place_other, place_root, rank_next, rank_some}
+use Rattle.lay_layout.specs.positioned.Holders.{IsHolderFor, IsNearestHolder, further, is_holder, is_holder_at, none, parent}
+use Rattle.lay_layout.specs.positioned.Ways.{IsOnWayFrom as IsOnWayAmong, here as here_among, further as further_among}
 use Rattle.lay_shape.specs.Ways.{IsOnWayFrom, here as on_here, further as on_further}
 
 holder_of : (boxes : List BoxNode) (k : ℕ) → is_holder_at boxes k ≡ is_holder (box_at boxes k)

@@ -1,2 +1,3 @@
 pub mod NeedLaws
 pub mod RootKeys
+pub use Rattle.lay_shape.specs as shape

@@ -1,17 +1,17 @@
 -- The dependencies of cells are those of a layout: whatever a task of a formatting context needs is a task of a cell on which the cell
 -- of that task depends, or of that cell itself, as where a formatting context and an anonymous table in it are of one context.
 use Rattle.std.specs.Prelude.{ℕ, ◌≡◌, ◌⊎◌, ◌<◌, true, List, length}
-use Rattle.lay_style.specs.declared.style.Style.{Style}
-use Rattle.lay_doc.specs.Document.{Document, IsDocument}
-use Rattle.lay_cells.specs.Shapes.{IsIn}
-use Rattle.lay_context.specs.declared.task.Phase.{Phase}
-use Rattle.lay_context.specs.declared.task.Task.{Task}
-use Rattle.lay_context.specs.Needs.{Needs}
-use Rattle.lay_contexts.specs.ContextList.{AreContextsOf}
-use Rattle.lay_contexts.specs.Contexts.{Context, boxes_in}
-use Rattle.lay_contexts.specs.FormattingContexts.{FormattingContext}
-use Rattle.lay_contexts.specs.FormattingContextList.{AreFormattingContextsOf, number_of}
-use Rattle.lay_contexts.specs.Homes.{is_root}
+use Rattle.lay_layout.specs.style.declared.style.Style.{Style}
+use Rattle.lay_layout.specs.doc.Document.{Document, IsDocument}
+use Rattle.lay_layout.specs.cells.Shapes.{IsIn}
+use Rattle.lay_layout.specs.context.declared.task.Phase.{Phase}
+use Rattle.lay_layout.specs.context.declared.task.Task.{Task}
+use Rattle.lay_layout.specs.context.Needs.{Needs}
+use Rattle.lay_layout.specs.contexts.ContextList.{AreContextsOf}
+use Rattle.lay_layout.specs.contexts.Contexts.{Context, boxes_in}
+use Rattle.lay_layout.specs.contexts.FormattingContexts.{FormattingContext}
+use Rattle.lay_layout.specs.contexts.FormattingContextList.{AreFormattingContextsOf, number_of}
+use Rattle.lay_layout.specs.contexts.Homes.{is_root}
 use Rattle.lay_shape.specs.Dependencies.{in_phase, needs_in}
 
 -- the task is of a root of a context, and the cell of that context and phase is one that the cell of the context i depends on in this

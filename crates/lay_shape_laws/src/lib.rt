@@ -8,4 +8,5 @@ mod laws;
 mod root_keys;
 
 pub use laws::needs_are_shaped;
+pub use lay_shape as shape;
 pub use root_keys::root_stays_first;

@@ -3,11 +3,11 @@
 ghost use Rattle.std.specs.Prelude.{◌<◌, ◌≤◌, IfSome};
 
 use crate::shown;
-use lay_claims::{ClaimList, Outcomes};
 use lay_core::{Core, Idle};
+use lay_layout::units::NoMemory;
 use lay_outside::{Gate, OpenGate};
+use lay_pool::claim_lists::{ClaimList, Outcomes};
 use lay_pool::run_batch;
-use lay_units::NoMemory;
 use std::alloc::Global;
 use std::thread::Threads;
 

@@ -12,11 +12,11 @@
 use crate::batches::{Batch, computed, lay, number};
 use crate::gates::{CaseGate, gate};
 use crate::shown;
-use lay_claims::ClaimList;
-use lay_context::scratch;
 use lay_core::{Core, Publish};
-use lay_frag::text_of;
-use lay_units::NoMemory;
+use lay_layout::context::scratch;
+use lay_layout::frag::text_of;
+use lay_layout::units::NoMemory;
+use lay_pool::claim_lists::ClaimList;
 use std::alloc::Global;
 use std::mem::replace;
 use std::thread::Threads;

@@ -2,7 +2,7 @@
 
 use crate::calls::OneCore;
 use anyhow::{Result, bail};
-use lay_units::NoMemory;
+use lay_layout::units::NoMemory;
 use std::alloc::Global;
 use std::thread::Threads;
 

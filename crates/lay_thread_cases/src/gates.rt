@@ -2,8 +2,8 @@
 
 ghost use Rattle.std.specs.Prelude.{◌≤◌, length};
 
+use lay_layout::units::NoMemory;
 use lay_outside::{Gate, MeetGate, Point};
-use lay_units::NoMemory;
 use std::alloc::Global;
 
 /// The gate of a case.

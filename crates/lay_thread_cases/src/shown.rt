@@ -1,11 +1,11 @@
 //! How claims, what comes of them and what is made of that are written.
 
-use lay_cell_work::Claim;
-use lay_claims::Outcome;
-use lay_context::Phase;
 use lay_core::{Idle, IdleKind, Tally};
-use lay_shape::CellKey;
-use lay_units::NoMemory;
+use lay_layout::context::Phase;
+use lay_layout::units::NoMemory;
+use lay_pool::cell_work::Claim;
+use lay_pool::claim_lists::Outcome;
+use lay_pool::shape::CellKey;
 use std::alloc::Global;
 
 pub(crate) fn key(alloc: Global, key: CellKey) -> Result<String, NoMemory> {

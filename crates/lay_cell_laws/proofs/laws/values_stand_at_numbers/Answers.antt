@@ -1,6 +1,6 @@
-use Rattle.lay_context_sizes.specs.ContextSizes.{SizedContext}
-use Rattle.lay_context.specs.PlacedContexts.{PlacedContext}
-use Rattle.lay_measure.specs.declared.preferred_widths.PreferredWidths.{PreferredWidths}
+use Rattle.lay_layout.specs.context_sizes.ContextSizes.{SizedContext}
+use Rattle.lay_layout.specs.context.PlacedContexts.{PlacedContext}
+use Rattle.lay_layout.specs.measure.declared.preferred_widths.PreferredWidths.{PreferredWidths}
 use Rattle.lay_cell_laws.proofs.EndToEnd.{stands_lem}
 use Rattle.lay_cell_laws.proofs.laws.values_stand_at_numbers.Goals as goal
 

@@ -1,6 +1,6 @@
 use Rattle.std.proofs.Common.{◌∙◌, sym, subst}
-use Rattle.lay_contexts.specs.Contexts.{AreContexts}
-use Rattle.lay_cell_work.specs.CellInputFits.{CellInputFits}
+use Rattle.lay_layout.specs.contexts.Contexts.{AreContexts}
+use Rattle.lay_cell_steps.specs.cell_work.CellInputFits.{CellInputFits}
 use Rattle.lay_cell_table.specs.TableCells.{workings_in}
 use Rattle.lay_cell_table.proofs.GivenNow.{same_input}
 use Rattle.lay_cell_table.proofs.cell_input_at.cell_input.Goals as goal

@@ -1,8 +1,8 @@
 use Rattle.std.proofs.Common.{rules, ◌≡◌, ◌∙◌}
 use Rattle.std.specs.Arc.{arc_value}
-use Rattle.lay_cells.specs.Looks.{Looks}
-use Rattle.lay_cells.specs.declared.answers.Look.TheVariants as look
-use Rattle.lay_cell_laws.specs.SoundCells.{CellRow}
+use Rattle.lay_layout.specs.cells.Looks.{Looks}
+use Rattle.lay_layout.specs.cells.declared.answers.Look.TheVariants as look
+use Rattle.lay_cell_steps.specs.cell_laws.SoundCells.{CellRow}
 use Rattle.lay_cell_table.proofs.GivenNow.{given_at, given_of, has_needs, place_there}
 use Rattle.lay_cell_table.proofs.cell_input_at.input_at.Goals as goal
 

@@ -1,6 +1,6 @@
 use Rattle.std.proofs.Common.{◌∙◌, List, slice_get, ap, sym}
 use Rattle.std.proofs.lemmas.Option.{slice_get-get_or}
-use Rattle.lay_shape.specs.declared.context_phase.ContextPhase.{ContextPhase}
+use Rattle.lay_cell_steps.specs.shape.declared.context_phase.ContextPhase.{ContextPhase}
 use Rattle.lay_cell_table.proofs.cell_places.cell_in.Goals as goal
 
 pub returns-clause-within : goal.returns-clause-within

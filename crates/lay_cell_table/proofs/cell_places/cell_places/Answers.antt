@@ -1,5 +1,5 @@
 use Rattle.std.proofs.Common.{◌∙◌, List, length, ap, subst, arith}
-use Rattle.lay_shape.specs.declared.context_phase.ContextPhase.{ContextPhase}
+use Rattle.lay_cell_steps.specs.shape.declared.context_phase.ContextPhase.{ContextPhase}
 use Rattle.lay_cell_table.specs.CellPlaces.{ArePlacesTo}
 use Rattle.lay_cell_table.proofs.PlaceSteps.{all_noted, noted_count, place_noted}
 use Rattle.lay_cell_table.proofs.cell_places.cell_places.Goals as goal

@@ -1,5 +1,5 @@
 use Rattle.std.proofs.Common.{sym}
-use Rattle.lay_cell_work.specs.CellValues.{own_places}
+use Rattle.lay_cell_steps.specs.cell_work.CellValues.{own_places}
 use Rattle.lay_cell_table.proofs.KeptReads.{read_none}
 use Rattle.lay_cell_table.proofs.cell_values.placed_or.Goals as goal
 

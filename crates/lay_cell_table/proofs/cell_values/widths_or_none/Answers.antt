@@ -1,6 +1,6 @@
 use Rattle.std.proofs.Common.{sym}
-use Rattle.lay_measure.specs.MeasureInValue.{no_widths}
-use Rattle.lay_cell_work.specs.CellValues.{own_widths}
+use Rattle.lay_layout.specs.measure.MeasureInValue.{no_widths}
+use Rattle.lay_cell_steps.specs.cell_work.CellValues.{own_widths}
 use Rattle.lay_cell_table.proofs.KeptReads.{read_none}
 use Rattle.lay_cell_table.proofs.cell_values.widths_or_none.Goals as goal
 

@@ -1,7 +1,7 @@
-use Rattle.lay_contexts.specs.FormattingContexts.{formatting_context_at}
-use Rattle.lay_context.proofs.GivenFacts.{one_more_of}
-use Rattle.lay_context.specs.DocumentLayout.{flow_number}
-use Rattle.lay_cell_work.specs.CellColumns.{link_to}
+use Rattle.lay_layout.specs.contexts.FormattingContexts.{formatting_context_at}
+use Rattle.lay_layout.proofs.lay_context.GivenFacts.{one_more_of}
+use Rattle.lay_layout.specs.context.DocumentLayout.{flow_number}
+use Rattle.lay_cell_steps.specs.cell_work.CellColumns.{link_to}
 use Rattle.lay_cell_table.proofs.links.all_links.Goals as goal
 
 pub loop-k-preserved : goal.loop-k-preserved

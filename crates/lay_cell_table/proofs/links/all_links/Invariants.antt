@@ -1,7 +1,7 @@
 use Rattle.std.proofs.Common.{◌≡◌, map, take}
-use Rattle.lay_contexts.specs.FormattingContexts.{formatting_context_at}
-use Rattle.lay_context.specs.DocumentLayout.{flow_number}
-use Rattle.lay_cell_work.specs.CellColumns.{link_to}
+use Rattle.lay_layout.specs.contexts.FormattingContexts.{formatting_context_at}
+use Rattle.lay_layout.specs.context.DocumentLayout.{flow_number}
+use Rattle.lay_cell_steps.specs.cell_work.CellColumns.{link_to}
 use Rattle.lay_cell_table.proofs.links.all_links.Given as goal
 
 abbrev pub invariant-loop-k : goal.invariant-loop-k

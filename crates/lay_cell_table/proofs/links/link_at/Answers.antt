@@ -1,4 +1,4 @@
-use Rattle.lay_context.proofs.GivenFacts.{inner_within}
+use Rattle.lay_layout.proofs.lay_context.GivenFacts.{inner_within}
 use Rattle.lay_cell_table.proofs.links.link_at.Goals as goal
 
 pub link_to-requires : goal.link_to-requires

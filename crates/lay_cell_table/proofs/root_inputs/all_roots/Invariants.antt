@@ -1,7 +1,7 @@
 use Rattle.std.proofs.Common.{◌≡◌, ◌+◌, ℕ, map}
 use Rattle.std.specs.List.{range_with_len}
-use Rattle.lay_contexts.specs.FormattingContextList.{first_number}
-use Rattle.lay_cell_work.specs.PresentInputs.{root_input}
+use Rattle.lay_layout.specs.contexts.FormattingContextList.{first_number}
+use Rattle.lay_cell_steps.specs.cell_work.PresentInputs.{root_input}
 use Rattle.lay_cell_table.specs.TableCells.{workings_in}
 use Rattle.lay_cell_table.proofs.root_inputs.all_roots.Given as goal
 

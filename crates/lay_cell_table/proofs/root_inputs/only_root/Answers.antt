@@ -1,8 +1,8 @@
 use Rattle.std.proofs.Common.{◌<◌, ◌∙◌, ℕ, ap, sym, subst, arith}
-use Rattle.lay_contexts.specs.Contexts.{AreContexts}
-use Rattle.lay_context.specs.Local.{input_of}
-use Rattle.lay_context.specs.Settling.{IsReady}
-use Rattle.lay_cell_work.specs.PresentInputs.{root_count}
+use Rattle.lay_layout.specs.contexts.Contexts.{AreContexts}
+use Rattle.lay_layout.specs.context.Local.{input_of}
+use Rattle.lay_layout.specs.context.Settling.{IsReady}
+use Rattle.lay_cell_steps.specs.cell_work.PresentInputs.{root_count}
 use Rattle.lay_cell_table.specs.TableCells.{workings_in}
 use Rattle.lay_cell_table.proofs.RootParts.{only_roots, own_needs}
 use Rattle.lay_cell_table.proofs.root_inputs.only_root.Goals as goal

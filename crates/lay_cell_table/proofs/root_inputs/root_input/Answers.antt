@@ -1,13 +1,13 @@
 use Rattle.std.proofs.Common.{◌+◌, ◌∙◌, ℕ, List, length, ap, sym, subst, arith}
-use Rattle.lay_contexts.specs.Contexts.{AreContexts}
-use Rattle.lay_contexts.specs.FormattingContexts.{FormattingContext, formatting_context_at}
-use Rattle.lay_contexts.specs.FormattingContextList.{first_number}
-use Rattle.lay_context.specs.declared.task.Phase.{Phase}
-use Rattle.lay_context.specs.declared.task.Phase.TheVariants as phase
-use Rattle.lay_context.specs.Local.{input_of}
-use Rattle.lay_context.specs.Settling.{IsReady}
-use Rattle.lay_cell_work.specs.CellColumns.{links_of}
-use Rattle.lay_cell_work.specs.PresentInputs.{root_input, root_input_as, spot_in}
+use Rattle.lay_layout.specs.contexts.Contexts.{AreContexts}
+use Rattle.lay_layout.specs.contexts.FormattingContexts.{FormattingContext, formatting_context_at}
+use Rattle.lay_layout.specs.contexts.FormattingContextList.{first_number}
+use Rattle.lay_layout.specs.context.declared.task.Phase.{Phase}
+use Rattle.lay_layout.specs.context.declared.task.Phase.TheVariants as phase
+use Rattle.lay_layout.specs.context.Local.{input_of}
+use Rattle.lay_layout.specs.context.Settling.{IsReady}
+use Rattle.lay_cell_steps.specs.cell_work.CellColumns.{links_of}
+use Rattle.lay_cell_steps.specs.cell_work.PresentInputs.{root_input, root_input_as, spot_in}
 use Rattle.lay_cell_table.specs.TableCells.{workings_in}
 use Rattle.lay_cell_table.proofs.RootFlags.{inner_flag, root_within}
 use Rattle.lay_cell_table.proofs.RootParts.{own_asks, own_where_sized}

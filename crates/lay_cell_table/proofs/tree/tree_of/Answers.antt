@@ -1,6 +1,6 @@
 use Rattle.std.proofs.Common.{List, sym, subst}
-use Rattle.lay_contexts.specs.FormattingContexts.{FormattingContext}
-use Rattle.lay_context.specs.Settling.{AreKnown}
+use Rattle.lay_layout.specs.contexts.FormattingContexts.{FormattingContext}
+use Rattle.lay_layout.specs.context.Settling.{AreKnown}
 use Rattle.lay_cell_table.specs.TableCells.{workings_in}
 use Rattle.lay_cell_table.proofs.tree.tree_of.Goals as goal
 

@@ -1,7 +1,7 @@
 use Rattle.std.proofs.Common.{◌+◌, ap, subst, sym}
 use Rattle.std.specs.BTreeMap.{get}
 use Rattle.std.specs.Ordering.{nat_cmp}
-use Rattle.lay_doc.specs.declared.node.NodeId.{NodeId}
+use Rattle.lay_layout.specs.doc.declared.node.NodeId.{NodeId}
 use Rattle.lay_changes.specs.NumbersByNode.{IsNumberOf}
 use Rattle.lay_changes.proofs.NodeNumbers.{number_more}
 use Rattle.lay_changes.proofs.numbers_by_node.numbers_by_node.Goals as goal

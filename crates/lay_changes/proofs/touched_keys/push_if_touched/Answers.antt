@@ -1,5 +1,5 @@
 use Rattle.std.proofs.Common.{◌≡◌, ◌++◌, List, ◌+◌, sym, subst, ◌∙◌, ap, refl}
-use Rattle.lay_contexts.specs.Contexts.{Context}
+use Rattle.lay_layout.specs.contexts.Contexts.{Context}
 use Rattle.lay_shape.specs.declared.cell_key.CellKey.{CellKey}
 use Rattle.lay_changes.specs.TouchedKeys.{AreTouchedKeysTo, keys_of}
 use Rattle.lay_changes.proofs.TouchedSteps.{next_touched, next_untouched}

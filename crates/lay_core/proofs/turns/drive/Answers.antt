@@ -1,5 +1,5 @@
 use Rattle.std.proofs.Common.{◌+◌, ◌≤◌, ◌∙◌, All, length, rules, subst, sym, ap}
-use Rattle.lay_run.specs.Scripts.{IsWithinLimits, command_count}
+use Rattle.lay_layout.specs.run.Scripts.{IsWithinLimits, command_count}
 use Rattle.lay_core.proofs.Shown.{whole_of}
 use Rattle.lay_core.proofs.Quiet.{refresh_quiet}
 use Rattle.lay_core.proofs.TurnSteps.{AfterRounds, all_answered, before_rounds, next_round, quiet_answers, quiet_turns, written}

@@ -1,6 +1,6 @@
 use Rattle.std.proofs.Common.{◌∙◌, map, [], arith, sym, refl}
-use Rattle.lay_pieces.specs.InnerPieces.{pieces_or_none}
-use Rattle.lay_same.proofs.Lists.{same_lists as equal_lists, one_more_at}
+use Rattle.lay_layout.specs.pieces.InnerPieces.{pieces_or_none}
+use Rattle.lay_layout.proofs.lay_same.Lists.{same_lists as equal_lists, one_more_at}
 use Rattle.lay_same_input.proofs.PieceLists.{length-column}
 use Rattle.lay_same_input.proofs.shared_pieces.same_lists.Goals as goal
 

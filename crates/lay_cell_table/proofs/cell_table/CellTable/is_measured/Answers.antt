@@ -1,7 +1,7 @@
 use Rattle.std.proofs.Common.{◌∙◌, false, ap, subst, arith}
 use Rattle.std.proofs.lemmas.List.{get_or_read}
-use Rattle.lay_blocks.specs.Children.{flag_at}
-use Rattle.lay_contexts.specs.FormattingContextList.{first_number}
+use Rattle.lay_layout.specs.blocks.Children.{flag_at}
+use Rattle.lay_layout.specs.contexts.FormattingContextList.{first_number}
 use Rattle.lay_cell_table.specs.CellTables.{AreTableColumns, CellTable, TableColumns}
 use Rattle.lay_cell_table.proofs.RootSteps.{first_there}
 use Rattle.lay_cell_table.proofs.cell_table.CellTable.is_measured.Goals as goal

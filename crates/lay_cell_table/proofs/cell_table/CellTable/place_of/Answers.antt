@@ -1,6 +1,6 @@
 use Rattle.std.proofs.Common.{◌≡◌, ◌∙◌, slice_get, ap, subst, arith}
 use Rattle.std.proofs.lemmas.List.{get_or_read}
-use Rattle.lay_shape.specs.Shapes.{cells_of}
+use Rattle.lay_cell_steps.specs.shape.Shapes.{cells_of}
 use Rattle.lay_cell_table.specs.declared.cell_places.CellPlaces.{CellPlaces}
 use Rattle.lay_cell_table.specs.CellPlaces.{no_places, place_in, places_at}
 use Rattle.lay_cell_table.specs.CellTables.{AreTableColumns, CellTable, TableColumns}

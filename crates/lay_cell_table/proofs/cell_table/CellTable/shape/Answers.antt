@@ -1,5 +1,5 @@
 use Rattle.std.proofs.Common.{ap, sym, subst}
-use Rattle.lay_shape.specs.Keys.{AreOfOwnNodes}
+use Rattle.lay_cell_steps.specs.shape.Keys.{AreOfOwnNodes}
 use Rattle.lay_cell_table.specs.CellTables.{CellTable}
 use Rattle.lay_cell_table.proofs.cell_table.CellTable.shape.Goals as goal
 

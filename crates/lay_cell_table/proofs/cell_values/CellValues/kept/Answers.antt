@@ -1,5 +1,5 @@
 use Rattle.std.proofs.Common.{ap, sym, ◌∙◌}
-use Rattle.lay_cell_work.specs.KeptValues.{value_or_none}
+use Rattle.lay_cell_steps.specs.cell_work.KeptValues.{value_or_none}
 use Rattle.lay_cell_table.proofs.KeptReads.{kept_there}
 use Rattle.lay_cell_table.proofs.cell_values.CellValues.kept.Goals as goal
 

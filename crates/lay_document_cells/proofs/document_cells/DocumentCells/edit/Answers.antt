@@ -1,6 +1,6 @@
 use Rattle.std.proofs.Common.{◌≡◌, ◌∙◌, None, ap, subst, sym}
-use Rattle.lay_context.specs.Solves.{medium_of}
-use Rattle.lay_doc.specs.Edits.{fault}
+use Rattle.lay_layout.specs.context.Solves.{medium_of}
+use Rattle.lay_layout.specs.doc.Edits.{fault}
 use Rattle.lay_document_cells.specs.State.{State}
 use Rattle.lay_document_cells.proofs.Answered.{err_any, ok_none, own_nodes}
 use Rattle.lay_document_cells.proofs.KeptSteps.{state_of}
