@@ -50,8 +50,8 @@ module _ (d : Document) (styles : List Style) (doc : IsDocument d) (same : lengt
   boxes-of-a-root boxes homes r lt all = (
     own-box (box_at boxes r) (all r _ lt),
     each-map (IsBoxOf d.nodes) (as_member boxes homes) (at_home_before homes r (length boxes))
-    (each-weaker (λ k. k < length boxes) (λ k. IsBoxOf d.nodes (as_member boxes homes k)) (λ k less. member boxes homes k (all k _ less)) (at_home_before homes r (length boxes))
-    (each-filter (λ k. k < length boxes) (is_at_home homes r) (range_with_len 0 (length boxes)) (counted 0 (length boxes) (length boxes) (omega arith)))),
+        (each-weaker (λ k. k < length boxes) (λ k. IsBoxOf d.nodes (as_member boxes homes k)) (λ k less. member boxes homes k (all k _ less)) (at_home_before homes r (length boxes))
+        (each-filter (λ k. k < length boxes) (is_at_home homes r) (range_with_len 0 (length boxes)) (counted 0 (length boxes) (length boxes) (omega arith)))),
   )
 
   pub boxes-of-formatting-context : (all : List FormattingContext) → AreFormattingContextsOf contexts all → (j : ℕ) → j < length all → Each (IsBoxOf d.nodes) (boxes_of all j)
