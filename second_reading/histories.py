@@ -5,7 +5,8 @@ usage: histories.py RUN [--program PATH] < REPORT      RUN is the file of the ru
 
 It makes the accepted edits of the printed history again, in their order, and asks the second reading for the tree of
 each version that is printed, or `PATH scratch` with --program. It prints `legal`, or the number of the first line with
-which no legal report begins, and what is wrong there; the status is 1 then. `nomemory` counts as wrong.
+which no legal report begins, and what is wrong there; the status is 1 then. `nomemory` counts as wrong, but where it is
+asked for (`first_fault` with `lacks`): then it leaves the document and what is published as they were.
 """
 import argparse
 import json
@@ -19,6 +20,7 @@ from report import context_count, report
 EDIT = re.compile(r'edit ([0-9]+) ([0-9]+) (accepted|refused) (E?[0-9]+)')
 COMMAND = re.compile(r'^(?:edit|latest|sync) ([0-9]+) ([0-9]+) ', re.M)
 READ = re.compile(r'(latest|sync) ([0-9]+) ([0-9]+) ([0-9]+)')
+LACK = re.compile(r'(edit|latest|sync) ([0-9]+) ([0-9]+) nomemory')
 PUBLISH = re.compile(r'publish ([0-9]+)')
 FINAL = re.compile(r'final ([0-9]+)')
 LAID = re.compile(r'laid ([0-9]+)')
@@ -52,8 +54,8 @@ def program_tree(program):
 class Checker:
     """Goes along the lines of a report; `place` counts those that are found right."""
 
-    def __init__(self, run, lines, tree):
-        self.lines, self.place, self.tree = lines, 0, tree
+    def __init__(self, run, lines, tree, lacks=False):
+        self.lines, self.place, self.tree, self.lacks = lines, 0, tree, lacks
         self.scripts = run.get('editors', [])
         self.document = Document(run)
         self.accepted, self.published, self.published_tree = 0, None, []
@@ -91,6 +93,8 @@ class Checker:
             self.publish()
         elif READ.fullmatch(self.line()):
             self.read()
+        elif self.lacks and LACK.fullmatch(self.line()):
+            self.lack()
         else:
             self.edit()
 
@@ -130,6 +134,12 @@ class Checker:
         self.place += 1
         self.tree_lines()
 
+    def lack(self):
+        kind, editor, index = self.fields(LACK)
+        done = self.command(editor, index)['do']
+        require(done == kind if kind in READS else done not in READS, 'another command')
+        self.place += 1
+
     # -- the end
 
     def final(self):
@@ -148,10 +158,10 @@ class Checker:
         self.place += 1
 
 
-def first_fault(run, text, tree=reading_tree):
+def first_fault(run, text, tree=reading_tree, lacks=False):
     """The number of the first line with which no legal report begins, and what is wrong, or None."""
     lines = text.split('\n')
-    checker = Checker(run, lines[:-1], tree)
+    checker = Checker(run, lines[:-1], tree, lacks)
     try:
         checker.check()
         require(lines[-1] == '', 'a line without an end')

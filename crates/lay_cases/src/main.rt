@@ -14,15 +14,17 @@ mod copies;
 mod folder;
 mod gates;
 mod reading;
+mod sweep;
 mod terms;
 mod turn_gate;
 
-use crate::answer::Wanted;
+use crate::answer::{Answer, Wanted};
 use crate::call::call;
 use crate::case::Case;
 use crate::copies::with_copies;
 use crate::folder::names;
 use crate::reading::reading;
+use crate::sweep::{Swept, first_wrong};
 use crate::terms::{PLAIN, Terms};
 use anyhow::{Context, Result, bail};
 use std::rt::Files;
@@ -126,8 +128,7 @@ fn read_document(rt: &(impl Files + AllocGlobal), data: &str, name: &str) -> Res
     fs::read(rt, path.as_str()).context("reading a run document")
 }
 
-/// Makes a call, or reads a document where that is wanted, and prints whether the answer is the wanted one, and else
-/// what it is.
+/// Makes the calls of a case, and prints whether the answer is the wanted one, and else what it is.
 fn try_case<R: Threads + Wait + Sync + Print + AllocGlobal>(
     rt: &R,
     name: &str,
@@ -135,16 +136,43 @@ fn try_case<R: Threads + Wait + Sync + Print + AllocGlobal>(
     terms: &Terms<'_>,
     wanted: &Wanted<'_>,
 ) -> Result<()> {
+    let wrong = match terms.sweep() {
+        None => wrong_answer(rt, document, terms, wanted)?,
+        Some(sweep) => {
+            let swept = Swept {
+                sweep,
+                terms,
+                document: &document,
+                wanted,
+            };
+            first_wrong(rt, rt.alloc(), &swept)?
+        }
+    };
+    match wrong {
+        None => println!(rt; "{name}: ok")?,
+        Some(answer) => {
+            let text = str::from_utf8(answer.bytes()).unwrap_or("bytes that are no text");
+            println!(rt; "{name}: NOT SO, but {}:\n{text}", answer.status())?;
+        }
+    }
+    Ok(())
+}
+
+/// The answer to a call, or the reading of a document where that is wanted; None where it is the wanted one.
+fn wrong_answer<R: Threads + Wait + Sync + AllocGlobal>(
+    rt: &R,
+    document: Vec<u8>,
+    terms: &Terms<'_>,
+    wanted: &Wanted<'_>,
+) -> Result<Option<Answer>> {
     let answer = if wanted.status == "Read" {
         reading(rt.alloc(), &document)?
     } else {
         call(rt, rt.alloc(), terms, document)?
     };
-    if wanted.is(&answer) {
-        println!(rt; "{name}: ok")?;
+    Ok(if wanted.is(&answer) {
+        None
     } else {
-        let text = str::from_utf8(answer.bytes()).unwrap_or("bytes that are no text");
-        println!(rt; "{name}: NOT SO, but {}:\n{text}", answer.status())?;
-    }
-    Ok(())
+        Some(answer)
+    })
 }

@@ -44,6 +44,17 @@ pub const PLAIN: Terms<'static> = Terms {
     until: None,
 };
 
+impl Sweep {
+    fn read(word: &str) -> Option<Sweep> {
+        match word {
+            "reads" => Some(Sweep::Reads),
+            "writes" => Some(Sweep::Writes),
+            "fronts" => Some(Sweep::Fronts),
+            _ => None,
+        }
+    }
+}
+
 impl<'a> Terms<'a> {
     /// The terms of a line, `KEY VALUE, KEY VALUE ..`, and else the plain ones; None where a key is none.
     pub(crate) fn read(line: &'a str) -> Option<Terms<'a>> {
@@ -121,5 +132,21 @@ impl<'a> Terms<'a> {
     /// How many bytes of the answer are wanted, where it isn't all of them.
     pub(crate) fn front(&self) -> Option<usize> {
         self.front
+    }
+
+    /// Which calls are made in a row; None where there is one call.
+    pub(crate) fn sweep(&self) -> Option<Sweep> {
+        self.sweep
+    }
+
+    /// The same terms, but that the call of this number of one stream fails.
+    pub(crate) fn failing(&self, sweep: Sweep, number: u64) -> Terms<'a> {
+        let mut terms = *self;
+        match sweep {
+            Sweep::Reads => terms.reading.failing = number,
+            Sweep::Writes => terms.writing.failing = number,
+            Sweep::Fronts => {}
+        }
+        terms
     }
 }

@@ -1,0 +1,9 @@
+pub mod Each
+pub mod EveryBox
+pub mod FlowPieces
+pub mod FormattingBoxes
+pub mod NamedItems
+pub mod NamedLines
+pub mod NodeBoxes
+pub mod TablePieces
+pub mod TreePieces
