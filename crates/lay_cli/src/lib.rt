@@ -17,6 +17,8 @@ mod scratch;
 mod status;
 mod telling;
 
-pub use call::{answer, top};
+pub use call::top;
+pub use hit::hit;
 pub use lay_drive::editing_core as editing_core;
+pub use scratch::scratch;
 pub use status::Status;
