@@ -1,7 +1,7 @@
 #!/usr/bin/env python3
 """A second reading of CSS 2.2: blocks and floats, lines and what stands in them, tables, and positioned boxes.
 
-usage: report.py < DOCUMENT      prints the report of `lay scratch` on a run document without faults
+usage: report.py [--automatic-tables] < DOCUMENT      prints the report of `lay scratch` on a run document without faults
 
 It was written apart from the crates, so that each is a test of the other (`compare`). Read `page` first, where all
 boxes come to stand; then `blocks` (9.4.1, 9.5.2), `margins` (8.3.1), `floats` (9.5), `lines` (9.4.2), `alignment`
@@ -111,6 +111,8 @@ from offsets import offset_of_inlines
 from page import Page, Rect
 
 MOST_FRAMES = 10000
+# Whether tables have the automatic layout unless they are fixed and have a width. The program has the fixed one for all.
+AUTOMATIC_TABLES = False
 
 
 def pieces(box):
@@ -161,19 +163,19 @@ def piece_lines(box):
         parts[kind, ident] += 1
 
 
-def contexts_of_page(run):
+def contexts_of_page(run, automatic_tables=AUTOMATIC_TABLES):
     """The own boxes of the contexts of a document, in document order."""
     root = read_nodes(run)
     if root.is_hidden:
         return []
     sys.setrecursionlimit(MOST_FRAMES)
-    return Page(root, run['viewport'], Face(run.get('face', {}))).contexts
+    return Page(root, run['viewport'], Face(run.get('face', {})), automatic_tables).contexts
 
 
-def report(run):
+def report(run, automatic_tables=AUTOMATIC_TABLES):
     """The text that the program has to print for a run document."""
     lines = ['publish 0', 'final 0']
-    lines += [line for box in contexts_of_page(run) for line in piece_lines(box)]
+    lines += [line for box in contexts_of_page(run, automatic_tables) for line in piece_lines(box)]
     return '\n'.join(lines) + '\n'
 
 
@@ -183,7 +185,8 @@ def context_count(run):
 
 
 def main():
-    sys.stdout.write(report(json.loads(sys.stdin.buffer.read())))
+    automatic_tables = AUTOMATIC_TABLES or '--automatic-tables' in sys.argv[1:]
+    sys.stdout.write(report(json.loads(sys.stdin.buffer.read()), automatic_tables))
 
 
 if __name__ == '__main__':
