@@ -107,7 +107,7 @@ def grown_by_room_to_grow(minimums, maximums, space):
     """
     growths = [maximum - minimum for minimum, maximum in zip(minimums, maximums)]
     beyond = space - sum(minimums)
-    widths = [minimum + (beyond * growth // sum(growths) if growth else 0) for minimum, growth in zip(minimums, growths)]
+    widths = [minimum + (growth and beyond * growth // sum(growths)) for minimum, growth in zip(minimums, growths)]
     growing = [column for column, growth in enumerate(growths) if growth]
     for column in growing[:space - sum(widths)]:
         widths[column] += 1

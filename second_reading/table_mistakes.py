@@ -245,8 +245,9 @@ TABLE_MISTAKES = {
          '    find_heights(sized, None if box.table else containing_height)\n'),
     ],
     'preferred': [
-        ('a caption counts in the width of a table', '        pair = widths_of_columns(box.table)\n',
-         '        pair = widths_of_columns(box.table)\n'
+        ('a caption counts in the width of a table',
+         '        pair = (widths_of_automatic_columns if box.table.is_automatic else widths_of_columns)(box)\n',
+         '        pair = widths_of_columns(box)\n'
          '        captions = [contribution(child) for child in box.children if child is not box.table]\n'
          '        pair = Pair(*(max(widths) for widths in zip(pair, *captions)))\n'),
         ('a spanning cell counts in its first column', 'if area.columns == 1 and own', 'if own'),
