@@ -115,7 +115,10 @@ def grown_by_room_to_grow(minimums, maximums, space):
 
 
 def automatic_column_widths(table, width):
-    """The widths of the columns of a table that has this content width; all share what is beyond the maximums."""
+    """The widths of the columns of a table that has this content width, before any limit.
+
+    All share what is beyond the maximums.
+    """
     minimums, maximums = table.columns_extent
     space = width - all_spacings_across(table)
     beyond = space - sum(maximums)

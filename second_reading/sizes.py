@@ -6,7 +6,7 @@ They depend on the containing block and on preferred widths, so they are found b
 from collections import namedtuple
 
 from automatic_columns import automatic_column_widths, automatic_width
-from columns import all_spacings_across, column_widths, width_over_columns
+from columns import all_spacings_across, column_widths, used_columns, width_over_columns
 from edges import NO_EDGES, borders, margins, paddings
 from offsets import solve_absolute
 from parts import InlineBox
@@ -115,14 +115,15 @@ def used_widths(box, equation, containing_width):
     least = size_within_limit(resolve(box.style['min-width'], containing_width))
     if box.table and box.table.is_automatic:
         used = automatic_width(box.table, width, room_for_table(box, containing_width), least, most)
-        box.table.column_widths = automatic_column_widths(box.table, used)
+        box.table.column_widths = used_columns(automatic_column_widths(box.table, used))
         return equation(used)
     widths = within_bounds(equation, width, least, most)
     if not box.table:
         return widths
     wanted = size_within_limit(widths.size)
-    box.table.column_widths = column_widths(box.table, wanted)
-    return equation(max(wanted, sum(box.table.column_widths) + all_spacings_across(box.table)))
+    columns = column_widths(box.table, wanted)
+    box.table.column_widths = used_columns(columns)
+    return equation(max(wanted, sum(columns) + all_spacings_across(box.table)))
 
 
 def height_within(height, least, most):
