@@ -6,8 +6,8 @@ usage: report.py [--automatic-tables] < DOCUMENT      prints the report of `lay 
 It was written apart from the crates, so that each is a test of the other (`compare`). Read `page` first, where all
 boxes come to stand; then `blocks` (9.4.1, 9.5.2), `margins` (8.3.1), `floats` (9.5), `lines` (9.4.2), `alignment`
 (10.8.1), `content` (16.4 and 16.6), `sizes` and `offsets` (10), `preferred` (10.3.5), `replaced` (10.3.2 and 10.4),
-`grid`, `columns`, `automatic_columns` and `rows` (17.5), `collapsed_borders` (17.6.2), `baselines`, `boxes`, `parts` and `nodes` (9.2 and
-9.7), `missing_tables` (17.2.1), `edges` (8), `face` (15) and `styles` (6).
+`grid`, `columns`, `automatic_columns` and `rows` (17.5), `collapsed_borders` (17.6.2), `baselines`, `boxes`, `parts` and
+`nodes` (9.2 and 9.7), `missing_tables` (17.2.1), `edges` (8), `face` (15) and `styles` (6).
 
 Words: an atomic box is an inline-block, an inline-table, or a replaced element that is inline. A context is a block
 formatting context, a table box or a replaced element, and its own box is the one that establishes it. A solid box is a
@@ -85,19 +85,19 @@ How open places of the standard are read
 - 17.4: the wrapper has margins, float, position and offsets, and the table box all else, `clear`, `overflow` and
   `vertical-align` among it; so these have no effect. A caption doesn't make a table wider. Percentages of the table box
   are of the wrapper's containing block; those of cells, of the table box.
-- 17.5.2: every table has the fixed layout where that is asked for (`AUTOMATIC_TABLES`). Else a table has it which is
-  `fixed` and whose width isn't `auto`, also in percent; so an anonymous one never has.
-- 17.5.2.1: percentages of columns and of cells of the first row, of paddings of these
-  too, are there of the width that the table would have without its columns. What a cell over several columns has in
-  excess of the spacings between them is shared out. The widths of groups and bounds of cells and columns don't count.
-- 17.5.2.2: widths in percent of cells, columns and groups are `auto`, paddings of cells in percent are 0 where columns are
-  found, and bounds of cells and columns don't count. A width is no maximum. What a cell over columns lacks is shared
-  equally, row by row and from left to right, minimums and maximums each by themselves; so do groups after that, for
-  minimums. Maximums are raised to their minimums once, at the end. Columns between both grow by what they can grow;
-  beyond the maximums all share equally. Left over units go to the first that may grow.
-- 17.5.2.2: captions need their least contribution, with margins, as the border box of the table. The room is the
-  containing block without margins, borders and paddings, for an absolute table without its offsets, too. Bounds of the
-  table never cut what columns and captions need, but do in what it contributes (10.3.5).
+- 17.5.2: a table has the fixed layout where it is `fixed` and its width isn't `auto`, but may be in percent; so an
+  anonymous table never has. Without `AUTOMATIC_TABLES` each table has it.
+- 17.5.2.1: percentages of columns and of cells of the first row, of paddings of these too, are of the width that the
+  table would have without its columns. What a cell over several columns has in excess of the spacings between them is
+  shared out. The widths of groups and bounds of cells and columns don't count.
+- 17.5.2.2: widths in percent of cells, columns and groups are `auto`, paddings of cells in percent are 0, and bounds of
+  cells and columns don't count. A width is no maximum. What a cell over several columns lacks is shared equally, row by
+  row and from left to right, of minimums and of maximums alike; then groups do so with minimums alone. At the end, and
+  not before, a maximum is raised to its minimum. In less space than the maximums columns grow by what they can; beyond
+  the maximums all share equally. Units that are left over go to the first columns that grow, or to the first of all.
+- 17.5.2.2: the border box of the table is as wide as its captions contribute at least. The room is the containing block
+  without margins, borders and paddings; offsets of an absolute table take nothing of it. Bounds of the table cut
+  nothing that columns and captions need, but do so in what it contributes (10.3.5).
 - 17.5.2: without columns there is no spacing across, and rows and groups are as wide as the table's content box;
   without rows there is none down. A cell is as wide as its columns, also where its borders and paddings are wider.
 - 17.5.3: the height of a row group and bounds of cells, rows and groups don't count. A cell's `height` is that of its
@@ -106,8 +106,8 @@ How open places of the standard are read
   no other boxes of inner contexts.
 - 17.6.2: the side of a cell over several slots has the half of the widest border there. Of an odd width the lesser half
   is left or above. A table without rows or without columns has no borders.
-- 10.3.5: what a cell of one column contributes is held within its bounds in lengths, and what a table does also below
-  the widths of its columns.
+- 10.3.5: in the fixed layout what a cell of one column contributes is held within its bounds in lengths; what a table
+  contributes is, too, also below the widths of its columns.
 - 6.2.1 and 8.5.1: on the root `inherit` is the initial value, so `border-top-width: inherit` is `medium`.
 """
 import collections
