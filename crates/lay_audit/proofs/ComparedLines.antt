@@ -110,6 +110,19 @@ shorter_left left some =
     let f = first_some left some in
     omega (arith, p, f)
 
+pub more_room : (wanted text left rest more : List ℕ) (lines : ℕ) → Compares wanted text left rest lines → (left ≡ [] → ⊥) → rest ≡ first_line left ++ more
+    → lines + 1 ≤ length text
+more_room wanted text left rest more lines is some e =
+    let f = few_lines wanted text left rest lines is in let s = first_some left some in
+    let r : length rest ≡ length (first_line left) + length more = ap (λ x. length x) e ∙ length-append (first_line left) more in
+    omega (arith, f, s, r)
+
+true_false : true ≡ false → ⊥
+true_false e = absurd cc
+
+pub not_empty : (xs : List ℕ) (b : Bool) → b ≡ (length xs == 0) → b ≡ false → xs ≡ [] → ⊥
+not_empty xs b is other e = true_false (sym (is ∙ ap (λ x. length x == 0) e) ∙ other)
+
 -- a front that is cut off, or isn't there
 
 pub stripped_some : (s p : List ℕ) (r : Option (Bor (List ℕ))) → MatchOption r ((rest : List ℕ) → s ≡ p ++ rest → ⊥) (λ x. s ≡ p ++ x.now) → IfSome r (λ x. s ≡ p ++ x.now)

@@ -13,3 +13,5 @@ mod Answering
 mod NextReplies
 mod Judging
 mod Numbers
+mod Rooms
+mod Taking

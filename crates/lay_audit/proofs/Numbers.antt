@@ -23,3 +23,10 @@ read_back n text r small is parses =
     parse_gives own 64 (decimal n) r (subst (λ t. ParsesUnsigned 64 10 t r) is parses) (digits_decimal own n small) (decimal_nonempty n small)
     (subst (λ v. v < 2 ^ 64) (sym (digits_value-decimal own n small)) small)
     ∙ ap Ok (digits_value-decimal own n small)
+
+pub read_ok : {E : Type 0} (n m : ℕ) (text : List ℕ) (r : Result ℕ E) → r ≡ Ok m → n < 2 ^ 64 → text ≡ decimal n → ParsesUnsigned 64 10 text r → Some m ≡ Some n
+read_ok n m text r is small e parses = let q = read_back n text r small e parses in ok_same m n r is q
+  where
+    ok_same : {E : Type 0} (m n : ℕ) (r : Result ℕ E) → r ≡ Ok m → r ≡ Ok n → Some m ≡ Some n
+    ok_same m n (Ok x) a b = cc
+    ok_same m n (Err x) a b = cc

@@ -27,6 +27,7 @@ pub(crate) fn compare<'a>(wanted: &[u8], text: &'a [u8]) -> Result<(u64, &'a [u8
     ensures ok { IfOk result (λ r. IsFrontOf wanted.now text.now r.0 r.1.now) }
     ensures err { IfErr result (PartsFrom wanted.now text.now) }
 {
+    let _most = text.len();
     let mut left = wanted;
     let mut rest = text;
     let mut lines = 0;

@@ -38,6 +38,7 @@ impl Present {
     pub(crate) fn new(alloc: Global, doc: &Doc, scripts: &[CmdList]) -> Result<Present, NoMemory>
         ensures is { IfOk result (λ p. (face : FaceValue) → IsPresent (record { init = doc.now; face = face; scripts = scripts.now }) [] p) }
         ensures count { IfOk result (λ p. p.count ≡ 0) }
+        ensures editors { IfOk result (λ p. length p.next ≡ length scripts.now) }
     {
         Ok(Present {
             doc: doc.copy(alloc)?,

@@ -54,11 +54,14 @@ impl<'a> Reading<'a> {
         ensures read { IfOk result (λ r. (face : FaceValue) → IsRead (basis_of doc.now face scripts.now) report.now r []) }
         ensures steady { IfOk result (λ r. IsSteady scripts.now r) }
     {
+        report_fits(report);
+        let present = Present::new(alloc, doc, scripts)?;
+        let tree = LastTree::none(alloc);
         Ok(Reading {
             lines: 0,
             rest: report,
-            present: Present::new(alloc, doc, scripts)?,
-            tree: LastTree::none(alloc),
+            present,
+            tree,
         })
     }
 
@@ -201,4 +204,10 @@ pub(crate) fn can_complete(
         LastTree::of(alloc, present.doc(), face)?;
     }
     Ok(())
+}
+
+fn report_fits(report: &[u8])
+    ensures { length report.now + 1 < 2 ^ 64 }
+{
+    let _count = report.len() + 1;
 }
