@@ -1,5 +1,5 @@
 -- Columns of which nothing asks for more than so much have no greater bounds.
-use Rattle.std.proofs.Common.{◌≡◌, ◌⊎◌, inl, inr, ℕ, ◌+◌, ◌-◌, ◌^◌, ◌<◌, ◌≤◌, ℤ, pos, ◌+ℤ◌, ◌≤ℤ◌, Bool, true, false, cond, nat_lt, Option, Some, None, List, [], ◌∷◌, length, refl, sym, ap, ◌∙◌, subst, arith}
+use Rattle.std.proofs.Common.{◌≡◌, ◌⊎◌, inl, inr, ℕ, ◌+◌, ◌-◌, ◌^◌, ◌<◌, ◌≤◌, ℤ, pos, ◌+ℤ◌, ◌≤ℤ◌, Bool, true, false, cond, nat_lt, Option, Some, None, List, [], ◌∷◌, length, slice_index_or, refl, sym, ap, ◌∙◌, subst, arith}
 use Rattle.std.specs.Int.{int_max}
 use Rattle.std.specs.List.{All}
 use Rattle.std.proofs.lemmas.Int.{ints, clamps}
@@ -17,9 +17,12 @@ use Rattle.lay_auto_columns.specs.Own.{greatest, has_alone}
 use Rattle.lay_auto_columns.specs.Spread.{AreWidened, IsWidened, added, lacking, spans}
 use Rattle.lay_auto_columns.specs.Bounds.{AreWidths, bound_at, maximum_spans, minimum_spans}
 use Rattle.lay_auto_columns.specs.Fit.{SpanFits}
-use Rattle.lay_auto_columns.specs.Laws.{BoundsAreWithin, IsBoundUpTo}
+use Rattle.lay_auto_columns.specs.Laws.{AskUpTo, BoundsAreSizes, BoundsAreWithin, IsBoundUpTo}
 use Rattle.lay_auto_columns.proofs.Fits.{maximums_fit, minimums_fit}
 use Rattle.lay_auto_columns.proofs.SpreadSteps.{part_fits}
+
+size_most : (v : ℤ) → IsSize v → v ≤ℤ pos (2 ^ 62 - 1)
+size_most v size = let less = size.1 in omega (arith, ints, less)
 
 -- columns that are sizes and no wider than so much
 abbrev pub Up : ℕ → List Unit → Type 0
@@ -165,3 +168,26 @@ bounds_are_within_lem i most bounds fits ask are k d less =
       max = omega (arith, ints, clamps, e, f, x1, y1);
     } in
     subst (IsBoundUpTo most) (get_or_default bounds k _ d less) here
+
+-- and so all bounds are sizes
+most_up : (given : List (Option Unit)) → All MayBeSize given → All (λ (own : Option Unit). IsUpTo (2 ^ 62 - 1) (own_width own)) given
+most_up [] sizes = λ i d less. absurd (omega (arith, less))
+most_up (own ∷ given) sizes =
+    let here = own_size own (All-head MayBeSize own given sizes) in
+    All-cons (λ (o : Option Unit). IsUpTo (2 ^ 62 - 1) (own_width o)) own given (here.0, size_most (own_width own) here)
+    (most_up given (All-tail MayBeSize own given sizes))
+
+pub bounds_are_sizes_lem : BoundsAreSizes
+bounds_are_sizes_lem i bounds fits are =
+    let ask : AskUpTo i (2 ^ 62 - 1) = record {
+      given = most_up i.given fits.given;
+      minimums = λ k d less. size_most (slice_index_or i.cells k d).min.0 (fits.cells k d less).min;
+      maximums = λ k d less. size_most (slice_index_or i.cells k d).max.0 (fits.cells k d less).max;
+      groups = λ k d less. size_most (slice_index_or i.groups k d).width.0 (fits.groups k d less).width;
+    } in
+    let within = bounds_are_within_lem i (2 ^ 62 - 1) bounds fits ask are in
+    λ k d less. (let at = within k d less in record {
+      min = at.min;
+      order = at.order;
+      max = (let m = at.max in omega (arith, ints, m));
+    })

@@ -72,6 +72,10 @@ abbrev pub BoundsAreWithin : Type 0
 BoundsAreWithin = (i : BoundsIn) (most : ℕ) (bounds : List Bound)
     → BoundsFit i → AskUpTo i most → AreBounds i bounds → All (IsBoundUpTo most) bounds
 
+-- and all are sizes, which columns can share a space by
+abbrev pub BoundsAreSizes : Type 0
+BoundsAreSizes = (i : BoundsIn) (bounds : List Bound) → BoundsFit i → AreBounds i bounds → All BoundFits bounds
+
 -- the columns of a table together are as wide as it says
 abbrev pub ColumnsFillTheSpace : Type 0
 ColumnsFillTheSpace = (bounds : List Bound) (space : ℤ) (widths : List Unit)

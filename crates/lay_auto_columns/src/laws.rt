@@ -1,6 +1,6 @@
 //! Laws of the definitions. The functions do nothing.
 
-ghost use Rattle.lay_auto_columns.specs.Laws.{BoundsAreWithin, BoundsHaveRoom, ColumnsAreWithin};
+ghost use Rattle.lay_auto_columns.specs.Laws.{BoundsAreSizes, BoundsAreWithin, BoundsHaveRoom, ColumnsAreWithin};
 ghost use Rattle.lay_auto_columns.specs.Laws.{ColumnsFillTheSpace, ColumnsHaveBounds};
 ghost use Rattle.lay_auto_columns.specs.Laws.{ColumnsHaveWidths, OneListOfBounds};
 ghost use Rattle.lay_auto_columns.specs.Laws.{OneListOfColumns};
@@ -33,6 +33,11 @@ pub fn bounds_have_room()
 /// Columns of which nothing asks for more than so much have no greater bounds.
 pub fn bounds_are_within()
     ensures { BoundsAreWithin }
+{}
+
+/// The bounds of columns are sizes.
+pub fn bounds_are_sizes()
+    ensures { BoundsAreSizes }
 {}
 
 /// Columns are together as wide as the space.

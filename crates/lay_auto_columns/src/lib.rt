@@ -19,7 +19,8 @@ mod spread;
 pub use bounds::{Bound, BoundsIn, GroupSpan, SpanCell, column_bounds};
 pub use columns::columns_auto;
 pub use laws::{
-    bounds_are_within, bounds_have_room, columns_are_within, columns_fill_the_space,
-    columns_have_bounds, columns_have_widths, one_list_of_bounds, one_list_of_columns,
+    bounds_are_sizes, bounds_are_within, bounds_have_room, columns_are_within,
+    columns_fill_the_space, columns_have_bounds, columns_have_widths, one_list_of_bounds,
+    one_list_of_columns,
 };
 pub use lists::{BoundList, GroupSpans, SpanCells};

@@ -1,0 +1,2 @@
+pub mod AutoWidths
+pub mod BoundSteps
