@@ -30,7 +30,7 @@ STYLE = """<style>
 .lay .new { color: #15803d }
 .lay .gone { color: #b91c1c }
 .lay .former { color: #b45309; fill-opacity: 0.1; stroke-dasharray: 1 2 }
-.lay .hit { color: #be185d; fill: currentColor; fill-opacity: 0.25; stroke-width: 2 }
+.lay rect.hit { color: #be185d; fill: currentColor; fill-opacity: 0.25; stroke-width: 2 }
 @media (prefers-color-scheme: dark) {
 .lay { background: #0d1117; color: #79b8ff }
 .lay .line { color: #f0883e }
@@ -40,7 +40,7 @@ STYLE = """<style>
 .lay .resized { color: #c084fc }
 .lay .new { color: #3fb950 }
 .lay .gone { color: #ff7b72 }
-.lay .hit { color: #f472b6 }
+.lay rect.hit { color: #f472b6 }
 }
 </style>
 """
