@@ -10,10 +10,12 @@ import random
 from atomic_documents import atomic_document
 from documents import document, print_documents
 from edits import Document
+from positioned_documents import positioned_document
 from report import context_count, report
+from table_documents import table_document
 from text_documents import text_document
 
-DRAWS = (document, text_document, atomic_document)
+DRAWS = (document, text_document, atomic_document, table_document, table_document, positioned_document)
 EDITORS = [0, 1, 1, 2, 2, 3, 4, 16]
 COMMANDS = [0, 1, 2, 3, 4, 5, 6, 8]
 BAD_DECLARATIONS = [('colour', 'red'), ('Width', '1px'), ('width', '10'), ('width', '-1px'), ('display', 'flex'),
@@ -36,12 +38,8 @@ class RunDocument:
         return self.rng.random() * 100 < hundredths
 
     def drawn_document(self):
-        """A document without tables, also where a declaration comes to another node."""
-        run = self.draw_document(self.rng.randrange(10 ** 6), 0)
-        for node in run['nodes']:
-            if 'table' in node.get('style', {}).get('display', ''):
-                del node['style']['display']
-        return run
+        """A document of the kind of this run."""
+        return self.draw_document(self.rng.randrange(10 ** 6), 0)
 
     def draw(self):
         editors = [[self.command() for _ in range(self.choice(COMMANDS))] for _ in range(self.choice(EDITORS))]
@@ -102,6 +100,29 @@ class RunDocument:
 def run_document(seed, number):
     """The run document of a seed and a number."""
     return RunDocument(random.Random('runs %d/%d' % (seed, number))).draw()
+
+
+def crowded_run(seed, number):
+    """Sixteen editors with as many commands as a run may have: 512 each, 16 of which read. They change two nodes."""
+    rng = random.Random('crowds %d/%d' % (seed, number))
+    lengths = ['%dpx' % width for width in (0, 1, 20, 70, 300, 900)]
+
+    def edit():
+        kind = rng.choice(['set', 'set', 'clear', 'text'])
+        if kind == 'text':
+            return {'do': kind, 'node': 3, 'text': rng.choice(['a', 'a b', 'some words'])}
+        declared = {'node': 2, 'property': rng.choice(['width', 'margin-left', 'height'])}
+        return {'do': kind, **declared, **({'value': rng.choice(lengths)} if kind == 'set' else {})}
+
+    def script():
+        commands = [edit() for _ in range(496)] + [{'do': rng.choice(['latest', 'sync'])} for _ in range(16)]
+        rng.shuffle(commands)
+        return commands
+
+    nodes = [{'id': 1, 'parent': 0, 'kind': 'element', 'style': {'display': 'block'}},
+             {'id': 2, 'parent': 1, 'kind': 'element', 'style': {'display': 'block', 'overflow': 'hidden'}},
+             {'id': 3, 'parent': 2, 'kind': 'text', 'text': 'some words'}]
+    return {'viewport': [800, 600], 'nodes': nodes, 'editors': [script() for _ in range(16)]}
 
 
 # -- a report that may be

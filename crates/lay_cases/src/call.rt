@@ -1,11 +1,17 @@
 //! Calls.
 
 use crate::answer::Answer;
+use crate::gates::CaseGate;
 use crate::terms::{Steps, Terms};
+use crate::turn_gate::TurnGate;
 use anyhow::{Result, bail};
 use lay_cli::editing_core::Core;
 use lay_cli::{Status, top};
-use lay_outside::{MemSink, MemSource, OpenGate};
+use lay_generator::generated_run;
+use lay_json::read_run;
+use lay_layout::run::RunDoc;
+use lay_outside::{MeetGate, MemSink, MemSource};
+use lay_words::{Form, read_words};
 use std::alloc::{AllocError, Global};
 use std::sync::Wait;
 use std::thread::Threads;
@@ -18,24 +24,64 @@ pub(crate) fn call<R: Threads + Wait + Sync>(
     document: Vec<u8>,
 ) -> Result<Answer> {
     let words = words(alloc, terms.words())?;
+    let gate = gate(alloc, terms, &words, &document)?;
     let mut source = source(alloc, document, terms.reading())?;
     let mut sink = sink(alloc, terms.room(), terms.writing())?;
     let mut kept = None;
-    let status = top(
-        rt,
-        alloc,
-        &words,
-        &mut source,
-        &mut sink,
-        &OpenGate,
-        &mut kept,
-    );
-    let status = if terms.shows_kept() {
-        status_and_kept(alloc, status, &kept)?
+    let status = top(rt, alloc, &words, &mut source, &mut sink, &gate, &mut kept);
+    match gate.met() {
+        Some(met) => met_answer(alloc, status, met, sink.bytes()),
+        None => {
+            let status = status_text(alloc, terms, status, &kept)?;
+            Ok(Answer::new(status, sink.bytes().to_vec(alloc)?))
+        }
+    }
+}
+
+/// The gate of a call on these terms: where none is to be held, the editors of a run take turns.
+fn gate(alloc: Global, terms: &Terms<'_>, words: &[String], document: &[u8]) -> Result<CaseGate> {
+    if let Some((hold, until)) = terms.meeting() {
+        let until = vec![in alloc; until]?;
+        return Ok(CaseGate::Meet(MeetGate::new(hold, until)));
+    }
+    match TurnGate::new(alloc, run_of(alloc, words, document)) {
+        Ok(gate) => Ok(CaseGate::Turns(gate)),
+        Err(_) => bail!("out of memory"),
+    }
+}
+
+/// The run whose editors these words drive, if they drive any.
+fn run_of(alloc: Global, words: &[String], document: &[u8]) -> Option<RunDoc> {
+    match read_words(alloc, words) {
+        Ok(Some(Form::Run { .. })) => read_run(alloc, document).ok(),
+        Ok(Some(Form::Gen { size, seed, .. })) if size <= 1000 && seed < 1 << 31 => {
+            generated_run(alloc, size, seed).ok()
+        }
+        _ => None,
+    }
+}
+
+/// The answer of a run in which threads were to meet, without its line `laid`.
+fn met_answer(alloc: Global, status: Status, met: bool, bytes: &[u8]) -> Result<Answer> {
+    let word = if met { "met" } else { "not met" };
+    let status = format!(in alloc; "{status:?}, {word}")?;
+    let text = str::from_utf8(bytes).unwrap_or("");
+    let (front, _laid) = text.split_once("laid ").unwrap_or((text, ""));
+    Ok(Answer::new(status, front.as_bytes().to_vec(alloc)?))
+}
+
+/// A status, and the core that is kept where the terms ask for it.
+fn status_text(
+    alloc: Global,
+    terms: &Terms<'_>,
+    status: Status,
+    kept: &Option<Core>,
+) -> Result<String, AllocError> {
+    if terms.shows_kept() {
+        status_and_kept(alloc, status, kept)
     } else {
-        format!(in alloc; "{status:?}")?
-    };
-    Ok(Answer::new(status, sink.bytes().to_vec(alloc)?))
+        format!(in alloc; "{status:?}")
+    }
 }
 
 /// A status and the core that is kept, by the number of its history's entries and how much it laid out.

@@ -12,9 +12,11 @@ mod call;
 mod case;
 mod copies;
 mod folder;
+mod gates;
 mod reading;
 mod sweep;
 mod terms;
+mod turn_gate;
 
 use crate::answer::{Answer, Wanted};
 use crate::call::call;

@@ -1,6 +1,9 @@
-//! The terms of a call: its words, and how its source and sink behave.
+//! The terms of a call: its words, how its source and sink behave, and which threads are to meet.
 
 ghost use Rattle.std.specs.Prelude.{◌≡◌};
+
+use crate::gates::point;
+use lay_outside::Point;
 
 /// The terms of a call.
 #[derive(Clone, Copy)]
@@ -12,15 +15,8 @@ pub(crate) struct Terms<'a> {
     room: usize,
     front: Option<usize>,
     shows_kept: bool,
-    sweep: Option<Sweep>,
-}
-
-/// Which calls a case makes in a row (`sweep.rt`).
-#[derive(Clone, Copy)]
-pub(crate) enum Sweep {
-    Reads,
-    Writes,
-    Fronts,
+    hold: Option<Point>,
+    until: Option<Point>,
 }
 
 /// How many bytes a stream takes at most in a call, and the number of the call that fails, from 1; 0 where none does.
@@ -44,7 +40,8 @@ pub const PLAIN: Terms<'static> = Terms {
     room: 65536,
     front: None,
     shows_kept: false,
-    sweep: None,
+    hold: None,
+    until: None,
 };
 
 impl Sweep {
@@ -75,7 +72,8 @@ impl<'a> Terms<'a> {
         match key {
             "words" => self.words = value,
             "document" => self.document = Some(value),
-            "sweep" => self.sweep = Some(Sweep::read(value)?),
+            "hold" => self.hold = Some(point(value)?),
+            "until" => self.until = Some(point(value)?),
             _ => return self.set_number(key, value.parse::<usize>().ok()?),
         }
         Some(())
@@ -121,6 +119,14 @@ impl<'a> Terms<'a> {
     /// Whether the answer tells the core that is kept.
     pub(crate) fn shows_kept(&self) -> bool {
         self.shows_kept
+    }
+
+    /// The point where a thread is to be held, and the one that another thread is to reach meanwhile.
+    pub(crate) fn meeting(&self) -> Option<(Point, Point)> {
+        match (self.hold, self.until) {
+            (Some(hold), Some(until)) => Some((hold, until)),
+            _ => None,
+        }
     }
 
     /// How many bytes of the answer are wanted, where it isn't all of them.

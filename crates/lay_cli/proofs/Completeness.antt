@@ -3,7 +3,7 @@ use Rattle.std.proofs.Common.{◌≡◌, ◌⊎◌, ℕ, List, refl, inl, inr, O
 use Rattle.lay_layout.specs.run.Runs.{Run}
 use Rattle.lay_json.specs.Reading.{IsReading}
 use Rattle.lay_json.proofs.OneReading.{one_reading_lem}
-use Rattle.lay_core.specs.State.{State}
+use Rattle.lay_drive.specs.editing_core.State.{State}
 use Rattle.lay_words.specs.declared.form.Form.{Form}
 use Rattle.lay_words.specs.declared.form.Form.TheVariants as form
 use Rattle.lay_cli.specs.Answers.{IsAskedWell, IsRefusal, IsRefused, OfRun, Refuses, Reports}

@@ -2,7 +2,7 @@
 use Rattle.std.proofs.Common.{◌≡◌, ◌≢◌, ◌⊎◌, ℕ, List, refl, sym, ◌∙◌, inl, inr, subst, Option, Some, None, IfSome}
 use Rattle.lay_outside.specs.Outside.{Rose, Took, TookFront}
 use Rattle.lay_layout.specs.run.Runs.{Run}
-use Rattle.lay_core.specs.State.{State}
+use Rattle.lay_drive.specs.editing_core.State.{State}
 use Rattle.lay_report.specs.declared.fault.ReportFault.{ReportFault}
 use Rattle.lay_report.specs.declared.fault.ReportFault.TheVariants.{WriteFault as write_failed, NoMemory as ran_out}
 use Rattle.lay_words.specs.declared.form.Form.TheVariants as form

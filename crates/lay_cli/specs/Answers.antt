@@ -9,10 +9,10 @@ use Rattle.std.specs.declared.alloc.Global.{Global}
 use Rattle.lay_layout.specs.frag.Pieces.{Context}
 use Rattle.lay_layout.specs.context.Solves.{Solves}
 use Rattle.lay_layout.specs.history.Histories.{accepted}
-use Rattle.lay_layout.specs.history.Calls.{AnswersScripts, TakesTurns}
+use Rattle.lay_layout.specs.history.Calls.{AnswersScripts}
 use Rattle.lay_layout.specs.history.Legal.{IsWhole}
 use Rattle.lay_layout.specs.history.Trees.{tree_at}
-use Rattle.lay_core.specs.State.{IsCore, State}
+use Rattle.lay_drive.specs.editing_core.State.{IsCore, State}
 use Rattle.lay_report.specs.Report.{run_report, scratch_report}
 use Rattle.lay_layout.specs.run.Runs.{Run}
 use Rattle.lay_json.specs.declared.fault.InputFault.{InputFault}
@@ -59,13 +59,12 @@ pub record IsScratchReport (run : Run) (text : List ℕ) : Type 0 where
 
 -- A core that answered a run's editors. Its history is legal: each edit has the reply of the document at that point. Each
 -- published version has one tree, and that solves the document of the version (`core`). Each editor's commands are
--- answered once and in order, and the editors take turns. The last version is published.
+-- answered once and in order. The last version is published.
 pub record IsDriven (run : Run) (s : State) : Type 0 where
   pub init : s.init ≡ run.doc
   pub face : s.face ≡ run.face
   pub core : IsCore s
   pub scripts : AnswersScripts s.history run.scripts
-  pub turns : TakesTurns s.history
   pub whole : IsWhole s.history
 
 -- the text is the report of a core that answered the run's editors

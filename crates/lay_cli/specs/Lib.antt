@@ -4,4 +4,4 @@ pub mod Input
 pub mod Hits
 pub mod Answers
 pub mod Endings
-pub use Rattle.lay_core.specs as editing_core
+pub use Rattle.lay_drive.specs.editing_core as editing_core

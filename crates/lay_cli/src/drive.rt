@@ -11,31 +11,52 @@ ghost use Rattle.lay_cli.specs.Input.{IsDrained, IsReadOut};
 use crate::run_input::{Input, Lack, run_input};
 use crate::status::Status;
 use crate::telling::{status_of, told};
-use lay_core::{Core, drive};
+use lay_drive::drive;
+use lay_drive::editing_core::Core;
 use lay_generator::{generated_run, run_summary};
 use lay_layout::run::RunDoc;
 use lay_layout::units::{NoMemory, Text};
-use lay_outside::{Sink, Source, write_all};
+use lay_outside::{Gate, Sink, Source, write_all};
 use lay_report::write_run;
 use std::alloc::Global;
+use std::sync::Wait;
+use std::thread::Threads;
+
+/// What editors are driven with: a runtime whose threads may come to wait, memory, and a gate.
+#[derive(Drop)]
+pub(crate) struct Means<'a, R: Threads + Wait + Sync, G: Gate + Sync> {
+    pub(crate) rt: &'a R,
+    pub(crate) alloc: Global,
+    pub(crate) gate: &'a G,
+}
+
+/// What `gen` is asked for: the size and the seed of a run, and the number of workers.
+#[derive(Clone, Copy)]
+pub(crate) struct Generation {
+    pub(crate) size: u32,
+    pub(crate) seed: u32,
+    pub(crate) workers: u32,
+}
 
 /// Drives the editors of the run document that the source has left, writes the report and keeps the core.
-pub(crate) fn run<S: Source, K: Sink>(
-    alloc: Global,
+pub(crate) fn run<R: Threads + Wait + Sync, S: Source, K: Sink, G: Gate + Sync>(
+    means: &Means<R, G>,
+    workers: u32,
     source: &mut S,
     sink: &mut K,
     kept: &mut Option<Core>,
 ) -> Status
-    requires { kept.old ≡ None }
-    ensures ends { (workers : ℕ) → Ends (Reports (form.Run workers) (S.left source.old)) (Refuses (form.Run workers) (S.left source.old)) result
+    requires workers { (0 < workers) × (workers ≤ 16) }
+    requires kept { kept.old ≡ None }
+    ensures ends { Ends (Reports (form.Run workers) (S.left source.old)) (Refuses (form.Run workers) (S.left source.old)) result
         (record { taken = K.taken sink.old; faults = K.faults sink.old }) (record { taken = K.taken sink.new; faults = K.faults sink.new }) kept.new }
     ensures drained { result ≡ Status.Ok → IsDrained (S.left source.old) (S.left source.new) }
     ensures refused_read { result ≡ Status.Refused → IsReadOut (S.left source.old) (S.left source.new) }
     ensures read_fault { result ≡ Status.ReadFault → Rose (S.faults source.old) (S.faults source.new) × (K.taken sink.new ≡ K.taken sink.old) }
     ensures never_usage { result ≢ Status.Usage }
 {
-    match run_input(alloc, source) {
-        Ok(Input::Run(run)) => driven(alloc, run, sink, kept),
+    match run_input(means.alloc, source) {
+        Ok(Input::Run(run)) => driven(means, run, workers, sink, kept),
         Ok(Input::Refusal(line)) => told(sink, line.as_str(), Status::Refused),
         Err(Lack::Failed) => Status::ReadFault,
         Err(Lack::NoMemory) => Status::NoMemory,
@@ -43,18 +64,25 @@ pub(crate) fn run<S: Source, K: Sink>(
 }
 
 /// Drives the editors of a run, writes the report and keeps the core.
-fn driven<K: Sink>(alloc: Global, run: RunDoc, sink: &mut K, kept: &mut Option<Core>) -> Status
-    requires { kept.old ≡ None }
+fn driven<R: Threads + Wait + Sync, K: Sink, G: Gate + Sync>(
+    means: &Means<R, G>,
+    run: RunDoc,
+    workers: u32,
+    sink: &mut K,
+    kept: &mut Option<Core>,
+) -> Status
+    requires workers { (0 < workers) × (workers ≤ 16) }
+    requires kept { kept.old ≡ None }
     ensures ends { Ends (λ kept text. OfKept kept (λ s. IsRunReport run s text)) (λ line. ⊥) result
         (record { taken = K.taken sink.old; faults = K.faults sink.old }) (record { taken = K.taken sink.new; faults = K.faults sink.new }) kept.new }
     ensures never_usage { result ≢ Status.Usage }
     ensures never_read_fault { result ≢ Status.ReadFault }
 {
-    let core = match drive(alloc, run) {
+    let core = match drive(means.rt, means.alloc, run, workers, means.gate) {
         Ok(core) => core,
         Err(_) => return Status::NoMemory,
     };
-    match write_run(alloc, core.history(), core.trees(), core.laid(), sink) {
+    match write_run(means.alloc, core.history(), core.trees(), core.laid(), sink) {
         Ok(()) => {
             *kept = Some(core);
             Status::Ok
@@ -64,23 +92,23 @@ fn driven<K: Sink>(alloc: Global, run: RunDoc, sink: &mut K, kept: &mut Option<C
 }
 
 /// Drives the editors of the run that the generator makes, writes the summary and keeps the core.
-pub(crate) fn generate<K: Sink>(
-    alloc: Global,
-    size: u32,
-    seed: u32,
+pub(crate) fn generate<R: Threads + Wait + Sync, K: Sink, G: Gate + Sync>(
+    means: &Means<R, G>,
+    asked: Generation,
     sink: &mut K,
     kept: &mut Option<Core>,
 ) -> Status
-    requires size { size ≤ 1000 }
-    requires seed { seed < 2 ^ 31 }
+    requires size { asked.size ≤ 1000 }
+    requires seed { asked.seed < 2 ^ 31 }
+    requires workers { (0 < asked.workers) × (asked.workers ≤ 16) }
     requires kept { kept.old ≡ None }
-    ensures ends { Ends (λ kept text. OfKept kept (λ s. IsSummary size seed s text)) (λ line. ⊥) result
+    ensures ends { Ends (λ kept text. OfKept kept (λ s. IsSummary asked.size asked.seed s text)) (λ line. ⊥) result
         (record { taken = K.taken sink.old; faults = K.faults sink.old }) (record { taken = K.taken sink.new; faults = K.faults sink.new }) kept.new }
     ensures never_refused { result ≢ Status.Refused }
     ensures never_usage { result ≢ Status.Usage }
     ensures never_read_fault { result ≢ Status.ReadFault }
 {
-    match summarized(alloc, size, seed) {
+    match summarized(means, asked) {
         Ok((core, text)) => match write_all(sink, text.as_str().as_bytes()) {
             Ok(()) => {
                 *kept = Some(core);
@@ -93,14 +121,18 @@ pub(crate) fn generate<K: Sink>(
 }
 
 /// The core that answered the editors of the generated run, and the summary of that run.
-fn summarized(alloc: Global, size: u32, seed: u32) -> Result<(Core, Text), NoMemory>
-    requires size { size ≤ 1000 }
-    requires seed { seed < 2 ^ 31 }
-    ensures { IfOk result (λ r. IsSummary size seed r.0 r.1) }
+fn summarized<R: Threads + Wait + Sync, G: Gate + Sync>(
+    means: &Means<R, G>,
+    asked: Generation,
+) -> Result<(Core, Text), NoMemory>
+    requires size { asked.size ≤ 1000 }
+    requires seed { asked.seed < 2 ^ 31 }
+    requires workers { (0 < asked.workers) × (asked.workers ≤ 16) }
+    ensures { IfOk result (λ r. IsSummary asked.size asked.seed r.0 r.1) }
 {
-    let run = generated_run(alloc, size, seed)?;
-    let core = drive(alloc, run)?;
-    let text = last_summary(alloc, &core)?;
+    let run = generated_run(means.alloc, asked.size, asked.seed)?;
+    let core = drive(means.rt, means.alloc, run, asked.workers, means.gate)?;
+    let text = last_summary(means.alloc, &core)?;
     Ok((core, text))
 }
 

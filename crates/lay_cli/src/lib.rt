@@ -1,21 +1,24 @@
 //! The top call: from words and the bytes of a run document to a report, or to the line of a refusal.
 //!
-//! `answer` reads the words (lay_words) and the source, takes the bytes for a run document (lay_json), lays it out from scratch
-//! (lay_context) or drives its editors (lay_core), and writes the report (lay_report) into the sink, or which piece is seen
-//! at a point (lay_hit). Its contract is in the words of `specs/Answers.antt`: which text answers which words and bytes;
-//! `specs/Endings.antt` says what a status says of the sink. It returns. `top` is the same call beside a runtime and a gate.
+//! `top` reads the words (lay_words) and the source, takes the bytes for a run document (lay_json), lays it out from scratch
+//! (lay_context) or drives its editors on threads of their own beside workers (lay_drive), and writes the report (lay_report) into
+//! the sink, or which piece is seen at a point (lay_hit). Its contract is in the words of `specs/Answers.antt`: which text answers
+//! which words and bytes; `specs/Endings.antt` says what a status says of the sink. `scratch` and `hit` are the calls that it makes
+//! for these words: they are given no runtime, so they start no thread and wait for none, and they return.
 #![tactic(auto)]
 
+mod at_point;
 mod call;
 mod drive;
-mod hit;
+mod from_scratch;
 mod input;
 mod refusal;
 mod run_input;
-mod scratch;
 mod status;
 mod telling;
 
-pub use call::{answer, top};
-pub use lay_core as editing_core;
+pub use at_point::hit;
+pub use call::top;
+pub use from_scratch::scratch;
+pub use lay_drive::editing_core as editing_core;
 pub use status::Status;

@@ -21,6 +21,7 @@ use crate::edits::edit;
 use crate::grants::Grants;
 use crate::keys::{counts, key, shown_key};
 use crate::trees::{contexts, is_as_scratch};
+use crate::words::first;
 use lay_core::{Core, Publish};
 use lay_layout::doc::Reply;
 use lay_layout::units::NoMemory;
@@ -50,7 +51,7 @@ impl OneCore {
 
     /// The answer to a call; None where the line is none.
     pub(crate) fn answer(&mut self, alloc: Global, line: &str) -> Result<Option<String>, NoMemory> {
-        let (call, rest) = line.split_once(' ').unwrap_or((line, ""));
+        let (call, rest) = first(line);
         if let Some(reply) = self.reply(alloc, call, rest)? {
             return Ok(Some(shown_reply(alloc, reply)?));
         }

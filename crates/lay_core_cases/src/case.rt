@@ -23,11 +23,11 @@ pub(crate) fn first_difference(
 pub(crate) fn answers(alloc: Global, core: &mut OneCore, lines: &str) -> Result<String> {
     let mut text = String::new(alloc);
     for line in lines.lines() {
-        let (call, _) = line.split_once(" -> ").unwrap_or((line, ""));
         if !is_call(line) {
             writeln!(text, "{line}")?;
             continue;
         }
+        let (call, _) = call_and_answer(line);
         let answer = answer(alloc, core, call)?;
         if answer.as_str() == "done" {
             writeln!(text, "{call}")?;
@@ -42,12 +42,17 @@ fn is_call(line: &str) -> bool {
     !line.is_empty() && !line.starts_with('#')
 }
 
+/// The call of a line, and its answer.
+fn call_and_answer(line: &str) -> (&str, &str) {
+    line.split_once(" -> ").unwrap_or((line, "done"))
+}
+
 /// Makes the call of a line, if it has one, and answers what is other than it says.
 fn difference(alloc: Global, core: &mut OneCore, line: &str) -> Result<Option<String>> {
     if !is_call(line) {
         return Ok(None);
     }
-    let (call, wanted) = line.split_once(" -> ").unwrap_or((line, "done"));
+    let (call, wanted) = call_and_answer(line);
     let answer = answer(alloc, core, call)?;
     if answer.as_str() == wanted {
         return Ok(None);

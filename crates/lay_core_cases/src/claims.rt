@@ -11,6 +11,7 @@
 //! A claim that was granted is held to the end, so it can be finished late, or twice.
 
 use crate::keys::{key, shown_key};
+use crate::words::{first, number, small_number};
 use lay_core::cell_work::{Claim, Layout};
 use lay_core::claim_lists::{ClaimList, Outcome, Outcomes};
 use lay_core::{Answer, Core, IdleKind, Next, Tally};
@@ -99,7 +100,7 @@ impl Claims {
         core: &mut Core,
         rest: &str,
     ) -> Result<Option<String>, NoMemory> {
-        let Ok(limit) = rest.parse::<u32>() else {
+        let Some(limit) = small_number(rest) else {
             return Ok(None);
         };
         if limit == 0 || limit > BATCH {
@@ -150,8 +151,7 @@ impl Claims {
         core: &mut Core,
         rest: &str,
     ) -> Result<Option<String>, NoMemory> {
-        let (number, under) = rest.split_once(" as ").unwrap_or((rest, rest));
-        let (Ok(number), Ok(under)) = (number.parse::<u64>(), under.parse::<u64>()) else {
+        let Some((number, under)) = numbers(rest) else {
             return Ok(None);
         };
         let Some(done) = self.done(alloc, number, under)? else {
@@ -168,22 +168,19 @@ impl Claims {
 
     /// The outcome that a word names.
     fn outcome(&self, alloc: Global, word: &str) -> Result<Option<Outcome>, NoMemory> {
-        if let Some(word) = word.strip_prefix('-') {
-            let Ok(number) = word.parse::<u64>() else {
-                return Ok(None);
-            };
-            return Ok(match self.again(number, number)? {
-                Some(claim) => Some(Outcome::NoMemory(claim)),
-                None => None,
-            });
-        }
-        let Ok(number) = word.parse::<u64>() else {
+        let (is_back, word) = match word.strip_prefix('-') {
+            Some(rest) => (true, rest),
+            None => (false, word),
+        };
+        let Some(number) = number(word) else {
             return Ok(None);
         };
-        Ok(match self.done(alloc, number, number)? {
-            Some(done) => Some(Outcome::Done(done)),
-            None => None,
-        })
+        if is_back {
+            let claim = self.again(number, number)?;
+            return Ok(claim.map(|claim| Outcome::NoMemory(claim)));
+        }
+        let done = self.done(alloc, number, number)?;
+        Ok(done.map(|done| Outcome::Done(done)))
     }
 
     fn finish_all(
@@ -212,7 +209,7 @@ impl Claims {
         core: &mut Core,
         rest: &str,
     ) -> Result<Option<String>, NoMemory> {
-        let Ok(number) = rest.parse::<u64>() else {
+        let Some(number) = number(rest) else {
             return Ok(None);
         };
         let Some(claim) = self.again(number, number)? else {
@@ -225,6 +222,16 @@ impl Claims {
         };
         Ok(Some(text))
     }
+}
+
+/// The numbers of `NUMBER` and of `NUMBER as OTHER`: of the claim, and under which it is finished.
+fn numbers(text: &str) -> Option<(u64, u64)> {
+    let (one, rest) = first(text);
+    let under = match first(rest) {
+        ("as", other) => other,
+        _ => one,
+    };
+    Some((number(one)?, number(under)?))
 }
 
 fn shown_idle(alloc: Global, kind: IdleKind) -> Result<String, NoMemory> {

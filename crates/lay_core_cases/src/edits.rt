@@ -1,5 +1,6 @@
 //! The edits of an editor.
 
+use crate::words::{first, node, small_number};
 use lay_layout::doc::{Edit, NewNode, NodeId};
 use lay_layout::style::Decls;
 use lay_layout::units::{NoMemory, Text};
@@ -21,8 +22,8 @@ pub(crate) fn edit(alloc: Global, call: &str, rest: &str) -> Result<Option<Edit>
 
 /// A number, and what stands behind it.
 fn number_and_rest(text: &str) -> Option<(u32, &str)> {
-    let (number, rest) = text.split_once(' ').unwrap_or((text, ""));
-    Some((number.parse::<u32>().ok()?, rest))
+    let (number, rest) = first(text);
+    Some((small_number(number)?, rest))
 }
 
 fn style_setting(alloc: Global, rest: &str) -> Option<Edit> {
@@ -77,6 +78,5 @@ fn text_insertion(alloc: Global, rest: &str) -> Result<Option<Edit>, NoMemory> {
 }
 
 fn removal(rest: &str) -> Option<Edit> {
-    let node = NodeId(rest.parse::<u32>().ok()?);
-    Some(Edit::Remove { node })
+    Some(Edit::Remove { node: node(rest)? })
 }

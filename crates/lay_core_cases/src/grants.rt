@@ -1,9 +1,7 @@
 //! Which cells were granted since the last time.
 
+use crate::keys::laid_of_node;
 use lay_core::Core;
-use lay_core::shape::CellKey;
-use lay_layout::context::Phase;
-use lay_layout::doc::NodeId;
 use lay_layout::units::NoMemory;
 use std::alloc::Global;
 
@@ -76,16 +74,8 @@ fn counts(alloc: Global, core: &Core) -> Result<Vec<Count>, NoMemory> {
     for place in 0..core.doc().len() {
         if let Some(node) = core.doc().node(place) {
             let node = node.id();
-            let of = |phase| core.laid_of(CellKey { node, phase });
-            if let (Some(measure), Some(size), Some(place)) = (
-                of(Phase::Measure),
-                of(Phase::Size),
-                of(Phase::Place),
-            ) {
-                counts.push(Count {
-                    node: node.0,
-                    laid: [measure, size, place],
-                })?;
+            if let Some(laid) = laid_of_node(core, node) {
+                counts.push(Count { node: node.0, laid })?;
             }
         }
     }

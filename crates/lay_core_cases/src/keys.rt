@@ -1,5 +1,6 @@
 //! Keys of cells: `PHASE NODE`, where the phase is `Measure`, `Size` or `Place`.
 
+use crate::words::{first, node};
 use lay_core::Core;
 use lay_core::shape::CellKey;
 use lay_layout::context::Phase;
@@ -9,17 +10,23 @@ use std::alloc::Global;
 
 /// The key of a text; None where it is none.
 pub(crate) fn key(text: &str) -> Option<CellKey> {
-    let (phase, node) = text.split_once(' ')?;
-    let phase = match phase {
-        "Measure" => Phase::Measure,
-        "Size" => Phase::Size,
-        "Place" => Phase::Place,
-        _ => return None,
-    };
-    Some(CellKey {
-        node: NodeId(node.parse::<u32>().ok()?),
-        phase,
-    })
+    let (phase, text) = first(text);
+    let node = node(text)?;
+    match phase {
+        "Measure" => Some(CellKey {
+            node,
+            phase: Phase::Measure,
+        }),
+        "Size" => Some(CellKey {
+            node,
+            phase: Phase::Size,
+        }),
+        "Place" => Some(CellKey {
+            node,
+            phase: Phase::Place,
+        }),
+        _ => None,
+    }
 }
 
 pub(crate) fn shown_key(alloc: Global, key: CellKey) -> Result<String, NoMemory> {
@@ -35,20 +42,31 @@ pub(crate) fn shown_key(alloc: Global, key: CellKey) -> Result<String, NoMemory>
 pub(crate) fn counts(alloc: Global, core: &Core, nodes: &str) -> Result<Option<String>, NoMemory> {
     let mut text = String::new(alloc);
     for word in nodes.split(' ') {
-        let Ok(node) = word.parse::<u32>() else {
+        let Some(node) = node(word) else {
             return Ok(None);
         };
         let blank = if text.is_empty() { "" } else { " " };
-        let of = |phase| {
-            core.laid_of(CellKey {
-                node: NodeId(node),
-                phase,
-            })
-        };
-        match (of(Phase::Measure), of(Phase::Size), of(Phase::Place)) {
-            (Some(a), Some(b), Some(c)) => write!(text, "{blank}{a}+{b}+{c}")?,
-            _ => write!(text, "{blank}none")?,
+        match laid_of_node(core, node) {
+            Some(laid) => write!(text, "{blank}{}+{}+{}", laid[0], laid[1], laid[2])?,
+            None => write!(text, "{blank}none")?,
         }
     }
     Ok(Some(text))
+}
+
+/// The grants of the three cells of a node; None where it has none.
+pub(crate) fn laid_of_node(core: &Core, node: NodeId) -> Option<[u64; 3]> {
+    let measure = core.laid_of(CellKey {
+        node,
+        phase: Phase::Measure,
+    })?;
+    let size = core.laid_of(CellKey {
+        node,
+        phase: Phase::Size,
+    })?;
+    let place = core.laid_of(CellKey {
+        node,
+        phase: Phase::Place,
+    })?;
+    Some([measure, size, place])
 }

@@ -14,6 +14,7 @@ mod edits;
 mod grants;
 mod keys;
 mod trees;
+mod words;
 
 use crate::calls::OneCore;
 use crate::case::{answers, first_difference};

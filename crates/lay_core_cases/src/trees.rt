@@ -1,5 +1,6 @@
 //! Trees of versions.
 
+use crate::words::number;
 use lay_core::Core;
 use lay_layout::context::scratch;
 use lay_layout::frag::text_of;
@@ -12,7 +13,7 @@ pub(crate) fn contexts(
     core: &Core,
     version: &str,
 ) -> Result<Option<String>, NoMemory> {
-    let Ok(version) = version.parse::<u64>() else {
+    let Some(version) = number(version) else {
         return Ok(None);
     };
     match core.tree(version) {

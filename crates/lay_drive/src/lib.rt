@@ -15,4 +15,5 @@ mod session;
 mod workers;
 
 pub use laws::passes_answer_scripts;
+pub use lay_board::editing_core as editing_core;
 pub use run::drive;

@@ -9,7 +9,7 @@ returns-in-Ok-write_run-clause-ends g c =
     let by = c.in-Ok.ensures {u = tt} in
     let took = rw (c.history.ensures.value, c.trees.ensures.value, c.laid.ensures) at (c.in-Ok-write_run.ensures {u = tt}).ok in
     ends_ok _ _ _ _ (Some s) (run_report s.history s.trees s.laid)
-    (record { driven = record { init = by.init; face = by.face; core = c.history.ensures.core; scripts = by.scripts; turns = by.turns; whole = by.whole }; text_is = refl }) took
+    (record { driven = record { init = by.init; face = by.face; core = c.history.ensures.core; scripts = by.scripts; whole = by.whole }; text_is = refl }) took
 
 pub returns-in-Err-write_run-clause-ends : goal.returns-in-Err-write_run-clause-ends
 returns-in-Err-write_run-clause-ends g c =
@@ -17,8 +17,8 @@ returns-in-Err-write_run-clause-ends g c =
     let by = c.in-Ok.ensures {u = tt} in
     let e = c.in-Err-write_run.ensures {u = tt} in
     let front = rw (c.history.ensures.value, c.trees.ensures.value, c.laid.ensures) at e.front in
-    rw (c.requires, c.status_of.ensures) (ends_broken _ _ _ _ (Some s) (run_report s.history s.trees s.laid) c.in-Err-write_run.fault
-    (record { driven = record { init = by.init; face = by.face; core = c.history.ensures.core; scripts = by.scripts; turns = by.turns; whole = by.whole }; text_is = refl }) front e.failed)
+    rw (c.requires.kept, c.status_of.ensures) (ends_broken _ _ _ _ (Some s) (run_report s.history s.trees s.laid) c.in-Err-write_run.fault
+    (record { driven = record { init = by.init; face = by.face; core = c.history.ensures.core; scripts = by.scripts; whole = by.whole }; text_is = refl }) front e.failed)
 
 pub returns-in-Err-write_run-clause-never_usage : goal.returns-in-Err-write_run-clause-never_usage
 returns-in-Err-write_run-clause-never_usage g c = rw c.status_of.ensures (broken_not_usage c.in-Err-write_run.fault)

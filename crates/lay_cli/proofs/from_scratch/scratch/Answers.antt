@@ -2,7 +2,7 @@ use Rattle.std.proofs.Common.{None}
 use Rattle.lay_words.specs.declared.form.Form.TheVariants as form
 use Rattle.lay_cli.specs.Answers.{Refuses}
 use Rattle.lay_cli.proofs.Endings.{ends_weaker, none_refused, scratch_reports}
-use Rattle.lay_cli.proofs.scratch.scratch.Goals as goal
+use Rattle.lay_cli.proofs.from_scratch.scratch.Goals as goal
 
 pub returns-in-Ok-Run-clause-ends : goal.returns-in-Ok-Run-clause-ends
 returns-in-Ok-Run-clause-ends g c =

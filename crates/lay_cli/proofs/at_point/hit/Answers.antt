@@ -3,7 +3,7 @@ use Rattle.lay_words.specs.declared.form.Form.TheVariants as form
 use Rattle.lay_cli.specs.Answers.{Refuses}
 use Rattle.lay_cli.proofs.Endings.{ends_weaker, none_refused}
 use Rattle.lay_cli.proofs.HitEndings.{hit_reports}
-use Rattle.lay_cli.proofs.hit.hit.Goals as goal
+use Rattle.lay_cli.proofs.at_point.hit.Goals as goal
 
 pub returns-in-Ok-Run-clause-ends : goal.returns-in-Ok-Run-clause-ends
 returns-in-Ok-Run-clause-ends g c =

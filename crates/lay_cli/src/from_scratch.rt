@@ -16,7 +16,7 @@ use lay_report::write_scratch;
 use std::alloc::Global;
 
 /// Lays out the run document that the source has left, its editors taken as none, and writes the report.
-pub(crate) fn scratch<S: Source, K: Sink>(alloc: Global, source: &mut S, sink: &mut K) -> Status
+pub fn scratch<S: Source, K: Sink>(alloc: Global, source: &mut S, sink: &mut K) -> Status
     ensures ends { Ends (Reports form.Scratch (S.left source.old)) (Refuses form.Scratch (S.left source.old)) result
         (record { taken = K.taken sink.old; faults = K.faults sink.old }) (record { taken = K.taken sink.new; faults = K.faults sink.new }) None }
     ensures drained { result ≡ Status.Ok → IsDrained (S.left source.old) (S.left source.new) }

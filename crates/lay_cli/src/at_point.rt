@@ -22,7 +22,7 @@ use std::alloc::Global;
 
 /// Lays out the run document that the source has left, its editors taken as none, and writes which piece is seen at a
 /// point of the page, which is given in px.
-pub(crate) fn hit<S: Source, K: Sink>(
+pub fn hit<S: Source, K: Sink>(
     alloc: Global,
     x: u32,
     y: u32,

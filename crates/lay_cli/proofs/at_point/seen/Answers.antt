@@ -1,6 +1,6 @@
 use Rattle.std.proofs.Common.{refl}
 use Rattle.lay_cli.proofs.HitEndings.{ends_line}
-use Rattle.lay_cli.proofs.hit.seen.Goals as goal
+use Rattle.lay_cli.proofs.at_point.seen.Goals as goal
 
 pub returns-in-Ok-clause-ends : goal.returns-in-Ok-clause-ends
 returns-in-Ok-clause-ends g c =

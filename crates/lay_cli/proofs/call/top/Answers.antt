@@ -1,7 +1,7 @@
 use Rattle.std.proofs.Common.{◌≡◌, ◌∙◌, sym, map, string_bytes}
 use Rattle.lay_words.proofs.Ranges.{in_range}
 use Rattle.lay_cli.proofs.Completeness.{refuses, reported}
-use Rattle.lay_cli.proofs.call.answer.Goals as goal
+use Rattle.lay_cli.proofs.call.top.Goals as goal
 
 pub asked-requires-clause-range : goal.asked-requires-clause-range
 asked-requires-clause-range g c = in_range (map string_bytes c.args.words.now) c.in-Ok-Some.form (sym (c.in-Ok-Some.ensures {u = tt}) ∙ c.in-Ok-Some.field-0-is)
