@@ -10,4 +10,5 @@ returns-in-Ok-clause-answers g c =
 pub returns-in-Err-BadLine-clause-answers : goal.returns-in-Err-BadLine-clause-answers
 returns-in-Err-BadLine-clause-answers g c =
     let cause = rw c.in-Err-BadLine.field-0-is at (c.in-Err-BadLine.ensures {u = tt}).cause in
-    bad_answers (g.S.Source.left c.args.source.now) (Hit c.args.name) c.in-Err-BadLine.number c.refused.result cause c.refused.ensures.ok
+    let told = rw c.in-Err-BadLine.field-0-is at c.refused.ensures.ok in
+    bad_answers (g.S.Source.left c.args.source.now) (Hit c.args.name) c.in-Err-BadLine.number c.refused.result cause told
