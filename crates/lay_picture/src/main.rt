@@ -8,10 +8,13 @@ use std::rt::Env;
 use std::{env, io};
 
 fn main(rt: HostRuntime) -> ExitCode {
-    // Words that can't be had as text are a wrong command line.
+    // Words that can't be had as text are a wrong command line, but for want of memory.
     let ending = match words(&rt) {
         Ok(words) => run(&rt, &words),
-        Err(_) => usage(&mut OutputSink::new(io::writer(&rt))),
+        Err(error) => match error.kind() {
+            io::ErrorKind::OutOfMemory => Ending::NoMemory,
+            _ => usage(&mut OutputSink::new(io::writer(&rt))),
+        },
     };
     ExitCode::from(ending.number())
 }
