@@ -70,16 +70,17 @@ fn run_all<R: Threads + Wait + Sync, G: Gate + Sync>(
     requires left { All (λ j. length j.script ≤ j.pass.knows.left) jobs.items }
     ensures { IfOk result (λ v. AreRun jobs.items v.items) }
 {
-    let (passes, ()) = thread::join(
+    // the loop comes last where no thread can be made for it, and so once all editors have ended
+    let ((), passes) = thread::join(
         rt,
+        || -> ()
+            requires { (0 < workers) × (workers ≤ 16) }
+        { work(rt, session, workers, gate) },
         move || -> Result<Vec<Pass>, AllocError>
             requires { All (λ j. j.pass.table ≡ session.now.engine.table) jobs.items
                 × All (λ j. length j.script ≤ j.pass.knows.left) jobs.items }
             ensures { IfOk result (λ v. AreRun jobs.items v.items) }
         { edit_all(rt, session, jobs, gate) },
-        || -> ()
-            requires { (0 < workers) × (workers ≤ 16) }
-        { work(rt, session, workers, gate) },
     );
     passes
 }
