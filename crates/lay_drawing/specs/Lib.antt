@@ -5,6 +5,7 @@ pub mod States
 pub mod Pixels
 pub mod Marks
 pub mod Changes
+pub mod Hits
 pub mod Frames
 pub mod Labels
 pub mod Picture

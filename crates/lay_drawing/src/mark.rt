@@ -24,6 +24,8 @@ pub enum Mark {
     Gone,
     /// It is of the earlier tree, and was moved or resized.
     Former,
+    /// It is the one that is asked for.
+    Hit,
 }
 
 /// A piece, and what is said of it.
@@ -46,6 +48,7 @@ impl Mark {
             Mark::New => " new",
             Mark::Gone => " gone",
             Mark::Former => " former",
+            Mark::Hit => " hit",
         }
     }
 }
