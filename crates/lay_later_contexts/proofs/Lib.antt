@@ -1,0 +1,9 @@
+pub mod SameBoxes
+pub mod AlikeBoxes
+pub mod Restyling
+pub mod Outward
+pub mod LaterList
+pub mod ElementPlaces
+pub mod Climbing
+pub mod UnstyledLists
+pub mod BuiltSteps

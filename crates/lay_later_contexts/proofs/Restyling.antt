@@ -1,0 +1,123 @@
+-- An edit of declarations of one node leaves the nodes where they stand, and the styles of all that aren't below it.
+use Rattle.std.proofs.Common.{◌≡◌, inl, inr, ℕ, zero, suc, ◌<◌, ◌≤◌, List, [], ◌∷◌, length, refl, ap, sym, subst, ◌∙◌, arith, Some}
+use Rattle.std.proofs.lemmas.Bool.{cases_lt}
+use Rattle.lay_style.specs.declared.style.Style.{Style}
+use Rattle.lay_style.specs.ComputedStyle.{HasStyles, style_at}
+use Rattle.lay_style.specs.Places.{place_of}
+use Rattle.lay_doc.specs.declared.edit.Edit.{Edit}
+use Rattle.lay_doc.specs.declared.edit.Edit.TheVariants.{SetStyle, ClearStyle, SetText, Insert, Remove, Bad}
+use Rattle.lay_doc.specs.declared.node.Node.{Node}
+use Rattle.lay_doc.specs.Changes.{changed_at, with_style, without_style}
+use Rattle.lay_doc.specs.Document.{Document, IsDocument, declarations_of, ids_of, parents_of}
+use Rattle.lay_doc.specs.Tree.{IsUnder, end_of}
+use Rattle.lay_doc.proofs.NodeColumns.{length-parents}
+use Rattle.lay_doc.proofs.Subtrees.{has_subtree_lem}
+use Rattle.lay_own_nodes.specs.Anchors.{IsRestyling}
+use Rattle.lay_own_nodes.specs.Reached.{place_in, subject_of}
+use Rattle.lay_own_nodes.proofs.ChangedNodes.{Stays, changed-keeping, ids-stay, parents-stay}
+use Rattle.lay_own_nodes.proofs.EditedContexts.{restyled}
+use Rattle.lay_own_nodes.proofs.OwnList.{got}
+use Rattle.lay_own_nodes.proofs.SameTrees.{SameNode, same-style}
+use Rattle.lay_later_contexts.specs.Edited.{IsEdited}
+use Rattle.lay_later_contexts.specs.Reach.{AreAlike, IsAlike}
+use Rattle.lay_later_contexts.proofs.AlikeBoxes.{no-box, same-box}
+use Rattle.lay_later_contexts.proofs.SameBoxes.{SameBoxes}
+
+pub record Restyling (d e : Document) (ss ts : List Style) (p : ℕ) : Type 0 where
+  pub parents : parents_of e.nodes ≡ parents_of d.nodes
+  pub ids : ids_of e.nodes ≡ ids_of d.nodes
+  pub content : (k : ℕ) → k < length d.nodes → SameNode d.nodes e.nodes k k
+  pub outside : (k : ℕ) → k < length d.nodes → (IsUnder (parents_of d.nodes) p k → ⊥) → style_at ts k ≡ style_at ss k
+
+same-node : (ns : List Node) (k : ℕ) → k < length ns → SameNode ns ns k k
+same-node ns k lt = let g = got ns k lt in record { one = g.0; other = g.0; here = g.1; there = g.1; id = refl; kind = refl; text = refl }
+
+changed-content : (p : ℕ) (f : Node → Node) → ((n : Node) → n.id ≡ (f n).id) → ((n : Node) → n.kind ≡ (f n).kind) → ((n : Node) → n.text ≡ (f n).text)
+    → (ns : List Node) (k : ℕ) → k < length ns → SameNode ns (changed_at p f ns) k k
+changed-content p f i q t [] k lt = absurd (omega (arith, lt))
+changed-content zero f i q t (x ∷ xs) zero lt = record { one = x; other = f x; here = refl; there = refl; id = i x; kind = q x; text = t x }
+changed-content zero f i q t (x ∷ xs) (suc k) lt =
+    let s = same-node xs k (omega (arith, lt)) in
+    record { one = s.one; other = s.other; here = s.here; there = s.there; id = s.id; kind = s.kind; text = s.text }
+changed-content (suc p) f i q t (x ∷ xs) zero lt = record { one = x; other = x; here = refl; there = refl; id = refl; kind = refl; text = refl }
+changed-content (suc p) f i q t (x ∷ xs) (suc k) lt =
+    let s = changed-content p f i q t xs k (omega (arith, lt)) in
+    record { one = s.one; other = s.other; here = s.here; there = s.there; id = s.id; kind = s.kind; text = s.text }
+
+abbrev AreStyled : Document → List Style → Type 0
+AreStyled d styles = HasStyles (parents_of d.nodes) (declarations_of d.nodes) styles
+
+by-change : (d : Document) (edit : Edit) (p : ℕ) (f : Node → Node) (ss ts : List Style) (doc : IsDocument d) (named : place_in (ids_of d.nodes) (subject_of edit) ≡ Some p)
+    (same_id : (n : Node) → (f n).id ≡ n.id) (same_parent : (n : Node) → (f n).parent ≡ n.parent)
+    → ((n : Node) → n.kind ≡ (f n).kind) → ((n : Node) → n.text ≡ (f n).text) → AreStyled d ss → AreStyled (record d { nodes = changed_at p f d.nodes }) ts
+    → Restyling d (record d { nodes = changed_at p f d.nodes }) ss ts p
+by-change d edit p f ss ts doc named same_id same_parent kind text before after =
+    let keep = changed-keeping d edit p f doc named same_id same_parent in
+    record {
+      parents = parents-stay d edit p f doc named same_id same_parent;
+      ids = ids-stay d edit p f doc named same_id same_parent;
+      content = changed-content p f (λ n. sym (same_id n)) kind text d.nodes;
+      outside = λ k lt apart. sym (same-style d.nodes (changed_at p f d.nodes) ss ts (Stays d edit p f doc named same_id same_parent) keep.same keep.declared doc.tree before after k k (refl, lt, apart));
+    }
+
+over-change : (d e : Document) (edit : Edit) (p : ℕ) (f : Node → Node) (ss ts : List Style) (doc : IsDocument d) (named : place_in (ids_of d.nodes) (subject_of edit) ≡ Some p)
+    (same_id : (n : Node) → (f n).id ≡ n.id) (same_parent : (n : Node) → (f n).parent ≡ n.parent)
+    → ((n : Node) → n.kind ≡ (f n).kind) → ((n : Node) → n.text ≡ (f n).text) → AreStyled d ss → AreStyled e ts → e ≡ record d { nodes = changed_at p f d.nodes }
+    → Restyling d e ss ts p
+over-change d e edit p f ss ts doc named same_id same_parent kind text before after is =
+    subst (λ (x : Document). Restyling d x ss ts p) (sym is)
+    (by-change d edit p f ss ts doc named same_id same_parent kind text before (subst (λ (x : Document). AreStyled x ts) is after))
+
+pub restyling-of : (d e : Document) (ss ts : List Style) (edit : Edit) (id p : ℕ) → IsDocument d → IsEdited d ss edit e ts → IsRestyling edit id → place_of id (ids_of d.nodes) ≡ Some p
+    → Restyling d e ss ts p
+restyling-of d e ss ts (SetStyle node decl) id p doc edited restyles named =
+    let at : place_of node.0 (ids_of d.nodes) ≡ Some p = ap (λ (i : ℕ). place_of i (ids_of d.nodes)) restyles ∙ named in
+    over-change d e (SetStyle node decl) p (with_style decl) ss ts doc at (λ n. refl) (λ n. refl) (λ n. refl) (λ n. refl) edited.before edited.after
+    (edited.later ∙ restyled d node.0 (with_style decl) p at)
+restyling-of d e ss ts (ClearStyle node property) id p doc edited restyles named =
+    let at : place_of node.0 (ids_of d.nodes) ≡ Some p = ap (λ (i : ℕ). place_of i (ids_of d.nodes)) restyles ∙ named in
+    over-change d e (ClearStyle node property) p (without_style property) ss ts doc at (λ n. refl) (λ n. refl) (λ n. refl) (λ n. refl) edited.before edited.after
+    (edited.later ∙ restyled d node.0 (without_style property) p at)
+restyling-of d e ss ts (SetText node text) id p doc edited restyles named = absurd restyles
+restyling-of d e ss ts (Insert parent index new) id p doc edited restyles named = absurd restyles
+restyling-of d e ss ts (Remove node) id p doc edited restyles named = absurd restyles
+restyling-of d e ss ts (Bad bad) id p doc edited restyles named = absurd restyles
+
+same-alike : (s t : Style) → t ≡ s → IsAlike s t
+same-alike s t e = record {
+  display = ap (λ (x : Style). x.display) (sym e);
+  position = ap (λ (x : Style). x.position) (sym e);
+  float = ap (λ (x : Style). x.float) (sym e);
+  overflow = ap (λ (x : Style). x.overflow) (sym e);
+  white_space = ap (λ (x : Style). x.text.white_space) (sym e);
+}
+
+-- where the styles of that node and those below it are alike, all boxes are the same
+module _ (d e : Document) (ss ts : List Style) (p until : ℕ) (doc : IsDocument d) (has : p < length d.nodes) (r : Restyling d e ss ts p)
+    (end : until ≡ end_of (parents_of d.nodes) p) (alike : AreAlike ss ts p until) where
+  pub not-under : (k : ℕ) → k < length d.nodes → ((p ≤ k) × (k < until) → ⊥) → IsUnder (parents_of d.nodes) p k → ⊥
+  not-under k lt apart u =
+      let is = (has_subtree_lem (parents_of d.nodes) p k doc.tree (omega (arith, has, length-parents d.nodes)) (omega (arith, lt, length-parents d.nodes))).0 u in
+      let low = is.0 in
+      let high = is.1 in
+      apart (low, omega (arith, high, end))
+
+  alike-at : (k : ℕ) → k < length d.nodes → IsAlike (style_at ss k) (style_at ts k)
+  alike-at k lt = elim (cases_lt k p) [
+    | inl before ↦ same-alike (style_at ss k) (style_at ts k) (r.outside k lt (not-under k lt (λ b. (let low = b.0 in omega (arith, low, before)))))
+    | inr from ↦ elim (cases_lt k until) [
+      | inl inner ↦ alike k from inner
+      | inr behind ↦ same-alike (style_at ss k) (style_at ts k) (r.outside k lt (not-under k lt (λ b. (let high = b.1 in omega (arith, high, behind)))))
+    ]
+  ]
+
+  pub same-boxes : SameBoxes d.nodes e.nodes ss ts
+  same-boxes =
+      let count : length d.nodes ≡ length e.nodes = sym (length-parents d.nodes) ∙ (sym (ap length r.parents) ∙ length-parents e.nodes) in
+      record {
+        parents = r.parents;
+        box = λ k. elim (cases_lt k (length d.nodes)) [
+          | inl lt ↦ same-box d.nodes e.nodes ss ts k (r.content k lt) (alike-at k lt)
+          | inr past ↦ no-box d.nodes e.nodes ss ts k count (λ lt. omega (arith, lt, past))
+        ];
+      }

@@ -1,0 +1,29 @@
+use Rattle.std.proofs.Common.{◌≡◌, ap, arith, length, subst, sym}
+use Rattle.lay_doc.proofs.NodeColumns.{length-parents}
+use Rattle.lay_contexts.specs.ListedContexts.{AreContextPlaces}
+use Rattle.lay_later_contexts.proofs.BuiltSteps.{until-within}
+use Rattle.lay_later_contexts.proofs.ElementPlaces.{context-places}
+use Rattle.lay_later_contexts.proofs.Restyling.{restyling-of}
+use Rattle.lay_later_contexts.proofs.later_contexts.restyled_contexts.Goals as goal
+
+pub reach_of-reach-requires-clause-places : goal.reach_of-reach-requires-clause-places
+reach_of-reach-requires-clause-places c =
+    subst (AreContextPlaces c.args.of.now.doc.now.nodes c.args.of.now.was.now) (sym c.deref.ensures.value)
+    (context-places c.args.of.now.doc.now c.args.of.now.was.now c.args.before.now c.nodes.ensures.valid c.requires.before c.in_ok-places.places.items (c.in_ok-places.ensures {u = tt}))
+
+pub are_alike-requires-clause-here : goal.are_alike-requires-clause-here
+are_alike-requires-clause-here c =
+    let d = c.args.of.now.doc.now in
+    let until = until-within d c.args.of.now.was.now c.deref.result.now c.args.node.0 c.reach_of-reach.result c.nodes.ensures.valid c.reach_of-reach.ensures in
+    let same : length c.as_slice.result.now ≡ length c.args.of.now.was.now = ap length c.as_slice.ensures in
+    omega (arith, until, same, c.requires.edited.before.length_is, length-parents d.nodes)
+
+pub are_alike-requires-clause-there : goal.are_alike-requires-clause-there
+are_alike-requires-clause-there c =
+    let d = c.args.of.now.doc.now in
+    let e = c.args.of.now.later.now in
+    let until = until-within d c.args.of.now.was.now c.deref.result.now c.args.node.0 c.reach_of-reach.result c.nodes.ensures.valid c.reach_of-reach.ensures in
+    let parents = ap length (restyling-of d e c.args.of.now.was.now c.args.of.now.styles.now c.args.of.now.edit.now c.args.node.0 c.reach_of-reach.result.from
+    c.nodes.ensures.valid c.requires.edited c.requires.node c.reach_of-reach.ensures.subject).parents in
+    let same : length c.as_slice-2.result.now ≡ length c.args.of.now.styles.now = ap length c.as_slice-2.ensures in
+    omega (arith, until, same, c.requires.edited.after.length_is, parents, length-parents d.nodes)

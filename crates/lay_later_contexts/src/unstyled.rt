@@ -1,0 +1,42 @@
+//! Whether boxes differ in their styles alone.
+
+ghost use Rattle.std.specs.Prelude.{◌≡◌, IsTrue};
+ghost use Rattle.lay_later_contexts.specs.Unstyled.{all_unstyled, unstyled};
+
+use crate::alike::same_position;
+use lay_box_tree::{BoxNode, Flow};
+use lay_same::same_kind;
+
+fn same_flow(a: Flow, b: Flow) -> bool
+    ensures { IsTrue result → a ≡ b }
+{
+    a == b
+}
+
+/// Whether two boxes are the same but for their styles.
+fn is_unstyled_same(a: &BoxNode, b: &BoxNode) -> bool
+    ensures { IsTrue result → unstyled a.now ≡ unstyled b.now }
+{
+    a.node.0 == b.node.0
+        && a.parent == b.parent
+        && same_flow(a.flow, b.flow)
+        && a.anonymous == b.anonymous
+        && a.inner == b.inner
+        && same_kind(&a.kind, &b.kind)
+        && same_position(a.style.position, b.style.position)
+}
+
+/// Whether two lists of boxes are.
+pub(crate) fn are_unstyled_same(a: &[BoxNode], b: &[BoxNode]) -> bool
+    ensures { IsTrue result → all_unstyled a.now ≡ all_unstyled b.now }
+{
+    if a.len() != b.len() {
+        return false;
+    }
+    for k in 0..a.len() {
+        if !is_unstyled_same(&a[k], &b[k]) {
+            return false;
+        }
+    }
+    true
+}
