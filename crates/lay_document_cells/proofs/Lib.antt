@@ -9,6 +9,7 @@ mod ListedContexts
 mod OneEdits
 mod Passing
 mod Pigeonhole
+mod RestyledCells
 mod SettledPlaces
 mod WalkSteps
 mod Working

@@ -1,0 +1,4 @@
+pub mod SameLinks
+pub mod SameWays
+pub mod SameShape
+pub mod Untouched
