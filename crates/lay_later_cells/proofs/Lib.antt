@@ -2,3 +2,5 @@ pub mod SameLinks
 pub mod SameWays
 pub mod SameShape
 pub mod Untouched
+pub mod RisingNumbers
+pub mod TouchedSteps

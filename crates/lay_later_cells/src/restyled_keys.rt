@@ -74,13 +74,20 @@ fn is_untouched(
     requires within { j < length after.now.contexts.now }
     ensures { IsTrue result ↔ IsUntouched before.now.contexts.now after.now.contexts.now before.now.formatting_contexts.now after.now.formatting_contexts.now j }
 {
-    if before.measured[j] != after.measured[j] {
+    if !same_flag(before.measured[j], after.measured[j]) {
         return false;
     }
     if !made[j] {
         return true;
     }
     same_context(before.contexts, after.contexts, j)
+}
+
+/// Whether two flags say the same.
+fn same_flag(a: bool, b: bool) -> bool
+    ensures { IsTrue result ↔ (a ≡ b) }
+{
+    a == b
 }
 
 /// Whether the context with the number j has the same boxes in both.
