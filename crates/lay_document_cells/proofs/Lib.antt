@@ -9,7 +9,6 @@ mod ListedContexts
 mod OneEdits
 mod Passing
 mod Pigeonhole
-mod RestyledCells
 mod SettledPlaces
 mod WalkSteps
 mod Working
