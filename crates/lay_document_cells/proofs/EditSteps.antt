@@ -20,10 +20,6 @@ use Rattle.lay_document_cells.specs.Kept.{IsKept, TableValue}
 use Rattle.lay_document_cells.specs.State.{AreStyledLists, State}
 use Rattle.lay_document_cells.proofs.KeptSteps.{state_of}
 
--- an edit of a copy
-pub applied : (d copy e : Document) (edit : Edit) → copy ≡ d → e ≡ after copy edit → e ≡ after d edit
-applied d copy e edit same is = is ∙ ap (λ x. after x edit) same
-
 module _ (d : Document) (face : FaceValue) (cells : CellState) (laid : ℕ) (medium : Medium) (table : TableValue)
     (kept : IsKept (state_of d face cells laid) medium table) (edit : Edit) (e : Document) (is : e ≡ after d edit)
     (later : TableValue) (lists : AreStyledLists e later.styles later.lists) (t : CellState) (follows : FollowsLists table.lists later.lists cells t) where

@@ -30,6 +30,7 @@ use lay_layout::doc::{Doc, Edit};
 use lay_layout::face::Face;
 use lay_layout::frag::Tree;
 use lay_layout::units::NoMemory;
+use lay_spare_doc::SpareDoc;
 use std::alloc::Global;
 use std::marker::Model;
 use std::sync::Arc;
@@ -39,7 +40,7 @@ use std::sync::Arc;
 #[derive(Drop)]
 pub struct DocumentCells {
     pub(crate) alloc: Global,
-    doc: Doc,
+    doc: SpareDoc,
     face: Arc<Face>,
     pub(crate) medium: Medium,
     pub(crate) table: DocumentTable,
@@ -74,7 +75,7 @@ impl DocumentCells {
         cells.sound();
         Ok(DocumentCells {
             alloc,
-            doc,
+            doc: SpareDoc::new(doc),
             face,
             medium,
             table,
@@ -96,16 +97,15 @@ impl DocumentCells {
         contexts_are_of_own_nodes();
         touched_contexts_are_listed();
         puts_node(edit);
-        let _ = self.doc.nodes();
-        let mut doc = self.doc.copy(self.alloc)?;
-        doc.apply(self.alloc, edit)?;
-        let table = self.table.edited(self.alloc, &self.doc, edit, &doc)?;
+        let _ = self.doc.doc().nodes();
+        let doc = self.doc.edited(self.alloc, edit)?;
+        let later = self.table.edited(self.alloc, self.doc.doc(), edit, &doc)?;
         let medium = medium_of(&doc, self.face.clone()?);
         let _ = doc.nodes();
-        follow_lists(self.alloc, &mut self.cells, &self.table, &table)?;
+        follow_lists(self.alloc, &mut self.cells, &self.table, &later)?;
         self.cells.sound();
-        self.doc = doc;
-        self.table = table;
+        self.doc.become_edited(self.alloc, edit, doc);
+        self.table = later.table;
         self.medium = medium;
         Ok(())
     }
@@ -127,7 +127,7 @@ impl DocumentCells {
     pub fn doc(&self) -> &Doc
         ensures { result.now ≡ self.now.document }
     {
-        &self.doc
+        self.doc.doc()
     }
 
     /// The face that texts are measured in.

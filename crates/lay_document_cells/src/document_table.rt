@@ -1,15 +1,19 @@
 //! The contexts of a document, with its styles.
 
-ghost use Rattle.std.specs.Prelude.{◌≡◌, ◌+◌, IfOk, None, OnOk, length};
+ghost use Rattle.std.specs.Prelude.{◌≡◌, ◌+◌, IfOk, IfSome, None, OnOk, length};
 ghost use Rattle.lay_layout.specs.style.ComputedStyle.{HasStyles};
 ghost use Rattle.lay_layout.specs.doc.Document.{declarations_of, parents_of};
 ghost use Rattle.lay_layout.specs.doc.Edits.{after, fault};
 ghost use Rattle.lay_cell_table.specs.changes.ContextFlags.{AreContextFlags};
+ghost use Rattle.lay_layout.specs.contexts.FormattingContextList.{AreFormattingContextsOf};
+ghost use Rattle.lay_later_contexts.specs.Links.{AreRestyled};
 ghost use Rattle.lay_document_cells.specs.State.{AreStyledLists};
 
 use lay_cell_table::CellTable;
 use lay_cell_table::changes::MeasuredContexts;
-use lay_layout::contexts::contexts_of;
+use lay_later_cells::MeasuredList;
+use lay_later_contexts::{EditedDoc, LaterContexts, contexts_after};
+use lay_layout::contexts::{Contexts, contexts_of};
 use lay_layout::doc::{Doc, Edit};
 use lay_layout::inherit::computed;
 use lay_layout::restyled::restyled;
@@ -53,14 +57,24 @@ impl DocumentTable {
         doc: &Doc,
         edit: &Edit,
         later: &Doc,
-    ) -> Result<DocumentTable, NoMemory>
+    ) -> Result<EditedTable, NoMemory>
         requires are { AreStyledLists doc.now self.now.styles self.now.lists }
         requires accepted { fault doc.now edit.now ≡ None }
         requires later { later.now ≡ after doc.now edit.now }
-        ensures { IfOk result (λ t. AreStyledLists later.now t.styles t.lists) }
+        ensures lists { IfOk result (λ t. AreStyledLists later.now t.table.styles t.table.lists) }
+        ensures made { IfOk result (λ t. IfSome t.made (λ v. AreRestyled self.now.lists.contexts t.table.lists.contexts v.items)) }
     {
         let styles = restyled(alloc, doc, &self.styles, edit, later)?;
-        DocumentTable::of_styles(alloc, later, styles)
+        let of = EditedDoc {
+            doc,
+            was: &self.styles,
+            edit,
+            later,
+            styles: &styles,
+        };
+        let LaterContexts { contexts, made } = contexts_after(alloc, &of, self.cells.contexts())?;
+        let table = DocumentTable::of_contexts(alloc, styles, contexts)?;
+        Ok(EditedTable { table, made })
     }
 
     /// That of a document with these computed styles.
@@ -69,6 +83,19 @@ impl DocumentTable {
         ensures { IfOk result (λ t. AreStyledLists doc.now t.styles t.lists) }
     {
         let contexts = contexts_of(alloc, doc, &styles)?;
+        DocumentTable::of_contexts(alloc, styles, contexts)
+    }
+
+    /// That of these styles and contexts.
+    fn of_contexts(
+        alloc: Global,
+        styles: Computed,
+        contexts: Contexts,
+    ) -> Result<DocumentTable, NoMemory>
+        ensures styles { IfOk result (λ t. t.styles ≡ styles) }
+        ensures contexts { IfOk result (λ t. t.lists.contexts ≡ contexts) }
+        ensures formatting { IfOk result (λ t. AreFormattingContextsOf t.lists.contexts t.lists.formatting_contexts) }
+    {
         let cells = CellTable::new(alloc, contexts)?;
         let measured = measured_contexts(alloc, &cells)?;
         Ok(DocumentTable {
@@ -96,6 +123,26 @@ impl DocumentTable {
             &self.measured,
         )
     }
+
+    /// The same where all but the styles of their boxes stay.
+    pub(crate) fn measured_list(&self) -> MeasuredList<'_>
+        ensures contexts { result.contexts.now ≡ self.now.lists.contexts }
+        ensures formatting { result.formatting_contexts.now ≡ self.now.lists.formatting_contexts }
+        ensures flags { AreContextFlags result.contexts.now result.formatting_contexts.now result.measured.now }
+    {
+        MeasuredList {
+            contexts: self.cells.contexts(),
+            formatting_contexts: self.cells.formatting_contexts(),
+            measured: &self.measured,
+        }
+    }
+}
+
+/// What a table becomes by an edit. Where all but the styles of boxes stays, it is known of which contexts the boxes were made anew.
+#[derive(Drop)]
+pub(crate) struct EditedTable {
+    pub(crate) table: DocumentTable,
+    pub(crate) made: Option<Vec<bool>>,
 }
 
 /// For each context whether its preferred widths count.

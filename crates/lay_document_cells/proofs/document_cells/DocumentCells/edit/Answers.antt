@@ -1,35 +1,40 @@
 use Rattle.std.proofs.Common.{◌≡◌, ◌∙◌, None, ap, subst, sym}
 use Rattle.lay_layout.specs.context.Solves.{medium_of}
+use Rattle.lay_layout.specs.doc.Document.{Document, IsDocument}
 use Rattle.lay_layout.specs.doc.Edits.{fault}
-use Rattle.lay_document_cells.specs.State.{State}
+use Rattle.lay_document_cells.specs.State.{AreStyledLists, State}
 use Rattle.lay_document_cells.proofs.Answered.{err_any, ok_none, own_nodes}
 use Rattle.lay_document_cells.proofs.KeptSteps.{state_of}
-use Rattle.lay_document_cells.proofs.EditSteps.{applied, edit_kept, edited_to}
+use Rattle.lay_document_cells.proofs.EditSteps.{edit_kept, edited_to}
 use Rattle.lay_document_cells.proofs.document_cells.DocumentCells.edit.Goals as goal
 
 pub follow_lists-requires-clause-apart : goal.follow_lists-requires-clause-apart
 follow_lists-requires-clause-apart c =
-    own_nodes c.contexts_are_of_own_nodes.ensures c.self.inside.doc c.self.inside.table c.nodes.ensures.valid c.self.invariant.lists_are
+    own_nodes c.contexts_are_of_own_nodes.ensures c.self.inside.doc c.self.inside.table (subst IsDocument c.doc.ensures c.nodes.ensures.valid) c.self.invariant.lists_are
 
 pub follow_lists-requires-clause-later_apart : goal.follow_lists-requires-clause-later_apart
 follow_lists-requires-clause-later_apart c =
-    own_nodes c.contexts_are_of_own_nodes.ensures c.apply.new.self c.in_ok-table.table c.nodes-2.ensures.valid c.in_ok-table.ensures
+    own_nodes c.contexts_are_of_own_nodes.ensures c.in_ok-doc.doc c.in_ok-later.later.table c.nodes-2.ensures.valid c.in_ok-later.ensures.lists
 
 pub invariant_of-self-2 : goal.invariant_of-self-2
 invariant_of-self-2 c =
+    let lists = subst (λ (x : Document). AreStyledLists x c.in_ok-later.later.table.styles c.in_ok-later.later.table.lists) (sym c.become_edited.ensures) c.in_ok-later.ensures.lists in
     edit_kept c.self.inside.doc c.self.inside.face.value c.self.inside.cells c.self.inside.laid c.self.inside.medium c.self.inside.table c.self.invariant
-    c.args.edit.now c.apply.new.self (applied c.self.inside.doc c.in_ok-doc.doc c.apply.new.self c.args.edit.now c.in_ok-doc.ensures c.in_ok-apply.ensures.ok)
-    c.in_ok-table.table c.in_ok-table.ensures c.follow_lists.new.cells c.in_ok-follow_lists.ensures.ok
+    c.args.edit.now c.become_edited.new.self (c.become_edited.ensures ∙ c.in_ok-doc.ensures.edited)
+    c.in_ok-later.later.table lists c.follow_lists.new.cells c.in_ok-follow_lists.ensures.ok
     c.edits_keep_cells.ensures c.touched_contexts_are_listed.ensures c.puts_node.ensures
     (subst (λ (x : State). fault x.document c.args.edit.now ≡ None) (sym c.self.view_is) c.requires.no_fault) c.sound.ensures
-    c.medium_of-medium.result (c.medium_of-medium.ensures ∙ ap (medium_of c.apply.new.self) c.in_ok-clone.ensures.cases)
+    c.medium_of-medium.result
+    (c.medium_of-medium.ensures
+    ∙ (ap (medium_of c.in_ok-doc.doc) c.in_ok-clone.ensures.cases ∙ ap (λ (x : Document). medium_of x c.self.inside.face.value) (sym c.become_edited.ensures)))
     c.in_ok-follow_lists.ensures.counted c.in_ok-follow_lists.ensures.drawn
 
 pub returns-clause-ok : goal.returns-clause-ok
 returns-clause-ok c =
+    let lists = subst (λ (x : Document). AreStyledLists x c.in_ok-later.later.table.styles c.in_ok-later.later.table.lists) (sym c.become_edited.ensures) c.in_ok-later.ensures.lists in
     edited_to c.self.inside.doc c.self.inside.face.value c.self.inside.cells c.self.inside.laid c.self.inside.medium c.self.inside.table c.self.invariant
-    c.args.edit.now c.apply.new.self (applied c.self.inside.doc c.in_ok-doc.doc c.apply.new.self c.args.edit.now c.in_ok-doc.ensures c.in_ok-apply.ensures.ok)
-    c.in_ok-table.table c.in_ok-table.ensures c.follow_lists.new.cells c.in_ok-follow_lists.ensures.ok
+    c.args.edit.now c.become_edited.new.self (c.become_edited.ensures ∙ c.in_ok-doc.ensures.edited)
+    c.in_ok-later.later.table lists c.follow_lists.new.cells c.in_ok-follow_lists.ensures.ok
     c.args.self.now c.self.view_is
 
 pub returns-in_err-follow_lists-clause-ok : goal.returns-in_err-follow_lists-clause-ok
@@ -38,4 +43,10 @@ returns-in_err-follow_lists-clause-ok c = ok_none c.from_residual-in_err-follow_
 pub returns-in_err-follow_lists-clause-err : goal.returns-in_err-follow_lists-clause-err
 returns-in_err-follow_lists-clause-err c =
     err_any c.from_residual-in_err-follow_lists.result _
-    (ap (λ cells. state_of c.self.inside.doc c.self.inside.face.value cells c.self.inside.laid) c.in_err-follow_lists.ensures.err ∙ c.self.view_is)
+    (ap (λ (d : Document). state_of d c.self.inside.face.value c.follow_lists.new.cells c.self.inside.laid) c.edited.ensures.same
+    ∙ (ap (λ cells. state_of c.self.inside.doc c.self.inside.face.value cells c.self.inside.laid) c.in_err-follow_lists.ensures.err ∙ c.self.view_is))
+
+pub become_edited-requires-clause-no_fault : goal.become_edited-requires-clause-no_fault
+become_edited-requires-clause-no_fault c =
+    subst (λ (d : Document). fault d c.args.edit.now ≡ None) (sym c.edited.ensures.same)
+    (subst (λ (x : State). fault x.document c.args.edit.now ≡ None) (sym c.self.view_is) c.requires.no_fault)

@@ -1,5 +1,5 @@
 use Rattle.std.proofs.Common.{arith, []}
-use Rattle.lay_document_cells.proofs.following.follow_lists.Goals as goal
+use Rattle.lay_document_cells.proofs.following.follow_shape.Goals as goal
 
 pub returns-clause-counted : goal.returns-clause-counted
 returns-clause-counted c =

@@ -1,0 +1,6 @@
+pub mod SameLinks
+pub mod SameWays
+pub mod SameShape
+pub mod Untouched
+pub mod RisingNumbers
+pub mod TouchedSteps

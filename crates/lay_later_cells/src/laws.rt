@@ -1,0 +1,8 @@
+//! The law. Its function does nothing.
+
+ghost use Rattle.lay_later_cells.specs.ShapesStay.{ShapesStay};
+
+/// Contexts that keep all but the styles of their boxes keep the shape of their cells.
+pub fn shapes_stay()
+    ensures { ShapesStay }
+{}
