@@ -125,8 +125,8 @@ class Element:
             self.before = parent.last
             if not self.is_text:
                 parent.last = self
-        self.tag, self.label = fields.get('tag', ''), fields.get('label', '')
-        self.classes = set(fields.get('classes', []))
+        called = {} if self.is_text else fields
+        self.tag, self.label, self.classes = called.get('tag', ''), called.get('label', ''), set(called.get('classes', []))
 
     def fits(self, compound):
         tag, classes, labels = compound

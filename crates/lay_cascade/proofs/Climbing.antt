@@ -1,22 +1,23 @@
 -- The nodes that a list's nodes stand to, found one after the other.
-use Rattle.std.proofs.Common.{◌≡◌, ◌≢◌, ◌∙◌, ℕ, zero, suc, ◌+◌, ◌<◌, ◌≤◌, ◌⊎◌, inl, inr, List, [], ◌∷◌, ◌++◌, Bool, true, false, length, refl, sym, ap, subst, arith}
+use Rattle.std.proofs.Common.{◌≡◌, ◌≢◌, ◌∙◌, ℕ, zero, suc, ◌+◌, ◌<◌, ◌≤◌, ◌⊎◌, inl, inr, List, [], ◌∷◌, ◌++◌, Bool, true, false, length, take, refl, sym, ap, subst, arith}
 use Rattle.std.specs.Prelude.{slice_index, slice_index_or, Option, Some, None, ◌↔◌, if◌then◌else◌}
 use Rattle.std.specs.List.{Contains}
 use Rattle.std.proofs.lemmas.Grind.{common_steps}
 use Rattle.std.proofs.lemmas.Bool.{false≢true, cases_lt}
-use Rattle.std.proofs.lemmas.List.{get_or_default, get_or_append_left, get_or_push, length-append}
+use Rattle.std.proofs.lemmas.List.{get_or_default, get_or_append_left, get_or_push, length-append, get_or-take, length-take-le, take_more}
 use Rattle.std.proofs.lemmas.List.Elements.{Contains-push, Contains-push_cases, Contains-append_left}
 use Rattle.lay_doc.specs.declared.node.Node.{Node}
 use Rattle.lay_doc.specs.Document.{parents_of}
-use Rattle.lay_doc.specs.Tree.{IsUnder, itself, child}
+use Rattle.lay_doc.specs.Tree.{IsTree, IsUnder, itself, child}
 use Rattle.lay_names.specs.declared.names.Names.{Names}
 use Rattle.lay_sheet.specs.declared.selector.Joint.{Joint}
-use Rattle.lay_sheet.specs.declared.selector.Joint.TheVariants.{Descendant, Child, Adjacent}
+use Rattle.lay_sheet.specs.declared.selector.Joint.TheVariants.{Same, Descendant, Child, Adjacent}
 use Rattle.lay_sheet.specs.declared.selector.Simple.{Simple}
 use Rattle.lay_cascade.specs.NodeNames.{fits, fits_at}
 use Rattle.lay_cascade.specs.Siblings.{IsAdjacent, AreAdjacent}
 use Rattle.lay_cascade.specs.Matching.{Stands}
 use Rattle.lay_cascade.specs.Rising.{AreWithin, Covers, IsRising, AreBefore, with_fitting}
+use Rattle.lay_cascade.proofs.Adjacent.{parent_within}
 use Rattle.lay_cascade.proofs.Standing.{under_parent, further, parent_above, above_under, cover_before, one_adjacent}
 
 pub fits_within : (names : List Names) (k : ℕ) (simple : Simple) → fits_at names k simple ≡ true → k < length names
@@ -159,3 +160,23 @@ one_before nodes adjacent k m found are here is = (λ e. are.some k m here (sym 
     back : (o : Option ℕ) → o ≡ slice_index_or adjacent k None → IsAdjacent nodes m k → o ≡ Some m
     back None q s = absurd (are.none k m here (sym q) s)
     back (Some n) q s = ap Some (one_adjacent nodes n m k (are.some k n here (sym q)) s)
+
+-- what stands as such a joint says to a node is a node
+pub stands_within : (nodes : List Node) (joint : Joint) (k m : ℕ) → IsTree (parents_of nodes) → joint ≢ Descendant → k < length nodes → Stands nodes joint m k → m < length nodes
+stands_within nodes Same k m tree one here s = subst (λ z. z < length nodes) (sym s) here
+stands_within nodes Descendant k m tree one here s = absurd (one refl)
+stands_within nodes Child k m tree one here s = subst (λ z. z < length nodes) s.1 (parent_within nodes k tree here s.0)
+stands_within nodes Adjacent k m tree one here s = let b = s.before in omega (arith, b, here)
+
+-- those before one in a rising list cover it
+pub rising_covers : (nodes : List Node) (places : List ℕ) (k x : ℕ) → IsRising nodes places → k < length places → Contains (take k places) x → Covers nodes x (slice_index places k)
+rising_covers nodes places k x rising here w =
+    let n = length-take-le k places (omega (arith, here)) in
+    let b = w.1 in
+    let l : w.0 < k = omega (arith, b, n) in
+    let e : slice_index places w.0 ≡ x = get_or_default places w.0 0 x (omega (arith, l, here)) ∙ sym (get_or-take k places w.0 x l) ∙ w.2 in
+    subst (λ z. Covers nodes z (slice_index places k)) e (rising w.0 k l here)
+
+-- the next node of a list
+pub seen_more : (places : List ℕ) (k p : ℕ) → k < length places → p ≡ slice_index places k → take (k + 1) places ≡ take k places ++ p ∷ []
+seen_more places k p here is = take_more places k 0 here ∙ ap (λ z. take k places ++ z ∷ []) (sym is)

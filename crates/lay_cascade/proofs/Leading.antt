@@ -1,8 +1,8 @@
 -- A walk to the root, and the steps of a selector from the last one on.
 use Rattle.std.proofs.Common.{◌≡◌, ◌≢◌, ◌∙◌, ℕ, zero, suc, ◌+◌, ◌<◌, ◌≤◌, ◌⊎◌, inl, inr, List, [], ◌∷◌, ◌++◌, Bool, true, false, length, take, reverse, refl, sym, ap, subst, arith}
-use Rattle.std.specs.Prelude.{slice_index, slice_index_or, Option, Some, None, if◌then◌else◌}
+use Rattle.std.specs.Prelude.{slice_index, slice_index_or, Option, Some, None, if◌then◌else◌, not, ◌==◌}
 use Rattle.std.specs.List.{Contains}
-use Rattle.std.proofs.lemmas.Bool.{false≢true, cases_lt}
+use Rattle.std.proofs.lemmas.Bool.{false≢true, cases_lt, ne_eqb}
 use Rattle.std.proofs.lemmas.List.{length-reverse, reverse-append, take_more, take_all, get_or_default}
 use Rattle.std.proofs.lemmas.List.Elements.{Contains-push, Contains-push_cases, Contains-append_left}
 use Rattle.lay_doc.specs.declared.node.Node.{Node}
@@ -209,7 +209,7 @@ module _ (nodes : List Node) (names : List Names) where
         of_fit true e = subst (IsLed nodes names steps place last) (sym (found_is true e)) (record {
           within = λ m w. subst (λ z. z < length nodes) (alone_in place m w) here;
           rising = alone;
-          fitting = λ m other w q. subst (λ z. fits_at names m z.simple ≡ true) (same other q) (subst (λ z. fits_at names z step.simple ≡ true) (alone_in place m w) e);
+          fitting = λ m other w q. subst (λ (z : Step). fits_at names m z.simple ≡ true) (same other q) (subst (λ z. fits_at names z step.simple ≡ true) (alone_in place m w) e);
           sound = λ m w v. subst (Matches nodes names (reverse steps)) (sym (alone_in place m w)) (subst (λ z. Matches nodes names z m) all v);
           complete = λ v. (place, Contains-push [] place, subst (λ z. Matches nodes names z place) (sym all) v);
         })
@@ -227,7 +227,7 @@ module _ (nodes : List Node) (names : List Names) where
     led_more rest i step before places found e h is was_before was more = record {
       within = more.within;
       rising = more.rising;
-      fitting = λ m other w q. subst (λ z. fits_at names m z.simple ≡ true) (same other q) (more.fitting m w);
+      fitting = λ m other w q. subst (λ (z : Step). fits_at names m z.simple ≡ true) (same other q) (more.fitting m w);
       sound = λ m w v. sound m v (more.sound m w);
       complete = λ v. complete (was.complete v);
     }
@@ -265,3 +265,16 @@ module _ (nodes : List Node) (names : List Names) where
         let m = slice_index places 0 in
         let w = element_at places 0 more in
         was.sound m w (subst (λ z. Matches nodes names z m) (sym (reversed_more steps 0 step some is)) (first step m (was.fitting m step w is)))
+
+pub first_step : (steps : List Step) → 0 < length steps → (step : Step) × (step ≡ slice_index_or steps 0 step)
+first_step [] some = absurd (omega (arith, some))
+first_step (s ∷ ss) some = (s, refl)
+
+-- whether there are none
+pub some_left : (b : Bool) (n : ℕ) → b ≡ (n == 0) → not b ≡ true → 0 < n
+some_left b zero is e = absurd (false≢true (ap not (sym is) ∙ e))
+some_left b (suc n) is e = omega arith
+
+pub none_left : (b : Bool) (n : ℕ) → b ≡ (n == 0) → not b ≡ false → n ≡ 0
+none_left b zero is e = refl
+none_left b (suc n) is e = let f = ne_eqb (suc n) 0 (λ q. absurd (omega (arith, q))) in absurd (false≢true (sym e ∙ ap not (is ∙ f)))

@@ -4,12 +4,16 @@
 //! Rows are lines `NAME: TEXT -> ANSWER`; lines that begin with `#` say what TEXT and ANSWER are.
 #![tactic(auto)]
 
+ghost use Rattle.std.specs.Prelude.{◌<◌, length};
+ghost use Rattle.lay_cascade.specs.Rising.{IsNamed};
+
 mod tree;
 
 use crate::tree::tree_of;
 use anyhow::{Context, Result, bail};
-use lay_cascade::{Names, Specificity, matches, specificity_of};
+use lay_cascade::{Named, Specificity, adjacent_of, is_matched, specificity_of};
 use lay_doc::Doc;
+use lay_names::Names;
 use lay_sheet::{Selector, read_sheet};
 use std::alloc::Global;
 use std::rt::{Env, Files};
@@ -71,24 +75,54 @@ fn push_matches(
     selector: &Selector,
     answer: &mut String,
 ) -> Result<()> {
-    if names.len() != doc.len() {
+    let nodes = doc.nodes();
+    if names.len() != nodes.len() {
         bail!("not one record of names a node");
     }
-    let Ok(column) = matches(alloc, doc, names, selector) else {
+    let Ok(adjacent) = adjacent_of(alloc, nodes) else {
         bail!("no memory");
     };
-    for (place, matched) in column.iter().enumerate() {
-        if *matched {
-            let id = place + 1;
+    let named = Named {
+        nodes,
+        names,
+        adjacent: adjacent.as_slice(),
+    };
+    for place in 0..nodes.len() {
+        push_match(alloc, named, place, selector, answer)?;
+    }
+    push_specificity(alloc, specificity_of(selector), answer)
+}
+
+/// Adds the id of the node at a place, where a selector matches it.
+fn push_match(
+    alloc: Global,
+    named: Named<'_>,
+    place: usize,
+    selector: &Selector,
+    answer: &mut String,
+) -> Result<()>
+    requires named { IsNamed named.nodes.now named.names.now named.adjacent.now }
+    requires place { place < length named.nodes.now }
+{
+    match is_matched(alloc, named, place, selector.as_slice()) {
+        Ok(true) => {
+            let id = place.saturating_add(1);
             let text = format!(in alloc; "{id} ")?;
             answer.push_str(text.as_str())?;
         }
+        Ok(false) => {}
+        Err(_) => bail!("no memory"),
     }
+    Ok(())
+}
+
+/// Adds a specificity.
+fn push_specificity(alloc: Global, specificity: Specificity, answer: &mut String) -> Result<()> {
     let Specificity {
         labels,
         classes,
         tags,
-    } = specificity_of(selector);
+    } = specificity;
     let text = format!(in alloc; "[{labels} {classes} {tags}] ")?;
     answer.push_str(text.as_str())?;
     Ok(())

@@ -2,8 +2,8 @@
 //! ids are 1, 2 and so on. Behind the tag stand `.CLASS` and `#LABEL`, and `-` is a text.
 
 use anyhow::{Result, bail};
-use lay_cascade::{Names, TextList};
 use lay_doc::{Doc, NewFault, NewNode, NodeId};
+use lay_names::{Names, TextList};
 use lay_style::Decls;
 use lay_units::Text;
 use std::alloc::Global;

@@ -8,10 +8,10 @@ use Rattle.lay_json.specs.Reading.{IsJson, IsNoJson, too_long, bad_json, json}
 use Rattle.lay_json.specs.Laws.{OneReading}
 
 pub some-none : (o : Option Data) (value : Data) → o ≡ Some value → o ≡ None → ⊥
-pub some-none o value some none = grind (arith, common_steps, some, none)
+some-none o value some none = grind (arith, common_steps, some, none)
 
 pub one-some : (o : Option Data) (v w : Data) → o ≡ Some v → o ≡ Some w → v ≡ w
-pub one-some o v w is_v is_w = grind (arith, common_steps, is_v, is_w)
+one-some o v w is_v is_w = grind (arith, common_steps, is_v, is_w)
 
 pub no_json : (bytes : List ℕ) (value : Data) → IsJson bytes value → IsNoJson bytes → ⊥
 no_json bytes value is none = some-none (read bytes) value is.1 (none is.0)

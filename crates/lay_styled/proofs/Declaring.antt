@@ -178,9 +178,10 @@ module _ (rules : List RuleValue) (nodes : List Node) (names : List Names) (k : 
       at_place p ws ds (number_of p) (slice_index_or ws (number_of p) None) (omega (arith, h, n)) refl (λ c e. numbered_own p c e) (λ j c e ne. numbered_other p j c e ne)
 
 pub styled_declares_lem : StyledDeclares
-styled_declares_lem doc rules names new styled k node is p =
-    (λ value e. best rules doc.nodes names k p f.0 f.1 (slice_index_or (slice_index_or styled.winners k []) (number_of p) None) (declared_value p f.0.decls) value refl (are.each p) (sym says ∙ e),
-     λ e. nothing rules doc.nodes names k p f.0 f.1 (slice_index_or (slice_index_or styled.winners k []) (number_of p) None) (declared_value p f.0.decls) refl (are.each p) (sym says ∙ e))
+styled_declares_lem doc rules names new styled k node is p = (
+  λ value e. best rules doc.nodes names k p f.0 f.1 (slice_index_or (slice_index_or styled.winners k []) (number_of p) None) (declared_value p f.0.decls) value refl (are.each p) (sym says ∙ e),
+  λ e. nothing rules doc.nodes names k p f.0 f.1 (slice_index_or (slice_index_or styled.winners k []) (number_of p) None) (declared_value p f.0.decls) refl (are.each p) (sym says ∙ e),
+)
   where
     was : slice_get (restyled styled.winners doc.nodes) k ≡ Some node
     was = subst (λ (z : Document). slice_get z.nodes k ≡ Some node) styled.is is

@@ -9,6 +9,7 @@ use Rattle.std.proofs.lemmas.List.{get_or-set_same, get_or-set_other, length-set
 use Rattle.std.proofs.lemmas.List.Elements.{Contains-push, Contains-append_left, Contains-append_right}
 use Rattle.std.proofs.lemmas.Option.{slice_get_within, get_or_from_slice_get}
 use Rattle.lay_style.specs.declared.property.Property.{Property}
+use Rattle.lay_style.specs.PropertyNumbers.{number_of}
 use Rattle.lay_doc.specs.declared.node.Node.{Node}
 use Rattle.lay_names.specs.declared.names.Names.{Names}
 use Rattle.lay_sheet.specs.declared.selector.Simple.{Simple}
@@ -22,8 +23,8 @@ use Rattle.lay_cascade.proofs.Leading.{head_fits}
 use Rattle.lay_styled.specs.declared.entry.Entry.{Entry}
 use Rattle.lay_styled.specs.declared.candidates.Candidate.{Candidate}
 use Rattle.lay_styled.specs.Index.{name_in, last_name, list_of, list_from, by_name_with, rest_with, listed, IsIndexedTo, IsIndexed, of_classes, looked_up}
-use Rattle.lay_styled.specs.Cascade.{IsBy, AreWinners}
-use Rattle.lay_styled.specs.Seen.{AreWinnersOf}
+use Rattle.lay_styled.specs.Cascade.{IsBy, IsInSheet, AreWinners}
+use Rattle.lay_styled.specs.Seen.{IsBySome, AreWinnersOf}
 use Rattle.lay_styled.proofs.Taking.{greatest_same}
 
 -- each name has a list
@@ -43,17 +44,14 @@ module _ (by_name : List (List Entry)) (rest : List Entry) (e : Entry) (count : 
   added_there (Some u) None f below w = w
   added_there (Some u) (Some v) f below w = of_cases (cases_eq (list_of v) (list_of u))
     where
-      abbrev longer : List Entry
-      longer = slice_index_or by_name (list_of u) [] ++ e ∷ []
-
       within : list_of u < length by_name
       within = let h = below u refl in omega (arith, h, count)
 
-      of_cases : (list_of v ≡ list_of u) ⊎ (list_of v ≡ list_of u → ⊥) → Contains (slice_index_or (set by_name (list_of u) longer) (list_of v) []) f
+      of_cases : (list_of v ≡ list_of u) ⊎ (list_of v ≡ list_of u → ⊥) → Contains (slice_index_or (set by_name (list_of u) (slice_index_or by_name (list_of u) [] ++ e ∷ [])) (list_of v) []) f
       of_cases (inl q) =
-          subst (λ z. Contains z f) (sym (ap (λ z. slice_index_or (set by_name (list_of u) longer) z []) q ∙ get_or-set_same by_name (list_of u) longer [] within))
+          subst (λ z. Contains z f) (sym (ap (λ z. slice_index_or (set by_name (list_of u) (slice_index_or by_name (list_of u) [] ++ e ∷ [])) z []) q ∙ get_or-set_same by_name (list_of u) (slice_index_or by_name (list_of u) [] ++ e ∷ []) [] within))
           (Contains-append_left (slice_index_or by_name (list_of u) []) (e ∷ []) f (subst (λ z. Contains (slice_index_or by_name z []) f) q w))
-      of_cases (inr ne) = subst (λ z. Contains z f) (sym (get_or-set_other by_name (list_of u) (list_of v) longer [] ne)) w
+      of_cases (inr ne) = subst (λ z. Contains z f) (sym (get_or-set_other by_name (list_of u) (list_of v) (slice_index_or by_name (list_of u) [] ++ e ∷ []) [] ne)) w
 
   length_added : (name : Option (List ℕ)) → length (by_name_with name e by_name) ≡ 4096
   length_added None = count
@@ -64,6 +62,15 @@ same-rule a b q = cc
 
 same-steps : (a b : List Step) → Some a ≡ Some b → a ≡ b
 same-steps a b q = cc
+
+abbrev of_two : ℕ → ℕ → Entry
+of_two r s = record { rule = r; selector = s }
+
+same_entry : (a b : Entry) → a.rule ≡ b.rule → a.selector ≡ b.selector → a ≡ b
+same_entry a b e f = step
+  where
+    step : of_two a.rule a.selector ≡ of_two b.rule b.selector
+    step = rw (e, f) refl
 
 pub indexed_more : (rules : List RuleValue) (by_name : List (List Entry)) (rest : List Entry) (r s : ℕ) (e : Entry) (rule : RuleValue) (selector : List Step) → ((w : List ℕ) → list_of w < 4096) → e.rule ≡ r → e.selector ≡ s →
     slice_get rules r ≡ Some rule → slice_get rule.selectors s ≡ Some selector → IsIndexedTo rules by_name rest r s →
@@ -82,7 +89,7 @@ indexed_more rules by_name rest r s e rule selector below e_rule e_selector is_r
     newer f ru st g h a b =
         let one_rule = same-rule ru rule (sym g ∙ ap (slice_get rules) a ∙ is_rule) in
         let one = same-steps st selector (sym h ∙ ap (λ (z : RuleValue). slice_get z.selectors f.selector) one_rule ∙ ap (slice_get rule.selectors) b ∙ is_selector) in
-        let same : e ≡ f = rw (e_rule ∙ sym a, e_selector ∙ sym b) refl in
+        let same : e ≡ f = same_entry e f (e_rule ∙ sym a) (e_selector ∙ sym b) in
         subst (λ z. Contains (listed (by_name_with (last_name selector) e by_name) (rest_with (last_name selector) e rest) (last_name z)) f) (sym one)
         (subst (λ z. Contains (listed (by_name_with (last_name selector) e by_name) (rest_with (last_name selector) e rest) (last_name selector)) z) same
         (added_here by_name rest e was.count (last_name selector) (λ w q. below w)))
@@ -134,17 +141,22 @@ module _ (nodes : List Node) (names : List Names) (k : ℕ) where
   nowhere w = elim w [ ]
 
   -- a node that a selector matches fits its last step
+  fits_with : (selector : List Step) (n : ℕ) (step : Step) → length selector ≡ n + 1 → slice_get selector n ≡ Some step → IsMatched nodes names selector k → fits_at names k step.simple ≡ true
+  fits_with selector n step count is w =
+      let read = get_or_from_slice_get selector n step step is in
+      let inside = slice_get_within selector n step is in
+      let more = take_more selector n step inside ∙ ap (λ z. take n selector ++ z ∷ []) read in
+      let few : length selector ≤ n + 1 = omega (arith, count) in
+      let all = take_all (n + 1) selector few in
+      let head = ap reverse (sym all ∙ more) ∙ reverse-append (take n selector) (step ∷ []) in
+      head_fits nodes names step (reverse selector) (reverse (take n selector)) k head w
+
   fits_the_last : (selector : List Step) → IsMatched nodes names selector k → (step : Step) × (slice_get selector (length selector - 1) ≡ Some step) × (fits_at names k step.simple ≡ true)
   fits_the_last [] w = absurd (nowhere w)
   fits_the_last (s ∷ ss) w =
       let l = last_is (s ∷ ss) (omega arith) in
-      let n = length (s ∷ ss) - 1 in
-      let read = get_or_from_slice_get (s ∷ ss) n l.0 l.0 l.1 in
-      let inside = slice_get_within (s ∷ ss) n l.0 l.1 in
-      let more = take_more (s ∷ ss) n l.0 inside ∙ ap (λ z. take n (s ∷ ss) ++ z ∷ []) read in
-      let all : take (n + 1) (s ∷ ss) ≡ s ∷ ss = take_all (n + 1) (s ∷ ss) (omega arith) in
-      let head = ap reverse (sym all ∙ more) ∙ reverse-append (take n (s ∷ ss)) (l.0 ∷ []) in
-      (l.0, l.1, head_fits nodes names l.0 (reverse (s ∷ ss)) (reverse (take n (s ∷ ss))) k head w)
+      let e : length (s ∷ ss) ≡ (length (s ∷ ss) - 1) + 1 = omega arith in
+      (l.0, l.1, fits_with (s ∷ ss) (length (s ∷ ss) - 1) l.0 e l.1 w)
 
 module _ (by_name : List (List Entry)) (rest : List Entry) (e : Entry) where
   in_classes : (classes : List (List ℕ)) (name : List ℕ) → list_any (λ class. bytes_eq class name) classes ≡ true → Contains (listed by_name rest (Some name)) e → Contains (of_classes by_name rest classes) e
@@ -177,7 +189,7 @@ pub all_looked_up : (rules : List RuleValue) (nodes : List Node) (names : List N
     k < length names → n ≡ slice_index_or names k n → AreWinnersOf rules nodes names k (looked_up by_name rest n) winners → AreWinners rules nodes names k winners
 all_looked_up rules nodes names k n by_name rest winners indexed here is was = record {
   count = was.count;
-  each = λ p. greatest_same _ _ _ (λ c w. (w.0, w.2)) (λ c w. (w.0, seen p c w.0 w.1, w.1)) (was.each p);
+  each = λ p. greatest_same (IsBySome rules nodes names k (looked_up by_name rest n) p) (IsInSheet rules nodes names k p) (slice_index_or winners (number_of p) None) (λ c w. (w.0, w.2)) (λ c w. (w.0, seen p c w.0 w.1, w.1)) (was.each p);
 }
   where
     seen : (p : Property) (c : Candidate) (e : Entry) → IsBy rules nodes names k p e c → Contains (looked_up by_name rest n) e

@@ -30,12 +30,12 @@ module _ (Holds : Candidate → Type 0) (one : (c d : Candidate) → Holds c →
       let q = b.some d refl in
       ap Some (one c d p q (one_key (key_of c.weight) (key_of d.weight) refl (a.greatest c d refl q) (b.greatest d c refl p)))
 
+abbrev of_three : ℕ → ℕ → ℕ → Specificity
+of_three l c t = record { labels = l; classes = c; tags = t }
+
 same_specificity : (a b : Specificity) → a.labels ≡ b.labels → a.classes ≡ b.classes → a.tags ≡ b.tags → a ≡ b
 same_specificity a b l c t = step
   where
-    abbrev of_three : ℕ → ℕ → ℕ → Specificity
-    of_three l c t = record { labels = l; classes = c; tags = t }
-
     step : of_three a.labels a.classes a.tags ≡ of_three b.labels b.classes b.tags
     step = rw (l, c, t) refl
 

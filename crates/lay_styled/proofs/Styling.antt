@@ -1,5 +1,5 @@
 -- Nodes that take declarations one after the other.
-use Rattle.std.proofs.Common.{◌≡◌, ◌∙◌, ℕ, zero, suc, ◌+◌, ◌<◌, ◌≤◌, ◌⊎◌, inl, inr, List, [], ◌∷◌, ◌++◌, Bool, true, false, length, replicate, refl, sym, ap, subst, arith, length-append}
+use Rattle.std.proofs.Common.{◌≡◌, ◌∙◌, ℕ, zero, suc, ◌+◌, ◌<◌, ◌≤◌, ◌⊎◌, inl, inr, List, [], ◌∷◌, ◌++◌, Bool, true, false, length, drop, replicate, refl, sym, ap, subst, arith, length-append}
 use Rattle.std.specs.Prelude.{slice_index, slice_index_or, Option, Some, None, is_some, is_none, option_map, not, ◌||◌, if◌then◌else◌}
 use Rattle.std.proofs.lemmas.Bool.{false≢true, cases_lt}
 use Rattle.std.proofs.lemmas.List.{get_or_append_left, get_or_push, length-replicate, get_or-replicate}
@@ -78,32 +78,61 @@ takes_none c (n ∷ ns) zero h t =
 takes_none c (n ∷ ns) (suc k) h t = ap (λ (r : List Node). n ∷ r) (takes_none c ns k (omega (arith, h)) t)
 
 -- one after the other
-pub takes_more : (c : Candidate) (winners : List (Option Candidate)) (k : ℕ) (nodes : List Node) → changed_at k (takes winners) (changed_at k (takes_one c) nodes) ≡ changed_at k (takes (Some c ∷ winners)) nodes
-takes_more c winners k [] = refl
-takes_more c winners zero (n ∷ ns) = refl
-takes_more c winners (suc k) (n ∷ ns) = ap (λ (r : List Node). n ∷ r) (takes_more c winners k ns)
+settled_more : (w : Option Candidate) (ws : List (Option Candidate)) (ds : List Declaration) → settled ws (settled (w ∷ []) ds) ≡ settled (w ∷ ws) ds
+settled_more None ws ds = refl
+settled_more (Some c) ws ds = refl
 
-pub takes_pass : (winners : List (Option Candidate)) (k : ℕ) (nodes : List Node) → changed_at k (takes winners) nodes ≡ changed_at k (takes (None ∷ winners)) nodes
-takes_pass winners k [] = refl
-takes_pass winners zero (n ∷ ns) = refl
-takes_pass winners (suc k) (n ∷ ns) = ap (λ (r : List Node). n ∷ r) (takes_pass winners k ns)
+takes_more : (w : Option Candidate) (ws : List (Option Candidate)) (k : ℕ) (nodes : List Node) → changed_at k (takes ws) (changed_at k (takes (w ∷ [])) nodes) ≡ changed_at k (takes (w ∷ ws)) nodes
+takes_more w ws k [] = refl
+takes_more w ws zero (n ∷ ns) = ap (λ ds. record n { decls = ds } ∷ ns) (settled_more w ws n.decls)
+takes_more w ws (suc k) (n ∷ ns) = ap (λ (r : List Node). n ∷ r) (takes_more w ws k ns)
+
+drop_one : (xs : List (Option Candidate)) (i : ℕ) (x : Option Candidate) → i < length xs → x ≡ slice_index_or xs i x → drop i xs ≡ x ∷ drop (i + 1) xs
+drop_one [] i x h is = absurd (omega (arith, h))
+drop_one (y ∷ ys) zero x h is = ap (λ z. z ∷ ys) (sym is)
+drop_one (y ∷ ys) (suc i) x h is = drop_one ys i x (omega (arith, h)) is
 
 pub takes_nothing : (k : ℕ) (nodes : List Node) → changed_at k (takes []) nodes ≡ nodes
 takes_nothing k [] = refl
 takes_nothing zero (n ∷ ns) = refl
 takes_nothing (suc k) (n ∷ ns) = ap (λ (r : List Node). n ∷ r) (takes_nothing k ns)
 
-pub length_taken : (c : Candidate) (k : ℕ) (nodes : List Node) → length (changed_at k (takes_one c) nodes) ≡ length nodes
-length_taken c k [] = refl
-length_taken c zero (n ∷ ns) = refl
-length_taken c (suc k) (n ∷ ns) = ap suc (length_taken c k ns)
+drop_all : (xs : List (Option Candidate)) (i : ℕ) → length xs ≤ i → drop i xs ≡ []
+drop_all [] zero h = refl
+drop_all [] (suc i) h = refl
+drop_all (x ∷ xs) zero h = absurd (omega (arith, h))
+drop_all (x ∷ xs) (suc i) h = drop_all xs i (omega (arith, h))
 
-pub text_taken : (c : Candidate) (k : ℕ) (nodes : List Node) (j : ℕ) → is_text_at (changed_at k (takes_one c) nodes) j ≡ is_text_at nodes j
-text_taken c k [] j = refl
-text_taken c zero (n ∷ ns) zero = refl
-text_taken c zero (n ∷ ns) (suc j) = refl
-text_taken c (suc k) (n ∷ ns) zero = refl
-text_taken c (suc k) (n ∷ ns) (suc j) = text_taken c k ns j
+pub takes_next : (winners : List (Option Candidate)) (i k : ℕ) (w : Option Candidate) (now new all : List Node) → i < length winners → w ≡ slice_index_or winners i w → new ≡ changed_at k (takes (w ∷ [])) now → changed_at k (takes (drop i winners)) now ≡ all →
+    changed_at k (takes (drop (i + 1) winners)) new ≡ all
+takes_next winners i k w old now new all h is made was =
+    ap (changed_at k (takes (drop (i + 1) winners))) made ∙ takes_more w (drop (i + 1) winners) k now
+    ∙ ap (λ z. changed_at k (takes z) now) (sym (drop_one winners i w h is)) ∙ was
+
+pub takes_end : (winners : List (Option Candidate)) (i k : ℕ) (now all : List Node) → length winners ≤ i → changed_at k (takes (drop i winners)) now ≡ all → now ≡ all
+takes_end winners i k now all h was = sym (takes_nothing k now) ∙ ap (λ z. changed_at k (takes z) now) (sym (drop_all winners i h)) ∙ was
+
+pub takes_absent : (k : ℕ) (nodes : List Node) → changed_at k (takes (None ∷ [])) nodes ≡ nodes
+takes_absent k [] = refl
+takes_absent zero (n ∷ ns) = refl
+takes_absent (suc k) (n ∷ ns) = ap (λ (r : List Node). n ∷ r) (takes_absent k ns)
+
+pub takes_single : (c : Candidate) (k : ℕ) (nodes : List Node) → changed_at k (takes_one c) nodes ≡ changed_at k (takes (Some c ∷ [])) nodes
+takes_single c k [] = refl
+takes_single c zero (n ∷ ns) = refl
+takes_single c (suc k) (n ∷ ns) = ap (λ (r : List Node). n ∷ r) (takes_single c k ns)
+
+pub length_taken : (ws : List (Option Candidate)) (k : ℕ) (nodes : List Node) → length (changed_at k (takes ws) nodes) ≡ length nodes
+length_taken ws k [] = refl
+length_taken ws zero (n ∷ ns) = refl
+length_taken ws (suc k) (n ∷ ns) = ap suc (length_taken ws k ns)
+
+pub text_taken : (ws : List (Option Candidate)) (k : ℕ) (nodes : List Node) (j : ℕ) → is_text_at (changed_at k (takes ws) nodes) j ≡ is_text_at nodes j
+text_taken ws k [] j = refl
+text_taken ws zero (n ∷ ns) zero = refl
+text_taken ws zero (n ∷ ns) (suc j) = refl
+text_taken ws (suc k) (n ∷ ns) zero = refl
+text_taken ws (suc k) (n ∷ ns) (suc j) = text_taken ws k ns j
 
 -- the nodes of which the first have taken theirs
 pub length_restyled : (ws : List (List (Option Candidate))) (nodes : List Node) → length (restyled ws nodes) ≡ length nodes

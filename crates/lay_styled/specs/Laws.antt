@@ -29,5 +29,5 @@ abbrev pub StyledDeclares : Type 0
 StyledDeclares = (doc : Document) (rules : List RuleValue) (names : List Names) (new : Document) → IsCascaded doc rules names new →
     (k : ℕ) (node : Node) → slice_get new.nodes k ≡ Some node → (p : Property) →
     ((value : Given) → declared_value p node.decls ≡ Some value → (key : List ℕ) × MayHave rules doc.nodes names k p key value
-        × ((other : List ℕ) (v : Given) → MayHave rules doc.nodes names k p other v → is_less_key key other ≡ false))
+    × ((other : List ℕ) (v : Given) → MayHave rules doc.nodes names k p other v → is_less_key key other ≡ false))
     × (declared_value p node.decls ≡ None → (key : List ℕ) (v : Given) → MayHave rules doc.nodes names k p key v → ⊥)

@@ -15,9 +15,9 @@ abbrev pub own_key : List ℕ
 own_key = 0 ∷ 1 ∷ 0 ∷ 0 ∷ 0 ∷ 0 ∷ 0 ∷ []
 
 abbrev pub is_less_key : List ℕ → List ℕ → Bool
-is_less_key [] bs = false
-is_less_key (a ∷ as) [] = false
-is_less_key (a ∷ as) (b ∷ bs) = if a == b then is_less_key as bs else nat_lt a b
+is_less_key [] ys = false
+is_less_key (x ∷ xs) [] = false
+is_less_key (x ∷ xs) (y ∷ ys) = if x == y then is_less_key xs ys else nat_lt x y
 
 -- whether the second one is greater
 abbrev pub is_lighter : Weight → Weight → Bool

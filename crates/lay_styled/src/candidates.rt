@@ -52,6 +52,7 @@ fn take(winners: &mut Vec<Option<Candidate>>, next: Candidate)
 }
 
 /// The number of a declaration's property.
+#[tactic(auto, using(crate::proofs::Numbers::number_below))]
 fn number_within(decl: Decl) -> usize
     ensures value { result ≡ number_of decl.property }
     ensures within { result < 46 }

@@ -2,7 +2,10 @@
 
 ghost use Rattle.std.specs.Prelude.{◌≡◌, ◌<◌, ◌++◌, ◌∷◌, [], false, Some, List, IfOk, OnOk, length, slice_index_or};
 ghost use Rattle.lay_doc.specs.Document.{is_text_at};
+ghost use Rattle.std.specs.List.{slice_get};
+ghost use Rattle.lay_sheet.specs.declared.selector.Step.{Step as StepValue};
 ghost use Rattle.lay_cascade.specs.Rising.{IsNamed};
+ghost use Rattle.lay_cascade.specs.Specificity.{specificity_of};
 ghost use Rattle.lay_styled.specs.declared.entry.Entry.{Entry as EntryValue};
 ghost use Rattle.lay_styled.specs.Index.{listed, of_classes, IsIndexed};
 ghost use Rattle.lay_styled.specs.Cascade.{AreWinners};
@@ -10,8 +13,8 @@ ghost use Rattle.lay_styled.specs.Seen.{AreWinnersOf};
 
 use crate::candidates::{Candidate, no_winners, take_all};
 use crate::entry::Entry;
-use crate::selector_index::SelectorIndex;
-use lay_cascade::{Named, is_matched, specificity_of};
+use crate::selector_index::{SelectorIndex, rule_at, steps_at};
+use lay_cascade::{Named, Specificity, is_matched, specificity_of};
 use lay_names::Names;
 use lay_sheet::Rule;
 use lay_units::{NoMemory, Text};
@@ -23,6 +26,14 @@ pub(crate) struct Cascade<'a> {
     pub named: Named<'a>,
     pub rules: &'a [Rule],
     pub index: &'a SelectorIndex,
+}
+
+/// The specificity of a rule set's selector at a place.
+fn specificity_at(rule: &Rule, s: usize) -> Specificity
+    requires { s < length rule.now.selectors }
+    ensures { (selector : List StepValue) → slice_get rule.now.selectors s ≡ Some selector → result ≡ specificity_of selector }
+{
+    specificity_of(&rule.selectors()[s])
 }
 
 /// Takes the declarations of a selector's rule set, where the selector matches the node at a place.
@@ -41,14 +52,21 @@ fn take_entry(
         → AreWinnersOf cascade.entry.rules.now cascade.entry.named.nodes.now cascade.entry.named.names.now k (seen ++ entry ∷ []) winners.new.items) }
     ensures count { OnOk result (length winners.new.items ≡ 46) }
 {
-    let Some(rule) = cascade.rules.get(entry.rule) else {
+    if entry.rule >= cascade.rules.len() {
         return Ok(());
-    };
-    let Some(selector) = rule.selectors().get(entry.selector) else {
+    }
+    let rule = rule_at(cascade.rules, entry.rule);
+    if entry.selector >= rule.selectors().len() {
         return Ok(());
-    };
-    if is_matched(alloc, cascade.named, k, selector.as_slice())? {
-        take_all(winners, specificity_of(selector), entry.rule, rule.decls());
+    }
+    let steps = steps_at(rule, entry.selector);
+    if is_matched(alloc, cascade.named, k, steps)? {
+        take_all(
+            winners,
+            specificity_at(rule, entry.selector),
+            entry.rule,
+            rule.decls(),
+        );
     }
     Ok(())
 }

@@ -82,7 +82,7 @@ fn add(index: &mut SelectorIndex, entry: Entry, steps: &[Step]) -> Result<(), No
 }
 
 /// The rule set at a place.
-fn rule_at(rules: &[Rule], r: usize) -> &Rule
+pub(crate) fn rule_at(rules: &[Rule], r: usize) -> &Rule
     requires { r < length rules.now }
     ensures { slice_get rules.now r ≡ Some result.now }
 {
@@ -90,7 +90,7 @@ fn rule_at(rules: &[Rule], r: usize) -> &Rule
 }
 
 /// The steps of a rule set's selector at a place.
-fn steps_at(rule: &Rule, s: usize) -> &[Step]
+pub(crate) fn steps_at(rule: &Rule, s: usize) -> &[Step]
     requires { s < length rule.now.selectors }
     ensures { slice_get rule.now.selectors s ≡ Some result.now }
 {

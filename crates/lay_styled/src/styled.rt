@@ -1,6 +1,6 @@
 //! A document as a sheet styles it.
 
-ghost use Rattle.std.specs.Prelude.{◌≡◌, ◌+◌, ◌<◌, false, IfOk, IfErr, OnOk, length, slice_index};
+ghost use Rattle.std.specs.Prelude.{◌≡◌, ◌+◌, ◌<◌, ◌||◌, ◌∷◌, [], not, false, IfOk, IfErr, OnOk, length, slice_index, slice_index_or};
 ghost use Rattle.lay_doc.specs.Document.{ids_of, is_text_at};
 ghost use Rattle.lay_doc.specs.Changes.{changed_at, with_style};
 ghost use Rattle.lay_cascade.specs.Rising.{IsNamed};
@@ -46,19 +46,51 @@ fn set_at(alloc: Global, doc: &mut Doc, k: usize, decl: Decl) -> Result<(), NoMe
     Ok(())
 }
 
+/// Whether a node takes a declaration of a sheet, where it may have one of its own.
+fn yields(next: Candidate, own: bool) -> bool
+    ensures { result ≡ (next.weight.important || not own) }
+{
+    next.weight.important || !own
+}
+
 /// Lets the node at a place take a declaration, which its own yields to where it is important.
 fn take_one(alloc: Global, doc: &mut Doc, k: usize, next: Candidate) -> Result<(), NoMemory>
     requires place { k < length doc.old.nodes }
     requires no_text { is_text_at doc.old.nodes k ≡ false }
     ensures { OnOk result (doc.new ≡ record doc.old { nodes = changed_at k (takes_one next) doc.old.nodes }) }
 {
-    if next.weight.important || !declares(doc.nodes(), k, next.decl.property()) {
-        set_at(alloc, doc, k, next.decl)?;
+    let own = declares(doc.nodes(), k, next.decl.property());
+    if !yields(next, own) {
+        return Ok(());
     }
-    Ok(())
+    set_at(alloc, doc, k, next.decl)
 }
 
-/// Lets the node at a place take what is greatest for it.
+/// Lets the node at a place take what is greatest for it, of one property.
+fn take_winner(
+    alloc: Global,
+    doc: &mut Doc,
+    k: usize,
+    winner: Option<Candidate>,
+) -> Result<(), NoMemory>
+    requires place { k < length doc.old.nodes }
+    requires no_text { is_text_at doc.old.nodes k ≡ false }
+    ensures { OnOk result (doc.new ≡ record doc.old { nodes = changed_at k (takes (winner ∷ [])) doc.old.nodes }) }
+{
+    match winner {
+        Some(next) => take_one(alloc, doc, k, next),
+        None => Ok(()),
+    }
+}
+
+fn winner_at(winners: &[Option<Candidate>], i: usize) -> Option<Candidate>
+    requires { i < length winners.now }
+    ensures { result ≡ slice_index_or winners.now i result }
+{
+    winners[i]
+}
+
+/// Lets the node at a place take what is greatest for it, property by property.
 fn take_all(
     alloc: Global,
     doc: &mut Doc,
@@ -69,10 +101,8 @@ fn take_all(
     requires no_text { is_text_at doc.old.nodes k ≡ false }
     ensures { OnOk result (doc.new ≡ record doc.old { nodes = changed_at k (takes winners.now) doc.old.nodes }) }
 {
-    for winner in winners {
-        if let Some(next) = winner {
-            take_one(alloc, doc, k, *next)?;
-        }
+    for i in 0..winners.len() {
+        take_winner(alloc, doc, k, winner_at(winners, i))?;
     }
     Ok(())
 }
